@@ -23,26 +23,30 @@ sector-put_same xs ys i k e h =
 
 pub sector-put_other : (xs ys : List ℕ) (i j k : ℕ) → length ys ≡ 256 → k ≡ 256 → 256 * i ≤ length xs → j ≢ i → sector_at (put_mid (256 * i) k xs ys) j ≡ sector_at xs j
 sector-put_other xs ys i j k e f h ne = elim (cases_lt j i) [
-    inl below ↦ sector_in_front (put_mid (256 * i) k xs ys) j
-        ∙ ap (drop (256 * j)) (take-put_mid_below (256 * i) k xs ys (256 * j + 256) (omega arith) h)
-        ∙ sym (sector_in_front xs j)
+  | inl below ↦ sector_in_front (put_mid (256 * i) k xs ys) j
+      ∙ ap (drop (256 * j)) (take-put_mid_below (256 * i) k xs ys (256 * j + 256) (omega arith) h)
+      ∙ sym (sector_in_front xs j)
   | inr above ↦ ap (take 256) (drop-put_mid (256 * i) k xs ys (256 * j) (omega arith) h (e ∙ sym f))
-  ]
+]
 
 -- error bytes are looked at in images of one size alone
 pub error-same : (xs ys : List ℕ) (j : ℕ) → length ys ≡ length xs → (length xs ≡ 175531 → get_or ys (174848 + j) 0 ≡ get_or xs (174848 + j) 0) → error_at ys j ≡ error_at xs j
 error-same xs ys j l h = elim (cases_eq (length xs) 175531) [
-    inl e ↦ rw (eq-eqb (length xs) 175531 e, eq-eqb (length ys) 175531 (l ∙ e)) (h e)
+  | inl e ↦ rw (eq-eqb (length xs) 175531 e, eq-eqb (length ys) 175531 (l ∙ e)) (h e)
   | inr ne ↦ rw (ne_eqb (length xs) 175531 ne, ne_eqb (length ys) 175531 (λ e. ne (sym l ∙ e))) refl
-  ]
+]
 
 pub length-put : (xs ys : List ℕ) (i k : ℕ) → length ys ≡ 256 → k ≡ 256 → 256 * i + 256 ≤ length xs → length (put_mid (256 * i) k xs ys) ≡ length xs
 length-put xs ys i k e f h =
     let shape : length (put_mid (256 * i) k xs ys) ≡ length (take (256 * i) xs ++ (ys ++ post_of (256 * i) k xs)) = refl in
     let rest : length (post_of (256 * i) k xs) ≡ length (drop (256 * i) xs) - k = length-drop {A = ℕ} k (drop (256 * i) xs) in
     let behind : length (drop (256 * i) xs) ≡ length xs - 256 * i = length-drop {A = ℕ} (256 * i) xs in
-    omega (arith, length-append {A = ℕ} (take (256 * i) xs) (ys ++ post_of (256 * i) k xs), length-append {A = ℕ} ys (post_of (256 * i) k xs),
-        length-take-le (256 * i) xs (omega arith))
+    omega (
+      arith,
+      length-append {A = ℕ} (take (256 * i) xs) (ys ++ post_of (256 * i) k xs),
+      length-append {A = ℕ} ys (post_of (256 * i) k xs),
+      length-take-le (256 * i) xs (omega arith),
+    )
 
 pub error-put : (xs ys : List ℕ) (i j k : ℕ) → length ys ≡ 256 → k ≡ 256 → i < sectors_in (length xs) → 256 * i + 256 ≤ length xs
     → error_at (put_mid (256 * i) k xs ys) j ≡ error_at xs j
@@ -77,9 +81,9 @@ below_768 p h = grind arith
 
 pub index_in : (n : ℕ) (p : Place) → IsOnDisk p → p.track ≤ tracks_in n → index_of p < sectors_in n
 index_in n p h t = elim (cases_eq n 196608) [
-    inl e ↦ subst (λ (k : ℕ). index_of p < sectors_in k) (sym e) (below_768 p h)
+  | inl e ↦ subst (λ (k : ℕ). index_of p < sectors_in k) (sym e) (below_768 p h)
   | inr ne ↦ rw (ne_eqb n 196608 ne) (below_683 p h (rw (ne_eqb n 196608 ne) at t))
-  ]
+]
 
 pub sector_room : (n i : ℕ) → IsImageSize n → i < sectors_in n → 256 * i + 256 ≤ n
 sector_room n i (inl e) h = let b : i < 683 = subst (λ (k : ℕ). i < sectors_in k) e h in omega arith
@@ -95,12 +99,12 @@ on_a_track p h = grind arith
 
 same_track : (p q : Place) → IsOnDisk p → IsOnDisk q → index_of p ≡ index_of q → p.track ≡ q.track
 same_track p q h k e = elim (cases_lt p.track q.track) [
-    inl less ↦ (let o = tracks_in_order p.track q.track p.sector h less (on_a_track q k) in absurd (omega arith))
+  | inl less ↦ (let o = tracks_in_order p.track q.track p.sector h less (on_a_track q k) in absurd (omega arith))
   | inr more ↦ elim (cases_lt q.track p.track) [
-      inl less ↦ (let o = tracks_in_order q.track p.track q.sector k less (on_a_track p h) in absurd (omega arith))
+    | inl less ↦ (let o = tracks_in_order q.track p.track q.sector k less (on_a_track p h) in absurd (omega arith))
     | inr same ↦ omega arith
-    ]
   ]
+]
 
 pub index_apart : (p q : Place) → IsOnDisk p → IsOnDisk q → index_of p ≡ index_of q → is_place p q ≡ true
 index_apart p q h k e =
@@ -112,9 +116,9 @@ index_apart p q h k e =
 pub mended_good : (e : ℕ) → code_of (mended e) ≡ None
 mended_good e = go (code_of e) refl
   where
-  go : (o : Option ℕ) → code_of e ≡ o → code_of (elim o [ None ↦ e | Some code ↦ 1 ]) ≡ None
-  go None h = h
-  go (Some code) h = refl
+    go : (o : Option ℕ) → code_of e ≡ o → code_of (elim o [ None ↦ e | Some code ↦ 1 ]) ≡ None
+    go None h = h
+    go (Some code) h = refl
 
 abbrev one_or : ℕ → Option ℕ → ℕ
 one_or e None = e
@@ -123,63 +127,63 @@ one_or e (Some code) = 1
 pub mended_fault : (e : ℕ) → is_some (code_of e) ≡ true → mended e ≡ 1
 mended_fault e h = go (code_of e) h
   where
-  go : (o : Option ℕ) → is_some o ≡ true → one_or e o ≡ 1
-  go None h = absurd (cc)
-  go (Some code) h = refl
+    go : (o : Option ℕ) → is_some o ≡ true → one_or e o ≡ 1
+    go None h = absurd (cc)
+    go (Some code) h = refl
 
 pub mended_same : (e : ℕ) → is_some (code_of e) ≡ false → mended e ≡ e
 mended_same e h = go (code_of e) h
   where
-  go : (o : Option ℕ) → is_some o ≡ false → elim o [ None ↦ e | Some code ↦ 1 ] ≡ e
-  go None h = refl
-  go (Some code) h = absurd (cc)
+    go : (o : Option ℕ) → is_some o ≡ false → elim o [ None ↦ e | Some code ↦ 1 ] ≡ e
+    go None h = refl
+    go (Some code) h = absurd (cc)
 
 -- the content after a write
 pub content_written : (old new : List ℕ) (at : Place) (bytes : List ℕ) → IsOnDisk at → at.track ≤ tracks_in (length old) → IsStored old new (index_of at) bytes
     → content_of new ≡ written (content_of old) at bytes
 content_written old new at bytes h room stored = fun_ext (λ p. at_place p)
   where
-  size : length new ≡ length old
-  size = stored.size
+    size : length new ≡ length old
+    size = stored.size
 
-  good : code_of (error_at new (index_of at)) ≡ None
-  good = ap code_of stored.error ∙ mended_good (error_at old (index_of at))
+    good : code_of (error_at new (index_of at)) ≡ None
+    good = ap code_of stored.error ∙ mended_good (error_at old (index_of at))
 
-  tracks : tracks_in (length new) ≡ tracks_in (length old)
-  tracks = ap tracks_in size
+    tracks : tracks_in (length new) ≡ tracks_in (length old)
+    tracks = ap tracks_in size
 
-  elsewhere : (p : Place) → at ≢ p → content_of new p ≡ content_of old p
-  elsewhere p ne = elim (bool_cases (has (tracks_in (length old)) p)) [
-      inl on ↦ (let here : Has (tracks_in (length old)) p = true_has (tracks_in (length old)) p on in
+    elsewhere : (p : Place) → at ≢ p → content_of new p ≡ content_of old p
+    elsewhere p ne = elim (bool_cases (has (tracks_in (length old)) p)) [
+      | inl on ↦ (let here : Has (tracks_in (length old)) p = true_has (tracks_in (length old)) p on in
           let apart : index_of p ≢ index_of at = λ e. false≢true (sym (places_apart at p ne) ∙ index_apart at p h here.0 (sym e)) in
           content_on_disk new p here.0 (subst (λ (n : ℕ). p.track ≤ n) (sym tracks) here.1)
           ∙ ap (λ (e : ℕ). cell_of (code_of e) (sector_at new (index_of p))) (stored.other_errors (index_of p) apart)
           ∙ ap (cell_of (code_of (error_at old (index_of p)))) (stored.other_sectors (index_of p) (index_in (length old) p here.0 here.1) apart)
           ∙ sym (content_on_disk old p here.0 here.1))
-    | inr off ↦ content_off_disk new p (ap (λ (n : ℕ). has n p) tracks ∙ off) ∙ sym (content_off_disk old p off)
+      | inr off ↦ content_off_disk new p (ap (λ (n : ℕ). has n p) tracks ∙ off) ∙ sym (content_off_disk old p off)
     ]
 
-  there : content_of new at ≡ Ok bytes
-  there = content_on_disk new at h (subst (λ (n : ℕ). at.track ≤ n) (sym tracks) room) ∙ ap (λ o. cell_of o (sector_at new (index_of at))) good ∙ ap (cell_of None) stored.sector
+    there : content_of new at ≡ Ok bytes
+    there = content_on_disk new at h (subst (λ (n : ℕ). at.track ≤ n) (sym tracks) room) ∙ ap (λ o. cell_of o (sector_at new (index_of at))) good ∙ ap (cell_of None) stored.sector
 
-  at_place : (p : Place) → content_of new p ≡ written (content_of old) at bytes p
-  at_place p = elim (place_cases at p) [
-      inl e ↦ subst (λ (q : Place). content_of new q ≡ written (content_of old) at bytes q) e (there ∙ sym (written_there (content_of old) at bytes))
-    | inr f ↦ (let apart : at ≢ p = λ e. false≢true (sym f ∙ subst (λ (q : Place). is_place at q ≡ true) e (place_is_itself at)) in
-        elsewhere p apart ∙ sym (written_elsewhere (content_of old) at p bytes apart))
+    at_place : (p : Place) → content_of new p ≡ written (content_of old) at bytes p
+    at_place p = elim (place_cases at p) [
+      | inl e ↦ subst (λ (q : Place). content_of new q ≡ written (content_of old) at bytes q) e (there ∙ sym (written_there (content_of old) at bytes))
+      | inr f ↦ (let apart : at ≢ p = λ e. false≢true (sym f ∙ subst (λ (q : Place). is_place at q ≡ true) e (place_is_itself at)) in
+          elsewhere p apart ∙ sym (written_elsewhere (content_of old) at p bytes apart))
     ]
 
 pub content_blank : (old new : List ℕ) → IsErased old new → content_of new ≡ blank
 content_blank old new erased = fun_ext (λ p. at_place p)
   where
-  at_place : (p : Place) → content_of new p ≡ blank p
-  at_place p = elim (bool_cases (has (tracks_in (length new)) p)) [
-      inl on ↦ (let here : Has (tracks_in (length new)) p = true_has (tracks_in (length new)) p on in
+    at_place : (p : Place) → content_of new p ≡ blank p
+    at_place p = elim (bool_cases (has (tracks_in (length new)) p)) [
+      | inl on ↦ (let here : Has (tracks_in (length new)) p = true_has (tracks_in (length new)) p on in
           let below : index_of p < sectors_in (length old) = subst (λ (n : ℕ). index_of p < sectors_in n) erased.size (index_in (length new) p here.0 here.1) in
           content_on_disk new p here.0 here.1
           ∙ ap (λ (e : ℕ). cell_of (code_of e) (sector_at new (index_of p))) (erased.errors (index_of p) below)
           ∙ ap (cell_of None) (erased.sectors (index_of p) below))
-    | inr off ↦ content_off_disk new p off
+      | inr off ↦ content_off_disk new p off
     ]
 
 -- a sector of a front of zeros
@@ -193,29 +197,29 @@ sector_in_zeros n ys j h =
 pub ones_are_good : (front : List ℕ) (n j : ℕ) → (length (front ++ replicate n 1) ≡ 175531 → length front ≡ 174848) → j < sectors_in (length (front ++ replicate n 1))
     → error_at (front ++ replicate n 1) j ≡ 1
 ones_are_good front n j l h = elim (cases_eq (length (front ++ replicate n 1)) 175531) [
-    inl e ↦ (let f : length front ≡ 174848 = l e in
-        let b : j < 683 = subst (λ (k : ℕ). j < sectors_in k) e h in
-        rw (eq-eqb (length (front ++ replicate n 1)) 175531 e)
-            (get_or-append_right front (replicate n 1) 174848 (174848 + j) 0 f (omega arith)
-            ∙ get_or-replicate n (174848 + j - 174848) 1 0 (omega (arith, length-append {A = ℕ} front (replicate n 1), length-replicate {A = ℕ} n 1))))
+  | inl e ↦ (let f : length front ≡ 174848 = l e in
+      let b : j < 683 = subst (λ (k : ℕ). j < sectors_in k) e h in
+      rw (eq-eqb (length (front ++ replicate n 1)) 175531 e)
+      (get_or-append_right front (replicate n 1) 174848 (174848 + j) 0 f (omega arith)
+      ∙ get_or-replicate n (174848 + j - 174848) 1 0 (omega (arith, length-append {A = ℕ} front (replicate n 1), length-replicate {A = ℕ} n 1))))
   | inr ne ↦ rw (ne_eqb (length (front ++ replicate n 1)) 175531 ne) refl
-  ]
+]
 
 -- a fault is told in images of one size alone
 pub fault_told : (image : List ℕ) (i : ℕ) → is_some (code_of (error_at image i)) ≡ true → length image ≡ 175531
 fault_told image i h = elim (cases_eq (length image) 175531) [
-    inl e ↦ e
+  | inl e ↦ e
   | inr ne ↦ absurd (false≢true (ap (λ (e : ℕ). is_some (code_of e)) (sym (no_error ne)) ∙ h))
-  ]
+]
   where
-  no_error : length image ≢ 175531 → error_at image i ≡ 1
-  no_error ne = rw (ne_eqb (length image) 175531 ne) refl
+    no_error : length image ≢ 175531 → error_at image i ≡ 1
+    no_error ne = rw (ne_eqb (length image) 175531 ne) refl
 
 pub error-set_same : (image : List ℕ) (i : ℕ) → length image ≡ 175531 → i < sectors_in (length image) → error_at (set image (174848 + i) 1) i ≡ 1
 error-set_same image i l h =
     let below : i < 683 = subst (λ (n : ℕ). i < sectors_in n) l h in
     rw (eq-eqb (length (set image (174848 + i) 1)) 175531 (length-set image (174848 + i) 1 ∙ l))
-        (get_or-set_same image (174848 + i) 1 0 (omega arith))
+    (get_or-set_same image (174848 + i) 1 0 (omega arith))
 
 pub error-set_other : (image : List ℕ) (i j : ℕ) → j ≢ i → error_at (set image (174848 + i) 1) j ≡ error_at image j
 error-set_other image i j ne = error-same image (set image (174848 + i) 1) j (length-set image (174848 + i) 1)

@@ -11,9 +11,9 @@ narrow m n a b e = absurd (omega arith)
 
 wide_size : (n : ℕ) → tracks_in n ≡ 40 → n ≡ 196608
 wide_size n t = elim (cases_eq n 196608) [
-    inl e ↦ e
+  | inl e ↦ e
   | inr ne ↦ absurd (narrow 35 40 refl refl (rw (ne_eqb n 196608 ne) at t))
-  ]
+]
 
 no_errors : (image : List ℕ) (i : ℕ) → length image ≡ 196608 → error_at image i ≡ 1
 no_errors image i e = ap (λ n. if n == 175531 then slice_index image (174848 + i) else 1) e
@@ -27,4 +27,4 @@ pub outer_good : (image : List ℕ) (p : Place) → tracks_in (length image) ≡
 unfolding content_of
 outer_good image p t h =
     both_good (has (tracks_in (length image)) p) (error_at image (index_of p)) (sector_at image (index_of p)) (replicate 256 0)
-        (no_errors image (index_of p) (wide_size (length image) t))
+    (no_errors image (index_of p) (wide_size (length image) t))

@@ -71,9 +71,13 @@ impl Medium for D64Disk {
     ghost use Rattle.cbm_d64.specs.Outer.{outer_good};
 
     ghost content = { λ d. content_of d.bytes };
+
     ghost tracks = { λ d. tracks_in (length d.bytes) };
+
     ghost protected = { λ d. d.protected };
+
     ghost failures = { λ d. failures_of d };
+
     ghost outer_headers = { λ d p. outer_good d.bytes p };
 
     #[tactic(auto, using(crate::proofs::Sectors::content_on_disk, crate::proofs::Sectors::index_in))]
@@ -90,20 +94,16 @@ impl Medium for D64Disk {
         requires { at.track ≤ tracks_in (length self.old.bytes) }
         ensures ok { OnOk result (content_of self.new.bytes ≡ written (content_of self.old.bytes) at bytes.now) }
         ensures err { OnErr result (content_of self.new.bytes ≡ content_of self.old.bytes) }
-        ensures refused {
-            IfSome (refusal self.old.protected (content_of self.old.bytes at))
-                (λ code. result ≡ Err (record { code = code; at = at }))
-        }
-        ensures cause {
-            IfErr result (λ fault. (refusal self.old.protected (content_of self.old.bytes at) ≡ Some fault.code) ⊎ (failures_of self.old < failures_of self.new))
-        }
+        ensures refused { IfSome (refusal self.old.protected (content_of self.old.bytes at))
+            (λ code. result ≡ Err (record { code = code; at = at })) }
+        ensures cause { IfErr result (λ fault. (refusal self.old.protected (content_of self.old.bytes at) ≡ Some fault.code) ⊎ (failures_of self.old < failures_of self.new)) }
         ensures at { IfErr result (λ fault. fault.at ≡ at) }
         ensures uncounted { OnOk result (failures_of self.new ≡ failures_of self.old) }
         ensures counted { failures_of self.old ≤ failures_of self.new }
         ensures protected { self.new.protected ≡ self.old.protected }
         ensures tracks { tracks_in (length self.new.bytes) ≡ tracks_in (length self.old.bytes) }
 
-    // What the image holds then, its error bytes too, which the content doesn't show.
+        // What the image holds then, its error bytes too, which the content doesn't show.
         ensures stored { OnOk result (IsStored self.old.bytes self.new.bytes (index_of at) bytes.now) }
         ensures unchanged { OnErr result (self.new ≡ self.old) }
     {
@@ -117,13 +117,9 @@ impl Medium for D64Disk {
     fn format(&mut self, _id: [u8; 2]) -> Result<(), Fault>
         ensures ok { OnOk result (content_of self.new.bytes ≡ blank) }
         ensures err { OnErr result (content_of self.new.bytes ≡ content_of self.old.bytes) }
-        ensures refused {
-            IfSome (format_refusal self.old.protected)
-                (λ code. result ≡ Err (record { code = code; at = directory_head }))
-        }
-        ensures cause {
-            IfErr result (λ fault. (format_refusal self.old.protected ≡ Some fault.code) ⊎ (failures_of self.old < failures_of self.new))
-        }
+        ensures refused { IfSome (format_refusal self.old.protected)
+            (λ code. result ≡ Err (record { code = code; at = directory_head })) }
+        ensures cause { IfErr result (λ fault. (format_refusal self.old.protected ≡ Some fault.code) ⊎ (failures_of self.old < failures_of self.new)) }
         ensures at { IfErr result (λ fault. fault.at ≡ directory_head) }
         ensures uncounted { OnOk result (failures_of self.new ≡ failures_of self.old) }
         ensures counted { failures_of self.old ≤ failures_of self.new }

@@ -12,6 +12,6 @@ returns-then-is_some-clause-sectors c = λ j h. sector-set c.args.image.now c.ar
 pub returns-then-is_some-clause-error : goal.returns-then-is_some-clause-error
 returns-then-is_some-clause-error c =
     let fault : is_some (code_of (error_at c.args.image.now c.args.place)) ≡ true
-        = ap is_some (sym c.code_at.ensures) ∙ sym c.is_some.ensures ∙ c.if-is_some.true in
+    = ap is_some (sym c.code_at.ensures) ∙ sym c.is_some.ensures ∙ c.if-is_some.true in
     error-set_same c.args.image.now c.args.place (fault_told c.args.image.now c.args.place fault) c.requires.place
     ∙ sym (mended_fault (error_at c.args.image.now c.args.place) fault)
