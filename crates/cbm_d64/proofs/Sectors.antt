@@ -5,7 +5,7 @@ use Rattle.std.proofs.lemmas.Slice.{take-put_mid_below, drop-put_mid}
 use Rattle.std.specs.Prelude.{if◌then◌else◌, ◌==◌, is_some}
 use Rattle.std.proofs.lemmas.Bool.{cases_lt, cases_eq, false≢true, eq-eqb, ne_eqb}
 use Rattle.cbm_medium.proofs.Places.{place_cases, places_apart, place_is_itself, written_there, written_elsewhere}
-use Rattle.cbm_medium.proofs.Walks.{has_true, true_has, bool_cases}
+use Rattle.cbm_medium.proofs.Walks.{has_true, true_has, on_a_track, bool_cases}
 use borrow.Rule.Slice.PartMut.{put_mid, post_of}
 use mathlib.Core.Path.{fun_ext}
 use Rattle.cbm_medium.specs.Place.{Place, sectors_on, IsOnDisk, Has, has, is_place}
@@ -66,7 +66,7 @@ sector-set xs i j y e b = let h : j < 683 = subst (λ (n : ℕ). j < sectors_in 
 pub content_on_disk : (image : List ℕ) (p : Place) → IsOnDisk p → p.track ≤ tracks_in (length image)
     → content_of image p ≡ cell_of (code_of (error_at image (index_of p))) (sector_at image (index_of p))
 unfolding content_of
-content_on_disk image p h t = rw (has_true (tracks_in (length image)) p (h, t)) refl
+content_on_disk image p h t = rw (has_true (tracks_in (length image)) p (on_a_track p h, t, h)) refl
 
 content_off_disk : (image : List ℕ) (p : Place) → has (tracks_in (length image)) p ≡ false → content_of image p ≡ Ok (replicate 256 0)
 unfolding content_of
@@ -94,14 +94,14 @@ sector_room n i (inr (inr e)) h = let b : i < 768 = subst (λ (k : ℕ). i < sec
 tracks_in_order : (t u s : ℕ) → s < sectors_on t → t < u → u < 41 → sectors_before t + s < sectors_before u
 tracks_in_order t u s h k b = grind arith
 
-on_a_track : (p : Place) → IsOnDisk p → p.track < 41
-on_a_track p h = grind arith
+below_41 : (p : Place) → IsOnDisk p → p.track < 41
+below_41 p h = grind arith
 
 same_track : (p q : Place) → IsOnDisk p → IsOnDisk q → index_of p ≡ index_of q → p.track ≡ q.track
 same_track p q h k e = elim (cases_lt p.track q.track) [
-  | inl less ↦ (let o = tracks_in_order p.track q.track p.sector h less (on_a_track q k) in absurd (omega arith))
+  | inl less ↦ (let o = tracks_in_order p.track q.track p.sector h less (below_41 q k) in absurd (omega arith))
   | inr more ↦ elim (cases_lt q.track p.track) [
-    | inl less ↦ (let o = tracks_in_order q.track p.track q.sector k less (on_a_track p h) in absurd (omega arith))
+    | inl less ↦ (let o = tracks_in_order q.track p.track q.sector k less (below_41 p h) in absurd (omega arith))
     | inr same ↦ omega arith
   ]
 ]
@@ -155,11 +155,11 @@ content_written old new at bytes h room stored = fun_ext (λ p. at_place p)
     elsewhere : (p : Place) → at ≢ p → content_of new p ≡ content_of old p
     elsewhere p ne = elim (bool_cases (has (tracks_in (length old)) p)) [
       | inl on ↦ (let here : Has (tracks_in (length old)) p = true_has (tracks_in (length old)) p on in
-          let apart : index_of p ≢ index_of at = λ e. false≢true (sym (places_apart at p ne) ∙ index_apart at p h here.0 (sym e)) in
-          content_on_disk new p here.0 (subst (λ (n : ℕ). p.track ≤ n) (sym tracks) here.1)
+          let apart : index_of p ≢ index_of at = λ e. false≢true (sym (places_apart at p ne) ∙ index_apart at p h here.2 (sym e)) in
+          content_on_disk new p here.2 (subst (λ (n : ℕ). p.track ≤ n) (sym tracks) here.1)
           ∙ ap (λ (e : ℕ). cell_of (code_of e) (sector_at new (index_of p))) (stored.other_errors (index_of p) apart)
-          ∙ ap (cell_of (code_of (error_at old (index_of p)))) (stored.other_sectors (index_of p) (index_in (length old) p here.0 here.1) apart)
-          ∙ sym (content_on_disk old p here.0 here.1))
+          ∙ ap (cell_of (code_of (error_at old (index_of p)))) (stored.other_sectors (index_of p) (index_in (length old) p here.2 here.1) apart)
+          ∙ sym (content_on_disk old p here.2 here.1))
       | inr off ↦ content_off_disk new p (ap (λ (n : ℕ). has n p) tracks ∙ off) ∙ sym (content_off_disk old p off)
     ]
 
@@ -179,8 +179,8 @@ content_blank old new erased = fun_ext (λ p. at_place p)
     at_place : (p : Place) → content_of new p ≡ blank p
     at_place p = elim (bool_cases (has (tracks_in (length new)) p)) [
       | inl on ↦ (let here : Has (tracks_in (length new)) p = true_has (tracks_in (length new)) p on in
-          let below : index_of p < sectors_in (length old) = subst (λ (n : ℕ). index_of p < sectors_in n) erased.size (index_in (length new) p here.0 here.1) in
-          content_on_disk new p here.0 here.1
+          let below : index_of p < sectors_in (length old) = subst (λ (n : ℕ). index_of p < sectors_in n) erased.size (index_in (length new) p here.2 here.1) in
+          content_on_disk new p here.2 here.1
           ∙ ap (λ (e : ℕ). cell_of (code_of e) (sector_at new (index_of p))) (erased.errors (index_of p) below)
           ∙ ap (cell_of None) (erased.sectors (index_of p) below))
       | inr off ↦ content_off_disk new p off

@@ -9,10 +9,20 @@ use Rattle.cbm_medium.specs.Links.{or_nothing, bytes_at, link, Leads, Chain, Sto
 use Rattle.cbm_medium.proofs.Places.{written_elsewhere}
 
 pub has_true : (tracks : ℕ) (p : Place) → Has tracks p → has tracks p ≡ true
-has_true tracks p h = rw (lt-ltb p.sector (sectors_on p.track) h.0, lt-ltb p.track (tracks + 1) (omega arith)) refl
+has_true tracks p h = rw (lt-ltb p.sector (sectors_on p.track) h.2, lt-ltb p.track (tracks + 1) (omega arith)) refl
+
+-- no sector lies on track 0
+pub on_a_track : (p : Place) → p.sector < sectors_on p.track → 0 < p.track
+on_a_track p h = elim (cases_eq p.track 0) [
+    inl z ↦ (let none : sectors_on p.track ≡ 0 = ap sectors_on z in absurd (omega arith))
+  | inr nz ↦ omega arith
+  ]
 
 pub true_has : (tracks : ℕ) (p : Place) → has tracks p ≡ true → Has tracks p
-true_has tracks p h = let s : p.sector < sectors_on p.track = grind arith in let t : p.track ≤ tracks = grind arith in (s, t)
+true_has tracks p h =
+    let s : p.sector < sectors_on p.track = grind arith in
+    let t : p.track ≤ tracks = grind arith in
+    (on_a_track p s, t, s)
 
 -- true or false, as a choice that keeps the equation
 pub bool_cases : (b : Bool) → (b ≡ true) ⊎ (b ≡ false)
@@ -56,15 +66,15 @@ chain_followed tracks content [] n a h k = follow_end tracks content n a h
 chain_followed tracks content (b ∷ rest) zero a h k = absurd (omega arith)
 chain_followed tracks content (b ∷ rest) (suc n) a h k =
     ap (λ p. follow tracks content (suc n) p) h.0
-    ∙ go (content b) refl h.3 h.4 (λ q tail. chain_followed tracks content rest n q tail (omega arith))
+    ∙ go (content b) refl h.2 h.3 (λ q tail. chain_followed tracks content rest n q tail (omega arith))
   where
   nz : b.track ≢ 0
-  nz = subst (λ (p : Place). p.track ≢ 0) h.0 h.1
+  nz e = omega (arith, h.1.0)
 
   go : (cell : Cell) → content b ≡ cell → IsOk cell → Chain tracks content (link (or_nothing cell)) rest
       → ((q : Place) → Chain tracks content q rest → follow tracks content n q ≡ ended rest)
       → follow tracks content (suc n) b ≡ ended (b ∷ rest)
-  go (Ok bytes) e ok tail more = follow_next tracks content (suc n) n b bytes nz h.2 refl e ∙ ap (with_block b) (more (link bytes) tail)
+  go (Ok bytes) e ok tail more = follow_next tracks content (suc n) n b bytes nz h.1 refl e ∙ ap (with_block b) (more (link bytes) tail)
   go (Err code) e ok tail more = absurd (cc)
 
 abbrev cut_of : List Place → ℕ → Place → Followed
@@ -95,15 +105,15 @@ leads_followed tracks content [] n a p code h nz k s = ap (λ q. follow tracks c
 leads_followed tracks content (b ∷ rest) zero a p code h nz k s = absurd (omega arith)
 leads_followed tracks content (b ∷ rest) (suc n) a p code h nz k s =
     ap (λ q. follow tracks content (suc n) q) h.0
-    ∙ go (content b) refl h.3 h.4 (λ q tail. leads_followed tracks content rest n q p code tail nz (omega arith) (one_less tracks content n (length rest) p code s))
+    ∙ go (content b) refl h.2 h.3 (λ q tail. leads_followed tracks content rest n q p code tail nz (omega arith) (one_less tracks content n (length rest) p code s))
   where
   going : b.track ≢ 0
-  going = subst (λ (q : Place). q.track ≢ 0) h.0 h.1
+  going e = omega (arith, h.1.0)
 
   go : (cell : Cell) → content b ≡ cell → IsOk cell → Leads tracks content (link (or_nothing cell)) rest p
       → ((q : Place) → Leads tracks content q rest p → follow tracks content n q ≡ cut_of rest code p)
       → follow tracks content (suc n) b ≡ cut_of (b ∷ rest) code p
-  go (Ok bytes) e ok tail more = follow_next tracks content (suc n) n b bytes going h.2 refl e ∙ ap (with_block b) (more (link bytes) tail)
+  go (Ok bytes) e ok tail more = follow_next tracks content (suc n) n b bytes going h.1 refl e ∙ ap (with_block b) (more (link bytes) tail)
   go (Err c) e ok tail more = absurd (cc)
 
 pub cut_followed : (tracks : ℕ) (content : Content) (n : ℕ) (a : Place) (blocks : List Place) (t : Trouble) → IsCut tracks content n a blocks t
@@ -128,10 +138,10 @@ met_on : (tracks : ℕ) (content : Content) (n : ℕ) (a : Place) (bytes : List 
     → a.track ≢ 0 → Has tracks a → content a ≡ Ok bytes
     → Meets tracks content n (link bytes) blocks t → Meets tracks content (suc n) a (a ∷ blocks) t
 met_on tracks content n a bytes blocks None nz h c m =
-    ((refl, nz, h, subst (λ (cell : Cell). IsOk cell) (sym c) refl, subst (λ (cell : Cell). Chain tracks content (link (or_nothing cell)) blocks) (sym c) m.0), omega (arith, m.1))
+    ((refl, h, subst (λ (cell : Cell). IsOk cell) (sym c) refl, subst (λ (cell : Cell). Chain tracks content (link (or_nothing cell)) blocks) (sym c) m.0), omega (arith, m.1))
 met_on tracks content n a bytes blocks (Some t) nz h c m = record {
     at = m.at;
-    leads = (refl, nz, h, subst (λ (cell : Cell). IsOk cell) (sym c) refl, subst (λ (cell : Cell). Leads tracks content (link (or_nothing cell)) blocks m.at) (sym c) m.leads);
+    leads = (refl, h, subst (λ (cell : Cell). IsOk cell) (sym c) refl, subst (λ (cell : Cell). Leads tracks content (link (or_nothing cell)) blocks m.at) (sym c) m.leads);
     number = omega (arith, m.number);
     going = m.going;
     named = m.named;
@@ -178,9 +188,9 @@ followed_cut tracks content n a blocks t e = subst (λ (f : Followed). MeetsIn t
 
 pub chain_same : (tracks : ℕ) (old new : Content) (a : Place) (blocks : List Place) → AllSame old new blocks → Chain tracks old a blocks → Chain tracks new a blocks
 chain_same tracks old new a [] s h = h
-chain_same tracks old new a (b ∷ rest) s h = (h.0, h.1, h.2,
-    subst (λ (cell : Cell). IsOk cell) (sym s.0) h.3,
-    subst (λ (cell : Cell). Chain tracks new (link (or_nothing cell)) rest) (sym s.0) (chain_same tracks old new (link (bytes_at old b)) rest s.1 h.4))
+chain_same tracks old new a (b ∷ rest) s h = (h.0, h.1,
+    subst (λ (cell : Cell). IsOk cell) (sym s.0) h.2,
+    subst (λ (cell : Cell). Chain tracks new (link (or_nothing cell)) rest) (sym s.0) (chain_same tracks old new (link (bytes_at old b)) rest s.1 h.3))
 
 pub same_apart : (content : Content) (p : Place) (bytes : List ℕ) (blocks : List Place) → IsApart p blocks → AllSame content (written content p bytes) blocks
 same_apart content p bytes [] s = tt

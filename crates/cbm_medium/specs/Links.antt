@@ -24,13 +24,13 @@ link bytes = place_in bytes 0
 abbrev pub Leads : ℕ → Content → Place → List Place → Place → Type 0
 Leads tracks content a [] end = a ≡ end
 Leads tracks content a (b ∷ rest) end =
-    (a ≡ b) × (a.track ≢ 0) × Has tracks b × IsOk (content b) × Leads tracks content (link (bytes_at content b)) rest end
+    (a ≡ b) × Has tracks b × IsOk (content b) × Leads tracks content (link (bytes_at content b)) rest end
 
 -- These are the sectors of a chain that begins at a: the last one links to track 0, and from track 0 there are none.
 abbrev pub Chain : ℕ → Content → Place → List Place → Type 0
 Chain tracks content a [] = a.track ≡ 0
 Chain tracks content a (b ∷ rest) =
-    (a ≡ b) × (a.track ≢ 0) × Has tracks b × IsOk (content b) × Chain tracks content (link (bytes_at content b)) rest
+    (a ≡ b) × Has tracks b × IsOk (content b) × Chain tracks content (link (bytes_at content b)) rest
 
 -- Why a walk stops at a place where n sectors lie behind it and so many are allowed: the disk has no such sector (66),
 -- it is one too many (71), or it doesn't read.

@@ -22,7 +22,7 @@ IsOnDisk p = p.sector < sectors_on p.track
 
 -- a disk of so many tracks has such a sector
 abbrev pub Has : ℕ → Place → Type 0
-Has tracks p = IsOnDisk p × (p.track ≤ tracks)
+Has tracks p = (0 < p.track) × (p.track ≤ tracks) × (p.sector < sectors_on p.track)
 
 -- the same as a test
 abbrev pub has : ℕ → Place → Bool
