@@ -1,5 +1,5 @@
 -- The text of a command, without the return at its end: what it asks for, or its refusal.
-use Rattle.std.specs.Prelude.{ℕ, ◌+◌, ◌*◌, ◌%◌, ◌==◌, nat_lt, max, ◌&&◌, ◌||◌, not, Bool, List, [], ◌∷◌, length, take, slice_index_or, if◌then◌else◌, Some, None, Result, Ok, Err}
+use Rattle.std.specs.Prelude.{ℕ, ◌+◌, ◌*◌, ◌%◌, ◌==◌, nat_lt, max, ◌&&◌, ◌||◌, not, Bool, List, [], ◌∷◌, ◌++◌, length, take, slice_index_or, if◌then◌else◌, Some, None, Result, Ok, Err}
 use Rattle.std.specs.List.{list_any}
 use Rattle.cbm_command.specs.declared.refusal.Refusal.{Refusal}
 use Rattle.cbm_command.specs.declared.refusal.Refusal.TheVariants.{Syntax, UnknownCommand, LongText, WildName, NoName, DriveNotReady}
@@ -32,6 +32,10 @@ later_names (t ∷ ts) = later_name t >>= λ n. later_names ts >>= λ ns. Ok (n 
 abbrev pub names_in : List (List ℕ) → Result (List (List ℕ)) Refusal
 names_in [] = Ok []
 names_in (t ∷ ts) = later_names ts >>= λ ns. Ok (name_of t ∷ ns)
+
+-- these names, and then those that a list gives
+abbrev pub names_and : List (List ℕ) → Result (List (List ℕ)) Refusal → Result (List (List ℕ)) Refusal
+names_and ns more = more >>= λ ms. Ok (ns ++ ms)
 
 -- ---- the rest behind a head and its colon
 
@@ -68,10 +72,10 @@ copy_asked text =
 
 -- ---- the whole text
 
--- a colon is there, and the head before it is right
-abbrev pub with_head : List ℕ → (List ℕ → Result Command Refusal) → Result Command Refusal
-with_head text asked =
-    unless ((not (has colon text), NoName) ∷ []) (command_head (before colon text) >>= λ _. asked (behind colon text))
+-- a colon is there and the head before it is right: what stands behind it
+abbrev pub behind_head : List ℕ → Result (List ℕ) Refusal
+behind_head text =
+    unless ((not (has colon text), NoName) ∷ []) (command_head (before colon text) >>= λ _. Ok (behind colon text))
 
 -- P: a channel, a record's number low byte first, and perhaps a position; 0 means 1
 abbrev pub position_asked : List ℕ → Result Command Refusal
@@ -81,10 +85,10 @@ position_asked _ = Err Syntax
 -- The first byte chooses. V and I have a head alone, and what follows a colon isn't read.
 abbrev pub by_letter : ℕ → List ℕ → Result Command Refusal
 by_letter c text =
-    if c == 78 then with_head text new_asked else
-    if c == 83 then with_head text scratch_asked else
-    if c == 82 then with_head text rename_asked else
-    if c == 67 then with_head text copy_asked else
+    if c == 78 then (behind_head text >>= new_asked) else
+    if c == 83 then (behind_head text >>= scratch_asked) else
+    if c == 82 then (behind_head text >>= rename_asked) else
+    if c == 67 then (behind_head text >>= copy_asked) else
     if c == 86 then (command_head (before colon text) >>= λ _. Ok Validate) else
     if c == 73 then (command_head (before colon text) >>= λ _. Ok Initialize) else
     if c == 80 then position_asked text else Err UnknownCommand

@@ -1,5 +1,5 @@
-ghost use Rattle.std.specs.Prelude.{◌≡◌, ◌≤◌, ℕ, List, length};
-ghost use Rattle.cbm_command.specs.Names.{name_of};
+ghost use Rattle.std.specs.Prelude.{◌≡◌, ◌≤◌, ℕ, List, [], length};
+ghost use Rattle.cbm_command.specs.Names.{name_of, is_empty, is_wild};
 
 use arrayvec::ArrayVec;
 use std::marker::Model;
@@ -20,6 +20,17 @@ impl Model for Name {
     ghost Value = { List ℕ };
 
     ghost view = { λ n. n.bytes.items };
+}
+
+impl Default for Name {
+    ghost is_default = { λ n. n ≡ [] };
+
+    /// An empty name.
+    fn default() -> Name {
+        Name {
+            bytes: ArrayVec::new(),
+        }
+    }
 }
 
 impl Name {
@@ -43,5 +54,19 @@ impl Name {
         ensures short { length self.now ≤ 16 }
     {
         self.bytes.as_slice()
+    }
+
+    /// No byte is left of it.
+    pub fn is_empty(&self) -> bool
+        ensures { result ≡ is_empty self.now }
+    {
+        self.bytes.is_empty()
+    }
+
+    /// It is a pattern that may match several names: `*` or `?` stands in it.
+    pub fn is_wild(&self) -> bool
+        ensures { result ≡ is_wild self.now }
+    {
+        self.bytes.as_slice().iter().any(|byte| *byte == b'*' || *byte == b'?')
     }
 }

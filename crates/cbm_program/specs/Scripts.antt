@@ -63,13 +63,13 @@ abbrev pub hex : ℕ → List ℕ
 hex b = hex_digit (b / 16) ∷ hex_digit (b % 16) ∷ []
 
 -- ` eoi` where the last byte was marked
-abbrev pub mark : Bool → List ℕ
-mark marked = if marked then codes " eoi" else []
+abbrev pub eoi_mark : Bool → List ℕ
+eoi_mark marked = if marked then codes " eoi" else []
 
 -- the bytes of a get, or `none`
 abbrev pub bytes_text : List ℕ → Bool → List ℕ
 bytes_text [] marked = codes "none"
-bytes_text (b ∷ bytes) marked = flat_map hex (b ∷ bytes) ++ mark marked
+bytes_text (b ∷ bytes) marked = flat_map hex (b ∷ bytes) ++ eoi_mark marked
 
 -- the line of a get
 abbrev pub get_line : ℕ → Said → List ℕ
