@@ -1,5 +1,5 @@
 -- The parts of a text.
-use Rattle.std.proofs.Common.{◌≡◌, ℕ, ◌+◌, ◌<◌, ◌≤◌, Bool, true, false, List, [], ◌∷◌, ◌++◌, length, refl, ap, sym, ◌∙◌, arith, cond, eqb, if◌then◌else◌, ◌||◌, ◌⊎◌, inl, inr}
+use Rattle.std.proofs.Common.{◌≡◌, ℕ, ◌<◌, ◌≤◌, Bool, true, false, List, [], ◌∷◌, length, refl, ap, sym, ◌∙◌, arith, cond, eqb, if◌then◌else◌, ◌||◌, ◌⊎◌, inl, inr}
 use Rattle.std.proofs.lemmas.Bool.Decides.{eqb_tells}
 use Rattle.std.specs.Prelude.{slice_index_or}
 use Rattle.cbm_command.specs.Texts.{comma, before, behind, has, add_to_first, parts_at}
@@ -35,9 +35,9 @@ behind_shorter c (x ∷ text) h = let rest = behind_short c text in
 pub behind-none : (c : ℕ) (text : List ℕ) → has c text ≡ false → behind c text ≡ []
 behind-none c [] h = refl
 behind-none c (x ∷ text) h = elim (eqb_tells x c) [
-    | inl e ↦ absurd (no_or (eqb x c) (has c text) e.0 h)
-    | inr e ↦ (rw e.0 (behind-none c text (right_false (eqb x c) (has c text) h)))
-  ]
+  | inl e ↦ absurd (no_or (eqb x c) (has c text) e.0 h)
+  | inr e ↦ (rw e.0 (behind-none c text (right_false (eqb x c) (has c text) h)))
+]
 
 -- the parts after the first
 abbrev pub more_parts : ℕ → List ℕ → List (List ℕ)
@@ -48,8 +48,8 @@ pub parts_at-cut : (c : ℕ) (text : List ℕ) → parts_at c text ≡ before c 
 parts_at-cut c [] = refl
 parts_at-cut c (x ∷ text) = let rest = ap (add_to_first x) (parts_at-cut c text) in
     elim (eqb x c) as (λ b. (if b then [] ∷ parts_at c text else add_to_first x (parts_at c text))
-        ≡ (if b then [] else x ∷ before c text) ∷ (if b || has c text then parts_at c (if b then text else behind c text) else []))
-      [ true ↦ refl | false ↦ rest ]
+    ≡ (if b then [] else x ∷ before c text) ∷ (if b || has c text then parts_at c (if b then text else behind c text) else []))
+    [ true ↦ refl | false ↦ rest ]
 
 -- the first byte of parts that have one
 first_byte-add : (x : ℕ) (ps : List (List ℕ)) → first_byte (add_to_first x ps) ≡ x
@@ -71,6 +71,6 @@ first_byte-parts_at (x ∷ text) =
 -- the first byte behind the first separator
 pub first_byte-more_parts : (text : List ℕ) → first_byte (more_parts comma text) ≡ slice_index_or (behind comma text) 0 0
 first_byte-more_parts text = elim (bool_cases (has comma text)) [
-    | inl h ↦ (rw h (first_byte-parts_at (behind comma text)))
-    | inr h ↦ (rw (h, behind-none comma text h))
-  ]
+  | inl h ↦ (rw h (first_byte-parts_at (behind comma text)))
+  | inr h ↦ (rw (h, behind-none comma text h))
+]

@@ -1,11 +1,10 @@
 -- The pieces of a text, one at a time.
-use Rattle.std.proofs.Common.{◌≡◌, ℕ, Bool, true, false, List, [], ◌∷◌, refl, ap, sym, ◌∙◌, Result, Ok, Err, if◌then◌else◌}
+use Rattle.std.proofs.Common.{◌≡◌, ℕ, true, false, List, ◌∷◌, ap, sym, ◌∙◌, Ok, Err}
 use Rattle.std.specs.Prelude.{slice_index_or}
 use Rattle.cbm_command.specs.declared.refusal.Refusal.{Refusal}
 use Rattle.cbm_command.specs.declared.opening.Wanted.{Wanted}
 use Rattle.cbm_command.specs.Texts.{comma, before, behind, has, parts_at}
-use Rattle.cbm_command.specs.Refusals.{◌>>=◌}
-use Rattle.cbm_command.specs.Openings.{with_piece, with_pieces, is_length_piece, first_byte}
+use Rattle.cbm_command.specs.Openings.{with_piece, with_pieces, is_length_piece}
 use Rattle.cbm_command.proofs.Parts.{more_parts, parts_at-cut, first_byte-more_parts}
 
 -- a piece and those behind it, by the text

@@ -1,5 +1,5 @@
 -- The text of a command, without the return at its end: what it asks for, or its refusal.
-use Rattle.std.specs.Prelude.{ℕ, ◌+◌, ◌*◌, ◌%◌, ◌==◌, nat_lt, max, ◌&&◌, ◌||◌, not, Bool, List, [], ◌∷◌, ◌++◌, length, take, slice_index_or, if◌then◌else◌, Some, None, Result, Ok, Err}
+use Rattle.std.specs.Prelude.{ℕ, ◌+◌, ◌*◌, ◌%◌, ◌==◌, nat_lt, max, ◌&&◌, ◌||◌, not, List, [], ◌∷◌, ◌++◌, length, take, slice_index_or, if◌then◌else◌, Some, None, Result, Ok, Err}
 use Rattle.std.specs.List.{list_any}
 use Rattle.cbm_command.specs.declared.refusal.Refusal.{Refusal}
 use Rattle.cbm_command.specs.declared.refusal.Refusal.TheVariants.{Syntax, UnknownCommand, LongText, WildName, NoName, DriveNotReady}

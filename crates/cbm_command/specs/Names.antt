@@ -1,5 +1,5 @@
 -- Names and patterns.
-use Rattle.std.specs.Prelude.{ℕ, ◌==◌, Bool, true, false, ◌&&◌, ◌||◌, List, [], ◌∷◌, take, length, if◌then◌else◌}
+use Rattle.std.specs.Prelude.{ℕ, ◌==◌, Bool, true, false, ◌&&◌, ◌||◌, List, [], ◌∷◌, take, length}
 use Rattle.std.specs.List.{list_any}
 use Rattle.cbm_command.specs.Texts.{before}
 

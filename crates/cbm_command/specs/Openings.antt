@@ -1,9 +1,9 @@
 -- The text of an OPEN on a channel from 0 to 14: what it asks for, or its refusal.
-use Rattle.std.specs.Prelude.{ℕ, ◌==◌, nat_lt, Bool, true, false, ◌&&◌, ◌||◌, not, List, [], ◌∷◌, length, slice_index_or, if◌then◌else◌, Option, Some, None, is_some, Result, Ok, Err}
+use Rattle.std.specs.Prelude.{ℕ, ◌==◌, nat_lt, Bool, true, false, ◌&&◌, ◌||◌, List, [], ◌∷◌, length, slice_index_or, if◌then◌else◌, Option, Some, None, is_some, Result, Ok, Err}
 use Rattle.cbm_file.specs.declared.file_type.FileType.{FileType}
 use Rattle.cbm_file.specs.declared.file_type.FileType.TheVariants.{Seq, Prg, Usr, Rel}
 use Rattle.cbm_command.specs.declared.refusal.Refusal.{Refusal}
-use Rattle.cbm_command.specs.declared.refusal.Refusal.TheVariants.{Syntax, LongText, WildName, NoName, NoChannel, DriveNotReady}
+use Rattle.cbm_command.specs.declared.refusal.Refusal.TheVariants.{Syntax, LongText, WildName, NoName, NoChannel}
 use Rattle.cbm_command.specs.declared.opening.Mode.{Mode}
 use Rattle.cbm_command.specs.declared.opening.Mode.TheVariants.{Read, Write, Append}
 use Rattle.cbm_command.specs.declared.opening.Wanted.{Wanted}

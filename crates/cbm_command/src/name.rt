@@ -67,6 +67,9 @@ impl Name {
     pub fn is_wild(&self) -> bool
         ensures { result ≡ is_wild self.now }
     {
-        self.bytes.as_slice().iter().any(|byte| *byte == b'*' || *byte == b'?')
+        self.bytes
+            .as_slice()
+            .iter()
+            .any(|byte| *byte == b'*' || *byte == b'?')
     }
 }

@@ -2,10 +2,9 @@ ghost use Rattle.std.specs.Prelude.{◌≡◌, ◌≤◌, ◌<◌, ℕ, List, []
 ghost use Rattle.std.specs.List.{list_any};
 ghost use Rattle.cbm_command.specs.Names.{is_empty, is_wild};
 
+use crate::name::Name;
 use arrayvec::ArrayVec;
 use std::marker::Model;
-
-use crate::name::Name;
 
 /// The names of a list, in order.
 #[derive(Debug, Drop)]

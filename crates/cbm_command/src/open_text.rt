@@ -4,13 +4,12 @@ ghost use Rattle.std.specs.Prelude.{◌≡◌};
 ghost use Rattle.cbm_command.specs.Texts.{comma, parts_at};
 ghost use Rattle.cbm_command.specs.Openings.{pattern_asked, listing_asked, with_piece, with_pieces, set_kind, set_mode, is_length_piece, by_channel, default_kind, or_default, names_new, file_named, file_asked, headed_file, opening_of};
 
-use cbm_file::FileType;
-
 use crate::head::{at_in_head, drive_head};
 use crate::name::Name;
 use crate::opening::{Mode, Opening, Wanted};
 use crate::refusal::Refusal;
 use crate::text::{before_first, behind_first, contains, first_or_zero};
+use cbm_file::FileType;
 
 /// The most bytes of a text.
 pub(crate) const LONGEST: usize = 58;

@@ -40,9 +40,13 @@ shown_bytes bytes = map shown_byte bytes
 abbrev pub title_line : List ℕ → List ℕ → List ℕ
 title_line title mark = 1 ∷ 4 ∷ line 0 (18 ∷ quote ∷ shown_bytes title ++ quote ∷ space ∷ shown_bytes mark)
 
--- spaces between a number and a name, so that the names stand below one another
+-- so many spaces stand between a number and a name, so that the names stand below one another
+abbrev pub indent_width : ℕ → ℕ
+indent_width n = if nat_lt n 10 then 3 else if nat_lt n 100 then 2 else 1
+
+-- these spaces
 abbrev pub indent : ℕ → List ℕ
-indent n = replicate (if nat_lt n 10 then 3 else if nat_lt n 100 then 2 else 1) space
+indent n = replicate (indent_width n) space
 
 -- the letters of a type; of a number that is no type, three question marks
 abbrev pub kind_text : Option FileType → List ℕ

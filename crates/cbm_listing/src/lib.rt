@@ -2,5 +2,9 @@
 #![tactic(auto)]
 
 mod entry;
+mod line;
+mod listing;
 
+pub use cbm_file::FileType;
 pub use entry::Entry;
+pub use listing::Listing;

@@ -1,10 +1,10 @@
-use Rattle.std.proofs.Common.{◌≡◌, List, rules, length, ◌≤◌, ◌<◌, arith}
+use Rattle.std.proofs.Common.{◌≡◌, rules}
 use Rattle.cbm_command.specs.Texts.{behind}
 use Rattle.cbm_command.proofs.Parts.{behind_short, behind_shorter}
 use Rattle.cbm_command.proofs.text.behind_first.Goals as goal
 
 pub returns-then-first-byte-clause-short : goal.returns-then-first-byte-clause-short
-returns-then-first-byte-clause-short c = 
+returns-then-first-byte-clause-short c =
     let e : c.in-Some.more.now ≡ behind c.args.byte c.args.text.now = search rules in
     rw e (behind_short _ _)
 

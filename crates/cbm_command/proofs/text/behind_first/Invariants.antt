@@ -1,4 +1,4 @@
-use Rattle.std.proofs.Common.{◌≡◌, ◌≤◌, length}
+use Rattle.std.proofs.Common.{◌≡◌, length}
 use Rattle.cbm_command.specs.Texts.{behind}
 use Rattle.cbm_command.proofs.text.behind_first.Given as goal
 
