@@ -1,4 +1,4 @@
-ghost use Rattle.std.specs.Prelude.{◌≡◌};
+ghost use Rattle.std.specs.Prelude.{◌≡◌, ◌≤◌, length};
 ghost use Rattle.cbm_channel.specs.Codes.{code_number, code_text, code_of_refusal, refusal_gives};
 
 use cbm_command::Refusal;
@@ -112,7 +112,8 @@ impl Code {
 
     /// The text between the number and the two numbers behind it, at most 23 bytes.
     pub fn text(self) -> &'static [u8]
-        ensures { result.now ≡ code_text self }
+        ensures value { result.now ≡ code_text self }
+        ensures short { length result.now ≤ 23 }
     {
         match self {
             Code::Fine => b" OK",

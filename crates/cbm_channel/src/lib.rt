@@ -7,4 +7,4 @@ mod status;
 pub use cbm_command::{Command, Mode, Name, Names, Opening, Refusal, Wanted};
 pub use cbm_file::FileType;
 pub use code::Code;
-pub use status::Status;
+pub use status::{Status, StatusLine};
