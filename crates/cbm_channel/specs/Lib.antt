@@ -1,0 +1,13 @@
+pub mod Codes
+pub mod Statuses
+pub mod Listings
+pub mod Machines
+pub mod Finding
+pub mod Records
+pub mod Closing
+pub mod Plans
+pub mod Talking
+pub mod Running
+pub mod Calls
+pub use Rattle.cbm_file.specs.Types
+pub use Rattle.cbm_file.specs.Files

@@ -1,0 +1,27 @@
+-- The status and its line.
+use Rattle.std.specs.Prelude.{ℕ, ◌+◌, ◌/◌, ◌%◌, min, List, [], ◌∷◌, ◌++◌}
+use Rattle.cbm_channel.specs.declared.code.Code.{Code}
+use Rattle.cbm_channel.specs.declared.status.Status.{Status}
+use Rattle.cbm_channel.specs.Codes.{code_number, code_text}
+
+-- a status whose two numbers are 0
+abbrev pub plain : Code → Status
+plain code = record { code = code; first = 0; second = 0 }
+
+-- a number as two digits; more than 99 is shown as 99
+abbrev pub two_digits : ℕ → List ℕ
+two_digits n = (48 + min n 99 / 10) ∷ (48 + min n 99 % 10) ∷ []
+
+-- what stands between the parts of a line
+abbrev pub comma : ℕ
+comma = 44
+
+-- what ends a line
+abbrev pub return : ℕ
+return = 13
+
+-- what channel 15 tells: the code, the text, two numbers and a return
+abbrev pub status_line : Status → List ℕ
+status_line s =
+    two_digits (code_number s.code) ++ comma ∷ code_text s.code
+    ++ comma ∷ two_digits s.first ++ comma ∷ two_digits s.second ++ return ∷ []

@@ -1,0 +1,164 @@
+ghost use Rattle.std.specs.Prelude.{◌≡◌, ◌≤◌, length};
+ghost use Rattle.cbm_channel.specs.Codes.{code_number, code_text, code_of_refusal, refusal_gives};
+
+use cbm_command::Refusal;
+
+/// What a status says (the Commodore 1541 User's Guide; texts of all but 00, 01 and 73 are this project's).
+#[derive(Clone, Copy, Debug, PartialEq, Eq)]
+pub enum Code {
+    /// 00: nothing else is said.
+    Fine,
+    /// 01: with the count of the files.
+    FilesScratched,
+    /// 20: no header of the sector.
+    NoHeader,
+    /// 21: no sync mark.
+    NoSync,
+    /// 22: no data block.
+    NoData,
+    /// 23: a data block's checksum.
+    DataChecksum,
+    /// 24: a data block's code.
+    DataCode,
+    /// 25: a write that failed.
+    WriteFailed,
+    /// 26: a protected disk.
+    WriteProtected,
+    /// 27: a header's checksum.
+    HeaderChecksum,
+    /// 28: a data block that is too long.
+    LongData,
+    /// 29: a header with another id.
+    WrongId,
+    /// 30: a byte or a piece that may not stand there.
+    Syntax,
+    /// 31: no such command.
+    UnknownCommand,
+    /// 32: more than 58 bytes.
+    LongText,
+    /// 33: a pattern where a name is written.
+    WildName,
+    /// 34: no name.
+    NoName,
+    /// 50: the record isn't there.
+    NoRecord,
+    /// 51: more than the record holds.
+    RecordOverflow,
+    /// 52: more records than the disk holds.
+    FileTooLarge,
+    /// 60: the file is being written.
+    WriteFileOpen,
+    /// 61: the channel isn't open for that.
+    FileNotOpen,
+    /// 62: no such file.
+    FileNotFound,
+    /// 63: the name is there.
+    FileExists,
+    /// 64: another type.
+    WrongType,
+    /// 66: a link to no sector of the disk.
+    WrongLink,
+    /// 70: no channel is left, or none of that kind is there.
+    NoChannel,
+    /// 71: a chain that never ends.
+    EndlessChain,
+    /// 72: no block or no slot is left.
+    DiskFull,
+    /// 73: the drive was just switched on.
+    PowerUp,
+    /// 74: another drive's digit.
+    DriveNotReady,
+}
+
+impl Code {
+    /// Its two digits as a number.
+    pub fn number(self) -> u8
+        ensures { result ≡ code_number self }
+    {
+        match self {
+            Code::Fine => 0,
+            Code::FilesScratched => 1,
+            Code::NoHeader => 20,
+            Code::NoSync => 21,
+            Code::NoData => 22,
+            Code::DataChecksum => 23,
+            Code::DataCode => 24,
+            Code::WriteFailed => 25,
+            Code::WriteProtected => 26,
+            Code::HeaderChecksum => 27,
+            Code::LongData => 28,
+            Code::WrongId => 29,
+            Code::Syntax => 30,
+            Code::UnknownCommand => 31,
+            Code::LongText => 32,
+            Code::WildName => 33,
+            Code::NoName => 34,
+            Code::NoRecord => 50,
+            Code::RecordOverflow => 51,
+            Code::FileTooLarge => 52,
+            Code::WriteFileOpen => 60,
+            Code::FileNotOpen => 61,
+            Code::FileNotFound => 62,
+            Code::FileExists => 63,
+            Code::WrongType => 64,
+            Code::WrongLink => 66,
+            Code::NoChannel => 70,
+            Code::EndlessChain => 71,
+            Code::DiskFull => 72,
+            Code::PowerUp => 73,
+            Code::DriveNotReady => 74,
+        }
+    }
+
+    /// The text between the number and the two numbers behind it, at most 23 bytes.
+    pub fn text(self) -> &'static [u8]
+        ensures value { result.now ≡ code_text self }
+        ensures short { length result.now ≤ 23 }
+    {
+        match self {
+            Code::Fine => b" OK",
+            Code::FilesScratched => b" FILES SCRATCHED",
+            Code::NoHeader
+            | Code::NoSync
+            | Code::NoData
+            | Code::DataChecksum
+            | Code::DataCode
+            | Code::HeaderChecksum => b"READ ERROR",
+            Code::WriteFailed | Code::LongData => b"WRITE ERROR",
+            Code::WriteProtected => b"WRITE PROTECT ON",
+            Code::WrongId => b"DISK ID MISMATCH",
+            Code::Syntax | Code::UnknownCommand | Code::LongText | Code::WildName | Code::NoName =>
+                b"SYNTAX ERROR",
+            Code::NoRecord => b"RECORD NOT PRESENT",
+            Code::RecordOverflow => b"OVERFLOW IN RECORD",
+            Code::FileTooLarge => b"FILE TOO LARGE",
+            Code::WriteFileOpen => b"WRITE FILE OPEN",
+            Code::FileNotOpen => b"FILE NOT OPEN",
+            Code::FileNotFound => b"FILE NOT FOUND",
+            Code::FileExists => b"FILE EXISTS",
+            Code::WrongType => b"FILE TYPE MISMATCH",
+            Code::WrongLink => b"ILLEGAL TRACK OR SECTOR",
+            Code::NoChannel => b"NO CHANNEL",
+            Code::EndlessChain => b"DIR ERROR",
+            Code::DiskFull => b"DISK FULL",
+            Code::PowerUp => b"CBM DOS V2.6 1541",
+            Code::DriveNotReady => b"DRIVE NOT READY",
+        }
+    }
+}
+
+impl From<Refusal> for Code {
+    ghost from_gives = { refusal_gives };
+
+    fn from(refusal: Refusal) -> Code {
+        match refusal {
+            Refusal::Syntax => Code::Syntax,
+            Refusal::UnknownCommand => Code::UnknownCommand,
+            Refusal::LongText => Code::LongText,
+            Refusal::WildName => Code::WildName,
+            Refusal::NoName => Code::NoName,
+            Refusal::NoChannel => Code::NoChannel,
+            Refusal::DriveNotReady => Code::DriveNotReady,
+        }
+    }
+}

@@ -1,0 +1,10 @@
+//! The drive as the named-files machine: its status, and the definitions of its channels, calls and commands.
+#![tactic(auto)]
+
+mod code;
+mod status;
+
+pub use cbm_command::{Command, Mode, Name, Names, Opening, Refusal, Wanted};
+pub use cbm_file::FileType;
+pub use code::Code;
+pub use status::{Status, StatusLine};

@@ -1,0 +1,64 @@
+ghost use Rattle.std.specs.Prelude.{◌≡◌, ◌+◌, ◌≤◌, ◌++◌, length};
+ghost use Rattle.arrayvec.specs.ArrayVec.{array_vec_len};
+ghost use Rattle.cbm_channel.specs.Codes.{code_text};
+ghost use Rattle.cbm_channel.specs.Statuses.{two_digits, plain, status_line};
+
+use arrayvec::ArrayVec;
+
+use crate::code::Code;
+
+/// A status line of at most 33 bytes.
+pub type StatusLine = ArrayVec<u8, 33>;
+
+/// What channel 15 tells: a code and two numbers.
+#[derive(Clone, Copy, Debug, PartialEq, Eq)]
+pub struct Status {
+    pub code: Code,
+    pub first: u8,
+    pub second: u8,
+}
+
+fn add(line: &mut StatusLine, bytes: &[u8])
+    requires { array_vec_len line.old + length bytes.now ≤ 33 }
+    ensures items { line.new.items ≡ line.old.items ++ bytes.now }
+    ensures len { array_vec_len line.new ≡ array_vec_len line.old + length bytes.now }
+{
+    line.try_extend_from_slice(bytes).unwrap()
+}
+
+/// A number as two digits; more than 99 is shown as 99.
+fn two_digits(number: u8) -> [u8; 2]
+    ensures { result ≡ two_digits number }
+{
+    let shown = number.min(99);
+    [b'0' + shown / 10, b'0' + shown % 10]
+}
+
+impl Status {
+    /// A code whose two numbers are 0.
+    pub fn plain(code: Code) -> Status
+        ensures { result ≡ plain code }
+    {
+        Status {
+            code,
+            first: 0,
+            second: 0,
+        }
+    }
+
+    /// `code,text,nn,nn` and a return; a number above 99 is shown as 99.
+    pub fn line(self) -> StatusLine
+        ensures { result.items ≡ status_line self }
+    {
+        let mut line = StatusLine::new();
+        add(&mut line, &two_digits(self.code.number()));
+        add(&mut line, b",");
+        add(&mut line, self.code.text());
+        add(&mut line, b",");
+        add(&mut line, &two_digits(self.first));
+        add(&mut line, b",");
+        add(&mut line, &two_digits(self.second));
+        add(&mut line, b"\r");
+        line
+    }
+}

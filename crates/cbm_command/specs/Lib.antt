@@ -1,0 +1,5 @@
+pub mod Texts
+pub mod Names
+pub mod Refusals
+pub mod Openings
+pub mod Commands

@@ -1,0 +1,14 @@
+use cbm_file::FileType;
+
+/// What a line of the listing shows of a slot that isn't empty.
+#[derive(Clone, Copy, Debug)]
+pub struct Entry<'a> {
+    /// The blocks that the directory entry tells.
+    pub blocks: u16,
+    /// At most 16 bytes, cut at its first $A0.
+    pub name: &'a [u8],
+    /// None is shown as `???`.
+    pub kind: Option<FileType>,
+    pub closed: bool,
+    pub locked: bool,
+}
