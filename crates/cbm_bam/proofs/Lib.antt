@@ -1,0 +1,4 @@
+pub mod Counts
+pub mod Bits
+pub mod Geometries
+pub mod Writes

@@ -1,0 +1,2 @@
+//! The block availability map: which sectors are free, and how many tracks a disk uses.
+#![tactic(auto)]

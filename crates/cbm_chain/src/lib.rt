@@ -1,0 +1,2 @@
+//! Chains of sectors as the bytes that they hold.
+#![tactic(auto)]

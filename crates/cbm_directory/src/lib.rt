@@ -1,0 +1,2 @@
+//! The directory: a chain of sectors of eight entries each.
+#![tactic(auto)]

@@ -1,0 +1,2 @@
+//! The side sectors of relative files.
+#![tactic(auto)]

@@ -1,0 +1,16 @@
+pub mod Bodies
+pub mod Chained
+pub mod Distinct
+pub mod Finishes
+pub mod Frames
+pub mod Grows
+pub mod Loose
+pub mod Releases
+pub mod Remaps
+pub mod Rooms
+pub mod Settled
+pub mod Slots
+pub mod Steps
+pub mod Untouched
+pub mod Writers
+pub mod Written

@@ -1,0 +1,5 @@
+pub mod Blocks
+pub mod Layouts
+pub mod Writers
+
+pub use Rattle.cbm_file.specs.Files
