@@ -1,9 +1,9 @@
 -- The block availability map, which 18/0 holds: for each track a count and the bits of its free sectors.
-use Rattle.std.specs.Prelude.{ℕ, zero, suc, ◌+◌, ◌*◌, ◌/◌, ◌%◌, ◌<◌, ◌≤◌, ◌≡◌, ◌≢◌, ◌⊎◌, List, [], ◌∷◌, Bool, true, false, ◌==◌, ◌&&◌, nat_lt, if◌then◌else◌, length, slice_index}
+use Rattle.std.specs.Prelude.{ℕ, zero, suc, ◌+◌, ◌*◌, ◌/◌, ◌%◌, ◌<◌, ◌≤◌, ◌≡◌, ◌≢◌, ◌⊎◌, List, [], ◌∷◌, Bool, true, false, ◌==◌, ◌&&◌, nat_lt, if◌then◌else◌, length, slice_index, Ok, Err}
 use Rattle.std.specs.List.{list_all}
 use Rattle.std.specs.Int.{bit_at}
 use Rattle.cbm_medium.specs.Place.{Place, sectors_on, is_place, Has, directory_head}
-use Rattle.cbm_medium.specs.Content.{Content, written}
+use Rattle.cbm_medium.specs.Content.{Cell, Content, written}
 use Rattle.cbm_medium.specs.Links.{bytes_at}
 
 -- the bytes of 18/0, none where it doesn't read
@@ -112,6 +112,10 @@ tracks_if false = 35
 abbrev pub geometry : ℕ → List ℕ → ℕ
 geometry medium map = tracks_if ((medium == 40) && is_wide map)
 
--- where 18/0 doesn't read, 35
+abbrev pub geometry_in : ℕ → Cell → ℕ
+geometry_in medium (Ok map) = geometry medium map
+geometry_in medium (Err code) = 35
+
+-- The tracks that a disk of this content uses: 40 where the medium has 40, 18/0 reads and its map is one of 40, else 35.
 abbrev pub geometry_of : ℕ → Content → ℕ
-geometry_of medium content = geometry medium (map_of content)
+geometry_of medium content = geometry_in medium (content directory_head)

@@ -1,0 +1,64 @@
+ghost use Rattle.std.specs.Prelude.{◌≡◌, ◌≤◌, Ok, Err, IsOk, IfOk, IfErr, OnOk};
+ghost use Rattle.cbm_medium.specs.Place.{directory_head};
+ghost use Rattle.cbm_bam.specs.Map.{map_of, is_free_in, free_in, geometry_of};
+
+use crate::map;
+use cbm_medium::{Address, Geometry, Medium, Trouble};
+
+/// How many tracks the disk uses: 40 where the medium has 40, 18/0 reads and each count of the tracks 36 to 40 is the
+/// number of its free bits, else 35 (this project's rule).
+pub fn geometry<M: Medium>(medium: &M) -> Geometry
+    ensures value { result ≡ geometry_of (M.tracks medium.now) (M.content medium.now) }
+    ensures room { result ≤ M.tracks medium.now }
+{
+    if medium.tracks() < 40 {
+        return Geometry::of_35();
+    }
+    let Ok(map) = medium.read(Address::of_map()) else {
+        return Geometry::of_35();
+    };
+    if map::is_wide(&map) {
+        Geometry::of_40()
+    } else {
+        Geometry::of_35()
+    }
+}
+
+/// The 256 bytes of 18/0, or the medium's fault there.
+pub fn read_map<M: Medium>(medium: &M, geometry: Geometry) -> Result<[u8; 256], Trouble>
+    requires { geometry ≤ M.tracks medium.now }
+    ensures ok { IfOk result (λ map. M.content medium.now directory_head ≡ Ok map) }
+    ensures err {
+        IfErr result (λ t. (M.content medium.now directory_head ≡ Err t.code) × (t.track ≡ 18) × (t.sector ≡ 0))
+    }
+{
+    prove!(geometry.tracks() >= 35);
+    let map = medium.read(Address::of_map())?;
+    Ok(map)
+}
+
+/// Whether the map has a sector as free.
+pub fn is_free<M: Medium>(medium: &M, geometry: Geometry, at: Address) -> Result<bool, Trouble>
+    requires { geometry ≤ M.tracks medium.now }
+    ensures ok { IfOk result (λ free. free ≡ is_free_in (map_of (M.content medium.now)) at) }
+    ensures read { OnOk result (IsOk (M.content medium.now directory_head)) }
+    ensures err {
+        IfErr result (λ t. (M.content medium.now directory_head ≡ Err t.code) × (t.track ≡ 18) × (t.sector ≡ 0))
+    }
+{
+    let map = read_map(medium, geometry)?;
+    Ok(map::has(&map, at))
+}
+
+/// How many blocks of files the map counts as free: the sum of its counts but track 18's.
+pub fn free_blocks<M: Medium>(medium: &M, geometry: Geometry) -> Result<u16, Trouble>
+    requires { geometry ≤ M.tracks medium.now }
+    ensures ok { IfOk result (λ free. free ≡ free_in geometry (map_of (M.content medium.now))) }
+    ensures read { OnOk result (IsOk (M.content medium.now directory_head)) }
+    ensures err {
+        IfErr result (λ t. (M.content medium.now directory_head ≡ Err t.code) × (t.track ≡ 18) × (t.sector ≡ 0))
+    }
+{
+    let map = read_map(medium, geometry)?;
+    Ok(map::free_blocks(&map, geometry.tracks()))
+}
