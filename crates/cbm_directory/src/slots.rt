@@ -1,0 +1,117 @@
+ghost use Rattle.std.specs.Prelude.{◌≡◌, ◌≤◌, ◌<◌, ◌+◌, ◌-◌, ◌⊎◌, OnOk, IfErr, Some, [], slice_range};
+ghost use Rattle.cbm_directory.specs.Entries.{entry_of};
+ghost use Rattle.cbm_directory.specs.Slots.{Answers, Gives, directory_of, left_of};
+
+use cbm_medium::{Geometry, Link, Medium, Trouble, read_linked};
+use std::marker::Model;
+
+/// The most sectors that a directory has.
+const MOST: u16 = 18;
+
+/// The entries in a sector.
+const ENTRIES: u8 = 8;
+
+/// The thirty bytes of an entry.
+fn entry_in(sector: &[u8; 256], number: u8) -> [u8; 30]
+    requires { number < 8 }
+    ensures { result ≡ entry_of sector.now number }
+{
+    let mut entry = [0; 30];
+    let from = 32 * number as usize + 2;
+    entry.copy_from_slice(&sector[from..from + 30]);
+    entry
+}
+
+/// Goes through the slots of the directory in order, a sector read once for its eight.
+#[derive(Drop)]
+pub struct Slots {
+    geometry: Geometry,
+    sector: [u8; 256],
+    number: u8,
+    next: Link,
+    left: u16,
+}
+
+impl Model for Slots {
+    ghost use Rattle.std.specs.Prelude.{◌≡◌, ◌≤◌, ◌-◌, length};
+    ghost use Rattle.cbm_directory.specs.Slots.{Cursor, entries_from};
+
+    ghost Value = { Cursor };
+
+    ghost view = {
+        λ s. record {
+            tracks = s.geometry;
+            entries = entries_from (8 - s.number) s.sector s.number;
+            next = s.next;
+            left = s.left;
+        }
+    };
+
+    ghost invariant = { λ s. (s.number ≤ 8) × (length s.sector ≡ 256) };
+}
+
+impl Slots {
+    /// Stands before the first slot. It reads nothing.
+    #[tactic(auto, unfolding(crate::specs::Slots::left_of, crate::specs::Slots::directory_of))]
+    pub fn begin(geometry: Geometry) -> Slots
+        ensures left { (content : _) → left_of content result ≡ directory_of geometry content }
+        ensures tracks { result.tracks ≡ geometry }
+    {
+        Slots {
+            geometry,
+            sector: [0; 256],
+            number: ENTRIES,
+            next: Link::new(18, 1),
+            left: MOST,
+        }
+    }
+
+    /// Reads the next sector where this one is used up and another follows.
+    fn fill<M: Medium>(&mut self, medium: &M) -> Result<(), Trouble>
+        requires { self.old.tracks ≤ M.tracks medium.now }
+        ensures left { left_of (M.content medium.now) self.new ≡ left_of (M.content medium.now) self.old }
+        ensures ready { OnOk result (self.new.entries ≡ [] → self.new.next.track ≡ 0) }
+        ensures err { IfErr result (λ t. left_of (M.content medium.now) self.old ≡ record { entries = []; trouble = Some t }) }
+        ensures tracks { self.new.tracks ≡ self.old.tracks }
+    {
+        if self.number < ENTRIES || self.next.is_end() {
+            return Ok(());
+        }
+        let sector = read_linked(medium, self.geometry, self.next, self.left)?;
+        self.next = Link::of(&sector);
+        self.sector = sector;
+        self.number = 0;
+        self.left -= 1;
+        Ok(())
+    }
+
+    /// The thirty bytes of the next slot's entry, None past the last. An `Err` is what breaks the directory off there: 66 at
+    /// a link to no sector of the disk, 71 at a nineteenth sector, or the medium's fault; and it comes again.
+    pub fn next<M: Medium>(&mut self, medium: &M) -> Result<Option<[u8; 30]>, Trouble>
+        requires { self.old.tracks ≤ M.tracks medium.now }
+        ensures gives { Gives (left_of (M.content medium.now) self.old) (left_of (M.content medium.now) self.new) result }
+        ensures tracks { self.new.tracks ≡ self.old.tracks }
+    {
+        self.fill(medium)?;
+        if self.number == ENTRIES {
+            return Ok(None);
+        }
+        let entry = entry_in(&self.sector, self.number);
+        self.number += 1;
+        Ok(Some(entry))
+    }
+}
+
+/// The entry of a slot by its number, counted from 0; None past the last. An `Err` is what breaks the directory off before.
+pub fn slot<M: Medium>(medium: &M, geometry: Geometry, number: u8) -> Result<Option<[u8; 30]>, Trouble>
+    requires { geometry ≤ M.tracks medium.now }
+    ensures { Answers (directory_of geometry (M.content medium.now)) number result }
+{
+    let mut slots = Slots::begin(geometry);
+    for passed in 0..number {
+        if slots.next(medium)?.is_none() {
+            return Ok(None);
+        }
+    }
+    slots.next(medium)
+}
