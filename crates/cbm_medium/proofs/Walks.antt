@@ -14,9 +14,9 @@ has_true tracks p h = rw (lt-ltb p.sector (sectors_on p.track) h.2, lt-ltb p.tra
 -- no sector lies on track 0
 pub on_a_track : (p : Place) → p.sector < sectors_on p.track → 0 < p.track
 on_a_track p h = elim (cases_eq p.track 0) [
-    inl z ↦ (let none : sectors_on p.track ≡ 0 = ap sectors_on z in absurd (omega arith))
+  | inl z ↦ (let none : sectors_on p.track ≡ 0 = ap sectors_on z in absurd (omega arith))
   | inr nz ↦ omega arith
-  ]
+]
 
 pub true_has : (tracks : ℕ) (p : Place) → has tracks p ≡ true → Has tracks p
 true_has tracks p h =
@@ -68,14 +68,14 @@ chain_followed tracks content (b ∷ rest) (suc n) a h k =
     ap (λ p. follow tracks content (suc n) p) h.0
     ∙ go (content b) refl h.2 h.3 (λ q tail. chain_followed tracks content rest n q tail (omega arith))
   where
-  nz : b.track ≢ 0
-  nz e = omega (arith, h.1.0)
+    nz : b.track ≢ 0
+    nz e = omega (arith, h.1.0)
 
-  go : (cell : Cell) → content b ≡ cell → IsOk cell → Chain tracks content (link (or_nothing cell)) rest
-      → ((q : Place) → Chain tracks content q rest → follow tracks content n q ≡ ended rest)
-      → follow tracks content (suc n) b ≡ ended (b ∷ rest)
-  go (Ok bytes) e ok tail more = follow_next tracks content (suc n) n b bytes nz h.1 refl e ∙ ap (with_block b) (more (link bytes) tail)
-  go (Err code) e ok tail more = absurd (cc)
+    go : (cell : Cell) → content b ≡ cell → IsOk cell → Chain tracks content (link (or_nothing cell)) rest
+        → ((q : Place) → Chain tracks content q rest → follow tracks content n q ≡ ended rest)
+        → follow tracks content (suc n) b ≡ ended (b ∷ rest)
+    go (Ok bytes) e ok tail more = follow_next tracks content (suc n) n b bytes nz h.1 refl e ∙ ap (with_block b) (more (link bytes) tail)
+    go (Err code) e ok tail more = absurd (cc)
 
 abbrev cut_of : List Place → ℕ → Place → Followed
 cut_of blocks code p = record { blocks = blocks; trouble = Some (record { code = code; track = p.track; sector = p.sector }) }
@@ -107,14 +107,14 @@ leads_followed tracks content (b ∷ rest) (suc n) a p code h nz k s =
     ap (λ q. follow tracks content (suc n) q) h.0
     ∙ go (content b) refl h.2 h.3 (λ q tail. leads_followed tracks content rest n q p code tail nz (omega arith) (one_less tracks content n (length rest) p code s))
   where
-  going : b.track ≢ 0
-  going e = omega (arith, h.1.0)
+    going : b.track ≢ 0
+    going e = omega (arith, h.1.0)
 
-  go : (cell : Cell) → content b ≡ cell → IsOk cell → Leads tracks content (link (or_nothing cell)) rest p
-      → ((q : Place) → Leads tracks content q rest p → follow tracks content n q ≡ cut_of rest code p)
-      → follow tracks content (suc n) b ≡ cut_of (b ∷ rest) code p
-  go (Ok bytes) e ok tail more = follow_next tracks content (suc n) n b bytes going h.1 refl e ∙ ap (with_block b) (more (link bytes) tail)
-  go (Err c) e ok tail more = absurd (cc)
+    go : (cell : Cell) → content b ≡ cell → IsOk cell → Leads tracks content (link (or_nothing cell)) rest p
+        → ((q : Place) → Leads tracks content q rest p → follow tracks content n q ≡ cut_of rest code p)
+        → follow tracks content (suc n) b ≡ cut_of (b ∷ rest) code p
+    go (Ok bytes) e ok tail more = follow_next tracks content (suc n) n b bytes going h.1 refl e ∙ ap (with_block b) (more (link bytes) tail)
+    go (Err c) e ok tail more = absurd (cc)
 
 pub cut_followed : (tracks : ℕ) (content : Content) (n : ℕ) (a : Place) (blocks : List Place) (t : Trouble) → IsCut tracks content n a blocks t
     → follow tracks content n a ≡ record { blocks = blocks; trouble = Some t }
@@ -140,22 +140,22 @@ met_on : (tracks : ℕ) (content : Content) (n : ℕ) (a : Place) (bytes : List 
 met_on tracks content n a bytes blocks None nz h c m =
     ((refl, h, subst (λ (cell : Cell). IsOk cell) (sym c) refl, subst (λ (cell : Cell). Chain tracks content (link (or_nothing cell)) blocks) (sym c) m.0), omega (arith, m.1))
 met_on tracks content n a bytes blocks (Some t) nz h c m = record {
-    at = m.at;
-    leads = (refl, h, subst (λ (cell : Cell). IsOk cell) (sym c) refl, subst (λ (cell : Cell). Leads tracks content (link (or_nothing cell)) blocks m.at) (sym c) m.leads);
-    number = omega (arith, m.number);
-    going = m.going;
-    named = m.named;
-    cause = one_more tracks content n (length blocks) m.at t.code m.cause;
-  }
+  at = m.at;
+  leads = (refl, h, subst (λ (cell : Cell). IsOk cell) (sym c) refl, subst (λ (cell : Cell). Leads tracks content (link (or_nothing cell)) blocks m.at) (sym c) m.leads);
+  number = omega (arith, m.number);
+  going = m.going;
+  named = m.named;
+  cause = one_more tracks content n (length blocks) m.at t.code m.cause;
+}
 
 step : (tracks : ℕ) (content : Content) (n : ℕ) (a : Place) → a.track ≢ 0 → Has tracks a → (cell : Cell) → content a ≡ cell
     → ((q : Place) → MeetsIn tracks content n q (follow tracks content n q)) → MeetsIn tracks content (suc n) a (follow tracks content (suc n) a)
 step tracks content n a nz here (Ok bytes) c more =
     subst (λ (f : Followed). MeetsIn tracks content (suc n) a f) (sym (follow_next tracks content (suc n) n a bytes nz here refl c))
-        (met_on tracks content n a bytes (follow tracks content n (link bytes)).blocks (follow tracks content n (link bytes)).trouble nz here c (more (link bytes)))
+    (met_on tracks content n a bytes (follow tracks content n (link bytes)).blocks (follow tracks content n (link bytes)).trouble nz here c (more (link bytes)))
 step tracks content n a nz here (Err code) c more =
     subst (λ (f : Followed). MeetsIn tracks content (suc n) a f) (sym (follow_fault tracks content (suc n) n a code nz here refl c))
-        (met_at tracks content (suc n) a code nz (inr (inr (here, omega arith, c))))
+    (met_at tracks content (suc n) a code nz (inr (inr (here, omega arith, c))))
 
 none_left : (tracks : ℕ) (content : Content) (a : Place) → a.track ≢ 0 → Has tracks a → MeetsIn tracks content 0 a (follow tracks content 0 a)
 none_left tracks content a nz here =
@@ -165,12 +165,12 @@ none_left tracks content a nz here =
 places : (tracks : ℕ) (content : Content) (n : ℕ) (a : Place)
     → (a.track ≢ 0 → Has tracks a → MeetsIn tracks content n a (follow tracks content n a)) → MeetsIn tracks content n a (follow tracks content n a)
 places tracks content n a on = elim (cases_eq a.track 0) [
-    inl z ↦ subst (λ (f : Followed). MeetsIn tracks content n a f) (sym (follow_end tracks content n a z)) (z, omega arith)
+  | inl z ↦ subst (λ (f : Followed). MeetsIn tracks content n a f) (sym (follow_end tracks content n a z)) (z, omega arith)
   | inr nz ↦ elim (bool_cases (has tracks a)) [
-      inr off ↦ subst (λ (f : Followed). MeetsIn tracks content n a f) (sym (follow_off tracks content n a nz off)) (met_at tracks content n a 66 nz (inl (refl, off)))
+    | inr off ↦ subst (λ (f : Followed). MeetsIn tracks content n a f) (sym (follow_off tracks content n a nz off)) (met_at tracks content n a 66 nz (inl (refl, off)))
     | inl here ↦ on nz (true_has tracks a here)
-    ]
   ]
+]
 
 pub met : (tracks : ℕ) (content : Content) (n : ℕ) (a : Place) → MeetsIn tracks content n a (follow tracks content n a)
 met tracks content zero a = places tracks content 0 a (λ nz here. none_left tracks content a nz here)
@@ -188,9 +188,12 @@ followed_cut tracks content n a blocks t e = subst (λ (f : Followed). MeetsIn t
 
 pub chain_same : (tracks : ℕ) (old new : Content) (a : Place) (blocks : List Place) → AllSame old new blocks → Chain tracks old a blocks → Chain tracks new a blocks
 chain_same tracks old new a [] s h = h
-chain_same tracks old new a (b ∷ rest) s h = (h.0, h.1,
-    subst (λ (cell : Cell). IsOk cell) (sym s.0) h.2,
-    subst (λ (cell : Cell). Chain tracks new (link (or_nothing cell)) rest) (sym s.0) (chain_same tracks old new (link (bytes_at old b)) rest s.1 h.3))
+chain_same tracks old new a (b ∷ rest) s h = (
+  h.0,
+  h.1,
+  subst (λ (cell : Cell). IsOk cell) (sym s.0) h.2,
+  subst (λ (cell : Cell). Chain tracks new (link (or_nothing cell)) rest) (sym s.0) (chain_same tracks old new (link (bytes_at old b)) rest s.1 h.3),
+)
 
 pub same_apart : (content : Content) (p : Place) (bytes : List ℕ) (blocks : List Place) → IsApart p blocks → AllSame content (written content p bytes) blocks
 same_apart content p bytes [] s = tt

@@ -41,10 +41,8 @@ impl Model for Address {
 impl Address {
     /// The sector with these two numbers, None where no disk has it.
     pub fn new(track: u8, sector: u8) -> Option<Address>
-        ensures {
-            let p : Place = record { track = track; sector = sector } in
-            SomeIff result (IsOnDisk p) p
-        }
+        ensures { let p : Place = record { track = track; sector = sector } in
+            SomeIff result (IsOnDisk p) p }
     {
         if sector < sectors_of(track) {
             Some(Address { track, sector })

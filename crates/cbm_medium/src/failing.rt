@@ -30,17 +30,13 @@ impl<M> Model for Failing<M> {
 
     ghost Value = { Watched M };
 
-    ghost view = {
-        λ f. record { inner = f.inner; countdown = record { passes = f.passes; all = f.all; failures = f.failures } }
-    };
+    ghost view = { λ f. record { inner = f.inner; countdown = record { passes = f.passes; all = f.all; failures = f.failures } } };
 }
 
 impl<M: Steady> Failing<M> {
     /// A medium that passes `after` writes and refuses the next one, or with `all` every later one.
     pub fn new(inner: M, after: u32, all: bool) -> Failing<M>
-        ensures {
-            result ≡ (record { inner = inner; countdown = record { passes = Some after; all = all; failures = 0 } })
-        }
+        ensures { result ≡ (record { inner = inner; countdown = record { passes = Some after; all = all; failures = 0 } }) }
     {
         Failing {
             inner,
@@ -91,9 +87,13 @@ impl<M: Steady> Failing<M> {
 
 impl<M: Steady> Medium for Failing<M> {
     ghost content = { λ f. M.content f.inner };
+
     ghost tracks = { λ f. M.tracks f.inner };
+
     ghost protected = { λ f. M.protected f.inner };
+
     ghost failures = { λ f. f.countdown.failures };
+
     ghost outer_headers = { λ f p. M.outer_headers f.inner p };
 
     fn read(&self, at: Address) -> Result<[u8; 256], Fault> {
@@ -104,32 +104,22 @@ impl<M: Steady> Medium for Failing<M> {
         requires { at.track ≤ M.tracks self.old.inner }
         ensures ok { OnOk result (M.content self.new.inner ≡ written (M.content self.old.inner) at bytes.now) }
         ensures err { OnErr result (M.content self.new.inner ≡ M.content self.old.inner) }
-        ensures refused {
-            IfSome (refusal (M.protected self.old.inner) (M.content self.old.inner at))
-                (λ code. result ≡ Err (record { code = code; at = at }))
-        }
-        ensures cause {
-            IfErr result (λ fault.
-                (refusal (M.protected self.old.inner) (M.content self.old.inner at) ≡ Some fault.code)
-                ⊎ (self.old.countdown.failures < self.new.countdown.failures))
-        }
+        ensures refused { IfSome (refusal (M.protected self.old.inner) (M.content self.old.inner at))
+            (λ code. result ≡ Err (record { code = code; at = at })) }
+        ensures cause { IfErr result (λ fault.
+            (refusal (M.protected self.old.inner) (M.content self.old.inner at) ≡ Some fault.code)
+            ⊎ (self.old.countdown.failures < self.new.countdown.failures)) }
         ensures at { IfErr result (λ fault. fault.at ≡ at) }
         ensures uncounted { OnOk result (self.new.countdown.failures ≡ self.old.countdown.failures) }
         ensures counted { self.old.countdown.failures ≤ self.new.countdown.failures }
         ensures protected { M.protected self.new.inner ≡ M.protected self.old.inner }
         ensures tracks { M.tracks self.new.inner ≡ M.tracks self.old.inner }
-        ensures due {
-            refusal (M.protected self.old.inner) (M.content self.old.inner at) ≡ None → is_due self.old.countdown ≡ true →
-            (result ≡ Err (record { code = 25; at = at })) × (self.new.countdown ≡ failed self.old.countdown)
-        }
-        ensures passes {
-            refusal (M.protected self.old.inner) (M.content self.old.inner at) ≡ None → is_due self.old.countdown ≡ false →
-            (result ≡ Ok tt) × (self.new.countdown ≡ passed self.old.countdown)
-        }
-        ensures outside {
-            IfSome (refusal (M.protected self.old.inner) (M.content self.old.inner at))
-                (λ _. self.new.countdown ≡ self.old.countdown)
-        }
+        ensures due { refusal (M.protected self.old.inner) (M.content self.old.inner at) ≡ None → is_due self.old.countdown ≡ true →
+            (result ≡ Err (record { code = 25; at = at })) × (self.new.countdown ≡ failed self.old.countdown) }
+        ensures passes { refusal (M.protected self.old.inner) (M.content self.old.inner at) ≡ None → is_due self.old.countdown ≡ false →
+            (result ≡ Ok tt) × (self.new.countdown ≡ passed self.old.countdown) }
+        ensures outside { IfSome (refusal (M.protected self.old.inner) (M.content self.old.inner at))
+            (λ _. self.new.countdown ≡ self.old.countdown) }
     {
         if !self.is_due() {
             self.inner.write(at, bytes)?;
@@ -139,7 +129,9 @@ impl<M: Steady> Medium for Failing<M> {
         if self.inner.protected() {
             return Err(Fault { code: 26, at });
         }
-        if let Err(fault) = self.inner.read(at) && is_of_header(fault.code) {
+        if let Err(fault) = self.inner.read(at)
+            && is_of_header(fault.code)
+        {
             return Err(fault);
         }
         self.fail();
@@ -152,28 +144,20 @@ impl<M: Steady> Medium for Failing<M> {
     fn format(&mut self, id: [u8; 2]) -> Result<(), Fault>
         ensures ok { OnOk result (M.content self.new.inner ≡ blank) }
         ensures err { OnErr result (M.content self.new.inner ≡ M.content self.old.inner) }
-        ensures refused {
-            IfSome (format_refusal (M.protected self.old.inner))
-                (λ code. result ≡ Err (record { code = code; at = directory_head }))
-        }
-        ensures cause {
-            IfErr result (λ fault.
-                (format_refusal (M.protected self.old.inner) ≡ Some fault.code)
-                ⊎ (self.old.countdown.failures < self.new.countdown.failures))
-        }
+        ensures refused { IfSome (format_refusal (M.protected self.old.inner))
+            (λ code. result ≡ Err (record { code = code; at = directory_head })) }
+        ensures cause { IfErr result (λ fault.
+            (format_refusal (M.protected self.old.inner) ≡ Some fault.code)
+            ⊎ (self.old.countdown.failures < self.new.countdown.failures)) }
         ensures at { IfErr result (λ fault. fault.at ≡ directory_head) }
         ensures uncounted { OnOk result (self.new.countdown.failures ≡ self.old.countdown.failures) }
         ensures counted { self.old.countdown.failures ≤ self.new.countdown.failures }
         ensures protected { M.protected self.new.inner ≡ M.protected self.old.inner }
         ensures tracks { M.tracks self.new.inner ≡ M.tracks self.old.inner }
-        ensures due {
-            M.protected self.old.inner ≡ false → is_due self.old.countdown ≡ true →
-            (result ≡ Err (record { code = 25; at = directory_head })) × (self.new.countdown ≡ failed self.old.countdown)
-        }
-        ensures passes {
-            M.protected self.old.inner ≡ false → is_due self.old.countdown ≡ false →
-            (result ≡ Ok tt) × (self.new.countdown ≡ passed self.old.countdown)
-        }
+        ensures due { M.protected self.old.inner ≡ false → is_due self.old.countdown ≡ true →
+            (result ≡ Err (record { code = 25; at = directory_head })) × (self.new.countdown ≡ failed self.old.countdown) }
+        ensures passes { M.protected self.old.inner ≡ false → is_due self.old.countdown ≡ false →
+            (result ≡ Ok tt) × (self.new.countdown ≡ passed self.old.countdown) }
         ensures outside { M.protected self.old.inner ≡ true → self.new.countdown ≡ self.old.countdown }
     {
         if self.inner.protected() || !self.is_due() {

@@ -34,9 +34,8 @@ pub struct Trouble {
 
 impl From<Fault> for Trouble {
     ghost use Rattle.cbm_medium.specs.declared.fault.Trouble.{Trouble};
-    ghost from_gives = {
-        λ f t. t ≡ (record { code = f.code; track = f.at.track; sector = f.at.sector })
-    };
+
+    ghost from_gives = { λ f t. t ≡ (record { code = f.code; track = f.at.track; sector = f.at.sector }) };
 
     fn from(fault: Fault) -> Trouble {
         Trouble {

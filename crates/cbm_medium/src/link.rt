@@ -99,16 +99,19 @@ impl From<Address> for Link {
 /// Reads the sector that a link names, where so many sectors are left to the walk: 66 where the disk has no such
 /// sector, 71 where none is left, else what the medium answers.
 #[tactic(auto, unfolding(crate::specs::Links::follow))]
-pub fn read_linked<M: Medium>(medium: &M, geometry: Geometry, at: Link, left: u16) -> Result<[u8; 256], Trouble>
+pub fn read_linked<M: Medium>(
+    medium: &M,
+    geometry: Geometry,
+    at: Link,
+    left: u16,
+) -> Result<[u8; 256], Trouble>
     requires tracks { geometry ≤ M.tracks medium.now }
     requires going { at.track ≢ 0 }
     ensures ok { IfOk result (λ bytes. M.content medium.now at ≡ Ok bytes) }
     ensures has { OnOk result (Has geometry at) }
     ensures left { OnOk result (0 < left) }
-    ensures followed {
-        let content = M.content medium.now in
-        IfOk result (λ bytes. follow geometry content left at ≡ with_block at (follow geometry content (left - 1) (link bytes)))
-    }
+    ensures followed { let content = M.content medium.now in
+        IfOk result (λ bytes. follow geometry content left at ≡ with_block at (follow geometry content (left - 1) (link bytes))) }
     ensures err { IfErr result (λ t. follow geometry (M.content medium.now) left at ≡ (record { blocks = []; trouble = Some t })) }
 {
     let Some(address) = at.address(geometry) else {
@@ -124,22 +127,14 @@ pub fn read_linked<M: Medium>(medium: &M, geometry: Geometry, at: Link, left: u1
 /// Following links gives the blocks of a chain that is short enough, and no others; and where it is cut, the blocks up to
 /// there, with 66 at a link to no sector of the disk, 71 at one sector too many, or the fault of the sector.
 pub fn chains_are_followed()
-    ensures whole {
-        (tracks : ℕ) (content : Content) (most : ℕ) (a : Place) (blocks : List Place) →
-        ((Chain tracks content a blocks × (length blocks ≤ most)) ↔ (follow tracks content most a ≡ ended blocks))
-    }
-    ensures cut {
-        (tracks : ℕ) (content : Content) (most : ℕ) (a : Place) (blocks : List Place) (t : Trouble) →
-        (IsCut tracks content most a blocks t ↔ (follow tracks content most a ≡ (record { blocks = blocks; trouble = Some t })))
-    }
-{
-}
+    ensures whole { (tracks : ℕ) (content : Content) (most : ℕ) (a : Place) (blocks : List Place) →
+        ((Chain tracks content a blocks × (length blocks ≤ most)) ↔ (follow tracks content most a ≡ ended blocks)) }
+    ensures cut { (tracks : ℕ) (content : Content) (most : ℕ) (a : Place) (blocks : List Place) (t : Trouble) →
+        (IsCut tracks content most a blocks t ↔ (follow tracks content most a ≡ (record { blocks = blocks; trouble = Some t }))) }
+{}
 
 /// A write to a sector that is none of a chain's leaves the chain.
 pub fn writes_elsewhere_change_no_chain()
-    ensures {
-        (tracks : ℕ) (content : Content) (a : Place) (blocks : List Place) (p : Place) (bytes : List ℕ) →
-        Chain tracks content a blocks → IsApart p blocks → Chain tracks (written content p bytes) a blocks
-    }
-{
-}
+    ensures { (tracks : ℕ) (content : Content) (a : Place) (blocks : List Place) (p : Place) (bytes : List ℕ) →
+        Chain tracks content a blocks → IsApart p blocks → Chain tracks (written content p bytes) a blocks }
+{}

@@ -32,18 +32,14 @@ pub trait Medium {
         ensures ok { OnOk result (content self.new ≡ written (content self.old) at bytes.now) }
         ensures err { OnErr result (content self.new ≡ content self.old) }
 
-    // Protection first, then a fault of the header.
-        ensures refused {
-            IfSome (refusal (protected self.old) (content self.old at))
-                (λ code. result ≡ Err (record { code = code; at = at }))
-        }
+        // Protection first, then a fault of the header.
+        ensures refused { IfSome (refusal (protected self.old) (content self.old at))
+            (λ code. result ≡ Err (record { code = code; at = at })) }
 
-    // Any other fault is the medium's own, and is counted.
-        ensures cause {
-            IfErr result (λ fault.
-                (refusal (protected self.old) (content self.old at) ≡ Some fault.code)
-                ⊎ (failures self.old < failures self.new))
-        }
+        // Any other fault is the medium's own, and is counted.
+        ensures cause { IfErr result (λ fault.
+            (refusal (protected self.old) (content self.old at) ≡ Some fault.code)
+            ⊎ (failures self.old < failures self.new)) }
         ensures at { IfErr result (λ fault. fault.at ≡ at) }
         ensures uncounted { OnOk result (failures self.new ≡ failures self.old) }
         ensures counted { failures self.old ≤ failures self.new }
@@ -54,15 +50,11 @@ pub trait Medium {
     fn format(&mut self, id: [u8; 2]) -> Result<(), Fault>
         ensures ok { OnOk result (content self.new ≡ blank) }
         ensures err { OnErr result (content self.new ≡ content self.old) }
-        ensures refused {
-            IfSome (format_refusal (protected self.old))
-                (λ code. result ≡ Err (record { code = code; at = directory_head }))
-        }
-        ensures cause {
-            IfErr result (λ fault.
-                (format_refusal (protected self.old) ≡ Some fault.code)
-                ⊎ (failures self.old < failures self.new))
-        }
+        ensures refused { IfSome (format_refusal (protected self.old))
+            (λ code. result ≡ Err (record { code = code; at = directory_head })) }
+        ensures cause { IfErr result (λ fault.
+            (format_refusal (protected self.old) ≡ Some fault.code)
+            ⊎ (failures self.old < failures self.new)) }
         ensures at { IfErr result (λ fault. fault.at ≡ directory_head) }
         ensures uncounted { OnOk result (failures self.new ≡ failures self.old) }
         ensures counted { failures self.old ≤ failures self.new }
@@ -83,7 +75,5 @@ pub trait Medium {
         ensures { result ≡ failures self.now };
 
     /// No sector of the tracks 36 to 40 ever has a fault of its header, where the medium has these tracks.
-    ghost outer_headers: {
-        (m : Self) (p : Place) → Self.tracks m ≡ 40 → 35 < p.track → header_fault (Self.content m p) ≡ None
-    };
+    ghost outer_headers: { (m : Self) (p : Place) → Self.tracks m ≡ 40 → 35 < p.track → header_fault (Self.content m p) ≡ None };
 }
