@@ -1,8 +1,9 @@
 -- The sectors of the directory, and what an entry's thirty bytes say.
-use Rattle.std.specs.Prelude.{ℕ, ◌+◌, ◌*◌, ◌/◌, ◌%◌, ◌^◌, ◌<◌, ◌≡◌, ◌≢◌, ◌==◌, not, List, Bool, if◌then◌else◌, length, take_while, slice_index, slice_index_or, slice_range}
+use Rattle.std.specs.Prelude.{ℕ, ◌+◌, ◌*◌, ◌/◌, ◌%◌, ◌^◌, ◌<◌, ◌≡◌, ◌≢◌, ◌==◌, List, Bool, if◌then◌else◌, length, slice_index, slice_index_or, slice_range}
 use Rattle.cbm_medium.specs.Place.{Place, directory_head}
 use Rattle.cbm_medium.specs.Content.{Content, written}
 use Rattle.cbm_medium.specs.Links.{bytes_at, place_in, link}
+use Rattle.cbm_file.specs.Padding.{before_filler}
 use Rattle.cbm_file.specs.declared.file_type.FileType.{FileType}
 use Rattle.cbm_file.specs.declared.file_type.FileType.TheVariants.{Del, Seq, Prg, Usr, Rel}
 
@@ -70,12 +71,9 @@ first_side e = place_in e 19
 abbrev pub width_of : List ℕ → ℕ
 width_of e = slice_index e 21
 
--- a name in sixteen bytes ends before the first $A0
-abbrev pub cut : List ℕ → List ℕ
-cut name = take_while (λ x. not (x == 160)) name
-
+-- its name, in sixteen bytes
 unfoldable pub name_in : List ℕ → List ℕ
-name_in e = cut (slice_range e 3 19)
+name_in e = before_filler (slice_range e 3 19)
 
 -- ---- whole sectors
 

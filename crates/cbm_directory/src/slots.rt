@@ -1,7 +1,7 @@
 ghost use Rattle.std.specs.Prelude.{◌≡◌, ◌≤◌, ◌<◌, ◌+◌, ◌-◌, ◌⊎◌, OnOk, IfErr, Some, [], slice_range};
-ghost use Rattle.cbm_directory.specs.Entries.{entry_of};
 ghost use Rattle.cbm_directory.specs.Slots.{Answers, Gives, directory_of, left_of};
 
+use crate::entry::Entry;
 use cbm_medium::{Geometry, Link, Medium, Trouble, read_linked};
 use std::marker::Model;
 
@@ -10,17 +10,6 @@ const MOST: u16 = 18;
 
 /// The entries in a sector.
 const ENTRIES: u8 = 8;
-
-/// The thirty bytes of an entry.
-fn entry_in(sector: &[u8; 256], number: u8) -> [u8; 30]
-    requires { number < 8 }
-    ensures { result ≡ entry_of sector.now number }
-{
-    let mut entry = [0; 30];
-    let from = 32 * number as usize + 2;
-    entry.copy_from_slice(&sector[from..from + 30]);
-    entry
-}
 
 /// Goes through the slots of the directory in order, a sector read once for its eight.
 #[derive(Drop)]
@@ -85,9 +74,9 @@ impl Slots {
         Ok(())
     }
 
-    /// The thirty bytes of the next slot's entry, None past the last. An `Err` is what breaks the directory off there: 66 at
+    /// The entry of the next slot, None past the last. An `Err` is what breaks the directory off there: 66 at
     /// a link to no sector of the disk, 71 at a nineteenth sector, or the medium's fault; and it comes again.
-    pub fn next<M: Medium>(&mut self, medium: &M) -> Result<Option<[u8; 30]>, Trouble>
+    pub fn next<M: Medium>(&mut self, medium: &M) -> Result<Option<Entry>, Trouble>
         requires { self.old.tracks ≤ M.tracks medium.now }
         ensures gives { Gives (left_of (M.content medium.now) self.old) (left_of (M.content medium.now) self.new) result }
         ensures tracks { self.new.tracks ≡ self.old.tracks }
@@ -96,14 +85,14 @@ impl Slots {
         if self.number == ENTRIES {
             return Ok(None);
         }
-        let entry = entry_in(&self.sector, self.number);
+        let entry = Entry::of(&self.sector, self.number);
         self.number += 1;
         Ok(Some(entry))
     }
 }
 
 /// The entry of a slot by its number, counted from 0; None past the last. An `Err` is what breaks the directory off before.
-pub fn slot<M: Medium>(medium: &M, geometry: Geometry, number: u8) -> Result<Option<[u8; 30]>, Trouble>
+pub fn slot<M: Medium>(medium: &M, geometry: Geometry, number: u8) -> Result<Option<Entry>, Trouble>
     requires { geometry ≤ M.tracks medium.now }
     ensures { Answers (directory_of geometry (M.content medium.now)) number result }
 {

@@ -2,5 +2,7 @@
 #![tactic(auto)]
 
 mod file_type;
+mod padded;
 
 pub use file_type::FileType;
+pub use padded::before_filler;

@@ -22,4 +22,4 @@ returns-clause-gives g c =
     ∙ one_given c.self.inside.number c.self.inside.sector (listed_from c.self.inside.geometry (g.M.Medium.content c.args.medium.now) c.self.inside.left c.self.inside.next) (omega arith)
     ∙ ap (λ (entry : List ℕ). behind (entry ∷ [])
         (behind (entries_from (8 - (c.self.inside.number + 1)) c.self.inside.sector (c.self.inside.number + 1))
-            (listed_from c.self.inside.geometry (g.M.Medium.content c.args.medium.now) c.self.inside.left c.self.inside.next))) (sym c.entry_in-entry.ensures)
+            (listed_from c.self.inside.geometry (g.M.Medium.content c.args.medium.now) c.self.inside.left c.self.inside.next))) (sym c.of-entry.ensures)
