@@ -1,6 +1,6 @@
 -- One step through the list of the directory's entries.
-use Rattle.std.proofs.Common.{◌≡◌, ◌≢◌, ℕ, zero, suc, ◌+◌, ◌-◌, ◌<◌, ◌≤◌, List, [], ◌∷◌, ◌++◌, length, Bool, true, false, Option, Some, None, Result, Ok, Err, refl, sym, ap, subst, ◌∙◌, arith}
-use Rattle.std.specs.Prelude.{slice_get, is_some}
+use Rattle.std.proofs.Common.{◌≡◌, ◌≢◌, ℕ, zero, suc, ◌+◌, ◌-◌, ◌*◌, ◌<◌, ◌≤◌, List, [], ◌∷◌, ◌++◌, length, Bool, true, false, Option, Some, None, Result, Ok, Err, refl, sym, ap, subst, ◌∙◌, arith}
+use Rattle.std.specs.Prelude.{slice_get, is_some, if◌then◌else◌}
 use Rattle.std.proofs.lemmas.List.{append-nil, append_assoc, length-append}
 use Rattle.cbm_medium.specs.Place.{Place}
 use Rattle.cbm_medium.specs.Content.{Cell, Content}
@@ -8,7 +8,7 @@ use Rattle.cbm_medium.specs.Links.{or_nothing, bytes_at, link, Followed, follow,
 use Rattle.cbm_medium.specs.declared.fault.Trouble.{Trouble}
 use Rattle.cbm_medium.proofs.Walks.{follow_end}
 use Rattle.cbm_directory.specs.Entries.{entry_of}
-use Rattle.cbm_directory.specs.Slots.{entries_from, all_entries, Listed, listed_in, listed_from, behind, Answers, Gives}
+use Rattle.cbm_directory.specs.Slots.{entries_from, all_entries, Listed, listed_in, listed_from, behind, first_from, Answers, Gives}
 
 pub listed_end : (tracks : ℕ) (content : Content) (left : ℕ) (at : Place) → at.track ≡ 0 → listed_from tracks content left at ≡ record { entries = []; trouble = None }
 unfolding listed_from
@@ -94,3 +94,39 @@ answered whole old new n m (Err t) p e h = ended whole old n m (Some t) p (omega
 pub some_passed : (whole old new : Listed) (n : ℕ) (o : Option (List ℕ)) → is_some o ≡ true → Passed whole n old → Gives old new (Ok o) → Passed whole (n + 1) new
 some_passed whole old new n (Some entry) some p h = one_passed whole old new n entry p h
 some_passed whole old new n None some p h = absurd (cc)
+
+-- ---- looking for an entry
+
+-- what is found in the whole is what is found in the rest, counted from n
+pub record Looked (test : List ℕ → Bool) (whole : Listed) (n : ℕ) (rest : Listed) : Type 0 where
+  pub found : first_from test 0 whole.entries ≡ first_from test n rest.entries
+  pub trouble : whole.trouble ≡ rest.trouble
+
+pub looked_none : (test : List ℕ → Bool) (whole rest : Listed) → rest ≡ whole → Looked test whole 0 rest
+looked_none test whole rest e = record {
+    found = ap (λ (d : Listed). first_from test 0 d.entries) (sym e);
+    trouble = ap (λ (d : Listed). d.trouble) (sym e);
+  }
+
+pub looked_past : (test : List ℕ → Bool) (whole old new : Listed) (n : ℕ) (entry : List ℕ) → Looked test whole n old → Gives old new (Ok (Some entry)) → test entry ≡ false → Looked test whole (n + 1) new
+looked_past test whole old new n entry l h f = record {
+    found = l.found ∙ ap (λ (d : Listed). first_from test n d.entries) h ∙ ap (λ (b : Bool). if b then Some (n, entry) else first_from test (n + 1) new.entries) f;
+    trouble = l.trouble ∙ ap (λ (d : Listed). d.trouble) h;
+  }
+
+pub found_here : (test : List ℕ → Bool) (whole old new : Listed) (n : ℕ) (entry : List ℕ) → Looked test whole n old → Gives old new (Ok (Some entry)) → test entry ≡ true
+    → first_from test 0 whole.entries ≡ Some (n, entry)
+found_here test whole old new n entry l h f =
+    l.found ∙ ap (λ (d : Listed). first_from test n d.entries) h ∙ ap (λ (b : Bool). if b then Some (n, entry) else first_from test (n + 1) new.entries) f
+
+pub looked_through : (test : List ℕ → Bool) (whole old : Listed) (n : ℕ) (t : Option Trouble) → Looked test whole n old → old ≡ record { entries = []; trouble = t }
+    → (first_from test 0 whole.entries ≡ None) × (whole.trouble ≡ t)
+looked_through test whole old n t l e =
+    (l.found ∙ ap (λ (d : Listed). first_from test n d.entries) e, l.trouble ∙ ap (λ (d : Listed). d.trouble) e)
+
+pub most_one : (number left : ℕ) (sector : List ℕ) → number < 8
+    → 8 * left + length (entries_from (8 - (number + 1)) sector (number + 1)) + 1 ≡ 8 * left + length (entries_from (8 - number) sector number)
+most_one number left sector h =
+    let more : 8 - number ≡ suc (8 - (number + 1)) = omega arith in
+    let e : length (entries_from (8 - number) sector number) ≡ suc (length (entries_from (8 - (number + 1)) sector (number + 1))) = ap (λ (n : ℕ). length (entries_from n sector number)) more in
+    omega arith

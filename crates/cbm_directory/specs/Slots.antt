@@ -1,5 +1,5 @@
 -- The list of the directory's entries, and a reader on the way through it.
-use Rattle.std.specs.Prelude.{ℕ, zero, suc, ◌+◌, ◌-◌, ◌≤◌, ◌≡◌, List, [], ◌∷◌, ◌++◌, length, slice_get, Option, Some, None, Result, Ok, Err}
+use Rattle.std.specs.Prelude.{ℕ, zero, suc, ◌+◌, ◌*◌, ◌≤◌, ◌≡◌, List, [], ◌∷◌, ◌++◌, Bool, if◌then◌else◌, length, slice_get, Option, Some, None, Result, Ok, Err}
 use Rattle.cbm_medium.specs.Place.{Place}
 use Rattle.cbm_medium.specs.Content.{Content}
 use Rattle.cbm_medium.specs.Links.{bytes_at, Followed, follow}
@@ -57,3 +57,23 @@ abbrev pub Gives : Listed → Listed → Result (Option (List ℕ)) Trouble → 
 Gives old new (Ok (Some entry)) = old ≡ behind (entry ∷ []) new
 Gives old new (Ok None) = (old ≡ record { entries = []; trouble = None }) × (new ≡ old)
 Gives old new (Err t) = (old ≡ record { entries = []; trouble = Some t }) × (new ≡ old)
+
+-- how many entries a reader can still give
+abbrev pub most_left : Cursor → ℕ
+most_left c = 8 * c.left + length c.entries
+
+-- the fact of the reader after an entry was given
+abbrev pub IfGiven : {E : Type 0} → Result (Option (List ℕ)) E → Type 0 → Type 0
+IfGiven (Ok (Some entry)) P = P
+IfGiven _ P = Unit {0}
+
+-- the first entry that passes, with its number, counted from n
+abbrev pub first_from : (List ℕ → Bool) → ℕ → List (List ℕ) → Option (ℕ × List ℕ)
+first_from test n [] = None
+first_from test n (entry ∷ rest) = if test entry then Some (n, entry) else first_from test (n + 1) rest
+
+-- The first entry that passes; none where none passes; or the trouble where the list breaks off before.
+abbrev pub Finds : (List ℕ → Bool) → Listed → Result (Option (ℕ × List ℕ)) Trouble → Type 0
+Finds test d (Ok (Some found)) = first_from test 0 d.entries ≡ Some found
+Finds test d (Ok None) = (first_from test 0 d.entries ≡ None) × (d.trouble ≡ None)
+Finds test d (Err t) = (first_from test 0 d.entries ≡ None) × (d.trouble ≡ Some t)

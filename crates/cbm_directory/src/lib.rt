@@ -5,4 +5,4 @@ mod entry;
 mod slots;
 
 pub use entry::Entry;
-pub use slots::{Slots, slot};
+pub use slots::{Slots, Wanted, find, slot};

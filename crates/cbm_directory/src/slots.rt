@@ -1,5 +1,5 @@
-ghost use Rattle.std.specs.Prelude.{◌≡◌, ◌≤◌, ◌<◌, ◌+◌, ◌-◌, ◌⊎◌, OnOk, IfErr, Some, [], slice_range};
-ghost use Rattle.cbm_directory.specs.Slots.{Answers, Gives, directory_of, left_of};
+ghost use Rattle.std.specs.Prelude.{Bool, List, ℕ, ◌≡◌, ◌≤◌, ◌<◌, ◌+◌, ◌-◌, ◌⊎◌, OnOk, IfErr, Some, [], slice_range};
+ghost use Rattle.cbm_directory.specs.Slots.{Answers, Gives, IfGiven, Finds, directory_of, left_of, most_left};
 
 use crate::entry::Entry;
 use cbm_medium::{Geometry, Link, Medium, Trouble, read_linked};
@@ -22,7 +22,7 @@ pub struct Slots {
 }
 
 impl Model for Slots {
-    ghost use Rattle.std.specs.Prelude.{◌≡◌, ◌≤◌, ◌-◌, length};
+    ghost use Rattle.std.specs.Prelude.{Bool, List, ℕ, ◌≡◌, ◌≤◌, ◌-◌, length};
     ghost use Rattle.cbm_directory.specs.Slots.{Cursor, entries_from};
 
     ghost Value = { Cursor };
@@ -45,6 +45,7 @@ impl Slots {
     pub fn begin(geometry: Geometry) -> Slots
         ensures left { (content : _) → left_of content result ≡ directory_of geometry content }
         ensures tracks { result.tracks ≡ geometry }
+        ensures most { most_left result ≡ 144 }
     {
         Slots {
             geometry,
@@ -62,6 +63,7 @@ impl Slots {
         ensures ready { OnOk result (self.new.entries ≡ [] → self.new.next.track ≡ 0) }
         ensures err { IfErr result (λ t. left_of (M.content medium.now) self.old ≡ record { entries = []; trouble = Some t }) }
         ensures tracks { self.new.tracks ≡ self.old.tracks }
+        ensures most { most_left self.new ≡ most_left self.old }
     {
         if self.number < ENTRIES || self.next.is_end() {
             return Ok(());
@@ -80,6 +82,7 @@ impl Slots {
         requires { self.old.tracks ≤ M.tracks medium.now }
         ensures gives { Gives (left_of (M.content medium.now) self.old) (left_of (M.content medium.now) self.new) result }
         ensures tracks { self.new.tracks ≡ self.old.tracks }
+        ensures most { IfGiven result (most_left self.new + 1 ≡ most_left self.old) }
     {
         self.fill(medium)?;
         if self.number == ENTRIES {
@@ -103,4 +106,31 @@ pub fn slot<M: Medium>(medium: &M, geometry: Geometry, number: u8) -> Result<Opt
         }
     }
     slots.next(medium)
+}
+
+/// What is looked for among the entries of the directory.
+pub trait Wanted {
+    /// Whether an entry is it.
+    ghost wants: { Self → List ℕ → Bool };
+
+    /// Whether an entry is it.
+    fn wants(&self, entry: &Entry) -> bool
+        ensures { result ≡ wants self.now entry.now };
+}
+
+/// The first entry that is wanted, and the number of its slot; None where none is. An `Err` is what breaks the directory off
+/// before one was met.
+pub fn find<M: Medium, W: Wanted>(medium: &M, geometry: Geometry, wanted: &W) -> Result<Option<(u8, Entry)>, Trouble>
+    requires { geometry ≤ M.tracks medium.now }
+    ensures { Finds (W.wants wanted.now) (directory_of geometry (M.content medium.now)) result }
+{
+    let mut slots = Slots::begin(geometry);
+    let mut number = 0;
+    'slots: while let Some(entry) = slots.next(medium)? {
+        if wanted.wants(&entry) {
+            return Ok(Some((number, entry)));
+        }
+        number += 1;
+    }
+    Ok(None)
 }

@@ -1,6 +1,6 @@
 use Rattle.std.proofs.Common.{◌≡◌, ◌-◌, ◌+◌, ℕ, List, ap, sym, ◌∙◌, arith, Some, [], ◌∷◌}
-use Rattle.cbm_directory.specs.Slots.{Cursor, left_of, entries_from, listed_from, behind}
-use Rattle.cbm_directory.proofs.Stepping.{used_up, one_given, none_left}
+use Rattle.cbm_directory.specs.Slots.{Cursor, left_of, entries_from, listed_from, behind, most_left}
+use Rattle.cbm_directory.proofs.Stepping.{used_up, one_given, none_left, most_one}
 use Rattle.cbm_directory.proofs.slots.Slots.next.Goals as goal
 
 -- after `fill` a reader without entries is at the end
@@ -23,3 +23,9 @@ returns-clause-gives g c =
     ∙ ap (λ (entry : List ℕ). behind (entry ∷ [])
         (behind (entries_from (8 - (c.self.inside.number + 1)) c.self.inside.sector (c.self.inside.number + 1))
             (listed_from c.self.inside.geometry (g.M.Medium.content c.args.medium.now) c.self.inside.left c.self.inside.next))) (sym c.of-entry.ensures)
+
+pub returns-clause-most : goal.returns-clause-most
+returns-clause-most g c =
+    most_one c.self.inside.number c.self.inside.left c.self.inside.sector (omega arith)
+    ∙ ap (λ (r : Cursor). most_left r) c.self.view_is
+    ∙ c.in_ok-fill.ensures.most
