@@ -14,3 +14,4 @@ pub mod Steps
 pub mod Untouched
 pub mod Writers
 pub mod Written
+pub mod Lengths

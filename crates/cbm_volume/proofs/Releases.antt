@@ -36,7 +36,7 @@ pub apart_by_index : (p : Place) (xs : List Place) (d : Place) → ((j : ℕ) �
 apart_by_index p [] d h = tt
 apart_by_index p (x ∷ xs) d h = (λ e. h 0 (omega arith) (sym e), apart_by_index p xs d (λ j k. h (suc j) (omega arith)))
 
-freed_other : (f : Place → Bool) (p : Place) (xs : List Place) → IsApart p xs → with_freed f xs p ≡ f p
+pub freed_other : (f : Place → Bool) (p : Place) (xs : List Place) → IsApart p xs → with_freed f xs p ≡ f p
 freed_other f p [] h = refl
 freed_other f p (x ∷ xs) h = bit_elsewhere (with_freed f xs) x p true (λ e. h.0 (sym e)) ∙ freed_other f p xs h.1
 
