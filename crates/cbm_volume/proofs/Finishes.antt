@@ -12,7 +12,7 @@ use Rattle.cbm_volume.specs.Blocks.{Blocks, no_blocks, Lies, LiesAs, slot_of}
 use Rattle.cbm_volume.specs.Layouts.{Owner, Nobody, Directory, DataOf, SideOf, Writer, is_loose, OwnedBy, Layout, IsOwned, slot_count, Stands, Extends, own}
 use Rattle.cbm_volume.specs.Writers.{Part, part_bytes, last_of}
 use Rattle.cbm_medium.proofs.Places.{place_decide}
-use Rattle.cbm_volume.proofs.Slots.{with_file}
+use Rattle.cbm_volume.proofs.OneSlot.{with_file}
 use Rattle.cbm_volume.proofs.Steps.{stands_entry, own_there, own_elsewhere}
 
 -- the owners when these sectors are another's

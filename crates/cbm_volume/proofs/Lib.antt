@@ -9,9 +9,10 @@ pub mod Releases
 pub mod Remaps
 pub mod Rooms
 pub mod Settled
-pub mod Slots
+pub mod OneSlot
 pub mod Steps
 pub mod Untouched
 pub mod Writers
 pub mod Written
 pub mod Lengths
+pub mod Listing

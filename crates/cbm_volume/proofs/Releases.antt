@@ -16,7 +16,7 @@ use Rattle.cbm_volume.proofs.Frames.{owned_same}
 use Rattle.cbm_volume.proofs.Chained.{chain_distinct}
 use Rattle.cbm_bam.proofs.Counts.{bit_there, bit_elsewhere, tally_same, AreTaken, free_released}
 use Rattle.cbm_volume.proofs.Remaps.{with_map, with_owner, with_counts, sound_remap, describes_remap}
-use Rattle.cbm_volume.proofs.Slots.{with_file}
+use Rattle.cbm_volume.proofs.OneSlot.{with_file}
 use Rattle.cbm_volume.proofs.Steps.{stands_entry, extends_itself, own_there, own_elsewhere}
 
 -- ---- an entry is cleared: its type byte is 0

@@ -15,7 +15,7 @@ use Rattle.cbm_volume.proofs.Frames.{owned_same}
 use Rattle.cbm_volume.proofs.Loose.{sound_loose, describes_loose}
 use Rattle.cbm_bam.proofs.Counts.{bit_there, bit_elsewhere, tally_other, tally_same, free_claimed}
 use Rattle.cbm_volume.proofs.Remaps.{with_map, with_owner, with_counts, sound_remap, describes_remap, map_is}
-use Rattle.cbm_volume.proofs.Slots.{with_file, with_sector, blocks_here, blocks_other, sound_entry, describes_entry}
+use Rattle.cbm_volume.proofs.OneSlot.{with_file, with_sector, blocks_here, blocks_other, sound_entry, describes_entry}
 
 -- ---- a sector that is no part of the disk
 

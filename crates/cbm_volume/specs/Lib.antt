@@ -1,5 +1,6 @@
 pub mod Blocks
 pub mod Layouts
 pub mod Writers
+pub mod Reading
 
 pub use Rattle.cbm_file.specs.Files
