@@ -2,5 +2,7 @@
 #![tactic(auto)]
 
 mod file_type;
+#[cfg(test)]
+mod tests;
 
 pub use file_type::FileType;

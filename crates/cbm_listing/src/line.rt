@@ -5,11 +5,11 @@ ghost use Rattle.arrayvec.specs.ArrayVec.{array_vec_len};
 ghost use Rattle.cbm_listing.specs.Lines.{space, low_first, shown_byte, closed_mark, locked_mark, kind_text, before_filler, title_line, indent_width, entry_line, last_line};
 
 use crate::entry::Entry;
+use arrayvec::ArrayVec;
+use cbm_file::FileType;
 
 /// What fills a title and a name on the disk.
 const FILLER: u8 = 0xa0;
-use arrayvec::ArrayVec;
-use cbm_file::FileType;
 
 /// A line, or the part of it that is there.
 pub(crate) type Line = ArrayVec<u8, 32>;
@@ -27,7 +27,7 @@ fn add_spaces(line: &mut Line, count: usize)
     ensures items { line.new.items ≡ line.old.items ++ replicate count space }
     ensures len { array_vec_len line.new ≡ array_vec_len line.old + count }
 {
-    for i in 0..count {
+    for _i in 0..count {
         line.push(b' ');
     }
 }
