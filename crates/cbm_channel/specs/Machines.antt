@@ -1,6 +1,6 @@
 -- The named-files machine: a disk of files, fifteen channels, the status and the text that is being gathered.
 -- Each call of the drive's DOS is a function from a machine to the next one; `peek` is what it has to say.
-use Rattle.std.specs.Prelude.{ℕ, ◌+◌, ◌==◌, nat_lt, Bool, true, false, List, [], ◌∷◌, replicate, sum_by, slice_index_or, slice_set, if◌then◌else◌, Option, Some, None, Result, Ok, Err}
+use Rattle.std.specs.Prelude.{ℕ, ◌+◌, ◌==◌, nat_lt, Bool, true, false, List, replicate, sum_by, slice_index_or, slice_set, Option, Some, None, Result, Ok, Err}
 use Rattle.std.specs.List.{list_any}
 use Rattle.cbm_file.specs.Files.{Disk}
 use Rattle.cbm_channel.specs.declared.code.Code.{Code}

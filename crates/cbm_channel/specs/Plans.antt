@@ -2,7 +2,7 @@
 use Rattle.std.specs.Prelude.{ℕ, ◌-◌, ◌==◌, nat_lt, Bool, true, false, ◌&&◌, ◌||◌, not, List, [], ◌∷◌, if◌then◌else◌, Option, Some, None, Result, Ok, Err}
 use Rattle.cbm_file.specs.declared.file_type.FileType.{FileType}
 use Rattle.cbm_file.specs.declared.file_type.FileType.TheVariants.{Del, Rel}
-use Rattle.cbm_file.specs.Files.{Bytes, File, Disk, file_at, with_slot, bytes_in, record_length_in}
+use Rattle.cbm_file.specs.Files.{Bytes, File, file_at, with_slot, bytes_in, record_length_in}
 use Rattle.cbm_command.specs.declared.refusal.Refusal.{Refusal}
 use Rattle.cbm_command.specs.declared.opening.Mode.{Mode}
 use Rattle.cbm_command.specs.declared.opening.Mode.TheVariants.{Read, Write, Append}
@@ -15,7 +15,7 @@ use Rattle.cbm_channel.specs.declared.code.Code.{Code}
 use Rattle.cbm_channel.specs.declared.code.Code.TheVariants.{Fine, WriteProtected, NoRecord, WriteFileOpen, FileNotFound, FileExists, WrongType, NoChannel, DiskFull}
 use Rattle.cbm_channel.specs.Codes.{code_of_refusal}
 use Rattle.cbm_channel.specs.Listings.{listing}
-use Rattle.cbm_channel.specs.Machines.{Machine, Channel, Reading, Writing, Relative, with_disk, with_free, with_channel, say, answered, in_use, in_writing, too_many}
+use Rattle.cbm_channel.specs.Machines.{Machine, Reading, Writing, Relative, with_disk, with_free, with_channel, say, answered, in_use, in_writing, too_many}
 use Rattle.cbm_channel.specs.Finding.{is_kind, is_there, found, body_at, has_slot, new_slot, with_file, unclosed, closed_file}
 use Rattle.cbm_channel.specs.Records.{new_records}
 

@@ -3,6 +3,8 @@
 
 mod code;
 mod status;
+#[cfg(test)]
+mod tests;
 
 pub use cbm_command::{Command, Mode, Name, Names, Opening, Refusal, Wanted};
 pub use cbm_file::FileType;

@@ -3,9 +3,8 @@ ghost use Rattle.arrayvec.specs.ArrayVec.{array_vec_len};
 ghost use Rattle.cbm_channel.specs.Codes.{code_text};
 ghost use Rattle.cbm_channel.specs.Statuses.{two_digits, plain, status_line};
 
-use arrayvec::ArrayVec;
-
 use crate::code::Code;
+use arrayvec::ArrayVec;
 
 /// A status line of at most 33 bytes.
 pub type StatusLine = ArrayVec<u8, 33>;

@@ -1,3 +1,4 @@
 pub mod Parts
 pub mod Pieces
 pub mod Lists
+pub mod Spelled

@@ -15,8 +15,12 @@ no_or : (a b : Bool) → a ≡ true → (a || b) ≡ false → ⊥
 no_or true b e h = cc
 no_or false b e h = cc
 
--- nor is the second
-right_false : (a b : Bool) → (a || b) ≡ false → b ≡ false
+-- both are false
+pub left_false : (a b : Bool) → (a || b) ≡ false → a ≡ false
+left_false true b h = cc
+left_false false b h = refl
+
+pub right_false : (a b : Bool) → (a || b) ≡ false → b ≡ false
 right_false true b h = cc
 right_false false b h = h
 

@@ -3,3 +3,4 @@ pub mod Names
 pub mod Refusals
 pub mod Openings
 pub mod Commands
+pub mod Spelling

@@ -10,6 +10,8 @@ mod open_text;
 mod opening;
 mod pattern;
 mod refusal;
+#[cfg(test)]
+mod tests;
 mod text;
 
 pub use command::Command;

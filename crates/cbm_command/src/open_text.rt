@@ -1,8 +1,11 @@
 //! Reading the text of an OPEN.
 
-ghost use Rattle.std.specs.Prelude.{◌≡◌};
+ghost use Rattle.std.specs.Prelude.{◌≡◌, ◌≤◌, ℕ, List, true};
+ghost use Rattle.cbm_file.specs.declared.file_type.FileType.{FileType};
+ghost use Rattle.cbm_command.specs.declared.opening.Mode.{Mode};
+ghost use Rattle.cbm_command.specs.Spelling.{IsPlain, spelled, holds_bytes, usual_file};
 ghost use Rattle.cbm_command.specs.Texts.{comma, parts_at};
-ghost use Rattle.cbm_command.specs.Openings.{pattern_asked, listing_asked, with_piece, with_pieces, set_kind, set_mode, is_length_piece, by_channel, default_kind, or_default, names_new, file_named, file_asked, headed_file, opening_of};
+ghost use Rattle.cbm_command.specs.Openings.{pattern_asked, listing_asked, with_piece, with_pieces, set_kind, set_mode, is_length_piece, by_channel, default_kind, or_default, names_new, file_named, file_asked, headed_file, by_first, opening_of};
 
 use crate::head::{at_in_head, drive_head};
 use crate::name::Name;
@@ -185,15 +188,10 @@ fn headed_file(channel: u8, text: &[u8]) -> Result<Opening, Refusal>
     file_asked(channel, has_at, behind_first(b':', text))
 }
 
-/// What the text of an OPEN on a channel from 0 to 14 asks for. The refusals are tested from left to right,
-/// after the length of 58 bytes; whether a name is written is known when the whole text was read
-/// (the Commodore 1541 User's Guide; the order is this project's).
-pub fn parse_open(channel: u8, text: &[u8]) -> Result<Opening, Refusal>
-    ensures { result ≡ opening_of channel text.now }
+/// The first byte of a text of at most 58 bytes chooses.
+fn by_first(channel: u8, text: &[u8]) -> Result<Opening, Refusal>
+    ensures { result ≡ by_first channel text.now }
 {
-    if text.len() > LONGEST {
-        return Err(Refusal::LongText);
-    }
     let Some((first, rest)) = text.split_first() else {
         return Err(Refusal::NoName);
     };
@@ -203,4 +201,20 @@ pub fn parse_open(channel: u8, text: &[u8]) -> Result<Opening, Refusal>
         b'$' => Err(Refusal::Syntax),
         _ => headed_file(channel, text),
     }
+}
+
+/// What the text of an OPEN on a channel from 0 to 14 asks for. The refusals are tested from left to right,
+/// after the length of 58 bytes; whether a name is written is known when the whole text was read
+/// (the Commodore 1541 User's Guide; the order is this project's).
+pub fn parse_open(channel: u8, text: &[u8]) -> Result<Opening, Refusal>
+    ensures value { result ≡ opening_of channel text.now }
+
+    // The usual text `name,type,mode` on the channels from 2 on is read as the file that it names.
+    ensures usual { (name : List ℕ) (kind : FileType) (mode : Mode) → 2 ≤ channel → IsPlain name → holds_bytes kind ≡ true
+        → text.now ≡ spelled name kind mode → result ≡ Ok (Opening.File (usual_file name kind mode)) }
+{
+    if text.len() > LONGEST {
+        return Err(Refusal::LongText);
+    }
+    by_first(channel, text)
 }

@@ -3,6 +3,8 @@
 
 mod file_type;
 mod padded;
+#[cfg(test)]
+mod tests;
 
 pub use file_type::FileType;
 pub use padded::before_filler;

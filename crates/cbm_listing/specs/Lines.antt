@@ -12,7 +12,7 @@ space = 32
 abbrev pub quote : ℕ
 quote = 34
 
--- what fills a title on the disk
+-- what fills a title and a name on the disk
 abbrev pub filler : ℕ
 filler = 0xa0
 
@@ -61,10 +61,15 @@ closed_mark closed = if closed then space else 42
 abbrev pub locked_mark : Bool → ℕ
 locked_mark locked = if locked then 60 else space
 
--- The line of an entry: its blocks, its name in quotes, its type, and a mark before and behind that.
+-- what stands before the first filler
+abbrev pub before_filler : List ℕ → List ℕ
+before_filler [] = []
+before_filler (c ∷ name) = if c == filler then [] else c ∷ before_filler name
+
+-- The line of an entry: its blocks, its name up to the first filler in quotes, its type, and a mark before and behind that.
 abbrev pub entry_line : ℕ → List ℕ → Option FileType → Bool → Bool → List ℕ
 entry_line blocks name kind closed locked = line blocks (padded 27 (
-    indent blocks ++ padded 18 (quote ∷ name ++ quote ∷ [])
+    indent blocks ++ padded 18 (quote ∷ before_filler name ++ quote ∷ [])
     ++ closed_mark closed ∷ kind_text kind ++ locked_mark locked ∷ []))
 
 -- the line of a file

@@ -5,7 +5,7 @@ use cbm_file::FileType;
 pub struct Entry<'a> {
     /// The blocks that the directory entry tells.
     pub blocks: u16,
-    /// At most 16 bytes, cut at its first $A0.
+    /// At most 16 bytes, of which those before the first $A0 are shown.
     pub name: &'a [u8],
     /// None is shown as `???`.
     pub kind: Option<FileType>,

@@ -2,11 +2,14 @@
 
 ghost use Rattle.std.specs.Prelude.{◌≡◌, ◌+◌, ◌≤◌, ◌<◌, ◌^◌, ◌∷◌, ◌++◌, length, map, replicate};
 ghost use Rattle.arrayvec.specs.ArrayVec.{array_vec_len};
-ghost use Rattle.cbm_listing.specs.Lines.{space, low_first, shown_byte, closed_mark, locked_mark, kind_text, title_line, indent_width, entry_line, last_line};
+ghost use Rattle.cbm_listing.specs.Lines.{space, low_first, shown_byte, closed_mark, locked_mark, kind_text, before_filler, title_line, indent_width, entry_line, last_line};
 
 use crate::entry::Entry;
 use arrayvec::ArrayVec;
 use cbm_file::FileType;
+
+/// What fills a title and a name on the disk.
+const FILLER: u8 = 0xa0;
 
 /// A line, or the part of it that is there.
 pub(crate) type Line = ArrayVec<u8, 32>;
@@ -24,7 +27,7 @@ fn add_spaces(line: &mut Line, count: usize)
     ensures items { line.new.items ≡ line.old.items ++ replicate count space }
     ensures len { array_vec_len line.new ≡ array_vec_len line.old + count }
 {
-    for i in 0..count {
+    for _i in 0..count {
         line.push(b' ');
     }
 }
@@ -33,7 +36,7 @@ fn add_spaces(line: &mut Line, count: usize)
 fn shown_byte(byte: u8) -> u8
     ensures { result ≡ shown_byte byte }
 {
-    if byte == 0xa0 { b' ' } else { byte }
+    if byte == FILLER { b' ' } else { byte }
 }
 
 fn add_shown(line: &mut Line, bytes: &[u8])
@@ -104,6 +107,19 @@ fn kind_text(kind: Option<FileType>) -> &'static [u8; 3]
     }
 }
 
+/// What of a name is shown: what stands before its first $A0.
+fn before_filler(name: &[u8]) -> &[u8]
+    ensures value { result.now ≡ before_filler name.now }
+    ensures short { length result.now ≤ length name.now }
+{
+    for i in 0..name.len() {
+        if name[i] == FILLER {
+            return &name[..i];
+        }
+    }
+    name
+}
+
 /// The line of a slot that isn't empty.
 pub(crate) fn entry_line(entry: &Entry<'_>) -> Line
     requires { length entry.now.name.now ≤ 16 }
@@ -111,13 +127,14 @@ pub(crate) fn entry_line(entry: &Entry<'_>) -> Line
     ensures full { array_vec_len result ≡ 32 }
 {
     let width = indent_width(entry.blocks);
+    let name = before_filler(entry.name);
     let mut line = Line::new();
     add_number(&mut line, entry.blocks);
     add_spaces(&mut line, width);
     add(&mut line, b"\"");
-    add(&mut line, entry.name);
+    add(&mut line, name);
     add(&mut line, b"\"");
-    add_spaces(&mut line, 16 - entry.name.len());
+    add_spaces(&mut line, 16 - name.len());
     add(&mut line, &[closed_mark(entry.closed)]);
     add(&mut line, kind_text(entry.kind));
     add(&mut line, &[locked_mark(entry.locked)]);

@@ -27,7 +27,7 @@ impl Listing {
     /// The load address and the title's line, from the 16 bytes of the title and the 5 bytes of id and version.
     pub fn begin(title: &[u8; 16], mark: &[u8; 5]) -> Listing
         ensures value { result ≡ record { bytes = title_line title.now mark.now; taken = 0 } }
-        ensures long { length result.bytes ≡ 32 }
+        ensures full { length result.bytes ≡ 32 }
     {
         let mut listing = Listing {
             bytes: ArrayVec::new(),

@@ -1,2 +1,9 @@
 pub mod Words
 pub mod FirstRows
+pub mod ListingRows
+pub mod WritingRows
+pub mod NameRows
+pub mod CommandRows
+pub mod AppendRows
+pub mod RecordRows
+pub mod ProtectedRows

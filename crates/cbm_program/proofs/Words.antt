@@ -1,5 +1,5 @@
 -- Words for worked rows: requests written as a script writes them, and disks to begin on.
-use Rattle.std.specs.Prelude.{ℕ, Bool, true, false, List, [], ◌∷◌, ◌++◌, map, codes, replicate, Option, Some, None}
+use Rattle.std.specs.Prelude.{ℕ, true, false, List, [], ◌∷◌, ◌++◌, map, codes, replicate, Some}
 use Rattle.cbm_channel.specs.declared.FileType.{FileType}
 use Rattle.cbm_channel.specs.Files.{Bytes, File, Disk, files}
 use Rattle.cbm_channel.specs.Machines.{Machine, start}

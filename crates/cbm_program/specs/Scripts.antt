@@ -1,5 +1,5 @@
 -- A script of requests on a machine, and what it prints.
-use Rattle.std.specs.Prelude.{ℕ, zero, suc, ◌+◌, ◌/◌, ◌%◌, nat_lt, Bool, true, false, List, [], ◌∷◌, ◌++◌, length, flat_map, replicate, codes, decimal, if◌then◌else◌, Option, Some, None}
+use Rattle.std.specs.Prelude.{ℕ, zero, suc, ◌+◌, ◌/◌, ◌%◌, nat_lt, Bool, true, false, List, [], ◌∷◌, ◌++◌, length, flat_map, replicate, codes, decimal, if◌then◌else◌, Some, None}
 use Rattle.cbm_channel.specs.Statuses.{status_line}
 use Rattle.cbm_channel.specs.Machines.{Machine}
 use Rattle.cbm_channel.specs.Closing.{close}
