@@ -1,0 +1,82 @@
+-- The D64 format: the sectors in order of track and sector, and in one of its sizes an error byte for each behind them.
+use Rattle.std.specs.Prelude.{ℕ, ◌+◌, ◌*◌, ◌-◌, ◌<◌, ◌≡◌, ◌≢◌, ◌⊎◌, List, Bool, true, false, nat_lt, ◌==◌, if◌then◌else◌, Option, Some, None, Result, Ok, Err, take, drop, replicate, length, slice_index}
+use Rattle.cbm_medium.specs.Place.{Place, sectors_on, has}
+use Rattle.cbm_medium.specs.Content.{Cell, Content}
+
+-- an image, and whether its disk is protected
+pub record Image : Type 0 where
+  pub bytes : List ℕ
+  pub protected : Bool
+
+-- an image in memory never fails by itself
+abbrev pub failures_of : Image → ℕ
+failures_of d = 0
+
+-- 35 tracks, 35 tracks with error bytes, 40 tracks
+abbrev pub IsImageSize : ℕ → Type 0
+IsImageSize n = (n ≡ 174848) ⊎ ((n ≡ 175531) ⊎ (n ≡ 196608))
+
+-- how many tracks an image of so many bytes has, and how many sectors
+abbrev pub tracks_in : ℕ → ℕ
+tracks_in n = if n == 196608 then 40 else 35
+
+abbrev pub sectors_in : ℕ → ℕ
+sectors_in n = if n == 196608 then 768 else 683
+
+-- how many sectors stand before a track
+abbrev pub sectors_before : ℕ → ℕ
+sectors_before t =
+    if nat_lt t 18 then 21 * t - 21
+    else if nat_lt t 25 then 19 * t + 15
+    else if nat_lt t 31 then 18 * t + 40
+    else 17 * t + 71
+
+abbrev pub index_of : Place → ℕ
+index_of p = sectors_before p.track + p.sector
+
+-- The fault that an error byte stands for. 1 is good, and so are 7, 8 and 10, which speak of writing, and all others.
+abbrev pub code_of : ℕ → Option ℕ
+code_of e =
+    if e == 2 then Some 20
+    else if e == 3 then Some 21
+    else if e == 4 then Some 22
+    else if e == 5 then Some 23
+    else if e == 6 then Some 24
+    else if e == 9 then Some 27
+    else if e == 11 then Some 29
+    else None
+
+abbrev pub cell_of : Option ℕ → List ℕ → Cell
+cell_of None bytes = Ok bytes
+cell_of (Some code) bytes = Err code
+
+-- the error byte of a sector; 1, which is good, where the image has none
+abbrev pub error_at : List ℕ → ℕ → ℕ
+error_at image i = if length image == 175531 then slice_index image (174848 + i) else 1
+
+abbrev pub sector_at : List ℕ → ℕ → List ℕ
+sector_at image i = take 256 (drop (256 * i) image)
+
+-- What the sectors of an image hold; a place that the image lacks counts as 256 zeros.
+unfoldable pub content_of : List ℕ → Content
+content_of image p =
+    if has (tracks_in (length image)) p then cell_of (code_of (error_at image (index_of p))) (sector_at image (index_of p))
+    else Ok (replicate 256 0)
+
+-- the error byte of a sector that was written: a fault is mended, and what was good stays, whatever it says of writing
+abbrev pub mended : ℕ → ℕ
+mended e = elim (code_of e) [ None ↦ e | Some code ↦ 1 ]
+
+-- One sector of an image is written: its bytes and its error byte, and nothing else.
+pub record IsStored (old new : List ℕ) (i : ℕ) (bytes : List ℕ) : Type 0 where
+  pub size : length new ≡ length old
+  pub sector : sector_at new i ≡ bytes
+  pub error : error_at new i ≡ mended (error_at old i)
+  pub other_sectors : (j : ℕ) → j < sectors_in (length old) → j ≢ i → sector_at new j ≡ sector_at old j
+  pub other_errors : (j : ℕ) → j ≢ i → error_at new j ≡ error_at old j
+
+-- An image of the same size whose sectors are all zeros, and good.
+pub record IsErased (old new : List ℕ) : Type 0 where
+  pub size : length new ≡ length old
+  pub sectors : (j : ℕ) → j < sectors_in (length old) → sector_at new j ≡ replicate 256 0
+  pub errors : (j : ℕ) → j < sectors_in (length old) → error_at new j ≡ 1

@@ -1,0 +1,11 @@
+//! A disk as a D64 image.
+#![tactic(auto)]
+
+mod disk;
+mod fault;
+mod image;
+#[cfg(test)]
+mod tests;
+
+pub use disk::D64Disk;
+pub use fault::D64Fault;

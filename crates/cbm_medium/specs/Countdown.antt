@@ -1,0 +1,35 @@
+-- A medium that is made to fail: which of its writes it refuses by itself.
+use Rattle.std.specs.Prelude.{ℕ, suc, zero, ◌+◌, ◌-◌, ◌^◌, Bool, true, false, Option, Some, None, nat_lt, if◌then◌else◌}
+
+-- how many writes pass before one is refused, None where all pass; whether all are refused from then on; how often it failed
+pub record Countdown : Type 0 where
+  pub passes : Option ℕ
+  pub all : Bool
+  pub failures : ℕ
+
+abbrev pub is_none_left : Option ℕ → Bool
+is_none_left None = false
+is_none_left (Some zero) = true
+is_none_left (Some (suc n)) = false
+
+-- whether the next write is refused; at its greatest count of failures it passes
+abbrev pub is_due : Countdown → Bool
+is_due c = if nat_lt c.failures (2 ^ 64 - 1) then is_none_left c.passes else false
+
+abbrev pub one_less : Option ℕ → Option ℕ
+one_less None = None
+one_less (Some zero) = Some 0
+one_less (Some (suc n)) = Some n
+
+-- after a write that passed
+abbrev pub passed : Countdown → Countdown
+passed c = record c { passes = one_less c.passes }
+
+-- after a write that was refused
+abbrev pub failed : Countdown → Countdown
+failed c = record c { passes = if c.all then c.passes else None; failures = c.failures + 1 }
+
+-- a medium with its countdown
+pub record Watched (M : Type 0) : Type 0 where
+  pub inner : M
+  pub countdown : Countdown

@@ -1,0 +1,4 @@
+pub mod Place
+pub mod Content
+pub mod Links
+pub mod Countdown

@@ -1,0 +1,202 @@
+ghost use Rattle.std.specs.Prelude.{◌≡◌, ◌<◌, ◌≤◌, ◌⊎◌, Option, Some, None, true, false, refl, Bool, OnOk, OnErr, IfOk, IfErr, IfSome, MatchBool};
+ghost use Rattle.cbm_medium.specs.Place.{directory_head};
+ghost use Rattle.cbm_medium.specs.Content.{Content, written, blank, refusal, format_refusal};
+ghost use Rattle.cbm_medium.specs.Countdown.{is_due, passed, failed};
+
+use crate::address::Address;
+use crate::fault::{Fault, is_of_header};
+use crate::medium::Medium;
+use crate::steady::Steady;
+use std::marker::Model;
+
+/// The code of a write that the medium itself refuses.
+const WRITE_ERROR: u8 = 25;
+
+/// A medium over another one, which lets some writes pass and then refuses one, or each from then on, with 25.
+///
+/// It stands for a disk that fails, or for a stop in the middle of a call. A `format` counts as one write. What
+/// protection or the content refuses comes first and isn't counted. At the greatest count of failures every write passes.
+#[derive(Drop)]
+pub struct Failing<M> {
+    inner: M,
+    passes: Option<u32>,
+    all: bool,
+    failures: u64,
+}
+
+impl<M> Model for Failing<M> {
+    ghost use Rattle.std.specs.Prelude.{◌≡◌};
+    ghost use Rattle.cbm_medium.specs.Countdown.{Watched};
+
+    ghost Value = { Watched M };
+
+    ghost view = {
+        λ f. record { inner = f.inner; countdown = record { passes = f.passes; all = f.all; failures = f.failures } }
+    };
+}
+
+impl<M: Steady> Failing<M> {
+    /// A medium that passes `after` writes and refuses the next one, or with `all` every later one.
+    pub fn new(inner: M, after: u32, all: bool) -> Failing<M>
+        ensures {
+            result ≡ (record { inner = inner; countdown = record { passes = Some after; all = all; failures = 0 } })
+        }
+    {
+        Failing {
+            inner,
+            passes: Some(after),
+            all,
+            failures: 0,
+        }
+    }
+
+    /// The medium below.
+    pub fn into_inner(self) -> M
+        ensures { result ≡ self.inner }
+    {
+        let Failing {
+            inner,
+            passes: _,
+            all: _,
+            failures: _,
+        } = self;
+        inner
+    }
+
+    fn is_due(&self) -> bool
+        ensures { result ≡ is_due self.now.countdown }
+    {
+        self.failures < u64::MAX && self.passes == Some(0)
+    }
+
+    fn pass(&mut self)
+        ensures { self.new ≡ record self.old { countdown = passed self.old.countdown } }
+    {
+        self.passes = match self.passes {
+            Some(left) => Some(left.saturating_sub(1)),
+            None => None,
+        };
+    }
+
+    fn fail(&mut self)
+        requires { is_due self.old.countdown ≡ true }
+        ensures { self.new ≡ record self.old { countdown = failed self.old.countdown } }
+    {
+        if !self.all {
+            self.passes = None;
+        }
+        self.failures += 1;
+    }
+}
+
+impl<M: Steady> Medium for Failing<M> {
+    ghost content = { λ f. M.content f.inner };
+    ghost tracks = { λ f. M.tracks f.inner };
+    ghost protected = { λ f. M.protected f.inner };
+    ghost failures = { λ f. f.countdown.failures };
+    ghost outer_headers = { λ f p. M.outer_headers f.inner p };
+
+    fn read(&self, at: Address) -> Result<[u8; 256], Fault> {
+        self.inner.read(at)
+    }
+
+    fn write(&mut self, at: Address, bytes: &[u8; 256]) -> Result<(), Fault>
+        requires { at.track ≤ M.tracks self.old.inner }
+        ensures ok { OnOk result (M.content self.new.inner ≡ written (M.content self.old.inner) at bytes.now) }
+        ensures err { OnErr result (M.content self.new.inner ≡ M.content self.old.inner) }
+        ensures refused {
+            IfSome (refusal (M.protected self.old.inner) (M.content self.old.inner at))
+                (λ code. result ≡ Err (record { code = code; at = at }))
+        }
+        ensures cause {
+            IfErr result (λ fault.
+                (refusal (M.protected self.old.inner) (M.content self.old.inner at) ≡ Some fault.code)
+                ⊎ (self.old.countdown.failures < self.new.countdown.failures))
+        }
+        ensures at { IfErr result (λ fault. fault.at ≡ at) }
+        ensures uncounted { OnOk result (self.new.countdown.failures ≡ self.old.countdown.failures) }
+        ensures counted { self.old.countdown.failures ≤ self.new.countdown.failures }
+        ensures protected { M.protected self.new.inner ≡ M.protected self.old.inner }
+        ensures tracks { M.tracks self.new.inner ≡ M.tracks self.old.inner }
+        ensures due {
+            refusal (M.protected self.old.inner) (M.content self.old.inner at) ≡ None → is_due self.old.countdown ≡ true →
+            (result ≡ Err (record { code = 25; at = at })) × (self.new.countdown ≡ failed self.old.countdown)
+        }
+        ensures passes {
+            refusal (M.protected self.old.inner) (M.content self.old.inner at) ≡ None → is_due self.old.countdown ≡ false →
+            (result ≡ Ok tt) × (self.new.countdown ≡ passed self.old.countdown)
+        }
+        ensures outside {
+            IfSome (refusal (M.protected self.old.inner) (M.content self.old.inner at))
+                (λ _. self.new.countdown ≡ self.old.countdown)
+        }
+    {
+        if !self.is_due() {
+            self.inner.write(at, bytes)?;
+            self.pass();
+            return Ok(());
+        }
+        if self.inner.protected() {
+            return Err(Fault { code: 26, at });
+        }
+        if let Err(fault) = self.inner.read(at) && is_of_header(fault.code) {
+            return Err(fault);
+        }
+        self.fail();
+        Err(Fault {
+            code: WRITE_ERROR,
+            at,
+        })
+    }
+
+    fn format(&mut self, id: [u8; 2]) -> Result<(), Fault>
+        ensures ok { OnOk result (M.content self.new.inner ≡ blank) }
+        ensures err { OnErr result (M.content self.new.inner ≡ M.content self.old.inner) }
+        ensures refused {
+            IfSome (format_refusal (M.protected self.old.inner))
+                (λ code. result ≡ Err (record { code = code; at = directory_head }))
+        }
+        ensures cause {
+            IfErr result (λ fault.
+                (format_refusal (M.protected self.old.inner) ≡ Some fault.code)
+                ⊎ (self.old.countdown.failures < self.new.countdown.failures))
+        }
+        ensures at { IfErr result (λ fault. fault.at ≡ directory_head) }
+        ensures uncounted { OnOk result (self.new.countdown.failures ≡ self.old.countdown.failures) }
+        ensures counted { self.old.countdown.failures ≤ self.new.countdown.failures }
+        ensures protected { M.protected self.new.inner ≡ M.protected self.old.inner }
+        ensures tracks { M.tracks self.new.inner ≡ M.tracks self.old.inner }
+        ensures due {
+            M.protected self.old.inner ≡ false → is_due self.old.countdown ≡ true →
+            (result ≡ Err (record { code = 25; at = directory_head })) × (self.new.countdown ≡ failed self.old.countdown)
+        }
+        ensures passes {
+            M.protected self.old.inner ≡ false → is_due self.old.countdown ≡ false →
+            (result ≡ Ok tt) × (self.new.countdown ≡ passed self.old.countdown)
+        }
+        ensures outside { M.protected self.old.inner ≡ true → self.new.countdown ≡ self.old.countdown }
+    {
+        if self.inner.protected() || !self.is_due() {
+            self.inner.format(id)?;
+            self.pass();
+            return Ok(());
+        }
+        self.fail();
+        Err(Fault {
+            code: WRITE_ERROR,
+            at: Address::of_map(),
+        })
+    }
+
+    fn tracks(&self) -> u8 {
+        self.inner.tracks()
+    }
+
+    fn protected(&self) -> bool {
+        self.inner.protected()
+    }
+
+    fn failures(&self) -> u64 {
+        self.failures
+    }
+}
