@@ -3,9 +3,8 @@ use Rattle.std.specs.Prelude.{◌&&◌, ◌||◌, ◌==◌}
 use Rattle.std.proofs.lemmas.List.{get_or-take, get_or-drop, get_or_default, get_or_past, length-take-le, length-drop, same_lists}
 use Rattle.std.proofs.lemmas.Grind.{same_number_lists}
 use Rattle.std.proofs.lemmas.Bool.{cases_eq, cases_lt, and_from, le-leb, eq-eqb, or_left}
-use Rattle.std.proofs.Math.Nat.{mod-eq_of_lt}
-use Rattle.cbm_gcr.proofs.Bits.{value, value-bits}
 use Rattle.cbm_sector.specs.Decoding.{IsBytes}
+use Rattle.cbm_sector.proofs.Coding.{byte_from_bits}
 use Rattle.cbm_track.specs.Circle.{bits, bits_of, each_below}
 use Rattle.cbm_track.proofs.Firsts.{each_from}
 use Rattle.cbm_g64.specs.File.{two_at, offset, size, entries, tables_end, fault_of, has_signature, has_version, has_entries, has_greatest, is_inside, is_sized, is_apart, are_inside, are_sized, are_apart, track_in, tracks_in}
@@ -147,7 +146,7 @@ bytes_back [] (y ∷ ys) l a b e = absurd (omega arith)
 bytes_back (x ∷ xs) [] l a b e = absurd (omega arith)
 bytes_back (x ∷ xs) (y ∷ ys) l a b e =
     let front : bits 8 x ≡ bits 8 y = ap (λ (t : List Bool). take 8 t) e in
-    let same : x ≡ y = sym (value-bits 8 x ∙ mod-eq_of_lt (a 0)) ∙ ap value front ∙ value-bits 8 y ∙ mod-eq_of_lt (b 0) in
+    let same : x ≡ y = byte_from_bits x y (a 0) (b 0) front in
     let rest : xs ≡ ys = bytes_back xs ys (omega arith) (tail_bytes x xs a) (tail_bytes y ys b) (ap (λ (t : List Bool). drop 8 t) e) in
     ap (λ (n : ℕ). n ∷ xs) same ∙ ap (λ (v : List ℕ). y ∷ v) rest
 

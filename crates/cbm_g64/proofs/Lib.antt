@@ -4,3 +4,4 @@ pub mod Sound
 pub mod NewFiles
 pub mod Imaging
 pub mod Held
+pub mod Kept

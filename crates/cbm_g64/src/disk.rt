@@ -71,6 +71,13 @@ impl G64Disk {
     /// `format` a new file. Takes memory for it.
     pub fn to_bytes(&self, alloc: Global) -> Result<Vec<u8>, G64Fault>
         ensures ok { IfOk result (λ v. IsImageOf (base_of self.now.formatted self.now.file) self.now.tracks v.items) }
+        // Opened again it is the same disk.
+        ensures again { IfOk result (λ v. (fault_of v.items ≡ None) × (tracks_in v.items 35 ≡ self.now.tracks)) }
+        // A disk that nobody wrote gives its bytes back.
+        ensures unwritten {
+            self.now.formatted ≡ false → self.now.tracks ≡ tracks_in self.now.file 35
+            → IfOk result (λ v. v.items ≡ self.now.file)
+        }
         ensures err { IfErr result (λ fault. fault ≡ G64Fault.Memory) }
     {
         let file = self.file.as_slice();

@@ -1,7 +1,8 @@
-ghost use Rattle.std.specs.Prelude.{◌≡◌, ◌<◌, ◌≤◌, ◌+◌, ◌++◌, IfOk, OnOk, false, is_some, replicate};
+ghost use Rattle.std.specs.Prelude.{◌≡◌, ◌<◌, ◌≤◌, ◌+◌, ◌++◌, IfOk, None, OnOk, false, is_some, replicate};
 ghost use Rattle.byteorder.specs.Endian.{little_bytes};
+ghost use Rattle.cbm_sector.specs.Decoding.{IsBytes};
 ghost use Rattle.cbm_sector.specs.Fresh.{bytes_on};
-ghost use Rattle.cbm_g64.specs.File.{offset, fault_of};
+ghost use Rattle.cbm_g64.specs.File.{offset, fault_of, tracks_in};
 ghost use Rattle.cbm_g64.specs.NewFile.{base_of, blocks_of, entries_of, new_file, new_place, new_zone};
 ghost use Rattle.cbm_g64.specs.Image.{IsHeld, IsImageOf};
 
@@ -124,11 +125,18 @@ pub(crate) fn offset_in(file: &[u8], formatted: bool, i: usize) -> usize
     }
 }
 
+/// Says of bytes that were written through a loan that each is below 256.
+fn are_bytes(bytes: &[u8])
+    ensures { IsBytes bytes.now }
+{}
+
 /// Puts the circles of a disk into the file that they are for.
 pub(crate) fn put_tracks(file: &[u8], formatted: bool, tracks: &[Track], out: &mut [u8])
     requires held { IsHeld (base_of formatted file.now) tracks.now }
     requires base { out.old ≡ base_of formatted file.now }
-    ensures { IsImageOf (base_of formatted file.now) tracks.now out.new }
+    ensures image { IsImageOf (base_of formatted file.now) tracks.now out.new }
+    ensures again { (fault_of out.new ≡ None) × (tracks_in out.new 35 ≡ tracks.now) }
+    ensures unwritten { formatted ≡ false → tracks.now ≡ tracks_in file.now 35 → out.new ≡ file.now }
 {
     for i in 0..35 {
         let at = offset_in(file, formatted, i);
@@ -138,4 +146,5 @@ pub(crate) fn put_tracks(file: &[u8], formatted: bool, tracks: &[Track], out: &m
             track.bytes_at(0, &mut out[at + 2..end]);
         }
     }
+    are_bytes(out);
 }
