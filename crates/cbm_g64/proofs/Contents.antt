@@ -108,19 +108,29 @@ write_is (Ok u) tracks bits d new a bytes id i l h t be f ids own others =
     (ap (λ (n : List ℕ). shown new n a) (sym f) ∙ own)
     (λ id2 c ne. others id2 c ne ∙ ap (λ (x : List Bool). shown x id2 c) b)
 
--- what a write of one track leaves of the others
+-- the disk's id goes by track 18
+id_same : (tracks : List (List Bool)) (new : List Bool) (i : ℕ) → i < length tracks → id_shown new ≡ id_shown (get_or tracks i []) → id_for (set tracks i new) ≡ id_for tracks
+unfolding id_for
+id_same tracks new i h e = ap (λ (o : Option (List ℕ)). unwrap_or o (0 ∷ 0 ∷ [])) (elim (cases_eq 17 i) [
+  | inl f ↦ ap (λ (k : ℕ). id_shown (get_or (set tracks i new) k [])) f ∙ ap id_shown (get_or-set_same tracks i new [] h) ∙ e ∙ sym (ap (λ (k : ℕ). id_shown (get_or tracks k [])) f)
+  | inr ne ↦ ap id_shown (get_or-set_other tracks i 17 new [] ne)
+])
+
+-- what a write of one track leaves
 pub change_is : {E : Type 0} (r : Result (Unit {0}) E) (tracks : List (List Bool)) (bits d new : List Bool) (i : ℕ) → i < length tracks → bits ≡ get_or tracks i d
-    → length new ≡ length bits → OnOk r (2610 ≤ length bits) → OnErr r (new ≡ bits) → IsChanged tracks (set tracks i new)
-change_is {E = E} r tracks bits d new i h e l long same = record {
+    → length new ≡ length bits → OnOk r (2610 ≤ length bits) → OnErr r (new ≡ bits) → id_shown new ≡ id_shown bits → IsChanged tracks (set tracks i new) i
+change_is {E = E} r tracks bits d new i h e l long same ids = record {
   count = length-set tracks i new;
   lengths = λ j. elim (cases_eq j i) [
     | inl f ↦ ap (λ (k : ℕ). length (get_or (set tracks i new) k [])) f ∙ ap length (get_or-set_same tracks i new [] h) ∙ l ∙ ap length there ∙ ap (λ (k : ℕ). length (get_or tracks k [])) (sym f)
     | inr ne ↦ ap length (get_or-set_other tracks i j new [] ne)
   ];
+  others = λ j ne. get_or-set_other tracks i j new [] ne;
   short = λ j b. elim (cases_eq j i) [
     | inl f ↦ ap (λ (k : ℕ). get_or (set tracks i new) k []) f ∙ get_or-set_same tracks i new [] h ∙ own r long same (omega (arith, ap length there, ap (λ (k : ℕ). length (get_or tracks k [])) f)) ∙ there ∙ ap (λ (k : ℕ). get_or tracks k []) (sym f)
     | inr ne ↦ get_or-set_other tracks i j new [] ne
   ];
+  id = id_same tracks new i h (ids ∙ ap id_shown there);
 }
   where
     there : bits ≡ get_or tracks i []

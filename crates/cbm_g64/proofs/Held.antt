@@ -58,8 +58,8 @@ held_open file e = let p = passes file e in record {
 }
 
 -- a disk that was written
-pub held_changed : (file : List ℕ) (old new : List (List Bool)) → IsHeld file old → IsChanged old new → IsHeld file new
-held_changed file old new h c = record {
+pub held_changed : (file : List ℕ) (old new : List (List Bool)) (t : ℕ) → IsHeld file old → IsChanged old new t → IsHeld file new
+held_changed file old new t h c = record {
   count = c.count ∙ h.count;
   right = h.right;
   lengths = λ i l ne. c.lengths i ∙ h.lengths i l ne;

@@ -1,4 +1,4 @@
-ghost use Rattle.std.specs.Prelude.{◌≡◌, ℕ, ◌<◌, ◌≤◌, List, true, Ok, Err, Some, length, IfOk, IfErr, OnOk, OnErr, IfSome};
+ghost use Rattle.std.specs.Prelude.{◌≡◌, ℕ, ◌<◌, ◌≤◌, ◌-◌, List, true, Ok, Err, Some, length, IfOk, IfErr, OnOk, OnErr, IfSome};
 ghost use Rattle.cbm_medium.specs.Content.{blank, written, header_fault};
 ghost use Rattle.cbm_g64.specs.Tracks.{AreFresh, content_of, id_for, IsChanged};
 ghost use Rattle.cbm_g64.specs.File.{is_inside, is_sized, track_in, tracks_in, greatest, IsGood};
@@ -80,7 +80,7 @@ pub(crate) fn write_on(tracks: &mut [Track], at: Address, bytes: &[u8; 256]) -> 
     ensures err { OnErr result (tracks.new ≡ tracks.old) }
     ensures refused { IfSome (header_fault (content_of tracks.old at)) (λ code. result ≡ Err (record { code = code; at = at })) }
     ensures cause { IfErr result (λ fault. (header_fault (content_of tracks.old at) ≡ Some fault.code) × (fault.at ≡ at)) }
-    ensures changed { IsChanged tracks.old tracks.new }
+    ensures changed { IsChanged tracks.old tracks.new (at.track - 1) }
 {
     let id = id_on(tracks);
     let track = &mut tracks[at.track() as usize - 1];

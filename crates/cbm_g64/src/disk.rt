@@ -1,9 +1,9 @@
-ghost use Rattle.std.specs.Prelude.{refl, ◌≡◌, ◌<◌, ◌≤◌, ◌⊎◌, ◌↔◌, ℕ, Ok, Err, None, Some, false, IfErr, IfOk, IfSome, IsSome, OnErr, OnOk};
+ghost use Rattle.std.specs.Prelude.{refl, ◌≡◌, ◌<◌, ◌≤◌, ◌-◌, ◌⊎◌, ◌↔◌, ℕ, Ok, Err, None, Some, false, true, IfErr, IfOk, IfSome, IsSome, OnErr, OnOk};
 ghost use Rattle.cbm_medium.specs.Place.{directory_head};
 ghost use Rattle.cbm_medium.specs.Content.{blank, format_refusal, refusal, written};
 ghost use Rattle.cbm_g64.specs.File.{fault_of, tracks_in};
 ghost use Rattle.cbm_g64.specs.NewFile.{base_of};
-ghost use Rattle.cbm_g64.specs.Tracks.{bits_at, content_of, failures_of, AreFresh, HasTrack};
+ghost use Rattle.cbm_g64.specs.Tracks.{bits_at, content_of, failures_of, AreFresh, HasTrack, IsChanged, tracks_on};
 ghost use Rattle.cbm_g64.specs.Image.{IsImageOf};
 
 use cbm_medium::{Address, Fault, Medium, Steady};
@@ -107,12 +107,12 @@ impl G64Disk {
 
 impl Medium for G64Disk {
     ghost use Rattle.std.specs.Prelude.{refl};
-    ghost use Rattle.cbm_g64.specs.Tracks.{content_of, failures_of};
+    ghost use Rattle.cbm_g64.specs.Tracks.{content_of, failures_of, tracks_on};
     ghost use Rattle.cbm_g64.specs.Outer.{no_outer};
 
     ghost content = { λ d. content_of d.tracks };
 
-    ghost tracks = { λ d. 35 };
+    ghost tracks = { λ d. tracks_on d };
 
     ghost protected = { λ d. d.protected };
 
@@ -124,7 +124,30 @@ impl Medium for G64Disk {
         read_on(self.tracks.as_slice(), at)
     }
 
-    fn write(&mut self, at: Address, bytes: &[u8; 256]) -> Result<(), Fault> {
+    fn write(&mut self, at: Address, bytes: &[u8; 256]) -> Result<(), Fault>
+        requires { at.track ≤ tracks_on self.old }
+        ensures ok { OnOk result (content_of self.new.tracks ≡ written (content_of self.old.tracks) at bytes.now) }
+        ensures err { OnErr result (content_of self.new.tracks ≡ content_of self.old.tracks) }
+        ensures refused {
+            IfSome (refusal self.old.protected (content_of self.old.tracks at))
+                (λ code. result ≡ Err (record { code = code; at = at }))
+        }
+        ensures cause {
+            IfErr result (λ fault.
+                (refusal self.old.protected (content_of self.old.tracks at) ≡ Some fault.code)
+                ⊎ (failures_of self.old < failures_of self.new))
+        }
+        ensures at { IfErr result (λ fault. fault.at ≡ at) }
+        ensures uncounted { OnOk result (failures_of self.new ≡ failures_of self.old) }
+        ensures counted { failures_of self.old ≤ failures_of self.new }
+        ensures protected { self.new.protected ≡ self.old.protected }
+        ensures tracks { tracks_on self.new ≡ tracks_on self.old }
+
+        // What the circles are then, which the content doesn't show.
+        ensures changed { OnOk result (IsChanged self.old.tracks self.new.tracks (at.track - 1)) }
+        ensures kept { self.new ≡ record self.old { tracks = self.new.tracks } }
+        ensures unchanged { OnErr result (self.new ≡ self.old) }
+    {
         if self.protected {
             return Err(Fault {
                 code: WRITE_PROTECT_ON,
@@ -134,7 +157,29 @@ impl Medium for G64Disk {
         write_on(self.tracks.as_mut_slice(), at, bytes)
     }
 
-    fn format(&mut self, id: [u8; 2]) -> Result<(), Fault> {
+    fn format(&mut self, id: [u8; 2]) -> Result<(), Fault>
+        ensures ok { OnOk result (content_of self.new.tracks ≡ blank) }
+        ensures err { OnErr result (content_of self.new.tracks ≡ content_of self.old.tracks) }
+        ensures refused {
+            IfSome (format_refusal self.old.protected)
+                (λ code. result ≡ Err (record { code = code; at = directory_head }))
+        }
+        ensures cause {
+            IfErr result (λ fault.
+                (format_refusal self.old.protected ≡ Some fault.code)
+                ⊎ (failures_of self.old < failures_of self.new))
+        }
+        ensures at { IfErr result (λ fault. fault.at ≡ directory_head) }
+        ensures uncounted { OnOk result (failures_of self.new ≡ failures_of self.old) }
+        ensures counted { failures_of self.old ≤ failures_of self.new }
+        ensures protected { self.new.protected ≡ self.old.protected }
+        ensures tracks { tracks_on self.new ≡ tracks_on self.old }
+
+        // The tracks are fresh ones, and the image will be a new file.
+        ensures fresh { OnOk result (AreFresh id self.new.tracks) }
+        ensures formatted { OnOk result (self.new.formatted ≡ true) }
+        ensures unchanged { OnErr result (self.new ≡ self.old) }
+    {
         if self.protected {
             return Err(Fault {
                 code: WRITE_PROTECT_ON,
