@@ -1,0 +1,98 @@
+use Rattle.std.proofs.Common.{◌≡◌, ◌≢◌, ◌⊎◌, ℕ, zero, suc, ◌+◌, ◌*◌, ◌-◌, ◌<◌, ◌≤◌, List, [], ◌∷◌, ◌++◌, length, get_or, take, drop, replicate, refl, sym, ap, subst, ◌∙◌, arith, inl, inr, Bool, true, false, Option, Some, None, Ok}
+use Rattle.std.specs.Prelude.{is_some, unwrap_or, ◌==◌}
+use Rattle.std.proofs.lemmas.List.{get_or_append_left, get_or-append-add, length-append, length-take-le, length-drop}
+use Rattle.std.proofs.lemmas.Bool.{cases_eq, cases_Bool, eq-eqb, ne_eqb, cond-true, cond-false}
+use mathlib.Core.Path.{fun_ext}
+use Rattle.cbm_medium.specs.Place.{Place, Has, has}
+use Rattle.cbm_medium.specs.Content.{blank}
+use Rattle.cbm_track.specs.Circle.{bits_of}
+use Rattle.cbm_track.proofs.Bytes.{length-bits_of}
+use Rattle.cbm_sector.specs.Answer.{shown, id_shown}
+use Rattle.cbm_sector.specs.Decoding.{IsBytes}
+use Rattle.cbm_sector.specs.Fresh.{fresh, bytes_on}
+use Rattle.cbm_sector.proofs.Formatted.{length-fresh}
+use Rattle.cbm_sector.proofs.Blank.{fresh_shown, fresh_id, zeros_shown}
+use Rattle.cbm_g64.specs.File.{offset, size, fault_of, track_in, tracks_in}
+use Rattle.cbm_g64.specs.NewFile.{new_file}
+use Rattle.cbm_g64.specs.Tracks.{bits_at, id_for, content_of, IsChanged, AreFresh}
+use Rattle.cbm_g64.specs.Image.{IsHeld}
+use Rattle.cbm_g64.proofs.Sound.{Passes, passes, no_fault, Stands, stands}
+use Rattle.cbm_g64.proofs.Imaging.{none_is, held_passes}
+use Rattle.cbm_g64.proofs.NewFiles.{new_passes, new_offset, new_size}
+use Rattle.cbm_g64.proofs.Contents.{content_on, content_off, has_parts, on_a_track}
+
+-- ---- the tracks of a file
+
+pub length-tracks_in : (file : List ℕ) (n : ℕ) → length (tracks_in file n) ≡ n
+unfolding tracks_in
+length-tracks_in file zero = refl
+length-tracks_in file (suc n) = omega (arith, length-append (tracks_in file n) (track_in file n ∷ []), length-tracks_in file n)
+
+pub tracks_at : (file : List ℕ) (n i : ℕ) → i < n → get_or (tracks_in file n) i [] ≡ track_in file i
+unfolding tracks_in
+tracks_at file zero i h = absurd (omega arith)
+tracks_at file (suc n) i h = elim (cases_eq i n) [
+  | inr ne ↦ get_or_append_left (tracks_in file n) (track_in file n ∷ []) [] i (omega (arith, length-tracks_in file n)) ∙ tracks_at file n i (omega arith)
+  | inl e ↦ (let q : i ≡ length (tracks_in file n) + 0 = omega (arith, length-tracks_in file n) in
+      ap (λ (p : ℕ). get_or (tracks_in file n ++ (track_in file n ∷ [])) p []) q ∙ get_or-append-add (tracks_in file n) (track_in file n ∷ []) 0 [] ∙ ap (track_in file) (sym e))
+]
+
+pub present : (file : List ℕ) (i : ℕ) → offset file i ≢ 0 → track_in file i ≡ bits_of (take (size file i) (drop (offset file i + 2) file))
+unfolding track_in
+present file i ne = cond-false _ _ _ (ne_eqb (offset file i) 0 ne)
+
+pub absent : (file : List ℕ) (i : ℕ) → offset file i ≡ 0 → track_in file i ≡ bits_of (0 ∷ [])
+unfolding track_in
+absent file i e = cond-true _ _ _ (eq-eqb (offset file i) 0 e)
+
+-- a disk that was opened
+pub held_open : (file : List ℕ) → fault_of file ≡ None → IsHeld file (tracks_in file 35)
+held_open file e = let p = passes file e in record {
+  count = length-tracks_in file 35;
+  right = ap is_some e;
+  lengths = λ i h ne. let s = stands file p i h ne in
+      ap length (tracks_at file 35 i h ∙ present file i ne)
+      ∙ length-bits_of (take (size file i) (drop (offset file i + 2) file))
+      ∙ ap (λ (n : ℕ). 8 * n) (length-take-le (size file i) (drop (offset file i + 2) file) (omega (arith, length-drop (offset file i + 2) file, s.within)));
+  absent = λ i h z. tracks_at file 35 i h ∙ absent file i z;
+}
+
+-- a disk that was written
+pub held_changed : (file : List ℕ) (old new : List (List Bool)) (t : ℕ) → IsHeld file old → IsChanged old new t → IsHeld file new
+held_changed file old new t h c = record {
+  count = c.count ∙ h.count;
+  right = h.right;
+  lengths = λ i l ne. c.lengths i ∙ h.lengths i l ne;
+  absent = λ i l z. c.short i (let e : length (get_or old i []) ≡ 8 = ap length (h.absent i l z) in omega arith) ∙ h.absent i l z;
+}
+
+-- a disk that was formatted
+pub held_fresh : (id : List ℕ) (tracks : List (List Bool)) → length tracks ≡ 35 → AreFresh id tracks → IsHeld new_file tracks
+held_fresh id tracks l f = record {
+  count = l;
+  right = ap is_some (no_fault new_file new_passes);
+  lengths = λ i h ne. ap length (f i h) ∙ length-fresh (i + 1) id (omega arith) (omega arith) ∙ ap (λ (n : ℕ). 8 * n) (sym (new_size i h));
+  absent = λ i h z. absurd (let o = new_offset i h in omega arith);
+}
+
+-- its content
+pub fresh_content : (id : List ℕ) (tracks : List (List Bool)) → IsBytes id → length id ≡ 2 → AreFresh id tracks → content_of tracks ≡ blank
+unfolding id_for
+fresh_content id tracks b l f = fun_ext (λ p. elim (cases_Bool (has 35 p)) [
+  | inr off ↦ content_off tracks p off
+  | inl on ↦ here p (has_parts p on)
+])
+  where
+    the_id : id_for tracks ≡ id
+    the_id = ap (λ (o : Option (List ℕ)). unwrap_or o (0 ∷ 0 ∷ [])) (ap id_shown (f 17 (omega arith)) ∙ fresh_id id b l)
+
+    here : (p : Place) → Has 35 p → content_of tracks p ≡ Ok (replicate 256 0)
+    here p h =
+        let t = on_a_track p h in
+        let t0 = t.0 in
+        let t1 = t.1 in
+        let e : p.track - 1 + 1 ≡ p.track = omega arith in
+        content_on tracks p h
+        ∙ ap (λ (n : List ℕ). shown (bits_at tracks p.track) n p) the_id
+        ∙ ap (λ (u : List Bool). shown u id p) (f (p.track - 1) (omega arith) ∙ ap (λ (n : ℕ). fresh n id) e)
+        ∙ zeros_shown (fresh p.track id) id p (fresh_shown p.track id p.sector t0 t1 b h.0)

@@ -1,0 +1,6 @@
+use Rattle.std.proofs.Common.{◌≡◌, ◌++◌}
+use Rattle.cbm_g64.specs.NewFile.{entries_of, new_zone}
+use Rattle.cbm_g64.proofs.image.append_speeds.Given as goal
+
+abbrev pub invariant-loop-i : goal.invariant-loop-i
+invariant-loop-i l = l.out.items ≡ l.fn.out.items ++ entries_of new_zone l.i

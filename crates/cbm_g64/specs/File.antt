@@ -1,0 +1,89 @@
+use Rattle.std.specs.Prelude.{ℕ, zero, suc, ◌≤◌, ◌+◌, ◌*◌, ◌<◌, ◌≡◌, List, [], ◌∷◌, ◌++◌, Bool, true, not, ◌&&◌, ◌||◌, ◌==◌, nat_lt, nat_le, if◌then◌else◌, Option, Some, None, length, take, drop, slice_index}
+use Rattle.cbm_track.specs.Circle.{each_below, bits_of}
+use Rattle.cbm_g64.specs.declared.fault.G64Fault.{G64Fault}
+use Rattle.cbm_g64.specs.declared.fault.G64Fault.TheVariants.{Signature, Version, Entries, GreatestSize, OffsetOutside, TrackLength, Overlap}
+
+-- a number of two or four bytes, the low one first
+abbrev pub two_at : List ℕ → ℕ → ℕ
+two_at file i = slice_index file i + 256 * slice_index file (i + 1)
+
+abbrev pub four_at : List ℕ → ℕ → ℕ
+four_at file i = two_at file i + 65536 * two_at file (i + 2)
+
+abbrev pub entries : List ℕ → ℕ
+entries file = slice_index file 9
+
+abbrev pub greatest : List ℕ → ℕ
+greatest file = two_at file 10
+
+abbrev pub tables_end : List ℕ → ℕ
+tables_end file = 12 + 8 * entries file
+
+-- the offset of track i + 1, and its length
+unfoldable pub offset : List ℕ → ℕ → ℕ
+offset file i = four_at file (12 + 8 * i)
+
+unfoldable pub size : List ℕ → ℕ → ℕ
+size file i = two_at file (offset file i)
+
+abbrev pub has_signature : List ℕ → Bool
+has_signature file =
+    nat_le 8 (length file) && ((slice_index file 0 == 71) && ((slice_index file 1 == 67) && ((slice_index file 2 == 82) && ((slice_index file 3 == 45)
+    && ((slice_index file 4 == 49) && ((slice_index file 5 == 53) && ((slice_index file 6 == 52) && (slice_index file 7 == 49))))))))
+
+abbrev pub has_version : List ℕ → Bool
+has_version file = nat_le 9 (length file) && (slice_index file 8 == 0)
+
+abbrev pub has_entries : List ℕ → Bool
+has_entries file = nat_le 10 (length file) && (nat_le 69 (entries file) && nat_le (entries file) 84)
+
+abbrev pub has_greatest : List ℕ → Bool
+has_greatest file = nat_le 12 (length file) && nat_le (greatest file) 7928
+
+-- no track, or one behind the tables whose length and bytes lie in the file
+unfoldable pub is_inside : List ℕ → ℕ → Bool
+is_inside file i = (offset file i == 0) || (nat_le (tables_end file) (offset file i) && (nat_le (offset file i + 2) (length file) && nat_le (offset file i + 2 + size file i) (length file)))
+
+unfoldable pub is_sized : List ℕ → ℕ → Bool
+is_sized file i = (offset file i == 0) || (nat_lt 0 (size file i) && nat_le (size file i) (greatest file))
+
+-- two tracks share no byte
+unfoldable pub is_apart : List ℕ → ℕ → ℕ → Bool
+is_apart file i j = (i == j) || ((offset file i == 0) || ((offset file j == 0) || (nat_le (offset file i + 2 + size file i) (offset file j) || nat_le (offset file j + 2 + size file j) (offset file i))))
+
+unfoldable pub are_inside : List ℕ → Bool
+are_inside file = nat_le (tables_end file) (length file) && each_below (is_inside file) 35
+
+unfoldable pub are_sized : List ℕ → Bool
+are_sized file = each_below (is_sized file) 35
+
+unfoldable pub are_apart : List ℕ → Bool
+are_apart file = each_below (λ i. each_below (is_apart file i) 35) 35
+
+-- the first fault of a file
+abbrev pub fault_of : List ℕ → Option G64Fault
+fault_of file =
+    if not (has_signature file) then Some Signature
+    else if not (has_version file) then Some Version
+    else if not (has_entries file) then Some Entries
+    else if not (has_greatest file) then Some GreatestSize
+    else if not (are_inside file) then Some OffsetOutside
+    else if not (are_sized file) then Some TrackLength
+    else if not (are_apart file) then Some Overlap
+    else None
+
+-- the circle of track i + 1, one without sync mark where there is no track
+unfoldable pub track_in : List ℕ → ℕ → List Bool
+track_in file i = if offset file i == 0 then bits_of (0 ∷ []) else bits_of (take (size file i) (drop (offset file i + 2) file))
+
+-- the circles of the first n tracks
+unfoldable pub tracks_in : List ℕ → ℕ → List (List Bool)
+tracks_in file zero = []
+tracks_in file (suc n) = tracks_in file n ++ (track_in file n ∷ [])
+
+-- each track lies in the file and has a length that may be
+pub record IsGood (file : List ℕ) : Type 0 where
+  pub tables : 292 ≤ length file
+  pub few : greatest file ≤ 7928
+  pub inside : (i : ℕ) → i < 35 → is_inside file i ≡ true
+  pub sized : (i : ℕ) → i < 35 → is_sized file i ≡ true

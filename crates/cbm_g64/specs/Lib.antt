@@ -1,0 +1,6 @@
+pub mod Numbers
+pub mod File
+pub mod NewFile
+pub mod Tracks
+pub mod Image
+pub mod Outer

@@ -1,0 +1,55 @@
+use Rattle.std.specs.Prelude.{ℕ, ◌≡◌, ◌≢◌, ◌<◌, ◌≤◌, ◌+◌, ◌-◌, List, [], ◌∷◌, Bool, length, if◌then◌else◌, Ok, Err, replicate, slice_index_or, unwrap_or}
+use Rattle.cbm_medium.specs.Place.{has}
+use Rattle.cbm_medium.specs.Content.{Cell, Content}
+use Rattle.cbm_sector.specs.Answer.{shown, id_shown}
+use Rattle.cbm_sector.specs.Fresh.{fresh}
+use Rattle.cbm_g64.specs.File.{offset}
+use Rattle.cbm_g64.specs.NewFile.{base_of}
+
+-- the 35 tracks of a disk, the file that it came from, whether it was formatted since, and whether it is protected. A track that it hasn't is a circle without sync mark, which answers as no track does.
+pub record Disk : Type 0 where
+  pub tracks : List (List Bool)
+  pub file : List ℕ
+  pub formatted : Bool
+  pub protected : Bool
+
+-- the bits of a track
+abbrev pub bits_at : List (List Bool) → ℕ → List Bool
+bits_at tracks t = slice_index_or tracks (t - 1) []
+
+-- the disk's id
+unfoldable pub id_for : List (List Bool) → List ℕ
+id_for tracks = unwrap_or (id_shown (bits_at tracks 18)) (0 ∷ 0 ∷ [])
+
+-- what the sectors hold; a place that the disk lacks counts as 256 zeros
+unfoldable pub content_of : List (List Bool) → Content
+content_of tracks p = if has 35 p then shown (bits_at tracks p.track) (id_for tracks) p else Ok (replicate 256 0)
+
+-- a write to track i + 1: all others stay, each keeps its length, and so does the disk's id; a track on which no sector has room stays as it is
+pub record IsChanged (old new : List (List Bool)) (i : ℕ) : Type 0 where
+  pub count : length new ≡ length old
+  pub lengths : (j : ℕ) → length (slice_index_or new j []) ≡ length (slice_index_or old j [])
+  pub others : (j : ℕ) → j ≢ i → slice_index_or new j [] ≡ slice_index_or old j []
+  pub short : (j : ℕ) → length (slice_index_or old j []) < 2610 → slice_index_or new j [] ≡ slice_index_or old j []
+  pub id : id_for new ≡ id_for old
+
+-- a track of the disk: one of the first 35, for which its file has a place
+abbrev pub HasTrack : Disk → ℕ → Type 0
+HasTrack d t = (0 < t) × (t ≤ 35) × (offset (base_of d.formatted d.file) (t - 1) ≢ 0)
+
+-- an image has 35 tracks
+abbrev pub tracks_on : Disk → ℕ
+tracks_on d = 35
+
+-- a disk in memory never fails by itself
+abbrev pub failures_of : Disk → ℕ
+failures_of d = 0
+
+-- each track is as formatting writes it
+abbrev pub AreFresh : List ℕ → List (List Bool) → Type 0
+AreFresh id tracks = (i : ℕ) → i < 35 → slice_index_or tracks i [] ≡ fresh (i + 1) id
+
+-- a cell, or zeros where it holds a fault
+abbrev pub or_zeros : Cell → Cell
+or_zeros (Ok bytes) = Ok bytes
+or_zeros (Err code) = Ok (replicate 256 0)

@@ -1,0 +1,99 @@
+ghost use Rattle.std.specs.Prelude.{◌≡◌, ℕ, ◌<◌, ◌≤◌, ◌-◌, List, true, Ok, Err, Some, length, IfOk, IfErr, OnOk, OnErr, IfSome};
+ghost use Rattle.cbm_medium.specs.Content.{blank, written, header_fault};
+ghost use Rattle.cbm_g64.specs.Tracks.{AreFresh, content_of, id_for, IsChanged};
+ghost use Rattle.cbm_g64.specs.File.{is_inside, is_sized, track_in, tracks_in, greatest, IsGood};
+ghost use Rattle.cbm_track.specs.Circle.{bits_of};
+
+use cbm_medium::{Address, Fault};
+use cbm_sector::{fresh_track, id_of, read_sector, write_sector};
+use cbm_track::Track;
+use std::alloc::{AllocError, Global};
+
+use crate::numbers::{offset, two_at};
+
+/// The circle of bytes.
+fn circle(bytes: &[u8]) -> Track
+    requires some { 0 < length bytes.now }
+    requires most { length bytes.now ≤ 7928 }
+    ensures { result ≡ bits_of bytes.now }
+{
+    match Track::from_bytes(bytes) {
+        Some(track) => track,
+        None => unreachable!(),
+    }
+}
+
+/// The circle of a track, one without sync mark where there is no track.
+#[tactic(auto, unfolding(crate::specs::File::is_inside, crate::specs::File::is_sized, crate::specs::File::size, crate::specs::File::track_in))]
+fn track_at(file: &[u8], i: usize) -> Track
+    requires track { i < 35 }
+    requires tables { 292 ≤ length file.now }
+    requires few { greatest file.now ≤ 7928 }
+    requires inside { is_inside file.now i ≡ true }
+    requires sized { is_sized file.now i ≡ true }
+    ensures { result ≡ track_in file.now i }
+{
+    let at = offset(file, i);
+    if at == 0 {
+        return circle(&[0]);
+    }
+    let size = two_at(file, at);
+    circle(&file[at + 2..at + 2 + size])
+}
+
+#[tactic(auto, using(crate::proofs::Files::tracks_none, crate::proofs::Files::tracks_more))]
+/// The circles of all tracks.
+pub(crate) fn tracks_of(alloc: Global, file: &[u8]) -> Result<Vec<Track>, AllocError>
+    requires { IsGood file.now }
+    ensures { IfOk result (λ v. v.items ≡ tracks_in file.now 35) }
+{
+    let mut tracks = Vec::with_capacity(alloc, 35)?;
+    for i in 0..35 {
+        tracks.push(track_at(file, i))?;
+    }
+    Ok(tracks)
+}
+
+/// The disk's id, by its track 18.
+fn id_on(tracks: &[Track]) -> [u8; 2]
+    requires { length tracks.now ≡ 35 }
+    ensures { result ≡ id_for tracks.now }
+{
+    id_of(&tracks[17]).unwrap_or([0, 0])
+}
+
+/// A sector's answer.
+pub(crate) fn read_on(tracks: &[Track], at: Address) -> Result<[u8; 256], Fault>
+    requires count { length tracks.now ≡ 35 }
+    requires track { at.track ≤ 35 }
+    ensures ok { IfOk result (λ bytes. content_of tracks.now at ≡ Ok bytes) }
+    ensures err { IfErr result (λ fault. (content_of tracks.now at ≡ Err fault.code) × (fault.at ≡ at)) }
+{
+    read_sector(&tracks[at.track() as usize - 1], at, id_on(tracks))
+}
+
+/// Writes a sector. An `Err` changes nothing.
+pub(crate) fn write_on(tracks: &mut [Track], at: Address, bytes: &[u8; 256]) -> Result<(), Fault>
+    requires count { length tracks.old ≡ 35 }
+    requires track { at.track ≤ 35 }
+    ensures ok { OnOk result (content_of tracks.new ≡ written (content_of tracks.old) at bytes.now) }
+    ensures err { OnErr result (tracks.new ≡ tracks.old) }
+    ensures refused { IfSome (header_fault (content_of tracks.old at)) (λ code. result ≡ Err (record { code = code; at = at })) }
+    ensures cause { IfErr result (λ fault. (header_fault (content_of tracks.old at) ≡ Some fault.code) × (fault.at ≡ at)) }
+    ensures changed { IsChanged tracks.old tracks.new (at.track - 1) }
+{
+    let id = id_on(tracks);
+    let track = &mut tracks[at.track() as usize - 1];
+    write_sector(track, at, id, bytes)
+}
+
+/// Formats each track under a disk id.
+pub(crate) fn format_on(tracks: &mut [Track], id: &[u8; 2])
+    requires { length tracks.old ≡ 35 }
+    ensures fresh { AreFresh id.now tracks.new }
+    ensures blank { content_of tracks.new ≡ blank }
+{
+    for i in 0..35u8 {
+        tracks[i as usize] = fresh_track(i + 1, *id);
+    }
+}

@@ -1,0 +1,209 @@
+ghost use Rattle.std.specs.Prelude.{refl, ◌≡◌, ◌<◌, ◌≤◌, ◌-◌, ◌⊎◌, ◌↔◌, ℕ, Ok, Err, None, Some, false, true, IfErr, IfOk, IfSome, IsSome, OnErr, OnOk};
+ghost use Rattle.cbm_medium.specs.Place.{directory_head};
+ghost use Rattle.cbm_medium.specs.Content.{blank, format_refusal, refusal, written};
+ghost use Rattle.cbm_g64.specs.File.{fault_of, tracks_in};
+ghost use Rattle.cbm_g64.specs.NewFile.{base_of};
+ghost use Rattle.cbm_g64.specs.Tracks.{bits_at, content_of, failures_of, AreFresh, HasTrack, IsChanged, tracks_on};
+ghost use Rattle.cbm_g64.specs.Image.{IsImageOf};
+
+use cbm_medium::{Address, Fault, Medium, Steady};
+use cbm_track::Track;
+use std::alloc::Global;
+use std::marker::Model;
+
+use crate::checks::fault_of;
+use crate::circles::{format_on, read_on, tracks_of, write_on};
+use crate::fault::G64Fault;
+use crate::image::{base, offset_in, put_tracks};
+
+/// The code of a write to a protected disk.
+const WRITE_PROTECT_ON: u8 = 26;
+
+/// A disk in memory, as a G64 image: its tracks 1 to 35 as circles of bits, and beside them the
+/// bytes of the file that they came in.
+#[derive(Drop)]
+pub struct G64Disk {
+    tracks: Vec<Track>,
+    file: Vec<u8>,
+    formatted: bool,
+    protected: bool,
+}
+
+impl Model for G64Disk {
+    ghost use Rattle.cbm_g64.specs.Tracks.{Disk};
+    ghost use Rattle.cbm_g64.specs.NewFile.{base_of};
+    ghost use Rattle.cbm_g64.specs.Image.{IsHeld};
+
+    ghost Value = { Disk };
+
+    ghost view = { λ d. record { tracks = d.tracks.items; file = d.file.items; formatted = d.formatted; protected = d.protected } };
+
+    ghost invariant = { λ d. IsHeld (base_of d.formatted d.file.items) d.tracks.items };
+}
+
+impl G64Disk {
+    /// The disk that an image is. Takes memory for all that the disk ever holds, after all other
+    /// tests.
+    pub fn from_bytes(alloc: Global, bytes: &[u8], protected: bool) -> Result<G64Disk, G64Fault>
+        ensures ok { IfOk result (λ d. d ≡ (record { tracks = tracks_in bytes.now 35; file = bytes.now; formatted = false; protected = protected })) }
+        ensures refused { IfSome (fault_of bytes.now) (λ fault. result ≡ Err fault) }
+        ensures cause { IfErr result (λ fault. (fault_of bytes.now ≡ Some fault) ⊎ (fault ≡ G64Fault.Memory)) }
+    {
+        match fault_of(bytes) {
+            Some(fault) => return Err(fault),
+            None => {}
+        }
+        let Ok(tracks) = tracks_of(alloc, bytes) else {
+            return Err(G64Fault::Memory);
+        };
+        let Ok(file) = Vec::from_slice(alloc, bytes) else {
+            return Err(G64Fault::Memory);
+        };
+        Ok(G64Disk {
+            tracks,
+            file,
+            formatted: false,
+            protected,
+        })
+    }
+
+    /// The image of the disk: the file that it came in with its tracks as they are now, or after
+    /// `format` a new file. Takes memory for it.
+    pub fn to_bytes(&self, alloc: Global) -> Result<Vec<u8>, G64Fault>
+        ensures ok { IfOk result (λ v. IsImageOf (base_of self.now.formatted self.now.file) self.now.tracks v.items) }
+        // Opened again it is the same disk.
+        ensures again { IfOk result (λ v. (fault_of v.items ≡ None) × (tracks_in v.items 35 ≡ self.now.tracks)) }
+        // A disk that nobody wrote gives its bytes back.
+        ensures unwritten {
+            self.now.formatted ≡ false → self.now.tracks ≡ tracks_in self.now.file 35
+            → IfOk result (λ v. v.items ≡ self.now.file)
+        }
+        ensures err { IfErr result (λ fault. fault ≡ G64Fault.Memory) }
+    {
+        let file = self.file.as_slice();
+        let Ok(mut out) = base(alloc, file, self.formatted) else {
+            return Err(G64Fault::Memory);
+        };
+        put_tracks(file, self.formatted, self.tracks.as_slice(), out.as_mut_slice());
+        Ok(out)
+    }
+
+    /// The circle of a track as it stands; `None` where the image has no such track or it isn't 1
+    /// to 35.
+    pub fn track(&self, track: u8) -> Option<&Track>
+        ensures some { IsSome result ↔ HasTrack self.now track }
+        ensures value { IfSome result (λ t. t.now ≡ bits_at self.now.tracks track) }
+    {
+        if track == 0 || track > 35 {
+            return None;
+        }
+        let i = track as usize - 1;
+        if offset_in(self.file.as_slice(), self.formatted, i) == 0 {
+            return None;
+        }
+        Some(&self.tracks[i])
+    }
+}
+
+impl Medium for G64Disk {
+    ghost use Rattle.std.specs.Prelude.{refl};
+    ghost use Rattle.cbm_g64.specs.Tracks.{content_of, failures_of, tracks_on};
+    ghost use Rattle.cbm_g64.specs.Outer.{no_outer};
+
+    ghost content = { λ d. content_of d.tracks };
+
+    ghost tracks = { λ d. tracks_on d };
+
+    ghost protected = { λ d. d.protected };
+
+    ghost failures = { λ d. failures_of d };
+
+    ghost outer_headers = { λ d p. no_outer 35 refl (content_of d.tracks) p };
+
+    fn read(&self, at: Address) -> Result<[u8; 256], Fault> {
+        read_on(self.tracks.as_slice(), at)
+    }
+
+    fn write(&mut self, at: Address, bytes: &[u8; 256]) -> Result<(), Fault>
+        requires { at.track ≤ tracks_on self.old }
+        ensures ok { OnOk result (content_of self.new.tracks ≡ written (content_of self.old.tracks) at bytes.now) }
+        ensures err { OnErr result (content_of self.new.tracks ≡ content_of self.old.tracks) }
+        ensures refused {
+            IfSome (refusal self.old.protected (content_of self.old.tracks at))
+                (λ code. result ≡ Err (record { code = code; at = at }))
+        }
+        ensures cause {
+            IfErr result (λ fault.
+                (refusal self.old.protected (content_of self.old.tracks at) ≡ Some fault.code)
+                ⊎ (failures_of self.old < failures_of self.new))
+        }
+        ensures at { IfErr result (λ fault. fault.at ≡ at) }
+        ensures uncounted { OnOk result (failures_of self.new ≡ failures_of self.old) }
+        ensures counted { failures_of self.old ≤ failures_of self.new }
+        ensures protected { self.new.protected ≡ self.old.protected }
+        ensures tracks { tracks_on self.new ≡ tracks_on self.old }
+
+        // What the circles are then, which the content doesn't show.
+        ensures changed { OnOk result (IsChanged self.old.tracks self.new.tracks (at.track - 1)) }
+        ensures kept { self.new ≡ record self.old { tracks = self.new.tracks } }
+        ensures unchanged { OnErr result (self.new ≡ self.old) }
+    {
+        if self.protected {
+            return Err(Fault {
+                code: WRITE_PROTECT_ON,
+                at,
+            });
+        }
+        write_on(self.tracks.as_mut_slice(), at, bytes)
+    }
+
+    fn format(&mut self, id: [u8; 2]) -> Result<(), Fault>
+        ensures ok { OnOk result (content_of self.new.tracks ≡ blank) }
+        ensures err { OnErr result (content_of self.new.tracks ≡ content_of self.old.tracks) }
+        ensures refused {
+            IfSome (format_refusal self.old.protected)
+                (λ code. result ≡ Err (record { code = code; at = directory_head }))
+        }
+        ensures cause {
+            IfErr result (λ fault.
+                (format_refusal self.old.protected ≡ Some fault.code)
+                ⊎ (failures_of self.old < failures_of self.new))
+        }
+        ensures at { IfErr result (λ fault. fault.at ≡ directory_head) }
+        ensures uncounted { OnOk result (failures_of self.new ≡ failures_of self.old) }
+        ensures counted { failures_of self.old ≤ failures_of self.new }
+        ensures protected { self.new.protected ≡ self.old.protected }
+        ensures tracks { tracks_on self.new ≡ tracks_on self.old }
+
+        // The tracks are fresh ones, and the image will be a new file.
+        ensures fresh { OnOk result (AreFresh id self.new.tracks) }
+        ensures formatted { OnOk result (self.new.formatted ≡ true) }
+        ensures unchanged { OnErr result (self.new ≡ self.old) }
+    {
+        if self.protected {
+            return Err(Fault {
+                code: WRITE_PROTECT_ON,
+                at: Address::of_map(),
+            });
+        }
+        format_on(self.tracks.as_mut_slice(), &id);
+        self.formatted = true;
+        Ok(())
+    }
+
+    fn tracks(&self) -> u8 {
+        35
+    }
+
+    fn protected(&self) -> bool {
+        self.protected
+    }
+
+    fn failures(&self) -> u64 {
+        0
+    }
+}
+
+impl Steady for G64Disk {
+    ghost steady = { λ d. refl };
+}

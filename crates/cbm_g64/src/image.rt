@@ -1,0 +1,150 @@
+ghost use Rattle.std.specs.Prelude.{◌≡◌, ◌<◌, ◌≤◌, ◌+◌, ◌++◌, IfOk, None, OnOk, false, is_some, replicate};
+ghost use Rattle.byteorder.specs.Endian.{little_bytes};
+ghost use Rattle.cbm_sector.specs.Decoding.{IsBytes};
+ghost use Rattle.cbm_sector.specs.Fresh.{bytes_on};
+ghost use Rattle.cbm_g64.specs.File.{offset, fault_of, tracks_in};
+ghost use Rattle.cbm_g64.specs.NewFile.{base_of, blocks_of, entries_of, new_file, new_place, new_zone};
+ghost use Rattle.cbm_g64.specs.Image.{IsHeld, IsImageOf};
+
+use byteorder::{ByteOrder, LittleEndian};
+use cbm_track::Track;
+use std::alloc::{AllocError, Global};
+
+use crate::numbers::offset;
+
+/// The bytes of a new file.
+const NEW_BYTES: usize = 278_234;
+
+/// The signature, version 0, 84 entries and the greatest size 7,928.
+const FRONT: [u8; 12] = [71, 67, 82, 45, 49, 53, 52, 49, 0, 84, 248, 30];
+
+/// An entry of the tables of a new file, and that of the half track behind it.
+fn entry(number: u32) -> [u8; 8]
+    ensures { result ≡ little_bytes 4 number ++ replicate 4 0 }
+{
+    let mut entry = [0; 8];
+    LittleEndian::write_u32(&mut entry, number);
+    entry
+}
+
+/// The zone of track `i + 1`, which is its speed.
+fn zone(i: u32) -> u32
+    ensures { result ≡ new_zone i }
+{
+    match i {
+        0..=16 => 3,
+        17..=23 => 2,
+        24..=29 => 1,
+        _ => 0,
+    }
+}
+
+/// The length field of track `i + 1` of a new file.
+fn length_field(i: u32) -> [u8; 2]
+    requires { i < 35 }
+    ensures { result ≡ little_bytes 2 (bytes_on (i + 1)) }
+{
+    let bytes = match i {
+        0..=16 => 7692,
+        17..=23 => 7142,
+        24..=29 => 6666,
+        _ => 6250,
+    };
+    let mut field = [0; 2];
+    LittleEndian::write_u16(&mut field, bytes);
+    field
+}
+
+/// Appends the offsets of the tracks of a new file.
+fn append_offsets(out: &mut Vec<u8>) -> Result<(), AllocError>
+    ensures { OnOk result (out.new.items ≡ out.old.items ++ entries_of new_place 35) }
+{
+    for i in 0..35 {
+        out.extend_from_slice(&entry(684 + 7930 * i))?;
+    }
+    Ok(())
+}
+
+/// Appends the speeds of the tracks of a new file.
+fn append_speeds(out: &mut Vec<u8>) -> Result<(), AllocError>
+    ensures { OnOk result (out.new.items ≡ out.old.items ++ entries_of new_zone 35) }
+{
+    for i in 0..35 {
+        out.extend_from_slice(&entry(zone(i)))?;
+    }
+    Ok(())
+}
+
+/// Appends the tracks of a new file, as zeros.
+fn append_blocks(out: &mut Vec<u8>) -> Result<(), AllocError>
+    ensures { OnOk result (out.new.items ≡ out.old.items ++ blocks_of 35) }
+{
+    for i in 0..35 {
+        out.extend_from_slice(&length_field(i))?;
+        out.extend_from_slice(&[0; 7928])?;
+    }
+    Ok(())
+}
+
+/// The file that formatting makes, before its tracks are put in.
+fn new_file(alloc: Global) -> Result<Vec<u8>, AllocError>
+    ensures { IfOk result (λ v. v.items ≡ new_file) }
+{
+    let mut out = Vec::with_capacity(alloc, NEW_BYTES)?;
+    out.extend_from_slice(&FRONT)?;
+    append_offsets(&mut out)?;
+    out.extend_from_slice(&[0; 56])?;
+    append_speeds(&mut out)?;
+    out.extend_from_slice(&[0; 56])?;
+    append_blocks(&mut out)?;
+    Ok(out)
+}
+
+/// The file that a disk's tracks are put into.
+pub(crate) fn base(alloc: Global, file: &[u8], formatted: bool) -> Result<Vec<u8>, AllocError>
+    ensures { IfOk result (λ v. v.items ≡ base_of formatted file.now) }
+{
+    if formatted {
+        new_file(alloc)
+    } else {
+        Vec::from_slice(alloc, file)
+    }
+}
+
+/// The offset of track `i + 1` in the file that a disk's tracks are put into.
+pub(crate) fn offset_in(file: &[u8], formatted: bool, i: usize) -> usize
+    requires track { i < 35 }
+    requires right { is_some (fault_of (base_of formatted file.now)) ≡ false }
+    ensures value { result ≡ offset (base_of formatted file.now) i }
+    ensures below { result < 4294967296 }
+{
+    if formatted {
+        684 + 7930 * i
+    } else {
+        offset(file, i)
+    }
+}
+
+/// Says of bytes that were written through a loan that each is below 256.
+fn are_bytes(bytes: &[u8])
+    ensures { IsBytes bytes.now }
+{}
+
+/// Puts the circles of a disk into the file that they are for.
+pub(crate) fn put_tracks(file: &[u8], formatted: bool, tracks: &[Track], out: &mut [u8])
+    requires held { IsHeld (base_of formatted file.now) tracks.now }
+    requires base { out.old ≡ base_of formatted file.now }
+    ensures image { IsImageOf (base_of formatted file.now) tracks.now out.new }
+    ensures again { (fault_of out.new ≡ None) × (tracks_in out.new 35 ≡ tracks.now) }
+    ensures unwritten { formatted ≡ false → tracks.now ≡ tracks_in file.now 35 → out.new ≡ file.now }
+{
+    for i in 0..35 {
+        let at = offset_in(file, formatted, i);
+        if at != 0 {
+            let track = &tracks[i];
+            let end = at + 2 + track.bits() as usize / 8;
+            track.bytes_at(0, &mut out[at + 2..end]);
+        }
+    }
+    are_bytes(out);
+}

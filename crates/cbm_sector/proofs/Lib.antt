@@ -1,0 +1,9 @@
+pub mod Coding
+pub mod Stands
+pub mod Writing
+pub mod Showing
+pub mod Reading
+pub mod Laid
+pub mod Building
+pub mod Formatted
+pub mod Blank

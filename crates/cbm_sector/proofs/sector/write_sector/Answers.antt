@@ -1,0 +1,71 @@
+use Rattle.std.proofs.Common.{◌+◌, Ok, Err, Result, ◌≡◌, ◌∙◌, sym, ap, arith, length, refl, ◌*◌, List, Bool, ℕ, get_or, false}
+use Rattle.cbm_gcr.specs.Code.{code, bits_of}
+use Rattle.cbm_medium.specs.Place.{Place}
+use Rattle.cbm_track.specs.Circle.{bit}
+use Rattle.cbm_sector.specs.Answer.{data_block, block_of, IsOverwritten}
+use Rattle.cbm_sector.proofs.Coding.{length-code}
+use Rattle.cbm_track.proofs.Bytes.{length-bits_of}
+use Rattle.cbm_sector.proofs.Writing.{IsWritten}
+use Rattle.cbm_sector.proofs.Showing.{written, own_shown, other_shown, id_kept, fault_shown, no_fault_shown, block_fits, block_length}
+use Rattle.cbm_sector.proofs.sector.write_sector.Goals as goal
+use Rattle.cbm_sector.proofs.sector.write_sector.Goals.{After-overwrite}
+
+-- eight bits for each byte of a block's code
+code_size : (coded block bytes : List ℕ) → length bytes ≡ 256 → block ≡ data_block bytes → bits_of coded ≡ code block → 8 * length coded ≡ 2600
+code_size coded block bytes l e f = omega (arith, length-bits_of coded, ap length f, length-code block, ap length e, block_length bytes l)
+
+pub overwrite-requires-clause-fits : goal.overwrite-requires-clause-fits
+overwrite-requires-clause-fits c = omega (
+  arith,
+  code_size c.coded_block.result c.data_block.result c.args.bytes.now c.told-bytes c.data_block.ensures c.coded_block.ensures,
+  block_fits c.args.track.now c.args.id c.args.at c.in-Ok.place c.in-Ok.ensures.below (sym c.block_of.ensures.value ∙ c.in-Ok.is),
+)
+
+pub returns-in-Err-clause-refused : goal.returns-in-Err-clause-refused
+returns-in-Err-clause-refused c = rw (fault_shown c.args.track.now c.args.id c.args.at c.in-Err.code (sym c.block_of.ensures.value ∙ c.in-Err.is)) refl
+
+pub returns-in-Err-clause-cause : goal.returns-in-Err-clause-cause
+returns-in-Err-clause-cause c = (fault_shown c.args.track.now c.args.id c.args.at c.in-Err.code (sym c.block_of.ensures.value ∙ c.in-Err.is), refl)
+
+-- what the write leaves
+done : (c : After-overwrite) → IsWritten c.args.track.now c.overwrite.new.self c.in-Ok.place (data_block c.args.bytes.now)
+done c =
+    let size = code_size c.coded_block.result c.data_block.result c.args.bytes.now c.told-bytes c.data_block.ensures c.coded_block.ensures in
+    written c.args.track.now c.overwrite.new.self c.args.id c.args.at c.in-Ok.place c.args.bytes.now
+    c.in-Ok.ensures.below (sym c.block_of.ensures.value ∙ c.in-Ok.is) c.overwrite.ensures.length c.told-bytes c.fits-bytes
+    (λ k l. c.overwrite.ensures.written k (omega (arith, size))
+    ∙ ap (λ (bs : List Bool). get_or bs k false) (c.coded_block.ensures ∙ ap code c.data_block.ensures))
+    (λ k g l. c.overwrite.ensures.others k (omega (arith, size)) l)
+
+pub returns-in-Ok-clause-ok : goal.returns-in-Ok-clause-ok
+returns-in-Ok-clause-ok c = own_shown c.args.track.now c.overwrite.new.self c.in-Ok.place c.args.bytes.now (done c) c.told-bytes c.args.id c.args.at (sym c.block_of.ensures.value ∙ c.in-Ok.is)
+
+pub returns-in-Ok-clause-others : goal.returns-in-Ok-clause-others
+returns-in-Ok-clause-others c = λ id2 other ne. other_shown c.args.track.now c.overwrite.new.self c.in-Ok.place (data_block c.args.bytes.now) (done c) c.args.id id2 c.args.at other (sym c.block_of.ensures.value ∙ c.in-Ok.is) ne
+
+pub returns-in-Ok-clause-id : goal.returns-in-Ok-clause-id
+returns-in-Ok-clause-id c = id_kept c.args.track.now c.overwrite.new.self c.in-Ok.place (data_block c.args.bytes.now) (done c)
+
+pub returns-in-Ok-clause-refused : goal.returns-in-Ok-clause-refused
+returns-in-Ok-clause-refused c = rw (no_fault_shown c.args.track.now c.args.id c.args.at c.in-Ok.place (sym c.block_of.ensures.value ∙ c.in-Ok.is)) tt
+
+pub returns-in-Ok-clause-long : goal.returns-in-Ok-clause-long
+returns-in-Ok-clause-long c = block_fits c.args.track.now c.args.id c.args.at c.in-Ok.place c.in-Ok.ensures.below (sym c.block_of.ensures.value ∙ c.in-Ok.is)
+
+same_ok : (r : Result ℕ ℕ) (p d : ℕ) → r ≡ Ok p → r ≡ Ok d → p ≡ d
+same_ok (Ok x) p d e f = let a : x ≡ p = cc in let b : x ≡ d = cc in sym a ∙ b
+same_ok (Err x) p d e f = cc
+
+-- the bits that change are those of the block
+overwritten : (old new : List Bool) (id : List ℕ) (a : Place) (p : ℕ) (bytes : List ℕ) → IsWritten old new p (data_block bytes) → block_of old id a ≡ Ok p
+    → (d : ℕ) → block_of old id a ≡ Ok d → IsOverwritten old new d (code (data_block bytes))
+overwritten old new id a p bytes w h d e =
+    let f : p ≡ d = same_ok (block_of old id a) p d h e in
+    let l : length (code (data_block bytes)) ≡ 2600 = length-code (data_block bytes) ∙ ap (λ (n : ℕ). 10 * n) w.size in
+    record {
+      here = λ k u. ap (λ (q : ℕ). bit new (q + k)) (sym f) ∙ w.here k (omega (arith, l));
+      others = λ k u b. ap (λ (q : ℕ). bit new (q + k)) (sym f) ∙ w.others k (omega (arith, l)) b ∙ ap (λ (q : ℕ). bit old (q + k)) f;
+    }
+
+pub returns-in-Ok-clause-bits : goal.returns-in-Ok-clause-bits
+returns-in-Ok-clause-bits c = λ d e. overwritten c.args.track.now c.overwrite.new.self c.args.id c.args.at c.in-Ok.place c.args.bytes.now (done c) (sym c.block_of.ensures.value ∙ c.in-Ok.is) d e

@@ -1,0 +1,41 @@
+use Rattle.std.specs.Prelude.{ℕ, zero, suc, ◌*◌, ◌-◌, List, [], ◌∷◌, ◌++◌, Bool, nat_lt, if◌then◌else◌, replicate, slice_index}
+use Rattle.cbm_gcr.specs.Code.{code, bits_of}
+use Rattle.cbm_medium.specs.Place.{sectors_on}
+use Rattle.cbm_sector.specs.Answer.{xor_of, data_block}
+
+-- a sync mark as formatting writes it: five bytes $FF
+unfoldable pub mark : List Bool
+mark = bits_of (replicate 5 255)
+
+-- a gap of n bytes $55
+unfoldable pub gap : ℕ → List Bool
+gap n = bits_of (replicate n 85)
+
+-- 256 zeros
+unfoldable pub zeros : List ℕ
+zeros = replicate 256 0
+
+-- a sector's header: 8, the exclusive or of the next four, sector, track, second and first byte of the id, and 15 twice
+abbrev pub header_block : ℕ → List ℕ → ℕ → List ℕ
+header_block track id sector = 8 ∷ xor_of (sector ∷ track ∷ slice_index id 1 ∷ slice_index id 0 ∷ []) ∷ sector ∷ track ∷ slice_index id 1 ∷ slice_index id 0 ∷ 15 ∷ 15 ∷ []
+
+-- a header and the bits of a data block on the track: a mark, the header's code, a gap of nine bytes, a mark, the data block, a gap of eight bytes
+unfoldable pub laid : List ℕ → List Bool → List Bool
+laid header block = mark ++ (code header ++ (gap 9 ++ (mark ++ (block ++ gap 8))))
+
+-- a sector as formatting writes it, with a data block of zeros
+abbrev pub fresh_sector : ℕ → List ℕ → ℕ → List Bool
+fresh_sector track id sector = laid (header_block track id sector) (code (data_block zeros))
+
+-- the first n sectors, from 0 on
+unfoldable pub fresh_sectors : ℕ → List ℕ → ℕ → List Bool
+fresh_sectors track id zero = []
+fresh_sectors track id (suc n) = fresh_sectors track id n ++ fresh_sector track id n
+
+-- how many bytes formatting writes on a track
+abbrev pub bytes_on : ℕ → ℕ
+bytes_on t = if nat_lt t 18 then 7692 else if nat_lt t 25 then 7142 else if nat_lt t 31 then 6666 else 6250
+
+-- a track as formatting writes it: its sectors, and a gap up to its length
+unfoldable pub fresh : ℕ → List ℕ → List Bool
+fresh track id = fresh_sectors track id (sectors_on track) ++ gap (bytes_on track - 362 * sectors_on track)

@@ -1,0 +1,15 @@
+//! The sectors on a track: headers and data blocks in group code, behind sync marks.
+#![tactic(auto)]
+
+mod block;
+mod codes;
+mod fresh;
+mod group;
+mod header;
+mod sector;
+#[cfg(test)]
+mod tests;
+
+pub use fresh::fresh_track;
+pub use group::decoding_undoes_code;
+pub use sector::{id_of, read_sector, write_sector};

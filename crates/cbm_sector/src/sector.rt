@@ -1,0 +1,112 @@
+ghost use Rattle.std.specs.Prelude.{◌≡◌, ◌≢◌, ℕ, ◌<◌, ◌≤◌, ◌+◌, List, Ok, Err, Some, length, IfSome, IfOk, IfErr, OnOk, OnErr};
+ghost use Rattle.cbm_gcr.specs.Code.{code};
+ghost use Rattle.cbm_medium.specs.Place.{Place};
+ghost use Rattle.cbm_medium.specs.Content.{header_fault};
+ghost use Rattle.cbm_track.specs.Circle.{next_block};
+ghost use Rattle.cbm_sector.specs.Answer.{shown, block_of, id_shown, data_block, IsOverwritten};
+
+use crate::block::{coded_block, data_at, data_block};
+use crate::codes::{BAD_HEADER_SUM, NO_BLOCK, NO_SYNC, OTHER_ID};
+use crate::group::header_bytes;
+use crate::header::{begins_header, find_header, is_right};
+use cbm_medium::{Address, Fault};
+use cbm_track::Track;
+
+/// The first block behind a place, all the way round.
+fn block_behind(track: &Track, place: u32) -> Option<u32>
+    requires { place < length track.now }
+    ensures value { result ≡ next_block track.now (place + 1) }
+    ensures below { IfSome result (λ p. p < length track.now) }
+{
+    let bits = track.bits();
+    track.next_sync((place + 1) % bits)
+}
+
+/// Where a sector's data block begins, or the fault of its header.
+#[tactic(auto, unfolding(crate::specs::Answer::block_of, crate::specs::Answer::header_of, crate::specs::Answer::is_crowded))]
+fn block_of(track: &Track, at: Address, id: [u8; 2]) -> Result<u32, u8>
+    ensures value { result ≡ block_of track.now id at }
+    ensures below { IfOk result (λ p. p < length track.now) }
+{
+    let _bits = track.bits();
+    if track.next_sync(0).is_none() {
+        return Err(NO_SYNC);
+    }
+    let Some(place) = find_header(track, &Some(at)) else {
+        return Err(NO_BLOCK);
+    };
+    let Some(header) = header_bytes(track, place) else {
+        return Err(NO_BLOCK);
+    };
+    if !is_right(&header) {
+        return Err(BAD_HEADER_SUM);
+    }
+    if header[4] != id[1] || header[5] != id[0] {
+        return Err(OTHER_ID);
+    }
+    let Some(block) = block_behind(track, place) else {
+        return Err(NO_BLOCK);
+    };
+    if begins_header(track, block) || !track.is_clear(block, 2600) {
+        return Err(NO_BLOCK);
+    }
+    Ok(block)
+}
+
+/// A sector's 256 bytes, or the first fault that the track shows: 21 no sync mark; 20 no header of
+/// the sector, 27 its exclusive or, 29 its id; 20 no data block behind it; 24 no code, 22 no data
+/// block, 23 its exclusive or (this project's order of the drive's faults).
+#[tactic(auto, unfolding(crate::specs::Answer::shown))]
+pub fn read_sector(track: &Track, at: Address, id: [u8; 2]) -> Result<[u8; 256], Fault>
+    requires { at.track ≤ 35 }
+    ensures ok { IfOk result (λ bytes. shown track.now id at ≡ Ok bytes) }
+    ensures err { IfErr result (λ fault. (shown track.now id at ≡ Err fault.code) × (fault.at ≡ at)) }
+{
+    match block_of(track, at, id) {
+        Err(code) => Err(Fault { code, at }),
+        Ok(place) => match data_at(track, place) {
+            Err(code) => Err(Fault { code, at }),
+            Ok(data) => Ok(data),
+        },
+    }
+}
+
+/// Writes a sector's data block anew, over the 2,600 bits behind its sync mark. The faults of its
+/// header refuse it as they refuse a read; an `Err` changes nothing.
+pub fn write_sector(
+    track: &mut Track,
+    at: Address,
+    id: [u8; 2],
+    bytes: &[u8; 256],
+) -> Result<(), Fault>
+    requires { at.track ≤ 35 }
+    ensures ok { OnOk result (shown track.new id at ≡ Ok bytes.now) }
+    ensures others { OnOk result ((id2 : List ℕ) (other : Place) → at ≢ other → shown track.new id2 other ≡ shown track.old id2 other) }
+    ensures bits { OnOk result ((d : ℕ) → block_of track.old id at ≡ Ok d → IsOverwritten track.old track.new d (code (data_block bytes.now))) }
+    ensures id { id_shown track.new ≡ id_shown track.old }
+    ensures length { length track.new ≡ length track.old }
+    // A data block and its sync mark take 2,610 bits.
+    ensures long { OnOk result (2610 ≤ length track.old) }
+    ensures err { OnErr result (track.new ≡ track.old) }
+    ensures refused { IfSome (header_fault (shown track.old id at)) (λ code. result ≡ Err (record { code = code; at = at })) }
+    ensures cause { IfErr result (λ fault. (header_fault (shown track.old id at) ≡ Some fault.code) × (fault.at ≡ at)) }
+{
+    match block_of(track, at, id) {
+        Err(code) => Err(Fault { code, at }),
+        Ok(place) => {
+            track.overwrite(place, &coded_block(&data_block(bytes)));
+            Ok(())
+        }
+    }
+}
+
+/// The disk's id: that of the first header, from the track's first bit on, that names track 18 and
+/// whose exclusive or is right.
+#[tactic(auto, unfolding(crate::specs::Answer::id_shown))]
+pub fn id_of(track: &Track) -> Option<[u8; 2]>
+    ensures { result ≡ id_shown track.now }
+{
+    let place = find_header(track, &None)?;
+    let header = header_bytes(track, place)?;
+    Some([header[5], header[4]])
+}

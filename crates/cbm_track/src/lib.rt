@@ -1,0 +1,12 @@
+//! A track: a circle of bits, its sync marks, and the bytes at any bit of it.
+#![tactic(auto)]
+
+mod bits;
+mod marks;
+mod stretches;
+mod track;
+
+pub use track::Track;
+
+#[cfg(test)]
+mod tests;
