@@ -1,0 +1,12 @@
+//! Times of the calls that move whole images, printed on standard error.
+#![tactic(auto)]
+
+mod disks;
+
+use std::io;
+
+fn main(rt: HostRuntime) -> io::Result<()> {
+    disks::copies(&rt, rt.alloc())?;
+    disks::images(&rt, rt.alloc())?;
+    disks::chains(&rt, rt.alloc())
+}

@@ -1,0 +1,7 @@
+//! Worked disks, byte by byte, read through the volume over D64 images.
+#![tactic(auto)]
+
+#[cfg(test)]
+mod image;
+#[cfg(test)]
+mod tests;
