@@ -5,18 +5,20 @@ use Rattle.std.proofs.lemmas.Bool.{cases_eq, cases_Bool, lt-ltb, ltb-true, and_p
 use mathlib.Core.Path.{fun_ext}
 use Rattle.cbm_medium.specs.Place.{Place, sectors_on, Has, has, is_place}
 use Rattle.cbm_medium.specs.Content.{written}
+use Rattle.cbm_medium.proofs.Walks.{has_true, true_has, on_a_track as track_is}
 use Rattle.cbm_medium.proofs.Places.{place_cases, place_is_itself, written_there, written_elsewhere}
 use Rattle.cbm_sector.specs.Answer.{shown, id_shown}
 use Rattle.cbm_g64.specs.Tracks.{bits_at, id_for, content_of, IsChanged}
 
 -- a sector of the first 35 tracks, as a test and as a fact
 pub has_parts : (p : Place) → has 35 p ≡ true → Has 35 p
-has_parts p h =
-    let a = and_parts (ltb p.sector (sectors_on p.track)) (ltb p.track 36) h in
-    (ltb-true p.sector (sectors_on p.track) a.0, omega (arith, ltb-true p.track 36 a.1))
+has_parts p h = true_has 35 p h
 
 pub has_test : (p : Place) → Has 35 p → has 35 p ≡ true
-has_test p h = and_from (ltb p.sector (sectors_on p.track)) (ltb p.track 36) (lt-ltb p.sector (sectors_on p.track) h.0) (lt-ltb p.track 36 (omega (arith, h.1)))
+has_test p h = has_true 35 p h
+
+pub has_of : (p : Place) → p.sector < sectors_on p.track → p.track ≤ 35 → Has 35 p
+has_of p s t = (track_is p s, t, s)
 
 pub content_on : (tracks : List (List Bool)) (p : Place) → Has 35 p → content_of tracks p ≡ shown (bits_at tracks p.track) (id_for tracks) p
 unfolding content_of
@@ -28,7 +30,7 @@ content_off tracks p h = cond-false _ _ _ h
 
 -- a track of the disk is one of 35
 pub on_a_track : (p : Place) → Has 35 p → (0 < p.track) × (p.track < 36)
-on_a_track p h = let h0 = h.0 in let h1 = h.1 in (grind arith, omega arith)
+on_a_track p h = let low = h.0 in let high = h.1 in (low, omega arith)
 
 -- one track written anew, its id as it was
 pub content_written : (tracks : List (List Bool)) (new : List Bool) (a : Place) (bytes : List ℕ) → length tracks ≡ 35 → Has 35 a

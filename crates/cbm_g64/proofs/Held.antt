@@ -96,3 +96,8 @@ fresh_content id tracks b l f = fun_ext (λ p. elim (cases_Bool (has 35 p)) [
         ∙ ap (λ (n : List ℕ). shown (bits_at tracks p.track) n p) the_id
         ∙ ap (λ (u : List Bool). shown u id p) (f (p.track - 1) (omega arith) ∙ ap (λ (n : ℕ). fresh n id) e)
         ∙ zeros_shown (fresh p.track id) id p (fresh_shown p.track id p.sector t0 t1 b h.0)
+
+-- its id
+pub fresh_id_for : (id : List ℕ) (tracks : List (List Bool)) → IsBytes id → length id ≡ 2 → AreFresh id tracks → id_for tracks ≡ id
+unfolding id_for
+fresh_id_for id tracks b l f = ap (λ (o : Option (List ℕ)). unwrap_or o (0 ∷ 0 ∷ [])) (ap id_shown (f 17 (omega arith)) ∙ fresh_id id b l)

@@ -1,9 +1,9 @@
-ghost use Rattle.std.specs.Prelude.{refl, ◌≡◌, ◌<◌, ◌≤◌, ◌-◌, ◌⊎◌, ◌↔◌, ℕ, Ok, Err, None, Some, false, true, IfErr, IfOk, IfSome, IsSome, OnErr, OnOk};
-ghost use Rattle.cbm_medium.specs.Place.{directory_head};
+ghost use Rattle.std.specs.Prelude.{refl, ◌≡◌, ◌<◌, ◌≤◌, ◌-◌, ◌⊎◌, ◌↔◌, ℕ, Ok, Err, None, Some, false, true, IfErr, IfOk, IfSome, IsSome, OnErr, OnOk, length};
+ghost use Rattle.cbm_medium.specs.Place.{Has, Place, directory_head};
 ghost use Rattle.cbm_medium.specs.Content.{blank, format_refusal, refusal, written};
 ghost use Rattle.cbm_g64.specs.File.{fault_of, tracks_in};
 ghost use Rattle.cbm_g64.specs.NewFile.{base_of};
-ghost use Rattle.cbm_g64.specs.Tracks.{bits_at, content_of, failures_of, AreFresh, HasTrack, IsChanged, tracks_on};
+ghost use Rattle.cbm_g64.specs.Tracks.{bits_at, content_of, failures_of, id_for, or_zeros, AreFresh, HasTrack, IsChanged, tracks_on};
 ghost use Rattle.cbm_g64.specs.Image.{IsImageOf};
 
 use cbm_medium::{Address, Fault, Medium, Steady};
@@ -13,6 +13,7 @@ use std::marker::Model;
 
 use crate::checks::fault_of;
 use crate::circles::{format_on, read_on, tracks_of, write_on};
+use crate::copying::image_of;
 use crate::fault::G64Fault;
 use crate::image::{base, offset_in, put_tracks};
 
@@ -86,6 +87,22 @@ impl G64Disk {
         };
         put_tracks(file, self.formatted, self.tracks.as_slice(), out.as_mut_slice());
         Ok(out)
+    }
+
+    /// The image of a disk that was formatted under an id and then given the sectors of a medium of
+    /// 35 tracks; a sector that doesn't read stays 256 zeros. Takes memory for it and for the tracks.
+    pub fn from_sectors<M: Medium>(alloc: Global, medium: &M, id: [u8; 2]) -> Result<Vec<u8>, G64Fault>
+        requires { M.tracks medium.now ≡ 35 }
+        ensures size { IfOk result (λ v. length v.items ≡ 278234) }
+        ensures right { IfOk result (λ v. fault_of v.items ≡ None) }
+        ensures shown {
+            IfOk result (λ v. (p : Place) → Has 35 p →
+                content_of (tracks_in v.items 35) p ≡ or_zeros (M.content medium.now p))
+        }
+        ensures id { IfOk result (λ v. id_for (tracks_in v.items 35) ≡ id) }
+        ensures err { IfErr result (λ fault. fault ≡ G64Fault.Memory) }
+    {
+        image_of(alloc, medium, id)
     }
 
     /// The circle of a track as it stands; `None` where the image has no such track or it isn't 1

@@ -3,10 +3,13 @@
 
 mod checks;
 mod circles;
+mod copying;
 mod disk;
 mod fault;
 mod image;
 mod numbers;
+#[cfg(test)]
+mod tests;
 
 pub use disk::G64Disk;
 pub use fault::G64Fault;

@@ -1,24 +1,11 @@
-ghost use Rattle.std.specs.Prelude.{◌≡◌, ℕ, ◌<◌, ◌≤◌, ◌+◌, ◌*◌, ◌-◌, true, false, length, IfSome};
-ghost use Rattle.cbm_track.specs.Circle.{bits_of, bit, ten_ones, is_clear, next_block};
+ghost use Rattle.std.specs.Prelude.{◌≡◌, ℕ, ◌<◌, ◌≤◌, ◌+◌, ◌*◌, ◌-◌, true, false, length, slice_index_or, IfSome};
+ghost use Rattle.cbm_track.specs.Circle.{bits, bits_of, bit, is_clear, next_block};
 
 use crate::bits::{bit_of, wrapped};
+use crate::stretches::byte_at;
 
-/// Whether ten ones in a row begin at a place of the circle.
-fn ten_ones(track: &[u8], place: usize) -> bool
-    requires place { place < 8 * length track.now }
-    requires size { length track.now ≤ 7928 }
-    ensures { result ≡ ten_ones (bits_of track.now) place }
-{
-    let bits = 8 * track.len();
-    for k in 0..10 {
-        if !bit_of(track, (place + k) % bits) {
-            return false;
-        }
-    }
-    true
-}
-
-/// Whether ten ones in a row begin nowhere among some bits from a place on.
+/// Whether ten ones in a row begin nowhere among some bits from a place on: a bit at a time, with the
+/// number of ones that stand before it.
 pub(crate) fn is_clear(track: &[u8], place: usize, count: usize) -> bool
     requires place { place < 8 * length track.now }
     requires size { length track.now ≤ 7928 }
@@ -26,10 +13,14 @@ pub(crate) fn is_clear(track: &[u8], place: usize, count: usize) -> bool
     ensures { result ≡ is_clear (bits_of track.now) place count }
 {
     let bits = 8 * track.len();
-    for k in 0..count {
-        if ten_ones(track, (place + k) % bits) {
+    let mut at = place;
+    let mut ones: usize = 0;
+    for k in 0..count + 9 {
+        ones = if bit_of(track, at) { ones + 1 } else { 0 };
+        if ones == 10 {
             return false;
         }
+        at = wrapped(at + 1, bits);
     }
     true
 }
@@ -52,6 +43,34 @@ fn ones_before(track: &[u8], place: usize, most: usize) -> usize
     most
 }
 
+/// How many ones begin a byte.
+fn ones_first(byte: u8) -> usize
+    ensures most { result ≤ 8 }
+    ensures ones { (j : ℕ) → j < result → slice_index_or (bits 8 byte) j false ≡ true }
+    ensures zero { result < 8 → slice_index_or (bits 8 byte) result false ≡ false }
+{
+    for j in 0..8 {
+        if !bit_of(&[byte], j) {
+            return j;
+        }
+    }
+    8
+}
+
+/// How many ones end a byte.
+fn ones_last(byte: u8) -> usize
+    ensures most { result ≤ 8 }
+    ensures ones { (j : ℕ) → j < result → slice_index_or (bits 8 byte) (7 - j) false ≡ true }
+    ensures zero { result < 8 → slice_index_or (bits 8 byte) (7 - result) false ≡ false }
+{
+    for j in 0..8 {
+        if !bit_of(&[byte], 7 - j) {
+            return j;
+        }
+    }
+    8
+}
+
 /// How many ones stand from a place on, at most eight.
 fn ones_from(track: &[u8], place: usize) -> usize
     requires place { place < 8 * length track.now }
@@ -60,13 +79,19 @@ fn ones_from(track: &[u8], place: usize) -> usize
     ensures ones { (j : ℕ) → j < result → bit (bits_of track.now) (place + j) ≡ true }
     ensures zero { result < 8 → bit (bits_of track.now) (place + result) ≡ false }
 {
+    ones_first(byte_at(track, place))
+}
+
+/// How many ones stand before a place, at most eight.
+fn ones_just_before(track: &[u8], place: usize) -> usize
+    requires place { place < 8 * length track.now }
+    requires size { length track.now ≤ 7928 }
+    ensures most { result ≤ 8 }
+    ensures ones { (j : ℕ) → j < result → bit (bits_of track.now) (place + (2 * (8 * length track.now) - 1 - j)) ≡ true }
+    ensures zero { result < 8 → bit (bits_of track.now) (place + (2 * (8 * length track.now) - 1 - result)) ≡ false }
+{
     let bits = 8 * track.len();
-    for j in 0..8 {
-        if !bit_of(track, wrapped(place + j, bits)) {
-            return j;
-        }
-    }
-    8
+    ones_last(byte_at(track, wrapped(place + (bits - 8), bits)))
 }
 
 /// The first place at which a block begins, from a place on: eight bits at a time, with the number
@@ -87,7 +112,7 @@ pub(crate) fn next_place(track: &[u8], from: usize) -> Option<usize>
         } else if ones + lead >= 10 {
             return Some(wrapped(at + lead, bits));
         } else {
-            ones = ones_before(track, wrapped(at + 8, bits), 8);
+            ones = ones_just_before(track, wrapped(at + 8, bits));
         }
     }
     None

@@ -1,7 +1,25 @@
-ghost use Rattle.std.specs.Prelude.{◌≡◌, ℕ, ◌<◌, ◌≤◌, ◌+◌, ◌*◌, false, length, slice_index_or};
+ghost use Rattle.std.specs.Prelude.{◌≡◌, ℕ, ◌<◌, ◌≤◌, ◌+◌, ◌*◌, [], ◌∷◌, drop, false, length, slice_index_or, take};
 ghost use Rattle.cbm_track.specs.Circle.{bits, bits_of, bit, stretch};
 
 use crate::bits::{bit_of, set_bit, wrapped};
+
+/// The eight bits from a bit of the first of two bytes on.
+fn joined(first: u8, second: u8, bit: usize) -> u8
+    requires { bit < 8 }
+    ensures { bits 8 result ≡ take 8 (drop bit (bits_of (first ∷ second ∷ []))) }
+{
+    let pair = 256 * first as u32 + second as u32;
+    match bit {
+        0 => first,
+        1 => (pair / 128 % 256) as u8,
+        2 => (pair / 64 % 256) as u8,
+        3 => (pair / 32 % 256) as u8,
+        4 => (pair / 16 % 256) as u8,
+        5 => (pair / 8 % 256) as u8,
+        6 => (pair / 4 % 256) as u8,
+        _ => (pair / 2 % 256) as u8,
+    }
+}
 
 /// The byte that begins at a place of the circle.
 pub(crate) fn byte_at(track: &[u8], place: usize) -> u8
@@ -9,12 +27,9 @@ pub(crate) fn byte_at(track: &[u8], place: usize) -> u8
     requires size { length track.now ≤ 7928 }
     ensures { bits 8 result ≡ stretch (bits_of track.now) place 8 }
 {
-    let bits = 8 * track.len();
-    let mut byte = [0];
-    for k in 0..8 {
-        set_bit(&mut byte, k, bit_of(track, wrapped(place + k, bits)));
-    }
-    byte[0]
+    let first = place / 8;
+    let second = if first + 1 < track.len() { first + 1 } else { 0 };
+    joined(track[first], track[second], place % 8)
 }
 
 /// Reads the bytes from a place of the circle on.

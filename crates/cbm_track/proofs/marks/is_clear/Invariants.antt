@@ -1,6 +1,7 @@
-use Rattle.std.proofs.Common.{◌≡◌, ℕ, ◌+◌, ◌<◌, false}
-use Rattle.cbm_track.specs.Circle.{bits_of, ten_ones}
+use Rattle.std.proofs.Common.{◌≡◌, ◌+◌, ◌*◌, ◌%◌, length}
+use Rattle.cbm_track.specs.Circle.{bits_of}
+use Rattle.cbm_track.proofs.Counting.{IsCount}
 use Rattle.cbm_track.proofs.marks.is_clear.Given as goal
 
 abbrev pub invariant-loop-k : goal.invariant-loop-k
-invariant-loop-k l = (j : ℕ) → j < l.k → ten_ones (bits_of l.track) (l.place + j) ≡ false
+invariant-loop-k l = record { at : l.at ≡ (l.place + l.k) % (8 * length l.track); count : IsCount (bits_of l.track) l.place l.k l.ones }

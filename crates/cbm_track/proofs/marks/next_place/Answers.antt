@@ -72,7 +72,7 @@ loop-i-preserved c =
       | then-lead-eq8+then-ones-lt2 w ↦ run_on t n (c.args.from + 8 * c.loop-i.i) c.loop-i.ones lead c.if-lead-eq8.ones size (omega arith) (run_is here) (lead_at here) w.if-lead-eq8.true (omega arith, omega arith, λ h. omega arith)
       | then-lead-eq8+else-ones-lt2 w ↦ run_on t n (c.args.from + 8 * c.loop-i.i) c.loop-i.ones lead c.if-lead-eq8.ones size (omega arith) (run_is here) (lead_at here) w.if-lead-eq8.true (omega arith, omega arith, λ h. absurd (omega arith))
       | else-lead-eq8+else-ones-lead-ge10 w ↦ subst (IsRun t n (c.args.from + 8 * c.loop-i.i + 8)) (sym w.ones-is) (anew c.args.track.now c.args.from c.loop-i.i c.wrapped-at.result _ lead _ (omega arith) c.wrapped-at.ensures.value w.wrapped-else-ones-lead-ge10.ensures.value (lead_at here) (omega (arith, c.ones_from-lead.ensures.most, w.if-lead-eq8.false))
-          w.ones_before-ones-else-ones-lead-ge10.ensures.most w.ones_before-ones-else-ones-lead-ge10.ensures.ones w.ones_before-ones-else-ones-lead-ge10.ensures.zero)
+          w.ones_just_before-ones.ensures.most w.ones_just_before-ones.ensures.ones w.ones_just_before-ones.ensures.zero)
     ] in
     let few : (q : ℕ) → q < 8 → q ≡ c.ones_from-lead.result → c.loop-i.ones + c.ones_from-lead.result < 10 = λ q l e.
     elim c.if-lead-eq8.branch [

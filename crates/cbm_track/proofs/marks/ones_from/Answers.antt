@@ -1,11 +1,10 @@
-use Rattle.std.proofs.Common.{◌∙◌, sym, below_more, ◌+◌}
-use Rattle.cbm_track.proofs.Steps.{bit_read}
+use Rattle.std.proofs.Common.{◌∙◌, sym, arith}
+use Rattle.cbm_track.specs.Circle.{bits_of}
+use Rattle.cbm_track.proofs.Counting.{byte_there}
 use Rattle.cbm_track.proofs.marks.ones_from.Goals as goal
 
-pub loop-j-preserved : goal.loop-j-preserved
-loop-j-preserved c = below_more _ _ c.loop-j.invariant
-    (sym (bit_read c.args.track.now (c.args.place + c.loop-j.j) c.wrapped.result c.wrapped.ensures.value) ∙ sym c.bit_of.ensures ∙ c.if-not-bit_of.false)
+pub returns-clause-ones : goal.returns-clause-ones
+returns-clause-ones c = λ j h. sym (byte_there (bits_of c.args.track.now) c.args.place c.byte_at.result j c.byte_at.ensures (omega (arith, c.ones_first.ensures.most))) ∙ c.ones_first.ensures.ones j h
 
-pub returns-then-not-bit_of-clause-zero : goal.returns-then-not-bit_of-clause-zero
-returns-then-not-bit_of-clause-zero c = λ h.
-    sym (bit_read c.args.track.now (c.args.place + c.loop-j.j) c.wrapped.result c.wrapped.ensures.value) ∙ sym c.bit_of.ensures ∙ c.if-not-bit_of.true
+pub returns-clause-zero : goal.returns-clause-zero
+returns-clause-zero c = λ h. sym (byte_there (bits_of c.args.track.now) c.args.place c.byte_at.result c.ones_first.result c.byte_at.ensures h) ∙ c.ones_first.ensures.zero h

@@ -1,16 +1,10 @@
-use Rattle.std.proofs.Common.{◌∙◌, sym, ◌+◌, arith, refl}
-use Rattle.cbm_track.specs.Circle.{bits_of}
-use Rattle.cbm_track.proofs.Bytes.{length-bits_of}
-use Rattle.cbm_track.proofs.Steps.{stretch_none, byte_more, bit_read}
+use Rattle.std.proofs.Common.{◌≡◌, ◌∙◌, ℕ, ◌+◌, ◌/◌, ◌%◌, get_or, refl, ap, arith}
+use Rattle.cbm_track.proofs.Joining.{joined_is}
 use Rattle.cbm_track.proofs.stretches.byte_at.Goals as goal
+use Rattle.cbm_track.proofs.stretches.byte_at.Goals.{then-first-track, else-first-track}
 
-pub loop-k-init : goal.loop-k-init
-loop-k-init c = record { length = refl; bits = sym (stretch_none (bits_of c.args.track.now) c.args.place) }
-
-pub loop-k-preserved : goal.loop-k-preserved
-loop-k-preserved c = record {
-  length = omega arith;
-  bits = byte_more (bits_of c.args.track.now) (bits_of c.loop-k.byte) (bits_of c.set_bit.new.bytes) c.args.place c.loop-k.k c.bit_of.result
-      (omega (arith, length-bits_of c.loop-k.byte)) c.loop-k.invariant.bits c.set_bit.ensures
-      (c.bit_of.ensures ∙ bit_read c.args.track.now (c.args.place + c.loop-k.k) c.wrapped.result c.wrapped.ensures.value);
-}
+pub returns : goal.returns
+returns c = c.joined.ensures
+    ∙ joined_is c.args.track.now c.args.place (c.args.place / 8) (c.args.place % 8) _ _ c.requires.size c.requires.place refl refl refl
+    (λ h. ap (λ (n : ℕ). get_or c.args.track.now n 0) (elim c.if-first-track.branch [ then-first-track w ↦ w.second-is | else-first-track w ↦ absurd (omega (arith, w.if-first-track.false)) ]))
+    (λ h. ap (λ (n : ℕ). get_or c.args.track.now n 0) (elim c.if-first-track.branch [ then-first-track w ↦ absurd (omega (arith, w.if-first-track.true)) | else-first-track w ↦ w.second-is ]))

@@ -1,0 +1,17 @@
+use Rattle.std.proofs.Common.{◌≡◌, ◌∙◌, ℕ, List, Bool, arith, ap, length}
+use Rattle.std.proofs.lemmas.List.{take_at}
+use Rattle.cbm_g64.specs.File.{tracks_in}
+use Rattle.cbm_g64.specs.Tracks.{content_of}
+use Rattle.cbm_g64.proofs.NewFiles.{length-new_file}
+use Rattle.cbm_g64.proofs.copying.image_of.Goals as goal
+
+pub returns-clause-size : goal.returns-clause-size
+returns-clause-size g c =
+    ap length (take_at c.put_tracks.new.out _ c.in-Ok-base.out.len (omega (arith, ap length c.as_mut_slice-2.ensures.value)))
+    ∙ c.put_tracks.ensures.image.same_length ∙ length-new_file
+
+pub returns-clause-shown : goal.returns-clause-shown
+returns-clause-shown g c = λ p h.
+    ap (λ (v : List ℕ). content_of (tracks_in v 35) p) (take_at c.put_tracks.new.out _ c.in-Ok-base.out.len (omega (arith, ap length c.as_mut_slice-2.ensures.value)))
+    ∙ ap (λ (t : List (List Bool)). content_of t p) (c.put_tracks.ensures.again.1 ∙ c.as_slice.ensures.value ∙ take_at c.copy_tracks.new.tracks _ c.in-Ok.tracks.len (omega (arith, ap length c.as_mut_slice.ensures.value)))
+    ∙ c.copy_tracks.ensures.shown p h

@@ -1,0 +1,109 @@
+ghost use Rattle.std.specs.Prelude.{◌≡◌, ◌≢◌, ℕ, ◌<◌, ◌≤◌, List, Ok, None, IfErr, IfOk, length, replicate, true};
+ghost use Rattle.cbm_medium.specs.Place.{Has, Place, sectors_on};
+ghost use Rattle.cbm_g64.specs.File.{fault_of, tracks_in};
+ghost use Rattle.cbm_g64.specs.NewFile.{new_file};
+ghost use Rattle.cbm_g64.specs.Tracks.{content_of, id_for, or_zeros, AreFresh};
+ghost use Rattle.cbm_g64.specs.Image.{IsHeld};
+
+use cbm_medium::{Address, Medium, sectors_of};
+use cbm_sector::fresh_track;
+use cbm_track::Track;
+use std::alloc::{AllocError, Global};
+
+use crate::circles::write_on;
+use crate::fault::G64Fault;
+use crate::image::{base, put_tracks};
+
+/// The tracks of a formatted disk.
+fn fresh_tracks(alloc: Global, id: &[u8; 2]) -> Result<Vec<Track>, AllocError>
+    ensures fresh { IfOk result (λ v. AreFresh id.now v.items) }
+    ensures count { IfOk result (λ v. length v.items ≡ 35) }
+    ensures held { IfOk result (λ v. IsHeld new_file v.items) }
+    ensures blank { IfOk result (λ v. (p : Place) → content_of v.items p ≡ Ok (replicate 256 0)) }
+    ensures id { IfOk result (λ v. id_for v.items ≡ id.now) }
+{
+    let mut tracks = Vec::with_capacity(alloc, 35)?;
+    for track in 1..36u8 {
+        tracks.push(fresh_track(track, *id))?;
+    }
+    Ok(tracks)
+}
+
+/// Copies a sector of a medium to a track where it still holds zeros; one with a fault stays zeros.
+fn copy_sector<M: Medium>(medium: &M, tracks: &mut [Track], at: Address)
+    requires tracks { M.tracks medium.now ≡ 35 }
+    requires held { IsHeld new_file tracks.old }
+    requires track { at.track ≤ 35 }
+    requires blank { content_of tracks.old at ≡ Ok (replicate 256 0) }
+    ensures here { content_of tracks.new at ≡ or_zeros (M.content medium.now at) }
+    ensures others { (p : Place) → at ≢ p → content_of tracks.new p ≡ content_of tracks.old p }
+    ensures held { IsHeld new_file tracks.new }
+    ensures id { id_for tracks.new ≡ id_for tracks.old }
+{
+    match medium.read(at) {
+        Ok(bytes) => {
+            let _ = write_on(tracks, at, &bytes);
+        }
+        Err(_) => {}
+    }
+}
+
+/// Copies the sectors of a track.
+fn copy_track<M: Medium>(medium: &M, tracks: &mut [Track], track: u8)
+    requires tracks { M.tracks medium.now ≡ 35 }
+    requires held { IsHeld new_file tracks.old }
+    requires track { track ≤ 35 }
+    requires blank { (p : Place) → p.track ≡ track → content_of tracks.old p ≡ Ok (replicate 256 0) }
+    ensures here { (p : Place) → p.track ≡ track → p.sector < sectors_on track → content_of tracks.new p ≡ or_zeros (M.content medium.now p) }
+    ensures others { (p : Place) → p.track ≢ track → content_of tracks.new p ≡ content_of tracks.old p }
+    ensures held { IsHeld new_file tracks.new }
+    ensures id { id_for tracks.new ≡ id_for tracks.old }
+{
+    for sector in 0..sectors_of(track) {
+        match Address::new(track, sector) {
+            Some(at) => copy_sector(medium, tracks, at),
+            None => unreachable!(),
+        }
+    }
+}
+
+/// Copies the sectors of a medium to the tracks of a formatted disk.
+fn copy_tracks<M: Medium>(medium: &M, tracks: &mut [Track])
+    requires tracks { M.tracks medium.now ≡ 35 }
+    requires held { IsHeld new_file tracks.old }
+    requires blank { (p : Place) → content_of tracks.old p ≡ Ok (replicate 256 0) }
+    ensures shown { (p : Place) → Has 35 p → content_of tracks.new p ≡ or_zeros (M.content medium.now p) }
+    ensures held { IsHeld new_file tracks.new }
+    ensures id { id_for tracks.new ≡ id_for tracks.old }
+{
+    for track in 1..36 {
+        copy_track(medium, tracks, track);
+    }
+}
+
+/// The image of a formatted disk that was given the sectors of a medium.
+pub(crate) fn image_of<M: Medium>(
+    alloc: Global,
+    medium: &M,
+    id: [u8; 2],
+) -> Result<Vec<u8>, G64Fault>
+    requires { M.tracks medium.now ≡ 35 }
+    ensures size { IfOk result (λ v. length v.items ≡ 278234) }
+    ensures right { IfOk result (λ v. fault_of v.items ≡ None) }
+    ensures shown {
+        IfOk result (λ v. (p : Place) → Has 35 p →
+            content_of (tracks_in v.items 35) p ≡ or_zeros (M.content medium.now p))
+    }
+    ensures id { IfOk result (λ v. id_for (tracks_in v.items 35) ≡ id) }
+    ensures err { IfErr result (λ fault. fault ≡ G64Fault.Memory) }
+{
+    let Ok(mut tracks) = fresh_tracks(alloc, &id) else {
+        return Err(G64Fault::Memory);
+    };
+    copy_tracks(medium, tracks.as_mut_slice());
+    let Ok(mut out) = base(alloc, &[], true) else {
+        return Err(G64Fault::Memory);
+    };
+    put_tracks(&[], true, tracks.as_slice(), out.as_mut_slice());
+    Ok(out)
+}
