@@ -95,7 +95,7 @@ fresh_content id tracks b l f = fun_ext (λ p. elim (cases_Bool (has 35 p)) [
         content_on tracks p h
         ∙ ap (λ (n : List ℕ). shown (bits_at tracks p.track) n p) the_id
         ∙ ap (λ (u : List Bool). shown u id p) (f (p.track - 1) (omega arith) ∙ ap (λ (n : ℕ). fresh n id) e)
-        ∙ zeros_shown (fresh p.track id) id p (fresh_shown p.track id p.sector t0 t1 b h.0)
+        ∙ zeros_shown (fresh p.track id) id p (fresh_shown p.track id p.sector t0 t1 b h.2)
 
 -- its id
 pub fresh_id_for : (id : List ℕ) (tracks : List (List Bool)) → IsBytes id → length id ≡ 2 → AreFresh id tracks → id_for tracks ≡ id
