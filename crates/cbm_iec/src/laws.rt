@@ -1,0 +1,36 @@
+//! Laws of the definitions, each the contract of a function with nothing to do.
+
+ghost use Rattle.cbm_iec.specs.Joins.{JoinsItsParts, IsOnlyJoin};
+ghost use Rattle.cbm_iec.specs.Laws.{OnePulse, PulseEnds, ListenersAccepted, DrivesAccepted};
+ghost use Rattle.cbm_iec.specs.Rows.{ListenOwn, ListenOther, TalkCut, TalkCutEarly, TwoListeners, Ties98, Ties89, BesideAListener, SilentBeside};
+
+/// The events of a piece are the only join of its parts.
+pub fn is_joined()
+    ensures joins { JoinsItsParts }
+    ensures only { IsOnlyJoin }
+{}
+
+/// The pulses of listeners are one pulse on the wire.
+pub fn is_one_pulse()
+    ensures one { OnePulse }
+    ensures ends { PulseEnds }
+{}
+
+/// Each that hears a frame has accepted before the host may go on.
+pub fn has_accepted()
+    ensures listeners { ListenersAccepted }
+    ensures drives { DrivesAccepted }
+{}
+
+/// Sessions by numbers: their events, and what each drive was told.
+pub fn rows()
+    ensures listen_own { ListenOwn }
+    ensures listen_other { ListenOther }
+    ensures talk_cut { TalkCut }
+    ensures talk_cut_early { TalkCutEarly }
+    ensures two_listeners { TwoListeners }
+    ensures ties_9_8 { Ties98 }
+    ensures ties_8_9 { Ties89 }
+    ensures beside_a_listener { BesideAListener }
+    ensures silent_beside { SilentBeside }
+{}
