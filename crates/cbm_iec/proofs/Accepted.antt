@@ -1,7 +1,6 @@
 -- Each that hears a frame has accepted before the host may go on.
 use Rattle.std.proofs.Common.{◌≡◌, ℕ, ◌+◌, ◌≤◌, Bool, true, false, List, [], ◌∷◌, length, if◌then◌else◌, map, arith, refl, subst}
 use Rattle.cbm_iec.proofs.OnePulse.{bounds}
-use Rattle.cbm_iec.proofs.Turn.{freed}
 use Rattle.cbm_iec.specs.Bits.{byte_of}
 use Rattle.cbm_iec.specs.Frames.{Sent, end_of, accept_of}
 use Rattle.cbm_iec.specs.Laws.{SeatsReact, begin_of, AllAccepted, ListenersAccepted, DrivesAccepted}

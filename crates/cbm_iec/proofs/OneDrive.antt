@@ -2,7 +2,6 @@
 use Rattle.std.proofs.Common.{◌≡◌, ℕ, ◌+◌, ◌*◌, ◌≤◌, ◌<◌, Bool, true, false, not, List, [], ◌∷◌, ◌++◌, length, Option, Some, None, ap, ◌∙◌, arith, refl}
 use Rattle.std.specs.Prelude.{if◌then◌else◌, nat_le}
 use Rattle.cbm_iec.proofs.Merging.{merge_here, merge_there, AllBefore}
-use Rattle.cbm_iec.proofs.Turn.{taken}
 use Rattle.cbm_iec.specs.Bits.{where_held, where_free, Cell, cell_steps, cells_steps, held_after, last_pull, CellsFit, number_of}
 use Rattle.cbm_iec.specs.Frames.{Sent, Told, wire, end_of, pulse_from, pulse_to, pulse, hearing, sending, SentFits, is_last, signal_steps, first_bit, bit_steps, telling, taking, SignalFits, ToldFits}
 use Rattle.cbm_iec.specs.Joins.{NotBefore}

@@ -7,5 +7,7 @@ pub mod Pieces
 pub mod Sessions
 pub mod Timing
 pub mod Answers
+pub mod Hearing
+pub mod Speaking
 pub mod Rows
 pub mod Laws

@@ -2,14 +2,18 @@
 #![tactic(auto)]
 
 pub mod act;
+pub mod ear;
 pub mod event;
 pub mod laws;
 pub mod line;
 pub mod lines;
+pub mod mouth;
 pub mod party;
 
 pub use act::Act;
+pub use ear::Ear;
 pub use event::{Event, Who};
 pub use line::{Change, Line, Way};
 pub use lines::{Held, Lines};
+pub use mouth::Mouth;
 pub use party::{Party, Role};
