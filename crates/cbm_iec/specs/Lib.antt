@@ -9,5 +9,6 @@ pub mod Timing
 pub mod Answers
 pub mod Hearing
 pub mod Speaking
+pub mod Ports
 pub mod Rows
 pub mod Laws

@@ -9,6 +9,7 @@ pub mod line;
 pub mod lines;
 pub mod mouth;
 pub mod party;
+pub mod port;
 
 pub use act::Act;
 pub use ear::Ear;
@@ -17,3 +18,4 @@ pub use line::{Change, Line, Way};
 pub use lines::{Held, Lines};
 pub use mouth::Mouth;
 pub use party::{Party, Role};
+pub use port::{Port, Reaction, Side};
