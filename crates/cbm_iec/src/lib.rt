@@ -10,6 +10,8 @@ pub mod lines;
 pub mod mouth;
 pub mod party;
 pub mod port;
+#[cfg(test)]
+mod tests;
 
 pub use act::Act;
 pub use ear::Ear;
