@@ -3,7 +3,7 @@ use Rattle.std.proofs.Common.{◌≡◌, ℕ, ◌+◌, ◌*◌, ◌≤◌, ◌<�
 use Rattle.std.specs.Prelude.{if◌then◌else◌, nat_le}
 use Rattle.cbm_iec.proofs.Merging.{merge_here, merge_there, AllBefore}
 use Rattle.cbm_iec.specs.Bits.{where_held, where_free, Cell, cell_steps, cells_steps, held_after, last_pull, CellsFit, number_of}
-use Rattle.cbm_iec.specs.Frames.{Sent, Told, wire, end_of, pulse_from, pulse_to, pulse, hearing, sending, SentFits, is_last, signal_steps, first_bit, bit_steps, telling, taking, SignalFits, ToldFits}
+use Rattle.cbm_iec.specs.Frames.{Sent, Told, end_of, pulse_from, pulse_to, pulse, hearing, sending, is_last, signal_steps, first_bit, bit_steps, telling, taking, SignalFits, ToldFits}
 use Rattle.cbm_iec.specs.Joins.{NotBefore}
 use Rattle.cbm_iec.specs.Pieces.{Point, host_part, let_go, own_part, PullPiece, ToListener, ToNobody}
 use Rattle.cbm_iec.specs.Seats.{Seat, device, reaction}
@@ -30,7 +30,7 @@ merge_last : (xs : List Step) (y : Step) → AllUpTo (moment_of y) xs → merge 
 merge_last [] y a = refl
 merge_last (x ∷ xs) y a = merge_here x xs y [] a.0 ∙ ap (λ (zs : List Step). x ∷ zs) (merge_last xs y a.1)
 
-last_after : (held : Bool) (pull : ℕ) (cs : List Cell) → CellsFit held pull cs → pull ≤ last_pull pull cs
+pub last_after : (held : Bool) (pull : ℕ) (cs : List Cell) → CellsFit held pull cs → pull ≤ last_pull pull cs
 last_after held pull [] h = omega arith
 last_after held pull (c ∷ cs) h = let k = last_after (not c.bit) c.pull cs h.1 in let m = h.0 in omega (arith, k, m.free, m.pulled)
 
@@ -48,18 +48,23 @@ cells_upto m held pull (c ∷ cs) h l =
     upto_append m (cell_steps held c) (cells_steps (not c.bit) cs) (cell_upto m held c.bit c.set c.free c.pull (omega (arith, k, l, f.settled, f.pulled)) (omega (arith, k, l, f.pulled)) (omega (arith, k, l)))
     (cells_upto m (not c.bit) c.pull cs h.1 l)
 
--- a frame of the host to one drive
-abbrev pub one_frame : Seat → Bool → Act → Sent → List Step
-one_frame s eoi act f =
-    host f.ready Clock Free ∷ drive (device s) (f.ready + reaction s) Data Free ∷ (pulse (f.ready + reaction s) eoi s
+-- a frame of the host to one drive, with T the moment when DATA is free on the wire
+abbrev pub one_frame : ℕ → Seat → Bool → Act → Sent → List Step
+one_frame t s eoi act f =
+    host f.ready Clock Free ∷ drive (device s) (f.ready + reaction s) Data Free ∷ (pulse t eoi s
     ++ ((host f.start Clock Pull ∷ (cells_steps false f.cells ++ where_held (held_after false f.cells) (host (end_of f) Data Free)))
     ++ for_one (device s) act (drive (device s) (end_of f + reaction s) Data Pull) ∷ []))
+
+-- the drive has let go of DATA, and its pulse is over, before the start
+abbrev pub StartsBehind : ℕ → Seat → Bool → Sent → Type 0
+StartsBehind t s true f = (f.ready + reaction s ≤ t) × (t + 260 + reaction s + 1 ≤ f.start)
+StartsBehind t s false f = f.ready + reaction s + 1 ≤ f.start
 
 held_upto : (m at : ℕ) (held : Bool) → at ≤ m → AllUpTo m (where_held held (host at Data Free))
 held_upto m at true h = (h, tt)
 held_upto m at false h = tt
 
-module _ (s : Seat) (act : Act) (f : Sent) where
+module _ (t : ℕ) (s : Seat) (act : Act) (f : Sent) where
   abbrev tail : List Step
   tail = cells_steps false f.cells ++ where_held (held_after false f.cells) (host (end_of f) Data Free)
 
@@ -73,10 +78,10 @@ module _ (s : Seat) (act : Act) (f : Sent) where
   accept = for_one (device s) act (drive (device s) (end_of f + reaction s) Data Pull)
 
   abbrev low : Step
-  low = drive (device s) (pulse_from (f.ready + reaction s) s) Data Pull
+  low = drive (device s) (pulse_from t s) Data Pull
 
   abbrev high : Step
-  high = drive (device s) (pulse_to (f.ready + reaction s) s) Data Free
+  high = drive (device s) (pulse_to t s) Data Free
 
   all : CellsFit false f.start f.cells → AllUpTo (end_of f + reaction s) (start ∷ tail)
   all g =
@@ -86,22 +91,22 @@ module _ (s : Seat) (act : Act) (f : Sent) where
             (held_upto (end_of f + reaction s) (end_of f) (held_after false f.cells) (omega arith)),
       )
 
-  pub frame_is : (eoi : Bool) → SentFits (s ∷ []) eoi f → merge (sending f) (hearing (wire (s ∷ []) f) eoi act f s) ≡ one_frame s eoi act f
-  frame_is false g =
-      let early : f.ready + reaction s + 1 ≤ f.start = g.start.0 in
+  pub frame_is : (eoi : Bool) → StartsBehind t s eoi f → CellsFit false f.start f.cells → merge (sending f) (hearing t eoi act f s) ≡ one_frame t s eoi act f
+  frame_is false early cells =
       merge_here (host f.ready Clock Free) (start ∷ tail) freed (accept ∷ []) (omega arith)
       ∙ ap (λ (zs : List Step). host f.ready Clock Free ∷ zs)
       (merge_there start tail freed (accept ∷ []) (omega (arith, early))
-      ∙ ap (λ (zs : List Step). freed ∷ zs) (merge_last (start ∷ tail) accept (all g.cells)))
-  frame_is true g =
-      let early : f.ready + reaction s + 260 + reaction s + 1 ≤ f.start = g.start in
+      ∙ ap (λ (zs : List Step). freed ∷ zs) (merge_last (start ∷ tail) accept (all cells)))
+  frame_is true early cells =
+      let free = early.0 in
+      let over = early.1 in
       merge_here (host f.ready Clock Free) (start ∷ tail) freed (low ∷ high ∷ accept ∷ []) (omega arith)
       ∙ ap (λ (zs : List Step). host f.ready Clock Free ∷ zs)
-      (merge_there start tail freed (low ∷ high ∷ accept ∷ []) (omega (arith, early))
+      (merge_there start tail freed (low ∷ high ∷ accept ∷ []) (omega (arith, free, over))
       ∙ ap (λ (zs : List Step). freed ∷ zs)
-      (merge_there start tail low (high ∷ accept ∷ []) (omega (arith, early))
+      (merge_there start tail low (high ∷ accept ∷ []) (omega (arith, over))
       ∙ ap (λ (zs : List Step). low ∷ zs)
-      (merge_there start tail high (accept ∷ []) (omega (arith, early)) ∙ ap (λ (zs : List Step). high ∷ zs) (merge_last (start ∷ tail) accept (all g.cells)))))
+      (merge_there start tail high (accept ∷ []) (omega (arith, over)) ∙ ap (λ (zs : List Step). high ∷ zs) (merge_last (start ∷ tail) accept (all cells)))))
 
 -- a list goes before another that isn't sooner
 merge_front : (m : ℕ) (xs ys : List Step) → AllUpTo m xs → NotBefore m ys → merge xs ys ≡ xs ++ ys
