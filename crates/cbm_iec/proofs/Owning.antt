@@ -3,10 +3,11 @@ use Rattle.std.proofs.Common.{◌≡◌, ℕ, ◌+◌, ◌*◌, ◌≤◌, Bool,
 use Rattle.std.specs.Prelude.{if◌then◌else◌, nat_eq}
 use Rattle.cbm_iec.proofs.Decoding.{when_mine, mark_act, IsMine, IsAnothers}
 use Rattle.cbm_iec.proofs.Merging.{NoneBefore, InOrder}
+use Rattle.cbm_iec.proofs.OneDrive.{last_after}
 use Rattle.cbm_iec.proofs.Showing.{AllForeign, AllMine}
 use Rattle.cbm_iec.specs.Bits.{where_held, where_free, Cell, cell_steps, cells_steps, held_after, number_of, byte_of}
-use Rattle.cbm_iec.specs.Frames.{Sent, Told, wire, end_of, pulse, hearing, sending, is_last, signal_steps, first_bit, bit_steps, telling}
-use Rattle.cbm_iec.specs.Pieces.{Whole, Point, freed_steps, host_part, let_go, own_part, PullPiece, Command, Byte, ToListener, ToNobody, ToTalker, Nothing, Talk}
+use Rattle.cbm_iec.specs.Frames.{Sent, Told, wire, end_of, pulse, hearing, sending, SentFits, is_last, signal_steps, first_bit, bit_steps, telling, SignalFits}
+use Rattle.cbm_iec.specs.Pieces.{Whole, Point, freed_steps, host_part, let_go, own_part, Fits, PullPiece, Command, Byte, ToListener, ToNobody, ToTalker, Nothing, Talk}
 use Rattle.cbm_iec.specs.Seats.{Seat, device, reaction, is_listener, is_talker, talker_of, listeners}
 use Rattle.cbm_iec.specs.Steps.{Mark, Step, host, drive, for_one, Plain, ForEach, For}
 use Rattle.cbm_iec.specs.declared.act.Act.TheVariants.{Attention, Heard, Said, Silent}
@@ -199,3 +200,57 @@ order_bits b at held bits more o n = go at held bits n
         let z = tail at (at + 120) true bits (omega arith) y in
         let u = tail (at + 60) (at + 120) true bits (omega arith) y in
         ((omega arith, (omega arith, z)), ((omega arith, z), (u, go (at + 120) true bits y)))
+
+told_order : (b : Party) (at : ℕ) (f : Told) → at + 1 ≤ f.free → SignalFits f.free f.signal → length f.bits ≡ 8 → first_bit b f + 961 ≤ f.accept + b.reaction → InOrder (telling b at f)
+told_order b at f l g e a = (
+  none_append at (bit_steps b (first_bit b f) false f.bits) last (bits_none at b (first_bit b f) false f.bits early) (last_none (is_last f)),
+  order_bits b (first_bit b f) false f.bits last (last_order (is_last f)) (last_late (is_last f)),
+)
+  where
+    last : List Step
+    last = if is_last f then drive b.device (f.accept + b.reaction) Clock Free ∷ [] else []
+    from : (x : Option (ℕ × ℕ)) → SignalFits f.free x → f.free ≤ (elim x as (λ y. ℕ) [ None ↦ f.free | Some y ↦ y.1 ])
+    from None h = omega arith
+    from (Some (pull, again)) h = omega (arith, h.0, h.1)
+    early : at ≤ first_bit b f
+    early = let k = from f.signal g in omega (arith, l, k)
+    last_none : (v : Bool) → NoneBefore at (if v then drive b.device (f.accept + b.reaction) Clock Free ∷ [] else [])
+    last_none true = let k = early in (omega (arith, k, a), tt)
+    last_none false = tt
+    last_order : (v : Bool) → InOrder (if v then drive b.device (f.accept + b.reaction) Clock Free ∷ [] else [])
+    last_order true = (tt, tt)
+    last_order false = tt
+    last_late : (v : Bool) → NoneBefore (first_bit b f + 120 * length f.bits) (if v then drive b.device (f.accept + b.reaction) Clock Free ∷ [] else [])
+    last_late true = (omega (arith, e, a), tt)
+    last_late false = tt
+
+order_if : (v : Bool) (ss : List Step) → InOrder ss → InOrder (if v then ss else [])
+order_if true ss o = o
+order_if false ss o = tt
+
+order_by_role : (r : Role) (a b : List Step) → InOrder a → InOrder b → InOrder (elim r as (λ q. List Step) [ Absent ↦ a | Listener ↦ [] | Talker ↦ b ])
+order_by_role Absent a b x y = x
+order_by_role Listener a b x y = tt
+order_by_role Talker a b x y = y
+
+heard_order : (hs : List Seat) (eoi : Bool) (act : Act) (f : Sent) (s : Seat) → SentFits hs eoi f → InOrder (hearing (wire hs f) eoi act f s)
+heard_order hs true act f s h = let k = last_after false f.start f.cells h.cells in let g = h.start in order_hearing (wire hs f) true act f s (omega arith) (λ (e : true ≡ true). omega (arith, k, g)) (omega (arith, k, g))
+heard_order hs false act f s h = let k = last_after false f.start f.cells h.cells in let g = h.start.0 in order_hearing (wire hs f) false act f s (omega arith) (λ (e : false ≡ true). cc) (omega (arith, k, g))
+
+-- each drive's part of a piece that fits is in order
+pub part_order : (p : Point) (w : Whole) → Fits p w → (s : Seat) → InOrder (own_part p w s)
+part_order p (PullPiece at) h s = order_pull (at + reaction s) s.own.clock_low s.own.data_low (device s)
+part_order p (Command f) h s = heard_order p.seats false (Attention (byte_of f.cells)) f s h.3
+part_order p (Byte eoi f) h s = order_if (is_listener s.role) (hearing (wire (listeners p.seats) f) eoi (Heard (byte_of f.cells) eoi) f s) (heard_order (listeners p.seats) eoi (Heard (byte_of f.cells) eoi) f s h.3)
+part_order p (ToListener at) h s = order_by_role s.role (let_go at s) [] (tt, tt) tt
+part_order p (ToNobody at clock) h s = (tt, tt)
+part_order p (ToTalker at clock) h s = order_by_role s.role (let_go at s) (drive (device s) (clock + reaction s) Clock Pull ∷ drive (device s) (clock + reaction s) Data Free ∷ []) (tt, tt) ((omega arith, tt), (tt, tt))
+part_order p (Nothing at clock freed) h s = order_by_role s.role (let_go at s) (for_one (device s) Silent (drive (device s) (clock + reaction s) Data Free) ∷ []) (tt, tt) (tt, tt)
+part_order p (Talk at f) h s =
+    let g = h.1 in
+    let taken = g.accept in
+    let early = first_same f.signal in
+    order_if (is_talker s.role) (telling s.party at f) (told_order s.party at f g.free g.signal g.eight (omega (arith, taken, early)))
+  where
+    first_same : (x : Option (ℕ × ℕ)) → (elim x as (λ y. ℕ) [ None ↦ f.free | Some y ↦ y.1 ]) + s.party.reaction + 961 ≤ (elim x as (λ y. ℕ) [ None ↦ f.free | Some y ↦ y.1 ]) + (talker_of p.seats).reaction + 961 + s.party.reaction
+    first_same x = omega arith

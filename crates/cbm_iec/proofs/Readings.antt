@@ -29,7 +29,7 @@ Calm Asking = ⊥
 Calm Leads = ⊥
 Calm (Saying held signal left bits) = ⊥
 
-calm_freed : (u : Under) → Calm u → clock_freed u ≡ Readied false
+pub calm_freed : (u : Under) → Calm u → clock_freed u ≡ Readied false
 calm_freed Off h = refl
 calm_freed (Readied eoi) h = elim h [ ]
 calm_freed (Counting eoi held zero bits) h = refl
@@ -79,10 +79,10 @@ frame_act atn eoi f = if atn then Attention (byte_of f.cells) else Heard (byte_o
 abbrev pub frame_role : ℕ → Bool → Role → Sent → Role
 frame_role d atn role f = if atn then role_after d (byte_of f.cells) role else role
 
-mark_mine : (d o : ℕ) (act : Act) → nat_eq d o ≡ true → mark_act d (For o act) ≡ Some act
+pub mark_mine : (d o : ℕ) (act : Act) → nat_eq d o ≡ true → mark_act d (For o act) ≡ Some act
 mark_mine d o act e = ap (λ (v : Bool). when_mine v (Some act) None) e
 
-mark_none : (d o : ℕ) (act : Act) → nat_eq d o ≡ false → mark_act d (For o act) ≡ None
+pub mark_none : (d o : ℕ) (act : Act) → nat_eq d o ≡ false → mark_act d (For o act) ≡ None
 mark_none d o act e = ap (λ (v : Bool). when_mine v (Some act) None) e
 
 pulse_reads : (d : ℕ) (role : Role) (atn eoi : Bool) (t : ℕ) (s : Seat) → ReadsOwn d (known role atn (Readied false)) (pulse t eoi s) (known role atn (Readied eoi))
@@ -90,7 +90,7 @@ pulse_reads d role atn true t s = (refl, (refl, refl))
 pulse_reads d role atn false t s = refl
 
 -- a frame that this drive hears
-frame_reads : (d : ℕ) (s : Seat) (atn eoi : Bool) (u : Under) (t : ℕ) (f : Sent) → nat_eq d (device s) ≡ true → Calm u → length f.cells ≡ 8
+pub frame_reads : (d : ℕ) (s : Seat) (atn eoi : Bool) (u : Under) (t : ℕ) (f : Sent) → nat_eq d (device s) ≡ true → Calm u → length f.cells ≡ 8
     → ReadsOwn d (known s.role atn u) (one_frame t s eoi (frame_act atn eoi f) f) (known (frame_role d atn s.role f) atn (Counting eoi false zero (bits_of f.cells)))
 frame_reads d s atn eoi u t f e c l =
     let end = known (frame_role d atn s.role f) atn (Counting eoi false zero (bits_of f.cells)) in
@@ -103,7 +103,7 @@ frame_reads d s atn eoi u t f e c l =
     (refl, subst (λ (v : Under). ReadsOwn d (known s.role atn v) (drive (device s) (f.ready + reaction s) Data Free ∷ (pulse t eoi s ++ (body ++ accept ∷ []))) end) (sym (calm_freed u c)) (refl, rest))
 
 -- a frame that it doesn't hear
-sending_reads : (d : ℕ) (role : Role) (atn : Bool) (u : Under) (f : Sent) → Calm u → length f.cells ≡ 8 → ReadsOwn d (known role atn u) (sending f) (known role atn (Counting false false zero (bits_of f.cells)))
+pub sending_reads : (d : ℕ) (role : Role) (atn : Bool) (u : Under) (f : Sent) → Calm u → length f.cells ≡ 8 → ReadsOwn d (known role atn u) (sending f) (known role atn (Counting false false zero (bits_of f.cells)))
 sending_reads d role atn u f c l =
     (refl, subst (λ (v : Under). ReadsOwn d (known role atn v) (host f.start Clock Pull ∷ (cells_steps false f.cells ++ where_held (held_after false f.cells) (host (end_of f) Data Free))) (known role atn (Counting false false zero (bits_of f.cells)))) (sym (calm_freed u c)) (body_reads d role atn false f l))
 
@@ -122,7 +122,7 @@ off_own d o role atn at true false = (refl, (refl, refl))
 off_own d o role atn at false true = refl
 off_own d o role atn at false false = (refl, refl)
 
-pull_reads : (d : ℕ) (p : Point) (s : Seat) (atn : Bool) (u : Under) (at : ℕ)
+pub pull_reads : (d : ℕ) (p : Point) (s : Seat) (atn : Bool) (u : Under) (at : ℕ)
     → ReadsOwn d (known s.role atn u) (merge (host_part p (PullPiece at)) (own_part p (PullPiece at) s)) (known s.role true Off)
 pull_reads d p s atn u at =
     let off = known s.role true Off in
@@ -161,7 +161,7 @@ end_reads d b role at true = (refl, refl)
 end_reads d b role at false = refl
 
 -- a frame of this drive
-told_reads : (d : ℕ) (b : Party) (role : Role) (at : ℕ) (f : Told) → nat_eq d b.device ≡ true → length f.bits ≡ 8
+pub told_reads : (d : ℕ) (b : Party) (role : Role) (at : ℕ) (f : Told) → nat_eq d b.device ≡ true → length f.bits ≡ 8
     → ReadsOwn d (known role false Leads) (one_told b at f) (known role false (told_under (is_last f)))
 told_reads d b role at f e l =
     let end = known role false (told_under (is_last f)) in
@@ -181,7 +181,7 @@ other_signal : (d : ℕ) (role : Role) (x : Option (ℕ × ℕ)) → ReadsOwn d 
 other_signal d role None = refl
 other_signal d role (Some (pull, free)) = (refl, (refl, refl))
 
-other_reads : (d : ℕ) (b : Party) (role : Role) (f : Told) → nat_eq d b.device ≡ false → ReadsOwn d (known role false (Readied false)) (taking b f) (known role false (Readied false))
+pub other_reads : (d : ℕ) (b : Party) (role : Role) (f : Told) → nat_eq d b.device ≡ false → ReadsOwn d (known role false (Readied false)) (taking b f) (known role false (Readied false))
 other_reads d b role f e =
     let accept = for_one b.device (Said (number_of f.bits) (is_last f)) (host f.accept Data Pull) in
     let last : ReadsOwn d (known role false (Readied false)) (accept ∷ []) (known role false (Readied false)) = (mark_none d b.device (Said (number_of f.bits) (is_last f)) e, refl) in

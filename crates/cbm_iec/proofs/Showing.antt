@@ -57,7 +57,7 @@ shows_late d n [] m nb h = subst (NotBefore n) (sym h) tt
 shows_late d n (y ∷ ys) m nb (inl h) = shows_late d n ys m nb.1 h.1
 shows_late d n (y ∷ ys) m nb (inr h) = subst (NotBefore n) (sym h.1) nb.0
 
-merge_first : (x : Step) (xs m : List Step) → NotBefore (moment_of x) m → merge (x ∷ xs) m ≡ x ∷ merge xs m
+pub merge_first : (x : Step) (xs m : List Step) → NotBefore (moment_of x) m → merge (x ∷ xs) m ≡ x ∷ merge xs m
 merge_first x xs [] h = merge_nil (x ∷ xs) ∙ ap (λ (zs : List Step). x ∷ zs) (sym (merge_nil xs))
 merge_first x xs (z ∷ zs) h = merge_here x xs z zs h
 
