@@ -87,7 +87,7 @@ pub turn_first : (at : ℕ) (more own : List Step) → NotBefore at own
     → merge (host at Data Pull ∷ for_each Released (host at Atn Free) ∷ more) own ≡ host at Data Pull ∷ for_each Released (host at Atn Free) ∷ merge more own
 turn_first at more own n = merge_first (host at Data Pull) (for_each Released (host at Atn Free) ∷ more) own n ∙ ap (λ (zs : List Step). host at Data Pull ∷ zs) (merge_first (for_each Released (host at Atn Free)) more own n)
 
-calm_said : (u : Under) → Calm u → None ≡ said_act u
+pub calm_said : (u : Under) → Calm u → None ≡ said_act u
 calm_said Off h = refl
 calm_said (Readied eoi) h = elim h [ ]
 calm_said (Counting eoi held zero bits) h = refl
