@@ -3,21 +3,24 @@ use Rattle.std.proofs.Common.{◌≡◌, ℕ, ◌+◌, ◌≤◌, ◌≢◌, inl
 use Rattle.std.specs.Prelude.{if◌then◌else◌, nat_eq}
 use Rattle.std.proofs.lemmas.Bool.{ne_eqb}
 use Rattle.std.proofs.lemmas.Bool.Decides.{leb_tells}
-use Rattle.cbm_iec.proofs.Decoding.{Under, Known, known, freed_under, own_pulled, step_by, step_next, Reads, reads_append, ReadsOwn, Shows, shown_reads, Off, Readied, Counting, Turning, Asking, Leads, Saying}
+use Rattle.cbm_iec.proofs.Decoding.{Under, Known, known, freed_under, own_pulled, step_by, step_next, acts_in, Reads, reads_acts, reads_append, reads_split, ReadsOwn, Shows, shown_reads, Off, Readied, Counting, Turning, Asking, Leads, Saying}
 use Rattle.cbm_iec.proofs.Merging.{merge_here, merge_there, merge_nil, InOrder, order_merge, before_yes, cut_front}
 use Rattle.cbm_iec.proofs.Owning.{part_owned, owned_foreign, owned_mine, host_mine, part_order}
 use Rattle.cbm_iec.proofs.PieceReadings.{AtPlace, turn_first, calm_said, next_seat, piece_goes}
 use Rattle.cbm_iec.proofs.Readings.{Calm}
-use Rattle.cbm_iec.proofs.Showing.{shows_before, Sits, shows_all}
+use Rattle.cbm_iec.proofs.Showing.{shows_before, Apart, Sits, shows_all}
 use Rattle.cbm_iec.proofs.Talkers.{OneTalker, KeepsDrives, KeepsRoles, sits_map, one_map, standing_drives, standing_roles, AreSeats, seats_map, one_obeys}
 use Rattle.cbm_iec.specs.Bits.{number_of, byte_of}
 use Rattle.cbm_iec.specs.Frames.{Told, is_last, signal_steps, first_bit, bit_steps, telling, taking, SignalFits, ToldFits}
 use Rattle.cbm_iec.specs.Joins.{NotBefore}
+use Rattle.cbm_iec.specs.Laws.{OneReading}
 use Rattle.cbm_iec.specs.Pieces.{Whole, Piece, Place, Point, freed_steps, host_part, let_go, own_part, steps_of, before, FreedFits, Fits, CutFits, held_by, seat_with, obeying, standing, whole_point, point_after, PullPiece, Command, Byte, ToListener, ToNobody, ToTalker, Nothing, Talk, Full, Cut, Leading}
 use Rattle.cbm_iec.specs.Seats.{lines, Seat, device, reaction, is_talker, talker_of}
-use Rattle.cbm_iec.specs.Sessions.{Linked, session_steps}
-use Rattle.cbm_iec.specs.Steps.{Step, host, drive, for_each, for_one, moment_of, merge}
+use Rattle.cbm_iec.specs.Sessions.{rest, Linked, session_steps, Splits, AreDrives, Unlike, AllUnlike, IsBus}
+use Rattle.cbm_iec.specs.Steps.{Step, host, drive, for_each, for_one, moment_of, events_of, acts_for, merge}
 use Rattle.cbm_iec.specs.declared.act.Act.TheVariants.{Released, Said, Silent}
+use Rattle.cbm_iec.specs.declared.act.Act.{Act}
+use Rattle.cbm_iec.specs.declared.event.Event.{Event}
 use Rattle.cbm_iec.specs.declared.event.Who.TheVariants.{Host, Drive}
 use Rattle.cbm_iec.specs.declared.event.Who.{Who}
 use Rattle.cbm_iec.specs.declared.line.Line.TheVariants.{Atn, Clock, Data}
@@ -259,3 +262,53 @@ session_reads d p (Cut w c ∷ ks) s atn u l t q h =
     let z = seated d kept p.seats s (λ (x : Seat). refl) (λ (x : Seat). refl) t.sits t.one t.apart in
     let m = session_reads d (point_after p (Cut w c)) ks (kept s) g.1.0 g.0 l (record { sits = z.0; one = z.1; apart = z.2 }) tt h.1 in
     (m.0, reads_append d (known s.role atn u) (before c (steps_of p w)) (session_steps (point_after p (Cut w c)) ks) (known s.role g.1.0 g.0) m.0 r m.1)
+
+-- from rest
+abbrev seat_of : Party → Seat
+seat_of b = record { party = b; role = Absent; own = lines false false }
+
+abbrev AllSit : List Seat → List Party → Type 0
+AllSit seats [] = Unit {0}
+AllSit seats (c ∷ cs) = Sits c.device seats (seat_of c) × AllSit seats cs
+
+further : (x : Seat) (seats : List Seat) (cs : List Party) → Unlike (device x) cs → AllSit seats cs → AllSit (x ∷ seats) cs
+further x seats [] u a = tt
+further x seats (c ∷ cs) u a = (inr (ne_eqb c.device (device x) (λ (e : c.device ≡ device x). u.0 (sym e)), a.0), further x seats cs u.1 a.1)
+
+apart_of : (d : ℕ) (bs : List Party) → Unlike d bs → Apart d (map (λ b. seat_of b) bs)
+apart_of d [] u = tt
+apart_of d (b ∷ bs) u = (ne_eqb d b.device u.0, apart_of d bs u.1)
+
+all_sit : (bs : List Party) → AllUnlike bs → AllSit (map (λ b. seat_of b) bs) bs
+all_sit [] u = tt
+all_sit (b ∷ bs) u = (inl (refl, eq-eqb b.device b.device refl, apart_of b.device bs u.0), further (seat_of b) (map (λ b. seat_of b) bs) bs u.0 (all_sit bs u.1))
+
+are_seats : (bs : List Party) → AreDrives bs → AllUnlike bs → AreSeats (map (λ b. seat_of b) bs)
+are_seats [] h u = tt
+are_seats (b ∷ bs) h u = let k = h.0.upto in (omega (arith, k), apart_of b.device bs u.0, are_seats bs h.1 u.1)
+
+none_talks : (bs : List Party) → OneTalker (map (λ b. seat_of b) bs)
+none_talks [] = tt
+none_talks (b ∷ bs) = (λ (e : false ≡ true). cc, none_talks bs)
+
+abbrev unknowing : Known
+unknowing = known Absent false Off
+
+-- what counts in the front of a session is what the decoder gives for its events
+begins_acts : (bs : List Party) → IsBus bs → (ks : List Piece) (done more : List Step) → Splits bs ks done more → (cs : List Party) → AllSit (rest bs).seats cs → AreDrives cs
+    → map (λ b. acts_for b.device done) cs ≡ map (λ b. acts_in b.device unknowing (events_of done)) cs
+begins_acts bs h ks done more sp [] a g = refl
+begins_acts bs h ks done more sp (c ∷ cs) a g =
+    let from = g.0.from in
+    let r = session_reads c.device (rest bs) ks (seat_of c) false Off (omega (arith, from)) (record { sits = a.0; one = none_talks bs; apart = are_seats bs h.drives h.unlike }) tt sp.linked in
+    let q = reads_split c.device unknowing done more r.0 (subst (λ (ss : List Step). Reads c.device unknowing ss r.0) sp.steps r.1) in
+    let mine = reads_acts c.device unknowing done q.0 q.1 in
+    ap (λ (l : List Act). l ∷ map (λ b. acts_for b.device done) cs) mine
+    ∙ ap (λ (ls : List (List Act)). acts_in c.device unknowing (events_of done) ∷ ls) (begins_acts bs h ks done more sp cs a.1 g.1)
+
+pub one_reading_lem : OneReading
+one_reading_lem bs trace x y h f g =
+    let a = begins_acts bs h f.0 f.1.0 f.1.1.0 f.1.1.1.0 bs (all_sit bs h.unlike) h.drives in
+    let b = begins_acts bs h g.0 g.1.0 g.1.1.0 g.1.1.1.0 bs (all_sit bs h.unlike) h.drives in
+    let same : events_of f.1.0 ≡ events_of g.1.0 = f.1.1.1.1 ∙ sym g.1.1.1.1 in
+    sym f.1.1.1.2 ∙ a ∙ ap (λ (es : List Event). map (λ b. acts_in b.device unknowing es) bs) same ∙ sym b ∙ g.1.1.1.2

@@ -1,8 +1,12 @@
 -- Laws of the definitions: what must hold of them if they say what they mean.
-use Rattle.std.specs.Prelude.{ℕ, ◌+◌, ◌≤◌, ◌<◌, ◌⊎◌, Bool, true, List, [], ◌∷◌}
+use Rattle.std.specs.Prelude.{◌≡◌, ℕ, ◌+◌, ◌≤◌, ◌<◌, ◌⊎◌, Bool, true, List, [], ◌∷◌}
 use Rattle.cbm_iec.specs.Frames.{Sent, wire, end_of, pulse_from, pulse_to, SentFits}
 use Rattle.cbm_iec.specs.Pieces.{Whole, Point, Fits, whole_point, PullPiece, Command, Byte, ToListener, ToNobody, ToTalker, Nothing, Talk}
 use Rattle.cbm_iec.specs.Seats.{Seat, reaction, listeners, slowest, fastest}
+use Rattle.cbm_iec.specs.Sessions.{Begins, IsBus}
+use Rattle.cbm_iec.specs.declared.act.Act.{Act}
+use Rattle.cbm_iec.specs.declared.event.Event.{Event}
+use Rattle.cbm_iec.specs.declared.party.Party.{Party}
 
 abbrev pub SeatsReact : List Seat → Type 0
 SeatsReact [] = Unit {0}
@@ -49,3 +53,7 @@ ListenersAccepted = (p : Point) (eoi : Bool) (f : Sent) (next : Whole) → Seats
 
 abbrev pub DrivesAccepted : Type 0
 DrivesAccepted = (p : Point) (f : Sent) (next : Whole) → SeatsReact p.seats → Fits p (Command f) → Fits (whole_point p (Command f)) next → AllAccepted p.seats f (begin_of next)
+
+-- A trace has only one reading: the acts that count in it are determined, for every bus.
+abbrev pub OneReading : Type 0
+OneReading = (bs : List Party) (trace : List Event) (x y : List (List Act)) → IsBus bs → Begins bs x trace → Begins bs y trace → x ≡ y

@@ -1,7 +1,7 @@
 //! Laws of the definitions, each the contract of a function with nothing to do.
 
 ghost use Rattle.cbm_iec.specs.Joins.{JoinsItsParts, IsOnlyJoin};
-ghost use Rattle.cbm_iec.specs.Laws.{OnePulse, PulseEnds, ListenersAccepted, DrivesAccepted};
+ghost use Rattle.cbm_iec.specs.Laws.{OnePulse, PulseEnds, ListenersAccepted, DrivesAccepted, OneReading};
 ghost use Rattle.cbm_iec.specs.Rows.{ListenOwn, ListenOther, TalkCut, TalkCutEarly, TwoListeners, Ties98, Ties89, BesideAListener, SilentBeside};
 
 /// The events of a piece are the only join of its parts.
@@ -33,4 +33,9 @@ pub fn rows()
     ensures ties_8_9 { Ties89 }
     ensures beside_a_listener { BesideAListener }
     ensures silent_beside { SilentBeside }
+{}
+
+/// A trace has only one reading: what each drive was told is determined by the events on the wires.
+pub fn one_reading()
+    ensures { OneReading }
 {}
