@@ -10,5 +10,6 @@ pub mod Answers
 pub mod Hearing
 pub mod Speaking
 pub mod Ports
+pub mod Following
 pub mod Rows
 pub mod Laws
