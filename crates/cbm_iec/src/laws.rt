@@ -1,6 +1,7 @@
 //! Laws of the definitions, each the contract of a function with nothing to do.
 
 ghost use Rattle.cbm_iec.specs.Joins.{JoinsItsParts, IsOnlyJoin};
+ghost use Rattle.cbm_iec.specs.Following.{FollowsPieces};
 ghost use Rattle.cbm_iec.specs.Laws.{OnePulse, PulseEnds, ListenersAccepted, DrivesAccepted, OneReading};
 ghost use Rattle.cbm_iec.specs.Rows.{ListenOwn, ListenOther, TalkCut, TalkCutEarly, TwoListeners, Ties98, Ties89, BesideAListener, SilentBeside};
 
@@ -38,4 +39,10 @@ pub fn rows()
 /// A trace has only one reading: what each drive was told is determined by the events on the wires.
 pub fn one_reading()
     ensures { OneReading }
+{}
+
+/// A drive alone with the host that stands at a point of a session follows each piece that fits there: told the
+/// host's part, it makes its own part and gives the piece's acts, and it stands at the point behind.
+pub fn follows_pieces()
+    ensures { FollowsPieces }
 {}
