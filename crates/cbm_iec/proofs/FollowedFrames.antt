@@ -149,8 +149,8 @@ module _ (peek : Option (ℕ × Bool)) (b : Party) (role : Role) where
           let rest = for_one b.device (told_by peek b role atn (byte_of (c ∷ cells)) eoi) (drive b.device (last_pull f.start (c ∷ cells) + b.reaction) Data Pull) ∷ [] in
           let byte = shifted_is peek b role (c ∷ cells) l in
           let end : Follows peek (stands b role (lines false false) (wires atn true (held_after false (c ∷ cells))) (Hearing (Accepting (last_pull 0 (c ∷ cells) + b.reaction) eoi (shifted peek b role 0 (c ∷ cells))))) (tail ++ rest) (held_again peek b role atn (byte_of (c ∷ cells))) =
-              subst (λ (n : ℕ). Follows peek (stands b role (lines false false) (wires atn true (held_after false (c ∷ cells))) (Hearing (Accepting (last_pull 0 (c ∷ cells) + b.reaction) eoi n))) (tail ++ rest) (held_again peek b role atn (byte_of (c ∷ cells)))) (sym byte)
-              (end_follows peek b role atn eoi (held_after false (c ∷ cells)) (byte_of (c ∷ cells)) (last_pull f.start (c ∷ cells))) in
+          subst (λ (n : ℕ). Follows peek (stands b role (lines false false) (wires atn true (held_after false (c ∷ cells))) (Hearing (Accepting (last_pull 0 (c ∷ cells) + b.reaction) eoi n))) (tail ++ rest) (held_again peek b role atn (byte_of (c ∷ cells)))) (sym byte)
+          (end_follows peek b role atn eoi (held_after false (c ∷ cells)) (byte_of (c ∷ cells)) (last_pull f.start (c ∷ cells))) in
           subst (λ (zs : List Step). Follows peek (gathers b role atn false eoi 0 0) zs (held_again peek b role atn (byte_of (c ∷ cells)))) (sym (append_assoc (cells_steps false (c ∷ cells)) tail rest))
           (cells_follows peek b role atn eoi false 0 0 c cells (tail ++ rest) (held_again peek b role atn (byte_of (c ∷ cells))) (omega (arith, l)) end)
 

@@ -107,7 +107,7 @@ pull_out p at (Cutting cut) f = refl
 pull_law : (s : Seat) (at : ℕ) → Law (PullPiece at) s
 pull_law s at p q peek h f y =
     let same : q ≡ stands s.party s.role s.own (wires false p.host.clock_low p.host.data_low) q.side =
-        port_is q s.party s.role s.own (wires false p.host.clock_low p.host.data_low) q.side h.party h.role h.own (h.others ∙ ap (λ (v : Bool). wires v p.host.clock_low p.host.data_low) (pull_out (alone p s) at p.place f)) refl in
+    port_is q s.party s.role s.own (wires false p.host.clock_low p.host.data_low) q.side h.party h.role h.own (h.others ∙ ap (λ (v : Bool). wires v p.host.clock_low p.host.data_low) (pull_out (alone p s) at p.place f)) refl in
     let q2 = stands s.party s.role (lines false true) (wires true true false) (Hearing Holding) in
     let all = pull_follows peek s.party s.role s.own.clock_low s.own.data_low p.host.clock_low p.host.data_low q.side at (pull_in_time (alone p s) at p.place s.role q.side h.side f) in (
       q2,
@@ -219,11 +219,11 @@ talker_law b o at clock r p q peek h k y =
     let start = stands b Talker (lines false true) (wires true true false) (Hearing Holding) in
     let answer = drive b.device (clock + b.reaction) Clock Pull ∷ drive b.device (clock + b.reaction) Data Free ∷ [] in
     let steps : steps_of (alone p s) (ToTalker at clock) ≡ host at Data Pull ∷ for_each Released (host at Atn Free) ∷ host clock Clock Free ∷ answer =
-        turn_first at (host clock Clock Free ∷ []) answer (omega (arith, gap))
-        ∙ ap (λ (zs : List Step). host at Data Pull ∷ for_each Released (host at Atn Free) ∷ zs) (merge_here (host clock Clock Free) [] (drive b.device (clock + b.reaction) Clock Pull) (drive b.device (clock + b.reaction) Data Free ∷ []) (omega arith)) in
+    turn_first at (host clock Clock Free ∷ []) answer (omega (arith, gap))
+    ∙ ap (λ (zs : List Step). host at Data Pull ∷ for_each Released (host at Atn Free) ∷ zs) (merge_here (host clock Clock Free) [] (drive b.device (clock + b.reaction) Clock Pull) (drive b.device (clock + b.reaction) Data Free ∷ []) (omega arith)) in
     let all : Follows peek start (host at Data Pull ∷ for_each Released (host at Atn Free) ∷ host clock Clock Free ∷ answer) q2 =
-        subst (λ (x : Option (ℕ × Bool)). Follows x start (host at Data Pull ∷ for_each Released (host at Atn Free) ∷ host clock Clock Free ∷ answer) q2) (sym y.1)
-        (tells tt refl (tells tt refl (tells tt refl (reacts (clock + b.reaction) [] refl refl tt tt (ends refl))))) in (
+    subst (λ (x : Option (ℕ × Bool)). Follows x start (host at Data Pull ∷ for_each Released (host at Atn Free) ∷ host clock Clock Free ∷ answer) q2) (sym y.1)
+    (tells tt refl (tells tt refl (tells tt refl (reacts (clock + b.reaction) [] refl refl tt tt (ends refl))))) in (
       q2,
       (
         seat b Talker (lines true false),
@@ -252,11 +252,11 @@ nothing_law b o at clock freed r p q peek h k y =
     let start = stands b Talker (lines false true) (wires true true false) (Hearing Holding) in
     let silent = for_one b.device Silent (drive b.device (clock + b.reaction) Data Free) in
     let steps : steps_of (alone p s) (Nothing at clock freed) ≡ host at Data Pull ∷ for_each Released (host at Atn Free) ∷ host clock Clock Free ∷ merge (freed_steps freed) (silent ∷ []) =
-        turn_first at (host clock Clock Free ∷ freed_steps freed) (silent ∷ []) (omega (arith, gap))
-        ∙ ap (λ (zs : List Step). host at Data Pull ∷ for_each Released (host at Atn Free) ∷ zs) (merge_here (host clock Clock Free) (freed_steps freed) silent [] (omega arith)) in
+    turn_first at (host clock Clock Free ∷ freed_steps freed) (silent ∷ []) (omega (arith, gap))
+    ∙ ap (λ (zs : List Step). host at Data Pull ∷ for_each Released (host at Atn Free) ∷ zs) (merge_here (host clock Clock Free) (freed_steps freed) silent [] (omega arith)) in
     let all : Follows peek start (host at Data Pull ∷ for_each Released (host at Atn Free) ∷ host clock Clock Free ∷ merge (freed_steps freed) (silent ∷ [])) q2 =
-        subst (λ (x : Option (ℕ × Bool)). Follows x start (host at Data Pull ∷ for_each Released (host at Atn Free) ∷ host clock Clock Free ∷ merge (freed_steps freed) (silent ∷ [])) q2) (sym y)
-        (tells tt refl (tells tt refl (tells tt refl (freed_follows b clock freed k.2)))) in (
+    subst (λ (x : Option (ℕ × Bool)). Follows x start (host at Data Pull ∷ for_each Released (host at Atn Free) ∷ host clock Clock Free ∷ merge (freed_steps freed) (silent ∷ [])) q2) (sym y)
+    (tells tt refl (tells tt refl (tells tt refl (freed_follows b clock freed k.2)))) in (
       q2,
       (
         seat b Talker (lines false false),

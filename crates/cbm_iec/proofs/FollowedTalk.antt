@@ -72,18 +72,22 @@ module _ (peek : Option (ℕ × Bool)) (b : Party) where
       shape false true = refl
       shape true false = refl
       shape false false = refl
+
       own_is : half_held (lines false held) (nat_le 16 half) ((half % 2) == 0) ((left % 2) == 0) ≡ lines true (not bit)
       own_is =
           ap (λ (v : Bool). half_held (lines false held) v ((half % 2) == 0) ((left % 2) == 0)) h
           ∙ ap (λ (v : Bool). half_held (lines false held) false v ((left % 2) == 0)) e
           ∙ ap (λ (v : Bool). half_held (lines false held) false true v) k
+
       mouth_is : half_mouth at byte last left half (nat_le 16 half) ((half % 2) == 0) ≡ Sending (at + 60) byte last left (half + 1)
       mouth_is = ap (λ (v : Bool). half_mouth at byte last left half v ((half % 2) == 0)) h ∙ ap (λ (v : Bool). half_mouth at byte last left half false v) e
+
       steps : reaction_steps at peek (sends b held at byte last left half) ≡ drive b.device at Clock Pull ∷ data_for (λ way. drive b.device at Data way) held bit
       steps =
           ap (λ (a : Option Act). own_steps b.device (reaction_changes at peek (sends b held at byte last left half)) a) (no_act byte left half at last held)
           ∙ ap (λ (o : Held). own_steps b.device (changes_between at (lines false held) o) None) own_is
           ∙ shape held bit
+
       stood : reacted at peek (sends b held at byte last left half) ≡ stands b Talker (lines true (not bit)) (wires false false false) (Speaking (Sending (at + 60) byte last left (half + 1)))
       stood =
           ap (λ (o : Held). stands b Talker o (wires false false false) (Speaking (half_mouth at byte last left half (nat_le 16 half) ((half % 2) == 0)))) own_is
@@ -100,17 +104,21 @@ module _ (peek : Option (ℕ × Bool)) (b : Party) where
       shape : (held : Bool) → own_steps b.device (changes_between at (lines true held) (lines false held)) None ≡ drive b.device at Clock Free ∷ []
       shape true = refl
       shape false = refl
+
       own_is : half_held (lines true held) (nat_le 16 half) ((half % 2) == 0) ((left % 2) == 0) ≡ lines false held
       own_is =
           ap (λ (v : Bool). half_held (lines true held) v ((half % 2) == 0) ((left % 2) == 0)) h
           ∙ ap (λ (v : Bool). half_held (lines true held) false v ((left % 2) == 0)) e
+
       mouth_is : half_mouth at byte last left half (nat_le 16 half) ((half % 2) == 0) ≡ Sending (at + 60) byte last (left / 2) (half + 1)
       mouth_is = ap (λ (v : Bool). half_mouth at byte last left half v ((half % 2) == 0)) h ∙ ap (λ (v : Bool). half_mouth at byte last left half false v) e
+
       steps : reaction_steps at peek (stands b Talker (lines true held) (wires false false false) (Speaking (Sending at byte last left half))) ≡ drive b.device at Clock Free ∷ []
       steps =
           ap (λ (a : Option Act). own_steps b.device (reaction_changes at peek (stands b Talker (lines true held) (wires false false false) (Speaking (Sending at byte last left half)))) a) (no_act byte left half at last held)
           ∙ ap (λ (o : Held). own_steps b.device (changes_between at (lines true held) o) None) own_is
           ∙ shape held
+
       stood : reacted at peek (stands b Talker (lines true held) (wires false false false) (Speaking (Sending at byte last left half))) ≡ sends b held (at + 60) byte last (left / 2) (half + 1)
       stood =
           ap (λ (o : Held). stands b Talker o (wires false false false) (Speaking (half_mouth at byte last left half (nat_le 16 half) ((half % 2) == 0)))) own_is
@@ -153,8 +161,8 @@ module _ (peek : Option (ℕ × Bool)) (b : Party) where
       let late : IsLater (at + 120 + 120 * length bits) more = subst (λ (n : ℕ). IsLater n more) (omega arith) l in
       let next = bits_follow (not bit) last (at + 120) byte (half + 1 + 1) bits more q2 (omega (arith, e)) late f in
       let there : Follows peek (sends b (not bit) (at + 60 + 60) byte last (left / 2) (half + 1 + 1)) (steps ++ more) q2 =
-          subst (λ (n : ℕ). Follows peek (sends b (not bit) n byte last (left / 2) (half + 1 + 1)) (steps ++ more) q2) (omega arith)
-          (subst (λ (n : ℕ). Follows peek (sends b (not bit) (at + 120) byte last n (half + 1 + 1)) (steps ++ more) q2) (sym (rest_bits bit (number_of bits))) next) in
+      subst (λ (n : ℕ). Follows peek (sends b (not bit) n byte last (left / 2) (half + 1 + 1)) (steps ++ more) q2) (omega arith)
+      (subst (λ (n : ℕ). Follows peek (sends b (not bit) (at + 120) byte last n (half + 1 + 1)) (steps ++ more) q2) (sym (rest_bits bit (number_of bits))) next) in
       let second = second_half (not bit) last (at + 60) byte left (half + 1) (steps ++ more) q2 (lt-leb 16 (half + 1) (omega (arith, few))) (ne_eqb ((half + 1) % 2) 0 odd) (bits_later (at + 60) (at + 120) (not bit) bits more) there in
       let first = first_half held bit last at byte left half (drive b.device (at + 60) Clock Free ∷ (steps ++ more)) q2 (lt-leb 16 half (omega (arith, few))) (eq-eqb (half % 2) 0 even) (low_bit bit (number_of bits)) tt second in
       subst (λ (zs : List Step). Follows peek (sends b held at byte last left half) zs q2) (shape held bit steps) first

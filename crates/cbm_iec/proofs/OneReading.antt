@@ -142,9 +142,9 @@ turn_cut d c at r atn u more own k3 l h n o p a b q =
     let first = host at Data Pull in
     let second = for_each Released (host at Atn Free) in
     let same : before c (merge (first ∷ second ∷ more) own) ≡ first ∷ second ∷ before c (merge more own) =
-        ap (λ (zs : List Step). before c zs) (turn_first at more own n)
-        ∙ before_yes c first (second ∷ merge more own) (omega (arith, l))
-        ∙ ap (λ (zs : List Step). first ∷ zs) (before_yes c second (merge more own) (omega (arith, l))) in
+    ap (λ (zs : List Step). before c zs) (turn_first at more own n)
+    ∙ before_yes c first (second ∷ merge more own) (omega (arith, l))
+    ∙ ap (λ (zs : List Step). first ∷ zs) (before_yes c second (merge more own) (omega (arith, l))) in
     let x = cut_reads d c (known r false (freed_under r)) (merge more own) k3 refl (order_merge more own o p) (noatn_merge more own a b) q in
     (x.0, (x.1.0, subst (λ (zs : List Step). ReadsOwn d (known r atn u) zs (known r x.1.0 x.0)) (sym same) (calm_said u h, (refl, x.1.1))))
 
@@ -158,11 +158,11 @@ late_by_role m Absent a b x y = x
 late_by_role m Listener a b x y = tt
 late_by_role m Talker a b x y = y
 
-freed_order : (clock r : ℕ) (x : Option ℕ) → FreedFits (clock + r) x → InOrder (host clock Clock Free ∷ freed_steps x)
+pub freed_order : (clock r : ℕ) (x : Option ℕ) → FreedFits (clock + r) x → InOrder (host clock Clock Free ∷ freed_steps x)
 freed_order clock r None h = (tt, tt)
 freed_order clock r (Some g) h = ((omega (arith, h), tt), (tt, tt))
 
-taking_order : (b : Party) (f : Told) (at : ℕ) → ToldFits b at f → InOrder (taking b f)
+pub taking_order : (b : Party) (f : Told) (at : ℕ) → ToldFits b at f → InOrder (taking b f)
 taking_order b f at h = go f.signal h.signal h.accept
   where
     go : (x : Option (ℕ × ℕ)) → SignalFits f.free x → (elim x as (λ y. ℕ) [ None ↦ f.free | Some y ↦ y.1 ]) + b.reaction + 961 ≤ f.accept
@@ -258,7 +258,7 @@ session_reads d p (Cut w c ∷ ks) s atn u l t q h =
     let g = cut_goes d c p w s atn u l t.sits t.one q h.0.0 h.0.1 in
     let kept = λ (x : Seat). seat_with x.role (held_by x.own (before c (own_part p w x))) x in
     let r = shown_reads d (before c (steps_of p w)) (before c (merge (host_part p w) (own_part p w s))) (known s.role atn u) (known s.role g.1.0 g.0)
-        (shows_before d c (steps_of p w) (merge (host_part p w) (own_part p w s)) (piece_shows d p w s h.0.0 t.sits)) g.1.1 in
+    (shows_before d c (steps_of p w) (merge (host_part p w) (own_part p w s)) (piece_shows d p w s h.0.0 t.sits)) g.1.1 in
     let z = seated d kept p.seats s (λ (x : Seat). refl) (λ (x : Seat). refl) t.sits t.one t.apart in
     let m = session_reads d (point_after p (Cut w c)) ks (kept s) g.1.0 g.0 l (record { sits = z.0; one = z.1; apart = z.2 }) tt h.1 in
     (m.0, reads_append d (known s.role atn u) (before c (steps_of p w)) (session_steps (point_after p (Cut w c)) ks) (known s.role g.1.0 g.0) m.0 r m.1)

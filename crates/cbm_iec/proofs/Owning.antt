@@ -175,8 +175,10 @@ order_bits b at held bits more o n = go at held bits n
     late : (m k : ℕ) (ss : List Step) → m ≤ k → NoneBefore k ss → NoneBefore m ss
     late m k [] h x = tt
     late m k (s ∷ ss) h x = (omega (arith, h, x.0), late m k ss h x.1)
+
     tail : (m : ℕ) (at : ℕ) (held : Bool) (bits : List Bool) → m ≤ at → NoneBefore (at + 120 * length bits) more → NoneBefore m (bit_steps b at held bits ++ more)
     tail m at held bits h x = none_append m (bit_steps b at held bits) more (bits_none m b at held bits h) (late m (at + 120 * length bits) more (omega (arith, h)) x)
+
     go : (at : ℕ) (held : Bool) (bits : List Bool) → NoneBefore (at + 120 * length bits) more → InOrder (bit_steps b at held bits ++ more)
     go at true [] x = ((omega arith, late at (at + 120 * 0) more (omega arith) x), (late at (at + 120 * 0) more (omega arith) x, o))
     go at false [] x = (late at (at + 120 * 0) more (omega arith) x, o)
@@ -209,17 +211,22 @@ told_order b at f l g e a = (
   where
     last : List Step
     last = if is_last f then drive b.device (f.accept + b.reaction) Clock Free ∷ [] else []
+
     from : (x : Option (ℕ × ℕ)) → SignalFits f.free x → f.free ≤ (elim x as (λ y. ℕ) [ None ↦ f.free | Some y ↦ y.1 ])
     from None h = omega arith
     from (Some (pull, again)) h = omega (arith, h.0, h.1)
+
     early : at ≤ first_bit b f
     early = let k = from f.signal g in omega (arith, l, k)
+
     last_none : (v : Bool) → NoneBefore at (if v then drive b.device (f.accept + b.reaction) Clock Free ∷ [] else [])
     last_none true = let k = early in (omega (arith, k, a), tt)
     last_none false = tt
+
     last_order : (v : Bool) → InOrder (if v then drive b.device (f.accept + b.reaction) Clock Free ∷ [] else [])
     last_order true = (tt, tt)
     last_order false = tt
+
     last_late : (v : Bool) → NoneBefore (first_bit b f + 120 * length f.bits) (if v then drive b.device (f.accept + b.reaction) Clock Free ∷ [] else [])
     last_late true = (omega (arith, e, a), tt)
     last_late false = tt

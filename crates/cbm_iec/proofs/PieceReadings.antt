@@ -200,8 +200,8 @@ talk_goes d t s atn u at f true n e same other h q =
     let k = leads_at at atn u s.role n q in
     let fits : ToldFits s.party at f = subst (λ (b : Party). ToldFits b at f) (same refl) h in
     let all : ReadsOwn d (known s.role false Leads) (merge (taking t f) (telling s.party at f)) (known s.role false (told_under (is_last f))) =
-        subst (λ (b : Party). ReadsOwn d (known s.role false Leads) (merge (taking b f) (telling s.party at f)) (known s.role false (told_under (is_last f)))) (sym (same refl))
-        (subst (λ (ss : List Step). ReadsOwn d (known s.role false Leads) ss (known s.role false (told_under (is_last f)))) (sym (told_is s.party at f fits)) (told_reads d s.party s.role at f e fits.eight)) in (
+    subst (λ (b : Party). ReadsOwn d (known s.role false Leads) (merge (taking b f) (telling s.party at f)) (known s.role false (told_under (is_last f)))) (sym (same refl))
+    (subst (λ (ss : List Step). ReadsOwn d (known s.role false Leads) ss (known s.role false (told_under (is_last f)))) (sym (told_is s.party at f fits)) (told_reads d s.party s.role at f e fits.eight)) in (
       false,
       (
         told_under (is_last f),
@@ -215,7 +215,7 @@ talk_goes d t s atn u at f true n e same other h q =
 talk_goes d t s atn u at f false n e same other h q =
     let k = hears_at at atn u s.role n q in
     let all : ReadsOwn d (known s.role false (Readied false)) (merge (taking t f) []) (known s.role false (Readied false)) =
-        subst (λ (ss : List Step). ReadsOwn d (known s.role false (Readied false)) ss (known s.role false (Readied false))) (sym (merge_nil (taking t f))) (other_reads d t s.role f (other refl)) in (
+    subst (λ (ss : List Step). ReadsOwn d (known s.role false (Readied false)) ss (known s.role false (Readied false))) (sym (merge_nil (taking t f))) (other_reads d t s.role f (other refl)) in (
       false,
       (
         Readied false,

@@ -98,8 +98,8 @@ frame_reads d s atn eoi u t f e c l =
     let body = host f.start Clock Pull ∷ (cells_steps false f.cells ++ where_held (held_after false f.cells) (host (end_of f) Data Free)) in
     let last : ReadsOwn d (known s.role atn (Counting eoi false zero (bits_of f.cells))) (accept ∷ []) end = (mark_mine d (device s) (frame_act atn eoi f) e, refl) in
     let rest : ReadsOwn d (known s.role atn (Readied false)) (pulse t eoi s ++ (body ++ accept ∷ [])) end =
-        own_append d (known s.role atn (Readied false)) (pulse t eoi s) (body ++ accept ∷ []) (known s.role atn (Readied eoi)) end (pulse_reads d s.role atn eoi t s)
-        (own_append d (known s.role atn (Readied eoi)) body (accept ∷ []) (known s.role atn (Counting eoi false zero (bits_of f.cells))) end (body_reads d s.role atn eoi f l) last) in
+    own_append d (known s.role atn (Readied false)) (pulse t eoi s) (body ++ accept ∷ []) (known s.role atn (Readied eoi)) end (pulse_reads d s.role atn eoi t s)
+    (own_append d (known s.role atn (Readied eoi)) body (accept ∷ []) (known s.role atn (Counting eoi false zero (bits_of f.cells))) end (body_reads d s.role atn eoi f l) last) in
     (refl, subst (λ (v : Under). ReadsOwn d (known s.role atn v) (drive (device s) (f.ready + reaction s) Data Free ∷ (pulse t eoi s ++ (body ++ accept ∷ []))) end) (sym (calm_freed u c)) (refl, rest))
 
 -- a frame that it doesn't hear
@@ -130,8 +130,8 @@ pull_reads d p s atn u at =
     let data_now = where_held p.host.data_low (host at Data Free) in
     let own = own_part p (PullPiece at) s in
     let mine : ReadsOwn d off ((clock ++ data_now) ++ own) off =
-        own_append d off (clock ++ data_now) own off off (own_append d off clock data_now off off (off_free d s.role true at p.host.clock_low) (off_held d s.role true at p.host.data_low))
-        (off_own d (device s) s.role true (at + reaction s) s.own.clock_low s.own.data_low) in
+    own_append d off (clock ++ data_now) own off off (own_append d off clock data_now off off (off_free d s.role true at p.host.clock_low) (off_held d s.role true at p.host.data_low))
+    (off_own d (device s) s.role true (at + reaction s) s.own.clock_low s.own.data_low) in
     subst (λ (ss : List Step). ReadsOwn d (known s.role atn u) ss off) (sym (pull_is p s at)) (refl, mine)
 
 -- the talker's bits
@@ -170,10 +170,10 @@ told_reads d b role at f e l =
     let bits = bit_steps b (first_bit b f) false f.bits in
     let taken : ReadsOwn d (known role false (Saying false (is_last f) zero f.bits)) (accept ∷ last) end = (mark_mine d b.device (Said (number_of f.bits) (is_last f)) e, end_reads d b role (f.accept + b.reaction) (is_last f)) in
     let sent : ReadsOwn d (known role false (Saying false (is_last f) 8 [])) bits (known role false (Saying false (is_last f) zero f.bits)) =
-        subst (λ (n : ℕ). ReadsOwn d (known role false (Saying false (is_last f) n [])) bits (known role false (Saying false (is_last f) zero f.bits))) l (bits_reads d b role (first_bit b f) false (is_last f) f.bits []) in
+    subst (λ (n : ℕ). ReadsOwn d (known role false (Saying false (is_last f) n [])) bits (known role false (Saying false (is_last f) zero f.bits))) l (bits_reads d b role (first_bit b f) false (is_last f) f.bits []) in
     let all : ReadsOwn d (known role false (Saying false false 8 [])) (signal_steps f.signal ++ (bits ++ accept ∷ last)) end =
-        own_append d (known role false (Saying false false 8 [])) (signal_steps f.signal) (bits ++ accept ∷ last) (known role false (Saying false (is_last f) 8 [])) end (signal_reads d role f.signal)
-        (own_append d (known role false (Saying false (is_last f) 8 [])) bits (accept ∷ last) (known role false (Saying false (is_last f) zero f.bits)) end sent taken) in
+    own_append d (known role false (Saying false false 8 [])) (signal_steps f.signal) (bits ++ accept ∷ last) (known role false (Saying false (is_last f) 8 [])) end (signal_reads d role f.signal)
+    (own_append d (known role false (Saying false (is_last f) 8 [])) bits (accept ∷ last) (known role false (Saying false (is_last f) zero f.bits)) end sent taken) in
     (refl, (refl, all))
 
 -- a frame of another drive: the host's changes alone

@@ -2,7 +2,7 @@
 use Rattle.std.specs.Prelude.{◌≡◌, ℕ, ◌+◌, ◌≤◌, ◌<◌, Bool, true, false, List, [], ◌∷◌, ◌++◌, Option, Some, None}
 use Rattle.cbm_iec.specs.Bits.{number_of}
 use Rattle.cbm_iec.specs.Frames.{is_last}
-use Rattle.cbm_iec.specs.Pieces.{Whole, Place, Point, steps_of, Fits, is_pull, whole_point, PullPiece, Command, Byte, ToListener, ToNobody, ToTalker, Nothing, Talk, Open, Commanding, Listening, Leading, Cutting}
+use Rattle.cbm_iec.specs.Pieces.{Whole, Place, Point, steps_of, before, Fits, some_from, is_pull, whole_point, PullPiece, Command, Byte, ToListener, ToNobody, ToTalker, Nothing, Talk, Open, Commanding, Listening, Leading, Cutting}
 use Rattle.cbm_iec.specs.Ports.{side_due, port_due, told, told_act, has_byte, reaction_act, reacted, reaction_changes}
 use Rattle.cbm_iec.specs.Seats.{lines, Seat, device, reaction}
 use Rattle.cbm_iec.specs.Steps.{Mark, Step, event_of, host, moment_of, Plain, ForEach, For}
@@ -129,3 +129,8 @@ Says (ToNobody at clock) peek = Unit {0}
 abbrev pub FollowsPieces : Type 0
 FollowsPieces = (p : Point) (s : Seat) (w : Whole) (q : Port) (peek : Option (ℕ × Bool)) → 1 ≤ reaction s → reaction s ≤ 60 → StandsAt (alone p s) s q → Fits (alone p s) w → Says w peek
     → (q2 : Port) × ((s2 : Seat) × (Follows peek q (steps_of (alone p s) w) q2 × ((whole_point (alone p s) w).seats ≡ s2 ∷ []) × StandsAt (whole_point (alone p s) w) s2 q2))
+
+-- Cut at any moment before its last event, a piece is followed up to there too: what stands before is made, and nothing is overdue.
+abbrev pub FollowsFronts : Type 0
+FollowsFronts = (p : Point) (s : Seat) (w : Whole) (q : Port) (peek : Option (ℕ × Bool)) (c : ℕ) → 1 ≤ reaction s → reaction s ≤ 60 → StandsAt (alone p s) s q → Fits (alone p s) w → Says w peek
+    → some_from c (steps_of (alone p s) w) ≡ true → (q2 : Port) × (Follows peek q (before c (steps_of (alone p s) w)) q2 × IsInTime c (port_due q2))

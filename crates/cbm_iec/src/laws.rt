@@ -1,7 +1,7 @@
 //! Laws of the definitions, each the contract of a function with nothing to do.
 
 ghost use Rattle.cbm_iec.specs.Joins.{JoinsItsParts, IsOnlyJoin};
-ghost use Rattle.cbm_iec.specs.Following.{FollowsPieces};
+ghost use Rattle.cbm_iec.specs.Following.{FollowsPieces, FollowsFronts};
 ghost use Rattle.cbm_iec.specs.Laws.{OnePulse, PulseEnds, ListenersAccepted, DrivesAccepted, OneReading};
 ghost use Rattle.cbm_iec.specs.Rows.{ListenOwn, ListenOther, TalkCut, TalkCutEarly, TwoListeners, Ties98, Ties89, BesideAListener, SilentBeside};
 
@@ -45,4 +45,9 @@ pub fn one_reading()
 /// host's part, it makes its own part and gives the piece's acts, and it stands at the point behind.
 pub fn follows_pieces()
     ensures { FollowsPieces }
+{}
+
+/// The same up to each moment before a piece's last event: what stands before is made, and nothing is overdue.
+pub fn follows_fronts()
+    ensures { FollowsFronts }
 {}
