@@ -127,6 +127,7 @@ cells_none m held pull (c ∷ cs) h l = go held c.bit c.set c.free c.pull h.0.se
   where
     far : pull + 20 ≤ c.free → c.free + 20 ≤ c.pull → m ≤ c.pull
     far a b = omega (arith, a, b, l)
+
     go : (held bit : Bool) (set free next : ℕ) → SetFits held bit pull set → pull + 20 ≤ free → free + 20 ≤ next → NoneBefore m (cells_steps (not bit) cs)
         → NoneBefore m (cell_steps held (record { bit = bit; set = set; free = free; pull = next }) ++ cells_steps (not bit) cs)
     go true true set free next s a b n = (omega (arith, l, s), (omega (arith, l, a), (omega (arith, l, a, b), n)))
@@ -146,8 +147,10 @@ cells_order held pull (c ∷ cs) tail h o n =
   where
     far : c.pull ≤ last_pull c.pull cs
     far = last_after (not c.bit) c.pull cs h.1
+
     late : (m : ℕ) → m ≤ c.pull → NoneBefore m (cells_steps (not c.bit) cs ++ tail)
     late m l = let k = far in none_more m (cells_steps (not c.bit) cs) tail (cells_none m (not c.bit) c.pull cs h.1 l) (n m (omega (arith, l, k)))
+
     go : (held bit : Bool) (set free next : ℕ) → set + 20 ≤ free → free + 20 ≤ c.pull → InOrder (cells_steps (not c.bit) cs ++ tail)
         → InOrder (cell_steps held (record { bit = bit; set = set; free = free; pull = c.pull }) ++ (cells_steps (not c.bit) cs ++ tail))
     go true true set free next s b r = let x = late set (omega (arith, s, b)) in let y = late free (omega (arith, b)) in let z = late c.pull (omega arith) in ((omega (arith, s), (omega (arith, s, b), x)), ((omega (arith, b), y), (z, r)))
@@ -163,14 +166,18 @@ sending_order hs eoi f h l = (
   where
     tail : List Step
     tail = where_held (held_after false f.cells) (host (end_of f) Data Free)
+
     far : f.start ≤ end_of f
     far = last_after false f.start f.cells h.cells
+
     tail_order : (v : Bool) → InOrder (where_held v (host (end_of f) Data Free))
     tail_order true = (tt, tt)
     tail_order false = tt
+
     late_by : (v : Bool) (m : ℕ) → m ≤ end_of f → NoneBefore m (where_held v (host (end_of f) Data Free))
     late_by true m k = (k, tt)
     late_by false m k = tt
+
     tail_late : (m : ℕ) → m ≤ end_of f → NoneBefore m tail
     tail_late m k = late_by (held_after false f.cells) m k
 
@@ -218,7 +225,7 @@ follows_fronts p s w q peek c r prompt h f y e =
         → (q3 : Port) × (Follows peek q (before c (steps_of (alone p s) w)) q3 × IsInTime c (port_due q3))
     go [] k n q2 g =
         let none : some_from c (steps_of (alone p s) w) ≡ false =
-            ap (λ (zs : List Step). some_from c zs) (k ∙ append-nil (before c (steps_of (alone p s) w))) ∙ some_back c (before c (steps_of (alone p s) w)) (front_before c (steps_of (alone p s) w)) in
+        ap (λ (zs : List Step). some_from c zs) (k ∙ append-nil (before c (steps_of (alone p s) w))) ∙ some_back c (before c (steps_of (alone p s) w)) (front_before c (steps_of (alone p s) w)) in
         let no : true ≡ false = sym e ∙ none in
         absurd cc
     go (b ∷ back) k n q2 g = follows_front peek c b back n g (before c (steps_of (alone p s) w)) k (front_before c (steps_of (alone p s) w))

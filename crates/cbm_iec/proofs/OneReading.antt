@@ -111,10 +111,10 @@ noatn_signal : (x : Option (ℕ × ℕ)) → NoAtn (signal_steps x)
 noatn_signal None = tt
 noatn_signal (Some (pull, free)) = (refl, (refl, tt))
 
-noatn_taking : (b : Party) (f : Told) → NoAtn (taking b f)
+pub noatn_taking : (b : Party) (f : Told) → NoAtn (taking b f)
 noatn_taking b f = (refl, noatn_append (signal_steps f.signal) (for_one b.device (Said (number_of f.bits) (is_last f)) (host f.accept Data Pull) ∷ []) (noatn_signal f.signal) (refl, tt))
 
-noatn_freed : (x : Option ℕ) → NoAtn (freed_steps x)
+pub noatn_freed : (x : Option ℕ) → NoAtn (freed_steps x)
 noatn_freed None = tt
 noatn_freed (Some g) = (refl, tt)
 

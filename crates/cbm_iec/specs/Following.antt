@@ -2,9 +2,10 @@
 use Rattle.std.specs.Prelude.{◌≡◌, ℕ, ◌+◌, ◌≤◌, ◌<◌, Bool, true, false, List, [], ◌∷◌, ◌++◌, Option, Some, None}
 use Rattle.cbm_iec.specs.Bits.{number_of}
 use Rattle.cbm_iec.specs.Frames.{is_last}
-use Rattle.cbm_iec.specs.Pieces.{Whole, Place, Point, steps_of, before, Fits, some_from, is_pull, whole_point, PullPiece, Command, Byte, ToListener, ToNobody, ToTalker, Nothing, Talk, Open, Commanding, Listening, Leading, Cutting}
-use Rattle.cbm_iec.specs.Ports.{side_due, port_due, told, told_act, has_byte, reaction_act, reacted, reaction_changes}
+use Rattle.cbm_iec.specs.Pieces.{Whole, Piece, Place, Point, steps_of, before, piece_steps, Fits, some_from, is_pull, whole_point, point_after, PullPiece, Command, Byte, ToListener, ToNobody, ToTalker, Nothing, Talk, Full, Cut, Open, Commanding, Listening, Leading, Cutting}
+use Rattle.cbm_iec.specs.Ports.{resting, side_due, port_due, told, told_act, has_byte, reaction_act, reacted, reaction_changes}
 use Rattle.cbm_iec.specs.Seats.{lines, Seat, device, reaction}
+use Rattle.cbm_iec.specs.Sessions.{rest, Linked}
 use Rattle.cbm_iec.specs.Steps.{Mark, Step, event_of, host, moment_of, Plain, ForEach, For}
 use Rattle.cbm_iec.specs.declared.act.Act.{Act}
 use Rattle.cbm_iec.specs.declared.ear.Ear.TheVariants.{Holding}
@@ -17,6 +18,7 @@ use Rattle.cbm_iec.specs.declared.line.Way.{Way}
 use Rattle.cbm_iec.specs.declared.lines.Held.{Held}
 use Rattle.cbm_iec.specs.declared.lines.Lines.{Lines}
 use Rattle.cbm_iec.specs.declared.mouth.Mouth.TheVariants.{Led}
+use Rattle.cbm_iec.specs.declared.party.Party.{Party}
 use Rattle.cbm_iec.specs.declared.party.Role.TheVariants.{Listener, Talker}
 use Rattle.cbm_iec.specs.declared.party.Role.{Role}
 use Rattle.cbm_iec.specs.declared.port.Port.{Port}
@@ -134,3 +136,17 @@ FollowsPieces = (p : Point) (s : Seat) (w : Whole) (q : Port) (peek : Option (�
 abbrev pub FollowsFronts : Type 0
 FollowsFronts = (p : Point) (s : Seat) (w : Whole) (q : Port) (peek : Option (ℕ × Bool)) (c : ℕ) → 1 ≤ reaction s → reaction s ≤ 60 → StandsAt (alone p s) s q → Fits (alone p s) w → Says w peek
     → some_from c (steps_of (alone p s) w) ≡ true → (q2 : Port) × (Follows peek q (before c (steps_of (alone p s) w)) q2 × IsInTime c (port_due q2))
+
+-- the byte to say is that of the piece, whole or cut
+abbrev pub SaysPiece : Piece → Option (ℕ × Bool) → Type 0
+SaysPiece (Full w) peek = Says w peek
+SaysPiece (Cut w c) peek = Says w peek
+
+-- the drive follows these pieces one after another, whatever there is to say
+abbrev pub FollowsAll : Port → Point → List Piece → Type 0
+FollowsAll q p [] = Unit {0}
+FollowsAll q p (k ∷ ks) = (peek : Option (ℕ × Bool)) → SaysPiece k peek → (q2 : Port) × (Follows peek q (piece_steps p k) q2 × FollowsAll q2 (point_after p k) ks)
+
+-- from rest a drive alone with the host follows every session, cut pieces too
+abbrev pub FollowsSessions : Type 0
+FollowsSessions = (b : Party) (ks : List Piece) → 1 ≤ b.reaction → b.reaction ≤ 60 → Linked (rest (b ∷ [])) ks → FollowsAll (resting b) (rest (b ∷ [])) ks

@@ -1,7 +1,7 @@
 //! Laws of the definitions, each the contract of a function with nothing to do.
 
 ghost use Rattle.cbm_iec.specs.Joins.{JoinsItsParts, IsOnlyJoin};
-ghost use Rattle.cbm_iec.specs.Following.{FollowsPieces, FollowsFronts};
+ghost use Rattle.cbm_iec.specs.Following.{FollowsPieces, FollowsFronts, FollowsSessions};
 ghost use Rattle.cbm_iec.specs.Laws.{OnePulse, PulseEnds, ListenersAccepted, DrivesAccepted, OneReading};
 ghost use Rattle.cbm_iec.specs.Rows.{ListenOwn, ListenOther, TalkCut, TalkCutEarly, TwoListeners, Ties98, Ties89, BesideAListener, SilentBeside};
 
@@ -50,4 +50,9 @@ pub fn follows_pieces()
 /// The same up to each moment before a piece's last event: what stands before is made, and nothing is overdue.
 pub fn follows_fronts()
     ensures { FollowsFronts }
+{}
+
+/// From rest a drive alone with the host follows every session, cut pieces too: its trace is the session's, and the acts are those that count.
+pub fn follows_sessions()
+    ensures { FollowsSessions }
 {}

@@ -9,9 +9,13 @@ pub mod line;
 pub mod lines;
 pub mod mouth;
 pub mod party;
+#[cfg(test)]
+mod plays;
 pub mod port;
 #[cfg(test)]
 mod tests;
+#[cfg(test)]
+mod traces;
 
 pub use act::Act;
 pub use ear::Ear;
