@@ -1,21 +1,17 @@
 //! The wires between a host and one to four drives: what a session is.
 #![tactic(auto)]
 
-pub mod act;
-pub mod ear;
-pub mod event;
+mod act;
+mod ear;
+mod event;
 pub mod laws;
-pub mod line;
-pub mod lines;
-pub mod mouth;
-pub mod party;
-#[cfg(test)]
-mod plays;
-pub mod port;
+mod line;
+mod lines;
+mod mouth;
+mod party;
+mod port;
 #[cfg(test)]
 mod tests;
-#[cfg(test)]
-mod traces;
 
 pub use act::Act;
 pub use ear::Ear;

@@ -1,36 +1,34 @@
 //! Generated sessions: the pieces with moments at and inside their bounds, and what each drive makes of them.
 //! The generator writes down the host's changes and each drive's own from the pieces, and knows nothing of ear and mouth.
 
-use crate::plays::*;
+use super::plays::*;
 use crate::*;
 use Line::*;
 use Way::*;
 use std::alloc::{AllocError, Global};
-use std::process::Abort;
-use std::test::Fail;
 
 // A drive of the generated session.
 #[derive(Clone, Copy, Drop)]
-struct Member {
-    device: u8,
-    reaction: u64,
+pub struct Member {
+    pub device: u8,
+    pub reaction: u64,
     role: Role,
     own: Held,
 }
 
 // A session as it is written down: the host's changes, the drives' events, and the acts that count, each with its moment.
 #[derive(Drop)]
-struct Session {
+pub struct Session {
     seed: u64,
-    members: Vec<Member>,
+    pub members: Vec<Member>,
     host: Held,
-    changes: Vec<Change>,
-    wanted: Vec<Event>,
-    acts: Vec<(u64, u8, Act)>,
+    pub changes: Vec<Change>,
+    pub wanted: Vec<Event>,
+    pub acts: Vec<(u64, u8, Act)>,
     said: usize,
     pulled: u64,
     accepted: u64,
-    silent: bool,
+    pub silent: bool,
 }
 
 // A later moment.
@@ -386,7 +384,7 @@ impl Session {
 }
 
 impl Session {
-    fn new(alloc: Global, seed: u64) -> Result<Session, AllocError> {
+    pub fn new(alloc: Global, seed: u64) -> Result<Session, AllocError> {
         let mut session = Session {
             seed,
             members: Vec::new(alloc),
@@ -467,7 +465,7 @@ impl Session {
     }
 
     // Up to three attentions, each with what follows it; a talk may be cut at any moment behind ATN's release.
-    fn write(&mut self, alloc: Global) -> Result<u64, AllocError> {
+    pub fn write(&mut self, alloc: Global) -> Result<u64, AllocError> {
         let mut moment = self.random(50);
         for _ in 0..after(1, self.random(3)) {
             self.attention(alloc, moment)?;
@@ -487,74 +485,4 @@ impl Session {
         self.pull(alloc, moment)?;
         Ok(moment)
     }
-}
-
-// The drives make what was written down, and are told what counts.
-fn check(rt: &impl Abort, alloc: Global, seed: u64) -> Result<(), Fail> {
-    let mut session = Session::new(alloc, seed)?;
-    let end = session.write(alloc)?;
-    let mut parties = Vec::new(alloc);
-    for member in &session.members {
-        assert!(rt; member.reaction <= 60, "seed {seed}");
-        parties.push(one(member.device, member.reaction as u8))?;
-    }
-    let mut bus = Bus::new(alloc, &parties)?;
-    bus.short = true;
-    bus.mute = session.silent;
-    bus.play(rt, &session.changes, after(end, 3000))?;
-    for party in &parties {
-        let mut made = bus
-            .events
-            .iter()
-            .filter(|e| e.who == Who::Drive(party.device));
-        for event in &session.wanted {
-            if event.who == Who::Drive(party.device) {
-                assert_eq!(rt; made.next(), Some(event), "seed {seed}");
-            }
-        }
-        assert_eq!(rt; made.next(), None, "seed {seed}: no more");
-        let mut told = bus
-            .heard
-            .iter()
-            .filter(|(device, _)| *device == party.device);
-        for (_, device, act) in &session.acts {
-            if *device == party.device {
-                assert_eq!(rt; told.next(), Some(&(*device, *act)), "seed {seed}");
-            }
-        }
-        assert_eq!(rt; told.next(), None, "seed {seed}: no more acts");
-    }
-    Ok(())
-}
-
-#[test]
-fn first_quarter(rt: HostRuntime) -> Result<(), Fail> {
-    for seed in 0..25_000 {
-        check(&rt, rt.alloc(), seed)?;
-    }
-    Ok(())
-}
-
-#[test]
-fn second_quarter(rt: HostRuntime) -> Result<(), Fail> {
-    for seed in 25_000..25_500 {
-        check(&rt, rt.alloc(), seed)?;
-    }
-    Ok(())
-}
-
-#[test]
-fn third_quarter(rt: HostRuntime) -> Result<(), Fail> {
-    for seed in 50_000..50_500 {
-        check(&rt, rt.alloc(), seed)?;
-    }
-    Ok(())
-}
-
-#[test]
-fn last_quarter(rt: HostRuntime) -> Result<(), Fail> {
-    for seed in 75_000..75_500 {
-        check(&rt, rt.alloc(), seed)?;
-    }
-    Ok(())
 }
