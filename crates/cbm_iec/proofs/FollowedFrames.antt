@@ -1,14 +1,13 @@
 -- A drive follows a frame of the host: what it makes of each change.
-use Rattle.std.proofs.Common.{◌≡◌, ℕ, ◌+◌, ◌*◌, ◌/◌, ◌≤◌, ◌<◌, ◌≢◌, Bool, true, false, not, List, [], ◌∷◌, ◌++◌, length, Option, Some, None, ap, sym, ◌∙◌, subst, arith, refl, append_assoc, eq-eqb}
+use Rattle.std.proofs.Common.{◌≡◌, ℕ, ◌+◌, ◌*◌, ◌/◌, ◌≤◌, ◌≢◌, Bool, true, false, not, List, [], ◌∷◌, ◌++◌, length, Option, Some, ap, sym, subst, arith, refl, append_assoc, eq-eqb}
 use Rattle.std.specs.Prelude.{if◌then◌else◌, ◌==◌, nat_lt}
 use Rattle.std.proofs.lemmas.Bool.{lt-ltb, ne_eqb}
 use Rattle.cbm_iec.proofs.OneDrive.{one_frame}
 use Rattle.cbm_iec.specs.Bits.{where_held, Cell, cell_steps, cells_steps, held_after, last_pull, byte_of}
 use Rattle.cbm_iec.specs.Following.{Follows, ends, tells, reacts}
-use Rattle.cbm_iec.specs.Frames.{Sent, quiet, end_of, SentFits}
+use Rattle.cbm_iec.specs.Frames.{Sent, end_of, SentFits}
 use Rattle.cbm_iec.specs.Hearing.{with_bit}
 use Rattle.cbm_iec.specs.Seats.{role_after, lines}
-use Rattle.cbm_iec.specs.Sessions.{rest}
 use Rattle.cbm_iec.specs.Steps.{Step, host, drive, for_one}
 use Rattle.cbm_iec.specs.declared.act.Act.TheVariants.{Attention, Heard}
 use Rattle.cbm_iec.specs.declared.act.Act.{Act}

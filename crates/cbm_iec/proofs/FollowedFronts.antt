@@ -1,8 +1,7 @@
 -- What is followed is followed up to each moment, with nothing overdue there.
-use Rattle.std.proofs.Common.{append_assoc, append-nil, not, ◌≡◌, ℕ, suc, ◌+◌, ◌≤◌, ◌<◌, ◌⊎◌, inl, inr, Bool, true, false, List, [], ◌∷◌, ◌++◌, length, Option, Some, None, ap, sym, ◌∙◌, subst, arith, refl}
+use Rattle.std.proofs.Common.{append_assoc, append-nil, not, ◌≡◌, ℕ, ◌+◌, ◌≤◌, ◌<◌, ◌⊎◌, inl, inr, Bool, true, false, List, [], ◌∷◌, ◌++◌, Option, Some, None, ap, sym, ◌∙◌, subst, arith, refl}
 use Rattle.std.specs.Prelude.{if◌then◌else◌}
 use Rattle.std.proofs.lemmas.Bool.{lt-leb}
-use Rattle.std.proofs.lemmas.Bool.Decides.{leb_tells}
 use Rattle.cbm_iec.proofs.Decoding.{next}
 use Rattle.cbm_iec.proofs.FollowedPieces.{follows_pieces}
 use Rattle.cbm_iec.proofs.Merging.{NoneBefore, InOrder, order_merge, cut_front, AllBefore, front_before}

@@ -1,5 +1,5 @@
 -- A drive alone with the host follows each piece of a session.
-use Rattle.std.proofs.Common.{◌≡◌, ℕ, ◌+◌, ◌≤◌, inl, inr, Bool, true, false, not, List, [], ◌∷◌, ◌++◌, length, Option, Some, None, ap, sym, ◌∙◌, subst, arith, refl}
+use Rattle.std.proofs.Common.{◌≡◌, ℕ, ◌+◌, ◌≤◌, inl, inr, Bool, true, false, not, List, [], ◌∷◌, ◌++◌, Option, Some, None, ap, sym, ◌∙◌, subst, arith, refl}
 use Rattle.std.specs.Prelude.{if◌then◌else◌}
 use Rattle.std.proofs.lemmas.Bool.Decides.{leb_tells}
 use Rattle.cbm_iec.proofs.FollowedFrames.{wires, stands, frame_follows}
@@ -10,7 +10,7 @@ use Rattle.cbm_iec.proofs.PieceReadings.{seat, turn_first}
 use Rattle.cbm_iec.specs.Bits.{where_held, where_free, number_of, byte_of}
 use Rattle.cbm_iec.specs.Following.{IsInTime, Follows, alone, in_attention, SideAt, LinesAt, StandsAt, Says, FollowsPieces, ends, tells, reacts}
 use Rattle.cbm_iec.specs.Frames.{Sent, Told, SentFits, is_last}
-use Rattle.cbm_iec.specs.Pieces.{Whole, Place, Point, freed_steps, steps_of, gap, PullFits, FreedFits, IsCommanding, Fits, is_none, seat_with, obeying, whole_point, PullPiece, Command, Byte, ToListener, ToNobody, ToTalker, Nothing, Talk, Open, Commanding, Listening, Leading, Cutting, commanding}
+use Rattle.cbm_iec.specs.Pieces.{Whole, Place, Point, freed_steps, steps_of, PullFits, FreedFits, IsCommanding, Fits, is_none, seat_with, obeying, whole_point, PullPiece, Command, Byte, ToListener, ToNobody, ToTalker, Nothing, Talk, Open, Commanding, Listening, Leading, Cutting, commanding}
 use Rattle.cbm_iec.specs.Ports.{side_due}
 use Rattle.cbm_iec.specs.Seats.{role_after, lines, Seat, device, reaction, is_listener, is_talker}
 use Rattle.cbm_iec.specs.Steps.{Step, host, drive, for_each, for_one, merge}

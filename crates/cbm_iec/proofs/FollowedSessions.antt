@@ -1,5 +1,5 @@
 -- A drive alone with the host follows every session from rest.
-use Rattle.std.proofs.Common.{◌≡◌, ℕ, suc, ◌+◌, ◌≤◌, ◌<◌, inl, inr, Bool, true, false, List, [], ◌∷◌, ◌++◌, map, Option, Some, None, ap, sym, ◌∙◌, subst, arith, refl}
+use Rattle.std.proofs.Common.{◌≡◌, ℕ, suc, ◌+◌, ◌≤◌, ◌<◌, inl, inr, Bool, true, false, List, [], ◌∷◌, ◌++◌, Option, Some, None, ap, sym, ◌∙◌, subst, arith, refl}
 use Rattle.std.specs.Prelude.{if◌then◌else◌}
 use Rattle.std.proofs.lemmas.Bool.Decides.{leb_tells}
 use Rattle.cbm_iec.proofs.FollowedFrames.{wires}
@@ -239,6 +239,7 @@ own_before c (s ∷ ss) = elim (leb_tells (suc (moment_of s)) c) [
     yes : (w : Who) → moment_of s < c → own_of (before c ss) ≡ before c (own_of ss) → keep_own w s (own_of (before c ss)) ≡ before c (keep_own w s (own_of ss))
     yes Host l k = k
     yes (Drive o) l k = ap (λ (zs : List Step). s ∷ zs) k ∙ sym (before_yes c s (own_of ss) l)
+
     no : (w : Who) → c ≤ moment_of s → own_of (before c ss) ≡ before c (own_of ss) → own_of (before c ss) ≡ before c (keep_own w s (own_of ss))
     no Host l k = k
     no (Drive o) l k = k ∙ sym (before_no c s (own_of ss) l)
@@ -253,6 +254,7 @@ host_before c (s ∷ ss) = elim (leb_tells (suc (moment_of s)) c) [
     yes : (w : Who) → moment_of s < c → host_of (before c ss) ≡ before c (host_of ss) → keep_host w s (host_of (before c ss)) ≡ before c (keep_host w s (host_of ss))
     yes Host l k = ap (λ (zs : List Step). s ∷ zs) k ∙ sym (before_yes c s (host_of ss) l)
     yes (Drive o) l k = k
+
     no : (w : Who) → c ≤ moment_of s → host_of (before c ss) ≡ before c (host_of ss) → host_of (before c ss) ≡ before c (keep_host w s (host_of ss))
     no Host l k = k ∙ sym (before_no c s (host_of ss) l)
     no (Drive o) l k = k

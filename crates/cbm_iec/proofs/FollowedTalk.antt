@@ -1,15 +1,13 @@
 -- A talker follows a frame of its own: the offer, the bits, and the accept.
-use Rattle.std.proofs.Common.{◌≡◌, ℕ, ◌+◌, ◌*◌, ◌/◌, ◌%◌, ◌≤◌, ◌<◌, ◌≢◌, Bool, true, false, not, List, [], ◌∷◌, ◌++◌, length, Option, Some, None, ap, sym, ◌∙◌, subst, arith, refl, append_assoc, eq-eqb}
+use Rattle.std.proofs.Common.{◌≡◌, ℕ, ◌+◌, ◌*◌, ◌/◌, ◌%◌, ◌≤◌, ◌<◌, Bool, true, false, not, List, [], ◌∷◌, ◌++◌, length, Option, Some, None, ap, sym, ◌∙◌, subst, arith, refl, eq-eqb}
 use Rattle.std.specs.Prelude.{if◌then◌else◌, ◌==◌, nat_le, ◌&&◌}
 use Rattle.std.proofs.lemmas.Bool.{lt-leb, ne_eqb}
-use Rattle.cbm_iec.proofs.Decoding.{next}
 use Rattle.cbm_iec.proofs.FollowedFrames.{wires, stands}
 use Rattle.cbm_iec.proofs.OneDrive.{one_told}
 use Rattle.cbm_iec.specs.Bits.{where_held, data_for, number_of}
 use Rattle.cbm_iec.specs.Following.{IsLater, own_steps, reaction_steps, IsShown, Follows, ends, tells, reacts}
 use Rattle.cbm_iec.specs.Frames.{Told, is_last, bit_steps, ToldFits}
 use Rattle.cbm_iec.specs.Ports.{port_due, has_byte, reaction_act, reacted, changes_between, reaction_changes}
-use Rattle.cbm_iec.specs.Rows.{sent}
 use Rattle.cbm_iec.specs.Seats.{lines}
 use Rattle.cbm_iec.specs.Steps.{Step, host, drive, for_one}
 use Rattle.cbm_iec.specs.declared.act.Act.TheVariants.{Said}

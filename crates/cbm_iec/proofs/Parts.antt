@@ -5,7 +5,7 @@ use Rattle.std.proofs.Math.Nat.{le-max_left, le-max_right, max-le}
 use Rattle.std.proofs.lemmas.Bool.Decides.{leb_tells}
 use Rattle.cbm_iec.proofs.Merging.{merge_here, merge_there, NoneBefore, InOrder, cut_front}
 use Rattle.cbm_iec.specs.Joins.{NotBefore, Sooner, Clear, AllEmpty, Takes, Joins, JoinsItsParts, IsOnlyJoin}
-use Rattle.cbm_iec.specs.Pieces.{before, behind}
+use Rattle.cbm_iec.specs.Pieces.{before}
 use Rattle.cbm_iec.specs.Steps.{Step, moment_of, merge, merge_all}
 
 -- the first step of a join is the first of all

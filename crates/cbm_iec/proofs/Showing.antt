@@ -1,5 +1,5 @@
 -- The steps of a piece as one drive sees them: the host's part joined with the drive's own, foreign steps between.
-use Rattle.std.proofs.Common.{◌≡◌, ℕ, suc, ◌≤◌, ◌⊎◌, inl, inr, Bool, true, false, List, [], ◌∷◌, ◌++◌, map, ap, sym, ◌∙◌, subst, arith, refl}
+use Rattle.std.proofs.Common.{◌≡◌, ℕ, suc, ◌≤◌, ◌⊎◌, inl, inr, true, false, List, [], ◌∷◌, map, ap, sym, ◌∙◌, subst, arith, refl}
 use Rattle.std.specs.Prelude.{nat_eq}
 use Rattle.std.proofs.lemmas.Bool.Decides.{leb_tells}
 use Rattle.cbm_iec.proofs.Decoding.{IsMine, IsForeign, Shows}

@@ -33,7 +33,10 @@ fn check(rt: &impl Abort, alloc: Global, seed: u64) -> Result<(), Fail> {
     for party in &parties {
         let made = events_of(alloc, &bus.events, party.device)?;
         let wanted = events_of(alloc, &session.wanted, party.device)?;
-        assert!(rt; made.as_slice() == wanted.as_slice(), "seed {seed}: the changes of a drive");
+        assert!(rt;
+            made.as_slice() == wanted.as_slice(),
+            "seed {seed}: the changes of a drive"
+        );
         let mut told = Vec::new(alloc);
         for (device, act) in &bus.heard {
             if *device == party.device {
@@ -46,7 +49,10 @@ fn check(rt: &impl Abort, alloc: Global, seed: u64) -> Result<(), Fail> {
                 counted.push(*act)?;
             }
         }
-        assert!(rt; told.as_slice() == counted.as_slice(), "seed {seed}: what a drive is told");
+        assert!(rt;
+            told.as_slice() == counted.as_slice(),
+            "seed {seed}: what a drive is told"
+        );
     }
     Ok(())
 }
