@@ -1,0 +1,230 @@
+-- What is followed is followed up to each moment, with nothing overdue there.
+use Rattle.std.proofs.Common.{append_assoc, append-nil, not, ◌≡◌, ℕ, ◌+◌, ◌≤◌, ◌<◌, ◌⊎◌, inl, inr, Bool, true, false, List, [], ◌∷◌, ◌++◌, Option, Some, None, ap, sym, ◌∙◌, subst, arith, refl}
+use Rattle.std.specs.Prelude.{if◌then◌else◌}
+use Rattle.std.proofs.lemmas.Bool.{lt-leb}
+use Rattle.cbm_iec.proofs.Decoding.{next}
+use Rattle.cbm_iec.proofs.FollowedPieces.{follows_pieces}
+use Rattle.cbm_iec.proofs.Merging.{NoneBefore, InOrder, order_merge, cut_front, AllBefore, front_before}
+use Rattle.cbm_iec.proofs.OneDrive.{last_after}
+use Rattle.cbm_iec.proofs.OneReading.{freed_order, taking_order}
+use Rattle.cbm_iec.proofs.Owning.{part_order}
+use Rattle.cbm_iec.specs.Bits.{where_held, where_free, Cell, cell_steps, cells_steps, held_after, last_pull, SetFits, CellsFit}
+use Rattle.cbm_iec.specs.Following.{IsInTime, IsLater, own_steps, reaction_steps, Follows, alone, FollowsFronts, ends, tells, reacts}
+use Rattle.cbm_iec.specs.Frames.{Sent, end_of, sending, StartFits, SentFits}
+use Rattle.cbm_iec.specs.Pieces.{Whole, Point, freed_steps, host_part, own_part, steps_of, before, FreedFits, Fits, some_from, PullPiece, Command, Byte, ToListener, ToNobody, ToTalker, Nothing, Talk}
+use Rattle.cbm_iec.specs.Ports.{port_due, has_byte, next_held, reaction_act, changed}
+use Rattle.cbm_iec.specs.Seats.{Seat, talker_of, listeners}
+use Rattle.cbm_iec.specs.Sessions.{rest}
+use Rattle.cbm_iec.specs.Steps.{Step, event_of, host, for_each, moment_of}
+use Rattle.cbm_iec.specs.declared.act.Act.TheVariants.{Pulled, Released}
+use Rattle.cbm_iec.specs.declared.act.Act.{Act}
+use Rattle.cbm_iec.specs.declared.event.Who.TheVariants.{Host}
+use Rattle.cbm_iec.specs.declared.line.Line.TheVariants.{Atn, Clock, Data}
+use Rattle.cbm_iec.specs.declared.line.Way.TheVariants.{Pull, Free}
+use Rattle.cbm_iec.specs.declared.port.Port.{Port}
+
+-- the changes of a reaction are at its moment
+abbrev AllAt : ℕ → List Step → Type 0
+AllAt t [] = Unit {0}
+AllAt t (s ∷ ss) = (moment_of s ≡ t) × AllAt t ss
+
+two_at : (d t : ℕ) (a u b v : Bool) (act : Option Act) → AllAt t (own_steps d (changed t Clock a u ++ changed t Data b v) act)
+two_at d t true true true true act = tt
+two_at d t true true true false None = (refl, tt)
+two_at d t true true true false (Some x) = (refl, tt)
+two_at d t true true false true None = (refl, tt)
+two_at d t true true false true (Some x) = (refl, tt)
+two_at d t true true false false act = tt
+two_at d t false false true true act = tt
+two_at d t false false true false None = (refl, tt)
+two_at d t false false true false (Some x) = (refl, tt)
+two_at d t false false false true None = (refl, tt)
+two_at d t false false false true (Some x) = (refl, tt)
+two_at d t false false false false act = tt
+two_at d t true false true true None = (refl, tt)
+two_at d t true false true true (Some x) = (refl, tt)
+two_at d t true false true false None = (refl, (refl, tt))
+two_at d t true false true false (Some x) = (refl, (refl, tt))
+two_at d t true false false true None = (refl, (refl, tt))
+two_at d t true false false true (Some x) = (refl, (refl, tt))
+two_at d t true false false false None = (refl, tt)
+two_at d t true false false false (Some x) = (refl, tt)
+two_at d t false true true true None = (refl, tt)
+two_at d t false true true true (Some x) = (refl, tt)
+two_at d t false true true false None = (refl, (refl, tt))
+two_at d t false true true false (Some x) = (refl, (refl, tt))
+two_at d t false true false true None = (refl, (refl, tt))
+two_at d t false true false true (Some x) = (refl, (refl, tt))
+two_at d t false true false false None = (refl, tt)
+two_at d t false true false false (Some x) = (refl, tt)
+
+reaction_at : (t : ℕ) (peek : Option (ℕ × Bool)) (q : Port) → AllAt t (reaction_steps t peek q)
+reaction_at t peek q = two_at q.party.device t q.own.clock_low (next_held (has_byte peek) q).clock_low q.own.data_low (next_held (has_byte peek) q).data_low (reaction_act (has_byte peek) q)
+
+in_time_le : (c t : ℕ) (o : Option ℕ) → c ≤ t → IsInTime t o → IsInTime c o
+in_time_le c t None l h = tt
+in_time_le c t (Some u) l h = omega (arith, l, h)
+
+head_is : (x y : Step) (xs ys : List Step) → x ∷ xs ≡ y ∷ ys → x ≡ y
+head_is x y xs ys e = cc
+
+tail_is : (x y : Step) (xs ys : List Step) → x ∷ xs ≡ y ∷ ys → xs ≡ ys
+tail_is x y xs ys e = cc
+
+not_nil : (x : Step) (xs : List Step) → [] ≡ x ∷ xs → ⊥
+not_nil x xs e = cc
+
+-- a reaction lies whole before the cut, or whole behind it
+parted : (c t : ℕ) (rs more front back : List Step) → AllAt t rs → rs ++ more ≡ front ++ back → AllBefore c front → NoneBefore c back
+    → ((rest : List Step) × (front ≡ rs ++ rest) × (more ≡ rest ++ back)) ⊎ ((front ≡ []) × (c ≤ t))
+parted c t [] more front back a e f b = inl (front, refl, e)
+parted c t (r ∷ rs) more [] back a e f b = let k = subst (NoneBefore c) (sym e) b in let m = a.0 in let l = k.0 in inr (refl, omega (arith, m, l))
+parted c t (r ∷ rs) more (x ∷ front) back a e f b =
+    let h = head_is r x (rs ++ more) (front ++ back) e in
+    elim (parted c t rs more front back a.1 (tail_is r x (rs ++ more) (front ++ back) e) f.1 b) [
+      | inl g ↦ inl (g.0, ap (λ (y : Step). y ∷ front) (sym h) ∙ ap (λ (ys : List Step). r ∷ ys) g.1, g.2)
+      | inr g ↦ (
+          let m : moment_of r ≡ t = a.0 in
+          let n : moment_of r < c = subst (λ (y : Step). moment_of y < c) (sym h) f.0 in
+          let l : c ≤ t = g.1 in
+          absurd (omega (arith, m, n, l))
+          )
+    ]
+
+later_front : (t : ℕ) (more rest back : List Step) → more ≡ rest ++ back → IsLater t more → IsLater t rest
+later_front t more [] back e l = tt
+later_front t more (x ∷ rest) back e l = subst (λ (zs : List Step). IsLater t zs) e l
+
+follows_front : (peek : Option (ℕ × Bool)) (c : ℕ) (y : Step) (ys : List Step) → NoneBefore c (y ∷ ys) → {q q2 : Port} {ss : List Step} → Follows peek q ss q2 → (front : List Step) → ss ≡ front ++ y ∷ ys → AllBefore c front
+    → (q3 : Port) × (Follows peek q front q3 × IsInTime c (port_due q3))
+follows_front peek c y ys n (ends e) [] h f = absurd (not_nil y ys h)
+follows_front peek c y ys n (ends e) (x ∷ front) h f = absurd (not_nil x (front ++ y ∷ ys) h)
+follows_front peek c y ys n {q} (tells {t} i k g) [] h f =
+    let b = subst (NoneBefore c) (sym h) n in
+    (q, (ends refl, in_time_le c t (port_due q) b.0 i))
+follows_front peek c y ys n {q} (tells {t} {line} {way} {mark} {ss} i k g) (x ∷ front) h f =
+    let s : Step = record { event = event_of Host t line way; mark = mark } in
+    let r = follows_front peek c y ys n g front (tail_is s x ss (front ++ y ∷ ys) h) f.1 in
+    (r.0, (subst (λ (z : Step). Follows peek q (z ∷ front) r.0) (head_is s x ss (front ++ y ∷ ys) h) (tells i k r.1.0), r.1.1))
+follows_front peek c y ys n {q} (reacts t more d e sh l g) front h f =
+    elim (parted c t (reaction_steps t peek q) more front (y ∷ ys) (reaction_at t peek q) (sym e ∙ h) f n) [
+      | inl z ↦ (
+          let r = follows_front peek c y ys n g z.0 z.2 (behind (reaction_steps t peek q) z.0 (subst (AllBefore c) z.1 f)) in
+          (r.0, (reacts t z.0 d z.1 sh (later_front t more z.0 (y ∷ ys) z.2 l) r.1.0, r.1.1))
+          )
+      | inr z ↦ (q, (subst (λ (zs : List Step). Follows peek q zs q) (sym z.0) (ends refl), subst (IsInTime c) (sym d) z.1))
+    ]
+  where
+    behind : (xs zs : List Step) → AllBefore c (xs ++ zs) → AllBefore c zs
+    behind [] zs a = a
+    behind (x ∷ xs) zs a = behind xs zs a.1
+
+-- the host's part of a piece is in order
+cells_none : (m : ℕ) (held : Bool) (pull : ℕ) (cs : List Cell) → CellsFit held pull cs → m ≤ pull → NoneBefore m (cells_steps held cs)
+cells_none m held pull [] h l = tt
+cells_none m held pull (c ∷ cs) h l = go held c.bit c.set c.free c.pull h.0.set h.0.free h.0.pulled (cells_none m (not c.bit) c.pull cs h.1 (far h.0.free h.0.pulled))
+  where
+    far : pull + 20 ≤ c.free → c.free + 20 ≤ c.pull → m ≤ c.pull
+    far a b = omega (arith, a, b, l)
+
+    go : (held bit : Bool) (set free next : ℕ) → SetFits held bit pull set → pull + 20 ≤ free → free + 20 ≤ next → NoneBefore m (cells_steps (not bit) cs)
+        → NoneBefore m (cell_steps held (record { bit = bit; set = set; free = free; pull = next }) ++ cells_steps (not bit) cs)
+    go true true set free next s a b n = (omega (arith, l, s), (omega (arith, l, a), (omega (arith, l, a, b), n)))
+    go false false set free next s a b n = (omega (arith, l, s), (omega (arith, l, a), (omega (arith, l, a, b), n)))
+    go true false set free next s a b n = (omega (arith, l, a), (omega (arith, l, a, b), n))
+    go false true set free next s a b n = (omega (arith, l, a), (omega (arith, l, a, b), n))
+
+none_more : (m : ℕ) (xs ys : List Step) → NoneBefore m xs → NoneBefore m ys → NoneBefore m (xs ++ ys)
+none_more m [] ys a b = b
+none_more m (x ∷ xs) ys a b = (a.0, none_more m xs ys a.1 b)
+
+cells_order : (held : Bool) (pull : ℕ) (cs : List Cell) (tail : List Step) → CellsFit held pull cs → InOrder tail → ((m : ℕ) → m ≤ last_pull pull cs → NoneBefore m tail) → InOrder (cells_steps held cs ++ tail)
+cells_order held pull [] tail h o n = o
+cells_order held pull (c ∷ cs) tail h o n =
+    let rest = cells_order (not c.bit) c.pull cs tail h.1 o n in
+    subst InOrder (sym (append_assoc (cell_steps held c) (cells_steps (not c.bit) cs) tail)) (go held c.bit c.set c.free c.pull h.0.settled h.0.pulled rest)
+  where
+    far : c.pull ≤ last_pull c.pull cs
+    far = last_after (not c.bit) c.pull cs h.1
+
+    late : (m : ℕ) → m ≤ c.pull → NoneBefore m (cells_steps (not c.bit) cs ++ tail)
+    late m l = let k = far in none_more m (cells_steps (not c.bit) cs) tail (cells_none m (not c.bit) c.pull cs h.1 l) (n m (omega (arith, l, k)))
+
+    go : (held bit : Bool) (set free next : ℕ) → set + 20 ≤ free → free + 20 ≤ c.pull → InOrder (cells_steps (not c.bit) cs ++ tail)
+        → InOrder (cell_steps held (record { bit = bit; set = set; free = free; pull = c.pull }) ++ (cells_steps (not c.bit) cs ++ tail))
+    go true true set free next s b r = let x = late set (omega (arith, s, b)) in let y = late free (omega (arith, b)) in let z = late c.pull (omega arith) in ((omega (arith, s), (omega (arith, s, b), x)), ((omega (arith, b), y), (z, r)))
+    go false false set free next s b r = let x = late set (omega (arith, s, b)) in let y = late free (omega (arith, b)) in let z = late c.pull (omega arith) in ((omega (arith, s), (omega (arith, s, b), x)), ((omega (arith, b), y), (z, r)))
+    go true false set free next s b r = let y = late free (omega (arith, b)) in let z = late c.pull (omega arith) in ((omega (arith, b), y), (z, r))
+    go false true set free next s b r = let y = late free (omega (arith, b)) in let z = late c.pull (omega arith) in ((omega (arith, b), y), (z, r))
+
+sending_order : (hs : List Seat) (eoi : Bool) (f : Sent) → SentFits hs eoi f → f.ready ≤ f.start → InOrder (sending f)
+sending_order hs eoi f h l = (
+  (l, none_more f.ready (cells_steps false f.cells) tail (cells_none f.ready false f.start f.cells h.cells l) (tail_late f.ready (omega (arith, l, far)))),
+  (none_more f.start (cells_steps false f.cells) tail (cells_none f.start false f.start f.cells h.cells (omega arith)) (tail_late f.start far), cells_order false f.start f.cells tail h.cells (tail_order (held_after false f.cells)) tail_late),
+)
+  where
+    tail : List Step
+    tail = where_held (held_after false f.cells) (host (end_of f) Data Free)
+
+    far : f.start ≤ end_of f
+    far = last_after false f.start f.cells h.cells
+
+    tail_order : (v : Bool) → InOrder (where_held v (host (end_of f) Data Free))
+    tail_order true = (tt, tt)
+    tail_order false = tt
+
+    late_by : (v : Bool) (m : ℕ) → m ≤ end_of f → NoneBefore m (where_held v (host (end_of f) Data Free))
+    late_by true m k = (k, tt)
+    late_by false m k = tt
+
+    tail_late : (m : ℕ) → m ≤ end_of f → NoneBefore m tail
+    tail_late m k = late_by (held_after false f.cells) m k
+
+starts_late : (hs : List Seat) (eoi : Bool) (f : Sent) → StartFits hs eoi f → f.ready ≤ f.start
+starts_late hs true f h = omega (arith, h)
+starts_late hs false f h = let k = h.0 in omega (arith, k)
+
+pull_order : (at : ℕ) (c d : Bool) → InOrder (for_each Pulled (host at Atn Pull) ∷ (where_free c (host at Clock Pull) ++ where_held d (host at Data Free)))
+pull_order at true true = ((omega arith, tt), (tt, tt))
+pull_order at true false = (tt, tt)
+pull_order at false true = ((omega arith, (omega arith, tt)), ((omega arith, tt), (tt, tt)))
+pull_order at false false = ((omega arith, tt), (tt, tt))
+
+turn_order : (at clock : ℕ) (more : List Step) → at + 20 ≤ clock → NoneBefore at more → InOrder (host clock Clock Free ∷ more) → InOrder (host at Data Pull ∷ for_each Released (host at Atn Free) ∷ host clock Clock Free ∷ more)
+turn_order at clock more l n o = ((omega arith, (omega (arith, l), n)), ((omega (arith, l), n), o))
+
+freed_late : (at clock r : ℕ) (x : Option ℕ) → at + 20 ≤ clock → FreedFits (clock + r) x → NoneBefore at (freed_steps x)
+freed_late at clock r None l h = tt
+freed_late at clock r (Some g) l h = (omega (arith, l, h), tt)
+
+host_order : (p : Point) (w : Whole) → Fits p w → InOrder (host_part p w)
+host_order p (PullPiece at) h = pull_order at p.host.clock_low p.host.data_low
+host_order p (Command f) h = sending_order p.seats false f h.3 (starts_late p.seats false f h.3.start)
+host_order p (Byte eoi f) h = sending_order (listeners p.seats) eoi f h.3 (starts_late (listeners p.seats) eoi f h.3.start)
+host_order p (ToListener at) h = (tt, tt)
+host_order p (ToNobody at clock) h = ((h.1, tt), (tt, tt))
+host_order p (ToTalker at clock) h = turn_order at clock [] h.1 tt (tt, tt)
+host_order p (Nothing at clock freed) h = turn_order at clock (freed_steps freed) h.1 (freed_late at clock (talker_of p.seats).reaction freed h.1 h.2) (freed_order clock (talker_of p.seats).reaction freed h.2)
+host_order p (Talk at f) h = taking_order (talker_of p.seats) f at h.1
+
+-- where some step isn't before, the rest behind the cut isn't empty
+some_back : (c : ℕ) (ss : List Step) → AllBefore c ss → some_from c ss ≡ false
+some_back c [] a = refl
+some_back c (s ∷ ss) a = ap (λ (v : Bool). if v then true else some_from c ss) (lt-leb c (moment_of s) a.0) ∙ some_back c ss a.1
+
+pub follows_fronts : FollowsFronts
+follows_fronts p s w q peek c r prompt h f y e =
+    let all = follows_pieces p s w q peek r prompt h f y in
+    let ss = steps_of (alone p s) w in
+    let order : InOrder ss = order_merge (host_part (alone p s) w) (own_part (alone p s) w s) (host_order (alone p s) w f) (part_order (alone p s) w f s) in
+    let cut = cut_front c ss order in
+    go cut.0 cut.1 cut.2 all.0 all.1.1.0
+  where
+    go : (back : List Step) → steps_of (alone p s) w ≡ before c (steps_of (alone p s) w) ++ back → NoneBefore c back → (q2 : Port) → Follows peek q (steps_of (alone p s) w) q2
+        → (q3 : Port) × (Follows peek q (before c (steps_of (alone p s) w)) q3 × IsInTime c (port_due q3))
+    go [] k n q2 g =
+        let none : some_from c (steps_of (alone p s) w) ≡ false =
+        ap (λ (zs : List Step). some_from c zs) (k ∙ append-nil (before c (steps_of (alone p s) w))) ∙ some_back c (before c (steps_of (alone p s) w)) (front_before c (steps_of (alone p s) w)) in
+        let no : true ≡ false = sym e ∙ none in
+        absurd cc
+    go (b ∷ back) k n q2 g = follows_front peek c b back n g (before c (steps_of (alone p s) w)) k (front_before c (steps_of (alone p s) w))

@@ -1,0 +1,6 @@
+//! The worked sessions, and generated ones.
+
+mod plays;
+mod rows;
+mod sessions;
+mod traces;
