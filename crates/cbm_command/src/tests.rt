@@ -329,7 +329,7 @@ fn refuses_commands(rt: HostRuntime) {
         // no colon, and heads
         (b"S0".as_slice(), 34),
         (b"N".as_slice(), 34),
-        (b"R1".as_slice(), 34),
+        (b"RENAME".as_slice(), 34),
         (b"S1:A".as_slice(), 74),
         (b"N01:A".as_slice(), 74),
         (b"N00:A".as_slice(), 30),
