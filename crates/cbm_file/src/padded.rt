@@ -1,4 +1,4 @@
-ghost use Rattle.std.specs.Prelude.{◌≡◌};
+ghost use Rattle.std.specs.Prelude.{◌≡◌, ◌≤◌, length};
 ghost use Rattle.cbm_file.specs.Padding.{before_filler};
 
 /// The byte that a name in the directory is filled up with.
@@ -6,7 +6,8 @@ pub const FILLER: u8 = 0xA0;
 
 /// A name without the bytes that fill it up: what stands before the first $A0 (Inside Commodore DOS).
 pub fn before_filler(name: &[u8]) -> &[u8]
-    ensures { result.now ≡ before_filler name.now }
+    ensures value { result.now ≡ before_filler name.now }
+    ensures short { length result.now ≤ length name.now }
 {
     for i in 0..name.len() {
         if name[i] == FILLER {

@@ -2,6 +2,7 @@
 use Rattle.std.specs.Prelude.{ℕ, ◌-◌, ◌/◌, ◌%◌, ◌==◌, nat_lt, Bool, List, [], ◌∷◌, ◌++◌, map, length, replicate, codes, if◌then◌else◌, Option, Some, None}
 use Rattle.cbm_file.specs.declared.file_type.FileType.{FileType}
 use Rattle.cbm_file.specs.Types.{type_text}
+use Rattle.cbm_file.specs.Padding.{before_filler}
 use Rattle.cbm_file.specs.Files.{File}
 
 -- what fills a line
@@ -60,11 +61,6 @@ closed_mark closed = if closed then space else 42
 -- `<` for a file that is locked
 abbrev pub locked_mark : Bool → ℕ
 locked_mark locked = if locked then 60 else space
-
--- what stands before the first filler
-abbrev pub before_filler : List ℕ → List ℕ
-before_filler [] = []
-before_filler (c ∷ name) = if c == filler then [] else c ∷ before_filler name
 
 -- The line of an entry: its blocks, its name up to the first filler in quotes, its type, and a mark before and behind that.
 abbrev pub entry_line : ℕ → List ℕ → Option FileType → Bool → Bool → List ℕ

@@ -2,11 +2,11 @@
 
 ghost use Rattle.std.specs.Prelude.{◌≡◌, ◌+◌, ◌≤◌, ◌<◌, ◌^◌, ◌∷◌, ◌++◌, length, map, replicate};
 ghost use Rattle.arrayvec.specs.ArrayVec.{array_vec_len};
-ghost use Rattle.cbm_listing.specs.Lines.{space, low_first, shown_byte, closed_mark, locked_mark, kind_text, before_filler, title_line, indent_width, entry_line, last_line};
+ghost use Rattle.cbm_listing.specs.Lines.{space, low_first, shown_byte, closed_mark, locked_mark, kind_text, title_line, indent_width, entry_line, last_line};
 
 use crate::entry::Entry;
 use arrayvec::ArrayVec;
-use cbm_file::FileType;
+use cbm_file::{FileType, before_filler};
 
 /// What fills a title and a name on the disk.
 const FILLER: u8 = 0xa0;
@@ -105,19 +105,6 @@ fn kind_text(kind: Option<FileType>) -> &'static [u8; 3]
         None => b"???",
         Some(kind) => kind.text(),
     }
-}
-
-/// What of a name is shown: what stands before its first $A0.
-fn before_filler(name: &[u8]) -> &[u8]
-    ensures value { result.now ≡ before_filler name.now }
-    ensures short { length result.now ≤ length name.now }
-{
-    for i in 0..name.len() {
-        if name[i] == FILLER {
-            return &name[..i];
-        }
-    }
-    name
 }
 
 /// The line of a slot that isn't empty.
