@@ -11,6 +11,9 @@ use std::time::Instant;
 /// How often each call is timed.
 const TIMES: u32 = 200;
 
+/// The last turn of those that change the disk before they read it.
+const TURNS: u8 = 199;
+
 /// The bytes of a D64 image.
 const IMAGE: usize = 174_848;
 
@@ -46,7 +49,7 @@ pub fn images(rt: &impl Runtime, alloc: Global) -> io::Result<()> {
         let _disk = D64Disk::from_bytes(alloc, image.as_slice(), false).map_err(|_| failed())?;
     }
     report(rt, "D64Disk::from_bytes", &start, TIMES)?;
-    let disk = D64Disk::from_bytes(alloc, image.as_slice(), false).map_err(|_| failed())?;
+    let mut disk = D64Disk::from_bytes(alloc, image.as_slice(), false).map_err(|_| failed())?;
     let start = Instant::now(rt)?;
     for _ in 0..TIMES {
         let _image = disk.to_bytes(alloc).map_err(|_| failed())?;
@@ -54,11 +57,25 @@ pub fn images(rt: &impl Runtime, alloc: Global) -> io::Result<()> {
     report(rt, "D64Disk::to_bytes", &start, TIMES)?;
     let start = Instant::now(rt)?;
     let mut sum = 0u32;
-    for _ in 0..TIMES {
+    for turn in 0..=TURNS {
+        stamp(&mut disk, turn);
         sum = sum.wrapping_add(sum_of_all(&disk));
     }
-    report(rt, "D64Disk::read of 683 sectors", &start, TIMES)?;
-    if sum == 0 { Ok(()) } else { Err(failed()) }
+    report(
+        rt,
+        "D64Disk::read of 683 sectors, a write before",
+        &start,
+        TURNS as u32 + 1,
+    )?;
+    if sum == 0 { Err(failed()) } else { Ok(()) }
+}
+
+/// Fills 18/0, so that each turn reads another disk.
+fn stamp<M: Medium>(disk: &mut M, byte: u8) {
+    let at = Address::of_map();
+    if at.track() <= disk.tracks() {
+        let _ = disk.write(at, &[byte; 256]);
+    }
 }
 
 /// The sum of the first bytes of all sectors.
