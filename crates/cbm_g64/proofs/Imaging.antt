@@ -126,9 +126,9 @@ same_bytes file xs ys i e h same =
     let l : length (track_bytes file xs i) ≡ size file i = length-take-le (size file i) (drop (offset file i + 2) xs) (omega (arith, length-drop (offset file i + 2) xs)) in
     let m : length (track_bytes file ys i) ≡ size file i = length-take-le (size file i) (drop (offset file i + 2) ys) (omega (arith, length-drop (offset file i + 2) ys)) in
     same_number_lists _ _ (l ∙ sym m) (λ k b.
-        get_or-take (size file i) (drop (offset file i + 2) xs) k 0 (omega (arith, l)) ∙ get_or-drop (offset file i + 2) xs k 0
-        ∙ same (offset file i + 2 + k) (omega arith) (omega (arith, l))
-        ∙ sym (get_or-take (size file i) (drop (offset file i + 2) ys) k 0 (omega (arith, l)) ∙ get_or-drop (offset file i + 2) ys k 0))
+    get_or-take (size file i) (drop (offset file i + 2) xs) k 0 (omega (arith, l)) ∙ get_or-drop (offset file i + 2) xs k 0
+    ∙ same (offset file i + 2 + k) (omega arith) (omega (arith, l))
+    ∙ sym (get_or-take (size file i) (drop (offset file i + 2) ys) k 0 (omega (arith, l)) ∙ get_or-drop (offset file i + 2) ys k 0))
 
 pub put_more : (file : List ℕ) (tracks : List (List Bool)) (image ys : List ℕ) (n k : ℕ) → IsHeld file tracks → n < 35 → IsPut file tracks image n → offset file n ≢ 0 → k ≡ length ys → length ys ≡ size file n
     → bits_of ys ≡ stretch (get_or tracks n []) 0 (8 * size file n) → IsPut file tracks (put_mid (offset file n + 2) k image ys) (n + 1)
@@ -162,10 +162,10 @@ put_more file tracks image ys n k h l p ne e f g =
     own_bytes size' s a =
         let m : length (track_bytes file (put_mid (offset file n + 2) k image ys) n) ≡ size file n = length-take-le (size file n) (drop (offset file n + 2) (put_mid (offset file n + 2) k image ys)) (omega (arith, length-drop (offset file n + 2) (put_mid (offset file n + 2) k image ys), s.within, p.same_length)) in
         same_number_lists _ _ (m ∙ sym f) (λ r b.
-            get_or-take (size file n) (drop (offset file n + 2) (put_mid (offset file n + 2) k image ys)) r 0 (omega (arith, m))
-            ∙ get_or-drop (offset file n + 2) (put_mid (offset file n + 2) k image ys) r 0
-            ∙ put_there (offset file n + 2) k image ys (offset file n + 2 + r) a (omega arith) (omega (arith, m))
-            ∙ ap (λ (t : ℕ). get_or ys t 0) (omega arith))
+        get_or-take (size file n) (drop (offset file n + 2) (put_mid (offset file n + 2) k image ys)) r 0 (omega (arith, m))
+        ∙ get_or-drop (offset file n + 2) (put_mid (offset file n + 2) k image ys) r 0
+        ∙ put_there (offset file n + 2) k image ys (offset file n + 2 + r) a (omega arith) (omega (arith, m))
+        ∙ ap (λ (t : ℕ). get_or ys t 0) (omega arith))
 
 -- where a track ends in its file, and how many bytes it has by its circle
 pub track_ends : (file image : List ℕ) (tracks : List (List Bool)) (t : List Bool) (n at bits : ℕ) → IsHeld file tracks → n < 35 → length image ≡ length file → at ≡ offset file n → at ≢ 0 → bits ≡ length t → t ≡ get_or tracks n []

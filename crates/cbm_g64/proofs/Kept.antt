@@ -26,8 +26,11 @@ unfolding offset
 offset_kept file tracks image p m i h =
     let t = many file p in
     omega (
-      arith, tables_kept file tracks image p m (12 + 8 * i) (omega arith), tables_kept file tracks image p m (12 + 8 * i + 1) (omega arith),
-      tables_kept file tracks image p m (12 + 8 * i + 2) (omega arith), tables_kept file tracks image p m (12 + 8 * i + 2 + 1) (omega arith),
+      arith,
+      tables_kept file tracks image p m (12 + 8 * i) (omega arith),
+      tables_kept file tracks image p m (12 + 8 * i + 1) (omega arith),
+      tables_kept file tracks image p m (12 + 8 * i + 2) (omega arith),
+      tables_kept file tracks image p m (12 + 8 * i + 2 + 1) (omega arith),
     )
 
 field_outside : (file : List ℕ) → Passes file → (i q : ℕ) → i < 35 → offset file i ≢ 0 → offset file i ≤ q → q < offset file i + 2 → IsOutside file q
@@ -44,7 +47,8 @@ unfolding size
 size_kept file tracks image p m i h ne =
     ap (two_at image) (offset_kept file tracks image p m i h)
     ∙ omega (
-      arith, m.others (offset file i) (field_outside file p i (offset file i) h ne (omega arith) (omega arith)),
+      arith,
+      m.others (offset file i) (field_outside file p i (offset file i) h ne (omega arith) (omega arith)),
       m.others (offset file i + 1) (field_outside file p i (offset file i + 1) h ne (omega arith) (omega arith)),
     )
 
@@ -187,10 +191,10 @@ unwritten file image h a b m = same_number_lists image file m.same_length (λ q 
         let x : length (track_bytes file image j) ≡ size file j = length-take-le (size file j) (drop (offset file j + 2) image) (omega (arith, length-drop (offset file j + 2) image, s.within, m.same_length)) in
         let y : length (track_bytes file file j) ≡ size file j = length-take-le (size file j) (drop (offset file j + 2) file) (omega (arith, length-drop (offset file j + 2) file, s.within)) in
         let same : track_bytes file image j ≡ track_bytes file file j =
-            bytes_back (track_bytes file image j) (track_bytes file file j) (x ∙ sym y)
-            (part_bytes image (size file j) (offset file j + 2) (omega (arith, s.within, m.same_length)) b)
-            (part_bytes file (size file j) (offset file j + 2) (omega (arith, s.within)) a)
-            (m.circles j l ne ∙ tracks_at file 35 j l ∙ present file j ne) in
+        bytes_back (track_bytes file image j) (track_bytes file file j) (x ∙ sym y)
+        (part_bytes image (size file j) (offset file j + 2) (omega (arith, s.within, m.same_length)) b)
+        (part_bytes file (size file j) (offset file j + 2) (omega (arith, s.within)) a)
+        (m.circles j l ne ∙ tracks_at file 35 j l ∙ present file j ne) in
         let at : q ≡ offset file j + 2 + (q - (offset file j + 2)) = omega arith in
         ap (λ (n : ℕ). get_or image n 0) at
         ∙ sym (get_or-take (size file j) (drop (offset file j + 2) image) (q - (offset file j + 2)) 0 (omega arith) ∙ get_or-drop (offset file j + 2) image (q - (offset file j + 2)) 0)

@@ -63,8 +63,15 @@ p2 = entries_of new_place 35 ++ p3
 pub length-new_file : length new_file ≡ 278234
 unfolding new_file
 length-new_file = omega (
-  arith, length-append (entries_of new_place 35) p3, length-append (replicate 56 0) p4, length-append (entries_of new_zone 35) p5, length-append (replicate 56 0) (blocks_of 35),
-  length-entries_of new_place 35, length-entries_of new_zone 35, length-blocks_of 35, length-replicate {A = ℕ} 56 0,
+  arith,
+  length-append (entries_of new_place 35) p3,
+  length-append (replicate 56 0) p4,
+  length-append (entries_of new_zone 35) p5,
+  length-append (replicate 56 0) (blocks_of 35),
+  length-entries_of new_place 35,
+  length-entries_of new_zone 35,
+  length-blocks_of 35,
+  length-replicate {A = ℕ} 56 0,
 )
 
 in_front : (k : ℕ) → k < 12 → get_or new_file k 0 ≡ get_or front k 0

@@ -4,12 +4,11 @@ ghost use Rattle.cbm_g64.specs.Tracks.{AreFresh, content_of, id_for, IsChanged};
 ghost use Rattle.cbm_g64.specs.File.{is_inside, is_sized, track_in, tracks_in, greatest, IsGood};
 ghost use Rattle.cbm_track.specs.Circle.{bits_of};
 
+use crate::numbers::{offset, two_at};
 use cbm_medium::{Address, Fault};
 use cbm_sector::{fresh_track, id_of, read_sector, write_sector};
 use cbm_track::Track;
 use std::alloc::{AllocError, Global};
-
-use crate::numbers::{offset, two_at};
 
 /// The circle of bytes.
 fn circle(bytes: &[u8]) -> Track
@@ -41,8 +40,8 @@ fn track_at(file: &[u8], i: usize) -> Track
     circle(&file[at + 2..at + 2 + size])
 }
 
-#[tactic(auto, using(crate::proofs::Files::tracks_none, crate::proofs::Files::tracks_more))]
 /// The circles of all tracks.
+#[tactic(auto, using(crate::proofs::Files::tracks_none, crate::proofs::Files::tracks_more))]
 pub(crate) fn tracks_of(alloc: Global, file: &[u8]) -> Result<Vec<Track>, AllocError>
     requires { IsGood file.now }
     ensures { IfOk result (λ v. v.items ≡ tracks_in file.now 35) }

@@ -5,14 +5,13 @@ ghost use Rattle.cbm_g64.specs.NewFile.{new_file};
 ghost use Rattle.cbm_g64.specs.Tracks.{content_of, id_for, or_zeros, AreFresh};
 ghost use Rattle.cbm_g64.specs.Image.{IsHeld};
 
+use crate::circles::write_on;
+use crate::fault::G64Fault;
+use crate::image::{base, put_tracks};
 use cbm_medium::{Address, Medium, sectors_of};
 use cbm_sector::fresh_track;
 use cbm_track::Track;
 use std::alloc::{AllocError, Global};
-
-use crate::circles::write_on;
-use crate::fault::G64Fault;
-use crate::image::{base, put_tracks};
 
 /// The tracks of a formatted disk.
 fn fresh_tracks(alloc: Global, id: &[u8; 2]) -> Result<Vec<Track>, AllocError>
@@ -90,10 +89,8 @@ pub(crate) fn image_of<M: Medium>(
     requires { M.tracks medium.now ≡ 35 }
     ensures size { IfOk result (λ v. length v.items ≡ 278234) }
     ensures right { IfOk result (λ v. fault_of v.items ≡ None) }
-    ensures shown {
-        IfOk result (λ v. (p : Place) → Has 35 p →
-            content_of (tracks_in v.items 35) p ≡ or_zeros (M.content medium.now p))
-    }
+    ensures shown { IfOk result (λ v. (p : Place) → Has 35 p →
+        content_of (tracks_in v.items 35) p ≡ or_zeros (M.content medium.now p)) }
     ensures id { IfOk result (λ v. id_for (tracks_in v.items 35) ≡ id) }
     ensures err { IfErr result (λ fault. fault ≡ G64Fault.Memory) }
 {

@@ -6,16 +6,15 @@ ghost use Rattle.cbm_g64.specs.NewFile.{base_of};
 ghost use Rattle.cbm_g64.specs.Tracks.{bits_at, content_of, failures_of, id_for, or_zeros, AreFresh, HasTrack, IsChanged, tracks_on};
 ghost use Rattle.cbm_g64.specs.Image.{IsImageOf};
 
-use cbm_medium::{Address, Fault, Medium, Steady};
-use cbm_track::Track;
-use std::alloc::Global;
-use std::marker::Model;
-
 use crate::checks::fault_of;
 use crate::circles::{format_on, read_on, tracks_of, write_on};
 use crate::copying::image_of;
 use crate::fault::G64Fault;
 use crate::image::{base, offset_in, put_tracks};
+use cbm_medium::{Address, Fault, Medium, Steady};
+use cbm_track::Track;
+use std::alloc::Global;
+use std::marker::Model;
 
 /// The code of a write to a protected disk.
 const WRITE_PROTECT_ON: u8 = 26;
@@ -75,30 +74,35 @@ impl G64Disk {
         // Opened again it is the same disk.
         ensures again { IfOk result (λ v. (fault_of v.items ≡ None) × (tracks_in v.items 35 ≡ self.now.tracks)) }
         // A disk that nobody wrote gives its bytes back.
-        ensures unwritten {
-            self.now.formatted ≡ false → self.now.tracks ≡ tracks_in self.now.file 35
-            → IfOk result (λ v. v.items ≡ self.now.file)
-        }
+        ensures unwritten { self.now.formatted ≡ false → self.now.tracks ≡ tracks_in self.now.file 35
+            → IfOk result (λ v. v.items ≡ self.now.file) }
         ensures err { IfErr result (λ fault. fault ≡ G64Fault.Memory) }
     {
         let file = self.file.as_slice();
         let Ok(mut out) = base(alloc, file, self.formatted) else {
             return Err(G64Fault::Memory);
         };
-        put_tracks(file, self.formatted, self.tracks.as_slice(), out.as_mut_slice());
+        put_tracks(
+            file,
+            self.formatted,
+            self.tracks.as_slice(),
+            out.as_mut_slice(),
+        );
         Ok(out)
     }
 
     /// The image of a disk that was formatted under an id and then given the sectors of a medium of
     /// 35 tracks; a sector that doesn't read stays 256 zeros. Takes memory for it and for the tracks.
-    pub fn from_sectors<M: Medium>(alloc: Global, medium: &M, id: [u8; 2]) -> Result<Vec<u8>, G64Fault>
+    pub fn from_sectors<M: Medium>(
+        alloc: Global,
+        medium: &M,
+        id: [u8; 2],
+    ) -> Result<Vec<u8>, G64Fault>
         requires { M.tracks medium.now ≡ 35 }
         ensures size { IfOk result (λ v. length v.items ≡ 278234) }
         ensures right { IfOk result (λ v. fault_of v.items ≡ None) }
-        ensures shown {
-            IfOk result (λ v. (p : Place) → Has 35 p →
-                content_of (tracks_in v.items 35) p ≡ or_zeros (M.content medium.now p))
-        }
+        ensures shown { IfOk result (λ v. (p : Place) → Has 35 p →
+            content_of (tracks_in v.items 35) p ≡ or_zeros (M.content medium.now p)) }
         ensures id { IfOk result (λ v. id_for (tracks_in v.items 35) ≡ id) }
         ensures err { IfErr result (λ fault. fault ≡ G64Fault.Memory) }
     {
@@ -145,15 +149,11 @@ impl Medium for G64Disk {
         requires { at.track ≤ tracks_on self.old }
         ensures ok { OnOk result (content_of self.new.tracks ≡ written (content_of self.old.tracks) at bytes.now) }
         ensures err { OnErr result (content_of self.new.tracks ≡ content_of self.old.tracks) }
-        ensures refused {
-            IfSome (refusal self.old.protected (content_of self.old.tracks at))
-                (λ code. result ≡ Err (record { code = code; at = at }))
-        }
-        ensures cause {
-            IfErr result (λ fault.
-                (refusal self.old.protected (content_of self.old.tracks at) ≡ Some fault.code)
-                ⊎ (failures_of self.old < failures_of self.new))
-        }
+        ensures refused { IfSome (refusal self.old.protected (content_of self.old.tracks at))
+            (λ code. result ≡ Err (record { code = code; at = at })) }
+        ensures cause { IfErr result (λ fault.
+            (refusal self.old.protected (content_of self.old.tracks at) ≡ Some fault.code)
+            ⊎ (failures_of self.old < failures_of self.new)) }
         ensures at { IfErr result (λ fault. fault.at ≡ at) }
         ensures uncounted { OnOk result (failures_of self.new ≡ failures_of self.old) }
         ensures counted { failures_of self.old ≤ failures_of self.new }
@@ -177,15 +177,11 @@ impl Medium for G64Disk {
     fn format(&mut self, id: [u8; 2]) -> Result<(), Fault>
         ensures ok { OnOk result (content_of self.new.tracks ≡ blank) }
         ensures err { OnErr result (content_of self.new.tracks ≡ content_of self.old.tracks) }
-        ensures refused {
-            IfSome (format_refusal self.old.protected)
-                (λ code. result ≡ Err (record { code = code; at = directory_head }))
-        }
-        ensures cause {
-            IfErr result (λ fault.
-                (format_refusal self.old.protected ≡ Some fault.code)
-                ⊎ (failures_of self.old < failures_of self.new))
-        }
+        ensures refused { IfSome (format_refusal self.old.protected)
+            (λ code. result ≡ Err (record { code = code; at = directory_head })) }
+        ensures cause { IfErr result (λ fault.
+            (format_refusal self.old.protected ≡ Some fault.code)
+            ⊎ (failures_of self.old < failures_of self.new)) }
         ensures at { IfErr result (λ fault. fault.at ≡ directory_head) }
         ensures uncounted { OnOk result (failures_of self.new ≡ failures_of self.old) }
         ensures counted { failures_of self.old ≤ failures_of self.new }

@@ -6,11 +6,10 @@ ghost use Rattle.cbm_g64.specs.File.{offset, fault_of, tracks_in};
 ghost use Rattle.cbm_g64.specs.NewFile.{base_of, blocks_of, entries_of, new_file, new_place, new_zone};
 ghost use Rattle.cbm_g64.specs.Image.{IsHeld, IsImageOf};
 
+use crate::numbers::offset;
 use byteorder::{ByteOrder, LittleEndian};
 use cbm_track::Track;
 use std::alloc::{AllocError, Global};
-
-use crate::numbers::offset;
 
 /// The bytes of a new file.
 const NEW_BYTES: usize = 278_234;

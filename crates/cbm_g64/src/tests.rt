@@ -11,6 +11,7 @@ const ID: [u8; 2] = [0x41, 0x42];
 
 /// Where the tracks of a new file begin, and how far one is from the next.
 const FIRST: usize = 684;
+
 const NEXT: usize = 7930;
 
 fn address(rt: &impl Abort, track: u8, sector: u8) -> Address
@@ -107,8 +108,25 @@ const CHANGES: [(&[(usize, u8)], u8); 20] = [
     // No track 1: its offset is 0.
     (&[(12, 0), (13, 0)], 0),
     // A fault of the last track comes before one of another kind of the first.
-    (&[(FIRST, 0), (FIRST + 1, 0), (12 + 8 * 34, 1), (13 + 8 * 34, 0), (14 + 8 * 34, 0)], 5),
-    (&[(20, 0xac), (21, 2), (FIRST + 34 * NEXT, 0), (FIRST + 34 * NEXT + 1, 0)], 6),
+    (
+        &[
+            (FIRST, 0),
+            (FIRST + 1, 0),
+            (12 + 8 * 34, 1),
+            (13 + 8 * 34, 0),
+            (14 + 8 * 34, 0),
+        ],
+        5,
+    ),
+    (
+        &[
+            (20, 0xac),
+            (21, 2),
+            (FIRST + 34 * NEXT, 0),
+            (FIRST + 34 * NEXT + 1, 0),
+        ],
+        6,
+    ),
     // Half tracks, speeds and entries above 35 aren't looked at.
     (&[(16, 1), (352, 9), (300, 7)], 0),
 ];
@@ -123,7 +141,10 @@ fn faults_are_numbered(rt: HostRuntime) -> Result<(), Fail> {
         if *wanted == 0 {
             // What nobody wrote is given back, half tracks, speeds and padding too.
             let disk = G64Disk::from_bytes(alloc, bytes.as_slice(), false)?;
-            assert!(rt; disk.to_bytes(alloc)?.as_slice() == bytes.as_slice(), "row {index}");
+            assert!(rt;
+                disk.to_bytes(alloc)?.as_slice() == bytes.as_slice(),
+                "row {index}"
+            );
         }
     }
     Ok(())
@@ -217,7 +238,8 @@ fn sectors_make_an_image(rt: HostRuntime) -> Result<(), Fail> {
     for track in 1..=35 {
         for sector in 0..sectors_of(track) {
             let at = address(&rt, track, sector);
-            disk.write(at, &[track ^ sector; 256]).map_err(|_| "refused")?;
+            disk.write(at, &[track ^ sector; 256])
+                .map_err(|_| "refused")?;
         }
     }
     let image = G64Disk::from_sectors(alloc, &disk, [0x30, 0x31])?;

@@ -28,7 +28,11 @@ pub(crate) fn byte_at(track: &[u8], place: usize) -> u8
     ensures { bits 8 result ≡ stretch (bits_of track.now) place 8 }
 {
     let first = place / 8;
-    let second = if first + 1 < track.len() { first + 1 } else { 0 };
+    let second = if first + 1 < track.len() {
+        first + 1
+    } else {
+        0
+    };
     joined(track[first], track[second], place % 8)
 }
 
