@@ -1,4 +1,4 @@
-ghost use Rattle.std.specs.Prelude.{◌≡◌, ◌+◌, ◌≤◌, ◌++◌, length, drop, slice_get};
+ghost use Rattle.std.specs.Prelude.{◌≡◌, ◌+◌, ◌≤◌, ◌++◌, ◌↔◌, IsTrue, length, drop, slice_get};
 ghost use Rattle.cbm_listing.specs.Lines.{title_line, entry_line, last_line};
 ghost use Rattle.cbm_listing.specs.Listed.{Listed, with_line, behind_next};
 
@@ -6,6 +6,9 @@ use crate::entry::Entry;
 use crate::line::{self, Line};
 use arrayvec::ArrayVec;
 use std::marker::Model;
+
+/// The most bytes of a listing.
+const LONGEST: usize = 4672;
 
 /// A listing of at most 4,672 bytes, which are a line for the title, one for each of 144 slots, and one for the free
 /// blocks. Its lines are made first, and then its bytes are taken.
@@ -42,6 +45,13 @@ impl Listing {
         ensures { self.new ≡ with_line line.now.items self.old }
     {
         self.bytes.try_extend_from_slice(line.as_slice()).unwrap()
+    }
+
+    /// Whether a line more fits.
+    pub fn has_room(&self) -> bool
+        ensures { IsTrue result ↔ (length self.now.bytes ≤ 4640) }
+    {
+        self.bytes.len() <= LONGEST - 32
     }
 
     /// The line of a slot that isn't empty, 32 bytes.

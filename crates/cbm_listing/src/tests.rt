@@ -128,10 +128,11 @@ fn holds_144_files(rt: HostRuntime) {
         locked: false,
     };
     for _i in 0..144u8 {
-        assert!(rt; listing.left().len() <= 4608);
+        assert!(rt; listing.has_room());
         listing.line(&entry);
     }
-    assert!(rt; listing.left().len() <= 4640);
+    assert!(rt; listing.has_room());
     listing.finish(520);
     assert_eq!(rt; listing.left().len(), 4672);
+    assert!(rt; !listing.has_room());
 }
