@@ -17,12 +17,12 @@ const TURNS: u8 = 199;
 /// The bytes of a D64 image.
 const IMAGE: usize = 174_848;
 
-fn failed() -> io::Error {
+pub fn failed() -> io::Error {
     io::Error::from(io::ErrorKind::Other)
 }
 
 /// Prints the time of one of so many turns.
-fn report(rt: &impl Runtime, name: &str, start: &Instant, turns: u32) -> io::Result<()> {
+pub fn report(rt: &impl Runtime, name: &str, start: &Instant, turns: u32) -> io::Result<()> {
     let nanos = start.elapsed(rt)?.as_nanos();
     let each = nanos / turns.max(1) as u128;
     eprintln!(rt; "{name}: {each} ns")
@@ -71,7 +71,7 @@ pub fn images(rt: &impl Runtime, alloc: Global) -> io::Result<()> {
 }
 
 /// Fills 18/0, so that each turn reads another disk.
-fn stamp<M: Medium>(disk: &mut M, byte: u8) {
+pub fn stamp<M: Medium>(disk: &mut M, byte: u8) {
     let at = Address::of_map();
     if at.track() <= disk.tracks() {
         let _ = disk.write(at, &[byte; 256]);
@@ -79,7 +79,7 @@ fn stamp<M: Medium>(disk: &mut M, byte: u8) {
 }
 
 /// The sum of the first bytes of all sectors.
-fn sum_of_all<M: Medium>(disk: &M) -> u32 {
+pub fn sum_of_all<M: Medium>(disk: &M) -> u32 {
     let mut sum = 0u32;
     for track in 1..36u8 {
         for sector in 0..sectors_of(track) {

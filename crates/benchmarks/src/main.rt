@@ -1,6 +1,7 @@
 //! Times of the calls that move whole images, printed on standard error.
 #![tactic(auto)]
 
+mod circles;
 mod disks;
 
 use std::io;
@@ -8,5 +9,6 @@ use std::io;
 fn main(rt: HostRuntime) -> io::Result<()> {
     disks::copies(&rt, rt.alloc())?;
     disks::images(&rt, rt.alloc())?;
-    disks::chains(&rt, rt.alloc())
+    disks::chains(&rt, rt.alloc())?;
+    circles::images(&rt, rt.alloc())
 }

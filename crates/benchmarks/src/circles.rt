@@ -1,0 +1,55 @@
+use crate::disks::{failed, report, stamp, sum_of_all};
+use cbm_d64::D64Disk;
+use cbm_g64::G64Disk;
+use cbm_medium::Medium;
+use std::alloc::Global;
+use std::io;
+use std::rt::Runtime;
+use std::time::Instant;
+
+/// How often each call is timed.
+const TIMES: u32 = 10;
+
+/// How often a sector is written.
+const WRITES: u32 = 1_000;
+
+/// The bytes of a D64 image.
+const IMAGE: usize = 174_848;
+
+/// A G64 image made of zeros, read again, each of its sectors read, and one written.
+pub fn images(rt: &impl Runtime, alloc: Global) -> io::Result<()> {
+    let file = made(rt, alloc)?;
+    let start = Instant::now(rt)?;
+    for _ in 0..TIMES {
+        let _disk = G64Disk::from_bytes(alloc, file.as_slice(), false).map_err(|_| failed())?;
+    }
+    report(rt, "G64Disk::from_bytes", &start, TIMES)?;
+    let mut disk = G64Disk::from_bytes(alloc, file.as_slice(), false).map_err(|_| failed())?;
+    let start = Instant::now(rt)?;
+    for _ in 0..WRITES {
+        stamp(&mut disk, 1);
+    }
+    report(rt, "G64Disk::write of 18/0", &start, WRITES)?;
+    let start = Instant::now(rt)?;
+    let mut sum = 0u32;
+    for _ in 0..TIMES {
+        sum = sum.wrapping_add(sum_of_all(&disk));
+    }
+    report(rt, "G64Disk::read of 683 sectors", &start, TIMES)?;
+    if sum == 0 { Err(failed()) } else { Ok(()) }
+}
+
+/// The G64 image of a D64 image of zeros, and the time that it takes.
+fn made(rt: &impl Runtime, alloc: Global) -> io::Result<Vec<u8>> {
+    let image = vec![in alloc; 0; IMAGE]?;
+    let disk = D64Disk::from_bytes(alloc, image.as_slice(), false).map_err(|_| failed())?;
+    if disk.tracks() != 35 {
+        return Err(failed());
+    }
+    let start = Instant::now(rt)?;
+    for _ in 0..TIMES {
+        let _file = G64Disk::from_sectors(alloc, &disk, [65, 66]).map_err(|_| failed())?;
+    }
+    report(rt, "G64Disk::from_sectors", &start, TIMES)?;
+    G64Disk::from_sectors(alloc, &disk, [65, 66]).map_err(|_| failed())
+}
