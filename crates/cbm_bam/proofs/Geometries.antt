@@ -1,9 +1,9 @@
 -- No call but a format changes how many tracks a disk uses.
-use Rattle.std.proofs.Common.{◌≡◌, ◌≢◌, ◌⊎◌, ℕ, zero, suc, ◌+◌, ◌-◌, ◌*◌, ◌/◌, ◌%◌, ◌<◌, ◌≤◌, List, [], ◌∷◌, length, get_or, Bool, true, false, refl, sym, ap, ◌∙◌, arith, inl, inr}
-use Rattle.std.specs.Prelude.{◌==◌, ◌&&◌, if◌then◌else◌, nat_lt}
+use Rattle.std.proofs.Common.{◌≡◌, ℕ, ◌+◌, ◌*◌, ◌/◌, ◌%◌, ◌≤◌, List, get_or, Bool, true, false, refl, sym, ap, ◌∙◌, arith, inl, inr}
+use Rattle.std.specs.Prelude.{◌==◌, ◌&&◌}
 use Rattle.std.specs.Int.{bit_at}
 use Rattle.std.proofs.lemmas.Bool.{eq-eqb, le-ltb}
-use Rattle.cbm_medium.specs.Place.{Place, sectors_on, Has}
+use Rattle.cbm_medium.specs.Place.{Place}
 use Rattle.cbm_bam.specs.Map.{count_index, is_free_in, count_in, tally, IsCounted, IsMapped, is_wide, tracks_if, geometry, at}
 use Rattle.cbm_bam.proofs.Counts.{tally_same}
 
@@ -43,7 +43,7 @@ narrow old new free m =
 pub geometry_stays : (medium : ℕ) (old new : List ℕ) (free : Place → Bool) → IsCounted (geometry medium old) old → IsMapped (geometry medium old) old new free → geometry medium new ≡ geometry medium old
 geometry_stays medium old new free c m = go (medium == 40) (is_wide old) refl c m
   where
-  go : (a b : Bool) → is_wide old ≡ b → IsCounted (tracks_if (a && b)) old → IsMapped (tracks_if (a && b)) old new free → tracks_if (a && is_wide new) ≡ tracks_if (a && is_wide old)
-  go true true e c m = ap tracks_if (wide new (m.counted c) ∙ sym e)
-  go true false e c m = ap tracks_if (narrow old new free m)
-  go false b e c m = refl
+    go : (a b : Bool) → is_wide old ≡ b → IsCounted (tracks_if (a && b)) old → IsMapped (tracks_if (a && b)) old new free → tracks_if (a && is_wide new) ≡ tracks_if (a && is_wide old)
+    go true true e c m = ap tracks_if (wide new (m.counted c) ∙ sym e)
+    go true false e c m = ap tracks_if (narrow old new free m)
+    go false b e c m = refl

@@ -92,7 +92,11 @@ pub fn free_blocks(map: &[u8; 256], tracks: u8) -> u16
 pub fn is_wide(map: &[u8; 256]) -> bool
     ensures { result ≡ is_wide map.now }
 {
-    is_counted(map, 36) && is_counted(map, 37) && is_counted(map, 38) && is_counted(map, 39) && is_counted(map, 40)
+    is_counted(map, 36)
+        && is_counted(map, 37)
+        && is_counted(map, 38)
+        && is_counted(map, 39)
+        && is_counted(map, 40)
 }
 
 fn is_counted(map: &[u8; 256], track: u8) -> bool

@@ -28,9 +28,7 @@ pub fn geometry<M: Medium>(medium: &M) -> Geometry
 pub fn read_map<M: Medium>(medium: &M, geometry: Geometry) -> Result<[u8; 256], Trouble>
     requires { geometry ≤ M.tracks medium.now }
     ensures ok { IfOk result (λ map. M.content medium.now directory_head ≡ Ok map) }
-    ensures err {
-        IfErr result (λ t. (M.content medium.now directory_head ≡ Err t.code) × (t.track ≡ 18) × (t.sector ≡ 0))
-    }
+    ensures err { IfErr result (λ t. (M.content medium.now directory_head ≡ Err t.code) × (t.track ≡ 18) × (t.sector ≡ 0)) }
 {
     prove!(geometry.tracks() >= 35);
     let map = medium.read(Address::of_map())?;
@@ -42,9 +40,7 @@ pub fn is_free<M: Medium>(medium: &M, geometry: Geometry, at: Address) -> Result
     requires { geometry ≤ M.tracks medium.now }
     ensures ok { IfOk result (λ free. free ≡ is_free_in (map_of (M.content medium.now)) at) }
     ensures read { OnOk result (IsOk (M.content medium.now directory_head)) }
-    ensures err {
-        IfErr result (λ t. (M.content medium.now directory_head ≡ Err t.code) × (t.track ≡ 18) × (t.sector ≡ 0))
-    }
+    ensures err { IfErr result (λ t. (M.content medium.now directory_head ≡ Err t.code) × (t.track ≡ 18) × (t.sector ≡ 0)) }
 {
     let map = read_map(medium, geometry)?;
     Ok(map::has(&map, at))
@@ -55,9 +51,7 @@ pub fn free_blocks<M: Medium>(medium: &M, geometry: Geometry) -> Result<u16, Tro
     requires { geometry ≤ M.tracks medium.now }
     ensures ok { IfOk result (λ free. free ≡ free_in geometry (map_of (M.content medium.now))) }
     ensures read { OnOk result (IsOk (M.content medium.now directory_head)) }
-    ensures err {
-        IfErr result (λ t. (M.content medium.now directory_head ≡ Err t.code) × (t.track ≡ 18) × (t.sector ≡ 0))
-    }
+    ensures err { IfErr result (λ t. (M.content medium.now directory_head ≡ Err t.code) × (t.track ≡ 18) × (t.sector ≡ 0)) }
 {
     let map = read_map(medium, geometry)?;
     Ok(map::free_blocks(&map, geometry.tracks()))

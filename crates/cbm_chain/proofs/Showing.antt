@@ -1,5 +1,5 @@
 -- The byte that waits, and whether more follows it.
-use Rattle.std.proofs.Common.{◌≡◌, ℕ, ◌-◌, ◌<◌, ◌≤◌, List, [], ◌∷◌, length, take, drop, ◌++◌, Option, Some, None, refl, sym, ap, ◌∙◌, arith, inl, inr, Bool, true, false}
+use Rattle.std.proofs.Common.{◌≡◌, ℕ, ◌-◌, ◌<◌, ◌≤◌, List, [], ◌∷◌, length, take, drop, ◌++◌, Option, Some, None, refl, sym, ap, ◌∙◌, arith, inl, inr, false}
 use Rattle.std.specs.Prelude.{◌==◌, slice_range, option_to_list}
 use Rattle.std.proofs.lemmas.Bool.{cases_eq, eq-eqb, ne_eqb}
 use Rattle.std.proofs.lemmas.List.{length-take-le, length-drop}
@@ -19,10 +19,10 @@ followed byte (x ∷ xs) h = refl
 
 pub shown_next : (byte : ℕ) (xs : List ℕ) (from to : ℕ) → from ≤ to → to ≤ length xs → shown (byte ∷ slice_range xs from to) ≡ Some (byte, from == to)
 shown_next byte xs from to h k = elim (cases_eq from to) [
-    inl e ↦ ap (λ ys. shown (byte ∷ ys)) (range_empty xs from to (omega arith)) ∙ (λ i. Some (byte, sym (eq-eqb from to e) i))
+  | inl e ↦ ap (λ ys. shown (byte ∷ ys)) (range_empty xs from to (omega arith)) ∙ (λ i. Some (byte, sym (eq-eqb from to e) i))
   | inr ne ↦ followed byte (slice_range xs from to) (omega (arith, length-take-le (to - from) (drop from xs) (omega (arith, length-drop {A = ℕ} from xs)), length-drop {A = ℕ} from xs))
       ∙ (λ i. Some (byte, sym (ne_eqb from to ne) i))
-  ]
+]
 
 -- nothing is left behind a link of track 0
 pub held_end : (tracks : ℕ) (content : Content) (left : ℕ) (at : Place) → at.track ≡ 0 → (held_from tracks content left at).bytes ≡ []

@@ -27,20 +27,21 @@ fn end_of(sector: &[u8; 256]) -> usize
 
 /// Reads the sector that a link names, where so many sectors are left to the chain.
 #[tactic(auto, unfolding(crate::specs::Reading::held_from))]
-pub fn load<M: Medium>(medium: &M, geometry: Geometry, at: Link, left: u16) -> Result<Loaded, Trouble>
+pub fn load<M: Medium>(
+    medium: &M,
+    geometry: Geometry,
+    at: Link,
+    left: u16,
+) -> Result<Loaded, Trouble>
     requires tracks { geometry ≤ M.tracks medium.now }
     requires going { at.track ≢ 0 }
-    ensures ok {
-        let content = M.content medium.now in
+    ensures ok { let content = M.content medium.now in
         IfOk result (λ l. held_from geometry content left at
-            ≡ with_front (slice_range l.sector 2 l.to) (held_from geometry content (left - 1) l.next))
-    }
+        ≡ with_front (slice_range l.sector 2 l.to) (held_from geometry content (left - 1) l.next)) }
     ensures left { OnOk result (0 < left) }
     ensures bounds { IfOk result (λ l. (2 ≤ l.to) × (l.to ≤ 256)) }
     ensures whole { IfOk result (λ l. l.next.track ≢ 0 → l.to ≡ 256) }
-    ensures err {
-        IfErr result (λ t. held_from geometry (M.content medium.now) left at ≡ (record { bytes = []; trouble = Some t }))
-    }
+    ensures err { IfErr result (λ t. held_from geometry (M.content medium.now) left at ≡ (record { bytes = []; trouble = Some t })) }
 {
     let sector = read_linked(medium, geometry, at, left)?;
     let to = end_of(&sector);

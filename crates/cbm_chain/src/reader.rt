@@ -27,19 +27,15 @@ impl Model for ChainReader {
 
     ghost Value = { Reading };
 
-    ghost view = {
-        λ r. record {
-            tracks = r.geometry;
-            bytes = option_to_list r.waiting ++ slice_range r.sector r.from r.to;
-            next = r.next;
-            left = r.left;
-        }
-    };
+    ghost view = { λ r. record {
+      tracks = r.geometry;
+      bytes = option_to_list r.waiting ++ slice_range r.sector r.from r.to;
+      next = r.next;
+      left = r.left;
+    } };
 
-    ghost invariant = {
-        λ r. (r.from ≤ r.to) × (r.to ≤ 256) × (r.to ≤ r.from → r.next.track ≡ 0) × (r.waiting ≡ None → r.to ≤ r.from)
-            × (length r.sector ≡ 256)
-    };
+    ghost invariant = { λ r. (r.from ≤ r.to) × (r.to ≤ 256) × (r.to ≤ r.from → r.next.track ≡ 0) × (r.waiting ≡ None → r.to ≤ r.from)
+        × (length r.sector ≡ 256) };
 }
 
 /// The byte at a place of a sector, where the place is before the end, and the place behind it.
@@ -63,14 +59,10 @@ impl ChainReader {
     #[tactic(auto, unfolding(crate::specs::Reading::rest_of))]
     pub fn open<M: Medium>(medium: &M, geometry: Geometry, at: Link) -> Result<ChainReader, Trouble>
         requires { geometry ≤ M.tracks medium.now }
-        ensures ok {
-            let content = M.content medium.now in
-            IfOk result (λ r. rest_of content r ≡ held_from geometry content (sector_count geometry) at)
-        }
-        ensures err {
-            IfErr result (λ t. held_from geometry (M.content medium.now) (sector_count geometry) at
-                ≡ (record { bytes = []; trouble = Some t }))
-        }
+        ensures ok { let content = M.content medium.now in
+            IfOk result (λ r. rest_of content r ≡ held_from geometry content (sector_count geometry) at) }
+        ensures err { IfErr result (λ t. held_from geometry (M.content medium.now) (sector_count geometry) at
+            ≡ (record { bytes = []; trouble = Some t })) }
         ensures tracks { IfOk result (λ r. r.tracks ≡ geometry) }
         ensures settled { IfOk result IsSettled }
     {
@@ -114,14 +106,10 @@ impl ChainReader {
     #[tactic(auto, unfolding(crate::specs::Reading::rest_of))]
     pub fn taken<M: Medium>(&mut self, medium: &M) -> Result<(), Trouble>
         requires { self.old.tracks ≤ M.tracks medium.now }
-        ensures ok {
-            let content = M.content medium.now in
-            OnOk result (rest_of content self.new ≡ one_less (rest_of content self.old))
-        }
-        ensures err {
-            let rest = rest_of (M.content medium.now) self.old in
-            IfErr result (λ t. (rest.trouble ≡ Some t) × (self.new.bytes ≡ drop 1 rest.bytes))
-        }
+        ensures ok { let content = M.content medium.now in
+            OnOk result (rest_of content self.new ≡ one_less (rest_of content self.old)) }
+        ensures err { let rest = rest_of (M.content medium.now) self.old in
+            IfErr result (λ t. (rest.trouble ≡ Some t) × (self.new.bytes ≡ drop 1 rest.bytes)) }
         ensures end { OnErr result ((self.new.next.track ≡ 0) × (length self.new.bytes ≤ 1)) }
         ensures tracks { self.new.tracks ≡ self.old.tracks }
         ensures settled { IsSettled self.new }

@@ -1,14 +1,14 @@
 -- One step through the list of the directory's entries.
-use Rattle.std.proofs.Common.{◌≡◌, ◌≢◌, ℕ, zero, suc, ◌+◌, ◌-◌, ◌*◌, ◌<◌, ◌≤◌, List, [], ◌∷◌, ◌++◌, length, Bool, true, false, Option, Some, None, Result, Ok, Err, refl, sym, ap, subst, ◌∙◌, arith}
+use Rattle.std.proofs.Common.{◌≡◌, ℕ, suc, ◌+◌, ◌-◌, ◌*◌, ◌<◌, ◌≤◌, List, [], ◌∷◌, ◌++◌, length, Bool, true, false, Option, Some, None, Result, Ok, Err, refl, sym, ap, ◌∙◌, arith}
 use Rattle.std.specs.Prelude.{slice_get, is_some, if◌then◌else◌}
 use Rattle.std.proofs.lemmas.List.{append-nil, append_assoc, length-append}
 use Rattle.cbm_medium.specs.Place.{Place}
 use Rattle.cbm_medium.specs.Content.{Cell, Content}
-use Rattle.cbm_medium.specs.Links.{or_nothing, bytes_at, link, Followed, follow, with_block}
+use Rattle.cbm_medium.specs.Links.{or_nothing, link, follow, with_block}
 use Rattle.cbm_medium.specs.declared.fault.Trouble.{Trouble}
 use Rattle.cbm_medium.proofs.Walks.{follow_end}
 use Rattle.cbm_directory.specs.Entries.{entry_of}
-use Rattle.cbm_directory.specs.Slots.{entries_from, all_entries, Listed, listed_in, listed_from, behind, first_from, Answers, Gives}
+use Rattle.cbm_directory.specs.Slots.{entries_from, Listed, listed_in, listed_from, behind, first_from, Answers, Gives}
 
 pub listed_end : (tracks : ℕ) (content : Content) (left : ℕ) (at : Place) → at.track ≡ 0 → listed_from tracks content left at ≡ record { entries = []; trouble = None }
 unfolding listed_from
@@ -69,10 +69,10 @@ none_passed whole = record { front = []; number = refl; same = refl }
 
 pub one_passed : (whole old new : Listed) (n : ℕ) (entry : List ℕ) → Passed whole n old → Gives old new (Ok (Some entry)) → Passed whole (n + 1) new
 one_passed whole old new n entry p h = record {
-    front = p.front ++ entry ∷ [];
-    number = omega (arith, length-append p.front (entry ∷ []), p.number);
-    same = p.same ∙ ap (behind p.front) h ∙ (λ i. record { entries = sym (append_assoc p.front (entry ∷ []) new.entries) i; trouble = new.trouble });
-  }
+  front = p.front ++ entry ∷ [];
+  number = omega (arith, length-append p.front (entry ∷ []), p.number);
+  same = p.same ∙ ap (behind p.front) h ∙ (λ i. record { entries = sym (append_assoc p.front (entry ∷ []) new.entries) i; trouble = new.trouble });
+}
 
 at_end : (front : List (List ℕ)) (entry : List ℕ) (more : List (List ℕ)) (n : ℕ) → length front ≡ n → slice_get (front ++ entry ∷ more) n ≡ Some entry
 at_end [] entry more n e = ap (slice_get (entry ∷ more)) (sym e)
@@ -82,7 +82,7 @@ pub ended : (whole old : Listed) (n m : ℕ) (t : Option Trouble) → Passed who
     → (length whole.entries ≤ m) × (whole.trouble ≡ t)
 ended whole old n m t p h e =
     let all : whole ≡ record { entries = p.front; trouble = t } =
-        p.same ∙ ap (behind p.front) e ∙ (λ i. record { entries = append-nil p.front i; trouble = t }) in
+    p.same ∙ ap (behind p.front) e ∙ (λ i. record { entries = append-nil p.front i; trouble = t }) in
     (omega (arith, ap (λ (d : Listed). length d.entries) all, p.number), ap (λ (d : Listed). d.trouble) all)
 
 pub answered : (whole old new : Listed) (n m : ℕ) (r : Result (Option (List ℕ)) Trouble) → Passed whole n old → n ≡ m → Gives old new r → Answers whole m r
@@ -104,15 +104,15 @@ pub record Looked (test : List ℕ → Bool) (whole : Listed) (n : ℕ) (rest : 
 
 pub looked_none : (test : List ℕ → Bool) (whole rest : Listed) → rest ≡ whole → Looked test whole 0 rest
 looked_none test whole rest e = record {
-    found = ap (λ (d : Listed). first_from test 0 d.entries) (sym e);
-    trouble = ap (λ (d : Listed). d.trouble) (sym e);
-  }
+  found = ap (λ (d : Listed). first_from test 0 d.entries) (sym e);
+  trouble = ap (λ (d : Listed). d.trouble) (sym e);
+}
 
 pub looked_past : (test : List ℕ → Bool) (whole old new : Listed) (n : ℕ) (entry : List ℕ) → Looked test whole n old → Gives old new (Ok (Some entry)) → test entry ≡ false → Looked test whole (n + 1) new
 looked_past test whole old new n entry l h f = record {
-    found = l.found ∙ ap (λ (d : Listed). first_from test n d.entries) h ∙ ap (λ (b : Bool). if b then Some (n, entry) else first_from test (n + 1) new.entries) f;
-    trouble = l.trouble ∙ ap (λ (d : Listed). d.trouble) h;
-  }
+  found = l.found ∙ ap (λ (d : Listed). first_from test n d.entries) h ∙ ap (λ (b : Bool). if b then Some (n, entry) else first_from test (n + 1) new.entries) f;
+  trouble = l.trouble ∙ ap (λ (d : Listed). d.trouble) h;
+}
 
 pub found_here : (test : List ℕ → Bool) (whole old new : Listed) (n : ℕ) (entry : List ℕ) → Looked test whole n old → Gives old new (Ok (Some entry)) → test entry ≡ true
     → first_from test 0 whole.entries ≡ Some (n, entry)

@@ -9,10 +9,15 @@ use std::ops::Range;
 
 /// Where the parts of an entry stand, counted from its type byte (Inside Commodore DOS).
 const TYPE: usize = 0;
+
 const FIRST_BLOCK: usize = 1;
+
 const NAME: Range<usize> = 3..19;
+
 const FIRST_SIDE: usize = 19;
+
 const RECORD_LENGTH: usize = 21;
+
 const BLOCKS: usize = 28;
 
 /// An entry of the directory: thirty bytes, of which the first is the type byte.

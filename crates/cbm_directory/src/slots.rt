@@ -27,14 +27,12 @@ impl Model for Slots {
 
     ghost Value = { Cursor };
 
-    ghost view = {
-        λ s. record {
-            tracks = s.geometry;
-            entries = entries_from (8 - s.number) s.sector s.number;
-            next = s.next;
-            left = s.left;
-        }
-    };
+    ghost view = { λ s. record {
+      tracks = s.geometry;
+      entries = entries_from (8 - s.number) s.sector s.number;
+      next = s.next;
+      left = s.left;
+    } };
 
     ghost invariant = { λ s. (s.number ≤ 8) × (length s.sector ≡ 256) };
 }
@@ -120,7 +118,11 @@ pub trait Wanted {
 
 /// The first entry that is wanted, and the number of its slot; None where none is. An `Err` is what breaks the directory off
 /// before one was met.
-pub fn find<M: Medium, W: Wanted>(medium: &M, geometry: Geometry, wanted: &W) -> Result<Option<(u8, Entry)>, Trouble>
+pub fn find<M: Medium, W: Wanted>(
+    medium: &M,
+    geometry: Geometry,
+    wanted: &W,
+) -> Result<Option<(u8, Entry)>, Trouble>
     requires { geometry ≤ M.tracks medium.now }
     ensures { Finds (W.wants wanted.now) (directory_of geometry (M.content medium.now)) result }
 {

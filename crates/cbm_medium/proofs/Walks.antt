@@ -1,8 +1,7 @@
 -- Following links, and the chains that it gives.
-use Rattle.std.proofs.Common.{◌≡◌, ◌≢◌, ◌⊎◌, ℕ, zero, suc, ◌+◌, ◌<◌, ◌≤◌, List, [], ◌∷◌, length, Bool, true, false, Option, Some, None, Result, Ok, Err, IsOk, arith, inl, inr, ap, refl, sym, subst, ◌∙◌, cond}
-use Rattle.std.specs.Prelude.{if◌then◌else◌, nat_lt}
-use Rattle.std.proofs.lemmas.Bool.{lt-ltb, eq-eqb, ne_eqb, cases_eq, true≢false, false≢true}
-use Rattle.cbm_medium.specs.Place.{Place, Has, has, sectors_on, is_place}
+use Rattle.std.proofs.Common.{◌≡◌, ◌≢◌, ◌⊎◌, ℕ, zero, suc, ◌+◌, ◌<◌, ◌≤◌, List, [], ◌∷◌, length, Bool, true, false, Option, Some, None, Ok, Err, IsOk, arith, inl, inr, ap, refl, sym, subst, ◌∙◌}
+use Rattle.std.proofs.lemmas.Bool.{lt-ltb, eq-eqb, ne_eqb, cases_eq}
+use Rattle.cbm_medium.specs.Place.{Place, Has, has, sectors_on}
 use Rattle.cbm_medium.specs.Content.{Cell, Content, written}
 use Rattle.cbm_medium.specs.declared.fault.Trouble.{Trouble}
 use Rattle.cbm_medium.specs.Links.{or_nothing, bytes_at, link, Leads, Chain, Stops, IsCut, Followed, ended, cut_at, with_block, behind, follow, AllSame, IsApart}

@@ -1,5 +1,5 @@
 -- Sectors that name the next one in their first two bytes: the chains of files and the directory.
-use Rattle.std.specs.Prelude.{ℕ, zero, suc, ◌+◌, ◌<◌, ◌≤◌, ◌≡◌, ◌≢◌, ◌⊎◌, ◌==◌, List, [], ◌∷◌, Bool, true, false, if◌then◌else◌, length, slice_index, Option, Some, None, Result, Ok, Err, IsOk}
+use Rattle.std.specs.Prelude.{ℕ, zero, suc, ◌+◌, ◌<◌, ◌≤◌, ◌≡◌, ◌≢◌, ◌⊎◌, ◌==◌, List, [], ◌∷◌, false, if◌then◌else◌, length, slice_index, Option, Some, None, Ok, Err, IsOk}
 use Rattle.cbm_medium.specs.Place.{Place, Has, has}
 use Rattle.cbm_medium.specs.Content.{Cell, Content}
 use Rattle.cbm_medium.specs.declared.fault.Trouble.{Trouble}

@@ -1,8 +1,8 @@
 -- The file of an entry that the drive wrote.
-use Rattle.std.proofs.Common.{◌≡◌, ℕ, ◌+◌, ◌*◌, ◌/◌, ◌%◌, ◌^◌, List, length, Bool, true, false, refl, ap, ◌∙◌}
-use Rattle.std.specs.Prelude.{◌==◌, ◌&&◌, if◌then◌else◌}
+use Rattle.std.proofs.Common.{◌≡◌, ℕ, ◌+◌, ◌%◌, List, length, Bool, true, false, refl, ap, ◌∙◌}
+use Rattle.std.specs.Prelude.{◌==◌, ◌&&◌}
 use Rattle.cbm_medium.specs.Place.{Place}
-use Rattle.cbm_file.specs.Files.{File, Body, Bytes}
+use Rattle.cbm_file.specs.Files.{Bytes}
 use Rattle.cbm_directory.specs.Entries.{first_block, is_closed, is_relative, bit_of, kind_of, name_in}
 use Rattle.cbm_file.specs.Padding.{before_filler}
 use Rattle.cbm_volume.specs.Blocks.{Blocks, IsBody, file_of, body_as}
@@ -16,9 +16,9 @@ unfolding file_of name_in
 file_of_body body name bytes type shown first b h plain =
     let r : is_relative body ≡ false = ap (λ (x : ℕ). x % 16 == 4) h.kind ∙ plain in
     let y : body_as (is_closed body && is_relative body) bytes body b ≡ Bytes bytes =
-        ap (λ (x : Bool). body_as (is_closed body && x) bytes body b) r ∙ never (is_closed body) in
+    ap (λ (x : Bool). body_as (is_closed body && x) bytes body b) r ∙ never (is_closed body) in
     λ i. record { kind = kind_of (h.kind i % 16); closed = bit_of (h.kind i) 7; locked = bit_of (h.kind i) 6; name = before_filler (h.named i); shown = h.blocks i; held = length b.data_blocks + length b.sides; body = y i }
   where
-  never : (x : Bool) → body_as (x && false) bytes body b ≡ Bytes bytes
-  never true = refl
-  never false = refl
+    never : (x : Bool) → body_as (x && false) bytes body b ≡ Bytes bytes
+    never true = refl
+    never false = refl

@@ -1,15 +1,14 @@
 -- A writer's blocks become a file's.
-use Rattle.std.proofs.Common.{◌≡◌, ◌≢◌, ◌⊎◌, ℕ, ◌+◌, ◌*◌, ◌/◌, ◌%◌, ◌<◌, ◌≤◌, List, [], ◌∷◌, ◌++◌, length, Bool, true, false, Ok, IsOk, refl, sym, ap, subst, ◌∙◌, arith, inl, inr, Option, Some, None}
+use Rattle.std.proofs.Common.{◌≡◌, ◌≢◌, ◌⊎◌, ℕ, ◌%◌, ◌<◌, List, [], ◌∷◌, ◌++◌, Bool, true, false, IsOk, refl, sym, ap, subst, ◌∙◌, inl, inr}
 use Rattle.std.proofs.lemmas.List.{append_assoc, append-nil}
 use Rattle.cbm_medium.specs.Place.{Place, Has}
 use Rattle.cbm_medium.specs.Content.{Cell, Content}
 use Rattle.cbm_medium.specs.Links.{bytes_at, link, Chain, or_nothing, IsApart}
 use Rattle.cbm_file.specs.Files.{Disk, with_slot}
-use Rattle.cbm_bam.specs.Map.{is_free_in, map_of}
 use Rattle.cbm_chain.specs.Data.{data_of, chain_bytes}
 use Rattle.cbm_directory.specs.Entries.{type_byte, first_block, is_closed, is_relative, sector_of, Enters}
 use Rattle.cbm_volume.specs.Blocks.{Blocks, no_blocks, Lies, LiesAs, slot_of}
-use Rattle.cbm_volume.specs.Layouts.{Owner, Nobody, Directory, DataOf, SideOf, Writer, is_loose, OwnedBy, Layout, IsOwned, slot_count, Stands, Extends, own}
+use Rattle.cbm_volume.specs.Layouts.{Owner, Nobody, DataOf, SideOf, Writer, is_loose, OwnedBy, Layout, IsOwned, slot_count, Stands, Extends, own}
 use Rattle.cbm_volume.specs.Writers.{Part, part_bytes, last_of}
 use Rattle.cbm_medium.proofs.Places.{place_decide}
 use Rattle.cbm_volume.proofs.OneSlot.{with_file}
@@ -23,9 +22,9 @@ own_all owner (x ∷ xs) o = own (own_all owner xs o) x o
 own_all_was : (owner : Place → Owner) (xs : List Place) (o : Owner) (q : Place) → (own_all owner xs o q ≡ o) ⊎ (own_all owner xs o q ≡ owner q)
 own_all_was owner [] o q = inr refl
 own_all_was owner (x ∷ xs) o q = elim (place_decide x q) [
-    inl e ↦ inl (ap (own_all owner (x ∷ xs) o) (sym e) ∙ own_there (own_all owner xs o) x o)
+  | inl e ↦ inl (ap (own_all owner (x ∷ xs) o) (sym e) ∙ own_there (own_all owner xs o) x o)
   | inr ne ↦ (elim (own_all_was owner xs o q) [ inl a ↦ inl (own_elsewhere (own_all owner xs o) x q o ne ∙ a) | inr b ↦ inr (own_elsewhere (own_all owner xs o) x q o ne ∙ b) ])
-  ]
+]
 
 pub own_all_keeps : (owner : Place → Owner) (from o p : Owner) (xs : List Place) (q : Place) → OwnedBy owner from xs → from ≢ p → owner q ≡ p → own_all owner xs o q ≡ p
 own_all_keeps owner from o p [] q w ne e = e
@@ -55,10 +54,10 @@ all_off_18 owner (x ∷ xs) o p q h t e = all_off_18 owner xs o p q h.1 t (sym (
 
 pub extends_all : (l : Layout) (ch n : ℕ) (xs : List Place) → IsOwned l → OwnedBy l.owner (Writer ch) xs → AllOff xs → Extends l n (own_all l.owner xs (DataOf n))
 extends_all l ch n xs w h off = record {
-    keeps = λ q o k e. own_all_keeps l.owner (Writer ch) (DataOf n) o xs q h (λ z. (let y = ap is_loose z ∙ k.part in (cc))) e;
-    on_18 = λ q e. elim (own_all_was l.owner xs (DataOf n) q) [ inl a ↦ absurd (let z = sym a ∙ e in (cc)) | inr b ↦ w.on_18 q (sym b ∙ e) ];
-    off_18 = λ q t m. (λ e. (w.off_18 q t m).0 (all_off_18 l.owner xs (DataOf n) (DataOf m) q off t e), λ e. (w.off_18 q t m).1 (all_off_18 l.owner xs (DataOf n) (SideOf m) q off t e));
-  }
+  keeps = λ q o k e. own_all_keeps l.owner (Writer ch) (DataOf n) o xs q h (λ z. (let y = ap is_loose z ∙ k.part in (cc))) e;
+  on_18 = λ q e. elim (own_all_was l.owner xs (DataOf n) q) [ inl a ↦ absurd (let z = sym a ∙ e in (cc)) | inr b ↦ w.on_18 q (sym b ∙ e) ];
+  off_18 = λ q t m. (λ e. (w.off_18 q t m).0 (all_off_18 l.owner xs (DataOf n) (DataOf m) q off t e), λ e. (w.off_18 q t m).1 (all_off_18 l.owner xs (DataOf n) (SideOf m) q off t e));
+}
 
 -- the blocks of a writer whose last one is written as the last are a chain
 pub part_chain : (tracks : ℕ) (c : Content) (b : Place) (rest : List Place) → Part tracks c (b ∷ rest) → IsOk (c (last_of b rest)) → (link (bytes_at c (last_of b rest))).track ≡ 0 → Chain tracks c b (b ∷ rest)
@@ -76,27 +75,27 @@ pub stands_finish : (tracks : ℕ) (c c' : Content) (l : Layout) (d : Disk) (n c
     → OwnedBy l.owner (Writer ch) (first ∷ more) → Part tracks c (first ∷ more) → IsOk (c (last_of first more)) → (link (bytes_at c (last_of first more))).track ≡ 0
     → Enters c c' s (n % 8) body → type_byte body % 16 < 5 → is_closed body ≡ true → is_relative body ≡ false → first_block body ≡ first
     → Stands tracks c' (with_file l n (record { data_blocks = first ∷ more; sides = [] }) (own_all l.owner (first ∷ more) (DataOf n)))
-        (with_slot d n (slot_of c body (record { data_blocks = first ∷ more; sides = [] })))
+    (with_slot d n (slot_of c body (record { data_blocks = first ∷ more; sides = [] })))
 stands_finish tracks c c' l d n ch s first more body st k at w part ok z e t cl rel fb =
     let entry : List ℕ = body in
     let b : Blocks = record { data_blocks = first ∷ more; sides = [] } in
     let chain : Chain tracks c (first_block entry) (first ∷ more) = subst (λ (x : Place). Chain tracks c x (first ∷ more)) (sym fb) (part_chain tracks c first more part ok z) in
     let lies : Lies tracks c entry b = subst (λ (x : Bool). LiesAs x (is_relative entry) tracks c entry b) (sym cl) (subst (λ (x : Bool). LiesAs true x tracks c entry b) (sym rel) (chain, refl)) in
     stands_entry tracks c c' l d n s body b (own_all l.owner (first ∷ more) (DataOf n)) st k at e t lies
-      (extends_all l ch n (first ∷ more) st.sound.owned w (part_off tracks c (first ∷ more) part)) (own_all_there l.owner (first ∷ more) (DataOf n)) tt
-      (λ q h f. own_all_keeps l.owner (Writer ch) (DataOf n) Nobody (first ∷ more) q w (λ y. (cc)) (st.sound.free q h f))
+    (extends_all l ch n (first ∷ more) st.sound.owned w (part_off tracks c (first ∷ more) part)) (own_all_there l.owner (first ∷ more) (DataOf n)) tt
+    (λ q h f. own_all_keeps l.owner (Writer ch) (DataOf n) Nobody (first ∷ more) q w (λ y. (cc)) (st.sound.free q h f))
 
 -- ---- an append: the blocks of a file go to a writer, and its entry is opened
 
 pub extends_back : (l : Layout) (ch n : ℕ) (xs : List Place) → IsOwned l → OwnedBy l.owner (DataOf n) xs → Extends l n (own_all l.owner xs (Writer ch))
 extends_back l ch n xs w h = record {
-    keeps = λ q o k e. own_all_keeps l.owner (DataOf n) (Writer ch) o xs q h (λ z. k.not_data (sym z)) e;
-    on_18 = λ q e. elim (own_all_was l.owner xs (Writer ch) q) [ inl a ↦ absurd (let z = sym a ∙ e in (cc)) | inr b ↦ w.on_18 q (sym b ∙ e) ];
-    off_18 = λ q t m. elim (own_all_was l.owner xs (Writer ch) q) [
-        inl a ↦ (λ e. (let z = sym a ∙ e in (cc)), λ e. (let z = sym a ∙ e in (cc)))
-      | inr b ↦ (λ e. (w.off_18 q t m).0 (sym b ∙ e), λ e. (w.off_18 q t m).1 (sym b ∙ e))
-      ];
-  }
+  keeps = λ q o k e. own_all_keeps l.owner (DataOf n) (Writer ch) o xs q h (λ z. k.not_data (sym z)) e;
+  on_18 = λ q e. elim (own_all_was l.owner xs (Writer ch) q) [ inl a ↦ absurd (let z = sym a ∙ e in (cc)) | inr b ↦ w.on_18 q (sym b ∙ e) ];
+  off_18 = λ q t m. elim (own_all_was l.owner xs (Writer ch) q) [
+    | inl a ↦ (λ e. (let z = sym a ∙ e in (cc)), λ e. (let z = sym a ∙ e in (cc)))
+    | inr b ↦ (λ e. (w.off_18 q t m).0 (sym b ∙ e), λ e. (w.off_18 q t m).1 (sym b ∙ e))
+  ];
+}
 
 pub stands_reopen : (tracks : ℕ) (c c' : Content) (l : Layout) (d : Disk) (n ch : ℕ) (s : Place) (body : List ℕ) → Stands tracks c l d → n < slot_count l → s ≡ sector_of l.directory n
     → Enters c c' s (n % 8) body → type_byte body % 16 < 5 → is_closed body ≡ false
@@ -104,9 +103,9 @@ pub stands_reopen : (tracks : ℕ) (c c' : Content) (l : Layout) (d : Disk) (n c
 stands_reopen tracks c c' l d n ch s body st k at e t cl =
     let xs : List Place = (l.files n).data_blocks in
     stands_entry tracks c c' l d n s body no_blocks (own_all l.owner xs (Writer ch)) st k at e t
-      (subst (λ (x : Bool). LiesAs x (is_relative body) tracks c body no_blocks) (sym cl) refl)
-      (extends_back l ch n xs st.sound.owned (st.sound.owned.blocks n k)) tt tt
-      (λ q h f. own_all_keeps l.owner (DataOf n) (Writer ch) Nobody xs q (st.sound.owned.blocks n k) (λ y. (cc)) (st.sound.free q h f))
+    (subst (λ (x : Bool). LiesAs x (is_relative body) tracks c body no_blocks) (sym cl) refl)
+    (extends_back l ch n xs st.sound.owned (st.sound.owned.blocks n k)) tt tt
+    (λ q h f. own_all_keeps l.owner (DataOf n) (Writer ch) Nobody xs q (st.sound.owned.blocks n k) (λ y. (cc)) (st.sound.free q h f))
 
 -- ---- a full block is written, and links to the next one
 
@@ -122,9 +121,14 @@ pub part_push : (tracks : ℕ) (c c' : Content) (owner : Place → Owner) (o : O
     → IsOk (c' (last_of b rest)) → link (bytes_at c' (last_of b rest)) ≡ q → Has tracks q → q.track ≢ 18 → Part tracks c' (b ∷ rest ++ q ∷ [])
 part_push tracks c c' owner o b q [] h w ne same ok to hq off = (h.0, h.1, (λ e. ne (ap owner (sym e) ∙ w.0), tt), ok, to, (hq, off))
 part_push tracks c c' owner o b q (x ∷ xs) h w ne same ok to hq off =
-    let e : c' b ≡ c b = same b (apart_last b x xs h.2) in
-    (h.0, h.1, apart_push b q (x ∷ xs) h.2 (λ z. ne (ap owner (sym z) ∙ w.0)), subst (λ (y : Cell). IsOk y) (sym e) h.3, ap (λ (y : Cell). link (or_nothing y)) e ∙ h.4,
-     part_push tracks c c' owner o x q xs h.5 w.1 ne same ok to hq off)
+    let e : c' b ≡ c b = same b (apart_last b x xs h.2) in (
+      h.0,
+      h.1,
+      apart_push b q (x ∷ xs) h.2 (λ z. ne (ap owner (sym z) ∙ w.0)),
+      subst (λ (y : Cell). IsOk y) (sym e) h.3,
+      ap (λ (y : Cell). link (or_nothing y)) e ∙ h.4,
+      part_push tracks c c' owner o x q xs h.5 w.1 ne same ok to hq off,
+    )
 
 pub part_push_bytes : (tracks : ℕ) (c c' : Content) (b q : Place) (rest : List Place) → Part tracks c (b ∷ rest) → ((p : Place) → p ≢ last_of b rest → c' p ≡ c p)
     → part_bytes c' (b ∷ rest ++ q ∷ []) ≡ part_bytes c (b ∷ rest) ++ data_of (bytes_at c' (last_of b rest))

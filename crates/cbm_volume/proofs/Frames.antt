@@ -1,15 +1,14 @@
 -- What a chain, a file and an entry keep where the sectors that they own keep their contents.
 use Rattle.std.proofs.Common.{◌≡◌, ◌≢◌, ◌⊎◌, ℕ, zero, suc, ◌+◌, ◌-◌, ◌*◌, ◌/◌, ◌%◌, ◌<◌, ◌≤◌, List, [], ◌∷◌, ◌++◌, length, get_or, Bool, true, false, Ok, Err, IsOk, refl, sym, ap, subst, ◌∙◌, arith, inl, inr}
-use Rattle.cbm_medium.specs.Place.{Place, is_place, directory_head, Has}
+use Rattle.cbm_medium.specs.Place.{Place}
 use Rattle.cbm_medium.specs.Content.{Cell, Content, written}
 use Rattle.cbm_medium.specs.Links.{bytes_at, link, Chain}
-use Rattle.cbm_file.specs.Files.{File}
 use Rattle.cbm_chain.specs.Data.{data_of, chain_bytes}
 use Rattle.cbm_relfile.specs.SideSectors.{blocks_listed, sides_listed, Numbered, named_in}
-use Rattle.cbm_directory.specs.Entries.{is_closed, is_relative, first_side, first_block, width_of, sector_of}
-use Rattle.cbm_volume.specs.Blocks.{Blocks, LiesAs, Lies, HasRecords, no_blocks, slot_of, slot_with}
-use Rattle.cbm_volume.specs.Layouts.{Owner, OwnedBy, Layout, slot_count}
-use Rattle.cbm_medium.proofs.Places.{same_place, place_is_itself, place_cases, places_apart, written_there, written_elsewhere}
+use Rattle.cbm_directory.specs.Entries.{is_closed, is_relative, first_side, first_block, width_of}
+use Rattle.cbm_volume.specs.Blocks.{Blocks, LiesAs, Lies, HasRecords, slot_of, slot_with}
+use Rattle.cbm_volume.specs.Layouts.{Owner, OwnedBy}
+use Rattle.cbm_medium.proofs.Places.{written_elsewhere}
 
 -- the sectors of one owner are the same in both
 abbrev pub Keeps : Content → Content → (Place → Owner) → Owner → Type 0
@@ -59,9 +58,13 @@ listed_kept c c' owner o keeps (b ∷ rest) w =
 numbered_kept : (tracks : ℕ) (c c' : Content) (owner : Place → Owner) (o : Owner) (width : ℕ) → Keeps c c' owner o → (n : ℕ) (sides : List Place) → OwnedBy owner o sides → Numbered tracks c width n sides → Numbered tracks c' width n sides
 numbered_kept tracks c c' owner o width keeps n [] w h = tt
 numbered_kept tracks c c' owner o width keeps n (b ∷ rest) w h =
-    let e = sector_kept c c' owner o keeps b w.0 in
-    (h.0, subst (λ (x : Cell). IsOk x) (sym (keeps b w.0)) h.1, ap (λ (x : List ℕ). get_or x 2 0) e ∙ h.2, ap (λ (x : List ℕ). get_or x 3 0) e ∙ h.3,
-     numbered_kept tracks c c' owner o width keeps (n + 1) rest w.1 h.4)
+    let e = sector_kept c c' owner o keeps b w.0 in (
+      h.0,
+      subst (λ (x : Cell). IsOk x) (sym (keeps b w.0)) h.1,
+      ap (λ (x : List ℕ). get_or x 2 0) e ∙ h.2,
+      ap (λ (x : List ℕ). get_or x 3 0) e ∙ h.3,
+      numbered_kept tracks c c' owner o width keeps (n + 1) rest w.1 h.4,
+    )
 
 -- a relative file's side sectors are its own, and its blocks are listed
 records_kept : (tracks : ℕ) (c c' : Content) (owner : Place → Owner) (o : Owner) (e : List ℕ) (b : Blocks) → Keeps c c' owner o → OwnedBy owner o b.sides → HasRecords tracks c e b → HasRecords tracks c' e b

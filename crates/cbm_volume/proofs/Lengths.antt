@@ -1,15 +1,12 @@
 -- How long the chains of a sound disk are: the directory has at most 18 sectors, a file no more blocks than there are.
-use Rattle.std.proofs.Common.{◌≡◌, ◌≢◌, ℕ, zero, suc, ◌+◌, ◌-◌, ◌*◌, ◌<◌, ◌≤◌, ◌⊎◌, inl, inr, List, [], ◌∷◌, length, get_or, Bool, true, false, refl, sym, ap, subst, ◌∙◌, arith}
-use Rattle.std.specs.Prelude.{if◌then◌else◌}
-use Rattle.cbm_medium.specs.Place.{Place, sectors_on, sector_count, directory_head, Has}
+use Rattle.std.proofs.Common.{◌≡◌, ℕ, suc, ◌<◌, ◌≤◌, ◌⊎◌, inl, inr, List, [], ◌∷◌, length, Bool, true, false, refl, sym, ap, subst, ◌∙◌, arith}
+use Rattle.cbm_medium.specs.Place.{Place, sectors_on, sector_count, directory_head}
 use Rattle.cbm_medium.specs.Content.{Content}
 use Rattle.cbm_medium.specs.Links.{bytes_at, link, Chain, IsApart}
-use Rattle.cbm_bam.specs.Map.{tally, with_bit, with_freed, summed, map_of, is_free_in, number}
+use Rattle.cbm_bam.specs.Map.{tally, with_bit, with_freed, summed, map_of, is_free_in}
 use Rattle.cbm_bam.proofs.Counts.{tally_more, tally_most, AreTaken, blocks_on_35, blocks_on_40}
-use Rattle.cbm_volume.specs.Blocks.{Blocks}
-use Rattle.cbm_volume.specs.Layouts.{Owner, Nobody, TheMap, Directory, DataOf, OwnedBy, Layout, Sound, slot_count}
+use Rattle.cbm_volume.specs.Layouts.{Owner, Directory, DataOf, OwnedBy, Layout, Sound}
 use Rattle.cbm_volume.proofs.Chained.{chain_distinct}
-use Rattle.cbm_volume.proofs.Frames.{owned_nth}
 use Rattle.cbm_volume.proofs.Releases.{apart_by_index, freed_other, chain_taken}
 use Rattle.cbm_volume.proofs.Distinct.{at_most_all}
 
@@ -25,7 +22,7 @@ counted_on_18 tracks c owner a (x ∷ xs) on h w =
     let here : x.track ≡ 18 = on x w.0 in
     let room : x.sector < 19 = subst (λ (t : ℕ). x.sector < sectors_on t) here h.1.2 in
     subst (λ (t : ℕ). tally (with_bit (with_freed nothing xs) x true) t 19 ≡ suc (tally (with_freed nothing xs) t 19)) here
-        (tally_more (with_freed nothing xs) x 19 room (freed_other nothing x xs apart))
+    (tally_more (with_freed nothing xs) x 19 room (freed_other nothing x xs apart))
     ∙ ap suc (counted_on_18 tracks c owner (link (bytes_at c x)) xs on h.3 w.1)
 
 -- 18/0 is no sector of the directory
@@ -36,9 +33,9 @@ head_apart tracks c l (x ∷ xs) s w = ((λ e. let z = sym s.owned.map ∙ ap l.
 pub directory_length : (tracks : ℕ) (c : Content) (l : Layout) → Sound tracks c l → length l.directory ≤ 18
 directory_length tracks c l s =
     let counted : tally (with_freed nothing l.directory) 18 19 ≡ length l.directory
-        = counted_on_18 tracks c l.owner (record { track = 18; sector = 1 }) l.directory s.owned.on_18 s.directory s.owned.directory in
+    = counted_on_18 tracks c l.owner (record { track = 18; sector = 1 }) l.directory s.owned.on_18 s.directory s.owned.directory in
     let with_head : tally (with_bit (with_freed nothing l.directory) directory_head true) 18 19 ≡ suc (tally (with_freed nothing l.directory) 18 19)
-        = tally_more (with_freed nothing l.directory) directory_head 19 (omega arith) (freed_other nothing directory_head l.directory (head_apart tracks c l l.directory s s.owned.directory)) in
+    = tally_more (with_freed nothing l.directory) directory_head 19 (omega arith) (freed_other nothing directory_head l.directory (head_apart tracks c l l.directory s s.owned.directory)) in
     omega (arith, tally_most (with_bit (with_freed nothing l.directory) directory_head true) 18 19)
 
 blocks_fit : (tracks : ℕ) → (tracks ≡ 35) ⊎ (tracks ≡ 40) → summed sectors_on tracks ≤ sector_count tracks
@@ -49,5 +46,5 @@ pub file_length : (tracks : ℕ) (c : Content) (l : Layout) (n : ℕ) (a : Place
     → length xs ≤ sector_count tracks
 file_length tracks c l n a xs size s h w =
     let taken : AreTaken tracks (is_free_in (map_of c)) xs
-        = chain_taken tracks c c l (DataOf n) s (λ e. (cc)) (λ p o t. (s.owned.off_18 p t n).0 o) a xs h w in
+    = chain_taken tracks c c l (DataOf n) s (λ e. (cc)) (λ p o t. (s.owned.off_18 p t n).0 o) a xs h w in
     omega (arith, at_most_all tracks (is_free_in (map_of c)) xs taken, blocks_fit tracks size)

@@ -1,23 +1,22 @@
 -- The directory of a sound disk as a list of entries, and the files that these tell of.
-use Rattle.std.proofs.Common.{◌≡◌, ◌≢◌, ◌⊎◌, ℕ, zero, suc, ◌+◌, ◌-◌, ◌*◌, ◌/◌, ◌%◌, ◌<◌, ◌≤◌, List, [], ◌∷◌, ◌++◌, length, get_or, Bool, true, false, Option, Some, None, Result, Ok, Err, refl, sym, ap, subst, ◌∙◌, arith, inl, inr}
+use Rattle.std.proofs.Common.{◌≡◌, ◌⊎◌, ℕ, zero, suc, ◌+◌, ◌-◌, ◌*◌, ◌/◌, ◌%◌, ◌<◌, ◌≤◌, List, [], ◌∷◌, ◌++◌, length, Bool, true, false, Option, Some, None, Result, Ok, Err, refl, sym, ap, ◌∙◌, arith, inl, inr}
 use Rattle.std.specs.Prelude.{IfOk, IfErr, IsOkAnd, slice_get, slice_index_or, if◌then◌else◌, ◌&&◌, ◌==◌}
 use Rattle.std.proofs.lemmas.Option.{slice_get_within}
-use Rattle.std.proofs.lemmas.Bool.{cases_lt, cases_eq, eq-eqb, ne_eqb}
-use Rattle.std.proofs.lemmas.List.{length-append}
+use Rattle.std.proofs.lemmas.Bool.{cases_lt}
 use Rattle.cbm_medium.specs.Place.{Place, directory_head, sector_count}
 use Rattle.cbm_medium.specs.Content.{Cell, Content}
-use Rattle.cbm_medium.specs.Links.{bytes_at, Chain, Followed, follow}
+use Rattle.cbm_medium.specs.Links.{bytes_at, Chain}
 use Rattle.cbm_medium.specs.declared.fault.Trouble.{Trouble}
 use Rattle.cbm_medium.proofs.Walks.{chain_followed}
-use Rattle.cbm_file.specs.Files.{Disk, File, Body, Bytes, Records, file_at}
-use Rattle.cbm_bam.specs.Map.{geometry, geometry_of, geometry_in, is_wide, tracks_if}
+use Rattle.cbm_file.specs.Files.{Disk, File, Bytes}
+use Rattle.cbm_bam.specs.Map.{geometry_of, geometry_in, is_wide, tracks_if}
 use Rattle.cbm_chain.specs.Data.{chain_bytes}
 use Rattle.cbm_chain.specs.Reading.{Rest, Reading, rest_of, held_in, held_from}
-use Rattle.cbm_directory.specs.Entries.{entry_of, sector_of, entry_at, first_directory, first_block, is_closed, is_relative, type_byte, width_of}
+use Rattle.cbm_directory.specs.Entries.{entry_of, entry_at, first_directory, first_block, is_closed, is_relative, type_byte}
 use Rattle.cbm_directory.specs.Slots.{entries_from, all_entries, Listed, listed_in, listed_from, directory_of, Answers}
-use Rattle.cbm_volume.specs.Blocks.{Blocks, Lies, LiesAs, file_of, slot_with, slot_of, body_as, slices}
+use Rattle.cbm_volume.specs.Blocks.{Blocks, LiesAs, file_of, slot_of, body_as}
 use Rattle.cbm_volume.specs.Layouts.{DataOf, OwnedBy, Layout, slot_count, Sound, Stands}
-use Rattle.cbm_volume.specs.Reading.{IsSlot, ShowsSlot, HasBytes}
+use Rattle.cbm_volume.specs.Reading.{ShowsSlot, HasBytes}
 use Rattle.cbm_volume.proofs.Lengths.{directory_length, file_length}
 
 -- ---- entries by number
@@ -54,14 +53,14 @@ next_sector x xs i j e = ap (λ (k : ℕ). slice_index_or (x ∷ xs) k directory
 pub nth_entry : (content : Content) (xs : List Place) (n : ℕ) → n < 8 * length xs → slice_get (all_entries content xs) n ≡ Some (entry_at content xs n)
 nth_entry content [] n h = absurd (omega arith)
 nth_entry content (x ∷ xs) n h = elim (cases_lt n 8) [
-    inl front ↦ (let z : n / 8 ≡ 0 = omega arith in let r : n % 8 ≡ n = omega arith in
-        entry_here (bytes_at content x) (all_entries content xs) n front
-        ∙ (λ i. Some (entry_of (bytes_at content (slice_index_or (x ∷ xs) (sym z i) directory_head)) (sym r i))))
+  | inl front ↦ (let z : n / 8 ≡ 0 = omega arith in let r : n % 8 ≡ n = omega arith in
+      entry_here (bytes_at content x) (all_entries content xs) n front
+      ∙ (λ i. Some (entry_of (bytes_at content (slice_index_or (x ∷ xs) (sym z i) directory_head)) (sym r i))))
   | inr back ↦ (let q : n / 8 ≡ suc ((n - 8) / 8) = omega arith in let r : (n - 8) % 8 ≡ n % 8 = omega arith in
-        past (bytes_at content x) (all_entries content xs) n back
-        ∙ nth_entry content xs (n - 8) (omega arith)
-        ∙ (λ i. Some (entry_of (bytes_at content (sym (next_sector x xs (n / 8) ((n - 8) / 8) q) i)) (r i))))
-  ]
+      past (bytes_at content x) (all_entries content xs) n back
+      ∙ nth_entry content xs (n - 8) (omega arith)
+      ∙ (λ i. Some (entry_of (bytes_at content (sym (next_sector x xs (n / 8) ((n - 8) / 8) q) i)) (r i))))
+]
 
 -- ---- the directory and the files of a sound disk
 
@@ -77,17 +76,19 @@ entry_found tracks c l n entry s a =
     let room : n < 8 * length l.directory = omega (arith, slice_get_within (all_entries c l.directory) n entry at, entries_length c l.directory) in
     (room, same_some (sym at ∙ nth_entry c l.directory n room))
   where
-  same_some : {x y : List ℕ} → Some x ≡ Some y → x ≡ y
-  same_some e = cc
+    same_some : {x y : List ℕ} → Some x ≡ Some y → x ≡ y
+    same_some e = cc
 
 pub slot_shown : (tracks : ℕ) (c : Content) (l : Layout) (d : Disk) (n : ℕ) (r : Result (Option (List ℕ)) Trouble) → Stands tracks c l d → Answers (directory_of tracks c) n r → ShowsSlot d n r
 slot_shown tracks c l d n (Ok (Some entry)) st a =
-    let found = entry_found tracks c l n entry st.sound a in
-    (omega (arith, found.0, st.describes.size), record {
+    let found = entry_found tracks c l n entry st.sound a in (
+      omega (arith, found.0, st.describes.size),
+      record {
         bytes = chain_bytes c (l.files n).data_blocks;
         blocks = l.files n;
         same = st.describes.slots n found.0 ∙ ap (λ (e : List ℕ). slot_of c e (l.files n)) (sym found.1);
-    })
+      },
+    )
 slot_shown tracks c l d n (Ok None) st a =
     let all = directory_listed tracks c l st.sound in
     omega (arith, a.0, ap (λ (x : Listed). length x.entries) all, entries_length c l.directory, st.describes.size)
@@ -96,13 +97,13 @@ slot_shown tracks c l d n (Err t) st a = let z = sym a.1 ∙ ap (λ (x : Listed)
 pub geometry_size : (medium : ℕ) (c : Content) → (geometry_of medium c ≡ 35) ⊎ (geometry_of medium c ≡ 40)
 geometry_size medium c = by_cell (c directory_head)
   where
-  by_test : (b : Bool) → (tracks_if b ≡ 35) ⊎ (tracks_if b ≡ 40)
-  by_test true = inr refl
-  by_test false = inl refl
+    by_test : (b : Bool) → (tracks_if b ≡ 35) ⊎ (tracks_if b ≡ 40)
+    by_test true = inr refl
+    by_test false = inl refl
 
-  by_cell : (cell : Cell) → (geometry_in medium cell ≡ 35) ⊎ (geometry_in medium cell ≡ 40)
-  by_cell (Ok map) = by_test ((medium == 40) && is_wide map)
-  by_cell (Err code) = inl refl
+    by_cell : (cell : Cell) → (geometry_in medium cell ≡ 35) ⊎ (geometry_in medium cell ≡ 40)
+    by_cell (Ok map) = by_test ((medium == 40) && is_wide map)
+    by_cell (Err code) = inl refl
 
 -- what a file's chain gives
 pub file_held : (tracks : ℕ) (c : Content) (l : Layout) (n : ℕ) (a : Place) (xs : List Place) → (tracks ≡ 35) ⊎ (tracks ≡ 40) → Sound tracks c l → Chain tracks c a xs → OwnedBy l.owner (DataOf n) xs
@@ -138,15 +139,15 @@ file_read tracks c l d n entry bytes size st a has =
     let is : has.file ≡ file_of (chain_bytes c (l.files n).data_blocks) e (l.files n) = not_empty (type_byte e == 0) has.file (file_of (chain_bytes c (l.files n).data_blocks) e (l.files n)) same in
     let closed : is_closed e ≡ true = sym (closed_of (chain_bytes c (l.files n).data_blocks) e (l.files n)) ∙ ap (λ (f : File). f.closed) (sym is) ∙ has.closed in
     let body : body_as (is_closed e && is_relative e) (chain_bytes c (l.files n).data_blocks) e (l.files n) ≡ Bytes bytes =
-        sym (body_of (chain_bytes c (l.files n).data_blocks) e (l.files n)) ∙ ap (λ (f : File). f.body) (sym is) ∙ has.body in
+    sym (body_of (chain_bytes c (l.files n).data_blocks) e (l.files n)) ∙ ap (λ (f : File). f.body) (sym is) ∙ has.body in
     let chain : Chain tracks c (first_block e) (l.files n).data_blocks = closed_chain (is_closed e) (is_relative e) tracks c e (l.files n) closed (st.sound.lies n found.0) in
     ap (λ (x : List ℕ). held_from tracks c (sector_count tracks) (first_block x)) found.1
     ∙ file_held tracks c l n (first_block e) (l.files n).data_blocks size st.sound chain (st.sound.owned.blocks n found.0)
     ∙ (λ i. record { bytes = relative_body (is_closed e && is_relative e) c e (chain_bytes c (l.files n).data_blocks) bytes (l.files n) body i; trouble = None })
   where
-  not_empty : (b : Bool) (f g : File) → Some f ≡ (if b then None else Some g) → f ≡ g
-  not_empty true f g h = absurd (cc)
-  not_empty false f g h = cc
+    not_empty : (b : Bool) (f g : File) → Some f ≡ (if b then None else Some g) → f ≡ g
+    not_empty true f g h = absurd (cc)
+    not_empty false f g h = cc
 
 -- a chain that gives these bytes is opened
 pub opened : (content : Content) (r : Result Reading Trouble) (held : Rest) (bytes : List ℕ)

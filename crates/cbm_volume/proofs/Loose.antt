@@ -1,13 +1,12 @@
 -- A write to a sector that is no part of the disk changes nothing.
-use Rattle.std.proofs.Common.{◌≡◌, ◌≢◌, ℕ, ◌+◌, ◌*◌, ◌/◌, ◌%◌, ◌<◌, ◌≤◌, List, length, get_or, Bool, true, false, Ok, IsOk, refl, sym, ap, subst, ◌∙◌, arith, inl, inr}
+use Rattle.std.proofs.Common.{◌≡◌, ◌≢◌, ℕ, ◌/◌, ◌%◌, ◌<◌, List, true, false, IsOk, refl, sym, ap, subst, ◌∙◌, arith}
 use Rattle.cbm_medium.specs.Place.{Place, directory_head, Has}
 use Rattle.cbm_medium.specs.Content.{Cell, Content, written}
-use Rattle.cbm_medium.specs.Links.{bytes_at, Chain}
 use Rattle.cbm_file.specs.Files.{Disk}
-use Rattle.cbm_bam.specs.Map.{is_free_in, free_in, tally, IsCounted, map_of}
+use Rattle.cbm_bam.specs.Map.{is_free_in, IsCounted, map_of}
 use Rattle.cbm_directory.specs.Entries.{entry_of, type_byte, sector_of, entry_at, first_directory}
-use Rattle.cbm_volume.specs.Blocks.{Blocks, Lies, slot_of}
-use Rattle.cbm_volume.specs.Layouts.{Owner, Nobody, TheMap, Directory, DataOf, SideOf, Writer, is_loose, OwnedBy, Layout, IsOwned, IsWritable, slot_count, Sound, Describes}
+use Rattle.cbm_volume.specs.Blocks.{Lies, slot_of}
+use Rattle.cbm_volume.specs.Layouts.{Owner, TheMap, Directory, DataOf, SideOf, is_loose, Layout, IsOwned, IsWritable, slot_count, Sound, Describes}
 use Rattle.cbm_medium.proofs.Places.{written_each}
 use Rattle.cbm_volume.proofs.Frames.{Keeps, owned_nth, sector_kept, chain_kept, lies_kept, slot_kept, write_keeps}
 
@@ -42,8 +41,8 @@ sound_loose tracks c l p bytes s h =
       counted = subst (λ (x : List ℕ). IsCounted tracks x) (sym map) s.counted;
     }
   where
-  keep : (o : Owner) → is_loose o ≡ false → Keeps c (written c p bytes) l.owner o
-  keep o k = write_keeps c p bytes l.owner o (loose_apart (l.owner p) o h k)
+    keep : (o : Owner) → is_loose o ≡ false → Keeps c (written c p bytes) l.owner o
+    keep o k = write_keeps c p bytes l.owner o (loose_apart (l.owner p) o h k)
 
 -- and the disk is the same
 pub describes_loose : (tracks : ℕ) (c : Content) (l : Layout) (d : Disk) (p : Place) (bytes : List ℕ) → Sound tracks c l → Describes tracks c l d → is_loose (l.owner p) ≡ true → Describes tracks (written c p bytes) l d
@@ -61,5 +60,5 @@ describes_loose tracks c l d p bytes s m h =
       free = rw map m.free;
     }
   where
-  keep : (o : Owner) → is_loose o ≡ false → Keeps c (written c p bytes) l.owner o
-  keep o k = write_keeps c p bytes l.owner o (loose_apart (l.owner p) o h k)
+    keep : (o : Owner) → is_loose o ≡ false → Keeps c (written c p bytes) l.owner o
+    keep o k = write_keeps c p bytes l.owner o (loose_apart (l.owner p) o h k)

@@ -1,16 +1,15 @@
 -- A write of one entry of the directory changes one slot.
-use Rattle.std.proofs.Common.{◌≡◌, ◌≢◌, ◌⊎◌, ℕ, ◌+◌, ◌-◌, ◌*◌, ◌/◌, ◌%◌, ◌<◌, ◌≤◌, List, length, get_or, set, Bool, true, false, Ok, IsOk, refl, sym, ap, subst, ◌∙◌, arith, inl, inr, Option, Some, None}
-use Rattle.std.specs.Prelude.{◌==◌, if◌then◌else◌}
+use Rattle.std.proofs.Common.{◌≡◌, ◌≢◌, ℕ, ◌/◌, ◌%◌, ◌<◌, List, get_or, true, IsOk, refl, sym, ap, subst, ◌∙◌, arith, inl, inr, None}
 use Rattle.std.proofs.lemmas.Bool.{cases_eq, eq-eqb, ne_eqb}
 use Rattle.std.proofs.lemmas.List.{length-set, get_or-set_same, get_or-set_other}
 use Rattle.cbm_medium.specs.Place.{Place, directory_head, Has}
 use Rattle.cbm_medium.specs.Content.{Cell, Content, written}
-use Rattle.cbm_medium.specs.Links.{bytes_at, link, Chain}
-use Rattle.cbm_file.specs.Files.{Disk, File, with_slot, file_at}
-use Rattle.cbm_bam.specs.Map.{is_free_in, free_in, tally, IsCounted, map_of}
+use Rattle.cbm_medium.specs.Links.{bytes_at, link}
+use Rattle.cbm_file.specs.Files.{Disk, with_slot, file_at}
+use Rattle.cbm_bam.specs.Map.{is_free_in, IsCounted, map_of}
 use Rattle.cbm_directory.specs.Entries.{HasEntry, entry_of, type_byte, sector_of, entry_at, first_directory}
 use Rattle.cbm_volume.specs.Blocks.{Blocks, Lies, slot_of}
-use Rattle.cbm_volume.specs.Layouts.{Owner, Nobody, TheMap, Directory, DataOf, SideOf, Writer, OwnedBy, Layout, IsOwned, IsWritable, with_blocks, slot_count, Sound, Describes}
+use Rattle.cbm_volume.specs.Layouts.{Owner, Nobody, TheMap, Directory, DataOf, SideOf, OwnedBy, Layout, IsOwned, with_blocks, slot_count, Sound, Describes}
 use Rattle.cbm_medium.proofs.Places.{place_decide, written_there, written_elsewhere}
 use Rattle.cbm_volume.proofs.Frames.{Keeps, KeepsLinks, owned_nth, sector_kept, chain_links, lies_kept, slot_kept, write_keeps}
 use Rattle.cbm_volume.proofs.Loose.{writable_written, sector_owned}
@@ -38,24 +37,24 @@ entry_here c l n new entry h = ap (λ (x : List ℕ). entry_of x (n % 8)) (new_s
 pub entry_other : (tracks : ℕ) (c : Content) (l : Layout) (n m : ℕ) (new entry : List ℕ) → Sound tracks c l → n < slot_count l → m < slot_count l → m ≢ n
     → HasEntry (bytes_at c (sector_of l.directory n)) new (n % 8) entry → entry_at (with_sector c l n new) l.directory m ≡ entry_at c l.directory m
 entry_other tracks c l n m new entry s a b ne h = elim (cases_eq (m / 8) (n / 8)) [
-    inl e ↦ (let same : sector_of l.directory m ≡ sector_of l.directory n = ap (λ (i : ℕ). get_or l.directory i directory_head) e in
-        ap (λ (p : Place). entry_of (bytes_at (with_sector c l n new) p) (m % 8)) same
-        ∙ ap (λ (x : List ℕ). entry_of x (m % 8)) (new_sector c l n new)
-        ∙ h.others (m % 8) (omega arith) (omega arith)
-        ∙ ap (λ (p : Place). entry_of (bytes_at c p) (m % 8)) (sym same))
+  | inl e ↦ (let same : sector_of l.directory m ≡ sector_of l.directory n = ap (λ (i : ℕ). get_or l.directory i directory_head) e in
+      ap (λ (p : Place). entry_of (bytes_at (with_sector c l n new) p) (m % 8)) same
+      ∙ ap (λ (x : List ℕ). entry_of x (m % 8)) (new_sector c l n new)
+      ∙ h.others (m % 8) (omega arith) (omega arith)
+      ∙ ap (λ (p : Place). entry_of (bytes_at c p) (m % 8)) (sym same))
   | inr apart ↦ ap (λ (x : Cell). entry_of (bytes_at (λ q. x) directory_head) (m % 8))
-        (written_elsewhere c (sector_of l.directory n) (sector_of l.directory m) new
-            (λ e. apart (chain_distinct tracks c first_directory l.directory (m / 8) (n / 8) directory_head s.directory (omega arith) (omega arith) (sym e))))
-  ]
+      (written_elsewhere c (sector_of l.directory n) (sector_of l.directory m) new
+      (λ e. apart (chain_distinct tracks c first_directory l.directory (m / 8) (n / 8) directory_head s.directory (omega arith) (omega arith) (sym e))))
+]
 
 -- the directory's links stay
 dir_links : (tracks : ℕ) (c : Content) (l : Layout) (n : ℕ) (new entry : List ℕ) → HasEntry (bytes_at c (sector_of l.directory n)) new (n % 8) entry → KeepsLinks c (with_sector c l n new) l.owner Directory
 dir_links tracks c l n new entry h p w ok = elim (place_decide (sector_of l.directory n) p) [
-    inl e ↦ subst (λ (q : Place). IsOk (with_sector c l n new q) × (link (bytes_at (with_sector c l n new) q) ≡ link (bytes_at c q))) e
-        (subst (λ (x : Cell). IsOk x) (sym (written_there c (sector_of l.directory n) new)) refl, ap link (new_sector c l n new) ∙ h.link)
+  | inl e ↦ subst (λ (q : Place). IsOk (with_sector c l n new q) × (link (bytes_at (with_sector c l n new) q) ≡ link (bytes_at c q))) e
+      (subst (λ (x : Cell). IsOk x) (sym (written_there c (sector_of l.directory n) new)) refl, ap link (new_sector c l n new) ∙ h.link)
   | inr ne ↦ (let e = written_elsewhere c (sector_of l.directory n) p new ne in
-        (subst (λ (x : Cell). IsOk x) (sym e) ok, ap (λ (x : Cell). link (bytes_at (λ q. x) p)) e))
-  ]
+      (subst (λ (x : Cell). IsOk x) (sym e) ok, ap (λ (x : Cell). link (bytes_at (λ q. x) p)) e))
+]
 
 -- what the directory's sectors are not
 dir_keeps : (c : Content) (l : Layout) (owner : Place → Owner) (n : ℕ) (new : List ℕ) (o : Owner) → owner (sector_of l.directory n) ≡ Directory → Directory ≢ o → Keeps c (with_sector c l n new) owner o
@@ -78,29 +77,30 @@ sound_entry tracks c l n new entry b owner s k h t lie w f =
       map_reads = subst (λ (x : Cell). IsOk x) (sym (dir_keeps c l l.owner n new TheMap (sector_owned l s.owned n k) (λ e. (cc)) directory_head s.owned.map)) s.map_reads;
       directory = chain_links tracks c c' l.owner Directory (dir_links tracks c l n new entry h) first_directory l.directory s.owned.directory s.directory;
       kinds = λ m j. elim (cases_eq m n) [
-          inl e ↦ subst (λ (i : ℕ). type_byte (entry_at c' l.directory i) % 16 < 5) (sym e) (subst (λ (x : List ℕ). type_byte x % 16 < 5) (sym (entry_here c l n new entry h)) t)
+        | inl e ↦ subst (λ (i : ℕ). type_byte (entry_at c' l.directory i) % 16 < 5) (sym e) (subst (λ (x : List ℕ). type_byte x % 16 < 5) (sym (entry_here c l n new entry h)) t)
         | inr ne ↦ subst (λ (x : List ℕ). type_byte x % 16 < 5) (sym (entry_other tracks c l n m new entry s k j ne h)) (s.kinds m j)
-        ];
+      ];
       lies = λ m j. elim (cases_eq m n) [
-          inl e ↦ subst (λ (i : ℕ). Lies tracks c' (entry_at c' l.directory i) (with_blocks l.files n b i)) (sym e)
-              (subst (λ (x : List ℕ). Lies tracks c' x (with_blocks l.files n b n)) (sym (entry_here c l n new entry h))
-                (subst (λ (x : Blocks). Lies tracks c' entry x) (sym (blocks_here l.files n b))
-                  (lies_kept tracks c c' owner (DataOf n) (SideOf n) entry b (moved (DataOf n) (λ z. (cc))) (moved (SideOf n) (λ z. (cc)))
-                    (subst (λ (x : Blocks). OwnedBy owner (DataOf n) x.data_blocks) (blocks_here l.files n b) (w.blocks n k))
-                    (subst (λ (x : Blocks). OwnedBy owner (SideOf n) x.sides) (blocks_here l.files n b) (w.sides n k)) lie)))
+        | inl e ↦ subst (λ (i : ℕ). Lies tracks c' (entry_at c' l.directory i) (with_blocks l.files n b i)) (sym e)
+            (subst (λ (x : List ℕ). Lies tracks c' x (with_blocks l.files n b n)) (sym (entry_here c l n new entry h))
+            (subst (λ (x : Blocks). Lies tracks c' entry x) (sym (blocks_here l.files n b))
+            (lies_kept tracks c c' owner (DataOf n) (SideOf n) entry b (moved (DataOf n) (λ z. (cc))) (moved (SideOf n) (λ z. (cc)))
+            (subst (λ (x : Blocks). OwnedBy owner (DataOf n) x.data_blocks) (blocks_here l.files n b) (w.blocks n k))
+            (subst (λ (x : Blocks). OwnedBy owner (SideOf n) x.sides) (blocks_here l.files n b) (w.sides n k)) lie)))
         | inr ne ↦ subst (λ (x : List ℕ). Lies tracks c' x (with_blocks l.files n b m)) (sym (entry_other tracks c l n m new entry s k j ne h))
-              (subst (λ (x : Blocks). Lies tracks c' (entry_at c l.directory m) x) (sym (blocks_other l.files n m b ne))
-                (lies_kept tracks c c' l.owner (DataOf m) (SideOf m) (entry_at c l.directory m) (l.files m) (stay (DataOf m) (λ z. (cc))) (stay (SideOf m) (λ z. (cc)))
-                  (s.owned.blocks m j) (s.owned.sides m j) (s.lies m j)))
-        ];
+            (subst (λ (x : Blocks). Lies tracks c' (entry_at c l.directory m) x) (sym (blocks_other l.files n m b ne))
+            (lies_kept tracks c c' l.owner (DataOf m) (SideOf m) (entry_at c l.directory m) (l.files m) (stay (DataOf m) (λ z. (cc))) (stay (SideOf m) (λ z. (cc)))
+            (s.owned.blocks m j) (s.owned.sides m j) (s.lies m j)))
+      ];
       free = λ p j e. f p j (subst (λ (x : List ℕ). is_free_in x p ≡ true) map e);
       counted = subst (λ (x : List ℕ). IsCounted tracks x) (sym map) s.counted;
     }
   where
-  stay : (o : Owner) → Directory ≢ o → Keeps c (with_sector c l n new) l.owner o
-  stay o ne = dir_keeps c l l.owner n new o (sector_owned l s.owned n k) ne
-  moved : (o : Owner) → Directory ≢ o → Keeps c (with_sector c l n new) owner o
-  moved o ne = dir_keeps c l owner n new o (owned_nth owner Directory l.directory (n / 8) directory_head w.directory (omega arith)) ne
+    stay : (o : Owner) → Directory ≢ o → Keeps c (with_sector c l n new) l.owner o
+    stay o ne = dir_keeps c l l.owner n new o (sector_owned l s.owned n k) ne
+
+    moved : (o : Owner) → Directory ≢ o → Keeps c (with_sector c l n new) owner o
+    moved o ne = dir_keeps c l owner n new o (owned_nth owner Directory l.directory (n / 8) directory_head w.directory (omega arith)) ne
 
 -- and the disk has this file in the slot
 pub describes_entry : (tracks : ℕ) (c : Content) (l : Layout) (d : Disk) (n : ℕ) (new entry : List ℕ) (b : Blocks) (owner : Place → Owner) → Sound tracks c l → Describes tracks c l d → n < slot_count l
@@ -114,22 +114,23 @@ describes_entry tracks c l d n new entry b owner s g k h w =
       mark = rw map g.mark;
       size = length-set d.slots n (slot_of c entry b) ∙ g.size;
       slots = λ m j. elim (cases_eq m n) [
-          inl e ↦ subst (λ (i : ℕ). file_at (with_slot d n (slot_of c entry b)) i ≡ slot_of c' (entry_at c' l.directory i) (with_blocks l.files n b i)) (sym e)
+        | inl e ↦ subst (λ (i : ℕ). file_at (with_slot d n (slot_of c entry b)) i ≡ slot_of c' (entry_at c' l.directory i) (with_blocks l.files n b i)) (sym e)
             (get_or-set_same d.slots n (slot_of c entry b) None (omega (arith, g.size))
-             ∙ sym (slot_kept c c' owner (DataOf n) entry b (moved (DataOf n) (λ z. (cc))) (subst (λ (x : Blocks). OwnedBy owner (DataOf n) x.data_blocks) (blocks_here l.files n b) (w.blocks n k)))
-             ∙ ap (λ (x : List ℕ). slot_of c' x b) (sym (entry_here c l n new entry h))
-             ∙ ap (λ (x : Blocks). slot_of c' (entry_at c' l.directory n) x) (sym (blocks_here l.files n b)))
+            ∙ sym (slot_kept c c' owner (DataOf n) entry b (moved (DataOf n) (λ z. (cc))) (subst (λ (x : Blocks). OwnedBy owner (DataOf n) x.data_blocks) (blocks_here l.files n b) (w.blocks n k)))
+            ∙ ap (λ (x : List ℕ). slot_of c' x b) (sym (entry_here c l n new entry h))
+            ∙ ap (λ (x : Blocks). slot_of c' (entry_at c' l.directory n) x) (sym (blocks_here l.files n b)))
         | inr ne ↦ get_or-set_other d.slots n m (slot_of c entry b) None ne ∙ g.slots m j
-             ∙ sym (slot_kept c c' l.owner (DataOf m) (entry_at c l.directory m) (l.files m) (stay (DataOf m) (λ z. (cc))) (s.owned.blocks m j))
-             ∙ ap (λ (x : List ℕ). slot_of c' x (l.files m)) (sym (entry_other tracks c l n m new entry s k j ne h))
-             ∙ ap (λ (x : Blocks). slot_of c' (entry_at c' l.directory m) x) (sym (blocks_other l.files n m b ne))
-        ];
+            ∙ sym (slot_kept c c' l.owner (DataOf m) (entry_at c l.directory m) (l.files m) (stay (DataOf m) (λ z. (cc))) (s.owned.blocks m j))
+            ∙ ap (λ (x : List ℕ). slot_of c' x (l.files m)) (sym (entry_other tracks c l n m new entry s k j ne h))
+            ∙ ap (λ (x : Blocks). slot_of c' (entry_at c' l.directory m) x) (sym (blocks_other l.files n m b ne))
+      ];
       total = g.total;
       room = rw map g.room;
       free = rw map g.free;
     }
   where
-  stay : (o : Owner) → Directory ≢ o → Keeps c (with_sector c l n new) l.owner o
-  stay o ne = dir_keeps c l l.owner n new o (sector_owned l s.owned n k) ne
-  moved : (o : Owner) → Directory ≢ o → Keeps c (with_sector c l n new) owner o
-  moved o ne = dir_keeps c l owner n new o (owned_nth owner Directory l.directory (n / 8) directory_head w.directory (omega arith)) ne
+    stay : (o : Owner) → Directory ≢ o → Keeps c (with_sector c l n new) l.owner o
+    stay o ne = dir_keeps c l l.owner n new o (sector_owned l s.owned n k) ne
+
+    moved : (o : Owner) → Directory ≢ o → Keeps c (with_sector c l n new) owner o
+    moved o ne = dir_keeps c l owner n new o (owned_nth owner Directory l.directory (n / 8) directory_head w.directory (omega arith)) ne

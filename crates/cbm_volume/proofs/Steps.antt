@@ -1,20 +1,19 @@
 -- What each kind of sector write does to the disk. A call is a list of these, so what stands at each of its exits is a chain of them.
-use Rattle.std.proofs.Common.{◌≡◌, ◌≢◌, ◌⊎◌, ℕ, suc, ◌+◌, ◌-◌, ◌*◌, ◌/◌, ◌%◌, ◌<◌, ◌≤◌, List, [], ◌∷◌, length, Bool, true, false, Ok, IsOk, refl, sym, ap, subst, ◌∙◌, arith, inl, inr, Option, Some, None}
-use Rattle.std.specs.Prelude.{if◌then◌else◌}
+use Rattle.std.proofs.Common.{◌≡◌, ◌≢◌, ℕ, suc, ◌-◌, ◌%◌, ◌<◌, ◌≤◌, List, Bool, true, false, refl, sym, ap, subst, ◌∙◌, arith, inl, inr}
 use Rattle.std.proofs.lemmas.Bool.{cases_eq}
-use Rattle.cbm_medium.specs.Place.{Place, is_place, directory_head, Has}
-use Rattle.cbm_medium.specs.Content.{Cell, Content, written}
-use Rattle.cbm_medium.specs.Links.{bytes_at, Chain}
-use Rattle.cbm_file.specs.Files.{Disk, File, with_slot}
-use Rattle.cbm_bam.specs.Map.{is_free_in, free_in, tally, IsCounted, IsMapped, IsClaimed, with_bit, map_of, Claims, Remaps}
-use Rattle.cbm_directory.specs.Entries.{HasEntry, entry_of, type_byte, sector_of, entry_at, Enters}
+use Rattle.cbm_medium.specs.Place.{Place, directory_head, Has}
+use Rattle.cbm_medium.specs.Content.{Content, written}
+use Rattle.cbm_medium.specs.Links.{bytes_at}
+use Rattle.cbm_file.specs.Files.{Disk, with_slot}
+use Rattle.cbm_bam.specs.Map.{is_free_in, free_in, tally, IsMapped, with_bit, map_of, Claims}
+use Rattle.cbm_directory.specs.Entries.{HasEntry, type_byte, sector_of, Enters}
 use Rattle.cbm_volume.specs.Blocks.{Blocks, Lies, slot_of}
-use Rattle.cbm_volume.specs.Layouts.{Owner, Nobody, TheMap, Directory, DataOf, SideOf, Writer, is_loose, OwnedBy, Layout, IsOwned, with_blocks, slot_count, Sound, Describes, Stands, Extends, IsElse, own}
+use Rattle.cbm_volume.specs.Layouts.{Owner, Nobody, TheMap, Directory, DataOf, SideOf, is_loose, OwnedBy, Layout, IsOwned, with_blocks, slot_count, Sound, Describes, Stands, Extends, IsElse, own}
 use Rattle.cbm_medium.proofs.Places.{place_decide, place_is_itself, places_apart}
 use Rattle.cbm_volume.proofs.Frames.{owned_same}
 use Rattle.cbm_volume.proofs.Loose.{sound_loose, describes_loose}
 use Rattle.cbm_bam.proofs.Counts.{bit_there, bit_elsewhere, tally_other, tally_same, free_claimed}
-use Rattle.cbm_volume.proofs.Remaps.{with_map, with_owner, with_counts, sound_remap, describes_remap, map_is}
+use Rattle.cbm_volume.proofs.Remaps.{with_map, with_counts, sound_remap, describes_remap, map_is}
 use Rattle.cbm_volume.proofs.OneSlot.{with_file, with_sector, blocks_here, blocks_other, sound_entry, describes_entry}
 
 -- ---- a sector that is no part of the disk
@@ -37,9 +36,9 @@ pub record IsTaken (tracks : ℕ) (c : Content) (l : Layout) (p : Place) : Type 
 
 pub bit_implies : (f : Place → Bool) (p q : Place) → with_bit f p false q ≡ true → f q ≡ true
 bit_implies f p q h = elim (place_decide p q) [
-    inl e ↦ absurd (let z = sym (bit_there f p false) ∙ ap (with_bit f p false) e ∙ h in (cc))
+  | inl e ↦ absurd (let z = sym (bit_there f p false) ∙ ap (with_bit f p false) e ∙ h in (cc))
   | inr ne ↦ sym (bit_elsewhere f p q false ne) ∙ h
-  ]
+]
 
 pub record Claimed (tracks : ℕ) (c c' : Content) (l : Layout) (d : Disk) (p : Place) : Type 0 where
   pub stands : Stands tracks c' l (one_less d)
@@ -53,7 +52,7 @@ stands_claim tracks c c' l d p s few k =
     let m : IsMapped tracks (map_of c) map free = k.remaps.mapped in
     let less : free_in tracks (map_of c) ≡ suc (free_in tracks map) = free_claimed tracks (map_of c) map p s.sound.counted (record { has = k.has; was_free = k.was_free; mapped = m }) k.off_18 in
     let room : tally (is_free_in map) 18 19 ≡ tally (is_free_in (map_of c)) 18 19 =
-        tally_same (is_free_in map) free 18 19 (λ i j. m.bits (record { track = 18; sector = i }) (omega arith, few, j)) ∙ tally_other (is_free_in (map_of c)) p false 18 19 (λ e. k.off_18 (sym e)) in
+    tally_same (is_free_in map) free 18 19 (λ i j. m.bits (record { track = 18; sector = i }) (omega arith, few, j)) ∙ tally_other (is_free_in (map_of c)) p false 18 19 (λ e. k.off_18 (sym e)) in
     let d' : with_counts tracks d map ≡ one_less d = λ i. record d { room = (room ∙ sym s.describes.room) i; free = (let e : free_in tracks map ≡ d.free - 1 = omega (arith, s.describes.free) in e) i } in
     record {
       stands = record {
@@ -86,19 +85,19 @@ else_side n m ne = record { part = refl; not_data = λ e. (cc); not_side = λ e.
 
 pub extend_owned : (l : Layout) (n : ℕ) (b : Blocks) (owner : Place → Owner) → IsOwned l → Extends l n owner → OwnedBy owner (DataOf n) b.data_blocks → OwnedBy owner (SideOf n) b.sides → IsOwned (with_file l n b owner)
 extend_owned l n b owner w x blocks sides = record {
-    map = x.keeps directory_head TheMap (else_map n) w.map;
-    directory = owned_same l.owner owner Directory l.directory (λ p. x.keeps p Directory (else_directory n)) w.directory;
-    blocks = λ m k. elim (cases_eq m n) [
-        inl e ↦ subst (λ (i : ℕ). OwnedBy owner (DataOf i) (with_blocks l.files n b i).data_blocks) (sym e) (subst (λ (y : Blocks). OwnedBy owner (DataOf n) y.data_blocks) (sym (blocks_here l.files n b)) blocks)
-      | inr ne ↦ subst (λ (y : Blocks). OwnedBy owner (DataOf m) y.data_blocks) (sym (blocks_other l.files n m b ne)) (owned_same l.owner owner (DataOf m) (l.files m).data_blocks (λ p. x.keeps p (DataOf m) (else_data n m ne)) (w.blocks m k))
-      ];
-    sides = λ m k. elim (cases_eq m n) [
-        inl e ↦ subst (λ (i : ℕ). OwnedBy owner (SideOf i) (with_blocks l.files n b i).sides) (sym e) (subst (λ (y : Blocks). OwnedBy owner (SideOf n) y.sides) (sym (blocks_here l.files n b)) sides)
-      | inr ne ↦ subst (λ (y : Blocks). OwnedBy owner (SideOf m) y.sides) (sym (blocks_other l.files n m b ne)) (owned_same l.owner owner (SideOf m) (l.files m).sides (λ p. x.keeps p (SideOf m) (else_side n m ne)) (w.sides m k))
-      ];
-    on_18 = x.on_18;
-    off_18 = x.off_18;
-  }
+  map = x.keeps directory_head TheMap (else_map n) w.map;
+  directory = owned_same l.owner owner Directory l.directory (λ p. x.keeps p Directory (else_directory n)) w.directory;
+  blocks = λ m k. elim (cases_eq m n) [
+    | inl e ↦ subst (λ (i : ℕ). OwnedBy owner (DataOf i) (with_blocks l.files n b i).data_blocks) (sym e) (subst (λ (y : Blocks). OwnedBy owner (DataOf n) y.data_blocks) (sym (blocks_here l.files n b)) blocks)
+    | inr ne ↦ subst (λ (y : Blocks). OwnedBy owner (DataOf m) y.data_blocks) (sym (blocks_other l.files n m b ne)) (owned_same l.owner owner (DataOf m) (l.files m).data_blocks (λ p. x.keeps p (DataOf m) (else_data n m ne)) (w.blocks m k))
+  ];
+  sides = λ m k. elim (cases_eq m n) [
+    | inl e ↦ subst (λ (i : ℕ). OwnedBy owner (SideOf i) (with_blocks l.files n b i).sides) (sym e) (subst (λ (y : Blocks). OwnedBy owner (SideOf n) y.sides) (sym (blocks_here l.files n b)) sides)
+    | inr ne ↦ subst (λ (y : Blocks). OwnedBy owner (SideOf m) y.sides) (sym (blocks_other l.files n m b ne)) (owned_same l.owner owner (SideOf m) (l.files m).sides (λ p. x.keeps p (SideOf m) (else_side n m ne)) (w.sides m k))
+  ];
+  on_18 = x.on_18;
+  off_18 = x.off_18;
+}
 
 pub extends_itself : (l : Layout) (n : ℕ) → IsOwned l → Extends l n l.owner
 extends_itself l n w = record { keeps = λ p o k e. e; on_18 = w.on_18; off_18 = w.off_18 }
@@ -112,19 +111,19 @@ own_elsewhere owner p q o ne = let e = places_apart p q ne in rw e
 -- a sector that is no part of the disk goes to a file
 pub extends_own : (l : Layout) (p : Place) (n : ℕ) → IsOwned l → is_loose (l.owner p) ≡ true → p.track ≢ 18 → Extends l n (own l.owner p (DataOf n))
 extends_own l p n w h off = record {
-    keeps = λ q o k e. elim (place_decide p q) [
-        inl s ↦ absurd (let z = ap is_loose (sym e ∙ ap l.owner (sym s)) ∙ h in let f = k.part in (cc))
-      | inr ne ↦ own_elsewhere l.owner p q (DataOf n) ne ∙ e
-      ];
-    on_18 = λ q e. elim (place_decide p q) [
-        inl s ↦ absurd (let z = sym (own_there l.owner p (DataOf n)) ∙ ap (own l.owner p (DataOf n)) s ∙ e in (cc))
-      | inr ne ↦ w.on_18 q (sym (own_elsewhere l.owner p q (DataOf n) ne) ∙ e)
-      ];
-    off_18 = λ q t m. elim (place_decide p q) [
-        inl s ↦ absurd (off (ap (λ (x : Place). x.track) s ∙ t))
-      | inr ne ↦ (λ e. (w.off_18 q t m).0 (sym (own_elsewhere l.owner p q (DataOf n) ne) ∙ e), λ e. (w.off_18 q t m).1 (sym (own_elsewhere l.owner p q (DataOf n) ne) ∙ e))
-      ];
-  }
+  keeps = λ q o k e. elim (place_decide p q) [
+    | inl s ↦ absurd (let z = ap is_loose (sym e ∙ ap l.owner (sym s)) ∙ h in let f = k.part in (cc))
+    | inr ne ↦ own_elsewhere l.owner p q (DataOf n) ne ∙ e
+  ];
+  on_18 = λ q e. elim (place_decide p q) [
+    | inl s ↦ absurd (let z = sym (own_there l.owner p (DataOf n)) ∙ ap (own l.owner p (DataOf n)) s ∙ e in (cc))
+    | inr ne ↦ w.on_18 q (sym (own_elsewhere l.owner p q (DataOf n) ne) ∙ e)
+  ];
+  off_18 = λ q t m. elim (place_decide p q) [
+    | inl s ↦ absurd (off (ap (λ (x : Place). x.track) s ∙ t))
+    | inr ne ↦ (λ e. (w.off_18 q t m).0 (sym (own_elsewhere l.owner p q (DataOf n) ne) ∙ e), λ e. (w.off_18 q t m).1 (sym (own_elsewhere l.owner p q (DataOf n) ne) ∙ e))
+  ];
+}
 
 pub stands_entry : (tracks : ℕ) (c c' : Content) (l : Layout) (d : Disk) (n : ℕ) (p : Place) (body : List ℕ) (b : Blocks) (owner : Place → Owner) → Stands tracks c l d → n < slot_count l → p ≡ sector_of l.directory n
     → Enters c c' p (n % 8) body → type_byte body % 16 < 5 → Lies tracks c body b
@@ -135,7 +134,7 @@ stands_entry tracks c c' l d n p body b owner s k at e t lie x blocks sides f =
     let h : HasEntry (bytes_at c (sector_of l.directory n)) e.sector (n % 8) body = subst (λ (y : Place). HasEntry (bytes_at c y) e.sector (n % 8) body) at e.has in
     let new : c' ≡ with_sector c l n e.sector = e.written ∙ ap (λ (y : Place). written c y e.sector) at in
     subst (λ (y : Content). Stands tracks y (with_file l n b owner) (with_slot d n (slot_of c body b))) (sym new)
-      (record {
-        sound = sound_entry tracks c l n e.sector body b owner s.sound k h t lie w f;
-        describes = describes_entry tracks c l d n e.sector body b owner s.sound s.describes k h w;
-      })
+    (record {
+      sound = sound_entry tracks c l n e.sector body b owner s.sound k h t lie w f;
+      describes = describes_entry tracks c l d n e.sector body b owner s.sound s.describes k h w;
+    })

@@ -1,12 +1,12 @@
 -- Which writes leave the sectors of files alone.
-use Rattle.std.proofs.Common.{◌≡◌, ◌≢◌, ℕ, ◌<◌, List, [], ◌∷◌, length, get_or, Bool, true, false, refl, sym, ap, ◌∙◌, arith}
-use Rattle.cbm_medium.specs.Place.{Place, directory_head, Has}
+use Rattle.std.proofs.Common.{◌≡◌, ℕ, ◌<◌, List, [], ◌∷◌, length, get_or, Bool, true, false, refl, sym, ap, ◌∙◌}
+use Rattle.cbm_medium.specs.Place.{Place, directory_head}
 use Rattle.cbm_medium.specs.Content.{Content, written}
 use Rattle.cbm_medium.specs.Links.{AllSame}
-use Rattle.cbm_bam.specs.Map.{is_free_in, map_of, Claims}
-use Rattle.cbm_directory.specs.Entries.{sector_of, Enters}
-use Rattle.cbm_volume.specs.Layouts.{Owner, Nobody, TheMap, Directory, DataOf, SideOf, Writer, OwnedBy, Layout, Sound, slot_count, Untouched}
-use Rattle.cbm_volume.proofs.Frames.{Keeps, owned_nth, write_keeps}
+use Rattle.cbm_bam.specs.Map.{Claims}
+use Rattle.cbm_directory.specs.Entries.{Enters}
+use Rattle.cbm_volume.specs.Layouts.{Owner, Nobody, TheMap, Directory, DataOf, SideOf, OwnedBy, Layout, Sound, Untouched}
+use Rattle.cbm_volume.proofs.Frames.{owned_nth, write_keeps}
 
 abbrev pub is_file : Owner → Bool
 is_file (DataOf n) = true

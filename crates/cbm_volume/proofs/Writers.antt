@@ -1,15 +1,14 @@
 -- Writers keep what they have written, whoever else writes.
-use Rattle.std.proofs.Common.{◌≡◌, ◌≢◌, ◌⊎◌, ℕ, ◌+◌, ◌<◌, ◌≤◌, List, [], ◌∷◌, ◌++◌, length, Bool, true, false, Ok, IsOk, refl, sym, ap, subst, ◌∙◌, arith, inl, inr, Option, Some, None}
-use Rattle.std.specs.Prelude.{if◌then◌else◌, ◌==◌}
+use Rattle.std.proofs.Common.{◌≡◌, ◌≢◌, ℕ, List, [], ◌∷◌, ◌++◌, false, IsOk, refl, sym, ap, subst, ◌∙◌, inl, inr, Option, Some, None}
 use Rattle.std.proofs.lemmas.Bool.{cases_eq, eq-eqb, ne_eqb}
 use Rattle.cbm_medium.specs.Place.{Place, Has}
 use Rattle.cbm_medium.specs.Content.{Cell, Content, written}
-use Rattle.cbm_medium.specs.Links.{bytes_at, link, Chain}
+use Rattle.cbm_medium.specs.Links.{bytes_at, link}
 use Rattle.cbm_file.specs.Files.{Disk}
 use Rattle.cbm_bam.specs.Map.{is_free_in, map_of}
-use Rattle.cbm_chain.specs.Data.{data_of, chain_bytes}
-use Rattle.cbm_volume.specs.Layouts.{Owner, Nobody, TheMap, Directory, DataOf, SideOf, Writer, is_loose, OwnedBy, Layout, IsOwned, Sound, Describes, Stands, own}
-use Rattle.cbm_volume.specs.Writers.{State, Written, Part, part_bytes, last_of, IsWriting, Agree, HoldsAt, with_one}
+use Rattle.cbm_chain.specs.Data.{data_of}
+use Rattle.cbm_volume.specs.Layouts.{Owner, TheMap, Directory, DataOf, SideOf, Writer, is_loose, OwnedBy, Layout, Stands, own}
+use Rattle.cbm_volume.specs.Writers.{State, Written, Part, part_bytes, IsWriting, Agree, HoldsAt, with_one}
 use Rattle.cbm_medium.proofs.Places.{place_decide}
 use Rattle.cbm_volume.proofs.Frames.{Keeps, owned_same, write_keeps}
 use Rattle.cbm_volume.proofs.Remaps.{with_owner}
@@ -30,15 +29,15 @@ part_bytes_kept c c' owner o k (b ∷ b' ∷ rest) w =
 -- A WRITER IS KEPT where its blocks are
 pub writing_kept : (tracks : ℕ) (c c' : Content) (l l' : Layout) (ch : ℕ) (s : State) (w : Written) → Keeps c c' l.owner (Writer ch) → ((p : Place) → l.owner p ≡ Writer ch → l'.owner p ≡ Writer ch) → IsWriting tracks c l ch s w → IsWriting tracks c' l' ch s w
 writing_kept tracks c c' l l' ch s w k own_kept h = record {
-    more = h.more;
-    owned = owned_same l.owner l'.owner (Writer ch) (s.first ∷ h.more) own_kept h.owned;
-    part = part_kept tracks c c' l.owner (Writer ch) k (s.first ∷ h.more) h.owned h.part;
-    current = h.current;
-    bytes = h.bytes ∙ ap (λ (x : List ℕ). x ++ s.waiting) (sym (part_bytes_kept c c' l.owner (Writer ch) k (s.first ∷ h.more) h.owned));
-    count = h.count;
-    blocks = h.blocks;
-    slot = h.slot;
-  }
+  more = h.more;
+  owned = owned_same l.owner l'.owner (Writer ch) (s.first ∷ h.more) own_kept h.owned;
+  part = part_kept tracks c c' l.owner (Writer ch) k (s.first ∷ h.more) h.owned h.part;
+  current = h.current;
+  bytes = h.bytes ∙ ap (λ (x : List ℕ). x ++ s.waiting) (sym (part_bytes_kept c c' l.owner (Writer ch) k (s.first ∷ h.more) h.owned));
+  count = h.count;
+  blocks = h.blocks;
+  slot = h.slot;
+}
 
 pub agree_kept : (tracks : ℕ) (c c' : Content) (l l' : Layout) (ch : ℕ) (s : Option State) (w : Option Written) → Keeps c c' l.owner (Writer ch) → ((p : Place) → l.owner p ≡ Writer ch → l'.owner p ≡ Writer ch) → Agree tracks c l ch s w → Agree tracks c' l' ch s w
 agree_kept tracks c c' l l' ch None None k o h = tt
@@ -73,10 +72,10 @@ stands_owned tracks c l d p ch st t =
       describes = record { title = st.describes.title; mark = st.describes.mark; size = st.describes.size; slots = st.describes.slots; total = st.describes.total; room = st.describes.room; free = st.describes.free };
     }
   where
-  back : (q : Place) (o : Owner) → Writer ch ≢ o → own l.owner p (Writer ch) q ≡ o → l.owner q ≡ o
-  back q o ne e = elim (place_decide p q) [
-      inl s ↦ absurd (ne (sym (own_there l.owner p (Writer ch)) ∙ ap (own l.owner p (Writer ch)) s ∙ e))
-    | inr apart ↦ sym (own_elsewhere l.owner p q (Writer ch) apart) ∙ e
+    back : (q : Place) (o : Owner) → Writer ch ≢ o → own l.owner p (Writer ch) q ≡ o → l.owner q ≡ o
+    back q o ne e = elim (place_decide p q) [
+      | inl s ↦ absurd (ne (sym (own_there l.owner p (Writer ch)) ∙ ap (own l.owner p (Writer ch)) s ∙ e))
+      | inr apart ↦ sym (own_elsewhere l.owner p q (Writer ch) apart) ∙ e
     ]
 
 -- ---- the disk steps, and the writers stay
@@ -104,23 +103,23 @@ holds_begun tracks c l d s w h p ch st t ef ec en ew =
     let l' : Layout = with_owner l (own l.owner p (Writer ch)) in
     let new : Written = record { slot = st.slot; bytes = []; blocks = 1 } in
     let writing : IsWriting tracks c l' ch st new = record {
-          more = [];
-          owned = (ap (own l.owner p (Writer ch)) ef ∙ own_there l.owner p (Writer ch), tt);
-          part = (subst (λ (x : Place). Has tracks x) (sym ef) t.has, λ e. t.off_18 (ap (λ (x : Place). x.track) (sym ef) ∙ e));
-          current = ec ∙ sym ef;
-          bytes = sym ew;
-          count = en;
-          blocks = sym en;
-          slot = refl;
-        } in
+      more = [];
+      owned = (ap (own l.owner p (Writer ch)) ef ∙ own_there l.owner p (Writer ch), tt);
+      part = (subst (λ (x : Place). Has tracks x) (sym ef) t.has, λ e. t.off_18 (ap (λ (x : Place). x.track) (sym ef) ∙ e));
+      current = ec ∙ sym ef;
+      bytes = sym ew;
+      count = en;
+      blocks = sym en;
+      slot = refl;
+    } in
     record {
       stands = stands_owned tracks c l d p ch h.stands t;
       each = λ m. elim (cases_eq m ch) [
-          inl e ↦ subst (λ (i : ℕ). Agree tracks c l' i (with_one s ch (Some st) i) (with_one w ch (Some new) i)) (sym e)
+        | inl e ↦ subst (λ (i : ℕ). Agree tracks c l' i (with_one s ch (Some st) i) (with_one w ch (Some new) i)) (sym e)
             (subst (λ (x : Option State). Agree tracks c l' ch x (with_one w ch (Some new) ch)) (sym (one_here s ch (Some st)))
-              (subst (λ (x : Option Written). Agree tracks c l' ch (Some st) x) (sym (one_here w ch (Some new))) writing))
+            (subst (λ (x : Option Written). Agree tracks c l' ch (Some st) x) (sym (one_here w ch (Some new))) writing))
         | inr ne ↦ subst (λ (x : Option State). Agree tracks c l' m x (with_one w ch (Some new) m)) (sym (one_other s ch m (Some st) ne))
             (subst (λ (x : Option Written). Agree tracks c l' m (s m) x) (sym (one_other w ch m (Some new) ne))
-              (agree_kept tracks c c l l' m (s m) (w m) (λ q e. refl) (λ q e. own_elsewhere l.owner p q (Writer ch) (λ z. (let y = sym t.nobody ∙ ap l.owner z ∙ e in (cc))) ∙ e) (h.each m)))
-        ];
+            (agree_kept tracks c c l l' m (s m) (w m) (λ q e. refl) (λ q e. own_elsewhere l.owner p q (Writer ch) (λ z. (let y = sym t.nobody ∙ ap l.owner z ∙ e in (cc))) ∙ e) (h.each m)))
+      ];
     }

@@ -1,14 +1,11 @@
 -- The bytes of a directory sector after one entry is written.
-use Rattle.std.proofs.Common.{◌≡◌, ◌≢◌, ◌⊎◌, ℕ, ◌+◌, ◌-◌, ◌*◌, ◌<◌, ◌≤◌, List, ◌++◌, length, get_or, take, drop, refl, sym, ap, ◌∙◌, arith, inl, inr, rules}
-use Rattle.std.specs.Prelude.{slice_range}
-use Rattle.std.proofs.lemmas.List.{length-take, length-drop, get_or-take, get_or-drop, get_or-append_right, length-append}
-use Rattle.std.proofs.lemmas.Bool.{cases_eq, cases_lt}
+use Rattle.std.proofs.Common.{◌≡◌, ℕ, ◌+◌, ◌-◌, ◌*◌, ◌<◌, ◌≤◌, List, length, get_or, drop, ap, ◌∙◌, arith, inl, inr, rules}
+use Rattle.std.proofs.lemmas.List.{length-take, length-drop, get_or-take, get_or-drop}
+use Rattle.std.proofs.lemmas.Bool.{cases_lt}
 use Rattle.std.proofs.lemmas.Grind.{same_number_lists}
 use Rattle.std.proofs.lemmas.Slice.{overwrites}
 use Rattle.std.proofs.lemmas.List.{places}
 use borrow.Rule.Slice.PartMut.{put_mid}
-use Rattle.cbm_medium.specs.Place.{Place}
-use Rattle.cbm_medium.specs.Links.{link}
 use Rattle.cbm_directory.specs.Entries.{HasEntry, entry_of}
 use Rattle.cbm_volume.proofs.Remaps.{range_same}
 
@@ -34,12 +31,12 @@ has_entry old body e a k l m h f g =
       length = same_length;
       link = λ i. record { track = mid_below a k old body 0 room lb (omega arith) i; sector = mid_below a k old body 1 room lb (omega arith) i };
       here = same_number_lists (entry_of new e) body
-        (length-take (32 * e + 32 - (32 * e + 2)) (drop (32 * e + 2) new) ∙ omega (arith, length-drop (32 * e + 2) new))
-        (λ i below. let b : i < 30 = omega (arith, length-take (32 * e + 32 - (32 * e + 2)) (drop (32 * e + 2) new)) in
-            get_or-take (32 * e + 32 - (32 * e + 2)) (drop (32 * e + 2) new) i 0 (omega arith) ∙ get_or-drop (32 * e + 2) new i 0
-            ∙ mid_inside a k old body (32 * e + 2 + i) room lb (omega arith) (omega arith) ∙ ap (λ (x : ℕ). get_or body x 0) (omega arith));
+          (length-take (32 * e + 32 - (32 * e + 2)) (drop (32 * e + 2) new) ∙ omega (arith, length-drop (32 * e + 2) new))
+          (λ i below. let b : i < 30 = omega (arith, length-take (32 * e + 32 - (32 * e + 2)) (drop (32 * e + 2) new)) in
+          get_or-take (32 * e + 32 - (32 * e + 2)) (drop (32 * e + 2) new) i 0 (omega arith) ∙ get_or-drop (32 * e + 2) new i 0
+          ∙ mid_inside a k old body (32 * e + 2 + i) room lb (omega arith) (omega arith) ∙ ap (λ (x : ℕ). get_or body x 0) (omega arith));
       others = λ j below ne. range_same new old (32 * j + 2) (32 * j + 32) same_length (λ i p q. elim (cases_lt i a) [
-          inl low ↦ mid_below a k old body i room lb low
+        | inl low ↦ mid_below a k old body i room lb low
         | inr high ↦ mid_above a k old body i room lb (omega arith)
-        ]);
+      ]);
     }

@@ -51,12 +51,14 @@ body_as false bytes e b = Bytes bytes
 -- the file of an entry whose blocks hold these bytes
 unfoldable pub file_of : List ℕ → List ℕ → Blocks → File
 file_of bytes e b = record {
-    kind = kind_of (type_byte e % 16); closed = is_closed e; locked = bit_of (type_byte e) 6;
-    name = name_in e;
-    shown = slice_index e 28 + 256 * slice_index e 29;
-    held = length b.data_blocks + length b.sides;
-    body = body_as (is_closed e && is_relative e) bytes e b;
-  }
+  kind = kind_of (type_byte e % 16);
+  closed = is_closed e;
+  locked = bit_of (type_byte e) 6;
+  name = name_in e;
+  shown = slice_index e 28 + 256 * slice_index e 29;
+  held = length b.data_blocks + length b.sides;
+  body = body_as (is_closed e && is_relative e) bytes e b;
+}
 
 -- an entry of type byte 0 is an empty slot
 abbrev pub slot_with : List ℕ → List ℕ → Blocks → Option File

@@ -1,5 +1,5 @@
 -- Where a disk lies on a medium, when that is sound, and which disk it means.
-use Rattle.std.specs.Prelude.{ℕ, zero, suc, ◌+◌, ◌-◌, ◌*◌, ◌/◌, ◌%◌, ◌<◌, ◌≤◌, ◌≡◌, ◌≢◌, ◌==◌, nat_lt, List, [], ◌∷◌, ◌++◌, Bool, true, false, if◌then◌else◌, length, slice_range, Option, Some, None, Result, Ok, Err, IsOk}
+use Rattle.std.specs.Prelude.{ℕ, ◌*◌, ◌%◌, ◌<◌, ◌≡◌, ◌≢◌, ◌==◌, nat_lt, List, [], ◌∷◌, ◌++◌, Bool, true, false, if◌then◌else◌, length, slice_range, Ok, Err, IsOk}
 use Rattle.cbm_medium.specs.Place.{Place, Has, is_place, directory_head}
 use Rattle.cbm_medium.specs.Content.{Cell, Content, is_header_fault}
 use Rattle.cbm_medium.specs.Links.{Chain, AllSame}
@@ -109,7 +109,7 @@ Untouched tracks c c' but = (l : Layout) → Sound tracks c l → (m : ℕ) → 
 -- the layout with one more sector of the directory, and eight slots that hold nothing
 abbrev pub grown : Layout → Place → Layout
 grown l q = record {
-    directory = l.directory ++ q ∷ [];
-    files = λ n. if nat_lt n (slot_count l) then l.files n else record { data_blocks = []; sides = [] };
-    owner = own l.owner q Directory;
-  }
+  directory = l.directory ++ q ∷ [];
+  files = λ n. if nat_lt n (slot_count l) then l.files n else record { data_blocks = []; sides = [] };
+  owner = own l.owner q Directory;
+}

@@ -2,5 +2,4 @@ pub mod Blocks
 pub mod Layouts
 pub mod Writers
 pub mod Reading
-
 pub use Rattle.cbm_file.specs.Files

@@ -1,10 +1,9 @@
 -- What the reading calls of a volume answer on a sound disk.
-use Rattle.std.specs.Prelude.{ℕ, ◌<◌, ◌≤◌, ◌≡◌, true, List, [], length, Option, Some, None, Result, Ok, Err}
+use Rattle.std.specs.Prelude.{ℕ, ◌<◌, ◌≤◌, ◌≡◌, true, List, length, Option, Some, None, Result, Ok, Err}
 use Rattle.cbm_medium.specs.Content.{Content}
 use Rattle.cbm_medium.specs.declared.fault.Trouble.{Trouble}
-use Rattle.cbm_file.specs.Files.{Disk, File, file_at, Body, Bytes}
+use Rattle.cbm_file.specs.Files.{Disk, File, file_at, Bytes}
 use Rattle.cbm_bam.specs.Map.{geometry_of}
-use Rattle.cbm_chain.specs.Reading.{Rest}
 use Rattle.cbm_directory.specs.Slots.{Answers, directory_of}
 use Rattle.cbm_volume.specs.Blocks.{Blocks, slot_with}
 use Rattle.cbm_volume.specs.Layouts.{Means}

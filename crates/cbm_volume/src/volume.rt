@@ -51,16 +51,12 @@ impl<M: Medium> Volume<M> {
 
     /// The disk's title and mark, or the medium's fault at 18/0.
     pub fn label(&self) -> Result<Label, Trouble>
-        ensures ok {
-            let map = map_of (M.content self.now) in
-            IfOk result (λ l. (l.title ≡ slice_range map 144 160) × (l.mark ≡ slice_range map 162 167))
-        }
+        ensures ok { let map = map_of (M.content self.now) in
+            IfOk result (λ l. (l.title ≡ slice_range map 144 160) × (l.mark ≡ slice_range map 162 167)) }
         ensures read { OnOk result (IsOk (M.content self.now directory_head)) }
         ensures err { IfErr result (λ t. M.content self.now directory_head ≡ Err t.code) }
-        ensures means {
-            (d : Disk) → HoldsDisk (M.tracks self.now) (M.content self.now) d →
-            IsOkAnd result (λ l. (l.title ≡ d.title) × (l.mark ≡ d.mark))
-        }
+        ensures means { (d : Disk) → HoldsDisk (M.tracks self.now) (M.content self.now) d →
+            IsOkAnd result (λ l. (l.title ≡ d.title) × (l.mark ≡ d.mark)) }
     {
         let map = cbm_bam::read_map(&self.medium, self.geometry())?;
         Ok(Label::of(&map))
@@ -68,14 +64,10 @@ impl<M: Medium> Volume<M> {
 
     /// How many blocks are free for files, as the map counts them, or the medium's fault at 18/0.
     pub fn free(&self) -> Result<u16, Trouble>
-        ensures ok {
-            IfOk result (λ free. free ≡ free_in (geometry_of (M.tracks self.now) (M.content self.now)) (map_of (M.content self.now)))
-        }
+        ensures ok { IfOk result (λ free. free ≡ free_in (geometry_of (M.tracks self.now) (M.content self.now)) (map_of (M.content self.now))) }
         ensures read { OnOk result (IsOk (M.content self.now directory_head)) }
         ensures err { IfErr result (λ t. M.content self.now directory_head ≡ Err t.code) }
-        ensures means {
-            (d : Disk) → HoldsDisk (M.tracks self.now) (M.content self.now) d → IsOkAnd result (λ free. free ≡ d.free)
-        }
+        ensures means { (d : Disk) → HoldsDisk (M.tracks self.now) (M.content self.now) d → IsOkAnd result (λ free. free ≡ d.free) }
     {
         cbm_bam::free_blocks(&self.medium, self.geometry())
     }
@@ -83,22 +75,16 @@ impl<M: Medium> Volume<M> {
     /// The entry of the slot with this number, counted from 0; None past the last. An `Err` is what breaks the directory off:
     /// 66, 71 or a medium's fault.
     pub fn slot(&self, number: u8) -> Result<Option<Entry>, Trouble>
-        ensures answers {
-            Answers (directory_of (geometry_of (M.tracks self.now) (M.content self.now)) (M.content self.now)) number result
-        }
-        ensures means {
-            (d : Disk) → HoldsDisk (M.tracks self.now) (M.content self.now) d → ShowsSlot d number result
-        }
+        ensures answers { Answers (directory_of (geometry_of (M.tracks self.now) (M.content self.now)) (M.content self.now)) number result }
+        ensures means { (d : Disk) → HoldsDisk (M.tracks self.now) (M.content self.now) d → ShowsSlot d number result }
     {
         cbm_directory::slot(&self.medium, self.geometry(), number)
     }
 
     /// Stands before the first slot; `next_slot` goes through them. It reads no entry.
     pub fn slots(&self) -> Slots
-        ensures left {
-            let tracks = geometry_of (M.tracks self.now) (M.content self.now) in
-            left_of (M.content self.now) result ≡ directory_of tracks (M.content self.now)
-        }
+        ensures left { let tracks = geometry_of (M.tracks self.now) (M.content self.now) in
+            left_of (M.content self.now) result ≡ directory_of tracks (M.content self.now) }
         ensures tracks { result.tracks ≤ M.tracks self.now }
     {
         Slots::begin(self.geometry())
@@ -116,33 +102,25 @@ impl<M: Medium> Volume<M> {
     /// The first entry that is wanted, with its slot's number; None where none is. An `Err` is what breaks the directory off
     /// before one was met.
     pub fn find<W: Wanted>(&self, wanted: &W) -> Result<Option<(u8, Entry)>, Trouble>
-        ensures {
-            let tracks = geometry_of (M.tracks self.now) (M.content self.now) in
-            Finds (W.wants wanted.now) (directory_of tracks (M.content self.now)) result
-        }
+        ensures { let tracks = geometry_of (M.tracks self.now) (M.content self.now) in
+            Finds (W.wants wanted.now) (directory_of tracks (M.content self.now)) result }
     {
         cbm_directory::find(&self.medium, self.geometry(), wanted)
     }
 
     /// Begins to read the file of an entry. An `Err` is what is met at its first block.
     pub fn begin_read(&self, entry: &Entry) -> Result<ChainReader, Trouble>
-        ensures ok {
-            let tracks = geometry_of (M.tracks self.now) (M.content self.now) in
+        ensures ok { let tracks = geometry_of (M.tracks self.now) (M.content self.now) in
             IfOk result (λ r. rest_of (M.content self.now) r
-                ≡ held_from tracks (M.content self.now) (sector_count tracks) (first_block entry.now))
-        }
-        ensures err {
-            let tracks = geometry_of (M.tracks self.now) (M.content self.now) in
+            ≡ held_from tracks (M.content self.now) (sector_count tracks) (first_block entry.now)) }
+        ensures err { let tracks = geometry_of (M.tracks self.now) (M.content self.now) in
             IfErr result (λ t. held_from tracks (M.content self.now) (sector_count tracks) (first_block entry.now)
-                ≡ (record { bytes = []; trouble = Some t }))
-        }
+            ≡ (record { bytes = []; trouble = Some t })) }
         ensures tracks { IfOk result (λ r. r.tracks ≤ M.tracks self.now) }
         ensures settled { IfOk result IsSettled }
-        ensures means {
-            (d : Disk) (n : ℕ) (bytes : List ℕ) → HoldsDisk (M.tracks self.now) (M.content self.now) d →
+        ensures means { (d : Disk) (n : ℕ) (bytes : List ℕ) → HoldsDisk (M.tracks self.now) (M.content self.now) d →
             StandsAt (M.tracks self.now) (M.content self.now) n entry.now → HasBytes d n bytes →
-            IsOkAnd result (λ r. rest_of (M.content self.now) r ≡ (record { bytes = bytes; trouble = None }))
-        }
+            IsOkAnd result (λ r. rest_of (M.content self.now) r ≡ (record { bytes = bytes; trouble = None })) }
     {
         ChainReader::open(&self.medium, self.geometry(), entry.first_block())
     }
@@ -150,13 +128,9 @@ impl<M: Medium> Volume<M> {
     /// Goes to the next byte of a file that is being read. An `Err` is what was met behind that one, which is the last then.
     pub fn read_on(&self, reader: &mut ChainReader) -> Result<(), Trouble>
         requires { reader.old.tracks ≤ M.tracks self.now }
-        ensures ok {
-            OnOk result (rest_of (M.content self.now) reader.new ≡ one_less (rest_of (M.content self.now) reader.old))
-        }
-        ensures err {
-            let rest = rest_of (M.content self.now) reader.old in
-            IfErr result (λ t. (rest.trouble ≡ Some t) × (reader.new.bytes ≡ drop 1 rest.bytes))
-        }
+        ensures ok { OnOk result (rest_of (M.content self.now) reader.new ≡ one_less (rest_of (M.content self.now) reader.old)) }
+        ensures err { let rest = rest_of (M.content self.now) reader.old in
+            IfErr result (λ t. (rest.trouble ≡ Some t) × (reader.new.bytes ≡ drop 1 rest.bytes)) }
         ensures end { OnErr result ((reader.new.next.track ≡ 0) × (length reader.new.bytes ≤ 1)) }
         ensures tracks { reader.new.tracks ≡ reader.old.tracks }
         ensures settled { IsSettled reader.new }

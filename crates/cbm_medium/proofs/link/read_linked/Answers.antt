@@ -1,7 +1,7 @@
 use Rattle.std.proofs.Common.{◌≡◌, ◌-◌, ap, subst, ◌∙◌, sym, arith, Some, []}
 use Rattle.std.proofs.lemmas.Result.{err_from_is_err_and}
 use Rattle.cbm_medium.specs.Place.{Place}
-use Rattle.cbm_medium.specs.Links.{follow, Followed}
+use Rattle.cbm_medium.specs.Links.{follow}
 use Rattle.cbm_medium.proofs.Walks.{follow_fault}
 use Rattle.cbm_medium.proofs.link.read_linked.Goals as goal
 

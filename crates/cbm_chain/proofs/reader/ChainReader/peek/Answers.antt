@@ -1,4 +1,4 @@
-use Rattle.std.proofs.Common.{◌≡◌, ◌++◌, ℕ, Option, Some, ap, sym, ◌∙◌, arith}
+use Rattle.std.proofs.Common.{◌++◌, ℕ, Option, ap, sym, ◌∙◌, arith}
 use Rattle.std.specs.Prelude.{option_to_list, slice_range}
 use Rattle.cbm_chain.specs.Reading.{Reading, shown}
 use Rattle.cbm_chain.proofs.Showing.{shown_next}
