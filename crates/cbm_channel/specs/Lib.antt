@@ -11,3 +11,4 @@ pub mod Running
 pub mod Calls
 pub use Rattle.cbm_file.specs.Types
 pub use Rattle.cbm_file.specs.Files
+pub mod Told

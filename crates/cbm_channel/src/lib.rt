@@ -3,6 +3,7 @@
 
 mod code;
 mod status;
+mod telling;
 #[cfg(test)]
 mod tests;
 
@@ -10,3 +11,4 @@ pub use cbm_command::{Command, Mode, Name, Names, Opening, Refusal, Wanted};
 pub use cbm_file::FileType;
 pub use code::Code;
 pub use status::{Status, StatusLine};
+pub use telling::{Telling, tells_as_the_machine};

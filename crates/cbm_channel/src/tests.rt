@@ -1,5 +1,5 @@
 //! Statuses, as the drive's table has them.
-use crate::{Code, Refusal, Status};
+use crate::{Code, Refusal, Status, Telling};
 
 #[test]
 fn tells_statuses(rt: HostRuntime) {
@@ -146,5 +146,22 @@ fn numbers_refusals(rt: HostRuntime) {
         let code = Code::from(refusal);
         assert_eq!(rt; code.number(), number);
         assert_eq!(rt; Status::plain(code).first, 0);
+    }
+}
+
+#[test]
+fn power_up_is_told_once(rt: HostRuntime) {
+    let mut telling = Telling::new(Status::plain(Code::PowerUp));
+    for wanted in [
+        b"73,CBM DOS V2.6 1541,00,00\r".as_slice(),
+        b"00, OK,00,00\r".as_slice(),
+        b"00, OK,00,00\r".as_slice(),
+    ] {
+        for (i, byte) in wanted.iter().enumerate() {
+            let (next, last) = telling.peek().expect(&rt, "a byte");
+            assert_eq!(rt; next, *byte);
+            assert_eq!(rt; last, i + 1 == wanted.len());
+            telling.taken();
+        }
     }
 }

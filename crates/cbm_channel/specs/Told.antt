@@ -1,0 +1,26 @@
+-- What channel 15 tells of the status.
+use Rattle.std.specs.Prelude.{ℕ, ◌+◌, nat_lt, Bool, length, drop, if◌then◌else◌, Option}
+use Rattle.cbm_channel.specs.declared.code.Code.TheVariants.{Fine}
+use Rattle.cbm_channel.specs.declared.status.Status.{Status}
+use Rattle.cbm_channel.specs.Statuses.{plain, status_line}
+use Rattle.cbm_channel.specs.Machines.{Machine}
+use Rattle.cbm_channel.specs.Talking.{next_of}
+
+-- a status, and how many bytes of its line were taken
+pub record Told : Type 0 where
+  pub status : Status
+  pub told : ℕ
+
+-- the next byte of the line, and whether it is the last
+abbrev pub next_told : Told → Option (ℕ × Bool)
+next_told t = next_of (drop t.told (status_line t.status))
+
+-- A byte was taken; behind the last one the status is 00, told from its beginning.
+abbrev pub behind_next : Told → Told
+behind_next t =
+    if nat_lt (t.told + 1) (length (status_line t.status)) then record t { told = t.told + 1 }
+    else record { status = plain Fine; told = 0 }
+
+-- what a machine tells on channel 15
+abbrev pub told_by : Machine → Told
+told_by m = record { status = m.status; told = m.told }

@@ -1,0 +1,73 @@
+ghost use Rattle.std.specs.Prelude.{◌≡◌, ℕ};
+ghost use Rattle.cbm_channel.specs.Told.{next_told, behind_next, told_by};
+ghost use Rattle.cbm_channel.specs.Machines.{Machine};
+ghost use Rattle.cbm_channel.specs.Talking.{peek, taken};
+
+use crate::code::Code;
+use crate::status::{Status, StatusLine};
+use std::marker::Model;
+
+/// The status as channel 15 tells it: its line is made once, and told byte by byte.
+#[derive(Drop)]
+pub struct Telling {
+    status: Status,
+    line: StatusLine,
+    told: usize,
+}
+
+impl Model for Telling {
+    ghost use Rattle.std.specs.Prelude.{◌≡◌, ◌<◌, length};
+    ghost use Rattle.cbm_channel.specs.Statuses.{status_line};
+    ghost use Rattle.cbm_channel.specs.Told.{Told};
+
+    ghost Value = { Told };
+
+    ghost view = { λ t. record { status = t.status; told = t.told } };
+
+    ghost invariant = { λ t. (t.line.items ≡ status_line t.status) × (t.told < length t.line.items) };
+}
+
+impl Telling {
+    /// A status that is set, told from its beginning.
+    pub fn new(status: Status) -> Telling
+        ensures { result ≡ (record { status = status; told = 0 }) }
+    {
+        Telling {
+            status,
+            line: status.line(),
+            told: 0,
+        }
+    }
+
+    /// The status.
+    pub fn status(&self) -> Status
+        ensures { result ≡ self.now.status }
+    {
+        self.status
+    }
+
+    /// The next byte of the line, and whether it is the last.
+    pub fn peek(&self) -> Option<(u8, bool)>
+        ensures { result ≡ next_told self.now }
+    {
+        let line = self.line.as_slice();
+        Some((line[self.told], self.told + 1 == line.len()))
+    }
+
+    /// The byte that `peek` shows was taken. Behind the last one the status is 00.
+    pub fn taken(&mut self)
+        ensures { self.new ≡ behind_next self.old }
+    {
+        if self.told + 1 < self.line.len() {
+            self.told += 1;
+        } else {
+            *self = Telling::new(Status::plain(Code::Fine));
+        }
+    }
+}
+
+/// What is told on channel 15 is the machine's.
+pub fn tells_as_the_machine()
+    ensures peek { (m : Machine) → peek 15 m ≡ next_told (told_by m) }
+    ensures taken { (m : Machine) → told_by (taken 15 m) ≡ behind_next (told_by m) }
+{}
