@@ -54,7 +54,7 @@ impl<M: Medium> Volume<M> {
         ensures ok { let map = map_of (M.content self.now) in
             IfOk result (λ l. (l.title ≡ slice_range map 144 160) × (l.mark ≡ slice_range map 162 167)) }
         ensures read { OnOk result (IsOk (M.content self.now directory_head)) }
-        ensures err { IfErr result (λ t. M.content self.now directory_head ≡ Err t.code) }
+        ensures err { IfErr result (λ t. (M.content self.now directory_head ≡ Err t.code) × (t.track ≡ 18) × (t.sector ≡ 0)) }
         ensures means { (d : Disk) → HoldsDisk (M.tracks self.now) (M.content self.now) d →
             IsOkAnd result (λ l. (l.title ≡ d.title) × (l.mark ≡ d.mark)) }
     {
@@ -66,7 +66,7 @@ impl<M: Medium> Volume<M> {
     pub fn free(&self) -> Result<u16, Trouble>
         ensures ok { IfOk result (λ free. free ≡ free_in (geometry_of (M.tracks self.now) (M.content self.now)) (map_of (M.content self.now))) }
         ensures read { OnOk result (IsOk (M.content self.now directory_head)) }
-        ensures err { IfErr result (λ t. M.content self.now directory_head ≡ Err t.code) }
+        ensures err { IfErr result (λ t. (M.content self.now directory_head ≡ Err t.code) × (t.track ≡ 18) × (t.sector ≡ 0)) }
         ensures means { (d : Disk) → HoldsDisk (M.tracks self.now) (M.content self.now) d → IsOkAnd result (λ free. free ≡ d.free) }
     {
         cbm_bam::free_blocks(&self.medium, self.geometry())
