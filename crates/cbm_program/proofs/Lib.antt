@@ -7,3 +7,6 @@ pub mod CommandRows
 pub mod AppendRows
 pub mod RecordRows
 pub mod ProtectedRows
+pub mod LineLemmas
+pub mod TextLemmas
+pub mod NumberLemmas
