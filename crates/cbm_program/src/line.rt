@@ -1,7 +1,8 @@
 //! What a line of a script asks for.
-ghost use Rattle.std.specs.Prelude.{◌≡◌, ◌≤◌, length, option_map};
+ghost use Rattle.std.specs.Prelude.{◌≡◌, ◌≤◌, length, option_map, IfSome};
 ghost use Rattle.std.specs.Option.{ForSome};
 ghost use Rattle.cbm_program.specs.Requests.{text_behind, fill_of, get_of, asked_of, request_of, line_of};
+ghost use Rattle.cbm_program.specs.Running.{HasChannel, LineHasChannel};
 
 use crate::request::{Request, Text};
 use crate::text::decode;
@@ -26,21 +27,27 @@ fn text_behind(rest: Option<&[u8]>) -> Option<Text>
 }
 
 fn fill(channel: u8, rest: Option<&[u8]>) -> Option<Request>
-    ensures { result ≡ fill_of channel (option_map (λ words. words.now) rest.entry) }
+    requires { channel ≤ 15 }
+    ensures channel { IfSome result HasChannel }
+    ensures value { result ≡ fill_of channel (option_map (λ words. words.now) rest.entry) }
 {
     let (count_word, byte_word) = split_word(rest?);
     Some(Request::Fill(channel, count(count_word)?, byte(byte_word?)?))
 }
 
 fn get(channel: u8, rest: Option<&[u8]>) -> Option<Request>
-    ensures { result ≡ get_of channel (option_map (λ word. word.now) rest.entry) }
+    requires { channel ≤ 15 }
+    ensures channel { IfSome result HasChannel }
+    ensures value { result ≡ get_of channel (option_map (λ word. word.now) rest.entry) }
 {
     Some(Request::Get(channel, count(rest?)?))
 }
 
 fn asked(verb: &[u8], channel: u8, rest: Option<&[u8]>) -> Option<Request>
-    requires { ForSome rest (λ text. length text.now ≤ 1000) }
-    ensures { result ≡ asked_of verb.now channel (option_map (λ text. text.now) rest.entry) }
+    requires channel { channel ≤ 15 }
+    requires short { ForSome rest (λ text. length text.now ≤ 1000) }
+    ensures channel { IfSome result HasChannel }
+    ensures value { result ≡ asked_of verb.now channel (option_map (λ text. text.now) rest.entry) }
 {
     if verb == b"open".as_slice() {
         Some(Request::Open(channel, text_behind(rest)?))
@@ -59,7 +66,8 @@ fn asked(verb: &[u8], channel: u8, rest: Option<&[u8]>) -> Option<Request>
 
 fn requested(bytes: &[u8]) -> Option<Request>
     requires { length bytes.now ≤ 1000 }
-    ensures { result ≡ request_of bytes.now }
+    ensures channel { IfSome result HasChannel }
+    ensures value { result ≡ request_of bytes.now }
 {
     let (verb, rest) = split_word(bytes);
     if verb == b"status".as_slice() {
@@ -76,7 +84,10 @@ fn requested(bytes: &[u8]) -> Option<Request>
 /// What a line asks for: nothing where it is empty or begins with `;`, and None where it is refused.
 pub fn parse(line: &[u8]) -> Option<Line>
     requires { length line.now ≤ 1000 }
-    ensures { result ≡ line_of line.now }
+    ensures value { result ≡ line_of line.now }
+
+    // The channel of a request is 0 to 15.
+    ensures channel { IfSome result LineHasChannel }
 {
     match line.first() {
         None | Some(b';') => Some(Line::Skipped),

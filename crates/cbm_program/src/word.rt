@@ -51,7 +51,8 @@ fn number_within(low: u64, high: u64, word: &[u8]) -> Option<u64>
 }
 
 pub(crate) fn channel(word: &[u8]) -> Option<u8>
-    ensures { result ≡ channel_of word.now }
+    ensures value { result ≡ channel_of word.now }
+    ensures small { IfSome result (λ channel. channel ≤ 15) }
 {
     Some(number_within(0, 15, word)? as u8)
 }
