@@ -1,1 +1,2 @@
 pub mod NextBytes
+pub mod Kept

@@ -2,7 +2,7 @@
 use Rattle.std.proofs.Common.{◌≡◌, ℕ, List, [], Bool, Option, Some, None, refl, ap, sym, subst}
 use Rattle.std.specs.Prelude.{IfSome, Result, Ok, Err}
 use Rattle.cbm_medium.specs.Content.{Content}
-use Rattle.cbm_volume.specs.Reading.{HoldsDisk}
+use Rattle.cbm_volume.specs.Holding.{HoldsDisk}
 use Rattle.cbm_channel.specs.Files.{Disk}
 use Rattle.cbm_channel.specs.Machines.{Machine, start}
 use Rattle.cbm_program.specs.declared.request.Request.{Request}

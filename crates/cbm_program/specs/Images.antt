@@ -2,7 +2,7 @@
 use Rattle.std.specs.Prelude.{ℕ, ◌≡◌, List, length, take, codes, Bool, nat_eq, ◌||◌, if◌then◌else◌, Option, Some, None, option_map}
 use Rattle.std.specs.Str.{bytes_eq}
 use Rattle.cbm_medium.specs.Content.{Content}
-use Rattle.cbm_volume.specs.Reading.{HoldsDisk}
+use Rattle.cbm_volume.specs.Holding.{HoldsDisk}
 use Rattle.cbm_d64.specs.Image as d64
 use Rattle.cbm_g64.specs.File as g64
 use Rattle.cbm_g64.specs.Numbers.{number_of}

@@ -13,7 +13,8 @@ ghost use Rattle.cbm_program.specs.Running.{IsOfWriting};
 use crate::fault::RunFault;
 use crate::output::print;
 use arrayvec::ArrayVec;
-use cbm_channel::{Dos, Medium};
+use cbm_channel::Dos;
+use cbm_medium::Medium;
 use itoa::Buffer;
 use std::io::Write;
 

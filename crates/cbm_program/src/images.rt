@@ -3,7 +3,7 @@ ghost use Rattle.std.specs.Prelude.{◌≡◌, ◌≢◌, ℕ, length, Some, Non
 ghost use Rattle.std.specs.Io.KnownBytes.{Keeps};
 ghost use Rattle.cbm_d64.specs.Image as d64;
 ghost use Rattle.cbm_g64.specs.Tracks as circles;
-ghost use Rattle.cbm_volume.specs.Reading.{HoldsDisk};
+ghost use Rattle.cbm_volume.specs.Holding.{HoldsDisk};
 ghost use Rattle.cbm_program.specs.declared.kind.Kind.TheVariants.{D64, G64};
 ghost use Rattle.cbm_program.specs.Scripts.{printed};
 ghost use Rattle.cbm_program.specs.Output.{Prints, PrintsPart};
@@ -14,7 +14,8 @@ use crate::fault::RunFault;
 use crate::kind::{Kind, kind_of};
 use crate::options::Options;
 use crate::session::run_on;
-use cbm_channel::{Dos, Medium};
+use cbm_channel::Dos;
+use cbm_medium::Medium;
 use cbm_d64::{D64Disk, D64Fault};
 use cbm_g64::{G64Disk, G64Fault};
 use std::alloc::Global;

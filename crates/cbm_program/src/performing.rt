@@ -12,7 +12,8 @@ use crate::output::flush;
 use crate::putting::{hear, hear_equal};
 use crate::request::Request;
 use crate::status::print_status;
-use cbm_channel::{Dos, Medium};
+use cbm_channel::Dos;
+use cbm_medium::Medium;
 use std::io::Write;
 
 /// Carries out a request, and prints what it prints.

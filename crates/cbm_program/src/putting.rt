@@ -6,7 +6,8 @@ ghost use Rattle.cbm_channel.specs.CarriedOut.{IsPutCarriedOut};
 ghost use Rattle.cbm_channel.specs.Talking.{listen};
 ghost use Rattle.cbm_program.specs.Scripts.{puts, hear};
 
-use cbm_channel::{Dos, Medium};
+use cbm_channel::Dos;
+use cbm_medium::Medium;
 
 /// Puts the bytes one after another.
 fn put_each<M: Medium>(dos: &mut Dos<M>, channel: u8, bytes: &[u8])

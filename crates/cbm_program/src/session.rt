@@ -12,7 +12,8 @@ use crate::line::{Line, parse};
 use crate::lines::{LineFault, Lines};
 use crate::performing::perform_line;
 use arrayvec::ArrayVec;
-use cbm_channel::{Dos, Medium};
+use cbm_channel::Dos;
+use cbm_medium::Medium;
 use std::io::{Read, Write};
 
 /// The greatest number of lines.

@@ -11,7 +11,8 @@ ghost use Rattle.cbm_program.specs.Running.{IsOfWriting};
 use crate::fault::RunFault;
 use crate::output::print;
 use arrayvec::ArrayVec;
-use cbm_channel::{Dos, Medium, StatusLine};
+use cbm_channel::{Dos, StatusLine};
+use cbm_medium::Medium;
 use std::io::Write;
 
 /// The channel that tells the status.

@@ -16,3 +16,4 @@ pub mod Writers
 pub mod Written
 pub mod Lengths
 pub mod Listing
+pub mod Telling

@@ -1,11 +1,11 @@
-ghost use Rattle.std.specs.Prelude.{◌≡◌, ◌≤◌, ℕ, List, [], Bool, Some, None, Err, IsOkAnd, IfOk, IfErr, OnOk, OnErr, IsOk, slice_range, drop, length};
+ghost use Rattle.std.specs.Prelude.{◌≡◌, ◌≤◌, ℕ, List, [], Bool, Some, None, Err, IsOkAnd, IfOk, IfErr, OnOk, OnErr, IsOk, slice_range, drop, length, ◌+◌};
 ghost use Rattle.cbm_medium.specs.Place.{directory_head, sector_count};
 ghost use Rattle.cbm_file.specs.Files.{Disk};
 ghost use Rattle.cbm_bam.specs.Map.{map_of, free_in, geometry_of};
 ghost use Rattle.cbm_chain.specs.Reading.{rest_of, one_less, held_from, IsSettled};
 ghost use Rattle.cbm_directory.specs.Entries.{first_block};
-ghost use Rattle.cbm_directory.specs.Slots.{Answers, Finds, Gives, directory_of, left_of};
-ghost use Rattle.cbm_volume.specs.Reading.{HoldsDisk, ShowsSlot, StandsAt, HasBytes};
+ghost use Rattle.cbm_directory.specs.Slots.{Answers, Finds, Gives, IfGiven, directory_of, left_of, most_left};
+ghost use Rattle.cbm_volume.specs.Holding.{HoldsDisk, ShowsSlot, StandsAt, HasBytes, TellsOf};
 
 use crate::label::Label;
 use cbm_chain::ChainReader;
@@ -86,6 +86,8 @@ impl<M: Medium> Volume<M> {
         ensures left { let tracks = geometry_of (M.tracks self.now) (M.content self.now) in
             left_of (M.content self.now) result ≡ directory_of tracks (M.content self.now) }
         ensures tracks { result.tracks ≤ M.tracks self.now }
+        ensures most { most_left result ≡ 144 }
+        ensures means { (d : Disk) → HoldsDisk (M.tracks self.now) (M.content self.now) d → TellsOf d (left_of (M.content self.now) result) }
     {
         Slots::begin(self.geometry())
     }
@@ -95,6 +97,7 @@ impl<M: Medium> Volume<M> {
         requires { slots.old.tracks ≤ M.tracks self.now }
         ensures gives { Gives (left_of (M.content self.now) slots.old) (left_of (M.content self.now) slots.new) result }
         ensures tracks { slots.new.tracks ≡ slots.old.tracks }
+        ensures most { IfGiven result (most_left slots.new + 1 ≡ most_left slots.old) }
     {
         slots.next(&self.medium)
     }
@@ -102,8 +105,10 @@ impl<M: Medium> Volume<M> {
     /// The first entry that is wanted, with its slot's number; None where none is. An `Err` is what breaks the directory off
     /// before one was met.
     pub fn find<W: Wanted>(&self, wanted: &W) -> Result<Option<(u8, Entry)>, Trouble>
-        ensures { let tracks = geometry_of (M.tracks self.now) (M.content self.now) in
+        ensures finds { let tracks = geometry_of (M.tracks self.now) (M.content self.now) in
             Finds (W.wants wanted.now) (directory_of tracks (M.content self.now)) result }
+        ensures means { (d : Disk) → HoldsDisk (M.tracks self.now) (M.content self.now) d →
+            TellsOf d (directory_of (geometry_of (M.tracks self.now) (M.content self.now)) (M.content self.now)) }
     {
         cbm_directory::find(&self.medium, self.geometry(), wanted)
     }

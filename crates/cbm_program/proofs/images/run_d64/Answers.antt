@@ -1,7 +1,7 @@
 use Rattle.std.proofs.Common.{length}
 use Rattle.cbm_d64.specs.Image as d64
 use Rattle.std.proofs.lemmas.Result.{IfOk-weaker}
-use Rattle.cbm_volume.specs.Reading.{HoldsDisk}
+use Rattle.cbm_volume.specs.Holding.{HoldsDisk}
 use Rattle.cbm_program.specs.declared.kind.Kind.TheVariants.{D64}
 use Rattle.cbm_program.specs.Images.{kind_of, tracks_of, content_of, StartsOn, ImageHolds}
 use Rattle.cbm_program.proofs.LinePrints.{if_err}

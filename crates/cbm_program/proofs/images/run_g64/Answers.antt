@@ -1,6 +1,6 @@
 use Rattle.cbm_g64.specs.Tracks as circles
 use Rattle.std.proofs.lemmas.Result.{IfOk-weaker}
-use Rattle.cbm_volume.specs.Reading.{HoldsDisk}
+use Rattle.cbm_volume.specs.Holding.{HoldsDisk}
 use Rattle.cbm_program.specs.declared.kind.Kind.TheVariants.{G64}
 use Rattle.cbm_program.specs.Images.{kind_of, tracks_of, content_of, StartsOn, ImageHolds}
 use Rattle.cbm_program.proofs.LinePrints.{if_err}

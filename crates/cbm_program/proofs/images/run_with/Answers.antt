@@ -1,7 +1,7 @@
 use Rattle.std.proofs.Common.{◌∙◌, ap, sym, Err, subst}
 use Rattle.std.proofs.lemmas.Result.{err_from_is_err_and}
 use Rattle.cbm_channel.specs.Standing.{Stands}
-use Rattle.cbm_volume.specs.Reading.{HoldsDisk}
+use Rattle.cbm_volume.specs.Holding.{HoldsDisk}
 use Rattle.cbm_program.specs.Images.{StartsOn}
 use Rattle.cbm_program.proofs.LinePrints.{if_err}
 use Rattle.cbm_program.proofs.StartLemmas.{among-stands, ended-among, printed-ended, begun-among, ends-again}
