@@ -17,3 +17,4 @@ pub mod CarriedOut
 pub mod Shown
 pub mod Planned
 pub mod Sought
+pub mod Listing

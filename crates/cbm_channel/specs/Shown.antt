@@ -12,6 +12,11 @@ abbrev pub is_closed : Channel → Bool
 is_closed code.Closed = true
 is_closed _ = false
 
+-- what a channel costs of the three that may be open
+abbrev pub cost_on : Channel → ℕ
+cost_on code.Closed = 0
+cost_on _ = 1
+
 -- the byte that waits on a channel from 0 to 14, and whether it is the last
 abbrev pub shown_on : Channel → Option (ℕ × Bool)
 shown_on code.Closed = None

@@ -1,5 +1,5 @@
 -- The drive's code, over the content of its medium, stands for a machine.
-use Rattle.std.specs.Prelude.{ℕ, ◌≤◌, ◌≡◌, Bool, List, length, take, drop, Option, Some, None, option_map}
+use Rattle.std.specs.Prelude.{ℕ, ◌≤◌, ◌≡◌, Bool, List, [], length, take, drop, Option, Some, None, option_map}
 use Rattle.std.specs.List.{All, AllZip}
 use Rattle.cbm_volume.specs.Content.{Content}
 use Rattle.cbm_volume.specs.Reading.{Reading, rest_of, IsSettled}
@@ -8,6 +8,8 @@ use Rattle.cbm_listing.specs.Listed.{Listed}
 use Rattle.cbm_channel.specs.declared.channel.Channel.{Channel}
 use Rattle.cbm_channel.specs.declared.channel.Channel.TheVariants as code
 use Rattle.cbm_channel.specs.Machines as machine
+use Rattle.cbm_channel.specs.Closing.{forget_text}
+use Rattle.cbm_channel.specs.Calls.{text_for}
 use Rattle.cbm_channel.specs.Told.{Told, told_by}
 
 -- what the drive keeps: its medium, fifteen channels, the status, and the text that is gathered with its channel
@@ -37,6 +39,17 @@ ChannelStands c (code.File slot r) channel = (channel ≡ machine.Reading (Some 
 -- of a gathered text the first 256 bytes are kept, which tell one that is too long from all others
 abbrev pub kept_text : Option (ℕ × List ℕ) → Option (ℕ × List ℕ)
 kept_text text = option_map (λ (t : ℕ × List ℕ). (t.0, take 256 t.1)) text
+
+-- no text is gathered for the channel
+pub record HasNoText (ch : ℕ) (m : machine.Machine) : Type 0 where
+  pub none : text_for ch m.text ≡ []
+  pub stays : forget_text ch m.text ≡ m.text
+
+-- the text that is gathered for the channel has a byte at least, and this is what is kept of it
+pub record HasText (ch : ℕ) (m : machine.Machine) (text : ℕ × List ℕ) : Type 0 where
+  pub number : text.0 ≡ ch
+  pub kept : text.1 ≡ take 256 (text_for ch m.text)
+  pub some : 1 ≤ length text.1
 
 -- the parts of a drive, over a content, stand for a machine
 pub record StandsBy (c : Content) (tracks : ℕ) (protected : Bool) (channels : List Channel) (told : Told) (text : Option (ℕ × List ℕ)) (m : machine.Machine) : Type 0 where

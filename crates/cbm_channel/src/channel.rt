@@ -1,4 +1,5 @@
-ghost use Rattle.std.specs.Prelude.{◌≡◌};
+ghost use Rattle.std.specs.Prelude.{◌≡◌, ◌≤◌, length, sum_by};
+ghost use Rattle.cbm_channel.specs.Shown.{cost_on};
 ghost use Rattle.cbm_volume.specs.Reading.{shown};
 ghost use Rattle.cbm_channel.specs.declared.channel.Channel.TheVariants.{Closed};
 
@@ -22,6 +23,18 @@ fn first_of(bytes: &[u8]) -> Option<(u8, bool)>
 {
     let (byte, rest) = bytes.split_first()?;
     Some((*byte, rest.is_empty()))
+}
+
+/// How many channels are open.
+pub(crate) fn open_count(channels: &[Channel]) -> usize
+    ensures value { result ≡ sum_by cost_on channels.now }
+    ensures few { result ≤ length channels.now }
+{
+    match channels.split_first() {
+        None => 0,
+        Some((first, rest)) if first.is_closed() => open_count(rest),
+        Some((_, rest)) => 1 + open_count(rest),
+    }
 }
 
 impl Channel {

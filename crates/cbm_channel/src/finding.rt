@@ -35,11 +35,9 @@ impl<M: Medium> Dos<M> {
             pattern,
             kind: None,
         };
-        let code = if self.volume().find(&any)?.is_some() {
-            Code::WrongType
-        } else {
-            Code::FileNotFound
-        };
-        Err(Status::plain(code))
+        if self.volume().find(&any)?.is_some() {
+            return Err(Status::plain(Code::WrongType));
+        }
+        Err(Status::plain(Code::FileNotFound))
     }
 }

@@ -1,4 +1,4 @@
-ghost use Rattle.std.specs.Prelude.{◌≡◌, ◌++◌, ◌∷◌, [], take};
+ghost use Rattle.std.specs.Prelude.{◌≡◌, ◌≤◌, ◌++◌, ◌∷◌, [], length, take};
 
 use arrayvec::ArrayVec;
 use std::marker::Model;
@@ -6,7 +6,7 @@ use std::marker::Model;
 /// The most bytes of a text that are kept: more than a command and a record have.
 const KEPT: usize = 256;
 
-/// A text that is gathered for a channel, of which the first 256 bytes are kept.
+/// A text of at least one byte that is gathered for a channel, of which the first 256 bytes are kept.
 #[derive(Drop)]
 pub struct Gathered {
     channel: u8,
@@ -20,24 +20,25 @@ impl Model for Gathered {
 
     ghost view = { λ g. (g.channel, g.bytes.items) };
 
-    ghost invariant = { λ g. length g.bytes.items ≤ 256 };
+    ghost invariant = { λ g. (1 ≤ length g.bytes.items) × (length g.bytes.items ≤ 256) };
 }
 
 impl Gathered {
-    /// No byte yet.
-    pub fn new(channel: u8) -> Gathered
-        ensures { result ≡ (channel, []) }
+    /// The text of one byte.
+    pub fn begin(channel: u8, byte: u8) -> Gathered
+        ensures { result ≡ (channel, byte ∷ []) }
     {
-        Gathered {
-            channel,
-            bytes: ArrayVec::new(),
-        }
+        let mut bytes = ArrayVec::new();
+        bytes.push(byte);
+        Gathered { channel, bytes }
     }
 
     /// The channel that it is for.
     pub fn channel(&self) -> u8
-        ensures { result ≡ self.now.0 }
+        ensures value { result ≡ self.now.0 }
+        ensures some { 1 ≤ length self.now.1 }
     {
+        let _ = &self.bytes;
         self.channel
     }
 

@@ -6,6 +6,7 @@ mod code;
 mod dos;
 mod finding;
 mod gathered;
+mod listing;
 mod plan;
 mod sought;
 mod status;

@@ -2,7 +2,6 @@ ghost use Rattle.std.specs.Prelude.{◌≡◌, ◌≤◌, ◌<◌};
 
 use crate::channel::Channel;
 use crate::dos::Dos;
-use crate::gathered::Gathered;
 use cbm_volume::Medium;
 
 impl<M: Medium> Dos<M> {
@@ -25,7 +24,7 @@ impl<M: Medium> Dos<M> {
     }
 
     /// Closes a channel from 0 to 14.
-    fn close_one(&mut self, channel: u8)
+    pub(super) fn close_one(&mut self, channel: u8)
         requires { channel < 15 }
         ensures leads { Leads M.tracks M.content M.protected self.old self.new (close_one channel) }
         ensures medium { self.new.medium ≡ self.old.medium }
@@ -45,12 +44,10 @@ impl<M: Medium> Dos<M> {
     }
 
     /// Drops the text that is gathered for this channel.
-    pub(super) fn forget_text(&mut self, channel: u8)
+    fn forget_text(&mut self, channel: u8)
         ensures leads { Leads M.tracks M.content M.protected self.old self.new (without_text channel) }
         ensures medium { self.new.medium ≡ self.old.medium }
     {
-        if self.text.as_ref().is_some_and(|text| text.channel() == channel) {
-            self.text = None;
-        }
+        self.take_text(channel);
     }
 }

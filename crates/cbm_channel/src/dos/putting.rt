@@ -12,19 +12,25 @@ fn without_return(text: &[u8]) -> &[u8]
     ensures { result.now ≡ without_return text.now }
 {
     match text.split_last() {
-        Some((b'\r', front)) => front,
-        _ => text,
+        None => text,
+        Some((last, front)) => {
+            if *last == b'\r' {
+                front
+            } else {
+                text
+            }
+        }
     }
 }
 
 impl<M: Medium> Dos<M> {
-    ghost use Rattle.std.specs.Prelude.{◌≡◌, ◌≤◌, ℕ, List, [], ◌∷◌, take, Ok, IfNone, IfSome, MatchOption};
-    ghost use Rattle.cbm_channel.specs.Machines.{Machine, say, answered};
+    ghost use Rattle.std.specs.Prelude.{◌≡◌, ◌≤◌, ℕ, Ok, MatchOption};
+    ghost use Rattle.cbm_channel.specs.Machines.{Machine, answered};
     ghost use Rattle.cbm_channel.specs.Closing.{without_text};
-    ghost use Rattle.cbm_channel.specs.Calls.{put, end_put, gather, command, text_for, without_return};
+    ghost use Rattle.cbm_channel.specs.Calls.{put, end_put, gather, command, without_return};
     ghost use Rattle.cbm_channel.specs.Running.{run};
     ghost use Rattle.cbm_command.specs.declared.command.Command.TheVariants.{Position};
-    ghost use Rattle.cbm_channel.specs.Standing.{Stands, Leads};
+    ghost use Rattle.cbm_channel.specs.Standing.{Stands, Leads, HasNoText, HasText};
     ghost use Rattle.cbm_channel.specs.CarriedOut.{IsPutCarriedOut, IsTextCarriedOut, IsCommandCarriedOut};
 
     /// Puts a byte on a channel: on 15 it is gathered, on a channel that isn't open for writing it is dropped.
@@ -43,20 +49,21 @@ impl<M: Medium> Dos<M> {
         ensures leads { Leads M.tracks M.content M.protected self.old self.new (gather 15 byte) }
         ensures medium { self.new.medium ≡ self.old.medium }
     {
-        let mut text = match self.take_text(15) {
-            Some(text) => text,
-            None => Gathered::new(15),
-        };
-        text.add(byte);
-        self.text = Some(text);
+        match self.take_text(15) {
+            Some(mut text) => {
+                text.add(byte);
+                self.text = Some(text);
+            }
+            None => self.text = Some(Gathered::begin(15, byte)),
+        }
     }
 
     /// Takes the text that is gathered for a channel.
-    fn take_text(&mut self, channel: u8) -> Option<Gathered>
+    pub(super) fn take_text(&mut self, channel: u8) -> Option<Gathered>
         ensures leads { Leads M.tracks M.content M.protected self.old self.new (without_text channel) }
         ensures medium { self.new.medium ≡ self.old.medium }
         ensures text { (m : Machine) → Stands M.tracks M.content M.protected self.old m →
-            MatchOption result (text_for channel m.text ≡ []) (λ text. text ≡ (channel, take 256 (text_for channel m.text))) }
+            MatchOption result (HasNoText channel m) (HasText channel m) }
     {
         let text = self.text.take()?;
         if text.channel() == channel {
@@ -82,42 +89,45 @@ impl<M: Medium> Dos<M> {
 
     /// Carries a text for channel 15 out; an empty one does nothing.
     pub(super) fn command(&mut self, text: &[u8])
-        ensures leads { (m : Machine) (whole : List ℕ) → take 256 whole ≡ text.now → IsTextCarriedOut (without_return whole)
-            → Stands M.tracks M.content M.protected self.old m → Stands M.tracks M.content M.protected self.new (command whole m) }
+        ensures leads { (m : Machine) → IsTextCarriedOut (without_return text.now)
+            → Stands M.tracks M.content M.protected self.old m → Stands M.tracks M.content M.protected self.new (command text.now m) }
         ensures medium { self.new.medium ≡ self.old.medium }
     {
         let text = without_return(text);
         if text.is_empty() {
             return;
         }
-        let code = match parse_command(text) {
-            Ok(command) => self.answer(&command),
-            Err(refusal) => Code::from(refusal),
-        };
-        self.say(code);
-    }
-
-    /// What a command answers.
-    fn answer(&self, command: &Command) -> Code
-        ensures { (m : Machine) → IsCommandCarriedOut (Ok command.now) → Stands M.tracks M.content M.protected self.now m
-            → answered m (run command.now m) ≡ say result m }
-    {
-        match command {
-            Command::Initialize => Code::Fine,
-            Command::Position(channel, _, _) => self.answer_place(*channel),
-            _ => Code::UnknownCommand,
+        match parse_command(text) {
+            Ok(command) => self.run(&command),
+            Err(refusal) => self.say(Code::from(refusal)),
         }
     }
 
-    /// What a place on a channel answers, as no relative file is open.
-    fn answer_place(&self, channel: u8) -> Code
-        ensures { (m : Machine) (k p : ℕ) → Stands M.tracks M.content M.protected self.now m
-            → answered m (run (Position channel k p) m) ≡ say result m }
+    /// Carries a command out.
+    fn run(&mut self, command: &Command)
+        ensures leads { (m : Machine) → IsCommandCarriedOut (Ok command.now) → Stands M.tracks M.content M.protected self.old m
+            → Stands M.tracks M.content M.protected self.new (answered m (run command.now m)) }
+        ensures medium { self.new.medium ≡ self.old.medium }
     {
-        if channel < 15 && !self.channels[channel as usize].is_closed() {
-            Code::WrongType
+        match command {
+            Command::Initialize => self.say(Code::Fine),
+            Command::Position(channel, _, _) => self.place(*channel),
+            _ => self.say(Code::UnknownCommand),
+        }
+    }
+
+    /// Answers a place on a channel, as no relative file is open: 70 where nothing is open, else 64.
+    fn place(&mut self, channel: u8)
+        ensures leads { (k p : ℕ) → Leads M.tracks M.content M.protected self.old self.new (λ m. answered m (run (Position channel k p) m)) }
+        ensures medium { self.new.medium ≡ self.old.medium }
+    {
+        let channels = self.channels.as_slice();
+        if channel as usize >= channels.len() {
+            self.say(Code::NoChannel);
+        } else if channels[channel as usize].is_closed() {
+            self.say(Code::NoChannel);
         } else {
-            Code::NoChannel
+            self.say(Code::WrongType);
         }
     }
 }

@@ -19,7 +19,10 @@ impl<M: Medium> Dos<M> {
         ensures leads { Leads M.tracks M.content M.protected self.old self.new (talk channel) }
         ensures medium { self.new.medium ≡ self.old.medium }
     {
-        if channel < 15 && self.channels[channel as usize].is_closed() {
+        if channel == 15 {
+            return;
+        }
+        if self.channels[channel as usize].is_closed() {
             self.say(Code::FileNotOpen);
         }
     }

@@ -16,5 +16,5 @@ returns-else-len-lt-KEPT c =
     let full : 256 ≤ length c.self.inside.bytes.items = omega (arith, c.len.ensures.value, c.if-len-lt-KEPT.false) in
     sym c.self.view_is
     ∙ same_pair (ap (λ (t : ℕ × List ℕ). t.0) c.self.view_is)
-    (sym (take_front 256 c.self.inside.bytes.items (c.args.byte ∷ []) full ∙ take_all 256 c.self.inside.bytes.items c.self.invariant)
+    (sym (take_front 256 c.self.inside.bytes.items (c.args.byte ∷ []) full ∙ take_all 256 c.self.inside.bytes.items c.self.invariant.1)
     ∙ ap (λ (t : ℕ × List ℕ). take 256 (t.1 ++ c.args.byte ∷ [])) c.self.view_is)

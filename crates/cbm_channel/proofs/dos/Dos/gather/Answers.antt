@@ -1,0 +1,21 @@
+use Rattle.std.proofs.Common.{◌≡◌, ◌<◌, ◌≤◌, ◌+◌, ℕ, List, [], ◌∷◌, ◌++◌, length, take, sym, ap, subst, ◌∙◌, arith, rules, refl, inl, inr}
+use Rattle.cbm_channel.specs.declared.channel.Channel.TheVariants as code
+use Rattle.cbm_channel.specs.Machines as machine
+use Rattle.cbm_channel.specs.Closing.{without_text}
+use Rattle.cbm_channel.specs.Calls.{text_for, command}
+use Rattle.cbm_channel.proofs.Idle.{below_15, store_command, store_idle, store_nothing}
+use Rattle.cbm_channel.proofs.Stands.{told_anew, with_one, forgotten, other_text, told_on, idle_at, stands_at, closed_past, moved, stood, not_ok, gathered, begun}
+use Rattle.cbm_channel.proofs.Texts.{some_kept, refused, asked_for, carried_command, command_kept, carried_kept, nothing_else}
+use Rattle.cbm_channel.proofs.dos.Dos.gather.Goals as goal
+
+-- the text that is there gets the byte
+pub returns-in-Some-clause-leads : goal.returns-in-Some-clause-leads
+returns-in-Some-clause-leads g c = λ m s.
+    let st = stood g.M.Medium.tracks g.M.Medium.content g.M.Medium.protected _ _ (without_text 15 m) c.self.view_is (c.in-Some.ensures.leads m s) in
+    other_text _ _ _ _ _ _ (without_text 15 m) _ _ (gathered 15 c.args.byte m c.in-Some.text c.add.new.self (c.in-Some.ensures.text m s) c.add.ensures) st
+
+-- the byte is the first
+pub returns-in-None-clause-leads : goal.returns-in-None-clause-leads
+returns-in-None-clause-leads g c = λ m s.
+    let st = stood g.M.Medium.tracks g.M.Medium.content g.M.Medium.protected _ _ (without_text 15 m) c.self.view_is (c.in-None.ensures.leads m s) in
+    other_text _ _ _ _ _ _ (without_text 15 m) _ _ (begun 15 c.args.byte m c.begin.result (c.in-None.ensures.text m s) c.begin.ensures) st
