@@ -110,7 +110,7 @@ fn each_read_fails_in_turn(rt: HostRuntime) -> Result<(), Fail> {
 fn each_write_fails_in_turn(rt: HostRuntime) -> Result<(), Fail> {
     let image = hello(rt.alloc())?;
     for kind in [Some(ErrorKind::Interrupted), Some(ErrorKind::Other), None] {
-        for calls in 0..56u32 {
+        for calls in 0..55u32 {
             let mut writer = FaultyWriter {
                 bytes: Vec::new(rt.alloc()),
                 calls,

@@ -210,3 +210,51 @@ fn images_that_are_refused(rt: HostRuntime) -> Result<(), Fail> {
     }
     Ok(())
 }
+
+#[test]
+fn links_that_lead_nowhere(rt: HostRuntime) -> Result<(), Fail> {
+    let mut image = formatted(rt.alloc(), 174_848)?;
+    enter(&mut image, b"OFF", 36, 0);
+    shows(
+        &rt,
+        rt.alloc(),
+        image.as_slice(),
+        "open 0 *\nstatus\n",
+        "status 66,ILLEGAL TRACK OR SECTOR,36,00\n",
+    )?;
+    let mut image = formatted(rt.alloc(), 174_848)?;
+    put(&mut image, place(18, 1), &[18, 1]);
+    shows(
+        &rt,
+        rt.alloc(),
+        image.as_slice(),
+        "open 0 $\nstatus\n",
+        "status 71,DIR ERROR,18,01\n",
+    )
+}
+
+#[test]
+fn a_map_that_does_not_read(rt: HostRuntime) -> Result<(), Fail> {
+    let mut image = formatted(rt.alloc(), 174_848)?;
+    for _ in 0..683 {
+        image.push(1)?;
+    }
+    put(&mut image, 175_205, &[5]);
+    shows(
+        &rt,
+        rt.alloc(),
+        image.as_slice(),
+        "open 0 $\nstatus\n",
+        "status 23,READ ERROR,18,00\n",
+    )?;
+
+    // An error byte that is none of a fault is kept.
+    put(&mut image, 175_205, &[7]);
+    shows(
+        &rt,
+        rt.alloc(),
+        image.as_slice(),
+        "open 0 $\nstatus\n",
+        "status 00, OK,00,00\n",
+    )
+}
