@@ -101,8 +101,7 @@ listed_all pattern first title mark free d all left most l new t begun same_titl
     sym (append-nil l.bytes) ∙ sym (ap (λ (x : Listed). l.bytes ++ lines_of pattern x.entries) none) ∙ h.bytes in
     let bytes : l.bytes ++ last_line free ≡ listing d pattern =
     ap (λ x. x ++ last_line free) lines
-    ∙ append_assoc first (lines_of pattern all.entries) (last_line free)
-    ∙ ap (λ x. x ++ lines_of pattern all.entries ++ last_line free) begun
+    ∙ (λ i. begun i ++ lines_of pattern all.entries ++ last_line free)
     ∙ (λ i. title_line (same_title i) (same_mark i) ++ lines_told pattern d all t i ++ last_line (same_free i)) in
     e ∙ (λ i. record { bytes = bytes i; taken = h.fresh i })
 

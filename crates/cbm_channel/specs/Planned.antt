@@ -37,12 +37,18 @@ pub record IsReadable (tracks : ℕ) (c : Content) (d : Disk) (s : ℕ) (found :
   pub stands : StandsAt tracks c s found.entry
   pub has : HasBytes d s (bytes_in (body_at d s))
 
+-- the code's plan is the machine's: to read the same listing, or the same file
+abbrev pub IsPlannedBy : ℕ → Content → Disk → Plan → code.Plan → Type 0
+IsPlannedBy tracks c d (ReadListing p) (planned.ReadListing q) = p ≡ q
+IsPlannedBy tracks c d (ReadFile s) (planned.ReadFile found) = IsReadable tracks c d s found
+IsPlannedBy tracks c d p x = ⊥
+
 -- the code plans what the machine plans, or refuses by the same code
 abbrev pub PlannedAs : ℕ → Content → Disk → Result Plan Code → Result code.Plan Status → Type 0
-PlannedAs tracks c d (Ok (ReadListing p)) (Ok (planned.ReadListing q)) = p ≡ q
-PlannedAs tracks c d (Ok (ReadFile s)) (Ok (planned.ReadFile found)) = IsReadable tracks c d s found
+PlannedAs tracks c d (Ok p) (Ok x) = IsPlannedBy tracks c d p x
+PlannedAs tracks c d (Ok p) (Err status) = ⊥
+PlannedAs tracks c d (Err code) (Ok x) = ⊥
 PlannedAs tracks c d (Err code) (Err status) = status ≡ plain code
-PlannedAs tracks c d _ _ = ⊥
 
 -- the channel that a plan to read opens
 abbrev pub opened_by : Disk → Plan → Channel

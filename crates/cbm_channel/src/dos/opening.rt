@@ -126,7 +126,10 @@ impl<M: Medium> Dos<M> {
         if self.is_too_many(cost_of(wanted, &found)) {
             return Err(Status::plain(Code::NoChannel));
         }
-        plan_read(wanted, found?)
+        match found {
+            Ok(found) => plan_read(wanted, found),
+            Err(status) => Err(status),
+        }
     }
 
     /// Whether channels of this cost more would be too many.
