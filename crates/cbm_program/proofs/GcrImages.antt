@@ -1,6 +1,6 @@
 -- A G64 image is never refused for want of memory by its bytes.
 use Rattle.std.proofs.Common.{◌≡◌, ℕ, List, Bool, true, false, Option, Some, None, if◌then◌else◌, not}
-use Rattle.std.specs.Prelude.{IfSome, Result, Ok, Err, option_map}
+use Rattle.std.specs.Prelude.{IfSome, Result, Err, option_map}
 use Rattle.cbm_g64.specs.declared.disk.G64Disk.{G64Disk}
 use Rattle.cbm_g64.specs.declared.fault.G64Fault.{G64Fault}
 use Rattle.cbm_g64.specs.declared.fault.G64Fault.TheVariants.{Signature, Version, Entries, GreatestSize, OffsetOutside, TrackLength, Memory, Overlap}

@@ -1,5 +1,5 @@
 -- What a line of a script prints.
-use Rattle.std.proofs.Common.{◌≡◌, ℕ, List, [], ◌∷◌, ◌++◌, Option, sym, subst, append-nil, Ok, Err}
+use Rattle.std.proofs.Common.{◌≡◌, ℕ, List, [], ◌∷◌, Option, sym, subst, append-nil, Ok, Err}
 use Rattle.std.specs.Prelude.{Result, OnOk, OnErr}
 use Rattle.std.specs.Io.KnownBytes.{Appends, Keeps}
 use Rattle.cbm_channel.specs.Machines.{Machine}
@@ -7,7 +7,7 @@ use Rattle.cbm_program.specs.declared.request.Request.{Request}
 use Rattle.cbm_program.specs.declared.line.Line.{Line}
 use Rattle.cbm_program.specs.declared.line.Line.TheVariants.{Asks}
 use Rattle.cbm_program.specs.Scripts.{printed, printed_by}
-use Rattle.cbm_program.specs.Output.{AppendsPart, Prints, PrintsPart}
+use Rattle.cbm_program.specs.Output.{Prints, PrintsPart}
 use Rattle.cbm_program.specs.Running.{IsRequestCarriedOut, AreCarriedOut, requests_in}
 use Rattle.cbm_program.proofs.OutputLemmas.{appends-kept, whole_part}
 

@@ -1,6 +1,6 @@
 -- A script that runs, line by line.
-use Rattle.std.proofs.Common.{◌≡◌, ℕ, ◌+◌, ◌<◌, ◌≤◌, List, [], ◌∷◌, ◌++◌, length, Option, Some, None, refl, ap, sym, ◌∙◌, arith, append_assoc, append-nil, true, false, subst}
-use Rattle.std.specs.Prelude.{IfSome, Result, Ok, Err}
+use Rattle.std.proofs.Common.{◌≡◌, ℕ, ◌+◌, List, [], ◌∷◌, ◌++◌, Option, Some, None, refl, ap, sym, ◌∙◌, append_assoc, append-nil, subst}
+use Rattle.std.specs.Prelude.{IfSome, Result, Err}
 use Rattle.std.specs.Io.KnownBytes.{Appends, IsAtEnd}
 use Rattle.cbm_channel.specs.Machines.{Machine}
 use Rattle.cbm_program.specs.declared.request.Request.{Request}
@@ -9,9 +9,9 @@ use Rattle.cbm_program.specs.declared.line.Line.TheVariants.{Skipped, Asks}
 use Rattle.cbm_program.specs.declared.fault.RunFault.{RunFault}
 use Rattle.cbm_program.specs.declared.fault.RunFault.TheVariants.{Script, Image, Memory, Reading, Writing}
 use Rattle.cbm_program.specs.Lines.{lines_of}
-use Rattle.cbm_program.specs.Scripts.{printed, printed_by, then_printed}
+use Rattle.cbm_program.specs.Scripts.{printed, printed_by}
 use Rattle.cbm_program.specs.Output.{AppendsPart, Prints, PrintsPart}
-use Rattle.cbm_program.specs.Running.{AreCarriedOut, IsRequestCarriedOut, requests_in, meaning, Asked, refused_at, with_line, asked_from, script_of, ReadsLine, ComesBad, LineRead, EndsAs, IsOfWriting}
+use Rattle.cbm_program.specs.Running.{AreCarriedOut, requests_in, meaning, Asked, refused_at, with_line, asked_from, script_of, ReadsLine, ComesBad, LineRead, EndsAs, IsOfWriting}
 use Rattle.cbm_program.proofs.OutputLemmas.{appends-nothing, appends-more, part_behind, part_before, whole_part}
 
 -- ---- requests behind requests
@@ -96,10 +96,11 @@ prints-line : (a b c : Option (List ℕ)) (stood now next : Machine → Type 0) 
 prints-line a b c stood now next done requests p q m s =
     let carried = carried-append done requests m s.0 in
     let first = p m (carried.0, s.1) in
-    let second = q (printed done m).machine (carried.1, first.1) in
-    (subst (λ t. Appends a c t) (sym (text-append done requests m))
-     (appends-more a b c (printed done m).text (printed requests (printed done m).machine).text first.0 second.0),
-     subst (λ x. next x) (sym (machine-append done requests m)) second.1)
+    let second = q (printed done m).machine (carried.1, first.1) in (
+      subst (λ t. Appends a c t) (sym (text-append done requests m))
+          (appends-more a b c (printed done m).text (printed requests (printed done m).machine).text first.0 second.0),
+      subst (λ x. next x) (sym (machine-append done requests m)) second.1,
+    )
 
 pub run-line : (a b c x l k : Option (List ℕ)) (stood now next : Machine → Type 0) (n : ℕ) (line : Line) → Running a b x l stood now n → ReadsLine l k n line
     → Prints b c (λ m. AreCarriedOut (requests_in line) m × now m) next (printed (requests_in line)) → Running a c x k stood next (n + 1)
@@ -123,7 +124,7 @@ begun a b stood done asked rest e p m s =
     let carried = carried-append done rest.requests m (subst (λ rs. AreCarriedOut rs m) same s.0) in
     subst (λ rs. AppendsPart a b (printed rs m).text) (sym same)
     (subst (λ t. AppendsPart a b t) (sym (text-append done rest.requests m))
-        (part_before a b (printed done m).text (printed rest.requests (printed done m).machine).text (p m (carried.0, s.1))))
+    (part_before a b (printed done m).text (printed rest.requests (printed done m).machine).text (p m (carried.0, s.1))))
 
 whole : (a b : Option (List ℕ)) (stood now : Machine → Type 0) (requests : List Request) → Prints a b stood now (printed requests) → PrintsPart a b stood (printed requests)
 whole a b stood now requests p m s = whole_part a b (printed requests m).text (p m s).0
@@ -152,7 +153,7 @@ run-broken a b c (Some xs) None k stood now n line r t p = absurd r.follows
 run-broken a b c (Some xs) (Some ys) None stood now n line r t p = absurd t
 run-broken a b c (Some xs) (Some ys) (Some zs) stood now n line r t p =
     begun a c stood (r.done ++ requests_in line) (script_of xs) (asked_from (n + 1) (lines_of zs))
-      (follows-line (Some xs) (Some ys) (Some zs) n r.done line r.follows t) (part-line a b c stood now r.done (requests_in line) r.prints p)
+    (follows-line (Some xs) (Some ys) (Some zs) n r.done line r.follows t) (part-line a b c stood now r.done (requests_in line) r.prints p)
 
 -- ---- the run's end: at the script's end, or at a bad line
 

@@ -1,5 +1,5 @@
 -- What a channel said, against what is printed of it byte by byte.
-use Rattle.std.proofs.Common.{◌≡◌, ℕ, zero, suc, ◌+◌, ◌<◌, List, [], ◌∷◌, ◌++◌, Option, Some, None, refl, ap, sym, ◌∙◌, arith, append_assoc, append-nil, codes, true, false, Bool, if◌then◌else◌}
+use Rattle.std.proofs.Common.{◌≡◌, ℕ, zero, suc, ◌<◌, List, [], ◌∷◌, ◌++◌, Option, Some, None, refl, ap, sym, ◌∙◌, arith, append_assoc, append-nil, codes, true, false, Bool, if◌then◌else◌}
 use Rattle.std.proofs.Common.{subst}
 use Rattle.std.specs.Prelude.{decimal, flat_map}
 use Rattle.std.specs.Io.KnownBytes.{Appends}
@@ -9,7 +9,7 @@ use Rattle.cbm_channel.specs.Talking.{peek, taken, talk}
 use Rattle.cbm_program.specs.declared.request.Request.TheVariants.{Get}
 use Rattle.cbm_program.specs.Output.{AppendsPart, Prints, PrintsPart}
 use Rattle.cbm_program.proofs.OutputLemmas.{appends-more, part_behind, part_before}
-use Rattle.cbm_program.specs.Scripts.{printed_by, Said, says, talked, Printed, silent, hex, eoi_mark, bytes_text, get_line}
+use Rattle.cbm_program.specs.Scripts.{printed_by, Said, says, Printed, silent, hex, eoi_mark, bytes_text, get_line}
 use Rattle.cbm_program.specs.Units.{unit_text, is_more, has_unit, with_unit_taken, with_text, units, get_head}
 
 -- what a channel says from a byte on
@@ -93,7 +93,7 @@ line_of_some : (n ch : ℕ) (m : Machine) (p : ℕ × Bool) → 0 < n → peek c
 line_of_some n ch m p h e =
     let (x, rest, is) = some_bytes n ch m p h e in
     let said : bytes_text (says n ch [] m).bytes (says n ch [] m).marked ≡ (units n ch m).text =
-        text_of_some (says n ch [] m).bytes (says n ch [] m).marked x rest is ∙ (alike n ch [] m).text in
+    text_of_some (says n ch [] m).bytes (says n ch [] m).marked x rest is ∙ (alike n ch [] m).text in
     ap (λ t. codes "get " ++ decimal ch ++ codes " " ++ t ++ codes "\n") said
 
 -- nothing is said where there is nothing, or nothing is asked for
@@ -124,9 +124,10 @@ pub got-none : (a b : Option (List ℕ)) (stood now : Machine → Type 0) (n ch 
     → Appends a b (get_head ch (codes " none\n")) → Prints a b stood now (printed_by (Get ch n))
 got-none a b stood now n ch talks shows written m s =
     let k = talks m s in
-    let h = sym (shows (talk ch m) k) in
-    (subst (λ t. Appends a b t) (sym (none_text n ch (talk ch m) h)) written,
-     subst (λ (x : Said). now x.machine) (sym (nothing_said n ch (talk ch m) (peek ch (talk ch m)) refl h)) k)
+    let h = sym (shows (talk ch m) k) in (
+      subst (λ t. Appends a b t) (sym (none_text n ch (talk ch m) h)) written,
+      subst (λ (x : Said). now x.machine) (sym (nothing_said n ch (talk ch m) (peek ch (talk ch m)) refl h)) k,
+    )
 
 pub got-none-part : (a b : Option (List ℕ)) (stood now : Machine → Type 0) (n ch : ℕ) → Talks stood now ch → Shows now n ch false
     → AppendsPart a b (get_head ch (codes " none\n")) → PrintsPart a b stood (printed_by (Get ch n))
@@ -148,20 +149,21 @@ pub got-bytes-part : (a b c : Option (List ℕ)) (stood now : Machine → Type 0
 got-bytes-part a b c stood now n ch talks shows head part m s =
     subst (λ t. AppendsPart a c t) (sym (some_text n ch (talk ch m) (sym (shows (talk ch m) (talks m s)))))
     (part_before a c (get_head ch (codes " ") ++ (units n ch (talk ch m)).text) (codes "\n")
-        (part_behind a b c (get_head ch (codes " ")) (units n ch (talk ch m)).text head (part (talk ch m) (talks m s))))
+    (part_behind a b c (get_head ch (codes " ")) (units n ch (talk ch m)).text head (part (talk ch m) (talks m s))))
 
 pub got-end-part : (a b c d : Option (List ℕ)) (stood now next : Machine → Type 0) (n ch : ℕ) → Talks stood now ch → Shows now n ch true
     → Appends a b (get_head ch (codes " ")) → Prints b c now next (units n ch) → AppendsPart c d (codes "\n") → PrintsPart a d stood (printed_by (Get ch n))
 got-end-part a b c d stood now next n ch talks shows head said part m s =
     subst (λ t. AppendsPart a d t) (sym (some_text n ch (talk ch m) (sym (shows (talk ch m) (talks m s)))))
     (part_behind a c d (get_head ch (codes " ") ++ (units n ch (talk ch m)).text) (codes "\n")
-        (appends-more a b c (get_head ch (codes " ")) (units n ch (talk ch m)).text head (said (talk ch m) (talks m s)).0) part)
+    (appends-more a b c (get_head ch (codes " ")) (units n ch (talk ch m)).text head (said (talk ch m) (talks m s)).0) part)
 
 pub got-all : (a b c d : Option (List ℕ)) (stood now next : Machine → Type 0) (n ch : ℕ) → Talks stood now ch → Shows now n ch true
     → Appends a b (get_head ch (codes " ")) → Prints b c now next (units n ch) → Appends c d (codes "\n") → Prints a d stood next (printed_by (Get ch n))
 got-all a b c d stood now next n ch talks shows head said end m s =
-    let p = said (talk ch m) (talks m s) in
-    (subst (λ t. Appends a d t) (sym (some_text n ch (talk ch m) (sym (shows (talk ch m) (talks m s)))))
-     (appends-more a c d (get_head ch (codes " ") ++ (units n ch (talk ch m)).text) (codes "\n")
-         (appends-more a b c (get_head ch (codes " ")) (units n ch (talk ch m)).text head p.0) end),
-     subst (λ x. next x) (sym (alike n ch [] (talk ch m)).machine) p.1)
+    let p = said (talk ch m) (talks m s) in (
+      subst (λ t. Appends a d t) (sym (some_text n ch (talk ch m) (sym (shows (talk ch m) (talks m s)))))
+          (appends-more a c d (get_head ch (codes " ") ++ (units n ch (talk ch m)).text) (codes "\n")
+          (appends-more a b c (get_head ch (codes " ")) (units n ch (talk ch m)).text head p.0) end),
+      subst (λ x. next x) (sym (alike n ch [] (talk ch m)).machine) p.1,
+    )

@@ -1,6 +1,6 @@
 -- From a machine at power up to the run of a script.
-use Rattle.std.proofs.Common.{◌≡◌, ℕ, List, [], Bool, Option, Some, None, refl, ap, sym, subst}
-use Rattle.std.specs.Prelude.{IfSome, Result, Ok, Err}
+use Rattle.std.proofs.Common.{◌≡◌, ℕ, List, [], Bool, Option, Some, None, refl, sym, subst}
+use Rattle.std.specs.Prelude.{IfSome, Result, Err}
 use Rattle.cbm_medium.specs.Content.{Content}
 use Rattle.cbm_volume.specs.Holding.{HoldsDisk}
 use Rattle.cbm_channel.specs.Files.{Disk}
@@ -9,7 +9,7 @@ use Rattle.cbm_program.specs.declared.request.Request.{Request}
 use Rattle.cbm_program.specs.declared.fault.RunFault.{RunFault}
 use Rattle.cbm_program.specs.declared.fault.RunFault.TheVariants.{Script, Image, Memory, Reading, Writing}
 use Rattle.cbm_program.specs.Scripts.{printed}
-use Rattle.cbm_program.specs.Output.{Prints, PrintsPart}
+use Rattle.cbm_program.specs.Output.{Prints}
 use Rattle.cbm_program.specs.Running.{script_of, AreCarriedOut, EndsAs, EndsBy}
 use Rattle.cbm_program.specs.declared.kind.Kind.{Kind}
 use Rattle.cbm_program.specs.Images.{StartsOn, tracks_of, content_of, ImageHolds, IsOf}

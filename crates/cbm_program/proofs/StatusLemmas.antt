@@ -5,12 +5,13 @@ use Rattle.cbm_channel.specs.declared.code.Code.{Code}
 use Rattle.cbm_channel.specs.declared.code.Code.TheVariants.{Fine, FilesScratched, NoHeader, NoSync, NoData, DataChecksum, DataCode, WriteFailed, WriteProtected, HeaderChecksum, LongData, WrongId, Syntax, UnknownCommand, LongText, WildName, NoName, NoRecord, RecordOverflow, FileTooLarge, WriteFileOpen, FileNotOpen, FileNotFound, FileExists, WrongType, WrongLink, NoChannel, EndlessChain, DiskFull, PowerUp, DriveNotReady}
 use Rattle.cbm_channel.specs.declared.status.Status.{Status}
 use Rattle.cbm_channel.specs.Codes.{code_text}
-use Rattle.cbm_channel.specs.Statuses.{status_line, comma, two_digits, return, plain}
+use Rattle.cbm_channel.specs.Statuses.{status_line}
 use Rattle.cbm_channel.specs.Machines.{Machine, say}
-use Rattle.cbm_channel.specs.Talking.{peek, taken, talk, next_of}
+use Rattle.cbm_channel.specs.Talking.{peek, taken, talk}
+use Rattle.cbm_volume.specs.Reading.{shown}
 use Rattle.cbm_channel.specs.Calls.{without_return}
 use Rattle.cbm_program.specs.Scripts.{Said, says, status_said}
-use Rattle.cbm_program.proofs.SaidLemmas.{says_from, says-suc, Talks}
+use Rattle.cbm_program.proofs.SaidLemmas.{says_from, Talks}
 
 text_short : (c : Code) → length (code_text c) ≤ 23
 text_short Fine = omega arith
@@ -67,20 +68,20 @@ told_next m c d rest e =
 
 enough : (left : List ℕ) (k n : ℕ) (so_far : List ℕ) (m : Machine) → drop m.told (status_line m.status) ≡ left → length left ≤ k → length left ≤ n
     → says k 15 so_far m ≡ says n 15 so_far m
-enough [] k n so_far m e a b = none_said k so_far m (ap next_of e) ∙ sym (none_said n so_far m (ap next_of e))
+enough [] k n so_far m e a b = none_said k so_far m (ap shown e) ∙ sym (none_said n so_far m (ap shown e))
 enough (c ∷ []) zero n so_far m e a b = absurd (omega arith)
 enough (c ∷ []) (suc k) zero so_far m e a b = absurd (omega arith)
 enough (c ∷ []) (suc k) (suc n) so_far m e a b =
-    ap (λ p. says_from p k 15 so_far m) (ap next_of e) ∙ sym (ap (λ p. says_from p n 15 so_far m) (ap next_of e))
+    ap (λ p. says_from p k 15 so_far m) (ap shown e) ∙ sym (ap (λ p. says_from p n 15 so_far m) (ap shown e))
 enough (c ∷ d ∷ rest) zero n so_far m e a b = absurd (omega arith)
 enough (c ∷ d ∷ rest) (suc k) zero so_far m e a b = absurd (omega arith)
 enough (c ∷ d ∷ rest) (suc k) (suc n) so_far m e a b =
     let t = told_next m c d rest e in
     let next : drop (taken 15 m).told (status_line (taken 15 m).status) ≡ d ∷ rest =
-        ap (λ (x : Machine). drop x.told (status_line x.status)) t ∙ drop-more m.told (status_line m.status) c (d ∷ rest) e in
-    ap (λ p. says_from p k 15 so_far m) (ap next_of e)
+    ap (λ (x : Machine). drop x.told (status_line x.status)) t ∙ drop-more m.told (status_line m.status) c (d ∷ rest) e in
+    ap (λ p. says_from p k 15 so_far m) (ap shown e)
     ∙ (enough (d ∷ rest) k n (so_far ++ c ∷ []) (taken 15 m) next (omega (arith, a)) (omega (arith, b))
-    ∙ sym (ap (λ p. says_from p n 15 so_far m) (ap next_of e)))
+    ∙ sym (ap (λ p. says_from p n 15 so_far m) (ap shown e)))
 
 -- ---- the line as it is read
 
@@ -138,15 +139,15 @@ tells-last stood now next so_far items b last t peeks end takes e room m s =
     let o = t m s in
     let p : peek 15 o.machine ≡ Some (b, true) = sym (peeks o.machine o.stands) ∙ ap (λ l. Some (b, l)) end in
     told next (status_said m) items (taken 15 o.machine) true (takes o.machine o.stands)
-      (o.same (suc (32 - length so_far)) (omega (arith, room)) ∙ (ap (λ q. says_from q (32 - length so_far) 15 so_far o.machine) p
-          ∙ ap (λ l. let r : Said = record { bytes = l; marked = true; machine = taken 15 o.machine } in r) (sym e)))
+    (o.same (suc (32 - length so_far)) (omega (arith, room)) ∙ (ap (λ q. says_from q (32 - length so_far) 15 so_far o.machine) p
+    ∙ ap (λ l. let r : Said = record { bytes = l; marked = true; machine = taken 15 o.machine } in r) (sym e)))
 
 -- no byte is there
 pub tells-none : (stood now : Machine → Type 0) (so_far : List ℕ) → Tells stood now so_far → Peeks now None → length so_far < 33 → IsTold stood now so_far
 tells-none stood now so_far t peeks room m s =
     let o = t m s in
     told now (status_said m) so_far o.machine false o.stands
-      (o.same (suc (32 - length so_far)) (omega (arith, room)) ∙ ap (λ q. says_from q (32 - length so_far) 15 so_far o.machine) (sym (peeks o.machine o.stands)))
+    (o.same (suc (32 - length so_far)) (omega (arith, room)) ∙ ap (λ q. says_from q (32 - length so_far) 15 so_far o.machine) (sym (peeks o.machine o.stands)))
 
 -- the buffer is full
 pub tells-full : (stood now : Machine → Type 0) (so_far : List ℕ) → Tells stood now so_far → length so_far ≡ 33 → IsTold stood now so_far

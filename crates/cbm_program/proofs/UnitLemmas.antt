@@ -66,9 +66,10 @@ saying-more a b c stood now next most n k ch g p more count m s =
 
 ended : (a b : Option (List ℕ)) (whole : Printed) (text : List ℕ) (now : Machine → Type 0) (m : Machine) → Appends a b text → now m
     → whole ≡ with_text text (silent m) → Appends a b whole.text × now whole.machine
-ended a b whole text now m written stands e =
-    (subst (λ t. Appends a b t) (sym (ap (λ (s : Printed). s.text) e ∙ append-nil text)) written,
-     subst (λ x. now x) (sym (ap (λ (s : Printed). s.machine) e)) stands)
+ended a b whole text now m written stands e = (
+  subst (λ t. Appends a b t) (sym (ap (λ (s : Printed). s.text) e ∙ append-nil text)) written,
+  subst (λ x. now x) (sym (ap (λ (s : Printed). s.machine) e)) stands,
+)
 
 -- the last unit
 pub saying-last : (a b c : Option (List ℕ)) (stood now next : Machine → Type 0) (most n ch : ℕ) → Saying a b stood now most n ch
@@ -77,9 +78,9 @@ saying-last a b c stood now next most n ch g p more count m s =
     let o = g m s in
     let u = p o.machine o.stands in
     ended a c (units most ch m) (o.so_far ++ unit_text (peek ch o.machine)) next (behind_unit ch o.machine)
-      (appends-more a b c o.so_far (unit_text (peek ch o.machine)) o.written u.0) u.1
-      (o.same ∙ (ap (λ t. with_text o.so_far t) (units-last n ch o.machine count (sym (more o.machine o.stands)))
-      ∙ with_text-append o.so_far (unit_text (peek ch o.machine)) (silent (behind_unit ch o.machine))))
+    (appends-more a b c o.so_far (unit_text (peek ch o.machine)) o.written u.0) u.1
+    (o.same ∙ (ap (λ t. with_text o.so_far t) (units-last n ch o.machine count (sym (more o.machine o.stands)))
+    ∙ with_text-append o.so_far (unit_text (peek ch o.machine)) (silent (behind_unit ch o.machine))))
 
 -- nothing more is asked for
 pub saying-over : (a b : Option (List ℕ)) (stood now : Machine → Type 0) (most n ch : ℕ) → Saying a b stood now most n ch → n ≡ 0
@@ -95,8 +96,8 @@ saying-broken a b c stood now most n ch g p count m s =
     let o = g m s in
     let part = p o.machine o.stands in
     let begin : (rest : Printed) → units n ch o.machine ≡ with_text (unit_text (peek ch o.machine)) rest → AppendsPart a c (units most ch m).text =
-      λ rest e. subst (λ t. AppendsPart a c t) (sym (ap (λ (s : Printed). s.text) (o.same ∙ ap (λ t. with_text o.so_far t) e)))
-        (part_behind a b c o.so_far (unit_text (peek ch o.machine) ++ rest.text) o.written (part_before b c (unit_text (peek ch o.machine)) rest.text part)) in
+    λ rest e. subst (λ t. AppendsPart a c t) (sym (ap (λ (s : Printed). s.text) (o.same ∙ ap (λ t. with_text o.so_far t) e)))
+    (part_behind a b c o.so_far (unit_text (peek ch o.machine) ++ rest.text) o.written (part_before b c (unit_text (peek ch o.machine)) rest.text part)) in
     elim (is_more (peek ch o.machine)) as (λ v. is_more (peek ch o.machine) ≡ v → AppendsPart a c (units most ch m).text) [
       | true ↦ λ e. begin (units (n - 1) ch (behind_unit ch o.machine)) (units-more n ch o.machine count e)
       | false ↦ λ e. begin (silent (behind_unit ch o.machine)) (units-last n ch o.machine count e)

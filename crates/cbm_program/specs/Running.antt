@@ -12,7 +12,7 @@ use Rattle.cbm_program.specs.declared.fault.RunFault.{RunFault}
 use Rattle.cbm_program.specs.declared.fault.RunFault.TheVariants.{Script, Image, Memory, Reading, Writing}
 use Rattle.cbm_program.specs.Lines.{lines_of}
 use Rattle.cbm_program.specs.Requests.{line_of}
-use Rattle.cbm_program.specs.Scripts.{Printed, silent, puts, printed_by}
+use Rattle.cbm_program.specs.Scripts.{puts, printed_by}
 
 -- ---- the requests that are carried out
 

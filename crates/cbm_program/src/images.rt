@@ -15,9 +15,9 @@ use crate::kind::{Kind, kind_of};
 use crate::options::Options;
 use crate::session::run_on;
 use cbm_channel::Dos;
-use cbm_medium::Medium;
 use cbm_d64::{D64Disk, D64Fault};
 use cbm_g64::{G64Disk, G64Fault};
+use cbm_medium::Medium;
 use std::alloc::Global;
 use std::io::{Read, Write};
 
@@ -73,16 +73,16 @@ fn run_with<M: Medium + Drop, R: Read + Drop, W: Write>(
 ) -> Result<M, RunFault>
     ensures ended { EndsAs result (λ bad. IfSome (R.remaining reader) (λ input.
         ((script_of input).bad ≡ bad) × Prints (W.contents writer.old) (W.contents writer.new)
-            (λ m. AreCarriedOut (script_of input).requests m × StartsOn (M.tracks medium) (M.content medium) (M.protected medium) m)
-            (λ _. Unit {0}) (printed (script_of input).requests))) }
+        (λ m. AreCarriedOut (script_of input).requests m × StartsOn (M.tracks medium) (M.content medium) (M.protected medium) m)
+        (λ _. Unit {0}) (printed (script_of input).requests))) }
     ensures disk { IfOk result (λ after. IfSome (R.remaining reader) (λ input.
         Prints (W.contents writer.old) (W.contents writer.new)
-            (λ m. AreCarriedOut (script_of input).requests m × StartsOn (M.tracks medium) (M.content medium) (M.protected medium) m)
-            (λ m. HoldsDisk (M.tracks after) (M.content after) m.disk) (printed (script_of input).requests))) }
+        (λ m. AreCarriedOut (script_of input).requests m × StartsOn (M.tracks medium) (M.content medium) (M.protected medium) m)
+        (λ m. HoldsDisk (M.tracks after) (M.content after) m.disk) (printed (script_of input).requests))) }
     ensures fault { OnErr result (IfSome (R.remaining reader) (λ input.
         PrintsPart (W.contents writer.old) (W.contents writer.new)
-            (λ m. AreCarriedOut (script_of input).requests m × StartsOn (M.tracks medium) (M.content medium) (M.protected medium) m)
-            (printed (script_of input).requests))) }
+        (λ m. AreCarriedOut (script_of input).requests m × StartsOn (M.tracks medium) (M.content medium) (M.protected medium) m)
+        (printed (script_of input).requests))) }
     ensures image { IfErr result (λ fault. (n : ℕ) → fault ≢ RunFault.Image n) }
 {
     let mut dos = Dos::new(medium);
@@ -102,17 +102,17 @@ fn run_d64<R: Read + Drop, W: Write>(
     // What was written is what the script prints on the image's disk up to its end or its first bad line.
     ensures ended { EndsAs result (λ bad. IfSome (R.remaining reader) (λ input.
         ((script_of input).bad ≡ bad) × Prints (W.contents writer.old) (W.contents writer.new)
-            (Begins image.now protected (script_of input).requests) (λ _. Unit {0}) (printed (script_of input).requests))) }
+        (Begins image.now protected (script_of input).requests) (λ _. Unit {0}) (printed (script_of input).requests))) }
 
     // The image that is given back holds the disk behind the script.
     ensures disk { IfOk result (λ saved. IfSome (R.remaining reader) (λ input.
         Prints (W.contents writer.old) (W.contents writer.new) (Begins image.now protected (script_of input).requests)
-            (λ m. ImageHolds (kind_of image.now) saved.items m.disk) (printed (script_of input).requests))) }
+        (λ m. ImageHolds (kind_of image.now) saved.items m.disk) (printed (script_of input).requests))) }
 
     // At a fault a beginning of that was written.
     ensures fault { OnErr result (IfSome (R.remaining reader) (λ input.
         PrintsPart (W.contents writer.old) (W.contents writer.new) (Begins image.now protected (script_of input).requests)
-            (printed (script_of input).requests))) }
+        (printed (script_of input).requests))) }
 
     // The image is refused by its own fault, before anything is read or written, and by no other.
     ensures refused { IfSome (image_fault (kind_of image.now) image.now)
@@ -136,17 +136,17 @@ fn run_g64<R: Read + Drop, W: Write>(
     // What was written is what the script prints on the image's disk up to its end or its first bad line.
     ensures ended { EndsAs result (λ bad. IfSome (R.remaining reader) (λ input.
         ((script_of input).bad ≡ bad) × Prints (W.contents writer.old) (W.contents writer.new)
-            (Begins image.now protected (script_of input).requests) (λ _. Unit {0}) (printed (script_of input).requests))) }
+        (Begins image.now protected (script_of input).requests) (λ _. Unit {0}) (printed (script_of input).requests))) }
 
     // The image that is given back holds the disk behind the script.
     ensures disk { IfOk result (λ saved. IfSome (R.remaining reader) (λ input.
         Prints (W.contents writer.old) (W.contents writer.new) (Begins image.now protected (script_of input).requests)
-            (λ m. ImageHolds (kind_of image.now) saved.items m.disk) (printed (script_of input).requests))) }
+        (λ m. ImageHolds (kind_of image.now) saved.items m.disk) (printed (script_of input).requests))) }
 
     // At a fault a beginning of that was written.
     ensures fault { OnErr result (IfSome (R.remaining reader) (λ input.
         PrintsPart (W.contents writer.old) (W.contents writer.new) (Begins image.now protected (script_of input).requests)
-            (printed (script_of input).requests))) }
+        (printed (script_of input).requests))) }
 
     // The image is refused by its own fault, before anything is read or written, and by no other.
     ensures refused { IfSome (image_fault (kind_of image.now) image.now)
@@ -172,17 +172,17 @@ pub fn run<R: Read + Drop, W: Write>(
     // What was written is what the script prints on the image's disk up to its end or its first bad line.
     ensures ended { EndsAs result (λ bad. IfSome (R.remaining reader) (λ input.
         ((script_of input).bad ≡ bad) × Prints (W.contents writer.old) (W.contents writer.new)
-            (Begins image.now options.now.protected (script_of input).requests) (λ _. Unit {0}) (printed (script_of input).requests))) }
+        (Begins image.now options.now.protected (script_of input).requests) (λ _. Unit {0}) (printed (script_of input).requests))) }
 
     // The image that is given back holds the disk behind the script.
     ensures disk { IfOk result (λ saved. IfSome (R.remaining reader) (λ input.
         Prints (W.contents writer.old) (W.contents writer.new) (Begins image.now options.now.protected (script_of input).requests)
-            (λ m. ImageHolds (kind_of image.now) saved.items m.disk) (printed (script_of input).requests))) }
+        (λ m. ImageHolds (kind_of image.now) saved.items m.disk) (printed (script_of input).requests))) }
 
     // At a fault a beginning of that was written.
     ensures fault { OnErr result (IfSome (R.remaining reader) (λ input.
         PrintsPart (W.contents writer.old) (W.contents writer.new) (Begins image.now options.now.protected (script_of input).requests)
-            (printed (script_of input).requests))) }
+        (printed (script_of input).requests))) }
 
     // The image is refused by its own fault, before anything is read or written, and by no other.
     ensures refused { IfSome (image_fault (kind_of image.now) image.now)

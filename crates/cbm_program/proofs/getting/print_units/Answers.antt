@@ -12,14 +12,14 @@ bytes-preserved g c =
     let clause = c.in_ok-print_unit.ensures in
     let stands = Stands g.M.Medium.tracks g.M.Medium.content g.M.Medium.protected in
     saying-more _ _ _ (stands c.args.dos.now) (stands c.bytes.dos) (stands c.print_unit.new.dos) _ _ _ _ c.bytes.invariant clause.ok
-      (λ m s. sym c.if-not-branch.false ∙ clause.more m s) (omega arith)
+    (λ m s. sym c.if-not-branch.false ∙ clause.more m s) (omega arith)
 
 pub returns-then-not-branch-clause-ok : goal.returns-then-not-branch-clause-ok
 returns-then-not-branch-clause-ok g c =
     let clause = c.in_ok-print_unit.ensures in
     let stands = Stands g.M.Medium.tracks g.M.Medium.content g.M.Medium.protected in
     saying-last _ _ _ (stands c.args.dos.now) (stands c.bytes.dos) (stands c.print_unit.new.dos) _ _ _ c.bytes.invariant clause.ok
-      (λ m s. sym c.if-not-branch.true ∙ clause.more m s) (omega arith)
+    (λ m s. sym c.if-not-branch.true ∙ clause.more m s) (omega arith)
 
 -- a unit that broke off
 pub returns-in_err-print_unit-clause-err : goal.returns-in_err-print_unit-clause-err

@@ -40,7 +40,7 @@ returns-in_err-perform_line-clause-fault g c =
     let read = rw c.in-Some.is at c.in_ok-line.ensures in
     let stands = Stands g.M.Medium.tracks g.M.Medium.content g.M.Medium.protected in
     if_err c.from_residual-in_err-perform_line.result
-      (run-broken _ _ _ _ _ _ (stands c.args.dos.now) (stands c.lines.dos) _ _ c.lines.invariant.running read.0 c.in_err-perform_line.ensures.err)
+    (run-broken _ _ _ _ _ _ (stands c.args.dos.now) (stands c.lines.dos) _ _ c.lines.invariant.running read.0 c.in_err-perform_line.ensures.err)
 
 -- the script is at its end
 pub returns-clause-ended : goal.returns-clause-ended

@@ -1,4 +1,4 @@
-use Rattle.std.proofs.Common.{arith, rules, length, ◌≡◌, ◌<◌, sym, ◌∙◌, ap}
+use Rattle.std.proofs.Common.{rules, length, ◌≡◌, ◌<◌, sym, ◌∙◌}
 use Rattle.cbm_channel.specs.Standing.{Stands}
 use Rattle.cbm_program.proofs.StatusLemmas.{tells-start, tells-more, tells-last, tells-none, tells-full}
 use Rattle.cbm_program.proofs.status.status_line.Goals as goal
@@ -10,14 +10,14 @@ pub bytes-preserved : goal.bytes-preserved
 bytes-preserved g c =
     let stands = Stands g.M.Medium.tracks g.M.Medium.content g.M.Medium.protected in
     tells-more _ (stands c.bytes.dos) (stands c.taken.new.self) _ _ c.in-Some.byte c.in-Some.is_last c.bytes.invariant (λ m s. sym c.in-Some.is ∙ c.peek.ensures.next m s)
-      c.if-is_last.false c.taken.ensures.leads c.push.ensures.items
+    c.if-is_last.false c.taken.ensures.leads c.push.ensures.items
 
 pub returns-then-is_last : goal.returns-then-is_last
 returns-then-is_last g c =
     let stands = Stands g.M.Medium.tracks g.M.Medium.content g.M.Medium.protected in
     let room : length c.bytes.line.items < 33 = search rules in
     tells-last (stands c.args.dos.now) (stands c.bytes.dos) (stands c.taken.new.self) _ _ c.in-Some.byte c.in-Some.is_last c.bytes.invariant (λ m s. sym c.in-Some.is ∙ c.peek.ensures.next m s)
-      c.if-is_last.true c.taken.ensures.leads c.push.ensures.items room
+    c.if-is_last.true c.taken.ensures.leads c.push.ensures.items room
 
 pub returns-in_default : goal.returns-in_default
 returns-in_default g c =

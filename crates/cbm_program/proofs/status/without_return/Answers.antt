@@ -1,4 +1,3 @@
-use Rattle.std.proofs.Common.{rules}
 use Rattle.cbm_program.proofs.StatusLemmas.{with_return, without}
 use Rattle.cbm_program.proofs.status.without_return.Goals as goal
 
