@@ -1,1 +1,10 @@
 pub mod Scripts
+pub mod Lines
+pub mod Texts
+pub mod Words
+pub mod Requests
+pub mod Faults
+pub mod Output
+pub mod Units
+pub mod Running
+pub mod Images

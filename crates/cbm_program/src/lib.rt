@@ -1,6 +1,27 @@
 //! A script of requests, and what it prints.
 #![tactic(auto)]
 
+mod fault;
+mod getting;
+mod images;
+mod kind;
+mod line;
+mod lines;
+mod options;
+mod output;
+mod performing;
+mod putting;
 mod request;
+mod session;
+mod status;
+mod text;
+mod word;
 
+pub use fault::RunFault;
+pub use images::run;
+pub use kind::{Kind, kind_of};
+pub use line::{Line, parse};
+pub use lines::{LineFault, Lines};
+pub use options::Options;
 pub use request::{Request, Text};
+pub use text::decode;

@@ -2,6 +2,12 @@
 #![tactic(auto)]
 
 #[cfg(test)]
+mod faulty;
+#[cfg(test)]
 mod image;
+#[cfg(test)]
+mod lines;
+#[cfg(test)]
+mod scripts;
 #[cfg(test)]
 mod tests;
