@@ -1,11 +1,11 @@
 -- What a search through the directory's entries finds is what the machine finds among the disk's files.
-use Rattle.std.proofs.Common.{◌≡◌, ℕ, zero, suc, ◌+◌, ◌-◌, ◌<◌, ◌≤◌, Bool, true, false, List, [], ◌∷◌, length, refl, sym, ap, ◌∙◌, subst, arith}
+use Rattle.std.proofs.Common.{◌≡◌, ℕ, suc, ◌+◌, ◌-◌, ◌≤◌, Bool, true, false, List, [], ◌∷◌, length, refl, sym, ap, ◌∙◌, subst, arith}
 use Rattle.std.specs.Prelude.{◌==◌, ◌%◌, ◌&&◌, not, nat_lt, filter, Option, Some, None, is_some, slice_get, slice_index_or, if◌then◌else◌, Result, Ok, Err}
 use Rattle.std.specs.List.{AllZip}
 use Rattle.std.proofs.lemmas.Bool.Decides.{nat_tests}
 use Rattle.cbm_file.specs.declared.file_type.FileType.{FileType}
-use Rattle.cbm_file.specs.Types.{type_with, is_same_type}
-use Rattle.cbm_file.specs.Files.{File, Disk, files, files_from, file_at}
+use Rattle.cbm_file.specs.Types.{type_with}
+use Rattle.cbm_file.specs.Files.{File, Disk, files, files_from}
 use Rattle.cbm_command.specs.Names.{is_match}
 use Rattle.cbm_volume.specs.Entries.{type_byte, name_in}
 use Rattle.cbm_volume.specs.Content.{Content}

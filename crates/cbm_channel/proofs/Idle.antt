@@ -1,14 +1,13 @@
 -- What the machine's calls do on channels that write nothing: closed ones and those that read.
-use Rattle.std.proofs.Common.{◌≡◌, ◌⊎◌, ℕ, zero, suc, ◌+◌, ◌<◌, ◌≤◌, Bool, true, false, List, [], ◌∷◌, length, drop, refl, sym, ap, ◌∙◌, arith, inl, inr}
-use Rattle.std.specs.Prelude.{◌==◌, ◌||◌, nat_lt, Option, Some, None, slice_index_or, slice_set, sum_by, replicate, if◌then◌else◌, Err}
-use Rattle.std.specs.List.{All, AllZip, list_any}
-use Rattle.std.proofs.lemmas.Bool.{ne_eqb, eq-eqb}
+use Rattle.std.proofs.Common.{◌≡◌, ◌⊎◌, ℕ, ◌<◌, ◌≤◌, Bool, true, false, List, [], ◌∷◌, length, refl, ap, arith, inl, inr}
+use Rattle.std.specs.Prelude.{◌==◌, Option, if◌then◌else◌, Err}
+use Rattle.std.proofs.lemmas.Bool.{ne_eqb}
 use Rattle.cbm_channel.specs.declared.code.Code.TheVariants.{FileNotOpen, NoChannel, WrongType}
 use Rattle.cbm_command.specs.declared.command.Command.TheVariants.{Position}
-use Rattle.cbm_channel.specs.Machines.{Machine, Channel, Closed, Reading, channel, with_channel, say, answered, writes, in_writing}
+use Rattle.cbm_channel.specs.Machines.{Machine, Channel, Closed, Reading, channel, with_channel, say, answered}
 use Rattle.cbm_channel.specs.Closing.{close_one, without_text}
 use Rattle.cbm_channel.specs.Talking.{peek, peek_on, taken, taken_on, talk, listen}
-use Rattle.cbm_channel.specs.Calls.{put, is_relative_channel, command, store_text}
+use Rattle.cbm_channel.specs.Calls.{put, command, store_text}
 use Rattle.cbm_channel.specs.Running.{place, run}
 
 -- closed, or reading

@@ -1,18 +1,17 @@
 -- A listing on the way through the directory.
-use Rattle.std.proofs.Common.{◌≡◌, ℕ, suc, ◌+◌, ◌*◌, ◌≤◌, List, [], ◌∷◌, ◌++◌, length, Bool, true, false, Option, Some, None, Result, Ok, Err, refl, sym, ap, ◌∙◌, subst, arith}
-use Rattle.std.specs.Prelude.{filter, flat_map, if◌then◌else◌, ◌==◌, ◌&&◌, not, ◌%◌, slice_index}
+use Rattle.std.proofs.Common.{◌≡◌, ℕ, ◌+◌, ◌*◌, ◌≤◌, List, [], ◌∷◌, ◌++◌, length, Bool, true, false, Option, Some, None, refl, sym, ap, ◌∙◌, arith}
+use Rattle.std.specs.Prelude.{filter, flat_map, if◌then◌else◌, ◌==◌, ◌&&◌, ◌%◌, slice_index}
 use Rattle.std.specs.List.{AllZip}
-use Rattle.std.proofs.lemmas.List.{append-nil, append_assoc, length-append}
+use Rattle.std.proofs.lemmas.List.{append-nil, append_assoc}
 use Rattle.cbm_file.specs.Types.{type_with}
-use Rattle.cbm_file.specs.Files.{File, Disk, files, files_from}
+use Rattle.cbm_file.specs.Files.{File, Disk, files_from}
 use Rattle.cbm_command.specs.Names.{is_match}
 use Rattle.cbm_listing.specs.Lines.{title_line, entry_line, file_line, last_line}
 use Rattle.cbm_listing.specs.Listed as listed
 use Rattle.cbm_medium.specs.declared.fault.Trouble.{Trouble}
 use Rattle.cbm_volume.specs.Entries.{type_byte, bit_of, is_closed, name_in}
-use Rattle.cbm_volume.specs.Slots.{Listed, behind, Gives, IfGiven}
+use Rattle.cbm_volume.specs.Slots.{Listed, behind}
 use Rattle.cbm_volume.specs.Holding.{Says, SlotSays, TellsOf}
-use Rattle.cbm_channel.specs.Sought.{is_sought}
 use Rattle.cbm_channel.specs.Listing.{line_of, lines_of}
 use Rattle.cbm_channel.specs.Listings.{named, listing}
 use Rattle.cbm_channel.proofs.Found.{sought_file, sought_empty}

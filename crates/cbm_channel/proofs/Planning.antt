@@ -1,7 +1,6 @@
 -- What an OPEN for reading leads to.
-use Rattle.std.proofs.Common.{◌≡◌, ℕ, ◌+◌, ◌≤◌, Bool, true, false, List, refl, sym, ap, ◌∙◌, subst}
-use Rattle.std.specs.Prelude.{◌==◌, ◌&&◌, not, MatchBool, if◌then◌else◌, Option, Some, None, Result, Ok, Err}
-use Rattle.cbm_file.specs.declared.file_type.FileType.{FileType}
+use Rattle.std.proofs.Common.{◌≡◌, ℕ, Bool, true, false, List, refl, sym, ap, ◌∙◌, subst}
+use Rattle.std.specs.Prelude.{◌==◌, ◌&&◌, not, MatchBool, if◌then◌else◌, Some, None, Result, Ok, Err}
 use Rattle.cbm_file.specs.Files.{File, Disk, bytes_in}
 use Rattle.cbm_command.specs.declared.opening.Mode.{Mode}
 use Rattle.cbm_command.specs.declared.opening.Mode.TheVariants.{Read, Write, Append}

@@ -1,14 +1,14 @@
 -- A drive stands for a machine before and behind each change of its parts.
-use Rattle.std.proofs.Common.{◌≡◌, ◌⊎◌, ℕ, zero, suc, ◌+◌, ◌<◌, ◌≤◌, Bool, true, false, List, [], ◌∷◌, ◌++◌, length, take, drop, refl, sym, ap, ◌∙◌, subst, arith, inl, inr, ◌≢◌}
-use Rattle.std.specs.Prelude.{◌==◌, ◌||◌, nat_lt, Option, Some, None, slice_index_or, slice_set, sum_by, if◌then◌else◌, Result, Ok, Err, IsOk}
-use Rattle.std.specs.List.{All, AllZip, list_any}
+use Rattle.std.proofs.Common.{◌≡◌, ℕ, zero, suc, ◌+◌, ◌<◌, ◌≤◌, Bool, true, false, List, [], ◌∷◌, ◌++◌, length, take, drop, refl, sym, ap, ◌∙◌, subst, arith, inl, inr, ◌≢◌}
+use Rattle.std.specs.Prelude.{◌==◌, ◌||◌, nat_lt, Option, Some, None, slice_index_or, slice_set, sum_by, if◌then◌else◌, Result, Err, IsOk}
+use Rattle.std.specs.List.{AllZip, list_any}
 use Rattle.std.proofs.lemmas.List.Sums.{sum_by-cons}
 use Rattle.std.proofs.lemmas.Bool.{ne_eqb, eq-eqb}
 use Rattle.cbm_medium.specs.Links.{follow}
 use Rattle.cbm_medium.proofs.Walks.{follow_end}
 use Rattle.cbm_channel.specs.Statuses.{status_line}
 use Rattle.cbm_volume.specs.Content.{Content}
-use Rattle.cbm_volume.specs.Reading.{Reading, Rest, rest_of, held_from, held_in, shown, IsSettled}
+use Rattle.cbm_volume.specs.Reading.{Reading, rest_of, held_from, held_in, shown, IsSettled}
 use Rattle.cbm_file.specs.Files.{Disk}
 use Rattle.cbm_listing.specs.Listed as listed
 use Rattle.std.proofs.lemmas.List.{drop-drop}
@@ -20,8 +20,8 @@ use Rattle.cbm_channel.specs.declared.code.Code.TheVariants.{Fine}
 use Rattle.cbm_channel.specs.Machines as machine
 use Rattle.cbm_channel.specs.Closing.{forget_text, without_text}
 use Rattle.cbm_channel.specs.Talking.{peek_on, taken, taken_on}
-use Rattle.cbm_channel.specs.Calls.{text_for, gather}
-use Rattle.cbm_channel.specs.Told.{Told, told_by, next_told, behind_next}
+use Rattle.cbm_channel.specs.Calls.{text_for}
+use Rattle.cbm_channel.specs.Told.{Told, told_by, behind_next}
 use Rattle.cbm_channel.specs.Standing.{Kept, Fits, AreFit, ChannelStands, kept_text, StandsBy, Stands, HasText, HasNoText}
 use Rattle.cbm_channel.specs.Shown.{is_closed, shown_on, cost_on}
 use Rattle.cbm_channel.proofs.Idle.{Idle}

@@ -1,6 +1,6 @@
 -- What the drive carries out so far: each text that is refused, the listing, reading a file that has no records,
 -- I, and P, which has no relative channel to move. All else answers 30, 64 or 31 and changes nothing.
-use Rattle.std.specs.Prelude.{ℕ, ◌≡◌, ◌==◌, Bool, true, false, ◌&&◌, not, List, [], ◌∷◌, Option, Result, Ok, Err, MatchBool}
+use Rattle.std.specs.Prelude.{ℕ, ◌≡◌, ◌==◌, Bool, true, false, ◌&&◌, not, List, [], ◌∷◌, Result, Ok, Err, MatchBool}
 use Rattle.cbm_command.specs.declared.refusal.Refusal.{Refusal}
 use Rattle.cbm_command.specs.declared.opening.Mode.{Mode}
 use Rattle.cbm_command.specs.declared.opening.Mode.TheVariants.{Read, Write, Append}
@@ -8,7 +8,7 @@ use Rattle.cbm_command.specs.declared.opening.Wanted.{Wanted}
 use Rattle.cbm_command.specs.declared.opening.Opening.{Opening}
 use Rattle.cbm_command.specs.declared.opening.Opening.TheVariants as opening
 use Rattle.cbm_command.specs.declared.command.Command.{Command}
-use Rattle.cbm_command.specs.declared.command.Command.TheVariants.{New, Scratch, Rename, Copy, Validate, Initialize, Position}
+use Rattle.cbm_command.specs.declared.command.Command.TheVariants.{Initialize, Position}
 use Rattle.cbm_command.specs.Openings.{is_relative, opening_of}
 use Rattle.cbm_command.specs.Commands.{command_of}
 use Rattle.cbm_channel.specs.declared.code.Code.{Code}

@@ -15,6 +15,7 @@ pub mod Told
 pub mod Standing
 pub mod CarriedOut
 pub mod Shown
+pub mod Taken
 pub mod Planned
 pub mod Sought
 pub mod Listing

@@ -1,5 +1,5 @@
 -- The listing as it is made from the directory's entries.
-use Rattle.std.specs.Prelude.{ℕ, ◌+◌, ◌*◌, ◌%◌, ◌≡◌, List, [], ◌++◌, flat_map, slice_index, if◌then◌else◌, None}
+use Rattle.std.specs.Prelude.{ℕ, ◌+◌, ◌*◌, ◌%◌, List, [], flat_map, slice_index, if◌then◌else◌, None}
 use Rattle.cbm_file.specs.Types.{type_with}
 use Rattle.cbm_listing.specs.Lines.{entry_line}
 use Rattle.cbm_volume.specs.Entries.{type_byte, bit_of, is_closed, name_in}

@@ -2,9 +2,8 @@
 use Rattle.std.specs.Prelude.{ℕ, ◌≤◌, ◌≡◌, Bool, List, [], length, take, drop, Option, Some, None, option_map}
 use Rattle.std.specs.List.{All, AllZip}
 use Rattle.cbm_volume.specs.Content.{Content}
-use Rattle.cbm_volume.specs.Reading.{Reading, rest_of, IsSettled}
+use Rattle.cbm_volume.specs.Reading.{rest_of, IsSettled}
 use Rattle.cbm_volume.specs.Holding.{HoldsDisk}
-use Rattle.cbm_listing.specs.Listed.{Listed}
 use Rattle.cbm_channel.specs.declared.channel.Channel.{Channel}
 use Rattle.cbm_channel.specs.declared.channel.Channel.TheVariants as code
 use Rattle.cbm_channel.specs.Machines as machine

@@ -45,6 +45,7 @@ impl Channel {
     ghost use Rattle.cbm_channel.specs.Talking.{taken_on};
     ghost use Rattle.cbm_channel.specs.Standing.{Fits, ChannelStands};
     ghost use Rattle.cbm_channel.specs.Shown.{is_closed, shown_on};
+    ghost use Rattle.cbm_channel.specs.Taken.{IsTakenBy};
 
     /// Fifteen channels that are closed.
     pub(crate) fn all_closed() -> [Channel; 15]
@@ -79,6 +80,7 @@ impl Channel {
     pub(crate) fn taken<M: Medium>(&mut self, volume: &Volume<M>) -> Result<(), Trouble>
         requires { Fits (M.tracks volume.now) self.old }
         ensures fits { Fits (M.tracks volume.now) self.new }
+        ensures taken { IsTakenBy (M.content volume.now) self.old self.new result }
         ensures well { (d : Disk) (channel : machine.Channel) → ChannelStands (M.content volume.now) self.old channel →
             IsOk result × ChannelStands (M.content volume.now) self.new (taken_on d channel) }
     {

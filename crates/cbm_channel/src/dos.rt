@@ -78,6 +78,8 @@ impl<M: Medium> Dos<M> {
     fn set(&mut self, status: Status)
         ensures leads { Leads M.tracks M.content M.protected self.old self.new (tell status) }
         ensures medium { self.new.medium ≡ self.old.medium }
+        ensures channels { self.new.channels ≡ self.old.channels }
+        ensures told { self.new.told ≡ (record { status = status; told = 0 }) }
     {
         self.telling = Telling::new(status);
     }

@@ -164,7 +164,10 @@ impl<M: Medium> Dos<M> {
     {
         match plan {
             Plan::ReadListing(pattern) => Ok(Channel::Listing(list(&self.volume, &pattern)?)),
-            Plan::ReadFile(found) => Ok(Channel::File(found.slot, self.volume.begin_read(&found.entry)?)),
+            Plan::ReadFile(found) => Ok(Channel::File(
+                found.slot,
+                self.volume.begin_read(&found.entry)?,
+            )),
         }
     }
 }

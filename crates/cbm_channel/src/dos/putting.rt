@@ -13,13 +13,7 @@ fn without_return(text: &[u8]) -> &[u8]
 {
     match text.split_last() {
         None => text,
-        Some((last, front)) => {
-            if *last == b'\r' {
-                front
-            } else {
-                text
-            }
-        }
+        Some((last, front)) => { if *last == b'\r' { front } else { text } }
     }
 }
 

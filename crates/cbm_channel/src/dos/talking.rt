@@ -7,11 +7,14 @@ use crate::status::Status;
 use cbm_volume::Medium;
 
 impl<M: Medium> Dos<M> {
-    ghost use Rattle.std.specs.Prelude.{◌≡◌, ◌≤◌};
+    ghost use Rattle.std.specs.Prelude.{◌≡◌, ◌≤◌, ◌<◌, slice_index_or};
     ghost use Rattle.cbm_channel.specs.Machines.{Machine};
     ghost use Rattle.cbm_channel.specs.Talking.{peek, taken, talk, listen};
     ghost use Rattle.cbm_channel.specs.Standing.{Stands, Leads};
     ghost use Rattle.cbm_channel.specs.Shown.{shown_by};
+    ghost use Rattle.cbm_channel.specs.Told.{behind_next};
+    ghost use Rattle.cbm_channel.specs.Taken.{IsTaken};
+    ghost use Rattle.cbm_channel.specs.declared.channel.Channel.TheVariants.{Closed};
 
     /// Asks a channel to talk; 61 where it isn't open for reading.
     pub fn talk(&mut self, channel: u8)
@@ -33,7 +36,7 @@ impl<M: Medium> Dos<M> {
         ensures leads { Leads M.tracks M.content M.protected self.old self.new (listen channel) }
         ensures medium { self.new.medium ≡ self.old.medium }
     {
-        if channel < 15 {
+        if channel != 15 {
             self.say(Code::FileNotOpen);
         }
     }
@@ -56,6 +59,9 @@ impl<M: Medium> Dos<M> {
     pub fn taken(&mut self, channel: u8)
         requires { channel ≤ 15 }
         ensures leads { Leads M.tracks M.content M.protected self.old self.new (taken channel) }
+        ensures status { channel ≡ 15 → self.new.told ≡ behind_next self.old.told }
+        ensures byte { channel < 15 → IsTaken (M.content self.old.medium) (slice_index_or self.old.channels channel Closed)
+            (slice_index_or self.new.channels channel Closed) self.old.told self.new.told }
         ensures medium { self.new.medium ≡ self.old.medium }
     {
         if channel == 15 {

@@ -1,4 +1,4 @@
-use Rattle.std.proofs.Common.{◌≡◌, ◌<◌, ◌≤◌, ◌+◌, ℕ, List, [], ◌∷◌, ◌++◌, length, take, drop, sym, ap, subst, ◌∙◌, arith, rules, refl, inl, inr}
+use Rattle.std.proofs.Common.{ap, subst}
 use Rattle.std.specs.Prelude.{Ok}
 use Rattle.cbm_listing.specs.Listed.{Listed}
 use Rattle.cbm_volume.specs.Slots.{Gives, left_of}

@@ -1,4 +1,4 @@
-use Rattle.std.proofs.Common.{◌≡◌, ◌<◌, ◌≤◌, ◌+◌, ℕ, List, [], ◌∷◌, ◌++◌, length, take, drop, sym, ap, subst, ◌∙◌, arith, rules, refl, inl, inr}
+use Rattle.std.proofs.Common.{subst, refl}
 use Rattle.cbm_channel.specs.Standing.{ChannelStands}
 use Rattle.cbm_channel.proofs.Stands.{listing_on}
 use Rattle.cbm_channel.proofs.channel.Channel.taken.Goals as goal

@@ -1,4 +1,4 @@
-use Rattle.std.proofs.Common.{◌≡◌, ◌<◌, ◌≤◌, ◌+◌, ℕ, List, [], ◌∷◌, ◌++◌, length, take, drop, sym, ap, subst, ◌∙◌, arith, rules, refl, inl, inr}
+use Rattle.std.proofs.Common.{sym, ap, subst}
 use Rattle.cbm_channel.specs.declared.code.Code.TheVariants.{Fine}
 use Rattle.cbm_channel.specs.Machines.{say}
 use Rattle.cbm_channel.specs.Standing.{ChannelStands}

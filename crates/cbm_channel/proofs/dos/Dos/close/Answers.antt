@@ -1,4 +1,4 @@
-use Rattle.std.proofs.Common.{◌≡◌, ◌<◌, ◌≤◌, ◌+◌, ℕ, List, [], ◌∷◌, ◌++◌, length, take, drop, sym, ap, subst, ◌∙◌, arith, rules, refl, inl, inr}
+use Rattle.std.proofs.Common.{arith}
 use Rattle.cbm_channel.proofs.Idle.{below_15}
 use Rattle.cbm_channel.proofs.Stands.{moved}
 use Rattle.cbm_channel.proofs.Closes.{close_first, close_15}

@@ -1,4 +1,4 @@
-use Rattle.std.proofs.Common.{◌≡◌, ◌<◌, ◌≤◌, ◌+◌, ℕ, List, [], ◌∷◌, ◌++◌, length, take, drop, sym, ap, subst, ◌∙◌, arith, rules, refl, inl, inr}
+use Rattle.std.proofs.Common.{◌≡◌, take, subst, ◌∙◌, arith}
 use Rattle.cbm_channel.specs.Closing.{close_all, channel_numbers}
 use Rattle.cbm_channel.specs.Standing.{Stands}
 use Rattle.cbm_channel.proofs.Stands.{moved}

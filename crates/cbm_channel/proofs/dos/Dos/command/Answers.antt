@@ -1,5 +1,5 @@
-use Rattle.std.proofs.Common.{◌≡◌, ◌<◌, ◌≤◌, ◌+◌, ℕ, List, [], ◌∷◌, ◌++◌, length, take, sym, ap, subst, ◌∙◌, arith, rules, refl, inl, inr}
-use Rattle.cbm_channel.specs.Calls.{without_return, command_text}
+use Rattle.std.proofs.Common.{◌≤◌, length, sym, ap, subst, ◌∙◌}
+use Rattle.cbm_channel.specs.Calls.{command_text}
 use Rattle.cbm_channel.specs.CarriedOut.{IsTextCarriedOut}
 use Rattle.cbm_channel.specs.Machines.{say}
 use Rattle.cbm_channel.proofs.Stands.{moved}

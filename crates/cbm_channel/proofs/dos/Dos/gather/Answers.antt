@@ -1,11 +1,5 @@
-use Rattle.std.proofs.Common.{◌≡◌, ◌<◌, ◌≤◌, ◌+◌, ℕ, List, [], ◌∷◌, ◌++◌, length, take, sym, ap, subst, ◌∙◌, arith, rules, refl, inl, inr}
-use Rattle.cbm_channel.specs.declared.channel.Channel.TheVariants as code
-use Rattle.cbm_channel.specs.Machines as machine
 use Rattle.cbm_channel.specs.Closing.{without_text}
-use Rattle.cbm_channel.specs.Calls.{text_for, command}
-use Rattle.cbm_channel.proofs.Idle.{below_15, store_command, store_idle, store_nothing}
-use Rattle.cbm_channel.proofs.Stands.{told_anew, with_one, forgotten, other_text, told_on, idle_at, stands_at, closed_past, moved, stood, not_ok, gathered, begun}
-use Rattle.cbm_channel.proofs.Texts.{some_kept, refused, asked_for, carried_command, command_kept, carried_kept, nothing_else}
+use Rattle.cbm_channel.proofs.Stands.{other_text, stood, gathered, begun}
 use Rattle.cbm_channel.proofs.dos.Dos.gather.Goals as goal
 
 -- the text that is there gets the byte

@@ -1,4 +1,4 @@
-use Rattle.std.proofs.Common.{◌≡◌, ◌<◌, ◌≤◌, ◌+◌, ℕ, List, [], ◌∷◌, ◌++◌, length, take, drop, sym, ap, subst, ◌∙◌, arith, rules, refl, inl, inr}
+use Rattle.std.proofs.Common.{sym, ap, ◌∙◌, arith}
 use Rattle.cbm_channel.specs.Closing.{close_one}
 use Rattle.cbm_channel.specs.Machines.{say}
 use Rattle.cbm_channel.proofs.Idle.{below_15}

@@ -1,13 +1,12 @@
-use Rattle.std.proofs.Common.{◌≡◌, ◌<◌, ◌≤◌, ◌+◌, ℕ, List, [], ◌∷◌, ◌++◌, length, take, drop, sym, ap, subst, ◌∙◌, arith, rules, refl, inl, inr}
+use Rattle.std.proofs.Common.{◌≡◌, sym, subst}
 use Rattle.std.specs.Prelude.{Some, None, Ok}
 use Rattle.cbm_file.specs.Files.{bytes_in}
 use Rattle.cbm_volume.specs.Reading.{rest_of}
 use Rattle.cbm_channel.specs.Machines.{Reading}
 use Rattle.cbm_channel.specs.Finding.{body_at}
-use Rattle.cbm_channel.specs.Standing.{Kept}
 use Rattle.cbm_channel.specs.Planned.{PlannedAs, opened_by}
 use Rattle.cbm_channel.proofs.Stands.{stood}
-use Rattle.cbm_channel.proofs.Planning.{readable, file_opens, listable}
+use Rattle.cbm_channel.proofs.Planning.{readable, file_opens}
 use Rattle.cbm_channel.proofs.dos.Dos.opened.Goals as goal
 
 pub returns-in_err-list-in-ReadListing-clause-stands : goal.returns-in_err-list-in-ReadListing-clause-stands

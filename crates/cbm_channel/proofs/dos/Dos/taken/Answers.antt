@@ -1,9 +1,7 @@
-use Rattle.std.proofs.Common.{◌≡◌, ◌<◌, ◌≤◌, ◌+◌, ℕ, List, [], ◌∷◌, ◌++◌, length, take, sym, ap, subst, ◌∙◌, arith, rules, refl, inl, inr}
+use Rattle.std.proofs.Common.{◌<◌, ap, arith}
 use Rattle.cbm_channel.specs.Talking.{taken}
-use Rattle.cbm_channel.specs.declared.channel.Channel.TheVariants as code
-use Rattle.cbm_channel.specs.Machines as machine
-use Rattle.cbm_channel.proofs.Idle.{below_15, close_idle, listen_idle, talk_closed, talk_reading, put_idle, peek_other, taken_other, listen_15, talk_15, place_none, place_closed, place_reading, store_command, store_idle, store_nothing}
-use Rattle.cbm_channel.proofs.Stands.{told_anew, with_one, forgotten, other_text, told_on, idle_at, stands_at, closed_past, moved, stood, closed_is, reads_is, shows, not_ok, text_taken, text_stays, none_there, other_there, this_there}
+use Rattle.cbm_channel.proofs.Idle.{below_15, taken_other}
+use Rattle.cbm_channel.proofs.Stands.{with_one, told_on, stands_at, moved, stood, not_ok}
 use Rattle.cbm_channel.proofs.dos.Dos.taken.Goals as goal
 
 pub returns-then-channel-eq15-clause-leads : goal.returns-then-channel-eq15-clause-leads
