@@ -1,5 +1,5 @@
 // The lines of a script, and readers and writers that fail.
-use crate::faulty::{FaultyReader, FaultyWriter};
+use crate::faulty::{FaultyReader, FaultyWriter, Sink};
 use crate::scripts::{OPEN, hello};
 use cbm_program::{RunFault, run};
 use std::io::ErrorKind;
@@ -158,6 +158,23 @@ fn each_write_fails_in_turn(rt: HostRuntime) -> Result<(), Fail> {
                 "after {calls}"
             );
         }
+    }
+    Ok(())
+}
+
+// The first request for memory is the test's own, the second the disk's, the third that of the image given back.
+#[test]
+fn want_of_memory_is_told(rt: HostRuntime) -> Result<(), Fail> {
+    let image = hello(rt.alloc())?;
+    match run(
+        rt.alloc(),
+        SCRIPT.as_bytes(),
+        &mut Sink,
+        image.as_slice(),
+        &OPEN,
+    ) {
+        Ok(saved) => assert!(rt; saved.as_slice() == image.as_slice()),
+        Err(fault) => assert_eq!(rt; fault, RunFault::Memory),
     }
     Ok(())
 }
