@@ -24,7 +24,11 @@ pub fn files(rt: &impl Runtime, alloc: Global) -> io::Result<()> {
         count = count.wrapping_add(bytes_of_file(&mut dos));
     }
     report(rt, "Dos, a byte of a file of 664 blocks", &start, count)?;
-    if count == 1_686_560 { Ok(()) } else { Err(failed()) }
+    if count == 1_686_560 {
+        Ok(())
+    } else {
+        Err(failed())
+    }
 }
 
 /// How many bytes the file has.

@@ -54,3 +54,17 @@ impl Write for FaultyWriter {
         Ok(())
     }
 }
+
+/// Takes all bytes and keeps none.
+#[derive(Drop)]
+pub struct Sink;
+
+impl Write for Sink {
+    fn write(&mut self, buf: &[u8]) -> io::Result<usize> {
+        Ok(buf.len())
+    }
+
+    fn flush(&mut self) -> io::Result<()> {
+        Ok(())
+    }
+}

@@ -1,5 +1,5 @@
 // The lines of a script, and readers and writers that fail.
-use crate::faulty::{FaultyReader, FaultyWriter};
+use crate::faulty::{FaultyReader, FaultyWriter, Sink};
 use crate::scripts::{OPEN, hello};
 use cbm_program::{RunFault, run};
 use std::io::ErrorKind;
@@ -36,9 +36,19 @@ fn lines_that_are_refused(rt: HostRuntime) -> Result<(), Fail> {
         ("status\nstatus\r\n", 2),
     ] {
         let mut out: Vec<u8> = Vec::new(rt.alloc());
-        let ended = run(rt.alloc(), script.as_bytes(), &mut out, image.as_slice(), &OPEN);
+        let ended = run(
+            rt.alloc(),
+            script.as_bytes(),
+            &mut out,
+            image.as_slice(),
+            &OPEN,
+        );
         assert_eq!(rt; ended.err(), Some(RunFault::Script(line)), "{script}");
-        assert_eq!(rt; out.as_slice(), b"status 73,CBM DOS V2.6 1541,00,00\n".as_slice(), "{script}");
+        assert_eq!(rt;
+            out.as_slice(),
+            b"status 73,CBM DOS V2.6 1541,00,00\n".as_slice(),
+            "{script}"
+        );
     }
     Ok(())
 }
@@ -67,7 +77,13 @@ fn lines_and_numbers_of_the_greatest_length(rt: HostRuntime) -> Result<(), Fail>
             script.push(*byte)?;
         }
         let mut out: Vec<u8> = Vec::new(rt.alloc());
-        let ended = run(rt.alloc(), script.as_slice(), &mut out, image.as_slice(), &OPEN);
+        let ended = run(
+            rt.alloc(),
+            script.as_slice(),
+            &mut out,
+            image.as_slice(),
+            &OPEN,
+        );
         assert_eq!(rt; ended.err(), fault);
         let text: &[u8] = if fault.is_none() { b"get 15 37\n" } else { b"" };
         assert_eq!(rt; out.as_slice(), text);
@@ -78,10 +94,19 @@ fn lines_and_numbers_of_the_greatest_length(rt: HostRuntime) -> Result<(), Fail>
 #[test]
 fn a_million_lines_and_one(rt: HostRuntime) -> Result<(), Fail> {
     let image = hello(rt.alloc())?;
-    for (lines, fault) in [(1_000_000, None), (1_000_001, Some(RunFault::Script(1_000_001)))] {
+    for (lines, fault) in [
+        (1_000_000, None),
+        (1_000_001, Some(RunFault::Script(1_000_001))),
+    ] {
         let script = vec![in rt.alloc(); b'\n'; lines]?;
         let mut out: Vec<u8> = Vec::new(rt.alloc());
-        let ended = run(rt.alloc(), script.as_slice(), &mut out, image.as_slice(), &OPEN);
+        let ended = run(
+            rt.alloc(),
+            script.as_slice(),
+            &mut out,
+            image.as_slice(),
+            &OPEN,
+        );
         assert_eq!(rt; ended.err(), fault);
     }
     Ok(())
@@ -100,7 +125,10 @@ fn each_read_fails_in_turn(rt: HostRuntime) -> Result<(), Fail> {
             let mut out: Vec<u8> = Vec::new(rt.alloc());
             let ended = run(rt.alloc(), reader, &mut out, image.as_slice(), &OPEN);
             assert_eq!(rt; ended.err(), Some(RunFault::Reading), "after {calls}");
-            assert!(rt; PRINTED.as_bytes().starts_with(out.as_slice()), "after {calls}");
+            assert!(rt;
+                PRINTED.as_bytes().starts_with(out.as_slice()),
+                "after {calls}"
+            );
         }
     }
     Ok(())
@@ -116,11 +144,37 @@ fn each_write_fails_in_turn(rt: HostRuntime) -> Result<(), Fail> {
                 calls,
                 kind,
             };
-            let ended = run(rt.alloc(), SCRIPT.as_bytes(), &mut writer, image.as_slice(), &OPEN);
+            let ended = run(
+                rt.alloc(),
+                SCRIPT.as_bytes(),
+                &mut writer,
+                image.as_slice(),
+                &OPEN,
+            );
             assert_eq!(rt; ended.err(), Some(RunFault::Writing), "after {calls}");
             assert_eq!(rt; writer.bytes.len(), calls as usize);
-            assert!(rt; PRINTED.as_bytes().starts_with(writer.bytes.as_slice()), "after {calls}");
+            assert!(rt;
+                PRINTED.as_bytes().starts_with(writer.bytes.as_slice()),
+                "after {calls}"
+            );
         }
+    }
+    Ok(())
+}
+
+// The first request for memory is the test's own, the second the disk's, the third that of the image given back.
+#[test]
+fn want_of_memory_is_told(rt: HostRuntime) -> Result<(), Fail> {
+    let image = hello(rt.alloc())?;
+    match run(
+        rt.alloc(),
+        SCRIPT.as_bytes(),
+        &mut Sink,
+        image.as_slice(),
+        &OPEN,
+    ) {
+        Ok(saved) => assert!(rt; saved.as_slice() == image.as_slice()),
+        Err(fault) => assert_eq!(rt; fault, RunFault::Memory),
     }
     Ok(())
 }

@@ -15,11 +15,7 @@ pub const OPEN: Options = Options {
 };
 
 /// What a script prints on the disk of an image, and how it ends.
-fn play(
-    alloc: Global,
-    image: &[u8],
-    script: &str,
-) -> (Vec<u8>, Result<Vec<u8>, RunFault>) {
+fn play(alloc: Global, image: &[u8], script: &str) -> (Vec<u8>, Result<Vec<u8>, RunFault>) {
     let mut printed: Vec<u8> = Vec::new(alloc);
     let ended = run(alloc, script.as_bytes(), &mut printed, image, &OPEN);
     (printed, ended)
@@ -184,29 +180,33 @@ fn a_loop_is_read_to_its_683rd_sector(rt: HostRuntime) -> Result<(), Fail> {
     Ok(())
 }
 
+/// The image is refused with this number before the script is read, and nothing is printed.
+fn refuses(rt: &impl Abort, alloc: Global, image: &[u8], number: u8) {
+    let (printed, ended) = play(alloc, image, "bad\n");
+    assert_eq!(rt; printed.len(), 0);
+    assert_eq!(rt; ended.err(), Some(RunFault::Image(number)));
+}
+
 #[test]
 fn images_that_are_refused(rt: HostRuntime) -> Result<(), Fail> {
+    let short = vec![in rt.alloc(); 0; 174_847]?;
+    refuses(&rt, rt.alloc(), short.as_slice(), 1);
     let image = formatted(rt.alloc(), 174_848)?;
     let disk = D64Disk::from_bytes(rt.alloc(), image.as_slice(), false)?;
     assert!(rt; disk.tracks() == 35);
     let circles = G64Disk::from_sectors(rt.alloc(), &disk, *b"AB")?;
-    let (printed, ended) = play(rt.alloc(), &image.as_slice()[..174_847], "bad\n");
-    assert_eq!(rt; printed.len(), 0);
-    assert_eq!(rt; ended.err(), Some(RunFault::Image(1)));
-    for (at, bytes, number) in [
-        (0, [0, b'C'], 1),
-        (8, [1, 84], 2),
-        (9, [68, 0xf8], 3),
-        (10, [0xf9, 0x1e], 4),
-        (12, [0xab, 2], 5),
-        (684, [0, 0], 6),
-        (20, [0xac, 2], 8),
+    for (at, low, high, number) in [
+        (0, 0, b'C', 1),
+        (8, 1, 84, 2),
+        (9, 68, 0xf8, 3),
+        (10, 0xf9, 0x1e, 4),
+        (12, 0xab, 2, 5),
+        (684, 0, 0, 6),
+        (20, 0xac, 2, 8),
     ] {
         let mut broken = Vec::from_slice(rt.alloc(), circles.as_slice())?;
-        put(&mut broken, at, &bytes);
-        let (printed, ended) = play(rt.alloc(), broken.as_slice(), "bad\n");
-        assert_eq!(rt; printed.len(), 0);
-        assert_eq!(rt; ended.err(), Some(RunFault::Image(number)));
+        put(&mut broken, at, &[low, high]);
+        refuses(&rt, rt.alloc(), broken.as_slice(), number);
     }
     Ok(())
 }
