@@ -1,6 +1,6 @@
 use Rattle.std.proofs.Common.{◌≡◌, ℕ, ◌+◌, ◌*◌, ◌%◌, ◌<◌, ◌≤◌, length, get_or, false}
 use Rattle.cbm_track.specs.Circle.{bits_of, bit}
-use Rattle.cbm_track.proofs.stretches.write_bytes.Given as goal
+use Rattle.cbm_track.proofs.stretches.write_around.Given as goal
 
 abbrev pub invariant-loop-k : goal.invariant-loop-k
 invariant-loop-k l = record {
