@@ -1,4 +1,4 @@
-ghost use Rattle.std.specs.Prelude.{◌≡◌, ℕ, ◌<◌, ◌≤◌, true, false, length, IfSome, IfNone};
+ghost use Rattle.std.specs.Prelude.{◌≡◌, ℕ, ◌<◌, ◌≤◌, List, true, false, length, take, IfSome, IfNone};
 ghost use Rattle.cbm_track.specs.Circle.{first_below, begins};
 ghost use Rattle.cbm_sector.specs.Decoding.{coded_at};
 ghost use Rattle.cbm_sector.specs.Answer.{header_at, is_header, is_right, passes, wanted_test};
@@ -25,11 +25,28 @@ fn is_wanted(header: &[u8; 8], wanted: &Option<Address>) -> bool
     }
 }
 
-/// Whether such a header stands at a place.
+/// Whether four bytes can begin such a header.
+fn may_begin(front: &[u8; 4], wanted: &Option<Address>) -> bool
+    ensures { result ≡ false → (v : List ℕ) → take 4 v ≡ front.now → wanted_test wanted.now v ≡ false }
+{
+    match wanted {
+        Some(at) => front[0] == 8 && front[2] == at.sector() && front[3] == at.track(),
+        None => front[0] == 8 && front[3] == 18,
+    }
+}
+
+/// Whether such a header stands at a place: its first four bytes are looked at alone where they
+/// already rule it out.
 fn is_wanted_at(track: &Track, place: u32, wanted: &Option<Address>) -> bool
     requires { place < length track.now }
     ensures { result ≡ passes (wanted_test wanted.now) (coded_at track.now place 8) }
 {
+    let Some(front) = group_at(track, place) else {
+        return false;
+    };
+    if !may_begin(&front, wanted) {
+        return false;
+    }
     match header_bytes(track, place) {
         Some(header) => is_wanted(&header, wanted),
         None => false,

@@ -1,11 +1,11 @@
 use Rattle.std.proofs.Common.{◌≡◌, ℕ, zero, suc, ◌+◌, ◌*◌, ◌-◌, ◌/◌, ◌%◌, ◌^◌, ◌<◌, ◌≤◌, List, [], ◌∷◌, length, get_or, refl, sym, ap, ◌∙◌, arith, inl, inr, Bool, true, false, min, eq-eqb, eqb-true}
-use Rattle.std.specs.Prelude.{◌==◌, bit_and}
+use Rattle.std.specs.Prelude.{◌==◌, bit_and, bit_or}
 use Rattle.std.specs.Int.{bit_at, bit_not, from_be_bytes, leading_ones, w64}
 use lib.Count.{count_leading_zeros}
 use Rattle.std.proofs.Math.Nat.{mod-eq_of_lt}
-use Rattle.std.proofs.lemmas.Nat.{shr-shr, shr_split, leading_length}
+use Rattle.std.proofs.lemmas.Nat.{shr-shr, shr_split, leading_length, le_or_l, le_or_r}
 use Rattle.std.proofs.lemmas.Nat.Bits.{bit_at_and, bit_at_cat_low, bit_at_cat_high, bit_at-zero, bit_at_above, bit_at_not, bit_at-lt}
-use Rattle.std.proofs.lemmas.Bool.{cases_Bool}
+use Rattle.std.proofs.lemmas.Bool.{cases_Bool, cases_lt}
 use Rattle.cbm_track.specs.Circle.{bits_of, bit, ten_ones}
 use Rattle.cbm_track.specs.Words.{number, round_byte, eight, Marks, IsWindow}
 use Rattle.cbm_track.proofs.Bytes.{length-bits_of, bit_at_byte}
@@ -194,3 +194,31 @@ ends t place word w b h =
     let turned : bit_at (bit_not w64 word) (63 - leading_ones w64 word) ≡ 1 - bit_at word (63 - leading_ones w64 word) = bit_at_not w64 word (63 - leading_ones w64 word) b (omega arith) in
     let zero_there : bit_at word (63 - leading_ones w64 word) ≡ 0 = omega arith in
     sym (w (leading_ones w64 word) h) ∙ ap (λ (n : ℕ). n == 1) zero_there
+
+-- no ten ones begin in seven bytes where no nine are marked in eight
+pub plain_word : (xs : List ℕ) (i word marks j : ℕ) → 0 < length xs → ((k : ℕ) → get_or xs k 0 < 256) → word ≡ number 0 (eight xs i) → Marks word marks 9 → marks ≡ 0 → j < 56 → ten_ones (bits_of xs) (8 * i + j) ≡ false
+plain_word xs i word marks j z h e m n l =
+    plain_all (bits_of xs) (8 * i) word marks j
+    (λ k b. ap (λ (w : ℕ). bit_at w (63 - k) == 1) e ∙ eight_bit xs i k z h (omega arith))
+    m (omega arith) n
+
+-- two of them, one behind the other
+pub plain_two : (xs : List ℕ) (from i a b x y j : ℕ) → 0 < length xs → ((k : ℕ) → get_or xs k 0 < 256) → from ≤ i → ((k : ℕ) → k < 8 * (i - from) → ten_ones (bits_of xs) (8 * from + k) ≡ false)
+    → a ≡ number 0 (eight xs i) → b ≡ number 0 (eight xs (i + 7)) → Marks a x 9 → Marks b y 9 → bit_or x y ≡ 0 → j < 8 * (i + 14 - from) → ten_ones (bits_of xs) (8 * from + j) ≡ false
+plain_two xs from i a b x y j z h f none e g m n o l = elim (cases_lt j (8 * (i - from))) [
+  | inl old ↦ none j old
+  | inr new ↦ elim (cases_lt j (8 * (i - from) + 56)) [
+    | inl first ↦ (let q : 8 * from + j ≡ 8 * i + (j - 8 * (i - from)) = omega arith in ap (ten_ones (bits_of xs)) q)
+        ∙ plain_word xs i a x (j - 8 * (i - from)) z h e m (omega (arith, le_or_l x y, o)) (omega arith)
+    | inr second ↦ (let q : 8 * from + j ≡ 8 * (i + 7) + (j - 8 * (i - from) - 56) = omega arith in ap (ten_ones (bits_of xs)) q)
+        ∙ plain_word xs (i + 7) b y (j - 8 * (i - from) - 56) z h g n (omega (arith, le_or_r x y, o)) (omega arith)
+  ]
+]
+
+-- places behind which bytes follow
+pub plain_behind : (t : List Bool) (place plain next bytes j : ℕ) → next ≡ place + plain → next % 8 ≡ 0 → ((k : ℕ) → k < plain → ten_ones t (place + k) ≡ false)
+    → ((k : ℕ) → k < 8 * bytes → ten_ones t (8 * (next / 8) + k) ≡ false) → j < plain + 8 * bytes → ten_ones t (place + j) ≡ false
+plain_behind t place plain next bytes j e z none more l = elim (cases_lt j plain) [
+  | inl old ↦ none j old
+  | inr new ↦ (let q : place + j ≡ 8 * (next / 8) + (j - plain) = omega arith in ap (ten_ones t) q) ∙ more (j - plain) (omega arith)
+]

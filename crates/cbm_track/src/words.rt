@@ -93,15 +93,37 @@ fn ones_at(track: &[u8], place: usize) -> usize
     (word.leading_ones() as usize).min(64 - place % 8)
 }
 
+/// A number of bytes from one on in which no ten ones begin, by two words at a time up to the
+/// track's end.
+fn plain_bytes(track: &[u8], from: usize) -> usize
+    requires size { length track.now ≤ 7928 }
+    requires place { from ≤ 8000 }
+    ensures most { result ≤ 7928 }
+    ensures none { (j : ℕ) → j < 8 * result → ten_ones (bits_of track.now) (8 * from + j) ≡ false }
+{
+    let mut i = from;
+    while i + 15 <= track.len() {
+        if nines(word_inside(track, i)) | nines(word_inside(track, i + 7)) != 0 {
+            return i - from;
+        }
+        i += 14;
+    }
+    i - from
+}
+
 /// How many places, at least one, may be passed as no ten ones begin there; `None` where ten ones
 /// begin at the place itself.
 pub(crate) fn step_at(track: &[u8], place: usize) -> Option<usize>
     requires place { place < 8 * length track.now }
     requires size { length track.now ≤ 7928 }
-    ensures some { IfSome result (λ s. (0 < s) × (s ≤ 56) × ((j : ℕ) → j < s → ten_ones (bits_of track.now) (place + j) ≡ false)) }
+    ensures some { IfSome result (λ s. (0 < s) × (s ≤ 63480) × ((j : ℕ) → j < s → ten_ones (bits_of track.now) (place + j) ≡ false)) }
     ensures none { IfNone result (ten_ones (bits_of track.now) place ≡ true) }
 {
     let plain = plain_at(track, place);
+    let next = place + plain;
+    if plain > 0 && next % 8 == 0 {
+        return Some(plain + 8 * plain_bytes(track, next / 8));
+    }
     if plain > 0 {
         return Some(plain);
     }
