@@ -1,4 +1,4 @@
-use Rattle.std.proofs.Common.{◌≡◌, ℕ, ◌+◌, ◌*◌, ◌-◌, ◌%◌, ◌<◌, ◌≤◌, List, length, sym, ap, ◌∙◌, arith, inl, inr, Bool, true, false, Option, Some, None, subst}
+use Rattle.std.proofs.Common.{◌≡◌, ℕ, ◌+◌, ◌*◌, ◌-◌, ◌%◌, ◌<◌, ◌≤◌, List, length, get_or, sym, ap, ◌∙◌, arith, inl, inr, Bool, true, false, Option, Some, None, subst}
 use Rattle.std.proofs.Math.Nat.{mod-eq_of_lt, add-mod_right}
 use Rattle.std.proofs.lemmas.Bool.{cases_lt, cases_Bool, false≢true, not-true}
 use Rattle.std.specs.Prelude.{is_some, not}
@@ -183,3 +183,8 @@ mark_full xs from there h ones = next_none (bits_of xs) from (λ k l.
     ∙ sym (bit_there (bits_of xs) (from + k) (there + r.far) (omega (arith, length-bits_of xs)) r.there 0)
     ∙ (let q : there + r.far + 0 ≡ there + r.far = omega arith in ap (bit (bits_of xs)) q)
     ∙ ones r.far (omega (arith, length-bits_of xs, r.below))))
+
+-- the bit that stands at the place that a walk round has come to
+pub bit_read : (xs : List ℕ) (a r : ℕ) → r ≡ a % (8 * length xs) → get_or (bits_of xs) r false ≡ bit (bits_of xs) a
+unfolding bit
+bit_read xs a r e = ap (λ (q : ℕ). get_or (bits_of xs) q false) (e ∙ sym (ap (λ (n : ℕ). a % n) (length-bits_of xs)))

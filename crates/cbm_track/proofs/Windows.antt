@@ -117,7 +117,7 @@ marks_join word x y n m p q i h =
     ∙ ap (λ (a : ℕ). min a (bit_at (y / 2 ^ n) i)) (p i (λ k l. h k (omega arith)))
     ∙ ap (λ (a : ℕ). min 1 a) (ap (λ (a : ℕ). a % 2) (shr-shr y n i) ∙ q (n + i) (λ k l. ap (bit_at word) (omega arith) ∙ h (n + k) (omega arith)))
 
-list8 : (a b c d e f g h a' b' c' d' e' f' g' h' : ℕ) → a ≡ a' → b ≡ b' → c ≡ c' → d ≡ d' → e ≡ e' → f ≡ f' → g ≡ g' → h ≡ h'
+pub list8 : (a b c d e f g h a' b' c' d' e' f' g' h' : ℕ) → a ≡ a' → b ≡ b' → c ≡ c' → d ≡ d' → e ≡ e' → f ≡ f' → g ≡ g' → h ≡ h'
     → a ∷ b ∷ c ∷ d ∷ e ∷ f ∷ g ∷ h ∷ [] ≡ a' ∷ b' ∷ c' ∷ d' ∷ e' ∷ f' ∷ g' ∷ h' ∷ []
 list8 a b c d e f g h a' b' c' d' e' f' g' h' p q r s t u v w = λ i. p i ∷ q i ∷ r i ∷ s i ∷ t i ∷ u i ∷ v i ∷ w i ∷ []
 

@@ -1,6 +1,6 @@
 ghost use Rattle.std.specs.Prelude.{◌≡◌, ℕ, ◌<◌, ◌≤◌, ◌+◌, ◌*◌, ◌-◌, ◌%◌, true, false, length, IfSome, IfNone};
 ghost use Rattle.cbm_track.specs.Circle.{bits_of, bit, ten_ones};
-ghost use Rattle.cbm_track.specs.Words.{number, eight, Marks, IsWindow};
+ghost use Rattle.cbm_track.specs.Words.{number, round_byte, eight, Marks, IsWindow};
 
 use crate::bits::rounded;
 
@@ -22,22 +22,37 @@ fn word_inside(track: &[u8], i: usize) -> u64
     ])
 }
 
+/// The byte at a place of a circle of bytes.
+fn byte_around(track: &[u8], place: usize) -> u8
+    requires some { 0 < length track.now }
+    requires size { length track.now ≤ 7928 }
+    ensures { result ≡ round_byte track.now place }
+{
+    let count = track.len();
+    if place < count {
+        track[place]
+    } else if place - count < count {
+        track[place - count]
+    } else {
+        track[place % count]
+    }
+}
+
 /// Eight bytes as a number, round and round.
 fn word_around(track: &[u8], i: usize) -> u64
     requires place { i < length track.now }
     requires size { length track.now ≤ 7928 }
     ensures { result ≡ number 0 (eight track.now i) }
 {
-    let n = track.len();
     u64::from_be_bytes([
-        track[i % n],
-        track[(i + 1) % n],
-        track[(i + 2) % n],
-        track[(i + 3) % n],
-        track[(i + 4) % n],
-        track[(i + 5) % n],
-        track[(i + 6) % n],
-        track[(i + 7) % n],
+        byte_around(track, i),
+        byte_around(track, i + 1),
+        byte_around(track, i + 2),
+        byte_around(track, i + 3),
+        byte_around(track, i + 4),
+        byte_around(track, i + 5),
+        byte_around(track, i + 6),
+        byte_around(track, i + 7),
     ])
 }
 

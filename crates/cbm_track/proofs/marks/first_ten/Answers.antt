@@ -15,9 +15,12 @@ returns-in_default-clause-value c = sym (first_some (λ k. ten_ones (bits_of c.a
 
 pub loop-far-preserved : goal.loop-far-preserved
 loop-far-preserved c = let s = c.in-Some.ensures.some in record {
-  at = step_round c.args.place c.loop-far.far c.loop-far.at (8 * length c.args.track.now) c.rounded-at.result (omega arith) c.loop-far.invariant.at c.in-Some.step c.rounded-at.ensures.value;
+  at = step_round c.args.place c.loop-far.far c.loop-far.at (8 * length c.args.track.now) c.rounded-at-in-loop-far.result (omega arith) c.loop-far.invariant.at c.in-Some.step c.rounded-at-in-loop-far.ensures.value;
   none = ten_more c.args.track.now c.args.place c.loop-far.far c.loop-far.at c.in-Some.step (omega arith) c.loop-far.invariant.at c.loop-far.invariant.none s.2;
 }
 
 pub returns-clause-value : goal.returns-clause-value
 returns-clause-value c = sym (first_none (λ k. ten_ones (bits_of c.args.track.now) (c.args.place + k)) c.args.count (λ k l. c.loop-far.invariant.none k (omega arith)))
+
+pub loop-far-init : goal.loop-far-init
+loop-far-init c = record { at = c.rounded-at.ensures.value; none = c.requires.none }
