@@ -1,5 +1,5 @@
-use Rattle.std.proofs.Common.{◌≡◌, ◌≢◌, ◌⊎◌, ℕ, zero, suc, ◌+◌, ◌*◌, ◌-◌, ◌<◌, ◌≤◌, List, [], ◌∷◌, ◌++◌, length, get_or, take, drop, replicate, refl, sym, ap, subst, ◌∙◌, arith, inl, inr, Bool, true, false, Option, Some, None, Ok}
-use Rattle.std.specs.Prelude.{is_some, unwrap_or, ◌==◌}
+use Rattle.std.proofs.Common.{◌≡◌, ◌≢◌, ℕ, zero, suc, ◌+◌, ◌*◌, ◌-◌, ◌<◌, List, [], ◌∷◌, ◌++◌, length, get_or, take, drop, replicate, refl, sym, ap, ◌∙◌, arith, inl, inr, Bool, Option, None, Ok}
+use Rattle.std.specs.Prelude.{is_some, unwrap_or}
 use Rattle.std.proofs.lemmas.List.{get_or_append_left, get_or-append-add, length-append, length-take-le, length-drop}
 use Rattle.std.proofs.lemmas.Bool.{cases_eq, cases_Bool, eq-eqb, ne_eqb, cond-true, cond-false}
 use mathlib.Core.Path.{fun_ext}
@@ -9,15 +9,14 @@ use Rattle.cbm_track.specs.Circle.{bits_of}
 use Rattle.cbm_track.proofs.Bytes.{length-bits_of}
 use Rattle.cbm_sector.specs.Answer.{shown, id_shown}
 use Rattle.cbm_sector.specs.Decoding.{IsBytes}
-use Rattle.cbm_sector.specs.Fresh.{fresh, bytes_on}
+use Rattle.cbm_sector.specs.Fresh.{fresh}
 use Rattle.cbm_sector.proofs.Formatted.{length-fresh}
 use Rattle.cbm_sector.proofs.Blank.{fresh_shown, fresh_id, zeros_shown}
 use Rattle.cbm_g64.specs.File.{offset, size, fault_of, track_in, tracks_in}
 use Rattle.cbm_g64.specs.NewFile.{new_file}
 use Rattle.cbm_g64.specs.Tracks.{bits_at, id_for, content_of, IsChanged, AreFresh}
 use Rattle.cbm_g64.specs.Image.{IsHeld}
-use Rattle.cbm_g64.proofs.Sound.{Passes, passes, no_fault, Stands, stands}
-use Rattle.cbm_g64.proofs.Imaging.{none_is, held_passes}
+use Rattle.cbm_g64.proofs.Sound.{passes, no_fault, stands}
 use Rattle.cbm_g64.proofs.NewFiles.{new_passes, new_offset, new_size}
 use Rattle.cbm_g64.proofs.Contents.{content_on, content_off, has_parts, on_a_track}
 

@@ -1,6 +1,6 @@
 ghost use Rattle.std.specs.Prelude.{◌≡◌, ℕ, ◌<◌, ◌≤◌, ◌-◌, List, true, Ok, Err, Some, length, IfOk, IfErr, OnOk, OnErr, IfSome};
 ghost use Rattle.cbm_medium.specs.Content.{blank, written, header_fault};
-ghost use Rattle.cbm_g64.specs.Tracks.{AreFresh, content_of, id_for, IsChanged};
+ghost use Rattle.cbm_g64.specs.Tracks.{AreFresh, bits_at, content_of, id_for, IsChanged, IsPut};
 ghost use Rattle.cbm_g64.specs.File.{is_inside, is_sized, track_in, tracks_in, greatest, IsGood};
 ghost use Rattle.cbm_track.specs.Circle.{bits_of};
 
@@ -80,6 +80,7 @@ pub(crate) fn write_on(tracks: &mut [Track], at: Address, bytes: &[u8; 256]) -> 
     ensures refused { IfSome (header_fault (content_of tracks.old at)) (λ code. result ≡ Err (record { code = code; at = at })) }
     ensures cause { IfErr result (λ fault. (header_fault (content_of tracks.old at) ≡ Some fault.code) × (fault.at ≡ at)) }
     ensures changed { IsChanged tracks.old tracks.new (at.track - 1) }
+    ensures block { OnOk result (IsPut tracks.old tracks.new at bytes.now) }
 {
     let id = id_on(tracks);
     let track = &mut tracks[at.track() as usize - 1];

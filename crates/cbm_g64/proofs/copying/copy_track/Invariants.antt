@@ -1,4 +1,4 @@
-use Rattle.std.proofs.Common.{◌≡◌, ◌≢◌, ℕ, ◌<◌, ◌≤◌, Ok, replicate}
+use Rattle.std.proofs.Common.{◌≡◌, ◌≢◌, ◌<◌, ◌≤◌, Ok, replicate}
 use Rattle.cbm_medium.specs.Place.{Place}
 use Rattle.cbm_g64.specs.NewFile.{new_file}
 use Rattle.cbm_g64.specs.Tracks.{content_of, id_for, or_zeros}

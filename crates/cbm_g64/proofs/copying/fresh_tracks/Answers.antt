@@ -1,5 +1,4 @@
-use Rattle.std.proofs.Common.{arith, ap, ℕ}
-use Rattle.cbm_medium.specs.Place.{Place}
+use Rattle.std.proofs.Common.{arith, ap}
 use Rattle.cbm_medium.specs.Content.{Content}
 use Rattle.cbm_g64.proofs.Held.{held_fresh, fresh_content, fresh_id_for}
 use Rattle.cbm_g64.proofs.copying.fresh_tracks.Goals as goal
