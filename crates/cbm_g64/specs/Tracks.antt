@@ -1,8 +1,8 @@
 use Rattle.std.specs.Prelude.{ℕ, ◌≡◌, ◌≢◌, ◌<◌, ◌≤◌, ◌+◌, ◌-◌, List, [], ◌∷◌, Bool, length, if◌then◌else◌, Ok, Err, replicate, slice_index_or, unwrap_or}
-use Rattle.cbm_medium.specs.Place.{Place, has}
+use Rattle.cbm_medium.specs.Place.{Place, Has, has}
 use Rattle.cbm_medium.specs.Content.{Cell, Content}
 use Rattle.cbm_sector.specs.Answer.{shown, id_shown, block_of, block_code, IsOverwritten}
-use Rattle.cbm_sector.specs.Fresh.{fresh}
+use Rattle.cbm_sector.specs.Fresh.{block_place, fresh}
 use Rattle.cbm_g64.specs.File.{offset}
 use Rattle.cbm_g64.specs.NewFile.{base_of}
 
@@ -52,6 +52,10 @@ failures_of d = 0
 -- each track is as formatting writes it
 abbrev pub AreFresh : List ℕ → List (List Bool) → Type 0
 AreFresh id tracks = (i : ℕ) → i < 35 → slice_index_or tracks i [] ≡ fresh (i + 1) id
+
+-- each sector's data block stands where formatting puts it
+pub record AreLaid (tracks : List (List Bool)) : Type 0 where
+  pub blocks : (p : Place) → Has 35 p → block_of (bits_at tracks p.track) (id_for tracks) p ≡ Ok (block_place p.sector)
 
 -- a cell, or zeros where it holds a fault
 abbrev pub or_zeros : Cell → Cell
