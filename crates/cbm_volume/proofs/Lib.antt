@@ -16,3 +16,6 @@ pub mod Writers
 pub mod Written
 pub mod Lengths
 pub mod Listing
+pub mod Marks
+pub mod Claiming
+pub mod FirstBad

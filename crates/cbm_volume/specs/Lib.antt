@@ -3,3 +3,5 @@ pub mod Layouts
 pub mod Writers
 pub mod Reading
 pub use Rattle.cbm_file.specs.Files
+pub mod Marks
+pub mod Unsound

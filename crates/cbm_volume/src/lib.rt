@@ -1,7 +1,12 @@
 //! What the sectors of a disk mean: a disk of named files.
 #![tactic(auto)]
 
+mod claims;
+mod headers;
 mod label;
+mod map_check;
+mod sector_set;
+mod unsound;
 mod volume;
 
 pub use cbm_chain::ChainReader;
@@ -9,4 +14,5 @@ pub use cbm_directory::{Entry, Slots, Wanted};
 pub use cbm_file::FileType;
 pub use cbm_medium::{Geometry, Medium, Trouble};
 pub use label::Label;
+pub use unsound::Unsound;
 pub use volume::Volume;

@@ -1,0 +1,96 @@
+-- What makes a disk unsound, by its number; and the walk along the sectors of a part of it, each of which is claimed once.
+use Rattle.std.specs.Prelude.{ℕ, ◌<◌, ◌≤◌, ◌⊎◌, ◌≡◌, ◌≢◌, ◌==◌, ◌&&◌, ◌||◌, nat_lt, not, List, [], ◌∷◌, Bool, true, false, if◌then◌else◌, Option, Some, None, Ok, Err, IsOk}
+use Rattle.cbm_medium.specs.Place.{Place, has, Has, sectors_on, directory_head}
+use Rattle.cbm_medium.specs.Content.{Cell, Content, is_header_fault}
+use Rattle.cbm_medium.specs.Links.{bytes_at, link}
+use Rattle.cbm_bam.specs.Map.{map_of, is_free_in, with_bit, tally, number, count_in, at}
+use Rattle.cbm_volume.specs.Layouts.{IsWritable}
+use Rattle.cbm_volume.specs.declared.unsound.Part.{Part}
+use Rattle.cbm_volume.specs.declared.unsound.Part.TheVariants.{OfDirectory, OfFile}
+use Rattle.cbm_volume.specs.declared.unsound.Unsound.{Unsound}
+
+abbrev pub reads : Cell → Bool
+reads (Ok bytes) = true
+reads (Err code) = false
+
+-- the directory lies on track 18, the files off it
+abbrev pub is_inside : Part → ℕ → Place → Bool
+is_inside OfDirectory tracks p = has tracks p && (p.track == 18)
+is_inside OfFile tracks p = has tracks p && not (p.track == 18)
+
+-- the number of a link to elsewhere: 6 of the directory, 4 of a file
+abbrev pub outside_number : Part → ℕ
+outside_number OfDirectory = 6
+outside_number OfFile = 4
+
+-- What is wrong with the next sector of a part, where these were claimed before, by the number of the first thing that is:
+-- it is no sector for this part, it was claimed before (3), it doesn't read (9), or the map has it as free (2).
+abbrev pub wrong_at : Part → ℕ → Content → (Place → Bool) → Place → Option ℕ
+wrong_at part tracks content claimed p =
+    if not (is_inside part tracks p) then Some (outside_number part)
+    else if claimed p then Some 3
+    else if not (reads (content p)) then Some 9
+    else if is_free_in (map_of content) p then Some 2
+    else None
+
+-- From a these sectors are the whole chain, nothing is wrong with any of them, and they are claimed.
+abbrev pub ClaimsChain : Part → ℕ → Content → (Place → Bool) → Place → List Place → (Place → Bool) → Type 0
+ClaimsChain part tracks content claimed a [] after = (a.track ≡ 0) × (after ≡ claimed)
+ClaimsChain part tracks content claimed a (b ∷ rest) after =
+    (a ≡ b) × (wrong_at part tracks content claimed b ≡ None) × ClaimsChain part tracks content (with_bit claimed b true) (link (bytes_at content b)) rest after
+
+-- the fault of a place
+abbrev pub fault_at : ℕ → Place → Unsound
+fault_at number p = record { number = number; track = p.track; sector = p.sector }
+
+-- From a these sectors are claimed, and the next one has this fault.
+abbrev pub MeetsFault : Part → ℕ → Content → (Place → Bool) → Place → List Place → Unsound → Type 0
+MeetsFault part tracks content claimed a [] u = (a.track ≢ 0) × (wrong_at part tracks content claimed a ≡ Some u.number) × (u ≡ fault_at u.number a)
+MeetsFault part tracks content claimed a (b ∷ rest) u =
+    (a ≡ b) × (wrong_at part tracks content claimed b ≡ None) × MeetsFault part tracks content (with_bit claimed b true) (link (bytes_at content b)) rest u
+
+-- how many sectors for this part are still to be claimed
+unfoldable pub unclaimed : Part → (Place → Bool) → ℕ
+unclaimed OfDirectory claimed = tally (λ p. not (claimed p)) 18 (sectors_on 18)
+unclaimed OfFile claimed = number 40 (λ p. not (claimed p))
+
+-- ---- headers
+
+abbrev pub is_bad_header : Cell → Bool
+is_bad_header (Ok bytes) = false
+is_bad_header (Err code) = is_header_fault code
+
+-- addresses are ordered by their tracks, and by their sectors on one track
+abbrev pub comes_before : Place → Place → Bool
+comes_before q p = nat_lt q.track p.track || ((q.track == p.track) && nat_lt q.sector p.sector)
+
+-- the first sector of the disk that has a fault of its header
+pub record IsFirstBad (tracks : ℕ) (content : Content) (p : Place) : Type 0 where
+  pub has : Has tracks p
+  pub bad : is_bad_header (content p) ≡ true
+  pub first : (q : Place) → Has tracks q → comes_before q p ≡ true → IsWritable (content q)
+
+-- ---- the map
+
+abbrev pub is_counted_on : ℕ → List ℕ → Bool
+is_counted_on t map = count_in map t == tally (is_free_in map) t (sectors_on t)
+
+-- 18/0 reads, isn't free, and each count is the number of its track's free bits
+pub record IsMapRight (tracks : ℕ) (content : Content) : Type 0 where
+  pub reads : IsOk (content directory_head)
+  pub taken : is_free_in (map_of content) directory_head ≡ false
+  pub counted : (t : ℕ) → 0 < t → t ≤ tracks → is_counted_on t (map_of content) ≡ true
+
+-- the first track whose count isn't the number of its free bits
+pub record IsFirstMiscount (tracks : ℕ) (map : List ℕ) (t : ℕ) : Type 0 where
+  pub some : 0 < t
+  pub few : t ≤ tracks
+  pub miscounted : is_counted_on t map ≡ false
+  pub first : (u : ℕ) → 0 < u → u < t → is_counted_on u map ≡ true
+
+-- What is wrong with the map: 18/0 doesn't read (9), it is free in itself (2), or a count is wrong (1).
+abbrev pub IsMapFault : ℕ → Content → Unsound → Type 0
+IsMapFault tracks content u =
+    ((u ≡ fault_at 9 directory_head) × (reads (content directory_head) ≡ false))
+    ⊎ (((u ≡ fault_at 2 directory_head) × IsOk (content directory_head) × (is_free_in (map_of content) directory_head ≡ true))
+    ⊎ ((t : ℕ) × (u ≡ fault_at 1 (at t 0)) × IsFirstMiscount tracks (map_of content) t))
