@@ -19,3 +19,4 @@ pub mod Listing
 pub mod Marks
 pub mod Claiming
 pub mod FirstBad
+pub mod SidesListed

@@ -1,9 +1,10 @@
 -- What makes a disk unsound, by its number; and the walk along the sectors of a part of it, each of which is claimed once.
-use Rattle.std.specs.Prelude.{ℕ, ◌<◌, ◌≤◌, ◌⊎◌, ◌≡◌, ◌≢◌, ◌==◌, ◌&&◌, ◌||◌, nat_lt, not, List, [], ◌∷◌, Bool, true, false, if◌then◌else◌, Option, Some, None, Ok, Err, IsOk}
+use Rattle.std.specs.Prelude.{ℕ, ◌<◌, ◌≤◌, ◌⊎◌, ◌≡◌, ◌≢◌, ◌==◌, ◌&&◌, ◌||◌, nat_lt, not, List, [], ◌∷◌, drop, Bool, true, false, if◌then◌else◌, Option, Some, None, Ok, Err, IsOk}
 use Rattle.cbm_medium.specs.Place.{Place, has, Has, sectors_on, directory_head}
 use Rattle.cbm_medium.specs.Content.{Cell, Content, is_header_fault}
 use Rattle.cbm_medium.specs.Links.{bytes_at, link}
 use Rattle.cbm_bam.specs.Map.{map_of, is_free_in, with_bit, tally, number, count_in, at}
+use Rattle.cbm_relfile.specs.SideSectors.{sides_listed}
 use Rattle.cbm_volume.specs.Layouts.{IsWritable}
 use Rattle.cbm_volume.specs.declared.unsound.Part.{Part}
 use Rattle.cbm_volume.specs.declared.unsound.Part.TheVariants.{OfDirectory, OfFile}
@@ -94,3 +95,25 @@ IsMapFault tracks content u =
     ((u ≡ fault_at 9 directory_head) × (reads (content directory_head) ≡ false))
     ⊎ (((u ≡ fault_at 2 directory_head) × IsOk (content directory_head) × (is_free_in (map_of content) directory_head ≡ true))
     ⊎ ((t : ℕ) × (u ≡ fault_at 1 (at t 0)) × IsFirstMiscount tracks (map_of content) t))
+
+-- ---- relative files
+
+-- Nothing is wrong with any of these sectors, in their order, and they are claimed.
+abbrev pub ClaimsEach : Part → ℕ → Content → (Place → Bool) → List Place → (Place → Bool) → Type 0
+ClaimsEach part tracks content claimed [] after = after ≡ claimed
+ClaimsEach part tracks content claimed (p ∷ rest) after = (wrong_at part tracks content claimed p ≡ None) × ClaimsEach part tracks content (with_bit claimed p true) rest after
+
+-- One of these sectors has this fault, and those before it are claimed.
+abbrev pub MeetsAmong : Part → ℕ → Content → (Place → Bool) → List Place → Unsound → Type 0
+MeetsAmong part tracks content claimed [] u = ⊥
+MeetsAmong part tracks content claimed (p ∷ rest) u =
+    ((wrong_at part tracks content claimed p ≡ Some u.number) × (u ≡ fault_at u.number p))
+    ⊎ ((wrong_at part tracks content claimed p ≡ None) × MeetsAmong part tracks content (with_bit claimed p true) rest u)
+
+-- the side sectors of a relative file that a sector lists behind the first
+abbrev pub behind_first : List ℕ → List Place
+behind_first bytes = drop 1 (sides_listed bytes)
+
+-- the side sectors of a relative file: the first, and those that it lists behind itself
+abbrev pub sides_from : Content → Place → List Place
+sides_from content first = first ∷ behind_first (bytes_at content first)

@@ -6,6 +6,7 @@ mod headers;
 mod label;
 mod map_check;
 mod sector_set;
+mod side_check;
 mod unsound;
 mod volume;
 

@@ -1,0 +1,60 @@
+-- The places that a side sector names, one by one.
+use Rattle.std.proofs.Common.{◌≡◌, ◌≢◌, ℕ, suc, ◌+◌, ◌-◌, ◌*◌, ◌<◌, ◌≤◌, List, [], ◌∷◌, get_or, drop, Bool, true, Some, None, Ok, refl, sym, ap, subst, ◌∙◌, arith, inl, inr}
+use Rattle.std.specs.Prelude.{if◌then◌else◌}
+use Rattle.std.proofs.lemmas.List.{get_or-drop, drop-drop}
+use Rattle.std.proofs.lemmas.Bool.{eq-eqb, ne_eqb}
+use Rattle.cbm_medium.specs.Place.{Place}
+use Rattle.cbm_medium.specs.Content.{Content}
+use Rattle.cbm_medium.specs.Links.{place_in}
+use Rattle.cbm_relfile.specs.SideSectors.{named_in}
+use Rattle.cbm_bam.specs.Map.{with_bit}
+use Rattle.cbm_volume.specs.Unsound.{wrong_at, fault_at, ClaimsEach, MeetsAmong, behind_first}
+use Rattle.cbm_volume.specs.declared.unsound.Part.{Part}
+use Rattle.cbm_volume.specs.declared.unsound.Unsound.{Unsound}
+
+at_drop : (k i : ℕ) (bytes : List ℕ) → get_or (drop k bytes) i 0 ≡ get_or bytes (k + i) 0
+at_drop k i bytes = get_or-drop k bytes i 0
+
+pub named_none : (m k : ℕ) (bytes : List ℕ) → get_or bytes k 0 ≡ 0 → named_in (suc m) (drop k bytes) ≡ []
+named_none m k bytes e =
+    let z : get_or (drop k bytes) 0 0 ≡ 0 = at_drop k 0 bytes ∙ ap (λ (i : ℕ). get_or bytes i 0) (omega arith) ∙ e in
+    ap (λ (b : Bool). if b then [] else place_in (drop k bytes) 0 ∷ named_in m (drop 2 (drop k bytes))) (eq-eqb (get_or (drop k bytes) 0 0) 0 z)
+
+pub named_some : (m k : ℕ) (bytes : List ℕ) (p : Place) → p ≡ record { track = get_or bytes k 0; sector = get_or bytes (k + 1) 0 } → p.track ≢ 0
+    → named_in (suc m) (drop k bytes) ≡ p ∷ named_in m (drop (k + 2) bytes)
+named_some m k bytes p is ne =
+    let t : get_or (drop k bytes) 0 0 ≡ p.track = at_drop k 0 bytes ∙ ap (λ (i : ℕ). get_or bytes i 0) (omega arith) ∙ sym (ap (λ (q : Place). q.track) is) in
+    let s : get_or (drop k bytes) 1 0 ≡ p.sector = at_drop k 1 bytes ∙ sym (ap (λ (q : Place). q.sector) is) in
+    let here : place_in (drop k bytes) 0 ≡ p = λ i. record { track = t i; sector = s i } in
+    let rest : drop 2 (drop k bytes) ≡ drop (k + 2) bytes = drop-drop 2 k bytes in
+    ap (λ (b : Bool). if b then [] else place_in (drop k bytes) 0 ∷ named_in m (drop 2 (drop k bytes))) (ne_eqb (get_or (drop k bytes) 0 0) 0 (λ z. ne (sym t ∙ z)))
+    ∙ (λ i. here i ∷ named_in m (rest i))
+
+-- the same by the number of the place
+pub sides_none : (n : ℕ) (bytes : List ℕ) → n < 6 → get_or bytes (4 + 2 * n) 0 ≡ 0 → named_in (6 - n) (drop (4 + 2 * n) bytes) ≡ []
+sides_none n bytes l e =
+    let more : 6 - n ≡ suc (6 - (n + 1)) = omega arith in
+    ap (λ (m : ℕ). named_in m (drop (4 + 2 * n) bytes)) more ∙ named_none (6 - (n + 1)) (4 + 2 * n) bytes e
+
+pub sides_some : (n : ℕ) (bytes : List ℕ) (p : Place) → n < 6 → p ≡ record { track = get_or bytes (4 + 2 * n) 0; sector = get_or bytes (4 + 2 * n + 1) 0 } → p.track ≢ 0
+    → named_in (6 - n) (drop (4 + 2 * n) bytes) ≡ p ∷ named_in (6 - (n + 1)) (drop (4 + 2 * (n + 1)) bytes)
+sides_some n bytes p l is ne =
+    let more : 6 - n ≡ suc (6 - (n + 1)) = omega arith in
+    let next : 4 + 2 * n + 2 ≡ 4 + 2 * (n + 1) = omega arith in
+    ap (λ (m : ℕ). named_in m (drop (4 + 2 * n) bytes)) more ∙ named_some (6 - (n + 1)) (4 + 2 * n) bytes p is ne
+    ∙ ap (λ (k : ℕ). p ∷ named_in (6 - (n + 1)) (drop k bytes)) next
+
+-- one sector more is claimed
+pub each_step : (part : Part) (tracks : ℕ) (content : Content) (claimed claimed2 after : Place → Bool) (p : Place) (whole rest : List Place) → whole ≡ p ∷ rest → wrong_at part tracks content claimed p ≡ None
+    → claimed2 ≡ with_bit claimed p true → ClaimsEach part tracks content claimed2 rest after → ClaimsEach part tracks content claimed whole after
+each_step part tracks content claimed claimed2 after p whole rest e n m w =
+    subst (λ (xs : List Place). ClaimsEach part tracks content claimed xs after) (sym e) (n, subst (λ (c : Place → Bool). ClaimsEach part tracks content c rest after) m w)
+
+pub among_step : (part : Part) (tracks : ℕ) (content : Content) (claimed claimed2 : Place → Bool) (u : Unsound) (p : Place) (whole rest : List Place) → whole ≡ p ∷ rest → wrong_at part tracks content claimed p ≡ None
+    → claimed2 ≡ with_bit claimed p true → MeetsAmong part tracks content claimed2 rest u → MeetsAmong part tracks content claimed whole u
+among_step part tracks content claimed claimed2 u p whole rest e n m w =
+    subst (λ (xs : List Place). MeetsAmong part tracks content claimed xs u) (sym e) (inr (n, subst (λ (c : Place → Bool). MeetsAmong part tracks content c rest u) m w))
+
+pub among_here : (part : Part) (tracks : ℕ) (content : Content) (claimed : Place → Bool) (u : Unsound) (p : Place) (whole rest : List Place) → whole ≡ p ∷ rest → wrong_at part tracks content claimed p ≡ Some u.number
+    → u ≡ fault_at u.number p → MeetsAmong part tracks content claimed whole u
+among_here part tracks content claimed u p whole rest e n w = subst (λ (xs : List Place). MeetsAmong part tracks content claimed xs u) (sym e) (inl (n, w))
