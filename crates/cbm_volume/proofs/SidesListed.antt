@@ -1,6 +1,6 @@
 -- The places that a side sector names, one by one.
-use Rattle.std.proofs.Common.{◌≡◌, ◌≢◌, ℕ, suc, ◌+◌, ◌-◌, ◌*◌, ◌<◌, ◌≤◌, List, [], ◌∷◌, get_or, drop, Bool, true, Some, None, Ok, refl, sym, ap, subst, ◌∙◌, arith, inl, inr}
-use Rattle.std.specs.Prelude.{if◌then◌else◌}
+use Rattle.std.proofs.Common.{◌≡◌, ◌≢◌, ℕ, suc, ◌+◌, ◌-◌, ◌*◌, ◌<◌, ◌≤◌, List, [], ◌∷◌, get_or, drop, Bool, true, Option, Some, None, Ok, refl, sym, ap, subst, ◌∙◌, arith, inl, inr}
+use Rattle.std.specs.Prelude.{if◌then◌else◌, ◌&&◌, ◌==◌}
 use Rattle.std.proofs.lemmas.List.{get_or-drop, drop-drop}
 use Rattle.std.proofs.lemmas.Bool.{eq-eqb, ne_eqb}
 use Rattle.cbm_medium.specs.Place.{Place}
@@ -8,7 +8,7 @@ use Rattle.cbm_medium.specs.Content.{Content}
 use Rattle.cbm_medium.specs.Links.{place_in}
 use Rattle.cbm_relfile.specs.SideSectors.{named_in}
 use Rattle.cbm_bam.specs.Map.{with_bit}
-use Rattle.cbm_volume.specs.Unsound.{wrong_at, fault_at, ClaimsEach, MeetsAmong, behind_first}
+use Rattle.cbm_volume.specs.Unsound.{wrong_at, fault_at, ClaimsEach, MeetsAmong, behind_first, step_along, along, listed_at, listed_blocks, side_along}
 use Rattle.cbm_volume.specs.declared.unsound.Part.{Part}
 use Rattle.cbm_volume.specs.declared.unsound.Unsound.{Unsound}
 
@@ -30,19 +30,41 @@ named_some m k bytes p is ne =
     ap (λ (b : Bool). if b then [] else place_in (drop k bytes) 0 ∷ named_in m (drop 2 (drop k bytes))) (ne_eqb (get_or (drop k bytes) 0 0) 0 (λ z. ne (sym t ∙ z)))
     ∙ (λ i. here i ∷ named_in m (rest i))
 
--- the same by the number of the place
+-- the same by the number of the place, in a list of so many from a byte on
+pub list_none : (count base n : ℕ) (bytes : List ℕ) → n < count → get_or bytes (base + 2 * n) 0 ≡ 0 → named_in (count - n) (drop (base + 2 * n) bytes) ≡ []
+list_none count base n bytes l e =
+    let more : count - n ≡ suc (count - (n + 1)) = omega arith in
+    ap (λ (m : ℕ). named_in m (drop (base + 2 * n) bytes)) more ∙ named_none (count - (n + 1)) (base + 2 * n) bytes e
+
+pub list_some : (count base n : ℕ) (bytes : List ℕ) (p : Place) → n < count → p ≡ record { track = get_or bytes (base + 2 * n) 0; sector = get_or bytes (base + 2 * n + 1) 0 } → p.track ≢ 0
+    → named_in (count - n) (drop (base + 2 * n) bytes) ≡ p ∷ named_in (count - (n + 1)) (drop (base + 2 * (n + 1)) bytes)
+list_some count base n bytes p l is ne =
+    let more : count - n ≡ suc (count - (n + 1)) = omega arith in
+    let next : base + 2 * n + 2 ≡ base + 2 * (n + 1) = omega arith in
+    ap (λ (m : ℕ). named_in m (drop (base + 2 * n) bytes)) more ∙ named_some (count - (n + 1)) (base + 2 * n) bytes p is ne
+    ∙ ap (λ (k : ℕ). p ∷ named_in (count - (n + 1)) (drop k bytes)) next
+
 pub sides_none : (n : ℕ) (bytes : List ℕ) → n < 6 → get_or bytes (4 + 2 * n) 0 ≡ 0 → named_in (6 - n) (drop (4 + 2 * n) bytes) ≡ []
-sides_none n bytes l e =
-    let more : 6 - n ≡ suc (6 - (n + 1)) = omega arith in
-    ap (λ (m : ℕ). named_in m (drop (4 + 2 * n) bytes)) more ∙ named_none (6 - (n + 1)) (4 + 2 * n) bytes e
+sides_none n bytes l e = list_none 6 4 n bytes l e
 
 pub sides_some : (n : ℕ) (bytes : List ℕ) (p : Place) → n < 6 → p ≡ record { track = get_or bytes (4 + 2 * n) 0; sector = get_or bytes (4 + 2 * n + 1) 0 } → p.track ≢ 0
     → named_in (6 - n) (drop (4 + 2 * n) bytes) ≡ p ∷ named_in (6 - (n + 1)) (drop (4 + 2 * (n + 1)) bytes)
-sides_some n bytes p l is ne =
-    let more : 6 - n ≡ suc (6 - (n + 1)) = omega arith in
-    let next : 4 + 2 * n + 2 ≡ 4 + 2 * (n + 1) = omega arith in
-    ap (λ (m : ℕ). named_in m (drop (4 + 2 * n) bytes)) more ∙ named_some (6 - (n + 1)) (4 + 2 * n) bytes p is ne
-    ∙ ap (λ (k : ℕ). p ∷ named_in (6 - (n + 1)) (drop k bytes)) next
+sides_some n bytes p l is ne = list_some 6 4 n bytes p l is ne
+
+pub listed_none : (n : ℕ) (side : List ℕ) → n < 120 → get_or side (16 + 2 * n) 0 ≡ 0 → listed_at n side ≡ []
+unfolding listed_at
+listed_none n side l e = list_none 120 16 n side l e
+
+pub listed_some : (n : ℕ) (side : List ℕ) (p : Place) → n < 120 → p ≡ record { track = get_or side (16 + 2 * n) 0; sector = get_or side (16 + 2 * n + 1) 0 } → p.track ≢ 0
+    → listed_at n side ≡ p ∷ listed_at (n + 1) side
+unfolding listed_at
+listed_some n side p l is ne = list_some 120 16 n side p l is ne
+
+pub listed_end : (n : ℕ) (side : List ℕ) → 120 ≤ n → listed_at n side ≡ []
+unfolding listed_at
+listed_end n side l =
+    let end : 120 - n ≡ 0 = omega arith in
+    ap (λ (m : ℕ). named_in m (drop (16 + 2 * n) side)) end
 
 -- one sector more is claimed
 pub each_step : (part : Part) (tracks : ℕ) (content : Content) (claimed claimed2 after : Place → Bool) (p : Place) (whole rest : List Place) → whole ≡ p ∷ rest → wrong_at part tracks content claimed p ≡ None
@@ -58,3 +80,18 @@ among_step part tracks content claimed claimed2 u p whole rest e n m w =
 pub among_here : (part : Part) (tracks : ℕ) (content : Content) (claimed : Place → Bool) (u : Unsound) (p : Place) (whole rest : List Place) → whole ≡ p ∷ rest → wrong_at part tracks content claimed p ≡ Some u.number
     → u ≡ fault_at u.number p → MeetsAmong part tracks content claimed whole u
 among_here part tracks content claimed u p whole rest e n w = subst (λ (xs : List Place). MeetsAmong part tracks content claimed xs u) (sym e) (inl (n, w))
+
+-- a side sector with its number and length is as its list is
+pub side_right : (tracks : ℕ) (content : Content) (width n : ℕ) (side : List ℕ) (a : Place) → get_or side 2 0 ≡ n → get_or side 3 0 ≡ width → side_along tracks content width n side a ≡ along tracks content (listed_blocks side) a
+side_right tracks content width n side a e f =
+    ap (λ (b : Bool). if b && (get_or side 3 0 == width) then along tracks content (listed_blocks side) a else None) (eq-eqb (get_or side 2 0) n e)
+    ∙ ap (λ (b : Bool). if b then along tracks content (listed_blocks side) a else None) (eq-eqb (get_or side 3 0) width f)
+
+-- one block more along the chain
+pub along_some : (tracks : ℕ) (content : Content) (p a b : Place) (whole rest : List Place) → whole ≡ p ∷ rest → step_along tracks content p a ≡ Some b → along tracks content whole a ≡ along tracks content rest b
+along_some tracks content p a b whole rest e h = ap (λ (xs : List Place). along tracks content xs a) e
+    ∙ ap (λ (o : Option Place). elim o [ Some q ↦ along tracks content rest q | None ↦ None ]) h
+
+pub along_none : (tracks : ℕ) (content : Content) (p a : Place) (whole rest : List Place) → whole ≡ p ∷ rest → step_along tracks content p a ≡ None → along tracks content whole a ≡ None
+along_none tracks content p a whole rest e h = ap (λ (xs : List Place). along tracks content xs a) e
+    ∙ ap (λ (o : Option Place). elim o [ Some q ↦ along tracks content rest q | None ↦ None ]) h

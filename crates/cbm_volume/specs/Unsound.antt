@@ -1,10 +1,10 @@
 -- What makes a disk unsound, by its number; and the walk along the sectors of a part of it, each of which is claimed once.
-use Rattle.std.specs.Prelude.{ℕ, ◌<◌, ◌≤◌, ◌⊎◌, ◌≡◌, ◌≢◌, ◌==◌, ◌&&◌, ◌||◌, nat_lt, not, List, [], ◌∷◌, drop, Bool, true, false, if◌then◌else◌, Option, Some, None, Ok, Err, IsOk}
-use Rattle.cbm_medium.specs.Place.{Place, has, Has, sectors_on, directory_head}
+use Rattle.std.specs.Prelude.{ℕ, ◌+◌, ◌-◌, ◌*◌, ◌<◌, ◌≤◌, ◌⊎◌, ◌≡◌, ◌≢◌, ◌==◌, ◌&&◌, ◌||◌, nat_lt, not, List, [], ◌∷◌, drop, slice_index, Bool, true, false, if◌then◌else◌, Option, Some, None, Ok, Err, IsOk}
+use Rattle.cbm_medium.specs.Place.{Place, is_place, has, Has, sectors_on, directory_head}
 use Rattle.cbm_medium.specs.Content.{Cell, Content, is_header_fault}
 use Rattle.cbm_medium.specs.Links.{bytes_at, link}
 use Rattle.cbm_bam.specs.Map.{map_of, is_free_in, with_bit, tally, number, count_in, at}
-use Rattle.cbm_relfile.specs.SideSectors.{sides_listed}
+use Rattle.cbm_relfile.specs.SideSectors.{sides_listed, named_in}
 use Rattle.cbm_volume.specs.Layouts.{IsWritable}
 use Rattle.cbm_volume.specs.declared.unsound.Part.{Part}
 use Rattle.cbm_volume.specs.declared.unsound.Part.TheVariants.{OfDirectory, OfFile}
@@ -117,3 +117,29 @@ behind_first bytes = drop 1 (sides_listed bytes)
 -- the side sectors of a relative file: the first, and those that it lists behind itself
 abbrev pub sides_from : Content → Place → List Place
 sides_from content first = first ∷ behind_first (bytes_at content first)
+
+-- where a chain goes on behind a place, if this is the place and a sector of the disk
+abbrev pub step_along : ℕ → Content → Place → Place → Option Place
+step_along tracks content p a = if is_place p a && has tracks a then Some (link (bytes_at content a)) else None
+
+-- where the chain from a goes on behind these blocks, if it begins with them
+abbrev pub along : ℕ → Content → List Place → Place → Option Place
+along tracks content [] a = Some a
+along tracks content (p ∷ rest) a = elim (step_along tracks content p a) [ Some b ↦ along tracks content rest b | None ↦ None ]
+
+-- the blocks that a side sector lists in its 120 places, from a place on
+unfoldable pub listed_at : ℕ → List ℕ → List Place
+listed_at n side = named_in (120 - n) (drop (16 + 2 * n) side)
+
+abbrev pub listed_blocks : List ℕ → List Place
+listed_blocks side = listed_at 0 side
+
+-- a side sector has its number and the records' length, and lists the next blocks of the chain: where that goes on
+abbrev pub side_along : ℕ → Content → ℕ → ℕ → List ℕ → Place → Option Place
+side_along tracks content width n side a =
+    if (slice_index side 2 == n) && (slice_index side 3 == width) then along tracks content (listed_blocks side) a else None
+
+-- the same of side sectors in order, counted from n
+abbrev pub sides_along : ℕ → Content → ℕ → ℕ → List Place → Place → Option Place
+sides_along tracks content width n [] a = Some a
+sides_along tracks content width n (s ∷ rest) a = elim (side_along tracks content width n (bytes_at content s) a) [ Some b ↦ sides_along tracks content width (n + 1) rest b | None ↦ None ]

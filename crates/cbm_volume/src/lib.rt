@@ -5,6 +5,7 @@ mod claims;
 mod headers;
 mod label;
 mod map_check;
+mod record_check;
 mod sector_set;
 mod side_check;
 mod unsound;

@@ -12,15 +12,15 @@ returns-then-is_end-clause-ok g c =
     let zero = ap (λ (p : Place). p.track) (sym c.new-at.ensures) ∙ c.if-is_end.ensures.0 refl in
     c.loop-number.invariant.forth (is_marked c.loop-number.claimed)
     (subst (λ (xs : List Place). ClaimsEach OfFile c.args.geometry (g.M.Medium.content c.args.medium.now) (is_marked c.loop-number.claimed) xs (is_marked c.loop-number.claimed))
-      (sym (sides_none c.loop-number.number c.args.first.now c.loop-number-test.true zero)) refl)
+    (sym (sides_none c.loop-number.number c.args.first.now c.loop-number-test.true zero)) refl)
 
 pub returns-in_err-claim-clause-err : goal.returns-in_err-claim-clause-err
 returns-in_err-claim-clause-err g c =
     let named = sides_some c.loop-number.number c.args.first.now c.new-at.result c.loop-number-test.true c.new-at.ensures (λ z. let f = c.if-is_end.ensures.1 z in cc) in
     let w = c.loop-number.invariant.faulty c.in_err-claim.field-0.0
-        (among_here OfFile c.args.geometry (g.M.Medium.content c.args.medium.now) (is_marked c.loop-number.claimed) c.in_err-claim.field-0.0 c.new-at.result
-          (named_in (6 - c.loop-number.number) (drop (4 + 2 * c.loop-number.number) c.args.first.now)) (named_in (6 - (c.loop-number.number + 1)) (drop (4 + 2 * (c.loop-number.number + 1)) c.args.first.now)) named
-          c.in_err-claim.ensures.wrong.0 c.in_err-claim.ensures.wrong.1) in
+    (among_here OfFile c.args.geometry (g.M.Medium.content c.args.medium.now) (is_marked c.loop-number.claimed) c.in_err-claim.field-0.0 c.new-at.result
+    (named_in (6 - c.loop-number.number) (drop (4 + 2 * c.loop-number.number) c.args.first.now)) (named_in (6 - (c.loop-number.number + 1)) (drop (4 + 2 * (c.loop-number.number + 1)) c.args.first.now)) named
+    c.in_err-claim.ensures.wrong.0 c.in_err-claim.ensures.wrong.1) in
     search rules
 
 pub loop-number-preserved : goal.loop-number-preserved
