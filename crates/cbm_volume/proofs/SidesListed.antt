@@ -1,14 +1,14 @@
 -- The places that a side sector names, one by one.
-use Rattle.std.proofs.Common.{◌≡◌, ◌≢◌, ℕ, suc, ◌+◌, ◌-◌, ◌*◌, ◌<◌, ◌≤◌, List, [], ◌∷◌, get_or, drop, Bool, true, Option, Some, None, Ok, refl, sym, ap, subst, ◌∙◌, arith, inl, inr}
+use Rattle.std.proofs.Common.{◌≡◌, ◌≢◌, ℕ, suc, ◌+◌, ◌-◌, ◌*◌, ◌<◌, ◌≤◌, List, [], ◌∷◌, get_or, drop, Bool, true, false, Option, Some, None, Ok, Err, refl, sym, ap, subst, ◌∙◌, arith, inl, inr}
 use Rattle.std.specs.Prelude.{if◌then◌else◌, ◌&&◌, ◌==◌}
 use Rattle.std.proofs.lemmas.List.{get_or-drop, drop-drop}
 use Rattle.std.proofs.lemmas.Bool.{eq-eqb, ne_eqb}
-use Rattle.cbm_medium.specs.Place.{Place}
+use Rattle.cbm_medium.specs.Place.{Place, has}
 use Rattle.cbm_medium.specs.Content.{Content}
-use Rattle.cbm_medium.specs.Links.{place_in}
+use Rattle.cbm_medium.specs.Links.{bytes_at, or_nothing, place_in}
 use Rattle.cbm_relfile.specs.SideSectors.{named_in}
 use Rattle.cbm_bam.specs.Map.{with_bit}
-use Rattle.cbm_volume.specs.Unsound.{wrong_at, fault_at, ClaimsEach, MeetsAmong, behind_first, step_along, along, listed_at, listed_blocks, side_along}
+use Rattle.cbm_volume.specs.Unsound.{wrong_at, fault_at, ClaimsEach, MeetsAmong, behind_first, step_along, along, listed_at, listed_blocks, side_along, side_at, sides_along}
 use Rattle.cbm_volume.specs.declared.unsound.Part.{Part}
 use Rattle.cbm_volume.specs.declared.unsound.Unsound.{Unsound}
 
@@ -95,3 +95,25 @@ along_some tracks content p a b whole rest e h = ap (λ (xs : List Place). along
 pub along_none : (tracks : ℕ) (content : Content) (p a : Place) (whole rest : List Place) → whole ≡ p ∷ rest → step_along tracks content p a ≡ None → along tracks content whole a ≡ None
 along_none tracks content p a whole rest e h = ap (λ (xs : List Place). along tracks content xs a) e
     ∙ ap (λ (o : Option Place). elim o [ Some q ↦ along tracks content rest q | None ↦ None ]) h
+
+-- a side sector that doesn't read has not the records' length
+pub side_unread : (tracks : ℕ) (content : Content) (width n : ℕ) (s a : Place) (code : ℕ) → 0 < width → content s ≡ Err code → side_at tracks content width n s a ≡ None
+side_unread tracks content width n s a code l h =
+    let none : bytes_at content s ≡ [] = ap or_nothing h in
+    ap (λ (bytes : List ℕ). if has tracks s then side_along tracks content width n bytes a else None) none
+    ∙ ap (λ (b : Bool). if has tracks s then (if (0 == n) && b then along tracks content (listed_blocks []) a else None) else None) (ne_eqb 0 width (λ z. omega (arith, z, l)))
+    ∙ empty (has tracks s) (0 == n) (along tracks content (listed_blocks []) a)
+  where
+    empty : (h e : Bool) (x : Option Place) → (if h then (if e && false then x else None) else None) ≡ None
+    empty true true x = refl
+    empty true false x = refl
+    empty false e x = refl
+
+pub sides_one : (tracks : ℕ) (content : Content) (width n : ℕ) (p a b : Place) (whole rest : List Place) → whole ≡ p ∷ rest → side_at tracks content width n p a ≡ Some b
+    → sides_along tracks content width n whole a ≡ sides_along tracks content width (n + 1) rest b
+sides_one tracks content width n p a b whole rest e h = ap (λ (xs : List Place). sides_along tracks content width n xs a) e
+    ∙ ap (λ (o : Option Place). elim o [ Some q ↦ sides_along tracks content width (n + 1) rest q | None ↦ None ]) h
+
+pub sides_stop : (tracks : ℕ) (content : Content) (width n : ℕ) (p a : Place) (whole rest : List Place) → whole ≡ p ∷ rest → side_at tracks content width n p a ≡ None → sides_along tracks content width n whole a ≡ None
+sides_stop tracks content width n p a whole rest e h = ap (λ (xs : List Place). sides_along tracks content width n xs a) e
+    ∙ ap (λ (o : Option Place). elim o [ Some q ↦ sides_along tracks content width (n + 1) rest q | None ↦ None ]) h

@@ -1,7 +1,8 @@
-ghost use Rattle.std.specs.Prelude.{◌≡◌, ◌≤◌, ℕ, List, Option, IsOk, Ok};
+ghost use Rattle.std.specs.Prelude.{◌≡◌, ◌≤◌, ◌<◌, ℕ, List, Option, IsOk, Ok};
 ghost use Rattle.cbm_medium.specs.Links.{link, bytes_at};
-ghost use Rattle.cbm_volume.specs.Unsound.{step_along, along, listed_blocks, side_along};
+ghost use Rattle.cbm_volume.specs.Unsound.{step_along, along, listed_blocks, side_along, side_at, all_along};
 
+use crate::side_check::SIDES;
 use cbm_medium::{Geometry, Link, Medium};
 
 /// Where a side sector has its number, the records' length, and the list of its blocks (Inside Commodore DOS).
@@ -64,4 +65,51 @@ pub fn walk_side<M: Medium>(
         return None;
     }
     walk_listed(medium, geometry, side, from)
+}
+
+/// The same of the side sector that a link names.
+fn walk_side_at<M: Medium>(
+    medium: &M,
+    geometry: Geometry,
+    length: u8,
+    number: u8,
+    at: Link,
+    from: Link,
+) -> Option<Link>
+    requires tracks { geometry ≤ M.tracks medium.now }
+    requires length { 0 < length }
+    ensures { result ≡ side_at geometry (M.content medium.now) length number at from }
+{
+    let address = at.address(geometry)?;
+    match medium.read(address) {
+        Ok(side) => walk_side(medium, geometry, length, number, &side, from),
+        Err(_) => None,
+    }
+}
+
+/// Where the chain goes on behind the blocks that a file's side sectors list, from the first one's bytes, if they are right.
+pub fn walk_sides<M: Medium>(
+    medium: &M,
+    geometry: Geometry,
+    length: u8,
+    first: &[u8; 256],
+    from: Link,
+) -> Option<Link>
+    requires tracks { geometry ≤ M.tracks medium.now }
+    requires length { 0 < length }
+    ensures { result ≡ all_along geometry (M.content medium.now) length first.now from }
+{
+    let mut at = walk_side(medium, geometry, length, 0, first, from)?;
+    if first[SIDES] == 0 {
+        return Some(at);
+    }
+    for number in 1..6u8 {
+        let place = SIDES + 2 * number as usize;
+        let side = Link::new(first[place], first[place + 1]);
+        if side.is_end() {
+            return Some(at);
+        }
+        at = walk_side_at(medium, geometry, length, number, side, at)?;
+    }
+    Some(at)
 }

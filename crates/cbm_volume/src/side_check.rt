@@ -10,7 +10,7 @@ use crate::unsound::{Part, Unsound};
 use cbm_medium::{Geometry, Link, Medium};
 
 /// Where a side sector lists the six side sectors of its file, two bytes each (Inside Commodore DOS).
-const SIDES: usize = 4;
+pub const SIDES: usize = 4;
 
 /// Claims the side sectors that a file's first one lists behind itself.
 fn claim_listed<M: Medium>(
