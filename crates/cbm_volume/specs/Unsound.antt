@@ -1,9 +1,10 @@
 -- What makes a disk unsound, by its number; and the walk along the sectors of a part of it, each of which is claimed once.
-use Rattle.std.specs.Prelude.{ℕ, ◌+◌, ◌-◌, ◌*◌, ◌<◌, ◌≤◌, ◌⊎◌, ◌≡◌, ◌≢◌, ◌==◌, ◌&&◌, ◌||◌, nat_lt, not, List, [], ◌∷◌, drop, slice_index, Bool, true, false, if◌then◌else◌, Option, Some, None, Ok, Err, IsOk}
+use Rattle.std.specs.Prelude.{ℕ, ◌+◌, ◌-◌, ◌*◌, ◌%◌, ◌<◌, ◌≤◌, ◌⊎◌, ◌≡◌, ◌≢◌, ◌==◌, ◌&&◌, ◌||◌, nat_lt, not, List, [], ◌∷◌, drop, slice_index, Bool, true, false, if◌then◌else◌, Option, Some, None, Ok, Err, IsOk, is_some}
 use Rattle.cbm_medium.specs.Place.{Place, is_place, has, Has, sectors_on, directory_head}
 use Rattle.cbm_medium.specs.Content.{Cell, Content, is_header_fault}
-use Rattle.cbm_medium.specs.Links.{bytes_at, link}
+use Rattle.cbm_medium.specs.Links.{bytes_at, place_in, link}
 use Rattle.cbm_bam.specs.Map.{map_of, is_free_in, with_bit, tally, number, count_in, at}
+use Rattle.cbm_directory.specs.Entries.{type_byte, is_closed, is_relative, first_block, first_side, width_of}
 use Rattle.cbm_relfile.specs.SideSectors.{sides_listed, named_in}
 use Rattle.cbm_volume.specs.Layouts.{IsWritable}
 use Rattle.cbm_volume.specs.declared.unsound.Part.{Part}
@@ -151,3 +152,48 @@ sides_along tracks content width n (s ∷ rest) a = elim (side_at tracks content
 -- the same of the first one with these bytes, and those that it lists behind itself
 abbrev pub all_along : ℕ → Content → ℕ → List ℕ → Place → Option Place
 all_along tracks content width first a = elim (side_along tracks content width 0 first a) [ Some b ↦ sides_along tracks content width 1 (behind_first first) b | None ↦ None ]
+
+-- The records of a relative file: of 1 to 254 bytes, in some block, with a first side sector that lists itself first, and
+-- side sectors whose lists are the beginning of the chain.
+abbrev pub are_records_in : ℕ → Content → List ℕ → List ℕ → Bool
+are_records_in tracks content e first =
+    not ((first_block e).track == 0) && (nat_lt 0 (width_of e) && (nat_lt (width_of e) 255
+    && (is_place (place_in first 4) (first_side e) && is_some (all_along tracks content (width_of e) first (first_block e)))))
+
+abbrev pub are_records : ℕ → Content → List ℕ → Bool
+are_records tracks content e = are_records_in tracks content e (bytes_at content (first_side e))
+
+-- the side sectors of a relative file are claimed, and its records are right
+abbrev pub ClaimsSides : ℕ → Content → (Place → Bool) → List ℕ → (Place → Bool) → Type 0
+ClaimsSides tracks content claimed e after = ClaimsEach OfFile tracks content claimed (sides_from content (first_side e)) after × (are_records tracks content e ≡ true)
+
+-- a side sector has a fault, or all are claimed and the records aren't right (7)
+abbrev pub SidesFault : ℕ → Content → (Place → Bool) → List ℕ → Unsound → Type 0
+SidesFault tracks content claimed e u =
+    MeetsAmong OfFile tracks content claimed (sides_from content (first_side e)) u
+    ⊎ ((after : Place → Bool) × (ClaimsEach OfFile tracks content claimed (sides_from content (first_side e)) after × (are_records tracks content e ≡ false) × (u ≡ fault_at 7 (first_side e))))
+
+-- ---- slots
+
+-- the sectors of an entry's file are claimed: by whether it is closed, and relative
+abbrev pub ClaimsFile : Bool → Bool → ℕ → Content → (Place → Bool) → List ℕ → (Place → Bool) → Type 0
+ClaimsFile false r tracks content claimed e after = after ≡ claimed
+ClaimsFile true false tracks content claimed e after = (blocks : List Place) × ClaimsChain OfFile tracks content claimed (first_block e) blocks after
+ClaimsFile true true tracks content claimed e after =
+    (blocks : List Place) × ((between : Place → Bool) × (ClaimsChain OfFile tracks content claimed (first_block e) blocks between × ClaimsSides tracks content between e after))
+
+abbrev pub FileFault : Bool → Bool → ℕ → Content → (Place → Bool) → List ℕ → Unsound → Type 0
+FileFault false r tracks content claimed e u = ⊥
+FileFault true false tracks content claimed e u = (blocks : List Place) × MeetsFault OfFile tracks content claimed (first_block e) blocks u
+FileFault true true tracks content claimed e u =
+    ((blocks : List Place) × MeetsFault OfFile tracks content claimed (first_block e) blocks u)
+    ⊎ ((blocks : List Place) × ((between : Place → Bool) × (ClaimsChain OfFile tracks content claimed (first_block e) blocks between × SidesFault tracks content between e u)))
+
+-- the type of an entry is known, and its file is claimed
+abbrev pub ClaimsEntry : ℕ → Content → (Place → Bool) → List ℕ → (Place → Bool) → Type 0
+ClaimsEntry tracks content claimed e after = (type_byte e % 16 < 5) × ClaimsFile (is_closed e) (is_relative e) tracks content claimed e after
+
+-- its type is none's (8, at the sector of the directory), or its file has a fault
+abbrev pub EntryFault : ℕ → Content → (Place → Bool) → Place → List ℕ → Unsound → Type 0
+EntryFault tracks content claimed sector e u =
+    ((5 ≤ type_byte e % 16) × (u ≡ fault_at 8 sector)) ⊎ ((type_byte e % 16 < 5) × FileFault (is_closed e) (is_relative e) tracks content claimed e u)

@@ -2,6 +2,7 @@
 #![tactic(auto)]
 
 mod claims;
+mod entry_check;
 mod headers;
 mod label;
 mod map_check;
