@@ -20,3 +20,4 @@ pub mod Marks
 pub mod Claiming
 pub mod FirstBad
 pub mod SidesListed
+pub mod SlotSteps

@@ -5,6 +5,7 @@ use Rattle.cbm_medium.specs.Content.{Cell, Content, is_header_fault}
 use Rattle.cbm_medium.specs.Links.{bytes_at, place_in, link}
 use Rattle.cbm_bam.specs.Map.{map_of, is_free_in, with_bit, tally, number, count_in, at}
 use Rattle.cbm_directory.specs.Entries.{type_byte, is_closed, is_relative, first_block, first_side, width_of}
+use Rattle.cbm_directory.specs.Slots.{entries_from}
 use Rattle.cbm_relfile.specs.SideSectors.{sides_listed, named_in}
 use Rattle.cbm_volume.specs.Layouts.{IsWritable}
 use Rattle.cbm_volume.specs.declared.unsound.Part.{Part}
@@ -197,3 +198,39 @@ ClaimsEntry tracks content claimed e after = (type_byte e % 16 < 5) × ClaimsFil
 abbrev pub EntryFault : ℕ → Content → (Place → Bool) → Place → List ℕ → Unsound → Type 0
 EntryFault tracks content claimed sector e u =
     ((5 ≤ type_byte e % 16) × (u ≡ fault_at 8 sector)) ⊎ ((type_byte e % 16 < 5) × FileFault (is_closed e) (is_relative e) tracks content claimed e u)
+
+-- the entries are claimed in their order
+abbrev pub ClaimsEntries : ℕ → Content → (Place → Bool) → List (List ℕ) → (Place → Bool) → Type 0
+ClaimsEntries tracks content claimed [] after = after ≡ claimed
+ClaimsEntries tracks content claimed (e ∷ rest) after = (between : Place → Bool) × (ClaimsEntry tracks content claimed e between × ClaimsEntries tracks content between rest after)
+
+-- one of the entries of a sector has this fault, and those before it are claimed
+abbrev pub EntriesFault : ℕ → Content → (Place → Bool) → Place → List (List ℕ) → Unsound → Type 0
+EntriesFault tracks content claimed sector [] u = ⊥
+EntriesFault tracks content claimed sector (e ∷ rest) u =
+    EntryFault tracks content claimed sector e u ⊎ ((between : Place → Bool) × (ClaimsEntry tracks content claimed e between × EntriesFault tracks content between sector rest u))
+
+-- the eight entries of a sector of the directory, from one on
+unfoldable pub entries_behind : ℕ → List ℕ → List (List ℕ)
+entries_behind n sector = entries_from (8 - n) sector n
+
+abbrev pub entries_in : List ℕ → List (List ℕ)
+entries_in sector = entries_behind 0 sector
+
+-- From a these are the sectors of the directory, and the entries in them are claimed. The sectors that are met go in a set of their own.
+abbrev pub ClaimsSlots : ℕ → Content → (Place → Bool) → (Place → Bool) → Place → List Place → (Place → Bool) → Type 0
+ClaimsSlots tracks content met claimed a [] after = (a.track ≡ 0) × (after ≡ claimed)
+ClaimsSlots tracks content met claimed a (b ∷ rest) after =
+    (a ≡ b) × (wrong_at OfDirectory tracks content met b ≡ None)
+    × ((between : Place → Bool) × (ClaimsEntries tracks content claimed (entries_in (bytes_at content b)) between
+    × ClaimsSlots tracks content (with_bit met b true) between (link (bytes_at content b)) rest after))
+
+-- behind these sectors comes one with this fault, or with an entry that has it
+abbrev pub SlotsFault : ℕ → Content → (Place → Bool) → (Place → Bool) → Place → List Place → Unsound → Type 0
+SlotsFault tracks content met claimed a [] u =
+    ((a.track ≢ 0) × (wrong_at OfDirectory tracks content met a ≡ Some u.number) × (u ≡ fault_at u.number a))
+    ⊎ ((wrong_at OfDirectory tracks content met a ≡ None) × EntriesFault tracks content claimed a (entries_in (bytes_at content a)) u)
+SlotsFault tracks content met claimed a (b ∷ rest) u =
+    (a ≡ b) × (wrong_at OfDirectory tracks content met b ≡ None)
+    × ((between : Place → Bool) × (ClaimsEntries tracks content claimed (entries_in (bytes_at content b)) between
+    × SlotsFault tracks content (with_bit met b true) between (link (bytes_at content b)) rest u))

@@ -9,6 +9,7 @@ mod map_check;
 mod record_check;
 mod sector_set;
 mod side_check;
+mod slot_check;
 mod unsound;
 mod volume;
 
