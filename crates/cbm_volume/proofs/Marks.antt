@@ -1,9 +1,9 @@
 -- A mark is set in the rows, and no other.
 use mathlib.Core.Path.{fun_ext}
-use Rattle.std.proofs.Common.{◌≡◌, ◌≢◌, ℕ, ◌+◌, ◌*◌, ◌^◌, ◌%◌, ◌<◌, List, length, get_or, set, Bool, true, refl, sym, ap, subst, ◌∙◌, arith, inl, inr}
+use Rattle.std.proofs.Common.{◌≡◌, ◌≢◌, ℕ, zero, suc, ◌+◌, ◌*◌, ◌^◌, ◌%◌, ◌<◌, List, length, get_or, set, Bool, true, false, replicate, refl, sym, ap, subst, ◌∙◌, arith, inl, inr}
 use Rattle.std.specs.Prelude.{◌==◌, bit_or}
 use Rattle.std.specs.Int.{bit_at, w32}
-use Rattle.std.proofs.lemmas.Nat.Bits.{bit_at_set_same, bit_at_set_other}
+use Rattle.std.proofs.lemmas.Nat.Bits.{bit_at_set_same, bit_at_set_other, bit_at-zero}
 use Rattle.std.proofs.lemmas.List.{get_or-set_same, get_or-set_other}
 use Rattle.std.proofs.lemmas.Bool.{cases_eq}
 use Rattle.cbm_medium.specs.Place.{Place, sectors_on, IsOnDisk}
@@ -35,3 +35,13 @@ marked rows p q l hp = elim (place_decide p q) [
 
 pub marks_one : (rows : List ℕ) (p : Place) → length rows ≡ 41 → IsOnDisk p → is_marked (with_mark rows p) ≡ with_bit (is_marked rows) p true
 marks_one rows p l h = fun_ext (λ q. marked rows p q l h)
+
+zero_at : (n t : ℕ) → get_or {A = ℕ} (replicate {A = ℕ} n 0) t 0 ≡ 0
+zero_at zero t = refl
+zero_at (suc n) zero = refl
+zero_at (suc n) (suc t) = zero_at n t
+
+-- no mark
+pub marks_none : is_marked (replicate {A = ℕ} 41 0) ≡ (λ (p : Place). false)
+unfolding is_marked
+marks_none = fun_ext (λ p. ap (λ (v : ℕ). bit_at v p.sector == 1) (zero_at 41 p.track) ∙ ap (λ (v : ℕ). v == 1) (bit_at-zero p.sector))

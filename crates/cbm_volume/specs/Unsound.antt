@@ -4,7 +4,7 @@ use Rattle.cbm_medium.specs.Place.{Place, is_place, has, Has, sectors_on, direct
 use Rattle.cbm_medium.specs.Content.{Cell, Content, is_header_fault}
 use Rattle.cbm_medium.specs.Links.{bytes_at, place_in, link}
 use Rattle.cbm_bam.specs.Map.{map_of, is_free_in, with_bit, tally, number, count_in, at}
-use Rattle.cbm_directory.specs.Entries.{type_byte, is_closed, is_relative, first_block, first_side, width_of}
+use Rattle.cbm_directory.specs.Entries.{first_directory, type_byte, is_closed, is_relative, first_block, first_side, width_of}
 use Rattle.cbm_directory.specs.Slots.{entries_from}
 use Rattle.cbm_relfile.specs.SideSectors.{sides_listed, named_in}
 use Rattle.cbm_volume.specs.Layouts.{IsWritable}
@@ -234,3 +234,43 @@ SlotsFault tracks content met claimed a (b ∷ rest) u =
     (a ≡ b) × (wrong_at OfDirectory tracks content met b ≡ None)
     × ((between : Place → Bool) × (ClaimsEntries tracks content claimed (entries_in (bytes_at content b)) between
     × SlotsFault tracks content (with_bit met b true) between (link (bytes_at content b)) rest u))
+
+-- ---- the whole disk
+
+abbrev pub nothing : Place → Bool
+nothing p = false
+
+-- the map's sector is the first that is claimed
+abbrev pub only_head : Place → Bool
+only_head = with_bit nothing directory_head true
+
+-- EACH PART OF THE DISK IS CLAIMED, AND NOTHING IS WRONG WITH IT: the headers, the map, the directory, and the files of its slots in order
+pub record ClaimsDisk (tracks : ℕ) (content : Content) : Type 0 where
+  pub writable : (p : Place) → Has tracks p → IsWritable (content p)
+  pub map : IsMapRight tracks content
+  pub sectors : List Place
+  pub between : Place → Bool
+  pub directory : ClaimsChain OfDirectory tracks content only_head first_directory sectors between
+  pub again : List Place
+  pub after : Place → Bool
+  pub slots : ClaimsSlots tracks content only_head between first_directory again after
+
+-- the first header at fault (5)
+abbrev pub HeaderFault : ℕ → Content → Unsound → Type 0
+HeaderFault tracks content u = (p : Place) × IsFirstBad tracks content p × (u ≡ fault_at 5 p)
+
+-- the first fault of the directory, as a chain (6, 3, 9, 2)
+abbrev pub DirectoryFault : ℕ → Content → Unsound → Type 0
+DirectoryFault tracks content u = (sectors : List Place) × MeetsFault OfDirectory tracks content only_head first_directory sectors u
+
+-- the first fault of its slots, behind a directory that is claimed (8, 4, 3, 9, 2, 7)
+pub record SlotFault (tracks : ℕ) (content : Content) (u : Unsound) : Type 0 where
+  pub sectors : List Place
+  pub between : Place → Bool
+  pub directory : ClaimsChain OfDirectory tracks content only_head first_directory sectors between
+  pub again : List Place
+  pub fault : SlotsFault tracks content only_head between first_directory again u
+
+-- THE DISK HAS THIS FAULT, of the first thing that is wrong with it
+abbrev pub DiskFault : ℕ → Content → Unsound → Type 0
+DiskFault tracks content u = HeaderFault tracks content u ⊎ (IsMapFault tracks content u ⊎ (DirectoryFault tracks content u ⊎ SlotFault tracks content u))

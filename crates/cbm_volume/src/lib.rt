@@ -1,6 +1,7 @@
 //! What the sectors of a disk mean: a disk of named files.
 #![tactic(auto)]
 
+mod check;
 mod claims;
 mod entry_check;
 mod headers;

@@ -1,7 +1,7 @@
-ghost use Rattle.std.specs.Prelude.{◌≡◌, false, true};
-ghost use Rattle.cbm_medium.specs.Place.{Has};
+ghost use Rattle.std.specs.Prelude.{◌≡◌, true};
 ghost use Rattle.cbm_bam.specs.Map.{with_bit};
 ghost use Rattle.cbm_volume.specs.Marks.{is_marked};
+ghost use Rattle.cbm_volume.specs.Unsound.{nothing};
 
 use cbm_medium::Address;
 use std::marker::Model;
@@ -25,7 +25,7 @@ impl Model for SectorSet {
 impl SectorSet {
     /// No sector.
     pub fn new() -> SectorSet
-        ensures { (p : _) → Has 40 p → is_marked result p ≡ false }
+        ensures { is_marked result ≡ nothing }
     {
         SectorSet { rows: [0; 41] }
     }
