@@ -21,3 +21,9 @@ pub mod Claiming
 pub mod FirstBad
 pub mod SidesListed
 pub mod SlotSteps
+pub mod ClaimedSound
+pub mod SoundClaimed
+pub mod PlainSound
+pub mod Claimed
+pub mod RecordsChecked
+pub mod CheckedSound

@@ -5,3 +5,4 @@ pub mod Reading
 pub use Rattle.cbm_file.specs.Files
 pub mod Marks
 pub mod Unsound
+pub mod Plain
