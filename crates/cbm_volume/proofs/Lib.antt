@@ -21,3 +21,5 @@ pub mod Claiming
 pub mod FirstBad
 pub mod SidesListed
 pub mod SlotSteps
+pub mod ClaimOwners
+pub mod ClaimedRecords
