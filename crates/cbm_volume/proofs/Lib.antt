@@ -23,3 +23,4 @@ pub mod SidesListed
 pub mod SlotSteps
 pub mod ClaimOwners
 pub mod ClaimedRecords
+pub mod ClaimedDisk
