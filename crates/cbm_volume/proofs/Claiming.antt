@@ -41,7 +41,7 @@ none_wrong part tracks content claimed p h = rw h.inside (rw h.fresh (rw h.reads
 has_it : (tracks : ℕ) (p : Place) → has tracks p ≡ true → Has tracks p
 has_it tracks p h = grind arith
 
-both : (a b : Bool) → (a && b) ≡ true → (a ≡ true) × (b ≡ true)
+pub both : (a b : Bool) → (a && b) ≡ true → (a ≡ true) × (b ≡ true)
 both true true h = (refl, refl)
 both true false h = absurd (let z = h in cc)
 both false b h = absurd (let z = h in cc)
