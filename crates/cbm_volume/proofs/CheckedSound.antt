@@ -1,10 +1,10 @@
 -- What `check` claims is a sound disk, and on a sound disk it meets no fault.
 use Rattle.std.proofs.Common.{◌≡◌, ◌≢◌, ◌⊎◌, ℕ, zero, suc, ◌+◌, ◌*◌, ◌<◌, ◌≤◌, List, [], ◌∷◌, ◌++◌, length, Bool, true, false, Option, Some, None, Ok, Err, refl, sym, ap, ◌∙◌, subst, arith, inl, inr}
-use Rattle.std.specs.Prelude.{if◌then◌else◌, ◌==◌, ◌%◌, ◌&&◌, not, IsOk}
+use Rattle.std.specs.Prelude.{if◌then◌else◌, ◌==◌, ◌%◌, ◌&&◌, not, IsOk, Result, OnOk, IfErr}
 use Rattle.cbm_medium.specs.Place.{Place, Has, directory_head}
 use Rattle.cbm_medium.specs.Content.{Cell, Content, is_header_fault}
 use Rattle.cbm_medium.specs.Links.{Chain, bytes_at, link}
-use Rattle.cbm_bam.specs.Map.{map_of, is_free_in, with_bit}
+use Rattle.cbm_bam.specs.Map.{map_of, is_free_in, with_bit, geometry_of}
 use Rattle.cbm_directory.specs.Entries.{type_byte, is_closed, is_relative, first_block, first_side, first_directory}
 use Rattle.cbm_directory.specs.Slots.{entries_from, all_entries}
 use Rattle.cbm_volume.specs.Blocks.{Blocks, no_blocks, HasRecords}
@@ -17,6 +17,7 @@ use Rattle.cbm_volume.specs.declared.unsound.Unsound.{Unsound}
 use Rattle.cbm_volume.proofs.Claimed.{head_claimed, ClaimsAs, ClaimsSlot, ClaimsSlots, IsClaimedOnce}
 use Rattle.cbm_volume.proofs.ClaimedSound.{is_right, inside_has, claims_chain, claimed_sound}
 use Rattle.cbm_volume.proofs.SoundClaimed.{sound_claimed}
+use Rattle.cbm_volume.proofs.Listing.{geometry_size}
 use Rattle.cbm_volume.proofs.RecordsChecked.{records_right, records_pass}
 
 some_none : {A : Type 0} (x : A) (o : Option A) → o ≡ Some x → o ≡ None → ⊥
@@ -231,3 +232,18 @@ sound_clean tracks c l u wide s f = by_fault (sound_claimed tracks c l s wide) f
         let same = chain_same OfDirectory tracks c head_claimed first_directory k.directory g.sectors k.middle g.between k.directory_claimed g.directory in
         slots_clean tracks c head_claimed k.middle first_directory k.directory g.again k.files k.middle k.after u k.directory_claimed k.files_claimed
         (subst (λ (m : Place → Bool). SlotsFault tracks c only_head m first_directory g.again u) (sym same.1) g.fault)
+
+-- ---- what the check answers
+
+-- each step's success is the whole's
+pub ends_sound : (tracks : ℕ) (c : Content) (r : Result (Unit {0}) Unsound) → OnOk r (ClaimsDisk tracks c) → OnOk r ((l : Layout) × Sound tracks c l)
+ends_sound tracks c (Ok _) h = checked_sound tracks c h
+ends_sound tracks c (Err u) h = tt
+
+pub ends_exact : (medium : ℕ) (c : Content) (l : Layout) (r : Result (Unit {0}) Unsound) → IfErr r (DiskFault (geometry_of medium c) c) → Sound (geometry_of medium c) c l → IsOk r
+ends_exact medium c l (Ok _) h s = refl
+ends_exact medium c l (Err u) h s = absurd (sound_clean (geometry_of medium c) c l u (wide (geometry_size medium c)) s h)
+  where
+    wide : (geometry_of medium c ≡ 35) ⊎ (geometry_of medium c ≡ 40) → 18 ≤ geometry_of medium c
+    wide (inl e) = omega (arith, e)
+    wide (inr e) = omega (arith, e)

@@ -1,4 +1,4 @@
-//! Images that are damaged at a few bytes, and what `check` says of each.
+// Images that are damaged at a few bytes, and what `check` says of each.
 
 use crate::image::{enter, formatted, place, put};
 use cbm_d64::D64Disk;
