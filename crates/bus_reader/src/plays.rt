@@ -2,9 +2,10 @@
 
 ghost use Rattle.std.specs.Prelude.{◌^◌, ◌<◌, ◌+◌, ◌≡◌};
 
-use crate::*;
+use crate::judge::Judge;
 use Line::*;
 use Way::*;
+use cbm_iec::*;
 use std::alloc::{AllocError, Global};
 use std::process::Abort;
 
@@ -194,6 +195,15 @@ impl Bus {
             self.tell(rt, change.moment)?;
         }
         self.settle(rt, end + 1)
+    }
+
+    // What the plain reader says of the trace up to an end.
+    pub fn judge(&self, alloc: Global, end: u64) -> Result<Judge, AllocError> {
+        let mut parties = Vec::new(alloc);
+        for port in &self.ports {
+            parties.push(port.party)?;
+        }
+        Judge::of(alloc, &parties, &self.events, end)
     }
 
     // The drives' changes are these.

@@ -2,13 +2,32 @@
 
 ghost use Rattle.std.specs.Prelude.{◌^◌, ◌<◌};
 
-use super::plays::*;
-use crate::*;
+use crate::judge::Judge;
+use crate::plays::*;
+use crate::reading::after;
+use crate::verdicts::{breaks, keeps};
 use Line::*;
 use Way::*;
+use cbm_iec::*;
 use std::alloc::{AllocError, Global};
 use std::process::Abort;
 use std::test::Fail;
+
+// The reader says whether the host keeps the timing; where it does, the trace begins a session with the acts that the drives were told.
+fn judged(
+    rt: &impl Abort,
+    alloc: Global,
+    bus: &Bus,
+    end: u64,
+    row: &str,
+    kept: bool,
+) -> Result<(), AllocError> {
+    if kept {
+        keeps(rt, alloc, bus, end, row, 0)
+    } else {
+        breaks(rt, alloc, bus, end, row, 0)
+    }
+}
 
 #[test]
 fn hears_listen(rt: HostRuntime) -> Result<(), Fail> {
@@ -77,21 +96,30 @@ fn hears_listen(rt: HostRuntime) -> Result<(), Fail> {
         let mut bus = Bus::new(rt.alloc(), &[one(device, 20)])?;
         bus.play(&rt, &changes, 1500 + shift)?;
         bus.expect(&rt, row, wanted);
+        judged(&rt, rt.alloc(), &bus, 1500 + shift, row, shift == 0)?;
     }
     Ok(())
 }
 
-// Two drives with one reaction pull DATA at one moment, in the order of ties.
+// Two drives with one reaction pull DATA at one moment, in the order of ties. A host that doesn't pull CLOCK with ATN breaks the timing.
 #[test]
 fn keeps_the_order_of_ties(rt: HostRuntime) -> Result<(), Fail> {
     for (first, second) in [(9, 8), (8, 9)] {
-        let mut bus = Bus::new(rt.alloc(), &[one(first, 20), one(second, 20)])?;
-        bus.play(&rt, &[at(0, Atn, Pull)], 30)?;
-        bus.expect(
-            &rt,
-            "ties",
-            &[(20, first, Data, Pull), (20, second, Data, Pull)],
-        );
+        for joined in [false, true] {
+            let mut changes = Vec::new(rt.alloc());
+            changes.push(at(0, Atn, Pull))?;
+            if joined {
+                changes.push(at(0, Clock, Pull))?;
+            }
+            let mut bus = Bus::new(rt.alloc(), &[one(first, 20), one(second, 20)])?;
+            bus.play(&rt, &changes, 30)?;
+            bus.expect(
+                &rt,
+                "ties",
+                &[(20, first, Data, Pull), (20, second, Data, Pull)],
+            );
+            judged(&rt, rt.alloc(), &bus, 30, "ties", joined)?;
+        }
     }
     Ok(())
 }
@@ -133,6 +161,14 @@ fn cancels_a_release(rt: HostRuntime) -> Result<(), Fail> {
         let mut bus = Bus::new(rt.alloc(), &[one(8, 1), one(9, 60)])?;
         bus.play(&rt, &changes, 1600 + shift)?;
         bus.expect_until(&rt, "two reactions", 0, until, wanted);
+        judged(
+            &rt,
+            rt.alloc(),
+            &bus,
+            1600 + shift,
+            "two reactions",
+            shift == 40,
+        )?;
     }
     Ok(())
 }
@@ -181,6 +217,7 @@ fn joins_the_pulses(rt: HostRuntime) -> Result<(), Fail> {
             (t + 320, 9, Data, Free),
         ],
     );
+    judged(&rt, rt.alloc(), &bus, t + 400, "pulses", true)?;
     Ok(())
 }
 
@@ -224,6 +261,7 @@ fn talks_a_byte(rt: HostRuntime) -> Result<(), Fail> {
         }
     }
     bus.expect_until(&rt, "a byte", c + 1, u64::MAX, &wanted);
+    judged(&rt, rt.alloc(), &bus, c + 1200, "a byte", true)?;
     Ok(())
 }
 
@@ -265,5 +303,60 @@ fn says_again_what_was_cut(rt: HostRuntime) -> Result<(), Fail> {
     }
     assert_eq!(rt; place, 27, "27 bytes");
     assert_eq!(rt; bus.next_due(), None, "nothing is due");
+    judged(&rt, rt.alloc(), &bus, offer + 1000, "a status", true)?;
+    Ok(())
+}
+
+// The events but one, which is left out or comes 1 later or earlier.
+fn with_one(
+    alloc: Global,
+    events: &[Event],
+    place: usize,
+    shift: u64,
+) -> Result<Vec<Event>, AllocError> {
+    let mut other = Vec::new(alloc);
+    for (at, event) in events.iter().enumerate() {
+        if at != place {
+            other.push(*event)?;
+        } else if shift < 3 {
+            let moment = event.change.moment.wrapping_add(shift).wrapping_sub(1);
+            other.push(Event {
+                who: event.who,
+                change: Change {
+                    moment,
+                    ..event.change
+                },
+            })?;
+        }
+    }
+    Ok(other)
+}
+
+// A drive's change that is left out or comes 1 later makes the trace late; 1 earlier it is no session's. The host is never to blame.
+#[test]
+fn tells_a_late_drive(rt: HostRuntime) -> Result<(), Fail> {
+    let changes = listen(rt.alloc(), 0x29, 0)?;
+    let mut bus = Bus::new(rt.alloc(), &[one(8, 20)])?;
+    bus.play(&rt, &changes, 1500)?;
+    let mut tried = 0;
+    for place in 0..bus.events.len() {
+        assert!(rt; place < bus.events.len());
+        if bus.events[place].who == Who::Host {
+            continue;
+        }
+        tried = after(tried, 1);
+        for shift in [0, 2, 3u64] {
+            let trace = with_one(rt.alloc(), &bus.events, place, shift)?;
+            let judge = Judge::of(rt.alloc(), &[one(8, 20)], &trace, 1500)?;
+            assert_eq!(rt;
+                judge.late,
+                shift != 0,
+                "change {place} moved by {shift} - 1"
+            );
+            assert!(rt; judge.keeps, "change {place}: the host keeps the timing");
+            assert!(rt; shift != 0 || !judge.begins(), "change {place}: no session");
+        }
+    }
+    assert_eq!(rt; tried, 4, "the changes of the drive");
     Ok(())
 }

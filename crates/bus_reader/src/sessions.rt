@@ -1,10 +1,11 @@
 //! Generated sessions: the pieces with moments at and inside their bounds, and what each drive makes of them.
 //! The generator writes down the host's changes and each drive's own from the pieces, and knows nothing of ear and mouth.
 
-use super::plays::*;
-use crate::*;
+use crate::plays::*;
+use crate::reading::{FREE, after, role_after};
 use Line::*;
 use Way::*;
+use cbm_iec::*;
 use std::alloc::{AllocError, Global};
 
 // A drive of the generated session.
@@ -27,25 +28,56 @@ pub struct Session {
     pub acts: Vec<(u64, u8, Act)>,
     said: usize,
     pulled: u64,
+    released: u64,
     accepted: u64,
     pub silent: bool,
+    // The bounds in order, and which of them is to be broken, counted from 1; which one was, the moment of the change, and whether that is too late.
+    bounds: Vec<Bound>,
+    flaw: u64,
+    pub broken: Option<(Bound, u64, bool)>,
 }
 
-// A later moment.
-fn after(moment: u64, wait: u64) -> u64 {
-    moment.wrapping_add(wait)
+// What a bound of the host's timing is of.
+#[derive(Clone, Copy, Debug, PartialEq, Eq, Drop)]
+pub enum Bound {
+    // Two changes of the host at one moment.
+    Together,
+    // ATN's pull, behind its release and behind the last accept.
+    Attention,
+    // A frame of the host: ready, its first pull of CLOCK, without the end signalled and with it, and the phases of a bit.
+    Ready,
+    Start,
+    StartBehindPulse,
+    Settled,
+    Shown,
+    // ATN's release, and CLOCK's behind it for a talker.
+    Release,
+    Turn,
+    // DATA freed with nothing to say, or for a byte; for the last one pulled and freed again; the accept.
+    Silence,
+    Take,
+    Mark,
+    Unmark,
+    Accept,
 }
 
-fn role_of(device: u8, byte: u8, role: Role) -> Role {
-    let other = (0x40..=0x5f).contains(&byte);
-    match (byte, role) {
-        (0x3f, Role::Listener) => Role::Absent,
-        (byte, _) if byte % 32 == device && byte / 32 == 1 => Role::Listener,
-        (byte, _) if byte % 32 == device && byte / 32 == 2 => Role::Talker,
-        (_, Role::Talker) if other => Role::Absent,
-        (_, role) => role,
-    }
-}
+/// All of them.
+pub const BOUNDS: [Bound; 14] = [
+    Bound::Together,
+    Bound::Attention,
+    Bound::Ready,
+    Bound::Start,
+    Bound::StartBehindPulse,
+    Bound::Settled,
+    Bound::Shown,
+    Bound::Release,
+    Bound::Turn,
+    Bound::Silence,
+    Bound::Take,
+    Bound::Mark,
+    Bound::Unmark,
+    Bound::Accept,
+];
 
 // The lines behind a change, and whether it changes them.
 fn with_own(own: Held, line: Line, low: bool) -> (Held, bool) {
@@ -68,13 +100,8 @@ fn with_own(own: Held, line: Line, low: bool) -> (Held, bool) {
     }
 }
 
-const FREE: Held = Held {
-    clock_low: false,
-    data_low: false,
-};
-
 impl Session {
-    fn random(&mut self, below: u64) -> u64 {
+    pub fn random(&mut self, below: u64) -> u64 {
         self.seed = self
             .seed
             .wrapping_mul(6364136223846793005)
@@ -92,6 +119,63 @@ impl Session {
                 let span = last.wrapping_sub(first);
                 after(first, self.random(span))
             }
+        }
+    }
+
+    // Whether the bound that comes now is the one to be broken.
+    fn is_flaw(&mut self, bound: Bound) -> Result<bool, AllocError> {
+        self.bounds.push(bound)?;
+        Ok(self.bounds.len() as u64 == self.flaw)
+    }
+
+    /// Which bound to break: one of a kind, if there is one.
+    pub fn choose(&mut self) -> u64 {
+        let kind = self.random(BOUNDS.len() as u64) as usize;
+        let count = self.bounds.len() as u64;
+        let first = self.random(count);
+        let mut chosen = after(first, 1);
+        let mut place = 0;
+        for bound in &self.bounds {
+            place = after(place, 1);
+            if BOUNDS.get(kind) == Some(bound) && (chosen <= first || place <= after(first, 1)) {
+                chosen = place;
+            }
+        }
+        chosen
+    }
+
+    // A moment that is at least the first, often that or the last. Where this bound is to be broken it is 1 too early, if it still comes behind all others.
+    fn from(&mut self, bound: Bound, first: u64, last: u64) -> Result<u64, AllocError> {
+        if self.is_flaw(bound)? && self.is_behind_all(first.wrapping_sub(1)) {
+            self.broken = Some((bound, first.wrapping_sub(1), false));
+            return Ok(first.wrapping_sub(1));
+        }
+        Ok(self.pick(first, last))
+    }
+
+    // A moment that is at least the first and at most the last, or 1 beside them where one of them is to be broken.
+    fn within(&mut self, bound: Bound, first: u64, last: u64) -> Result<u64, AllocError> {
+        let moment = self.from(bound, first, last)?;
+        if self.is_flaw(bound)? {
+            self.broken = Some((bound, after(last, 1), true));
+            return Ok(after(last, 1));
+        }
+        Ok(moment)
+    }
+
+    // The moment of a change that comes together with the last one, or 1 later.
+    fn together(&mut self, moment: u64) -> Result<u64, AllocError> {
+        if self.is_flaw(Bound::Together)? {
+            self.broken = Some((Bound::Together, after(moment, 1), true));
+            return Ok(after(moment, 1));
+        }
+        Ok(moment)
+    }
+
+    fn is_behind_all(&self, moment: u64) -> bool {
+        match self.changes.last() {
+            Some(change) => change.moment <= moment,
+            None => false,
         }
     }
 
@@ -143,8 +227,15 @@ impl Session {
 
     fn pull(&mut self, alloc: Global, moment: u64) -> Result<(), AllocError> {
         self.host(moment, Atn, Pull)?;
-        self.host(moment, Clock, Pull)?;
-        self.host(moment, Data, Free)?;
+        let mut joined = moment;
+        if !self.host.clock_low {
+            joined = self.together(joined)?;
+            self.host(joined, Clock, Pull)?;
+        }
+        if self.host.data_low {
+            let freed = self.together(joined)?;
+            self.host(freed, Data, Free)?;
+        }
         self.each(alloc, moment, Act::Pulled)?;
         let seats = self.seats(alloc)?;
         for member in &seats {
@@ -177,10 +268,16 @@ impl Session {
         let t = after(ready, slowest);
         let quiet = after(t, slowest.wrapping_add(260));
         let start = if eoi {
-            self.pick(after(quiet, 1), after(quiet, 300))
+            self.from(Bound::StartBehindPulse, after(quiet, 1), after(quiet, 300))?
         } else {
-            self.pick(after(t, 1), after(t, 199))
+            self.within(Bound::Start, after(t, 1), after(t, 199))?
         };
+        if let Some((Bound::Start, moment, _)) = self.broken
+            && moment == start
+        {
+            // To listeners the host might still signal the end.
+            self.broken = Some((Bound::Start, moment, attention && t < moment));
+        }
         self.host(start, Clock, Pull)?;
         let mut last = start;
         let mut left = byte;
@@ -192,12 +289,15 @@ impl Session {
                 set = self.pick(last, after(last, 50));
                 self.host(set, Data, if low { Pull } else { Free })?;
             }
-            let free = self.pick(after(set, 20), after(set, 90));
+            let free = self.from(Bound::Settled, after(set, 20), after(set, 90))?;
             self.host(free, Clock, Free)?;
-            last = self.pick(after(free, 20), after(free, 90));
+            last = self.from(Bound::Shown, after(free, 20), after(free, 90))?;
             self.host(last, Clock, Pull)?;
         }
-        self.host(last, Data, Free)?;
+        if self.host.data_low {
+            let freed = self.together(last)?;
+            self.host(freed, Data, Free)?;
+        }
         for member in &seats {
             let (device, r) = (member.device, member.reaction);
             if attention || member.role == Role::Listener {
@@ -224,10 +324,10 @@ impl Session {
 
     fn command(&mut self, alloc: Global, byte: u8) -> Result<(), AllocError> {
         let first = after(self.pulled.max(self.accepted), 100);
-        let ready = self.pick(first, after(first, 60));
+        let ready = self.from(Bound::Ready, first, after(first, 60))?;
         self.frame(alloc, true, byte, false, ready)?;
         for member in &mut self.members {
-            member.role = role_of(member.device, byte, member.role);
+            member.role = role_after(member.device, byte, member.role);
         }
         Ok(())
     }
@@ -259,10 +359,11 @@ impl Session {
         Ok(behind)
     }
 
-    // ATN's release, and what follows it up to the next attention; the moment from which ATN may be pulled.
+    // ATN's release, and what follows it up to the next attention; the moment from which ATN may be pulled behind all of that.
     fn release(&mut self, alloc: Global) -> Result<u64, AllocError> {
         let first = after(self.accepted, self.gap());
-        let moment = self.pick(first, after(first, 80));
+        let moment = self.from(Bound::Release, first, after(first, 80))?;
+        self.released = moment;
         match (self.any(Role::Listener), self.any(Role::Talker)) {
             (None, None) => {
                 self.host(moment, Atn, Free)?;
@@ -280,7 +381,7 @@ impl Session {
                 for _ in 0..self.random(3) {
                     let eoi = self.random(2) == 0;
                     let byte = (self.random(256) % 256) as u8;
-                    let from = self.pick(ready, after(ready, 60));
+                    let from = self.from(Bound::Ready, ready, after(ready, 60))?;
                     self.frame(alloc, false, byte, eoi, from)?;
                     ready = after(self.accepted, 100);
                 }
@@ -288,10 +389,11 @@ impl Session {
             }
             (None, Some(talker)) => {
                 self.host(moment, Data, Pull)?;
-                self.host(moment, Atn, Free)?;
+                let freed = self.together(moment)?;
+                self.host(freed, Atn, Free)?;
                 self.each(alloc, moment, Act::Released)?;
                 let behind = self.let_go(alloc, moment)?;
-                let clock = self.pick(after(moment, 20), after(moment, 90));
+                let clock = self.from(Bound::Turn, after(moment, 20), after(moment, 90))?;
                 self.host(clock, Clock, Free)?;
                 let end = self.talk(talker, after(clock, talker.reaction))?;
                 Ok(end.max(behind))
@@ -308,7 +410,7 @@ impl Session {
             if self.random(2) == 0 {
                 return Ok(after(answer, 1));
             }
-            let free = self.pick(after(answer, 1), after(answer, 80));
+            let free = self.from(Bound::Silence, after(answer, 1), after(answer, 80))?;
             self.host(free, Data, Free)?;
             return Ok(free);
         }
@@ -319,12 +421,12 @@ impl Session {
             let byte = *STATUS.get(self.said).unwrap_or(&0);
             let last = self.said % 3 == 2;
             self.drive(device, lead, Clock, Free)?;
-            let free = self.pick(after(lead, 1), after(lead, 300));
+            let free = self.from(Bound::Take, after(lead, 1), after(lead, 300))?;
             self.host(free, Data, Free)?;
             let mut begin = free;
             if last {
-                let mark = self.pick(after(free, 200), after(free, 400));
-                begin = self.pick(after(mark, 60), after(mark, 160));
+                let mark = self.from(Bound::Mark, after(free, 200), after(free, 400))?;
+                begin = self.from(Bound::Unmark, after(mark, 60), after(mark, 160))?;
                 self.host(mark, Data, Pull)?;
                 self.host(begin, Data, Free)?;
             }
@@ -359,7 +461,7 @@ impl Session {
         }
         self.drive(device, moment, Clock, Pull)?;
         self.drive(device, moment, Data, Free)?;
-        Ok(self.pick(after(first, 961), after(first, 1960)))
+        self.within(Bound::Accept, after(first, 961), after(first, 1960))
     }
 
     // An attention of some bytes, so that no drive listens beside one that talks.
@@ -384,7 +486,8 @@ impl Session {
 }
 
 impl Session {
-    pub fn new(alloc: Global, seed: u64) -> Result<Session, AllocError> {
+    /// A session of one to four drives, whose order of ties rises or falls; of its bounds the one with that number is broken, counted from 1.
+    pub fn new(alloc: Global, seed: u64, flaw: u64) -> Result<Session, AllocError> {
         let mut session = Session {
             seed,
             members: Vec::new(alloc),
@@ -396,9 +499,14 @@ impl Session {
             pulled: 0,
             accepted: 0,
             silent: false,
+            released: 0,
+            bounds: Vec::new(alloc),
+            flaw,
+            broken: None,
         };
         session.silent = session.random(3) == 0;
         let count = after(session.random(4), 1);
+        let falling = session.random(2) == 0;
         for place in 0..4u8 {
             let reaction = match session.random(4) {
                 0 => 1,
@@ -408,7 +516,7 @@ impl Session {
             };
             if (place as u64) < count {
                 session.members.push(Member {
-                    device: 8 + place,
+                    device: if falling { 11 - place } else { 8 + place },
                     reaction,
                     role: Role::Absent,
                     own: FREE,
@@ -420,6 +528,11 @@ impl Session {
 
     // ATN is pulled at this moment: only what lies before stands.
     fn cut(&mut self, alloc: Global, moment: u64) -> Result<(), AllocError> {
+        if let Some((_, flawed, _)) = self.broken
+            && moment <= flawed
+        {
+            self.broken = None;
+        }
         let mut changes = Vec::new(alloc);
         for change in &self.changes {
             if change.moment < moment {
@@ -464,22 +577,57 @@ impl Session {
         Ok(())
     }
 
+    // The acts that count, without their moments.
+    pub fn counted(&self, alloc: Global) -> Result<Vec<(u8, Act)>, AllocError> {
+        let mut counted = Vec::new(alloc);
+        for (_, device, act) in &self.acts {
+            counted.push((*device, *act))?;
+        }
+        Ok(counted)
+    }
+
+    // A moment of a talk: often that of an event, or 1 beside it.
+    fn cut_moment(&mut self, first: u64, last: u64) -> u64 {
+        let (made, asked) = (self.wanted.len() as u64, self.changes.len() as u64);
+        let (of_drive, of_host) = (self.random(made) as usize, self.random(asked) as usize);
+        let beside = self.random(3);
+        let of_drive = match self.wanted.get(of_drive) {
+            Some(event) => event.change.moment,
+            None => first,
+        };
+        let of_host = match self.changes.get(of_host) {
+            Some(change) => change.moment,
+            None => first,
+        };
+        let event = if self.random(2) == 0 {
+            of_drive
+        } else {
+            of_host
+        };
+        let moment = after(event, beside).wrapping_sub(1);
+        if first <= moment && moment <= last {
+            moment
+        } else {
+            self.pick(first, last)
+        }
+    }
+
     // Up to three attentions, each with what follows it; a talk may be cut at any moment behind ATN's release.
     pub fn write(&mut self, alloc: Global) -> Result<u64, AllocError> {
         let mut moment = self.random(50);
         for _ in 0..after(1, self.random(3)) {
             self.attention(alloc, moment)?;
-            let first = after(self.accepted, 61);
             let end = self.release(alloc)?;
+            let talks = self.any(Role::Talker).is_some() && self.any(Role::Listener).is_none();
+            if !talks {
+                moment = self.from(Bound::Attention, end, after(end, 200))?;
+                continue;
+            }
             moment = self.pick(end, after(end, 200));
-            if let (Some(_), None) = (self.any(Role::Talker), self.any(Role::Listener))
-                && self.random(2) == 0
-            {
-                let from = first.max(after(self.accepted, 141));
-                if from < end {
-                    moment = self.pick(from, end.wrapping_sub(1));
-                    self.cut(alloc, moment)?;
-                }
+            let first = after(self.released, 1);
+            if first < end && self.random(2) == 0 {
+                moment = self.cut_moment(first, end.wrapping_sub(1));
+                self.cut(alloc, moment)?;
             }
         }
         self.pull(alloc, moment)?;
