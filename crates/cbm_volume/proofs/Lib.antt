@@ -28,6 +28,3 @@ pub mod PlainSound
 pub mod Claimed
 pub mod RecordsChecked
 pub mod CheckedSound
-pub mod ClaimOwners
-pub mod ClaimedRecords
-pub mod ClaimedDisk
