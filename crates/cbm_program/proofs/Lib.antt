@@ -19,3 +19,4 @@ pub mod LinePrints
 pub mod RunLemmas
 pub mod StartLemmas
 pub mod GcrImages
+pub mod ReadingBack

@@ -43,7 +43,7 @@ end-kept (Some l) None h k = absurd h
 end-kept (Some l) (Some m) h k = sym h ∙ k
 
 -- a line and its end
-broken : (line rest : List ℕ) → IsUnbroken line → lines_of (line ++ 10 ∷ rest) ≡ line ∷ lines_of rest
+pub broken : (line rest : List ℕ) → IsUnbroken line → lines_of (line ++ 10 ∷ rest) ≡ line ∷ lines_of rest
 broken [] rest h = refl
 broken (b ∷ line) rest h = let r = broken line rest h.1 in let n = h.0 in grind (arith, r, n)
 

@@ -7,4 +7,5 @@ pub mod Faults
 pub mod Output
 pub mod Units
 pub mod Running
+pub mod Spelling
 pub mod Images
