@@ -215,6 +215,15 @@ plain_two xs from i a b x y j z h f none e g m n o l = elim (cases_lt j (8 * (i 
   ]
 ]
 
+-- one of them
+pub plain_one : (xs : List ℕ) (from i word marks j : ℕ) → 0 < length xs → ((k : ℕ) → get_or xs k 0 < 256) → from ≤ i → ((k : ℕ) → k < 8 * (i - from) → ten_ones (bits_of xs) (8 * from + k) ≡ false)
+    → word ≡ number 0 (eight xs i) → Marks word marks 9 → marks ≡ 0 → j < 8 * (i + 7 - from) → ten_ones (bits_of xs) (8 * from + j) ≡ false
+plain_one xs from i word marks j z h f none e m n l = elim (cases_lt j (8 * (i - from))) [
+  | inl old ↦ none j old
+  | inr new ↦ (let q : 8 * from + j ≡ 8 * i + (j - 8 * (i - from)) = omega arith in ap (ten_ones (bits_of xs)) q)
+      ∙ plain_word xs i word marks (j - 8 * (i - from)) z h e m n (omega arith)
+]
+
 -- places behind which bytes follow
 pub plain_behind : (t : List Bool) (place plain next bytes j : ℕ) → next ≡ place + plain → next % 8 ≡ 0 → ((k : ℕ) → k < plain → ten_ones t (place + k) ≡ false)
     → ((k : ℕ) → k < 8 * bytes → ten_ones t (8 * (next / 8) + k) ≡ false) → j < plain + 8 * bytes → ten_ones t (place + j) ≡ false

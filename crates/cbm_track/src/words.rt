@@ -82,13 +82,13 @@ fn nines(word: u64) -> u64
 }
 
 /// A number of places from a place on at which no ten ones begin, by the eight bytes there.
-fn plain_at(track: &[u8], place: usize) -> usize
+fn plain_at(track: &[u8], place: usize, word: u64) -> usize
     requires place { place < 8 * length track.now }
-    requires size { length track.now ≤ 7928 }
+    requires window { IsWindow (bits_of track.now) place word }
     ensures most { result ≤ 56 }
     ensures none { (j : ℕ) → j < result → ten_ones (bits_of track.now) (place + j) ≡ false }
 {
-    let marks = nines(window(track, place));
+    let marks = nines(word);
     let room = 56 - place % 8;
     if marks == 0 {
         return room;
@@ -97,14 +97,13 @@ fn plain_at(track: &[u8], place: usize) -> usize
 }
 
 /// How many ones stand from a place on, up to the end of the eighth byte.
-fn ones_at(track: &[u8], place: usize) -> usize
+fn ones_at(track: &[u8], place: usize, word: u64) -> usize
     requires place { place < 8 * length track.now }
-    requires size { length track.now ≤ 7928 }
+    requires window { IsWindow (bits_of track.now) place word }
     ensures most { result ≤ 64 - place % 8 }
     ensures ones { (j : ℕ) → j < result → bit (bits_of track.now) (place + j) ≡ true }
     ensures zero { result < 64 - place % 8 → bit (bits_of track.now) (place + result) ≡ false }
 {
-    let word = window(track, place);
     (word.leading_ones() as usize).min(64 - place % 8)
 }
 
@@ -118,8 +117,9 @@ fn plain_bytes(track: &[u8], from: usize) -> usize
 {
     let mut i = from;
     while i + 15 <= track.len() {
-        if nines(word_inside(track, i)) | nines(word_inside(track, i + 7)) != 0 {
-            return i - from;
+        let first = nines(word_inside(track, i));
+        if first | nines(word_inside(track, i + 7)) != 0 {
+            return if first == 0 { i + 7 - from } else { i - from };
         }
         i += 14;
     }
@@ -134,7 +134,8 @@ pub(crate) fn step_at(track: &[u8], place: usize) -> Option<usize>
     ensures some { IfSome result (λ s. (0 < s) × (s ≤ 63480) × ((j : ℕ) → j < s → ten_ones (bits_of track.now) (place + j) ≡ false)) }
     ensures none { IfNone result (ten_ones (bits_of track.now) place ≡ true) }
 {
-    let plain = plain_at(track, place);
+    let word = window(track, place);
+    let plain = plain_at(track, place, word);
     let next = place + plain;
     if plain > 0 && next % 8 == 0 {
         return Some(plain + 8 * plain_bytes(track, next / 8));
@@ -142,7 +143,7 @@ pub(crate) fn step_at(track: &[u8], place: usize) -> Option<usize>
     if plain > 0 {
         return Some(plain);
     }
-    let ones = ones_at(track, place);
+    let ones = ones_at(track, place, word);
     if ones >= 10 {
         return None;
     }
@@ -161,7 +162,7 @@ pub(crate) fn run_at(track: &[u8], place: usize) -> usize
     let mut run = 0;
     let mut at = place;
     while run < bits {
-        let ones = ones_at(track, at);
+        let ones = ones_at(track, at, window(track, at));
         let whole = 64 - at % 8;
         if ones < whole {
             return (run + ones).min(bits);

@@ -1,6 +1,8 @@
-//! Worked disks, byte by byte, read through the volume over D64 images.
+//! Worked disks, byte by byte, read through the volume over D64 and G64 images.
 #![tactic(auto)]
 
+#[cfg(test)]
+mod circles;
 #[cfg(test)]
 mod damaged;
 #[cfg(test)]
