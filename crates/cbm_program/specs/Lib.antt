@@ -8,4 +8,5 @@ pub mod Output
 pub mod Units
 pub mod Running
 pub mod Spelling
+pub mod Checking
 pub mod Images

@@ -5,11 +5,12 @@ ghost use Rattle.cbm_d64.specs.Image as d64;
 ghost use Rattle.cbm_g64.specs.Tracks as circles;
 ghost use Rattle.cbm_volume.specs.Holding.{HoldsDisk};
 ghost use Rattle.cbm_program.specs.declared.kind.Kind.TheVariants.{D64, G64};
-ghost use Rattle.cbm_program.specs.Scripts.{printed};
+ghost use Rattle.cbm_program.specs.Checking.{printed_behind};
 ghost use Rattle.cbm_program.specs.Output.{Prints, PrintsPart};
 ghost use Rattle.cbm_program.specs.Running.{script_of, AreCarriedOut, EndsAs};
 ghost use Rattle.cbm_program.specs.Images.{kind_of, image_fault, tracks_of, content_of, ImageHolds, StartsOn, Begins, IsOf, IsRefusal};
 
+use crate::checking::print_check;
 use crate::fault::RunFault;
 use crate::kind::{Kind, kind_of};
 use crate::options::Options;
@@ -18,6 +19,7 @@ use cbm_channel::Dos;
 use cbm_d64::{D64Disk, D64Fault};
 use cbm_g64::{G64Disk, G64Fault};
 use cbm_medium::Medium;
+use cbm_volume::Volume;
 use std::alloc::Global;
 use std::io::{Read, Write};
 
@@ -68,24 +70,27 @@ fn save_g64(alloc: Global, disk: &G64Disk) -> Result<Vec<u8>, RunFault>
 /// Runs a script on a drive at power up with this medium, and gives the medium back.
 fn run_with<M: Medium + Drop, R: Read + Drop, W: Write>(
     medium: M,
+    checks: bool,
     reader: R,
     writer: &mut W,
 ) -> Result<M, RunFault>
     ensures ended { EndsAs result (λ bad. IfSome (R.remaining reader) (λ input.
         ((script_of input).bad ≡ bad) × Prints (W.contents writer.old) (W.contents writer.new)
         (λ m. AreCarriedOut (script_of input).requests m × StartsOn (M.tracks medium) (M.content medium) (M.protected medium) m)
-        (λ _. Unit {0}) (printed (script_of input).requests))) }
+        (λ _. Unit {0}) (printed_behind checks (script_of input).requests))) }
     ensures disk { IfOk result (λ after. IfSome (R.remaining reader) (λ input.
         Prints (W.contents writer.old) (W.contents writer.new)
         (λ m. AreCarriedOut (script_of input).requests m × StartsOn (M.tracks medium) (M.content medium) (M.protected medium) m)
-        (λ m. HoldsDisk (M.tracks after) (M.content after) m.disk) (printed (script_of input).requests))) }
+        (λ m. HoldsDisk (M.tracks after) (M.content after) m.disk) (printed_behind checks (script_of input).requests))) }
     ensures fault { OnErr result (IfSome (R.remaining reader) (λ input.
         PrintsPart (W.contents writer.old) (W.contents writer.new)
         (λ m. AreCarriedOut (script_of input).requests m × StartsOn (M.tracks medium) (M.content medium) (M.protected medium) m)
-        (printed (script_of input).requests))) }
+        (printed_behind checks (script_of input).requests))) }
     ensures image { IfErr result (λ fault. (n : ℕ) → fault ≢ RunFault.Image n) }
 {
-    let mut dos = Dos::new(medium);
+    let volume = Volume::open(medium);
+    print_check(&volume, checks, writer)?;
+    let mut dos = Dos::new(volume.into_medium());
     run_on(&mut dos, reader, writer)?;
     Ok(dos.into_medium())
 }
@@ -96,31 +101,31 @@ fn run_d64<R: Read + Drop, W: Write>(
     reader: R,
     writer: &mut W,
     image: &[u8],
-    protected: bool,
+    options: &Options,
 ) -> Result<Vec<u8>, RunFault>
     requires { kind_of image.now ≡ D64 }
     // What was written is what the script prints on the image's disk up to its end or its first bad line.
     ensures ended { EndsAs result (λ bad. IfSome (R.remaining reader) (λ input.
         ((script_of input).bad ≡ bad) × Prints (W.contents writer.old) (W.contents writer.new)
-        (Begins image.now protected (script_of input).requests) (λ _. Unit {0}) (printed (script_of input).requests))) }
+        (Begins image.now options.now.protected (script_of input).requests) (λ _. Unit {0}) (printed_behind options.now.check (script_of input).requests))) }
 
     // The image that is given back holds the disk behind the script.
     ensures disk { IfOk result (λ saved. IfSome (R.remaining reader) (λ input.
-        Prints (W.contents writer.old) (W.contents writer.new) (Begins image.now protected (script_of input).requests)
-        (λ m. ImageHolds (kind_of image.now) saved.items m.disk) (printed (script_of input).requests))) }
+        Prints (W.contents writer.old) (W.contents writer.new) (Begins image.now options.now.protected (script_of input).requests)
+        (λ m. ImageHolds (kind_of image.now) saved.items m.disk) (printed_behind options.now.check (script_of input).requests))) }
 
     // At a fault a beginning of that was written.
     ensures fault { OnErr result (IfSome (R.remaining reader) (λ input.
-        PrintsPart (W.contents writer.old) (W.contents writer.new) (Begins image.now protected (script_of input).requests)
-        (printed (script_of input).requests))) }
+        PrintsPart (W.contents writer.old) (W.contents writer.new) (Begins image.now options.now.protected (script_of input).requests)
+        (printed_behind options.now.check (script_of input).requests))) }
 
     // The image is refused by its own fault, before anything is read or written, and by no other.
     ensures refused { IfSome (image_fault (kind_of image.now) image.now)
         (λ n. (result ≡ Err (RunFault.Image n)) × Keeps (W.contents writer.old) (W.contents writer.new)) }
     ensures cause { (n : ℕ) → result ≡ Err (RunFault.Image n) → image_fault (kind_of image.now) image.now ≡ Some n }
 {
-    let disk = open_d64(alloc, image, protected)?;
-    let disk = run_with(disk, reader, writer)?;
+    let disk = open_d64(alloc, image, options.protected)?;
+    let disk = run_with(disk, options.check, reader, writer)?;
     save_d64(alloc, &disk)
 }
 
@@ -130,37 +135,37 @@ fn run_g64<R: Read + Drop, W: Write>(
     reader: R,
     writer: &mut W,
     image: &[u8],
-    protected: bool,
+    options: &Options,
 ) -> Result<Vec<u8>, RunFault>
     requires { kind_of image.now ≡ G64 }
     // What was written is what the script prints on the image's disk up to its end or its first bad line.
     ensures ended { EndsAs result (λ bad. IfSome (R.remaining reader) (λ input.
         ((script_of input).bad ≡ bad) × Prints (W.contents writer.old) (W.contents writer.new)
-        (Begins image.now protected (script_of input).requests) (λ _. Unit {0}) (printed (script_of input).requests))) }
+        (Begins image.now options.now.protected (script_of input).requests) (λ _. Unit {0}) (printed_behind options.now.check (script_of input).requests))) }
 
     // The image that is given back holds the disk behind the script.
     ensures disk { IfOk result (λ saved. IfSome (R.remaining reader) (λ input.
-        Prints (W.contents writer.old) (W.contents writer.new) (Begins image.now protected (script_of input).requests)
-        (λ m. ImageHolds (kind_of image.now) saved.items m.disk) (printed (script_of input).requests))) }
+        Prints (W.contents writer.old) (W.contents writer.new) (Begins image.now options.now.protected (script_of input).requests)
+        (λ m. ImageHolds (kind_of image.now) saved.items m.disk) (printed_behind options.now.check (script_of input).requests))) }
 
     // At a fault a beginning of that was written.
     ensures fault { OnErr result (IfSome (R.remaining reader) (λ input.
-        PrintsPart (W.contents writer.old) (W.contents writer.new) (Begins image.now protected (script_of input).requests)
-        (printed (script_of input).requests))) }
+        PrintsPart (W.contents writer.old) (W.contents writer.new) (Begins image.now options.now.protected (script_of input).requests)
+        (printed_behind options.now.check (script_of input).requests))) }
 
     // The image is refused by its own fault, before anything is read or written, and by no other.
     ensures refused { IfSome (image_fault (kind_of image.now) image.now)
         (λ n. (result ≡ Err (RunFault.Image n)) × Keeps (W.contents writer.old) (W.contents writer.new)) }
     ensures cause { (n : ℕ) → result ≡ Err (RunFault.Image n) → image_fault (kind_of image.now) image.now ≡ Some n }
 {
-    let disk = open_g64(alloc, image, protected)?;
-    let disk = run_with(disk, reader, writer)?;
+    let disk = open_g64(alloc, image, options.protected)?;
+    let disk = run_with(disk, options.check, reader, writer)?;
     save_g64(alloc, &disk)
 }
 
 /// Runs a script on the disk of an image, and gives the image as it is then, of the same format.
 ///
-/// The image is tested before the script is read. The script is read a line at a time, and what a line prints is
+/// The image is tested before the script is read, and if a check is asked for, its line is printed first. The script is read a line at a time, and what a line prints is
 /// written before the next one is read. Takes memory for the disk and for the image.
 pub fn run<R: Read + Drop, W: Write>(
     alloc: Global,
@@ -172,17 +177,17 @@ pub fn run<R: Read + Drop, W: Write>(
     // What was written is what the script prints on the image's disk up to its end or its first bad line.
     ensures ended { EndsAs result (λ bad. IfSome (R.remaining reader) (λ input.
         ((script_of input).bad ≡ bad) × Prints (W.contents writer.old) (W.contents writer.new)
-        (Begins image.now options.now.protected (script_of input).requests) (λ _. Unit {0}) (printed (script_of input).requests))) }
+        (Begins image.now options.now.protected (script_of input).requests) (λ _. Unit {0}) (printed_behind options.now.check (script_of input).requests))) }
 
     // The image that is given back holds the disk behind the script.
     ensures disk { IfOk result (λ saved. IfSome (R.remaining reader) (λ input.
         Prints (W.contents writer.old) (W.contents writer.new) (Begins image.now options.now.protected (script_of input).requests)
-        (λ m. ImageHolds (kind_of image.now) saved.items m.disk) (printed (script_of input).requests))) }
+        (λ m. ImageHolds (kind_of image.now) saved.items m.disk) (printed_behind options.now.check (script_of input).requests))) }
 
     // At a fault a beginning of that was written.
     ensures fault { OnErr result (IfSome (R.remaining reader) (λ input.
         PrintsPart (W.contents writer.old) (W.contents writer.new) (Begins image.now options.now.protected (script_of input).requests)
-        (printed (script_of input).requests))) }
+        (printed_behind options.now.check (script_of input).requests))) }
 
     // The image is refused by its own fault, before anything is read or written, and by no other.
     ensures refused { IfSome (image_fault (kind_of image.now) image.now)
@@ -190,7 +195,7 @@ pub fn run<R: Read + Drop, W: Write>(
     ensures cause { (n : ℕ) → result ≡ Err (RunFault.Image n) → image_fault (kind_of image.now) image.now ≡ Some n }
 {
     match kind_of(image) {
-        Kind::D64 => run_d64(alloc, reader, writer, image, options.protected),
-        Kind::G64 => run_g64(alloc, reader, writer, image, options.protected),
+        Kind::D64 => run_d64(alloc, reader, writer, image, options),
+        Kind::G64 => run_g64(alloc, reader, writer, image, options),
     }
 }

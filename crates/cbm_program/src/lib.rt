@@ -1,6 +1,7 @@
 //! A script of requests, and what it prints.
 #![tactic(auto)]
 
+mod checking;
 mod fault;
 mod getting;
 mod images;

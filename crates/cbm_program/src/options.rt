@@ -5,4 +5,6 @@ pub struct Options {
     pub device: u8,
     /// The disk refuses to be written.
     pub protected: bool,
+    /// Whether the disk is sound is printed before the script runs.
+    pub check: bool,
 }
