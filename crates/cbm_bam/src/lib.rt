@@ -4,4 +4,4 @@
 mod map;
 mod medium_map;
 
-pub use medium_map::{free_blocks, geometry, is_free, read_map};
+pub use medium_map::{free_blocks, geometry, is_counted, is_free, read_map};

@@ -99,9 +99,10 @@ pub fn is_wide(map: &[u8; 256]) -> bool
         && is_counted(map, 40)
 }
 
-fn is_counted(map: &[u8; 256], track: u8) -> bool
-    requires { (35 < track) × (track ≤ 40) }
-    ensures { result ≡ (count_in map.now track == tally (is_free_in map.now) track 17) }
+/// Whether the count of a track is the number of its free bits.
+pub fn is_counted(map: &[u8; 256], track: u8) -> bool
+    requires { track ≤ 40 }
+    ensures { result ≡ (count_in map.now track == tally (is_free_in map.now) track (sectors_on track)) }
 {
     count(map, track) == free_on(map, track)
 }

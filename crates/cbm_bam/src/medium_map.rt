@@ -1,6 +1,6 @@
-ghost use Rattle.std.specs.Prelude.{◌≡◌, ◌≤◌, Ok, Err, IsOk, IfOk, IfErr, OnOk};
-ghost use Rattle.cbm_medium.specs.Place.{directory_head};
-ghost use Rattle.cbm_bam.specs.Map.{map_of, is_free_in, free_in, geometry_of};
+ghost use Rattle.std.specs.Prelude.{◌≡◌, ◌==◌, ◌≤◌, Ok, Err, IsOk, IfOk, IfErr, OnOk};
+ghost use Rattle.cbm_medium.specs.Place.{directory_head, sectors_on};
+ghost use Rattle.cbm_bam.specs.Map.{map_of, is_free_in, count_in, tally, free_in, geometry_of};
 
 use crate::map;
 use cbm_medium::{Address, Geometry, Medium, Trouble};
@@ -55,4 +55,17 @@ pub fn free_blocks<M: Medium>(medium: &M, geometry: Geometry) -> Result<u16, Tro
 {
     let map = read_map(medium, geometry)?;
     Ok(map::free_blocks(&map, geometry.tracks()))
+}
+
+/// Whether the map's count of a track is the number of its free bits.
+pub fn is_counted<M: Medium>(medium: &M, geometry: Geometry, track: u8) -> Result<bool, Trouble>
+    requires room { geometry ≤ M.tracks medium.now }
+    requires track { track ≤ 40 }
+    ensures ok { let map = map_of (M.content medium.now) in
+        IfOk result (λ counted. counted ≡ (count_in map track == tally (is_free_in map) track (sectors_on track))) }
+    ensures read { OnOk result (IsOk (M.content medium.now directory_head)) }
+    ensures err { IfErr result (λ t. (M.content medium.now directory_head ≡ Err t.code) × (t.track ≡ 18) × (t.sector ≡ 0)) }
+{
+    let map = read_map(medium, geometry)?;
+    Ok(map::is_counted(&map, track))
 }

@@ -1,6 +1,6 @@
 ghost use Rattle.std.specs.Prelude.{◌≡◌, ◌+◌, ◌*◌, ◌%◌, ◌<◌, ◌≤◌, ◌↔◌, IsTrue, length, slice_index};
 ghost use Rattle.cbm_file.specs.Types.{type_with};
-ghost use Rattle.cbm_directory.specs.Entries.{entry_of, type_byte, bit_of, is_closed, first_block, first_side, width_of, name_in};
+ghost use Rattle.cbm_directory.specs.Entries.{entry_of, type_byte, bit_of, is_closed, is_relative, first_block, first_side, width_of, name_in};
 
 use cbm_file::{FileType, before_filler};
 use cbm_medium::Link;
@@ -74,6 +74,13 @@ impl Entry {
         ensures { result ≡ bit_of (type_byte self.now) 6 }
     {
         self.bytes[TYPE] / 64 % 2 == 1
+    }
+
+    /// Whether its file is relative.
+    pub fn is_relative(&self) -> bool
+        ensures { result ≡ is_relative self.now }
+    {
+        self.bytes[TYPE] % 16 == 4
     }
 
     /// The link to its file's first block.

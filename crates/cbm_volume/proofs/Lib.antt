@@ -17,3 +17,17 @@ pub mod Written
 pub mod Lengths
 pub mod Listing
 pub mod Telling
+pub mod Marks
+pub mod Claiming
+pub mod FirstBad
+pub mod SidesListed
+pub mod SlotSteps
+pub mod ClaimedSound
+pub mod SoundClaimed
+pub mod PlainSound
+pub mod Claimed
+pub mod RecordsChecked
+pub mod CheckedSound
+pub mod ClaimOwners
+pub mod ClaimedRecords
+pub mod ClaimedDisk

@@ -3,6 +3,9 @@ pub mod Layouts
 pub mod Writers
 pub mod Holding
 pub use Rattle.cbm_file.specs.Files
+pub mod Marks
+pub mod Unsound
+pub mod Plain
 pub use Rattle.cbm_medium.specs.Content
 pub use Rattle.cbm_bam.specs.Map
 pub use Rattle.cbm_chain.specs.Reading

@@ -5,9 +5,13 @@ ghost use Rattle.cbm_bam.specs.Map.{map_of, free_in, geometry_of};
 ghost use Rattle.cbm_chain.specs.Reading.{rest_of, one_less, held_from, IsSettled};
 ghost use Rattle.cbm_directory.specs.Entries.{first_block};
 ghost use Rattle.cbm_directory.specs.Slots.{Answers, Finds, Gives, IfGiven, directory_of, left_of, most_left};
+ghost use Rattle.cbm_volume.specs.Layouts.{Layout, Sound};
+ghost use Rattle.cbm_volume.specs.Unsound.{ClaimsDisk, DiskFault};
 ghost use Rattle.cbm_volume.specs.Holding.{HoldsDisk, ShowsSlot, StandsAt, HasBytes, TellsOf};
 
+use crate::check::check_disk;
 use crate::label::Label;
+use crate::unsound::Unsound;
 use cbm_chain::ChainReader;
 use cbm_directory::{Entry, Slots, Wanted};
 use cbm_medium::{Geometry, Medium, Trouble};
@@ -47,6 +51,17 @@ impl<M: Medium> Volume<M> {
         ensures room { result ≤ M.tracks self.now }
     {
         cbm_bam::geometry(&self.medium)
+    }
+
+    /// Looks whether the disk is sound. An `Ok` says that each header, the map, and the sectors of the directory and of each
+    /// closed file in their order have nothing wrong with them, none claimed twice; an `Err` is the first fault met on that way.
+    pub fn check(&self) -> Result<(), Unsound>
+        ensures sound { OnOk result ((l : Layout) × Sound (geometry_of (M.tracks self.now) (M.content self.now)) (M.content self.now) l) }
+        ensures exact { (l : Layout) → Sound (geometry_of (M.tracks self.now) (M.content self.now)) (M.content self.now) l → IsOk result }
+        ensures ok { OnOk result (ClaimsDisk (geometry_of (M.tracks self.now) (M.content self.now)) (M.content self.now)) }
+        ensures err { IfErr result (λ u. DiskFault (geometry_of (M.tracks self.now) (M.content self.now)) (M.content self.now) u) }
+    {
+        check_disk(&self.medium)
     }
 
     /// The disk's title and mark, or the medium's fault at 18/0.

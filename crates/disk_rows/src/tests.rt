@@ -170,3 +170,133 @@ fn an_unreadable_map_is_told(rt: HostRuntime) -> Result<(), Fail> {
     assert!(rt; matches!(volume.free(), Err(met) if met == trouble));
     Ok(())
 }
+
+/// What `check` answers: zeros for a sound disk, else the number and the place of the fault.
+fn checked(alloc: Global, image: &[u8]) -> Result<[u8; 3], Fail> {
+    Ok(match volume_of(alloc, image)?.check() {
+        Ok(()) => [0; 3],
+        Err(unsound) => [unsound.number, unsound.track, unsound.sector],
+    })
+}
+
+#[test]
+fn a_sound_disk_passes(rt: HostRuntime) -> Result<(), Fail> {
+    let mut image = formatted(rt.alloc(), 174_848)?;
+    assert_eq!(rt; checked(rt.alloc(), image.as_slice())?, [0; 3]);
+    enter(&mut image, b"HELLO", 17, 0);
+    put(&mut image, place(17, 0), &[0, 4, 1, 2, 3]);
+    assert_eq!(rt; checked(rt.alloc(), image.as_slice())?, [0; 3]);
+    Ok(())
+}
+
+#[test]
+fn each_fault_is_told_by_its_number(rt: HostRuntime) -> Result<(), Fail> {
+    let (head, entries) = (place(18, 0), place(18, 1));
+    let rows: [(&str, usize, &[u8], [u8; 3]); 9] = [
+        ("a count", head.wrapping_add(4), &[0x14], [1, 1, 0]),
+        (
+            "18/0 free",
+            head.wrapping_add(72),
+            &[0x12, 0xfd],
+            [2, 18, 0],
+        ),
+        ("a loop", place(17, 0), &[17, 0], [3, 17, 0]),
+        (
+            "a link off the disk",
+            entries.wrapping_add(3),
+            &[36, 0],
+            [4, 36, 0],
+        ),
+        ("a link to track 18", place(17, 0), &[18, 5], [4, 18, 5]),
+        ("the directory off track 18", entries, &[17, 0], [6, 17, 0]),
+        ("the directory in a loop", entries, &[18, 1], [3, 18, 1]),
+        ("no type", entries.wrapping_add(2), &[0x85], [8, 18, 1]),
+        (
+            "a free block",
+            entries.wrapping_add(3),
+            &[17, 1],
+            [2, 17, 1],
+        ),
+    ];
+    for (row, at, bytes, wanted) in rows {
+        let mut image = formatted(rt.alloc(), 174_848)?;
+        enter(&mut image, b"HELLO", 17, 0);
+        put(&mut image, place(17, 0), &[0, 4, 1, 2, 3]);
+        put(&mut image, at, bytes);
+        assert_eq!(rt; checked(rt.alloc(), image.as_slice())?, wanted, "{row}");
+    }
+    Ok(())
+}
+
+#[test]
+fn a_fault_of_a_sector_is_told_where_it_matters(rt: HostRuntime) -> Result<(), Fail> {
+    for (code, wanted) in [(5, [9, 18, 0]), (2, [5, 18, 0]), (7, [0; 3])] {
+        let mut image = formatted(rt.alloc(), 174_848)?;
+        for _ in 0..683 {
+            image.push(1)?;
+        }
+        put(&mut image, 175_205, &[code]);
+        assert_eq!(rt; checked(rt.alloc(), image.as_slice())?, wanted, "{code}");
+    }
+    Ok(())
+}
+
+// A relative file of one block at 17/0 and the side sector 17/10, both taken: its records are of 100 bytes.
+fn relative(alloc: Global) -> Result<Vec<u8>, Fail> {
+    let mut image = formatted(alloc, 174_848)?;
+    enter(&mut image, b"REL", 17, 0);
+    let entry = place(18, 1);
+    put(&mut image, entry.wrapping_add(2), &[0x84]);
+    put(&mut image, entry.wrapping_add(21), &[17, 10, 100]);
+    put(
+        &mut image,
+        place(18, 0).wrapping_add(68),
+        &[19, 0xfe, 0xfb, 0x1f],
+    );
+    put(&mut image, place(17, 0), &[0, 201]);
+    put(&mut image, place(17, 10), &[0, 17, 0, 100, 17, 10]);
+    put(&mut image, place(17, 10).wrapping_add(16), &[17, 0]);
+    Ok(image)
+}
+
+#[test]
+fn side_sectors_are_looked_at(rt: HostRuntime) -> Result<(), Fail> {
+    let (entry, side) = (place(18, 1), place(17, 10));
+    let rows: [(&str, usize, &[u8], [u8; 3]); 9] = [
+        ("nothing", side, &[0], [0; 3]),
+        ("its number", side.wrapping_add(2), &[1], [7, 17, 10]),
+        ("its length", side.wrapping_add(3), &[99], [7, 17, 10]),
+        ("not itself", side.wrapping_add(4), &[17, 11], [7, 17, 10]),
+        (
+            "another block",
+            side.wrapping_add(16),
+            &[17, 2],
+            [7, 17, 10],
+        ),
+        (
+            "one block too many",
+            side.wrapping_add(18),
+            &[17, 0],
+            [7, 17, 10],
+        ),
+        (
+            "a second that is free",
+            side.wrapping_add(6),
+            &[17, 11],
+            [2, 17, 11],
+        ),
+        (
+            "a second off the disk",
+            side.wrapping_add(6),
+            &[17, 21],
+            [4, 17, 21],
+        ),
+        ("no length", entry.wrapping_add(23), &[0], [7, 17, 10]),
+    ];
+    for (row, at, bytes, wanted) in rows {
+        let mut image = relative(rt.alloc())?;
+        put(&mut image, at, bytes);
+        assert_eq!(rt; checked(rt.alloc(), image.as_slice())?, wanted, "{row}");
+    }
+    Ok(())
+}

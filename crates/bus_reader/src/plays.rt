@@ -1,0 +1,287 @@
+//! One to four drives and a host, played plainly: each event is told to every other party before the next.
+
+ghost use Rattle.std.specs.Prelude.{◌^◌, ◌<◌, ◌+◌, ◌≡◌};
+
+use crate::judge::Judge;
+use Line::*;
+use Way::*;
+use cbm_iec::*;
+use std::alloc::{AllocError, Global};
+use std::process::Abort;
+
+// The first status after switching on, as the talker says it.
+pub const STATUS: &[u8; 27] = b"73,CBM DOS V2.6 1541,00,00\r";
+
+// One to four drives and a host; every drive says the status from the first byte that was not taken.
+#[derive(Drop)]
+pub struct Bus {
+    pub ports: Vec<Port>,
+    pub host: Lines,
+    pub said: usize,
+    pub short: bool,
+    pub mute: bool,
+    pub heard: Vec<(u8, Act)>,
+    pub events: Vec<Event>,
+}
+
+pub fn is_low(way: Way) -> bool {
+    match way {
+        Pull => true,
+        Free => false,
+    }
+}
+
+pub fn with_change(lines: Lines, change: Change) -> Lines {
+    let low = is_low(change.way);
+    match change.line {
+        Atn => Lines {
+            atn_low: low,
+            ..lines
+        },
+        Clock => Lines {
+            clock_low: low,
+            ..lines
+        },
+        Data => Lines {
+            data_low: low,
+            ..lines
+        },
+    }
+}
+
+impl Bus {
+    pub fn new(alloc: Global, parties: &[Party]) -> Result<Bus, AllocError> {
+        let mut ports = Vec::new(alloc);
+        for party in parties {
+            ports.push(Port::new(*party))?;
+        }
+        Ok(Bus {
+            ports,
+            host: Lines {
+                atn_low: false,
+                clock_low: false,
+                data_low: false,
+            },
+            said: 0,
+            short: false,
+            mute: false,
+            heard: Vec::new(alloc),
+            events: Vec::new(alloc),
+        })
+    }
+
+    // What all parties but that drive hold.
+    fn others(&self, device: u8) -> Lines {
+        let mut lines = self.host;
+        for port in &self.ports {
+            if port.party.device != device {
+                lines.clock_low = lines.clock_low || port.own.clock_low;
+                lines.data_low = lines.data_low || port.own.data_low;
+            }
+        }
+        lines
+    }
+
+    // The byte to say, and whether it is the last: of the whole status, or of three bytes at a time.
+    fn peek(&self) -> Option<(u8, bool)> {
+        if self.mute {
+            return None;
+        }
+        match STATUS.get(self.said) {
+            Some(byte) => Some((
+                *byte,
+                if self.short {
+                    self.said % 3 == 2
+                } else {
+                    self.said == 26
+                },
+            )),
+            None => None,
+        }
+    }
+
+    fn count(&mut self, device: u8, act: Option<Act>) -> Result<(), AllocError> {
+        if let Some(act) = act {
+            if let Act::Said(_, _) = act {
+                self.said = if self.said < 26 || !self.short && self.said < 100 {
+                    self.said + 1
+                } else {
+                    0
+                };
+            }
+            self.heard.push((device, act))?;
+        }
+        Ok(())
+    }
+
+    // Each drive is told what the others hold.
+    fn tell(&mut self, rt: &impl Abort, moment: u64) -> Result<(), AllocError> {
+        assert!(rt; moment < 1 << 60);
+        for place in 0..self.ports.len() {
+            assert!(rt; place < self.ports.len());
+            let mut port = self.ports[place];
+            let others = self.others(port.party.device);
+            if others != port.others {
+                let act = port.line(moment, others);
+                self.ports[place] = port;
+                self.count(port.party.device, act)?;
+            }
+        }
+        Ok(())
+    }
+
+    // The reactions that are due at this moment, in the order of the drives.
+    fn react(&mut self, rt: &impl Abort, moment: u64) -> Result<(), AllocError> {
+        assert!(rt; moment < 1 << 60);
+        for place in 0..self.ports.len() {
+            assert!(rt; place < self.ports.len());
+            let mut port = self.ports[place];
+            if port.next_due() == Some(moment) {
+                assert!(rt; port.party.device < 31);
+                let reaction = port.due(moment, self.peek());
+                self.ports[place] = port;
+                self.count(port.party.device, reaction.act)?;
+                for change in &reaction.changes {
+                    self.events.push(Event {
+                        who: Who::Drive(port.party.device),
+                        change: *change,
+                    })?;
+                }
+                self.tell(rt, moment)?;
+            }
+        }
+        Ok(())
+    }
+
+    pub fn next_due(&self) -> Option<u64> {
+        let mut first = None;
+        for port in &self.ports {
+            if let Some(at) = port.next_due() {
+                first = match first {
+                    Some(other) if other <= at => Some(other),
+                    _ => Some(at),
+                };
+            }
+        }
+        first
+    }
+
+    // All reactions before the limit.
+    fn settle(&mut self, rt: &impl Abort, limit: u64) -> Result<(), AllocError> {
+        for _ in 0..100_000 {
+            match self.next_due() {
+                Some(at) if at < limit => self.react(rt, at)?,
+                _ => return Ok(()),
+            }
+        }
+        assert!(rt; false, "the reactions come to an end");
+        Ok(())
+    }
+
+    pub fn play(
+        &mut self,
+        rt: &impl Abort,
+        changes: &[Change],
+        end: u64,
+    ) -> Result<(), AllocError> {
+        assert!(rt; end < 1 << 60);
+        for change in changes {
+            self.settle(rt, change.moment)?;
+            self.events.push(Event {
+                who: Who::Host,
+                change: *change,
+            })?;
+            self.host = with_change(self.host, *change);
+            self.tell(rt, change.moment)?;
+        }
+        self.settle(rt, end + 1)
+    }
+
+    // What the plain reader says of the trace up to an end.
+    pub fn judge(&self, alloc: Global, end: u64) -> Result<Judge, AllocError> {
+        let mut parties = Vec::new(alloc);
+        for port in &self.ports {
+            parties.push(port.party)?;
+        }
+        Judge::of(alloc, &parties, &self.events, end)
+    }
+
+    // The drives' changes are these.
+    pub fn expect(&self, rt: &impl Abort, row: &str, wanted: &[(u64, u8, Line, Way)]) {
+        self.expect_until(rt, row, 0, u64::MAX, wanted);
+    }
+
+    // The drives' changes from a moment on and before another are these.
+    pub fn expect_until(
+        &self,
+        rt: &impl Abort,
+        row: &str,
+        from: u64,
+        until: u64,
+        wanted: &[(u64, u8, Line, Way)],
+    ) {
+        let mut place = 0;
+        for event in &self.events {
+            if let Who::Drive(device) = event.who
+                && event.change.moment >= from
+                && event.change.moment < until
+            {
+                assert!(rt; place < wanted.len(), "{row}: too many changes");
+                let change = event.change;
+                assert_eq!(rt;
+                    (change.moment, device, change.line, change.way),
+                    wanted[place],
+                    "{row}: change {place}"
+                );
+                place += 1;
+            }
+        }
+        assert_eq!(rt; place, wanted.len(), "{row}: the number of changes");
+    }
+}
+
+// A change of the host.
+pub fn at(moment: u64, line: Line, way: Way) -> Change {
+    Change { moment, line, way }
+}
+
+// A frame of the host whose bits take 40 each; DATA is set with CLOCK's pull. The last pull is 320 behind the start.
+pub fn send(changes: &mut Vec<Change>, byte: u8, ready: u64, start: u64) -> Result<(), AllocError>
+    requires { start < 2 ^ 50 }
+{
+    changes.push(at(ready, Clock, Free))?;
+    changes.push(at(start, Clock, Pull))?;
+    let mut left = byte;
+    let mut data_low = false;
+    for k in 0..8u64 {
+        let moment = start + 40 * k;
+        let low = left % 2 == 0;
+        if low != data_low {
+            changes.push(at(moment, Data, if low { Pull } else { Free }))?;
+        }
+        data_low = low;
+        left = left / 2;
+        changes.push(at(moment + 20, Clock, Free))?;
+        changes.push(at(moment + 40, Clock, Pull))?;
+    }
+    if data_low {
+        changes.push(at(start + 320, Data, Free))?;
+    }
+    Ok(())
+}
+
+// LISTEN to a device: the attention byte at 1000, its start at 1040 and all from there on shifted, ATN free at 1400.
+pub fn listen(alloc: Global, byte: u8, shift: u64) -> Result<Vec<Change>, AllocError>
+    requires { shift < 2 ^ 40 }
+{
+    let mut changes = Vec::new(alloc);
+    changes.push(at(0, Atn, Pull))?;
+    changes.push(at(0, Clock, Pull))?;
+    send(&mut changes, byte, 1000, 1040 + shift)?;
+    changes.push(at(1400 + shift, Atn, Free))?;
+    Ok(changes)
+}
+
+pub fn one(device: u8, reaction: u8) -> Party {
+    Party { device, reaction }
+}

@@ -1,0 +1,172 @@
+//! A drive that talks in a reading: the turnaround, and the frames of its bytes.
+
+use crate::bits::owed_change;
+use crate::phase::Phase;
+use crate::reading::*;
+use Line::*;
+use Way::*;
+use cbm_iec::*;
+use std::alloc::AllocError;
+
+impl Reading {
+    /// A turnaround may begin behind a byte, with a talker and no listener.
+    pub fn may_turn(&self, moment: u64) -> bool {
+        let alone = self.has(Role::Talker) && !self.has(Role::Listener);
+        alone && self.is_clear() && self.is_accepted(moment)
+    }
+
+    /// CLOCK is free: the talker answers, with a byte to say or with none.
+    pub fn turned(mut self, moment: u64, next: &mut Vec<Reading>) -> Result<(), AllocError> {
+        let Some((place, reaction)) = self.first_with(Role::Talker) else {
+            return Ok(());
+        };
+        let answer = after(moment, reaction);
+        let mut other = self.copy()?;
+        self.phase = Phase::Leading(answer);
+        self.owe(place, answer, Clock, Pull, None)?;
+        self.owe(place, answer, Data, Free, None)?;
+        next.push(self)?;
+        other.phase = Phase::Silent(answer);
+        other.owe(place, answer, Data, Free, Some(Act::Silent))?;
+        Ok(next.push(other)?)
+    }
+
+    /// The talker frees CLOCK for a byte, last or not.
+    pub fn offer(mut self, start: u64, next: &mut Vec<Reading>) -> Result<(), AllocError> {
+        let Some((place, _)) = self.first_with(Role::Talker) else {
+            return Ok(());
+        };
+        self.owe(place, start, Clock, Free, None)?;
+        let mut other = self.copy()?;
+        self.phase = Phase::Offered(false, start);
+        other.phase = Phase::Offered(true, start);
+        next.push(self)?;
+        Ok(next.push(other)?)
+    }
+
+    /// DATA was changed by the host while a drive talks.
+    pub fn answer(
+        mut self,
+        moment: u64,
+        way: Way,
+        next: &mut Vec<Reading>,
+    ) -> Result<(), AllocError> {
+        match (self.phase, way) {
+            (Phase::Silent(at), Free) if at < moment => self.phase = Phase::Over,
+            (Phase::Offered(false, start), Free) if start < moment => {
+                return self.send(moment, false, next);
+            }
+            (Phase::Offered(true, start), Free) if start < moment => {
+                self.phase = Phase::Marking(moment);
+            }
+            (Phase::Marking(free), Pull) if after(free, 200) <= moment => {
+                self.phase = Phase::Marked(moment);
+            }
+            (Phase::Marked(pull), Free) if after(pull, 60) <= moment => {
+                return self.send(moment, true, next);
+            }
+            (Phase::Waiting(last, first, byte), Pull) => {
+                return self.accept(moment, last, first, byte, next);
+            }
+            _ => return Ok(()),
+        }
+        Ok(next.push(self)?)
+    }
+
+    /// The bits begin a reaction behind the host's last release of DATA.
+    fn send(mut self, moment: u64, last: bool, next: &mut Vec<Reading>) -> Result<(), AllocError> {
+        let Some((_, reaction)) = self.first_with(Role::Talker) else {
+            return Ok(());
+        };
+        self.phase = Phase::Sending(last, after(moment, reaction), 0, 0);
+        self.bits(next)
+    }
+
+    /// The next bit, 0 or 1, or the end of the byte: CLOCK is pulled and DATA freed.
+    pub fn bits(mut self, next: &mut Vec<Reading>) -> Result<(), AllocError> {
+        let (Phase::Sending(last, first, byte, count), Some((place, _))) = (
+            self.phase,
+            self.first_with(Role::Talker),
+        ) else {
+            return Ok(());
+        };
+        if count < 8 {
+            let other = self.copy()?;
+            self.bit_of(
+                place,
+                Phase::Sending(last, first, byte / 2, count + 1),
+                next,
+            )?;
+            let one = Phase::Sending(last, first, byte / 2 + 128, count + 1);
+            return other.bit_of(place, one, next);
+        }
+        let end = after(first, 960);
+        self.owe(place, end, Clock, Pull, None)?;
+        if self.holds_data(place) {
+            self.owe(place, end, Data, Free, None)?;
+        }
+        self.phase = Phase::Waiting(last, first, byte);
+        Ok(next.push(self)?)
+    }
+
+    fn holds_data(&self, place: usize) -> bool {
+        match self.seats.get(place) {
+            Some(seat) => seat.own.data_low,
+            None => false,
+        }
+    }
+
+    fn device_at(&self, place: usize) -> u8 {
+        match self.seats.get(place) {
+            Some(seat) => seat.party.device,
+            None => 0,
+        }
+    }
+
+    /// A bit: CLOCK pulled with DATA by the bit, and CLOCK freed 60 later.
+    fn bit_of(
+        mut self,
+        place: usize,
+        phase: Phase,
+        next: &mut Vec<Reading>,
+    ) -> Result<(), AllocError> {
+        if let Phase::Sending(_, first, byte, count) = phase {
+            let at = after(first, 120 * (count as u64)).wrapping_sub(120);
+            self.owe(place, at, Clock, Pull, None)?;
+            let low = byte < 128;
+            if low != self.holds_data(place) {
+                self.owe(place, at, Data, if low { Pull } else { Free }, None)?;
+            }
+            self.owe(place, after(at, 60), Clock, Free, None)?;
+        }
+        self.phase = phase;
+        Ok(next.push(self)?)
+    }
+
+    /// The host takes the byte 1 to 1,000 behind the last pull of CLOCK.
+    fn accept(
+        mut self,
+        moment: u64,
+        last: bool,
+        first: u64,
+        byte: u8,
+        next: &mut Vec<Reading>,
+    ) -> Result<(), AllocError> {
+        let fits = after(first, 961) <= moment && moment <= after(first, 1960);
+        let Some((place, reaction)) = self.first_with(Role::Talker) else {
+            return Ok(());
+        };
+        if !fits || !self.is_clear() {
+            return Ok(());
+        }
+        let device = self.device_at(place);
+        self.acts.push((device, Act::Said(byte, last)))?;
+        if !last {
+            return self.offer(after(moment, 100), next);
+        }
+        self.phase = Phase::Taken;
+        let freed = owed_change(place, after(moment, reaction), Clock, Free);
+        self.owed.push(freed)?;
+        Ok(next.push(self)?)
+    }
+}

@@ -1,0 +1,119 @@
+-- The places that a side sector names, one by one.
+use Rattle.std.proofs.Common.{◌≡◌, ◌≢◌, ℕ, suc, ◌+◌, ◌-◌, ◌*◌, ◌<◌, ◌≤◌, List, [], ◌∷◌, get_or, drop, Bool, true, false, Option, Some, None, Ok, Err, refl, sym, ap, subst, ◌∙◌, arith, inl, inr}
+use Rattle.std.specs.Prelude.{if◌then◌else◌, ◌&&◌, ◌==◌}
+use Rattle.std.proofs.lemmas.List.{get_or-drop, drop-drop}
+use Rattle.std.proofs.lemmas.Bool.{eq-eqb, ne_eqb}
+use Rattle.cbm_medium.specs.Place.{Place, has}
+use Rattle.cbm_medium.specs.Content.{Content}
+use Rattle.cbm_medium.specs.Links.{bytes_at, or_nothing, place_in}
+use Rattle.cbm_relfile.specs.SideSectors.{named_in}
+use Rattle.cbm_bam.specs.Map.{with_bit}
+use Rattle.cbm_volume.specs.Unsound.{wrong_at, fault_at, ClaimsEach, MeetsAmong, behind_first, step_along, along, listed_at, listed_blocks, side_along, side_at, sides_along}
+use Rattle.cbm_volume.specs.declared.unsound.Part.{Part}
+use Rattle.cbm_volume.specs.declared.unsound.Unsound.{Unsound}
+
+at_drop : (k i : ℕ) (bytes : List ℕ) → get_or (drop k bytes) i 0 ≡ get_or bytes (k + i) 0
+at_drop k i bytes = get_or-drop k bytes i 0
+
+pub named_none : (m k : ℕ) (bytes : List ℕ) → get_or bytes k 0 ≡ 0 → named_in (suc m) (drop k bytes) ≡ []
+named_none m k bytes e =
+    let z : get_or (drop k bytes) 0 0 ≡ 0 = at_drop k 0 bytes ∙ ap (λ (i : ℕ). get_or bytes i 0) (omega arith) ∙ e in
+    ap (λ (b : Bool). if b then [] else place_in (drop k bytes) 0 ∷ named_in m (drop 2 (drop k bytes))) (eq-eqb (get_or (drop k bytes) 0 0) 0 z)
+
+pub named_some : (m k : ℕ) (bytes : List ℕ) (p : Place) → p ≡ record { track = get_or bytes k 0; sector = get_or bytes (k + 1) 0 } → p.track ≢ 0
+    → named_in (suc m) (drop k bytes) ≡ p ∷ named_in m (drop (k + 2) bytes)
+named_some m k bytes p is ne =
+    let t : get_or (drop k bytes) 0 0 ≡ p.track = at_drop k 0 bytes ∙ ap (λ (i : ℕ). get_or bytes i 0) (omega arith) ∙ sym (ap (λ (q : Place). q.track) is) in
+    let s : get_or (drop k bytes) 1 0 ≡ p.sector = at_drop k 1 bytes ∙ sym (ap (λ (q : Place). q.sector) is) in
+    let here : place_in (drop k bytes) 0 ≡ p = λ i. record { track = t i; sector = s i } in
+    let rest : drop 2 (drop k bytes) ≡ drop (k + 2) bytes = drop-drop 2 k bytes in
+    ap (λ (b : Bool). if b then [] else place_in (drop k bytes) 0 ∷ named_in m (drop 2 (drop k bytes))) (ne_eqb (get_or (drop k bytes) 0 0) 0 (λ z. ne (sym t ∙ z)))
+    ∙ (λ i. here i ∷ named_in m (rest i))
+
+-- the same by the number of the place, in a list of so many from a byte on
+pub list_none : (count base n : ℕ) (bytes : List ℕ) → n < count → get_or bytes (base + 2 * n) 0 ≡ 0 → named_in (count - n) (drop (base + 2 * n) bytes) ≡ []
+list_none count base n bytes l e =
+    let more : count - n ≡ suc (count - (n + 1)) = omega arith in
+    ap (λ (m : ℕ). named_in m (drop (base + 2 * n) bytes)) more ∙ named_none (count - (n + 1)) (base + 2 * n) bytes e
+
+pub list_some : (count base n : ℕ) (bytes : List ℕ) (p : Place) → n < count → p ≡ record { track = get_or bytes (base + 2 * n) 0; sector = get_or bytes (base + 2 * n + 1) 0 } → p.track ≢ 0
+    → named_in (count - n) (drop (base + 2 * n) bytes) ≡ p ∷ named_in (count - (n + 1)) (drop (base + 2 * (n + 1)) bytes)
+list_some count base n bytes p l is ne =
+    let more : count - n ≡ suc (count - (n + 1)) = omega arith in
+    let next : base + 2 * n + 2 ≡ base + 2 * (n + 1) = omega arith in
+    ap (λ (m : ℕ). named_in m (drop (base + 2 * n) bytes)) more ∙ named_some (count - (n + 1)) (base + 2 * n) bytes p is ne
+    ∙ ap (λ (k : ℕ). p ∷ named_in (count - (n + 1)) (drop k bytes)) next
+
+pub sides_none : (n : ℕ) (bytes : List ℕ) → n < 6 → get_or bytes (4 + 2 * n) 0 ≡ 0 → named_in (6 - n) (drop (4 + 2 * n) bytes) ≡ []
+sides_none n bytes l e = list_none 6 4 n bytes l e
+
+pub sides_some : (n : ℕ) (bytes : List ℕ) (p : Place) → n < 6 → p ≡ record { track = get_or bytes (4 + 2 * n) 0; sector = get_or bytes (4 + 2 * n + 1) 0 } → p.track ≢ 0
+    → named_in (6 - n) (drop (4 + 2 * n) bytes) ≡ p ∷ named_in (6 - (n + 1)) (drop (4 + 2 * (n + 1)) bytes)
+sides_some n bytes p l is ne = list_some 6 4 n bytes p l is ne
+
+pub listed_none : (n : ℕ) (side : List ℕ) → n < 120 → get_or side (16 + 2 * n) 0 ≡ 0 → listed_at n side ≡ []
+unfolding listed_at
+listed_none n side l e = list_none 120 16 n side l e
+
+pub listed_some : (n : ℕ) (side : List ℕ) (p : Place) → n < 120 → p ≡ record { track = get_or side (16 + 2 * n) 0; sector = get_or side (16 + 2 * n + 1) 0 } → p.track ≢ 0
+    → listed_at n side ≡ p ∷ listed_at (n + 1) side
+unfolding listed_at
+listed_some n side p l is ne = list_some 120 16 n side p l is ne
+
+pub listed_end : (n : ℕ) (side : List ℕ) → 120 ≤ n → listed_at n side ≡ []
+unfolding listed_at
+listed_end n side l =
+    let end : 120 - n ≡ 0 = omega arith in
+    ap (λ (m : ℕ). named_in m (drop (16 + 2 * n) side)) end
+
+-- one sector more is claimed
+pub each_step : (part : Part) (tracks : ℕ) (content : Content) (claimed claimed2 after : Place → Bool) (p : Place) (whole rest : List Place) → whole ≡ p ∷ rest → wrong_at part tracks content claimed p ≡ None
+    → claimed2 ≡ with_bit claimed p true → ClaimsEach part tracks content claimed2 rest after → ClaimsEach part tracks content claimed whole after
+each_step part tracks content claimed claimed2 after p whole rest e n m w =
+    subst (λ (xs : List Place). ClaimsEach part tracks content claimed xs after) (sym e) (n, subst (λ (c : Place → Bool). ClaimsEach part tracks content c rest after) m w)
+
+pub among_step : (part : Part) (tracks : ℕ) (content : Content) (claimed claimed2 : Place → Bool) (u : Unsound) (p : Place) (whole rest : List Place) → whole ≡ p ∷ rest → wrong_at part tracks content claimed p ≡ None
+    → claimed2 ≡ with_bit claimed p true → MeetsAmong part tracks content claimed2 rest u → MeetsAmong part tracks content claimed whole u
+among_step part tracks content claimed claimed2 u p whole rest e n m w =
+    subst (λ (xs : List Place). MeetsAmong part tracks content claimed xs u) (sym e) (inr (n, subst (λ (c : Place → Bool). MeetsAmong part tracks content c rest u) m w))
+
+pub among_here : (part : Part) (tracks : ℕ) (content : Content) (claimed : Place → Bool) (u : Unsound) (p : Place) (whole rest : List Place) → whole ≡ p ∷ rest → wrong_at part tracks content claimed p ≡ Some u.number
+    → u ≡ fault_at u.number p → MeetsAmong part tracks content claimed whole u
+among_here part tracks content claimed u p whole rest e n w = subst (λ (xs : List Place). MeetsAmong part tracks content claimed xs u) (sym e) (inl (n, w))
+
+-- a side sector with its number and length is as its list is
+pub side_right : (tracks : ℕ) (content : Content) (width n : ℕ) (side : List ℕ) (a : Place) → get_or side 2 0 ≡ n → get_or side 3 0 ≡ width → side_along tracks content width n side a ≡ along tracks content (listed_blocks side) a
+side_right tracks content width n side a e f =
+    ap (λ (b : Bool). if b && (get_or side 3 0 == width) then along tracks content (listed_blocks side) a else None) (eq-eqb (get_or side 2 0) n e)
+    ∙ ap (λ (b : Bool). if b then along tracks content (listed_blocks side) a else None) (eq-eqb (get_or side 3 0) width f)
+
+-- one block more along the chain
+pub along_some : (tracks : ℕ) (content : Content) (p a b : Place) (whole rest : List Place) → whole ≡ p ∷ rest → step_along tracks content p a ≡ Some b → along tracks content whole a ≡ along tracks content rest b
+along_some tracks content p a b whole rest e h = ap (λ (xs : List Place). along tracks content xs a) e
+    ∙ ap (λ (o : Option Place). elim o [ Some q ↦ along tracks content rest q | None ↦ None ]) h
+
+pub along_none : (tracks : ℕ) (content : Content) (p a : Place) (whole rest : List Place) → whole ≡ p ∷ rest → step_along tracks content p a ≡ None → along tracks content whole a ≡ None
+along_none tracks content p a whole rest e h = ap (λ (xs : List Place). along tracks content xs a) e
+    ∙ ap (λ (o : Option Place). elim o [ Some q ↦ along tracks content rest q | None ↦ None ]) h
+
+-- a side sector that doesn't read has not the records' length
+pub side_unread : (tracks : ℕ) (content : Content) (width n : ℕ) (s a : Place) (code : ℕ) → 0 < width → content s ≡ Err code → side_at tracks content width n s a ≡ None
+side_unread tracks content width n s a code l h =
+    let none : bytes_at content s ≡ [] = ap or_nothing h in
+    ap (λ (bytes : List ℕ). if has tracks s then side_along tracks content width n bytes a else None) none
+    ∙ ap (λ (b : Bool). if has tracks s then (if (0 == n) && b then along tracks content (listed_blocks []) a else None) else None) (ne_eqb 0 width (λ z. omega (arith, z, l)))
+    ∙ empty (has tracks s) (0 == n) (along tracks content (listed_blocks []) a)
+  where
+    empty : (h e : Bool) (x : Option Place) → (if h then (if e && false then x else None) else None) ≡ None
+    empty true true x = refl
+    empty true false x = refl
+    empty false e x = refl
+
+pub sides_one : (tracks : ℕ) (content : Content) (width n : ℕ) (p a b : Place) (whole rest : List Place) → whole ≡ p ∷ rest → side_at tracks content width n p a ≡ Some b
+    → sides_along tracks content width n whole a ≡ sides_along tracks content width (n + 1) rest b
+sides_one tracks content width n p a b whole rest e h = ap (λ (xs : List Place). sides_along tracks content width n xs a) e
+    ∙ ap (λ (o : Option Place). elim o [ Some q ↦ sides_along tracks content width (n + 1) rest q | None ↦ None ]) h
+
+pub sides_stop : (tracks : ℕ) (content : Content) (width n : ℕ) (p a : Place) (whole rest : List Place) → whole ≡ p ∷ rest → side_at tracks content width n p a ≡ None → sides_along tracks content width n whole a ≡ None
+sides_stop tracks content width n p a whole rest e h = ap (λ (xs : List Place). sides_along tracks content width n xs a) e
+    ∙ ap (λ (o : Option Place). elim o [ Some q ↦ sides_along tracks content width (n + 1) rest q | None ↦ None ]) h

@@ -1,0 +1,36 @@
+ghost use Rattle.std.specs.Prelude.{◌≡◌, OnOk, IfErr};
+ghost use Rattle.cbm_bam.specs.Map.{geometry_of};
+ghost use Rattle.cbm_volume.specs.Marks.{is_marked};
+ghost use Rattle.cbm_volume.specs.Unsound.{only_head, ClaimsDisk, DiskFault};
+
+use crate::claims::claim_chain;
+use crate::headers::check_headers;
+use crate::map_check::check_map;
+use crate::sector_set::SectorSet;
+use crate::slot_check::check_slots;
+use crate::unsound::{Part, Unsound};
+use cbm_medium::{Address, Link, Medium};
+
+/// A set with 18/0 alone.
+fn head_alone() -> SectorSet
+    ensures { is_marked result ≡ only_head }
+{
+    let mut set = SectorSet::new();
+    set.insert(Address::of_map());
+    set
+}
+
+/// Looks at the whole disk, and answers the first fault that it meets: of the headers, of the map, of the directory, of the slots.
+pub fn check_disk<M: Medium>(medium: &M) -> Result<(), Unsound>
+    ensures ok { OnOk result (ClaimsDisk (geometry_of (M.tracks medium.now) (M.content medium.now)) (M.content medium.now)) }
+    ensures err { IfErr result (λ u. DiskFault (geometry_of (M.tracks medium.now) (M.content medium.now)) (M.content medium.now) u) }
+{
+    let geometry = cbm_bam::geometry(medium);
+    check_headers(medium, geometry)?;
+    check_map(medium, geometry)?;
+    let first = Link::new(18, 1);
+    let mut claimed = head_alone();
+    claim_chain(medium, geometry, Part::OfDirectory, first, &mut claimed)?;
+    let mut met = head_alone();
+    check_slots(medium, geometry, first, &mut met, &mut claimed)
+}

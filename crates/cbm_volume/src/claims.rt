@@ -1,0 +1,86 @@
+ghost use Rattle.std.specs.Prelude.{◌≡◌, ◌≢◌, ◌≤◌, ℕ, List, true, Bool, None, Some, OnOk, IfOk, IfErr, IsOk, Ok};
+ghost use Rattle.cbm_medium.specs.Place.{Place, directory_head};
+ghost use Rattle.cbm_bam.specs.Map.{with_bit};
+ghost use Rattle.cbm_volume.specs.Marks.{is_marked};
+ghost use Rattle.cbm_volume.specs.Unsound.{wrong_at, fault_at, ClaimsChain, MeetsFault};
+
+use crate::sector_set::SectorSet;
+use crate::unsound::{Part, Unsound};
+use cbm_bam::is_free;
+use cbm_medium::{Geometry, Link, Medium};
+
+/// Claims the sector that a link names, and answers its bytes.
+pub fn claim<M: Medium>(
+    medium: &M,
+    geometry: Geometry,
+    part: Part,
+    at: Link,
+    claimed: &mut SectorSet,
+) -> Result<[u8; 256], Unsound>
+    requires tracks { geometry ≤ M.tracks medium.now }
+    requires map { IsOk (M.content medium.now directory_head) }
+    ensures none { OnOk result (wrong_at part geometry (M.content medium.now) (is_marked claimed.old) at ≡ None) }
+    ensures claimed { OnOk result (is_marked claimed.new ≡ with_bit (is_marked claimed.old) at true) }
+    ensures read { IfOk result (λ bytes. M.content medium.now at ≡ Ok bytes) }
+    ensures wrong { IfErr result (λ u. (wrong_at part geometry (M.content medium.now) (is_marked claimed.old) at ≡ Some u.number) × (u ≡ fault_at u.number at)) }
+{
+    let (track, sector) = (at.track(), at.sector());
+    let outside = match part {
+        Part::OfDirectory => 6,
+        Part::OfFile => 4,
+    };
+    let inside = at
+        .address(geometry)
+        .filter(|at| (at.track() == 18) == (part == Part::OfDirectory));
+    let Some(address) = inside else {
+        return Err(Unsound {
+            number: outside,
+            track,
+            sector,
+        });
+    };
+    if claimed.has(address) {
+        return Err(Unsound {
+            number: 3,
+            track,
+            sector,
+        });
+    }
+    let Ok(bytes) = medium.read(address) else {
+        return Err(Unsound {
+            number: 9,
+            track,
+            sector,
+        });
+    };
+    if is_free(medium, geometry, address) != Ok(false) {
+        return Err(Unsound {
+            number: 2,
+            track,
+            sector,
+        });
+    }
+    claimed.insert(address);
+    Ok(bytes)
+}
+
+/// Claims the sectors of a chain from a link on, up to the last one.
+pub fn claim_chain<M: Medium>(
+    medium: &M,
+    geometry: Geometry,
+    part: Part,
+    first: Link,
+    claimed: &mut SectorSet,
+) -> Result<(), Unsound>
+    requires tracks { geometry ≤ M.tracks medium.now }
+    requires map { IsOk (M.content medium.now directory_head) }
+    ensures ok { OnOk result ((blocks : List Place) × ClaimsChain part geometry (M.content medium.now) (is_marked claimed.old) first blocks (is_marked claimed.new)) }
+    ensures err { IfErr result (λ u. (blocks : List Place) × MeetsFault part geometry (M.content medium.now) (is_marked claimed.old) first blocks u) }
+{
+    let mut at = first;
+    while !at.is_end() {
+        let bytes = claim(medium, geometry, part, at, claimed)?;
+        at = Link::of(&bytes);
+    }
+    Ok(())
+}
