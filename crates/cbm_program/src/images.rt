@@ -12,7 +12,6 @@ ghost use Rattle.cbm_program.specs.Images.{kind_of, image_fault, tracks_of, cont
 
 use crate::fault::RunFault;
 use crate::kind::{Kind, kind_of};
-use crate::options::Options;
 use crate::session::run_on;
 use cbm_channel::Dos;
 use cbm_d64::{D64Disk, D64Fault};
@@ -20,6 +19,15 @@ use cbm_g64::{G64Disk, G64Fault};
 use cbm_medium::Medium;
 use std::alloc::Global;
 use std::io::{Read, Write};
+
+/// How a run is made.
+#[derive(Clone, Copy, Debug, PartialEq, Eq)]
+pub struct Options {
+    /// The drive's number on the bus, 8 to 11. Nothing that a script prints depends on it yet.
+    pub device: u8,
+    /// The disk refuses to be written.
+    pub protected: bool,
+}
 
 /// The disk of a D64 image.
 fn open_d64(alloc: Global, image: &[u8], protected: bool) -> Result<D64Disk, RunFault>
