@@ -10,10 +10,8 @@ ghost use Rattle.cbm_program.specs.Output.{Prints, PrintsPart};
 ghost use Rattle.cbm_program.specs.Running.{script_of, AreCarriedOut, EndsAs};
 ghost use Rattle.cbm_program.specs.Images.{kind_of, image_fault, tracks_of, content_of, ImageHolds, StartsOn, Begins, IsOf, IsRefusal};
 
-use crate::checking::print_check;
 use crate::fault::RunFault;
 use crate::kind::{Kind, kind_of};
-use crate::options::Options;
 use crate::session::run_on;
 use cbm_channel::Dos;
 use cbm_d64::{D64Disk, D64Fault};
@@ -22,6 +20,21 @@ use cbm_medium::Medium;
 use cbm_volume::Volume;
 use std::alloc::Global;
 use std::io::{Read, Write};
+
+mod checking;
+
+use checking::print_check;
+
+/// How a run is made.
+#[derive(Clone, Copy, Debug, PartialEq, Eq)]
+pub struct Options {
+    /// The drive's number on the bus, 8 to 11. Nothing that a script prints depends on it yet.
+    pub device: u8,
+    /// The disk refuses to be written.
+    pub protected: bool,
+    /// Whether the disk is sound is printed before the script runs.
+    pub check: bool,
+}
 
 /// The disk of a D64 image.
 fn open_d64(alloc: Global, image: &[u8], protected: bool) -> Result<D64Disk, RunFault>

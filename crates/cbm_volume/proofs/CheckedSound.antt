@@ -157,9 +157,11 @@ slots_claimed tracks c met claimed a [] after h = ([], h.1)
 slots_claimed tracks c met claimed a (b ∷ xs) after h =
     let between : Place → Bool = h.2.0 in
     let here = entries_claimed tracks c claimed (entries_in (bytes_at c b)) between h.2.1.0 in
-    let rest = slots_claimed tracks c (with_bit met b true) between (link (bytes_at c b)) xs after h.2.1.1 in
-    (here.0 ++ rest.0, slots_join tracks c claimed (entries_from 8 (bytes_at c b) 0) (all_entries c xs) here.0 rest.0 between after
-      (subst (λ (es : List (List ℕ)). ClaimsSlots tracks c claimed es here.0 between) (eight (bytes_at c b)) here.1) rest.1)
+    let rest = slots_claimed tracks c (with_bit met b true) between (link (bytes_at c b)) xs after h.2.1.1 in (
+      here.0 ++ rest.0,
+      slots_join tracks c claimed (entries_from 8 (bytes_at c b) 0) (all_entries c xs) here.0 rest.0 between after
+          (subst (λ (es : List (List ℕ)). ClaimsSlots tracks c claimed es here.0 between) (eight (bytes_at c b)) here.1) rest.1,
+    )
 
 -- the sectors are met as the directory's chain has them
 again_same : (tracks : ℕ) (c : Content) (met claimed : Place → Bool) (a : Place) (xs ys : List Place) (x after : Place → Bool) → ClaimsChain OfDirectory tracks c met a xs x → checked.ClaimsSlots tracks c met claimed a ys after → ys ≡ xs

@@ -320,8 +320,7 @@ claimed_sound tracks c k =
     let s = slots_owned tracks c k.middle d.new 0 (all_entries c k.directory) k.files k.after d.agrees k.files_claimed in
     let all = keeps_both start d.new s.new d.keeps s.keeps in
     let one = λ (n : ℕ) (lt : n < 8 * length k.directory). from_zero tracks c s.new n (entry_at c k.directory n) (slice_index_or k.files n no_blocks)
-    (one_owned tracks c s.new 0 n (all_entries c k.directory) k.files (entry_at c k.directory n) s.each (nth_entry c k.directory n lt)) in
-    (
+    (one_owned tracks c s.new 0 n (all_entries c k.directory) k.files (entry_at c k.directory n) s.each (nth_entry c k.directory n lt)) in (
       record { directory = k.directory; files = λ n. slice_index_or k.files n no_blocks; owner = s.new },
       record {
         owned = record {

@@ -234,8 +234,7 @@ records_pass tracks c e b h k =
     let joined = subst (λ (ys : List Place). blocks_listed c ys ++ k.joined.0 ≡ b.data_blocks) (sym sides) k.joined.1 in
     let all = sides_all tracks c (width_of e) 0 (sides_from c first) k.joined.0 (first_block e) numbered (subst (Chain tracks c (first_block e)) (sym joined) h) in
     let passes = all_is tracks c (width_of e) first (first_block e) numbered.0 ∙ all.1 in
-    let here = same_test (place_in bytes 4) first (head_listed bytes first k.first.0 listed) in
-    (
+    let here = same_test (place_in bytes 4) first (head_listed bytes first k.first.0 listed) in (
       sides,
       rw (some_test b.data_blocks h k.some_block, lt-ltb 0 (width_of e) k.some_width, lt-ltb (width_of e) 255 (omega (arith, k.width)), here, passes) refl,
     )

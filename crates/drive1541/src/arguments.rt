@@ -16,6 +16,8 @@ pub struct Arguments<'a> {
     pub device: u8,
     /// The disk is protected.
     pub is_read_only: bool,
+    /// The disk is checked first.
+    pub is_checked: bool,
 }
 
 impl<'a> Arguments<'a> {
@@ -54,13 +56,18 @@ pub fn parse<'a>(alloc: Global, words: &'a [String]) -> Result<Arguments<'a>, Er
         .long("read-only")
         .action(ArgAction::SetTrue)
         .help("protect the disk");
+    let check = Arg::new(alloc, "check")
+        .long("check")
+        .action(ArgAction::SetTrue)
+        .help("print first whether the disk is sound");
     let command = Command::new(alloc, "drive1541")
         .about("Runs a script of requests on a disk image")
         .arg(image)?
         .arg(script)?
         .arg(out)?
         .arg(device)?
-        .arg(read_only)?;
+        .arg(read_only)?
+        .arg(check)?;
     let matches = command.try_get_matches_from(words)?;
     Ok(Arguments {
         image: matches.get_str("IMAGE").unwrap_or(""),
@@ -68,5 +75,6 @@ pub fn parse<'a>(alloc: Global, words: &'a [String]) -> Result<Arguments<'a>, Er
         out: matches.get_str("OUT").unwrap_or(""),
         device: matches.get_one::<u8>("device").unwrap_or(8),
         is_read_only: matches.get_flag("read-only"),
+        is_checked: matches.get_flag("check"),
     })
 }

@@ -57,6 +57,7 @@ fn run_script<R: Runtime + AllocGlobal, S: io::Read + Drop>(
     let options = Options {
         device: arguments.device,
         protected: arguments.is_read_only,
+        check: arguments.is_checked,
     };
     let mut output = BufWriter::new(rt.alloc(), io::writer(rt)).map_err(|_| Failure::NoMemory)?;
     let ended = run(rt.alloc(), script, &mut output, image, &options);

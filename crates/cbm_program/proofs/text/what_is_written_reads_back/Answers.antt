@@ -1,5 +1,5 @@
 use Rattle.cbm_program.proofs.ReadingBack.{lines_back, escapes_back, plain_back}
-use Rattle.cbm_program.proofs.spelling.what_is_written_reads_back.Goals as goal
+use Rattle.cbm_program.proofs.text.what_is_written_reads_back.Goals as goal
 
 pub returns-clause-lines : goal.returns-clause-lines
 returns-clause-lines c = lines_back

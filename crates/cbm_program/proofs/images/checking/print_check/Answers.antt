@@ -3,7 +3,7 @@ use Rattle.std.specs.Prelude.{OnOk, OnErr}
 use Rattle.std.specs.Io.KnownBytes.{Appends}
 use Rattle.cbm_program.specs.Checking.{checked_text}
 use Rattle.cbm_program.specs.Output.{AppendsPart}
-use Rattle.cbm_program.proofs.checking.print_check.Goals as goal
+use Rattle.cbm_program.proofs.images.checking.print_check.Goals as goal
 
 pub returns-then-checks-clause-ok : goal.returns-then-checks-clause-ok
 returns-then-checks-clause-ok g c = λ d h.
