@@ -1,16 +1,15 @@
 -- What was claimed is owned: a disk that passes the check has a sound layout.
-use Rattle.std.proofs.Common.{◌≡◌, ◌≢◌, ◌⊎◌, ℕ, zero, suc, ◌+◌, ◌-◌, ◌*◌, ◌%◌, ◌<◌, ◌≤◌, List, [], ◌∷◌, ◌++◌, length, get_or, drop, Bool, true, false, Option, Some, None, Ok, Err, IsOk, refl, sym, ap, subst, ◌∙◌, arith, inl, inr}
-use Rattle.std.specs.Prelude.{◌==◌, ◌&&◌, not, nat_lt, is_some, if◌then◌else◌}
-use Rattle.cbm_medium.specs.Place.{Place, Has, has, is_place, directory_head}
+use Rattle.std.proofs.Common.{◌≡◌, ◌≢◌, ℕ, List, [], ◌∷◌, Bool, true, false, Ok, Err, IsOk, refl, sym, ap, subst, ◌∙◌, inl, inr}
+use Rattle.cbm_medium.specs.Place.{Place}
 use Rattle.cbm_medium.specs.Content.{Cell, Content}
-use Rattle.cbm_medium.specs.Links.{bytes_at, place_in, link, Chain}
-use Rattle.cbm_medium.proofs.Places.{place_decide, same_place}
+use Rattle.cbm_medium.specs.Links.{bytes_at, link, Chain}
+use Rattle.cbm_medium.proofs.Places.{place_decide}
 use Rattle.cbm_bam.specs.Map.{map_of, is_free_in, with_bit}
 use Rattle.cbm_bam.proofs.Counts.{bit_there, bit_elsewhere}
 use Rattle.cbm_volume.specs.declared.unsound.Part.{Part}
 use Rattle.cbm_volume.specs.declared.unsound.Part.TheVariants.{OfDirectory, OfFile}
-use Rattle.cbm_volume.specs.Layouts.{Owner, Nobody, TheMap, Directory, DataOf, SideOf, OwnedBy, own}
-use Rattle.cbm_volume.specs.Unsound.{reads, is_inside, wrong_at, ClaimsChain, ClaimsEach}
+use Rattle.cbm_volume.specs.Layouts.{Owner, Nobody, Directory, DataOf, SideOf, OwnedBy, own}
+use Rattle.cbm_volume.specs.Unsound.{reads, is_inside, ClaimsChain, ClaimsEach}
 use Rattle.cbm_volume.proofs.Claiming.{IsRight, is_right, inside_has, on_18, off_18}
 use Rattle.cbm_volume.proofs.Frames.{owned_same}
 use Rattle.cbm_volume.proofs.Steps.{own_there, own_elsewhere}

@@ -1,9 +1,9 @@
 -- A relative file whose side sectors pass has its records.
-use Rattle.std.proofs.Common.{◌≡◌, ◌≢◌, ℕ, zero, suc, ◌+◌, ◌<◌, ◌≤◌, List, [], ◌∷◌, ◌++◌, length, get_or, drop, Bool, true, false, Option, Some, None, Ok, Err, IsOk, refl, sym, ap, subst, ◌∙◌, arith}
+use Rattle.std.proofs.Common.{◌≡◌, ◌≢◌, ℕ, ◌+◌, ◌<◌, List, [], ◌∷◌, ◌++◌, get_or, drop, Bool, true, false, Option, Some, None, refl, sym, ap, subst, ◌∙◌, arith}
 use Rattle.std.specs.Prelude.{◌==◌, ◌&&◌, not, nat_lt, is_some, if◌then◌else◌}
 use Rattle.std.proofs.lemmas.List.{append_assoc}
 use Rattle.cbm_medium.specs.Place.{Place, Has, has, is_place, directory_head}
-use Rattle.cbm_medium.specs.Content.{Cell, Content}
+use Rattle.cbm_medium.specs.Content.{Content}
 use Rattle.cbm_medium.specs.Links.{bytes_at, place_in, link, Chain}
 use Rattle.cbm_medium.proofs.Places.{same_place}
 use Rattle.cbm_bam.specs.Map.{with_bit}
@@ -11,7 +11,7 @@ use Rattle.cbm_directory.specs.Entries.{first_block, first_side, width_of}
 use Rattle.cbm_relfile.specs.SideSectors.{named_in, sides_listed, blocks_listed, Numbered}
 use Rattle.cbm_volume.specs.declared.unsound.Part.TheVariants.{OfFile}
 use Rattle.cbm_volume.specs.Blocks.{HasRecords}
-use Rattle.cbm_volume.specs.Unsound.{is_inside, ClaimsEach, behind_first, sides_from, step_along, along, listed_at, listed_blocks, side_along, side_at, sides_along, all_along, are_records, are_records_in}
+use Rattle.cbm_volume.specs.Unsound.{ClaimsEach, behind_first, sides_from, step_along, along, listed_at, listed_blocks, side_along, side_at, sides_along, all_along, are_records}
 use Rattle.cbm_volume.proofs.Claiming.{is_right, inside_has, both}
 use Rattle.cbm_volume.proofs.ClaimOwners.{reads_ok}
 use Rattle.cbm_volume.proofs.Chained.{chain_begins}
@@ -45,6 +45,7 @@ along_prefix tracks content (p ∷ ps) a b xs e h = go (step_along tracks conten
     none : (ys : List Place) → Has tracks a → Chain tracks content a ys → p ≡ a → link (bytes_at content a) ≡ link (bytes_at content a) → (p ∷ drop 1 ys ≡ ys) × Chain tracks content (link (bytes_at content a)) (drop 1 ys)
     none [] has w s t = absurd (omega (arith, has.0, w))
     none (y ∷ ys) has w s t = ((λ i. (s ∙ w.0) i ∷ ys), subst (λ (x : Place). Chain tracks content (link (bytes_at content x)) ys) (sym w.0) w.3)
+
     go : (o : Option Place) → step_along tracks content p a ≡ o → elim o [ Some c ↦ along tracks content ps c | None ↦ None ] ≡ Some b
         → ((c : Place) → along tracks content ps c ≡ Some b → Chain tracks content c (drop 1 xs) → (ys : List Place) × ((ps ++ ys ≡ drop 1 xs) × Chain tracks content b ys))
         → (ys : List Place) × (((p ∷ ps) ++ ys ≡ xs) × Chain tracks content b ys)

@@ -5,6 +5,7 @@ ghost use Rattle.cbm_bam.specs.Map.{map_of, free_in, geometry_of};
 ghost use Rattle.cbm_chain.specs.Reading.{rest_of, one_less, held_from, IsSettled};
 ghost use Rattle.cbm_directory.specs.Entries.{first_block};
 ghost use Rattle.cbm_directory.specs.Slots.{Answers, Finds, Gives, directory_of, left_of};
+ghost use Rattle.cbm_volume.specs.Layouts.{Layout, Sound};
 ghost use Rattle.cbm_volume.specs.Unsound.{ClaimsDisk, DiskFault};
 ghost use Rattle.cbm_volume.specs.Reading.{HoldsDisk, ShowsSlot, StandsAt, HasBytes};
 
@@ -55,6 +56,7 @@ impl<M: Medium> Volume<M> {
     /// Looks whether the disk is sound. An `Ok` says that each header, the map, and the sectors of the directory and of each
     /// closed file in their order have nothing wrong with them, none claimed twice; an `Err` is the first fault met on that way.
     pub fn check(&self) -> Result<(), Unsound>
+        ensures sound { OnOk result ((l : Layout) × Sound (geometry_of (M.tracks self.now) (M.content self.now)) (M.content self.now) l) }
         ensures ok { OnOk result (ClaimsDisk (geometry_of (M.tracks self.now) (M.content self.now)) (M.content self.now)) }
         ensures err { IfErr result (λ u. DiskFault (geometry_of (M.tracks self.now) (M.content self.now)) (M.content self.now) u) }
     {
