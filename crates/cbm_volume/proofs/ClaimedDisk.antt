@@ -137,7 +137,7 @@ entries_own tracks content claimed after owner n (e ∷ es) w h =
       keeps = λ q p ne e. y.keeps q p ne (x.keeps q p ne e);
     }
 
-entries_are : (sector : List ℕ) → entries_in sector ≡ entries_from 8 sector 0
+pub entries_are : (sector : List ℕ) → entries_in sector ≡ entries_from 8 sector 0
 unfolding entries_behind
 entries_are sector = refl
 

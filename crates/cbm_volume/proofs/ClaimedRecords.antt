@@ -57,7 +57,7 @@ along_prefix tracks content (p ∷ ps) a b xs e h = go (step_along tracks conten
         let rest = again c f (subst (λ (x : Place). Chain tracks content x (drop 1 xs)) t.1 w.1) in
         (rest.0, ((λ i. p ∷ rest.1.0 i) ∙ w.0, rest.1.1))
 
-listed_is : (side : List ℕ) → listed_blocks side ≡ named_in 120 (drop 16 side)
+pub listed_is : (side : List ℕ) → listed_blocks side ≡ named_in 120 (drop 16 side)
 unfolding listed_at
 listed_is side = refl
 

@@ -24,3 +24,6 @@ pub mod SlotSteps
 pub mod ClaimOwners
 pub mod ClaimedRecords
 pub mod ClaimedDisk
+pub mod Refutes
+pub mod RecordsFound
+pub mod NoFault
