@@ -1,8 +1,7 @@
 -- A disk with a sound layout has none of the faults that the check looks for.
-use Rattle.std.proofs.Common.{◌≡◌, ◌≢◌, ◌⊎◌, ℕ, zero, suc, ◌+◌, ◌*◌, ◌%◌, ◌<◌, ◌≤◌, List, [], ◌∷◌, ◌++◌, length, Bool, true, false, Option, Some, None, refl, sym, ap, subst, ◌∙◌, arith, inl, inr}
-use Rattle.std.specs.Prelude.{slice_get}
-use Rattle.std.proofs.lemmas.List.{append_assoc}
-use Rattle.cbm_medium.specs.Place.{Place, Has, directory_head}
+use Rattle.std.proofs.Common.{◌≡◌, ◌≢◌, ◌⊎◌, ℕ, suc, ◌+◌, ◌%◌, ◌<◌, List, [], ◌∷◌, ◌++◌, length, Bool, true, false, Some, refl, sym, ap, subst, ◌∙◌, arith, inl, inr}
+use Rattle.std.specs.Prelude.{slice_get, Result, Ok, Err, OnOk, OnErr, IfErr}
+use Rattle.cbm_medium.specs.Place.{Place}
 use Rattle.cbm_medium.specs.Content.{Content}
 use Rattle.cbm_medium.specs.Links.{bytes_at, link, Chain, IsApart}
 use Rattle.cbm_bam.specs.Map.{with_bit}
@@ -12,10 +11,10 @@ use Rattle.cbm_volume.specs.declared.unsound.Part.TheVariants.{OfDirectory, OfFi
 use Rattle.cbm_volume.specs.declared.unsound.Unsound.{Unsound}
 use Rattle.cbm_volume.specs.Blocks.{Blocks, LiesAs, Lies}
 use Rattle.cbm_volume.specs.Layouts.{Owner, Nobody, TheMap, Directory, DataOf, SideOf, Writer, OwnedBy, Layout, slot_count, Sound}
-use Rattle.cbm_volume.specs.Unsound.{only_head, sides_from, are_records, MeetsFault, MeetsAmong, ClaimsSides, SidesFault, ClaimsFile, FileFault, ClaimsEntry, EntryFault, ClaimsEntries, EntriesFault, entries_behind, entries_in, SlotsFault, SlotFault, DiskFault}
-use Rattle.cbm_volume.proofs.Claiming.{is_right, inside_has, none_wrong}
-use Rattle.cbm_volume.proofs.ClaimedDisk.{entries_are}
-use Rattle.cbm_volume.proofs.Refutes.{IsOpen, AreApart, MayClaim, open_of, open_more, right_of, chain_apart, chain_read, chain_refutes, each_refutes, chain_marks, each_marks, in_files, not_true, untaken, some_none, head_only, directory_open, no_header_fault, no_map_fault, no_directory_fault}
+use Rattle.cbm_volume.specs.Unsound.{only_head, sides_from, MeetsAmong, ClaimsFile, FileFault, ClaimsEntry, EntryFault, ClaimsEntries, EntriesFault, entries_in, SlotsFault, SlotFault, DiskFault, ClaimsDisk}
+use Rattle.cbm_volume.proofs.Claiming.{is_right, inside_has}
+use Rattle.cbm_volume.proofs.ClaimedDisk.{entries_are, has_layout}
+use Rattle.cbm_volume.proofs.Refutes.{IsOpen, AreApart, open_of, open_more, chain_apart, chain_read, chain_refutes, each_refutes, chain_marks, each_marks, in_files, not_true, untaken, head_only, directory_open, no_header_fault, no_map_fault, no_directory_fault}
 use Rattle.cbm_volume.proofs.RecordsFound.{same_sides, numbered_read, all_apart, records_found}
 use Rattle.cbm_volume.proofs.Listing.{nth_entry, entries_length}
 
@@ -221,7 +220,17 @@ pub no_fault : (tracks : ℕ) (content : Content) (l : Layout) (u : Unsound) →
 no_fault tracks content l u s h = elim h [
   | inl header ↦ no_header_fault tracks content l u s header
   | inr more ↦ (elim more [
-      | inl map ↦ no_map_fault tracks content l u s map
-      | inr rest ↦ (elim rest [ inl dir ↦ no_directory_fault tracks content l u s dir | inr slot ↦ no_slot_fault tracks content l u s slot ])
-    ])
+    | inl map ↦ no_map_fault tracks content l u s map
+    | inr rest ↦ (elim rest [ inl dir ↦ no_directory_fault tracks content l u s dir | inr slot ↦ no_slot_fault tracks content l u s slot ])
+  ])
 ]
+
+-- ---- the two answers
+
+pub sound_of : (tracks : ℕ) (content : Content) (r : Result (Unit {0}) Unsound) → OnOk r (ClaimsDisk tracks content) → OnOk r ((l : Layout) × Sound tracks content l)
+sound_of tracks content (Ok x) h = has_layout tracks content h
+sound_of tracks content (Err u) h = tt
+
+pub unsound_of : (tracks : ℕ) (content : Content) (r : Result (Unit {0}) Unsound) → IfErr r (λ u. DiskFault tracks content u) → OnErr r ((l : Layout) → Sound tracks content l → ⊥)
+unsound_of tracks content (Ok x) h = tt
+unsound_of tracks content (Err u) h = λ l s. no_fault tracks content l u s h

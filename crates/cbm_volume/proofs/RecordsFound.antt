@@ -1,16 +1,16 @@
 -- The records of a sound layout pass the check.
-use Rattle.std.proofs.Common.{◌≡◌, ◌≢◌, ℕ, zero, suc, ◌+◌, ◌<◌, ◌≤◌, List, [], ◌∷◌, ◌++◌, length, get_or, drop, Bool, true, false, Option, Some, None, Ok, Err, IsOk, refl, sym, ap, subst, ◌∙◌, arith}
+use Rattle.std.proofs.Common.{◌≡◌, ◌≢◌, ℕ, ◌+◌, ◌<◌, ◌≤◌, List, [], ◌∷◌, ◌++◌, length, get_or, drop, Bool, true, false, Option, Some, None, refl, sym, ap, subst, ◌∙◌, arith}
 use Rattle.std.specs.Prelude.{◌==◌, ◌&&◌, not, nat_lt, is_some, if◌then◌else◌}
 use Rattle.std.proofs.lemmas.List.{append_assoc, get_or-drop}
-use Rattle.std.proofs.lemmas.Bool.{eq-eqb, ne_eqb}
-use Rattle.cbm_medium.specs.Place.{Place, Has, has, is_place, directory_head}
+use Rattle.std.proofs.lemmas.Bool.{ne_eqb}
+use Rattle.cbm_medium.specs.Place.{Place, Has, has, is_place}
 use Rattle.cbm_medium.specs.Content.{Content}
 use Rattle.cbm_medium.specs.Links.{bytes_at, place_in, link, Chain, IsApart}
 use Rattle.cbm_medium.proofs.Places.{place_is_itself}
 use Rattle.cbm_directory.specs.Entries.{first_block, first_side, width_of}
 use Rattle.cbm_relfile.specs.SideSectors.{named_in, sides_listed, blocks_listed, Numbered}
 use Rattle.cbm_volume.specs.Blocks.{Blocks, HasRecords}
-use Rattle.cbm_volume.specs.Unsound.{behind_first, sides_from, step_along, along, listed_at, listed_blocks, side_along, side_at, sides_along, all_along, are_records}
+use Rattle.cbm_volume.specs.Unsound.{behind_first, sides_from, step_along, along, listed_blocks, side_along, side_at, sides_along, all_along, are_records}
 use Rattle.cbm_volume.proofs.ClaimedRecords.{listed_is}
 use Rattle.cbm_volume.proofs.Refutes.{AllRead, AreApart, has_test}
 use Rattle.cbm_volume.proofs.SidesListed.{side_right}
@@ -90,7 +90,7 @@ records_found tracks content e b h chain =
     let joined : blocks_listed content (sides_from content (first_side e)) ++ h.joined.0 ≡ b.data_blocks = ap (λ (xs : List Place). blocks_listed content xs ++ h.joined.0) (same_sides tracks content e b h) ∙ h.joined.1 in
     let found = sides_found tracks content (width_of e) 0 (sides_from content (first_side e)) h.joined.0 (first_block e) sides (subst (λ (xs : List Place). Chain tracks content (first_block e) xs) (sym joined) chain) in
     let same : sides_along tracks content (width_of e) 0 (sides_from content (first_side e)) (first_block e) ≡ all_along tracks content (width_of e) first (first_block e)
-        = ap (λ (t : Bool). elim (if t then side_along tracks content (width_of e) 0 first (first_block e) else None) [ Some x ↦ sides_along tracks content (width_of e) 1 (behind_first first) x | None ↦ None ]) (has_test tracks (first_side e) sides.0) in
+    = ap (λ (t : Bool). elim (if t then side_along tracks content (width_of e) 0 first (first_block e) else None) [ Some x ↦ sides_along tracks content (width_of e) 1 (behind_first first) x | None ↦ None ]) (has_test tracks (first_side e) sides.0) in
     five (not ((first_block e).track == 0)) (nat_lt 0 (width_of e)) (nat_lt (width_of e) 255) (is_place (place_in first 4) (first_side e)) (is_some (all_along tracks content (width_of e) first (first_block e)))
     (ap not (ne_eqb (first_block e).track 0 (begins_somewhere tracks content (first_block e) b.data_blocks h.some_block chain)))
     (lt_test 0 (width_of e) (omega (arith, h.some_width)))

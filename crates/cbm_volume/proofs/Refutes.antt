@@ -1,19 +1,19 @@
 -- A sound layout refutes the faults of the headers, of the map and of the directory, and what a chain claims is its owner's.
-use Rattle.std.proofs.Common.{◌≡◌, ◌≢◌, ◌⊎◌, ℕ, suc, ◌+◌, ◌<◌, ◌≤◌, List, [], ◌∷◌, length, get_or, Bool, true, false, Option, Some, None, Ok, Err, IsOk, refl, sym, ap, subst, ◌∙◌, arith, inl, inr}
+use Rattle.std.proofs.Common.{◌≡◌, ◌≢◌, ◌⊎◌, ℕ, suc, ◌≤◌, List, [], ◌∷◌, Bool, true, false, Some, None, Ok, Err, IsOk, refl, sym, ap, subst, ◌∙◌, arith, inl, inr}
 use Rattle.std.specs.Prelude.{◌==◌, ◌&&◌, not, is_some}
 use Rattle.std.proofs.lemmas.Bool.{eq-eqb, ne_eqb}
 use Rattle.cbm_medium.specs.Place.{Place, Has, has, sectors_on, directory_head}
-use Rattle.cbm_medium.specs.Content.{Cell, Content, is_header_fault}
+use Rattle.cbm_medium.specs.Content.{Cell, Content}
 use Rattle.cbm_medium.specs.Links.{bytes_at, link, Chain, IsApart}
 use Rattle.cbm_medium.proofs.Places.{place_decide}
 use Rattle.cbm_bam.specs.Map.{map_of, is_free_in, with_bit, count_in, tally}
-use Rattle.cbm_bam.proofs.Counts.{bit_there, bit_elsewhere}
+use Rattle.cbm_bam.proofs.Counts.{bit_elsewhere}
 use Rattle.cbm_directory.specs.Entries.{first_directory}
 use Rattle.cbm_volume.specs.declared.unsound.Part.{Part}
 use Rattle.cbm_volume.specs.declared.unsound.Part.TheVariants.{OfDirectory, OfFile}
 use Rattle.cbm_volume.specs.declared.unsound.Unsound.{Unsound}
 use Rattle.cbm_volume.specs.Layouts.{Owner, Nobody, TheMap, Directory, OwnedBy, Layout, Sound, IsWritable}
-use Rattle.cbm_volume.specs.Unsound.{reads, is_inside, wrong_at, fault_at, ClaimsChain, MeetsFault, ClaimsEach, MeetsAmong, is_bad_header, only_head, nothing, HeaderFault, IsMapFault, DirectoryFault, is_counted_on}
+use Rattle.cbm_volume.specs.Unsound.{reads, is_inside, wrong_at, ClaimsChain, MeetsFault, ClaimsEach, MeetsAmong, is_bad_header, only_head, nothing, HeaderFault, IsMapFault, DirectoryFault}
 use Rattle.cbm_volume.proofs.Claiming.{IsRight, is_right, none_wrong, inside_has}
 use Rattle.cbm_volume.proofs.Chained.{chain_distinct}
 use Rattle.cbm_volume.proofs.Releases.{apart_by_index}
@@ -85,9 +85,9 @@ chain_marks part tracks content claimed after owner o a (b ∷ ys) (x ∷ xs) h 
     let s : x ≡ b = sym c.0 ∙ h.0 in
     elim (chain_marks part tracks content (with_bit claimed b true) after owner o (link (bytes_at content b)) ys xs h.2 (subst (λ (p : Place). Chain tracks content (link (bytes_at content p)) xs) s c.3) w.1 q e) [
       | inl m ↦ (elim (place_decide b q) [
-          | inl k ↦ inr (ap owner (sym k) ∙ ap owner (sym s) ∙ w.0)
-          | inr ne ↦ inl (sym (bit_elsewhere claimed b q true ne) ∙ m)
-        ])
+        | inl k ↦ inr (ap owner (sym k) ∙ ap owner (sym s) ∙ w.0)
+        | inr ne ↦ inl (sym (bit_elsewhere claimed b q true ne) ∙ m)
+      ])
       | inr is ↦ inr is
     ]
 
@@ -97,9 +97,9 @@ each_marks part tracks content claimed after owner o [] h w q e = inl (sym (ap (
 each_marks part tracks content claimed after owner o (b ∷ rest) h w q e =
     elim (each_marks part tracks content (with_bit claimed b true) after owner o rest h.1 w.1 q e) [
       | inl m ↦ (elim (place_decide b q) [
-          | inl k ↦ inr (ap owner (sym k) ∙ w.0)
-          | inr ne ↦ inl (sym (bit_elsewhere claimed b q true ne) ∙ m)
-        ])
+        | inl k ↦ inr (ap owner (sym k) ∙ w.0)
+        | inr ne ↦ inl (sym (bit_elsewhere claimed b q true ne) ∙ m)
+      ])
       | inr is ↦ inr is
     ]
 
@@ -125,11 +125,11 @@ pub no_map_fault : (tracks : ℕ) (content : Content) (l : Layout) (u : Unsound)
 no_map_fault tracks content l u s h = elim h [
   | inl unread ↦ (let z = sym (ok_reads (content directory_head) s.map_reads) ∙ unread.1 in cc)
   | inr more ↦ (elim more [
-      | inl free ↦ map_taken tracks content l s free.2
-      | inr count ↦ (let f = count.2 in
-          let e = eq-eqb (count_in (map_of content) count.0) (tally (is_free_in (map_of content)) count.0 (sectors_on count.0)) (s.counted count.0 f.some f.few) in
-          let z = sym e ∙ f.miscounted in cc)
-    ])
+    | inl free ↦ map_taken tracks content l s free.2
+    | inr count ↦ (let f = count.2 in
+        let e = eq-eqb (count_in (map_of content) count.0) (tally (is_free_in (map_of content)) count.0 (sectors_on count.0)) (s.counted count.0 f.some f.few) in
+        let z = sym e ∙ f.miscounted in cc)
+  ])
 ]
 
 -- ---- lists of an owner

