@@ -53,8 +53,8 @@ impl<M: Medium> Volume<M> {
         cbm_bam::geometry(&self.medium)
     }
 
-    /// Looks whether the disk is sound. An `Ok` says that each header, the map, and the sectors of the directory and of each
-    /// closed file in their order have nothing wrong with them, none claimed twice; an `Err` is the first fault met on that way.
+    /// Looks whether the disk is sound: each header, the map, and the sectors of the directory and of each closed file in
+    /// their order, none claimed twice. An `Err` is the first fault met on that way, by its number and place.
     pub fn check(&self) -> Result<(), Unsound>
         ensures sound { OnOk result ((l : Layout) × Sound (geometry_of (M.tracks self.now) (M.content self.now)) (M.content self.now) l) }
         ensures unsound { OnErr result ((l : Layout) → Sound (geometry_of (M.tracks self.now) (M.content self.now)) (M.content self.now) l → ⊥) }
