@@ -220,8 +220,8 @@ pub no_fault : (tracks : ℕ) (content : Content) (l : Layout) (u : Unsound) →
 no_fault tracks content l u s h = elim h [
   | inl header ↦ no_header_fault tracks content l u s header
   | inr more ↦ (elim more [
-    | inl map ↦ no_map_fault tracks content l u s map
-    | inr rest ↦ (elim rest [ inl dir ↦ no_directory_fault tracks content l u s dir | inr slot ↦ no_slot_fault tracks content l u s slot ])
+    | inl map ↦ no_map_fault tracks content l u s map.1
+    | inr rest ↦ (elim rest [ inl dir ↦ no_directory_fault tracks content l u s dir.2 | inr slot ↦ no_slot_fault tracks content l u s slot.2 ])
   ])
 ]
 
