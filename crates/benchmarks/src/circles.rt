@@ -16,9 +16,10 @@ const WRITES: u32 = 1_000;
 /// The bytes of a D64 image.
 const IMAGE: usize = 174_848;
 
-/// A G64 image made of zeros, read again, each of its sectors read, and one written.
+/// A G64 image made of zeros, read again, each of its sectors read, one written, and each sector
+/// read where the blocks begin inside bytes.
 pub fn images(rt: &impl Runtime, alloc: Global) -> io::Result<()> {
-    let file = made(rt, alloc)?;
+    let mut file = made(rt, alloc)?;
     let start = Instant::now(rt)?;
     for _ in 0..TIMES {
         let _disk = G64Disk::from_bytes(alloc, file.as_slice(), false).map_err(|_| failed())?;
@@ -30,13 +31,60 @@ pub fn images(rt: &impl Runtime, alloc: Global) -> io::Result<()> {
         stamp(&mut disk, 1);
     }
     report(rt, "G64Disk::write of 18/0", &start, WRITES)?;
+    read_all(rt, "G64Disk::read of 683 sectors", &disk)?;
+    turn_tracks(file.as_mut_slice());
+    let mut turned = G64Disk::from_bytes(alloc, file.as_slice(), false).map_err(|_| failed())?;
+    let start = Instant::now(rt)?;
+    for _ in 0..WRITES {
+        stamp(&mut turned, 1);
+    }
+    report(
+        rt,
+        "the same write, each track turned by 3 bits",
+        &start,
+        WRITES,
+    )?;
+    read_all(rt, "the same reads, each track turned by 3 bits", &turned)
+}
+
+/// The time of reading all sectors.
+fn read_all(rt: &impl Runtime, name: &str, disk: &G64Disk) -> io::Result<()> {
     let start = Instant::now(rt)?;
     let mut sum = 0u32;
     for _ in 0..TIMES {
-        sum = sum.wrapping_add(sum_of_all(&disk));
+        sum = sum.wrapping_add(sum_of_all(disk));
     }
-    report(rt, "G64Disk::read of 683 sectors", &start, TIMES)?;
+    report(rt, name, &start, TIMES)?;
     if sum == 0 { Err(failed()) } else { Ok(()) }
+}
+
+/// Turns each track of a new file by three bits.
+fn turn_tracks(file: &mut [u8]) {
+    for i in 0..35usize {
+        let size = match i {
+            0..=16 => 7692,
+            17..=23 => 7142,
+            24..=29 => 6666,
+            _ => 6250,
+        };
+        let start = 686 + 7930 * i;
+        if start + size <= file.len() {
+            turn(&mut file[start..start + size]);
+        }
+    }
+}
+
+/// Turns a circle of bytes by three bits.
+fn turn(bytes: &mut [u8]) {
+    let count = bytes.len();
+    let mut first = 0;
+    for i in 0..count {
+        if i == 0 {
+            first = bytes[0];
+        }
+        let next = if i + 1 < count { bytes[i + 1] } else { first };
+        bytes[i] = bytes[i] << 3 | next >> 5;
+    }
 }
 
 /// The G64 image of a D64 image of zeros, and the time that it takes.

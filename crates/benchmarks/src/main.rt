@@ -3,6 +3,7 @@
 
 mod circles;
 mod disks;
+mod drives;
 
 use std::io;
 
@@ -10,5 +11,6 @@ fn main(rt: HostRuntime) -> io::Result<()> {
     disks::copies(&rt, rt.alloc())?;
     disks::images(&rt, rt.alloc())?;
     disks::chains(&rt, rt.alloc())?;
+    drives::files(&rt, rt.alloc())?;
     circles::images(&rt, rt.alloc())
 }

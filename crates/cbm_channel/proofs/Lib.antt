@@ -1,1 +1,9 @@
 pub mod NextBytes
+pub mod Kept
+pub mod Idle
+pub mod Stands
+pub mod Texts
+pub mod Found
+pub mod Closes
+pub mod ListedLines
+pub mod Planning

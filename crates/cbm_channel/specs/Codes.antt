@@ -1,5 +1,5 @@
 -- The codes of a status: their numbers, and their texts.
-use Rattle.std.specs.Prelude.{ℕ, ◌≡◌, List, codes}
+use Rattle.std.specs.Prelude.{ℕ, ◌≡◌, ◌==◌, List, codes, if◌then◌else◌}
 use Rattle.cbm_command.specs.declared.refusal.Refusal.{Refusal}
 use Rattle.cbm_command.specs.declared.refusal.Refusal.TheVariants as refusal
 use Rattle.cbm_channel.specs.declared.code.Code.{Code}
@@ -86,3 +86,19 @@ code_of_refusal refusal.DriveNotReady = DriveNotReady
 -- the code that stands for a refusal
 abbrev pub refusal_gives : Refusal → Code → Type 0
 refusal_gives r c = c ≡ code_of_refusal r
+
+-- The code that tells a fault of a sector (20 to 29), a link to no sector (66) or a chain that never ends (71).
+-- A medium's fault of another number is told as 20.
+abbrev pub code_of_fault : ℕ → Code
+code_of_fault n =
+    if n == 21 then NoSync else
+    if n == 22 then NoData else
+    if n == 23 then DataChecksum else
+    if n == 24 then DataCode else
+    if n == 25 then WriteFailed else
+    if n == 26 then WriteProtected else
+    if n == 27 then HeaderChecksum else
+    if n == 28 then LongData else
+    if n == 29 then WrongId else
+    if n == 66 then WrongLink else
+    if n == 71 then EndlessChain else NoHeader

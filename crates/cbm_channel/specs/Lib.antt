@@ -12,3 +12,10 @@ pub mod Calls
 pub use Rattle.cbm_file.specs.Types
 pub use Rattle.cbm_file.specs.Files
 pub mod Told
+pub mod Standing
+pub mod CarriedOut
+pub mod Shown
+pub mod Taken
+pub mod Planned
+pub mod Sought
+pub mod Listing

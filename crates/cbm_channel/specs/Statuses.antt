@@ -1,8 +1,9 @@
 -- The status and its line.
-use Rattle.std.specs.Prelude.{ℕ, ◌+◌, ◌/◌, ◌%◌, min, List, [], ◌∷◌, ◌++◌}
+use Rattle.std.specs.Prelude.{ℕ, ◌≡◌, ◌+◌, ◌/◌, ◌%◌, min, List, [], ◌∷◌, ◌++◌}
+use Rattle.cbm_medium.specs.declared.fault.Trouble.{Trouble}
 use Rattle.cbm_channel.specs.declared.code.Code.{Code}
 use Rattle.cbm_channel.specs.declared.status.Status.{Status}
-use Rattle.cbm_channel.specs.Codes.{code_number, code_text}
+use Rattle.cbm_channel.specs.Codes.{code_number, code_text, code_of_fault}
 
 -- a status whose two numbers are 0
 abbrev pub plain : Code → Status
@@ -25,3 +26,11 @@ abbrev pub status_line : Status → List ℕ
 status_line s =
     two_digits (code_number s.code) ++ comma ∷ code_text s.code
     ++ comma ∷ two_digits s.first ++ comma ∷ two_digits s.second ++ return ∷ []
+
+-- what a disk answers in place of bytes: the fault, its track and its sector
+abbrev pub trouble_status : Trouble → Status
+trouble_status t = record { code = code_of_fault t.code; first = t.track; second = t.sector }
+
+-- the status that stands for a trouble
+abbrev pub trouble_gives : Trouble → Status → Type 0
+trouble_gives t s = s ≡ trouble_status t

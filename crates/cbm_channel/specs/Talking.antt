@@ -1,19 +1,14 @@
 -- What a channel has to say, and the calls before bytes.
-use Rattle.std.specs.Prelude.{ℕ, ◌+◌, ◌-◌, ◌==◌, nat_lt, Bool, true, false, List, [], ◌∷◌, length, drop, slice_index_or, if◌then◌else◌, Option, Some, None, is_some}
+use Rattle.std.specs.Prelude.{ℕ, ◌+◌, ◌-◌, ◌==◌, nat_lt, Bool, true, List, length, drop, slice_index_or, if◌then◌else◌, Option, Some, None, is_some}
 use Rattle.std.specs.List.{list_all}
 use Rattle.cbm_file.specs.Files.{Disk}
+use Rattle.cbm_volume.specs.Reading.{shown}
 use Rattle.cbm_channel.specs.declared.code.Code.{Code}
 use Rattle.cbm_channel.specs.declared.code.Code.TheVariants.{Fine, NoRecord, FileNotOpen}
 use Rattle.cbm_channel.specs.Statuses.{return, status_line}
 use Rattle.cbm_channel.specs.Machines.{Channel, Closed, Reading, Writing, Relative, Machine, say, channel, with_channel}
 use Rattle.cbm_channel.specs.Finding.{body_at}
 use Rattle.cbm_channel.specs.Records.{record_at}
-
--- the next byte of a list, and whether it is the last
-abbrev pub next_of : List ℕ → Option (ℕ × Bool)
-next_of [] = None
-next_of (c ∷ []) = Some (c, true)
-next_of (c ∷ d ∷ rest) = Some (c, false)
 
 -- of a record the next byte, which is the last where only zeros follow; of no record a return
 abbrev pub next_of_record : Option (List ℕ) → ℕ → Option (ℕ × Bool)
@@ -24,12 +19,12 @@ next_of_record (Some bytes) p = Some (slice_index_or bytes (p - 1) 0, list_all (
 abbrev pub peek_on : Disk → Channel → Option (ℕ × Bool)
 peek_on d Closed = None
 peek_on d (Writing s bytes blocks full replaces) = None
-peek_on d (Reading s left) = next_of left
+peek_on d (Reading s left) = shown left
 peek_on d (Relative s k p) = next_of_record (record_at (body_at d s) k) p
 
 -- the next byte that a channel has to say, and whether it is the last
 abbrev pub peek : ℕ → Machine → Option (ℕ × Bool)
-peek ch m = if ch == 15 then next_of (drop m.told (status_line m.status)) else peek_on m.disk (channel m ch)
+peek ch m = if ch == 15 then shown (drop m.told (status_line m.status)) else peek_on m.disk (channel m ch)
 
 -- the place after the byte at a place was taken; a record that isn't there leaves it
 abbrev pub taken_on : Disk → Channel → Channel

@@ -4,7 +4,7 @@ use Rattle.cbm_channel.specs.declared.code.Code.TheVariants.{Fine}
 use Rattle.cbm_channel.specs.declared.status.Status.{Status}
 use Rattle.cbm_channel.specs.Statuses.{plain, status_line}
 use Rattle.cbm_channel.specs.Machines.{Machine}
-use Rattle.cbm_channel.specs.Talking.{next_of}
+use Rattle.cbm_volume.specs.Reading.{shown}
 
 -- a status, and how many bytes of its line were taken
 pub record Told : Type 0 where
@@ -13,7 +13,7 @@ pub record Told : Type 0 where
 
 -- the next byte of the line, and whether it is the last
 abbrev pub next_told : Told → Option (ℕ × Bool)
-next_told t = next_of (drop t.told (status_line t.status))
+next_told t = shown (drop t.told (status_line t.status))
 
 -- A byte was taken; behind the last one the status is 00, told from its beginning.
 abbrev pub behind_next : Told → Told

@@ -1,5 +1,5 @@
 ghost use Rattle.std.specs.Prelude.{◌≡◌, ◌≤◌, length};
-ghost use Rattle.cbm_channel.specs.Codes.{code_number, code_text, code_of_refusal, refusal_gives};
+ghost use Rattle.cbm_channel.specs.Codes.{code_number, code_text, code_of_refusal, code_of_fault, refusal_gives};
 
 use cbm_command::Refusal;
 
@@ -107,6 +107,26 @@ impl Code {
             Code::DiskFull => 72,
             Code::PowerUp => 73,
             Code::DriveNotReady => 74,
+        }
+    }
+
+    /// The code of a medium's fault or of what breaks a chain off; a number that the table hasn't is told as 20.
+    pub fn of_fault(number: u8) -> Code
+        ensures { result ≡ code_of_fault number }
+    {
+        match number {
+            21 => Code::NoSync,
+            22 => Code::NoData,
+            23 => Code::DataChecksum,
+            24 => Code::DataCode,
+            25 => Code::WriteFailed,
+            26 => Code::WriteProtected,
+            27 => Code::HeaderChecksum,
+            28 => Code::LongData,
+            29 => Code::WrongId,
+            66 => Code::WrongLink,
+            71 => Code::EndlessChain,
+            _ => Code::NoHeader,
         }
     }
 

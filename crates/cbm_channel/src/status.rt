@@ -1,10 +1,11 @@
 ghost use Rattle.std.specs.Prelude.{◌≡◌, ◌+◌, ◌≤◌, ◌++◌, length};
 ghost use Rattle.arrayvec.specs.ArrayVec.{array_vec_len};
 ghost use Rattle.cbm_channel.specs.Codes.{code_text};
-ghost use Rattle.cbm_channel.specs.Statuses.{two_digits, plain, status_line};
+ghost use Rattle.cbm_channel.specs.Statuses.{two_digits, plain, status_line, trouble_gives};
 
 use crate::code::Code;
 use arrayvec::ArrayVec;
+use cbm_volume::Trouble;
 
 /// A status line of at most 33 bytes.
 pub type StatusLine = ArrayVec<u8, 33>;
@@ -59,5 +60,18 @@ impl Status {
         add(&mut line, &two_digits(self.second));
         add(&mut line, b"\r");
         line
+    }
+}
+
+impl From<Trouble> for Status {
+    ghost from_gives = { trouble_gives };
+
+    /// What a disk answers in place of bytes: the fault, its track and its sector.
+    fn from(trouble: Trouble) -> Status {
+        Status {
+            code: Code::of_fault(trouble.code),
+            first: trouble.track,
+            second: trouble.sector,
+        }
     }
 }

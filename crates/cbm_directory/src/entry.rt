@@ -1,4 +1,4 @@
-ghost use Rattle.std.specs.Prelude.{◌≡◌, ◌+◌, ◌*◌, ◌%◌, ◌<◌, ◌↔◌, IsTrue, slice_index};
+ghost use Rattle.std.specs.Prelude.{◌≡◌, ◌+◌, ◌*◌, ◌%◌, ◌<◌, ◌≤◌, ◌↔◌, IsTrue, length, slice_index};
 ghost use Rattle.cbm_file.specs.Types.{type_with};
 ghost use Rattle.cbm_directory.specs.Entries.{entry_of, type_byte, bit_of, is_closed, is_relative, first_block, first_side, width_of, name_in};
 
@@ -114,7 +114,8 @@ impl Entry {
     /// Its file's name: at most sixteen bytes, up to the first $A0.
     #[tactic(auto, unfolding(crate::specs::Entries::name_in))]
     pub fn name(&self) -> &[u8]
-        ensures { result.now ≡ name_in self.now }
+        ensures value { result.now ≡ name_in self.now }
+        ensures short { length result.now ≤ 16 }
     {
         before_filler(&self.bytes[NAME])
     }

@@ -1,14 +1,14 @@
-use Rattle.std.proofs.Common.{◌≡◌, ◌≢◌, ℕ, ◌-◌, ◌<◌, ◌≤◌, List, [], ◌∷◌, length, get_or, set, sym, ap, subst, ◌∙◌, arith, inl, inr, Bool, true, false, Option, Ok, Err, Result, replicate, ltb}
+use Rattle.std.proofs.Common.{◌≡◌, ◌≢◌, ℕ, ◌-◌, ◌<◌, ◌≤◌, List, [], ◌∷◌, length, get_or, set, sym, ap, subst, ◌∙◌, arith, inl, inr, Bool, true, false, Option, Ok, Err, Result, replicate}
 use Rattle.std.specs.Prelude.{unwrap_or, OnOk, OnErr}
 use Rattle.std.proofs.lemmas.List.{get_or-set_same, get_or-set_other, get_or_default, length-set}
-use Rattle.std.proofs.lemmas.Bool.{cases_eq, cases_Bool, lt-ltb, ltb-true, and_parts, and_from, cond-true, cond-false, false≢true}
+use Rattle.std.proofs.lemmas.Bool.{cases_eq, cases_Bool, cond-true, cond-false, false≢true}
 use mathlib.Core.Path.{fun_ext}
 use Rattle.cbm_medium.specs.Place.{Place, sectors_on, Has, has, is_place}
 use Rattle.cbm_medium.specs.Content.{written}
 use Rattle.cbm_medium.proofs.Walks.{has_true, true_has, on_a_track as track_is}
 use Rattle.cbm_medium.proofs.Places.{place_cases, place_is_itself, written_there, written_elsewhere}
-use Rattle.cbm_sector.specs.Answer.{shown, id_shown}
-use Rattle.cbm_g64.specs.Tracks.{bits_at, id_for, content_of, IsChanged}
+use Rattle.cbm_sector.specs.Answer.{shown, id_shown, block_of, block_code, IsOverwritten}
+use Rattle.cbm_g64.specs.Tracks.{bits_at, id_for, content_of, AreLaid, IsChanged, IsPut}
 
 -- a sector of the first 35 tracks, as a test and as a fact
 pub has_parts : (p : Place) → has 35 p ≡ true → Has 35 p
@@ -110,6 +110,23 @@ write_is (Ok u) tracks bits d new a bytes id i l h t be f ids own others =
     (ap (λ (n : List ℕ). shown new n a) (sym f) ∙ own)
     (λ id2 c ne. others id2 c ne ∙ ap (λ (x : List Bool). shown x id2 c) b)
 
+-- which bits of its track it changes
+pub put_is : {E : Type 0} (r : Result (Unit {0}) E) (tracks : List (List Bool)) (bits d new : List Bool) (a : Place) (bytes id : List ℕ) (i : ℕ)
+    → length tracks ≡ 35 → Has 35 a → i ≡ a.track → bits ≡ get_or tracks (i - 1) d → id ≡ id_for tracks
+    → OnOk r ((p : ℕ) → block_of bits id a ≡ Ok p → IsOverwritten bits new p (block_code bytes))
+    → OnOk r (IsPut tracks (set tracks (i - 1) new) a bytes)
+put_is (Err e) tracks bits d new a bytes id i l h t be f own = tt
+put_is (Ok u) tracks bits d new a bytes id i l h t be f own =
+    let b = bits_is tracks a bits d i l h t be in
+    let on = on_a_track a h in
+    let there : bits_at (set tracks (i - 1) new) a.track ≡ new =
+    ap (λ (n : ℕ). get_or (set tracks (i - 1) new) (n - 1) []) (sym t) ∙ get_or-set_same tracks (i - 1) new [] (omega (arith, on.0, on.1)) in
+    record {
+      block = λ p e. subst (λ (x : List Bool). IsOverwritten (bits_at tracks a.track) x p (block_code bytes)) (sym there)
+          (subst (λ (x : List Bool). IsOverwritten x new p (block_code bytes)) b
+          (own p (ap (λ (n : List ℕ). block_of bits n a) f ∙ ap (λ (x : List Bool). block_of x (id_for tracks) a) b ∙ e)));
+    }
+
 -- the disk's id goes by track 18
 id_same : (tracks : List (List Bool)) (new : List Bool) (i : ℕ) → i < length tracks → id_shown new ≡ id_shown (get_or tracks i []) → id_for (set tracks i new) ≡ id_for tracks
 unfolding id_for
@@ -141,3 +158,24 @@ change_is {E = E} r tracks bits d new i h e l long same ids = record {
     own : (r : Result (Unit {0}) E) → OnOk r (2610 ≤ length bits) → OnErr r (new ≡ bits) → length bits < 2610 → new ≡ bits
     own (Ok u) long same b = absurd (omega arith)
     own (Err u) long same b = same
+
+-- blocks stay where they are when a sector is filled
+pub laid_kept : (tracks : List (List Bool)) (bits d new : List Bool) (a : Place) (i : ℕ) → length tracks ≡ 35 → Has 35 a → i ≡ a.track → bits ≡ get_or tracks (i - 1) d
+    → IsChanged tracks (set tracks (i - 1) new) (i - 1) → ((id2 : List ℕ) (p : Place) → block_of new id2 p ≡ block_of bits id2 p) → AreLaid tracks → AreLaid (set tracks (i - 1) new)
+laid_kept tracks bits d new a i l h t be c same laid = record {
+  blocks = λ p q.
+      (ap (λ (n : List ℕ). block_of (bits_at (set tracks (i - 1) new) p.track) n p) c.id
+      ∙ (elim (cases_eq p.track i) [
+        | inl e ↦ ap (λ (x : List Bool). block_of x (id_for tracks) p) (there p e) ∙ same (id_for tracks) p ∙ ap (λ (x : List Bool). block_of x (id_for tracks) p) (before p e)
+        | inr ne ↦ (let on = on_a_track p q in let off = on_a_track a h in let apart : p.track - 1 ≢ i - 1 = λ f. ne (omega (arith, on.0, off.0)) in
+            ap (λ (x : List Bool). block_of x (id_for tracks) p) (get_or-set_other tracks (i - 1) (p.track - 1) new [] apart))
+      ])
+      ∙ laid.blocks p q);
+}
+  where
+    there : (p : Place) → p.track ≡ i → bits_at (set tracks (i - 1) new) p.track ≡ new
+    there p e = let on = on_a_track a h in
+        ap (λ (n : ℕ). get_or (set tracks (i - 1) new) (n - 1) []) e ∙ get_or-set_same tracks (i - 1) new [] (omega (arith, on.0, on.1))
+
+    before : (p : Place) → p.track ≡ i → bits ≡ bits_at tracks p.track
+    before p e = bits_is tracks a bits d i l h t be ∙ ap (bits_at tracks) (sym (e ∙ t))

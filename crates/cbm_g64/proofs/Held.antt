@@ -1,5 +1,5 @@
-use Rattle.std.proofs.Common.{◌≡◌, ◌≢◌, ◌⊎◌, ℕ, zero, suc, ◌+◌, ◌*◌, ◌-◌, ◌<◌, ◌≤◌, List, [], ◌∷◌, ◌++◌, length, get_or, take, drop, replicate, refl, sym, ap, subst, ◌∙◌, arith, inl, inr, Bool, true, false, Option, Some, None, Ok}
-use Rattle.std.specs.Prelude.{is_some, unwrap_or, ◌==◌}
+use Rattle.std.proofs.Common.{◌≡◌, ◌≢◌, ℕ, zero, suc, ◌+◌, ◌*◌, ◌-◌, ◌<◌, List, [], ◌∷◌, ◌++◌, length, get_or, take, drop, replicate, refl, sym, ap, ◌∙◌, arith, inl, inr, Bool, Option, None, Ok}
+use Rattle.std.specs.Prelude.{is_some, unwrap_or}
 use Rattle.std.proofs.lemmas.List.{get_or_append_left, get_or-append-add, length-append, length-take-le, length-drop}
 use Rattle.std.proofs.lemmas.Bool.{cases_eq, cases_Bool, eq-eqb, ne_eqb, cond-true, cond-false}
 use mathlib.Core.Path.{fun_ext}
@@ -7,17 +7,16 @@ use Rattle.cbm_medium.specs.Place.{Place, Has, has}
 use Rattle.cbm_medium.specs.Content.{blank}
 use Rattle.cbm_track.specs.Circle.{bits_of}
 use Rattle.cbm_track.proofs.Bytes.{length-bits_of}
-use Rattle.cbm_sector.specs.Answer.{shown, id_shown}
+use Rattle.cbm_sector.specs.Answer.{shown, id_shown, block_of}
 use Rattle.cbm_sector.specs.Decoding.{IsBytes}
-use Rattle.cbm_sector.specs.Fresh.{fresh, bytes_on}
+use Rattle.cbm_sector.specs.Fresh.{fresh}
 use Rattle.cbm_sector.proofs.Formatted.{length-fresh}
-use Rattle.cbm_sector.proofs.Blank.{fresh_shown, fresh_id, zeros_shown}
+use Rattle.cbm_sector.proofs.Blank.{fresh_block, fresh_shown, fresh_id, zeros_shown}
 use Rattle.cbm_g64.specs.File.{offset, size, fault_of, track_in, tracks_in}
 use Rattle.cbm_g64.specs.NewFile.{new_file}
-use Rattle.cbm_g64.specs.Tracks.{bits_at, id_for, content_of, IsChanged, AreFresh}
+use Rattle.cbm_g64.specs.Tracks.{bits_at, id_for, content_of, IsChanged, AreFresh, AreLaid}
 use Rattle.cbm_g64.specs.Image.{IsHeld}
-use Rattle.cbm_g64.proofs.Sound.{Passes, passes, no_fault, Stands, stands}
-use Rattle.cbm_g64.proofs.Imaging.{none_is, held_passes}
+use Rattle.cbm_g64.proofs.Sound.{passes, no_fault, stands}
 use Rattle.cbm_g64.proofs.NewFiles.{new_passes, new_offset, new_size}
 use Rattle.cbm_g64.proofs.Contents.{content_on, content_off, has_parts, on_a_track}
 
@@ -101,3 +100,14 @@ fresh_content id tracks b l f = fun_ext (λ p. elim (cases_Bool (has 35 p)) [
 pub fresh_id_for : (id : List ℕ) (tracks : List (List Bool)) → IsBytes id → length id ≡ 2 → AreFresh id tracks → id_for tracks ≡ id
 unfolding id_for
 fresh_id_for id tracks b l f = ap (λ (o : Option (List ℕ)). unwrap_or o (0 ∷ 0 ∷ [])) (ap id_shown (f 17 (omega arith)) ∙ fresh_id id b l)
+
+-- blocks stand where formatting put them
+pub fresh_laid : (id : List ℕ) (tracks : List (List Bool)) → IsBytes id → length id ≡ 2 → AreFresh id tracks → AreLaid tracks
+fresh_laid id tracks b l f = record {
+  blocks = λ p h.
+      (let on = on_a_track p h in
+      let there : bits_at tracks p.track ≡ fresh p.track id = f (p.track - 1) (omega (arith, on.0, on.1)) ∙ (let q : p.track - 1 + 1 ≡ p.track = omega (arith, on.0) in ap (λ (n : ℕ). fresh n id) q) in
+      ap (λ (x : List Bool). block_of x (id_for tracks) p) there
+      ∙ ap (λ (n : List ℕ). block_of (fresh p.track id) n p) (fresh_id_for id tracks b l f)
+      ∙ fresh_block p.track id p.sector on.0 on.1 b h.2);
+}

@@ -1,5 +1,5 @@
-use Rattle.std.proofs.Common.{◌≡◌, ◌≢◌, ◌⊎◌, ℕ, zero, suc, ◌+◌, ◌*◌, ◌-◌, ◌<◌, ◌≤◌, List, [], ◌∷◌, ◌++◌, length, get_or, take, drop, refl, sym, ap, ◌∙◌, arith, inl, inr, Bool, true, false, Option, None, leb, ltb, eqb}
-use Rattle.std.specs.Prelude.{◌&&◌, ◌||◌, ◌==◌}
+use Rattle.std.proofs.Common.{◌≡◌, ◌≢◌, ◌⊎◌, ℕ, zero, suc, ◌+◌, ◌*◌, ◌-◌, ◌<◌, ◌≤◌, List, [], ◌∷◌, length, get_or, take, drop, refl, sym, ap, ◌∙◌, arith, inl, inr, Bool, true, false, None, leb}
+use Rattle.std.specs.Prelude.{◌||◌, ◌==◌}
 use Rattle.std.proofs.lemmas.List.{get_or-take, get_or-drop, get_or_default, get_or_past, length-take-le, length-drop, same_lists}
 use Rattle.std.proofs.lemmas.Grind.{same_number_lists}
 use Rattle.std.proofs.lemmas.Bool.{cases_eq, cases_lt, and_from, le-leb, eq-eqb, or_left}
@@ -7,9 +7,9 @@ use Rattle.cbm_sector.specs.Decoding.{IsBytes}
 use Rattle.cbm_sector.proofs.Coding.{byte_from_bits}
 use Rattle.cbm_track.specs.Circle.{bits, bits_of, each_below}
 use Rattle.cbm_track.proofs.Firsts.{each_from}
-use Rattle.cbm_g64.specs.File.{two_at, offset, size, entries, tables_end, fault_of, has_signature, has_version, has_entries, has_greatest, is_inside, is_sized, is_apart, are_inside, are_sized, are_apart, track_in, tracks_in}
+use Rattle.cbm_g64.specs.File.{two_at, offset, size, tables_end, fault_of, is_inside, is_sized, is_apart, are_inside, are_sized, are_apart, track_in, tracks_in}
 use Rattle.cbm_g64.specs.Image.{IsOutside, track_bytes, IsImageOf, IsHeld}
-use Rattle.cbm_g64.proofs.Sound.{Passes, passes, no_fault, Stands, stands, apart, many_entries, inside_at, sized_at, apart_at, tables_inside}
+use Rattle.cbm_g64.proofs.Sound.{Passes, no_fault, stands, apart, many_entries, inside_at, sized_at, apart_at, tables_inside}
 use Rattle.cbm_g64.proofs.Imaging.{held_passes}
 use Rattle.cbm_g64.proofs.Held.{length-tracks_in, tracks_at, present, absent}
 

@@ -1,13 +1,13 @@
-use Rattle.std.proofs.Common.{◌≡◌, ◌≢◌, ◌⊎◌, ℕ, zero, suc, ◌+◌, ◌*◌, ◌-◌, ◌^◌, ◌<◌, ◌≤◌, List, [], ◌∷◌, ◌++◌, length, get_or, replicate, refl, sym, ap, ◌∙◌, arith, inl, inr, Bool, true, false, leb, ltb}
-use Rattle.std.specs.Prelude.{◌&&◌, ◌||◌, ◌==◌}
+use Rattle.std.proofs.Common.{◌≡◌, ◌⊎◌, ℕ, zero, suc, ◌+◌, ◌*◌, ◌<◌, ◌≤◌, List, [], ◌++◌, length, get_or, replicate, refl, sym, ap, ◌∙◌, arith, inl, inr, Bool, true, false, leb, ltb}
+use Rattle.std.specs.Prelude.{◌||◌, ◌==◌}
 use Rattle.std.proofs.lemmas.List.{get_or_append_left, get_or-append-add, length-append, length-replicate}
 use Rattle.std.proofs.lemmas.Bool.{false≢true, cases_eq, cases_order, and_from, lt-ltb, le-leb, eq-eqb, or_left}
-use Rattle.byteorder.specs.Endian.{little_bytes, little_number}
-use Rattle.byteorder.specs.Numbers.{little_number-reads_back, length-bytes_low_first}
+use Rattle.byteorder.specs.Endian.{little_bytes}
+use Rattle.byteorder.specs.Numbers.{little_number-reads_back}
 use Rattle.cbm_sector.specs.Fresh.{bytes_on}
 use Rattle.cbm_track.specs.Circle.{each_below}
 use Rattle.cbm_track.proofs.Firsts.{each_from}
-use Rattle.cbm_g64.specs.File.{two_at, four_at, offset, size, is_inside, is_sized, is_apart, are_inside, are_sized, are_apart, entries, tables_end, has_signature, has_version, has_entries, has_greatest}
+use Rattle.cbm_g64.specs.File.{two_at, offset, size, is_inside, is_sized, is_apart, are_inside, are_sized, are_apart, entries, tables_end, has_signature, has_version, has_entries, has_greatest}
 use Rattle.cbm_g64.specs.NewFile.{new_place, new_zone, entries_of, blocks_of, front, new_file}
 use Rattle.cbm_g64.proofs.Sound.{Passes}
 

@@ -1,7 +1,7 @@
-use Rattle.std.proofs.Common.{◌≡◌, ◌≢◌, ◌⊎◌, ℕ, ◌+◌, ◌*◌, ◌<◌, ◌≤◌, List, length, get_or, take, drop, sym, ap, ◌∙◌, arith, inl, inr, refl, Bool, true, false, cond, Option, Some, None, leb, ltb, eqb}
-use Rattle.std.specs.Prelude.{◌&&◌, ◌||◌, ◌==◌, not}
-use Rattle.std.proofs.lemmas.Bool.{and_parts, cases_Bool, eqb-true, ltb-true, leb-true, false≢true, ne_eqb}
-use Rattle.cbm_track.specs.Circle.{each_below, bits_of}
+use Rattle.std.proofs.Common.{◌≡◌, ◌≢◌, ◌⊎◌, ℕ, ◌+◌, ◌<◌, ◌≤◌, List, length, arith, inl, inr, refl, Bool, true, false, cond, Option, Some, None, leb, ltb}
+use Rattle.std.specs.Prelude.{◌||◌, ◌==◌, not}
+use Rattle.std.proofs.lemmas.Bool.{and_parts, ltb-true, leb-true, ne_eqb}
+use Rattle.cbm_track.specs.Circle.{each_below}
 use Rattle.cbm_track.proofs.Firsts.{each_at}
 use Rattle.cbm_g64.specs.declared.fault.G64Fault.{G64Fault}
 use Rattle.cbm_g64.specs.declared.fault.G64Fault.TheVariants.{Signature, Version, Entries, GreatestSize, OffsetOutside, TrackLength, Overlap}

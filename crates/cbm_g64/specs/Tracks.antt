@@ -1,8 +1,8 @@
 use Rattle.std.specs.Prelude.{ℕ, ◌≡◌, ◌≢◌, ◌<◌, ◌≤◌, ◌+◌, ◌-◌, List, [], ◌∷◌, Bool, length, if◌then◌else◌, Ok, Err, replicate, slice_index_or, unwrap_or}
-use Rattle.cbm_medium.specs.Place.{has}
+use Rattle.cbm_medium.specs.Place.{Place, Has, has}
 use Rattle.cbm_medium.specs.Content.{Cell, Content}
-use Rattle.cbm_sector.specs.Answer.{shown, id_shown}
-use Rattle.cbm_sector.specs.Fresh.{fresh}
+use Rattle.cbm_sector.specs.Answer.{shown, id_shown, block_of, block_code, IsOverwritten}
+use Rattle.cbm_sector.specs.Fresh.{block_place, fresh}
 use Rattle.cbm_g64.specs.File.{offset}
 use Rattle.cbm_g64.specs.NewFile.{base_of}
 
@@ -33,6 +33,10 @@ pub record IsChanged (old new : List (List Bool)) (i : ℕ) : Type 0 where
   pub short : (j : ℕ) → length (slice_index_or old j []) < 2610 → slice_index_or new j [] ≡ slice_index_or old j []
   pub id : id_for new ≡ id_for old
 
+-- a write to a sector changes its track only within the bits of the sector's data block, which are the block's code then
+pub record IsPut (old new : List (List Bool)) (a : Place) (bytes : List ℕ) : Type 0 where
+  pub block : (d : ℕ) → block_of (bits_at old a.track) (id_for old) a ≡ Ok d → IsOverwritten (bits_at old a.track) (bits_at new a.track) d (block_code bytes)
+
 -- a track of the disk: one of the first 35, for which its file has a place
 abbrev pub HasTrack : Disk → ℕ → Type 0
 HasTrack d t = (0 < t) × (t ≤ 35) × (offset (base_of d.formatted d.file) (t - 1) ≢ 0)
@@ -48,6 +52,10 @@ failures_of d = 0
 -- each track is as formatting writes it
 abbrev pub AreFresh : List ℕ → List (List Bool) → Type 0
 AreFresh id tracks = (i : ℕ) → i < 35 → slice_index_or tracks i [] ≡ fresh (i + 1) id
+
+-- each sector's data block stands where formatting puts it
+pub record AreLaid (tracks : List (List Bool)) : Type 0 where
+  pub blocks : (p : Place) → Has 35 p → block_of (bits_at tracks p.track) (id_for tracks) p ≡ Ok (block_place p.sector)
 
 -- a cell, or zeros where it holds a fault
 abbrev pub or_zeros : Cell → Cell

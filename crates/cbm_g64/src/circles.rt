@@ -1,12 +1,12 @@
 ghost use Rattle.std.specs.Prelude.{◌≡◌, ℕ, ◌<◌, ◌≤◌, ◌-◌, List, true, Ok, Err, Some, length, IfOk, IfErr, OnOk, OnErr, IfSome};
 ghost use Rattle.cbm_medium.specs.Content.{blank, written, header_fault};
-ghost use Rattle.cbm_g64.specs.Tracks.{AreFresh, content_of, id_for, IsChanged};
+ghost use Rattle.cbm_g64.specs.Tracks.{AreFresh, AreLaid, content_of, id_for, IsChanged, IsPut};
 ghost use Rattle.cbm_g64.specs.File.{is_inside, is_sized, track_in, tracks_in, greatest, IsGood};
 ghost use Rattle.cbm_track.specs.Circle.{bits_of};
 
 use crate::numbers::{offset, two_at};
 use cbm_medium::{Address, Fault};
-use cbm_sector::{fresh_track, id_of, read_sector, write_sector};
+use cbm_sector::{fill_sector, fresh_track, id_of, read_sector, write_sector};
 use cbm_track::Track;
 use std::alloc::{AllocError, Global};
 
@@ -80,10 +80,25 @@ pub(crate) fn write_on(tracks: &mut [Track], at: Address, bytes: &[u8; 256]) -> 
     ensures refused { IfSome (header_fault (content_of tracks.old at)) (λ code. result ≡ Err (record { code = code; at = at })) }
     ensures cause { IfErr result (λ fault. (header_fault (content_of tracks.old at) ≡ Some fault.code) × (fault.at ≡ at)) }
     ensures changed { IsChanged tracks.old tracks.new (at.track - 1) }
+    ensures block { OnOk result (IsPut tracks.old tracks.new at bytes.now) }
 {
     let id = id_on(tracks);
     let track = &mut tracks[at.track() as usize - 1];
     write_sector(track, at, id, bytes)
+}
+
+/// Writes a sector of a disk whose blocks stand where formatting put them.
+pub(crate) fn fill_on(tracks: &mut [Track], at: Address, id: &[u8; 2], bytes: &[u8; 256])
+    requires count { length tracks.old ≡ 35 }
+    requires track { at.track ≤ 35 }
+    requires laid { AreLaid tracks.old }
+    requires id { id_for tracks.old ≡ id.now }
+    ensures content { content_of tracks.new ≡ written (content_of tracks.old) at bytes.now }
+    ensures changed { IsChanged tracks.old tracks.new (at.track - 1) }
+    ensures laid { AreLaid tracks.new }
+{
+    let track = &mut tracks[at.track() as usize - 1];
+    fill_sector(track, at, id, bytes);
 }
 
 /// Formats each track under a disk id.

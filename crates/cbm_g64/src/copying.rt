@@ -2,10 +2,10 @@ ghost use Rattle.std.specs.Prelude.{◌≡◌, ◌≢◌, ℕ, ◌<◌, ◌≤�
 ghost use Rattle.cbm_medium.specs.Place.{Has, Place, sectors_on};
 ghost use Rattle.cbm_g64.specs.File.{fault_of, tracks_in};
 ghost use Rattle.cbm_g64.specs.NewFile.{new_file};
-ghost use Rattle.cbm_g64.specs.Tracks.{content_of, id_for, or_zeros, AreFresh};
+ghost use Rattle.cbm_g64.specs.Tracks.{content_of, id_for, or_zeros, AreFresh, AreLaid};
 ghost use Rattle.cbm_g64.specs.Image.{IsHeld};
 
-use crate::circles::write_on;
+use crate::circles::fill_on;
 use crate::fault::G64Fault;
 use crate::image::{base, put_tracks};
 use cbm_medium::{Address, Medium, sectors_of};
@@ -20,6 +20,7 @@ fn fresh_tracks(alloc: Global, id: &[u8; 2]) -> Result<Vec<Track>, AllocError>
     ensures held { IfOk result (λ v. IsHeld new_file v.items) }
     ensures blank { IfOk result (λ v. (p : Place) → content_of v.items p ≡ Ok (replicate 256 0)) }
     ensures id { IfOk result (λ v. id_for v.items ≡ id.now) }
+    ensures laid { IfOk result (λ v. AreLaid v.items) }
 {
     let mut tracks = Vec::with_capacity(alloc, 35)?;
     for track in 1..36u8 {
@@ -29,54 +30,61 @@ fn fresh_tracks(alloc: Global, id: &[u8; 2]) -> Result<Vec<Track>, AllocError>
 }
 
 /// Copies a sector of a medium to a track where it still holds zeros; one with a fault stays zeros.
-fn copy_sector<M: Medium>(medium: &M, tracks: &mut [Track], at: Address)
+fn copy_sector<M: Medium>(medium: &M, tracks: &mut [Track], at: Address, id: &[u8; 2])
     requires tracks { M.tracks medium.now ≡ 35 }
     requires held { IsHeld new_file tracks.old }
+    requires laid { AreLaid tracks.old }
+    requires id { id_for tracks.old ≡ id.now }
     requires track { at.track ≤ 35 }
     requires blank { content_of tracks.old at ≡ Ok (replicate 256 0) }
     ensures here { content_of tracks.new at ≡ or_zeros (M.content medium.now at) }
     ensures others { (p : Place) → at ≢ p → content_of tracks.new p ≡ content_of tracks.old p }
     ensures held { IsHeld new_file tracks.new }
     ensures id { id_for tracks.new ≡ id_for tracks.old }
+    ensures laid { AreLaid tracks.new }
 {
     match medium.read(at) {
-        Ok(bytes) => {
-            let _ = write_on(tracks, at, &bytes);
-        }
+        Ok(bytes) => fill_on(tracks, at, id, &bytes),
         Err(_) => {}
     }
 }
 
 /// Copies the sectors of a track.
-fn copy_track<M: Medium>(medium: &M, tracks: &mut [Track], track: u8)
+fn copy_track<M: Medium>(medium: &M, tracks: &mut [Track], track: u8, id: &[u8; 2])
     requires tracks { M.tracks medium.now ≡ 35 }
     requires held { IsHeld new_file tracks.old }
+    requires laid { AreLaid tracks.old }
+    requires id { id_for tracks.old ≡ id.now }
     requires track { track ≤ 35 }
     requires blank { (p : Place) → p.track ≡ track → content_of tracks.old p ≡ Ok (replicate 256 0) }
     ensures here { (p : Place) → p.track ≡ track → p.sector < sectors_on track → content_of tracks.new p ≡ or_zeros (M.content medium.now p) }
     ensures others { (p : Place) → p.track ≢ track → content_of tracks.new p ≡ content_of tracks.old p }
     ensures held { IsHeld new_file tracks.new }
     ensures id { id_for tracks.new ≡ id_for tracks.old }
+    ensures laid { AreLaid tracks.new }
 {
     for sector in 0..sectors_of(track) {
         match Address::new(track, sector) {
-            Some(at) => copy_sector(medium, tracks, at),
+            Some(at) => copy_sector(medium, tracks, at, id),
             None => unreachable!(),
         }
     }
 }
 
 /// Copies the sectors of a medium to the tracks of a formatted disk.
-fn copy_tracks<M: Medium>(medium: &M, tracks: &mut [Track])
+fn copy_tracks<M: Medium>(medium: &M, tracks: &mut [Track], id: &[u8; 2])
     requires tracks { M.tracks medium.now ≡ 35 }
     requires held { IsHeld new_file tracks.old }
+    requires laid { AreLaid tracks.old }
+    requires id { id_for tracks.old ≡ id.now }
     requires blank { (p : Place) → content_of tracks.old p ≡ Ok (replicate 256 0) }
     ensures shown { (p : Place) → Has 35 p → content_of tracks.new p ≡ or_zeros (M.content medium.now p) }
     ensures held { IsHeld new_file tracks.new }
     ensures id { id_for tracks.new ≡ id_for tracks.old }
+    ensures laid { AreLaid tracks.new }
 {
     for track in 1..36 {
-        copy_track(medium, tracks, track);
+        copy_track(medium, tracks, track, id);
     }
 }
 
@@ -97,7 +105,7 @@ pub(crate) fn image_of<M: Medium>(
     let Ok(mut tracks) = fresh_tracks(alloc, &id) else {
         return Err(G64Fault::Memory);
     };
-    copy_tracks(medium, tracks.as_mut_slice());
+    copy_tracks(medium, tracks.as_mut_slice(), &id);
     let Ok(mut out) = base(alloc, &[], true) else {
         return Err(G64Fault::Memory);
     };

@@ -3,7 +3,7 @@ ghost use Rattle.cbm_medium.specs.Place.{Has, Place, directory_head};
 ghost use Rattle.cbm_medium.specs.Content.{blank, format_refusal, refusal, written};
 ghost use Rattle.cbm_g64.specs.File.{fault_of, tracks_in};
 ghost use Rattle.cbm_g64.specs.NewFile.{base_of};
-ghost use Rattle.cbm_g64.specs.Tracks.{bits_at, content_of, failures_of, id_for, or_zeros, AreFresh, HasTrack, IsChanged, tracks_on};
+ghost use Rattle.cbm_g64.specs.Tracks.{bits_at, content_of, failures_of, id_for, or_zeros, AreFresh, HasTrack, IsChanged, IsPut, tracks_on};
 ghost use Rattle.cbm_g64.specs.Image.{IsImageOf};
 
 use crate::checks::fault_of;
@@ -162,6 +162,8 @@ impl Medium for G64Disk {
 
         // What the circles are then, which the content doesn't show.
         ensures changed { OnOk result (IsChanged self.old.tracks self.new.tracks (at.track - 1)) }
+        // Its own track, within the 2,600 bits of the sector's block.
+        ensures block { OnOk result (IsPut self.old.tracks self.new.tracks at bytes.now) }
         ensures kept { self.new ≡ record self.old { tracks = self.new.tracks } }
         ensures unchanged { OnErr result (self.new ≡ self.old) }
     {

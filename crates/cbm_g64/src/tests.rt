@@ -1,6 +1,6 @@
 ghost use Rattle.std.specs.Prelude.{◌≡◌};
 
-use crate::G64Disk;
+use crate::{G64Disk, G64Fault};
 use cbm_medium::{Address, Fault, Medium, sectors_of};
 use cbm_sector::read_sector;
 use std::alloc::Global;
@@ -251,6 +251,96 @@ fn sectors_make_an_image(rt: HostRuntime) -> Result<(), Fail> {
             let bytes = copy.read(at).map_err(|_| "refused")?;
             assert!(rt; bytes == [track ^ sector; 256]);
         }
+    }
+    Ok(())
+}
+
+// The last track's 6,250 bytes begin at 270,306.
+#[test]
+fn a_file_may_end_behind_its_last_track(rt: HostRuntime) -> Result<(), Fail> {
+    let alloc = rt.alloc();
+    let image = formatted(alloc)?;
+    for (size, wanted) in [(276_556usize, 0), (276_555, 5)] {
+        let cut = image.get(..size).ok_or("too short")?;
+        assert_eq!(rt; refusal(alloc, cut), wanted, "of {size} bytes");
+    }
+    Ok(())
+}
+
+/// The image with the circle of one track turned round by three bits.
+fn turned(alloc: Global, image: &[u8], first: usize, size: usize) -> Result<Vec<u8>, Fail> {
+    let mut copy = Vec::from_slice(alloc, image)?;
+    for k in 0..size {
+        let at = first.wrapping_add(k);
+        let behind = first.wrapping_add(if k.wrapping_add(1) < size {
+            k.wrapping_add(1)
+        } else {
+            0
+        });
+        let high = image.get(at).ok_or("no such byte")? << 3;
+        let low = image.get(behind).ok_or("no such byte")? >> 5;
+        if at < copy.len() {
+            copy[at] = high | low;
+        }
+    }
+    Ok(copy)
+}
+
+#[test]
+fn a_turned_track_is_written_in_place(rt: HostRuntime) -> Result<(), Fail> {
+    let alloc = rt.alloc();
+    let first = FIRST + 16 * NEXT + 2;
+    let image = turned(alloc, formatted(alloc)?.as_slice(), first, 7692)?;
+    let mut disk = G64Disk::from_bytes(alloc, image.as_slice(), false)?;
+    disk.write(address(&rt, 17, 5), &[0xee; 256])
+        .map_err(|_| "refused")?;
+    for sector in 0..21 {
+        let bytes = disk.read(address(&rt, 17, sector)).map_err(|_| "refused")?;
+        assert!(rt; bytes == [if sector == 5 { 0xee } else { 0 }; 256]);
+    }
+    let (inside, outside) = differences(image.as_slice(), disk.to_bytes(alloc)?.as_slice(), first);
+    assert_eq!(rt; outside, 0);
+    assert!(rt; inside > 300 && inside <= 326, "{inside}");
+    Ok(())
+}
+
+#[test]
+fn a_sector_that_does_not_read_becomes_zeros(rt: HostRuntime) -> Result<(), Fail> {
+    let alloc = rt.alloc();
+    // The image has no track 1, so no sector of it is found.
+    let bytes = changed(alloc, formatted(alloc)?.as_slice(), &[(12, 0), (13, 0)])?;
+    let disk = G64Disk::from_bytes(alloc, bytes.as_slice(), false)?;
+    let image = G64Disk::from_sectors(alloc, &disk, ID)?;
+    let copy = G64Disk::from_bytes(alloc, image.as_slice(), false)?;
+    assert_eq!(rt; code_of(disk.read(address(&rt, 1, 0))), 21);
+    assert!(rt; copy.read(address(&rt, 1, 0)).map_err(|_| "refused")? == [0; 256]);
+    Ok(())
+}
+
+/// The number of a refusal, 0 where a call was done.
+fn number_of<T: Drop>(answer: Result<T, G64Fault>) -> u8 {
+    answer.err().map_or(0, |fault| fault.number())
+}
+
+/// Under `rt try --test --fail-alloc` with 2 to 7 a growth of `from_bytes`, `to_bytes` or
+/// `from_sectors` is the one that is refused, and the answer is number 7 or none.
+#[test]
+fn want_of_memory_is_number_7(rt: HostRuntime) -> Result<(), Fail> {
+    let alloc = rt.alloc();
+    let mut bytes = Vec::with_capacity(alloc, 684)?;
+    bytes.extend_from_slice(b"GCR-1541\0\x54\xf8\x1e")?;
+    bytes.resize(684, 0)?;
+    match G64Disk::from_bytes(alloc, bytes.as_slice(), false) {
+        Ok(mut disk) => {
+            let kept = number_of(disk.to_bytes(alloc));
+            assert!(rt; kept == 0 || kept == 7);
+            disk.format(ID).map_err(|_| "refused")?;
+            let new = number_of(disk.to_bytes(alloc));
+            assert!(rt; new == 0 || new == 7);
+            let copied = number_of(G64Disk::from_sectors(alloc, &disk, ID));
+            assert!(rt; copied == 0 || copied == 7);
+        }
+        Err(fault) => assert_eq!(rt; fault.number(), 7),
     }
     Ok(())
 }

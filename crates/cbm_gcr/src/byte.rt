@@ -16,7 +16,7 @@ pub(crate) fn byte_of(ten: u64) -> Option<u8>
     requires { ten < 1024 }
     ensures { (b : ℕ) → b < 256 → ((result ≡ Some b) ↔ (ten ≡ ten_bits b)) }
 {
-    let high = nibble_of((ten / 32) as u16)?;
-    let low = nibble_of((ten % 32) as u16)?;
+    let high = nibble_of((ten / 32) as usize)?;
+    let low = nibble_of((ten % 32) as usize)?;
     Some(16 * high + low)
 }

@@ -14,28 +14,18 @@ pub(crate) fn code_of(nibble: u8) -> u8
     CODES[nibble as usize]
 }
 
+/// The nibbles of five bits, 16 where they are the code of none.
+const NIBBLES: [u8; 32] = [
+    16, 16, 16, 16, 16, 16, 16, 16, 16, 8, 0, 1, 16, 12, 4, 5, 16, 16, 2, 3, 16, 15, 6, 7, 16, 9,
+    10, 11, 16, 13, 14, 16,
+];
+
 /// The nibble of five bits, where they are one's code.
-pub(crate) fn nibble_of(five: u16) -> Option<u8>
+pub(crate) fn nibble_of(five: usize) -> Option<u8>
+    requires { five < 32 }
     ensures value { (n : ℕ) → n < 16 → ((result ≡ Some n) ↔ (five ≡ nibble_code n)) }
     ensures below { IfSome result (λ n. n < 16) }
 {
-    match five {
-        10 => Some(0),
-        11 => Some(1),
-        18 => Some(2),
-        19 => Some(3),
-        14 => Some(4),
-        15 => Some(5),
-        22 => Some(6),
-        23 => Some(7),
-        9 => Some(8),
-        25 => Some(9),
-        26 => Some(10),
-        27 => Some(11),
-        13 => Some(12),
-        29 => Some(13),
-        30 => Some(14),
-        21 => Some(15),
-        _ => None,
-    }
+    let nibble = NIBBLES[five];
+    if nibble < 16 { Some(nibble) } else { None }
 }

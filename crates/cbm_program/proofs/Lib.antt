@@ -7,3 +7,16 @@ pub mod CommandRows
 pub mod AppendRows
 pub mod RecordRows
 pub mod ProtectedRows
+pub mod LineLemmas
+pub mod TextLemmas
+pub mod NumberLemmas
+pub mod OutputLemmas
+pub mod UnitLemmas
+pub mod SaidLemmas
+pub mod PutLemmas
+pub mod StatusLemmas
+pub mod LinePrints
+pub mod RunLemmas
+pub mod StartLemmas
+pub mod GcrImages
+pub mod ReadingBack

@@ -1,1 +1,12 @@
 pub mod Scripts
+pub mod Lines
+pub mod Texts
+pub mod Words
+pub mod Requests
+pub mod Faults
+pub mod Output
+pub mod Units
+pub mod Running
+pub mod Spelling
+pub mod Checking
+pub mod Images

@@ -189,6 +189,9 @@ fresh_shown track id s z h b l =
     let f : IsFresh track id s = record { some = z; most = h; bytes = b; below = l } in
     own_shown (fresh track id) (fresh track id) (2896 * s + 232) zeros (as_written track id s f) length-zeros id (record { track = track; sector = s }) (block_found track id s f)
 
+pub fresh_block : (track : ℕ) (id : List ℕ) (s : ℕ) → 0 < track → track < 36 → IsBytes id → s < sectors_on track → block_of (fresh track id) id (record { track = track; sector = s }) ≡ Ok (2896 * s + 232)
+fresh_block track id s z h b l = block_found track id s (record { some = z; most = h; bytes = b; below = l })
+
 pub zeros_shown : (t : List Bool) (id : List ℕ) (a : Place) → shown t id a ≡ Ok zeros → shown t id a ≡ Ok (replicate 256 0)
 unfolding zeros
 zeros_shown t id a e = e

@@ -4,7 +4,7 @@ use Rattle.cbm_gcr.specs.Code.{code}
 use Rattle.cbm_track.specs.Circle.{bit, begins}
 use Rattle.cbm_track.proofs.Steps.{begins_not_one, begins_not_ten, begins_here}
 use Rattle.cbm_track.proofs.Round.{begins_ten, ten_ones_at}
-use Rattle.cbm_track.proofs.Walk.{round_twice}
+use Rattle.cbm_track.proofs.Places.{round_twice}
 use Rattle.cbm_sector.specs.Decoding.{IsBytes}
 use Rattle.cbm_sector.proofs.Coding.{no_ten_ones}
 

@@ -1,4 +1,5 @@
 use Rattle.std.specs.Prelude.{ℕ, ◌≡◌, ◌<◌, ◌≤◌, ◌+◌, List, [], ◌∷◌, ◌++◌, Bool, false, not, ◌&&◌, ◌||◌, ◌==◌, if◌then◌else◌, Option, Some, None, Result, Ok, Err, is_some, length, take, drop, fold, bit_xor, slice_index, slice_index_or}
+use Rattle.cbm_gcr.specs.Code.{code}
 use Rattle.cbm_medium.specs.Place.{Place}
 use Rattle.cbm_medium.specs.Content.{Cell}
 use Rattle.cbm_track.specs.Circle.{bit, begins, is_clear, first_below, next_block}
@@ -45,6 +46,10 @@ block_at track (Some p) = if passes is_header (coded_at track p 4) || is_crowded
 -- the bytes of a data block
 abbrev pub data_block : List ℕ → List ℕ
 data_block bytes = 7 ∷ (bytes ++ (xor_of bytes ∷ 0 ∷ 0 ∷ []))
+
+-- the code of a sector's data block
+abbrev pub block_code : List ℕ → List Bool
+block_code bytes = code (data_block bytes)
 
 -- the same behind a header's bytes
 abbrev pub behind : List Bool → List ℕ → ℕ → Option (List ℕ) → Result ℕ ℕ

@@ -1,4 +1,4 @@
-use Rattle.std.specs.Prelude.{ℕ, zero, suc, ◌*◌, ◌-◌, List, [], ◌∷◌, ◌++◌, Bool, nat_lt, if◌then◌else◌, replicate, slice_index}
+use Rattle.std.specs.Prelude.{ℕ, zero, suc, ◌+◌, ◌*◌, ◌-◌, List, [], ◌∷◌, ◌++◌, Bool, nat_lt, if◌then◌else◌, replicate, slice_index}
 use Rattle.cbm_gcr.specs.Code.{code, bits_of}
 use Rattle.cbm_medium.specs.Place.{sectors_on}
 use Rattle.cbm_sector.specs.Answer.{xor_of, data_block}
@@ -35,6 +35,10 @@ fresh_sectors track id (suc n) = fresh_sectors track id n ++ fresh_sector track 
 -- how many bytes formatting writes on a track
 abbrev pub bytes_on : ℕ → ℕ
 bytes_on t = if nat_lt t 18 then 7692 else if nat_lt t 25 then 7142 else if nat_lt t 31 then 6666 else 6250
+
+-- where formatting puts the data block of a sector: each sector takes 2,896 bits, of which 232 stand before its data block
+abbrev pub block_place : ℕ → ℕ
+block_place sector = 2896 * sector + 232
 
 -- a track as formatting writes it: its sectors, and a gap up to its length
 unfoldable pub fresh : ℕ → List ℕ → List Bool

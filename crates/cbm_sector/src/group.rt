@@ -1,5 +1,5 @@
-ghost use Rattle.std.specs.Prelude.{◌≡◌, ℕ, ◌<◌, ◌≤◌, ◌+◌, ◌*◌, List, Bool, Some, true, false, length, slice_index_or};
-ghost use Rattle.cbm_gcr.specs.Code.{code};
+ghost use Rattle.std.specs.Prelude.{◌≡◌, ◌↔◌, ℕ, ◌<◌, ◌≤◌, ◌+◌, ◌*◌, List, Bool, Some, IfSome, true, false, length, slice_index_or, take, drop};
+ghost use Rattle.cbm_gcr.specs.Code.{code, bits_of, IsBlock};
 ghost use Rattle.cbm_sector.specs.Decoding.{decoded, coded_at, IsBytes};
 
 use cbm_gcr::decode5;
@@ -12,6 +12,22 @@ pub fn decoding_undoes_code()
     ensures no_sync { (v : List ℕ) → IsBytes v → (j : ℕ) → j + 10 ≤ 10 * length v → ((k : ℕ) → k < 10 → slice_index_or (code v) (j + k) false ≡ true) → ⊥ }
 {}
 
+/// The four bytes whose code stands at a byte of others.
+fn group_in(coded: &[u8], at: usize) -> Option<[u8; 4]>
+    requires inside { at + 5 ≤ length coded.now }
+    requires few { length coded.now ≤ 325 }
+    ensures value { (v : List ℕ) → IsBlock v → ((result ≡ Some v) ↔ (code v ≡ take 40 (drop (8 * at) (bits_of coded.now)))) }
+    ensures block { IfSome result IsBlock }
+{
+    decode5(&[
+        coded[at],
+        coded[at + 1],
+        coded[at + 2],
+        coded[at + 3],
+        coded[at + 4],
+    ])
+}
+
 /// The four bytes whose code stands at a place.
 pub(crate) fn group_at(track: &Track, place: u32) -> Option<[u8; 4]>
     requires { place < length track.now }
@@ -19,7 +35,7 @@ pub(crate) fn group_at(track: &Track, place: u32) -> Option<[u8; 4]>
 {
     let mut coded = [0; 5];
     track.bytes_at(place, &mut coded);
-    decode5(&coded)
+    group_in(&coded, 0)
 }
 
 /// The eight bytes whose code stands at a place.
@@ -27,9 +43,10 @@ pub(crate) fn header_bytes(track: &Track, place: u32) -> Option<[u8; 8]>
     requires { place < length track.now }
     ensures { result ≡ coded_at track.now place 8 }
 {
-    let bits = track.bits();
-    let [a, b, c, d] = group_at(track, place)?;
-    let [e, f, g, h] = group_at(track, (place + 40) % bits)?;
+    let mut coded = [0; 10];
+    track.bytes_at(place, &mut coded);
+    let [a, b, c, d] = group_in(&coded, 0)?;
+    let [e, f, g, h] = group_in(&coded, 5)?;
     Some([a, b, c, d, e, f, g, h])
 }
 
@@ -38,10 +55,11 @@ pub(crate) fn block_bytes(track: &Track, place: u32) -> Option<[u8; 260]>
     requires { place < length track.now }
     ensures { result ≡ coded_at track.now place 260 }
 {
-    let bits = track.bits();
+    let mut coded = [0; 325];
+    track.bytes_at(place, &mut coded);
     let mut block = [0; 260];
     for i in 0..65 {
-        let group = group_at(track, (place + 40 * i as u32) % bits)?;
+        let group = group_in(&coded, 5 * i)?;
         block[4 * i..4 * i + 4].copy_from_slice(&group);
     }
     Some(block)

@@ -1,4 +1,5 @@
-ghost use Rattle.std.specs.Prelude.{◌≡◌, ℕ, ◌<◌, ◌≤◌, true, false, length, IfSome, IfNone};
+ghost use Rattle.std.specs.Prelude.{◌≡◌, ℕ, ◌<◌, ◌≤◌, List, Some, true, false, length, take, IfSome, IfNone};
+ghost use Rattle.cbm_gcr.specs.Code.{bits};
 ghost use Rattle.cbm_track.specs.Circle.{first_below, begins};
 ghost use Rattle.cbm_sector.specs.Decoding.{coded_at};
 ghost use Rattle.cbm_sector.specs.Answer.{header_at, is_header, is_right, passes, wanted_test};
@@ -25,11 +26,51 @@ fn is_wanted(header: &[u8; 8], wanted: &Option<Address>) -> bool
     }
 }
 
-/// Whether such a header stands at a place.
+/// The first byte of a header's code, that of 8.
+const HEADER_FRONT: u8 = 0x52;
+
+/// Whether a byte is the first of a header's code.
+fn is_front(byte: u8) -> bool
+    ensures { result ≡ false → bits 8 byte ≡ bits 8 82 → ⊥ }
+{
+    byte == HEADER_FRONT
+}
+
+/// Whether the byte at a place is the first of a header's code.
+fn may_be_header(track: &Track, place: u32) -> bool
+    requires { place < length track.now }
+    ensures { result ≡ false → (v : List ℕ) → coded_at track.now place 8 ≡ Some v → is_header v ≡ false }
+{
+    let mut front = [0];
+    track.bytes_at(place, &mut front);
+    is_front(front[0])
+}
+
+/// Whether four bytes can begin such a header.
+fn may_begin(front: &[u8; 4], wanted: &Option<Address>) -> bool
+    ensures { result ≡ false → (v : List ℕ) → take 4 v ≡ front.now → wanted_test wanted.now v ≡ false }
+{
+    match wanted {
+        Some(at) => front[0] == 8 && front[2] == at.sector() && front[3] == at.track(),
+        None => front[0] == 8 && front[3] == 18,
+    }
+}
+
+/// Whether such a header stands at a place: its first byte, then its first four bytes, are looked
+/// at alone where they already rule it out.
 fn is_wanted_at(track: &Track, place: u32, wanted: &Option<Address>) -> bool
     requires { place < length track.now }
     ensures { result ≡ passes (wanted_test wanted.now) (coded_at track.now place 8) }
 {
+    if !may_be_header(track, place) {
+        return false;
+    }
+    let Some(front) = group_at(track, place) else {
+        return false;
+    };
+    if !may_begin(&front, wanted) {
+        return false;
+    }
     match header_bytes(track, place) {
         Some(header) => is_wanted(&header, wanted),
         None => false,

@@ -12,4 +12,4 @@ mod tests;
 
 pub use fresh::fresh_track;
 pub use group::decoding_undoes_code;
-pub use sector::{id_of, read_sector, write_sector};
+pub use sector::{fill_sector, id_of, read_sector, write_sector};

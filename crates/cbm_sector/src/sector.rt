@@ -4,6 +4,7 @@ ghost use Rattle.cbm_medium.specs.Place.{Place};
 ghost use Rattle.cbm_medium.specs.Content.{header_fault};
 ghost use Rattle.cbm_track.specs.Circle.{next_block};
 ghost use Rattle.cbm_sector.specs.Answer.{shown, block_of, id_shown, data_block, IsOverwritten};
+ghost use Rattle.cbm_sector.specs.Fresh.{block_place};
 
 use crate::block::{coded_block, data_at, data_block};
 use crate::codes::{BAD_HEADER_SUM, NO_BLOCK, NO_SYNC, OTHER_ID};
@@ -98,6 +99,28 @@ pub fn write_sector(
             Ok(())
         }
     }
+}
+
+/// How many bits a sector takes where formatting laid it, and how many of them stand before its
+/// data block.
+const SECTOR_BITS: u32 = 2896;
+
+const BITS_BEFORE: u32 = 232;
+
+/// Writes the data block of a sector anew where formatting put it, without a search: the block that
+/// the track's headers give the sector is the one there.
+pub fn fill_sector(track: &mut Track, at: Address, id: &[u8; 2], bytes: &[u8; 256])
+    requires laid { block_of track.old id.now at ≡ Ok (block_place at.sector) }
+    ensures ok { shown track.new id.now at ≡ Ok bytes.now }
+    ensures others { (id2 : List ℕ) (other : Place) → at ≢ other → shown track.new id2 other ≡ shown track.old id2 other }
+    ensures blocks { (id2 : List ℕ) (other : Place) → block_of track.new id2 other ≡ block_of track.old id2 other }
+    ensures id { id_shown track.new ≡ id_shown track.old }
+    ensures length { length track.new ≡ length track.old }
+    ensures long { 2610 ≤ length track.old }
+{
+    let _bits = track.bits();
+    let place = SECTOR_BITS * at.sector() as u32 + BITS_BEFORE;
+    track.overwrite(place, &coded_block(&data_block(bytes)));
 }
 
 /// The disk's id: that of the first header, from the track's first bit on, that names track 18 and

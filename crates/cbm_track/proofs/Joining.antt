@@ -1,4 +1,4 @@
-use Rattle.std.proofs.Common.{◌≡◌, ℕ, ◌+◌, ◌*◌, ◌-◌, ◌/◌, ◌%◌, ◌^◌, ◌<◌, ◌≤◌, List, [], ◌∷◌, length, get_or, take, drop, refl, sym, ap, ◌∙◌, arith, inl, inr, Bool, false}
+use Rattle.std.proofs.Common.{◌≡◌, ℕ, zero, suc, ◌+◌, ◌*◌, ◌-◌, ◌/◌, ◌%◌, ◌^◌, ◌<◌, ◌≤◌, List, [], ◌∷◌, length, get_or, take, drop, refl, sym, ap, ◌∙◌, arith, inl, inr, Bool, false}
 use Rattle.std.specs.Prelude.{◌==◌}
 use Rattle.std.proofs.lemmas.Bool.{cases_lt}
 use Rattle.std.proofs.lemmas.List.{get_or-take, get_or-drop, get_or_default, length-take-le, length-drop, same_lists}
@@ -13,40 +13,55 @@ eight y0 y1 y2 y3 y4 y5 y6 y7 x0 x1 x2 x3 x4 x5 x6 x7 e0 e1 e2 e3 e4 e5 e6 e7 =
     λ i. (e0 i == 1) ∷ (e1 i == 1) ∷ (e2 i == 1) ∷ (e3 i == 1) ∷ (e4 i == 1) ∷ (e5 i == 1) ∷ (e6 i == 1) ∷ (e7 i == 1) ∷ []
 
 -- eight bits that begin in one byte and end in the next
-pub joined_1 : (a b : ℕ) → a < 256 → b < 256 → bits 8 ((256 * a + b) / 128 % 256) ≡ take 8 (drop 1 (bits_of (a ∷ b ∷ [])))
+joined_1 : (a b : ℕ) → a < 256 → b < 256 → bits 8 ((256 * a + b) / 128 % 256) ≡ take 8 (drop 1 (bits_of (a ∷ b ∷ [])))
 joined_1 a b p q = eight ((256 * a + b) / 128 % 256 / 128 % 2) ((256 * a + b) / 128 % 256 / 64 % 2) ((256 * a + b) / 128 % 256 / 32 % 2) ((256 * a + b) / 128 % 256 / 16 % 2) ((256 * a + b) / 128 % 256 / 8 % 2) ((256 * a + b) / 128 % 256 / 4 % 2) ((256 * a + b) / 128 % 256 / 2 % 2) ((256 * a + b) / 128 % 256 / 1 % 2)
     (a / 64 % 2) (a / 32 % 2) (a / 16 % 2) (a / 8 % 2) (a / 4 % 2) (a / 2 % 2) (a / 1 % 2) (b / 128 % 2)
     (omega arith) (omega arith) (omega arith) (omega arith) (omega arith) (omega arith) (omega arith) (omega arith)
 
-pub joined_2 : (a b : ℕ) → a < 256 → b < 256 → bits 8 ((256 * a + b) / 64 % 256) ≡ take 8 (drop 2 (bits_of (a ∷ b ∷ [])))
+joined_2 : (a b : ℕ) → a < 256 → b < 256 → bits 8 ((256 * a + b) / 64 % 256) ≡ take 8 (drop 2 (bits_of (a ∷ b ∷ [])))
 joined_2 a b p q = eight ((256 * a + b) / 64 % 256 / 128 % 2) ((256 * a + b) / 64 % 256 / 64 % 2) ((256 * a + b) / 64 % 256 / 32 % 2) ((256 * a + b) / 64 % 256 / 16 % 2) ((256 * a + b) / 64 % 256 / 8 % 2) ((256 * a + b) / 64 % 256 / 4 % 2) ((256 * a + b) / 64 % 256 / 2 % 2) ((256 * a + b) / 64 % 256 / 1 % 2)
     (a / 32 % 2) (a / 16 % 2) (a / 8 % 2) (a / 4 % 2) (a / 2 % 2) (a / 1 % 2) (b / 128 % 2) (b / 64 % 2)
     (omega arith) (omega arith) (omega arith) (omega arith) (omega arith) (omega arith) (omega arith) (omega arith)
 
-pub joined_3 : (a b : ℕ) → a < 256 → b < 256 → bits 8 ((256 * a + b) / 32 % 256) ≡ take 8 (drop 3 (bits_of (a ∷ b ∷ [])))
+joined_3 : (a b : ℕ) → a < 256 → b < 256 → bits 8 ((256 * a + b) / 32 % 256) ≡ take 8 (drop 3 (bits_of (a ∷ b ∷ [])))
 joined_3 a b p q = eight ((256 * a + b) / 32 % 256 / 128 % 2) ((256 * a + b) / 32 % 256 / 64 % 2) ((256 * a + b) / 32 % 256 / 32 % 2) ((256 * a + b) / 32 % 256 / 16 % 2) ((256 * a + b) / 32 % 256 / 8 % 2) ((256 * a + b) / 32 % 256 / 4 % 2) ((256 * a + b) / 32 % 256 / 2 % 2) ((256 * a + b) / 32 % 256 / 1 % 2)
     (a / 16 % 2) (a / 8 % 2) (a / 4 % 2) (a / 2 % 2) (a / 1 % 2) (b / 128 % 2) (b / 64 % 2) (b / 32 % 2)
     (omega arith) (omega arith) (omega arith) (omega arith) (omega arith) (omega arith) (omega arith) (omega arith)
 
-pub joined_4 : (a b : ℕ) → a < 256 → b < 256 → bits 8 ((256 * a + b) / 16 % 256) ≡ take 8 (drop 4 (bits_of (a ∷ b ∷ [])))
+joined_4 : (a b : ℕ) → a < 256 → b < 256 → bits 8 ((256 * a + b) / 16 % 256) ≡ take 8 (drop 4 (bits_of (a ∷ b ∷ [])))
 joined_4 a b p q = eight ((256 * a + b) / 16 % 256 / 128 % 2) ((256 * a + b) / 16 % 256 / 64 % 2) ((256 * a + b) / 16 % 256 / 32 % 2) ((256 * a + b) / 16 % 256 / 16 % 2) ((256 * a + b) / 16 % 256 / 8 % 2) ((256 * a + b) / 16 % 256 / 4 % 2) ((256 * a + b) / 16 % 256 / 2 % 2) ((256 * a + b) / 16 % 256 / 1 % 2)
     (a / 8 % 2) (a / 4 % 2) (a / 2 % 2) (a / 1 % 2) (b / 128 % 2) (b / 64 % 2) (b / 32 % 2) (b / 16 % 2)
     (omega arith) (omega arith) (omega arith) (omega arith) (omega arith) (omega arith) (omega arith) (omega arith)
 
-pub joined_5 : (a b : ℕ) → a < 256 → b < 256 → bits 8 ((256 * a + b) / 8 % 256) ≡ take 8 (drop 5 (bits_of (a ∷ b ∷ [])))
+joined_5 : (a b : ℕ) → a < 256 → b < 256 → bits 8 ((256 * a + b) / 8 % 256) ≡ take 8 (drop 5 (bits_of (a ∷ b ∷ [])))
 joined_5 a b p q = eight ((256 * a + b) / 8 % 256 / 128 % 2) ((256 * a + b) / 8 % 256 / 64 % 2) ((256 * a + b) / 8 % 256 / 32 % 2) ((256 * a + b) / 8 % 256 / 16 % 2) ((256 * a + b) / 8 % 256 / 8 % 2) ((256 * a + b) / 8 % 256 / 4 % 2) ((256 * a + b) / 8 % 256 / 2 % 2) ((256 * a + b) / 8 % 256 / 1 % 2)
     (a / 4 % 2) (a / 2 % 2) (a / 1 % 2) (b / 128 % 2) (b / 64 % 2) (b / 32 % 2) (b / 16 % 2) (b / 8 % 2)
     (omega arith) (omega arith) (omega arith) (omega arith) (omega arith) (omega arith) (omega arith) (omega arith)
 
-pub joined_6 : (a b : ℕ) → a < 256 → b < 256 → bits 8 ((256 * a + b) / 4 % 256) ≡ take 8 (drop 6 (bits_of (a ∷ b ∷ [])))
+joined_6 : (a b : ℕ) → a < 256 → b < 256 → bits 8 ((256 * a + b) / 4 % 256) ≡ take 8 (drop 6 (bits_of (a ∷ b ∷ [])))
 joined_6 a b p q = eight ((256 * a + b) / 4 % 256 / 128 % 2) ((256 * a + b) / 4 % 256 / 64 % 2) ((256 * a + b) / 4 % 256 / 32 % 2) ((256 * a + b) / 4 % 256 / 16 % 2) ((256 * a + b) / 4 % 256 / 8 % 2) ((256 * a + b) / 4 % 256 / 4 % 2) ((256 * a + b) / 4 % 256 / 2 % 2) ((256 * a + b) / 4 % 256 / 1 % 2)
     (a / 2 % 2) (a / 1 % 2) (b / 128 % 2) (b / 64 % 2) (b / 32 % 2) (b / 16 % 2) (b / 8 % 2) (b / 4 % 2)
     (omega arith) (omega arith) (omega arith) (omega arith) (omega arith) (omega arith) (omega arith) (omega arith)
 
-pub joined_7 : (a b : ℕ) → a < 256 → b < 256 → bits 8 ((256 * a + b) / 2 % 256) ≡ take 8 (drop 7 (bits_of (a ∷ b ∷ [])))
+joined_7 : (a b : ℕ) → a < 256 → b < 256 → bits 8 ((256 * a + b) / 2 % 256) ≡ take 8 (drop 7 (bits_of (a ∷ b ∷ [])))
 joined_7 a b p q = eight ((256 * a + b) / 2 % 256 / 128 % 2) ((256 * a + b) / 2 % 256 / 64 % 2) ((256 * a + b) / 2 % 256 / 32 % 2) ((256 * a + b) / 2 % 256 / 16 % 2) ((256 * a + b) / 2 % 256 / 8 % 2) ((256 * a + b) / 2 % 256 / 4 % 2) ((256 * a + b) / 2 % 256 / 2 % 2) ((256 * a + b) / 2 % 256 / 1 % 2)
     (a / 1 % 2) (b / 128 % 2) (b / 64 % 2) (b / 32 % 2) (b / 16 % 2) (b / 8 % 2) (b / 4 % 2) (b / 2 % 2)
     (omega arith) (omega arith) (omega arith) (omega arith) (omega arith) (omega arith) (omega arith) (omega arith)
+
+joined_0 : (a b : ℕ) → a < 256 → b < 256 → bits 8 ((256 * a + b) / 256 % 256) ≡ take 8 (drop 0 (bits_of (a ∷ b ∷ [])))
+joined_0 a b p q = ap (bits 8) (let e : (256 * a + b) / 256 % 256 ≡ a = omega arith in e)
+
+-- the same by the bit that they begin at
+pub joined_by : (a b k : ℕ) → k < 8 → a < 256 → b < 256 → bits 8 ((256 * a + b) / 2 ^ (8 - k) % 256) ≡ take 8 (drop k (bits_of (a ∷ b ∷ [])))
+joined_by a b zero h p q = joined_0 a b p q
+joined_by a b (suc zero) h p q = joined_1 a b p q
+joined_by a b (suc (suc zero)) h p q = joined_2 a b p q
+joined_by a b (suc (suc (suc zero))) h p q = joined_3 a b p q
+joined_by a b (suc (suc (suc (suc zero)))) h p q = joined_4 a b p q
+joined_by a b (suc (suc (suc (suc (suc zero))))) h p q = joined_5 a b p q
+joined_by a b (suc (suc (suc (suc (suc (suc zero)))))) h p q = joined_6 a b p q
+joined_by a b (suc (suc (suc (suc (suc (suc (suc zero))))))) h p q = joined_7 a b p q
+joined_by a b (suc (suc (suc (suc (suc (suc (suc (suc k)))))))) h p q = absurd (omega arith)
 
 -- a place past the end
 past : (t : List Bool) (q : ℕ) → length t ≤ q → q < 2 * length t → bit t q ≡ get_or t (q - length t) false

@@ -27,3 +27,12 @@ pub(crate) fn wrapped(place: usize, bits: usize) -> usize
 {
     if place < bits { place } else { place - bits }
 }
+
+/// The same for any place.
+pub(crate) fn rounded(place: usize, bits: usize) -> usize
+    requires { 0 < bits }
+    ensures value { result ≡ place % bits }
+    ensures below { result < bits }
+{
+    if place < bits { place } else { place % bits }
+}

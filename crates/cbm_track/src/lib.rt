@@ -5,6 +5,7 @@ mod bits;
 mod marks;
 mod stretches;
 mod track;
+mod words;
 
 pub use track::Track;
 

@@ -1,101 +1,72 @@
-ghost use Rattle.std.specs.Prelude.{◌≡◌, ℕ, ◌<◌, ◌≤◌, ◌+◌, ◌*◌, ◌-◌, true, false, length, slice_index_or, IfSome};
-ghost use Rattle.cbm_track.specs.Circle.{bits, bits_of, bit, is_clear, next_block};
+ghost use Rattle.std.specs.Prelude.{◌≡◌, ℕ, ◌<◌, ◌≤◌, ◌+◌, ◌*◌, ◌-◌, ◌%◌, false, length, IfSome};
+ghost use Rattle.cbm_track.specs.Circle.{bits_of, first_below, is_clear, next_block, ten_ones};
 
-use crate::bits::{bit_of, wrapped};
-use crate::stretches::byte_at;
+use crate::bits::{bit_of, rounded, wrapped};
+use crate::words::{run_at, step_at};
 
-/// Whether ten ones in a row begin nowhere among some bits from a place on: a bit at a time, with the
-/// number of ones that stand before it.
+/// The first of so many places, counted from a place on, at which ten ones begin; some from the
+/// place on are known to have none.
+fn first_ten(track: &[u8], place: usize, known: usize, count: usize) -> Option<usize>
+    requires place { place < 8 * length track.now }
+    requires size { length track.now ≤ 7928 }
+    requires few { count ≤ 65536 }
+    requires known { known ≤ 10 }
+    requires none { (j : ℕ) → j < known → ten_ones (bits_of track.now) (place + j) ≡ false }
+    ensures value { result ≡ first_below (λ k. ten_ones (bits_of track.now) (place + k)) count }
+    ensures below { IfSome result (λ k. k < count) }
+{
+    let bits = 8 * track.len();
+    let mut far = known;
+    let mut at = rounded(place + known, bits);
+    while far < count {
+        let Some(step) = step_at(track, at) else {
+            return Some(far);
+        };
+        far += step;
+        at = rounded(at + step, bits);
+    }
+    None
+}
+
+/// Whether ten ones in a row begin nowhere among some bits from a place on.
 pub(crate) fn is_clear(track: &[u8], place: usize, count: usize) -> bool
     requires place { place < 8 * length track.now }
     requires size { length track.now ≤ 7928 }
     requires few { count ≤ 65536 }
     ensures { result ≡ is_clear (bits_of track.now) place count }
 {
-    let bits = 8 * track.len();
-    let mut at = place;
-    let mut ones: usize = 0;
-    for k in 0..count + 9 {
-        ones = if bit_of(track, at) { ones + 1 } else { 0 };
-        if ones == 10 {
-            return false;
-        }
-        at = wrapped(at + 1, bits);
-    }
-    true
+    first_ten(track, place, 0, count).is_none()
 }
 
-/// How many ones stand before a place, at most so many.
-fn ones_before(track: &[u8], place: usize, most: usize) -> usize
+/// The place ten bits before another, two rounds on.
+fn ten_before(place: usize, bits: usize) -> usize
+    requires place { place < bits }
+    requires some { 8 ≤ bits }
+    requires size { bits ≤ 63424 }
+    ensures value { result ≡ (place + (2 * bits - 10)) % bits }
+    ensures below { result < bits }
+{
+    if place >= 10 {
+        return place - 10;
+    }
+    (place + (2 * bits - 10)) % bits
+}
+
+/// Of ten places, those at which no ten ones begin: all, where the last of them has a zero.
+fn ruled_out(track: &[u8], place: usize) -> usize
     requires place { place < 8 * length track.now }
     requires size { length track.now ≤ 7928 }
-    requires few { most ≤ 10 }
-    ensures most { result ≤ most }
-    ensures ones { (j : ℕ) → j < result → bit (bits_of track.now) (place + (2 * (8 * length track.now) - 1 - j)) ≡ true }
-    ensures zero { result < most → bit (bits_of track.now) (place + (2 * (8 * length track.now) - 1 - result)) ≡ false }
+    ensures most { result ≤ 10 }
+    ensures none { (j : ℕ) → j < result → ten_ones (bits_of track.now) (place + j) ≡ false }
 {
-    let bits = 8 * track.len();
-    for j in 0..most {
-        if !bit_of(track, (place + (2 * bits - 1 - j)) % bits) {
-            return j;
-        }
+    if bit_of(track, rounded(place + 9, 8 * track.len())) {
+        return 0;
     }
-    most
+    10
 }
 
-/// How many ones begin a byte.
-fn ones_first(byte: u8) -> usize
-    ensures most { result ≤ 8 }
-    ensures ones { (j : ℕ) → j < result → slice_index_or (bits 8 byte) j false ≡ true }
-    ensures zero { result < 8 → slice_index_or (bits 8 byte) result false ≡ false }
-{
-    for j in 0..8 {
-        if !bit_of(&[byte], j) {
-            return j;
-        }
-    }
-    8
-}
-
-/// How many ones end a byte.
-fn ones_last(byte: u8) -> usize
-    ensures most { result ≤ 8 }
-    ensures ones { (j : ℕ) → j < result → slice_index_or (bits 8 byte) (7 - j) false ≡ true }
-    ensures zero { result < 8 → slice_index_or (bits 8 byte) (7 - result) false ≡ false }
-{
-    for j in 0..8 {
-        if !bit_of(&[byte], 7 - j) {
-            return j;
-        }
-    }
-    8
-}
-
-/// How many ones stand from a place on, at most eight.
-fn ones_from(track: &[u8], place: usize) -> usize
-    requires place { place < 8 * length track.now }
-    requires size { length track.now ≤ 7928 }
-    ensures most { result ≤ 8 }
-    ensures ones { (j : ℕ) → j < result → bit (bits_of track.now) (place + j) ≡ true }
-    ensures zero { result < 8 → bit (bits_of track.now) (place + result) ≡ false }
-{
-    ones_first(byte_at(track, place))
-}
-
-/// How many ones stand before a place, at most eight.
-fn ones_just_before(track: &[u8], place: usize) -> usize
-    requires place { place < 8 * length track.now }
-    requires size { length track.now ≤ 7928 }
-    ensures most { result ≤ 8 }
-    ensures ones { (j : ℕ) → j < result → bit (bits_of track.now) (place + (2 * (8 * length track.now) - 1 - j)) ≡ true }
-    ensures zero { result < 8 → bit (bits_of track.now) (place + (2 * (8 * length track.now) - 1 - result)) ≡ false }
-{
-    let bits = 8 * track.len();
-    ones_last(byte_at(track, wrapped(place + (bits - 8), bits)))
-}
-
-/// The first place at which a block begins, from a place on: eight bits at a time, with the number
-/// of ones, at most ten, that stand before them.
+/// The first place at which a block begins, from a place on: where ten ones first begin ten places
+/// before it, and the ones that stand there end.
 pub(crate) fn next_place(track: &[u8], from: usize) -> Option<usize>
     requires place { from < 8 * length track.now }
     requires size { length track.now ≤ 7928 }
@@ -103,17 +74,14 @@ pub(crate) fn next_place(track: &[u8], from: usize) -> Option<usize>
     ensures below { IfSome result (λ p. p < 8 * length track.now) }
 {
     let bits = 8 * track.len();
-    let mut ones = ones_before(track, from, 10);
-    for i in 0..track.len() {
-        let at = wrapped(from + 8 * i, bits);
-        let lead = ones_from(track, at);
-        if lead == 8 {
-            ones = if ones < 2 { ones + 8 } else { 10 };
-        } else if ones + lead >= 10 {
-            return Some(wrapped(at + lead, bits));
-        } else {
-            ones = ones_just_before(track, wrapped(at + 8, bits));
-        }
+    let start = ten_before(from, bits);
+    let Some(far) = first_ten(track, start, ruled_out(track, start), bits) else {
+        return None;
+    };
+    let at = wrapped(start + far, bits);
+    let run = run_at(track, at);
+    if run == bits {
+        return None;
     }
-    None
+    Some(wrapped(at + run, bits))
 }

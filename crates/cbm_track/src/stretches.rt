@@ -9,16 +9,7 @@ fn joined(first: u8, second: u8, bit: usize) -> u8
     ensures { bits 8 result ≡ take 8 (drop bit (bits_of (first ∷ second ∷ []))) }
 {
     let pair = 256 * first as u32 + second as u32;
-    match bit {
-        0 => first,
-        1 => (pair / 128 % 256) as u8,
-        2 => (pair / 64 % 256) as u8,
-        3 => (pair / 32 % 256) as u8,
-        4 => (pair / 16 % 256) as u8,
-        5 => (pair / 8 % 256) as u8,
-        6 => (pair / 4 % 256) as u8,
-        _ => (pair / 2 % 256) as u8,
-    }
+    ((pair >> (8 - bit)) % 256) as u8
 }
 
 /// The byte that begins at a place of the circle.
@@ -36,8 +27,8 @@ pub(crate) fn byte_at(track: &[u8], place: usize) -> u8
     joined(track[first], track[second], place % 8)
 }
 
-/// Reads the bytes from a place of the circle on.
-pub(crate) fn read_bytes(track: &[u8], place: usize, out: &mut [u8])
+/// Reads the bytes from a place of the circle on, one after another.
+fn read_around(track: &[u8], place: usize, out: &mut [u8])
     requires place { place < 8 * length track.now }
     requires size { length track.now ≤ 7928 }
     ensures { bits_of out.new ≡ stretch (bits_of track.now) place (8 * length out.old) }
@@ -50,8 +41,23 @@ pub(crate) fn read_bytes(track: &[u8], place: usize, out: &mut [u8])
     }
 }
 
-/// Writes bytes from a place of the circle on.
-pub(crate) fn write_bytes(track: &mut [u8], place: usize, bytes: &[u8])
+/// Reads the bytes from a place of the circle on.
+pub(crate) fn read_bytes(track: &[u8], place: usize, out: &mut [u8])
+    requires place { place < 8 * length track.now }
+    requires size { length track.now ≤ 7928 }
+    ensures { bits_of out.new ≡ stretch (bits_of track.now) place (8 * length out.old) }
+{
+    let first = place / 8;
+    let count = out.len();
+    if place % 8 == 0 && count <= track.len() - first {
+        out.copy_from_slice(&track[first..first + count]);
+    } else {
+        read_around(track, place, out);
+    }
+}
+
+/// Writes bytes from a place of the circle on, bit after bit.
+fn write_around(track: &mut [u8], place: usize, bytes: &[u8])
     requires place { place < 8 * length track.old }
     requires size { length track.old ≤ 7928 }
     requires fits { length bytes.now ≤ length track.old }
@@ -63,5 +69,22 @@ pub(crate) fn write_bytes(track: &mut [u8], place: usize, bytes: &[u8])
     for k in 0..8 * bytes.len() {
         set_bit(track, at, bit_of(bytes, k));
         at = wrapped(at + 1, bits);
+    }
+}
+
+/// Writes bytes from a place of the circle on.
+pub(crate) fn write_bytes(track: &mut [u8], place: usize, bytes: &[u8])
+    requires place { place < 8 * length track.old }
+    requires size { length track.old ≤ 7928 }
+    requires fits { length bytes.now ≤ length track.old }
+    ensures written { (k : ℕ) → k < 8 * length bytes.now → bit (bits_of track.new) (place + k) ≡ slice_index_or (bits_of bytes.now) k false }
+    ensures others { (k : ℕ) → 8 * length bytes.now ≤ k → k < 8 * length track.old → bit (bits_of track.new) (place + k) ≡ bit (bits_of track.old) (place + k) }
+{
+    let first = place / 8;
+    let end = first + bytes.len();
+    if place % 8 == 0 && end <= track.len() {
+        track[first..end].copy_from_slice(bytes);
+    } else {
+        write_around(track, place, bytes);
     }
 }

@@ -16,7 +16,7 @@ use Rattle.cbm_directory.specs.Entries.{entry_of, entry_at, first_directory, fir
 use Rattle.cbm_directory.specs.Slots.{entries_from, all_entries, Listed, listed_in, listed_from, directory_of, Answers}
 use Rattle.cbm_volume.specs.Blocks.{Blocks, LiesAs, file_of, slot_of, body_as}
 use Rattle.cbm_volume.specs.Layouts.{DataOf, OwnedBy, Layout, slot_count, Sound, Stands}
-use Rattle.cbm_volume.specs.Reading.{ShowsSlot, HasBytes}
+use Rattle.cbm_volume.specs.Holding.{ShowsSlot, HasBytes}
 use Rattle.cbm_volume.proofs.Lengths.{directory_length, file_length}
 
 -- ---- entries by number

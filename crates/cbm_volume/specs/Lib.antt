@@ -1,7 +1,13 @@
 pub mod Blocks
 pub mod Layouts
 pub mod Writers
-pub mod Reading
+pub mod Holding
 pub use Rattle.cbm_file.specs.Files
 pub mod Marks
 pub mod Unsound
+pub mod Plain
+pub use Rattle.cbm_medium.specs.Content
+pub use Rattle.cbm_bam.specs.Map
+pub use Rattle.cbm_chain.specs.Reading
+pub use Rattle.cbm_directory.specs.Entries
+pub use Rattle.cbm_directory.specs.Slots

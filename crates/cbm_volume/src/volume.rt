@@ -1,13 +1,13 @@
-ghost use Rattle.std.specs.Prelude.{◌≡◌, ◌≤◌, ℕ, List, [], Bool, Some, None, Err, IsOkAnd, IfOk, IfErr, OnOk, OnErr, IsOk, slice_range, drop, length};
+ghost use Rattle.std.specs.Prelude.{◌≡◌, ◌≤◌, ℕ, List, [], Bool, Some, None, Err, IsOkAnd, IfOk, IfErr, OnOk, OnErr, IsOk, slice_range, drop, length, ◌+◌};
 ghost use Rattle.cbm_medium.specs.Place.{directory_head, sector_count};
 ghost use Rattle.cbm_file.specs.Files.{Disk};
 ghost use Rattle.cbm_bam.specs.Map.{map_of, free_in, geometry_of};
 ghost use Rattle.cbm_chain.specs.Reading.{rest_of, one_less, held_from, IsSettled};
 ghost use Rattle.cbm_directory.specs.Entries.{first_block};
-ghost use Rattle.cbm_directory.specs.Slots.{Answers, Finds, Gives, directory_of, left_of};
+ghost use Rattle.cbm_directory.specs.Slots.{Answers, Finds, Gives, IfGiven, directory_of, left_of, most_left};
 ghost use Rattle.cbm_volume.specs.Layouts.{Layout, Sound};
 ghost use Rattle.cbm_volume.specs.Unsound.{ClaimsDisk, DiskFault};
-ghost use Rattle.cbm_volume.specs.Reading.{HoldsDisk, ShowsSlot, StandsAt, HasBytes};
+ghost use Rattle.cbm_volume.specs.Holding.{HoldsDisk, ShowsSlot, StandsAt, HasBytes, TellsOf};
 
 use crate::check::check_disk;
 use crate::label::Label;
@@ -53,11 +53,11 @@ impl<M: Medium> Volume<M> {
         cbm_bam::geometry(&self.medium)
     }
 
-    /// Looks whether the disk is sound: each header, the map, and the sectors of the directory and of each closed file in
-    /// their order, none claimed twice. An `Err` is the first fault met on that way, by its number and place.
+    /// Looks whether the disk is sound. An `Ok` says that each header, the map, and the sectors of the directory and of each
+    /// closed file in their order have nothing wrong with them, none claimed twice; an `Err` is the first fault met on that way.
     pub fn check(&self) -> Result<(), Unsound>
         ensures sound { OnOk result ((l : Layout) × Sound (geometry_of (M.tracks self.now) (M.content self.now)) (M.content self.now) l) }
-        ensures unsound { OnErr result ((l : Layout) → Sound (geometry_of (M.tracks self.now) (M.content self.now)) (M.content self.now) l → ⊥) }
+        ensures exact { (l : Layout) → Sound (geometry_of (M.tracks self.now) (M.content self.now)) (M.content self.now) l → IsOk result }
         ensures ok { OnOk result (ClaimsDisk (geometry_of (M.tracks self.now) (M.content self.now)) (M.content self.now)) }
         ensures err { IfErr result (λ u. DiskFault (geometry_of (M.tracks self.now) (M.content self.now)) (M.content self.now) u) }
     {
@@ -101,6 +101,8 @@ impl<M: Medium> Volume<M> {
         ensures left { let tracks = geometry_of (M.tracks self.now) (M.content self.now) in
             left_of (M.content self.now) result ≡ directory_of tracks (M.content self.now) }
         ensures tracks { result.tracks ≤ M.tracks self.now }
+        ensures most { most_left result ≡ 144 }
+        ensures means { (d : Disk) → HoldsDisk (M.tracks self.now) (M.content self.now) d → TellsOf d (left_of (M.content self.now) result) }
     {
         Slots::begin(self.geometry())
     }
@@ -110,6 +112,7 @@ impl<M: Medium> Volume<M> {
         requires { slots.old.tracks ≤ M.tracks self.now }
         ensures gives { Gives (left_of (M.content self.now) slots.old) (left_of (M.content self.now) slots.new) result }
         ensures tracks { slots.new.tracks ≡ slots.old.tracks }
+        ensures most { IfGiven result (most_left slots.new + 1 ≡ most_left slots.old) }
     {
         slots.next(&self.medium)
     }
@@ -117,8 +120,10 @@ impl<M: Medium> Volume<M> {
     /// The first entry that is wanted, with its slot's number; None where none is. An `Err` is what breaks the directory off
     /// before one was met.
     pub fn find<W: Wanted>(&self, wanted: &W) -> Result<Option<(u8, Entry)>, Trouble>
-        ensures { let tracks = geometry_of (M.tracks self.now) (M.content self.now) in
+        ensures finds { let tracks = geometry_of (M.tracks self.now) (M.content self.now) in
             Finds (W.wants wanted.now) (directory_of tracks (M.content self.now)) result }
+        ensures means { (d : Disk) → HoldsDisk (M.tracks self.now) (M.content self.now) d →
+            TellsOf d (directory_of (geometry_of (M.tracks self.now) (M.content self.now)) (M.content self.now)) }
     {
         cbm_directory::find(&self.medium, self.geometry(), wanted)
     }

@@ -1,4 +1,4 @@
-use Rattle.std.proofs.Common.{◌∙◌, sym, arith, ℕ, below_more}
+use Rattle.std.proofs.Common.{◌∙◌, sym, arith, below_more}
 use Rattle.cbm_track.proofs.Firsts.{each_not, each_from}
 use Rattle.cbm_g64.specs.File.{is_sized, are_sized}
 use Rattle.cbm_g64.proofs.checks.are_sized.Goals as goal

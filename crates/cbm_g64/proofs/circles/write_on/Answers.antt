@@ -1,6 +1,6 @@
-use Rattle.std.proofs.Common.{◌≡◌, ℕ, get_or, ◌-◌, refl, arith, ◌<◌, ap, subst}
+use Rattle.std.proofs.Common.{◌≡◌, ℕ, get_or, ◌-◌, refl, arith, ap, subst}
 use Rattle.cbm_g64.specs.Tracks.{IsChanged}
-use Rattle.cbm_g64.proofs.Contents.{has_of, answer_is, write_is, change_is, on_a_track}
+use Rattle.cbm_g64.proofs.Contents.{has_of, answer_is, put_is, write_is, change_is, on_a_track}
 use Rattle.cbm_g64.proofs.circles.write_on.Goals as goal
 
 pub returns-clause-ok : goal.returns-clause-ok
@@ -20,3 +20,7 @@ returns-clause-changed c =
     subst (IsChanged c.args.tracks.now _) t (
     change_is c.write_sector.result c.args.tracks.now (get_or c.args.tracks.now (c.track.result - 1) c.index-tracks-track.result) c.index-tracks-track.result c.write_sector.new.track (c.track.result - 1)
     (omega (arith, b.0, b.1)) refl c.write_sector.ensures.length c.write_sector.ensures.long c.write_sector.ensures.err c.write_sector.ensures.id)
+
+pub returns-clause-block : goal.returns-clause-block
+returns-clause-block c = put_is c.write_sector.result c.args.tracks.now (get_or c.args.tracks.now (c.track.result - 1) c.index-tracks-track.result) c.index-tracks-track.result c.write_sector.new.track c.args.at c.args.bytes.now c.id_on-id.result c.track.result
+    c.requires.count (has_of c.args.at c.track.ensures.on_disk c.requires.track) c.track.ensures.value refl c.id_on-id.ensures c.write_sector.ensures.bits

@@ -1,7 +1,7 @@
-use Rattle.std.proofs.Common.{◌≡◌, ◌≢◌, ℕ, ◌<◌, ◌≤◌, Ok, replicate}
+use Rattle.std.proofs.Common.{◌≡◌, ◌≢◌, ◌<◌, ◌≤◌, Ok, replicate}
 use Rattle.cbm_medium.specs.Place.{Place}
 use Rattle.cbm_g64.specs.NewFile.{new_file}
-use Rattle.cbm_g64.specs.Tracks.{content_of, id_for, or_zeros}
+use Rattle.cbm_g64.specs.Tracks.{content_of, id_for, or_zeros, AreLaid}
 use Rattle.cbm_g64.specs.Image.{IsHeld}
 use Rattle.cbm_g64.proofs.copying.copy_track.Given as goal
 
@@ -11,5 +11,6 @@ invariant-loop-sector g l = record {
   later : (p : Place) → p.track ≡ l.fn.track → l.sector ≤ p.sector → content_of l.tracks p ≡ Ok (replicate 256 0);
   others : (p : Place) → p.track ≢ l.fn.track → content_of l.tracks p ≡ content_of l.fn.tracks p;
   held : IsHeld new_file l.tracks;
+  laid : AreLaid l.tracks;
   id : id_for l.tracks ≡ id_for l.fn.tracks;
 }

@@ -1,7 +1,6 @@
-use Rattle.std.proofs.Common.{arith, ap, ℕ}
-use Rattle.cbm_medium.specs.Place.{Place}
+use Rattle.std.proofs.Common.{arith, ap}
 use Rattle.cbm_medium.specs.Content.{Content}
-use Rattle.cbm_g64.proofs.Held.{held_fresh, fresh_content, fresh_id_for}
+use Rattle.cbm_g64.proofs.Held.{held_fresh, fresh_content, fresh_id_for, fresh_laid}
 use Rattle.cbm_g64.proofs.copying.fresh_tracks.Goals as goal
 
 pub returns-clause-held : goal.returns-clause-held
@@ -12,3 +11,6 @@ returns-clause-blank c = λ p. ap (λ (content : Content). content p) (fresh_con
 
 pub returns-clause-id : goal.returns-clause-id
 returns-clause-id c = fresh_id_for c.args.id.now c.loop-track.tracks.items c.fits-id c.told-id (λ i h. c.loop-track.invariant.fresh i (omega arith))
+
+pub returns-clause-laid : goal.returns-clause-laid
+returns-clause-laid c = fresh_laid c.args.id.now c.loop-track.tracks.items c.fits-id c.told-id (λ i h. c.loop-track.invariant.fresh i (omega arith))

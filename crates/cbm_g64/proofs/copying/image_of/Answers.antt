@@ -1,4 +1,4 @@
-use Rattle.std.proofs.Common.{◌≡◌, ◌∙◌, ℕ, List, Bool, arith, ap, length}
+use Rattle.std.proofs.Common.{◌∙◌, ℕ, List, Bool, arith, ap, length}
 use Rattle.std.proofs.lemmas.List.{take_at}
 use Rattle.cbm_g64.specs.File.{tracks_in}
 use Rattle.cbm_g64.specs.Tracks.{content_of}

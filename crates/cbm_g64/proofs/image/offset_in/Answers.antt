@@ -1,4 +1,4 @@
-use Rattle.std.proofs.Common.{◌≡◌, ◌∙◌, ℕ, List, Bool, true, false, sym, ap, subst, ◌≤◌, length, ◌+◌, ◌*◌, ◌<◌}
+use Rattle.std.proofs.Common.{◌≡◌, ℕ, List, Bool, true, false, sym, ◌≤◌, length, ◌<◌}
 use Rattle.std.specs.Prelude.{is_some}
 use Rattle.cbm_g64.specs.File.{offset, fault_of}
 use Rattle.cbm_g64.specs.NewFile.{base_of, new_place}

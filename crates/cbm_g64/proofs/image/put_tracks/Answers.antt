@@ -1,6 +1,6 @@
-use Rattle.std.proofs.Common.{◌≡◌, ◌≢◌, ◌∙◌, ℕ, List, [], Bool, length, get_or, take, drop, ◌+◌, ◌-◌, ◌*◌, ◌/◌, ◌<◌, ◌≤◌, sym, ap, subst, arith, refl, true, false}
+use Rattle.std.proofs.Common.{◌≡◌, ◌∙◌, ℕ, List, [], Bool, length, take, drop, ◌+◌, ◌-◌, ◌/◌, sym, subst, arith, true, false}
 use Rattle.std.proofs.lemmas.List.{get_or_read, length-take-le, length-drop}
-use Rattle.cbm_g64.specs.File.{offset, tracks_in}
+use Rattle.cbm_g64.specs.File.{tracks_in}
 use Rattle.cbm_g64.specs.NewFile.{base_of}
 use Rattle.cbm_g64.proofs.Imaging.{IsPut, put_none, put_all, put_skip, put_at, track_ends}
 use Rattle.cbm_g64.specs.Image.{IsHeld, IsImageOf}

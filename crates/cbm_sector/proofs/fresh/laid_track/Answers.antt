@@ -5,7 +5,7 @@ use Rattle.cbm_sector.specs.Answer.{id_shown}
 use Rattle.cbm_sector.specs.Fresh.{bytes_on, fresh, fresh_sectors}
 use Rattle.cbm_sector.proofs.Building.{sized, sectors_none, sectors_more, track_built}
 use Rattle.cbm_sector.proofs.Formatted.{length-fresh}
-use Rattle.cbm_sector.proofs.Blank.{fresh_shown, fresh_id, zeros_shown}
+use Rattle.cbm_sector.proofs.Blank.{fresh_block, fresh_shown, fresh_id, zeros_shown}
 use Rattle.cbm_sector.proofs.fresh.laid_track.Goals as goal
 use Rattle.cbm_sector.proofs.fresh.laid_track.Goals.{In-Some}
 
@@ -40,3 +40,6 @@ returns-clause-shown c = λ s h. rw (made c) (zeros_shown (fresh c.args.track c.
 
 pub returns-clause-id : goal.returns-clause-id
 returns-clause-id c = λ e. ap id_shown (made c ∙ ap (λ (t : ℕ). fresh t c.args.id.now) e) ∙ fresh_id c.args.id.now c.fits-id c.told-id
+
+pub returns-clause-blocks : goal.returns-clause-blocks
+returns-clause-blocks c = λ s h. rw (made c) (fresh_block c.args.track c.args.id.now s (c.requires.0) (c.requires.1) c.fits-id h)

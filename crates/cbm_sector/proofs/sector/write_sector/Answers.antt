@@ -1,18 +1,13 @@
 use Rattle.std.proofs.Common.{◌+◌, Ok, Err, Result, ◌≡◌, ◌∙◌, sym, ap, arith, length, refl, ◌*◌, List, Bool, ℕ, get_or, false}
-use Rattle.cbm_gcr.specs.Code.{code, bits_of}
+use Rattle.cbm_gcr.specs.Code.{code}
 use Rattle.cbm_medium.specs.Place.{Place}
 use Rattle.cbm_track.specs.Circle.{bit}
 use Rattle.cbm_sector.specs.Answer.{data_block, block_of, IsOverwritten}
 use Rattle.cbm_sector.proofs.Coding.{length-code}
-use Rattle.cbm_track.proofs.Bytes.{length-bits_of}
 use Rattle.cbm_sector.proofs.Writing.{IsWritten}
-use Rattle.cbm_sector.proofs.Showing.{written, own_shown, other_shown, id_kept, fault_shown, no_fault_shown, block_fits, block_length}
+use Rattle.cbm_sector.proofs.Showing.{code_size, written, own_shown, other_shown, id_kept, fault_shown, no_fault_shown, block_fits}
 use Rattle.cbm_sector.proofs.sector.write_sector.Goals as goal
 use Rattle.cbm_sector.proofs.sector.write_sector.Goals.{After-overwrite}
-
--- eight bits for each byte of a block's code
-code_size : (coded block bytes : List ℕ) → length bytes ≡ 256 → block ≡ data_block bytes → bits_of coded ≡ code block → 8 * length coded ≡ 2600
-code_size coded block bytes l e f = omega (arith, length-bits_of coded, ap length f, length-code block, ap length e, block_length bytes l)
 
 pub overwrite-requires-clause-fits : goal.overwrite-requires-clause-fits
 overwrite-requires-clause-fits c = omega (

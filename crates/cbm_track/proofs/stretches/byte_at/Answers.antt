@@ -1,4 +1,4 @@
-use Rattle.std.proofs.Common.{◌≡◌, ◌∙◌, ℕ, ◌+◌, ◌/◌, ◌%◌, get_or, refl, ap, arith}
+use Rattle.std.proofs.Common.{◌∙◌, ℕ, ◌/◌, ◌%◌, get_or, refl, ap, arith}
 use Rattle.cbm_track.proofs.Joining.{joined_is}
 use Rattle.cbm_track.proofs.stretches.byte_at.Goals as goal
 use Rattle.cbm_track.proofs.stretches.byte_at.Goals.{then-first-track, else-first-track}

@@ -1,6 +1,6 @@
 use Rattle.std.proofs.Common.{◌≡◌, ℕ, List, length, drop, ap, sym, ◌∙◌, arith}
 use Rattle.cbm_channel.specs.Statuses.{status_line}
-use Rattle.cbm_channel.specs.Talking.{next_of}
+use Rattle.cbm_volume.specs.Reading.{shown}
 use Rattle.cbm_channel.specs.Told.{Told, next_told}
 use Rattle.cbm_channel.proofs.NextBytes.{next_dropped}
 use Rattle.cbm_channel.proofs.telling.Telling.peek.Goals as goal
@@ -10,5 +10,5 @@ pub returns : goal.returns
 returns c =
     let same : c.as_slice-line.result.now ≡ status_line c.self.inside.status = c.as_slice-line.ensures.value ∙ c.self.invariant.0 in
     sym (next_dropped c.as_slice-line.result.now c.self.inside.told (omega (arith, ap length c.as_slice-line.ensures.value, c.self.invariant.1)))
-    ∙ ap (λ (line : List ℕ). next_of (drop c.self.inside.told line)) same
+    ∙ ap (λ (line : List ℕ). shown (drop c.self.inside.told line)) same
     ∙ ap (λ (t : Told). next_told t) c.self.view_is

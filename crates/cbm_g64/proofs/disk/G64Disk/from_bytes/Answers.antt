@@ -1,5 +1,4 @@
-use Rattle.std.proofs.Common.{◌≡◌, ◌∙◌, sym, refl, None}
-use Rattle.cbm_g64.specs.File.{fault_of}
+use Rattle.std.proofs.Common.{◌∙◌, sym}
 use Rattle.cbm_g64.proofs.Sound.{passes, good}
 use Rattle.cbm_g64.proofs.Held.{held_open}
 use Rattle.cbm_g64.proofs.disk.G64Disk.from_bytes.Goals as goal

@@ -1,4 +1,4 @@
-use Rattle.std.proofs.Common.{◌≡◌, ◌∙◌, sym, ap, subst, arith, length}
+use Rattle.std.proofs.Common.{◌≡◌, sym, ap, subst, arith, length}
 use Rattle.std.proofs.lemmas.List.{take_at}
 use Rattle.cbm_g64.specs.NewFile.{new_file}
 use Rattle.cbm_g64.specs.Image.{IsHeld}

@@ -1,10 +1,14 @@
 use Rattle.std.proofs.Common.{rules}
 use Rattle.cbm_bam.specs.Map.{geometry_of}
-use Rattle.cbm_volume.proofs.NoFault.{sound_of, unsound_of}
+use Rattle.cbm_volume.proofs.CheckedSound.{ends_sound, ends_exact}
 use Rattle.cbm_volume.proofs.volume.Volume.check.Goals as goal
 
+-- what is claimed is a sound disk
 pub returns-clause-sound : goal.returns-clause-sound
-returns-clause-sound g c = sound_of (geometry_of (g.M.Medium.tracks c.args.self.now) (g.M.Medium.content c.args.self.now)) (g.M.Medium.content c.args.self.now) c.check_disk.result (search rules)
+returns-clause-sound g c =
+    ends_sound (geometry_of (g.M.Medium.tracks c.args.self.now) (g.M.Medium.content c.args.self.now)) (g.M.Medium.content c.args.self.now) c.check_disk.result (search rules)
 
-pub returns-clause-unsound : goal.returns-clause-unsound
-returns-clause-unsound g c = unsound_of (geometry_of (g.M.Medium.tracks c.args.self.now) (g.M.Medium.content c.args.self.now)) (g.M.Medium.content c.args.self.now) c.check_disk.result (search rules)
+-- and of a sound disk all is claimed
+pub returns-clause-exact : goal.returns-clause-exact
+returns-clause-exact g c = λ l s.
+    ends_exact (g.M.Medium.tracks c.args.self.now) (g.M.Medium.content c.args.self.now) l c.check_disk.result (search rules) s

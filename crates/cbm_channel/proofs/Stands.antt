@@ -1,0 +1,300 @@
+-- A drive stands for a machine before and behind each change of its parts.
+use Rattle.std.proofs.Common.{◌≡◌, ℕ, zero, suc, ◌+◌, ◌<◌, ◌≤◌, Bool, true, false, List, [], ◌∷◌, ◌++◌, length, take, drop, refl, sym, ap, ◌∙◌, subst, arith, inl, inr, ◌≢◌}
+use Rattle.std.specs.Prelude.{◌==◌, ◌||◌, nat_lt, Option, Some, None, slice_index_or, slice_set, sum_by, if◌then◌else◌, Result, Err, IsOk}
+use Rattle.std.specs.List.{AllZip, list_any}
+use Rattle.std.proofs.lemmas.List.Sums.{sum_by-cons}
+use Rattle.std.proofs.lemmas.Bool.{ne_eqb, eq-eqb}
+use Rattle.cbm_medium.specs.Links.{follow}
+use Rattle.cbm_medium.proofs.Walks.{follow_end}
+use Rattle.cbm_channel.specs.Statuses.{status_line}
+use Rattle.cbm_volume.specs.Content.{Content}
+use Rattle.cbm_volume.specs.Reading.{Reading, rest_of, held_from, held_in, shown, IsSettled}
+use Rattle.cbm_file.specs.Files.{Disk}
+use Rattle.cbm_listing.specs.Listed as listed
+use Rattle.std.proofs.lemmas.List.{drop-drop}
+use Rattle.std.proofs.lemmas.Bool.Decides.{nat_tests}
+use Rattle.cbm_channel.specs.declared.channel.Channel.{Channel}
+use Rattle.cbm_channel.specs.declared.channel.Channel.TheVariants as code
+use Rattle.cbm_channel.specs.declared.status.Status.{Status}
+use Rattle.cbm_channel.specs.declared.code.Code.TheVariants.{Fine}
+use Rattle.cbm_channel.specs.Machines as machine
+use Rattle.cbm_channel.specs.Closing.{forget_text, without_text}
+use Rattle.cbm_channel.specs.Talking.{peek_on, taken, taken_on}
+use Rattle.cbm_channel.specs.Calls.{text_for}
+use Rattle.cbm_channel.specs.Told.{Told, told_by, behind_next}
+use Rattle.cbm_channel.specs.Standing.{Kept, Fits, AreFit, ChannelStands, kept_text, StandsBy, Stands, HasText, HasNoText}
+use Rattle.cbm_channel.specs.Shown.{is_closed, shown_on, cost_on}
+use Rattle.cbm_channel.proofs.Idle.{Idle}
+use Rattle.cbm_channel.proofs.Kept.{take_more, same_pair}
+
+-- ---- two lists, place by place
+
+pub zip_set : {A B : Type 0} (R : A → B → Type 0) (xs : List A) (ys : List B) (i : ℕ) (x : A) (y : B) → AllZip R xs ys → R x y → AllZip R (slice_set xs i x) (slice_set ys i y)
+zip_set R [] [] i x y h r = h
+zip_set R [] (b ∷ ys) i x y h r = absurd h
+zip_set R (a ∷ xs) [] i x y h r = absurd h
+zip_set R (a ∷ xs) (b ∷ ys) zero x y h r = (r, h.1)
+zip_set R (a ∷ xs) (b ∷ ys) (suc i) x y h r = (h.0, zip_set R xs ys i x y h.1 r)
+
+-- what is known at one place; past the end both are closed
+pub zip_at : (c : Content) (xs : List Channel) (ys : List machine.Channel) (i : ℕ) → AllZip (ChannelStands c) xs ys
+    → ChannelStands c (slice_index_or xs i code.Closed) (slice_index_or ys i machine.Closed)
+zip_at c [] [] i h = refl
+zip_at c [] (b ∷ ys) i h = absurd h
+zip_at c (a ∷ xs) [] i h = absurd h
+zip_at c (a ∷ xs) (b ∷ ys) zero h = h.0
+zip_at c (a ∷ xs) (b ∷ ys) (suc i) h = zip_at c xs ys i h.1
+
+-- the element that is there, with whatever would stand past the end
+pub any_default : {A : Type 0} (xs : List A) (i : ℕ) (d e : A) → i < length xs → slice_index_or xs i d ≡ slice_index_or xs i e
+any_default [] i d e lt = absurd (omega (arith, lt))
+any_default (x ∷ xs) zero d e lt = refl
+any_default (x ∷ xs) (suc i) d e lt = any_default xs i d e (omega (arith, lt))
+
+pub past_end : (c : Content) (xs : List Channel) (ys : List machine.Channel) (i : ℕ) → length xs ≤ i → AllZip (ChannelStands c) xs ys → slice_index_or ys i machine.Closed ≡ machine.Closed
+past_end c [] [] i far h = refl
+past_end c [] (b ∷ ys) i far h = absurd h
+past_end c (a ∷ xs) [] i far h = absurd h
+past_end c (a ∷ xs) (b ∷ ys) zero far h = absurd (omega (arith, far))
+past_end c (a ∷ xs) (b ∷ ys) (suc i) far h = past_end c xs ys i (omega (arith, far)) h.1
+
+-- ---- one channel
+
+pub idle : (c : Content) (x : Channel) (y : machine.Channel) → ChannelStands c x y → Idle y
+unfolding Idle
+idle c code.Closed y h = inl h
+idle c (code.Listing l) y h = inr (None, drop l.taken l.bytes, h)
+idle c (code.File slot r) y h = inr (Some slot, (rest_of c r).bytes, h.0)
+
+pub closed_is : (c : Content) (x : Channel) (y : machine.Channel) → ChannelStands c x y → is_closed x ≡ true → y ≡ machine.Closed
+closed_is c code.Closed y h e = h
+closed_is c (code.Listing l) y h e = absurd (cc)
+closed_is c (code.File slot r) y h e = absurd (cc)
+
+pub reads_is : (c : Content) (x : Channel) (y : machine.Channel) → ChannelStands c x y → is_closed x ≡ false → (s : Option ℕ) × (left : List ℕ) × (y ≡ machine.Reading s left)
+reads_is c code.Closed y h e = absurd (cc)
+reads_is c (code.Listing l) y h e = (None, drop l.taken l.bytes, h)
+reads_is c (code.File slot r) y h e = (Some slot, (rest_of c r).bytes, h.0)
+
+-- what the channels cost
+cost_same : (c : Content) (x : Channel) (y : machine.Channel) → ChannelStands c x y → machine.cost y ≡ cost_on x
+cost_same c code.Closed y h = ap machine.cost h
+cost_same c (code.Listing l) y h = ap machine.cost h
+cost_same c (code.File slot r) y h = ap machine.cost h.0
+
+pub costs_same : (c : Content) (xs : List Channel) (ys : List machine.Channel) → AllZip (ChannelStands c) xs ys → sum_by machine.cost ys ≡ sum_by cost_on xs
+costs_same c [] [] h = refl
+costs_same c [] (y ∷ ys) h = absurd h
+costs_same c (x ∷ xs) [] h = absurd h
+costs_same c (x ∷ xs) (y ∷ ys) h =
+    sum_by-cons machine.cost y ys ∙ (λ i. cost_same c x y h.0 i + costs_same c xs ys h.1 i) ∙ sym (sum_by-cons cost_on x xs)
+
+-- no channel writes
+writes_none : (n : ℕ) (y : machine.Channel) → Idle y → machine.writes n y ≡ false
+unfolding Idle
+writes_none n y (inl e) = ap (machine.writes n) e
+writes_none n y (inr r) = ap (machine.writes n) r.2
+
+pub none_writes : (c : Content) (n : ℕ) (xs : List Channel) (ys : List machine.Channel) → AllZip (ChannelStands c) xs ys → list_any (machine.writes n) ys ≡ false
+none_writes c n [] [] h = refl
+none_writes c n [] (y ∷ ys) h = absurd h
+none_writes c n (x ∷ xs) [] h = absurd h
+none_writes c n (x ∷ xs) (y ∷ ys) h = λ i. writes_none n y (idle c x y h.0) i || none_writes c n xs ys h.1 i
+
+-- a reader that holds one byte at most holds all that is left
+more_shown : (xs ys : List ℕ) → (length xs ≤ 1 → ys ≡ []) → shown (xs ++ ys) ≡ shown xs
+more_shown [] ys h = ap shown (h (omega arith))
+more_shown (x ∷ []) ys h = ap (λ zs. shown (x ∷ zs)) (h (omega arith))
+more_shown (x ∷ z ∷ xs) ys h = refl
+
+rest_shown : (c : Content) (r : Reading) → IsSettled r → shown (rest_of c r).bytes ≡ shown r.bytes
+unfolding rest_of held_from
+rest_shown c r settled = more_shown r.bytes (held_in c (follow r.tracks c r.left r.next)).bytes (λ few. ap (λ f. (held_in c f).bytes) (follow_end r.tracks c r.left r.next (settled few)))
+
+pub shows : (c : Content) (t : ℕ) (d : Disk) (x : Channel) (y : machine.Channel) → Fits t x → ChannelStands c x y → peek_on d y ≡ shown_on x
+shows c t d code.Closed y f h = ap (peek_on d) h
+shows c t d (code.Listing l) y f h = ap (peek_on d) h
+shows c t d (code.File slot r) y f h = ap (peek_on d) h.0 ∙ rest_shown c r f.1
+
+-- a byte of the listing is taken
+drop_on : (n : ℕ) (xs : List ℕ) → drop 1 (drop n xs) ≡ drop (n + 1) xs
+drop_on n xs = drop-drop 1 n xs
+
+drop_all : (n : ℕ) (xs : List ℕ) → length xs ≤ n → drop 1 (drop n xs) ≡ drop n xs
+drop_all zero [] h = refl
+drop_all zero (x ∷ xs) h = absurd (omega (arith, h))
+drop_all (suc n) [] h = refl
+drop_all (suc n) (x ∷ xs) h = drop_all n xs (omega (arith, h))
+
+listed_on : (l : listed.Listed) (b : Bool) → nat_lt l.taken (length l.bytes) ≡ b → drop 1 (drop l.taken l.bytes) ≡ drop (listed.behind_next l).taken (listed.behind_next l).bytes
+listed_on l true e = rw e (drop_on l.taken l.bytes)
+listed_on l false e = rw e (drop_all l.taken l.bytes (grind (arith, nat_tests, e)))
+
+pub listing_on : (d : Disk) (l new : listed.Listed) (y : machine.Channel) → new ≡ listed.behind_next l → y ≡ machine.Reading None (drop l.taken l.bytes)
+    → taken_on d y ≡ machine.Reading None (drop new.taken new.bytes)
+listing_on d l new y e h =
+    ap (taken_on d) h ∙ ap (λ xs. machine.Reading None xs) (listed_on l (nat_lt l.taken (length l.bytes)) refl) ∙ ap (λ (x : listed.Listed). machine.Reading None (drop x.taken x.bytes)) (sym e)
+
+-- ---- the text
+
+test_pushed : (b : Bool) (t : ℕ × List ℕ) → kept_text (if b then None else Some t) ≡ (if b then None else Some (t.0, take 256 t.1))
+test_pushed true t = refl
+test_pushed false t = refl
+
+pub kept_forgotten : (ch : ℕ) (text : Option (ℕ × List ℕ)) → kept_text (forget_text ch text) ≡ forget_text ch (kept_text text)
+kept_forgotten ch None = refl
+kept_forgotten ch (Some t) = test_pushed (t.0 == ch) t
+
+-- ---- the parts of a drive
+
+module _ (c : Content) (t : ℕ) (p : Bool) (chs : List Channel) (told : Told) (text : Option (ℕ × List ℕ)) (m : machine.Machine) where
+  pub told_anew : (s : Status) (new : Told) → new ≡ record { status = s; told = 0 } → StandsBy c t p chs told text m → StandsBy c t p chs new text (machine.tell s m)
+  told_anew s new is st = record {
+    means = st.means;
+    same_tracks = st.same_tracks;
+    same_protection = st.same_protection;
+    each = st.each;
+    same_told = sym is;
+    same_text = st.same_text;
+  }
+
+  pub with_one : (ch : ℕ) (x : Channel) (y : machine.Channel) → ChannelStands c x y → StandsBy c t p chs told text m
+      → StandsBy c t p (slice_set chs ch x) told text (machine.with_channel ch y m)
+  with_one ch x y h st = record {
+    means = st.means;
+    same_tracks = st.same_tracks;
+    same_protection = st.same_protection;
+    each = zip_set (ChannelStands c) chs m.channels ch x y st.each h;
+    same_told = st.same_told;
+    same_text = st.same_text;
+  }
+
+  pub forgotten : (ch : ℕ) (new : Option (ℕ × List ℕ)) → new ≡ forget_text ch text → StandsBy c t p chs told text m → StandsBy c t p chs told new (without_text ch m)
+  forgotten ch new is st = record {
+    means = st.means;
+    same_tracks = st.same_tracks;
+    same_protection = st.same_protection;
+    each = st.each;
+    same_told = st.same_told;
+    same_text = kept_forgotten ch m.text ∙ ap (forget_text ch) st.same_text ∙ sym is;
+  }
+
+  -- the text is another one
+  pub other_text : (new : Option (ℕ × List ℕ)) (whole : Option (ℕ × List ℕ)) → kept_text whole ≡ new → StandsBy c t p chs told text m
+      → StandsBy c t p chs told new (record m { text = whole })
+  other_text new whole e st = record {
+    means = st.means;
+    same_tracks = st.same_tracks;
+    same_protection = st.same_protection;
+    each = st.each;
+    same_told = st.same_told;
+    same_text = e;
+  }
+
+  stepped : nat_lt (m.told + 1) (length (status_line m.status)) ≡ true → told_by (record m { told = m.told + 1 }) ≡ behind_next (told_by m)
+  stepped e = rw e refl
+
+  ended : nat_lt (m.told + 1) (length (status_line m.status)) ≡ false → told_by (machine.say Fine m) ≡ behind_next (told_by m)
+  ended e = rw e refl
+
+  -- the byte that channel 15 tells was taken
+  pub told_on : (new : Told) → new ≡ behind_next told → StandsBy c t p chs told text m → StandsBy c t p chs new text (taken 15 m)
+  told_on new is st = by_test (nat_lt (m.told + 1) (length (status_line m.status))) refl
+    where
+      by_test : (b : Bool) → nat_lt (m.told + 1) (length (status_line m.status)) ≡ b → StandsBy c t p chs new text (taken 15 m)
+      by_test true e = rw e (record {
+        means = st.means;
+        same_tracks = st.same_tracks;
+        same_protection = st.same_protection;
+        each = st.each;
+        same_told = stepped e ∙ ap behind_next st.same_told ∙ sym is;
+        same_text = st.same_text;
+      })
+      by_test false e = rw e (record {
+        means = st.means;
+        same_tracks = st.same_tracks;
+        same_protection = st.same_protection;
+        each = st.each;
+        same_told = ended e ∙ ap behind_next st.same_told ∙ sym is;
+        same_text = st.same_text;
+      })
+
+  -- what the channel of the code, with whatever would stand past the end, stands for
+  pub stands_at : (ch : ℕ) (d : Channel) → ch < 15 → AreFit t chs → StandsBy c t p chs told text m → ChannelStands c (slice_index_or chs ch d) (machine.channel m ch)
+  stands_at ch d lt fit st =
+      subst (λ x. ChannelStands c x (machine.channel m ch)) (any_default chs ch code.Closed d (omega (arith, lt, fit.count))) (zip_at c chs m.channels ch st.each)
+
+  -- past the end the machine's channel is closed too
+  pub closed_past : (ch : ℕ) → 15 ≤ ch → AreFit t chs → StandsBy c t p chs told text m → machine.channel m ch ≡ machine.Closed
+  closed_past ch far fit st = past_end c chs m.channels ch (omega (arith, far, fit.count)) st.each
+
+  pub idle_at : (ch : ℕ) → StandsBy c t p chs told text m → Idle (machine.channel m ch)
+  idle_at ch st = idle c (slice_index_or chs ch code.Closed) (machine.channel m ch) (zip_at c chs m.channels ch st.each)
+
+-- the machine goes by another name
+pub moved : (c : Content) (t : ℕ) (p : Bool) (chs : List Channel) (told : Told) (text : Option (ℕ × List ℕ)) (m n : machine.Machine) → m ≡ n → StandsBy c t p chs told text n → StandsBy c t p chs told text m
+moved c t p chs told text m n e st = subst (λ x. StandsBy c t p chs told text x) (sym e) st
+
+-- a fault is no success
+pub not_ok : {A E : Type 0} (e : E) (r : Result A E) → r ≡ Err e → IsOk r → ⊥
+not_ok e r is ok = let z = subst IsOk is ok in absurd (cc)
+
+-- a text that is taken
+pub text_taken : (ch : ℕ) (text : ℕ × List ℕ) → text.0 ≡ ch → forget_text ch (Some text) ≡ None
+text_taken ch text e = rw (eq-eqb text.0 ch e) refl
+
+pub text_stays : (ch : ℕ) (text : ℕ × List ℕ) → text.0 ≢ ch → forget_text ch (Some text) ≡ Some text
+text_stays ch text ne = rw (ne_eqb text.0 ch ne) refl
+
+abbrev number_of : Option (ℕ × List ℕ) → ℕ
+number_of None = 0
+number_of (Some t) = t.0
+
+abbrev bytes_of : Option (ℕ × List ℕ) → List ℕ
+bytes_of None = []
+bytes_of (Some t) = t.1
+
+-- whether a text is gathered for the channel
+pub none_there : (ch : ℕ) (m : machine.Machine) → kept_text m.text ≡ None → HasNoText ch m
+none_there ch m e = by_text m.text refl e
+  where
+    by_text : (w : Option (ℕ × List ℕ)) → m.text ≡ w → kept_text w ≡ None → HasNoText ch m
+    by_text None is h = record { none = ap (text_for ch) is; stays = ap (forget_text ch) is ∙ sym is }
+    by_text (Some w) is h = absurd (cc)
+
+pub other_there : (ch : ℕ) (m : machine.Machine) (text : ℕ × List ℕ) → kept_text m.text ≡ Some text → text.0 ≢ ch → HasNoText ch m
+other_there ch m text e ne = by_text m.text refl e
+  where
+    by_text : (w : Option (ℕ × List ℕ)) → m.text ≡ w → kept_text w ≡ Some text → HasNoText ch m
+    by_text None is h = absurd (cc)
+    by_text (Some w) is h =
+        let number : w.0 ≡ text.0 = ap number_of h in
+        let other = ne_eqb w.0 ch (λ x. ne (sym number ∙ x)) in
+        record { none = ap (text_for ch) is ∙ rw other refl; stays = ap (forget_text ch) is ∙ rw other (sym is) }
+
+pub this_there : (ch : ℕ) (m : machine.Machine) (text : ℕ × List ℕ) → kept_text m.text ≡ Some text → text.0 ≡ ch → 1 ≤ length text.1 → HasText ch m text
+this_there ch m text e same some = by_text m.text refl e
+  where
+    by_text : (w : Option (ℕ × List ℕ)) → m.text ≡ w → kept_text w ≡ Some text → HasText ch m text
+    by_text None is h = absurd (cc)
+    by_text (Some w) is h =
+        let number : w.0 ≡ text.0 = ap number_of h in
+        let bytes : take 256 w.1 ≡ text.1 = ap bytes_of h in
+        let here = eq-eqb w.0 ch (number ∙ same) in
+        record { number = same; kept = sym bytes ∙ sym (ap (λ x. take 256 (text_for ch x)) is ∙ rw here refl); some = some }
+
+-- a byte behind the text that is there, or the first one
+pub gathered : (ch b : ℕ) (m : machine.Machine) (text new : ℕ × List ℕ) → HasText ch m text → new ≡ (text.0, take 256 (text.1 ++ b ∷ []))
+    → kept_text (Some (ch, text_for ch m.text ++ b ∷ [])) ≡ Some new
+gathered ch b m text new has e =
+    let bytes : take 256 (text_for ch m.text ++ b ∷ []) ≡ take 256 (text.1 ++ b ∷ []) =
+    sym (take_more 256 (text_for ch m.text) (b ∷ [])) ∙ ap (λ x. take 256 (x ++ b ∷ [])) (sym has.kept) in
+    ap (λ (t : ℕ × List ℕ). Some t) (same_pair (sym has.number) bytes ∙ sym e)
+
+pub begun : (ch b : ℕ) (m : machine.Machine) (new : ℕ × List ℕ) → HasNoText ch m → new ≡ (ch, b ∷ []) → kept_text (Some (ch, text_for ch m.text ++ b ∷ [])) ≡ Some new
+begun ch b m new has e = ap (λ x. kept_text (Some (ch, x ++ b ∷ []))) has.none ∙ ap (λ (t : ℕ × List ℕ). Some t) (sym e)
+
+-- a drive that is known by its parts
+pub stood : {M : Type 0} (tracks : M → ℕ) (content : M → Content) (protected : M → Bool) (k k' : Kept M) (m : machine.Machine) → k' ≡ k
+    → Stands tracks content protected k m → Stands tracks content protected k' m
+stood tracks content protected k k' m e s = subst (λ x. Stands tracks content protected x m) (sym e) s

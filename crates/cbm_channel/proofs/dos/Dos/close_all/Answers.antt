@@ -1,0 +1,21 @@
+use Rattle.std.proofs.Common.{◌≡◌, take, subst, ◌∙◌, arith}
+use Rattle.cbm_channel.specs.Closing.{close_all, channel_numbers}
+use Rattle.cbm_channel.specs.Standing.{Stands}
+use Rattle.cbm_channel.proofs.Stands.{moved}
+use Rattle.cbm_channel.proofs.Closes.{close_next}
+use Rattle.cbm_channel.proofs.dos.Dos.close_all.Goals as goal
+
+pub returns-clause-leads : goal.returns-clause-leads
+returns-clause-leads g c = λ m s.
+    let all : c.loop-channel.channel ≡ 15 = omega (arith, c.loop-channel-test.false, c.loop-channel.auto.channel-end) in
+    subst (λ k. Stands g.M.Medium.tracks g.M.Medium.content g.M.Medium.protected c.loop-channel.self (close_all (take k channel_numbers) m))
+    all (c.loop-channel.invariant.0 m s)
+
+pub returns-clause-medium : goal.returns-clause-medium
+returns-clause-medium g c = c.loop-channel.invariant.1
+
+pub loop-channel-preserved : goal.loop-channel-preserved
+loop-channel-preserved g c = (
+  λ m s. moved _ _ _ _ _ _ _ _ (close_next c.loop-channel.channel c.loop-channel-test.true m) (c.close_one.ensures.leads _ (c.loop-channel.invariant.0 m s)),
+  c.close_one.ensures.medium ∙ c.loop-channel.invariant.1,
+)

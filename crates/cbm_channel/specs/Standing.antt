@@ -1,0 +1,68 @@
+-- The drive's code, over the content of its medium, stands for a machine.
+use Rattle.std.specs.Prelude.{ℕ, ◌≤◌, ◌≡◌, Bool, List, [], length, take, drop, Option, Some, None, option_map}
+use Rattle.std.specs.List.{All, AllZip}
+use Rattle.cbm_volume.specs.Content.{Content}
+use Rattle.cbm_volume.specs.Reading.{rest_of, IsSettled}
+use Rattle.cbm_volume.specs.Holding.{HoldsDisk}
+use Rattle.cbm_channel.specs.declared.channel.Channel.{Channel}
+use Rattle.cbm_channel.specs.declared.channel.Channel.TheVariants as code
+use Rattle.cbm_channel.specs.Machines as machine
+use Rattle.cbm_channel.specs.Closing.{forget_text}
+use Rattle.cbm_channel.specs.Calls.{text_for}
+use Rattle.cbm_channel.specs.Told.{Told, told_by}
+
+-- what the drive keeps: its medium, fifteen channels, the status, and the text that is gathered with its channel
+pub record Kept (M : Type 0) : Type 0 where
+  pub medium : M
+  pub channels : List Channel
+  pub told : Told
+  pub text : Option (ℕ × List ℕ)
+
+-- A channel that reads a file reads from a disk of no more tracks than the medium has, and is one byte ahead.
+abbrev pub Fits : ℕ → Channel → Type 0
+Fits tracks code.Closed = Unit {0}
+Fits tracks (code.Listing l) = Unit {0}
+Fits tracks (code.File slot r) = (r.tracks ≤ tracks) × IsSettled r
+
+-- there are fifteen channels, and each fits the medium
+pub record AreFit (tracks : ℕ) (channels : List Channel) : Type 0 where
+  pub count : length channels ≡ 15
+  pub each : All (Fits tracks) channels
+
+-- A channel stands for the machine's: what it still gives is what is left there.
+abbrev pub ChannelStands : Content → Channel → machine.Channel → Type 0
+ChannelStands c code.Closed channel = channel ≡ machine.Closed
+ChannelStands c (code.Listing l) channel = channel ≡ machine.Reading None (drop l.taken l.bytes)
+ChannelStands c (code.File slot r) channel = (channel ≡ machine.Reading (Some slot) (rest_of c r).bytes) × ((rest_of c r).trouble ≡ None)
+
+-- of a gathered text the first 256 bytes are kept, which tell one that is too long from all others
+abbrev pub kept_text : Option (ℕ × List ℕ) → Option (ℕ × List ℕ)
+kept_text text = option_map (λ (t : ℕ × List ℕ). (t.0, take 256 t.1)) text
+
+-- no text is gathered for the channel
+pub record HasNoText (ch : ℕ) (m : machine.Machine) : Type 0 where
+  pub none : text_for ch m.text ≡ []
+  pub stays : forget_text ch m.text ≡ m.text
+
+-- the text that is gathered for the channel has a byte at least, and this is what is kept of it
+pub record HasText (ch : ℕ) (m : machine.Machine) (text : ℕ × List ℕ) : Type 0 where
+  pub number : text.0 ≡ ch
+  pub kept : text.1 ≡ take 256 (text_for ch m.text)
+  pub some : 1 ≤ length text.1
+
+-- the parts of a drive, over a content, stand for a machine
+pub record StandsBy (c : Content) (tracks : ℕ) (protected : Bool) (channels : List Channel) (told : Told) (text : Option (ℕ × List ℕ)) (m : machine.Machine) : Type 0 where
+  pub means : HoldsDisk tracks c m.disk
+  pub same_tracks : m.tracks ≡ tracks
+  pub same_protection : m.protected ≡ protected
+  pub each : AllZip (ChannelStands c) channels m.channels
+  pub same_told : told_by m ≡ told
+  pub same_text : kept_text m.text ≡ text
+
+-- what a drive keeps stands for a machine
+abbrev pub Stands : {M : Type 0} → (M → ℕ) → (M → Content) → (M → Bool) → Kept M → machine.Machine → Type 0
+Stands tracks content protected k m = StandsBy (content k.medium) (tracks k.medium) (protected k.medium) k.channels k.told k.text m
+
+-- A CALL LEADS from each machine that the drive stood for to the machine's next state.
+abbrev pub Leads : {M : Type 0} → (M → ℕ) → (M → Content) → (M → Bool) → Kept M → Kept M → (machine.Machine → machine.Machine) → Type 0
+Leads tracks content protected old new next = (m : machine.Machine) → Stands tracks content protected old m → Stands tracks content protected new (next m)

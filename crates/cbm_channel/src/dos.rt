@@ -1,0 +1,94 @@
+use crate::channel::Channel;
+use crate::code::Code;
+use crate::gathered::Gathered;
+use crate::status::Status;
+use crate::telling::Telling;
+use cbm_volume::{Medium, Volume};
+use std::marker::Model;
+
+mod closing;
+mod opening;
+mod putting;
+mod talking;
+
+/// A drive's disk operating system over a medium: files, the listing and the status by sixteen channels.
+#[derive(Drop)]
+pub struct Dos<M: Medium> {
+    volume: Volume<M>,
+    channels: [Channel; 15],
+    telling: Telling,
+    text: Option<Gathered>,
+}
+
+impl<M: Medium> Model for Dos<M> {
+    ghost use Rattle.cbm_channel.specs.Standing.{Kept, AreFit};
+
+    ghost Value = { Kept M };
+
+    ghost view = { λ d. record { medium = d.volume; channels = d.channels; told = d.telling; text = d.text } };
+
+    ghost invariant = { λ d. AreFit (M.tracks d.volume) d.channels };
+}
+
+impl<M: Medium> Dos<M> {
+    ghost use Rattle.std.specs.Prelude.{◌≡◌, ◌≤◌};
+    ghost use Rattle.cbm_file.specs.Files.{Disk};
+    ghost use Rattle.cbm_volume.specs.Holding.{HoldsDisk};
+    ghost use Rattle.cbm_channel.specs.Machines.{Machine, start, tell, say};
+    ghost use Rattle.cbm_channel.specs.Standing.{Stands, Leads};
+
+    /// The drive at power up, with no channel open. It reads nothing.
+    pub fn new(medium: M) -> Dos<M>
+        ensures medium { result.medium ≡ medium }
+        ensures stands { (d : Disk) → HoldsDisk (M.tracks medium) (M.content medium) d
+            → Stands M.tracks M.content M.protected result (start d (M.protected medium) (M.tracks medium)) }
+    {
+        Dos {
+            volume: Volume::open(medium),
+            channels: Channel::all_closed(),
+            telling: Telling::new(Status::plain(Code::PowerUp)),
+            text: None,
+        }
+    }
+
+    /// The disk of files.
+    pub(crate) fn volume(&self) -> &Volume<M>
+        ensures { result.now ≡ self.now.medium }
+    {
+        &self.volume
+    }
+
+    /// The medium, as it stands.
+    pub fn into_medium(self) -> M
+        ensures { result ≡ self.medium }
+    {
+        let Dos { volume, .. } = self;
+        volume.into_medium()
+    }
+
+    /// The code of the status.
+    pub fn status_code(&self) -> Code
+        ensures value { result ≡ self.now.told.status.code }
+        ensures code { (m : Machine) → Stands M.tracks M.content M.protected self.now m → result ≡ m.status.code }
+    {
+        self.telling.status().code
+    }
+
+    /// Sets the status, which is told from its beginning.
+    fn set(&mut self, status: Status)
+        ensures leads { Leads M.tracks M.content M.protected self.old self.new (tell status) }
+        ensures medium { self.new.medium ≡ self.old.medium }
+        ensures channels { self.new.channels ≡ self.old.channels }
+        ensures told { self.new.told ≡ (record { status = status; told = 0 }) }
+    {
+        self.telling = Telling::new(status);
+    }
+
+    /// Sets a status whose numbers are 0.
+    fn say(&mut self, code: Code)
+        ensures leads { Leads M.tracks M.content M.protected self.old self.new (say code) }
+        ensures medium { self.new.medium ≡ self.old.medium }
+    {
+        self.set(Status::plain(code));
+    }
+}

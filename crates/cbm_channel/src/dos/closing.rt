@@ -1,0 +1,53 @@
+ghost use Rattle.std.specs.Prelude.{◌≡◌, ◌≤◌, ◌<◌};
+
+use crate::channel::Channel;
+use crate::dos::Dos;
+use cbm_volume::Medium;
+
+impl<M: Medium> Dos<M> {
+    ghost use Rattle.std.specs.Prelude.{◌≡◌, ◌≤◌, ◌<◌};
+    ghost use Rattle.cbm_channel.specs.Closing.{close, close_one, close_all, channel_numbers, without_text};
+    ghost use Rattle.cbm_channel.specs.Standing.{Leads};
+
+    /// Closes a channel; 15 closes all others, in order.
+    pub fn close(&mut self, channel: u8)
+        requires { channel ≤ 15 }
+        ensures leads { Leads M.tracks M.content M.protected self.old self.new (close channel) }
+        ensures medium { self.new.medium ≡ self.old.medium }
+    {
+        if channel < 15 {
+            self.close_one(channel);
+        } else {
+            self.close_all();
+            self.forget_text(15);
+        }
+    }
+
+    /// Closes a channel from 0 to 14.
+    pub(super) fn close_one(&mut self, channel: u8)
+        requires { channel < 15 }
+        ensures leads { Leads M.tracks M.content M.protected self.old self.new (close_one channel) }
+        ensures medium { self.new.medium ≡ self.old.medium }
+    {
+        self.channels[channel as usize] = Channel::Closed;
+        self.forget_text(channel);
+    }
+
+    /// Closes the channels 0 to 14 in order.
+    fn close_all(&mut self)
+        ensures leads { Leads M.tracks M.content M.protected self.old self.new (close_all channel_numbers) }
+        ensures medium { self.new.medium ≡ self.old.medium }
+    {
+        for channel in 0..15 {
+            self.close_one(channel);
+        }
+    }
+
+    /// Drops the text that is gathered for this channel.
+    fn forget_text(&mut self, channel: u8)
+        ensures leads { Leads M.tracks M.content M.protected self.old self.new (without_text channel) }
+        ensures medium { self.new.medium ≡ self.old.medium }
+    {
+        self.take_text(channel);
+    }
+}

@@ -1,0 +1,173 @@
+ghost use Rattle.std.specs.Prelude.{◌≡◌, ◌≤◌, ℕ, Bool, false, Result, Ok, Err, if◌then◌else◌, not, ◌&&◌};
+ghost use Rattle.cbm_file.specs.Files.{Disk, File};
+ghost use Rattle.cbm_volume.specs.Content.{Content};
+ghost use Rattle.cbm_channel.specs.Machines.{Machine, in_writing};
+ghost use Rattle.cbm_channel.specs.Plans as plans;
+ghost use Rattle.cbm_channel.specs.Planned.{FoundAs, PlannedAs, IsFound};
+ghost use Rattle.cbm_channel.specs.CarriedOut.{MeetsNoRecords};
+ghost use Rattle.cbm_channel.specs.declared.code.Code as code;
+
+use crate::channel::{Channel, open_count};
+use crate::code::Code;
+use crate::dos::Dos;
+use crate::finding::Found;
+use crate::listing::list;
+use crate::plan::Plan;
+use crate::status::Status;
+use cbm_command::{Mode, Opening, Wanted, parse_open};
+use cbm_file::FileType;
+use cbm_volume::{Medium, Trouble};
+
+/// How many channels a file costs that is found for reading: two where it has records, unless `@` refuses these.
+fn cost_of(wanted: &Wanted, found: &Result<Found, Status>) -> usize
+    ensures few { result ≤ 2 }
+    ensures cost { (tracks : ℕ) (c : Content) (d : Disk) (r : Result (ℕ × File) code.Code) → FoundAs tracks c d r found.now
+        → result ≡ (if not wanted.now.has_at && plans.meets_records r then 2 else 1) }
+{
+    match found {
+        Ok(found) if !wanted.has_at && found.entry.kind() == Some(FileType::Rel) => 2,
+        _ => 1,
+    }
+}
+
+/// What reading a file will do that was found. A relative one is answered 64 so far.
+fn plan_read(wanted: &Wanted, found: Found) -> Result<Plan, Status>
+    ensures { (tracks : ℕ) (c : Content) (m : Machine) (s : ℕ) (f : File) → in_writing m s ≡ false → IsFound tracks c m.disk s f found
+        → MeetsNoRecords (plans.plan_read wanted.now m (s, f)) → PlannedAs tracks c m.disk (plans.plan_read wanted.now m (s, f)) result }
+{
+    let kind = found.entry.kind();
+    if kind == Some(FileType::Del) {
+        return Err(Status::plain(Code::WrongType));
+    }
+    if kind == Some(FileType::Rel) && wanted.has_at {
+        return Err(Status::plain(Code::WrongType));
+    }
+    if !found.entry.is_closed() {
+        return Err(Status::plain(Code::WriteFileOpen));
+    }
+    if kind == Some(FileType::Rel) {
+        return Err(Status::plain(Code::WrongType));
+    }
+    Ok(Plan::ReadFile(found))
+}
+
+impl<M: Medium> Dos<M> {
+    ghost use Rattle.std.specs.Prelude.{◌≡◌, ◌≤◌, ◌<◌, ℕ, true, IsOkAnd, IfOk, Ok};
+    ghost use Rattle.cbm_command.specs.declared.opening.Opening.TheVariants as opening;
+    ghost use Rattle.cbm_channel.specs.declared.code.Code.TheVariants.{Fine};
+    ghost use Rattle.cbm_channel.specs.Machines.{Machine, say, too_many};
+    ghost use Rattle.cbm_channel.specs.Plans as plans;
+    ghost use Rattle.cbm_channel.specs.Calls.{after_open};
+    ghost use Rattle.cbm_channel.specs.Standing.{Stands, Fits, ChannelStands};
+    ghost use Rattle.cbm_channel.specs.Planned.{PlannedAs, opened_by, begun_by};
+    ghost use Rattle.cbm_channel.specs.CarriedOut.{IsCarriedOut, IsAskedCarriedOut, reads_bytes, MeetsNoRecords};
+
+    /// Opens a channel: on 15 the text is a command, on the others it asks for a file or the listing. A channel that is
+    /// open is closed first. What is refused is the status, and the channel is closed then.
+    pub fn open(&mut self, channel: u8, text: &[u8])
+        requires { channel ≤ 15 }
+        ensures leads { (m : Machine) → IsCarriedOut channel text.now m → Stands M.tracks M.content M.protected self.old m
+            → Stands M.tracks M.content M.protected self.new (after_open channel text.now m) }
+        ensures medium { self.new.medium ≡ self.old.medium }
+    {
+        if channel == 15 {
+            self.command(text);
+            return;
+        }
+        self.close_one(channel);
+        match parse_open(channel, text) {
+            Ok(opening) => self.begin(channel, opening),
+            Err(refusal) => self.say(Code::from(refusal)),
+        }
+    }
+
+    /// Carries out what an OPEN asks for, or sets the status of its refusal.
+    fn begin(&mut self, channel: u8, opening: Opening)
+        requires { channel < 15 }
+        ensures leads { (m : Machine) → IsAskedCarriedOut channel m (Ok opening) → Stands M.tracks M.content M.protected self.old m
+            → Stands M.tracks M.content M.protected self.new (begun_by channel opening m) }
+        ensures medium { self.new.medium ≡ self.old.medium }
+    {
+        match self.plan(opening) {
+            Ok(plan) => self.act(channel, plan),
+            Err(status) => self.set(status),
+        }
+    }
+
+    /// What an OPEN will do. An `Err` is its refusal, or what the disk answers.
+    fn plan(&self, opening: Opening) -> Result<Plan, Status>
+        ensures { (m : Machine) (ch : ℕ) → IsAskedCarriedOut ch m (Ok opening) → Stands M.tracks M.content M.protected self.now m
+            → PlannedAs (M.tracks self.now.medium) (M.content self.now.medium) m.disk (plans.plan ch opening m) result }
+    {
+        match opening {
+            Opening::Listing(pattern) => {
+                if self.is_too_many(1) {
+                    return Err(Status::plain(Code::NoChannel));
+                }
+                Ok(Plan::ReadListing(pattern))
+            }
+            Opening::File(wanted) => self.plan_file(&wanted),
+        }
+    }
+
+    /// What an OPEN of a file will do. Writing is answered 30 so far, and records 64.
+    fn plan_file(&self, wanted: &Wanted) -> Result<Plan, Status>
+        ensures { (m : Machine) (ch : ℕ) → reads_bytes wanted.now ≡ true → MeetsNoRecords (plans.plan ch (opening.File wanted.now) m)
+            → Stands M.tracks M.content M.protected self.now m
+            → PlannedAs (M.tracks self.now.medium) (M.content self.now.medium) m.disk (plans.plan ch (opening.File wanted.now) m) result }
+    {
+        if wanted.kind == Some(FileType::Rel) {
+            return Err(Status::plain(Code::WrongType));
+        }
+        if wanted.mode != Mode::Read {
+            return Err(Status::plain(Code::Syntax));
+        }
+        let found = self.found(&wanted.name, wanted.kind);
+        if self.is_too_many(cost_of(wanted, &found)) {
+            return Err(Status::plain(Code::NoChannel));
+        }
+        match found {
+            Ok(found) => plan_read(wanted, found),
+            Err(status) => Err(status),
+        }
+    }
+
+    /// Whether channels of this cost more would be too many.
+    fn is_too_many(&self, cost: usize) -> bool
+        requires { cost ≤ 2 }
+        ensures { (m : Machine) → Stands M.tracks M.content M.protected self.now m → result ≡ too_many cost m }
+    {
+        cost + open_count(self.channels.as_slice()) > 3
+    }
+
+    /// Does what was planned.
+    fn act(&mut self, channel: u8, plan: Plan)
+        requires { channel < 15 }
+        ensures leads { (m : Machine) (p : plans.Plan) → PlannedAs (M.tracks self.old.medium) (M.content self.old.medium) m.disk (Ok p) (Ok plan)
+            → Stands M.tracks M.content M.protected self.old m → Stands M.tracks M.content M.protected self.new (say Fine (plans.act channel p m)) }
+        ensures medium { self.new.medium ≡ self.old.medium }
+    {
+        match self.opened(plan) {
+            Ok(opened) => {
+                self.channels[channel as usize] = opened;
+                self.say(Code::Fine);
+            }
+            Err(trouble) => self.set(Status::from(trouble)),
+        }
+    }
+
+    /// The channel that a plan opens. An `Err` is what the disk answers.
+    fn opened(&self, plan: Plan) -> Result<Channel, Trouble>
+        ensures fits { IfOk result (Fits (M.tracks self.now.medium)) }
+        ensures stands { (m : Machine) (p : plans.Plan) → PlannedAs (M.tracks self.now.medium) (M.content self.now.medium) m.disk (Ok p) (Ok plan)
+            → Stands M.tracks M.content M.protected self.now m → IsOkAnd result (λ ch. ChannelStands (M.content self.now.medium) ch (opened_by m.disk p)) }
+    {
+        match plan {
+            Plan::ReadListing(pattern) => Ok(Channel::Listing(list(&self.volume, &pattern)?)),
+            Plan::ReadFile(found) => Ok(Channel::File(
+                found.slot,
+                self.volume.begin_read(&found.entry)?,
+            )),
+        }
+    }
+}

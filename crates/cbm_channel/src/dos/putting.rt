@@ -1,0 +1,127 @@
+ghost use Rattle.std.specs.Prelude.{◌≡◌};
+ghost use Rattle.cbm_channel.specs.Calls.{without_return};
+
+use crate::code::Code;
+use crate::dos::Dos;
+use crate::gathered::Gathered;
+use cbm_command::{Command, parse_command};
+use cbm_volume::Medium;
+
+/// A text without one return at its end.
+fn without_return(text: &[u8]) -> &[u8]
+    ensures { result.now ≡ without_return text.now }
+{
+    match text.split_last() {
+        None => text,
+        Some((last, front)) => { if *last == b'\r' { front } else { text } }
+    }
+}
+
+impl<M: Medium> Dos<M> {
+    ghost use Rattle.std.specs.Prelude.{◌≡◌, ◌≤◌, ℕ, Ok, MatchOption};
+    ghost use Rattle.cbm_channel.specs.Machines.{Machine, answered};
+    ghost use Rattle.cbm_channel.specs.Closing.{without_text};
+    ghost use Rattle.cbm_channel.specs.Calls.{put, end_put, gather, command, without_return};
+    ghost use Rattle.cbm_channel.specs.Running.{run};
+    ghost use Rattle.cbm_command.specs.declared.command.Command.TheVariants.{Position};
+    ghost use Rattle.cbm_channel.specs.Standing.{Stands, Leads, HasNoText, HasText};
+    ghost use Rattle.cbm_channel.specs.CarriedOut.{IsPutCarriedOut, IsTextCarriedOut, IsCommandCarriedOut};
+
+    /// Puts a byte on a channel: on 15 it is gathered, on a channel that isn't open for writing it is dropped.
+    pub fn put(&mut self, channel: u8, byte: u8)
+        requires { channel ≤ 15 }
+        ensures leads { Leads M.tracks M.content M.protected self.old self.new (put channel byte) }
+        ensures medium { self.new.medium ≡ self.old.medium }
+    {
+        if channel == 15 {
+            self.gather(byte);
+        }
+    }
+
+    /// A byte goes to the text that is gathered for channel 15.
+    fn gather(&mut self, byte: u8)
+        ensures leads { Leads M.tracks M.content M.protected self.old self.new (gather 15 byte) }
+        ensures medium { self.new.medium ≡ self.old.medium }
+    {
+        match self.take_text(15) {
+            Some(mut text) => {
+                text.add(byte);
+                self.text = Some(text);
+            }
+            None => self.text = Some(Gathered::begin(15, byte)),
+        }
+    }
+
+    /// Takes the text that is gathered for a channel.
+    pub(super) fn take_text(&mut self, channel: u8) -> Option<Gathered>
+        ensures leads { Leads M.tracks M.content M.protected self.old self.new (without_text channel) }
+        ensures medium { self.new.medium ≡ self.old.medium }
+        ensures text { (m : Machine) → Stands M.tracks M.content M.protected self.old m →
+            MatchOption result (HasNoText channel m) (HasText channel m) }
+    {
+        let text = self.text.take()?;
+        if text.channel() == channel {
+            return Some(text);
+        }
+        self.text = Some(text);
+        None
+    }
+
+    /// The end of what was put: the text that was gathered for channel 15 is a command.
+    pub fn end_put(&mut self, channel: u8)
+        requires { channel ≤ 15 }
+        ensures leads { (m : Machine) → IsPutCarriedOut channel m → Stands M.tracks M.content M.protected self.old m
+            → Stands M.tracks M.content M.protected self.new (end_put channel m) }
+        ensures medium { self.new.medium ≡ self.old.medium }
+    {
+        if let Some(text) = self.take_text(channel) {
+            if channel == 15 {
+                self.command(text.bytes());
+            }
+        }
+    }
+
+    /// Carries a text for channel 15 out; an empty one does nothing.
+    pub(super) fn command(&mut self, text: &[u8])
+        ensures leads { (m : Machine) → IsTextCarriedOut (without_return text.now)
+            → Stands M.tracks M.content M.protected self.old m → Stands M.tracks M.content M.protected self.new (command text.now m) }
+        ensures medium { self.new.medium ≡ self.old.medium }
+    {
+        let text = without_return(text);
+        if text.is_empty() {
+            return;
+        }
+        match parse_command(text) {
+            Ok(command) => self.run(&command),
+            Err(refusal) => self.say(Code::from(refusal)),
+        }
+    }
+
+    /// Carries a command out.
+    fn run(&mut self, command: &Command)
+        ensures leads { (m : Machine) → IsCommandCarriedOut (Ok command.now) → Stands M.tracks M.content M.protected self.old m
+            → Stands M.tracks M.content M.protected self.new (answered m (run command.now m)) }
+        ensures medium { self.new.medium ≡ self.old.medium }
+    {
+        match command {
+            Command::Initialize => self.say(Code::Fine),
+            Command::Position(channel, _, _) => self.place(*channel),
+            _ => self.say(Code::UnknownCommand),
+        }
+    }
+
+    /// Answers a place on a channel, as no relative file is open: 70 where nothing is open, else 64.
+    fn place(&mut self, channel: u8)
+        ensures leads { (k p : ℕ) → Leads M.tracks M.content M.protected self.old self.new (λ m. answered m (run (Position channel k p) m)) }
+        ensures medium { self.new.medium ≡ self.old.medium }
+    {
+        let channels = self.channels.as_slice();
+        if channel as usize >= channels.len() {
+            self.say(Code::NoChannel);
+        } else if channels[channel as usize].is_closed() {
+            self.say(Code::NoChannel);
+        } else {
+            self.say(Code::WrongType);
+        }
+    }
+}

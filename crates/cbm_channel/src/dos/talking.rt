@@ -1,0 +1,75 @@
+ghost use Rattle.std.specs.Prelude.{◌≡◌, ◌≤◌};
+
+use crate::channel::Channel;
+use crate::code::Code;
+use crate::dos::Dos;
+use crate::status::Status;
+use cbm_volume::Medium;
+
+impl<M: Medium> Dos<M> {
+    ghost use Rattle.std.specs.Prelude.{◌≡◌, ◌≤◌, ◌<◌, slice_index_or};
+    ghost use Rattle.cbm_channel.specs.Machines.{Machine};
+    ghost use Rattle.cbm_channel.specs.Talking.{peek, taken, talk, listen};
+    ghost use Rattle.cbm_channel.specs.Standing.{Stands, Leads};
+    ghost use Rattle.cbm_channel.specs.Shown.{shown_by};
+    ghost use Rattle.cbm_channel.specs.Told.{behind_next};
+    ghost use Rattle.cbm_channel.specs.Taken.{IsTaken};
+    ghost use Rattle.cbm_channel.specs.declared.channel.Channel.TheVariants.{Closed};
+
+    /// Asks a channel to talk; 61 where it isn't open for reading.
+    pub fn talk(&mut self, channel: u8)
+        requires { channel ≤ 15 }
+        ensures leads { Leads M.tracks M.content M.protected self.old self.new (talk channel) }
+        ensures medium { self.new.medium ≡ self.old.medium }
+    {
+        if channel == 15 {
+            return;
+        }
+        if self.channels[channel as usize].is_closed() {
+            self.say(Code::FileNotOpen);
+        }
+    }
+
+    /// Asks a channel to listen; 61 where it is neither 15 nor open for writing.
+    pub fn listen(&mut self, channel: u8)
+        requires { channel ≤ 15 }
+        ensures leads { Leads M.tracks M.content M.protected self.old self.new (listen channel) }
+        ensures medium { self.new.medium ≡ self.old.medium }
+    {
+        if channel != 15 {
+            self.say(Code::FileNotOpen);
+        }
+    }
+
+    /// The next byte that a channel has to say, and whether it is the last; None where there is nothing to say.
+    pub fn peek(&self, channel: u8) -> Option<(u8, bool)>
+        requires { channel ≤ 15 }
+        ensures value { result ≡ shown_by channel self.now }
+        ensures next { (m : Machine) → Stands M.tracks M.content M.protected self.now m → result ≡ peek channel m }
+    {
+        if channel < 15 {
+            self.channels[channel as usize].peek()
+        } else {
+            self.telling.peek()
+        }
+    }
+
+    /// The byte that `peek` shows was taken; nothing happens where it shows none. What the disk answers behind that byte,
+    /// where it doesn't read on, is the status.
+    pub fn taken(&mut self, channel: u8)
+        requires { channel ≤ 15 }
+        ensures leads { Leads M.tracks M.content M.protected self.old self.new (taken channel) }
+        ensures status { channel ≡ 15 → self.new.told ≡ behind_next self.old.told }
+        ensures byte { channel < 15 → IsTaken (M.content self.old.medium) (slice_index_or self.old.channels channel Closed)
+            (slice_index_or self.new.channels channel Closed) self.old.told self.new.told }
+        ensures medium { self.new.medium ≡ self.old.medium }
+    {
+        if channel == 15 {
+            self.telling.taken();
+            return;
+        }
+        if let Err(trouble) = self.channels[channel as usize].taken(&self.volume) {
+            self.set(Status::from(trouble));
+        }
+    }
+}

@@ -1,0 +1,43 @@
+ghost use Rattle.std.specs.Prelude.{◌≡◌};
+
+use crate::code::Code;
+use crate::dos::Dos;
+use crate::sought::Sought;
+use crate::status::Status;
+use cbm_command::Name;
+use cbm_file::FileType;
+use cbm_volume::{Entry, Medium};
+
+/// A file that was found: the number of its slot, and its entry.
+#[derive(Drop)]
+pub struct Found {
+    pub(crate) slot: u8,
+    pub(crate) entry: Entry,
+}
+
+impl<M: Medium> Dos<M> {
+    ghost use Rattle.std.specs.Prelude.{◌≡◌};
+    ghost use Rattle.cbm_channel.specs.Machines.{Machine};
+    ghost use Rattle.cbm_channel.specs.Finding.{found};
+    ghost use Rattle.cbm_channel.specs.Standing.{Stands};
+    ghost use Rattle.cbm_channel.specs.Planned.{FoundAs};
+
+    /// The first file that matches and is of the type, where one is meant. An `Err` is 64 where the name is there and has
+    /// none of the type, 62 where it isn't there, or what the disk answers.
+    pub(crate) fn found(&self, pattern: &Name, kind: Option<FileType>) -> Result<Found, Status>
+        ensures { (m : Machine) → Stands M.tracks M.content M.protected self.now m
+            → FoundAs (M.tracks self.now.medium) (M.content self.now.medium) m.disk (found m.disk pattern.now kind) result }
+    {
+        if let Some((slot, entry)) = self.volume().find(&Sought { pattern, kind })? {
+            return Ok(Found { slot, entry });
+        }
+        let any = Sought {
+            pattern,
+            kind: None,
+        };
+        if self.volume().find(&any)?.is_some() {
+            return Err(Status::plain(Code::WrongType));
+        }
+        Err(Status::plain(Code::FileNotFound))
+    }
+}

@@ -1,0 +1,60 @@
+ghost use Rattle.std.specs.Prelude.{◌≡◌, ◌≤◌, ◌++◌, ◌∷◌, [], length, take};
+
+use arrayvec::ArrayVec;
+use std::marker::Model;
+
+/// The most bytes of a text that are kept: more than a command and a record have.
+const KEPT: usize = 256;
+
+/// A text of at least one byte that is gathered for a channel, of which the first 256 bytes are kept.
+#[derive(Drop)]
+pub struct Gathered {
+    channel: u8,
+    bytes: ArrayVec<u8, 256>,
+}
+
+impl Model for Gathered {
+    ghost use Rattle.std.specs.Prelude.{◌≡◌, ◌≤◌, ℕ, List, length};
+
+    ghost Value = { ℕ × List ℕ };
+
+    ghost view = { λ g. (g.channel, g.bytes.items) };
+
+    ghost invariant = { λ g. (1 ≤ length g.bytes.items) × (length g.bytes.items ≤ 256) };
+}
+
+impl Gathered {
+    /// The text of one byte.
+    pub fn begin(channel: u8, byte: u8) -> Gathered
+        ensures { result ≡ (channel, byte ∷ []) }
+    {
+        let mut bytes = ArrayVec::new();
+        bytes.push(byte);
+        Gathered { channel, bytes }
+    }
+
+    /// The channel that it is for.
+    pub fn channel(&self) -> u8
+        ensures value { result ≡ self.now.0 }
+        ensures some { 1 ≤ length self.now.1 }
+    {
+        let _ = &self.bytes;
+        self.channel
+    }
+
+    /// Its bytes.
+    pub fn bytes(&self) -> &[u8]
+        ensures { result.now ≡ self.now.1 }
+    {
+        self.bytes.as_slice()
+    }
+
+    /// One byte more, which is dropped where 256 are kept.
+    pub fn add(&mut self, byte: u8)
+        ensures { self.new ≡ (self.old.0, take 256 (self.old.1 ++ byte ∷ [])) }
+    {
+        if self.bytes.len() < KEPT {
+            self.bytes.push(byte);
+        }
+    }
+}

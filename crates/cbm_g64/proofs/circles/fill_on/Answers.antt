@@ -1,0 +1,25 @@
+use Rattle.std.proofs.Common.{◌≡◌, ℕ, get_or, set, ◌-◌, refl, sym, arith, ap, subst, Ok}
+use Rattle.cbm_g64.specs.Tracks.{IsChanged}
+use Rattle.cbm_g64.proofs.Contents.{has_of, write_is, change_is, laid_kept, on_a_track}
+use Rattle.cbm_g64.proofs.circles.fill_on.Goals as goal
+use Rattle.cbm_g64.proofs.circles.fill_on.Goals.{After-fill_sector}
+
+pub returns-clause-content : goal.returns-clause-content
+returns-clause-content c = write_is {E = ℕ} (Ok tt) c.args.tracks.now (get_or c.args.tracks.now (c.track.result - 1) c.index-tracks-track.result) c.index-tracks-track.result c.fill_sector.new.track c.args.at c.args.bytes.now c.args.id.now c.track.result
+    c.requires.count (has_of c.args.at c.track.ensures.on_disk c.requires.track) c.track.ensures.value refl (sym c.requires.id) c.fill_sector.ensures.id c.fill_sector.ensures.ok c.fill_sector.ensures.others
+
+-- its track alone changes
+changes : (c : After-fill_sector) → IsChanged c.args.tracks.now (set c.args.tracks.now (c.track.result - 1) c.fill_sector.new.track) (c.track.result - 1)
+changes c =
+    let b = on_a_track c.args.at (has_of c.args.at c.track.ensures.on_disk c.requires.track) in
+    change_is {E = ℕ} (Ok tt) c.args.tracks.now (get_or c.args.tracks.now (c.track.result - 1) c.index-tracks-track.result) c.index-tracks-track.result c.fill_sector.new.track (c.track.result - 1)
+    (omega (arith, b.0, b.1)) refl c.fill_sector.ensures.length c.fill_sector.ensures.long tt c.fill_sector.ensures.id
+
+pub returns-clause-changed : goal.returns-clause-changed
+returns-clause-changed c =
+    let t : c.track.result - 1 ≡ c.args.at.track - 1 = ap (λ (n : ℕ). n - 1) c.track.ensures.value in
+    subst (IsChanged c.args.tracks.now _) t (changes c)
+
+pub returns-clause-laid : goal.returns-clause-laid
+returns-clause-laid c = laid_kept c.args.tracks.now (get_or c.args.tracks.now (c.track.result - 1) c.index-tracks-track.result) c.index-tracks-track.result c.fill_sector.new.track c.args.at c.track.result
+    c.requires.count (has_of c.args.at c.track.ensures.on_disk c.requires.track) c.track.ensures.value refl (changes c) c.fill_sector.ensures.blocks c.requires.laid

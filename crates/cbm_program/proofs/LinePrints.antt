@@ -1,0 +1,39 @@
+-- What a line of a script prints.
+use Rattle.std.proofs.Common.{◌≡◌, ℕ, List, [], ◌∷◌, Option, sym, subst, append-nil, Ok, Err}
+use Rattle.std.specs.Prelude.{Result, OnOk, OnErr}
+use Rattle.std.specs.Io.KnownBytes.{Appends, Keeps}
+use Rattle.cbm_channel.specs.Machines.{Machine}
+use Rattle.cbm_program.specs.declared.request.Request.{Request}
+use Rattle.cbm_program.specs.declared.line.Line.{Line}
+use Rattle.cbm_program.specs.declared.line.Line.TheVariants.{Asks}
+use Rattle.cbm_program.specs.Scripts.{printed, printed_by}
+use Rattle.cbm_program.specs.Output.{Prints, PrintsPart}
+use Rattle.cbm_program.specs.Running.{IsRequestCarriedOut, AreCarriedOut, requests_in}
+use Rattle.cbm_program.proofs.OutputLemmas.{appends-kept, whole_part}
+
+one-prints : (a b c : Option (List ℕ)) (stood now : Machine → Type 0) (request : Request)
+    → Prints a b (λ m. IsRequestCarriedOut request m × stood m) now (printed_by request) → Keeps b c
+    → Prints a c (λ m. AreCarriedOut (request ∷ []) m × stood m) now (printed (request ∷ []))
+one-prints a b c stood now request p k m s =
+    let r = p m (s.0.0, s.1) in
+    (subst (λ t. Appends a c t) (sym (append-nil (printed_by request m).text)) (appends-kept a b c (printed_by request m).text r.0 k), r.1)
+
+-- what a request prints, and then nothing more
+pub asks-prints : (a b c : Option (List ℕ)) (stood now : Machine → Type 0) (line : Line) (request : Request) → line ≡ Asks request
+    → Prints a b (λ m. IsRequestCarriedOut request m × stood m) now (printed_by request) → Keeps b c
+    → Prints a c (λ m. AreCarriedOut (requests_in line) m × stood m) now (printed (requests_in line))
+asks-prints a b c stood now line request e p k = rw e (one-prints a b c stood now request p k)
+
+pub asks-part : (a b c : Option (List ℕ)) (stood now : Machine → Type 0) (line : Line) (request : Request) → line ≡ Asks request
+    → Prints a b (λ m. IsRequestCarriedOut request m × stood m) now (printed_by request) → Keeps b c
+    → PrintsPart a c (λ m. AreCarriedOut (requests_in line) m × stood m) (printed (requests_in line))
+asks-part a b c stood now line request e p k =
+    rw e (λ m s. whole_part a c (printed (request ∷ []) m).text (one-prints a b c stood now request p k m s).0)
+
+pub if_ok : {A E P : Type 0} (r : Result A E) → P → OnOk r P
+if_ok (Ok a) p = p
+if_ok (Err e) p = tt
+
+pub if_err : {A E P : Type 0} (r : Result A E) → P → OnErr r P
+if_err (Ok a) p = tt
+if_err (Err e) p = p

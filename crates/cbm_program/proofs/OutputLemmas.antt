@@ -1,0 +1,39 @@
+-- Text that was written piece by piece.
+use Rattle.std.proofs.Common.{◌≡◌, ℕ, List, [], ◌++◌, take, drop, Option, Some, None, ap, sym, ◌∙◌, append_assoc, append-nil, take-append-drop}
+use Rattle.std.specs.Io.KnownBytes.{Appends, Keeps}
+use Rattle.cbm_program.specs.Output.{AppendsPart}
+
+pub appends-nothing : (o : Option (List ℕ)) → Appends o o []
+appends-nothing None = tt
+appends-nothing (Some xs) = sym (append-nil xs)
+
+pub appends-more : (a b c : Option (List ℕ)) (xs ys : List ℕ) → Appends a b xs → Appends b c ys → Appends a c (xs ++ ys)
+appends-more None b c xs ys h k = tt
+appends-more (Some l) None c xs ys h k = absurd h
+appends-more (Some l) (Some m) None xs ys h k = absurd k
+appends-more (Some l) (Some m) (Some n) xs ys h k = k ∙ (ap (λ t. t ++ ys) h ∙ append_assoc l xs ys)
+
+pub appends-kept : (a b c : Option (List ℕ)) (xs : List ℕ) → Appends a b xs → Keeps b c → Appends a c xs
+appends-kept None b c xs h k = tt
+appends-kept (Some l) None c xs h k = absurd h
+appends-kept (Some l) (Some m) None xs h k = absurd k
+appends-kept (Some l) (Some m) (Some n) xs h k = k ∙ h
+
+pub part_behind : (a b c : Option (List ℕ)) (xs ys : List ℕ) → Appends a b xs → AppendsPart b c ys → AppendsPart a c (xs ++ ys)
+part_behind a b c xs ys h (part, rest, k, e) =
+    (xs ++ part, rest, appends-more a b c xs part h k, ap (λ t. xs ++ t) e ∙ sym (append_assoc xs part rest))
+
+pub part_before : (a b : Option (List ℕ)) (xs ys : List ℕ) → AppendsPart a b xs → AppendsPart a b (xs ++ ys)
+part_before a b xs ys (part, rest, k, e) = (part, rest ++ ys, k, ap (λ t. t ++ ys) e ∙ append_assoc part rest ys)
+
+pub whole_part : (a b : Option (List ℕ)) (xs : List ℕ) → Appends a b xs → AppendsPart a b xs
+whole_part a b xs h = (xs, [], h, sym (append-nil xs))
+
+-- a write that took some of what is left
+pub written_on : (a b c : Option (List ℕ)) (bytes rest others : List ℕ) (n : ℕ) → ((part : List ℕ) × Appends a b part × (bytes ≡ part ++ rest))
+    → Appends b c (take n rest) → others ≡ drop n rest → (part : List ℕ) × Appends a c part × (bytes ≡ part ++ others)
+written_on a b c bytes rest others n (part, h, e) k o = (
+  part ++ take n rest,
+  appends-more a b c part (take n rest) h k,
+  e ∙ (ap (λ t. part ++ t) (sym (take-append-drop n rest)) ∙ (sym (append_assoc part (take n rest) (drop n rest)) ∙ ap (λ t. (part ++ take n rest) ++ t) (sym o))),
+)

@@ -1,0 +1,195 @@
+-- A script that runs, line by line.
+use Rattle.std.proofs.Common.{◌≡◌, ℕ, ◌+◌, List, [], ◌∷◌, ◌++◌, Option, Some, None, refl, ap, sym, ◌∙◌, append_assoc, append-nil, subst}
+use Rattle.std.specs.Prelude.{IfSome, Result, Err}
+use Rattle.std.specs.Io.KnownBytes.{Appends, IsAtEnd}
+use Rattle.cbm_channel.specs.Machines.{Machine}
+use Rattle.cbm_program.specs.declared.request.Request.{Request}
+use Rattle.cbm_program.specs.declared.line.Line.{Line}
+use Rattle.cbm_program.specs.declared.line.Line.TheVariants.{Skipped, Asks}
+use Rattle.cbm_program.specs.declared.fault.RunFault.{RunFault}
+use Rattle.cbm_program.specs.declared.fault.RunFault.TheVariants.{Script, Image, Memory, Reading, Writing}
+use Rattle.cbm_program.specs.Lines.{lines_of}
+use Rattle.cbm_program.specs.Scripts.{printed, printed_by}
+use Rattle.cbm_program.specs.Output.{AppendsPart, Prints, PrintsPart}
+use Rattle.cbm_program.specs.Running.{AreCarriedOut, requests_in, meaning, Asked, refused_at, with_line, asked_from, script_of, ReadsLine, ComesBad, LineRead, EndsAs, IsOfWriting}
+use Rattle.cbm_program.proofs.OutputLemmas.{appends-nothing, appends-more, part_behind, part_before, whole_part}
+
+-- ---- requests behind requests
+
+text-append : (xs ys : List Request) (m : Machine) → (printed (xs ++ ys) m).text ≡ (printed xs m).text ++ (printed ys (printed xs m).machine).text
+text-append [] ys m = refl
+text-append (r ∷ xs) ys m =
+    ap (λ t. (printed_by r m).text ++ t) (text-append xs ys (printed_by r m).machine)
+    ∙ sym (append_assoc (printed_by r m).text (printed xs (printed_by r m).machine).text (printed ys (printed (r ∷ xs) m).machine).text)
+
+machine-append : (xs ys : List Request) (m : Machine) → (printed (xs ++ ys) m).machine ≡ (printed ys (printed xs m).machine).machine
+machine-append [] ys m = refl
+machine-append (r ∷ xs) ys m = machine-append xs ys (printed_by r m).machine
+
+carried-append : (xs ys : List Request) (m : Machine) → AreCarriedOut (xs ++ ys) m → AreCarriedOut xs m × AreCarriedOut ys (printed xs m).machine
+carried-append [] ys m h = (tt, h)
+carried-append (r ∷ xs) ys m h = let k = carried-append xs ys (printed_by r m).machine h.1 in ((h.0, k.0), k.1)
+
+-- requests in front of what is asked
+abbrev pub behind : List Request → Asked → Asked
+behind done asked = record { requests = done ++ asked.requests; bad = asked.bad }
+
+behind-append : (xs ys : List Request) (a : Asked) → behind xs (behind ys a) ≡ behind (xs ++ ys) a
+behind-append xs ys a = ap (λ t. let r : Asked = record { requests = t; bad = a.bad } in r) (sym (append_assoc xs ys a.requests))
+
+asked-end : (n : ℕ) → asked_from n [] ≡ refused_at None
+unfolding asked_from
+asked-end n = refl
+
+asked-bad : (n : ℕ) (line : List ℕ) (lines : List (List ℕ)) → meaning n line ≡ None → asked_from n (line ∷ lines) ≡ refused_at (Some n)
+unfolding asked_from
+asked-bad n line lines e = ap (λ o. with_line o n (asked_from (n + 1) lines)) e
+
+line-asks : (line : Line) (n : ℕ) (rest : Asked) → with_line (Some line) n rest ≡ behind (requests_in line) rest
+line-asks Skipped n rest = refl
+line-asks (Asks request) n rest = refl
+
+asked-line : (n : ℕ) (bytes : List ℕ) (lines : List (List ℕ)) (line : Line) → meaning n bytes ≡ Some line
+    → asked_from n (bytes ∷ lines) ≡ behind (requests_in line) (asked_from (n + 1) lines)
+unfolding asked_from
+asked-line n bytes lines line e = ap (λ o. with_line o n (asked_from (n + 1) lines)) e ∙ line-asks line n (asked_from (n + 1) lines)
+
+-- ---- a run before line n
+
+-- what the input asks is what is done, and then what is left asks
+abbrev pub Follows : Option (List ℕ) → Option (List ℕ) → ℕ → List Request → Type 0
+Follows None left n done = Unit {0}
+Follows (Some xs) None n done = ⊥
+Follows (Some xs) (Some ys) n done = script_of xs ≡ behind done (asked_from n (lines_of ys))
+
+-- The requests so far are done, and what is left follows them.
+pub record Running (a b input left : Option (List ℕ)) (stood now : Machine → Type 0) (n : ℕ) : Type 0 where
+  pub done : List Request
+  pub follows : Follows input left n done
+  pub prints : Prints a b (λ m. AreCarriedOut done m × stood m) now (printed done)
+
+follows-start : (x : Option (List ℕ)) → Follows x x 1 []
+follows-start None = tt
+follows-start (Some xs) = refl
+
+pub run-start : (a x l : Option (List ℕ)) (stood : Machine → Type 0) → l ≡ x → Running a a x l stood stood 1
+run-start a x l stood e = record {
+  done = [];
+  follows = subst (λ o. Follows x o 1 []) (sym e) (follows-start x);
+  prints = λ m s. (appends-nothing a, s.1);
+}
+
+follows-line : (x l k : Option (List ℕ)) (n : ℕ) (done : List Request) (line : Line) → Follows x l n done → ReadsLine l k n line
+    → Follows x k (n + 1) (done ++ requests_in line)
+follows-line None l k n done line f t = tt
+follows-line (Some xs) None k n done line f t = absurd f
+follows-line (Some xs) (Some ys) None n done line f t = absurd t
+follows-line (Some xs) (Some ys) (Some zs) n done line f (bytes, e, means) =
+    f ∙ (ap (λ o. behind done o) (ap (λ ls. asked_from n ls) e ∙ asked-line n bytes (lines_of zs) line means)
+    ∙ behind-append done (requests_in line) (asked_from (n + 1) (lines_of zs)))
+
+-- one line more is done
+prints-line : (a b c : Option (List ℕ)) (stood now next : Machine → Type 0) (done requests : List Request)
+    → Prints a b (λ m. AreCarriedOut done m × stood m) now (printed done)
+    → Prints b c (λ m. AreCarriedOut requests m × now m) next (printed requests)
+    → Prints a c (λ m. AreCarriedOut (done ++ requests) m × stood m) next (printed (done ++ requests))
+prints-line a b c stood now next done requests p q m s =
+    let carried = carried-append done requests m s.0 in
+    let first = p m (carried.0, s.1) in
+    let second = q (printed done m).machine (carried.1, first.1) in (
+      subst (λ t. Appends a c t) (sym (text-append done requests m))
+          (appends-more a b c (printed done m).text (printed requests (printed done m).machine).text first.0 second.0),
+      subst (λ x. next x) (sym (machine-append done requests m)) second.1,
+    )
+
+pub run-line : (a b c x l k : Option (List ℕ)) (stood now next : Machine → Type 0) (n : ℕ) (line : Line) → Running a b x l stood now n → ReadsLine l k n line
+    → Prints b c (λ m. AreCarriedOut (requests_in line) m × now m) next (printed (requests_in line)) → Running a c x k stood next (n + 1)
+run-line a b c x l k stood now next n line r t p = record {
+  done = r.done ++ requests_in line;
+  follows = follows-line x l k n r.done line r.follows t;
+  prints = prints-line a b c stood now next r.done (requests_in line) r.prints p;
+}
+
+-- ---- what is written is a beginning of what the input prints
+
+-- a beginning of what all the input prints
+abbrev pub Begun : Option (List ℕ) → Option (List ℕ) → Option (List ℕ) → (Machine → Type 0) → Type 0
+Begun a b x stood = IfSome x (λ input. PrintsPart a b (λ m. AreCarriedOut (script_of input).requests m × stood m) (printed (script_of input).requests))
+
+begun : (a b : Option (List ℕ)) (stood : Machine → Type 0) (done : List Request) (asked rest : Asked) → asked ≡ behind done rest
+    → PrintsPart a b (λ m. AreCarriedOut done m × stood m) (printed done)
+    → PrintsPart a b (λ m. AreCarriedOut asked.requests m × stood m) (printed asked.requests)
+begun a b stood done asked rest e p m s =
+    let same : asked.requests ≡ done ++ rest.requests = ap (λ (o : Asked). o.requests) e in
+    let carried = carried-append done rest.requests m (subst (λ rs. AreCarriedOut rs m) same s.0) in
+    subst (λ rs. AppendsPart a b (printed rs m).text) (sym same)
+    (subst (λ t. AppendsPart a b t) (sym (text-append done rest.requests m))
+    (part_before a b (printed done m).text (printed rest.requests (printed done m).machine).text (p m (carried.0, s.1))))
+
+whole : (a b : Option (List ℕ)) (stood now : Machine → Type 0) (requests : List Request) → Prints a b stood now (printed requests) → PrintsPart a b stood (printed requests)
+whole a b stood now requests p m s = whole_part a b (printed requests m).text (p m s).0
+
+pub run-part : (a b x l : Option (List ℕ)) (stood now : Machine → Type 0) (n : ℕ) → Running a b x l stood now n → Begun a b x stood
+run-part a b None l stood now n r = tt
+run-part a b (Some xs) None stood now n r = absurd r.follows
+run-part a b (Some xs) (Some ys) stood now n r =
+    begun a b stood r.done (script_of xs) (asked_from n (lines_of ys)) r.follows (whole a b (λ m. AreCarriedOut r.done m × stood m) now r.done r.prints)
+
+part-line : (a b c : Option (List ℕ)) (stood now : Machine → Type 0) (done requests : List Request)
+    → Prints a b (λ m. AreCarriedOut done m × stood m) now (printed done)
+    → PrintsPart b c (λ m. AreCarriedOut requests m × now m) (printed requests)
+    → PrintsPart a c (λ m. AreCarriedOut (done ++ requests) m × stood m) (printed (done ++ requests))
+part-line a b c stood now done requests p q m s =
+    let carried = carried-append done requests m s.0 in
+    let first = p m (carried.0, s.1) in
+    subst (λ t. AppendsPart a c t) (sym (text-append done requests m))
+    (part_behind a b c (printed done m).text (printed requests (printed done m).machine).text first.0 (q (printed done m).machine (carried.1, first.1)))
+
+-- the same where a line's own text broke off
+pub run-broken : (a b c x l k : Option (List ℕ)) (stood now : Machine → Type 0) (n : ℕ) (line : Line) → Running a b x l stood now n → ReadsLine l k n line
+    → PrintsPart b c (λ m. AreCarriedOut (requests_in line) m × now m) (printed (requests_in line)) → Begun a c x stood
+run-broken a b c None l k stood now n line r t p = tt
+run-broken a b c (Some xs) None k stood now n line r t p = absurd r.follows
+run-broken a b c (Some xs) (Some ys) None stood now n line r t p = absurd t
+run-broken a b c (Some xs) (Some ys) (Some zs) stood now n line r t p =
+    begun a c stood (r.done ++ requests_in line) (script_of xs) (asked_from (n + 1) (lines_of zs))
+    (follows-line (Some xs) (Some ys) (Some zs) n r.done line r.follows t) (part-line a b c stood now r.done (requests_in line) r.prints p)
+
+-- ---- the run's end: at the script's end, or at a bad line
+
+abbrev pub Ended : Option (List ℕ) → Option (List ℕ) → Option (List ℕ) → (Machine → Type 0) → (Machine → Type 0) → Option ℕ → Type 0
+Ended a b x stood now bad = IfSome x (λ input. ((script_of input).bad ≡ bad)
+    × Prints a b (λ m. AreCarriedOut (script_of input).requests m × stood m) now (printed (script_of input).requests))
+
+ended : (a b : Option (List ℕ)) (xs : List ℕ) (stood now : Machine → Type 0) (done : List Request) (bad : Option ℕ) → script_of xs ≡ behind done (refused_at bad)
+    → Prints a b (λ m. AreCarriedOut done m × stood m) now (printed done) → Ended a b (Some xs) stood now bad
+ended a b xs stood now done bad e p = (
+  ap (λ (o : Asked). o.bad) e,
+  subst (λ rs. Prints a b (λ m. AreCarriedOut rs m × stood m) now (printed rs)) (sym (ap (λ (o : Asked). o.requests) e ∙ append-nil done)) p,
+)
+
+pub run-end : (a b x l : Option (List ℕ)) (stood now : Machine → Type 0) (n : ℕ) → Running a b x l stood now n → IsAtEnd l → Ended a b x stood now None
+run-end a b None l stood now n r at = tt
+run-end a b (Some xs) None stood now n r at = absurd r.follows
+run-end a b (Some xs) (Some ys) stood now n r at =
+    ended a b xs stood now r.done None (r.follows ∙ ap (λ o. behind r.done o) (ap (λ t. asked_from n (lines_of t)) at ∙ asked-end n)) r.prints
+
+run-bad : (a b x l : Option (List ℕ)) (stood now : Machine → Type 0) (n : ℕ) → Running a b x l stood now n → ComesBad l n → Ended a b x stood now (Some n)
+run-bad a b None l stood now n r bad = tt
+run-bad a b (Some xs) None stood now n r bad = absurd r.follows
+run-bad a b (Some xs) (Some ys) stood now n r (line, lines, e, none) =
+    ended a b xs stood now r.done (Some n) (r.follows ∙ ap (λ o. behind r.done o) (ap (λ ls. asked_from n ls) e ∙ asked-bad n line lines none)) r.prints
+
+-- a reading that gave no line: the fault that it gave ends the run as it should
+pub faulted : {A : Type 0} (a b x l k : Option (List ℕ)) (stood now : Machine → Type 0) (n : ℕ) (r : Result A RunFault) (f : RunFault) → Running a b x l stood now n
+    → LineRead l k n (Err f) → r ≡ Err f → EndsAs r (λ bad. Ended a b x stood now bad)
+faulted a b x l k stood now n r (Script bad) run h e =
+    subst (λ v. EndsAs v (λ bad. Ended a b x stood now bad)) (sym e) (subst (λ i. Ended a b x stood now (Some i)) (sym h.0) (run-bad a b x l stood now n run h.1))
+faulted a b x l k stood now n r (Image number) run h e = absurd h
+faulted a b x l k stood now n r Memory run h e = absurd h
+faulted a b x l k stood now n r Reading run h e = subst (λ v. EndsAs v (λ bad. Ended a b x stood now bad)) (sym e) tt
+faulted a b x l k stood now n r Writing run h e = absurd h
+
+-- a fault of writing says nothing of the end
+pub outside : {A : Type 0} (r : Result A RunFault) (f : RunFault) (P : Option ℕ → Type 0) → r ≡ Err f → IsOfWriting f → EndsAs r P
+outside r f P e h = subst (λ v. EndsAs v P) (sym (e ∙ ap Err h)) tt

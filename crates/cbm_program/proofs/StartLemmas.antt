@@ -1,0 +1,147 @@
+-- From a machine at power up to the run of a script.
+use Rattle.std.proofs.Common.{◌≡◌, ℕ, List, [], Bool, Option, Some, None, refl, sym, subst}
+use Rattle.std.specs.Prelude.{IfSome, Result, Err}
+use Rattle.cbm_medium.specs.Content.{Content}
+use Rattle.cbm_volume.specs.Holding.{HoldsDisk}
+use Rattle.cbm_channel.specs.Files.{Disk}
+use Rattle.cbm_channel.specs.Machines.{Machine, start}
+use Rattle.cbm_program.specs.declared.request.Request.{Request}
+use Rattle.cbm_program.specs.declared.fault.RunFault.{RunFault}
+use Rattle.cbm_program.specs.declared.fault.RunFault.TheVariants.{Script, Image, Memory, Reading, Writing}
+use Rattle.cbm_program.specs.Scripts.{printed}
+use Rattle.std.specs.Io.KnownBytes.{Appends}
+use Rattle.cbm_program.specs.Output.{AppendsPart, Prints, PrintsPart}
+use Rattle.cbm_program.specs.Running.{script_of, AreCarriedOut, EndsAs, EndsBy}
+use Rattle.cbm_program.specs.declared.kind.Kind.{Kind}
+use Rattle.cbm_program.specs.Images.{StartsOn, tracks_of, content_of, ImageHolds, IsOf}
+use Rattle.cbm_program.proofs.OutputLemmas.{appends-nothing, appends-more, part_behind, part_before, whole_part}
+use Rattle.cbm_program.specs.Checking.{checked_text, printed_behind}
+use Rattle.cbm_program.proofs.RunLemmas.{Ended, Begun}
+
+-- each machine of one kind is one of the other
+abbrev pub AreAmong : (Machine → Type 0) → (Machine → Type 0) → Type 0
+AreAmong some all = (m : Machine) → some m → all m
+
+-- a drive that stands for each machine at power up
+pub among-stands : (tracks : ℕ) (content : Content) (protected : Bool) (stands : Machine → Type 0)
+    → ((d : Disk) → HoldsDisk tracks content d → stands (start d protected tracks)) → AreAmong (StartsOn tracks content protected) stands
+among-stands tracks content protected stands h m (d, holds, e) = subst (λ x. stands x) (sym e) (h d holds)
+
+prints-among : (a b : Option (List ℕ)) (some all now next : Machine → Type 0) (script : List Request) → AreAmong some all → AreAmong now next
+    → Prints a b (λ m. AreCarriedOut script m × all m) now (printed script) → Prints a b (λ m. AreCarriedOut script m × some m) next (printed script)
+prints-among a b some all now next script is then p m s = let r = p m (s.0, is m s.1) in (r.0, then (printed script m).machine r.1)
+
+pub ended-among : (a b x : Option (List ℕ)) (some all now next : Machine → Type 0) (bad : Option ℕ) → AreAmong some all → AreAmong now next
+    → Ended a b x all now bad → Ended a b x some next bad
+ended-among a b None some all now next bad is then e = tt
+ended-among a b (Some xs) some all now next bad is then e = (e.0, prints-among a b some all now next (script_of xs).requests is then e.1)
+
+-- what a run from such a machine prints, and where it stands then
+abbrev pub Printed : Option (List ℕ) → Option (List ℕ) → Option (List ℕ) → (Machine → Type 0) → (Machine → Type 0) → Type 0
+Printed a b x stood now = IfSome x (λ input. Prints a b (λ m. AreCarriedOut (script_of input).requests m × stood m) now (printed (script_of input).requests))
+
+pub printed-among : (a b x : Option (List ℕ)) (some all now next : Machine → Type 0) → AreAmong some all → AreAmong now next
+    → Printed a b x all now → Printed a b x some next
+printed-among a b None some all now next is then e = tt
+printed-among a b (Some xs) some all now next is then e = prints-among a b some all now next (script_of xs).requests is then e
+
+pub printed-ended : (a b x : Option (List ℕ)) (some all now next : Machine → Type 0) (bad : Option ℕ) → AreAmong some all → AreAmong now next
+    → Ended a b x all now bad → Printed a b x some next
+printed-ended a b None some all now next bad is then e = tt
+printed-ended a b (Some xs) some all now next bad is then e = prints-among a b some all now next (script_of xs).requests is then e.1
+
+pub begun-among : (a b x : Option (List ℕ)) (some all : Machine → Type 0) → AreAmong some all → Begun a b x all → Begun a b x some
+begun-among a b None some all is e = tt
+begun-among a b (Some xs) some all is e = λ m s. e m (s.0, is m s.1)
+
+ends-err : (f : RunFault) (P Q : Option ℕ → Type 0) → EndsBy f P → ((bad : Option ℕ) → P bad → Q bad) → EndsBy f Q
+ends-err (Script line) P Q h w = w (Some line) h
+ends-err (Image n) P Q h w = tt
+ends-err Memory P Q h w = tt
+ends-err Reading P Q h w = tt
+ends-err Writing P Q h w = tt
+
+-- the same fault is handed on
+pub ends-again : {B : Type 0} (r : Result B RunFault) (f : RunFault) (P Q : Option ℕ → Type 0) → EndsBy f P → r ≡ Err f
+    → ((bad : Option ℕ) → P bad → Q bad) → EndsAs r Q
+ends-again r f P Q h e w = subst (λ v. EndsAs v Q) (sym e) (ends-err f P Q h w)
+
+-- ---- behind the line of a check
+
+abbrev pub EndedBehind : Bool → Option (List ℕ) → Option (List ℕ) → Option (List ℕ) → (Machine → Type 0) → (Machine → Type 0) → Option ℕ → Type 0
+EndedBehind checks a b x stood now bad = IfSome x (λ input. ((script_of input).bad ≡ bad)
+    × Prints a b (λ m. AreCarriedOut (script_of input).requests m × stood m) now (printed_behind checks (script_of input).requests))
+
+abbrev pub PrintedBehind : Bool → Option (List ℕ) → Option (List ℕ) → Option (List ℕ) → (Machine → Type 0) → (Machine → Type 0) → Type 0
+PrintedBehind checks a b x stood now = IfSome x (λ input. Prints a b (λ m. AreCarriedOut (script_of input).requests m × stood m) now (printed_behind checks (script_of input).requests))
+
+abbrev pub BegunBehind : Bool → Option (List ℕ) → Option (List ℕ) → Option (List ℕ) → (Machine → Type 0) → Type 0
+BegunBehind checks a b x stood = IfSome x (λ input. PrintsPart a b (λ m. AreCarriedOut (script_of input).requests m × stood m) (printed_behind checks (script_of input).requests))
+
+-- for each machine that stood, the check's line was printed
+abbrev pub Said : Bool → Option (List ℕ) → Option (List ℕ) → (Machine → Type 0) → Type 0
+Said checks a b stood = (m : Machine) → stood m → Appends a b (checked_text checks)
+
+prints-behind : (checks : Bool) (a b c : Option (List ℕ)) (stood now : Machine → Type 0) (script : List Request) → Said checks a b stood
+    → Prints b c (λ m. AreCarriedOut script m × stood m) now (printed script) → Prints a c (λ m. AreCarriedOut script m × stood m) now (printed_behind checks script)
+prints-behind checks a b c stood now script said p m s = let r = p m s in (appends-more a b c (checked_text checks) (printed script m).text (said m s.1) r.0, r.1)
+
+pub ended-behind : (checks : Bool) (a b c x : Option (List ℕ)) (stood now : Machine → Type 0) (bad : Option ℕ) → Said checks a b stood → Ended b c x stood now bad → EndedBehind checks a c x stood now bad
+ended-behind checks a b c None stood now bad said e = tt
+ended-behind checks a b c (Some xs) stood now bad said e = (e.0, prints-behind checks a b c stood now (script_of xs).requests said e.1)
+
+pub printed-behind : (checks : Bool) (a b c x : Option (List ℕ)) (stood now : Machine → Type 0) → Said checks a b stood → Printed b c x stood now → PrintedBehind checks a c x stood now
+printed-behind checks a b c None stood now said e = tt
+printed-behind checks a b c (Some xs) stood now said e = prints-behind checks a b c stood now (script_of xs).requests said e
+
+pub begun-behind : (checks : Bool) (a b c x : Option (List ℕ)) (stood : Machine → Type 0) → Said checks a b stood → Begun b c x stood → BegunBehind checks a c x stood
+begun-behind checks a b c None stood said e = tt
+begun-behind checks a b c (Some xs) stood said e = λ m s. part_behind a b c (checked_text checks) (printed (script_of xs).requests m).text (said m s.1) (e m s)
+
+-- a check of the disk that a machine at power up has
+pub said-start : (tracks : ℕ) (content : Content) (protected checks : Bool) (a b : Option (List ℕ)) → ((d : Disk) → HoldsDisk tracks content d → Appends a b (checked_text checks))
+    → Said checks a b (StartsOn tracks content protected)
+said-start tracks content protected checks a b h m (d, holds, e) = h d holds
+
+-- the check's own line broke off
+pub begun-cut : (checks : Bool) (a b x : Option (List ℕ)) (stood : Machine → Type 0) → ((m : Machine) → stood m → AppendsPart a b (checked_text checks)) → BegunBehind checks a b x stood
+begun-cut checks a b None stood h = tt
+begun-cut checks a b (Some xs) stood h = λ m s. part_before a b (checked_text checks) (printed (script_of xs).requests m).text (h m s.1)
+
+pub cut-start : (tracks : ℕ) (content : Content) (protected checks : Bool) (a b x : Option (List ℕ)) → ((d : Disk) → HoldsDisk tracks content d → AppendsPart a b (checked_text checks))
+    → BegunBehind checks a b x (StartsOn tracks content protected)
+cut-start tracks content protected checks a b x h = begun-cut checks a b x (StartsOn tracks content protected) (λ m s. h s.0 s.1)
+
+-- the same machines
+pub behind-among : (checks : Bool) (a b x : Option (List ℕ)) (some all now next : Machine → Type 0) → AreAmong some all → AreAmong now next
+    → PrintedBehind checks a b x all now → PrintedBehind checks a b x some next
+behind-among checks a b None some all now next is then e = tt
+behind-among checks a b (Some xs) some all now next is then e = λ m s. let r = e m (s.0, is m s.1) in (r.0, then (printed (script_of xs).requests m).machine r.1)
+
+pub begun-behind-among : (checks : Bool) (a b x : Option (List ℕ)) (some all : Machine → Type 0) → AreAmong some all → BegunBehind checks a b x all → BegunBehind checks a b x some
+begun-behind-among checks a b None some all is e = tt
+begun-behind-among checks a b (Some xs) some all is e = λ m s. e m (s.0, is m s.1)
+
+-- ---- the same of an image
+
+-- a machine at power up with the image's disk is one with the medium's
+pub starts-as : (kind other : Kind) (image : List ℕ) (tracks : ℕ) (content : Content) (p q : Bool) → other ≡ kind → IsOf kind image tracks content → q ≡ p
+    → AreAmong (StartsOn (tracks_of other image) (content_of other image) p) (StartsOn tracks content q)
+starts-as kind other image tracks content p q same is e = rw same (λ m s.
+    subst (λ b. StartsOn tracks content b m) (sym e)
+    (subst (λ c. StartsOn tracks c p m) is.same_content (subst (λ n. StartsOn n (content_of kind image) p m) is.same_tracks s)))
+
+-- what the medium holds, the image holds
+pub holds-as : (kind other : Kind) (image : List ℕ) (tracks : ℕ) (content : Content) → other ≡ kind → IsOf kind image tracks content
+    → AreAmong (λ m. HoldsDisk tracks content m.disk) (λ m. ImageHolds other image m.disk)
+holds-as kind other image tracks content same is = rw same (λ m h.
+    subst (λ c. HoldsDisk (tracks_of kind image) c m.disk) (sym is.same_content) (subst (λ n. HoldsDisk n content m.disk) (sym is.same_tracks) h))
+
+-- what was printed whole is a beginning, and so is nothing
+pub behind-begun : (checks : Bool) (a b x : Option (List ℕ)) (stood now : Machine → Type 0) → PrintedBehind checks a b x stood now → BegunBehind checks a b x stood
+behind-begun checks a b None stood now e = tt
+behind-begun checks a b (Some xs) stood now e = λ m s. whole_part a b (printed_behind checks (script_of xs).requests m).text (e m s).0
+
+pub nothing-begun : (checks : Bool) (a x : Option (List ℕ)) (stood : Machine → Type 0) → BegunBehind checks a a x stood
+nothing-begun checks a None stood = tt
+nothing-begun checks a (Some xs) stood = λ m s. ([], (printed_behind checks (script_of xs).requests m).text, appends-nothing a, refl)

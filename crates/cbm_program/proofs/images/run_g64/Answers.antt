@@ -1,0 +1,39 @@
+use Rattle.cbm_g64.specs.Tracks as circles
+use Rattle.std.proofs.lemmas.Result.{IfOk-weaker}
+use Rattle.cbm_volume.specs.Holding.{HoldsDisk}
+use Rattle.cbm_program.specs.declared.kind.Kind.TheVariants.{G64}
+use Rattle.cbm_program.specs.Images.{kind_of, tracks_of, content_of, StartsOn, ImageHolds}
+use Rattle.cbm_program.proofs.LinePrints.{if_err}
+use Rattle.cbm_program.proofs.StartLemmas.{behind-among, begun-behind-among, behind-begun, nothing-begun, starts-as, holds-as}
+use Rattle.cbm_program.proofs.images.run_g64.Goals as goal
+
+-- the image that is saved holds what the disk holds
+pub returns-clause-disk : goal.returns-clause-disk
+returns-clause-disk g c =
+    let first = c.in_ok-disk.ensures.ok in
+    let among = starts-as G64 (kind_of c.args.image.now) c.args.image.now (35) (circles.content_of c.in_ok-disk.disk.tracks) c.args.options.now.protected c.in_ok-disk.disk.protected
+    c.requires first.0 first.1 in
+    IfOk-weaker c.save_g64.result _ _ (λ saved is. behind-among c.args.options.now.check _ _ _
+    (StartsOn (tracks_of (kind_of c.args.image.now) c.args.image.now) (content_of (kind_of c.args.image.now) c.args.image.now) c.args.options.now.protected)
+    (StartsOn (35) (circles.content_of c.in_ok-disk.disk.tracks) c.in_ok-disk.disk.protected)
+    (λ m. HoldsDisk (35) (circles.content_of c.in_ok-disk-2.disk.tracks) m.disk)
+    (λ m. ImageHolds (kind_of c.args.image.now) saved.items m.disk) among
+    (holds-as G64 (kind_of c.args.image.now) saved.items (35) (circles.content_of c.in_ok-disk-2.disk.tracks) c.requires is)
+    c.in_ok-disk-2.ensures.disk) c.save_g64.ensures.ok
+
+-- all of it is written where memory for the image is refused
+pub returns-clause-fault : goal.returns-clause-fault
+returns-clause-fault g c =
+    let first = c.in_ok-disk.ensures.ok in
+    let among = starts-as G64 (kind_of c.args.image.now) c.args.image.now (35) (circles.content_of c.in_ok-disk.disk.tracks) c.args.options.now.protected c.in_ok-disk.disk.protected
+    c.requires first.0 first.1 in
+    let all = StartsOn (35) (circles.content_of c.in_ok-disk.disk.tracks) c.in_ok-disk.disk.protected in
+    if_err c.save_g64.result (begun-behind-among c.args.options.now.check _ _ _
+    (StartsOn (tracks_of (kind_of c.args.image.now) c.args.image.now) (content_of (kind_of c.args.image.now) c.args.image.now) c.args.options.now.protected) all among
+    (behind-begun c.args.options.now.check _ _ _ all (λ m. HoldsDisk (35) (circles.content_of c.in_ok-disk-2.disk.tracks) m.disk) c.in_ok-disk-2.ensures.disk))
+
+-- nothing is written where the image isn't taken
+pub returns-in_err-disk-clause-fault : goal.returns-in_err-disk-clause-fault
+returns-in_err-disk-clause-fault g c =
+    if_err c.from_residual.result (nothing-begun c.args.options.now.check _ _
+    (StartsOn (tracks_of (kind_of c.args.image.now) c.args.image.now) (content_of (kind_of c.args.image.now) c.args.image.now) c.args.options.now.protected))

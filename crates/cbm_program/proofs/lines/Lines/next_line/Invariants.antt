@@ -1,0 +1,14 @@
+use Rattle.std.proofs.Common.{◌-◌, length}
+use Rattle.std.specs.Io.KnownBytes.{Consumes}
+use Rattle.cbm_program.specs.Lines.{bytes_left}
+use Rattle.cbm_program.proofs.LineLemmas.{IsUnbroken}
+use Rattle.cbm_program.proofs.lines.Lines.next_line.Given as goal
+
+abbrev pub invariant-bytes : goal.invariant-bytes
+invariant-bytes g l = record {
+  taken : Consumes (bytes_left g.R.Read.remaining l.initial.self) (bytes_left g.R.Read.remaining l.self) l.line.items;
+  unbroken : IsUnbroken l.line.items;
+}
+
+abbrev pub decreases-bytes : goal.decreases-bytes
+decreases-bytes g l = 1000 - length l.line.items

@@ -1,0 +1,49 @@
+use Rattle.std.proofs.Common.{◌∙◌, ap, arith, Err}
+use Rattle.std.proofs.lemmas.Result.{err_from_is_err_and}
+use Rattle.cbm_channel.specs.Standing.{Stands}
+use Rattle.cbm_program.specs.Lines.{bytes_left}
+use Rattle.cbm_program.proofs.RunLemmas.{run-start, run-line, run-part, run-broken, run-end, faulted}
+use Rattle.cbm_program.proofs.LinePrints.{if_err}
+use Rattle.cbm_program.proofs.session.run_on.Goals as goal
+
+pub lines-init : goal.lines-init
+lines-init g c = record {
+  running = run-start _ _ _ (Stands g.M.Medium.tracks g.M.Medium.content g.M.Medium.protected c.args.dos.now) c.new-lines.ensures;
+  few = omega arith;
+}
+
+-- a line is carried out
+pub lines-preserved : goal.lines-preserved
+lines-preserved g c =
+    let read = rw c.in-Some.is at c.in_ok-line.ensures in
+    let stands = Stands g.M.Medium.tracks g.M.Medium.content g.M.Medium.protected in
+    record {
+      running = run-line _ _ _ _ _ _ (stands c.args.dos.now) (stands c.lines.dos) (stands c.perform_line.new.dos) _ _ c.lines.invariant.running read.0 c.in_ok-perform_line.ensures.ok;
+      few = let r = read.1 in omega (arith, r);
+    }
+
+-- there is no line to be read
+pub returns-in_err-line-clause-ended : goal.returns-in_err-line-clause-ended
+returns-in_err-line-clause-ended g c =
+    let p = err_from_is_err_and c.from_residual.result c.from_residual.ensures.1 in
+    let stands = Stands g.M.Medium.tracks g.M.Medium.content g.M.Medium.protected in
+    faulted _ _ _ _ (bytes_left g.R.Read.remaining c.read_line.new.lines) (stands c.args.dos.now) (stands c.lines.dos) _ _ _ c.lines.invariant.running c.in_err-line.ensures (p.1 ∙ ap Err p.2)
+
+pub returns-in_err-line-clause-fault : goal.returns-in_err-line-clause-fault
+returns-in_err-line-clause-fault g c =
+    let stands = Stands g.M.Medium.tracks g.M.Medium.content g.M.Medium.protected in
+    if_err c.from_residual.result (run-part _ _ _ _ (stands c.args.dos.now) (stands c.lines.dos) _ c.lines.invariant.running)
+
+-- a line broke off
+pub returns-in_err-perform_line-clause-fault : goal.returns-in_err-perform_line-clause-fault
+returns-in_err-perform_line-clause-fault g c =
+    let read = rw c.in-Some.is at c.in_ok-line.ensures in
+    let stands = Stands g.M.Medium.tracks g.M.Medium.content g.M.Medium.protected in
+    if_err c.from_residual-in_err-perform_line.result
+    (run-broken _ _ _ _ _ _ (stands c.args.dos.now) (stands c.lines.dos) _ _ c.lines.invariant.running read.0 c.in_err-perform_line.ensures.err)
+
+-- the script is at its end
+pub returns-clause-ended : goal.returns-clause-ended
+returns-clause-ended g c =
+    let stands = Stands g.M.Medium.tracks g.M.Medium.content g.M.Medium.protected in
+    run-end _ _ _ _ (stands c.args.dos.now) (stands c.lines.dos) _ c.lines.invariant.running (rw c.in_default.is at c.in_ok-line.ensures)

@@ -1,0 +1,16 @@
+use Rattle.std.proofs.Common.{◌-◌, ◌≤◌}
+use Rattle.cbm_channel.specs.Standing.{Stands}
+use Rattle.cbm_program.specs.Lines.{bytes_left}
+use Rattle.cbm_program.proofs.RunLemmas.{Running}
+use Rattle.cbm_program.proofs.session.run_on.Given as goal
+
+abbrev pub invariant-lines : goal.invariant-lines
+invariant-lines g l = record {
+  running : Running (g.W.Write.contents l.initial.writer) (g.W.Write.contents l.writer) (g.R.Read.remaining l.fn.reader)
+      (bytes_left g.R.Read.remaining l.lines) (Stands g.M.Medium.tracks g.M.Medium.content g.M.Medium.protected l.initial.dos)
+      (Stands g.M.Medium.tracks g.M.Medium.content g.M.Medium.protected l.dos) l.number;
+  few : l.number ≤ 1000001;
+}
+
+abbrev pub decreases-lines : goal.decreases-lines
+decreases-lines g l = 1000001 - l.number

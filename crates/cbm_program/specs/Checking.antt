@@ -1,0 +1,38 @@
+-- What is printed of a check, before a script runs.
+use Rattle.std.specs.Prelude.{ℕ, ◌≡◌, ◌⊎◌, List, [], ◌++◌, codes, decimal, Bool, true, false, if◌then◌else◌, Option, Result, Ok, Err}
+use Rattle.std.specs.Io.KnownBytes.{Appends}
+use Rattle.cbm_medium.specs.Content.{Content}
+use Rattle.cbm_volume.specs.Map.{geometry_of}
+use Rattle.cbm_volume.specs.Layouts.{Layout, Sound}
+use Rattle.cbm_volume.specs.Unsound.{DiskFault}
+use Rattle.cbm_volume.specs.declared.Unsound.{Unsound}
+use Rattle.cbm_channel.specs.Machines.{Machine}
+use Rattle.cbm_program.specs.declared.request.Request.{Request}
+use Rattle.cbm_program.specs.Scripts.{Printed, printed}
+
+-- the line of a sound disk
+abbrev pub sound_line : List ℕ
+sound_line = codes "check sound\n"
+
+-- the line of a disk that isn't: the number of what is wrong, and where, in decimal
+abbrev pub unsound_line : Unsound → List ℕ
+unsound_line u = codes "check " ++ decimal u.number ++ codes " " ++ decimal u.track ++ codes " " ++ decimal u.sector ++ codes "\n"
+
+-- the line of what `check` answers
+abbrev pub check_line : Result (Unit {0}) Unsound → List ℕ
+check_line (Ok _) = sound_line
+check_line (Err u) = unsound_line u
+
+-- what a check prints of a sound disk, if one is asked for
+abbrev pub checked_text : Bool → List ℕ
+checked_text checks = if checks then sound_line else []
+
+-- A check was printed, of a medium of so many tracks with this content: the line of a sound disk where it is sound, else that of its fault.
+abbrev pub IsCheckPrinted : ℕ → Content → Option (List ℕ) → Option (List ℕ) → Type 0
+IsCheckPrinted tracks content old new =
+    (((l : Layout) × Sound (geometry_of tracks content) content l) × Appends old new sound_line)
+    ⊎ ((u : Unsound) × DiskFault (geometry_of tracks content) content u × Appends old new (unsound_line u))
+
+-- what a script prints, behind the line of the check if one is asked for
+abbrev pub printed_behind : Bool → List Request → Machine → Printed
+printed_behind checks script m = record { text = checked_text checks ++ (printed script m).text; machine = (printed script m).machine }

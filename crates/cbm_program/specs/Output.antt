@@ -1,0 +1,17 @@
+-- What is written of what a machine prints.
+use Rattle.std.specs.Prelude.{◌≡◌, List, ℕ, ◌++◌, Option}
+use Rattle.std.specs.Io.KnownBytes.{Appends}
+use Rattle.cbm_channel.specs.Machines.{Machine}
+use Rattle.cbm_program.specs.Scripts.{Printed}
+
+-- the known bytes grew by a beginning of these
+abbrev pub AppendsPart : Option (List ℕ) → Option (List ℕ) → List ℕ → Type 0
+AppendsPart old new bytes = (part : List ℕ) × (rest : List ℕ) × Appends old new part × (bytes ≡ part ++ rest)
+
+-- For each machine that stood before, what it prints was written, and the machine behind that stands now.
+abbrev pub Prints : Option (List ℕ) → Option (List ℕ) → (Machine → Type 0) → (Machine → Type 0) → (Machine → Printed) → Type 0
+Prints old new stood stands step = (m : Machine) → stood m → Appends old new (step m).text × stands (step m).machine
+
+-- for each machine that stood before, a beginning of what it prints was written
+abbrev pub PrintsPart : Option (List ℕ) → Option (List ℕ) → (Machine → Type 0) → (Machine → Printed) → Type 0
+PrintsPart old new stood step = (m : Machine) → stood m → AppendsPart old new (step m).text

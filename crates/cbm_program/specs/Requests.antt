@@ -1,0 +1,59 @@
+-- What a line asks for.
+use Rattle.std.specs.Prelude.{ℕ, List, [], ◌∷◌, codes, ◌==◌, Option, Some, None, option_map, option_and_then, if◌then◌else◌}
+use Rattle.std.specs.Str.{bytes_eq}
+use Rattle.cbm_program.specs.Texts.{text_of}
+use Rattle.cbm_program.specs.Words.{first_word, behind_word, channel_of, count_of, byte_of}
+use Rattle.cbm_program.specs.declared.request.Request.{Request}
+use Rattle.cbm_program.specs.declared.request.Request.TheVariants.{Open, Put, Fill, Get, Close, Status}
+use Rattle.cbm_program.specs.declared.line.Line.{Line}
+use Rattle.cbm_program.specs.declared.line.Line.TheVariants.{Skipped, Asks}
+
+-- the text of an open or a put, which may be missing with its space
+abbrev pub text_behind : Option (List ℕ) → Option (List ℕ)
+text_behind None = Some []
+text_behind (Some text) = text_of text
+
+abbrev pub fill_with : ℕ → Option ℕ → Option ℕ → Option Request
+fill_with channel (Some count) (Some byte) = Some (Fill channel count byte)
+fill_with channel _ _ = None
+
+abbrev pub fill_of : ℕ → Option (List ℕ) → Option Request
+fill_of channel None = None
+fill_of channel (Some words) = fill_with channel (count_of (first_word words)) (option_and_then byte_of (behind_word words))
+
+abbrev pub get_of : ℕ → Option (List ℕ) → Option Request
+get_of channel None = None
+get_of channel (Some word) = option_map (λ count. Get channel count) (count_of word)
+
+abbrev pub close_of : ℕ → Option (List ℕ) → Option Request
+close_of channel None = Some (Close channel)
+close_of channel (Some _) = None
+
+abbrev pub status_of : Option (List ℕ) → Option Request
+status_of None = Some Status
+status_of (Some _) = None
+
+-- what a request's first word asks of a channel
+abbrev pub asked_of : List ℕ → ℕ → Option (List ℕ) → Option Request
+asked_of verb channel rest =
+    if bytes_eq verb (codes "open") then option_map (λ text. Open channel (record { items = text })) (text_behind rest)
+    else if bytes_eq verb (codes "put") then option_map (λ text. Put channel (record { items = text })) (text_behind rest)
+    else if bytes_eq verb (codes "fill") then fill_of channel rest
+    else if bytes_eq verb (codes "get") then get_of channel rest
+    else if bytes_eq verb (codes "close") then close_of channel rest
+    else None
+
+-- the same of what stands behind that word
+abbrev pub channel_asked : List ℕ → Option (List ℕ) → Option Request
+channel_asked verb None = None
+channel_asked verb (Some words) = option_and_then (λ channel. asked_of verb channel (behind_word words)) (channel_of (first_word words))
+
+abbrev pub request_of : List ℕ → Option Request
+request_of bytes =
+    if bytes_eq (first_word bytes) (codes "status") then status_of (behind_word bytes)
+    else channel_asked (first_word bytes) (behind_word bytes)
+
+-- what a line is, None where it is refused
+abbrev pub line_of : List ℕ → Option Line
+line_of [] = Some Skipped
+line_of (b ∷ bytes) = if b == 59 then Some Skipped else option_map Asks (request_of (b ∷ bytes))

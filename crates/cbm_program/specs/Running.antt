@@ -1,0 +1,129 @@
+-- A script as a list of requests, and what a run of it says.
+use Rattle.std.specs.Prelude.{ℕ, ◌+◌, ◌≡◌, ◌<◌, ◌≤◌, List, [], ◌∷◌, length, replicate, Bool, true, false, nat_lt, if◌then◌else◌, Option, Some, None, Result, Ok, Err}
+use Rattle.std.specs.Io.KnownBytes.{IsAtEnd}
+use Rattle.cbm_channel.specs.Machines.{Machine}
+use Rattle.cbm_channel.specs.Talking.{listen}
+use Rattle.cbm_channel.specs.CarriedOut.{IsCarriedOut, IsPutCarriedOut}
+use Rattle.cbm_program.specs.declared.request.Request.{Request}
+use Rattle.cbm_program.specs.declared.request.Request.TheVariants.{Open, Put, Fill, Get, Close, Status}
+use Rattle.cbm_program.specs.declared.line.Line.{Line}
+use Rattle.cbm_program.specs.declared.line.Line.TheVariants.{Skipped, Asks}
+use Rattle.cbm_program.specs.declared.fault.RunFault.{RunFault}
+use Rattle.cbm_program.specs.declared.fault.RunFault.TheVariants.{Script, Image, Memory, Reading, Writing}
+use Rattle.cbm_program.specs.Lines.{lines_of}
+use Rattle.cbm_program.specs.Requests.{line_of}
+use Rattle.cbm_program.specs.Scripts.{puts, printed_by}
+
+-- ---- the requests that are carried out
+
+-- the channel of a request
+abbrev pub HasChannel : Request → Type 0
+HasChannel (Open ch text) = ch ≤ 15
+HasChannel (Put ch text) = ch ≤ 15
+HasChannel (Fill ch n b) = ch ≤ 15
+HasChannel (Get ch most) = ch ≤ 15
+HasChannel (Close ch) = ch ≤ 15
+HasChannel Status = Unit {0}
+
+-- the same of a line
+abbrev pub LineHasChannel : Line → Type 0
+LineHasChannel Skipped = Unit {0}
+LineHasChannel (Asks request) = HasChannel request
+
+-- the drive carries the request out where the machine stands so
+abbrev pub IsRequestCarriedOut : Request → Machine → Type 0
+IsRequestCarriedOut (Open ch text) m = IsCarriedOut ch text.items m
+IsRequestCarriedOut (Put ch text) m = IsPutCarriedOut ch (puts ch text.items (listen ch m))
+IsRequestCarriedOut (Fill ch n b) m = IsPutCarriedOut ch (puts ch (replicate n b) (listen ch m))
+IsRequestCarriedOut (Get ch most) m = Unit {0}
+IsRequestCarriedOut (Close ch) m = Unit {0}
+IsRequestCarriedOut Status m = Unit {0}
+
+-- each request is carried out where it comes
+abbrev pub AreCarriedOut : List Request → Machine → Type 0
+AreCarriedOut [] m = Unit {0}
+AreCarriedOut (request ∷ script) m = IsRequestCarriedOut request m × AreCarriedOut script (printed_by request m).machine
+
+-- ---- the lines as requests
+
+-- a line's requests: one or none
+abbrev pub requests_in : Line → List Request
+requests_in Skipped = []
+requests_in (Asks request) = request ∷ []
+
+-- line n may stand there: a script has at most 1,000,000 lines, each of at most 1,000 bytes
+abbrev pub may_stand : ℕ → List ℕ → Bool
+may_stand n line = if nat_lt 1000000 n then false else if nat_lt 1000 (length line) then false else true
+
+-- what line n is, None where it is refused
+abbrev pub meaning_if : Bool → List ℕ → Option Line
+meaning_if true line = line_of line
+meaning_if false line = None
+
+abbrev pub meaning : ℕ → List ℕ → Option Line
+meaning n line = meaning_if (may_stand n line) line
+
+-- the requests up to the first bad line, and that line's number
+pub record Asked : Type 0 where
+  pub requests : List Request
+  pub bad : Option ℕ
+
+abbrev pub refused_at : Option ℕ → Asked
+refused_at bad = record { requests = []; bad = bad }
+
+-- one line, and what follows it
+abbrev pub with_line : Option Line → ℕ → Asked → Asked
+with_line None n rest = refused_at (Some n)
+with_line (Some Skipped) n rest = rest
+with_line (Some (Asks request)) n rest = record { requests = request ∷ rest.requests; bad = rest.bad }
+
+-- the lines of a script from line n on
+unfoldable pub asked_from : ℕ → List (List ℕ) → Asked
+asked_from n [] = refused_at None
+asked_from n (line ∷ lines) = with_line (meaning n line) n (asked_from (n + 1) lines)
+
+-- a script's requests up to its first bad line, if it has one
+abbrev pub script_of : List ℕ → Asked
+script_of bytes = asked_from 1 (lines_of bytes)
+
+-- ---- what the reading of a line says
+
+-- line n was read, and is this
+abbrev pub ReadsLine : Option (List ℕ) → Option (List ℕ) → ℕ → Line → Type 0
+ReadsLine None new n line = Unit {0}
+ReadsLine (Some xs) None n line = ⊥
+ReadsLine (Some xs) (Some ys) n line = (bytes : List ℕ) × (lines_of xs ≡ bytes ∷ lines_of ys) × (meaning n bytes ≡ Some line)
+
+-- line n is there, and is refused
+abbrev pub ComesBad : Option (List ℕ) → ℕ → Type 0
+ComesBad None n = Unit {0}
+ComesBad (Some xs) n = (bytes : List ℕ) × (lines : List (List ℕ)) × (lines_of xs ≡ bytes ∷ lines) × (meaning n bytes ≡ None)
+
+-- what is behind the reading of line n: the line, the end, or why there is neither
+abbrev pub LineRead : Option (List ℕ) → Option (List ℕ) → ℕ → Result (Option Line) RunFault → Type 0
+LineRead old new n (Ok (Some line)) = ReadsLine old new n line × (n < 1000001) × LineHasChannel line
+LineRead old new n (Ok None) = IsAtEnd old
+LineRead old new n (Err (Script bad)) = (bad ≡ n) × ComesBad old n
+LineRead old new n (Err (Image number)) = ⊥
+LineRead old new n (Err Memory) = ⊥
+LineRead old new n (Err Reading) = Unit {0}
+LineRead old new n (Err Writing) = ⊥
+
+-- ---- how a run ends
+
+-- a fault of writing
+abbrev pub IsOfWriting : RunFault → Type 0
+IsOfWriting f = f ≡ Writing
+
+-- P of the number of a bad line; any other fault says nothing
+abbrev pub EndsBy : RunFault → (Option ℕ → Type 0) → Type 0
+EndsBy (Script line) P = P (Some line)
+EndsBy (Image number) P = Unit {0}
+EndsBy Memory P = Unit {0}
+EndsBy Reading P = Unit {0}
+EndsBy Writing P = Unit {0}
+
+-- P of the first bad line's number, if the run ended at the script's end or there
+abbrev pub EndsAs : {A : Type 0} → Result A RunFault → (Option ℕ → Type 0) → Type 0
+EndsAs (Ok _) P = P None
+EndsAs (Err fault) P = EndsBy fault P

@@ -1,0 +1,35 @@
+//! Writing what a script prints.
+ghost use Rattle.std.specs.Prelude.{◌≡◌, ◌+◌, ◌/◌, ◌%◌, ◌<◌, ◌≤◌, ◌++◌, length, IfErr, IfOk, OnOk, OnErr};
+ghost use Rattle.std.specs.Io.KnownBytes.{Appends, Keeps};
+ghost use Rattle.cbm_program.specs.Output.{AppendsPart};
+ghost use Rattle.cbm_program.specs.Running.{IsOfWriting};
+
+use crate::fault::RunFault;
+use std::io::Write;
+
+/// Writes these bytes. An interrupted write is a fault as any other, and so is one that takes no byte.
+pub(crate) fn print<W: Write>(writer: &mut W, bytes: &[u8]) -> Result<(), RunFault>
+    ensures ok { OnOk result (Appends (W.contents writer.old) (W.contents writer.new) bytes.now) }
+    ensures err { OnErr result (AppendsPart (W.contents writer.old) (W.contents writer.new) bytes.now) }
+    ensures fault { IfErr result IsOfWriting }
+{
+    let mut rest = bytes;
+    'writes: while !rest.is_empty() {
+        match writer.write(rest) {
+            Ok(0) | Err(_) => return Err(RunFault::Writing),
+            Ok(count) => {
+                let (_written, others) = rest.split_at(count);
+                rest = others;
+            }
+        }
+    }
+    Ok(())
+}
+
+/// Sends on what the writer holds back.
+pub(crate) fn flush<W: Write>(writer: &mut W) -> Result<(), RunFault>
+    ensures bytes { Keeps (W.contents writer.old) (W.contents writer.new) }
+    ensures fault { IfErr result IsOfWriting }
+{
+    writer.flush().map_err(|_| RunFault::Writing)
+}

@@ -1,0 +1,52 @@
+//! Putting bytes to a channel.
+ghost use Rattle.std.specs.Prelude.{◌≡◌, ◌≤◌, replicate};
+ghost use Rattle.cbm_channel.specs.Machines.{Machine};
+ghost use Rattle.cbm_channel.specs.Standing.{Stands, Leads};
+ghost use Rattle.cbm_channel.specs.CarriedOut.{IsPutCarriedOut};
+ghost use Rattle.cbm_channel.specs.Talking.{listen};
+ghost use Rattle.cbm_program.specs.Scripts.{puts, hear};
+
+use cbm_channel::Dos;
+use cbm_medium::Medium;
+
+/// Puts the bytes one after another.
+fn put_each<M: Medium>(dos: &mut Dos<M>, channel: u8, bytes: &[u8])
+    requires { channel ≤ 15 }
+    ensures { Leads M.tracks M.content M.protected dos.old dos.new (puts channel bytes.now) }
+{
+    for byte in bytes {
+        dos.put(channel, *byte);
+    }
+}
+
+/// Puts so many equal bytes.
+fn put_equal<M: Medium>(dos: &mut Dos<M>, channel: u8, count: u32, byte: u8)
+    requires { channel ≤ 15 }
+    ensures { Leads M.tracks M.content M.protected dos.old dos.new (puts channel (replicate count byte)) }
+{
+    for done in 0..count {
+        dos.put(channel, byte);
+    }
+}
+
+/// Puts the bytes in one listening.
+pub(crate) fn hear<M: Medium>(dos: &mut Dos<M>, channel: u8, bytes: &[u8])
+    requires { channel ≤ 15 }
+    ensures { (m : Machine) → IsPutCarriedOut channel (puts channel bytes.now (listen channel m))
+        → Stands M.tracks M.content M.protected dos.old m → Stands M.tracks M.content M.protected dos.new (hear channel bytes.now m) }
+{
+    dos.listen(channel);
+    put_each(dos, channel, bytes);
+    dos.end_put(channel);
+}
+
+/// Puts so many equal bytes in one listening.
+pub(crate) fn hear_equal<M: Medium>(dos: &mut Dos<M>, channel: u8, count: u32, byte: u8)
+    requires { channel ≤ 15 }
+    ensures { (m : Machine) → IsPutCarriedOut channel (puts channel (replicate count byte) (listen channel m))
+        → Stands M.tracks M.content M.protected dos.old m → Stands M.tracks M.content M.protected dos.new (hear channel (replicate count byte) m) }
+{
+    dos.listen(channel);
+    put_equal(dos, channel, count, byte);
+    dos.end_put(channel);
+}

@@ -1,6 +1,0 @@
-use Rattle.std.proofs.Common.{◌≡◌, ℕ, ◌+◌, ◌*◌, ◌-◌, ◌<◌, length, true}
-use Rattle.cbm_track.specs.Circle.{bits_of, bit}
-use Rattle.cbm_track.proofs.marks.ones_before.Given as goal
-
-abbrev pub invariant-loop-j : goal.invariant-loop-j
-invariant-loop-j l = (i : ℕ) → i < l.j → bit (bits_of l.track) (l.place + (2 * (8 * length l.track) - 1 - i)) ≡ true

@@ -1,0 +1,10 @@
+use Rattle.std.proofs.Common.{subst, sym, rules}
+use Rattle.cbm_bam.specs.Map.{geometry_of}
+use Rattle.cbm_volume.specs.Holding.{TellsOf}
+use Rattle.cbm_volume.proofs.Telling.{told}
+use Rattle.cbm_volume.proofs.volume.Volume.slots.Goals as goal
+
+pub returns-clause-means : goal.returns-clause-means
+returns-clause-means g c = λ d m.
+    subst (TellsOf d) (sym (search rules))
+    (told (geometry_of (g.M.Medium.tracks c.args.self.now) (g.M.Medium.content c.args.self.now)) (g.M.Medium.content c.args.self.now) m.layout d m.stands)

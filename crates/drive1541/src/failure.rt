@@ -1,0 +1,79 @@
+//! How the program ended: its exit status, and its line on standard error.
+ghost use Rattle.std.specs.Prelude.{◌≡◌};
+ghost use Rattle.drive1541.specs.Failure.{status_of};
+
+use crate::arguments::Arguments;
+use cbm_program::RunFault;
+use std::io;
+
+/// A file of the command line, or standard output.
+#[derive(Clone, Copy, Debug, PartialEq, Eq)]
+pub enum Place {
+    /// The image that is read.
+    Image,
+    /// The script.
+    Script,
+    /// The image that is saved.
+    Out,
+    /// Standard output.
+    Output,
+}
+
+/// Why OUT wasn't written.
+#[derive(Clone, Copy, Debug, PartialEq, Eq)]
+pub enum Failure {
+    /// The line with this number is refused.
+    Script(u32),
+    /// The image is refused, by its fault's number.
+    Image(u8),
+    /// A file couldn't be read or written.
+    File(Place),
+    /// Memory ran out.
+    NoMemory,
+}
+
+impl Failure {
+    /// The exit status.
+    pub fn status(self) -> u8
+        ensures { result ≡ status_of self }
+    {
+        match self {
+            Failure::Script(_) => 1,
+            Failure::Image(_) => 2,
+            Failure::File(_) | Failure::NoMemory => 3,
+        }
+    }
+
+    /// Prints the line on standard error.
+    pub fn tell(self, rt: &impl Eprint, arguments: &Arguments<'_>) -> io::Result<()> {
+        match self {
+            Failure::Script(line) => eprintln!(rt; "script line {line} refused"),
+            Failure::Image(number) => eprintln!(rt; "image refused: {number}"),
+            Failure::File(place) => {
+                let name = arguments.name_of(place);
+                eprintln!(rt; "file fault: {name}")
+            }
+            Failure::NoMemory => eprintln!(rt; "no memory"),
+        }
+    }
+
+    /// What a refused call on a file was.
+    pub fn of_file(error: io::Error, place: Place) -> Failure {
+        if error.kind() == io::ErrorKind::OutOfMemory {
+            Failure::NoMemory
+        } else {
+            Failure::File(place)
+        }
+    }
+
+    /// What a run that ended early was.
+    pub fn of_run(fault: RunFault) -> Failure {
+        match fault {
+            RunFault::Script(line) => Failure::Script(line),
+            RunFault::Image(number) => Failure::Image(number),
+            RunFault::Memory => Failure::NoMemory,
+            RunFault::Reading => Failure::File(Place::Script),
+            RunFault::Writing => Failure::File(Place::Output),
+        }
+    }
+}

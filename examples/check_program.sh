@@ -1,0 +1,76 @@
+#!/bin/sh
+# Runs drive1541 on what the gate can't: exit statuses, lines on standard error, and how OUT is saved.
+# Usage: sh check_program.sh DRIVE1541 (the path of the built program). Prints one line a case; ends with 1 if one is wrong.
+set -u
+drive=$(realpath "$1")
+here=$(dirname "$(realpath "$0")")
+work=$(mktemp -d)
+trap 'rm -rf "$work"' EXIT
+cd "$work" || exit 1
+cp "$here/hello.d64" "$here/hello.script" .
+head -c 174847 hello.d64 > short.d64
+printf 'status\nbad\n' > bad.script
+wrong=0
+
+# name, wanted status, wanted standard error, then the command
+case_of() {
+    name=$1 want=$2 text=$3
+    shift 3
+    "$@" > out.txt 2> err.txt
+    got=$?
+    if [ "$got" = "$want" ] && { [ -z "$text" ] || [ "$(cat err.txt)" = "$text" ]; }; then
+        echo "ok    $name"
+    else
+        echo "WRONG $name: status $got, $(cat err.txt)"
+        wrong=1
+    fi
+}
+is() {
+    name=$1
+    shift
+    if "$@"; then echo "ok    $name"; else echo "WRONG $name"; wrong=1; fi
+}
+
+case_of "done" 0 "" "$drive" hello.d64 hello.script out.d64
+is "OUT equals IMAGE" cmp -s hello.d64 out.d64
+case_of "a bad line" 1 "script line 2 refused" "$drive" hello.d64 bad.script none.d64
+is "what was printed before it stays" grep -q "^status 73,CBM DOS V2.6 1541,00,00$" out.txt
+is "OUT isn't written" test ! -e none.d64
+case_of "a truncated image" 2 "image refused: 1" "$drive" short.d64 hello.script none.d64
+case_of "no image" 3 "file fault: nothing.d64" "$drive" nothing.d64 hello.script none.d64
+case_of "no script" 3 "file fault: nothing.script" "$drive" hello.d64 nothing.script none.d64
+case_of "a directory as script" 3 "file fault: ." "$drive" hello.d64 . none.d64
+case_of "no folder for OUT" 3 "file fault: no/out.d64" "$drive" hello.d64 hello.script no/out.d64
+case_of "a directory as OUT" 3 "file fault: ." "$drive" hello.d64 hello.script .
+case_of "too few words" 1 "" "$drive" hello.d64
+case_of "help" 1 "" "$drive" --help
+case_of "device 12" 1 "" "$drive" hello.d64 hello.script out.d64 --device 12
+case_of "device 9" 0 "" "$drive" hello.d64 hello.script out.d64 --device 9
+case_of "a protected disk" 0 "" "$drive" --read-only hello.d64 hello.script out.d64
+case_of "a full standard output" 3 "file fault: output" sh -c "$drive hello.d64 hello.script none.d64 > /dev/full"
+is "then OUT isn't written" test ! -e none.d64
+case_of "a device as OUT" 0 "" "$drive" hello.d64 hello.script /dev/null
+is "it stays a device" test -c /dev/null
+
+printf old > old.d64
+chmod 600 old.d64
+ln -s old.d64 link.d64
+printf mine > link.d64.0.new
+printf mine > old.d64.0.new
+case_of "a link as OUT" 0 "" "$drive" hello.d64 hello.script link.d64
+is "it stays a link" test -L link.d64
+is "its file is the image" cmp -s hello.d64 old.d64
+is "and keeps its mode" test "$(stat -c %a old.d64)" = 600
+is "a file of the name beside stays" test "$(cat old.d64.0.new)" = mine
+is "and no other is left" test ! -e old.d64.1.new
+
+printf old > small.d64
+case_of "a limit on the file's size" 3 "file fault: small.d64" sh -c "trap '' XFSZ; ulimit -f 100; exec $drive hello.d64 hello.script small.d64"
+is "what OUT was stays" test "$(cat small.d64)" = old
+is "and nothing is left beside" test ! -e small.d64.0.new
+case_of "a limit on memory" 3 "no memory" sh -c "ulimit -v 3300; exec $drive hello.d64 hello.script none.d64"
+is "each line is seen at once" sh -c "(printf 'status\n'; sleep 1; cmp -s seen.txt - <<X || touch late
+status 73,CBM DOS V2.6 1541,00,00
+X
+printf 'status\n') | $drive hello.d64 /dev/stdin none.d64 > seen.txt && test ! -e late"
+exit $wrong
