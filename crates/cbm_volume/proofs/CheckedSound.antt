@@ -1,11 +1,11 @@
 -- What `check` claims is a sound disk, and on a sound disk it meets no fault.
-use Rattle.std.proofs.Common.{◌≡◌, ◌≢◌, ◌⊎◌, ℕ, zero, suc, ◌+◌, ◌*◌, ◌<◌, ◌≤◌, List, [], ◌∷◌, ◌++◌, length, Bool, true, false, Option, Some, None, Ok, Err, refl, sym, ap, ◌∙◌, subst, arith, inl, inr}
-use Rattle.std.specs.Prelude.{if◌then◌else◌, ◌==◌, ◌%◌, ◌&&◌, not, IsOk, Result, OnOk, IfErr}
-use Rattle.cbm_medium.specs.Place.{Place, Has, directory_head}
-use Rattle.cbm_medium.specs.Content.{Cell, Content, is_header_fault}
+use Rattle.std.proofs.Common.{◌≡◌, ◌⊎◌, ℕ, ◌≤◌, List, [], ◌∷◌, ◌++◌, Bool, true, false, Option, Some, None, Ok, Err, refl, sym, ap, ◌∙◌, subst, arith, inl, inr}
+use Rattle.std.specs.Prelude.{IsOk, Result, OnOk, IfErr}
+use Rattle.cbm_medium.specs.Place.{Place, directory_head}
+use Rattle.cbm_medium.specs.Content.{Cell, Content}
 use Rattle.cbm_medium.specs.Links.{Chain, bytes_at, link}
-use Rattle.cbm_bam.specs.Map.{map_of, is_free_in, with_bit, geometry_of}
-use Rattle.cbm_directory.specs.Entries.{type_byte, is_closed, is_relative, first_block, first_side, first_directory}
+use Rattle.cbm_bam.specs.Map.{with_bit, geometry_of}
+use Rattle.cbm_directory.specs.Entries.{is_closed, is_relative, first_block, first_side, first_directory}
 use Rattle.cbm_directory.specs.Slots.{entries_from, all_entries}
 use Rattle.cbm_volume.specs.Blocks.{Blocks, no_blocks, HasRecords}
 use Rattle.cbm_volume.specs.Layouts.{Layout, Sound, IsWritable}
@@ -157,9 +157,11 @@ slots_claimed tracks c met claimed a [] after h = ([], h.1)
 slots_claimed tracks c met claimed a (b ∷ xs) after h =
     let between : Place → Bool = h.2.0 in
     let here = entries_claimed tracks c claimed (entries_in (bytes_at c b)) between h.2.1.0 in
-    let rest = slots_claimed tracks c (with_bit met b true) between (link (bytes_at c b)) xs after h.2.1.1 in
-    (here.0 ++ rest.0, slots_join tracks c claimed (entries_from 8 (bytes_at c b) 0) (all_entries c xs) here.0 rest.0 between after
-      (subst (λ (es : List (List ℕ)). ClaimsSlots tracks c claimed es here.0 between) (eight (bytes_at c b)) here.1) rest.1)
+    let rest = slots_claimed tracks c (with_bit met b true) between (link (bytes_at c b)) xs after h.2.1.1 in (
+      here.0 ++ rest.0,
+      slots_join tracks c claimed (entries_from 8 (bytes_at c b) 0) (all_entries c xs) here.0 rest.0 between after
+          (subst (λ (es : List (List ℕ)). ClaimsSlots tracks c claimed es here.0 between) (eight (bytes_at c b)) here.1) rest.1,
+    )
 
 -- the sectors are met as the directory's chain has them
 again_same : (tracks : ℕ) (c : Content) (met claimed : Place → Bool) (a : Place) (xs ys : List Place) (x after : Place → Bool) → ClaimsChain OfDirectory tracks c met a xs x → checked.ClaimsSlots tracks c met claimed a ys after → ys ≡ xs

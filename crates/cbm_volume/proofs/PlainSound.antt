@@ -1,21 +1,21 @@
 -- A disk is sound with owners exactly where it is so by the list of the sectors that it uses.
-use Rattle.std.proofs.Common.{◌≡◌, ◌≢◌, ◌⊎◌, ℕ, zero, suc, ◌+◌, ◌*◌, ◌<◌, ◌≤◌, List, [], ◌∷◌, ◌++◌, length, Bool, true, false, Option, Some, None, Ok, Err, refl, sym, ap, ◌∙◌, subst, arith, inl, inr}
-use Rattle.std.specs.Prelude.{slice_get, if◌then◌else◌, ◌==◌, ◌%◌, ◌&&◌, not, IsOk}
-use Rattle.cbm_medium.specs.Place.{Place, Has, has, directory_head, sectors_on}
+use Rattle.std.proofs.Common.{◌≡◌, ◌≢◌, ℕ, zero, suc, ◌+◌, ◌<◌, ◌≤◌, List, [], ◌∷◌, ◌++◌, length, Bool, true, false, Some, refl, sym, ap, ◌∙◌, subst, arith, inl, inr}
+use Rattle.std.specs.Prelude.{slice_get, ◌==◌, ◌%◌}
+use Rattle.cbm_medium.specs.Place.{Place, Has, has, directory_head}
 use Rattle.cbm_medium.specs.Content.{Content}
 use Rattle.cbm_medium.specs.Links.{Chain, bytes_at, link, IsApart}
 use Rattle.cbm_medium.proofs.Walks.{has_true, bool_cases}
 use Rattle.cbm_medium.proofs.Places.{places_apart}
 use Rattle.std.proofs.lemmas.Bool.{eq-eqb, eqb-true}
-use Rattle.cbm_bam.specs.Map.{map_of, is_free_in, with_bit}
+use Rattle.cbm_bam.specs.Map.{with_bit}
 use Rattle.cbm_relfile.specs.SideSectors.{Numbered}
 use Rattle.cbm_directory.specs.Entries.{type_byte, is_closed, is_relative, first_block, first_directory, entry_at, width_of}
 use Rattle.cbm_directory.specs.Slots.{all_entries}
-use Rattle.cbm_volume.specs.Blocks.{Blocks, no_blocks, Lies, LiesAs, HasRecords}
+use Rattle.cbm_volume.specs.Blocks.{Blocks, Lies, LiesAs}
 use Rattle.cbm_volume.specs.Layouts.{Owner, Nobody, TheMap, Directory, DataOf, SideOf, Layout, OwnedBy, Sound, slot_count}
-use Rattle.cbm_volume.specs.Unsound.{is_inside, reads, ClaimsChain, ClaimsEach}
+use Rattle.cbm_volume.specs.Unsound.{is_inside, ClaimsChain, ClaimsEach}
 use Rattle.cbm_volume.proofs.Claimed.{head_claimed, ClaimsAs, ClaimsSlots, IsClaimedOnce}
-use Rattle.cbm_volume.specs.Plain.{blocks_in, claimed_sectors, IsDistinct, AreTaken, AreOn18, AreOff18, FilesLie, IsPlainlySound}
+use Rattle.cbm_volume.specs.Plain.{blocks_in, IsDistinct, AreTaken, AreOn18, AreOff18, FilesLie, IsPlainlySound}
 use Rattle.cbm_volume.specs.declared.unsound.Part.{Part}
 use Rattle.cbm_volume.specs.declared.unsound.Part.TheVariants.{OfDirectory, OfFile}
 use Rattle.cbm_volume.proofs.Listing.{entries_length, nth_entry}
@@ -150,8 +150,7 @@ module _ (tracks : ℕ) (c : Content) (l : Layout) (s : Sound tracks c l) where
   files_lie n (e ∷ es) room at =
       let lt : n < slot_count l = omega (arith, room) in
       let first : n + 0 ≡ n = omega arith in
-      let is : e ≡ entry_at c l.directory n = same_some (at 0 (omega arith)) ∙ ap (entry_at c l.directory) first in
-      (
+      let is : e ≡ entry_at c l.directory n = same_some (at 0 (omega arith)) ∙ ap (entry_at c l.directory) first in (
         subst (λ (x : List ℕ). type_byte x % 16 < 5) (sym is) (s.kinds n lt),
         subst (λ (x : List ℕ). Lies tracks c x (l.files n)) (sym is) (s.lies n lt),
         files_lie (n + 1) es (omega (arith, room)) (λ i h. let next : n + suc i ≡ (n + 1) + i = omega arith in at (suc i) (omega (arith, h)) ∙ ap (λ k. Some (entry_at c l.directory k)) next),
@@ -184,8 +183,11 @@ module _ (tracks : ℕ) (c : Content) (l : Layout) (s : Sound tracks c l) where
           distinct_join l.owner Directory l.directory more s.owned.directory (λ p is. apart_files p Directory 0 count room is (λ m h. directory_before 0 m h))
               (chain_is_distinct tracks c first_directory l.directory s.directory) files.distinct,
         );
-        taken = (s.map_reads, taken_of tracks c l s directory_head TheMap has_head s.owned.map (λ z. absurd (cc)),
-          taken_join c l.directory more (chain_taken Directory first_directory l.directory (λ z. absurd (cc)) s.directory s.owned.directory) files.taken);
+        taken = (
+          s.map_reads,
+          taken_of tracks c l s directory_head TheMap has_head s.owned.map (λ z. absurd (cc)),
+          taken_join c l.directory more (chain_taken Directory first_directory l.directory (λ z. absurd (cc)) s.directory s.owned.directory) files.taken,
+        );
         on_18 = on_owned l.directory s.owned.directory;
         off_18 = files.off;
       }
@@ -239,7 +241,8 @@ slot_walk : (closed relative : Bool) (tracks : ℕ) (c : Content) (claimed : Pla
     → AreTaken c (b.data_blocks ++ (b.sides ++ ys)) → AreOff18 (b.data_blocks ++ (b.sides ++ ys)) → AllUnclaimed claimed (b.data_blocks ++ (b.sides ++ ys)) → IsDistinct (b.data_blocks ++ (b.sides ++ ys))
     → SlotWalked closed relative tracks c claimed e b ys
 slot_walk false r tracks c claimed e b ys h taken off fresh distinct = (
-  claimed, (h, refl),
+  claimed,
+  (h, refl),
   subst (λ (x : Blocks). AllUnclaimed claimed (x.data_blocks ++ (x.sides ++ ys))) h fresh,
   subst (λ (x : Blocks). IsDistinct (x.data_blocks ++ (x.sides ++ ys))) h distinct,
 )
