@@ -1,11 +1,11 @@
 -- What `check` claims is a sound disk, and on a sound disk it meets no fault.
-use Rattle.std.proofs.Common.{◌≡◌, ◌≢◌, ◌⊎◌, ℕ, zero, suc, ◌+◌, ◌*◌, ◌<◌, ◌≤◌, List, [], ◌∷◌, ◌++◌, length, Bool, true, false, Option, Some, None, Ok, Err, refl, sym, ap, ◌∙◌, subst, arith, inl, inr}
-use Rattle.std.specs.Prelude.{if◌then◌else◌, ◌==◌, ◌%◌, ◌&&◌, not, IsOk, Result, OnOk, IfErr}
-use Rattle.cbm_medium.specs.Place.{Place, Has, directory_head}
-use Rattle.cbm_medium.specs.Content.{Cell, Content, is_header_fault}
+use Rattle.std.proofs.Common.{◌≡◌, ◌⊎◌, ℕ, ◌≤◌, List, [], ◌∷◌, ◌++◌, Bool, true, false, Option, Some, None, Ok, Err, refl, sym, ap, ◌∙◌, subst, arith, inl, inr}
+use Rattle.std.specs.Prelude.{IsOk, Result, OnOk, IfErr}
+use Rattle.cbm_medium.specs.Place.{Place, directory_head}
+use Rattle.cbm_medium.specs.Content.{Cell, Content}
 use Rattle.cbm_medium.specs.Links.{Chain, bytes_at, link}
-use Rattle.cbm_bam.specs.Map.{map_of, is_free_in, with_bit, geometry_of}
-use Rattle.cbm_directory.specs.Entries.{type_byte, is_closed, is_relative, first_block, first_side, first_directory}
+use Rattle.cbm_bam.specs.Map.{with_bit, geometry_of}
+use Rattle.cbm_directory.specs.Entries.{is_closed, is_relative, first_block, first_side, first_directory}
 use Rattle.cbm_directory.specs.Slots.{entries_from, all_entries}
 use Rattle.cbm_volume.specs.Blocks.{Blocks, no_blocks, HasRecords}
 use Rattle.cbm_volume.specs.Layouts.{Layout, Sound, IsWritable}
@@ -228,12 +228,12 @@ sound_clean tracks c l u wide s f = by_fault (sound_claimed tracks c l s wide) f
   where
     by_fault : IsClaimedOnce tracks c → DiskFault tracks c u → ⊥
     by_fault k (inl g) = good_header (c g.0) (k.writable g.0 g.1.has) g.1.bad
-    by_fault k (inr (inl g)) = map_clean tracks c u k.map g
-    by_fault k (inr (inr (inl g))) = chain_clean OfDirectory tracks c head_claimed first_directory k.directory g.0 k.middle u k.directory_claimed g.1
+    by_fault k (inr (inl g)) = map_clean tracks c u k.map g.1
+    by_fault k (inr (inr (inl g))) = chain_clean OfDirectory tracks c head_claimed first_directory k.directory g.2.0 k.middle u k.directory_claimed g.2.1
     by_fault k (inr (inr (inr g))) =
-        let same = chain_same OfDirectory tracks c head_claimed first_directory k.directory g.sectors k.middle g.between k.directory_claimed g.directory in
-        slots_clean tracks c head_claimed k.middle first_directory k.directory g.again k.files k.middle k.after u k.directory_claimed k.files_claimed
-        (subst (λ (m : Place → Bool). SlotsFault tracks c only_head m first_directory g.again u) (sym same.1) g.fault)
+        let same = chain_same OfDirectory tracks c head_claimed first_directory k.directory g.2.sectors k.middle g.2.between k.directory_claimed g.2.directory in
+        slots_clean tracks c head_claimed k.middle first_directory k.directory g.2.again k.files k.middle k.after u k.directory_claimed k.files_claimed
+        (subst (λ (m : Place → Bool). SlotsFault tracks c only_head m first_directory g.2.again u) (sym same.1) g.2.fault)
 
 -- ---- what the check answers
 

@@ -1,22 +1,22 @@
 -- Where each sector is claimed once, the disk is sound: what claims a sector owns it.
-use Rattle.std.proofs.Common.{◌≡◌, ◌≢◌, ◌⊎◌, ℕ, zero, suc, ◌+◌, ◌*◌, ◌<◌, ◌≤◌, List, [], ◌∷◌, length, Bool, true, false, Option, Some, None, Ok, Err, refl, sym, ap, ◌∙◌, subst, arith, inl, inr}
+use Rattle.std.proofs.Common.{◌≡◌, ◌≢◌, ◌⊎◌, ℕ, zero, suc, ◌+◌, ◌*◌, ◌<◌, List, [], ◌∷◌, length, Bool, true, false, Some, None, Ok, Err, refl, sym, ap, ◌∙◌, subst, arith, inl, inr}
 use Rattle.std.specs.Prelude.{slice_index_or, slice_get, if◌then◌else◌, ◌==◌, ◌%◌, ◌&&◌, not, IsOk}
-use Rattle.cbm_medium.specs.Place.{Place, Has, has, is_place, directory_head, sectors_on}
+use Rattle.cbm_medium.specs.Place.{Place, Has, has, is_place, directory_head}
 use Rattle.cbm_medium.specs.Content.{Cell, Content}
 use Rattle.cbm_medium.specs.Links.{Chain, bytes_at, link}
 use Rattle.cbm_medium.proofs.Walks.{true_has}
 use Rattle.cbm_medium.proofs.Places.{same_place, place_is_itself}
-use Rattle.std.proofs.lemmas.Bool.{cases_Bool, eq-eqb, ne_eqb, eqb-true}
+use Rattle.std.proofs.lemmas.Bool.{eq-eqb, eqb-true}
 use Rattle.cbm_bam.specs.Map.{map_of, is_free_in, with_bit, IsCounted}
 use Rattle.cbm_directory.specs.Entries.{type_byte, is_closed, is_relative, first_block, first_directory, entry_at}
 use Rattle.cbm_directory.specs.Slots.{all_entries}
-use Rattle.cbm_volume.specs.Blocks.{Blocks, no_blocks, Lies, LiesAs, HasRecords}
-use Rattle.cbm_volume.specs.Layouts.{Owner, Nobody, TheMap, Directory, DataOf, SideOf, Layout, OwnedBy, IsOwned, Sound, own, slot_count}
-use Rattle.cbm_volume.specs.Unsound.{wrong_at, is_inside, outside_number, reads, ClaimsChain, ClaimsEach, IsMapRight, is_counted_on}
-use Rattle.cbm_volume.proofs.Claimed.{head_claimed, ClaimsAs, ClaimsSlot, ClaimsSlots, IsClaimedOnce}
+use Rattle.cbm_volume.specs.Blocks.{Blocks, no_blocks, Lies}
+use Rattle.cbm_volume.specs.Layouts.{Owner, Nobody, TheMap, Directory, DataOf, SideOf, Layout, OwnedBy, Sound, own}
+use Rattle.cbm_volume.specs.Unsound.{wrong_at, is_inside, outside_number, reads, ClaimsChain, ClaimsEach, IsMapRight}
+use Rattle.cbm_volume.proofs.Claimed.{head_claimed, ClaimsAs, ClaimsSlots, IsClaimedOnce}
 use Rattle.cbm_volume.specs.declared.unsound.Part.{Part}
 use Rattle.cbm_volume.specs.declared.unsound.Part.TheVariants.{OfDirectory, OfFile}
-use Rattle.cbm_volume.proofs.Listing.{entries_length, nth_entry}
+use Rattle.cbm_volume.proofs.Listing.{nth_entry}
 
 -- ---- what is right with a sector that is claimed
 

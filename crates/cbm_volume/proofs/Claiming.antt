@@ -1,11 +1,11 @@
 -- Claiming sector by sector: what a sector with nothing wrong is, and that each claim leaves one less.
-use Rattle.std.proofs.Common.{◌≡◌, ◌≢◌, ℕ, zero, suc, ◌+◌, ◌<◌, ◌≤◌, List, [], ◌∷◌, Bool, true, false, Option, Some, None, Ok, refl, sym, ap, subst, ◌∙◌, arith, inl, inr}
-use Rattle.std.specs.Prelude.{◌==◌, ◌&&◌, not, nat_lt, if◌then◌else◌, is_some}
+use Rattle.std.proofs.Common.{◌≡◌, ◌≢◌, ℕ, suc, ◌<◌, List, ◌∷◌, Bool, true, false, Some, None, Ok, refl, sym, ap, subst, ◌∙◌, arith, inl, inr}
+use Rattle.std.specs.Prelude.{◌==◌, ◌&&◌, not, if◌then◌else◌, is_some}
 use Rattle.cbm_medium.specs.Place.{Place, Has, has, sectors_on}
 use Rattle.cbm_medium.specs.Content.{Cell, Content}
 use Rattle.cbm_medium.specs.Links.{bytes_at, or_nothing, link}
 use Rattle.cbm_medium.proofs.Places.{place_decide}
-use Rattle.cbm_bam.specs.Map.{map_of, is_free_in, with_bit, tally, number, at}
+use Rattle.cbm_bam.specs.Map.{map_of, is_free_in, with_bit, tally, at}
 use Rattle.cbm_bam.proofs.Counts.{bit_there, bit_elsewhere, tally_less, tally_same, number_less, number_same}
 use Rattle.cbm_volume.specs.declared.unsound.Part.{Part}
 use Rattle.cbm_volume.specs.declared.unsound.Part.TheVariants.{OfDirectory, OfFile}

@@ -1,21 +1,21 @@
 -- A disk is sound with owners exactly where it is so by the list of the sectors that it uses.
-use Rattle.std.proofs.Common.{◌≡◌, ◌≢◌, ◌⊎◌, ℕ, zero, suc, ◌+◌, ◌*◌, ◌<◌, ◌≤◌, List, [], ◌∷◌, ◌++◌, length, Bool, true, false, Option, Some, None, Ok, Err, refl, sym, ap, ◌∙◌, subst, arith, inl, inr}
-use Rattle.std.specs.Prelude.{slice_get, if◌then◌else◌, ◌==◌, ◌%◌, ◌&&◌, not, IsOk}
-use Rattle.cbm_medium.specs.Place.{Place, Has, has, directory_head, sectors_on}
+use Rattle.std.proofs.Common.{◌≡◌, ◌≢◌, ℕ, zero, suc, ◌+◌, ◌<◌, ◌≤◌, List, [], ◌∷◌, ◌++◌, length, Bool, true, false, Some, refl, sym, ap, ◌∙◌, subst, arith, inl, inr}
+use Rattle.std.specs.Prelude.{slice_get, ◌==◌, ◌%◌}
+use Rattle.cbm_medium.specs.Place.{Place, Has, has, directory_head}
 use Rattle.cbm_medium.specs.Content.{Content}
 use Rattle.cbm_medium.specs.Links.{Chain, bytes_at, link, IsApart}
 use Rattle.cbm_medium.proofs.Walks.{has_true, bool_cases}
 use Rattle.cbm_medium.proofs.Places.{places_apart}
 use Rattle.std.proofs.lemmas.Bool.{eq-eqb, eqb-true}
-use Rattle.cbm_bam.specs.Map.{map_of, is_free_in, with_bit}
+use Rattle.cbm_bam.specs.Map.{with_bit}
 use Rattle.cbm_relfile.specs.SideSectors.{Numbered}
 use Rattle.cbm_directory.specs.Entries.{type_byte, is_closed, is_relative, first_block, first_directory, entry_at, width_of}
 use Rattle.cbm_directory.specs.Slots.{all_entries}
-use Rattle.cbm_volume.specs.Blocks.{Blocks, no_blocks, Lies, LiesAs, HasRecords}
+use Rattle.cbm_volume.specs.Blocks.{Blocks, Lies, LiesAs}
 use Rattle.cbm_volume.specs.Layouts.{Owner, Nobody, TheMap, Directory, DataOf, SideOf, Layout, OwnedBy, Sound, slot_count}
-use Rattle.cbm_volume.specs.Unsound.{is_inside, reads, ClaimsChain, ClaimsEach}
+use Rattle.cbm_volume.specs.Unsound.{is_inside, ClaimsChain, ClaimsEach}
 use Rattle.cbm_volume.proofs.Claimed.{head_claimed, ClaimsAs, ClaimsSlots, IsClaimedOnce}
-use Rattle.cbm_volume.specs.Plain.{blocks_in, claimed_sectors, IsDistinct, AreTaken, AreOn18, AreOff18, FilesLie, IsPlainlySound}
+use Rattle.cbm_volume.specs.Plain.{blocks_in, IsDistinct, AreTaken, AreOn18, AreOff18, FilesLie, IsPlainlySound}
 use Rattle.cbm_volume.specs.declared.unsound.Part.{Part}
 use Rattle.cbm_volume.specs.declared.unsound.Part.TheVariants.{OfDirectory, OfFile}
 use Rattle.cbm_volume.proofs.Listing.{entries_length, nth_entry}

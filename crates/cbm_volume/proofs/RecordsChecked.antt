@@ -1,18 +1,18 @@
 -- The test of a relative file's records says what the definition of a sound disk asks of them.
-use Rattle.std.proofs.Common.{◌≡◌, ◌≢◌, ◌⊎◌, ℕ, zero, suc, ◌+◌, ◌*◌, ◌<◌, ◌≤◌, List, [], ◌∷◌, ◌++◌, length, drop, get_or, Bool, true, false, Option, Some, None, Ok, Err, refl, sym, ap, ◌∙◌, subst, arith, inl, inr}
-use Rattle.std.specs.Prelude.{if◌then◌else◌, ◌==◌, ◌&&◌, not, nat_lt, is_some, slice_index, IsOk}
+use Rattle.std.proofs.Common.{◌≡◌, ◌≢◌, ℕ, ◌+◌, ◌<◌, ◌≤◌, List, [], ◌∷◌, ◌++◌, length, drop, get_or, Bool, true, false, Option, Some, None, Ok, Err, refl, sym, ap, ◌∙◌, subst, arith}
+use Rattle.std.specs.Prelude.{if◌then◌else◌, ◌==◌, ◌&&◌, not, is_some, slice_index, IsOk}
 use Rattle.std.proofs.lemmas.Bool.{eq-eqb, eqb-true, ne_eqb, ltb-true, lt-ltb}
 use Rattle.std.proofs.lemmas.List.{append_assoc, get_or-drop}
 use Rattle.cbm_medium.specs.Place.{Place, Has, has, is_place}
 use Rattle.cbm_medium.specs.Content.{Cell, Content}
 use Rattle.cbm_medium.specs.Links.{Chain, bytes_at, link, place_in}
-use Rattle.cbm_medium.proofs.Walks.{has_true, true_has, bool_cases}
+use Rattle.cbm_medium.proofs.Walks.{has_true, true_has}
 use Rattle.cbm_medium.proofs.Places.{same_place, place_is_itself}
 use Rattle.cbm_bam.specs.Map.{with_bit}
 use Rattle.cbm_relfile.specs.SideSectors.{named_in, sides_listed, blocks_listed, Numbered}
 use Rattle.cbm_directory.specs.Entries.{first_block, first_side, width_of}
 use Rattle.cbm_volume.specs.Blocks.{Blocks, HasRecords}
-use Rattle.cbm_volume.specs.Unsound.{reads, ClaimsEach, behind_first, sides_from, step_along, along, listed_at, listed_blocks, side_along, side_at, sides_along, all_along, are_records_in, are_records}
+use Rattle.cbm_volume.specs.Unsound.{reads, ClaimsEach, behind_first, sides_from, step_along, along, listed_at, listed_blocks, side_along, side_at, sides_along, all_along, are_records}
 use Rattle.cbm_volume.specs.declared.unsound.Part.TheVariants.{OfFile}
 use Rattle.cbm_volume.proofs.ClaimedSound.{is_right, inside_has}
 use Rattle.cbm_volume.proofs.SidesListed.{named_some}

@@ -1,5 +1,5 @@
 -- The places that a side sector names, one by one.
-use Rattle.std.proofs.Common.{◌≡◌, ◌≢◌, ℕ, suc, ◌+◌, ◌-◌, ◌*◌, ◌<◌, ◌≤◌, List, [], ◌∷◌, get_or, drop, Bool, true, false, Option, Some, None, Ok, Err, refl, sym, ap, subst, ◌∙◌, arith, inl, inr}
+use Rattle.std.proofs.Common.{◌≡◌, ◌≢◌, ℕ, suc, ◌+◌, ◌-◌, ◌*◌, ◌<◌, ◌≤◌, List, [], ◌∷◌, get_or, drop, Bool, true, false, Option, Some, None, Err, refl, sym, ap, subst, ◌∙◌, arith, inl, inr}
 use Rattle.std.specs.Prelude.{if◌then◌else◌, ◌&&◌, ◌==◌}
 use Rattle.std.proofs.lemmas.List.{get_or-drop, drop-drop}
 use Rattle.std.proofs.lemmas.Bool.{eq-eqb, ne_eqb}
@@ -8,7 +8,7 @@ use Rattle.cbm_medium.specs.Content.{Content}
 use Rattle.cbm_medium.specs.Links.{bytes_at, or_nothing, place_in}
 use Rattle.cbm_relfile.specs.SideSectors.{named_in}
 use Rattle.cbm_bam.specs.Map.{with_bit}
-use Rattle.cbm_volume.specs.Unsound.{wrong_at, fault_at, ClaimsEach, MeetsAmong, behind_first, step_along, along, listed_at, listed_blocks, side_along, side_at, sides_along}
+use Rattle.cbm_volume.specs.Unsound.{wrong_at, fault_at, ClaimsEach, MeetsAmong, step_along, along, listed_at, listed_blocks, side_along, side_at, sides_along}
 use Rattle.cbm_volume.specs.declared.unsound.Part.{Part}
 use Rattle.cbm_volume.specs.declared.unsound.Unsound.{Unsound}
 

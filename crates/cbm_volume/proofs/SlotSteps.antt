@@ -1,7 +1,7 @@
 -- The slots of a directory, entry by entry and sector by sector.
 use Rattle.std.proofs.Common.{◌≡◌, ◌≢◌, ℕ, suc, ◌+◌, ◌-◌, ◌<◌, ◌≤◌, List, [], ◌∷◌, Bool, true, Some, None, Ok, refl, sym, ap, subst, ◌∙◌, arith, inl, inr}
 use Rattle.cbm_medium.specs.Place.{Place}
-use Rattle.cbm_medium.specs.Content.{Cell, Content}
+use Rattle.cbm_medium.specs.Content.{Content}
 use Rattle.cbm_medium.specs.Links.{bytes_at, or_nothing, link}
 use Rattle.cbm_bam.specs.Map.{with_bit}
 use Rattle.cbm_directory.specs.Entries.{entry_of}

@@ -1,7 +1,7 @@
 -- On a sound disk each sector is claimed once: what is claimed has an owner that came before.
-use Rattle.std.proofs.Common.{◌≡◌, ◌≢◌, ◌⊎◌, ℕ, zero, suc, ◌+◌, ◌*◌, ◌<◌, ◌≤◌, List, [], ◌∷◌, length, Bool, true, false, Option, Some, None, Ok, Err, refl, sym, ap, ◌∙◌, subst, arith, inl, inr}
-use Rattle.std.specs.Prelude.{slice_get, slice_index, if◌then◌else◌, ◌==◌, ◌%◌, ◌&&◌, not, IsOk}
-use Rattle.cbm_medium.specs.Place.{Place, Has, has, is_place, directory_head, sectors_on}
+use Rattle.std.proofs.Common.{◌≡◌, ◌≢◌, ◌⊎◌, ℕ, zero, suc, ◌+◌, ◌<◌, ◌≤◌, List, [], ◌∷◌, length, Bool, true, false, Some, None, Ok, Err, refl, sym, ap, ◌∙◌, subst, arith, inl, inr}
+use Rattle.std.specs.Prelude.{slice_get, slice_index, if◌then◌else◌, ◌==◌, ◌%◌, IsOk}
+use Rattle.cbm_medium.specs.Place.{Place, Has, has, is_place, directory_head}
 use Rattle.cbm_medium.specs.Content.{Cell, Content}
 use Rattle.cbm_medium.specs.Links.{Chain, bytes_at, link, IsApart}
 use Rattle.cbm_medium.proofs.Walks.{has_true, bool_cases}
@@ -11,11 +11,11 @@ use Rattle.cbm_bam.specs.Map.{map_of, is_free_in, with_bit}
 use Rattle.cbm_relfile.specs.SideSectors.{Numbered}
 use Rattle.cbm_directory.specs.Entries.{type_byte, is_closed, is_relative, first_block, first_directory, entry_at, width_of}
 use Rattle.cbm_directory.specs.Slots.{all_entries}
-use Rattle.cbm_volume.specs.Blocks.{Blocks, no_blocks, LiesAs, HasRecords}
+use Rattle.cbm_volume.specs.Blocks.{Blocks, LiesAs}
 use Rattle.cbm_volume.specs.Layouts.{Owner, Nobody, TheMap, Directory, DataOf, SideOf, Layout, OwnedBy, Sound, slot_count}
-use Rattle.cbm_volume.specs.Unsound.{wrong_at, is_inside, outside_number, reads, ClaimsChain, ClaimsEach, IsMapRight}
+use Rattle.cbm_volume.specs.Unsound.{wrong_at, is_inside, reads, ClaimsChain, ClaimsEach}
 use Rattle.cbm_volume.specs.Plain.{IsDistinct}
-use Rattle.cbm_volume.proofs.Claimed.{head_claimed, ClaimsAs, ClaimsSlot, ClaimsSlots, IsClaimedOnce}
+use Rattle.cbm_volume.proofs.Claimed.{head_claimed, ClaimsAs, ClaimsSlots, IsClaimedOnce}
 use Rattle.cbm_volume.specs.declared.unsound.Part.{Part}
 use Rattle.cbm_volume.specs.declared.unsound.Part.TheVariants.{OfDirectory, OfFile}
 use Rattle.cbm_volume.proofs.Chained.{chain_distinct}

@@ -271,6 +271,14 @@ pub record SlotFault (tracks : ℕ) (content : Content) (u : Unsound) : Type 0 w
   pub again : List Place
   pub fault : SlotsFault tracks content only_head between first_directory again u
 
--- THE DISK HAS THIS FAULT, of the first thing that is wrong with it
+-- no sector of the disk has a fault of its header
+abbrev pub AllWritable : ℕ → Content → Type 0
+AllWritable tracks content = (p : Place) → Has tracks p → IsWritable (content p)
+
+-- THE DISK HAS THIS FAULT, and what the check looks at before has none: the headers, then the map, the directory, the slots
 abbrev pub DiskFault : ℕ → Content → Unsound → Type 0
-DiskFault tracks content u = HeaderFault tracks content u ⊎ (IsMapFault tracks content u ⊎ (DirectoryFault tracks content u ⊎ SlotFault tracks content u))
+DiskFault tracks content u =
+    HeaderFault tracks content u
+    ⊎ ((AllWritable tracks content × IsMapFault tracks content u)
+    ⊎ ((AllWritable tracks content × IsMapRight tracks content × DirectoryFault tracks content u)
+    ⊎ (AllWritable tracks content × IsMapRight tracks content × SlotFault tracks content u)))

@@ -1,8 +1,7 @@
-use Rattle.std.proofs.Common.{rules, ◌≡◌, ◌∷◌, [], List, ℕ, ap, sym, refl, suc, arith, ◌∙◌, Bool, true}
-use Rattle.cbm_medium.specs.Place.{Place}
+use Rattle.std.proofs.Common.{rules, ◌≡◌, ◌∷◌, [], ap, refl, suc, arith, true}
 use Rattle.cbm_bam.specs.Map.{with_bit}
 use Rattle.cbm_volume.specs.Marks.{is_marked}
-use Rattle.cbm_volume.specs.Unsound.{ClaimsChain, MeetsFault, unclaimed}
+use Rattle.cbm_volume.specs.Unsound.{unclaimed}
 use Rattle.cbm_volume.proofs.Claiming.{is_right, unclaimed_less, claims_step, meets_step, link_read}
 use Rattle.cbm_volume.proofs.claims.claim_chain.Goals as goal
 

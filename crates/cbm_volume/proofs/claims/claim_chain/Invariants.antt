@@ -1,4 +1,4 @@
-use Rattle.std.proofs.Common.{◌≡◌, List, ℕ, Bool}
+use Rattle.std.proofs.Common.{List, Bool}
 use Rattle.cbm_medium.specs.Place.{Place}
 use Rattle.cbm_volume.specs.Marks.{is_marked}
 use Rattle.cbm_volume.specs.Unsound.{ClaimsChain, MeetsFault, unclaimed}

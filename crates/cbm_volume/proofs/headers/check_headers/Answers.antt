@@ -1,4 +1,4 @@
-use Rattle.std.proofs.Common.{rules, ◌≡◌, ◌≤◌, ℕ, arith}
+use Rattle.std.proofs.Common.{rules, ◌≡◌, ◌≤◌, arith}
 use Rattle.cbm_medium.specs.Place.{Place}
 use Rattle.cbm_bam.specs.Map.{at}
 use Rattle.cbm_volume.specs.Unsound.{IsFirstBad, fault_at}

@@ -1,4 +1,4 @@
-use Rattle.std.proofs.Common.{ℕ, ◌<◌}
+use Rattle.std.proofs.Common.{◌<◌}
 use Rattle.cbm_medium.specs.Place.{Place, Has}
 use Rattle.cbm_volume.specs.Layouts.{IsWritable}
 use Rattle.cbm_volume.proofs.headers.check_headers.Given as goal

@@ -1,4 +1,4 @@
-use Rattle.std.proofs.Common.{◌≡◌, ◌+◌, ◌∷◌, List, [], ℕ, refl, sym, ap, ◌∙◌, arith, None}
+use Rattle.std.proofs.Common.{◌+◌, List, refl, sym, ap, ◌∙◌}
 use Rattle.cbm_medium.specs.Place.{Place}
 use Rattle.cbm_volume.specs.Unsound.{along, listed_at}
 use Rattle.cbm_volume.proofs.SidesListed.{listed_none, listed_some, listed_end, along_some, along_none}

@@ -1,4 +1,4 @@
-use Rattle.std.proofs.Common.{◌≡◌, ◌+◌, ◌-◌, ◌*◌, ◌∷◌, List, [], ℕ, drop, refl, sym, ap, ◌∙◌, arith, None}
+use Rattle.std.proofs.Common.{◌+◌, ◌-◌, ◌*◌, List, drop, refl, sym, ap, ◌∙◌}
 use Rattle.cbm_medium.specs.Place.{Place}
 use Rattle.cbm_relfile.specs.SideSectors.{named_in}
 use Rattle.cbm_volume.specs.Unsound.{sides_along}

@@ -1,8 +1,8 @@
-use Rattle.std.proofs.Common.{rules, ◌≡◌, ◌+◌, ◌-◌, ◌*◌, ◌∷◌, List, [], ℕ, drop, refl, sym, ap, subst, ◌∙◌, arith, Bool}
+use Rattle.std.proofs.Common.{rules, ◌≡◌, ◌+◌, ◌-◌, ◌*◌, List, [], ℕ, drop, refl, sym, ap, subst, ◌∙◌, arith}
 use Rattle.cbm_medium.specs.Place.{Place}
 use Rattle.cbm_relfile.specs.SideSectors.{named_in}
 use Rattle.cbm_volume.specs.Marks.{is_marked}
-use Rattle.cbm_volume.specs.Unsound.{ClaimsEach, MeetsAmong, behind_first}
+use Rattle.cbm_volume.specs.Unsound.{ClaimsEach}
 use Rattle.cbm_volume.specs.declared.unsound.Part.TheVariants.{OfFile}
 use Rattle.cbm_volume.proofs.SidesListed.{sides_none, sides_some, each_step, among_step, among_here}
 use Rattle.cbm_volume.proofs.side_check.claim_listed.Goals as goal

@@ -1,4 +1,4 @@
-use Rattle.std.proofs.Common.{◌≡◌, ◌+◌, ◌-◌, ◌*◌, List, ℕ, Bool, drop}
+use Rattle.std.proofs.Common.{◌+◌, ◌-◌, ◌*◌, Bool, drop}
 use Rattle.cbm_medium.specs.Place.{Place}
 use Rattle.cbm_relfile.specs.SideSectors.{named_in}
 use Rattle.cbm_volume.specs.Marks.{is_marked}

@@ -1,7 +1,6 @@
-use Rattle.std.proofs.Common.{rules, ◌≡◌, ◌+◌, ◌∷◌, [], List, ℕ, refl, sym, ap, subst, arith, Bool}
-use Rattle.cbm_medium.specs.Place.{Place}
+use Rattle.std.proofs.Common.{rules, ◌+◌, List, ℕ, refl, sym, subst}
 use Rattle.cbm_volume.specs.Marks.{is_marked}
-use Rattle.cbm_volume.specs.Unsound.{ClaimsEntries, EntriesFault, entries_behind, entries_in}
+use Rattle.cbm_volume.specs.Unsound.{ClaimsEntries, entries_behind}
 use Rattle.cbm_volume.proofs.SlotSteps.{entries_next, entries_end, entries_step, fault_step, fault_here}
 use Rattle.cbm_volume.proofs.slot_check.check_entries.Goals as goal
 

@@ -1,4 +1,4 @@
-use Rattle.std.proofs.Common.{◌≡◌, ℕ, Bool}
+use Rattle.std.proofs.Common.{Bool}
 use Rattle.cbm_medium.specs.Place.{Place}
 use Rattle.cbm_volume.specs.Marks.{is_marked}
 use Rattle.cbm_volume.specs.Unsound.{ClaimsEntries, EntriesFault, entries_behind, entries_in}

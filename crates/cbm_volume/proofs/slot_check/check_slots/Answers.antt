@@ -1,8 +1,7 @@
-use Rattle.std.proofs.Common.{rules, ◌≡◌, ◌∷◌, [], List, ℕ, ap, sym, refl, suc, arith, ◌∙◌, Bool, true}
-use Rattle.cbm_medium.specs.Place.{Place}
+use Rattle.std.proofs.Common.{rules, ◌≡◌, ◌∷◌, [], ap, refl, suc, arith, true}
 use Rattle.cbm_bam.specs.Map.{with_bit}
 use Rattle.cbm_volume.specs.Marks.{is_marked}
-use Rattle.cbm_volume.specs.Unsound.{ClaimsSlots, SlotsFault, unclaimed}
+use Rattle.cbm_volume.specs.Unsound.{unclaimed}
 use Rattle.cbm_volume.specs.declared.unsound.Part.TheVariants.{OfDirectory}
 use Rattle.cbm_volume.proofs.Claiming.{is_right, unclaimed_less}
 use Rattle.cbm_volume.proofs.SlotSteps.{slots_step, slots_fault, slots_wrong, slots_entry}

@@ -1,4 +1,4 @@
-use Rattle.std.proofs.Common.{◌≡◌, ap, sym, ◌∙◌, get_or, set, ℕ, ◌*◌, ◌^◌, ◌%◌, List, true}
+use Rattle.std.proofs.Common.{ap, ◌∙◌, get_or, set, ℕ, ◌*◌, ◌^◌, ◌%◌, List, true}
 use Rattle.std.specs.Prelude.{bit_or}
 use Rattle.cbm_bam.specs.Map.{with_bit}
 use Rattle.cbm_volume.specs.Marks.{is_marked, with_mark}

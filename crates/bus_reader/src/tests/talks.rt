@@ -1,8 +1,8 @@
 //! A drive that talks in a reading: the turnaround, and the frames of its bytes.
 
-use crate::bits::owed_change;
-use crate::phase::Phase;
-use crate::reading::*;
+use crate::tests::bits::owed_change;
+use crate::tests::phase::Phase;
+use crate::tests::reading::*;
 use Line::*;
 use Way::*;
 use cbm_iec::*;

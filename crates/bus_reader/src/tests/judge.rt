@@ -1,6 +1,6 @@
 //! The judge of a trace: whether it begins a session, whether the host keeps the timing, and whether a drive is late.
 
-use crate::reading::Reading;
+use crate::tests::reading::Reading;
 use cbm_iec::*;
 use std::alloc::{AllocError, Global};
 use std::mem;

@@ -1,8 +1,8 @@
 //! What an event makes of a reading: the readings that go on with it, or none.
 
-use crate::bits::owed_change;
-use crate::phase::{Frame, Phase};
-use crate::reading::*;
+use crate::tests::bits::owed_change;
+use crate::tests::phase::{Frame, Phase};
+use crate::tests::reading::*;
 use Line::*;
 use Way::*;
 use cbm_iec::*;

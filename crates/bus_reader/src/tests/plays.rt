@@ -2,7 +2,7 @@
 
 ghost use Rattle.std.specs.Prelude.{◌^◌, ◌<◌, ◌+◌, ◌≡◌};
 
-use crate::judge::Judge;
+use crate::tests::judge::Judge;
 use Line::*;
 use Way::*;
 use cbm_iec::*;

@@ -1,7 +1,7 @@
 //! A frame of the host in a reading.
 
-use crate::phase::{Frame, Phase};
-use crate::reading::*;
+use crate::tests::phase::{Frame, Phase};
+use crate::tests::reading::*;
 use Line::*;
 use Way::*;
 use cbm_iec::*;

@@ -2,10 +2,10 @@
 
 ghost use Rattle.std.specs.Prelude.{◌^◌, ◌<◌};
 
-use crate::judge::Judge;
-use crate::plays::*;
-use crate::reading::after;
-use crate::verdicts::{breaks, keeps};
+use crate::tests::judge::Judge;
+use crate::tests::plays::*;
+use crate::tests::reading::after;
+use crate::tests::verdicts::{breaks, keeps};
 use Line::*;
 use Way::*;
 use cbm_iec::*;

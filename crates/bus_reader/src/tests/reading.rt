@@ -1,7 +1,7 @@
 //! A reading of a trace: how far a session has come with it, and what each drive owes.
 
-use crate::phase::Phase;
-use crate::plays::is_low;
+use crate::tests::phase::Phase;
+use crate::tests::plays::is_low;
 use cbm_iec::*;
 use std::alloc::{AllocError, Global};
 

@@ -1,9 +1,10 @@
 //! Generated hosts, played to one to four drives, with the reader as judge.
 
-use crate::plays::*;
-use crate::reading::after;
-use crate::sessions::*;
-use crate::verdicts::*;
+use crate::tests::bounds::{BOUNDS, Bound};
+use crate::tests::plays::*;
+use crate::tests::reading::after;
+use crate::tests::sessions::*;
+use crate::tests::verdicts::*;
 use cbm_iec::*;
 use std::alloc::{AllocError, Global};
 use std::process::Abort;

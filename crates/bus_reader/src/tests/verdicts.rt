@@ -1,6 +1,6 @@
 //! What the plain reader has to say of a play.
 
-use crate::plays::Bus;
+use crate::tests::plays::Bus;
 use cbm_iec::*;
 use std::alloc::{AllocError, Global};
 use std::process::Abort;

@@ -1,0 +1,377 @@
+//! Generated sessions: the pieces with moments at and inside their bounds, and what each drive makes of them.
+//! The generator writes down the host's changes and each drive's own from the pieces, and knows nothing of ear and mouth.
+
+use crate::tests::bounds::{BOUNDS, Bound};
+use crate::tests::plays::*;
+use crate::tests::reading::{FREE, after, role_after};
+use Line::*;
+use Way::*;
+use cbm_iec::*;
+use std::alloc::{AllocError, Global};
+
+// A drive of the generated session.
+#[derive(Clone, Copy, Drop)]
+pub struct Member {
+    pub device: u8,
+    pub reaction: u64,
+    pub role: Role,
+    pub own: Held,
+}
+
+// A session as it is written down: the host's changes, the drives' events, and the acts that count, each with its moment.
+#[derive(Drop)]
+pub struct Session {
+    pub seed: u64,
+    pub members: Vec<Member>,
+    pub host: Held,
+    pub changes: Vec<Change>,
+    pub wanted: Vec<Event>,
+    pub acts: Vec<(u64, u8, Act)>,
+    pub said: usize,
+    pub pulled: u64,
+    pub released: u64,
+    pub accepted: u64,
+    pub silent: bool,
+    // The bounds in order, and which of them is to be broken, counted from 1; which one was, the moment of the change, and whether that is too late.
+    pub bounds: Vec<Bound>,
+    pub flaw: u64,
+    pub broken: Option<(Bound, u64, bool)>,
+}
+
+// The lines behind a change, and whether it changes them.
+pub fn with_own(own: Held, line: Line, low: bool) -> (Held, bool) {
+    match line {
+        Atn => (own, false),
+        Clock => (
+            Held {
+                clock_low: low,
+                ..own
+            },
+            own.clock_low != low,
+        ),
+        Data => (
+            Held {
+                data_low: low,
+                ..own
+            },
+            own.data_low != low,
+        ),
+    }
+}
+
+impl Session {
+    pub fn random(&mut self, below: u64) -> u64 {
+        self.seed = self
+            .seed
+            .wrapping_mul(6364136223846793005)
+            .wrapping_add(1442695040888963407);
+        let high = self.seed / 0x1_0000_0000;
+        if below == 0 { 0 } else { high % below }
+    }
+
+    // A moment of a range: often its first or its last.
+    pub fn pick(&mut self, first: u64, last: u64) -> u64 {
+        match self.random(5) {
+            0 | 1 => first,
+            2 | 3 => last,
+            _ => {
+                let span = last.wrapping_sub(first);
+                after(first, self.random(span))
+            }
+        }
+    }
+
+    // Whether the bound that comes now is the one to be broken.
+    pub fn is_flaw(&mut self, bound: Bound) -> Result<bool, AllocError> {
+        self.bounds.push(bound)?;
+        Ok(self.bounds.len() as u64 == self.flaw)
+    }
+
+    /// Which bound to break: one of a kind, if there is one.
+    pub fn choose(&mut self) -> u64 {
+        let kind = self.random(BOUNDS.len() as u64) as usize;
+        let count = self.bounds.len() as u64;
+        let first = self.random(count);
+        let mut chosen = after(first, 1);
+        let mut place = 0;
+        for bound in &self.bounds {
+            place = after(place, 1);
+            if BOUNDS.get(kind) == Some(bound) && (chosen <= first || place <= after(first, 1)) {
+                chosen = place;
+            }
+        }
+        chosen
+    }
+
+    // A moment that is at least the first, often that or the last. Where this bound is to be broken it is 1 too early, if it still comes behind all others.
+    pub fn from(&mut self, bound: Bound, first: u64, last: u64) -> Result<u64, AllocError> {
+        if self.is_flaw(bound)? && self.is_behind_all(first.wrapping_sub(1)) {
+            self.broken = Some((bound, first.wrapping_sub(1), false));
+            return Ok(first.wrapping_sub(1));
+        }
+        Ok(self.pick(first, last))
+    }
+
+    // A moment that is at least the first and at most the last, or 1 beside them where one of them is to be broken.
+    pub fn within(&mut self, bound: Bound, first: u64, last: u64) -> Result<u64, AllocError> {
+        let moment = self.from(bound, first, last)?;
+        if self.is_flaw(bound)? {
+            self.broken = Some((bound, after(last, 1), true));
+            return Ok(after(last, 1));
+        }
+        Ok(moment)
+    }
+
+    // The moment of a change that comes together with the last one, or 1 later.
+    pub fn together(&mut self, moment: u64) -> Result<u64, AllocError> {
+        if self.is_flaw(Bound::Together)? {
+            self.broken = Some((Bound::Together, after(moment, 1), true));
+            return Ok(after(moment, 1));
+        }
+        Ok(moment)
+    }
+
+    pub fn is_behind_all(&self, moment: u64) -> bool {
+        match self.changes.last() {
+            Some(change) => change.moment <= moment,
+            None => false,
+        }
+    }
+
+    // A change of the host, where it changes its line.
+    pub fn host(&mut self, moment: u64, line: Line, way: Way) -> Result<(), AllocError> {
+        let (held, changes) = with_own(self.host, line, is_low(way));
+        if line == Atn || changes {
+            self.changes.push(at(moment, line, way))?;
+        }
+        self.host = held;
+        Ok(())
+    }
+
+    // A change of a drive, where it changes its line.
+    pub fn drive(
+        &mut self,
+        device: u8,
+        moment: u64,
+        line: Line,
+        way: Way,
+    ) -> Result<(), AllocError> {
+        let mut changed = false;
+        for member in &mut self.members {
+            if member.device == device {
+                let (held, changes) = with_own(member.own, line, is_low(way));
+                member.own = held;
+                changed = changes;
+            }
+        }
+        if changed {
+            self.wanted.push(Event {
+                who: Who::Drive(device),
+                change: at(moment, line, way),
+            })?;
+        }
+        Ok(())
+    }
+
+    // The members, copied, since they are read while the session grows.
+    pub fn seats(&self, alloc: Global) -> Result<Vec<Member>, AllocError> {
+        let mut seats = Vec::new(alloc);
+        for member in &self.members {
+            seats.push(*member)?;
+        }
+        Ok(seats)
+    }
+
+    pub fn each(&mut self, alloc: Global, moment: u64, act: Act) -> Result<(), AllocError> {
+        let seats = self.seats(alloc)?;
+        for member in &seats {
+            self.acts.push((moment, member.device, act))?;
+        }
+        Ok(())
+    }
+
+    pub fn pull(&mut self, alloc: Global, moment: u64) -> Result<(), AllocError> {
+        self.host(moment, Atn, Pull)?;
+        let mut joined = moment;
+        if !self.host.clock_low {
+            joined = self.together(joined)?;
+            self.host(joined, Clock, Pull)?;
+        }
+        if self.host.data_low {
+            let freed = self.together(joined)?;
+            self.host(freed, Data, Free)?;
+        }
+        self.each(alloc, moment, Act::Pulled)?;
+        let seats = self.seats(alloc)?;
+        for member in &seats {
+            self.drive(member.device, after(moment, member.reaction), Clock, Free)?;
+            self.drive(member.device, after(moment, member.reaction), Data, Pull)?;
+        }
+        self.pulled = moment;
+        Ok(())
+    }
+
+    // A frame of the host, to all in attention and else to the listeners.
+    pub fn frame(
+        &mut self,
+        alloc: Global,
+        attention: bool,
+        byte: u8,
+        eoi: bool,
+        ready: u64,
+    ) -> Result<(), AllocError> {
+        let seats = self.seats(alloc)?;
+        self.host(ready, Clock, Free)?;
+        let mut slowest = 0;
+        let mut fastest = 60;
+        for member in &seats {
+            if attention || member.role == Role::Listener {
+                slowest = slowest.max(member.reaction);
+                fastest = fastest.min(member.reaction);
+            }
+        }
+        let t = after(ready, slowest);
+        let quiet = after(t, slowest.wrapping_add(260));
+        let start = if eoi {
+            self.from(Bound::StartBehindPulse, after(quiet, 1), after(quiet, 300))?
+        } else {
+            self.within(Bound::Start, after(t, 1), after(t, 199))?
+        };
+        if let Some((Bound::Start, moment, _)) = self.broken
+            && moment == start
+        {
+            // To listeners the host might still signal the end.
+            self.broken = Some((Bound::Start, moment, attention && t < moment));
+        }
+        self.host(start, Clock, Pull)?;
+        let mut last = start;
+        let mut left = byte;
+        for _ in 0..8 {
+            let low = left % 2 == 0;
+            left = left / 2;
+            let mut set = last;
+            if low != self.host.data_low {
+                set = self.pick(last, after(last, 50));
+                self.host(set, Data, if low { Pull } else { Free })?;
+            }
+            let free = self.from(Bound::Settled, after(set, 20), after(set, 90))?;
+            self.host(free, Clock, Free)?;
+            last = self.from(Bound::Shown, after(free, 20), after(free, 90))?;
+            self.host(last, Clock, Pull)?;
+        }
+        if self.host.data_low {
+            let freed = self.together(last)?;
+            self.host(freed, Data, Free)?;
+        }
+        for member in &seats {
+            let (device, r) = (member.device, member.reaction);
+            if attention || member.role == Role::Listener {
+                self.drive(device, after(ready, r), Data, Free)?;
+                if eoi {
+                    self.drive(device, after(t, r.wrapping_add(200)), Data, Pull)?;
+                    self.drive(device, after(t, r.wrapping_add(260)), Data, Free)?;
+                }
+                self.drive(device, after(last, r), Data, Pull)?;
+                self.acts.push((
+                    after(last, r),
+                    device,
+                    if attention {
+                        Act::Attention(byte)
+                    } else {
+                        Act::Heard(byte, eoi)
+                    },
+                ))?;
+            }
+        }
+        self.accepted = after(last, fastest);
+        Ok(())
+    }
+
+    pub fn command(&mut self, alloc: Global, byte: u8) -> Result<(), AllocError> {
+        let first = after(self.pulled.max(self.accepted), 100);
+        let ready = self.from(Bound::Ready, first, after(first, 60))?;
+        self.frame(alloc, true, byte, false, ready)?;
+        for member in &mut self.members {
+            member.role = role_after(member.device, byte, member.role);
+        }
+        Ok(())
+    }
+
+    pub fn any(&self, role: Role) -> Option<Member> {
+        for member in &self.members {
+            if member.role == role {
+                return Some(*member);
+            }
+        }
+        None
+    }
+
+    // From an accept to the next change of ATN.
+    pub fn gap(&self) -> u64 {
+        if self.members.len() == 1 { 20 } else { 60 }
+    }
+
+    // Drives without a role let go of DATA.
+    pub fn let_go(&mut self, alloc: Global, moment: u64) -> Result<u64, AllocError> {
+        let seats = self.seats(alloc)?;
+        let mut behind = moment;
+        for member in &seats {
+            if member.role == Role::Absent {
+                self.drive(member.device, after(moment, member.reaction), Data, Free)?;
+                behind = behind.max(after(moment, member.reaction.wrapping_add(1)));
+            }
+        }
+        Ok(behind)
+    }
+}
+
+impl Session {
+    /// A session of one to four drives, whose order of ties rises or falls; of its bounds the one with that number is broken, counted from 1.
+    pub fn new(alloc: Global, seed: u64, flaw: u64) -> Result<Session, AllocError> {
+        let mut session = Session {
+            seed,
+            members: Vec::new(alloc),
+            host: FREE,
+            changes: Vec::new(alloc),
+            wanted: Vec::new(alloc),
+            acts: Vec::new(alloc),
+            said: 0,
+            pulled: 0,
+            accepted: 0,
+            silent: false,
+            released: 0,
+            bounds: Vec::new(alloc),
+            flaw,
+            broken: None,
+        };
+        session.silent = session.random(3) == 0;
+        let count = after(session.random(4), 1);
+        let falling = session.random(2) == 0;
+        for place in 0..4u8 {
+            let reaction = match session.random(4) {
+                0 => 1,
+                1 => 20,
+                2 => 60,
+                _ => 1 + session.random(60) % 60,
+            };
+            if (place as u64) < count {
+                session.members.push(Member {
+                    device: if falling { 11 - place } else { 8 + place },
+                    reaction,
+                    role: Role::Absent,
+                    own: FREE,
+                })?;
+            }
+        }
+        Ok(session)
+    }
+
+    // The acts that count, without their moments.
+    pub fn counted(&self, alloc: Global) -> Result<Vec<(u8, Act)>, AllocError> {
+        let mut counted = Vec::new(alloc);
+        for (_, device, act) in &self.acts {
+            counted.push((*device, *act))?;
+        }
+        Ok(counted)
+    }
+}
