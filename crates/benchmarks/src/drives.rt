@@ -3,7 +3,9 @@ ghost use Rattle.std.specs.Prelude.{◌≤◌};
 use crate::disks::{failed, report};
 use cbm_channel::Dos;
 use cbm_d64::D64Disk;
+use cbm_g64::G64Disk;
 use cbm_medium::{Medium, sectors_of};
+use cbm_volume::Volume;
 use std::alloc::Global;
 use std::io;
 use std::rt::Runtime;
@@ -11,6 +13,12 @@ use std::time::Instant;
 
 /// The bytes of a D64 image.
 const IMAGE: usize = 174_848;
+
+/// Where sector 18/0 stands in an image.
+const HEAD: usize = 91_392;
+
+/// How often a disk is checked.
+const CHECKS: u32 = 100;
 
 /// A file of 664 blocks, read byte by byte through the drive's channel 0.
 pub fn files(rt: &impl Runtime, alloc: Global) -> io::Result<()> {
@@ -25,6 +33,39 @@ pub fn files(rt: &impl Runtime, alloc: Global) -> io::Result<()> {
     }
     report(rt, "Dos, a byte of a file of 664 blocks", &start, count)?;
     if count == 1_686_560 {
+        Ok(())
+    } else {
+        Err(failed())
+    }
+}
+
+/// A full disk that is checked, as a D64 and as a G64.
+pub fn checks(rt: &impl Runtime, alloc: Global) -> io::Result<()> {
+    let mut image = vec![in alloc; 1; IMAGE]?;
+    enter_big(&mut image);
+    set(&mut image, HEAD, &[0; 256]);
+    set(&mut image, HEAD.wrapping_add(72), &[17, 0xfc, 0xff, 7]);
+    let disk = D64Disk::from_bytes(alloc, image.as_slice(), false).map_err(|_| failed())?;
+    if disk.tracks() != 35 {
+        return Err(failed());
+    }
+    let file = G64Disk::from_sectors(alloc, &disk, [65, 66]).map_err(|_| failed())?;
+    check_often(rt, "Volume::check of a full D64", disk)?;
+    let circles = G64Disk::from_bytes(alloc, file.as_slice(), false).map_err(|_| failed())?;
+    check_often(rt, "Volume::check of a full G64", circles)
+}
+
+fn check_often<M: Medium + Drop>(rt: &impl Runtime, name: &str, medium: M) -> io::Result<()> {
+    let volume = Volume::open(medium);
+    let start = Instant::now(rt)?;
+    let mut sound = 0u32;
+    for _ in 0..CHECKS {
+        if volume.check().is_ok() {
+            sound = sound.wrapping_add(1);
+        }
+    }
+    report(rt, name, &start, CHECKS)?;
+    if sound == CHECKS {
         Ok(())
     } else {
         Err(failed())

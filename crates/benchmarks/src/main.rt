@@ -12,5 +12,6 @@ fn main(rt: HostRuntime) -> io::Result<()> {
     disks::images(&rt, rt.alloc())?;
     disks::chains(&rt, rt.alloc())?;
     drives::files(&rt, rt.alloc())?;
+    drives::checks(&rt, rt.alloc())?;
     circles::images(&rt, rt.alloc())
 }
