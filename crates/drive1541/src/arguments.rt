@@ -32,43 +32,44 @@ impl<'a> Arguments<'a> {
     }
 }
 
-/// Reads the command line.
-pub fn parse<'a>(alloc: Global, words: &'a [String]) -> Result<Arguments<'a>, Error> {
-    let image = Arg::new(alloc, "IMAGE")
+/// A file that the command line names.
+fn file<'a>(alloc: Global, name: &'a str, help: &'a str) -> Arg<'a> {
+    Arg::new(alloc, name)
         .required(true)
         .action(ArgAction::Set)
-        .help("the disk image");
-    let script = Arg::new(alloc, "SCRIPT")
-        .required(true)
-        .action(ArgAction::Set)
-        .help("the requests, a line each");
-    let out = Arg::new(alloc, "OUT")
-        .required(true)
-        .action(ArgAction::Set)
-        .help("where the image goes");
+        .help(help)
+}
+
+/// A word that is there or isn't.
+fn switch<'a>(alloc: Global, name: &'a str, help: &'a str) -> Arg<'a> {
+    Arg::new(alloc, name)
+        .long(name)
+        .action(ArgAction::SetTrue)
+        .help(help)
+}
+
+/// What may stand on the command line.
+fn command<'a>(alloc: Global) -> Result<Command<'a>, Error> {
     let device = Arg::new(alloc, "device")
         .long("device")
         .value_name("N")
         .value_parser(value_parser!(u8).range(8..12))
         .default_value("8")
         .help("the drive's number, 8 to 11");
-    let read_only = Arg::new(alloc, "read-only")
-        .long("read-only")
-        .action(ArgAction::SetTrue)
-        .help("protect the disk");
-    let check = Arg::new(alloc, "check")
-        .long("check")
-        .action(ArgAction::SetTrue)
-        .help("print first whether the disk is sound");
     let command = Command::new(alloc, "drive1541")
         .about("Runs a script of requests on a disk image")
-        .arg(image)?
-        .arg(script)?
-        .arg(out)?
+        .arg(file(alloc, "IMAGE", "the disk image"))?
+        .arg(file(alloc, "SCRIPT", "the requests, a line each"))?
+        .arg(file(alloc, "OUT", "where the image goes"))?
         .arg(device)?
-        .arg(read_only)?
-        .arg(check)?;
-    let matches = command.try_get_matches_from(words)?;
+        .arg(switch(alloc, "read-only", "protect the disk"))?
+        .arg(switch(alloc, "check", "print first whether the disk is sound"))?;
+    Ok(command)
+}
+
+/// Reads the command line.
+pub fn parse<'a>(alloc: Global, words: &'a [String]) -> Result<Arguments<'a>, Error> {
+    let matches = command(alloc)?.try_get_matches_from(words)?;
     Ok(Arguments {
         image: matches.get_str("IMAGE").unwrap_or(""),
         script: matches.get_str("SCRIPT").unwrap_or(""),

@@ -3,64 +3,12 @@
 
 mod arguments;
 mod failure;
+mod program;
 mod save;
 
-use arguments::Arguments;
-use cbm_program::{Options, run};
-use failure::{Failure, Place};
-use save::save;
-use std::io::{BufWriter, Write};
+use std::io;
 use std::process::ExitCode;
-use std::rt::Runtime;
-use std::{env, fs, io};
 
 fn main(rt: HostRuntime) -> io::Result<ExitCode> {
-    let Ok(words) = words_of(&rt) else {
-        eprintln!(rt; "error: a word of the command line is no text")?;
-        return Ok(ExitCode::from(1));
-    };
-    let arguments = match arguments::parse(rt.alloc(), words.as_slice()) {
-        Ok(arguments) => arguments,
-        Err(error) => {
-            error.print(&rt)?;
-            return Ok(ExitCode::from(1));
-        }
-    };
-    match carry_out(&rt, &arguments) {
-        Ok(()) => Ok(ExitCode::SUCCESS),
-        Err(failure) => {
-            failure.tell(&rt, &arguments)?;
-            Ok(ExitCode::from(failure.status()))
-        }
-    }
-}
-
-fn words_of(rt: &HostRuntime) -> io::Result<Vec<String>> {
-    let words: Vec<String> = env::args(rt)?.collect(rt.alloc())?;
-    Ok(words)
-}
-
-fn carry_out<R: Runtime + AllocGlobal>(rt: &R, arguments: &Arguments<'_>) -> Result<(), Failure> {
-    let image = fs::read(rt, arguments.image).map_err(|e| Failure::of_file(e, Place::Image))?;
-    let script = fs::open(rt, arguments.script).map_err(|e| Failure::of_file(e, Place::Script))?;
-    let saved = run_script(rt, script, image.as_slice(), arguments)?;
-    save(rt, arguments.out, saved.as_slice()).map_err(|e| Failure::of_file(e, Place::Out))
-}
-
-// What was printed before a fault is written too.
-fn run_script<R: Runtime + AllocGlobal, S: io::Read + Drop>(
-    rt: &R,
-    script: S,
-    image: &[u8],
-    arguments: &Arguments<'_>,
-) -> Result<Vec<u8>, Failure> {
-    let options = Options {
-        device: arguments.device,
-        protected: arguments.is_read_only,
-        check: arguments.is_checked,
-    };
-    let mut output = BufWriter::new(rt.alloc(), io::writer(rt)).map_err(|_| Failure::NoMemory)?;
-    let ended = run(rt.alloc(), script, &mut output, image, &options);
-    output.flush().map_err(|_| Failure::File(Place::Output))?;
-    ended.map_err(Failure::of_run)
+    program::run_program(&rt)
 }
