@@ -11,7 +11,7 @@ use std::process::Abort;
 use std::test::Fail;
 
 /// A drive whose disk is checked first.
-const CHECKED: Options = Options {
+pub const CHECKED: Options = Options {
     device: 8,
     protected: false,
     check: true,
