@@ -8,13 +8,13 @@ use std::process::Abort;
 use std::test::Fail;
 
 /// A formatted disk of 35 tracks.
-const EMPTY: usize = 174_848;
+pub const EMPTY: usize = 174_848;
 
 /// The same with an error byte for each sector.
-const WITH_ERRORS: usize = 175_531;
+pub const WITH_ERRORS: usize = 175_531;
 
 /// A formatted disk of forty tracks, if the map behind the title counts them.
-const WIDE: usize = 196_608;
+pub const WIDE: usize = 196_608;
 
 fn digit(byte: u8) -> u8 {
     match byte {
@@ -41,7 +41,7 @@ fn hexadecimal(bytes: &[u8], place: usize) -> u8 {
 
 /// Writes `TT/SS+OO=BYTES`: track and sector in decimal, the place in the sector and its bytes in hexadecimal.
 /// `TT/SS!EE` sets the sector's error byte.
-fn patch(image: &mut Vec<u8>, text: &[u8]) {
+pub fn patch(image: &mut Vec<u8>, text: &[u8]) {
     let sector = place(decimal(text, 0), decimal(text, 3));
     if text.get(5).copied() == Some(b'!') {
         put(

@@ -15,13 +15,6 @@ pub const OPEN: Options = Options {
     check: false,
 };
 
-/// The same, and its disk is checked first.
-const CHECKED: Options = Options {
-    device: 8,
-    protected: false,
-    check: true,
-};
-
 /// What a script prints on the disk of an image, and how it ends.
 fn play(alloc: Global, image: &[u8], script: &str) -> (Vec<u8>, Result<Vec<u8>, RunFault>) {
     let mut printed: Vec<u8> = Vec::new(alloc);
@@ -265,28 +258,4 @@ fn a_map_that_does_not_read(rt: HostRuntime) -> Result<(), Fail> {
         "open 0 $\nstatus\n",
         "status 00, OK,00,00\n",
     )
-}
-
-/// What a script prints on the disk of an image that is checked first.
-fn checked(alloc: Global, image: &[u8], script: &str) -> Vec<u8> {
-    let mut printed: Vec<u8> = Vec::new(alloc);
-    let _ = run(alloc, script.as_bytes(), &mut printed, image, &CHECKED);
-    printed
-}
-
-#[test]
-fn a_check_comes_before_the_script(rt: HostRuntime) -> Result<(), Fail> {
-    let alloc = rt.alloc();
-    let mut image = formatted(alloc, 174_848)?;
-    enter(&mut image, b"HELLO", 17, 0);
-    put(&mut image, place(17, 0), &[0, 4, 1, 2, 3]);
-    let printed = checked(alloc, image.as_slice(), "open 0 HELLO\nget 0 9\n");
-    assert!(rt; printed.as_slice() == b"check sound\nget 0 010203 eoi\n".as_slice());
-    put(&mut image, place(17, 0), &[17, 0]);
-    let printed = checked(alloc, image.as_slice(), "get 0 1\n");
-    assert!(rt; printed.as_slice() == b"check 3 17 0\nget 0 none\n".as_slice());
-    put(&mut image, place(17, 0), &[255, 255]);
-    let printed = checked(alloc, image.as_slice(), "");
-    assert!(rt; printed.as_slice() == b"check 4 255 255\n".as_slice());
-    Ok(())
 }
