@@ -4,6 +4,7 @@ pub mod Writers
 pub mod Holding
 pub use Rattle.cbm_file.specs.Files
 pub mod Marks
+pub mod Flaws
 pub mod Unsound
 pub mod Plain
 pub use Rattle.cbm_medium.specs.Content

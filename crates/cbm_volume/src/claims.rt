@@ -5,7 +5,7 @@ ghost use Rattle.cbm_volume.specs.Marks.{is_marked};
 ghost use Rattle.cbm_volume.specs.Unsound.{wrong_at, fault_at, ClaimsChain, MeetsFault};
 
 use crate::sector_set::SectorSet;
-use crate::unsound::{Part, Unsound};
+use crate::unsound::{Flaw, Part, Unsound};
 use cbm_bam::is_free;
 use cbm_medium::{Geometry, Link, Medium};
 
@@ -24,41 +24,24 @@ pub fn claim<M: Medium>(
     ensures read { IfOk result (λ bytes. M.content medium.now at ≡ Ok bytes) }
     ensures wrong { IfErr result (λ u. (wrong_at part geometry (M.content medium.now) (is_marked claimed.old) at ≡ Some u.number) × (u ≡ fault_at u.number at)) }
 {
-    let (track, sector) = (at.track(), at.sector());
     let outside = match part {
-        Part::OfDirectory => 6,
-        Part::OfFile => 4,
+        Part::OfDirectory => Flaw::DirectoryChain,
+        Part::OfFile => Flaw::ChainOutside,
     };
     let inside = at
         .address(geometry)
         .filter(|at| (at.track() == 18) == (part == Part::OfDirectory));
     let Some(address) = inside else {
-        return Err(Unsound {
-            number: outside,
-            track,
-            sector,
-        });
+        return Err(outside.at(at));
     };
     if claimed.has(address) {
-        return Err(Unsound {
-            number: 3,
-            track,
-            sector,
-        });
+        return Err(Flaw::SharedBlock.at(at));
     }
     let Ok(bytes) = medium.read(address) else {
-        return Err(Unsound {
-            number: 9,
-            track,
-            sector,
-        });
+        return Err(Flaw::Unreadable.at(at));
     };
     if is_free(medium, geometry, address) != Ok(false) {
-        return Err(Unsound {
-            number: 2,
-            track,
-            sector,
-        });
+        return Err(Flaw::ClaimedButFree.at(at));
     }
     claimed.insert(address);
     Ok(bytes)

@@ -8,7 +8,7 @@ use crate::claims::claim_chain;
 use crate::record_check::walk_sides;
 use crate::sector_set::SectorSet;
 use crate::side_check::{SIDES, claim_sides};
-use crate::unsound::{Part, Unsound};
+use crate::unsound::{Flaw, Part, Unsound};
 use cbm_directory::Entry;
 use cbm_medium::{Geometry, Link, Medium};
 
@@ -45,11 +45,7 @@ fn check_sides<M: Medium>(
     if has_records(medium, geometry, entry, &first) {
         return Ok(());
     }
-    Err(Unsound {
-        number: 7,
-        track: at.track(),
-        sector: at.sector(),
-    })
+    Err(Flaw::SideSectors.at(at))
 }
 
 /// Claims the sectors of an entry's file, if it is closed.
@@ -88,11 +84,7 @@ pub fn check_entry<M: Medium>(
     ensures err { IfErr result (λ u. EntryFault geometry (M.content medium.now) (is_marked claimed.old) sector entry.now u) }
 {
     if entry.kind().is_none() {
-        return Err(Unsound {
-            number: 8,
-            track: sector.track(),
-            sector: sector.sector(),
-        });
+        return Err(Flaw::UnknownType.at(sector));
     }
     check_file(medium, geometry, entry, claimed)
 }

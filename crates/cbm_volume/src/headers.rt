@@ -4,8 +4,8 @@ ghost use Rattle.cbm_bam.specs.Map.{at};
 ghost use Rattle.cbm_volume.specs.Layouts.{IsWritable};
 ghost use Rattle.cbm_volume.specs.Unsound.{is_bad_header, fault_at, IsFirstBad};
 
-use crate::unsound::Unsound;
-use cbm_medium::{Address, Geometry, Medium, is_of_header, sectors_of};
+use crate::unsound::{Flaw, Unsound};
+use cbm_medium::{Address, Geometry, Link, Medium, is_of_header, sectors_of};
 
 /// Looks at a sector's header.
 fn check_header<M: Medium>(medium: &M, at: Address) -> Result<(), Unsound>
@@ -14,11 +14,7 @@ fn check_header<M: Medium>(medium: &M, at: Address) -> Result<(), Unsound>
     ensures err { IfErr result (λ u. (is_bad_header (M.content medium.now at) ≡ true) × (u ≡ fault_at 5 at)) }
 {
     match medium.read(at) {
-        Err(fault) if is_of_header(fault.code) => Err(Unsound {
-            number: 5,
-            track: at.track(),
-            sector: at.sector(),
-        }),
+        Err(fault) if is_of_header(fault.code) => Err(Flaw::BadHeader.at(Link::from(at))),
         _ => Ok(()),
     }
 }

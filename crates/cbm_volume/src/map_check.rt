@@ -3,9 +3,9 @@ ghost use Rattle.cbm_medium.specs.Place.{directory_head};
 ghost use Rattle.cbm_bam.specs.Map.{map_of, is_free_in, at};
 ghost use Rattle.cbm_volume.specs.Unsound.{fault_at, is_counted_on, IsMapRight, IsMapFault};
 
-use crate::unsound::Unsound;
+use crate::unsound::{Flaw, Unsound};
 use cbm_bam::{is_counted, is_free};
-use cbm_medium::{Address, Geometry, Medium};
+use cbm_medium::{Address, Geometry, Link, Medium};
 
 /// Looks at a track's count.
 fn check_count<M: Medium>(medium: &M, geometry: Geometry, track: u8) -> Result<(), Unsound>
@@ -18,11 +18,7 @@ fn check_count<M: Medium>(medium: &M, geometry: Geometry, track: u8) -> Result<(
     if is_counted(medium, geometry, track) == Ok(true) {
         return Ok(());
     }
-    Err(Unsound {
-        number: 1,
-        track,
-        sector: 0,
-    })
+    Err(Flaw::MapCount.at(Link::new(track, 0)))
 }
 
 /// Looks at 18/0 itself: 9 where it doesn't read, 2 where it is free.
@@ -32,16 +28,12 @@ fn check_head<M: Medium>(medium: &M, geometry: Geometry) -> Result<(), Unsound>
     ensures taken { OnOk result (is_free_in (map_of (M.content medium.now)) directory_head ≡ false) }
     ensures err { IfErr result (IsMapFault geometry (M.content medium.now)) }
 {
-    let number = match is_free(medium, geometry, Address::of_map()) {
+    let flaw = match is_free(medium, geometry, Address::of_map()) {
         Ok(false) => return Ok(()),
-        Ok(true) => 2,
-        Err(_) => 9,
+        Ok(true) => Flaw::ClaimedButFree,
+        Err(_) => Flaw::Unreadable,
     };
-    Err(Unsound {
-        number,
-        track: 18,
-        sector: 0,
-    })
+    Err(flaw.at(Link::from(Address::of_map())))
 }
 
 /// Looks at the map: at 18/0 itself, then at the counts of its tracks in order, 1 at the first that is wrong.
