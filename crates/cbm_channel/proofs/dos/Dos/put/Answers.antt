@@ -1,7 +1,11 @@
-use Rattle.std.proofs.Common.{arith}
+use Rattle.std.proofs.Common.{ap, arith}
 use Rattle.cbm_channel.proofs.Idle.{below_15, put_idle}
 use Rattle.cbm_channel.proofs.Stands.{idle_at, moved}
+use Rattle.cbm_channel.specs.Calls.{put}
 use Rattle.cbm_channel.proofs.dos.Dos.put.Goals as goal
+
+pub returns-then-channel-eq15-clause-leads : goal.returns-then-channel-eq15-clause-leads
+returns-then-channel-eq15-clause-leads g c = λ m s. moved _ _ _ _ _ _ _ _ (ap (λ x. put x c.args.byte m) c.if-channel-eq15.true) (c.gather.ensures.leads m s)
 
 pub returns-else-channel-eq15-clause-leads : goal.returns-else-channel-eq15-clause-leads
 returns-else-channel-eq15-clause-leads g c = λ m s.
