@@ -68,7 +68,9 @@ printf old > small.d64
 case_of "a limit on the file's size" 3 "file fault: small.d64" sh -c "trap '' XFSZ; ulimit -f 100; exec $drive hello.d64 hello.script small.d64"
 is "what OUT was stays" test "$(cat small.d64)" = old
 is "and nothing is left beside" test ! -e small.d64.0.new
-case_of "a limit on memory" 3 "no memory" sh -c "ulimit -v 3300; exec $drive hello.d64 hello.script none.d64"
+# The image alone is more than the limit, so that it is no page of the stack that isn't there: that would end any program.
+truncate -s 64M big.d64
+case_of "a limit on memory" 3 "no memory" sh -c "ulimit -v 20000; exec $drive big.d64 hello.script none.d64"
 is "each line is seen at once" sh -c "(printf 'status\n'; sleep 1; cmp -s seen.txt - <<X || touch late
 status 73,CBM DOS V2.6 1541,00,00
 X
