@@ -30,7 +30,7 @@ at_100 [] f m h l = tt
 at_100 (s ∷ ss) f m h l = let k = bounds s ss h in all_accepted (s ∷ ss) f m h (omega (arith, k.0, l))
 
 -- the listeners among the drives
-listen_react : (seats : List Seat) → SeatsReact seats → SeatsReact (listeners seats)
+pub listen_react : (seats : List Seat) → SeatsReact seats → SeatsReact (listeners seats)
 listen_react [] h = tt
 listen_react (s ∷ ss) h = elim (is_listener s.role) as (λ v. SeatsReact (if v then s ∷ listeners ss else listeners ss)) [ true ↦ (h.0, h.1, listen_react ss h.2) | false ↦ listen_react ss h.2 ]
 

@@ -157,7 +157,7 @@ cells_order held pull (c ∷ cs) tail h o n =
     go true false set free next s b r = let y = late free (omega (arith, b)) in let z = late c.pull (omega arith) in ((omega (arith, b), y), (z, r))
     go false true set free next s b r = let y = late free (omega (arith, b)) in let z = late c.pull (omega arith) in ((omega (arith, b), y), (z, r))
 
-sending_order : (hs : List Seat) (eoi : Bool) (f : Sent) → SentFits hs eoi f → f.ready ≤ f.start → InOrder (sending f)
+pub sending_order : (hs : List Seat) (eoi : Bool) (f : Sent) → SentFits hs eoi f → f.ready ≤ f.start → InOrder (sending f)
 sending_order hs eoi f h l = (
   (l, none_more f.ready (cells_steps false f.cells) tail (cells_none f.ready false f.start f.cells h.cells l) (tail_late f.ready (omega (arith, l, far)))),
   (none_more f.start (cells_steps false f.cells) tail (cells_none f.start false f.start f.cells h.cells (omega arith)) (tail_late f.start far), cells_order false f.start f.cells tail h.cells (tail_order (held_after false f.cells)) tail_late),

@@ -21,7 +21,7 @@ abbrev pub AllUpTo : ℕ → List Step → Type 0
 AllUpTo m [] = Unit {0}
 AllUpTo m (s ∷ ss) = (moment_of s ≤ m) × AllUpTo m ss
 
-upto_append : (m : ℕ) (xs ys : List Step) → AllUpTo m xs → AllUpTo m ys → AllUpTo m (xs ++ ys)
+pub upto_append : (m : ℕ) (xs ys : List Step) → AllUpTo m xs → AllUpTo m ys → AllUpTo m (xs ++ ys)
 upto_append m [] ys a b = b
 upto_append m (x ∷ xs) ys a b = (a.0, upto_append m xs ys a.1 b)
 
@@ -40,7 +40,7 @@ cell_upto m false false set free pull a b c = (a, (b, (c, tt)))
 cell_upto m true false set free pull a b c = (b, (c, tt))
 cell_upto m false true set free pull a b c = (b, (c, tt))
 
-cells_upto : (m : ℕ) (held : Bool) (pull : ℕ) (cs : List Cell) → CellsFit held pull cs → last_pull pull cs ≤ m → AllUpTo m (cells_steps held cs)
+pub cells_upto : (m : ℕ) (held : Bool) (pull : ℕ) (cs : List Cell) → CellsFit held pull cs → last_pull pull cs ≤ m → AllUpTo m (cells_steps held cs)
 cells_upto m held pull [] h l = tt
 cells_upto m held pull (c ∷ cs) h l =
     let k = last_after (not c.bit) c.pull cs h.1 in

@@ -1,11 +1,16 @@
 -- Laws of the definitions: what must hold of them if they say what they mean.
-use Rattle.std.specs.Prelude.{◌≡◌, ℕ, ◌+◌, ◌≤◌, ◌<◌, ◌⊎◌, Bool, true, List, [], ◌∷◌}
-use Rattle.cbm_iec.specs.Frames.{Sent, wire, end_of, pulse_from, pulse_to, SentFits}
-use Rattle.cbm_iec.specs.Pieces.{Whole, Point, Fits, whole_point, PullPiece, Command, Byte, ToListener, ToNobody, ToTalker, Nothing, Talk}
-use Rattle.cbm_iec.specs.Seats.{Seat, reaction, listeners, slowest, fastest}
+use Rattle.std.specs.Prelude.{◌≡◌, ℕ, ◌+◌, ◌≤◌, ◌<◌, ◌⊎◌, Bool, true, false, List, [], ◌∷◌, ◌++◌, map}
+use Rattle.cbm_iec.specs.Bits.{where_held, cells_steps, held_after, byte_of}
+use Rattle.cbm_iec.specs.Frames.{Sent, wire, end_of, pulse_from, pulse_to, pulse, SentFits}
+use Rattle.cbm_iec.specs.Pieces.{Whole, Point, steps_of, Fits, whole_point, PullPiece, Command, Byte, ToListener, ToNobody, ToTalker, Nothing, Talk}
+use Rattle.cbm_iec.specs.Seats.{Seat, device, reaction, listeners, slowest, fastest}
 use Rattle.cbm_iec.specs.Sessions.{Begins, IsBus}
+use Rattle.cbm_iec.specs.Steps.{Step, host, drive, for_one, merge_all}
+use Rattle.cbm_iec.specs.declared.act.Act.TheVariants.{Attention, Heard}
 use Rattle.cbm_iec.specs.declared.act.Act.{Act}
 use Rattle.cbm_iec.specs.declared.event.Event.{Event}
+use Rattle.cbm_iec.specs.declared.line.Line.TheVariants.{Clock, Data}
+use Rattle.cbm_iec.specs.declared.line.Way.TheVariants.{Pull, Free}
 use Rattle.cbm_iec.specs.declared.party.Party.{Party}
 
 abbrev pub SeatsReact : List Seat → Type 0
@@ -53,6 +58,30 @@ ListenersAccepted = (p : Point) (eoi : Bool) (f : Sent) (next : Whole) → Seats
 
 abbrev pub DrivesAccepted : Type 0
 DrivesAccepted = (p : Point) (f : Sent) (next : Whole) → SeatsReact p.seats → Fits p (Command f) → Fits (whole_point p (Command f)) next → AllAccepted p.seats f (begin_of next)
+
+-- What the drives do one after the other in a frame of the host, each time joined by moments: all let go of DATA, all pulse, all accept;
+-- and the host's bits from the start on.
+abbrev pub releases : List Seat → Sent → List Step
+releases hs f = merge_all [] (map (λ s. drive (device s) (f.ready + reaction s) Data Free ∷ []) hs)
+
+abbrev pub pulses : List Seat → ℕ → Bool → List Step
+pulses hs t eoi = merge_all [] (map (λ s. pulse t eoi s) hs)
+
+abbrev pub from_start : Sent → List Step
+from_start f = host f.start Clock Pull ∷ (cells_steps false f.cells ++ where_held (held_after false f.cells) (host (end_of f) Data Free))
+
+abbrev pub accepts : List Seat → Sent → Act → List Step
+accepts hs f act = merge_all [] (map (λ s. for_one (device s) act (drive (device s) (end_of f + reaction s) Data Pull) ∷ []) hs)
+
+abbrev pub frame_in_parts : List Seat → Bool → Act → Sent → List Step
+frame_in_parts hs eoi act f = host f.ready Clock Free ∷ (releases hs f ++ (pulses hs (wire hs f) eoi ++ (from_start f ++ accepts hs f act)))
+
+-- A frame of the host goes so, one part whole behind the other, with any number of drives and whatever their reactions are.
+abbrev pub CommandsGoInParts : Type 0
+CommandsGoInParts = (p : Point) (f : Sent) → SeatsReact p.seats → Fits p (Command f) → steps_of p (Command f) ≡ frame_in_parts p.seats false (Attention (byte_of f.cells)) f
+
+abbrev pub BytesGoInParts : Type 0
+BytesGoInParts = (p : Point) (eoi : Bool) (f : Sent) → SeatsReact p.seats → Fits p (Byte eoi f) → steps_of p (Byte eoi f) ≡ frame_in_parts (listeners p.seats) eoi (Heard (byte_of f.cells) eoi) f
 
 -- A trace has only one reading: the acts that count in it are determined, for every bus.
 abbrev pub OneReading : Type 0

@@ -2,7 +2,7 @@
 
 ghost use Rattle.cbm_iec.specs.Joins.{JoinsItsParts, IsOnlyJoin};
 ghost use Rattle.cbm_iec.specs.Following.{FollowsPieces, FollowsFronts, FollowsSessions};
-ghost use Rattle.cbm_iec.specs.Laws.{OnePulse, PulseEnds, ListenersAccepted, DrivesAccepted, OneReading};
+ghost use Rattle.cbm_iec.specs.Laws.{OnePulse, PulseEnds, ListenersAccepted, DrivesAccepted, CommandsGoInParts, BytesGoInParts, OneReading};
 ghost use Rattle.cbm_iec.specs.Rows.{ListenOwn, ListenOther, TalkCut, TalkCutEarly, TwoListeners, Ties98, Ties89, BesideAListener, SilentBeside};
 
 /// The events of a piece are the only join of its parts.
@@ -21,6 +21,12 @@ pub fn is_one_pulse()
 pub fn has_accepted()
     ensures listeners { ListenersAccepted }
     ensures drives { DrivesAccepted }
+{}
+
+/// A frame of the host to any number of drives: CLOCK is freed, all let go of DATA, then come the pulses, the bits and the accepts.
+pub fn goes_in_parts()
+    ensures commands { CommandsGoInParts }
+    ensures bytes { BytesGoInParts }
 {}
 
 /// Sessions by numbers: their events, and what each drive was told.
