@@ -11,5 +11,6 @@ pub mod Hearing
 pub mod Speaking
 pub mod Ports
 pub mod Following
+pub mod Among
 pub mod Rows
 pub mod Laws
