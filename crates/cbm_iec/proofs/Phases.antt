@@ -74,7 +74,7 @@ none_joined l (s ∷ ss) = ap (λ (zs : List Step). merge l zs) (none_joined [] 
 abbrev pub ReactsBy : ℕ → Seat → Type 0
 ReactsBy n s = (1 ≤ reaction s) × (reaction s ≤ 60) × (reaction s ≤ n)
 
-react_by : (n : ℕ) (hs : List Seat) → SeatsReact hs → slowest hs ≤ n → Each (ReactsBy n) hs
+pub react_by : (n : ℕ) (hs : List Seat) → SeatsReact hs → slowest hs ≤ n → Each (ReactsBy n) hs
 react_by n [] h l = tt
 react_by n (s ∷ []) h l = ((h.0, h.1, l), tt)
 react_by n (s ∷ u ∷ us) h l =
@@ -100,7 +100,7 @@ freed_upto : (held : Bool) (m : ℕ) → AllUpTo m (where_held held (host m Data
 freed_upto true m = (omega arith, tt)
 freed_upto false m = tt
 
-starts : (eoi : Bool) (hs : List Seat) (f : Sent) → StartFits hs eoi f → wire hs f + 1 ≤ f.start
+pub starts : (eoi : Bool) (hs : List Seat) (f : Sent) → StartFits hs eoi f → wire hs f + 1 ≤ f.start
 starts true hs f h = let k : wire hs f + 260 + slowest hs + 1 ≤ f.start = h in omega (arith, k)
 starts false hs f h = h.0
 
