@@ -7,13 +7,13 @@ use Rattle.cbm_iec.proofs.AmongReleases.{freeing_follows}
 use Rattle.cbm_iec.proofs.Changes.{Changes, part, all_change, in_order, last_or, last_is}
 use Rattle.cbm_iec.proofs.FollowedFrames.{wires, stands, gathers, accepted_role, told_by, shifted, shifted_is}
 use Rattle.cbm_iec.proofs.Merging.{InOrder}
-use Rattle.cbm_iec.proofs.Phases.{Each, ReactsBy, react_by, starts, none_joined}
-use Rattle.cbm_iec.proofs.Showing.{Sits}
-use Rattle.cbm_iec.specs.Among.{Rest, some, FollowsAmong, ends, tells}
+use Rattle.cbm_iec.proofs.Phases.{Each, ReactsBy, react_by, starts, none_joined, commands_go_in_parts}
+use Rattle.cbm_iec.specs.Among.{Rest, some, FollowsAmong, ends, tells, Sits, FollowsCommandsAmong, held_rest, held_port}
 use Rattle.cbm_iec.specs.Bits.{where_held, Cell, cells_steps, held_after, last_pull, byte_of}
 use Rattle.cbm_iec.specs.Following.{IsLater}
 use Rattle.cbm_iec.specs.Frames.{Sent, wire, end_of, SentFits}
 use Rattle.cbm_iec.specs.Laws.{SeatsReact, releases, pulses, from_start, accepts, frame_in_parts}
+use Rattle.cbm_iec.specs.Pieces.{Point, Command, Fits, steps_of, obeying}
 use Rattle.cbm_iec.specs.Seats.{Seat, lines, device, reaction, slowest}
 use Rattle.cbm_iec.specs.Steps.{Mark, Step, host, merge_all, Plain, For}
 use Rattle.cbm_iec.specs.declared.ear.Ear.TheVariants.{Holding, Freeing, Accepting, Timed}
@@ -108,7 +108,22 @@ frame_among peek s x xs atn f r fits sits =
     (body_follows peek s.party s.role false atn f.start rel.0 f.cells accs fits.eight (subst (λ (n : ℕ). Changes Pull (λ o. For o act) (device s) (end_of f + reaction s) accs n true) same acc.2) (in_order Pull (λ o. For o act) (end_of f) x xs)) in
     let timed : goal (last_or f.ready (releases (x ∷ xs) f)) (from_start f ++ accs) = subst (λ (t : ℕ). goal t (from_start f ++ accs)) (sym (last_is Free (λ o. Plain) f.ready x xs)) body in
     let parts : frame_in_parts (x ∷ xs) false act f ≡ host f.ready Clock Free ∷ (releases (x ∷ xs) f ++ (from_start f ++ accs)) =
-    ap (λ (zs : List Step). host f.ready Clock Free ∷ (releases (x ∷ xs) f ++ (zs ++ (from_start f ++ accs)))) (none_joined [] (x ∷ xs)) in
-    (rel.0, rel.1, subst (λ (zs : List Step). FollowsAmong peek (in_hold atn rel.0) (holds peek s.party s.role false atn rel.0) zs (in_hold atn rel.0) (behind_byte peek s.party s.role false atn (byte_of f.cells) rel.0)) (sym parts)
-    (ready_follows peek s.party s.role false atn rel.0 f.ready (releases (x ∷ xs) f ++ (from_start f ++ accs)) (in_hold atn rel.0) (behind_byte peek s.party s.role false atn (byte_of f.cells) rel.0)
-    (freeing_follows peek s.party s.role (in_hold atn rel.0) (behind_byte peek s.party s.role false atn (byte_of f.cells) rel.0) (from_start f ++ accs) atn (f.ready + s.party.reaction) f.ready rel.0 (releases (x ∷ xs) f) rel.2 (in_order Free (λ o. Plain) f.ready x xs) (omega (arith, begin, slow)) timed)))
+    ap (λ (zs : List Step). host f.ready Clock Free ∷ (releases (x ∷ xs) f ++ (zs ++ (from_start f ++ accs)))) (none_joined [] (x ∷ xs)) in (
+      rel.0,
+      rel.1,
+      subst (λ (zs : List Step). FollowsAmong peek (in_hold atn rel.0) (holds peek s.party s.role false atn rel.0) zs (in_hold atn rel.0) (behind_byte peek s.party s.role false atn (byte_of f.cells) rel.0)) (sym parts)
+          (ready_follows peek s.party s.role false atn rel.0 f.ready (releases (x ∷ xs) f ++ (from_start f ++ accs)) (in_hold atn rel.0) (behind_byte peek s.party s.role false atn (byte_of f.cells) rel.0)
+          (freeing_follows peek s.party s.role (in_hold atn rel.0) (behind_byte peek s.party s.role false atn (byte_of f.cells) rel.0) (from_start f ++ accs) atn (f.ready + s.party.reaction) f.ready rel.0 (releases (x ∷ xs) f) rel.2 (in_order Free (λ o. Plain) f.ready x xs) (omega (arith, begin, slow)) timed)),
+    )
+
+in_seats : (peek : Option (ℕ × Bool)) (seats : List Seat) (s : Seat) (n : ℕ) (f : Sent) → SeatsReact seats → Sits (device s) seats s → suc n ≡ length seats → SentFits seats false f
+    → FollowsAmong peek (held_rest n) (held_port s n) (frame_in_parts seats false (told_by peek s.party s.role true (byte_of f.cells) false) f) (held_rest n) (held_port (obeying (byte_of f.cells) s) n)
+in_seats peek [] s n f r h e fits = elim h [ ]
+in_seats peek (x ∷ xs) s n f r h e fits =
+    let k = frame_among peek s x xs true f r fits h in
+    let same : k.0 ≡ n = omega (arith, k.1, e) in
+    subst (λ (m : ℕ). FollowsAmong peek (held_rest m) (held_port s m) (frame_in_parts (x ∷ xs) false (told_by peek s.party s.role true (byte_of f.cells) false) f) (held_rest m) (held_port (obeying (byte_of f.cells) s) m)) same k.2
+
+pub follows_commands : FollowsCommandsAmong
+follows_commands peek p s n f r h e fits =
+    subst (λ (zs : List Step). FollowsAmong peek (held_rest n) (held_port s n) zs (held_rest n) (held_port (obeying (byte_of f.cells) s) n)) (sym (commands_go_in_parts p f r fits)) (in_seats peek p.seats s n f r h e fits.3)

@@ -4,7 +4,7 @@ use Rattle.std.proofs.Math.Nat.{max-eq_left, max-eq_right}
 use Rattle.std.specs.Prelude.{nat_eq}
 use Rattle.std.proofs.lemmas.Bool.Decides.{leb_tells}
 use Rattle.cbm_iec.proofs.Merging.{merge_here, merge_there, NoneBefore, InOrder, none_merge, order_merge}
-use Rattle.cbm_iec.proofs.Showing.{Apart, Sits}
+use Rattle.cbm_iec.specs.Among.{Apart, Sits}
 use Rattle.cbm_iec.specs.Seats.{Seat, device, reaction, slowest}
 use Rattle.cbm_iec.specs.Steps.{Mark, Step, event_of, moment_of, merge, merge_all}
 use Rattle.cbm_iec.specs.declared.line.Line.TheVariants.{Data}

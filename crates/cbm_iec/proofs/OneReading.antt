@@ -8,7 +8,8 @@ use Rattle.cbm_iec.proofs.Merging.{merge_here, merge_there, merge_nil, InOrder, 
 use Rattle.cbm_iec.proofs.Owning.{part_owned, owned_foreign, owned_mine, host_mine, part_order}
 use Rattle.cbm_iec.proofs.PieceReadings.{AtPlace, turn_first, calm_said, next_seat, piece_goes}
 use Rattle.cbm_iec.proofs.Readings.{Calm}
-use Rattle.cbm_iec.proofs.Showing.{shows_before, Apart, Sits, shows_all}
+use Rattle.cbm_iec.proofs.Showing.{shows_before, shows_all}
+use Rattle.cbm_iec.specs.Among.{Apart, Sits}
 use Rattle.cbm_iec.proofs.Talkers.{OneTalker, KeepsDrives, KeepsRoles, sits_map, one_map, standing_drives, standing_roles, AreSeats, seats_map, one_obeys}
 use Rattle.cbm_iec.specs.Bits.{number_of, byte_of}
 use Rattle.cbm_iec.specs.Frames.{Told, is_last, signal_steps, first_bit, bit_steps, telling, taking, SignalFits, ToldFits}

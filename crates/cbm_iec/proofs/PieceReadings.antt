@@ -7,7 +7,8 @@ use Rattle.cbm_iec.proofs.Decoding.{Under, Known, known, freed_under, said_act, 
 use Rattle.cbm_iec.proofs.Merging.{merge_here, merge_there, merge_nil}
 use Rattle.cbm_iec.proofs.OneDrive.{StartsBehind, told_is, frame_is}
 use Rattle.cbm_iec.proofs.Readings.{Calm, frame_act, frame_role, mark_mine, frame_reads, sending_reads, pull_reads, told_under, told_reads, other_reads}
-use Rattle.cbm_iec.proofs.Showing.{merge_first, Sits}
+use Rattle.cbm_iec.proofs.Showing.{merge_first}
+use Rattle.cbm_iec.specs.Among.{Sits}
 use Rattle.cbm_iec.proofs.Talkers.{silent_bus, OneTalker, talker_is, other_talker, most, sits_listeners, standing_roles}
 use Rattle.cbm_iec.specs.Bits.{bits_of, byte_of}
 use Rattle.cbm_iec.specs.Frames.{Sent, Told, wire, hearing, sending, StartFits, SentFits, is_last, telling, taking, ToldFits}

@@ -4,6 +4,7 @@ use Rattle.std.specs.Prelude.{nat_eq}
 use Rattle.std.proofs.lemmas.Bool.Decides.{leb_tells}
 use Rattle.cbm_iec.proofs.Decoding.{IsMine, IsForeign, Shows}
 use Rattle.cbm_iec.proofs.Merging.{merge_here, merge_there, merge_nil, NoneBefore, InOrder, order_merge, before_yes, before_no}
+use Rattle.cbm_iec.specs.Among.{Apart, Sits}
 use Rattle.cbm_iec.specs.Joins.{NotBefore}
 use Rattle.cbm_iec.specs.Pieces.{before}
 use Rattle.cbm_iec.specs.Seats.{Seat, device}
@@ -96,15 +97,6 @@ shows_before d at (s ∷ ss) m (inr h) = elim (leb_tells (suc (moment_of s)) at)
   | inr x ↦ subst (λ (l : List Step). Shows d l (before at m)) (sym (before_no at s ss (omega (arith, x.1))))
       (subst (λ (q : List Step). Shows d (before at ss) q) (sym (ap (λ (q : List Step). before at q) h.1 ∙ before_no at s h.0 (omega (arith, x.1)))) (shows_before d at ss h.0 h.3))
 ]
-
--- other drives; and a drive's seat among the seats of a bus
-abbrev pub Apart : ℕ → List Seat → Type 0
-Apart d [] = Unit {0}
-Apart d (x ∷ xs) = (nat_eq d (device x) ≡ false) × Apart d xs
-
-abbrev pub Sits : ℕ → List Seat → Seat → Type 0
-Sits d [] s = ⊥
-Sits d (x ∷ xs) s = ((x ≡ s) × (nat_eq d (device x) ≡ true) × Apart d xs) ⊎ ((nat_eq d (device x) ≡ false) × Sits d xs s)
 
 -- the parts of the drives
 module _ (d : ℕ) (own : Seat → List Step) (mine : (x : Seat) → nat_eq d (device x) ≡ true → AllMine d (own x)) (foreign : (x : Seat) → nat_eq d (device x) ≡ false → AllForeign d (own x)) where

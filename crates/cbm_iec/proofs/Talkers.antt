@@ -4,7 +4,7 @@ use Rattle.std.specs.Prelude.{if◌then◌else◌, nat_eq, nat_le, ◌&&◌}
 use Rattle.std.proofs.Math.Nat.{le-max_left, le-max_right}
 use Rattle.std.proofs.lemmas.Bool.{eqb-true, ne_eqb, le-leb}
 use Rattle.std.proofs.Common.{eq-eqb}
-use Rattle.cbm_iec.proofs.Showing.{Apart, Sits}
+use Rattle.cbm_iec.specs.Among.{Apart, Sits}
 use Rattle.cbm_iec.specs.Pieces.{obeying, standing}
 use Rattle.cbm_iec.specs.Seats.{role_after, Seat, device, reaction, is_listener, is_talker, has_talker, talker_of, listeners, slowest}
 use Rattle.cbm_iec.specs.declared.lines.Held.{Held}

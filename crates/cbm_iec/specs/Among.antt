@@ -1,8 +1,12 @@
 -- A drive among a host and other drives: told each change of theirs with the lines that all of them hold, it makes its own changes when they are due.
-use Rattle.std.specs.Prelude.{◌≡◌, ℕ, zero, suc, Bool, true, false, List, [], ◌∷◌, ◌++◌, ◌||◌, nat_eq, Option, Some, None, if◌then◌else◌}
+use Rattle.std.specs.Prelude.{◌≡◌, ◌⊎◌, ℕ, zero, suc, Bool, true, false, List, [], ◌∷◌, ◌++◌, length, ◌||◌, nat_eq, Option, Some, None, if◌then◌else◌}
+use Rattle.cbm_iec.specs.Bits.{byte_of}
+use Rattle.cbm_iec.specs.Frames.{Sent}
 use Rattle.cbm_iec.specs.Following.{lines_after, IsInTime, IsLater, IsShown, reaction_steps}
-use Rattle.cbm_iec.specs.Pieces.{is_pull}
+use Rattle.cbm_iec.specs.Laws.{SeatsReact}
+use Rattle.cbm_iec.specs.Pieces.{Point, is_pull, steps_of, Fits, obeying, Command}
 use Rattle.cbm_iec.specs.Ports.{port_due, told, told_act, has_byte, reaction_act, reacted}
+use Rattle.cbm_iec.specs.Seats.{lines, Seat, device}
 use Rattle.cbm_iec.specs.Steps.{Mark, Step, event_of, Plain, ForEach, For}
 use Rattle.cbm_iec.specs.declared.act.Act.{Act}
 use Rattle.cbm_iec.specs.declared.event.Who.TheVariants.{Host, Drive}
@@ -11,7 +15,9 @@ use Rattle.cbm_iec.specs.declared.line.Line.{Line}
 use Rattle.cbm_iec.specs.declared.line.Way.TheVariants.{Pull, Free}
 use Rattle.cbm_iec.specs.declared.line.Way.{Way}
 use Rattle.cbm_iec.specs.declared.lines.Lines.{Lines}
+use Rattle.cbm_iec.specs.declared.ear.Ear.TheVariants.{Holding}
 use Rattle.cbm_iec.specs.declared.port.Port.{Port}
+use Rattle.cbm_iec.specs.declared.port.Side.TheVariants.{Hearing}
 
 -- what the rest of a bus holds: the host its lines, and so many of the other drives CLOCK, so many DATA
 pub record Rest : Type 0 where
@@ -60,3 +66,25 @@ pub data FollowsAmong (peek : Option (ℕ × Bool)) : Rest → Port → List Ste
       → FollowsAmong peek (behind_other line way r) (told t (wires_of (behind_other line way r)) q) ss r2 q2 → FollowsAmong peek r q (record { event = event_of (Drive o) t line way; mark = mark } ∷ ss) r2 q2
   reacts : {r r2 : Rest} {q q2 : Port} {ss : List Step} (t : ℕ) (more : List Step) → port_due q ≡ Some t → ss ≡ reaction_steps t peek q ++ more → IsShown (reaction_steps t peek q) (reaction_act (has_byte peek) q) → IsLater t more
       → FollowsAmong peek r (reacted t peek q) more r2 q2 → FollowsAmong peek r q ss r2 q2
+
+-- other drives; and a drive's seat among the seats of a bus
+abbrev pub Apart : ℕ → List Seat → Type 0
+Apart d [] = Unit {0}
+Apart d (x ∷ xs) = (nat_eq d (device x) ≡ false) × Apart d xs
+
+abbrev pub Sits : ℕ → List Seat → Seat → Type 0
+Sits d [] s = ⊥
+Sits d (x ∷ xs) s = ((x ≡ s) × (nat_eq d (device x) ≡ true) × Apart d xs) ⊎ ((nat_eq d (device x) ≡ false) × Sits d xs s)
+
+-- in attention, in hold: the host holds ATN and CLOCK, the drive and so many others DATA
+abbrev pub held_rest : ℕ → Rest
+held_rest n = record { host = record { atn_low = true; clock_low = true; data_low = false }; clocks = zero; datas = n }
+
+abbrev pub held_port : Seat → ℕ → Port
+held_port s n = record { party = s.party; role = s.role; own = lines false true; others = record { atn_low = true; clock_low = true; data_low = some n }; side = Hearing Holding }
+
+-- One of several drives follows each byte of an attention: told the host's changes and those of all others, it makes its own part, is told the byte, and stands in hold again
+-- with the role that the byte makes.
+abbrev pub FollowsCommandsAmong : Type 0
+FollowsCommandsAmong = (peek : Option (ℕ × Bool)) (p : Point) (s : Seat) (n : ℕ) (f : Sent) → SeatsReact p.seats → Sits (device s) p.seats s → suc n ≡ length p.seats → Fits p (Command f)
+    → FollowsAmong peek (held_rest n) (held_port s n) (steps_of p (Command f)) (held_rest n) (held_port (obeying (byte_of f.cells) s) n)

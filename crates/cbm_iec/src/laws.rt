@@ -1,6 +1,7 @@
 //! Laws of the definitions, each the contract of a function with nothing to do.
 
 ghost use Rattle.cbm_iec.specs.Joins.{JoinsItsParts, IsOnlyJoin};
+ghost use Rattle.cbm_iec.specs.Among.{FollowsCommandsAmong};
 ghost use Rattle.cbm_iec.specs.Following.{FollowsPieces, FollowsFronts, FollowsSessions};
 ghost use Rattle.cbm_iec.specs.Laws.{OnePulse, PulseEnds, ListenersAccepted, DrivesAccepted, CommandsGoInParts, BytesGoInParts, OneReading};
 ghost use Rattle.cbm_iec.specs.Rows.{ListenOwn, ListenOther, TalkCut, TalkCutEarly, TwoListeners, Ties98, Ties89, BesideAListener, SilentBeside};
@@ -61,4 +62,9 @@ pub fn follows_fronts()
 /// From rest a drive alone with the host follows every session, cut pieces too: its trace is the session's, and the acts are those that count.
 pub fn follows_sessions()
     ensures { FollowsSessions }
+{}
+
+/// One of several drives follows each byte of an attention among the others: it makes its own part, is told the byte, and stands in hold again.
+pub fn follows_commands()
+    ensures { FollowsCommandsAmong }
 {}
