@@ -10,7 +10,6 @@ use Rattle.cbm_iec.proofs.Merging.{InOrder}
 use Rattle.cbm_iec.proofs.Phases.{Each, ReactsBy, react_by, starts, none_joined, commands_go_in_parts}
 use Rattle.cbm_iec.specs.Among.{Rest, some, FollowsAmong, ends, tells, Sits, FollowsCommandsAmong, held_rest, held_port}
 use Rattle.cbm_iec.specs.Bits.{where_held, Cell, cells_steps, held_after, last_pull, byte_of}
-use Rattle.cbm_iec.specs.Following.{IsLater}
 use Rattle.cbm_iec.specs.Frames.{Sent, wire, end_of, SentFits}
 use Rattle.cbm_iec.specs.Laws.{SeatsReact, releases, pulses, from_start, accepts, frame_in_parts}
 use Rattle.cbm_iec.specs.Pieces.{Point, Command, Fits, steps_of, obeying}

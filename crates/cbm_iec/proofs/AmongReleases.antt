@@ -3,8 +3,7 @@ use Rattle.std.proofs.Common.{◌≡◌, ℕ, zero, suc, ◌+◌, Bool, true, fa
 use Rattle.cbm_iec.proofs.Changes.{Changes, none, other, own, own_behind, last_or}
 use Rattle.cbm_iec.proofs.FollowedFrames.{wires, stands}
 use Rattle.cbm_iec.proofs.Merging.{InOrder}
-use Rattle.cbm_iec.specs.Among.{Rest, some, FollowsAmong, hears, reacts}
-use Rattle.cbm_iec.specs.Following.{IsLater}
+use Rattle.cbm_iec.specs.Among.{Rest, some, IsBehind, FollowsAmong, hears, reacts}
 use Rattle.cbm_iec.specs.Seats.{lines}
 use Rattle.cbm_iec.specs.Steps.{Step, Plain}
 use Rattle.cbm_iec.specs.declared.ear.Ear.TheVariants.{Freeing, Ready, Timed}
@@ -39,7 +38,7 @@ module _ (peek : Option (ℕ × Bool)) (b : Party) (role : Role) (r2 : Rest) (q2
   waiting_follows false at m (suc n) (s ∷ ss) (other o t h rest) f = hears h tt refl (waiting_follows false at t n ss rest f)
 
   -- Before its own release it lets the others go. Its timer starts when the last of all has let go.
-  pub freeing_follows : (atn : Bool) (at m n : ℕ) (ss : List Step) → Changes Free (λ o. Plain) b.device at ss n true → InOrder ss → IsLater at ys → FollowsAmong peek (holding atn zero) (timed atn (last_or m ss)) ys r2 q2
+  pub freeing_follows : (atn : Bool) (at m n : ℕ) (ss : List Step) → Changes Free (λ o. Plain) b.device at ss n true → InOrder ss → IsBehind at ys → FollowsAmong peek (holding atn zero) (timed atn (last_or m ss)) ys r2 q2
       → FollowsAmong peek (holding atn n) (freeing atn at n) (ss ++ ys) r2 q2
   freeing_follows atn at m n [] x o l f = elim x [ ]
   freeing_follows true at m (suc zero) (s ∷ ss) (other o t h rest) i l f = hears h (own_behind Free (λ o. Plain) b.device at t ss zero rest i.0) refl (freeing_follows true at t zero ss rest i.1 l f)
@@ -49,7 +48,7 @@ module _ (peek : Option (ℕ × Bool)) (b : Party) (role : Role) (r2 : Rest) (q2
   freeing_follows true at m zero (s ∷ []) (own none) i l f = reacts at ys refl refl tt l f
   freeing_follows false at m zero (s ∷ []) (own none) i l f = reacts at ys refl refl tt l f
   freeing_follows atn at m zero (s ∷ x ∷ ss) (own rest) i l f = elim rest [ ]
-  freeing_follows true at m (suc n) (s ∷ x ∷ ss) (own (other o t h rest)) i l f = reacts at (x ∷ ss ++ ys) refl refl tt tt (waiting_follows true at at n (x ∷ ss) (other o t h rest) f)
-  freeing_follows false at m (suc n) (s ∷ x ∷ ss) (own (other o t h rest)) i l f = reacts at (x ∷ ss ++ ys) refl refl tt tt (waiting_follows false at at n (x ∷ ss) (other o t h rest) f)
+  freeing_follows true at m (suc n) (s ∷ x ∷ ss) (own (other o t h rest)) i l f = reacts at (x ∷ ss ++ ys) refl refl tt i.0.0 (waiting_follows true at at n (x ∷ ss) (other o t h rest) f)
+  freeing_follows false at m (suc n) (s ∷ x ∷ ss) (own (other o t h rest)) i l f = reacts at (x ∷ ss ++ ys) refl refl tt i.0.0 (waiting_follows false at at n (x ∷ ss) (other o t h rest) f)
   freeing_follows true at m (suc n) (s ∷ []) (own rest) i l f = elim rest [ ]
   freeing_follows false at m (suc n) (s ∷ []) (own rest) i l f = elim rest [ ]

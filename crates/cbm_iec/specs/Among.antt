@@ -1,15 +1,16 @@
 -- A drive among a host and other drives: told each change of theirs with the lines that all of them hold, it makes its own changes when they are due.
-use Rattle.std.specs.Prelude.{◌≡◌, ◌⊎◌, ℕ, zero, suc, Bool, true, false, List, [], ◌∷◌, ◌++◌, length, ◌||◌, nat_eq, Option, Some, None, if◌then◌else◌}
+use Rattle.std.specs.Prelude.{◌≡◌, ◌≤◌, ◌<◌, ◌⊎◌, ℕ, zero, suc, Bool, true, false, List, [], ◌∷◌, ◌++◌, length, ◌||◌, nat_eq, Option, Some, None, if◌then◌else◌}
 use Rattle.cbm_iec.specs.Bits.{byte_of}
 use Rattle.cbm_iec.specs.Frames.{Sent}
-use Rattle.cbm_iec.specs.Following.{lines_after, IsInTime, IsLater, IsShown, reaction_steps}
+use Rattle.cbm_iec.specs.Following.{lines_after, IsInTime, IsShown, reaction_steps}
 use Rattle.cbm_iec.specs.Laws.{SeatsReact}
 use Rattle.cbm_iec.specs.Pieces.{Point, is_pull, steps_of, Fits, obeying, Command}
 use Rattle.cbm_iec.specs.Ports.{port_due, told, told_act, has_byte, reaction_act, reacted}
 use Rattle.cbm_iec.specs.Seats.{lines, Seat, device}
-use Rattle.cbm_iec.specs.Steps.{Mark, Step, event_of, Plain, ForEach, For}
+use Rattle.cbm_iec.specs.Steps.{Mark, Step, event_of, moment_of, Plain, ForEach, For}
 use Rattle.cbm_iec.specs.declared.act.Act.{Act}
 use Rattle.cbm_iec.specs.declared.event.Who.TheVariants.{Host, Drive}
+use Rattle.cbm_iec.specs.declared.event.Who.{Who}
 use Rattle.cbm_iec.specs.declared.line.Line.TheVariants.{Atn, Clock, Data}
 use Rattle.cbm_iec.specs.declared.line.Line.{Line}
 use Rattle.cbm_iec.specs.declared.line.Way.TheVariants.{Pull, Free}
@@ -54,6 +55,15 @@ CountsFor d Plain told = told ≡ None
 CountsFor d (ForEach act) told = told ≡ Some act
 CountsFor d (For o act) told = told ≡ (if nat_eq d o then Some act else None)
 
+-- the next change is none of the host at this moment or before, and none of another drive before it
+abbrev pub ComesBehind : ℕ → Who → ℕ → Type 0
+ComesBehind t Host moment = t < moment
+ComesBehind t (Drive o) moment = t ≤ moment
+
+abbrev pub IsBehind : ℕ → List Step → Type 0
+IsBehind t [] = Unit {0}
+IsBehind t (s ∷ ss) = ComesBehind t s.event.who (moment_of s)
+
 -- The drive follows these steps of a bus, from what the rest holds to what it holds then: it is in time for each change of the others, which counts
 -- what it was told, a change of another drive counts nothing for it, and its reaction is what comes when it is due.
 pub data FollowsAmong (peek : Option (ℕ × Bool)) : Rest → Port → List Step → Rest → Port → Type 0 where
@@ -64,7 +74,7 @@ pub data FollowsAmong (peek : Option (ℕ × Bool)) : Rest → Port → List Ste
   hears : {r r2 : Rest} {q q2 : Port} {o t : ℕ} {line : Line} {way : Way} {mark : Mark} {ss : List Step} → nat_eq q.party.device o ≡ false → IsInTime t (port_due q)
       → told_act (wires_of (behind_other line way r)) q ≡ None
       → FollowsAmong peek (behind_other line way r) (told t (wires_of (behind_other line way r)) q) ss r2 q2 → FollowsAmong peek r q (record { event = event_of (Drive o) t line way; mark = mark } ∷ ss) r2 q2
-  reacts : {r r2 : Rest} {q q2 : Port} {ss : List Step} (t : ℕ) (more : List Step) → port_due q ≡ Some t → ss ≡ reaction_steps t peek q ++ more → IsShown (reaction_steps t peek q) (reaction_act (has_byte peek) q) → IsLater t more
+  reacts : {r r2 : Rest} {q q2 : Port} {ss : List Step} (t : ℕ) (more : List Step) → port_due q ≡ Some t → ss ≡ reaction_steps t peek q ++ more → IsShown (reaction_steps t peek q) (reaction_act (has_byte peek) q) → IsBehind t more
       → FollowsAmong peek r (reacted t peek q) more r2 q2 → FollowsAmong peek r q ss r2 q2
 
 -- other drives; and a drive's seat among the seats of a bus
