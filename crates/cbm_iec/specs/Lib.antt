@@ -12,5 +12,6 @@ pub mod Speaking
 pub mod Ports
 pub mod Following
 pub mod Among
+pub mod Buses
 pub mod Rows
 pub mod Laws
