@@ -24,7 +24,7 @@ use Rattle.cbm_iec.specs.declared.line.Way.TheVariants.{Pull, Free}
 use Rattle.cbm_iec.specs.declared.port.Port.{Port}
 
 -- the changes of a reaction are at its moment
-abbrev AllAt : ℕ → List Step → Type 0
+abbrev pub AllAt : ℕ → List Step → Type 0
 AllAt t [] = Unit {0}
 AllAt t (s ∷ ss) = (moment_of s ≡ t) × AllAt t ss
 

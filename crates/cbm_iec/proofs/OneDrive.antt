@@ -109,13 +109,13 @@ module _ (t : ℕ) (s : Seat) (act : Act) (f : Sent) where
       (merge_there start tail high (accept ∷ []) (omega (arith, over)) ∙ ap (λ (zs : List Step). high ∷ zs) (merge_last (start ∷ tail) accept (all cells)))))
 
 -- a list goes before another that isn't sooner
-merge_front : (m : ℕ) (xs ys : List Step) → AllUpTo m xs → NotBefore m ys → merge xs ys ≡ xs ++ ys
+pub merge_front : (m : ℕ) (xs ys : List Step) → AllUpTo m xs → NotBefore m ys → merge xs ys ≡ xs ++ ys
 merge_front m [] ys a b = refl
 merge_front m (x ∷ xs) [] a b = ap (λ (zs : List Step). x ∷ zs) (merge_front m xs [] a.1 b)
 merge_front m (x ∷ xs) (y ∷ ys) a b = merge_here x xs y ys (omega (arith, a.0, b)) ∙ ap (λ (zs : List Step). x ∷ zs) (merge_front m xs (y ∷ ys) a.1 b)
 
 -- and behind one that is sooner
-merge_behind : (x : Step) (xs ys zs : List Step) → AllBefore (moment_of x) ys → merge (x ∷ xs) (ys ++ zs) ≡ ys ++ merge (x ∷ xs) zs
+pub merge_behind : (x : Step) (xs ys zs : List Step) → AllBefore (moment_of x) ys → merge (x ∷ xs) (ys ++ zs) ≡ ys ++ merge (x ∷ xs) zs
 merge_behind x xs [] zs a = refl
 merge_behind x xs (y ∷ ys) zs a = merge_there x xs y (ys ++ zs) a.0 ∙ ap (λ (us : List Step). y ∷ us) (merge_behind x xs ys zs a.1)
 
