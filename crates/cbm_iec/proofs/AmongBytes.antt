@@ -1,30 +1,28 @@
 -- One of several drives follows a byte of the host, with its end signalled or not.
-use Rattle.std.proofs.Common.{◌≡◌, ℕ, zero, suc, ◌+◌, ◌≤◌, Bool, true, false, List, [], ◌∷◌, ◌++◌, length, map, Option, ap, sym, ◌∙◌, subst, append_assoc, arith, refl}
+use Rattle.std.proofs.Common.{◌≡◌, ℕ, suc, ◌+◌, ◌≤◌, Bool, true, false, List, [], ◌∷◌, ◌++◌, length, Option, ap, sym, ◌∙◌, subst, append_assoc, arith, refl}
 use Rattle.cbm_iec.proofs.Accepted.{listen_react}
 use Rattle.cbm_iec.proofs.AmongBits.{quiet}
 use Rattle.cbm_iec.proofs.AmongFrames.{in_hold, holds, body_follows, ready_follows, each_sits, frame_among}
-use Rattle.cbm_iec.proofs.AmongPulses.{pulls, frees, all_pull, pulls_first, all_sooner, come_behind, pulls_follow, pulsing_follows, sharing, timing, pulsing, noting}
+use Rattle.cbm_iec.proofs.AmongPulses.{pulls, frees, all_pull, pulls_first, all_sooner, come_behind, pulls_follow, pulsing_follows, sharing, pulsing, noting}
 use Rattle.cbm_iec.proofs.AmongReleases.{freeing_follows}
-use Rattle.cbm_iec.proofs.Changes.{Changes, all_change, in_order, none_ready, last_or, last_is}
-use Rattle.cbm_iec.proofs.FollowedFrames.{wires, stands, gathers}
-use Rattle.cbm_iec.proofs.Merging.{NoneBefore, none_sooner}
+use Rattle.cbm_iec.proofs.Changes.{Changes, all_change, in_order, none_ready, last_is}
+use Rattle.cbm_iec.proofs.FollowedFrames.{wires, stands}
+use Rattle.cbm_iec.proofs.Merging.{none_sooner}
 use Rattle.cbm_iec.proofs.Phases.{ReactsBy, react_by, bytes_go_in_parts}
 use Rattle.cbm_iec.proofs.Talkers.{sits_listeners}
-use Rattle.cbm_iec.specs.Among.{Rest, FollowsAmong, IsBehind, tells, Sits}
-use Rattle.cbm_iec.specs.Bits.{where_held, cells_steps, held_after, byte_of}
+use Rattle.cbm_iec.specs.Among.{FollowsAmong, tells, Sits}
+use Rattle.cbm_iec.specs.Bits.{byte_of}
 use Rattle.cbm_iec.specs.Frames.{Sent, wire, end_of, SentFits}
-use Rattle.cbm_iec.specs.Laws.{SeatsReact, releases, pulses, from_start, accepts, frame_in_parts}
+use Rattle.cbm_iec.specs.Laws.{SeatsReact, releases, from_start, accepts, frame_in_parts}
 use Rattle.cbm_iec.specs.Pieces.{Point, Byte, Fits, steps_of}
 use Rattle.cbm_iec.specs.Seats.{Seat, lines, device, reaction, slowest, is_listener, listeners}
 use Rattle.cbm_iec.specs.Steps.{Step, host, Plain, For}
 use Rattle.cbm_iec.specs.declared.act.Act.TheVariants.{Heard}
 use Rattle.cbm_iec.specs.declared.ear.Ear.TheVariants.{Timed}
-use Rattle.cbm_iec.specs.declared.line.Line.TheVariants.{Clock, Data}
+use Rattle.cbm_iec.specs.declared.line.Line.TheVariants.{Clock}
 use Rattle.cbm_iec.specs.declared.line.Way.TheVariants.{Pull, Free}
-use Rattle.cbm_iec.specs.declared.party.Party.{Party}
 use Rattle.cbm_iec.specs.declared.party.Role.TheVariants.{Listener}
 use Rattle.cbm_iec.specs.declared.party.Role.{Role}
-use Rattle.cbm_iec.specs.declared.port.Port.{Port}
 use Rattle.cbm_iec.specs.declared.port.Side.TheVariants.{Hearing}
 
 -- From when DATA is free on the wire: all pull it, all let go, the drive reads the byte, and all accept.
@@ -58,7 +56,7 @@ from_wire peek s x xs f r fits sits n e =
     let letting = pulsing_follows peek s.party s.role r2 q2 sent (t + 260 + reaction s) n (frees (x ∷ xs) t) its_free (in_order Free (λ o. Plain) (t + 260) x xs) (omega (arith, over, slow)) body in
     let sixty : t + 260 + reaction s ≡ t + 200 + reaction s + 60 = omega arith in
     let behind = come_behind Free (λ o. Plain) (device s) (t + 260 + reaction s) (t + 200 + reaction s) n (frees (x ∷ xs) t) sent its_free
-        (none_sooner (t + 200 + reaction s) (t + 260) (frees (x ∷ xs) t) (omega (arith, most)) (none_ready Free (λ o. Plain) (t + 260) x xs)) in
+    (none_sooner (t + 200 + reaction s) (t + 260) (frees (x ∷ xs) t) (omega (arith, most)) (none_ready Free (λ o. Plain) (t + 260) x xs)) in
     pulls_follow peek s.party s.role r2 q2 rest (t + 200 + reaction s) n (pulls (x ∷ xs) t) its_pull (in_order Pull (λ o. Plain) (t + 200) x xs)
     (all_sooner (t + 261) (t + 200 + reaction s + 60) (pulls (x ∷ xs) t) (omega (arith, least)) (all_pull (x ∷ xs) t r)) behind
     (subst (λ (m : ℕ). FollowsAmong peek (sharing peek s.party s.role r2 q2 rest n) (pulsing peek s.party s.role r2 q2 rest m n) rest r2 q2) sixty letting)
@@ -79,9 +77,9 @@ frame_with_end peek s x xs f r fits sits n e =
     let by = each_sits (ReactsBy (slowest (x ∷ xs))) (device s) (x ∷ xs) s (react_by (slowest (x ∷ xs)) (x ∷ xs) r (omega arith)) sits in
     let slow = by.2 in
     let behind = come_behind Pull (λ o. Plain) (device s) (t + 200 + reaction s) (f.ready + reaction s) pull.0 (pulls (x ∷ xs) t) (frees (x ∷ xs) t ++ sent) pull.2
-        (none_sooner (f.ready + reaction s) (t + 200) (pulls (x ∷ xs) t) (omega (arith, slow)) (none_ready Pull (λ o. Plain) (t + 200) x xs)) in
+    (none_sooner (f.ready + reaction s) (t + 200) (pulls (x ∷ xs) t) (omega (arith, slow)) (none_ready Pull (λ o. Plain) (t + 200) x xs)) in
     let timed = subst (λ (m : ℕ). FollowsAmong peek (quiet (wires false false false)) (stands s.party s.role (lines false false) (wires false false false) (Hearing (Timed (m + 200 + s.party.reaction)))) rest r2 q2)
-        (sym (last_is Free (λ o. Plain) f.ready x xs)) (from_wire peek s x xs f r fits sits n e) in
+    (sym (last_is Free (λ o. Plain) f.ready x xs)) (from_wire peek s x xs f r fits sits n e) in
     let parts : frame_in_parts (x ∷ xs) true (Heard (byte_of f.cells) true) f ≡ host f.ready Clock Free ∷ (releases (x ∷ xs) f ++ rest) =
     ap (λ (zs : List Step). host f.ready Clock Free ∷ (releases (x ∷ xs) f ++ zs)) (ap (λ (zs : List Step). zs ++ sent) (pulls_first (x ∷ xs) t r) ∙ append_assoc (pulls (x ∷ xs) t) (frees (x ∷ xs) t) sent) in
     subst (λ (zs : List Step). FollowsAmong peek r2 q2 zs r2 q2) (sym parts)
