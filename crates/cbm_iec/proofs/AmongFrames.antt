@@ -23,11 +23,11 @@ use Rattle.cbm_iec.specs.declared.party.Role.{Role}
 use Rattle.cbm_iec.specs.declared.port.Port.{Port}
 use Rattle.cbm_iec.specs.declared.port.Side.TheVariants.{Hearing}
 
-up_is : (m k : ℕ) → up m k ≡ m + k
+pub up_is : (m k : ℕ) → up m k ≡ m + k
 up_is zero k = omega arith
 up_is (suc m) k = up_is m (suc k) ∙ omega arith
 
-each_sits : (P : Seat → Type 0) (d : ℕ) (ss : List Seat) (s : Seat) → Each P ss → Sits d ss s → P s
+pub each_sits : (P : Seat → Type 0) (d : ℕ) (ss : List Seat) (s : Seat) → Each P ss → Sits d ss s → P s
 each_sits P d [] s e h = elim h [ ]
 each_sits P d (x ∷ xs) s e (inl h) = subst P h.0 e.0
 each_sits P d (x ∷ xs) s e (inr h) = each_sits P d xs s e.1 h.1
@@ -79,7 +79,7 @@ module _ (peek : Option (ℕ × Bool)) (b : Party) (role : Role) (eoi : Bool) wh
   start_follows false t start m rest byte l f = tells (omega (arith, l)) refl f
 
   -- CLOCK is freed
-  ready_follows : (atn : Bool) (n ready : ℕ) (rest : List Step) (r2 : Rest) (q2 : Port)
+  pub ready_follows : (atn : Bool) (n ready : ℕ) (rest : List Step) (r2 : Rest) (q2 : Port)
       → FollowsAmong peek (record { host = wires atn false false; clocks = zero; datas = n }) (stands b role (lines false true) (wires atn false (some n)) (Hearing (Freeing (ready + b.reaction)))) rest r2 q2
       → FollowsAmong peek (in_hold atn n) (holds atn n) (host ready Clock Free ∷ rest) r2 q2
   ready_follows true zero ready rest r2 q2 f = tells tt refl f

@@ -101,7 +101,7 @@ max_plus a b c = elim (leb_tells b c) [
   | inr h ↦ max-eq_left (omega (arith, h.1)) ∙ ap (λ (n : ℕ). a + n) (sym (max-eq_left (omega (arith, h.1))))
 ]
 
-none_ready : (way : Way) (mark : ℕ → Mark) (ready : ℕ) (x : Seat) (xs : List Seat) → NoneBefore ready (merge_all (part way mark ready x) (map (λ s. part way mark ready s) xs))
+pub none_ready : (way : Way) (mark : ℕ → Mark) (ready : ℕ) (x : Seat) (xs : List Seat) → NoneBefore ready (merge_all (part way mark ready x) (map (λ s. part way mark ready s) xs))
 none_ready way mark ready x [] = (omega arith, tt)
 none_ready way mark ready x (y ∷ ys) = none_merge ready (part way mark ready x) (merge_all (part way mark ready y) (map (λ s. part way mark ready s) ys)) (omega arith, tt) (none_ready way mark ready y ys)
 

@@ -46,11 +46,11 @@ abbrev pub Each : (Seat → Type 0) → List Seat → Type 0
 Each P [] = Unit {0}
 Each P (s ∷ ss) = P s × Each P ss
 
-each : (P Q : Seat → Type 0) (ss : List Seat) → ((s : Seat) → P s → Q s) → Each P ss → Each Q ss
+pub each : (P Q : Seat → Type 0) (ss : List Seat) → ((s : Seat) → P s → Q s) → Each P ss → Each Q ss
 each P Q [] f h = tt
 each P Q (s ∷ ss) f h = (f s h.0, each P Q ss f h.1)
 
-before_all : (m : ℕ) (l : List Step) (own : Seat → List Step) (ss : List Seat) → AllBefore m l → Each (λ s. AllBefore m (own s)) ss → AllBefore m (merge_all l (map own ss))
+pub before_all : (m : ℕ) (l : List Step) (own : Seat → List Step) (ss : List Seat) → AllBefore m l → Each (λ s. AllBefore m (own s)) ss → AllBefore m (merge_all l (map own ss))
 before_all m l own [] a h = a
 before_all m l own (s ∷ ss) a h = before_merge m l (merge_all (own s) (map own ss)) a (before_all m (own s) own ss h.0 h.1)
 
