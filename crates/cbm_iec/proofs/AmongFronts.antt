@@ -6,13 +6,13 @@ use Rattle.cbm_iec.proofs.FollowedFronts.{reaction_at, in_time_le, head_is, tail
 use Rattle.cbm_iec.proofs.FollowedSessions.{keep_own, own_of, reaction_own, NoAttention, no_left, no_right, no_merge, no_before, reaction_role, AllHost, cut_host, cut_silent}
 use Rattle.cbm_iec.proofs.Merging.{merge_here, merge_there, merge_nil, NoneBefore, InOrder, by_head, order_merge, before_yes, before_no, cut_front, AllBefore, front_before}
 use Rattle.cbm_iec.proofs.Owning.{AllOwned, part_owned, part_order}
-use Rattle.cbm_iec.proofs.Standing.{IsSound, StandsAmong, Result, rest_next, rest_behind}
+use Rattle.cbm_iec.proofs.Standing.{IsSound, StandsAmong, Result, rest_behind}
 use Rattle.cbm_iec.specs.Among.{Rest, wires_of, behind_other, IsBehind, FollowsAmong, ends, tells, hears, reacts, Apart, Sits}
 use Rattle.cbm_iec.specs.Buses.{rest_at}
 use Rattle.cbm_iec.specs.Following.{IsInTime, own_step, own_steps, reaction_steps}
 use Rattle.cbm_iec.specs.Pieces.{Whole, Point, host_part, own_part, steps_of, before, Fits, CutFits, some_from, held_by, PieceFits, Cut}
 use Rattle.cbm_iec.specs.Ports.{port_due, has_byte, next_held, reaction_act, reaction_changes}
-use Rattle.cbm_iec.specs.Seats.{lines, Seat, device}
+use Rattle.cbm_iec.specs.Seats.{Seat, device}
 use Rattle.cbm_iec.specs.Steps.{Step, event_of, moment_of, merge, merge_all}
 use Rattle.cbm_iec.specs.declared.act.Act.{Act}
 use Rattle.cbm_iec.specs.declared.event.Who.TheVariants.{Host, Drive}
