@@ -58,24 +58,24 @@ two_at d t false true false true (Some x) = (refl, (refl, tt))
 two_at d t false true false false None = (refl, tt)
 two_at d t false true false false (Some x) = (refl, tt)
 
-reaction_at : (t : ℕ) (peek : Option (ℕ × Bool)) (q : Port) → AllAt t (reaction_steps t peek q)
+pub reaction_at : (t : ℕ) (peek : Option (ℕ × Bool)) (q : Port) → AllAt t (reaction_steps t peek q)
 reaction_at t peek q = two_at q.party.device t q.own.clock_low (next_held (has_byte peek) q).clock_low q.own.data_low (next_held (has_byte peek) q).data_low (reaction_act (has_byte peek) q)
 
-in_time_le : (c t : ℕ) (o : Option ℕ) → c ≤ t → IsInTime t o → IsInTime c o
+pub in_time_le : (c t : ℕ) (o : Option ℕ) → c ≤ t → IsInTime t o → IsInTime c o
 in_time_le c t None l h = tt
 in_time_le c t (Some u) l h = omega (arith, l, h)
 
-head_is : (x y : Step) (xs ys : List Step) → x ∷ xs ≡ y ∷ ys → x ≡ y
+pub head_is : (x y : Step) (xs ys : List Step) → x ∷ xs ≡ y ∷ ys → x ≡ y
 head_is x y xs ys e = cc
 
-tail_is : (x y : Step) (xs ys : List Step) → x ∷ xs ≡ y ∷ ys → xs ≡ ys
+pub tail_is : (x y : Step) (xs ys : List Step) → x ∷ xs ≡ y ∷ ys → xs ≡ ys
 tail_is x y xs ys e = cc
 
-not_nil : (x : Step) (xs : List Step) → [] ≡ x ∷ xs → ⊥
+pub not_nil : (x : Step) (xs : List Step) → [] ≡ x ∷ xs → ⊥
 not_nil x xs e = cc
 
 -- a reaction lies whole before the cut, or whole behind it
-parted : (c t : ℕ) (rs more front back : List Step) → AllAt t rs → rs ++ more ≡ front ++ back → AllBefore c front → NoneBefore c back
+pub parted : (c t : ℕ) (rs more front back : List Step) → AllAt t rs → rs ++ more ≡ front ++ back → AllBefore c front → NoneBefore c back
     → ((rest : List Step) × (front ≡ rs ++ rest) × (more ≡ rest ++ back)) ⊎ ((front ≡ []) × (c ≤ t))
 parted c t [] more front back a e f b = inl (front, refl, e)
 parted c t (r ∷ rs) more [] back a e f b = let k = subst (NoneBefore c) (sym e) b in let m = a.0 in let l = k.0 in inr (refl, omega (arith, m, l))
@@ -197,7 +197,7 @@ freed_late : (at clock r : ℕ) (x : Option ℕ) → at + 20 ≤ clock → Freed
 freed_late at clock r None l h = tt
 freed_late at clock r (Some g) l h = (omega (arith, l, h), tt)
 
-host_order : (p : Point) (w : Whole) → Fits p w → InOrder (host_part p w)
+pub host_order : (p : Point) (w : Whole) → Fits p w → InOrder (host_part p w)
 host_order p (PullPiece at) h = pull_order at p.host.clock_low p.host.data_low
 host_order p (Command f) h = sending_order p.seats false f h.3 (starts_late p.seats false f h.3.start)
 host_order p (Byte eoi f) h = sending_order (listeners p.seats) eoi f h.3 (starts_late (listeners p.seats) eoi f h.3.start)
@@ -208,7 +208,7 @@ host_order p (Nothing at clock freed) h = turn_order at clock (freed_steps freed
 host_order p (Talk at f) h = taking_order (talker_of p.seats) f at h.1
 
 -- where some step isn't before, the rest behind the cut isn't empty
-some_back : (c : ℕ) (ss : List Step) → AllBefore c ss → some_from c ss ≡ false
+pub some_back : (c : ℕ) (ss : List Step) → AllBefore c ss → some_from c ss ≡ false
 some_back c [] a = refl
 some_back c (s ∷ ss) a = ap (λ (v : Bool). if v then true else some_from c ss) (lt-leb c (moment_of s) a.0) ∙ some_back c ss a.1
 

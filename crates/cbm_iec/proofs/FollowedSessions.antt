@@ -37,7 +37,7 @@ use Rattle.cbm_iec.specs.declared.port.Side.TheVariants.{Hearing, Speaking}
 use Rattle.cbm_iec.specs.declared.port.Side.{Side}
 
 -- the drive's own steps, and the host's
-abbrev keep_own : Who → Step → List Step → List Step
+abbrev pub keep_own : Who → Step → List Step → List Step
 keep_own Host s ss = ss
 keep_own (Drive o) s ss = s ∷ ss
 
@@ -45,7 +45,7 @@ abbrev keep_host : Who → Step → List Step → List Step
 keep_host Host s ss = s ∷ ss
 keep_host (Drive o) s ss = ss
 
-abbrev own_of : List Step → List Step
+abbrev pub own_of : List Step → List Step
 own_of [] = []
 own_of (s ∷ ss) = keep_own s.event.who s (own_of ss)
 
@@ -59,7 +59,7 @@ lines_by l [] = l
 lines_by l (s ∷ ss) = lines_by (lines_after l s.event.change.line s.event.change.way) ss
 
 -- a reaction changes the drive's own lines as its steps say, and none of the host's
-reaction_own : (d t : ℕ) (a u b v : Bool) (act : Option Act) (more : List Step) → held_by (lines a b) (own_of (own_steps d (changed t Clock a u ++ changed t Data b v) act ++ more)) ≡ held_by (lines u v) (own_of more)
+pub reaction_own : (d t : ℕ) (a u b v : Bool) (act : Option Act) (more : List Step) → held_by (lines a b) (own_of (own_steps d (changed t Clock a u ++ changed t Data b v) act ++ more)) ≡ held_by (lines u v) (own_of more)
 reaction_own d t true true true true None more = refl
 reaction_own d t true true true true (Some x) more = refl
 reaction_own d t true true true false None more = refl
@@ -150,7 +150,7 @@ module _ (peek : Option (ℕ × Bool)) where
       ∙ ap (λ (zs : List Step). host_of zs) (sym e))
 
 -- where no byte counts in attention, the role stays
-abbrev NotAttention : Mark → Type 0
+abbrev pub NotAttention : Mark → Type 0
 NotAttention Plain = Unit {0}
 NotAttention (ForEach act) = Unit {0}
 NotAttention (For d Pulled) = Unit {0}
@@ -160,7 +160,7 @@ NotAttention (For d (Heard byte eoi)) = Unit {0}
 NotAttention (For d (Said byte last)) = Unit {0}
 NotAttention (For d Silent) = Unit {0}
 
-abbrev NoAttention : List Step → Type 0
+abbrev pub NoAttention : List Step → Type 0
 NoAttention [] = Unit {0}
 NoAttention (s ∷ ss) = NotAttention s.mark × NoAttention ss
 
@@ -168,15 +168,15 @@ no_append : (xs ys : List Step) → NoAttention xs → NoAttention ys → NoAtte
 no_append [] ys a b = b
 no_append (x ∷ xs) ys a b = (a.0, no_append xs ys a.1 b)
 
-no_left : (xs ys : List Step) → NoAttention (xs ++ ys) → NoAttention xs
+pub no_left : (xs ys : List Step) → NoAttention (xs ++ ys) → NoAttention xs
 no_left [] ys a = tt
 no_left (x ∷ xs) ys a = (a.0, no_left xs ys a.1)
 
-no_right : (xs ys : List Step) → NoAttention (xs ++ ys) → NoAttention ys
+pub no_right : (xs ys : List Step) → NoAttention (xs ++ ys) → NoAttention ys
 no_right [] ys a = a
 no_right (x ∷ xs) ys a = no_right xs ys a.1
 
-no_merge : (xs ys : List Step) → NoAttention xs → NoAttention ys → NoAttention (merge xs ys)
+pub no_merge : (xs ys : List Step) → NoAttention xs → NoAttention ys → NoAttention (merge xs ys)
 no_merge [] ys a b = b
 no_merge (x ∷ xs) [] a b = subst NoAttention (sym (merge_nil (x ∷ xs))) a
 no_merge (x ∷ xs) (y ∷ ys) a b = elim (leb_tells (moment_of x) (moment_of y)) [
@@ -184,7 +184,7 @@ no_merge (x ∷ xs) (y ∷ ys) a b = elim (leb_tells (moment_of x) (moment_of y)
   | inr e ↦ subst NoAttention (sym (merge_there x xs y ys e.1)) (b.0, no_merge (x ∷ xs) ys a b.1)
 ]
 
-no_before : (c : ℕ) (ss : List Step) → NoAttention ss → NoAttention (before c ss)
+pub no_before : (c : ℕ) (ss : List Step) → NoAttention ss → NoAttention (before c ss)
 no_before c [] a = tt
 no_before c (s ∷ ss) a = elim (leb_tells (suc (moment_of s)) c) [
   | inl x ↦ subst NoAttention (sym (before_yes c s ss (omega (arith, x.1)))) (a.0, no_before c ss a.1)
@@ -215,7 +215,7 @@ ear_role d t byte atn r others cs (Pulsing at) a h n = refl
 ear_role d t byte atn r others cs Noted a h n = refl
 ear_role d t byte atn r others cs (Gathering eoi count heard) a h n = refl
 
-reaction_role : (d t : ℕ) (byte : Bool) (r : Role) (others : Lines) (cs : List Change) (side : Side) → IsShown (own_steps d cs (side_act byte others side)) (side_act byte others side) → NoAttention (own_steps d cs (side_act byte others side)) → side_role d others.atn_low r side ≡ r
+pub reaction_role : (d t : ℕ) (byte : Bool) (r : Role) (others : Lines) (cs : List Change) (side : Side) → IsShown (own_steps d cs (side_act byte others side)) (side_act byte others side) → NoAttention (own_steps d cs (side_act byte others side)) → side_role d others.atn_low r side ≡ r
 reaction_role d t byte r others cs (Hearing ear) h n = ear_role d t byte others.atn_low r others cs ear refl h n
 reaction_role d t byte r others cs (Speaking mouth) h n = refl
 
@@ -259,7 +259,7 @@ host_before c (s ∷ ss) = elim (leb_tells (suc (moment_of s)) c) [
     no Host l k = k ∙ sym (before_no c s (host_of ss) l)
     no (Drive o) l k = k
 
-abbrev AllHost : List Step → Type 0
+abbrev pub AllHost : List Step → Type 0
 AllHost [] = Unit {0}
 AllHost (s ∷ ss) = (s.event.who ≡ Host) × AllHost ss
 
@@ -362,7 +362,7 @@ signal_host None ss a = a
 signal_host (Some (pull, free)) ss a = (refl, (refl, a))
 
 -- what is asked of the host's part of a piece that may be cut
-cut_host : (p : Point) (w : Whole) (c : ℕ) → CutFits p w c → AllHost (host_part p w)
+pub cut_host : (p : Point) (w : Whole) (c : ℕ) → CutFits p w c → AllHost (host_part p w)
 cut_host p (PullPiece at) c k = elim k [ ]
 cut_host p (Command f) c k = elim k [ ]
 cut_host p (Byte eoi f) c k = elim k [ ]
@@ -410,7 +410,7 @@ none_signal : (x : Option (ℕ × ℕ)) → NoAttention (signal_steps x)
 none_signal None = tt
 none_signal (Some (pull, free)) = (tt, (tt, tt))
 
-cut_silent : (p : Point) (w : Whole) (s : Seat) (c : ℕ) → CutFits p w c → NoAttention (merge (host_part p w) (own_part p w s))
+pub cut_silent : (p : Point) (w : Whole) (s : Seat) (c : ℕ) → CutFits p w c → NoAttention (merge (host_part p w) (own_part p w s))
 cut_silent p (PullPiece at) s c k = elim k [ ]
 cut_silent p (Command f) s c k = elim k [ ]
 cut_silent p (Byte eoi f) s c k = elim k [ ]
