@@ -59,7 +59,7 @@ abbrev pub Law : Whole → Seat → Type 0
 Law w s = (p : Point) (q : Port) (peek : Option (ℕ × Bool)) → StandsAt (alone p s) s q → Fits (alone p s) w → Says w peek → Result p s w q peek
 
 -- a port by its parts
-port_is : (q : Port) (b : Party) (r : Role) (o : Held) (l : Lines) (x : Side) → q.party ≡ b → q.role ≡ r → q.own ≡ o → q.others ≡ l → q.side ≡ x → q ≡ stands b r o l x
+pub port_is : (q : Port) (b : Party) (r : Role) (o : Held) (l : Lines) (x : Side) → q.party ≡ b → q.role ≡ r → q.own ≡ o → q.others ≡ l → q.side ≡ x → q ≡ stands b r o l x
 port_is q b r o l x e f g h i =
     ap (λ (y : Party). stands y q.role q.own q.others q.side) e
     ∙ ap (λ (y : Role). stands b y q.own q.others q.side) f
@@ -97,7 +97,7 @@ pull_in_time p at Listening r x h f = subst (λ (y : Side). IsInTime at (side_du
 pull_in_time p at (Leading t) r x h f = elim f [ ]
 pull_in_time p at (Cutting cut) r x h f = subst (λ (n : ℕ). IsInTime n (side_due x)) (sym f) h
 
-pull_out : (p : Point) (at : ℕ) (place : Place) → PullFits p at place → in_attention place ≡ false
+pub pull_out : (p : Point) (at : ℕ) (place : Place) → PullFits p at place → in_attention place ≡ false
 pull_out p at Open f = refl
 pull_out p at (Commanding some) f = elim f [ ]
 pull_out p at Listening f = refl
@@ -123,7 +123,7 @@ pull_law s at p q peek h f y =
     )
 
 -- a frame of the host
-is_commanding : {x : Place} → IsCommanding x → (some : Bool) × (x ≡ Commanding some)
+pub is_commanding : {x : Place} → IsCommanding x → (some : Bool) × (x ≡ Commanding some)
 is_commanding (commanding {some}) = (some, refl)
 
 starts_alone : (s : Seat) (eoi : Bool) (f : Sent) → SentFits (s ∷ []) eoi f → StartsBehind (f.ready + reaction s) s eoi f
@@ -312,7 +312,7 @@ one_absent Absent h k = refl
 one_absent Listener h k = cc
 one_absent Talker h k = cc
 
-as_role : (w : Whole) (s : Seat) (r : Role) → s.role ≡ r → Law w (seat s.party r s.own) → Law w s
+pub as_role : (w : Whole) (s : Seat) (r : Role) → s.role ≡ r → Law w (seat s.party r s.own) → Law w s
 as_role w s r e f = subst (λ (x : Role). Law w (seat s.party x s.own)) (sym e) f
 
 leads_talker : (p : Point) (s : Seat) (q : Port) (at : ℕ) → StandsAt (alone p s) s q → p.place ≡ Leading at → s.role ≡ Talker
