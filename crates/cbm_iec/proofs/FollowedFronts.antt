@@ -197,7 +197,7 @@ freed_late : (at clock r : ℕ) (x : Option ℕ) → at + 20 ≤ clock → Freed
 freed_late at clock r None l h = tt
 freed_late at clock r (Some g) l h = (omega (arith, l, h), tt)
 
-host_order : (p : Point) (w : Whole) → Fits p w → InOrder (host_part p w)
+pub host_order : (p : Point) (w : Whole) → Fits p w → InOrder (host_part p w)
 host_order p (PullPiece at) h = pull_order at p.host.clock_low p.host.data_low
 host_order p (Command f) h = sending_order p.seats false f h.3 (starts_late p.seats false f h.3.start)
 host_order p (Byte eoi f) h = sending_order (listeners p.seats) eoi f h.3 (starts_late (listeners p.seats) eoi f h.3.start)

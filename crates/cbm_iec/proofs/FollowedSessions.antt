@@ -41,7 +41,7 @@ abbrev keep_own : Who → Step → List Step → List Step
 keep_own Host s ss = ss
 keep_own (Drive o) s ss = s ∷ ss
 
-abbrev keep_host : Who → Step → List Step → List Step
+abbrev pub keep_host : Who → Step → List Step → List Step
 keep_host Host s ss = s ∷ ss
 keep_host (Drive o) s ss = ss
 
@@ -49,12 +49,12 @@ abbrev own_of : List Step → List Step
 own_of [] = []
 own_of (s ∷ ss) = keep_own s.event.who s (own_of ss)
 
-abbrev host_of : List Step → List Step
+abbrev pub host_of : List Step → List Step
 host_of [] = []
 host_of (s ∷ ss) = keep_host s.event.who s (host_of ss)
 
 -- the lines behind the host's changes
-abbrev lines_by : Lines → List Step → Lines
+abbrev pub lines_by : Lines → List Step → Lines
 lines_by l [] = l
 lines_by l (s ∷ ss) = lines_by (lines_after l s.event.change.line s.event.change.way) ss
 
@@ -244,7 +244,7 @@ own_before c (s ∷ ss) = elim (leb_tells (suc (moment_of s)) c) [
     no Host l k = k
     no (Drive o) l k = k ∙ sym (before_no c s (own_of ss) l)
 
-host_before : (c : ℕ) (ss : List Step) → host_of (before c ss) ≡ before c (host_of ss)
+pub host_before : (c : ℕ) (ss : List Step) → host_of (before c ss) ≡ before c (host_of ss)
 host_before c [] = refl
 host_before c (s ∷ ss) = elim (leb_tells (suc (moment_of s)) c) [
   | inl x ↦ ap (λ (zs : List Step). host_of zs) (before_yes c s ss (omega (arith, x.1))) ∙ yes s.event.who (omega (arith, x.1)) (host_before c ss)
@@ -259,7 +259,7 @@ host_before c (s ∷ ss) = elim (leb_tells (suc (moment_of s)) c) [
     no Host l k = k ∙ sym (before_no c s (host_of ss) l)
     no (Drive o) l k = k
 
-abbrev AllHost : List Step → Type 0
+abbrev pub AllHost : List Step → Type 0
 AllHost [] = Unit {0}
 AllHost (s ∷ ss) = (s.event.who ≡ Host) × AllHost ss
 
@@ -287,7 +287,7 @@ own_merge o (x ∷ xs) (y ∷ ys) a b = elim (leb_tells (moment_of x) (moment_of
   | inr e ↦ ap (λ (zs : List Step). own_of zs) (merge_there x xs y ys e.1) ∙ ap (λ (w : Who). keep_own w y (own_of (merge (x ∷ xs) ys))) b.0 ∙ ap (λ (zs : List Step). y ∷ zs) (own_merge o (x ∷ xs) ys a b.2)
 ]
 
-host_merge : (o : ℕ) (xs ys : List Step) → AllHost xs → AllOwned o ys → host_of (merge xs ys) ≡ xs
+pub host_merge : (o : ℕ) (xs ys : List Step) → AllHost xs → AllOwned o ys → host_of (merge xs ys) ≡ xs
 host_merge o [] ys a b = host_none o ys b
 host_merge o (x ∷ xs) [] a b = ap (λ (zs : List Step). host_of zs) (merge_nil (x ∷ xs)) ∙ host_all (x ∷ xs) a
 host_merge o (x ∷ xs) (y ∷ ys) a b = elim (leb_tells (moment_of x) (moment_of y)) [
@@ -296,16 +296,16 @@ host_merge o (x ∷ xs) (y ∷ ys) a b = elim (leb_tells (moment_of x) (moment_o
 ]
 
 -- the host's lines behind its steps: those it holds, and ATN
-abbrev atn_after : Bool → Line → Way → Bool
+abbrev pub atn_after : Bool → Line → Way → Bool
 atn_after a Atn way = is_pull way
 atn_after a Clock way = a
 atn_after a Data way = a
 
-abbrev atn_by : Bool → List Step → Bool
+abbrev pub atn_by : Bool → List Step → Bool
 atn_by a [] = a
 atn_by a (s ∷ ss) = atn_by (atn_after a s.event.change.line s.event.change.way) ss
 
-abbrev held_one : Held → Line → Way → Held
+abbrev pub held_one : Held → Line → Way → Held
 held_one h Atn way = h
 held_one h Clock way = record h { clock_low = is_pull way }
 held_one h Data way = record h { data_low = is_pull way }
@@ -315,12 +315,12 @@ one_line a h Atn way = refl
 one_line a h Clock way = refl
 one_line a h Data way = refl
 
-held_is : (h : Held) (line : Line) (way : Way) → held_one h line way ≡ (elim line as (λ x. Held) [ Atn ↦ h | Clock ↦ record h { clock_low = is_pull way } | Data ↦ record h { data_low = is_pull way } ])
+pub held_is : (h : Held) (line : Line) (way : Way) → held_one h line way ≡ (elim line as (λ x. Held) [ Atn ↦ h | Clock ↦ record h { clock_low = is_pull way } | Data ↦ record h { data_low = is_pull way } ])
 held_is h Atn way = refl
 held_is h Clock way = refl
 held_is h Data way = refl
 
-lines_held : (a : Bool) (h : Held) (ss : List Step) → lines_by (wires a h.clock_low h.data_low) ss ≡ wires (atn_by a ss) (held_by h ss).clock_low (held_by h ss).data_low
+pub lines_held : (a : Bool) (h : Held) (ss : List Step) → lines_by (wires a h.clock_low h.data_low) ss ≡ wires (atn_by a ss) (held_by h ss).clock_low (held_by h ss).data_low
 lines_held a h [] = refl
 lines_held a h (s ∷ ss) =
     let line = s.event.change.line in
@@ -372,7 +372,7 @@ cut_host p (ToTalker at clock) c k = (refl, (refl, (refl, tt)))
 cut_host p (Nothing at clock freed) c k = (refl, (refl, (refl, freed_host freed)))
 cut_host p (Talk at f) c k = (refl, signal_host f.signal (for_one (talker_of p.seats).device (Said (number_of f.bits) (is_last f)) (host f.accept Data Pull) ∷ []) (refl, tt))
 
-cut_atn : (p : Point) (w : Whole) (c : ℕ) → CutFits p w c → Fits p w → atn_by (in_attention p.place) (before c (host_part p w)) ≡ false
+pub cut_atn : (p : Point) (w : Whole) (c : ℕ) → CutFits p w c → Fits p w → atn_by (in_attention p.place) (before c (host_part p w)) ≡ false
 cut_atn p (PullPiece at) c k h = elim k [ ]
 cut_atn p (Command f) c k h = elim k [ ]
 cut_atn p (Byte eoi f) c k h = elim k [ ]

@@ -36,7 +36,7 @@ merge_split c (x ∷ xs) x2 (y ∷ ys) y2 a b d e = elim (leb_tells (moment_of x
       ∙ ap (λ (zs : List Step). zs ++ merge x2 y2) (sym (merge_there x xs y ys h.1))
 ]
 
-before_merge : (m : ℕ) (xs ys : List Step) → AllBefore m xs → AllBefore m ys → AllBefore m (merge xs ys)
+pub before_merge : (m : ℕ) (xs ys : List Step) → AllBefore m xs → AllBefore m ys → AllBefore m (merge xs ys)
 before_merge m [] ys a b = b
 before_merge m (x ∷ xs) [] a b = subst (AllBefore m) (sym (merge_nil (x ∷ xs))) a
 before_merge m (x ∷ xs) (y ∷ ys) a b = by_head (AllBefore m) x xs y ys (λ h. (a.0, before_merge m xs (y ∷ ys) a.1 b)) (λ h. (b.0, before_merge m (x ∷ xs) ys a b.1))
@@ -46,7 +46,7 @@ abbrev pub Each : (Seat → Type 0) → List Seat → Type 0
 Each P [] = Unit {0}
 Each P (s ∷ ss) = P s × Each P ss
 
-each : (P Q : Seat → Type 0) (ss : List Seat) → ((s : Seat) → P s → Q s) → Each P ss → Each Q ss
+pub each : (P Q : Seat → Type 0) (ss : List Seat) → ((s : Seat) → P s → Q s) → Each P ss → Each Q ss
 each P Q [] f h = tt
 each P Q (s ∷ ss) f h = (f s h.0, each P Q ss f h.1)
 
