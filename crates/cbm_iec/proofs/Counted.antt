@@ -1,26 +1,26 @@
 -- What the others hold is counted over the steps of a piece: behind it as many drives hold each line, and the host holds such lines, as the point there says.
-use Rattle.std.proofs.Common.{◌≡◌, ℕ, zero, suc, ◌+◌, ◌≤◌, ◌<◌, inl, inr, Bool, true, false, not, List, [], ◌∷◌, ◌++◌, map, ap, sym, ◌∙◌, subst, arith, refl}
+use Rattle.std.proofs.Common.{◌≡◌, ℕ, zero, suc, ◌+◌, inl, inr, Bool, true, false, not, List, [], ◌∷◌, ◌++◌, map, ap, sym, ◌∙◌, subst, arith, refl}
 use Rattle.std.specs.Prelude.{if◌then◌else◌, nat_eq}
 use Rattle.std.proofs.lemmas.Bool.{eqb-true}
 use Rattle.std.proofs.lemmas.Bool.Decides.{leb_tells}
-use Rattle.cbm_iec.proofs.Alternating.{Alters, Makes, makes_front, SeatMakes, part_makes, host_lines, whole_lines, each_both}
-use Rattle.cbm_iec.proofs.Decoding.{IsMine, IsAnothers, IsForeign, Shows}
+use Rattle.cbm_iec.proofs.Alternating.{Alters, Makes, makes_front, SeatMakes, part_makes, host_lines, whole_lines}
+use Rattle.cbm_iec.proofs.Decoding.{IsMine, IsAnothers, Shows}
+use Rattle.cbm_iec.proofs.FollowedFrames.{wires}
 use Rattle.cbm_iec.proofs.FollowedFronts.{host_order}
 use Rattle.cbm_iec.proofs.FollowedSessions.{keep_host, host_of, lines_by, held_one, lines_held, host_before, host_merge, AllHost, cut_atn}
-use Rattle.cbm_iec.proofs.FollowedFrames.{wires}
-use Rattle.cbm_iec.proofs.Merging.{merge_here, merge_there, merge_nil, by_head, NoneBefore, InOrder, none_merge, order_merge, before_yes, before_no, cut_front, AllBefore, front_before, cut_is}
-use Rattle.cbm_iec.proofs.OneReading.{IsSeated, piece_shows}
+use Rattle.cbm_iec.proofs.Merging.{merge_nil, by_head, InOrder, none_merge, order_merge, before_yes, before_no, cut_front, front_before, cut_is}
+use Rattle.cbm_iec.proofs.OneReading.{piece_shows}
 use Rattle.cbm_iec.proofs.Owning.{AllOwned, part_owned, part_order, owned_mine, host_mine}
 use Rattle.cbm_iec.proofs.Phases.{Each, each, before_merge, merge_split}
 use Rattle.cbm_iec.proofs.PieceReadings.{next_seat}
-use Rattle.cbm_iec.proofs.Showing.{AllMine, shows_before}
+use Rattle.cbm_iec.proofs.Showing.{AllMine}
 use Rattle.cbm_iec.proofs.Standing.{IsSound, rest_next, rest_behind}
 use Rattle.cbm_iec.proofs.Talkers.{standing_drives}
-use Rattle.cbm_iec.specs.Frames.{is_last}
 use Rattle.cbm_iec.specs.Among.{Rest, counted, behind_other, Sits}
 use Rattle.cbm_iec.specs.Buses.{is_held, one_if, holding, rest_at}
-use Rattle.cbm_iec.specs.Following.{lines_after, in_attention}
-use Rattle.cbm_iec.specs.Pieces.{Whole, Piece, Point, host_part, own_part, steps_of, before, piece_steps, Fits, CutFits, PieceFits, is_pull, held_by, seat_with, whole_point, point_after, PullPiece, Command, Byte, ToListener, ToNobody, ToTalker, Nothing, Talk, Full, Cut}
+use Rattle.cbm_iec.specs.Following.{in_attention}
+use Rattle.cbm_iec.specs.Frames.{is_last}
+use Rattle.cbm_iec.specs.Pieces.{Whole, Piece, Point, host_part, own_part, steps_of, before, piece_steps, Fits, PieceFits, is_pull, held_by, seat_with, whole_point, point_after, PullPiece, Command, Byte, ToListener, ToNobody, ToTalker, Nothing, Talk, Full, Cut}
 use Rattle.cbm_iec.specs.Seats.{lines, Seat, device}
 use Rattle.cbm_iec.specs.Steps.{Step, moment_of, merge, merge_all}
 use Rattle.cbm_iec.specs.declared.event.Who.TheVariants.{Host, Drive}

@@ -296,12 +296,12 @@ host_merge o (x ∷ xs) (y ∷ ys) a b = elim (leb_tells (moment_of x) (moment_o
 ]
 
 -- the host's lines behind its steps: those it holds, and ATN
-abbrev pub atn_after : Bool → Line → Way → Bool
+abbrev atn_after : Bool → Line → Way → Bool
 atn_after a Atn way = is_pull way
 atn_after a Clock way = a
 atn_after a Data way = a
 
-abbrev pub atn_by : Bool → List Step → Bool
+abbrev atn_by : Bool → List Step → Bool
 atn_by a [] = a
 atn_by a (s ∷ ss) = atn_by (atn_after a s.event.change.line s.event.change.way) ss
 
