@@ -214,7 +214,7 @@ cut_goes d c p (Talk at f) s atn u l t o q h k =
     out_of_attention Talker h = h.0
 
 -- a drive sees the host's part of a piece joined with its own
-piece_shows : (d : ℕ) (p : Point) (w : Whole) (s : Seat) → Fits p w → Sits d p.seats s → Shows d (steps_of p w) (merge (host_part p w) (own_part p w s))
+pub piece_shows : (d : ℕ) (p : Point) (w : Whole) (s : Seat) → Fits p w → Sits d p.seats s → Shows d (steps_of p w) (merge (host_part p w) (own_part p w s))
 piece_shows d p w s h t =
     shows_all d (λ x. own_part p w x) (λ (x : Seat) (e : nat_eq d (device x) ≡ true). owned_mine d (device x) (own_part p w x) e (part_owned p w x))
     (λ (x : Seat) (e : nat_eq d (device x) ≡ false). owned_foreign d (device x) (own_part p w x) e (part_owned p w x))

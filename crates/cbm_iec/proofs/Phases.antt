@@ -36,7 +36,7 @@ merge_split c (x ∷ xs) x2 (y ∷ ys) y2 a b d e = elim (leb_tells (moment_of x
       ∙ ap (λ (zs : List Step). zs ++ merge x2 y2) (sym (merge_there x xs y ys h.1))
 ]
 
-before_merge : (m : ℕ) (xs ys : List Step) → AllBefore m xs → AllBefore m ys → AllBefore m (merge xs ys)
+pub before_merge : (m : ℕ) (xs ys : List Step) → AllBefore m xs → AllBefore m ys → AllBefore m (merge xs ys)
 before_merge m [] ys a b = b
 before_merge m (x ∷ xs) [] a b = subst (AllBefore m) (sym (merge_nil (x ∷ xs))) a
 before_merge m (x ∷ xs) (y ∷ ys) a b = by_head (AllBefore m) x xs y ys (λ h. (a.0, before_merge m xs (y ∷ ys) a.1 b)) (λ h. (b.0, before_merge m (x ∷ xs) ys a b.1))

@@ -40,7 +40,7 @@ Goes d k ss place role = (atn : Bool) × ((u : Under) × (ReadsOwn d k ss (known
 abbrev pub seat : Party → Role → Held → Seat
 seat b r o = record { party = b; role = r; own = o }
 
-is_commanding : {q : Place} → IsCommanding q → (some : Bool) × (q ≡ Commanding some)
+pub is_commanding : {q : Place} → IsCommanding q → (some : Bool) × (q ≡ Commanding some)
 is_commanding (commanding {some}) = (some, refl)
 
 starts_behind : (hs : List Seat) (s : Seat) (f : Sent) (eoi : Bool) → reaction s ≤ slowest hs → StartFits hs eoi f → StartsBehind (wire hs f) s eoi f

@@ -12,7 +12,7 @@ use Rattle.cbm_iec.specs.declared.party.Party.{Party}
 use Rattle.cbm_iec.specs.declared.party.Role.TheVariants.{Absent, Listener, Talker}
 use Rattle.cbm_iec.specs.declared.party.Role.{Role}
 
-if_false : (v y : Bool) → (if v then true else y) ≡ false → (v ≡ false) × (y ≡ false)
+pub if_false : (v y : Bool) → (if v then true else y) ≡ false → (v ≡ false) × (y ≡ false)
 if_false true y h = cc
 if_false false y h = (refl, h)
 
