@@ -12,7 +12,7 @@ use Rattle.cbm_iec.specs.declared.party.Party.{Party}
 use Rattle.cbm_iec.specs.declared.party.Role.TheVariants.{Absent, Listener, Talker}
 use Rattle.cbm_iec.specs.declared.party.Role.{Role}
 
-if_false : (v y : Bool) → (if v then true else y) ≡ false → (v ≡ false) × (y ≡ false)
+pub if_false : (v y : Bool) → (if v then true else y) ≡ false → (v ≡ false) × (y ≡ false)
 if_false true y h = cc
 if_false false y h = (refl, h)
 
@@ -26,7 +26,7 @@ abbrev pub OneTalker : List Seat → Type 0
 OneTalker [] = Unit {0}
 OneTalker (x ∷ xs) = (is_talker x.role ≡ true → has_talker xs ≡ false) × OneTalker xs
 
-true_false : (v : Bool) → v ≡ true → v ≡ false → ⊥
+pub true_false : (v : Bool) → v ≡ true → v ≡ false → ⊥
 true_false v a b = let e : true ≡ false = sym a ∙ b in cc
 
 -- the drive that talks is the talker
