@@ -1,5 +1,5 @@
 -- The points of a session of a bus: what stands behind a piece stands as it should, and what the others hold where the place says it.
-use Rattle.std.proofs.Common.{◌≡◌, ℕ, zero, suc, ◌+◌, ◌≤◌, inl, inr, Bool, true, false, not, List, [], ◌∷◌, ◌++◌, length, map, ap, sym, ◌∙◌, subst, arith, refl}
+use Rattle.std.proofs.Common.{◌≡◌, ℕ, zero, suc, ◌+◌, ◌≤◌, inl, inr, Bool, true, false, not, List, [], ◌∷◌, length, map, ap, sym, ◌∙◌, subst, arith, refl}
 use Rattle.std.specs.Prelude.{if◌then◌else◌, nat_eq}
 use Rattle.cbm_iec.proofs.AmongFrames.{in_hold}
 use Rattle.cbm_iec.proofs.Around.{ForOthers}
@@ -10,14 +10,14 @@ use Rattle.cbm_iec.proofs.Phases.{Each, each}
 use Rattle.cbm_iec.proofs.PieceReadings.{next_seat}
 use Rattle.cbm_iec.proofs.Standing.{OwnAt, HostAt, IsSound}
 use Rattle.cbm_iec.proofs.Talkers.{if_false, true_false, silent_bus, OneTalker, talker_is, KeepsDrives, standing_drives}
-use Rattle.cbm_iec.specs.Among.{Rest, Apart, Sits}
+use Rattle.cbm_iec.specs.Among.{Apart, Sits}
 use Rattle.cbm_iec.specs.Bits.{byte_of}
 use Rattle.cbm_iec.specs.Buses.{is_held, one_if, holding, rest_at}
 use Rattle.cbm_iec.specs.Following.{in_attention}
 use Rattle.cbm_iec.specs.Frames.{Told, is_last, telling, taking}
 use Rattle.cbm_iec.specs.Laws.{SeatsReact}
-use Rattle.cbm_iec.specs.Pieces.{Whole, Piece, Place, Point, host_part, own_part, steps_of, before, Fits, PieceFits, held_by, told_place, seat_with, obeying, standing, whole_point, point_after, PullPiece, Command, Byte, ToListener, ToNobody, ToTalker, Nothing, Talk, Full, Cut, Open, Commanding, Listening, Leading, Cutting}
-use Rattle.cbm_iec.specs.Seats.{lines, Seat, device, reaction, is_listener, is_talker, has_listener, has_talker, talker_of, listeners}
+use Rattle.cbm_iec.specs.Pieces.{Whole, Place, Point, own_part, steps_of, before, Fits, PieceFits, held_by, told_place, seat_with, obeying, standing, whole_point, point_after, PullPiece, Command, Byte, ToListener, ToNobody, ToTalker, Nothing, Talk, Cut, Open, Commanding, Listening, Leading, Cutting}
+use Rattle.cbm_iec.specs.Seats.{lines, Seat, device, is_listener, is_talker, has_listener, has_talker, talker_of, listeners}
 use Rattle.cbm_iec.specs.Sessions.{rest, AreDrives, IsBus}
 use Rattle.cbm_iec.specs.Steps.{Step, merge, merge_all}
 use Rattle.cbm_iec.specs.declared.line.Line.TheVariants.{Atn, Clock, Data}
@@ -40,8 +40,7 @@ none_listen (x ∷ xs) h = let k = if_false (is_listener x.role) (has_listener x
 pub only_talker : (d : ℕ) (seats : List Seat) (s : Seat) → OneTalker seats → Sits d seats s → is_talker s.role ≡ true → ForOthers d (λ x. is_talker x.role ≡ false) seats
 only_talker d [] s o h e = elim h [ ]
 only_talker d (x ∷ xs) s o (inl h) e =
-    let v : is_talker x.role ≡ true = subst (λ (q : Seat). is_talker q.role ≡ true) (sym h.0) e in
-    (
+    let v : is_talker x.role ≡ true = subst (λ (q : Seat). is_talker q.role ≡ true) (sym h.0) e in (
       λ (k : nat_eq d (device x) ≡ false). absurd (true_false (nat_eq d (device x)) h.1 k),
       each (λ y. is_talker y.role ≡ false) (λ y. nat_eq d (device y) ≡ false → is_talker y.role ≡ false) xs (λ y g k. g) (none_talk xs (o.0 v)),
     )
@@ -216,8 +215,7 @@ rest_own (b ∷ bs) = (refl, rest_own bs)
 rest_each : (bs cs : List Party) → IsBus bs → AllSit (rest bs).seats cs → AreDrives cs → AllSound (rest bs) cs
 rest_each bs [] h a g = tt
 rest_each bs (c ∷ cs) h a g =
-    let from = g.0.from in
-    (
+    let from = g.0.from in (
       record {
         seated = record { sits = a.0; one = none_talks bs; apart = are_seats bs h.drives h.unlike };
         some = omega (arith, from);
@@ -298,8 +296,7 @@ commanding_rest p s some g e =
     let own : Each (StandsSo (Commanding some)) p.seats = subst (λ (q : Place). Each (StandsSo q) p.seats) e g.own in
     let host : p.host ≡ lines true false = subst (λ (q : Place). HostAt q p.host) e g.host in
     let held : Each (IsHolding (λ x. true)) p.seats = each (StandsSo (Commanding some)) (IsHolding (λ x. true)) p.seats (λ (x : Seat) (k : x.own ≡ lines false true). ap (λ (o : Held). o.data_low) k) own in
-    let clocks : Each (λ x. is_held Clock x.own ≡ false) p.seats = each (StandsSo (Commanding some)) (λ x. is_held Clock x.own ≡ false) p.seats (λ (x : Seat) (k : x.own ≡ lines false true). ap (λ (o : Held). o.clock_low) k) own in
-    (
+    let clocks : Each (λ x. is_held Clock x.own ≡ false) p.seats = each (StandsSo (Commanding some)) (λ x. is_held Clock x.own ≡ false) p.seats (λ (x : Seat) (k : x.own ≡ lines false true). ap (λ (o : Held). o.clock_low) k) own in (
       holding Data (device s) p.seats,
       sits_hold (λ x. true) (device s) p.seats s held g.seated.sits refl ∙ all_here p.seats,
       the_rest (device s) p (Commanding some) (lines true false) zero (holding Data (device s) p.seats) e host (none_hold Clock (device s) p.seats (others_too (λ x. is_held Clock x.own ≡ false) (device s) p.seats clocks)) refl,
@@ -321,8 +318,7 @@ listening_rest p s g e l =
     let own : Each (StandsSo Listening) p.seats = subst (λ (q : Place). Each (StandsSo q) p.seats) e g.own in
     let host : p.host ≡ lines true false = subst (λ (q : Place). HostAt q p.host) e g.host in
     let held : Each (IsHolding (λ x. is_listener x.role)) p.seats = each (StandsSo Listening) (IsHolding (λ x. is_listener x.role)) p.seats (λ (x : Seat) (k : StandsSo Listening x). listens_data x.role x.own k) own in
-    let clocks : Each (λ x. is_held Clock x.own ≡ false) p.seats = each (StandsSo Listening) (λ x. is_held Clock x.own ≡ false) p.seats (λ (x : Seat) (k : StandsSo Listening x). listens_clock x.role x.own k) own in
-    (
+    let clocks : Each (λ x. is_held Clock x.own ≡ false) p.seats = each (StandsSo Listening) (λ x. is_held Clock x.own ≡ false) p.seats (λ (x : Seat) (k : StandsSo Listening x). listens_clock x.role x.own k) own in (
       holding Data (device s) p.seats,
       sits_hold (λ x. is_listener x.role) (device s) p.seats s held g.seated.sits (ap is_listener l) ∙ listeners_here p.seats,
       the_rest (device s) p Listening (lines true false) zero (holding Data (device s) p.seats) e host (none_hold Clock (device s) p.seats (others_too (λ x. is_held Clock x.own ≡ false) (device s) p.seats clocks)) refl,
