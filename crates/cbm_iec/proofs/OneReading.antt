@@ -229,10 +229,10 @@ pub record IsSeated (d : ℕ) (p : Point) (s : Seat) : Type 0 where
 pulled_map : KeepsDrives (λ s. seat_with s.role (lines false true) s)
 pulled_map x = refl
 
-seated : (d : ℕ) (f : Seat → Seat) (ss : List Seat) (s : Seat) → KeepsDrives f → KeepsRoles f → Sits d ss s → OneTalker ss → AreSeats ss → Sits d (map f ss) (f s) × OneTalker (map f ss) × AreSeats (map f ss)
+pub seated : (d : ℕ) (f : Seat → Seat) (ss : List Seat) (s : Seat) → KeepsDrives f → KeepsRoles f → Sits d ss s → OneTalker ss → AreSeats ss → Sits d (map f ss) (f s) × OneTalker (map f ss) × AreSeats (map f ss)
 seated d f ss s k r t o a = (sits_map d f ss s k t, one_map f ss r o, seats_map f ss k a)
 
-whole_seated : (d : ℕ) (p : Point) (w : Whole) (s : Seat) → IsSeated d p s → IsSeated d (whole_point p w) (next_seat w s)
+pub whole_seated : (d : ℕ) (p : Point) (w : Whole) (s : Seat) → IsSeated d p s → IsSeated d (whole_point p w) (next_seat w s)
 whole_seated d p (PullPiece at) s h = let k = seated d (λ x. seat_with x.role (lines false true) x) p.seats s (λ (x : Seat). refl) (λ (x : Seat). refl) h.sits h.one h.apart in record { sits = k.0; one = k.1; apart = k.2 }
 whole_seated d p (Command f) s h = record {
   sits = sits_map d (λ x. obeying (byte_of f.cells) x) p.seats s (λ (x : Seat). refl) h.sits;
@@ -265,10 +265,10 @@ session_reads d p (Cut w c ∷ ks) s atn u l t q h =
     (m.0, reads_append d (known s.role atn u) (before c (steps_of p w)) (session_steps (point_after p (Cut w c)) ks) (known s.role g.1.0 g.0) m.0 r m.1)
 
 -- from rest
-abbrev seat_of : Party → Seat
+abbrev pub seat_of : Party → Seat
 seat_of b = record { party = b; role = Absent; own = lines false false }
 
-abbrev AllSit : List Seat → List Party → Type 0
+abbrev pub AllSit : List Seat → List Party → Type 0
 AllSit seats [] = Unit {0}
 AllSit seats (c ∷ cs) = Sits c.device seats (seat_of c) × AllSit seats cs
 
@@ -280,15 +280,15 @@ apart_of : (d : ℕ) (bs : List Party) → Unlike d bs → Apart d (map (λ b. s
 apart_of d [] u = tt
 apart_of d (b ∷ bs) u = (ne_eqb d b.device u.0, apart_of d bs u.1)
 
-all_sit : (bs : List Party) → AllUnlike bs → AllSit (map (λ b. seat_of b) bs) bs
+pub all_sit : (bs : List Party) → AllUnlike bs → AllSit (map (λ b. seat_of b) bs) bs
 all_sit [] u = tt
 all_sit (b ∷ bs) u = (inl (refl, eq-eqb b.device b.device refl, apart_of b.device bs u.0), further (seat_of b) (map (λ b. seat_of b) bs) bs u.0 (all_sit bs u.1))
 
-are_seats : (bs : List Party) → AreDrives bs → AllUnlike bs → AreSeats (map (λ b. seat_of b) bs)
+pub are_seats : (bs : List Party) → AreDrives bs → AllUnlike bs → AreSeats (map (λ b. seat_of b) bs)
 are_seats [] h u = tt
 are_seats (b ∷ bs) h u = let k = h.0.upto in (omega (arith, k), apart_of b.device bs u.0, are_seats bs h.1 u.1)
 
-none_talks : (bs : List Party) → OneTalker (map (λ b. seat_of b) bs)
+pub none_talks : (bs : List Party) → OneTalker (map (λ b. seat_of b) bs)
 none_talks [] = tt
 none_talks (b ∷ bs) = (λ (e : false ≡ true). cc, none_talks bs)
 

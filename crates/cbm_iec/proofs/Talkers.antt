@@ -26,7 +26,7 @@ abbrev pub OneTalker : List Seat → Type 0
 OneTalker [] = Unit {0}
 OneTalker (x ∷ xs) = (is_talker x.role ≡ true → has_talker xs ≡ false) × OneTalker xs
 
-true_false : (v : Bool) → v ≡ true → v ≡ false → ⊥
+pub true_false : (v : Bool) → v ≡ true → v ≡ false → ⊥
 true_false v a b = let e : true ≡ false = sym a ∙ b in cc
 
 -- the drive that talks is the talker
