@@ -69,7 +69,7 @@ part_by_role F B Listener a b x y = record { order = tt; first = tt; behind = tt
 part_by_role F B Talker a b x y = y
 
 -- where nobody else talks
-part_untalked : (F B : Step → Type 0) (r : Role) (a b : List Step) → is_talker r ≡ false → IsPart F B a → IsPart F B (elim r as (λ q. List Step) [ Absent ↦ a | Listener ↦ [] | Talker ↦ b ])
+pub part_untalked : (F B : Step → Type 0) (r : Role) (a b : List Step) → is_talker r ≡ false → IsPart F B a → IsPart F B (elim r as (λ q. List Step) [ Absent ↦ a | Listener ↦ [] | Talker ↦ b ])
 part_untalked F B Absent a b e x = x
 part_untalked F B Listener a b e x = record { order = tt; first = tt; behind = tt; drives = tt }
 part_untalked F B Talker a b e x = absurd cc
@@ -82,10 +82,10 @@ each_of P (x ∷ xs) f = (f x, each_of P xs f)
 let_go_part : (d at : ℕ) (x : Seat) → nat_eq d (device x) ≡ false → IsPart (IsOthers d) (IsOthers d) (let_go at x)
 let_go_part d at x h = record { order = (tt, tt); first = (record { who = h; line = refl }, tt); behind = (record { who = h; line = refl }, tt); drives = (tt, tt) }
 
-from_role : (m : ℕ) (r : Role) (a b : List Step) → Every (λ s. m ≤ moment_of s) a → Every (λ s. m ≤ moment_of s) b → Every (λ s. m ≤ moment_of s) (elim r as (λ q. List Step) [ Absent ↦ a | Listener ↦ [] | Talker ↦ b ])
+pub from_role : (m : ℕ) (r : Role) (a b : List Step) → Every (λ s. m ≤ moment_of s) a → Every (λ s. m ≤ moment_of s) b → Every (λ s. m ≤ moment_of s) (elim r as (λ q. List Step) [ Absent ↦ a | Listener ↦ [] | Talker ↦ b ])
 from_role m r a b x y = by_role (λ s. m ≤ moment_of s) r a b x y
 
-late_drives : (m : ℕ) (own : Seat → List Step) (seats : List Seat) → ((x : Seat) → Every (λ s. m ≤ moment_of s) (own x)) → NotBefore m (merge_all [] (map own seats))
+pub late_drives : (m : ℕ) (own : Seat → List Step) (seats : List Seat) → ((x : Seat) → Every (λ s. m ≤ moment_of s) (own x)) → NotBefore m (merge_all [] (map own seats))
 late_drives m own seats f = not_before m (merge_all [] (map own seats)) (every_drives (λ s. m ≤ moment_of s) own seats (each_of (λ x. Every (λ s. m ≤ moment_of s) (own x)) seats f))
 
 -- A drive without a role lets go of DATA, whatever the others do.
@@ -102,11 +102,11 @@ leaves peek b t r ss a =
     (r2, subst (λ (zs : List Step). FollowsAmong peek r (stands b Absent (lines false true) (wires_of r) (Hearing (Leaving t))) zs r2 q2) (sym a.is) all)
 
 -- the drives' parts of a piece together
-abbrev drives_of : Point → Whole → List Step
+abbrev pub drives_of : Point → Whole → List Step
 drives_of p w = merge_all [] (map (λ x. own_part p w x) p.seats)
 
 -- a release found in hold
-released : (peek : Option (ℕ × Bool)) (p : Point) (s : Seat) (w : Whole) (q q2 : Port) (n : ℕ) (r2 : Rest) (ss : List Step) → IsSound p s → StandsAmong p s q → p.place ≡ Commanding true → rest_at (device s) p ≡ in_hold true n → steps_of p w ≡ ss
+pub released : (peek : Option (ℕ × Bool)) (p : Point) (s : Seat) (w : Whole) (q q2 : Port) (n : ℕ) (r2 : Rest) (ss : List Step) → IsSound p s → StandsAmong p s q → p.place ≡ Commanding true → rest_at (device s) p ≡ in_hold true n → steps_of p w ≡ ss
     → FollowsAmong peek (in_hold true n) (stands s.party s.role (lines false true) (wires_of (in_hold true n)) (Hearing Holding)) ss r2 q2 → FollowsAmong peek (rest_at (device s) p) q (steps_of p w) r2 q2
 released peek p s w q q2 n r2 ss h t e r k f =
     subst (λ (x : Rest). FollowsAmong peek x q (steps_of p w) r2 q2) (sym r)
@@ -119,7 +119,7 @@ listener_steps p at =
     merge_drives (λ x. own_part p (ToListener at) x) (for_each Released (host at Atn Free) ∷ []) p.seats
     ∙ merge_first (for_each Released (host at Atn Free)) [] (drives_of p (ToListener at)) (late_drives at (λ x. own_part p (ToListener at) x) p.seats (λ (x : Seat). from_role at x.role (let_go at x) [] (omega arith, tt) tt))
 
-no_part : (F B : Step → Type 0) → IsPart F B []
+pub no_part : (F B : Step → Type 0) → IsPart F B []
 no_part F B = record { order = tt; first = tt; behind = tt; drives = tt }
 
 pub listener_law : (b : Party) (o : Held) (at : ℕ) → SeatLaw (ToListener at) (seat b Listener o)
@@ -191,7 +191,7 @@ nobody_law b o at clock p q peek sound st f y =
     }
 
 -- the turnaround: the host pulls DATA and frees ATN
-abbrev turned_rest : ℕ → Rest
+abbrev pub turned_rest : ℕ → Rest
 turned_rest n = record { host = wires false true true; clocks = zero; datas = n }
 
 leaving_turn : (peek : Option (ℕ × Bool)) (b : Party) (at n : ℕ) (ss : List Step) (r2 : Rest) (q2 : Port) → FollowsAmong peek (turned_rest n) (stands b Absent (lines false true) (wires_of (turned_rest n)) (Hearing (Leaving (at + b.reaction)))) ss r2 q2
@@ -199,16 +199,16 @@ leaving_turn : (peek : Option (ℕ × Bool)) (b : Party) (at n : ℕ) (ss : List
 leaving_turn peek b at zero ss r2 q2 f = tells tt refl (tells tt refl f)
 leaving_turn peek b at (suc n) ss r2 q2 f = tells tt refl (tells tt refl f)
 
-talking_turn : (peek : Option (ℕ × Bool)) (b : Party) (at n : ℕ) (ss : List Step) (r2 : Rest) (q2 : Port) → FollowsAmong peek (turned_rest n) (stands b Talker (lines false true) (wires_of (turned_rest n)) (Speaking Turned)) ss r2 q2
+pub talking_turn : (peek : Option (ℕ × Bool)) (b : Party) (at n : ℕ) (ss : List Step) (r2 : Rest) (q2 : Port) → FollowsAmong peek (turned_rest n) (stands b Talker (lines false true) (wires_of (turned_rest n)) (Speaking Turned)) ss r2 q2
     → FollowsAmong peek (in_hold true n) (stands b Talker (lines false true) (wires_of (in_hold true n)) (Hearing Holding)) (host at Data Pull ∷ for_each Released (host at Atn Free) ∷ ss) r2 q2
 talking_turn peek b at zero ss r2 q2 f = tells tt refl (tells tt refl f)
 talking_turn peek b at (suc n) ss r2 q2 f = tells tt refl (tells tt refl f)
 
 -- CLOCK is freed then
-abbrev answering_rest : ℕ → Rest
+abbrev pub answering_rest : ℕ → Rest
 answering_rest n = record { host = wires false false true; clocks = zero; datas = n }
 
-answering_turn : (peek : Option (ℕ × Bool)) (b : Party) (clock n : ℕ) (ss : List Step) (r2 : Rest) (q2 : Port) → FollowsAmong peek (answering_rest n) (stands b Talker (lines false true) (wires_of (answering_rest n)) (Speaking (Answering (clock + b.reaction)))) ss r2 q2
+pub answering_turn : (peek : Option (ℕ × Bool)) (b : Party) (clock n : ℕ) (ss : List Step) (r2 : Rest) (q2 : Port) → FollowsAmong peek (answering_rest n) (stands b Talker (lines false true) (wires_of (answering_rest n)) (Speaking (Answering (clock + b.reaction)))) ss r2 q2
     → FollowsAmong peek (turned_rest n) (stands b Talker (lines false true) (wires_of (turned_rest n)) (Speaking Turned)) (host clock Clock Free ∷ ss) r2 q2
 answering_turn peek b clock zero ss r2 q2 f = tells tt refl f
 answering_turn peek b clock (suc n) ss r2 q2 f = tells tt refl f
@@ -256,7 +256,7 @@ absent_turn_law b o at clock p q peek sound st f y =
     (λ (d : ℕ) (x : Seat) (h : nat_eq d (device x) ≡ false). answer_part d (clock + reaction x) x h) (λ (x : Seat). (omega (arith, late), (omega (arith, late), tt))) (λ (x : Seat). refl) refl (tt, tt) (record { who = refl; line = refl }, tt) q peek sound st f.0.commanding in
     record { rest = all.0; port = stands b Absent (lines false false) (wires_of all.0) (Hearing Idle); follows = all.1; role = refl; own = refl; side = refl }
 
-freed_others : (d : ℕ) (freed : Option ℕ) → Every (IsOthers d) (freed_steps freed)
+pub freed_others : (d : ℕ) (freed : Option ℕ) → Every (IsOthers d) (freed_steps freed)
 freed_others d None = tt
 freed_others d (Some g) = (record { who = refl; line = refl }, tt)
 

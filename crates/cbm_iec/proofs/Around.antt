@@ -72,7 +72,7 @@ pub record Around (t : ℕ) (F B : Step → Type 0) (own ss : List Step) : Type 
   pub behind : Every B back
   pub late : Every (IsLateBy t) back
 
-own_late : (t : ℕ) (own back : List Step) (m : ℕ) → m ≤ t → AllAt t own → Every (IsLateBy t) back → NotBefore m (own ++ back)
+pub own_late : (t : ℕ) (own back : List Step) (m : ℕ) → m ≤ t → AllAt t own → Every (IsLateBy t) back → NotBefore m (own ++ back)
 own_late t [] [] m h a l = tt
 own_late t [] (b ∷ back) m h a l = let k = not_sooner t (moment_of b) b.event.who l.0 in omega (arith, h, k)
 own_late t (o ∷ own) back m h a l = let k = a.0 in omega (arith, h, k)
