@@ -54,7 +54,7 @@ abbrev pub NotHost : Who → Type 0
 NotHost Host = ⊥
 NotHost (Drive o) = Unit {0}
 
-late_drive : (t m : ℕ) (w : Who) → NotHost w → t ≤ m → ComesBehind t w m
+pub late_drive : (t m : ℕ) (w : Who) → NotHost w → t ≤ m → ComesBehind t w m
 late_drive t m Host n h = elim n [ ]
 late_drive t m (Drive o) n h = h
 

@@ -269,7 +269,7 @@ nothing_law b o at clock freed r p q peek h k y =
     )
 
 -- a frame of the talker
-said_stands : (peek : Option (ℕ × Bool)) (b : Party) (accept : ℕ) (v : Bool)
+pub said_stands : (peek : Option (ℕ × Bool)) (b : Party) (accept : ℕ) (v : Bool)
     → ((said_port peek b accept v).party ≡ b) × ((said_port peek b accept v).role ≡ Talker) × ((said_port peek b accept v).own ≡ lines (not v) false)
     × ((said_port peek b accept v).others ≡ host_wires (if v then Open else Leading (accept + 100)) (lines false true)) × SideAt (if v then Open else Leading (accept + 100)) Talker (said_port peek b accept v).side
     × LinesAt (if v then Open else Leading (accept + 100)) (lines (not v) false) (lines false true)

@@ -72,7 +72,7 @@ keeps_role d k (s ∷ ss) k2 a n r =
     let atn : (step_next d k s.event).atn ≡ false = ap (λ (x : Known). (step_next d x s.event).atn) e ∙ g.1 in
     keeps_role d (step_next d k s.event) ss k2 atn n.1 r.1 ∙ role
 
-noatn_append : (xs ys : List Step) → NoAtn xs → NoAtn ys → NoAtn (xs ++ ys)
+pub noatn_append : (xs ys : List Step) → NoAtn xs → NoAtn ys → NoAtn (xs ++ ys)
 noatn_append [] ys a b = b
 noatn_append (x ∷ xs) ys a b = (a.0, noatn_append xs ys a.1 b)
 
@@ -105,7 +105,7 @@ noatn_role Absent a b x y = x
 noatn_role Listener a b x y = tt
 noatn_role Talker a b x y = y
 
-noatn_telling : (b : Party) (at : ℕ) (f : Told) → NoAtn (telling b at f)
+pub noatn_telling : (b : Party) (at : ℕ) (f : Told) → NoAtn (telling b at f)
 noatn_telling b at f = (refl, noatn_append (bit_steps b (first_bit b f) false f.bits) (if is_last f then drive b.device (f.accept + b.reaction) Clock Free ∷ [] else []) (noatn_bits b (first_bit b f) false f.bits) (noatn_if (is_last f) (drive b.device (f.accept + b.reaction) Clock Free ∷ []) (refl, tt)))
 
 noatn_signal : (x : Option (ℕ × ℕ)) → NoAtn (signal_steps x)
