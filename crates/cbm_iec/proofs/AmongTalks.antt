@@ -77,7 +77,7 @@ command_law s g p q peek sound st f y =
 own_there : (p : Point) (s : Seat) (place : Place) → IsSound p s → p.place ≡ place → OwnAt place s.role s.own
 own_there p s place h e = subst (λ (x : Place). OwnAt x s.role s.own) e (each_sits (λ x. OwnAt p.place x.role x.own) (device s) p.seats s h.own h.seated.sits)
 
-side_there : (p : Point) (s : Seat) (q : Port) (place : Place) → StandsAmong p s q → p.place ≡ place → SideAmong place s.role q.side
+pub side_there : (p : Point) (s : Seat) (q : Port) (place : Place) → StandsAmong p s q → p.place ≡ place → SideAmong place s.role q.side
 side_there p s q place t e = subst (λ (x : Place). SideAmong x s.role q.side) e t.side
 
 -- a listener

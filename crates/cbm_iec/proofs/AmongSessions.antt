@@ -1,0 +1,152 @@
+-- Every drive of a bus follows every session from rest.
+use Rattle.std.proofs.Common.{◌≡◌, ℕ, zero, ◌+◌, Bool, true, false, List, [], ◌∷◌, map, Option, Some, None, ap, sym, ◌∙◌, subst, arith, refl}
+use Rattle.std.specs.Prelude.{if◌then◌else◌, nat_eq}
+use Rattle.cbm_iec.proofs.AmongAnswers.{talker_law, nothing_law}
+use Rattle.cbm_iec.proofs.AmongFrames.{each_sits}
+use Rattle.cbm_iec.proofs.AmongFronts.{follows_rest, follows_wires, follows_drive, cut_among}
+use Rattle.cbm_iec.proofs.AmongPoints.{none_listen, next_party, whole_sound, cut_sound, AllSound, rest_sound}
+use Rattle.cbm_iec.proofs.AmongPulls.{pull_among}
+use Rattle.cbm_iec.proofs.AmongTalks.{command_law, byte_law, absent_byte_law, absent_talk_law, talk_law, side_there}
+use Rattle.cbm_iec.proofs.AmongTurns.{SeatLaw, with_role, listener_law, absent_law, nobody_law, absent_turn_law, absent_nothing_law}
+use Rattle.cbm_iec.proofs.Counted.{rest_after}
+use Rattle.cbm_iec.proofs.FollowedFrames.{wires}
+use Rattle.cbm_iec.proofs.OneReading.{seat_of}
+use Rattle.cbm_iec.proofs.PieceReadings.{next_seat}
+use Rattle.cbm_iec.proofs.Standing.{SideAmong, IsSound, StandsAmong, rest_behind, Result, AmongLaw}
+use Rattle.cbm_iec.proofs.Talkers.{silent_bus}
+use Rattle.cbm_iec.specs.Among.{Rest, some, wires_of, FollowsAmong}
+use Rattle.cbm_iec.specs.Buses.{is_held, one_if, holding, rest_at, SaysAs, FollowsAllAmong, EachFollows, FollowsBuses}
+use Rattle.cbm_iec.specs.Following.{SaysPiece}
+use Rattle.cbm_iec.specs.Pieces.{Whole, Piece, Place, Point, own_part, before, piece_steps, PieceFits, Fits, held_by, seat_with, whole_point, point_after, PullPiece, Command, Byte, ToListener, ToNobody, ToTalker, Nothing, Talk, Full, Cut, Listening, Leading}
+use Rattle.cbm_iec.specs.Ports.{resting}
+use Rattle.cbm_iec.specs.Seats.{lines, Seat, device, is_listener, is_talker, has_listener}
+use Rattle.cbm_iec.specs.Sessions.{rest, Linked}
+use Rattle.cbm_iec.specs.declared.line.Line.TheVariants.{Atn, Clock, Data}
+use Rattle.cbm_iec.specs.declared.line.Line.{Line}
+use Rattle.cbm_iec.specs.declared.lines.Lines.{Lines}
+use Rattle.cbm_iec.specs.declared.party.Party.{Party}
+use Rattle.cbm_iec.specs.declared.party.Role.TheVariants.{Absent, Listener, Talker}
+use Rattle.cbm_iec.specs.declared.party.Role.{Role}
+use Rattle.cbm_iec.specs.declared.port.Port.{Port}
+
+-- by the roles that a piece allows
+by_roles : (w : Whole) (s : Seat) → (s.role ≡ Absent → SeatLaw w s) → (s.role ≡ Listener → SeatLaw w s) → (s.role ≡ Talker → SeatLaw w s) → SeatLaw w s
+by_roles w s a l t = go s.role refl
+  where
+    go : (r : Role) → s.role ≡ r → SeatLaw w s
+    go Absent e = a e
+    go Listener e = l e
+    go Talker e = t e
+
+not_listening : (p : Point) (s : Seat) → IsSound p s → has_listener p.seats ≡ false → s.role ≡ Listener → ⊥
+not_listening p s h e r =
+    let deaf : is_listener s.role ≡ false = each_sits (λ x. is_listener x.role ≡ false) (device s) p.seats s (none_listen p.seats e) h.seated.sits in
+    let yes : is_listener s.role ≡ true = ap is_listener r in
+    let both : true ≡ false = sym yes ∙ deaf in
+    cc
+
+not_talking : (s : Seat) → is_talker s.role ≡ false → s.role ≡ Talker → ⊥
+not_talking s silent r = let yes : is_talker s.role ≡ true = ap is_talker r in let both : true ≡ false = sym yes ∙ silent in cc
+
+-- each piece is followed
+piece_among : (w : Whole) → AmongLaw w
+piece_among (PullPiece at) = pull_among at
+piece_among (Command g) = λ p s. command_law s g p
+piece_among (Byte eoi g) = λ p s q peek sound st f y.
+    by_roles (Byte eoi g) s (λ e. with_role (Byte eoi g) s Absent e (absent_byte_law s.party s.own eoi g)) (λ e. with_role (Byte eoi g) s Listener e (byte_law s.party s.own eoi g))
+    (λ e. absurd (subst (λ (r : Role). SideAmong Listening r q.side) e (side_there p s q Listening st f.0))) p q peek sound st f y
+piece_among (ToListener at) = λ p s q peek sound st f y.
+    by_roles (ToListener at) s (λ e. with_role (ToListener at) s Absent e (absent_law s.party s.own at)) (λ e. with_role (ToListener at) s Listener e (listener_law s.party s.own at))
+    (λ e. absurd (not_talking s (silent_bus (device s) p.seats s sound.seated.sits f.talker) e)) p q peek sound st f y
+piece_among (ToNobody at clock) = λ p s q peek sound st f y.
+    by_roles (ToNobody at clock) s (λ e. with_role (ToNobody at clock) s Absent e (nobody_law s.party s.own at clock)) (λ e. absurd (not_listening p s sound f.0.listener e))
+    (λ e. absurd (not_talking s (silent_bus (device s) p.seats s sound.seated.sits f.0.talker) e)) p q peek sound st f y
+piece_among (ToTalker at clock) = λ p s q peek sound st f y.
+    by_roles (ToTalker at clock) s (λ e. with_role (ToTalker at clock) s Absent e (absent_turn_law s.party s.own at clock)) (λ e. absurd (not_listening p s sound f.0.listener e))
+    (λ e. with_role (ToTalker at clock) s Talker e (talker_law s.party s.own at clock)) p q peek sound st f y
+piece_among (Nothing at clock freed) = λ p s q peek sound st f y.
+    by_roles (Nothing at clock freed) s (λ e. with_role (Nothing at clock freed) s Absent e (absent_nothing_law s.party s.own at clock freed)) (λ e. absurd (not_listening p s sound f.0.listener e))
+    (λ e. with_role (Nothing at clock freed) s Talker e (nothing_law s.party s.own at clock freed)) p q peek sound st f y
+piece_among (Talk at g) = λ p s q peek sound st f y.
+    by_roles (Talk at g) s (λ e. with_role (Talk at g) s Absent e (absent_talk_law s.party s.own at g)) (λ e. absurd (subst (λ (r : Role). SideAmong (Leading at) r q.side) e (side_there p s q (Leading at) st f.0)))
+    (λ e. with_role (Talk at g) s Talker e (talk_law s.party s.own at g)) p q peek sound st f y
+
+-- what is said with a cut piece is what is said with the whole one
+says_whole : (r : Role) (w : Whole) (c : ℕ) (peek : Option (ℕ × Bool)) → SaysAs r (Cut w c) peek → SaysAs r (Full w) peek
+says_whole Absent w c peek y = tt
+says_whole Listener w c peek y = tt
+says_whole Talker w c peek y = y
+
+-- what is left of the others is what the point behind says
+left_is : (p : Point) (s : Seat) (q q2 : Port) (k : Piece) (r2 : Rest) (peek : Option (ℕ × Bool)) → IsSound p s → StandsAmong p s q → PieceFits p k → FollowsAmong peek (rest_at (device s) p) q (piece_steps p k) r2 q2 → r2 ≡ rest_at (device s) (point_after p k)
+left_is p s q q2 k r2 peek h t f g = follows_rest peek g ∙ ap (λ (b : Party). rest_behind b.device (rest_at (device s) p) (piece_steps p k)) t.party ∙ rest_after p s k h f
+
+-- and the drive is told so
+followed : (p : Point) (s : Seat) (q q2 : Port) (k : Piece) (r2 : Rest) (peek : Option (ℕ × Bool)) → IsSound p s → StandsAmong p s q → PieceFits p k → FollowsAmong peek (rest_at (device s) p) q (piece_steps p k) r2 q2
+    → FollowsAmong peek (rest_at q.party.device p) q (piece_steps p k) (rest_at q.party.device (point_after p k)) q2
+followed p s q q2 k r2 peek h t f g =
+    subst (λ (b : Party). FollowsAmong peek (rest_at b.device p) q (piece_steps p k) (rest_at b.device (point_after p k)) q2) (sym t.party)
+    (subst (λ (r : Rest). FollowsAmong peek (rest_at (device s) p) q (piece_steps p k) r q2) (left_is p s q q2 k r2 peek h t f g) g)
+
+follows_among : (ks : List Piece) (p : Point) (s : Seat) (q : Port) → IsSound p s → StandsAmong p s q → Linked p ks → FollowsAllAmong q p ks
+follows_among [] p s q h t l = tt
+follows_among (Full w ∷ ks) p s q h t l = λ peek y.
+    let x = piece_among w p s q peek h t l.0 (subst (λ (r : Role). SaysAs r (Full w) peek) t.role y) in
+    let s2 = next_seat w s in
+    let p2 = whole_point p w in
+    let same = next_party w s in
+    let left = left_is p s q x.port (Full w) x.rest peek h t l.0 x.follows in
+    let there : StandsAmong p2 s2 x.port = record {
+      party = follows_drive peek x.follows ∙ t.party ∙ sym same;
+      role = x.role;
+      own = x.own;
+      others = follows_wires peek x.follows t.others ∙ ap (λ (r : Rest). wires_of r) left ∙ ap (λ (b : Party). wires_of (rest_at b.device p2)) (sym same);
+      side = x.side;
+    } in
+    (x.port, (followed p s q x.port (Full w) x.rest peek h t l.0 x.follows, follows_among ks p2 s2 x.port (whole_sound p s w h l.0) there l.1))
+follows_among (Cut w c ∷ ks) p s q h t l = λ peek y.
+    let whole = piece_among w p s q peek h t l.0.0 (says_whole s.role w c peek (subst (λ (r : Role). SaysAs r (Cut w c) peek) t.role y)) in
+    let x = cut_among p s w c q peek h t l.0 whole in
+    let s2 = seat_with s.role (held_by s.own (before c (own_part p w s))) s in
+    let p2 = point_after p (Cut w c) in
+    let left = left_is p s q x.port (Cut w c) x.rest peek h t l.0 x.follows in
+    let there : StandsAmong p2 s2 x.port = record {
+      party = follows_drive peek x.follows ∙ t.party;
+      role = x.role;
+      own = x.own;
+      others = follows_wires peek x.follows t.others ∙ ap (λ (r : Rest). wires_of r) left;
+      side = x.side;
+    } in
+    (x.port, (followed p s q x.port (Cut w c) x.rest peek h t l.0 x.follows, follows_among ks p2 s2 x.port (cut_sound p s w c h l.0) there l.1))
+
+-- at rest nobody holds a line
+none_hold : (line : Line) (d : ℕ) (bs : List Party) → holding line d (map (λ b. seat_of b) bs) ≡ zero
+none_hold line d [] = refl
+none_hold line d (b ∷ bs) = go (nat_eq d b.device) (none_hold line d bs)
+  where
+    free : (x : Line) → one_if (is_held x (lines false false)) ≡ zero
+    free Atn = refl
+    free Clock = refl
+    free Data = refl
+
+    go : (v : Bool) → holding line d (map (λ b. seat_of b) bs) ≡ zero → (if v then holding line d (map (λ b. seat_of b) bs) else one_if (is_held line (lines false false)) + holding line d (map (λ b. seat_of b) bs)) ≡ zero
+    go true e = e
+    go false e = let k = free line in omega (arith, k, e)
+
+at_rest : (bs : List Party) (c : Party) → StandsAmong (rest bs) (seat_of c) (resting c)
+at_rest bs c =
+    let seats = map (λ b. seat_of b) bs in
+    record {
+      party = refl;
+      role = refl;
+      own = refl;
+      others = sym (ap (λ (n : ℕ). wires_of (record { host = wires false false false; clocks = n; datas = holding Data c.device seats })) (none_hold Clock c.device bs) ∙ ap (λ (n : ℕ). wires_of (record { host = wires false false false; clocks = zero; datas = n })) (none_hold Data c.device bs));
+      side = refl;
+    }
+
+each_follows : (bs : List Party) (ks : List Piece) (cs : List Party) → Linked (rest bs) ks → AllSound (rest bs) cs → EachFollows cs (rest bs) ks
+each_follows bs ks [] l h = tt
+each_follows bs ks (c ∷ cs) l h = (follows_among ks (rest bs) (seat_of c) (resting c) h.0 (at_rest bs c) l, each_follows bs ks cs l h.1)
+
+pub follows_buses : FollowsBuses
+follows_buses bs ks h l = each_follows bs ks bs l (rest_sound bs h)
