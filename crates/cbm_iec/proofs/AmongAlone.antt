@@ -1,16 +1,16 @@
 -- What a drive follows alone with the host it follows among others that hold no line and change none.
-use Rattle.std.proofs.Common.{◌≡◌, ℕ, zero, ◌+◌, ◌≤◌, ◌<◌, Bool, true, false, List, [], ◌∷◌, ◌++◌, Option, Some, None, ap, sym, ◌∙◌, subst, arith, refl}
+use Rattle.std.proofs.Common.{◌≡◌, ℕ, zero, ◌+◌, ◌≤◌, Bool, true, false, List, [], ◌∷◌, ◌++◌, Option, Some, None, ap, sym, ◌∙◌, subst, arith}
 use Rattle.std.specs.Prelude.{if◌then◌else◌, nat_eq, nat_le, ◌==◌, ◌/◌, ◌%◌}
 use Rattle.cbm_iec.proofs.AmongCalm.{Every}
 use Rattle.cbm_iec.proofs.Around.{NotHost, late_drive}
 use Rattle.cbm_iec.proofs.FollowedFronts.{AllAt, reaction_at, in_time_le}
-use Rattle.cbm_iec.specs.Among.{Rest, CountsFor, ComesBehind, IsBehind, FollowsAmong, ends, tells, reacts}
+use Rattle.cbm_iec.specs.Among.{Rest, CountsFor, IsBehind, FollowsAmong, ends, tells, reacts}
 use Rattle.cbm_iec.specs.Following.{IsInTime, IsLater, Counts, own_steps, reaction_steps, Follows}
 use Rattle.cbm_iec.specs.Following as alone
 use Rattle.cbm_iec.specs.Hearing.{ear_due, after_hold, after_ready, after_ear}
 use Rattle.cbm_iec.specs.Ports.{side_due, port_due, has_byte, reaction_act, reacted, reaction_changes, side_after}
-use Rattle.cbm_iec.specs.Speaking.{mouth_due, after_free, after_offer, after_taken, after_wait, after_answer, after_lead, after_mouth}
-use Rattle.cbm_iec.specs.Steps.{Mark, Step, event_of, moment_of, Plain, ForEach, For}
+use Rattle.cbm_iec.specs.Speaking.{mouth_due, after_offer, after_wait, after_answer, after_lead, after_mouth}
+use Rattle.cbm_iec.specs.Steps.{Mark, Step, moment_of, Plain, ForEach, For}
 use Rattle.cbm_iec.specs.declared.act.Act.{Act}
 use Rattle.cbm_iec.specs.declared.ear.Ear.TheVariants.{Idle, Starting, Leaving, Returning, Holding, Freeing, Ready, Timed, Pulsing, Noted, Gathering, Accepting}
 use Rattle.cbm_iec.specs.declared.ear.Ear.{Ear}

@@ -1,34 +1,29 @@
 -- A drive among others that is to talk: it answers ATN's release, with a byte to say or none.
-use Rattle.std.proofs.Common.{◌≡◌, ℕ, zero, suc, ◌+◌, ◌≤◌, ◌<◌, inl, inr, Bool, true, false, List, [], ◌∷◌, ◌++◌, length, map, Option, Some, None, ap, sym, ◌∙◌, subst, arith, refl, append_assoc}
-use Rattle.std.specs.Prelude.{if◌then◌else◌, nat_eq, ◌||◌}
+use Rattle.std.proofs.Common.{◌≡◌, ℕ, zero, ◌+◌, ◌≤◌, inl, inr, Bool, true, false, List, [], ◌∷◌, ◌++◌, Option, Some, None, ap, sym, ◌∙◌, subst, arith, refl}
+use Rattle.std.specs.Prelude.{if◌then◌else◌, nat_eq}
 use Rattle.std.proofs.lemmas.Bool.Decides.{leb_tells}
-use Rattle.cbm_iec.proofs.AmongCalm.{Every, IsOthers, ByAnother, KeepsClock, IsAside, InTime, beside, passes, passes_all, asides, asides_all, aside_host, calm_leaving, calm_idle, calm_holding, calm_turned, calm_answering, calm_led, calm_over}
-use Rattle.cbm_iec.proofs.AmongFrames.{in_hold, each_sits}
+use Rattle.cbm_iec.proofs.AmongCalm.{Every, IsOthers, ByAnother, KeepsClock, IsAside, InTime, passes_all, asides, aside_host, calm_turned, calm_answering, calm_led, calm_over}
 use Rattle.cbm_iec.proofs.AmongPoints.{commanding_rest, only_talker}
-use Rattle.cbm_iec.proofs.AmongPulls.{in_time, never_due, aside_others, not_before, for_others}
+use Rattle.cbm_iec.proofs.AmongPulls.{in_time, never_due}
 use Rattle.cbm_iec.proofs.AmongTurns.{SeatLaw, drives_of, turned_rest, answering_rest, released, talking_turn, answering_turn, late_drives, from_role, part_untalked, freed_others}
-use Rattle.cbm_iec.proofs.Around.{ForOthers, IsPart, IsLateBy, own_late, Around, around_drives, weave_left, weave_late, merge_drives, every_drives, every, is_behind, NotHost, with_own}
+use Rattle.cbm_iec.proofs.Around.{ForOthers, IsPart, IsLateBy, own_late, Around, around_drives, weave_late, merge_drives, every, is_behind}
 use Rattle.cbm_iec.proofs.FollowedFrames.{wires, stands}
 use Rattle.cbm_iec.proofs.FollowedFronts.{AllAt}
-use Rattle.cbm_iec.proofs.FollowedPieces.{port_is}
-use Rattle.cbm_iec.proofs.Merging.{merge_here, merge_there, NoneBefore, InOrder}
+use Rattle.cbm_iec.proofs.Merging.{merge_here, merge_there, NoneBefore}
 use Rattle.cbm_iec.proofs.OneDrive.{AllUpTo}
-use Rattle.cbm_iec.proofs.OneReading.{freed_order}
-use Rattle.cbm_iec.proofs.Phases.{Each}
 use Rattle.cbm_iec.proofs.PieceReadings.{seat, turn_first}
 use Rattle.cbm_iec.proofs.Talkers.{talker_is}
 use Rattle.cbm_iec.proofs.Showing.{merge_first}
-use Rattle.cbm_iec.proofs.Standing.{SideAmong, OwnAt, IsSound, StandsAmong, rest_next, rest_behind, Result, AmongLaw}
-use Rattle.cbm_iec.specs.Among.{Rest, some, wires_of, behind_other, FollowsAmong, tells, reacts, Sits}
-use Rattle.cbm_iec.specs.Buses.{rest_at, SaysAs}
+use Rattle.cbm_iec.proofs.Standing.{rest_next, rest_behind}
+use Rattle.cbm_iec.specs.Among.{Rest, wires_of, behind_other, FollowsAmong, reacts}
+use Rattle.cbm_iec.specs.Buses.{rest_at}
 use Rattle.cbm_iec.specs.Joins.{NotBefore}
 use Rattle.cbm_iec.specs.Laws.{SeatsReact}
 use Rattle.cbm_iec.specs.Ports.{side_due}
-use Rattle.cbm_iec.specs.Pieces.{FreedFits, Whole, Place, Point, freed_steps, host_part, let_go, own_part, steps_of, Fits, PullPiece, Command, Byte, ToListener, ToNobody, ToTalker, Nothing, Talk, Commanding, Full}
+use Rattle.cbm_iec.specs.Pieces.{FreedFits, freed_steps, host_part, let_go, own_part, steps_of, ToTalker, Nothing}
 use Rattle.cbm_iec.specs.Seats.{lines, Seat, device, reaction, is_talker, talker_of}
-use Rattle.cbm_iec.specs.Steps.{Step, host, drive, for_each, for_one, moment_of, merge, merge_all}
+use Rattle.cbm_iec.specs.Steps.{Step, host, drive, for_each, for_one, moment_of, merge}
 use Rattle.cbm_iec.specs.declared.act.Act.TheVariants.{Released, Silent}
-use Rattle.cbm_iec.specs.declared.ear.Ear.TheVariants.{Idle, Leaving, Holding}
 use Rattle.cbm_iec.specs.declared.event.Who.TheVariants.{Host, Drive}
 use Rattle.cbm_iec.specs.declared.event.Who.{Who}
 use Rattle.cbm_iec.specs.declared.line.Line.TheVariants.{Atn, Clock, Data}
@@ -40,10 +35,8 @@ use Rattle.cbm_iec.specs.declared.lines.Lines.{Lines}
 use Rattle.cbm_iec.specs.declared.mouth.Mouth.TheVariants.{Turned, Answering, Led, Over}
 use Rattle.cbm_iec.specs.declared.party.Party.{Party}
 use Rattle.cbm_iec.specs.declared.party.Role.TheVariants.{Absent, Listener, Talker}
-use Rattle.cbm_iec.specs.declared.party.Role.{Role}
 use Rattle.cbm_iec.specs.declared.port.Port.{Port}
-use Rattle.cbm_iec.specs.declared.port.Side.TheVariants.{Hearing, Speaking}
-use Rattle.cbm_iec.specs.declared.port.Side.{Side}
+use Rattle.cbm_iec.specs.declared.port.Side.TheVariants.{Speaking}
 
 -- a host's step that comes into a front: what of the front is before it, and what behind
 insert_host : (x : Step) (xs front rest : List Step) → NotBefore (moment_of x) rest → (a : List Step) × ((c : List Step) × ((front ≡ a ++ c) × (merge (x ∷ xs) (front ++ rest) ≡ a ++ x ∷ merge xs (c ++ rest))))
@@ -75,7 +68,7 @@ data_keeps held Clock h = elim h [ ]
 data_keeps held Data h = tt
 
 aside_keeps : (d : ℕ) (held : Bool) (s : Step) → IsAside d false s → IsAside d held s
-aside_keeps d held s h = record { who = h.who; line = data_keeps held s.event.change.line h.line }
+aside_keeps d held s h = record { who = h.who; counts = h.counts; line = data_keeps held s.event.change.line h.line }
 
 other_clocks : (line : Line) (way : Way) (r : Rest) → KeepsClock false line → (behind_other line way r).clocks ≡ r.clocks
 other_clocks Atn way r h = elim h [ ]
@@ -145,7 +138,7 @@ talk_parts d at answer (x ∷ xs) e r = (
 )
   where
     one : nat_eq d (device x) ≡ false → IsPart (IsAside d false) (Short d at) (let_go at x)
-    one h = let k = r.1 in record { order = (tt, tt); first = (record { who = h; line = tt }, tt); behind = ((record { who = h; line = refl }, omega (arith, k)), tt); drives = (tt, tt) }
+    one h = let k = r.1 in record { order = (tt, tt); first = (record { who = h; counts = refl; line = tt }, tt); behind = ((record { who = h; counts = refl; line = refl }, omega (arith, k)), tt); drives = (tt, tt) }
 
 short_others : (d at : ℕ) (s : Step) → Short d at s → IsOthers d s
 short_others d at s h = h.0

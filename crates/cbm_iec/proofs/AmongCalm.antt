@@ -1,5 +1,5 @@
 -- A drive among others that what they do doesn't concern: it stands as it stood.
-use Rattle.std.proofs.Common.{◌≡◌, ℕ, zero, suc, ◌+◌, ◌≤◌, Bool, true, false, List, [], ◌∷◌, ◌++◌, Option, Some, None, ap, sym, ◌∙◌, subst, arith, refl}
+use Rattle.std.proofs.Common.{◌≡◌, ℕ, zero, suc, Bool, true, false, List, [], ◌∷◌, ◌++◌, Option, None, ap, sym, ◌∙◌, subst, refl}
 use Rattle.std.specs.Prelude.{if◌then◌else◌, nat_eq, ◌||◌}
 use Rattle.std.proofs.lemmas.List.{append-nil}
 use Rattle.cbm_iec.proofs.FollowedFrames.{wires, stands}
@@ -9,8 +9,8 @@ use Rattle.cbm_iec.specs.Among.{Rest, some, wires_of, behind_other, behind_host,
 use Rattle.cbm_iec.specs.Following.{IsInTime}
 use Rattle.cbm_iec.specs.Hearing.{is_same, after_clock, after_data, after_clocked, after_lines}
 use Rattle.cbm_iec.specs.Ports.{side_due, told, told_act, lined_side, lined_act}
-use Rattle.cbm_iec.specs.Speaking.{talk_clock, talk_data, talk_clocked, talk_lines, taken_act}
-use Rattle.cbm_iec.specs.Steps.{Mark, Step, event_of, moment_of, Plain, ForEach, For}
+use Rattle.cbm_iec.specs.Speaking.{talk_data}
+use Rattle.cbm_iec.specs.Steps.{Mark, Step, event_of, moment_of}
 use Rattle.cbm_iec.specs.declared.act.Act.{Act}
 use Rattle.cbm_iec.specs.declared.ear.Ear.TheVariants.{Idle, Starting, Leaving, Holding}
 use Rattle.cbm_iec.specs.declared.ear.Ear.{Ear}
@@ -111,12 +111,13 @@ calm_answering at r m a false false true = (refl, refl)
 calm_answering at r m a false false false = (refl, refl)
 
 -- a step that counts nothing for drive d: the host's, or another drive's; and one of another drive by which CLOCK's wire stays
-abbrev pub ByOthers : ℕ → Who → Mark → Type 0
-ByOthers d Host mark = CountsFor d mark None
-ByOthers d (Drive o) mark = nat_eq d o ≡ false
+abbrev pub ByOthers : ℕ → Who → Type 0
+ByOthers d Host = Unit {0}
+ByOthers d (Drive o) = nat_eq d o ≡ false
 
 pub record IsOthers (d : ℕ) (s : Step) : Type 0 where
-  pub who : ByOthers d s.event.who s.mark
+  pub who : ByOthers d s.event.who
+  pub counts : CountsFor d s.mark None
   pub line : is_atn s.event.change.line ≡ false
 
 abbrev pub ByAnother : ℕ → Who → Type 0
@@ -131,6 +132,7 @@ KeepsClock held Data = Unit {0}
 
 pub record IsAside (d : ℕ) (held : Bool) (s : Step) : Type 0 where
   pub who : ByAnother d s.event.who
+  pub counts : CountsFor d s.mark None
   pub line : KeepsClock held s.event.change.line
 
 -- in time for each of these steps
@@ -163,21 +165,21 @@ module _ (peek : Option (ℕ × Bool)) (b : Party) (role : Role) (own : Held) (s
   other_told h t r Data way e = same_told h t r.host.atn_low (wires_of r).clock_low (wires_of r).clock_low (wires_of r).data_low (wires_of (behind_other Data way r)).data_low
 
   -- it passes over a step that doesn't concern it
-  pass : Calm side → (r r2 : Rest) (q2 : Port) (ss : List Step) (who : Who) (t : ℕ) (line : Line) (way : Way) (mark : Mark) → ByOthers b.device who mark → is_atn line ≡ false → IsInTime t (side_due side)
+  pass : Calm side → (r r2 : Rest) (q2 : Port) (ss : List Step) (who : Who) (t : ℕ) (line : Line) (way : Way) (mark : Mark) → ByOthers b.device who → CountsFor b.device mark None → is_atn line ≡ false → IsInTime t (side_due side)
       → FollowsAmong peek (rest_next b.device who line way r) (beside (rest_next b.device who line way r)) ss r2 q2 → FollowsAmong peek r (beside r) (record { event = event_of who t line way; mark = mark } ∷ ss) r2 q2
-  pass h r r2 q2 ss Host t line way mark w e i f =
+  pass h r r2 q2 ss Host t line way mark w c e i f =
       let k = host_told h t r line way e in
-      tells i (subst (λ (x : Option Act). CountsFor b.device mark x) (sym k.1) w) (subst (λ (x : Port). FollowsAmong peek (behind_host line way r) x ss r2 q2) (sym k.0) f)
-  pass h r r2 q2 ss (Drive o) t line way mark w e i f =
+      tells i (subst (λ (x : Option Act). CountsFor b.device mark x) (sym k.1) c) (subst (λ (x : Port). FollowsAmong peek (behind_host line way r) x ss r2 q2) (sym k.0) f)
+  pass h r r2 q2 ss (Drive o) t line way mark w c e i f =
       let k = other_told h t r line way e in
       let g = subst (λ (v : Bool). FollowsAmong peek (if v then r else behind_other line way r) (beside (if v then r else behind_other line way r)) ss r2 q2) w f in
-      hears w i k.1 (subst (λ (x : Port). FollowsAmong peek (behind_other line way r) x ss r2 q2) (sym k.0) g)
+      hears w i (subst (λ (x : Option Act). CountsFor b.device mark x) (sym k.1) c) (subst (λ (x : Port). FollowsAmong peek (behind_other line way r) x ss r2 q2) (sym k.0) g)
 
   pub passes : Calm side → (r r2 : Rest) (q2 : Port) (ss ys : List Step) → Every (IsOthers b.device) ss → Every (InTime side) ss
       → FollowsAmong peek (rest_behind b.device r ss) (beside (rest_behind b.device r ss)) ys r2 q2 → FollowsAmong peek r (beside r) (ss ++ ys) r2 q2
   passes h r r2 q2 [] ys a i f = f
   passes h r r2 q2 (s ∷ ss) ys a i f =
-      pass h r r2 q2 (ss ++ ys) s.event.who s.event.change.moment s.event.change.line s.event.change.way s.mark a.0.who a.0.line i.0
+      pass h r r2 q2 (ss ++ ys) s.event.who s.event.change.moment s.event.change.line s.event.change.way s.mark a.0.who a.0.counts a.0.line i.0
       (passes h (rest_next b.device s.event.who s.event.change.line s.event.change.way r) r2 q2 ss ys a.1 i.1 f)
 
   pub passes_all : Calm side → (r : Rest) (ss : List Step) → Every (IsOthers b.device) ss → Every (InTime side) ss → FollowsAmong peek r (beside r) ss (rest_behind b.device r ss) (beside (rest_behind b.device r ss))
@@ -203,13 +205,13 @@ module _ (peek : Option (ℕ × Bool)) (b : Party) (role : Role) (own : Held) (s
       (now ∙ sym was) (data_told h t r.host.atn_low (wires_of (behind_other Clock way r)).clock_low (wires_of r).data_low (wires_of r).data_low)
   aside_told h t r held Data way e k = data_told h t r.host.atn_low (wires_of r).clock_low (wires_of r).data_low (wires_of (behind_other Data way r)).data_low
 
-  aside : CalmData side → (r r2 : Rest) (q2 : Port) (ss : List Step) (held : Bool) (who : Who) (t : ℕ) (line : Line) (way : Way) (mark : Mark) → r.host.clock_low ≡ held → ByAnother b.device who → KeepsClock held line → IsInTime t (side_due side)
+  aside : CalmData side → (r r2 : Rest) (q2 : Port) (ss : List Step) (held : Bool) (who : Who) (t : ℕ) (line : Line) (way : Way) (mark : Mark) → r.host.clock_low ≡ held → ByAnother b.device who → CountsFor b.device mark None → KeepsClock held line → IsInTime t (side_due side)
       → FollowsAmong peek (rest_next b.device who line way r) (beside (rest_next b.device who line way r)) ss r2 q2 → FollowsAmong peek r (beside r) (record { event = event_of who t line way; mark = mark } ∷ ss) r2 q2
-  aside h r r2 q2 ss held Host t line way mark e w c i f = elim w [ ]
-  aside h r r2 q2 ss held (Drive o) t line way mark e w c i f =
+  aside h r r2 q2 ss held Host t line way mark e w m c i f = elim w [ ]
+  aside h r r2 q2 ss held (Drive o) t line way mark e w m c i f =
       let k = aside_told h t r held line way e c in
       let g = subst (λ (v : Bool). FollowsAmong peek (if v then r else behind_other line way r) (beside (if v then r else behind_other line way r)) ss r2 q2) w f in
-      hears w i k.1 (subst (λ (x : Port). FollowsAmong peek (behind_other line way r) x ss r2 q2) (sym k.0) g)
+      hears w i (subst (λ (x : Option Act). CountsFor b.device mark x) (sym k.1) m) (subst (λ (x : Port). FollowsAmong peek (behind_other line way r) x ss r2 q2) (sym k.0) g)
 
 -- other drives change nothing of what the host holds
 other_host : (line : Line) (way : Way) (r : Rest) → (behind_other line way r).host ≡ r.host
@@ -232,7 +234,7 @@ module _ (peek : Option (ℕ × Bool)) (b : Party) (role : Role) (own : Held) (s
   asides h held r r2 q2 [] ys e a i f = f
   asides h held r r2 q2 (s ∷ ss) ys e a i f =
       let next = rest_next b.device s.event.who s.event.change.line s.event.change.way r in
-      aside peek b role own side h r r2 q2 (ss ++ ys) held s.event.who s.event.change.moment s.event.change.line s.event.change.way s.mark e a.0.who a.0.line i.0
+      aside peek b role own side h r r2 q2 (ss ++ ys) held s.event.who s.event.change.moment s.event.change.line s.event.change.way s.mark e a.0.who a.0.counts a.0.line i.0
       (asides h held next r2 q2 ss ys (ap (λ (l : Lines). l.clock_low) (next_host b.device s.event.who s.event.change.line s.event.change.way r a.0.who) ∙ e) a.1 i.1 f)
 
   pub asides_all : CalmData side → (held : Bool) (r : Rest) (ss : List Step) → r.host.clock_low ≡ held → Every (IsAside b.device held) ss → Every (InTime side) ss

@@ -7,7 +7,8 @@ use Rattle.cbm_iec.proofs.FollowedSessions.{keep_own, own_of, reaction_own, NoAt
 use Rattle.cbm_iec.proofs.Merging.{merge_here, merge_there, merge_nil, NoneBefore, InOrder, by_head, order_merge, before_yes, before_no, cut_front, AllBefore, front_before}
 use Rattle.cbm_iec.proofs.Owning.{AllOwned, part_owned, part_order}
 use Rattle.cbm_iec.proofs.Standing.{IsSound, StandsAmong, Result, rest_behind}
-use Rattle.cbm_iec.specs.Among.{Rest, wires_of, behind_other, IsBehind, FollowsAmong, ends, tells, hears, reacts, Apart, Sits}
+use Rattle.cbm_iec.proofs.Seating.{Apart, Sits}
+use Rattle.cbm_iec.specs.Among.{Rest, wires_of, behind_other, IsBehind, FollowsAmong, ends, tells, hears, reacts}
 use Rattle.cbm_iec.specs.Buses.{rest_at}
 use Rattle.cbm_iec.specs.Following.{IsInTime, own_step, own_steps, reaction_steps}
 use Rattle.cbm_iec.specs.Pieces.{Whole, Point, host_part, own_part, steps_of, before, Fits, CutFits, some_from, held_by, PieceFits, Cut}

@@ -10,7 +10,7 @@ use Rattle.cbm_iec.proofs.Phases.{Each, each}
 use Rattle.cbm_iec.proofs.PieceReadings.{next_seat}
 use Rattle.cbm_iec.proofs.Standing.{OwnAt, HostAt, IsSound}
 use Rattle.cbm_iec.proofs.Talkers.{if_false, true_false, silent_bus, OneTalker, talker_is, KeepsDrives, standing_drives}
-use Rattle.cbm_iec.specs.Among.{Apart, Sits}
+use Rattle.cbm_iec.proofs.Seating.{Apart, Sits}
 use Rattle.cbm_iec.specs.Bits.{byte_of}
 use Rattle.cbm_iec.specs.Buses.{is_held, one_if, holding, rest_at}
 use Rattle.cbm_iec.specs.Following.{in_attention}

@@ -1,41 +1,39 @@
 -- A drive among others follows ATN's pull: the host's changes, then each drive's reaction.
 use Rattle.std.proofs.Common.{◌≡◌, ℕ, zero, suc, ◌+◌, ◌≤◌, Bool, true, false, List, [], ◌∷◌, ◌++◌, map, Option, Some, None, ap, sym, ◌∙◌, subst, arith, refl}
 use Rattle.std.specs.Prelude.{if◌then◌else◌, nat_eq, ◌||◌}
-use Rattle.cbm_iec.proofs.AmongCalm.{Every, ByOthers, IsOthers, ByAnother, KeepsClock, IsAside, InTime, beside, passes, asides_all, aside_host, calm_starting, calm_holding}
-use Rattle.cbm_iec.proofs.Around.{ForOthers, IsPart, IsLateBy, Around, around_drives, merge_drives, every_drives, every_append, every, is_behind, NotHost}
+use Rattle.cbm_iec.proofs.AmongCalm.{Every, ByOthers, IsOthers, ByAnother, KeepsClock, IsAside, InTime, passes, asides_all, aside_host, calm_starting, calm_holding}
+use Rattle.cbm_iec.proofs.Around.{ForOthers, IsPart, IsLateBy, around_drives, merge_drives, every_drives, every, is_behind, NotHost}
 use Rattle.cbm_iec.proofs.FollowedFrames.{wires, stands}
 use Rattle.cbm_iec.proofs.FollowedFronts.{AllAt}
 use Rattle.cbm_iec.proofs.FollowedPieces.{port_is, pull_out}
 use Rattle.cbm_iec.proofs.OneDrive.{AllUpTo, merge_front}
-use Rattle.cbm_iec.proofs.OneReading.{IsSeated, is_atn}
+use Rattle.cbm_iec.proofs.OneReading.{is_atn}
 use Rattle.cbm_iec.proofs.Owning.{part_order}
 use Rattle.cbm_iec.proofs.Phases.{Each}
-use Rattle.cbm_iec.proofs.Standing.{SideAmong, IsSound, StandsAmong, rest_behind, Result, AmongLaw}
-use Rattle.cbm_iec.specs.Among.{Rest, some, wires_of, behind_host, IsBehind, FollowsAmong, tells, reacts}
+use Rattle.cbm_iec.proofs.Standing.{SideAmong, rest_behind, AmongLaw}
+use Rattle.cbm_iec.specs.Among.{Rest, some, wires_of, IsBehind, FollowsAmong, tells, reacts}
 use Rattle.cbm_iec.specs.Bits.{where_held, where_free}
 use Rattle.cbm_iec.specs.Buses.{rest_at, holding}
-use Rattle.cbm_iec.specs.Following.{IsInTime, in_attention}
+use Rattle.cbm_iec.specs.Following.{IsInTime}
 use Rattle.cbm_iec.specs.Joins.{NotBefore}
 use Rattle.cbm_iec.specs.Pieces.{Place, Point, host_part, own_part, steps_of, PullFits, PullPiece, Open, Commanding, Listening, Leading, Cutting}
-use Rattle.cbm_iec.specs.Ports.{side_due, port_due}
+use Rattle.cbm_iec.specs.Ports.{side_due}
 use Rattle.cbm_iec.specs.Seats.{lines, Seat, device, reaction}
-use Rattle.cbm_iec.specs.Steps.{Mark, Step, host, drive, for_each, moment_of, merge_all}
+use Rattle.cbm_iec.specs.Steps.{Step, host, drive, for_each, moment_of, merge_all}
 use Rattle.cbm_iec.specs.declared.act.Act.TheVariants.{Pulled}
-use Rattle.cbm_iec.specs.declared.ear.Ear.TheVariants.{Idle, Starting, Holding, Freeing}
-use Rattle.cbm_iec.specs.declared.ear.Ear.{Ear}
+use Rattle.cbm_iec.specs.declared.ear.Ear.TheVariants.{Starting, Holding, Freeing}
 use Rattle.cbm_iec.specs.Hearing.{after_hold}
 use Rattle.cbm_iec.specs.declared.event.Who.TheVariants.{Host, Drive}
 use Rattle.cbm_iec.specs.declared.event.Who.{Who}
 use Rattle.cbm_iec.specs.declared.line.Line.TheVariants.{Atn, Clock, Data}
 use Rattle.cbm_iec.specs.declared.line.Line.{Line}
 use Rattle.cbm_iec.specs.declared.line.Way.TheVariants.{Pull, Free}
-use Rattle.cbm_iec.specs.declared.lines.Held.{Held}
 use Rattle.cbm_iec.specs.declared.lines.Lines.{Lines}
 use Rattle.cbm_iec.specs.declared.party.Party.{Party}
 use Rattle.cbm_iec.specs.declared.party.Role.TheVariants.{Absent, Listener, Talker}
 use Rattle.cbm_iec.specs.declared.party.Role.{Role}
 use Rattle.cbm_iec.specs.declared.port.Port.{Port}
-use Rattle.cbm_iec.specs.declared.port.Side.TheVariants.{Hearing, Speaking}
+use Rattle.cbm_iec.specs.declared.port.Side.TheVariants.{Hearing}
 use Rattle.cbm_iec.specs.declared.port.Side.{Side}
 
 -- ATN's pull finds nothing overdue
@@ -70,9 +68,9 @@ own_part_at true false o t = (refl, (refl, tt))
 own_part_at false true o t = tt
 own_part_at false false o t = (refl, tt)
 
-by_others : (d : ℕ) (w : Who) (m : Mark) → ByAnother d w → ByOthers d w m
-by_others d Host m h = elim h [ ]
-by_others d (Drive o) m h = h
+by_others : (d : ℕ) (w : Who) → ByAnother d w → ByOthers d w
+by_others d Host h = elim h [ ]
+by_others d (Drive o) h = h
 
 no_atn : (held : Bool) (line : Line) → KeepsClock held line → is_atn line ≡ false
 no_atn held Atn h = elim h [ ]
@@ -81,13 +79,13 @@ no_atn false Clock h = elim h [ ]
 no_atn held Data h = refl
 
 pub aside_others : (d : ℕ) (held : Bool) (s : Step) → IsAside d held s → IsOthers d s
-aside_others d held s h = record { who = by_others d s.event.who s.mark h.who; line = no_atn held s.event.change.line h.line }
+aside_others d held s h = record { who = by_others d s.event.who h.who; counts = h.counts; line = no_atn held s.event.change.line h.line }
 
 own_asides : (d o t : ℕ) (c e : Bool) → nat_eq d o ≡ false → Every (IsAside d true) (pull_own c e o t)
-own_asides d o t true true h = (record { who = h; line = tt }, tt)
-own_asides d o t true false h = (record { who = h; line = tt }, (record { who = h; line = tt }, tt))
+own_asides d o t true true h = (record { who = h; counts = refl; line = tt }, tt)
+own_asides d o t true false h = (record { who = h; counts = refl; line = tt }, (record { who = h; counts = refl; line = tt }, tt))
 own_asides d o t false true h = tt
-own_asides d o t false false h = (record { who = h; line = tt }, tt)
+own_asides d o t false false h = (record { who = h; counts = refl; line = tt }, tt)
 
 own_drives : (o t : ℕ) (c e : Bool) → Every (λ s. NotHost s.event.who) (pull_own c e o t)
 own_drives o t true true = (tt, tt)
@@ -102,10 +100,10 @@ own_from m o t false true h = tt
 own_from m o t false false h = (h, tt)
 
 host_others : (d at : ℕ) (c e : Bool) → Every (IsOthers d) (pull_host c e at)
-host_others d at true true = (record { who = refl; line = refl }, tt)
+host_others d at true true = (record { who = tt; counts = refl; line = refl }, tt)
 host_others d at true false = tt
-host_others d at false true = (record { who = refl; line = refl }, (record { who = refl; line = refl }, tt))
-host_others d at false false = (record { who = refl; line = refl }, tt)
+host_others d at false true = (record { who = tt; counts = refl; line = refl }, (record { who = tt; counts = refl; line = refl }, tt))
+host_others d at false false = (record { who = tt; counts = refl; line = refl }, tt)
 
 host_upto : (at t : ℕ) (c e : Bool) → at ≤ t → AllUpTo t (pull_host c e at)
 host_upto at t true true h = (h, tt)

@@ -1,5 +1,5 @@
 -- Every drive of a bus follows every session from rest.
-use Rattle.std.proofs.Common.{◌≡◌, ℕ, zero, ◌+◌, Bool, true, false, List, [], ◌∷◌, map, Option, Some, None, ap, sym, ◌∙◌, subst, arith, refl}
+use Rattle.std.proofs.Common.{◌≡◌, ℕ, zero, ◌+◌, Bool, true, false, List, [], ◌∷◌, map, Option, ap, sym, ◌∙◌, subst, arith, refl}
 use Rattle.std.specs.Prelude.{if◌then◌else◌, nat_eq}
 use Rattle.cbm_iec.proofs.AmongAnswers.{talker_law, nothing_law}
 use Rattle.cbm_iec.proofs.AmongFrames.{each_sits}
@@ -12,18 +12,16 @@ use Rattle.cbm_iec.proofs.Counted.{rest_after}
 use Rattle.cbm_iec.proofs.FollowedFrames.{wires}
 use Rattle.cbm_iec.proofs.OneReading.{seat_of}
 use Rattle.cbm_iec.proofs.PieceReadings.{next_seat}
-use Rattle.cbm_iec.proofs.Standing.{SideAmong, IsSound, StandsAmong, rest_behind, Result, AmongLaw}
+use Rattle.cbm_iec.proofs.Standing.{SideAmong, IsSound, StandsAmong, rest_behind, AmongLaw}
 use Rattle.cbm_iec.proofs.Talkers.{silent_bus}
-use Rattle.cbm_iec.specs.Among.{Rest, some, wires_of, FollowsAmong}
+use Rattle.cbm_iec.specs.Among.{Rest, wires_of, FollowsAmong}
 use Rattle.cbm_iec.specs.Buses.{is_held, one_if, holding, rest_at, SaysAs, FollowsAllAmong, EachFollows, FollowsBuses}
-use Rattle.cbm_iec.specs.Following.{SaysPiece}
-use Rattle.cbm_iec.specs.Pieces.{Whole, Piece, Place, Point, own_part, before, piece_steps, PieceFits, Fits, held_by, seat_with, whole_point, point_after, PullPiece, Command, Byte, ToListener, ToNobody, ToTalker, Nothing, Talk, Full, Cut, Listening, Leading}
+use Rattle.cbm_iec.specs.Pieces.{Whole, Piece, Point, own_part, before, piece_steps, PieceFits, held_by, seat_with, whole_point, point_after, PullPiece, Command, Byte, ToListener, ToNobody, ToTalker, Nothing, Talk, Full, Cut, Listening, Leading}
 use Rattle.cbm_iec.specs.Ports.{resting}
 use Rattle.cbm_iec.specs.Seats.{lines, Seat, device, is_listener, is_talker, has_listener}
 use Rattle.cbm_iec.specs.Sessions.{rest, Linked}
 use Rattle.cbm_iec.specs.declared.line.Line.TheVariants.{Atn, Clock, Data}
 use Rattle.cbm_iec.specs.declared.line.Line.{Line}
-use Rattle.cbm_iec.specs.declared.lines.Lines.{Lines}
 use Rattle.cbm_iec.specs.declared.party.Party.{Party}
 use Rattle.cbm_iec.specs.declared.party.Role.TheVariants.{Absent, Listener, Talker}
 use Rattle.cbm_iec.specs.declared.party.Role.{Role}

@@ -1,10 +1,11 @@
 -- A drive among others follows the frames: its own as the talker, those of the host as a listener and in attention, and none where it has no part in it.
-use Rattle.std.proofs.Common.{◌≡◌, ℕ, zero, suc, ◌+◌, ◌≤◌, Bool, true, false, not, List, [], ◌∷◌, ◌++◌, length, map, Option, Some, None, ap, sym, ◌∙◌, subst, arith, refl, eq-eqb}
+use Rattle.std.proofs.Common.{◌≡◌, ℕ, zero, suc, ◌+◌, Bool, true, false, not, List, [], ◌∷◌, map, Option, Some, None, ap, sym, ◌∙◌, subst, refl, eq-eqb}
 use Rattle.std.specs.Prelude.{if◌then◌else◌, nat_eq, ◌||◌}
+use Rattle.cbm_iec.proofs.AmongAccepts.{unmarked}
 use Rattle.cbm_iec.proofs.AmongAlone.{IsSolo, only_host, alone_among}
 use Rattle.cbm_iec.proofs.AmongBytes.{byte_among}
 use Rattle.cbm_iec.proofs.AmongCalm.{Every, ByOthers, IsOthers, passes_all, calm_idle}
-use Rattle.cbm_iec.proofs.AmongFrames.{in_hold, holds, each_sits, follows_commands}
+use Rattle.cbm_iec.proofs.AmongFrames.{in_hold, holds, each_sits, held_rest, held_port, follows_commands}
 use Rattle.cbm_iec.proofs.AmongPoints.{commanding_rest, listening_rest, leading_rest, leading_alone}
 use Rattle.cbm_iec.proofs.AmongPulls.{never_due, for_others}
 use Rattle.cbm_iec.proofs.AmongTurns.{SeatLaw, commanding_port}
@@ -13,21 +14,20 @@ use Rattle.cbm_iec.proofs.FollowedFrames.{wires, stands}
 use Rattle.cbm_iec.proofs.FollowedPieces.{port_is, is_commanding, said_stands}
 use Rattle.cbm_iec.proofs.FollowedTalk.{said_port, told_follows}
 use Rattle.cbm_iec.proofs.OneDrive.{told_is}
-use Rattle.cbm_iec.proofs.OneReading.{is_atn, NoAtn, noatn_append, noatn_telling}
+use Rattle.cbm_iec.proofs.OneReading.{is_atn, NoAtn, noatn_telling}
 use Rattle.cbm_iec.proofs.Owning.{MarkOf, AllOwned, part_owned}
-use Rattle.cbm_iec.proofs.Phases.{Each}
 use Rattle.cbm_iec.proofs.PieceReadings.{seat}
-use Rattle.cbm_iec.proofs.Standing.{SideAmong, OwnAt, IsSound, StandsAmong, rest_behind, Result, AmongLaw}
+use Rattle.cbm_iec.proofs.Standing.{SideAmong, OwnAt, IsSound, StandsAmong, rest_behind}
 use Rattle.cbm_iec.proofs.Talkers.{talker_is, other_talker}
-use Rattle.cbm_iec.specs.Among.{Rest, some, wires_of, FollowsAmong, CountsFor, held_rest, held_port}
+use Rattle.cbm_iec.specs.Among.{Rest, some, wires_of, FollowsAmong, CountsFor}
 use Rattle.cbm_iec.specs.Bits.{where_held, Cell, cell_steps, cells_steps, held_after, number_of, byte_of}
-use Rattle.cbm_iec.specs.Buses.{rest_at, SaysAs}
+use Rattle.cbm_iec.specs.Buses.{rest_at}
 use Rattle.cbm_iec.specs.Following.{SideAt}
-use Rattle.cbm_iec.specs.Frames.{Sent, Told, wire, end_of, pulse, hearing, sending, is_last, signal_steps, telling, taking, ToldFits}
-use Rattle.cbm_iec.specs.Pieces.{Whole, Place, Point, host_part, own_part, steps_of, Fits, obeying, told_place, PullPiece, Command, Byte, ToListener, ToNobody, ToTalker, Nothing, Talk, Full, Open, Commanding, Listening, Leading}
-use Rattle.cbm_iec.specs.Seats.{lines, Seat, device, reaction, is_listener, is_talker, talker_of, listeners}
-use Rattle.cbm_iec.specs.Steps.{Mark, Step, host, drive, for_one, merge, merge_all, Plain, ForEach, For}
-use Rattle.cbm_iec.specs.declared.act.Act.TheVariants.{Attention, Heard, Said}
+use Rattle.cbm_iec.specs.Frames.{Sent, Told, wire, end_of, hearing, sending, is_last, signal_steps, telling, taking, ToldFits}
+use Rattle.cbm_iec.specs.Pieces.{Whole, Place, Point, host_part, own_part, steps_of, obeying, Command, Byte, Talk, Open, Listening, Leading}
+use Rattle.cbm_iec.specs.Seats.{lines, Seat, device, is_listener, is_talker, talker_of, listeners}
+use Rattle.cbm_iec.specs.Steps.{Mark, Step, host, for_one, merge, merge_all, Plain, ForEach, For}
+use Rattle.cbm_iec.specs.declared.act.Act.TheVariants.{Heard, Said}
 use Rattle.cbm_iec.specs.declared.act.Act.{Act}
 use Rattle.cbm_iec.specs.declared.ear.Ear.TheVariants.{Idle, Holding}
 use Rattle.cbm_iec.specs.declared.event.Who.TheVariants.{Host, Drive}
@@ -41,7 +41,6 @@ use Rattle.cbm_iec.specs.declared.lines.Lines.{Lines}
 use Rattle.cbm_iec.specs.declared.mouth.Mouth.TheVariants.{Led}
 use Rattle.cbm_iec.specs.declared.party.Party.{Party}
 use Rattle.cbm_iec.specs.declared.party.Role.TheVariants.{Absent, Listener, Talker}
-use Rattle.cbm_iec.specs.declared.party.Role.{Role}
 use Rattle.cbm_iec.specs.declared.port.Port.{Port}
 use Rattle.cbm_iec.specs.declared.port.Side.TheVariants.{Hearing, Speaking}
 use Rattle.cbm_iec.specs.declared.port.Side.{Side}
@@ -106,20 +105,27 @@ idle_passes peek p b o w q st own side all =
     let r = rest_at b.device p in
     let r2 = rest_behind b.device r (steps_of p w) in
     let q2 = stands b Absent (lines false false) (wires_of r2) (Hearing Idle) in
-    let same = port_is q b Absent (lines false false) (wires_of r) (Hearing Idle) st.party st.role (st.own ∙ own) st.others side in
-    (r2, subst (λ (x : Port). FollowsAmong peek r x (steps_of p w) r2 q2) (sym same)
-    (passes_all peek b Absent (lines false false) (Hearing Idle) calm_idle r (steps_of p w) all (never_due (Hearing Idle) (steps_of p w) refl)))
+    let same = port_is q b Absent (lines false false) (wires_of r) (Hearing Idle) st.party st.role (st.own ∙ own) st.others side in (
+      r2,
+      subst (λ (x : Port). FollowsAmong peek r x (steps_of p w) r2 q2) (sym same)
+          (passes_all peek b Absent (lines false false) (Hearing Idle) calm_idle r (steps_of p w) all (never_due (Hearing Idle) (steps_of p w) refl)),
+    )
 
 owned_others : (d o : ℕ) (ss : List Step) → nat_eq d o ≡ false → AllOwned o ss → NoAtn ss → Every (IsOthers d) ss
 owned_others d o [] h a n = tt
 owned_others d o (s ∷ ss) h a n = (one s.event.who a.0, owned_others d o ss h a.2 n.1)
   where
-    by : (w : Who) → w ≡ Drive o → ByOthers d w s.mark
+    by : (w : Who) → w ≡ Drive o → ByOthers d w
     by Host e = absurd cc
     by (Drive u) e = let k : u ≡ o = cc in ap (λ (m : ℕ). nat_eq d m) k ∙ h
 
+    unheard : (m : Mark) → MarkOf o m → CountsFor d m None
+    unheard Plain g = refl
+    unheard (ForEach act) g = elim g [ ]
+    unheard (For u act) g = unmarked d u act (ap (λ (k : ℕ). nat_eq d k) g ∙ h)
+
     one : (w : Who) → s.event.who ≡ Drive o → IsOthers d s
-    one w e = record { who = by s.event.who e; line = n.0 }
+    one w e = record { who = by s.event.who e; counts = unheard s.mark a.1; line = n.0 }
 
 -- the host's part of a frame
 sent_others : (d : ℕ) (held : Bool) (cs : List Cell) → Every (IsOthers d) (cells_steps held cs)
@@ -127,7 +133,7 @@ sent_others d held [] = tt
 sent_others d held (c ∷ cs) = every_append (IsOthers d) (cell_steps held c) (cells_steps (not c.bit) cs) (one held c.bit c.set c.free c.pull) (sent_others d (not c.bit) cs)
   where
     plain : (t : ℕ) (line : Line) (way : Way) → is_atn line ≡ false → IsOthers d (host t line way)
-    plain t line way e = record { who = refl; line = e }
+    plain t line way e = record { who = tt; counts = refl; line = e }
 
     one : (held bit : Bool) (set free pull : ℕ) → Every (IsOthers d) (cell_steps held (record { bit = bit; set = set; free = free; pull = pull }))
     one true true set free pull = (plain set Data Free refl, (plain free Clock Free refl, (plain pull Clock Pull refl, tt)))
@@ -136,10 +142,10 @@ sent_others d held (c ∷ cs) = every_append (IsOthers d) (cell_steps held c) (c
     one false false set free pull = (plain set Data Pull refl, (plain free Clock Free refl, (plain pull Clock Pull refl, tt)))
 
 sending_others : (d : ℕ) (g : Sent) → Every (IsOthers d) (sending g)
-sending_others d g = (record { who = refl; line = refl }, (record { who = refl; line = refl }, every_append (IsOthers d) (cells_steps false g.cells) (where_held (held_after false g.cells) (host (end_of g) Data Free)) (sent_others d false g.cells) (go (held_after false g.cells))))
+sending_others d g = (record { who = tt; counts = refl; line = refl }, (record { who = tt; counts = refl; line = refl }, every_append (IsOthers d) (cells_steps false g.cells) (where_held (held_after false g.cells) (host (end_of g) Data Free)) (sent_others d false g.cells) (go (held_after false g.cells))))
   where
     go : (v : Bool) → Every (IsOthers d) (where_held v (host (end_of g) Data Free))
-    go true = (record { who = refl; line = refl }, tt)
+    go true = (record { who = tt; counts = refl; line = refl }, tt)
     go false = tt
 
 noatn_hearing : (t : ℕ) (eoi : Bool) (act : Act) (g : Sent) (s : Seat) → NoAtn (hearing t eoi act g s)
@@ -170,11 +176,11 @@ absent_byte_law b o eoi g p q peek sound st f y =
 
 -- the host's part of a frame of another
 taking_others : (d : ℕ) (t : Party) (g : Told) → nat_eq d t.device ≡ false → Every (IsOthers d) (taking t g)
-taking_others d t g h = (record { who = refl; line = refl }, every_append (IsOthers d) (signal_steps g.signal) (for_one t.device (Said (number_of g.bits) (is_last g)) (host g.accept Data Pull) ∷ []) (go g.signal) (record { who = told; line = refl }, tt))
+taking_others d t g h = (record { who = tt; counts = refl; line = refl }, every_append (IsOthers d) (signal_steps g.signal) (for_one t.device (Said (number_of g.bits) (is_last g)) (host g.accept Data Pull) ∷ []) (go g.signal) (record { who = tt; counts = told; line = refl }, tt))
   where
     go : (x : Option (ℕ × ℕ)) → Every (IsOthers d) (signal_steps x)
     go None = tt
-    go (Some (pull, free)) = (record { who = refl; line = refl }, (record { who = refl; line = refl }, tt))
+    go (Some (pull, free)) = (record { who = tt; counts = refl; line = refl }, (record { who = tt; counts = refl; line = refl }, tt))
 
     told : None ≡ (if nat_eq d t.device then Some (Said (number_of g.bits) (is_last g)) else None)
     told = sym (ap (λ (v : Bool). if v then Some (Said (number_of g.bits) (is_last g)) else None) h)

@@ -1,5 +1,5 @@
 -- Where one drive's steps of a moment lie in a join: what comes before them, and what behind.
-use Rattle.std.proofs.Common.{◌≡◌, ℕ, ◌+◌, ◌≤◌, ◌<◌, inl, inr, Bool, true, false, List, [], ◌∷◌, ◌++◌, map, ap, sym, ◌∙◌, subst, arith, refl}
+use Rattle.std.proofs.Common.{◌≡◌, ℕ, ◌+◌, ◌≤◌, ◌<◌, inl, inr, false, List, [], ◌∷◌, ◌++◌, map, ap, sym, ◌∙◌, subst, arith, refl}
 use Rattle.std.specs.Prelude.{nat_eq}
 use Rattle.std.proofs.lemmas.Bool.Decides.{leb_tells}
 use Rattle.std.proofs.lemmas.List.{append-nil}
@@ -9,7 +9,8 @@ use Rattle.cbm_iec.proofs.Merging.{merge_here, merge_there, merge_nil, NoneBefor
 use Rattle.cbm_iec.proofs.OneDrive.{AllUpTo, merge_behind, merge_front}
 use Rattle.cbm_iec.proofs.Phases.{Each}
 use Rattle.cbm_iec.proofs.Showing.{merge_first}
-use Rattle.cbm_iec.specs.Among.{ComesBehind, IsBehind, Apart, Sits}
+use Rattle.cbm_iec.proofs.Seating.{Apart, Sits}
+use Rattle.cbm_iec.specs.Among.{ComesBehind, IsBehind}
 use Rattle.cbm_iec.specs.Joins.{NotBefore}
 use Rattle.cbm_iec.specs.Seats.{Seat, device}
 use Rattle.cbm_iec.specs.Steps.{Step, moment_of, merge, merge_all}

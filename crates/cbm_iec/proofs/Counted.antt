@@ -16,7 +16,8 @@ use Rattle.cbm_iec.proofs.PieceReadings.{next_seat}
 use Rattle.cbm_iec.proofs.Showing.{AllMine}
 use Rattle.cbm_iec.proofs.Standing.{IsSound, rest_next, rest_behind}
 use Rattle.cbm_iec.proofs.Talkers.{standing_drives}
-use Rattle.cbm_iec.specs.Among.{Rest, counted, behind_other, Sits}
+use Rattle.cbm_iec.proofs.Seating.{Sits}
+use Rattle.cbm_iec.specs.Among.{Rest, counted, behind_other}
 use Rattle.cbm_iec.specs.Buses.{is_held, one_if, holding, rest_at}
 use Rattle.cbm_iec.specs.Following.{in_attention}
 use Rattle.cbm_iec.specs.Frames.{is_last}

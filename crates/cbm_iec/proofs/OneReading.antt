@@ -9,7 +9,7 @@ use Rattle.cbm_iec.proofs.Owning.{part_owned, owned_foreign, owned_mine, host_mi
 use Rattle.cbm_iec.proofs.PieceReadings.{AtPlace, turn_first, calm_said, next_seat, piece_goes}
 use Rattle.cbm_iec.proofs.Readings.{Calm}
 use Rattle.cbm_iec.proofs.Showing.{shows_before, shows_all}
-use Rattle.cbm_iec.specs.Among.{Apart, Sits}
+use Rattle.cbm_iec.proofs.Seating.{Apart, Sits}
 use Rattle.cbm_iec.proofs.Talkers.{OneTalker, KeepsDrives, KeepsRoles, sits_map, one_map, standing_drives, standing_roles, AreSeats, seats_map, one_obeys}
 use Rattle.cbm_iec.specs.Bits.{number_of, byte_of}
 use Rattle.cbm_iec.specs.Frames.{Told, is_last, signal_steps, first_bit, bit_steps, telling, taking, SignalFits, ToldFits}

@@ -1,5 +1,5 @@
 -- A frame of the host goes in parts: lists that lie on two sides of a moment are joined side by side.
-use Rattle.std.proofs.Common.{◌≡◌, ℕ, ◌+◌, ◌≤◌, ◌<◌, max, inl, inr, Bool, true, false, List, [], ◌∷◌, ◌++◌, map, ap, sym, ◌∙◌, subst, arith, refl}
+use Rattle.std.proofs.Common.{◌≡◌, ℕ, ◌+◌, ◌≤◌, ◌<◌, inl, inr, Bool, true, false, List, [], ◌∷◌, ◌++◌, map, ap, sym, ◌∙◌, subst, arith, refl}
 use Rattle.std.specs.Prelude.{if◌then◌else◌}
 use Rattle.std.proofs.Math.Nat.{le-max_left, le-max_right}
 use Rattle.std.proofs.lemmas.Bool.Decides.{leb_tells}
@@ -11,7 +11,6 @@ use Rattle.cbm_iec.proofs.Accepted.{listen_react}
 use Rattle.cbm_iec.specs.Bits.{where_held, cells_steps, held_after, byte_of}
 use Rattle.cbm_iec.specs.Frames.{Sent, wire, end_of, pulse, hearing, sending, StartFits, SentFits}
 use Rattle.cbm_iec.specs.Laws.{SeatsReact, releases, pulses, from_start, accepts, frame_in_parts, CommandsGoInParts, BytesGoInParts}
-use Rattle.cbm_iec.specs.Pieces.{Point, Fits, steps_of, own_part, Command, Byte}
 use Rattle.cbm_iec.specs.Seats.{Seat, device, reaction, slowest, is_listener, listeners}
 use Rattle.cbm_iec.specs.Steps.{Step, host, drive, for_one, moment_of, merge, merge_all}
 use Rattle.cbm_iec.specs.declared.act.Act.{Act}

@@ -1,10 +1,10 @@
 -- The steps of a piece as one drive sees them: the host's part joined with the drive's own, foreign steps between.
-use Rattle.std.proofs.Common.{◌≡◌, ℕ, suc, ◌≤◌, ◌⊎◌, inl, inr, true, false, List, [], ◌∷◌, map, ap, sym, ◌∙◌, subst, arith, refl}
+use Rattle.std.proofs.Common.{◌≡◌, ℕ, suc, ◌≤◌, inl, inr, true, false, List, [], ◌∷◌, map, ap, sym, ◌∙◌, subst, arith, refl}
 use Rattle.std.specs.Prelude.{nat_eq}
 use Rattle.std.proofs.lemmas.Bool.Decides.{leb_tells}
 use Rattle.cbm_iec.proofs.Decoding.{IsMine, IsForeign, Shows}
 use Rattle.cbm_iec.proofs.Merging.{merge_here, merge_there, merge_nil, NoneBefore, InOrder, order_merge, before_yes, before_no}
-use Rattle.cbm_iec.specs.Among.{Apart, Sits}
+use Rattle.cbm_iec.proofs.Seating.{Apart, Sits}
 use Rattle.cbm_iec.specs.Joins.{NotBefore}
 use Rattle.cbm_iec.specs.Pieces.{before}
 use Rattle.cbm_iec.specs.Seats.{Seat, device}

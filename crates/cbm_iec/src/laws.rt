@@ -1,7 +1,7 @@
 //! Laws of the definitions, each the contract of a function with nothing to do.
 
 ghost use Rattle.cbm_iec.specs.Joins.{JoinsItsParts, IsOnlyJoin};
-ghost use Rattle.cbm_iec.specs.Among.{FollowsCommandsAmong};
+ghost use Rattle.cbm_iec.specs.Buses.{FollowsBuses};
 ghost use Rattle.cbm_iec.specs.Following.{FollowsPieces, FollowsFronts, FollowsSessions};
 ghost use Rattle.cbm_iec.specs.Laws.{OnePulse, PulseEnds, ListenersAccepted, DrivesAccepted, CommandsGoInParts, BytesGoInParts, OneReading};
 ghost use Rattle.cbm_iec.specs.Rows.{ListenOwn, ListenOther, TalkCut, TalkCutEarly, TwoListeners, Ties98, Ties89, BesideAListener, SilentBeside};
@@ -64,7 +64,9 @@ pub fn follows_sessions()
     ensures { FollowsSessions }
 {}
 
-/// One of several drives follows each byte of an attention among the others: it makes its own part, is told the byte, and stands in hold again.
-pub fn follows_commands()
-    ensures { FollowsCommandsAmong }
+/// From rest each of one to four unlike drives on a bus follows every session among the host and the other drives, cut pieces too,
+/// whatever its reaction and theirs are (1 to 60 microseconds) and in any order of ties: its part of the trace is the session's, and
+/// it is told what counts for it.
+pub fn follows_buses()
+    ensures { FollowsBuses }
 {}
