@@ -267,7 +267,7 @@ among_front peek c y ys n {r} {r2} {q} (reacts t more d e sh l g) front h f =
     behind (x ∷ xs) zs a = behind xs zs a.1
 
 -- what is followed in order, with some step at a moment or behind it, is followed up to that moment
-among_cut : (peek : Option (ℕ × Bool)) (c : ℕ) (r r2 : Rest) (q q2 : Port) (ss : List Step) → FollowsAmong peek r q ss r2 q2 → InOrder ss → some_from c ss ≡ true
+pub among_cut : (peek : Option (ℕ × Bool)) (c : ℕ) (r r2 : Rest) (q q2 : Port) (ss : List Step) → FollowsAmong peek r q ss r2 q2 → InOrder ss → some_from c ss ≡ true
     → (r3 : Rest) × ((q3 : Port) × (FollowsAmong peek r q (before c ss) r3 q3 × IsInTime c (port_due q3)))
 among_cut peek c r r2 q q2 ss g order e = let cut = cut_front c ss order in go cut.0 cut.1 cut.2
   where
@@ -287,7 +287,7 @@ pub record CutResult (p : Point) (s : Seat) (w : Whole) (c : ℕ) (q : Port) (pe
   pub own : port.own ≡ held_by s.own (before c (own_part p w s))
   pub side : IsInTime c (port_due port)
 
-steps_order : (p : Point) (w : Whole) → Fits p w → InOrder (steps_of p w)
+pub steps_order : (p : Point) (w : Whole) → Fits p w → InOrder (steps_of p w)
 steps_order p w f = all_in_order (λ x. own_part p w x) (part_owned p w) (part_order p w f) (host_part p w) p.seats (host_order p w f)
 
 steps_silent : (p : Point) (w : Whole) (s : Seat) (c : ℕ) → CutFits p w c → NoAttention (steps_of p w)

@@ -1,25 +1,27 @@
 -- Every drive of a bus follows every session from rest.
-use Rattle.std.proofs.Common.{◌≡◌, ℕ, zero, ◌+◌, Bool, true, false, List, [], ◌∷◌, map, Option, ap, sym, ◌∙◌, subst, arith, refl}
+use Rattle.std.proofs.Common.{◌≡◌, ℕ, zero, ◌+◌, Bool, true, false, List, [], ◌∷◌, ◌++◌, map, Option, ap, sym, ◌∙◌, subst, arith, refl}
 use Rattle.std.specs.Prelude.{if◌then◌else◌, nat_eq}
 use Rattle.cbm_iec.proofs.AmongAnswers.{talker_law, nothing_law}
 use Rattle.cbm_iec.proofs.AmongFrames.{each_sits}
-use Rattle.cbm_iec.proofs.AmongFronts.{follows_rest, follows_wires, follows_drive, cut_among}
+use Rattle.cbm_iec.proofs.AmongFronts.{steps_order, among_cut, follows_rest, follows_wires, follows_drive, cut_among}
 use Rattle.cbm_iec.proofs.AmongPoints.{none_listen, next_party, whole_sound, cut_sound, AllSound, rest_sound}
 use Rattle.cbm_iec.proofs.AmongPulls.{pull_among}
 use Rattle.cbm_iec.proofs.AmongTalks.{command_law, byte_law, absent_byte_law, absent_talk_law, talk_law, side_there}
 use Rattle.cbm_iec.proofs.AmongTurns.{SeatLaw, with_role, listener_law, absent_law, nobody_law, absent_turn_law, absent_nothing_law}
 use Rattle.cbm_iec.proofs.Counted.{rest_after}
 use Rattle.cbm_iec.proofs.FollowedFrames.{wires}
+use Rattle.cbm_iec.proofs.Merging.{NoneBefore, InOrder, cut_front}
 use Rattle.cbm_iec.proofs.OneReading.{seat_of}
 use Rattle.cbm_iec.proofs.PieceReadings.{next_seat}
 use Rattle.cbm_iec.proofs.Standing.{SideAmong, IsSound, StandsAmong, rest_behind, AmongLaw}
 use Rattle.cbm_iec.proofs.Talkers.{silent_bus}
 use Rattle.cbm_iec.specs.Among.{Rest, wires_of, FollowsAmong}
-use Rattle.cbm_iec.specs.Buses.{is_held, one_if, holding, rest_at, SaysAs, FollowsAllAmong, EachFollows, FollowsBuses}
-use Rattle.cbm_iec.specs.Pieces.{Whole, Piece, Point, own_part, before, piece_steps, PieceFits, held_by, seat_with, whole_point, point_after, PullPiece, Command, Byte, ToListener, ToNobody, ToTalker, Nothing, Talk, Full, Cut, Listening, Leading}
+use Rattle.cbm_iec.specs.Buses.{is_held, one_if, holding, rest_at, SaysAs, FollowsUpTo, FollowsAllAmong, EachFollows, FollowsBuses}
+use Rattle.cbm_iec.specs.Pieces.{Whole, Piece, Point, own_part, steps_of, before, piece_steps, PieceFits, held_by, seat_with, whole_point, point_after, PullPiece, Command, Byte, ToListener, ToNobody, ToTalker, Nothing, Talk, Full, Cut, Listening, Leading}
 use Rattle.cbm_iec.specs.Ports.{resting}
 use Rattle.cbm_iec.specs.Seats.{lines, Seat, device, is_listener, is_talker, has_listener}
 use Rattle.cbm_iec.specs.Sessions.{rest, Linked}
+use Rattle.cbm_iec.specs.Steps.{Step, moment_of}
 use Rattle.cbm_iec.specs.declared.line.Line.TheVariants.{Atn, Clock, Data}
 use Rattle.cbm_iec.specs.declared.line.Line.{Line}
 use Rattle.cbm_iec.specs.declared.party.Party.{Party}
@@ -86,6 +88,23 @@ followed p s q q2 k r2 peek h t f g =
     subst (λ (b : Party). FollowsAmong peek (rest_at b.device p) q (piece_steps p k) (rest_at b.device (point_after p k)) q2) (sym t.party)
     (subst (λ (r : Rest). FollowsAmong peek (rest_at (device s) p) q (piece_steps p k) r q2) (left_is p s q q2 k r2 peek h t f g) g)
 
+-- a piece is in order, whole or cut
+order_left : (xs ys : List Step) → InOrder (xs ++ ys) → InOrder xs
+order_left [] ys o = tt
+order_left (x ∷ xs) ys o = (none_left xs o.0, order_left xs ys o.1)
+  where
+    none_left : (zs : List Step) → NoneBefore (moment_of x) (zs ++ ys) → NoneBefore (moment_of x) zs
+    none_left [] n = tt
+    none_left (z ∷ zs) n = (n.0, none_left zs n.1)
+
+piece_order : (p : Point) (k : Piece) → PieceFits p k → InOrder (piece_steps p k)
+piece_order p (Full w) f = steps_order p w f
+piece_order p (Cut w c) f = let o = steps_order p w f.0 in let cut = cut_front c (steps_of p w) o in order_left (before c (steps_of p w)) cut.0 (subst InOrder cut.1 o)
+
+-- so it is followed up to each moment
+up_to : (p : Point) (q q2 : Port) (k : Piece) (peek : Option (ℕ × Bool)) → PieceFits p k → FollowsAmong peek (rest_at q.party.device p) q (piece_steps p k) (rest_at q.party.device (point_after p k)) q2 → FollowsUpTo peek q p k
+up_to p q q2 k peek f g = λ c e. among_cut peek c (rest_at q.party.device p) (rest_at q.party.device (point_after p k)) q q2 (piece_steps p k) g (piece_order p k f) e
+
 follows_among : (ks : List Piece) (p : Point) (s : Seat) (q : Port) → IsSound p s → StandsAmong p s q → Linked p ks → FollowsAllAmong q p ks
 follows_among [] p s q h t l = tt
 follows_among (Full w ∷ ks) p s q h t l = λ peek y.
@@ -101,7 +120,8 @@ follows_among (Full w ∷ ks) p s q h t l = λ peek y.
       others = follows_wires peek x.follows t.others ∙ ap (λ (r : Rest). wires_of r) left ∙ ap (λ (b : Party). wires_of (rest_at b.device p2)) (sym same);
       side = x.side;
     } in
-    (x.port, (followed p s q x.port (Full w) x.rest peek h t l.0 x.follows, follows_among ks p2 s2 x.port (whole_sound p s w h l.0) there l.1))
+    let all = followed p s q x.port (Full w) x.rest peek h t l.0 x.follows in
+    (up_to p q x.port (Full w) peek l.0 all, (x.port, (all, follows_among ks p2 s2 x.port (whole_sound p s w h l.0) there l.1)))
 follows_among (Cut w c ∷ ks) p s q h t l = λ peek y.
     let whole = piece_among w p s q peek h t l.0.0 (says_whole s.role w c peek (subst (λ (r : Role). SaysAs r (Cut w c) peek) t.role y)) in
     let x = cut_among p s w c q peek h t l.0 whole in
@@ -115,7 +135,8 @@ follows_among (Cut w c ∷ ks) p s q h t l = λ peek y.
       others = follows_wires peek x.follows t.others ∙ ap (λ (r : Rest). wires_of r) left;
       side = x.side;
     } in
-    (x.port, (followed p s q x.port (Cut w c) x.rest peek h t l.0 x.follows, follows_among ks p2 s2 x.port (cut_sound p s w c h l.0) there l.1))
+    let all = followed p s q x.port (Cut w c) x.rest peek h t l.0 x.follows in
+    (up_to p q x.port (Cut w c) peek l.0 all, (x.port, (all, follows_among ks p2 s2 x.port (cut_sound p s w c h l.0) there l.1)))
 
 -- at rest nobody holds a line
 none_hold : (line : Line) (d : ℕ) (bs : List Party) → holding line d (map (λ b. seat_of b) bs) ≡ zero
