@@ -55,7 +55,7 @@ each_map : (P : Seat → Type 0) (f : Seat → Seat) (ss : List Seat) → Each (
 each_map P f [] h = tt
 each_map P f (x ∷ xs) h = (h.0, each_map P f xs h.1)
 
-every_seat : (P : Seat → Type 0) (ss : List Seat) → ((x : Seat) → P x) → Each P ss
+pub every_seat : (P : Seat → Type 0) (ss : List Seat) → ((x : Seat) → P x) → Each P ss
 every_seat P [] f = tt
 every_seat P (x ∷ xs) f = (f x, every_seat P xs f)
 

@@ -221,7 +221,7 @@ cut_merge c xs ys a b =
     ∙ ap (λ (zs : List Step). before c zs) (merge_split c (before c xs) x.0 (before c ys) y.0 (front_before c xs) x.2 (front_before c ys) y.2)
     ∙ cut_is c (merge (before c xs) (before c ys)) (merge x.0 y.0) (before_merge c (before c xs) (before c ys) (front_before c xs) (front_before c ys)) (none_merge c x.0 y.0 x.2 y.2)
 
-order_all : (own : Seat → List Step) → ((x : Seat) → InOrder (own x)) → (l : List Step) (xs : List Seat) → InOrder l → InOrder (merge_all l (map own xs))
+pub order_all : (own : Seat → List Step) → ((x : Seat) → InOrder (own x)) → (l : List Step) (xs : List Seat) → InOrder l → InOrder (merge_all l (map own xs))
 order_all own f l [] o = o
 order_all own f l (x ∷ xs) o = order_merge l (merge_all (own x) (map own xs)) o (order_all own f (own x) xs (f x))
 
@@ -246,7 +246,7 @@ owned_before o c (s ∷ ss) a = elim (leb_tells (suc (moment_of s)) c) [
 ]
 
 -- The host's steps of a piece are its part, among any number of drives.
-all_host : (ss : List Step) → AllMine 0 ss → AllMine 1 ss → AllHost ss
+pub all_host : (ss : List Step) → AllMine 0 ss → AllMine 1 ss → AllHost ss
 all_host [] a b = tt
 all_host (s ∷ ss) a b = (go s.event.who a.0 b.0, all_host ss a.1 b.1)
   where

@@ -134,7 +134,7 @@ cells_none m held pull (c ∷ cs) h l = go held c.bit c.set c.free c.pull h.0.se
     go true false set free next s a b n = (omega (arith, l, a), (omega (arith, l, a, b), n))
     go false true set free next s a b n = (omega (arith, l, a), (omega (arith, l, a, b), n))
 
-none_more : (m : ℕ) (xs ys : List Step) → NoneBefore m xs → NoneBefore m ys → NoneBefore m (xs ++ ys)
+pub none_more : (m : ℕ) (xs ys : List Step) → NoneBefore m xs → NoneBefore m ys → NoneBefore m (xs ++ ys)
 none_more m [] ys a b = b
 none_more m (x ∷ xs) ys a b = (a.0, none_more m xs ys a.1 b)
 
@@ -180,7 +180,7 @@ sending_order hs eoi f h l = (
     tail_late : (m : ℕ) → m ≤ end_of f → NoneBefore m tail
     tail_late m k = late_by (held_after false f.cells) m k
 
-starts_late : (hs : List Seat) (eoi : Bool) (f : Sent) → StartFits hs eoi f → f.ready ≤ f.start
+pub starts_late : (hs : List Seat) (eoi : Bool) (f : Sent) → StartFits hs eoi f → f.ready ≤ f.start
 starts_late hs true f h = omega (arith, h)
 starts_late hs false f h = let k = h.0 in omega (arith, k)
 

@@ -154,7 +154,7 @@ turn_rest : (d at : ℕ) (r : Role) (atn : Bool) (u : Under) (more own : List St
     → ReadsOwn d (known r false (freed_under r)) (merge more own) k3
 turn_rest d at r atn u more own k3 n q = (subst (λ (zs : List Step). ReadsOwn d (known r atn u) zs k3) (turn_first at more own n) q).1.1
 
-late_by_role : (m : ℕ) (r : Role) (a b : List Step) → NotBefore m a → NotBefore m b → NotBefore m (elim r as (λ q. List Step) [ Absent ↦ a | Listener ↦ [] | Talker ↦ b ])
+pub late_by_role : (m : ℕ) (r : Role) (a b : List Step) → NotBefore m a → NotBefore m b → NotBefore m (elim r as (λ q. List Step) [ Absent ↦ a | Listener ↦ [] | Talker ↦ b ])
 late_by_role m Absent a b x y = x
 late_by_role m Listener a b x y = tt
 late_by_role m Talker a b x y = y

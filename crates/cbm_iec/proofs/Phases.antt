@@ -53,7 +53,7 @@ pub before_all : (m : ℕ) (l : List Step) (own : Seat → List Step) (ss : List
 before_all m l own [] a h = a
 before_all m l own (s ∷ ss) a h = before_merge m l (merge_all (own s) (map own ss)) a (before_all m (own s) own ss h.0 h.1)
 
-none_all : (m : ℕ) (l : List Step) (own : Seat → List Step) (ss : List Seat) → NoneBefore m l → Each (λ s. NoneBefore m (own s)) ss → NoneBefore m (merge_all l (map own ss))
+pub none_all : (m : ℕ) (l : List Step) (own : Seat → List Step) (ss : List Seat) → NoneBefore m l → Each (λ s. NoneBefore m (own s)) ss → NoneBefore m (merge_all l (map own ss))
 none_all m l own [] a h = a
 none_all m l own (s ∷ ss) a h = none_merge m l (merge_all (own s) (map own ss)) a (none_all m (own s) own ss h.0 h.1)
 

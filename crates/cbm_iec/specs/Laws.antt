@@ -2,13 +2,15 @@
 use Rattle.std.specs.Prelude.{◌≡◌, ℕ, ◌+◌, ◌≤◌, ◌<◌, ◌⊎◌, Bool, true, false, List, [], ◌∷◌, ◌++◌, map}
 use Rattle.cbm_iec.specs.Bits.{where_held, cells_steps, held_after, byte_of}
 use Rattle.cbm_iec.specs.Frames.{Sent, wire, end_of, pulse_from, pulse_to, pulse, SentFits}
-use Rattle.cbm_iec.specs.Pieces.{Whole, Point, steps_of, Fits, whole_point, PullPiece, Command, Byte, ToListener, ToNobody, ToTalker, Nothing, Talk}
+use Rattle.cbm_iec.specs.Pieces.{Whole, Piece, Point, steps_of, Fits, whole_point, PullPiece, Command, Byte, ToListener, ToNobody, ToTalker, Nothing, Talk}
 use Rattle.cbm_iec.specs.Seats.{Seat, device, reaction, listeners, slowest, fastest}
-use Rattle.cbm_iec.specs.Sessions.{Begins, IsBus}
-use Rattle.cbm_iec.specs.Steps.{Step, host, drive, for_one, merge_all}
+use Rattle.cbm_iec.specs.Sessions.{rest, Linked, session_steps, Begins, IsBus}
+use Rattle.cbm_iec.specs.Steps.{Step, host, drive, for_one, moment_of, merge_all}
 use Rattle.cbm_iec.specs.declared.act.Act.TheVariants.{Attention, Heard}
 use Rattle.cbm_iec.specs.declared.act.Act.{Act}
 use Rattle.cbm_iec.specs.declared.event.Event.{Event}
+use Rattle.cbm_iec.specs.declared.event.Who.TheVariants.{Host, Drive}
+use Rattle.cbm_iec.specs.declared.event.Who.{Who}
 use Rattle.cbm_iec.specs.declared.line.Line.TheVariants.{Clock, Data}
 use Rattle.cbm_iec.specs.declared.line.Way.TheVariants.{Pull, Free}
 use Rattle.cbm_iec.specs.declared.party.Party.{Party}
@@ -82,6 +84,23 @@ CommandsGoInParts = (p : Point) (f : Sent) → SeatsReact p.seats → Fits p (Co
 
 abbrev pub BytesGoInParts : Type 0
 BytesGoInParts = (p : Point) (eoi : Bool) (f : Sent) → SeatsReact p.seats → Fits p (Byte eoi f) → steps_of p (Byte eoi f) ≡ frame_in_parts (listeners p.seats) eoi (Heard (byte_of f.cells) eoi) f
+
+-- A session's moments never go back, and a change of the host comes later than the drives' changes before it.
+abbrev pub NotSooner : Who → ℕ → Who → ℕ → Type 0
+NotSooner Host m w n = m ≤ n
+NotSooner (Drive o) m Host n = m < n
+NotSooner (Drive o) m (Drive u) n = m ≤ n
+
+abbrev pub AllAfter : Who → ℕ → List Step → Type 0
+AllAfter w m [] = Unit {0}
+AllAfter w m (s ∷ ss) = NotSooner w m s.event.who (moment_of s) × AllAfter w m ss
+
+abbrev pub GoesOn : List Step → Type 0
+GoesOn [] = Unit {0}
+GoesOn (s ∷ ss) = AllAfter s.event.who (moment_of s) ss × GoesOn ss
+
+abbrev pub SessionsGoOn : Type 0
+SessionsGoOn = (bs : List Party) (ks : List Piece) → IsBus bs → Linked (rest bs) ks → GoesOn (session_steps (rest bs) ks)
 
 -- A trace has only one reading: the acts that count in it are determined, for every bus.
 abbrev pub OneReading : Type 0
