@@ -8,7 +8,7 @@ use Rattle.cbm_iec.proofs.AmongCalm.{Every}
 use Rattle.cbm_iec.proofs.AmongPoints.{none_talk, every_seat, whole_sound, cut_sound, AllSound, rest_sound}
 use Rattle.cbm_iec.proofs.Around.{NotHost, merge_drives, every_each, every_drives}
 use Rattle.cbm_iec.proofs.Counted.{order_all, all_host}
-use Rattle.cbm_iec.proofs.FollowedFronts.{none_more, starts_late, host_order}
+use Rattle.cbm_iec.proofs.Orders.{none_more, starts_late, host_order}
 use Rattle.cbm_iec.proofs.FollowedSessions.{AllHost}
 use Rattle.cbm_iec.proofs.Merging.{merge_nil, NoneBefore, InOrder, none_sooner, by_head, none_merge, before_yes, before_no, AllBefore, front_before}
 use Rattle.cbm_iec.proofs.OneDrive.{AllUpTo, upto_append, last_after, cells_upto, upto_free, upto_held}
