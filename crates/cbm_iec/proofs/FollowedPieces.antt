@@ -2,10 +2,11 @@
 use Rattle.std.proofs.Common.{◌≡◌, ℕ, ◌+◌, ◌≤◌, inl, inr, Bool, true, false, not, List, [], ◌∷◌, ◌++◌, Option, Some, None, ap, sym, ◌∙◌, subst, arith, refl}
 use Rattle.std.specs.Prelude.{if◌then◌else◌}
 use Rattle.std.proofs.lemmas.Bool.Decides.{leb_tells}
-use Rattle.cbm_iec.proofs.FollowedFrames.{wires, stands, frame_follows}
+use Rattle.cbm_iec.proofs.AloneFrames.{frame_follows, last_frame_follows}
+use Rattle.cbm_iec.proofs.FollowedFrames.{wires, stands, told_by, held_again}
 use Rattle.cbm_iec.proofs.FollowedTalk.{said_port, told_follows}
 use Rattle.cbm_iec.proofs.Merging.{merge_here, merge_there}
-use Rattle.cbm_iec.proofs.OneDrive.{StartsBehind, pull_is, told_is, frame_is}
+use Rattle.cbm_iec.proofs.OneDrive.{one_frame, StartsBehind, pull_is, told_is, frame_is}
 use Rattle.cbm_iec.proofs.PieceReadings.{seat, turn_first}
 use Rattle.cbm_iec.specs.Bits.{where_held, where_free, number_of, byte_of}
 use Rattle.cbm_iec.specs.Following.{IsInTime, Follows, alone, in_attention, SideAt, LinesAt, StandsAt, Says, FollowsPieces, ends, tells, reacts}
@@ -130,13 +131,13 @@ starts_alone : (s : Seat) (eoi : Bool) (f : Sent) → SentFits (s ∷ []) eoi f 
 starts_alone s true f h = let k = h.start in (omega arith, omega (arith, k))
 starts_alone s false f h = h.start.0
 
-command_law : (s : Seat) (f : Sent) → Law (Command f) s
-command_law s f p q peek h k y =
+command_law : (s : Seat) (f : Sent) → 1 ≤ reaction s → reaction s ≤ 60 → Law (Command f) s
+command_law s f r u p q peek h k y =
     let c = is_commanding k.0 in
     let same = at_commanding p s q h c.0 c.1 in
     let byte = byte_of f.cells in
     let q2 = stands s.party (role_after (device s) byte s.role) (lines false true) (wires true true false) (Hearing Holding) in
-    let all = frame_follows peek s.party s.role true false s.own f k.3 in (
+    let all = frame_follows peek s.party s.role s.own f r u true k.3 in (
       q2,
       (
         obeying byte s,
@@ -149,12 +150,17 @@ command_law s f p q peek h k y =
       ),
     )
 
-byte_law : (b : Party) (o : Held) (eoi : Bool) (f : Sent) → Law (Byte eoi f) (seat b Listener o)
-byte_law b o eoi f p q peek h k y =
+byte_follows : (peek : Option (ℕ × Bool)) (b : Party) (o : Held) (eoi : Bool) (f : Sent) → 1 ≤ b.reaction → b.reaction ≤ 60 → SentFits (seat b Listener o ∷ []) eoi f
+    → Follows peek (stands b Listener (lines false true) (wires false true false) (Hearing Holding)) (one_frame (f.ready + b.reaction) (seat b Listener o) eoi (told_by peek b Listener false (byte_of f.cells) eoi) f) (held_again peek b Listener false (byte_of f.cells))
+byte_follows peek b o true f r u h = last_frame_follows peek b Listener o f r u h
+byte_follows peek b o false f r u h = frame_follows peek b Listener o f r u false h
+
+byte_law : (b : Party) (o : Held) (eoi : Bool) (f : Sent) → 1 ≤ b.reaction → b.reaction ≤ 60 → Law (Byte eoi f) (seat b Listener o)
+byte_law b o eoi f r u p q peek h k y =
     let s = seat b Listener o in
     let same = at_listening p s q h k.0 in
     let q2 = stands b Listener (lines false true) (wires false true false) (Hearing Holding) in
-    let all = frame_follows peek b Listener false eoi o f k.3 in (
+    let all = byte_follows peek b o eoi f r u k.3 in (
       q2,
       (
         seat b Listener (lines false true),
@@ -323,8 +329,8 @@ listens_listener p s q h e = let side : SideAt Listening s.role q.side = subst (
 
 pub follows_pieces : FollowsPieces
 follows_pieces p s (PullPiece at) q peek r prompt h f y = pull_law s at p q peek h f y
-follows_pieces p s (Command g) q peek r prompt h f y = command_law s g p q peek h f y
-follows_pieces p s (Byte eoi g) q peek r prompt h f y = as_role (Byte eoi g) s Listener (listens_listener p s q h f.0) (byte_law s.party s.own eoi g) p q peek h f y
+follows_pieces p s (Command g) q peek r prompt h f y = command_law s g r prompt p q peek h f y
+follows_pieces p s (Byte eoi g) q peek r prompt h f y = as_role (Byte eoi g) s Listener (listens_listener p s q h f.0) (byte_law s.party s.own eoi g r prompt) p q peek h f y
 follows_pieces p s (ToListener at) q peek r prompt h f y = as_role (ToListener at) s Listener (one_listens s.role f.listener) (listener_law s.party s.own at) p q peek h f y
 follows_pieces p s (ToNobody at clock) q peek r prompt h f y = as_role (ToNobody at clock) s Absent (one_absent s.role f.0.listener f.0.talker) (nobody_law s.party s.own at clock) p q peek h f y
 follows_pieces p s (ToTalker at clock) q peek r prompt h f y = as_role (ToTalker at clock) s Talker (one_talks s.role f.0.talker) (talker_law s.party s.own at clock r) p q peek h f y

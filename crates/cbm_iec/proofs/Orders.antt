@@ -1,26 +1,17 @@
 -- The host's part of each piece is in order.
-use Rattle.std.proofs.Common.{append_assoc, append-nil, not, ◌≡◌, ℕ, ◌+◌, ◌≤◌, ◌<◌, ◌⊎◌, inl, inr, Bool, true, false, List, [], ◌∷◌, ◌++◌, Option, Some, None, ap, sym, ◌∙◌, subst, arith, refl}
-use Rattle.std.specs.Prelude.{if◌then◌else◌}
-use Rattle.std.proofs.lemmas.Bool.{lt-leb}
+use Rattle.std.proofs.Common.{append_assoc, not, ℕ, ◌+◌, ◌≤◌, Bool, true, false, List, [], ◌∷◌, ◌++◌, Option, Some, None, sym, subst, arith}
 use Rattle.cbm_iec.proofs.Decoding.{next}
-use Rattle.cbm_iec.proofs.Merging.{NoneBefore, InOrder, order_merge, cut_front, AllBefore, front_before}
+use Rattle.cbm_iec.proofs.Merging.{NoneBefore, InOrder}
 use Rattle.cbm_iec.proofs.OneDrive.{last_after}
 use Rattle.cbm_iec.proofs.OneReading.{freed_order, taking_order}
-use Rattle.cbm_iec.proofs.Owning.{part_order}
 use Rattle.cbm_iec.specs.Bits.{where_held, where_free, Cell, cell_steps, cells_steps, held_after, last_pull, SetFits, CellsFit}
-use Rattle.cbm_iec.specs.Following.{IsInTime, IsLater, own_steps, reaction_steps, Follows, alone, FollowsFronts, ends, tells, reacts}
 use Rattle.cbm_iec.specs.Frames.{Sent, end_of, sending, StartFits, SentFits}
-use Rattle.cbm_iec.specs.Pieces.{Whole, Point, freed_steps, host_part, own_part, steps_of, before, FreedFits, Fits, some_from, PullPiece, Command, Byte, ToListener, ToNobody, ToTalker, Nothing, Talk}
-use Rattle.cbm_iec.specs.Ports.{port_due, has_byte, next_held, reaction_act, changed}
+use Rattle.cbm_iec.specs.Pieces.{Whole, Point, freed_steps, host_part, FreedFits, Fits, PullPiece, Command, Byte, ToListener, ToNobody, ToTalker, Nothing, Talk}
 use Rattle.cbm_iec.specs.Seats.{Seat, talker_of, listeners}
-use Rattle.cbm_iec.specs.Sessions.{rest}
-use Rattle.cbm_iec.specs.Steps.{Step, event_of, host, for_each, moment_of}
+use Rattle.cbm_iec.specs.Steps.{Step, host, for_each}
 use Rattle.cbm_iec.specs.declared.act.Act.TheVariants.{Pulled, Released}
-use Rattle.cbm_iec.specs.declared.act.Act.{Act}
-use Rattle.cbm_iec.specs.declared.event.Who.TheVariants.{Host}
 use Rattle.cbm_iec.specs.declared.line.Line.TheVariants.{Atn, Clock, Data}
 use Rattle.cbm_iec.specs.declared.line.Way.TheVariants.{Pull, Free}
-use Rattle.cbm_iec.specs.declared.port.Port.{Port}
 
 -- the host's part of a piece is in order
 cells_none : (m : ℕ) (held : Bool) (pull : ℕ) (cs : List Cell) → CellsFit held pull cs → m ≤ pull → NoneBefore m (cells_steps held cs)
