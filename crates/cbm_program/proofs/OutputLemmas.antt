@@ -1,7 +1,7 @@
 -- Text that was written piece by piece.
 use Rattle.std.proofs.Common.{◌≡◌, ℕ, List, [], ◌++◌, take, drop, Option, Some, None, ap, sym, ◌∙◌, append_assoc, append-nil, take-append-drop}
 use Rattle.std.specs.Io.KnownBytes.{Appends, Keeps}
-use Rattle.cbm_program.specs.Output.{AppendsPart}
+use Rattle.cbm_program.specs.Output.{AppendsPart, Grows}
 
 pub appends-nothing : (o : Option (List ℕ)) → Appends o o []
 appends-nothing None = tt
@@ -18,6 +18,13 @@ appends-kept None b c xs h k = tt
 appends-kept (Some l) None c xs h k = absurd h
 appends-kept (Some l) (Some m) None xs h k = absurd k
 appends-kept (Some l) (Some m) (Some n) xs h k = k ∙ h
+
+-- what only grows
+pub grows_none : (o : Option (List ℕ)) → Grows o o
+grows_none o = ([], appends-nothing o)
+
+pub grows_on : (a b c : Option (List ℕ)) → Grows a b → Grows b c → Grows a c
+grows_on a b c (xs, h) (ys, k) = (xs ++ ys, appends-more a b c xs ys h k)
 
 pub part_behind : (a b c : Option (List ℕ)) (xs ys : List ℕ) → Appends a b xs → AppendsPart b c ys → AppendsPart a c (xs ++ ys)
 part_behind a b c xs ys h (part, rest, k, e) =

@@ -1,6 +1,6 @@
 -- From a machine at power up to the run of a script.
 use Rattle.std.proofs.Common.{◌≡◌, ℕ, List, [], Bool, Option, Some, None, refl, sym, subst}
-use Rattle.std.specs.Prelude.{IfSome, Result, Err}
+use Rattle.std.specs.Prelude.{IfSome, Result, Ok, Err}
 use Rattle.cbm_medium.specs.Content.{Content}
 use Rattle.cbm_volume.specs.Holding.{HoldsDisk}
 use Rattle.cbm_channel.specs.Files.{Disk}
@@ -10,12 +10,12 @@ use Rattle.cbm_program.specs.declared.fault.RunFault.{RunFault}
 use Rattle.cbm_program.specs.declared.fault.RunFault.TheVariants.{Script, Image, Memory, Reading, Writing}
 use Rattle.cbm_program.specs.Scripts.{printed}
 use Rattle.std.specs.Io.KnownBytes.{Appends}
-use Rattle.cbm_program.specs.Output.{AppendsPart, Prints, PrintsPart}
+use Rattle.cbm_program.specs.Output.{AppendsPart, Grows, Prints, PrintsPart}
 use Rattle.cbm_program.specs.Running.{script_of, AreCarriedOut, EndsAs, EndsBy}
 use Rattle.cbm_program.specs.declared.kind.Kind.{Kind}
 use Rattle.cbm_program.specs.Images.{StartsOn, tracks_of, content_of, ImageHolds, IsOf}
 use Rattle.cbm_program.proofs.OutputLemmas.{appends-nothing, appends-more, part_behind, part_before, whole_part}
-use Rattle.cbm_program.specs.Checking.{checked_text, printed_behind}
+use Rattle.cbm_program.specs.Checking.{checked_text, IsCheckPrinted, IsCheckedFirst, printed_behind}
 use Rattle.cbm_program.proofs.RunLemmas.{Ended, Begun}
 
 -- each machine of one kind is one of the other
@@ -65,6 +65,15 @@ ends-err Writing P Q h w = tt
 pub ends-again : {B : Type 0} (r : Result B RunFault) (f : RunFault) (P Q : Option ℕ → Type 0) → EndsBy f P → r ≡ Err f
     → ((bad : Option ℕ) → P bad → Q bad) → EndsAs r Q
 ends-again r f P Q h e w = subst (λ v. EndsAs v Q) (sym e) (ends-err f P Q h w)
+
+-- what holds whatever the end is
+pub ends-any : {B : Type 0} (r : Result B RunFault) (P : Option ℕ → Type 0) → ((bad : Option ℕ) → P bad) → EndsAs r P
+ends-any (Ok _) P h = h None
+ends-any (Err (Script line)) P h = h (Some line)
+ends-any (Err (Image n)) P h = tt
+ends-any (Err Memory) P h = tt
+ends-any (Err Reading) P h = tt
+ends-any (Err Writing) P h = tt
 
 -- ---- behind the line of a check
 
@@ -145,3 +154,13 @@ behind-begun checks a b (Some xs) stood now e = λ m s. whole_part a b (printed_
 pub nothing-begun : (checks : Bool) (a x : Option (List ℕ)) (stood : Machine → Type 0) → BegunBehind checks a a x stood
 nothing-begun checks a None stood = tt
 nothing-begun checks a (Some xs) stood = λ m s. ([], (printed_behind checks (script_of xs).requests m).text, appends-nothing a, refl)
+
+-- the line of the check of a medium is that of the image
+pub checked-as : (kind other : Kind) (image : List ℕ) (tracks : ℕ) (content : Content) (a b : Option (List ℕ)) → other ≡ kind → IsOf kind image tracks content
+    → IsCheckedFirst tracks content a b → IsCheckedFirst (tracks_of other image) (content_of other image) a b
+checked-as kind other image tracks content a b same is h = rw same
+    (subst (λ c. IsCheckedFirst (tracks_of kind image) c a b) (sym is.same_content) (subst (λ n. IsCheckedFirst n content a b) (sym is.same_tracks) h))
+
+-- the check of a medium, and what was printed behind its line
+pub checked-first : (tracks : ℕ) (content : Content) (a b c : Option (List ℕ)) → IsCheckPrinted tracks content a b → Grows b c → IsCheckedFirst tracks content a c
+checked-first tracks content a b c h g = (b, h, g)

@@ -1,5 +1,5 @@
 -- What is printed of a check, before a script runs.
-use Rattle.std.specs.Prelude.{ℕ, ◌≡◌, ◌⊎◌, List, [], ◌++◌, codes, decimal, Bool, true, false, if◌then◌else◌, Option, Result, Ok, Err}
+use Rattle.std.specs.Prelude.{ℕ, ◌⊎◌, List, [], ◌++◌, codes, decimal, Bool, if◌then◌else◌, Option, Result, Ok, Err}
 use Rattle.std.specs.Io.KnownBytes.{Appends}
 use Rattle.cbm_medium.specs.Content.{Content}
 use Rattle.cbm_volume.specs.Map.{geometry_of}
@@ -8,6 +8,7 @@ use Rattle.cbm_volume.specs.Unsound.{DiskFault}
 use Rattle.cbm_volume.specs.declared.Unsound.{Unsound}
 use Rattle.cbm_channel.specs.Machines.{Machine}
 use Rattle.cbm_program.specs.declared.request.Request.{Request}
+use Rattle.cbm_program.specs.Output.{Grows}
 use Rattle.cbm_program.specs.Scripts.{Printed, printed}
 
 -- the line of a sound disk
@@ -32,6 +33,10 @@ abbrev pub IsCheckPrinted : ℕ → Content → Option (List ℕ) → Option (Li
 IsCheckPrinted tracks content old new =
     (((l : Layout) × Sound (geometry_of tracks content) content l) × Appends old new sound_line)
     ⊎ ((u : Unsound) × DiskFault (geometry_of tracks content) content u × Appends old new (unsound_line u))
+
+-- The line of the check was printed first, and only then anything else.
+abbrev pub IsCheckedFirst : ℕ → Content → Option (List ℕ) → Option (List ℕ) → Type 0
+IsCheckedFirst tracks content old new = (between : Option (List ℕ)) × IsCheckPrinted tracks content old between × Grows between new
 
 -- what a script prints, behind the line of the check if one is asked for
 abbrev pub printed_behind : Bool → List Request → Machine → Printed

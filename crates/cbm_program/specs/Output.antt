@@ -8,6 +8,10 @@ use Rattle.cbm_program.specs.Scripts.{Printed}
 abbrev pub AppendsPart : Option (List ℕ) → Option (List ℕ) → List ℕ → Type 0
 AppendsPart old new bytes = (part : List ℕ) × (rest : List ℕ) × Appends old new part × (bytes ≡ part ++ rest)
 
+-- known bytes only grew
+abbrev pub Grows : Option (List ℕ) → Option (List ℕ) → Type 0
+Grows old new = (more : List ℕ) × Appends old new more
+
 -- For each machine that stood before, what it prints was written, and the machine behind that stands now.
 abbrev pub Prints : Option (List ℕ) → Option (List ℕ) → (Machine → Type 0) → (Machine → Type 0) → (Machine → Printed) → Type 0
 Prints old new stood stands step = (m : Machine) → stood m → Appends old new (step m).text × stands (step m).machine

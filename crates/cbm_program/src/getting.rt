@@ -6,7 +6,7 @@ ghost use Rattle.cbm_channel.specs.Standing.{Stands};
 ghost use Rattle.cbm_channel.specs.Talking.{peek};
 ghost use Rattle.cbm_program.specs.declared.request.Request.TheVariants.{Get};
 ghost use Rattle.cbm_program.specs.Scripts.{hex_digit, printed_by};
-ghost use Rattle.cbm_program.specs.Output.{AppendsPart, Prints, PrintsPart};
+ghost use Rattle.cbm_program.specs.Output.{AppendsPart, Grows, Prints, PrintsPart};
 ghost use Rattle.cbm_program.specs.Units.{unit_text, unit, units, is_more, has_unit, get_head};
 ghost use Rattle.cbm_program.specs.Running.{IsOfWriting};
 
@@ -29,6 +29,7 @@ fn hex_digit(n: u8) -> u8
 fn print_byte<W: Write>(writer: &mut W, byte: u8, is_last: bool) -> Result<(), RunFault>
     ensures ok { OnOk result (Appends (W.contents writer.old) (W.contents writer.new) (unit_text (Some (byte, is_last)))) }
     ensures err { OnErr result (AppendsPart (W.contents writer.old) (W.contents writer.new) (unit_text (Some (byte, is_last)))) }
+    ensures grows { Grows (W.contents writer.old) (W.contents writer.new) }
     ensures fault { IfErr result IsOfWriting }
 {
     let high = hex_digit(byte / 16);
@@ -51,6 +52,7 @@ fn print_unit<M: Medium, W: Write>(
         (Stands M.tracks M.content M.protected dos.old) (Stands M.tracks M.content M.protected dos.new) (unit channel)) }
     ensures more { IfOk result (λ more. (m : Machine) → Stands M.tracks M.content M.protected dos.old m → more ≡ is_more (peek channel m)) }
     ensures err { OnErr result (PrintsPart (W.contents writer.old) (W.contents writer.new) (Stands M.tracks M.content M.protected dos.old) (unit channel)) }
+    ensures grows { Grows (W.contents writer.old) (W.contents writer.new) }
     ensures fault { IfErr result IsOfWriting }
 {
     let Some((byte, is_last)) = dos.peek(channel) else {
@@ -72,6 +74,7 @@ fn print_units<M: Medium, W: Write>(
     ensures ok { OnOk result (Prints (W.contents writer.old) (W.contents writer.new)
         (Stands M.tracks M.content M.protected dos.old) (Stands M.tracks M.content M.protected dos.new) (units most channel)) }
     ensures err { OnErr result (PrintsPart (W.contents writer.old) (W.contents writer.new) (Stands M.tracks M.content M.protected dos.old) (units most channel)) }
+    ensures grows { Grows (W.contents writer.old) (W.contents writer.new) }
     ensures fault { IfErr result IsOfWriting }
 {
     'bytes: for done in 0..most {
@@ -87,6 +90,7 @@ fn print_head<W: Write>(writer: &mut W, channel: u8, tail: &[u8]) -> Result<(), 
     requires { length tail.now ≤ 8 }
     ensures ok { OnOk result (Appends (W.contents writer.old) (W.contents writer.new) (get_head channel tail.now)) }
     ensures err { OnErr result (AppendsPart (W.contents writer.old) (W.contents writer.new) (get_head channel tail.now)) }
+    ensures grows { Grows (W.contents writer.old) (W.contents writer.new) }
     ensures fault { IfErr result IsOfWriting }
 {
     let mut line = ArrayVec::<u8, 64>::new();
@@ -121,6 +125,7 @@ pub(crate) fn print_get<M: Medium, W: Write>(
         (Stands M.tracks M.content M.protected dos.old) (Stands M.tracks M.content M.protected dos.new) (printed_by (Get channel most))) }
     ensures err { OnErr result (PrintsPart (W.contents writer.old) (W.contents writer.new)
         (Stands M.tracks M.content M.protected dos.old) (printed_by (Get channel most))) }
+    ensures grows { Grows (W.contents writer.old) (W.contents writer.new) }
     ensures fault { IfErr result IsOfWriting }
 {
     dos.talk(channel);

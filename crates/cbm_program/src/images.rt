@@ -1,12 +1,12 @@
 //! Running a script on the disk of an image.
-ghost use Rattle.std.specs.Prelude.{◌≡◌, ◌≢◌, ℕ, length, Some, None, Err, IfSome, IfOk, IfErr, OnErr};
+ghost use Rattle.std.specs.Prelude.{◌≡◌, ◌≢◌, ℕ, true, length, Some, None, Err, IfSome, IfOk, IfErr, OnErr};
 ghost use Rattle.std.specs.Io.KnownBytes.{Keeps};
 ghost use Rattle.cbm_d64.specs.Image as d64;
 ghost use Rattle.cbm_g64.specs.Tracks as circles;
 ghost use Rattle.cbm_volume.specs.Holding.{HoldsDisk};
 ghost use Rattle.cbm_program.specs.declared.kind.Kind.TheVariants.{D64, G64};
-ghost use Rattle.cbm_program.specs.Checking.{printed_behind};
-ghost use Rattle.cbm_program.specs.Output.{Prints, PrintsPart};
+ghost use Rattle.cbm_program.specs.Checking.{printed_behind, IsCheckedFirst};
+ghost use Rattle.cbm_program.specs.Output.{Grows, Prints, PrintsPart};
 ghost use Rattle.cbm_program.specs.Running.{script_of, AreCarriedOut, EndsAs};
 ghost use Rattle.cbm_program.specs.Images.{kind_of, image_fault, tracks_of, content_of, ImageHolds, StartsOn, Begins, IsOf, IsRefusal};
 
@@ -99,6 +99,9 @@ fn run_with<M: Medium + Drop, R: Read + Drop, W: Write>(
         PrintsPart (W.contents writer.old) (W.contents writer.new)
         (λ m. AreCarriedOut (script_of input).requests m × StartsOn (M.tracks medium) (M.content medium) (M.protected medium) m)
         (printed_behind checks (script_of input).requests))) }
+    // Of any medium the line of the check is printed first, where one is asked for.
+    ensures checked { checks ≡ true → EndsAs result (λ bad. IsCheckedFirst (M.tracks medium) (M.content medium) (W.contents writer.old) (W.contents writer.new)) }
+    ensures grows { Grows (W.contents writer.old) (W.contents writer.new) }
     ensures image { IfErr result (λ fault. (n : ℕ) → fault ≢ RunFault.Image n) }
 {
     let volume = Volume::open(medium);
@@ -131,6 +134,11 @@ fn run_d64<R: Read + Drop, W: Write>(
     ensures fault { OnErr result (IfSome (R.remaining reader) (λ input.
         PrintsPart (W.contents writer.old) (W.contents writer.new) (Begins image.now options.now.protected (script_of input).requests)
         (printed_behind options.now.check (script_of input).requests))) }
+
+    // Of any image the line of the check is printed first, where one is asked for, and all that is printed is added to what was written.
+    ensures checked { options.now.check ≡ true → EndsAs result (λ bad. IsCheckedFirst (tracks_of (kind_of image.now) image.now) (content_of (kind_of image.now) image.now)
+        (W.contents writer.old) (W.contents writer.new)) }
+    ensures grows { Grows (W.contents writer.old) (W.contents writer.new) }
 
     // The image is refused by its own fault, before anything is read or written, and by no other.
     ensures refused { IfSome (image_fault (kind_of image.now) image.now)
@@ -165,6 +173,11 @@ fn run_g64<R: Read + Drop, W: Write>(
     ensures fault { OnErr result (IfSome (R.remaining reader) (λ input.
         PrintsPart (W.contents writer.old) (W.contents writer.new) (Begins image.now options.now.protected (script_of input).requests)
         (printed_behind options.now.check (script_of input).requests))) }
+
+    // Of any image the line of the check is printed first, where one is asked for, and all that is printed is added to what was written.
+    ensures checked { options.now.check ≡ true → EndsAs result (λ bad. IsCheckedFirst (tracks_of (kind_of image.now) image.now) (content_of (kind_of image.now) image.now)
+        (W.contents writer.old) (W.contents writer.new)) }
+    ensures grows { Grows (W.contents writer.old) (W.contents writer.new) }
 
     // The image is refused by its own fault, before anything is read or written, and by no other.
     ensures refused { IfSome (image_fault (kind_of image.now) image.now)
@@ -201,6 +214,11 @@ pub fn run<R: Read + Drop, W: Write>(
     ensures fault { OnErr result (IfSome (R.remaining reader) (λ input.
         PrintsPart (W.contents writer.old) (W.contents writer.new) (Begins image.now options.now.protected (script_of input).requests)
         (printed_behind options.now.check (script_of input).requests))) }
+
+    // Of any image the line of the check is printed first, where one is asked for, and all that is printed is added to what was written.
+    ensures checked { options.now.check ≡ true → EndsAs result (λ bad. IsCheckedFirst (tracks_of (kind_of image.now) image.now) (content_of (kind_of image.now) image.now)
+        (W.contents writer.old) (W.contents writer.new)) }
+    ensures grows { Grows (W.contents writer.old) (W.contents writer.new) }
 
     // The image is refused by its own fault, before anything is read or written, and by no other.
     ensures refused { IfSome (image_fault (kind_of image.now) image.now)

@@ -2,7 +2,7 @@
 ghost use Rattle.std.specs.Prelude.{◌≡◌, IfErr, OnOk, OnErr};
 ghost use Rattle.cbm_channel.specs.Standing.{Stands};
 ghost use Rattle.cbm_program.specs.Scripts.{printed, printed_by};
-ghost use Rattle.cbm_program.specs.Output.{Prints, PrintsPart};
+ghost use Rattle.cbm_program.specs.Output.{Grows, Prints, PrintsPart};
 ghost use Rattle.cbm_program.specs.Running.{HasChannel, LineHasChannel, IsRequestCarriedOut, AreCarriedOut, requests_in, IsOfWriting};
 
 use crate::fault::RunFault;
@@ -28,6 +28,7 @@ fn perform<M: Medium, W: Write>(
         (Stands M.tracks M.content M.protected dos.new) (printed_by request.now)) }
     ensures err { OnErr result (PrintsPart (W.contents writer.old) (W.contents writer.new)
         (λ m. IsRequestCarriedOut request.now m × Stands M.tracks M.content M.protected dos.old m) (printed_by request.now)) }
+    ensures grows { Grows (W.contents writer.old) (W.contents writer.new) }
     ensures fault { IfErr result IsOfWriting }
 {
     match request {
@@ -64,6 +65,7 @@ pub(crate) fn perform_line<M: Medium, W: Write>(
         (Stands M.tracks M.content M.protected dos.new) (printed (requests_in line.now))) }
     ensures err { OnErr result (PrintsPart (W.contents writer.old) (W.contents writer.new)
         (λ m. AreCarriedOut (requests_in line.now) m × Stands M.tracks M.content M.protected dos.old m) (printed (requests_in line.now))) }
+    ensures grows { Grows (W.contents writer.old) (W.contents writer.new) }
     ensures fault { IfErr result IsOfWriting }
 {
     match line {

@@ -4,7 +4,7 @@ ghost use Rattle.cbm_channel.specs.Machines.{Machine};
 ghost use Rattle.cbm_channel.specs.Standing.{Stands};
 ghost use Rattle.cbm_program.specs.Lines.{bytes_left};
 ghost use Rattle.cbm_program.specs.Scripts.{printed};
-ghost use Rattle.cbm_program.specs.Output.{Prints, PrintsPart};
+ghost use Rattle.cbm_program.specs.Output.{Grows, Prints, PrintsPart};
 ghost use Rattle.cbm_program.specs.Running.{script_of, AreCarriedOut, LineRead, EndsAs};
 
 use crate::fault::RunFault;
@@ -61,6 +61,7 @@ pub(crate) fn run_on<M: Medium, R: Read + Drop, W: Write>(
         PrintsPart (W.contents writer.old) (W.contents writer.new)
         (λ m. AreCarriedOut (script_of input).requests m × Stands M.tracks M.content M.protected dos.old m)
         (printed (script_of input).requests))) }
+    ensures grows { Grows (W.contents writer.old) (W.contents writer.new) }
     ensures image { IfErr result (λ fault. (n : ℕ) → fault ≢ RunFault.Image n) }
 {
     let mut lines = Lines::new(reader);

@@ -5,7 +5,7 @@ ghost use Rattle.cbm_channel.specs.Standing.{Stands};
 ghost use Rattle.cbm_channel.specs.Calls.{without_return};
 ghost use Rattle.cbm_program.specs.declared.request.Request.TheVariants.{Status};
 ghost use Rattle.cbm_program.specs.Scripts.{status_said, printed_by};
-ghost use Rattle.cbm_program.specs.Output.{Prints, PrintsPart};
+ghost use Rattle.cbm_program.specs.Output.{Grows, Prints, PrintsPart};
 ghost use Rattle.cbm_program.specs.Running.{IsOfWriting};
 
 use crate::fault::RunFault;
@@ -58,6 +58,7 @@ pub(crate) fn print_status<M: Medium, W: Write>(
         (Stands M.tracks M.content M.protected dos.old) (Stands M.tracks M.content M.protected dos.new) (printed_by Status)) }
     ensures err { OnErr result (PrintsPart (W.contents writer.old) (W.contents writer.new)
         (Stands M.tracks M.content M.protected dos.old) (printed_by Status)) }
+    ensures grows { Grows (W.contents writer.old) (W.contents writer.new) }
     ensures fault { IfErr result IsOfWriting }
 {
     let told = status_line(dos);

@@ -4,7 +4,7 @@ ghost use Rattle.std.specs.Io.KnownBytes.{Appends};
 ghost use Rattle.cbm_channel.specs.Files.{Disk};
 ghost use Rattle.cbm_volume.specs.Holding.{HoldsDisk};
 ghost use Rattle.cbm_program.specs.Checking.{check_line, checked_text, IsCheckPrinted};
-ghost use Rattle.cbm_program.specs.Output.{AppendsPart};
+ghost use Rattle.cbm_program.specs.Output.{AppendsPart, Grows};
 ghost use Rattle.cbm_program.specs.Running.{IsOfWriting};
 
 use crate::fault::RunFault;
@@ -48,6 +48,7 @@ fn print_line<M: Medium, W: Write>(volume: &Volume<M>, writer: &mut W) -> Result
     ensures err { (d : Disk) → HoldsDisk (M.tracks volume.now) (M.content volume.now) d
         → OnErr result (AppendsPart (W.contents writer.old) (W.contents writer.new) (checked_text true)) }
     ensures said { OnOk result (IsCheckPrinted (M.tracks volume.now) (M.content volume.now) (W.contents writer.old) (W.contents writer.new)) }
+    ensures grows { Grows (W.contents writer.old) (W.contents writer.new) }
     ensures fault { IfErr result IsOfWriting }
 {
     let answer = volume.check();
@@ -65,6 +66,7 @@ pub(crate) fn print_check<M: Medium, W: Write>(
     ensures err { (d : Disk) → HoldsDisk (M.tracks volume.now) (M.content volume.now) d
         → OnErr result (AppendsPart (W.contents writer.old) (W.contents writer.new) (checked_text checks)) }
     ensures said { checks ≡ true → OnOk result (IsCheckPrinted (M.tracks volume.now) (M.content volume.now) (W.contents writer.old) (W.contents writer.new)) }
+    ensures grows { Grows (W.contents writer.old) (W.contents writer.new) }
     ensures fault { IfErr result IsOfWriting }
 {
     if checks {

@@ -1,6 +1,7 @@
 use Rattle.std.proofs.Common.{sym, ◌∙◌}
 use Rattle.std.proofs.lemmas.Result.{err_from_is_err_and, on_ok_weaker, on_err_weaker}
 use Rattle.cbm_channel.specs.Standing.{Stands}
+use Rattle.cbm_program.proofs.OutputLemmas.{grows_on}
 use Rattle.cbm_program.proofs.SaidLemmas.{got-none, got-none-part, got-head-part, got-bytes-part, got-end-part, got-all}
 use Rattle.cbm_program.proofs.getting.print_get.Goals as goal
 
@@ -44,3 +45,10 @@ returns-clause-err g c =
     let stands = Stands g.M.Medium.tracks g.M.Medium.content g.M.Medium.protected in
     on_err_weaker c.print.result (λ part. got-end-part _ _ _ _ (stands c.args.dos.now) (stands c.talk.new.self) (stands c.print_units.new.dos) _ _ c.talk.ensures.leads
     (λ m s. sym c.if-not-has_unit.false ∙ c.has_unit.ensures m s) c.in_ok-print_head.ensures.ok c.in_ok-print_units.ensures.ok part) c.print.ensures.err
+
+-- what was written only grew
+pub returns-in_err-print_units-clause-grows : goal.returns-in_err-print_units-clause-grows
+returns-in_err-print_units-clause-grows g c = grows_on _ _ _ c.in_ok-print_head.ensures.grows c.in_err-print_units.ensures.grows
+
+pub returns-clause-grows : goal.returns-clause-grows
+returns-clause-grows g c = grows_on _ _ _ c.in_ok-print_head.ensures.grows (grows_on _ _ _ c.in_ok-print_units.ensures.grows c.print.ensures.grows)

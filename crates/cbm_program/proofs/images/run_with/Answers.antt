@@ -1,4 +1,4 @@
-use Rattle.std.proofs.Common.{◌∙◌, ◌≡◌, ap, sym, Err, subst}
+use Rattle.std.proofs.Common.{◌∙◌, ◌≡◌, ap, sym, true, Err, subst}
 use Rattle.std.proofs.lemmas.Result.{err_from_is_err_and}
 use Rattle.std.specs.Io.KnownBytes.{Appends}
 use Rattle.cbm_channel.specs.Files.{Disk}
@@ -6,10 +6,11 @@ use Rattle.cbm_channel.specs.Machines.{start}
 use Rattle.cbm_channel.specs.Standing.{Stands}
 use Rattle.cbm_volume.specs.Holding.{HoldsDisk}
 use Rattle.cbm_program.specs.Images.{StartsOn}
-use Rattle.cbm_program.specs.Checking.{checked_text}
+use Rattle.cbm_program.specs.Checking.{checked_text, IsCheckPrinted}
 use Rattle.cbm_program.specs.Output.{AppendsPart}
+use Rattle.cbm_program.proofs.OutputLemmas.{grows_on}
 use Rattle.cbm_program.proofs.LinePrints.{if_err}
-use Rattle.cbm_program.proofs.StartLemmas.{among-stands, ended-among, printed-ended, begun-among, ends-again, ended-behind, printed-behind, begun-behind, cut-start, said-start}
+use Rattle.cbm_program.proofs.StartLemmas.{ends-any, checked-first, among-stands, ended-among, printed-ended, begun-among, ends-again, ended-behind, printed-behind, begun-behind, cut-start, said-start}
 use Rattle.cbm_program.proofs.images.run_with.Goals as goal
 
 -- the check's line broke off
@@ -64,3 +65,20 @@ returns-clause-disk g c =
     (λ m. HoldsDisk (g.M.Medium.tracks c.into_medium-2.result) (g.M.Medium.content c.into_medium-2.result) m.disk) _ among
     (λ m s. subst (λ k. HoldsDisk (g.M.Medium.tracks k) (g.M.Medium.content k) m.disk) (sym c.into_medium-2.ensures) s.means)
     c.in_ok-run_on.ensures.ended)
+
+-- the check's line comes first
+pub returns-in_err-run_on-clause-checked : goal.returns-in_err-run_on-clause-checked
+returns-in_err-run_on-clause-checked g c = λ e.
+    let said = subst (λ k. c.args.checks ≡ true → IsCheckPrinted (g.M.Medium.tracks k) (g.M.Medium.content k) (g.W.Write.contents c.args.writer.now) (g.W.Write.contents c.print_check.new.writer)) c.open-volume.ensures c.in_ok-print_check.ensures.said in
+    ends-any c.from_residual-in_err-run_on.result _ (λ bad. checked-first _ _ _ _ _ (said e) c.in_err-run_on.ensures.grows)
+
+pub returns-clause-checked : goal.returns-clause-checked
+returns-clause-checked g c = λ e.
+    let said = subst (λ k. c.args.checks ≡ true → IsCheckPrinted (g.M.Medium.tracks k) (g.M.Medium.content k) (g.W.Write.contents c.args.writer.now) (g.W.Write.contents c.print_check.new.writer)) c.open-volume.ensures c.in_ok-print_check.ensures.said in
+    checked-first _ _ _ _ _ (said e) c.in_ok-run_on.ensures.grows
+
+pub returns-in_err-run_on-clause-grows : goal.returns-in_err-run_on-clause-grows
+returns-in_err-run_on-clause-grows g c = grows_on _ _ _ c.in_ok-print_check.ensures.grows c.in_err-run_on.ensures.grows
+
+pub returns-clause-grows : goal.returns-clause-grows
+returns-clause-grows g c = grows_on _ _ _ c.in_ok-print_check.ensures.grows c.in_ok-run_on.ensures.grows

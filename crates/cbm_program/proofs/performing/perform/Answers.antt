@@ -1,3 +1,4 @@
+use Rattle.std.proofs.lemmas.Result.{on_err_weaker}
 use Rattle.cbm_program.proofs.OutputLemmas.{appends-nothing}
 use Rattle.cbm_program.proofs.performing.perform.Goals as goal
 
@@ -12,3 +13,9 @@ returns-in-Fill-clause-ok g c = rw c.in-Fill.is (λ m s. (appends-nothing _, c.h
 
 pub returns-in-Close-clause-ok : goal.returns-in-Close-clause-ok
 returns-in-Close-clause-ok g c = rw c.in-Close.is (λ m s. (appends-nothing _, c.close.ensures.leads m s.1))
+
+pub returns-in-Get-clause-err : goal.returns-in-Get-clause-err
+returns-in-Get-clause-err g c = rw c.in-Get.is (on_err_weaker c.print_get.result (λ part m s. part m s.1) c.print_get.ensures.err)
+
+pub returns-in-Status-clause-err : goal.returns-in-Status-clause-err
+returns-in-Status-clause-err g c = rw c.in-Status.is (on_err_weaker c.print_status.result (λ part m s. part m s.1) c.print_status.ensures.err)

@@ -2,6 +2,7 @@ use Rattle.std.proofs.Common.{◌∙◌, ap, arith, Err}
 use Rattle.std.proofs.lemmas.Result.{err_from_is_err_and}
 use Rattle.cbm_channel.specs.Standing.{Stands}
 use Rattle.cbm_program.specs.Lines.{bytes_left}
+use Rattle.cbm_program.proofs.OutputLemmas.{grows_none, grows_on}
 use Rattle.cbm_program.proofs.RunLemmas.{run-start, run-line, run-part, run-broken, run-end, faulted}
 use Rattle.cbm_program.proofs.LinePrints.{if_err}
 use Rattle.cbm_program.proofs.session.run_on.Goals as goal
@@ -10,6 +11,7 @@ pub lines-init : goal.lines-init
 lines-init g c = record {
   running = run-start _ _ _ (Stands g.M.Medium.tracks g.M.Medium.content g.M.Medium.protected c.args.dos.now) c.new-lines.ensures;
   few = omega arith;
+  grown = grows_none _;
 }
 
 -- a line is carried out
@@ -20,6 +22,7 @@ lines-preserved g c =
     record {
       running = run-line _ _ _ _ _ _ (stands c.args.dos.now) (stands c.lines.dos) (stands c.perform_line.new.dos) _ _ c.lines.invariant.running read.0 c.in_ok-perform_line.ensures.ok;
       few = let r = read.1 in omega (arith, r);
+      grown = grows_on _ _ _ c.lines.invariant.grown c.in_ok-perform_line.ensures.grows;
     }
 
 -- there is no line to be read
@@ -47,3 +50,13 @@ pub returns-clause-ended : goal.returns-clause-ended
 returns-clause-ended g c =
     let stands = Stands g.M.Medium.tracks g.M.Medium.content g.M.Medium.protected in
     run-end _ _ _ _ (stands c.args.dos.now) (stands c.lines.dos) _ c.lines.invariant.running (rw c.in_default.is at c.in_ok-line.ensures)
+
+-- what was written only grew
+pub returns-in_err-line-clause-grows : goal.returns-in_err-line-clause-grows
+returns-in_err-line-clause-grows g c = c.lines.invariant.grown
+
+pub returns-in_err-perform_line-clause-grows : goal.returns-in_err-perform_line-clause-grows
+returns-in_err-perform_line-clause-grows g c = grows_on _ _ _ c.lines.invariant.grown c.in_err-perform_line.ensures.grows
+
+pub returns-clause-grows : goal.returns-clause-grows
+returns-clause-grows g c = c.lines.invariant.grown

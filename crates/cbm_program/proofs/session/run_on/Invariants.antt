@@ -1,6 +1,7 @@
 use Rattle.std.proofs.Common.{◌-◌, ◌≤◌}
 use Rattle.cbm_channel.specs.Standing.{Stands}
 use Rattle.cbm_program.specs.Lines.{bytes_left}
+use Rattle.cbm_program.specs.Output.{Grows}
 use Rattle.cbm_program.proofs.RunLemmas.{Running}
 use Rattle.cbm_program.proofs.session.run_on.Given as goal
 
@@ -10,6 +11,7 @@ invariant-lines g l = record {
       (bytes_left g.R.Read.remaining l.lines) (Stands g.M.Medium.tracks g.M.Medium.content g.M.Medium.protected l.initial.dos)
       (Stands g.M.Medium.tracks g.M.Medium.content g.M.Medium.protected l.dos) l.number;
   few : l.number ≤ 1000001;
+  grown : Grows (g.W.Write.contents l.initial.writer) (g.W.Write.contents l.writer);
 }
 
 abbrev pub decreases-lines : goal.decreases-lines
