@@ -6,6 +6,7 @@ use Rattle.cbm_iec.proofs.AmongFrames.{in_hold, holds, behind_byte, frame_among}
 use Rattle.cbm_iec.proofs.FollowedFrames.{wires, stands, told_by, held_again}
 use Rattle.cbm_iec.proofs.OneDrive.{one_frame}
 use Rattle.cbm_iec.proofs.Seating.{Sits}
+use Rattle.cbm_iec.proofs.Talkers.{true_false}
 use Rattle.cbm_iec.specs.Among.{Rest, wires_of, behind_host, CountsFor, ComesBehind, IsBehind, FollowsAmong}
 use Rattle.cbm_iec.specs.Among as among
 use Rattle.cbm_iec.specs.Bits.{where_held, Cell, cell_steps, cells_steps, held_after, byte_of}
@@ -28,8 +29,8 @@ use Rattle.cbm_iec.specs.declared.port.Port.{Port}
 use Rattle.cbm_iec.specs.declared.port.Side.TheVariants.{Hearing}
 
 -- nobody else holds a line
-abbrev only : Lines → Rest
-only l = record { host = l; clocks = zero; datas = zero }
+abbrev pub only_host : Lines → Rest
+only_host l = record { host = l; clocks = zero; datas = zero }
 
 -- a step of the host or of drive d, which counts for no other
 abbrev AloneBy : ℕ → Who → Mark → Type 0
@@ -63,16 +64,13 @@ later : (t : ℕ) (ss : List Step) → IsBehind t ss → IsLater t ss
 later t [] h = tt
 later t (s ∷ ss) h = later_by t (moment_of s) s.event.who h
 
-true_false : (v : Bool) → v ≡ true → v ≡ false → ⊥
-true_false v a b = let e : true ≡ false = sym a ∙ b in cc
-
 -- What a drive follows among others of which none does a thing it follows alone.
 module _ (peek : Option (ℕ × Bool)) where
-  pub among_alone : {r r2 : Rest} {q q2 : Port} {ss : List Step} → FollowsAmong peek r q ss r2 q2 → r ≡ only q.others → AllAlone q.party.device ss → Follows peek q ss q2
+  pub among_alone : {r r2 : Rest} {q q2 : Port} {ss : List Step} → FollowsAmong peek r q ss r2 q2 → r ≡ only_host q.others → AllAlone q.party.device ss → Follows peek q ss q2
   among_alone (among.ends a e) o h = ends e
   among_alone {r} {r2} {q} {q2} (among.tells {t} {line} {way} {mark} {ss} i k f) o h =
       let heard : wires_of (behind_host line way r) ≡ lines_after q.others line way = ap (λ (x : Rest). wires_of (behind_host line way x)) o in
-      let next : behind_host line way r ≡ only (wires_of (behind_host line way r)) = ap (λ (x : Rest). behind_host line way x) o ∙ ap (λ (l : Lines). only l) (sym heard) in
+      let next : behind_host line way r ≡ only_host (wires_of (behind_host line way r)) = ap (λ (x : Rest). behind_host line way x) o ∙ ap (λ (l : Lines). only_host l) (sym heard) in
       tells i (counts_alone q.party.device mark (told_act (lines_after q.others line way) q) h.0 (subst (λ (l : Lines). CountsFor q.party.device mark (told_act l q)) heard k))
       (subst (λ (l : Lines). Follows peek (told t l q) ss q2) heard (among_alone f next h.1))
   among_alone {r} {r2} {q} (among.hears {o} a i k f) e h = absurd (true_false (nat_eq q.party.device o) h.0 a)

@@ -1,10 +1,11 @@
 -- What a drive follows alone with the host it follows among others that hold no line and change none.
-use Rattle.std.proofs.Common.{◌≡◌, ℕ, zero, ◌+◌, ◌≤◌, Bool, true, false, List, [], ◌∷◌, ◌++◌, Option, Some, None, ap, sym, ◌∙◌, subst, arith}
+use Rattle.std.proofs.Common.{◌≡◌, ℕ, ◌+◌, ◌≤◌, Bool, true, false, List, [], ◌∷◌, ◌++◌, Option, Some, None, ap, sym, ◌∙◌, subst, arith}
 use Rattle.std.specs.Prelude.{if◌then◌else◌, nat_eq, nat_le, ◌==◌, ◌/◌, ◌%◌}
+use Rattle.cbm_iec.proofs.AloneFrames.{only_host}
 use Rattle.cbm_iec.proofs.AmongCalm.{Every}
 use Rattle.cbm_iec.proofs.Around.{NotHost, late_drive}
 use Rattle.cbm_iec.proofs.FollowedFronts.{AllAt, reaction_at, in_time_le}
-use Rattle.cbm_iec.specs.Among.{Rest, CountsFor, IsBehind, FollowsAmong, ends, tells, reacts}
+use Rattle.cbm_iec.specs.Among.{CountsFor, IsBehind, FollowsAmong, ends, tells, reacts}
 use Rattle.cbm_iec.specs.Following.{IsInTime, IsLater, Counts, own_steps, reaction_steps, Follows}
 use Rattle.cbm_iec.specs.Following as alone
 use Rattle.cbm_iec.specs.Hearing.{ear_due, after_hold, after_ready, after_ear}
@@ -126,10 +127,6 @@ counts_so d (For o act) told s c = c ∙ sym (ap (λ (v : Bool). if v then Some 
 solo_right : (d : ℕ) (xs ys : List Step) → Every (λ s. IsSolo d s.mark) (xs ++ ys) → Every (λ s. IsSolo d s.mark) ys
 solo_right d [] ys a = a
 solo_right d (x ∷ xs) ys a = solo_right d xs ys a.1
-
--- nobody else holds a line
-abbrev pub only_host : Lines → Rest
-only_host l = record { host = l; clocks = zero; datas = zero }
 
 module _ (peek : Option (ℕ × Bool)) where
   pub alone_among : {q q2 : Port} {ss : List Step} → Follows peek q ss q2 → Every (λ s. IsSolo q.party.device s.mark) ss → FollowsAmong peek (only_host q.others) q ss (only_host q2.others) q2

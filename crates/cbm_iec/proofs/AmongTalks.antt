@@ -2,7 +2,8 @@
 use Rattle.std.proofs.Common.{◌≡◌, ℕ, zero, suc, ◌+◌, Bool, true, false, not, List, [], ◌∷◌, map, Option, Some, None, ap, sym, ◌∙◌, subst, refl, eq-eqb}
 use Rattle.std.specs.Prelude.{if◌then◌else◌, nat_eq, ◌||◌}
 use Rattle.cbm_iec.proofs.AmongAccepts.{unmarked}
-use Rattle.cbm_iec.proofs.AmongAlone.{IsSolo, only_host, alone_among}
+use Rattle.cbm_iec.proofs.AloneFrames.{only_host}
+use Rattle.cbm_iec.proofs.AmongAlone.{IsSolo, alone_among}
 use Rattle.cbm_iec.proofs.AmongBytes.{byte_among}
 use Rattle.cbm_iec.proofs.AmongCalm.{Every, ByOthers, IsOthers, passes_all, calm_idle}
 use Rattle.cbm_iec.proofs.AmongFrames.{in_hold, holds, each_sits, held_rest, held_port, follows_commands}
