@@ -96,7 +96,7 @@ noatn_bits b at false (true ∷ bits) = (refl, (refl, noatn_bits b (at + 120) fa
 noatn_bits b at true (false ∷ bits) = (refl, (refl, noatn_bits b (at + 120) true bits))
 noatn_bits b at false (false ∷ bits) = (refl, (refl, (refl, noatn_bits b (at + 120) true bits)))
 
-noatn_if : (v : Bool) (ss : List Step) → NoAtn ss → NoAtn (if v then ss else [])
+pub noatn_if : (v : Bool) (ss : List Step) → NoAtn ss → NoAtn (if v then ss else [])
 noatn_if true ss a = a
 noatn_if false ss a = tt
 

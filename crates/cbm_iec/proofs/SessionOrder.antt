@@ -8,12 +8,12 @@ use Rattle.cbm_iec.proofs.AmongCalm.{Every}
 use Rattle.cbm_iec.proofs.AmongPoints.{none_talk, every_seat, whole_sound, cut_sound, AllSound, rest_sound}
 use Rattle.cbm_iec.proofs.Around.{NotHost, merge_drives, every_each, every_drives}
 use Rattle.cbm_iec.proofs.Counted.{order_all, all_host}
-use Rattle.cbm_iec.proofs.Orders.{none_more, starts_late, host_order}
+use Rattle.cbm_iec.proofs.Orders.{starts_late, host_order}
 use Rattle.cbm_iec.proofs.FollowedSessions.{AllHost}
 use Rattle.cbm_iec.proofs.Merging.{merge_nil, NoneBefore, InOrder, none_sooner, by_head, none_merge, before_yes, before_no, AllBefore, front_before}
 use Rattle.cbm_iec.proofs.OneDrive.{AllUpTo, upto_append, last_after, cells_upto, upto_free, upto_held}
 use Rattle.cbm_iec.proofs.OneReading.{late_by_role, seat_of}
-use Rattle.cbm_iec.proofs.Owning.{AllOwned, part_owned, part_order, host_mine}
+use Rattle.cbm_iec.proofs.Owning.{AllOwned, part_owned, part_order, host_mine, none_append}
 use Rattle.cbm_iec.proofs.Phases.{none_all, Each, each, ReactsBy, react_by}
 use Rattle.cbm_iec.proofs.PieceReadings.{next_seat}
 use Rattle.cbm_iec.proofs.Standing.{IsSound}
@@ -577,7 +577,7 @@ goes_from (Full w ∷ ks) p s g l =
       goes_append e steps others (piece_goes p w f) (steps_done p s w g f) late more.0,
       λ m h. (
           let a = waits_first p m w h f in
-          none_more m steps others (none_sooner m (first_of w) steps a (steps_from p w f)) (none_sooner m e others (omega (arith, a, from)) late)
+          none_append m steps others (none_sooner m (first_of w) steps a (steps_from p w f)) (none_sooner m e others (omega (arith, a, from)) late)
           ),
     )
 goes_from (Cut w c ∷ ks) p s g l =
@@ -588,7 +588,7 @@ goes_from (Cut w c ∷ ks) p s g l =
     let others = session_steps p2 ks in
     let late : NoneBefore c others = more.1 c (omega arith) in (
       goes_append c steps others (goes_before c (steps_of p w) (piece_goes p w f)) (before_done c steps (front_before c (steps_of p w))) late more.0,
-      λ m h. none_more m steps others (none_before m c (steps_of p w) (none_sooner m (first_of w) (steps_of p w) (waits_first p m w h f) (steps_from p w f))) (none_sooner m c others (waits_cut p m w c h f l.0.1) late),
+      λ m h. none_append m steps others (none_before m c (steps_of p w) (none_sooner m (first_of w) (steps_of p w) (waits_first p m w h f) (steps_from p w f))) (none_sooner m c others (waits_cut p m w c h f l.0.1) late),
     )
 
 -- a bus has a drive
