@@ -9,7 +9,7 @@ use Rattle.cbm_medium.proofs.Walks.{has_true, true_has, on_a_track, bool_cases}
 use borrow.Rule.Slice.PartMut.{put_mid, post_of}
 use mathlib.Core.Path.{fun_ext}
 use Rattle.cbm_medium.specs.Place.{Place, sectors_on, IsOnDisk, Has, has, is_place}
-use Rattle.cbm_medium.specs.Content.{Content, written, blank, header_fault}
+use Rattle.cbm_medium.specs.Content.{Cell, IsWhole, Content, written, blank, header_fault}
 use Rattle.cbm_d64.specs.Image.{IsImageSize, IsStored, IsErased, mended, tracks_in, sectors_in, index_of, sectors_before, code_of, cell_of, error_at, sector_at, content_of}
 
 -- a sector by the bytes up to its end
@@ -224,3 +224,19 @@ error-set_same image i l h =
 pub error-set_other : (image : List ℕ) (i j : ℕ) → j ≢ i → error_at (set image (174848 + i) 1) j ≡ error_at image j
 error-set_other image i j ne = error-same image (set image (174848 + i) 1) j (length-set image (174848 + i) 1)
     (λ _. get_or-set_other image (174848 + i) (174848 + j) 1 0 (omega arith))
+
+-- each sector that reads has 256 bytes
+pub image_whole : (image : List ℕ) (p : Place) → IsImageSize (length image) → IsWhole (content_of image p)
+image_whole image p size = by_test (has (tracks_in (length image)) p) refl
+  where
+    cell_whole : (o : Option ℕ) → length (sector_at image (index_of p)) ≡ 256 → IsWhole (cell_of o (sector_at image (index_of p)))
+    cell_whole None e = e
+    cell_whole (Some code) e = tt
+
+    by_test : (b : Bool) → has (tracks_in (length image)) p ≡ b → IsWhole (content_of image p)
+    by_test true h =
+        let t = true_has (tracks_in (length image)) p h in
+        let room : 256 * index_of p + 256 ≤ length image = sector_room (length image) (index_of p) size (index_in (length image) p t.2 t.1) in
+        subst (λ (x : Cell). IsWhole x) (sym (content_on_disk image p t.2 t.1))
+        (cell_whole (code_of (error_at image (index_of p))) (length-take-le 256 (drop (256 * index_of p) image) (omega (arith, room, length-drop {A = ℕ} (256 * index_of p) image))))
+    by_test false h = subst (λ (x : Cell). IsWhole x) (sym (content_off_disk image p h)) (length-replicate {A = ℕ} 256 0)

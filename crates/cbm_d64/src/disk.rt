@@ -138,6 +138,7 @@ impl Medium for D64Disk {
         Ok(())
     }
 
+    #[tactic(auto, using(crate::proofs::Sectors::image_whole))]
     fn tracks(&self) -> u8 {
         tracks_in(self.bytes.len())
     }

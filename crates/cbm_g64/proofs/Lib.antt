@@ -5,3 +5,4 @@ pub mod NewFiles
 pub mod Imaging
 pub mod Held
 pub mod Kept
+pub mod Wholes

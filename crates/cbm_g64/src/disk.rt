@@ -206,6 +206,7 @@ impl Medium for G64Disk {
         Ok(())
     }
 
+    #[tactic(auto, using(crate::proofs::Wholes::circles_whole))]
     fn tracks(&self) -> u8 {
         35
     }

@@ -1,10 +1,15 @@
 -- What a disk holds: for each sector its bytes, or the fault that stands in their place.
-use Rattle.std.specs.Prelude.{ℕ, List, Bool, true, false, Option, Some, None, Result, Ok, Err, ◌==◌, ◌||◌, if◌then◌else◌, replicate}
+use Rattle.std.specs.Prelude.{ℕ, List, Bool, true, false, Option, Some, None, Result, Ok, Err, ◌==◌, ◌||◌, if◌then◌else◌, replicate, length, ◌≡◌}
 use Rattle.cbm_medium.specs.Place.{Place, is_place}
 
 -- a sector's 256 bytes, or the code of the fault that stands in their place
 abbrev pub Cell : Type 0
 Cell = Result (List ℕ) ℕ
+
+-- a sector that reads has 256 bytes
+abbrev pub IsWhole : Cell → Type 0
+IsWhole (Ok bytes) = length bytes ≡ 256
+IsWhole (Err code) = Unit {0}
 
 -- what each sector holds
 abbrev pub Content : Type 0

@@ -1,6 +1,6 @@
 ghost use Rattle.std.specs.Prelude.{◌≡◌, ℕ, Bool, ◌<◌, ◌≤◌, ◌⊎◌, Option, Some, None, OnOk, OnErr, IfOk, IfErr, IfSome};
 ghost use Rattle.cbm_medium.specs.Place.{Place, directory_head};
-ghost use Rattle.cbm_medium.specs.Content.{Content, written, blank, refusal, format_refusal, header_fault};
+ghost use Rattle.cbm_medium.specs.Content.{Content, IsWhole, written, blank, refusal, format_refusal, header_fault};
 
 use crate::address::Address;
 use crate::fault::Fault;
@@ -64,6 +64,7 @@ pub trait Medium {
     /// How many tracks it has, 35 or 40; this never changes.
     fn tracks(&self) -> u8
         ensures value { result ≡ tracks self.now }
+        ensures whole { (p : Place) → IsWhole (content self.now p) }
         ensures either { (result ≡ 35) ⊎ (result ≡ 40) };
 
     /// Whether it refuses each write with 26; this never changes.

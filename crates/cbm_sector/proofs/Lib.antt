@@ -7,3 +7,4 @@ pub mod Laid
 pub mod Building
 pub mod Formatted
 pub mod Blank
+pub mod Wholes
