@@ -1,6 +1,8 @@
 pub mod NextBytes
 pub mod Kept
 pub mod Idle
+pub mod Orders
+pub mod Uses
 pub mod Stands
 pub mod Texts
 pub mod Found

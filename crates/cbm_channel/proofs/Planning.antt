@@ -29,6 +29,7 @@ use Rattle.cbm_channel.specs.Codes.{code_of_refusal}
 use Rattle.cbm_channel.specs.Closing.{close, close_one}
 use Rattle.cbm_channel.specs.Calls.{after_open, command, without_return}
 use Rattle.cbm_channel.proofs.Closes.{close_first}
+use Rattle.cbm_channel.proofs.Orders.{ReadsWell, closed_well, reads_file}
 
 both : (a b : Bool) → (a && not b) ≡ true → (a ≡ true) × (b ≡ false)
 both true true h = absurd (cc)
@@ -137,6 +138,17 @@ act_reads t c ch m (OpenRecords a) (planned.ReadListing q) h = absurd h
 act_reads t c ch m (OpenRecords a) (planned.ReadFile q) h = absurd h
 act_reads t c ch m (MakeRecords a b) (planned.ReadListing q) h = absurd h
 act_reads t c ch m (MakeRecords a b) (planned.ReadFile q) h = absurd h
+
+-- what the opened channel reads is there
+pub opened_well : (t : ℕ) (c : Content) (d : Disk) (p : Plan) (x : code.Plan) → PlannedAs t c d (Ok p) (Ok x) → ReadsWell d (opened_by d p)
+opened_well t c d (ReadListing a) x h = λ slot left e. absurd (cc)
+opened_well t c d (ReadFile s) (planned.ReadListing q) h = absurd h
+opened_well t c d (ReadFile s) (planned.ReadFile q) h = reads_file d s h.has
+opened_well t c d (WriteFile a b) x h = closed_well d
+opened_well t c d (AppendFile a) x h = closed_well d
+opened_well t c d (ReplaceFile a) x h = closed_well d
+opened_well t c d (OpenRecords a) x h = closed_well d
+opened_well t c d (MakeRecords a b) x h = closed_well d
 
 -- what the chain of a readable file gives
 pub file_opens : (c : Content) (d : Disk) (p : Plan) (s slot : ℕ) (r : Reading) → p ≡ ReadFile s → s ≡ slot → rest_of c r ≡ record { bytes = bytes_in (body_at d s); trouble = None }

@@ -1,30 +1,39 @@
 -- A drive stands for a machine before and behind each change of its parts.
 use Rattle.std.proofs.Common.{◌≡◌, ℕ, zero, suc, ◌+◌, ◌<◌, ◌≤◌, Bool, true, false, List, [], ◌∷◌, ◌++◌, length, take, drop, refl, sym, ap, ◌∙◌, subst, arith, inl, inr, ◌≢◌}
-use Rattle.std.specs.Prelude.{◌==◌, ◌||◌, nat_lt, Option, Some, None, slice_index_or, slice_set, sum_by, if◌then◌else◌, Result, Err, IsOk}
+use Rattle.std.specs.Prelude.{◌==◌, ◌||◌, nat_lt, Option, Some, None, slice_index_or, slice_set, sum_by, replicate, if◌then◌else◌, Result, Ok, Err, IsOk, OnOk}
 use Rattle.std.specs.List.{AllZip, list_any}
 use Rattle.std.proofs.lemmas.List.Sums.{sum_by-cons}
-use Rattle.std.proofs.lemmas.Bool.{ne_eqb, eq-eqb}
+use Rattle.std.proofs.lemmas.Bool.{ne_eqb, eq-eqb, cases_lt}
 use Rattle.cbm_medium.specs.Links.{follow}
 use Rattle.cbm_medium.proofs.Walks.{follow_end}
 use Rattle.cbm_channel.specs.Statuses.{status_line}
 use Rattle.cbm_volume.specs.Content.{Content}
 use Rattle.cbm_volume.specs.Reading.{Reading, rest_of, held_from, held_in, shown, IsSettled}
 use Rattle.cbm_file.specs.Files.{Disk}
+use Rattle.cbm_volume.specs.Holding.{HoldsDisk}
+use Rattle.cbm_volume.specs.Map.{geometry_of}
+use Rattle.cbm_volume.specs.Writers.{Use, IsUsed, HoldsNow, with_use, writes_slot}
+use Rattle.cbm_volume.specs.Writers as usage
 use Rattle.cbm_listing.specs.Listed as listed
 use Rattle.std.proofs.lemmas.List.{drop-drop}
-use Rattle.std.proofs.lemmas.Bool.Decides.{nat_tests}
+use Rattle.std.proofs.lemmas.Bool.Decides.{nat_tests, eqb_tells}
+use Rattle.std.proofs.lemmas.List.{get_or-set_same, get_or-set_other, get_or-replicate, get_or_past, length-replicate}
 use Rattle.cbm_channel.specs.declared.channel.Channel.{Channel}
 use Rattle.cbm_channel.specs.declared.channel.Channel.TheVariants as code
 use Rattle.cbm_channel.specs.declared.status.Status.{Status}
 use Rattle.cbm_channel.specs.declared.code.Code.TheVariants.{Fine}
 use Rattle.cbm_channel.specs.Machines as machine
+use Rattle.cbm_channel.specs.Orderly.{channel_in}
 use Rattle.cbm_channel.specs.Closing.{forget_text, without_text}
 use Rattle.cbm_channel.specs.Talking.{peek_on, taken, taken_on}
 use Rattle.cbm_channel.specs.Calls.{text_for}
 use Rattle.cbm_channel.specs.Told.{Told, told_by, behind_next}
-use Rattle.cbm_channel.specs.Standing.{Kept, Fits, AreFit, ChannelStands, kept_text, StandsBy, Stands, HasText, HasNoText}
+use Rattle.cbm_channel.specs.Standing.{Kept, Fits, AreFit, ChannelStands, use_of, uses_of, kept_text, StandsBy, Stands, HasText, HasNoText}
 use Rattle.cbm_channel.specs.Shown.{is_closed, shown_on, cost_on}
+use Rattle.cbm_volume.proofs.Storing.{let_go}
 use Rattle.cbm_channel.proofs.Idle.{Idle}
+use Rattle.cbm_channel.proofs.Orders.{ReadsWell, idle_orderly, closed_well}
+use Rattle.cbm_channel.proofs.Uses.{uses_set}
 use Rattle.cbm_channel.proofs.Kept.{take_more, same_pair}
 
 -- ---- two lists, place by place
@@ -44,6 +53,20 @@ zip_at c [] (b ∷ ys) i h = absurd h
 zip_at c (a ∷ xs) [] i h = absurd h
 zip_at c (a ∷ xs) (b ∷ ys) zero h = h.0
 zip_at c (a ∷ xs) (b ∷ ys) (suc i) h = zip_at c xs ys i h.1
+
+-- the two lists are of one length
+pub zip_length : (c : Content) (xs : List Channel) (ys : List machine.Channel) → AllZip (ChannelStands c) xs ys → length ys ≡ length xs
+zip_length c [] [] h = refl
+zip_length c [] (b ∷ ys) h = absurd h
+zip_length c (a ∷ xs) [] h = absurd h
+zip_length c (a ∷ xs) (b ∷ ys) h = ap suc (zip_length c xs ys h.1)
+
+-- each of so many is this one
+pub any_of : {A : Type 0} (n : ℕ) (x : A) (i : ℕ) → slice_index_or (replicate n x) i x ≡ x
+any_of n x i = elim (cases_lt i n) [
+  | inl lt ↦ get_or-replicate n i x x lt
+  | inr far ↦ get_or_past (replicate n x) i x (omega (arith, far, length-replicate n x))
+]
 
 -- the element that is there, with whatever would stand past the end
 pub any_default : {A : Type 0} (xs : List A) (i : ℕ) (d e : A) → i < length xs → slice_index_or xs i d ≡ slice_index_or xs i e
@@ -101,6 +124,15 @@ none_writes c n [] (y ∷ ys) h = absurd h
 none_writes c n (x ∷ xs) [] h = absurd h
 none_writes c n (x ∷ xs) (y ∷ ys) h = λ i. writes_none n y (idle c x y h.0) i || none_writes c n xs ys h.1 i
 
+-- no channel's use writes
+pub unwritten_at : (n : ℕ) (xs : List Channel) (ys : List machine.Channel) (k : ℕ) → writes_slot n (uses_of xs ys k) ≡ false
+unwritten_at n xs ys k = by_channel (slice_index_or xs k code.Closed)
+  where
+    by_channel : (x : Channel) → writes_slot n (use_of x (slice_index_or ys k machine.Closed)) ≡ false
+    by_channel code.Closed = refl
+    by_channel (code.Listing l) = refl
+    by_channel (code.File slot r) = refl
+
 -- a reader that holds one byte at most holds all that is left
 more_shown : (xs ys : List ℕ) → (length xs ≤ 1 → ys ≡ []) → shown (xs ++ ys) ≡ shown xs
 more_shown [] ys h = ap shown (h (omega arith))
@@ -145,12 +177,17 @@ pub kept_forgotten : (ch : ℕ) (text : Option (ℕ × List ℕ)) → kept_text 
 kept_forgotten ch None = refl
 kept_forgotten ch (Some t) = test_pushed (t.0 == ch) t
 
+-- one channel uses the disk no more
+pub let_go_now : (t : ℕ) (c : Content) (d : Disk) (uses : ℕ → Use) (ch : ℕ) → HoldsNow t c d uses → HoldsNow t c d (with_use uses ch usage.Idle)
+let_go_now t c d uses ch h = record { layout = h.layout; so = let_go (geometry_of t c) c h.layout d uses ch h.so }
+
 -- ---- the parts of a drive
 
 module _ (c : Content) (t : ℕ) (p : Bool) (chs : List Channel) (told : Told) (text : Option (ℕ × List ℕ)) (m : machine.Machine) where
   pub told_anew : (s : Status) (new : Told) → new ≡ record { status = s; told = 0 } → StandsBy c t p chs told text m → StandsBy c t p chs new text (machine.tell s m)
   told_anew s new is st = record {
-    means = st.means;
+    holds = st.holds;
+    orderly = st.orderly;
     same_tracks = st.same_tracks;
     same_protection = st.same_protection;
     each = st.each;
@@ -158,20 +195,43 @@ module _ (c : Content) (t : ℕ) (p : Bool) (chs : List Channel) (told : Told) (
     same_text = st.same_text;
   }
 
-  pub with_one : (ch : ℕ) (x : Channel) (y : machine.Channel) → ChannelStands c x y → StandsBy c t p chs told text m
+  -- the machine's disk is what the medium holds
+  pub means_of : StandsBy c t p chs told text m → HoldsDisk t c m.disk
+  means_of st = record { layout = st.holds.layout; stands = st.holds.so.stands }
+
+  -- a channel that uses nothing any more
+  pub let_go_at : (ch : ℕ) → StandsBy c t p chs told text m → HoldsNow t c m.disk (with_use (uses_of chs m.channels) ch usage.Idle)
+  let_go_at ch st = let_go_now t c m.disk (uses_of chs m.channels) ch st.holds
+
+  -- one channel is another, which uses the disk so and reads what is there
+  pub with_one : (ch : ℕ) (x : Channel) (y : machine.Channel) → ch < 15 → AreFit t chs → ChannelStands c x y
+      → HoldsNow t c m.disk (with_use (uses_of chs m.channels) ch (use_of x y)) → ReadsWell m.disk y → StandsBy c t p chs told text m
       → StandsBy c t p (slice_set chs ch x) told text (machine.with_channel ch y m)
-  with_one ch x y h st = record {
-    means = st.means;
-    same_tracks = st.same_tracks;
-    same_protection = st.same_protection;
-    each = zip_set (ChannelStands c) chs m.channels ch x y st.each h;
-    same_told = st.same_told;
-    same_text = st.same_text;
-  }
+  with_one ch x y lt fit h uses well st =
+      let more : ch < length chs = omega (arith, lt, fit.count) in
+      let also : ch < length m.channels = omega (arith, more, zip_length c chs m.channels st.each) in
+      let each = zip_set (ChannelStands c) chs m.channels ch x y st.each h in
+      record {
+        holds = subst (HoldsNow t c m.disk) (sym (uses_set chs m.channels ch x y more also)) uses;
+        orderly = idle_orderly m.disk m.protected (slice_set m.channels ch y) (λ k. idle c _ _ (zip_at c _ _ k each)) (reads_set ch y also well st.orderly.reading);
+        same_tracks = st.same_tracks;
+        same_protection = st.same_protection;
+        each = each;
+        same_told = st.same_told;
+        same_text = st.same_text;
+      }
+    where
+      reads_set : (i : ℕ) (z : machine.Channel) → i < length m.channels → ReadsWell m.disk z → ((k : ℕ) → ReadsWell m.disk (channel_in m.channels k))
+          → (k : ℕ) → ReadsWell m.disk (channel_in (slice_set m.channels i z) k)
+      reads_set i z at here there k = elim (eqb_tells k i) [
+        | inl same ↦ subst (ReadsWell m.disk) (sym (ap (channel_in (slice_set m.channels i z)) same.1 ∙ get_or-set_same m.channels i z machine.Closed at)) here
+        | inr other ↦ subst (ReadsWell m.disk) (sym (get_or-set_other m.channels i k z machine.Closed other.1)) (there k)
+      ]
 
   pub forgotten : (ch : ℕ) (new : Option (ℕ × List ℕ)) → new ≡ forget_text ch text → StandsBy c t p chs told text m → StandsBy c t p chs told new (without_text ch m)
   forgotten ch new is st = record {
-    means = st.means;
+    holds = st.holds;
+    orderly = st.orderly;
     same_tracks = st.same_tracks;
     same_protection = st.same_protection;
     each = st.each;
@@ -183,7 +243,8 @@ module _ (c : Content) (t : ℕ) (p : Bool) (chs : List Channel) (told : Told) (
   pub other_text : (new : Option (ℕ × List ℕ)) (whole : Option (ℕ × List ℕ)) → kept_text whole ≡ new → StandsBy c t p chs told text m
       → StandsBy c t p chs told new (record m { text = whole })
   other_text new whole e st = record {
-    means = st.means;
+    holds = st.holds;
+    orderly = st.orderly;
     same_tracks = st.same_tracks;
     same_protection = st.same_protection;
     each = st.each;
@@ -203,7 +264,8 @@ module _ (c : Content) (t : ℕ) (p : Bool) (chs : List Channel) (told : Told) (
     where
       by_test : (b : Bool) → nat_lt (m.told + 1) (length (status_line m.status)) ≡ b → StandsBy c t p chs new text (taken 15 m)
       by_test true e = rw e (record {
-        means = st.means;
+        holds = st.holds;
+        orderly = st.orderly;
         same_tracks = st.same_tracks;
         same_protection = st.same_protection;
         each = st.each;
@@ -211,7 +273,8 @@ module _ (c : Content) (t : ℕ) (p : Bool) (chs : List Channel) (told : Told) (
         same_text = st.same_text;
       })
       by_test false e = rw e (record {
-        means = st.means;
+        holds = st.holds;
+        orderly = st.orderly;
         same_tracks = st.same_tracks;
         same_protection = st.same_protection;
         each = st.each;
@@ -234,6 +297,52 @@ module _ (c : Content) (t : ℕ) (p : Bool) (chs : List Channel) (told : Told) (
 -- the machine goes by another name
 pub moved : (c : Content) (t : ℕ) (p : Bool) (chs : List Channel) (told : Told) (text : Option (ℕ × List ℕ)) (m n : machine.Machine) → m ≡ n → StandsBy c t p chs told text n → StandsBy c t p chs told text m
 moved c t p chs told text m n e st = subst (λ x. StandsBy c t p chs told text x) (sym e) st
+
+-- at power up no channel uses the disk
+pub none_used : (c : Content) (t : ℕ) (d : Disk) → HoldsDisk t c d → HoldsNow t c d (uses_of (replicate 15 code.Closed) (replicate 15 machine.Closed))
+none_used c t d h = record {
+  layout = h.layout;
+  so = record {
+    stands = h.stands;
+    each = λ k. subst (IsUsed (geometry_of t c) c h.layout d k) (sym (idle_used k)) tt;
+    alone = λ a b n e. let bad = sym (ap (writes_slot n) (idle_used a)) ∙ e in absurd (cc);
+  };
+}
+  where
+    all_closed : (k : ℕ) → slice_index_or (replicate 15 code.Closed) k code.Closed ≡ code.Closed
+    all_closed k = any_of 15 code.Closed k
+
+    idle_used : (k : ℕ) → uses_of (replicate 15 code.Closed) (replicate 15 machine.Closed) k ≡ usage.Idle
+    idle_used k = ap (λ x. use_of x (slice_index_or (replicate 15 machine.Closed) k machine.Closed)) (all_closed k)
+
+zip_same : {A B : Type 0} (R : A → B → Type 0) (n : ℕ) (x : A) (y : B) → R x y → AllZip R (replicate n x) (replicate n y)
+zip_same R zero x y h = tt
+zip_same R (suc n) x y h = (h, zip_same R n x y h)
+
+pub powered_up : (c : Content) (t : ℕ) (p : Bool) (d : Disk) → HoldsDisk t c d → StandsBy c t p (replicate 15 code.Closed) (told_by (machine.start d p t)) None (machine.start d p t)
+powered_up c t p d h = record {
+  holds = none_used c t d h;
+  orderly = idle_orderly d p (replicate 15 machine.Closed) (λ k. idle c code.Closed _ (any_of 15 machine.Closed k)) (λ k. subst (ReadsWell d) (sym (any_of 15 machine.Closed k)) (closed_well d));
+  same_tracks = refl;
+  same_protection = refl;
+  each = zip_same (ChannelStands c) 15 code.Closed machine.Closed refl;
+  same_told = refl;
+  same_text = refl;
+}
+
+pub stands_at_first : (c : Content) (t : ℕ) (p : Bool) (d : Disk) (chs : List Channel) (told : Told) → chs ≡ replicate 15 code.Closed → told ≡ told_by (machine.start d p t)
+    → HoldsDisk t c d → StandsBy c t p chs told None (machine.start d p t)
+stands_at_first c t p d chs told e f h = subst (λ xs. StandsBy c t p xs told None (machine.start d p t)) (sym e) (subst (λ x. StandsBy c t p (replicate 15 code.Closed) x None (machine.start d p t)) (sym f) (powered_up c t p d h))
+
+-- what holds of each success holds of this one
+pub ok_is : {A E : Type 0} {P : Type 0} (r : Result A E) → IsOk r → OnOk r P → P
+ok_is (Ok x) ok h = h
+ok_is (Err e) ok h = let bad = ok in absurd (cc)
+
+-- what the channel of the code does with the disk, with whatever would stand past the end
+pub use_at : (x : Channel) (xs : List Channel) (ys : List machine.Channel) (ch : ℕ) (d : Channel) → ch < length xs → x ≡ slice_index_or xs ch d
+    → uses_of xs ys ch ≡ use_of x (slice_index_or ys ch machine.Closed)
+use_at x xs ys ch d lt e = ap (λ z. use_of z (slice_index_or ys ch machine.Closed)) (any_default xs ch code.Closed d lt ∙ sym e)
 
 -- a fault is no success
 pub not_ok : {A E : Type 0} (e : E) (r : Result A E) → r ≡ Err e → IsOk r → ⊥

@@ -14,7 +14,7 @@ use Rattle.cbm_command.specs.Commands.{command_of}
 use Rattle.cbm_channel.specs.declared.code.Code.{Code}
 use Rattle.cbm_channel.specs.Machines.{Machine}
 use Rattle.cbm_channel.specs.Closing.{close}
-use Rattle.cbm_channel.specs.Plans.{Plan, OpenRecords, plan}
+use Rattle.cbm_channel.specs.Plans.{Plan, ReadListing, ReadFile, WriteFile, AppendFile, ReplaceFile, OpenRecords, MakeRecords, plan}
 use Rattle.cbm_channel.specs.Calls.{without_return, text_for}
 
 -- the mode reads
@@ -30,7 +30,13 @@ reads_bytes w = is_reading w.mode && not (is_relative w)
 -- no relative file is met
 abbrev pub MeetsNoRecords : Result Plan Code → Type 0
 MeetsNoRecords (Ok (OpenRecords s)) = ⊥
-MeetsNoRecords _ = Unit {0}
+MeetsNoRecords (Ok (ReadListing p)) = Unit {0}
+MeetsNoRecords (Ok (ReadFile s)) = Unit {0}
+MeetsNoRecords (Ok (WriteFile kind name)) = Unit {0}
+MeetsNoRecords (Ok (AppendFile s)) = Unit {0}
+MeetsNoRecords (Ok (ReplaceFile s)) = Unit {0}
+MeetsNoRecords (Ok (MakeRecords name len)) = Unit {0}
+MeetsNoRecords (Err code) = Unit {0}
 
 -- what a text asks for is carried out
 abbrev pub IsAskedCarriedOut : ℕ → Machine → Result Opening Refusal → Type 0

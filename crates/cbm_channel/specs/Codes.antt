@@ -88,9 +88,10 @@ abbrev pub refusal_gives : Refusal → Code → Type 0
 refusal_gives r c = c ≡ code_of_refusal r
 
 -- The code that tells a fault of a sector (20 to 29), a link to no sector (66) or a chain that never ends (71).
--- A medium's fault of another number is told as 20.
+-- Only a write that a medium refuses by a failure of its own can have another number, which is told as 25.
 abbrev pub code_of_fault : ℕ → Code
 code_of_fault n =
+    if n == 20 then NoHeader else
     if n == 21 then NoSync else
     if n == 22 then NoData else
     if n == 23 then DataChecksum else
@@ -101,4 +102,4 @@ code_of_fault n =
     if n == 28 then LongData else
     if n == 29 then WrongId else
     if n == 66 then WrongLink else
-    if n == 71 then EndlessChain else NoHeader
+    if n == 71 then EndlessChain else WriteFailed

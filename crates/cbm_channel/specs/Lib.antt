@@ -12,7 +12,9 @@ pub mod Calls
 pub use Rattle.cbm_file.specs.Types
 pub use Rattle.cbm_file.specs.Files
 pub mod Told
+pub mod Orderly
 pub mod Standing
+pub mod Grounds
 pub mod CarriedOut
 pub mod Shown
 pub mod Taken

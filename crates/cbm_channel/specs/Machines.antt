@@ -15,6 +15,8 @@ pub data Channel : Type 0 where
   Reading : (slot : Option ℕ) (left : List ℕ) → Channel
   -- A file being written: its slot, bytes and blocks so far, whether the disk was full, and whether it replaces the file in the slot.
   Writing : (slot : ℕ) (bytes : List ℕ) (blocks : ℕ) (full replaces : Bool) → Channel
+  -- A file that was being written when the medium refused a sector: what comes is dropped, and CLOSE leaves its slot as it stands.
+  Stopped : (slot : ℕ) → Channel
   -- the slot of a relative file, and the place: a record from 1 on, and a byte of it from 1 on
   Relative : (slot record_number position : ℕ) → Channel
 
@@ -79,7 +81,10 @@ answered m (Err code) = say code m
 -- the channel is open
 abbrev pub is_open : Channel → Bool
 is_open Closed = false
-is_open _ = true
+is_open (Reading s left) = true
+is_open (Writing s bytes blocks full replaces) = true
+is_open (Stopped s) = true
+is_open (Relative s k p) = true
 
 -- the channel has the slot open
 abbrev pub uses : ℕ → Channel → Bool
@@ -87,6 +92,7 @@ uses n Closed = false
 uses n (Reading None left) = false
 uses n (Reading (Some s) left) = s == n
 uses n (Writing s bytes blocks full replaces) = s == n
+uses n (Stopped s) = s == n
 uses n (Relative s k p) = s == n
 
 -- the channel has the slot open for writing
@@ -94,6 +100,7 @@ abbrev pub writes : ℕ → Channel → Bool
 writes n Closed = false
 writes n (Reading s left) = false
 writes n (Writing s bytes blocks full replaces) = s == n
+writes n (Stopped s) = s == n
 writes n (Relative s k p) = s == n
 
 -- the slot is open on some channel
@@ -111,8 +118,10 @@ any_open m = list_any is_open m.channels
 -- a relative channel costs two, any other open one costs one
 abbrev pub cost : Channel → ℕ
 cost Closed = 0
+cost (Reading s left) = 1
+cost (Writing s bytes blocks full replaces) = 1
+cost (Stopped s) = 1
 cost (Relative s k p) = 2
-cost _ = 1
 
 -- with so much more the channels would cost more than three
 abbrev pub too_many : ℕ → Machine → Bool

@@ -15,7 +15,7 @@ use Rattle.cbm_command.specs.Refusals.{◌>>=◌}
 use Rattle.cbm_channel.specs.Listings.{listing}
 use Rattle.cbm_channel.specs.Machines.{Channel, Closed, Reading, Machine, answered, say}
 use Rattle.cbm_channel.specs.Finding.{body_at}
-use Rattle.cbm_channel.specs.Plans.{Plan, ReadListing, ReadFile, plan, act}
+use Rattle.cbm_channel.specs.Plans.{Plan, ReadListing, ReadFile, WriteFile, AppendFile, ReplaceFile, OpenRecords, MakeRecords, plan, act}
 
 -- the entry stands in the directory at the slot's number, and says what is known of the file in the slot
 pub record IsFound (tracks : ℕ) (c : Content) (d : Disk) (s : ℕ) (f : File) (found : Found) : Type 0 where
@@ -50,11 +50,15 @@ PlannedAs tracks c d (Ok p) (Err status) = ⊥
 PlannedAs tracks c d (Err code) (Ok x) = ⊥
 PlannedAs tracks c d (Err code) (Err status) = status ≡ plain code
 
--- the channel that a plan to read opens
+-- The channel that a plan to read opens. The other plans are not carried out yet, and open none.
 abbrev pub opened_by : Disk → Plan → Channel
 opened_by d (ReadListing p) = Reading None (listing d p)
 opened_by d (ReadFile s) = Reading (Some s) (bytes_in (body_at d s))
-opened_by d _ = Closed
+opened_by d (WriteFile kind name) = Closed
+opened_by d (AppendFile s) = Closed
+opened_by d (ReplaceFile s) = Closed
+opened_by d (OpenRecords s) = Closed
+opened_by d (MakeRecords name len) = Closed
 
 -- an OPEN that was read is planned and done
 abbrev pub begun_by : ℕ → Opening → Machine → Machine

@@ -9,12 +9,14 @@ use Rattle.cbm_channel.specs.Told.{next_told}
 -- nothing is open
 abbrev pub is_closed : Channel → Bool
 is_closed code.Closed = true
-is_closed _ = false
+is_closed (code.Listing l) = false
+is_closed (code.File slot r) = false
 
 -- what a channel costs of the three that may be open
 abbrev pub cost_on : Channel → ℕ
 cost_on code.Closed = 0
-cost_on _ = 1
+cost_on (code.Listing l) = 1
+cost_on (code.File slot r) = 1
 
 -- the byte that waits on a channel from 0 to 14, and whether it is the last
 abbrev pub shown_on : Channel → Option (ℕ × Bool)

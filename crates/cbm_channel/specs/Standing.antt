@@ -1,12 +1,13 @@
 -- The drive's code, over the content of its medium, stands for a machine.
-use Rattle.std.specs.Prelude.{ℕ, ◌≤◌, ◌≡◌, Bool, List, [], length, take, drop, Option, Some, None, option_map}
+use Rattle.std.specs.Prelude.{ℕ, ◌≤◌, ◌≡◌, ◌≢◌, Bool, List, [], length, take, drop, slice_index_or, Option, Some, None, option_map}
 use Rattle.std.specs.List.{All, AllZip}
 use Rattle.cbm_volume.specs.Content.{Content}
 use Rattle.cbm_volume.specs.Reading.{rest_of, IsSettled}
-use Rattle.cbm_volume.specs.Holding.{HoldsDisk}
+use Rattle.cbm_volume.specs.Writers.{Use, Idle, Reads, HoldsNow}
 use Rattle.cbm_channel.specs.declared.channel.Channel.{Channel}
 use Rattle.cbm_channel.specs.declared.channel.Channel.TheVariants as code
 use Rattle.cbm_channel.specs.Machines as machine
+use Rattle.cbm_channel.specs.Orderly.{IsOrderly}
 use Rattle.cbm_channel.specs.Closing.{forget_text}
 use Rattle.cbm_channel.specs.Calls.{text_for}
 use Rattle.cbm_channel.specs.Told.{Told, told_by}
@@ -35,6 +36,20 @@ ChannelStands c code.Closed channel = channel ≡ machine.Closed
 ChannelStands c (code.Listing l) channel = channel ≡ machine.Reading None (drop l.taken l.bytes)
 ChannelStands c (code.File slot r) channel = (channel ≡ machine.Reading (Some slot) (rest_of c r).bytes) × ((rest_of c r).trouble ≡ None)
 
+-- What a channel does with the disk, by what the code keeps and what the machine has.
+abbrev pub use_of : Channel → machine.Channel → Use
+use_of code.Closed channel = Idle
+use_of (code.Listing l) channel = Idle
+use_of (code.File slot r) channel = Reads slot r
+
+-- the uses of all channels, by their numbers
+abbrev pub uses_of : List Channel → List machine.Channel → ℕ → Use
+uses_of xs ys n = use_of (slice_index_or xs n code.Closed) (slice_index_or ys n machine.Closed)
+
+-- all channels but this one are as they were
+abbrev pub SameBut : ℕ → List Channel → List Channel → Type 0
+SameBut ch old new = (k : ℕ) → k ≢ ch → slice_index_or new k code.Closed ≡ slice_index_or old k code.Closed
+
 -- of a gathered text the first 256 bytes are kept, which tell one that is too long from all others
 abbrev pub kept_text : Option (ℕ × List ℕ) → Option (ℕ × List ℕ)
 kept_text text = option_map (λ (t : ℕ × List ℕ). (t.0, take 256 t.1)) text
@@ -50,9 +65,11 @@ pub record HasText (ch : ℕ) (m : machine.Machine) (text : ℕ × List ℕ) : T
   pub kept : text.1 ≡ take 256 (text_for ch m.text)
   pub some : 1 ≤ length text.1
 
--- the parts of a drive, over a content, stand for a machine
+-- The parts of a drive, over a content, stand for a machine: the content holds the machine's disk, which all channels use in one
+-- layout, and each channel, what is told and what is gathered stand for the machine's.
 pub record StandsBy (c : Content) (tracks : ℕ) (protected : Bool) (channels : List Channel) (told : Told) (text : Option (ℕ × List ℕ)) (m : machine.Machine) : Type 0 where
-  pub means : HoldsDisk tracks c m.disk
+  pub holds : HoldsNow tracks c m.disk (uses_of channels m.channels)
+  pub orderly : IsOrderly m.disk m.protected m.channels
   pub same_tracks : m.tracks ≡ tracks
   pub same_protection : m.protected ≡ protected
   pub each : AllZip (ChannelStands c) channels m.channels

@@ -1,7 +1,8 @@
 -- The status and its line.
-use Rattle.std.specs.Prelude.{ℕ, ◌≡◌, ◌+◌, ◌/◌, ◌%◌, min, List, [], ◌∷◌, ◌++◌}
+use Rattle.std.specs.Prelude.{ℕ, ◌≡◌, ◌==◌, ◌+◌, ◌/◌, ◌%◌, min, List, [], ◌∷◌, ◌++◌, if◌then◌else◌}
 use Rattle.cbm_medium.specs.declared.fault.Trouble.{Trouble}
 use Rattle.cbm_channel.specs.declared.code.Code.{Code}
+use Rattle.cbm_channel.specs.declared.code.Code.TheVariants.{WriteProtected}
 use Rattle.cbm_channel.specs.declared.status.Status.{Status}
 use Rattle.cbm_channel.specs.Codes.{code_number, code_text, code_of_fault}
 
@@ -27,9 +28,10 @@ status_line s =
     two_digits (code_number s.code) ++ comma ∷ code_text s.code
     ++ comma ∷ two_digits s.first ++ comma ∷ two_digits s.second ++ return ∷ []
 
--- what a disk answers in place of bytes: the fault, its track and its sector
+-- What a disk answers in place of bytes: the fault, its track and its sector. A protected disk is told with 0 and 0.
 abbrev pub trouble_status : Trouble → Status
-trouble_status t = record { code = code_of_fault t.code; first = t.track; second = t.sector }
+trouble_status t =
+    if t.code == 26 then plain WriteProtected else record { code = code_of_fault t.code; first = t.track; second = t.sector }
 
 -- the status that stands for a trouble
 abbrev pub trouble_gives : Trouble → Status → Type 0

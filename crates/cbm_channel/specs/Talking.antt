@@ -6,7 +6,7 @@ use Rattle.cbm_volume.specs.Reading.{shown}
 use Rattle.cbm_channel.specs.declared.code.Code.{Code}
 use Rattle.cbm_channel.specs.declared.code.Code.TheVariants.{Fine, NoRecord, FileNotOpen}
 use Rattle.cbm_channel.specs.Statuses.{return, status_line}
-use Rattle.cbm_channel.specs.Machines.{Channel, Closed, Reading, Writing, Relative, Machine, say, channel, with_channel}
+use Rattle.cbm_channel.specs.Machines.{Channel, Closed, Reading, Writing, Stopped, Relative, Machine, say, channel, with_channel}
 use Rattle.cbm_channel.specs.Finding.{body_at}
 use Rattle.cbm_channel.specs.Records.{record_at}
 
@@ -19,6 +19,7 @@ next_of_record (Some bytes) p = Some (slice_index_or bytes (p - 1) 0, list_all (
 abbrev pub peek_on : Disk → Channel → Option (ℕ × Bool)
 peek_on d Closed = None
 peek_on d (Writing s bytes blocks full replaces) = None
+peek_on d (Stopped s) = None
 peek_on d (Reading s left) = shown left
 peek_on d (Relative s k p) = next_of_record (record_at (body_at d s) k) p
 
@@ -33,7 +34,9 @@ taken_on d (Relative s k p) = elim (record_at (body_at d s) k) [
   | None ↦ Relative s k p
   | Some bytes ↦ if list_all (λ c. c == 0) (drop p bytes) then Relative s (k + 1) 1 else Relative s k (p + 1)
 ]
-taken_on d c = c
+taken_on d Closed = Closed
+taken_on d (Writing s bytes blocks full replaces) = Writing s bytes blocks full replaces
+taken_on d (Stopped s) = Stopped s
 
 -- The byte that `peek` shows was taken. Behind the last one of a status the status is 00.
 abbrev pub taken : ℕ → Machine → Machine
@@ -51,6 +54,7 @@ only_refused (Some code) m = say code m
 abbrev pub talk_refusal : Disk → Channel → Option Code
 talk_refusal d Closed = Some FileNotOpen
 talk_refusal d (Writing s bytes blocks full replaces) = Some FileNotOpen
+talk_refusal d (Stopped s) = Some FileNotOpen
 talk_refusal d (Reading s left) = None
 talk_refusal d (Relative s k p) = if is_some (record_at (body_at d s) k) then None else Some NoRecord
 
@@ -63,6 +67,7 @@ abbrev pub listen_refusal : Channel → Option Code
 listen_refusal Closed = Some FileNotOpen
 listen_refusal (Reading s left) = Some FileNotOpen
 listen_refusal (Writing s bytes blocks full replaces) = None
+listen_refusal (Stopped s) = None
 listen_refusal (Relative s k p) = None
 
 -- a channel is asked to listen

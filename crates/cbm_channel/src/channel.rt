@@ -38,12 +38,13 @@ pub(crate) fn open_count(channels: &[Channel]) -> usize
 }
 
 impl Channel {
-    ghost use Rattle.std.specs.Prelude.{◌≡◌, OnOk, IsOk, replicate};
+    ghost use Rattle.std.specs.Prelude.{◌≡◌, ℕ, OnOk, IsOk, replicate};
+    ghost use Rattle.cbm_volume.specs.Writers.{Use, HoldsNow, with_use};
     ghost use Rattle.cbm_volume.specs.Reading.{shown};
     ghost use Rattle.cbm_file.specs.Files.{Disk};
     ghost use Rattle.cbm_channel.specs.Machines as machine;
     ghost use Rattle.cbm_channel.specs.Talking.{taken_on};
-    ghost use Rattle.cbm_channel.specs.Standing.{Fits, ChannelStands};
+    ghost use Rattle.cbm_channel.specs.Standing.{Fits, ChannelStands, use_of};
     ghost use Rattle.cbm_channel.specs.Shown.{is_closed, shown_on};
     ghost use Rattle.cbm_channel.specs.Taken.{IsTakenBy};
 
@@ -83,6 +84,8 @@ impl Channel {
         ensures taken { IsTakenBy (M.content volume.now) self.old self.new result }
         ensures well { (d : Disk) (channel : machine.Channel) → ChannelStands (M.content volume.now) self.old channel →
             IsOk result × ChannelStands (M.content volume.now) self.new (taken_on d channel) }
+        ensures uses { (d : Disk) (uses : ℕ → Use) (ch : ℕ) (x y : machine.Channel) → HoldsNow (M.tracks volume.now) (M.content volume.now) d uses →
+            uses ch ≡ use_of self.old x → OnOk result (HoldsNow (M.tracks volume.now) (M.content volume.now) d (with_use uses ch (use_of self.new y))) }
     {
         match self {
             Channel::Closed => {}

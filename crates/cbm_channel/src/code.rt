@@ -110,11 +110,13 @@ impl Code {
         }
     }
 
-    /// The code of a medium's fault or of what breaks a chain off; a number that the table hasn't is told as 20.
+    /// The code of a medium's fault or of what breaks a chain off; a number that the table hasn't is told as 25, since
+    /// only a write that fails can have one.
     pub fn of_fault(number: u8) -> Code
         ensures { result ≡ code_of_fault number }
     {
         match number {
+            20 => Code::NoHeader,
             21 => Code::NoSync,
             22 => Code::NoData,
             23 => Code::DataChecksum,
@@ -126,7 +128,7 @@ impl Code {
             29 => Code::WrongId,
             66 => Code::WrongLink,
             71 => Code::EndlessChain,
-            _ => Code::NoHeader,
+            _ => Code::WriteFailed,
         }
     }
 

@@ -35,6 +35,7 @@ impl<M: Medium> Dos<M> {
     ghost use Rattle.cbm_file.specs.Files.{Disk};
     ghost use Rattle.cbm_volume.specs.Holding.{HoldsDisk};
     ghost use Rattle.cbm_channel.specs.Machines.{Machine, start, tell, say};
+    ghost use Rattle.cbm_channel.specs.Codes.{code_number};
     ghost use Rattle.cbm_channel.specs.Standing.{Stands, Leads};
 
     /// The drive at power up, with no channel open. It reads nothing.
@@ -66,12 +67,20 @@ impl<M: Medium> Dos<M> {
         volume.into_medium()
     }
 
-    /// The code of the status.
-    pub fn status_code(&self) -> Code
-        ensures value { result ≡ self.now.told.status.code }
-        ensures code { (m : Machine) → Stands M.tracks M.content M.protected self.now m → result ≡ m.status.code }
+    /// The status: its code and two numbers.
+    pub fn status(&self) -> Status
+        ensures value { result ≡ self.now.told.status }
+        ensures status { (m : Machine) → Stands M.tracks M.content M.protected self.now m → result ≡ m.status }
     {
-        self.telling.status().code
+        self.telling.status()
+    }
+
+    /// The number of the status, as 62 where a file isn't there.
+    pub fn status_code(&self) -> u8
+        ensures value { result ≡ code_number self.now.told.status.code }
+        ensures code { (m : Machine) → Stands M.tracks M.content M.protected self.now m → result ≡ code_number m.status.code }
+    {
+        self.status().code.number()
     }
 
     /// Sets the status, which is told from its beginning.

@@ -66,8 +66,11 @@ impl Status {
 impl From<Trouble> for Status {
     ghost from_gives = { trouble_gives };
 
-    /// What a disk answers in place of bytes: the fault, its track and its sector.
+    /// What a disk answers in place of bytes: the fault, its track and its sector. A protected disk is told with 0 and 0.
     fn from(trouble: Trouble) -> Status {
+        if trouble.code == Code::WriteProtected.number() {
+            return Status::plain(Code::WriteProtected);
+        }
         Status {
             code: Code::of_fault(trouble.code),
             first: trouble.track,

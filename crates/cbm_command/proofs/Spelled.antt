@@ -76,13 +76,13 @@ by_pieces ch name Del mode h zero one wild = cc
 by_pieces ch name Rel mode h zero one wild = cc
 by_pieces ch name Seq Read h zero one wild = rw (zero, one)
 by_pieces ch name Seq Write h zero one wild = rw (zero, one, wild)
-by_pieces ch name Seq Append h zero one wild = rw (zero, one)
+by_pieces ch name Seq Append h zero one wild = rw (zero, one, wild)
 by_pieces ch name Prg Read h zero one wild = rw (zero, one)
 by_pieces ch name Prg Write h zero one wild = rw (zero, one, wild)
-by_pieces ch name Prg Append h zero one wild = rw (zero, one)
+by_pieces ch name Prg Append h zero one wild = rw (zero, one, wild)
 by_pieces ch name Usr Read h zero one wild = rw (zero, one)
 by_pieces ch name Usr Write h zero one wild = rw (zero, one, wild)
-by_pieces ch name Usr Append h zero one wild = rw (zero, one)
+by_pieces ch name Usr Append h zero one wild = rw (zero, one, wild)
 
 some_byte : (c : ℕ) (name : List ℕ) → is_empty (c ∷ name) ≡ false
 some_byte c name = let n = suc (length name) in let e : eqb n 0 ≡ false = grind (arith, nat_tests) in e

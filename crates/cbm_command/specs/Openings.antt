@@ -80,7 +80,8 @@ by_channel ch w = if ch == 0 then set_mode Read w else if ch == 1 then set_mode 
 -- The type that is meant where none is given: PRG on the channels 0 and 1, else any, or SEQ where it is written.
 abbrev pub default_kind : ℕ → Mode → Option FileType
 default_kind ch Write = Some (if ch == 1 then Prg else Seq)
-default_kind ch _ = if ch == 0 then Some Prg else None
+default_kind ch Read = if ch == 0 then Some Prg else None
+default_kind ch Append = if ch == 0 then Some Prg else None
 
 -- the file with the type that is meant
 abbrev pub or_default : ℕ → Wanted → Wanted
@@ -90,13 +91,13 @@ or_default ch w = if is_some w.kind then w else record w { kind = default_kind c
 abbrev pub is_relative : Wanted → Bool
 is_relative w = elim w.kind [ Some Rel ↦ true | _ ↦ false ]
 
--- the name is written, or may be
-abbrev pub names_new : Wanted → Bool
-names_new w = elim w.mode [ Write ↦ true | _ ↦ is_relative w ]
+-- the file is written, appended to or made, or may be: its name is given whole
+abbrev pub is_named_whole : Wanted → Bool
+is_named_whole w = elim w.mode [ Write ↦ true | Append ↦ true | Read ↦ is_relative w ]
 
--- A pattern stands for no name that is written.
+-- A pattern stands for no name that is given whole.
 abbrev pub file_named : Wanted → Result Opening Refusal
-file_named w = unless ((names_new w && is_wild w.name, WildName) ∷ []) (Ok (File w))
+file_named w = unless ((is_named_whole w && is_wild w.name, WildName) ∷ []) (Ok (File w))
 
 -- the file before its pieces are read
 abbrev pub plain_file : Bool → List ℕ → Wanted

@@ -5,7 +5,7 @@ ghost use Rattle.cbm_file.specs.declared.file_type.FileType.{FileType};
 ghost use Rattle.cbm_command.specs.declared.opening.Mode.{Mode};
 ghost use Rattle.cbm_command.specs.Spelling.{IsPlain, spelled, holds_bytes, usual_file};
 ghost use Rattle.cbm_command.specs.Texts.{comma, parts_at};
-ghost use Rattle.cbm_command.specs.Openings.{pattern_asked, listing_asked, with_piece, with_pieces, set_kind, set_mode, is_length_piece, by_channel, default_kind, or_default, names_new, file_named, file_asked, headed_file, by_first, opening_of};
+ghost use Rattle.cbm_command.specs.Openings.{pattern_asked, listing_asked, with_piece, with_pieces, set_kind, set_mode, is_length_piece, by_channel, default_kind, or_default, is_named_whole, file_named, file_asked, headed_file, by_first, opening_of};
 
 use crate::head::{at_in_head, drive_head};
 use crate::name::Name;
@@ -136,20 +136,20 @@ fn or_default(channel: u8, wanted: Wanted) -> Wanted
     Wanted { kind, ..wanted }
 }
 
-/// The name is written, or may be.
-fn names_new(wanted: &Wanted) -> bool
-    ensures { result ≡ names_new wanted.now }
+/// The file is written, appended to or made, or may be: its name is given whole.
+fn is_named_whole(wanted: &Wanted) -> bool
+    ensures { result ≡ is_named_whole wanted.now }
 {
     match wanted.mode {
-        Mode::Write => true,
-        Mode::Read | Mode::Append => wanted.kind == Some(FileType::Rel),
+        Mode::Write | Mode::Append => true,
+        Mode::Read => wanted.kind == Some(FileType::Rel),
     }
 }
 
 fn file_named(wanted: Wanted) -> Result<Opening, Refusal>
     ensures { result ≡ file_named wanted }
 {
-    if names_new(&wanted) && wanted.name.is_wild() {
+    if is_named_whole(&wanted) && wanted.name.is_wild() {
         return Err(Refusal::WildName);
     }
     Ok(Opening::File(wanted))

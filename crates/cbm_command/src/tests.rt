@@ -62,7 +62,9 @@ fn refuses_openings(rt: HostRuntime) {
         (2, b"*,L,\x64".as_slice(), 33),
         (0, b"A*,L".as_slice(), 33),
         (0, b"A*,W".as_slice(), 0),
-        (2, b"A*,A".as_slice(), 0),
+        (2, b"A*,A".as_slice(), 33),
+        (2, b"A?,P,A".as_slice(), 33),
+        (2, b"A,A".as_slice(), 0),
         // listings
         (0, b"$".as_slice(), 0),
         (0, b"$0".as_slice(), 0),

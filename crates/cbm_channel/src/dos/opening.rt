@@ -58,7 +58,8 @@ impl<M: Medium> Dos<M> {
     ghost use Rattle.cbm_channel.specs.Machines.{Machine, say, too_many};
     ghost use Rattle.cbm_channel.specs.Plans as plans;
     ghost use Rattle.cbm_channel.specs.Calls.{after_open};
-    ghost use Rattle.cbm_channel.specs.Standing.{Stands, Fits, ChannelStands};
+    ghost use Rattle.cbm_volume.specs.Writers.{HoldsNow, with_use};
+    ghost use Rattle.cbm_channel.specs.Standing.{Stands, Fits, ChannelStands, use_of, uses_of};
     ghost use Rattle.cbm_channel.specs.Planned.{PlannedAs, opened_by, begun_by};
     ghost use Rattle.cbm_channel.specs.CarriedOut.{IsCarriedOut, IsAskedCarriedOut, reads_bytes, MeetsNoRecords};
 
@@ -161,6 +162,9 @@ impl<M: Medium> Dos<M> {
         ensures fits { IfOk result (Fits (M.tracks self.now.medium)) }
         ensures stands { (m : Machine) (p : plans.Plan) → PlannedAs (M.tracks self.now.medium) (M.content self.now.medium) m.disk (Ok p) (Ok plan)
             → Stands M.tracks M.content M.protected self.now m → IsOkAnd result (λ ch. ChannelStands (M.content self.now.medium) ch (opened_by m.disk p)) }
+        ensures uses { (m : Machine) (p : plans.Plan) (ch : ℕ) → PlannedAs (M.tracks self.now.medium) (M.content self.now.medium) m.disk (Ok p) (Ok plan)
+            → Stands M.tracks M.content M.protected self.now m → IfOk result (λ x. HoldsNow (M.tracks self.now.medium) (M.content self.now.medium) m.disk
+            (with_use (uses_of self.now.channels m.channels) ch (use_of x (opened_by m.disk p)))) }
     {
         match plan {
             Plan::ReadListing(pattern) => Ok(Channel::Listing(list(&self.volume, &pattern)?)),

@@ -1,15 +1,18 @@
 use Rattle.std.proofs.Common.{sym, ap, subst}
 use Rattle.cbm_channel.specs.declared.code.Code.TheVariants.{Fine}
 use Rattle.cbm_channel.specs.Machines.{say}
-use Rattle.cbm_channel.specs.Standing.{ChannelStands}
+use Rattle.cbm_volume.specs.Writers.{HoldsNow, with_use}
+use Rattle.cbm_channel.specs.Standing.{ChannelStands, use_of, uses_of}
 use Rattle.cbm_channel.specs.Planned.{opened_by}
 use Rattle.cbm_channel.proofs.Stands.{stood, moved, with_one}
-use Rattle.cbm_channel.proofs.Planning.{act_reads}
+use Rattle.cbm_channel.proofs.Planning.{act_reads, opened_well}
 use Rattle.cbm_channel.proofs.dos.Dos.act.Goals as goal
 
 pub returns-in-Ok-clause-leads : goal.returns-in-Ok-clause-leads
 returns-in-Ok-clause-leads g c = λ m p h s.
     let st = stood g.M.Medium.tracks g.M.Medium.content g.M.Medium.protected _ _ m c.self.view_is s in
     let stands = subst (λ k. ChannelStands (g.M.Medium.content k.medium) c.in-Ok.opened (opened_by m.disk p)) (sym c.self.view_is) (c.in-Ok.ensures.stands m p h s) in
+    let uses = subst (λ k. HoldsNow (g.M.Medium.tracks k.medium) (g.M.Medium.content k.medium) m.disk (with_use (uses_of k.channels m.channels) c.args.channel (use_of c.in-Ok.opened (opened_by m.disk p)))) (sym c.self.view_is)
+    (c.in-Ok.ensures.uses m p c.args.channel h s) in
     moved _ _ _ _ _ _ _ _ (ap (say Fine) (act_reads _ _ c.args.channel m p c.args.plan h))
-    (c.say.ensures.leads _ (with_one _ _ _ _ _ _ m c.args.channel c.in-Ok.opened (opened_by m.disk p) stands st))
+    (c.say.ensures.leads _ (with_one _ _ _ _ _ _ m c.args.channel c.in-Ok.opened (opened_by m.disk p) c.requires c.self.invariant stands uses (opened_well _ _ m.disk p c.args.plan h) st))

@@ -4,23 +4,40 @@ use Rattle.cbm_file.specs.Files.{bytes_in}
 use Rattle.cbm_volume.specs.Reading.{rest_of}
 use Rattle.cbm_channel.specs.Machines.{Reading}
 use Rattle.cbm_channel.specs.Finding.{body_at}
+use Rattle.cbm_volume.specs.Writers.{HoldsNow, with_use, Idle, Reads}
+use Rattle.cbm_channel.specs.Standing.{uses_of}
 use Rattle.cbm_channel.specs.Planned.{PlannedAs, opened_by}
-use Rattle.cbm_channel.proofs.Stands.{stood}
+use Rattle.cbm_channel.proofs.Stands.{stood, means_of, let_go_at, unwritten_at}
 use Rattle.cbm_channel.proofs.Planning.{readable, file_opens}
 use Rattle.cbm_channel.proofs.dos.Dos.opened.Goals as goal
 
 pub returns-in_err-list-in-ReadListing-clause-stands : goal.returns-in_err-list-in-ReadListing-clause-stands
-returns-in_err-list-in-ReadListing-clause-stands g c = λ m p h s. absurd (c.in_err-list-in-ReadListing.ensures m.disk (stood g.M.Medium.tracks g.M.Medium.content g.M.Medium.protected _ _ m c.self.view_is s).means)
+returns-in_err-list-in-ReadListing-clause-stands g c = λ m p h s. absurd (c.in_err-list-in-ReadListing.ensures m.disk (means_of _ _ _ _ _ _ m (stood g.M.Medium.tracks g.M.Medium.content g.M.Medium.protected _ _ m c.self.view_is s)))
 
 pub returns-in_err-begin_read-in-ReadFile-clause-stands : goal.returns-in_err-begin_read-in-ReadFile-clause-stands
 returns-in_err-begin_read-in-ReadFile-clause-stands g c = λ m p h s.
     let x = readable _ _ m.disk p c.args.plan c.in-ReadFile.found (subst (λ k. PlannedAs (g.M.Medium.tracks k.medium) (g.M.Medium.content k.medium) m.disk (Ok p) (Ok c.args.plan)) (sym c.self.view_is) h) c.in-ReadFile.is in
-    absurd (c.in_err-begin_read-in-ReadFile.ensures.means m.disk x.0 (bytes_in (body_at m.disk x.0)) (stood g.M.Medium.tracks g.M.Medium.content g.M.Medium.protected _ _ m c.self.view_is s).means x.2.stands x.2.has)
+    absurd (c.in_err-begin_read-in-ReadFile.ensures.means m.disk x.0 (bytes_in (body_at m.disk x.0)) (means_of _ _ _ _ _ _ m (stood g.M.Medium.tracks g.M.Medium.content g.M.Medium.protected _ _ m c.self.view_is s)) x.2.stands x.2.has)
 
 pub returns-in_ok-begin_read-in-ReadFile-clause-stands : goal.returns-in_ok-begin_read-in-ReadFile-clause-stands
 returns-in_ok-begin_read-in-ReadFile-clause-stands g c = λ m p h s.
     let x = readable _ _ m.disk p c.args.plan c.in-ReadFile.found (subst (λ k. PlannedAs (g.M.Medium.tracks k.medium) (g.M.Medium.content k.medium) m.disk (Ok p) (Ok c.args.plan)) (sym c.self.view_is) h) c.in-ReadFile.is in
-    let rest = c.in_ok-begin_read-in-ReadFile.ensures.means m.disk x.0 (bytes_in (body_at m.disk x.0)) (stood g.M.Medium.tracks g.M.Medium.content g.M.Medium.protected _ _ m c.self.view_is s).means x.2.stands x.2.has in
+    let rest = c.in_ok-begin_read-in-ReadFile.ensures.means m.disk x.0 (bytes_in (body_at m.disk x.0)) (means_of _ _ _ _ _ _ m (stood g.M.Medium.tracks g.M.Medium.content g.M.Medium.protected _ _ m c.self.view_is s)) x.2.stands x.2.has in
     subst (λ k. (opened_by m.disk p ≡ Reading (Some c.in-ReadFile.found.slot) (rest_of (g.M.Medium.content k.medium) c.in_ok-begin_read-in-ReadFile.field-0).bytes)
     × ((rest_of (g.M.Medium.content k.medium) c.in_ok-begin_read-in-ReadFile.field-0).trouble ≡ None)) c.self.view_is
     (file_opens (g.M.Medium.content c.self.inside.volume) m.disk p x.0 c.in-ReadFile.found.slot c.in_ok-begin_read-in-ReadFile.field-0 x.1 x.2.number rest)
+
+-- a listing uses nothing of the disk
+pub returns-in_ok-list-in-ReadListing-clause-uses : goal.returns-in_ok-list-in-ReadListing-clause-uses
+returns-in_ok-list-in-ReadListing-clause-uses g c = λ m p ch h s.
+    subst (λ k. HoldsNow (g.M.Medium.tracks k.medium) (g.M.Medium.content k.medium) m.disk (with_use (uses_of k.channels m.channels) ch Idle)) c.self.view_is
+    (let_go_at _ _ _ _ _ _ m ch (stood g.M.Medium.tracks g.M.Medium.content g.M.Medium.protected _ _ m c.self.view_is s))
+
+-- the file is read
+pub returns-in_ok-begin_read-in-ReadFile-clause-uses : goal.returns-in_ok-begin_read-in-ReadFile-clause-uses
+returns-in_ok-begin_read-in-ReadFile-clause-uses g c = λ m p ch h s.
+    let x = readable _ _ m.disk p c.args.plan c.in-ReadFile.found (subst (λ k. PlannedAs (g.M.Medium.tracks k.medium) (g.M.Medium.content k.medium) m.disk (Ok p) (Ok c.args.plan)) (sym c.self.view_is) h) c.in-ReadFile.is in
+    let st = stood g.M.Medium.tracks g.M.Medium.content g.M.Medium.protected _ _ m c.self.view_is s in
+    subst (λ k. HoldsNow (g.M.Medium.tracks k.medium) (g.M.Medium.content k.medium) m.disk (with_use (uses_of k.channels m.channels) ch (Reads c.in-ReadFile.found.slot c.in_ok-begin_read-in-ReadFile.field-0))) c.self.view_is
+    (subst (λ n. HoldsNow (g.M.Medium.tracks c.self.inside.volume) (g.M.Medium.content c.self.inside.volume) m.disk (with_use (uses_of c.self.inside.channels m.channels) ch (Reads n c.in_ok-begin_read-in-ReadFile.field-0))) x.2.number
+    (c.in_ok-begin_read-in-ReadFile.ensures.reads m.disk (uses_of c.self.inside.channels m.channels) ch x.0 (bytes_in (body_at m.disk x.0)) st.holds x.2.stands x.2.has (unwritten_at x.0 c.self.inside.channels m.channels)))

@@ -1,7 +1,10 @@
-use Rattle.std.proofs.Common.{◌<◌, ap, arith}
-use Rattle.cbm_channel.specs.Talking.{taken}
+use Rattle.std.proofs.Common.{◌<◌, refl, ap, arith}
+use Rattle.std.specs.Prelude.{slice_index_or}
+use Rattle.cbm_channel.specs.Machines.{channel}
+use Rattle.cbm_channel.specs.Talking.{taken, taken_on}
 use Rattle.cbm_channel.proofs.Idle.{below_15, taken_other}
-use Rattle.cbm_channel.proofs.Stands.{with_one, told_on, stands_at, moved, stood, not_ok}
+use Rattle.cbm_channel.proofs.Stands.{with_one, told_on, stands_at, idle_at, use_at, ok_is, moved, stood, not_ok}
+use Rattle.cbm_channel.proofs.Orders.{taken_well}
 use Rattle.cbm_channel.proofs.dos.Dos.taken.Goals as goal
 
 pub returns-then-channel-eq15-clause-leads : goal.returns-then-channel-eq15-clause-leads
@@ -21,5 +24,9 @@ returns-in_default-clause-leads g c = λ m s.
     let st = stood g.M.Medium.tracks g.M.Medium.content g.M.Medium.protected _ _ m c.self.view_is s in
     let lt : c.args.channel < 15 = omega (arith, c.requires, c.if-channel-eq15.false) in
     let at = stands_at _ _ _ _ _ _ m c.args.channel c.index-self-channel.result lt c.self.invariant st in
+    let y = channel m c.args.channel in
+    let same = use_at (slice_index_or c.self.inside.channels c.args.channel c.index-self-channel.result) _ m.channels c.args.channel _ (omega (arith, lt, c.self.invariant.count)) refl in
+    let uses = ok_is c.taken-2.result (c.taken-2.ensures.well m.disk y at).0 (c.taken-2.ensures.uses m.disk _ c.args.channel y (taken_on m.disk y) st.holds same) in
     moved _ _ _ _ _ _ _ _ (taken_other c.args.channel m (below_15 c.args.channel lt))
-    (with_one _ _ _ _ _ _ m c.args.channel _ _ (c.taken-2.ensures.well m.disk _ at).1 st)
+    (with_one _ _ _ _ _ _ m c.args.channel _ _ lt c.self.invariant (c.taken-2.ensures.well m.disk _ at).1 uses
+    (taken_well m.disk y (idle_at _ _ _ _ _ _ m c.args.channel st) (st.orderly.reading c.args.channel)) st)

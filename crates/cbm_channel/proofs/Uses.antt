@@ -1,0 +1,31 @@
+-- How the channels use the disk, before and behind a change of one of them.
+use Rattle.std.proofs.Common.{◌≡◌, ◌≢◌, ℕ, ◌<◌, Bool, true, false, List, length, refl, sym, ap, ◌∙◌, subst}
+use Rattle.std.specs.Prelude.{◌==◌, slice_index_or, slice_set}
+use Rattle.std.proofs.lemmas.List.{get_or-set_same, get_or-set_other}
+use Rattle.std.proofs.lemmas.Bool.{eqb-false, eqb-true}
+use Rattle.cbm_volume.specs.Content.{Content}
+use Rattle.cbm_volume.specs.Holding.{HoldsDisk}
+use Rattle.cbm_volume.specs.Writers.{Use, Idle, HoldsNow, with_use}
+use Rattle.cbm_file.specs.Files.{Disk}
+use Rattle.cbm_channel.specs.declared.channel.Channel.{Channel}
+use Rattle.cbm_channel.specs.declared.channel.Channel.TheVariants as code
+use Rattle.cbm_channel.specs.Machines as machine
+use Rattle.cbm_channel.specs.Standing.{use_of, uses_of}
+
+module _ (xs : List Channel) (ys : List machine.Channel) (i : ℕ) (x : Channel) (y : machine.Channel) (more : i < length xs) (also : i < length ys) where
+  set_here : uses_of (slice_set xs i x) (slice_set ys i y) i ≡ use_of x y
+  set_here = λ j. use_of (get_or-set_same xs i x code.Closed more j) (get_or-set_same ys i y machine.Closed also j)
+
+  set_there : (n : ℕ) → n ≢ i → uses_of (slice_set xs i x) (slice_set ys i y) n ≡ uses_of xs ys n
+  set_there n ne = λ j. use_of (get_or-set_other xs i n x code.Closed ne j) (get_or-set_other ys i n y machine.Closed ne j)
+
+  -- one channel uses the disk otherwise
+  set_at : (n : ℕ) → uses_of (slice_set xs i x) (slice_set ys i y) n ≡ with_use (uses_of xs ys) i (use_of x y) n
+  set_at n = by_test (n == i) refl
+    where
+      by_test : (b : Bool) → (n == i) ≡ b → uses_of (slice_set xs i x) (slice_set ys i y) n ≡ with_use (uses_of xs ys) i (use_of x y) n
+      by_test true e = ap (uses_of (slice_set xs i x) (slice_set ys i y)) (eqb-true n i e) ∙ set_here ∙ sym (rw e refl)
+      by_test false e = set_there n (eqb-false n i e) ∙ sym (rw e refl)
+
+  pub uses_set : uses_of (slice_set xs i x) (slice_set ys i y) ≡ with_use (uses_of xs ys) i (use_of x y)
+  uses_set = λ j n. set_at n j

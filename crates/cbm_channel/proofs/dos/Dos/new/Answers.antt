@@ -1,0 +1,13 @@
+use Rattle.std.proofs.Common.{sym, ap, subst, ◌∙◌}
+use Rattle.std.specs.Prelude.{None}
+use Rattle.cbm_channel.specs.Machines.{start}
+use Rattle.cbm_channel.specs.Standing.{StandsBy}
+use Rattle.cbm_channel.specs.Told.{Told}
+use Rattle.cbm_channel.proofs.Stands.{stands_at_first}
+use Rattle.cbm_channel.proofs.dos.Dos.new.Goals as goal
+
+pub returns-clause-stands : goal.returns-clause-stands
+returns-clause-stands g c = λ d h.
+    subst (λ x. StandsBy (g.M.Medium.content x) (g.M.Medium.tracks x) (g.M.Medium.protected x) c.all_closed.result c.new.result None (start d (g.M.Medium.protected c.args.medium) (g.M.Medium.tracks c.args.medium)))
+    (sym c.open.ensures)
+    (stands_at_first _ _ _ d _ _ c.all_closed.ensures (c.new.ensures ∙ ap (λ x. record { status = x; told = 0 }) c.plain.ensures) h)
