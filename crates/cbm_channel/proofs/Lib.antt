@@ -3,6 +3,8 @@ pub mod Kept
 pub mod Idle
 pub mod Orders
 pub mod Uses
+pub mod Changed
+pub mod Troubles
 pub mod Stands
 pub mod Texts
 pub mod Found

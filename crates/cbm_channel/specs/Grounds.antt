@@ -1,5 +1,5 @@
 -- Where a status comes from, on any disk.
-use Rattle.std.specs.Prelude.{ℕ, ◌<◌, ◌≡◌, ◌⊎◌, ◌&&◌, ◌||◌, ◌==◌, nat_lt, Bool, true, false, not, List, Option, Some, Err}
+use Rattle.std.specs.Prelude.{ℕ, ◌<◌, ◌≡◌, ◌⊎◌, ◌&&◌, ◌||◌, ◌==◌, nat_lt, Bool, true, false, List, Some, Err}
 use Rattle.std.specs.List.{Contains}
 use Rattle.cbm_medium.specs.Place.{sector_count}
 use Rattle.cbm_medium.specs.Links.{follow}
@@ -13,7 +13,9 @@ use Rattle.cbm_channel.specs.declared.code.Code.TheVariants.{WriteProtected}
 use Rattle.cbm_channel.specs.declared.status.Status.{Status}
 use Rattle.cbm_channel.specs.Codes.{code_number}
 use Rattle.cbm_channel.specs.Statuses.{plain, trouble_status}
-use Rattle.cbm_channel.specs.Told.{Told}
+use Rattle.cbm_channel.specs.Standing.{Kept}
+use Rattle.cbm_channel.specs.declared.plan.Plan.{Plan}
+use Rattle.cbm_channel.specs.declared.plan.Plan.TheVariants as planned
 
 -- the number is one that a disk's faults have: 20 to 29, 66 or 71
 abbrev pub is_fault_number : ℕ → Bool
@@ -26,14 +28,25 @@ ShowsTrouble tracks c t =
     ⊎ (((directory_of tracks c).trouble ≡ Some t)
     ⊎ ((entry : List ℕ) × Contains (directory_of tracks c).entries entry × ((follow tracks c (sector_count tracks) (first_block entry)).trouble ≡ Some t)))
 
--- A STATUS HAS ITS GROUND: it is no fault of a disk; or the disk is protected; or the content shows the fault; or the medium
--- failed in this call.
-abbrev pub HasGround : ℕ → Content → Bool → Type 0 → Status → Type 0
-HasGround tracks c protected failed status =
+-- A STATUS HAS ITS GROUND: it is no fault of a disk; or the disk is protected; or the content shows the fault.
+abbrev pub HasGround : {M : Type 0} → (M → ℕ) → (M → Content) → (M → Bool) → M → Status → Type 0
+HasGround tracks content protected medium status =
     (is_fault_number (code_number status.code) ≡ false)
-    ⊎ (((status ≡ plain WriteProtected) × (protected ≡ true))
-    ⊎ ((t : Trouble) × (status ≡ trouble_status t) × (ShowsTrouble (geometry_of tracks c) c t ⊎ failed)))
+    ⊎ (((status ≡ plain WriteProtected) × (protected medium ≡ true))
+    ⊎ ((t : Trouble) × (status ≡ trouble_status t) × ShowsTrouble (geometry_of (tracks medium) (content medium)) (content medium) t))
 
--- What is told stays, or is a status that has its ground.
-abbrev pub IsToldFor : ℕ → Content → Bool → Type 0 → Told → Told → Type 0
-IsToldFor tracks c protected failed old new = (new ≡ old) ⊎ HasGround tracks c protected failed new.status
+-- a status with its ground is told
+abbrev pub HasTold : {M : Type 0} → (M → ℕ) → (M → Content) → (M → Bool) → Kept M → Kept M → Type 0
+HasTold tracks content protected old new = HasGround tracks content protected old.medium new.told.status
+
+-- What is told stays; or a status with its ground is told anew; or the medium failed in this call, and its fault is told.
+abbrev pub IsToldFor : {M : Type 0} → (M → ℕ) → (M → Content) → (M → Bool) → (M → ℕ) → Kept M → Kept M → Type 0
+IsToldFor tracks content protected failures old new =
+    (new.told ≡ old.told)
+    ⊎ (HasTold tracks content protected old new
+    ⊎ ((t : Trouble) × (new.told.status ≡ trouble_status t) × (failures old.medium < failures new.medium)))
+
+-- the file that a plan reads was found in the directory
+abbrev pub IsFromDirectory : {M : Type 0} → (M → ℕ) → (M → Content) → M → Plan → Type 0
+IsFromDirectory tracks content medium (planned.ReadListing pattern) = Unit {0}
+IsFromDirectory tracks content medium (planned.ReadFile found) = Contains (directory_of (geometry_of (tracks medium) (content medium)) (content medium)).entries found.entry

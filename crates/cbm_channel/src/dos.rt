@@ -36,6 +36,7 @@ impl<M: Medium> Dos<M> {
     ghost use Rattle.cbm_volume.specs.Holding.{HoldsDisk};
     ghost use Rattle.cbm_channel.specs.Machines.{Machine, start, tell, say};
     ghost use Rattle.cbm_channel.specs.Codes.{code_number};
+    ghost use Rattle.cbm_channel.specs.Statuses.{plain};
     ghost use Rattle.cbm_channel.specs.Standing.{Stands, Leads};
 
     /// The drive at power up, with no channel open. It reads nothing.
@@ -97,6 +98,8 @@ impl<M: Medium> Dos<M> {
     fn say(&mut self, code: Code)
         ensures leads { Leads M.tracks M.content M.protected self.old self.new (say code) }
         ensures medium { self.new.medium ≡ self.old.medium }
+        ensures channels { self.new.channels ≡ self.old.channels }
+        ensures told { self.new.told ≡ (record { status = plain code; told = 0 }) }
     {
         self.set(Status::plain(code));
     }

@@ -16,7 +16,11 @@ pub struct Found {
 }
 
 impl<M: Medium> Dos<M> {
-    ghost use Rattle.std.specs.Prelude.{◌≡◌};
+    ghost use Rattle.std.specs.Prelude.{◌≡◌, IfOk, IfErr};
+    ghost use Rattle.std.specs.List.{Contains};
+    ghost use Rattle.cbm_volume.specs.Map.{geometry_of};
+    ghost use Rattle.cbm_volume.specs.Slots.{directory_of};
+    ghost use Rattle.cbm_channel.specs.Grounds.{HasGround};
     ghost use Rattle.cbm_channel.specs.Machines.{Machine};
     ghost use Rattle.cbm_channel.specs.Finding.{found};
     ghost use Rattle.cbm_channel.specs.Standing.{Stands};
@@ -25,7 +29,9 @@ impl<M: Medium> Dos<M> {
     /// The first file that matches and is of the type, where one is meant. An `Err` is 64 where the name is there and has
     /// none of the type, 62 where it isn't there, or what the disk answers.
     pub(crate) fn found(&self, pattern: &Name, kind: Option<FileType>) -> Result<Found, Status>
-        ensures { (m : Machine) → Stands M.tracks M.content M.protected self.now m
+        ensures ground { IfErr result (HasGround M.tracks M.content M.protected self.now.medium) }
+        ensures from { IfOk result (λ f. Contains (directory_of (geometry_of (M.tracks self.now.medium) (M.content self.now.medium)) (M.content self.now.medium)).entries f.entry) }
+        ensures found { (m : Machine) → Stands M.tracks M.content M.protected self.now m
             → FoundAs (M.tracks self.now.medium) (M.content self.now.medium) m.disk (found m.disk pattern.now kind) result }
     {
         if let Some((slot, entry)) = self.volume().find(&Sought { pattern, kind })? {

@@ -1,4 +1,6 @@
-ghost use Rattle.std.specs.Prelude.{◌≡◌, ◌≤◌, ◌+◌, ◌++◌, length, IsOkAnd};
+ghost use Rattle.std.specs.Prelude.{◌≡◌, ◌≤◌, ◌+◌, ◌++◌, length, IsOkAnd, IfErr};
+ghost use Rattle.cbm_volume.specs.Map.{geometry_of};
+ghost use Rattle.cbm_channel.specs.Grounds.{ShowsTrouble};
 ghost use Rattle.cbm_file.specs.Files.{Disk};
 ghost use Rattle.cbm_volume.specs.Holding.{HoldsDisk};
 ghost use Rattle.cbm_channel.specs.Listings.{listing};
@@ -33,7 +35,8 @@ fn add_entry(listing: &mut Listing, pattern: &Name, entry: &Entry)
 
 /// The listing of the files that match a pattern. An `Err` is what the disk answers in place of 18/0 or of the directory.
 pub(crate) fn list<M: Medium>(volume: &Volume<M>, pattern: &Name) -> Result<Listing, Trouble>
-    ensures { (d : Disk) → HoldsDisk (M.tracks volume.now) (M.content volume.now) d →
+    ensures shown { IfErr result (ShowsTrouble (geometry_of (M.tracks volume.now) (M.content volume.now)) (M.content volume.now)) }
+    ensures whole { (d : Disk) → HoldsDisk (M.tracks volume.now) (M.content volume.now) d →
         IsOkAnd result (λ l. l ≡ (record { bytes = listing d pattern.now; taken = 0 })) }
 {
     let label = volume.label()?;

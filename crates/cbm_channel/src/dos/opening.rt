@@ -1,4 +1,7 @@
-ghost use Rattle.std.specs.Prelude.{◌≡◌, ◌≤◌, ℕ, Bool, false, Result, Ok, Err, if◌then◌else◌, not, ◌&&◌};
+ghost use Rattle.cbm_channel.specs.Codes.{code_number};
+ghost use Rattle.cbm_channel.specs.Grounds.{is_fault_number};
+ghost use Rattle.cbm_channel.specs.declared.plan.Plan.TheVariants as planned;
+ghost use Rattle.std.specs.Prelude.{◌≡◌, ◌≤◌, ℕ, Bool, false, Result, Ok, Err, IfOk, IfErr, if◌then◌else◌, not, ◌&&◌};
 ghost use Rattle.cbm_file.specs.Files.{Disk, File};
 ghost use Rattle.cbm_volume.specs.Content.{Content};
 ghost use Rattle.cbm_channel.specs.Machines.{Machine, in_writing};
@@ -32,7 +35,9 @@ fn cost_of(wanted: &Wanted, found: &Result<Found, Status>) -> usize
 
 /// What reading a file will do that was found. A relative one is answered 64 so far.
 fn plan_read(wanted: &Wanted, found: Found) -> Result<Plan, Status>
-    ensures { (tracks : ℕ) (c : Content) (m : Machine) (s : ℕ) (f : File) → in_writing m s ≡ false → IsFound tracks c m.disk s f found
+    ensures own { IfErr result (λ s. is_fault_number (code_number s.code) ≡ false) }
+    ensures same { IfOk result (λ p. p ≡ planned.ReadFile found) }
+    ensures planned { (tracks : ℕ) (c : Content) (m : Machine) (s : ℕ) (f : File) → in_writing m s ≡ false → IsFound tracks c m.disk s f found
         → MeetsNoRecords (plans.plan_read wanted.now m (s, f)) → PlannedAs tracks c m.disk (plans.plan_read wanted.now m (s, f)) result }
 {
     let kind = found.entry.kind();
@@ -52,14 +57,17 @@ fn plan_read(wanted: &Wanted, found: Found) -> Result<Plan, Status>
 }
 
 impl<M: Medium> Dos<M> {
-    ghost use Rattle.std.specs.Prelude.{◌≡◌, ◌≤◌, ◌<◌, ℕ, true, IsOkAnd, IfOk, Ok};
+    ghost use Rattle.std.specs.Prelude.{◌≡◌, ◌≤◌, ◌<◌, ◌⊎◌, ℕ, true, IsOkAnd, IfOk, IfErr, Ok, slice_index_or};
+    ghost use Rattle.cbm_volume.specs.Map.{geometry_of};
+    ghost use Rattle.cbm_channel.specs.declared.channel.Channel.TheVariants.{Closed};
+    ghost use Rattle.cbm_channel.specs.Grounds.{HasGround, ShowsTrouble, HasTold, IsToldFor, IsFromDirectory};
     ghost use Rattle.cbm_command.specs.declared.opening.Opening.TheVariants as opening;
     ghost use Rattle.cbm_channel.specs.declared.code.Code.TheVariants.{Fine};
     ghost use Rattle.cbm_channel.specs.Machines.{Machine, say, too_many};
     ghost use Rattle.cbm_channel.specs.Plans as plans;
     ghost use Rattle.cbm_channel.specs.Calls.{after_open};
     ghost use Rattle.cbm_volume.specs.Writers.{HoldsNow, with_use};
-    ghost use Rattle.cbm_channel.specs.Standing.{Stands, Fits, ChannelStands, use_of, uses_of};
+    ghost use Rattle.cbm_channel.specs.Standing.{Stands, SameBut, Fits, ChannelStands, use_of, uses_of};
     ghost use Rattle.cbm_channel.specs.Planned.{PlannedAs, opened_by, begun_by};
     ghost use Rattle.cbm_channel.specs.CarriedOut.{IsCarriedOut, IsAskedCarriedOut, reads_bytes, MeetsNoRecords};
 
@@ -69,6 +77,10 @@ impl<M: Medium> Dos<M> {
         requires { channel ≤ 15 }
         ensures leads { (m : Machine) → IsCarriedOut channel text.now m → Stands M.tracks M.content M.protected self.old m
             → Stands M.tracks M.content M.protected self.new (after_open channel text.now m) }
+        // On any disk:
+        ensures others { SameBut channel self.old.channels self.new.channels }
+        ensures refused { channel < 15 → (self.new.told.status.code ≡ Fine) ⊎ (slice_index_or self.new.channels channel Closed ≡ Closed) }
+        ensures told { IsToldFor M.tracks M.content M.protected M.failures self.old self.new }
         ensures medium { self.new.medium ≡ self.old.medium }
     {
         if channel == 15 {
@@ -87,6 +99,10 @@ impl<M: Medium> Dos<M> {
         requires { channel < 15 }
         ensures leads { (m : Machine) → IsAskedCarriedOut channel m (Ok opening) → Stands M.tracks M.content M.protected self.old m
             → Stands M.tracks M.content M.protected self.new (begun_by channel opening m) }
+        ensures others { SameBut channel self.old.channels self.new.channels }
+        ensures refused { slice_index_or self.old.channels channel Closed ≡ Closed →
+            (self.new.told.status.code ≡ Fine) ⊎ (slice_index_or self.new.channels channel Closed ≡ Closed) }
+        ensures told { HasTold M.tracks M.content M.protected self.old self.new }
         ensures medium { self.new.medium ≡ self.old.medium }
     {
         match self.plan(opening) {
@@ -97,7 +113,9 @@ impl<M: Medium> Dos<M> {
 
     /// What an OPEN will do. An `Err` is its refusal, or what the disk answers.
     fn plan(&self, opening: Opening) -> Result<Plan, Status>
-        ensures { (m : Machine) (ch : ℕ) → IsAskedCarriedOut ch m (Ok opening) → Stands M.tracks M.content M.protected self.now m
+        ensures ground { IfErr result (HasGround M.tracks M.content M.protected self.now.medium) }
+        ensures from { IfOk result (IsFromDirectory M.tracks M.content self.now.medium) }
+        ensures planned { (m : Machine) (ch : ℕ) → IsAskedCarriedOut ch m (Ok opening) → Stands M.tracks M.content M.protected self.now m
             → PlannedAs (M.tracks self.now.medium) (M.content self.now.medium) m.disk (plans.plan ch opening m) result }
     {
         match opening {
@@ -113,7 +131,9 @@ impl<M: Medium> Dos<M> {
 
     /// What an OPEN of a file will do. Writing is answered 30 so far, and records 64.
     fn plan_file(&self, wanted: &Wanted) -> Result<Plan, Status>
-        ensures { (m : Machine) (ch : ℕ) → reads_bytes wanted.now ≡ true → MeetsNoRecords (plans.plan ch (opening.File wanted.now) m)
+        ensures ground { IfErr result (HasGround M.tracks M.content M.protected self.now.medium) }
+        ensures from { IfOk result (IsFromDirectory M.tracks M.content self.now.medium) }
+        ensures planned { (m : Machine) (ch : ℕ) → reads_bytes wanted.now ≡ true → MeetsNoRecords (plans.plan ch (opening.File wanted.now) m)
             → Stands M.tracks M.content M.protected self.now m
             → PlannedAs (M.tracks self.now.medium) (M.content self.now.medium) m.disk (plans.plan ch (opening.File wanted.now) m) result }
     {
@@ -146,6 +166,9 @@ impl<M: Medium> Dos<M> {
         requires { channel < 15 }
         ensures leads { (m : Machine) (p : plans.Plan) → PlannedAs (M.tracks self.old.medium) (M.content self.old.medium) m.disk (Ok p) (Ok plan)
             → Stands M.tracks M.content M.protected self.old m → Stands M.tracks M.content M.protected self.new (say Fine (plans.act channel p m)) }
+        ensures others { SameBut channel self.old.channels self.new.channels }
+        ensures refused { (self.new.told.status.code ≡ Fine) ⊎ (self.new.channels ≡ self.old.channels) }
+        ensures told { IsFromDirectory M.tracks M.content self.old.medium plan → HasTold M.tracks M.content M.protected self.old self.new }
         ensures medium { self.new.medium ≡ self.old.medium }
     {
         match self.opened(plan) {
@@ -160,6 +183,8 @@ impl<M: Medium> Dos<M> {
     /// The channel that a plan opens. An `Err` is what the disk answers.
     fn opened(&self, plan: Plan) -> Result<Channel, Trouble>
         ensures fits { IfOk result (Fits (M.tracks self.now.medium)) }
+        ensures shown { IsFromDirectory M.tracks M.content self.now.medium plan →
+            IfErr result (ShowsTrouble (geometry_of (M.tracks self.now.medium) (M.content self.now.medium)) (M.content self.now.medium)) }
         ensures stands { (m : Machine) (p : plans.Plan) → PlannedAs (M.tracks self.now.medium) (M.content self.now.medium) m.disk (Ok p) (Ok plan)
             → Stands M.tracks M.content M.protected self.now m → IsOkAnd result (λ ch. ChannelStands (M.content self.now.medium) ch (opened_by m.disk p)) }
         ensures uses { (m : Machine) (p : plans.Plan) (ch : ℕ) → PlannedAs (M.tracks self.now.medium) (M.content self.now.medium) m.disk (Ok p) (Ok plan)

@@ -10,7 +10,8 @@ impl<M: Medium> Dos<M> {
     ghost use Rattle.std.specs.Prelude.{◌≡◌, ◌≤◌, ◌<◌, slice_index_or};
     ghost use Rattle.cbm_channel.specs.Machines.{Machine};
     ghost use Rattle.cbm_channel.specs.Talking.{peek, taken, talk, listen};
-    ghost use Rattle.cbm_channel.specs.Standing.{Stands, Leads};
+    ghost use Rattle.cbm_channel.specs.Grounds.{IsToldFor};
+    ghost use Rattle.cbm_channel.specs.Standing.{Stands, SameBut, Leads};
     ghost use Rattle.cbm_channel.specs.Shown.{shown_by};
     ghost use Rattle.cbm_channel.specs.Told.{behind_next};
     ghost use Rattle.cbm_channel.specs.Taken.{IsTaken};
@@ -20,6 +21,9 @@ impl<M: Medium> Dos<M> {
     pub fn talk(&mut self, channel: u8)
         requires { channel ≤ 15 }
         ensures leads { Leads M.tracks M.content M.protected self.old self.new (talk channel) }
+        // On any disk:
+        ensures channels { self.new.channels ≡ self.old.channels }
+        ensures told { IsToldFor M.tracks M.content M.protected M.failures self.old self.new }
         ensures medium { self.new.medium ≡ self.old.medium }
     {
         if channel == 15 {
@@ -34,6 +38,9 @@ impl<M: Medium> Dos<M> {
     pub fn listen(&mut self, channel: u8)
         requires { channel ≤ 15 }
         ensures leads { Leads M.tracks M.content M.protected self.old self.new (listen channel) }
+        // On any disk:
+        ensures channels { self.new.channels ≡ self.old.channels }
+        ensures told { IsToldFor M.tracks M.content M.protected M.failures self.old self.new }
         ensures medium { self.new.medium ≡ self.old.medium }
     {
         if channel != 15 {
@@ -62,6 +69,7 @@ impl<M: Medium> Dos<M> {
         ensures status { channel ≡ 15 → self.new.told ≡ behind_next self.old.told }
         ensures byte { channel < 15 → IsTaken (M.content self.old.medium) (slice_index_or self.old.channels channel Closed)
             (slice_index_or self.new.channels channel Closed) self.old.told self.new.told }
+        ensures others { SameBut channel self.old.channels self.new.channels }
         ensures medium { self.new.medium ≡ self.old.medium }
     {
         if channel == 15 {

@@ -6,13 +6,13 @@ use Rattle.cbm_volume.specs.Holding.{TellsOf}
 use Rattle.cbm_channel.proofs.ListedLines.{listed_all, never_broken}
 use Rattle.cbm_channel.proofs.listing.list.Goals as goal
 
-pub returns-in_err-entry : goal.returns-in_err-entry
-returns-in_err-entry g c = λ d h.
+pub returns-in_err-entry-clause-whole : goal.returns-in_err-entry-clause-whole
+returns-in_err-entry-clause-whole g c = λ d h.
     let tells = subst (TellsOf d) c.slots-slots.ensures.left (c.slots-slots.ensures.means d h) in
     absurd (never_broken _ _ d _ _ _ _ c.in_err-entry.field-0.0 tells c.slots.invariant.1 c.in_err-entry.ensures.gives.0)
 
-pub returns : goal.returns
-returns g c = λ d h.
+pub returns-clause-whole : goal.returns-clause-whole
+returns-clause-whole g c = λ d h.
     let tells = subst (TellsOf d) c.slots-slots.ensures.left (c.slots-slots.ensures.means d h) in
     let label = c.in_ok-label.ensures.means d h in
     let end = subst (λ r. Gives (left_of (g.M.Medium.content c.args.volume.now) c.slots.slots) (left_of (g.M.Medium.content c.args.volume.now) c.next_slot.new.slots) (Ok r)) c.in_default.is c.in_ok-entry.ensures.gives in

@@ -1,8 +1,10 @@
-use Rattle.std.proofs.Common.{sym, ap, subst}
+use Rattle.std.proofs.Common.{sym, ap, subst, ◌∙◌}
+use Rattle.std.proofs.lemmas.List.{length-set}
+use Rattle.std.proofs.lemmas.List.Elements.{All-set}
 use Rattle.cbm_channel.specs.declared.code.Code.TheVariants.{Fine}
 use Rattle.cbm_channel.specs.Machines.{say}
 use Rattle.cbm_volume.specs.Writers.{HoldsNow, with_use}
-use Rattle.cbm_channel.specs.Standing.{ChannelStands, use_of, uses_of}
+use Rattle.cbm_channel.specs.Standing.{Fits, ChannelStands, use_of, uses_of}
 use Rattle.cbm_channel.specs.Planned.{opened_by}
 use Rattle.cbm_channel.proofs.Stands.{stood, moved, with_one}
 use Rattle.cbm_channel.proofs.Planning.{act_reads, opened_well}
@@ -16,3 +18,10 @@ returns-in-Ok-clause-leads g c = λ m p h s.
     (c.in-Ok.ensures.uses m p c.args.channel h s) in
     moved _ _ _ _ _ _ _ _ (ap (say Fine) (act_reads _ _ c.args.channel m p c.args.plan h))
     (c.say.ensures.leads _ (with_one _ _ _ _ _ _ m c.args.channel c.in-Ok.opened (opened_by m.disk p) c.requires c.self.invariant stands uses (opened_well _ _ m.disk p c.args.plan h) st))
+
+-- the opened channel fits the medium
+pub invariant_of-self : goal.invariant_of-self
+invariant_of-self g c = record {
+  count = length-set c.self.inside.channels c.args.channel c.in-Ok.opened ∙ c.self.invariant.count;
+  each = All-set (Fits (g.M.Medium.tracks c.self.inside.volume)) c.self.inside.channels c.args.channel c.in-Ok.opened (subst (λ k. Fits (g.M.Medium.tracks k.medium) c.in-Ok.opened) (sym c.self.view_is) c.in-Ok.ensures.fits) c.self.invariant.each;
+}

@@ -7,12 +7,19 @@ use Rattle.cbm_channel.specs.Finding.{body_at}
 use Rattle.cbm_volume.specs.Writers.{HoldsNow, with_use, Idle, Reads}
 use Rattle.cbm_channel.specs.Standing.{uses_of}
 use Rattle.cbm_channel.specs.Planned.{PlannedAs, opened_by}
+use Rattle.std.proofs.Common.{[], ap}
+use Rattle.cbm_medium.specs.Place.{sector_count}
+use Rattle.cbm_volume.specs.Map.{geometry_of}
+use Rattle.cbm_volume.specs.Entries.{first_block}
+use Rattle.cbm_volume.specs.Reading.{held_from}
+use Rattle.cbm_channel.specs.Grounds.{ShowsTrouble}
+use Rattle.cbm_channel.proofs.Troubles.{read_from, entry_broken, passed_on}
 use Rattle.cbm_channel.proofs.Stands.{stood, means_of, let_go_at, unwritten_at}
 use Rattle.cbm_channel.proofs.Planning.{readable, file_opens}
 use Rattle.cbm_channel.proofs.dos.Dos.opened.Goals as goal
 
 pub returns-in_err-list-in-ReadListing-clause-stands : goal.returns-in_err-list-in-ReadListing-clause-stands
-returns-in_err-list-in-ReadListing-clause-stands g c = λ m p h s. absurd (c.in_err-list-in-ReadListing.ensures m.disk (means_of _ _ _ _ _ _ m (stood g.M.Medium.tracks g.M.Medium.content g.M.Medium.protected _ _ m c.self.view_is s)))
+returns-in_err-list-in-ReadListing-clause-stands g c = λ m p h s. absurd (c.in_err-list-in-ReadListing.ensures.whole m.disk (means_of _ _ _ _ _ _ m (stood g.M.Medium.tracks g.M.Medium.content g.M.Medium.protected _ _ m c.self.view_is s)))
 
 pub returns-in_err-begin_read-in-ReadFile-clause-stands : goal.returns-in_err-begin_read-in-ReadFile-clause-stands
 returns-in_err-begin_read-in-ReadFile-clause-stands g c = λ m p h s.
@@ -41,3 +48,11 @@ returns-in_ok-begin_read-in-ReadFile-clause-uses g c = λ m p ch h s.
     subst (λ k. HoldsNow (g.M.Medium.tracks k.medium) (g.M.Medium.content k.medium) m.disk (with_use (uses_of k.channels m.channels) ch (Reads c.in-ReadFile.found.slot c.in_ok-begin_read-in-ReadFile.field-0))) c.self.view_is
     (subst (λ n. HoldsNow (g.M.Medium.tracks c.self.inside.volume) (g.M.Medium.content c.self.inside.volume) m.disk (with_use (uses_of c.self.inside.channels m.channels) ch (Reads n c.in_ok-begin_read-in-ReadFile.field-0))) x.2.number
     (c.in_ok-begin_read-in-ReadFile.ensures.reads m.disk (uses_of c.self.inside.channels m.channels) ch x.0 (bytes_in (body_at m.disk x.0)) st.holds x.2.stands x.2.has (unwritten_at x.0 c.self.inside.channels m.channels)))
+
+-- the file's chain breaks off at its first block
+pub returns-in_err-begin_read-in-ReadFile-clause-shown : goal.returns-in_err-begin_read-in-ReadFile-clause-shown
+returns-in_err-begin_read-in-ReadFile-clause-shown g c = λ from.
+    let there = read_from g.M.Medium.tracks g.M.Medium.content c.args.self.now.medium c.args.plan c.in-ReadFile.found c.in-ReadFile.is from in
+    let broken = subst (λ v. held_from (geometry_of (g.M.Medium.tracks v) (g.M.Medium.content v)) (g.M.Medium.content v) (sector_count (geometry_of (g.M.Medium.tracks v) (g.M.Medium.content v))) (first_block c.in-ReadFile.found.entry) ≡ record { bytes = []; trouble = Some c.in_err-begin_read-in-ReadFile.field-0.0 }) (ap (λ k. k.medium) c.self.view_is) c.in_err-begin_read-in-ReadFile.ensures.err in
+    let shows = ShowsTrouble (geometry_of (g.M.Medium.tracks c.args.self.now.medium) (g.M.Medium.content c.args.self.now.medium)) (g.M.Medium.content c.args.self.now.medium) in
+    passed_on c.from_residual-in_err-begin_read-in-ReadFile.result c.in_err-begin_read-in-ReadFile.field-0.0 shows c.from_residual-in_err-begin_read-in-ReadFile.ensures.1 (entry_broken _ _ c.in-ReadFile.found.entry _ there broken)

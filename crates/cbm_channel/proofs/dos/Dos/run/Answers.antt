@@ -10,8 +10,6 @@ pub returns-in-Initialize-clause-leads : goal.returns-in-Initialize-clause-leads
 returns-in-Initialize-clause-leads g c = λ m carried s. moved _ _ _ _ _ _ _ _ (ap (λ x. answered m (run x m)) c.in-Initialize.is) (c.say.ensures.leads m s)
 
 -- no other command is carried out yet
-pub returns-in_default : goal.returns-in_default
-returns-in_default g c = record {
-  leads = λ m carried s. absurd (nothing_else c.args.command.now (λ e. c.in_default.not-Initialize e) (λ ch k p e. c.in_default.not-Position ch k p e) carried);
-  medium = c.say-in_default.ensures.medium;
-}
+pub returns-in_default-clause-leads : goal.returns-in_default-clause-leads
+returns-in_default-clause-leads g c = λ m carried s.
+    absurd (nothing_else c.args.command.now (λ e. c.in_default.not-Initialize e) (λ ch k p e. c.in_default.not-Position ch k p e) carried)

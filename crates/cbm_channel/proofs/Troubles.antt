@@ -1,0 +1,51 @@
+-- Where the faults that are told come from.
+use Rattle.std.proofs.Common.{◌≡◌, ℕ, zero, suc, ◌+◌, ◌<◌, Bool, true, false, List, [], ◌∷◌, length, refl, sym, ap, ◌∙◌, subst, arith, inl, inr}
+use Rattle.std.specs.Prelude.{if◌then◌else◌, slice_index_or, Option, Some, None, Result, Ok, Err, IfErr, IsErrAnd}
+use Rattle.std.specs.List.{Contains}
+use Rattle.cbm_medium.specs.declared.fault.Trouble.{Trouble}
+use Rattle.cbm_medium.specs.Place.{Place, sector_count}
+use Rattle.cbm_medium.specs.Links.{follow}
+use Rattle.cbm_volume.specs.Content.{Content}
+use Rattle.cbm_volume.specs.Reading.{Rest, held_from}
+use Rattle.cbm_volume.specs.Map.{geometry_of}
+use Rattle.cbm_volume.specs.Entries.{first_block}
+use Rattle.cbm_volume.specs.Slots.{first_from, directory_of}
+use Rattle.cbm_channel.specs.declared.finding.Found.{Found}
+use Rattle.cbm_channel.specs.declared.plan.Plan.{Plan}
+use Rattle.cbm_channel.specs.declared.plan.Plan.TheVariants.{ReadFile}
+use Rattle.cbm_channel.specs.Grounds.{ShowsTrouble, IsFromDirectory}
+
+abbrev entry_in : List ℕ → Option (ℕ × List ℕ) → List ℕ
+entry_in e None = e
+entry_in e (Some t) = t.1
+
+-- an entry that is found is one of the directory's
+pub first_contained : (test : List ℕ → Bool) (n : ℕ) (entries : List (List ℕ)) (j : ℕ) (e : List ℕ) → first_from test n entries ≡ Some (j, e) → Contains entries e
+first_contained test n [] j e h = absurd (cc)
+first_contained test n (x ∷ entries) j e h = by_test (test x) refl (first_contained test (n + 1) entries j e)
+  where
+    by_test : (b : Bool) → test x ≡ b → (first_from test (n + 1) entries ≡ Some (j, e) → Contains entries e) → Contains (x ∷ entries) e
+    by_test true t more = (0, omega arith, ap (entry_in e) (sym (ap (λ (b : Bool). if b then Some (n, x) else first_from test (n + 1) entries) t) ∙ h))
+    by_test false t more =
+        let k = more (sym (ap (λ (b : Bool). if b then Some (n, x) else first_from test (n + 1) entries) t) ∙ h) in
+        (suc k.0, omega (arith, k.1), k.2)
+
+-- a chain that breaks off at once
+pub broken_at_once : (tracks : ℕ) (c : Content) (left : ℕ) (at : Place) (t : Trouble) → held_from tracks c left at ≡ record { bytes = []; trouble = Some t } → (follow tracks c left at).trouble ≡ Some t
+unfolding held_from
+broken_at_once tracks c left at t e = ap (λ (r : Rest). r.trouble) e
+
+-- the chain of one of the directory's entries breaks off at once
+pub entry_broken : (tracks : ℕ) (c : Content) (entry : List ℕ) (t : Trouble) → Contains (directory_of tracks c).entries entry
+    → held_from tracks c (sector_count tracks) (first_block entry) ≡ record { bytes = []; trouble = Some t } → ShowsTrouble tracks c t
+entry_broken tracks c entry t there e = inr (inr (entry, there, broken_at_once tracks c (sector_count tracks) (first_block entry) t e))
+
+-- the file that is read is one of the directory's
+pub read_from : {M : Type 0} (tracks : M → ℕ) (content : M → Content) (m : M) (p : Plan) (found : Found) → p ≡ ReadFile found → IsFromDirectory tracks content m p
+    → Contains (directory_of (geometry_of (tracks m) (content m)) (content m)).entries found.entry
+read_from tracks content m p found e from = subst (IsFromDirectory tracks content m) e from
+
+-- what an error is passed on as
+pub passed_on : {A E : Type 0} (r : Result A E) (x : E) (P : E → Type 0) → IsErrAnd r (λ e. e ≡ x) → P x → IfErr r P
+passed_on (Ok a) x P is h = tt
+passed_on (Err e) x P is h = subst P (sym is) h
