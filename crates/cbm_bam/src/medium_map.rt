@@ -1,5 +1,6 @@
 ghost use Rattle.std.specs.Prelude.{◌≡◌, ◌==◌, ◌≤◌, Ok, Err, IsOk, IfOk, IfErr, OnOk};
-ghost use Rattle.cbm_medium.specs.Place.{directory_head, sectors_on};
+ghost use Rattle.cbm_medium.specs.Place.{Place, directory_head, sectors_on};
+ghost use Rattle.cbm_medium.specs.Content.{IsWhole};
 ghost use Rattle.cbm_bam.specs.Map.{map_of, is_free_in, count_in, tally, free_in, geometry_of};
 
 use crate::map;
@@ -10,6 +11,9 @@ use cbm_medium::{Address, Geometry, Medium, Trouble};
 pub fn geometry<M: Medium>(medium: &M) -> Geometry
     ensures value { result ≡ geometry_of (M.tracks medium.now) (M.content medium.now) }
     ensures room { result ≤ M.tracks medium.now }
+
+    // A sector that reads has 256 bytes.
+    ensures whole { (p : Place) → IsWhole (M.content medium.now p) }
 {
     if medium.tracks() < 40 {
         return Geometry::of_35();

@@ -1,5 +1,5 @@
 -- What `check` claims is a sound disk, and on a sound disk it meets no fault.
-use Rattle.std.proofs.Common.{◌≡◌, ◌⊎◌, ℕ, ◌≤◌, List, [], ◌∷◌, ◌++◌, Bool, true, false, Option, Some, None, Ok, Err, refl, sym, ap, ◌∙◌, subst, arith, inl, inr}
+use Rattle.std.proofs.Common.{◌≡◌, ◌≢◌, ◌⊎◌, ℕ, ◌≤◌, List, [], ◌∷◌, ◌++◌, Bool, true, false, Option, Some, None, Ok, Err, refl, sym, ap, ◌∙◌, subst, arith, inl, inr}
 use Rattle.std.specs.Prelude.{IsOk, Result, OnOk, IfErr}
 use Rattle.cbm_medium.specs.Place.{Place, directory_head}
 use Rattle.cbm_medium.specs.Content.{Cell, Content}
@@ -10,7 +10,7 @@ use Rattle.cbm_directory.specs.Slots.{entries_from, all_entries}
 use Rattle.cbm_volume.specs.Blocks.{Blocks, no_blocks, HasRecords}
 use Rattle.cbm_volume.specs.Layouts.{Layout, Sound, IsWritable}
 use Rattle.cbm_volume.specs.Unsound as checked
-use Rattle.cbm_volume.specs.Unsound.{reads, wrong_at, fault_at, ClaimsChain, ClaimsEach, MeetsFault, MeetsAmong, sides_from, are_records, ClaimsSides, SidesFault, ClaimsFile, FileFault, ClaimsEntry, EntryFault, ClaimsEntries, EntriesFault, entries_behind, entries_in, SlotsFault, IsMapRight, IsMapFault, is_bad_header, is_counted_on, only_head, ClaimsDisk, DiskFault}
+use Rattle.cbm_volume.specs.Unsound.{reads, wrong_at, fault_at, ClaimsChain, ClaimsEach, MeetsFault, MeetsAmong, sides_from, are_records, ClaimsSides, SidesFault, RelativeFault, ClaimsFile, FileFault, ClaimsEntry, EntryFault, ClaimsEntries, EntriesFault, entries_behind, entries_in, SlotsFault, IsMapRight, IsMapFault, is_bad_header, is_counted_on, only_head, ClaimsDisk, DiskFault}
 use Rattle.cbm_volume.specs.declared.unsound.Part.{Part}
 use Rattle.cbm_volume.specs.declared.unsound.Part.TheVariants.{OfDirectory, OfFile}
 use Rattle.cbm_volume.specs.declared.unsound.Unsound.{Unsound}
@@ -64,16 +64,18 @@ file_claimed : (closed relative : Bool) (tracks : ℕ) (c : Content) (claimed : 
 file_claimed false r tracks c claimed e after h = (no_blocks, (refl, h))
 file_claimed true false tracks c claimed e after h = (record { data_blocks = h.0; sides = [] }, (h.1, refl))
 file_claimed true true tracks c claimed e after h =
-    let between : Place → Bool = h.1.0 in
-    let chain = claims_chain OfFile tracks c claimed (first_block e) h.0 between h.1.1.0 in
-    (record { data_blocks = h.0; sides = sides_from c (first_side e) }, (between, h.1.1.0, h.1.1.1.0, records_right tracks c between after e h.0 chain h.1.1.1.0 h.1.1.1.1))
+    let between : Place → Bool = h.1.1.0 in
+    let chain = claims_chain OfFile tracks c claimed (first_block e) h.1.0 between h.1.1.1.0 in (
+      record { data_blocks = h.1.0; sides = sides_from c (first_side e) },
+      (between, h.1.1.1.0, h.1.1.1.1.0, records_right tracks c between after e h.1.0 h.0 chain h.1.1.1.1.0 h.1.1.1.1.1),
+    )
 
 -- the side sectors that the test claims are those of the file
 sides_as : (tracks : ℕ) (c : Content) (claimed after : Place → Bool) (e : List ℕ) (b : Blocks) → Chain tracks c (first_block e) b.data_blocks → ClaimsEach OfFile tracks c claimed b.sides after → HasRecords tracks c e b
-    → ClaimsEach OfFile tracks c claimed (sides_from c (first_side e)) after × (are_records tracks c e ≡ true)
+    → ClaimsEach OfFile tracks c claimed (sides_from c (first_side e)) after × (are_records tracks c e ≡ true) × ((first_block e).track ≢ 0)
 sides_as tracks c claimed after e b h k r =
     let x = records_pass tracks c e b h r in
-    (subst (λ (ys : List Place). ClaimsEach OfFile tracks c claimed ys after) (sym x.0) k, x.1)
+    (subst (λ (ys : List Place). ClaimsEach OfFile tracks c claimed ys after) (sym x.0) k, x.1, x.2)
 
 file_same : (closed relative : Bool) (tracks : ℕ) (c : Content) (claimed : Place → Bool) (e : List ℕ) (b : Blocks) (x y : Place → Bool) → ClaimsAs closed relative tracks c claimed e b x
     → ClaimsFile closed relative tracks c claimed e y → x ≡ y
@@ -81,17 +83,15 @@ file_same false r tracks c claimed e b x y h g = h.1 ∙ sym g
 file_same true false tracks c claimed e b x y h g = (chain_same OfFile tracks c claimed (first_block e) b.data_blocks g.0 x y h.0 g.1).1
 file_same true true tracks c claimed e b x y h g =
     let middle : Place → Bool = h.0 in
-    let chain = chain_same OfFile tracks c claimed (first_block e) b.data_blocks g.0 middle g.1.0 h.1 g.1.1.0 in
+    let chain = chain_same OfFile tracks c claimed (first_block e) b.data_blocks g.1.0 middle g.1.1.0 h.1 g.1.1.1.0 in
     let sides = sides_as tracks c middle x e b (claims_chain OfFile tracks c claimed (first_block e) b.data_blocks middle h.1) h.2 h.3 in
     each_same OfFile tracks c middle (sides_from c (first_side e)) x y sides.0
-    (subst (λ (m : Place → Bool). ClaimsEach OfFile tracks c m (sides_from c (first_side e)) y) (sym chain.1) g.1.1.1.0)
+    (subst (λ (m : Place → Bool). ClaimsEach OfFile tracks c m (sides_from c (first_side e)) y) (sym chain.1) g.1.1.1.1.0)
 
-file_clean : (closed relative : Bool) (tracks : ℕ) (c : Content) (claimed : Place → Bool) (e : List ℕ) (b : Blocks) (after : Place → Bool) (u : Unsound) → ClaimsAs closed relative tracks c claimed e b after
-    → FileFault closed relative tracks c claimed e u → ⊥
-file_clean false r tracks c claimed e b after u h g = g
-file_clean true false tracks c claimed e b after u h g = chain_clean OfFile tracks c claimed (first_block e) b.data_blocks g.0 after u h.0 g.1
-file_clean true true tracks c claimed e b after u h (inl g) = chain_clean OfFile tracks c claimed (first_block e) b.data_blocks g.0 h.0 u h.1 g.1
-file_clean true true tracks c claimed e b after u h (inr g) =
+relative_clean : (tracks : ℕ) (c : Content) (claimed : Place → Bool) (e : List ℕ) (b : Blocks) (after : Place → Bool) (u : Unsound) → ClaimsAs true true tracks c claimed e b after
+    → RelativeFault tracks c claimed e u → ⊥
+relative_clean tracks c claimed e b after u h (inl g) = chain_clean OfFile tracks c claimed (first_block e) b.data_blocks g.0 h.0 u h.1 g.1
+relative_clean tracks c claimed e b after u h (inr g) =
     let middle : Place → Bool = h.0 in
     let chain = chain_same OfFile tracks c claimed (first_block e) b.data_blocks g.0 middle g.1.0 h.1 g.1.1.0 in
     let sides = sides_as tracks c middle after e b (claims_chain OfFile tracks c claimed (first_block e) b.data_blocks middle h.1) h.2 h.3 in
@@ -100,6 +100,13 @@ file_clean true true tracks c claimed e b after u h (inr g) =
     by_fault : (m : Place → Bool) → ClaimsEach OfFile tracks c m (sides_from c (first_side e)) after → are_records tracks c e ≡ true → SidesFault tracks c m e u → ⊥
     by_fault m k t (inl f) = each_clean OfFile tracks c m (sides_from c (first_side e)) after u k f
     by_fault m k t (inr f) = let bad = sym t ∙ f.1.1 in absurd (cc)
+
+file_clean : (closed relative : Bool) (tracks : ℕ) (c : Content) (claimed : Place → Bool) (e : List ℕ) (b : Blocks) (after : Place → Bool) (u : Unsound) → ClaimsAs closed relative tracks c claimed e b after
+    → FileFault closed relative tracks c claimed e u → ⊥
+file_clean false r tracks c claimed e b after u h g = g
+file_clean true false tracks c claimed e b after u h g = chain_clean OfFile tracks c claimed (first_block e) b.data_blocks g.0 after u h.0 g.1
+file_clean true true tracks c claimed e b after u h (inl g) = (sides_as tracks c h.0 after e b (claims_chain OfFile tracks c claimed (first_block e) b.data_blocks h.0 h.1) h.2 h.3).2 g.0
+file_clean true true tracks c claimed e b after u h (inr g) = relative_clean tracks c claimed e b after u h g.1
 
 -- ---- entries
 
@@ -220,7 +227,7 @@ head_reads (Err code) h g = absurd (cc)
 map_clean : (tracks : ℕ) (c : Content) (u : Unsound) → IsMapRight tracks c → IsMapFault tracks c u → ⊥
 map_clean tracks c u k (inl g) = head_reads (c directory_head) k.reads g.1
 map_clean tracks c u k (inr (inl g)) = let bad = sym k.taken ∙ g.2 in absurd (cc)
-map_clean tracks c u k (inr (inr g)) = let bad = sym (k.counted g.0 g.2.some g.2.few) ∙ g.2.miscounted in absurd (cc)
+map_clean tracks c u k (inr (inr g)) = let bad = sym (k.counted g.1.0 g.1.2.some g.1.2.few) ∙ g.1.2.miscounted in absurd (cc)
 
 -- ON A SOUND DISK NO FAULT IS MET
 pub sound_clean : (tracks : ℕ) (c : Content) (l : Layout) (u : Unsound) → 18 ≤ tracks → Sound tracks c l → DiskFault tracks c u → ⊥

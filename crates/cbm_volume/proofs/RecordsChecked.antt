@@ -22,10 +22,6 @@ and_both true true h = (refl, refl)
 and_both true false h = absurd (cc)
 and_both false b h = absurd (cc)
 
-not_true : (a : Bool) → not a ≡ true → a ≡ false
-not_true true h = absurd (cc)
-not_true false h = refl
-
 -- ---- along a chain
 
 stepped : (tracks : ℕ) (c : Content) (p a b : Place) → step_along tracks c p a ≡ Some b → (p ≡ a) × Has tracks a × (b ≡ link (bytes_at c a))
@@ -150,13 +146,12 @@ listed_first : (bytes : List ℕ) (p : Place) → p ≡ place_in bytes 4 → p.t
 listed_first bytes p e ne = named_some 5 4 bytes p e ne
 
 -- THE TEST SAYS THAT THE RECORDS ARE RIGHT
-pub records_right : (tracks : ℕ) (c : Content) (claimed after : Place → Bool) (e : List ℕ) (xs : List Place) → Chain tracks c (first_block e) xs
+pub records_right : (tracks : ℕ) (c : Content) (claimed after : Place → Bool) (e : List ℕ) (xs : List Place) → (first_block e).track ≢ 0 → Chain tracks c (first_block e) xs
     → ClaimsEach OfFile tracks c claimed (sides_from c (first_side e)) after → are_records tracks c e ≡ true
     → HasRecords tracks c e (record { data_blocks = xs; sides = sides_from c (first_side e) })
-records_right tracks c claimed after e xs h k t =
+records_right tracks c claimed after e xs some_link h k t =
     let first = bytes_at c (first_side e) in
-    let a = and_both _ _ t in
-    let w = and_both _ _ a.1 in
+    let w = and_both _ _ t in
     let v = and_both _ _ w.1 in
     let p = and_both _ _ v.1 in
     let r = is_right OfFile tracks c claimed (first_side e) k.0 in
@@ -166,7 +161,7 @@ records_right tracks c claimed after e xs h k t =
     let some = some_of (all_along tracks c (width_of e) first (first_block e)) p.1 in
     let sided = first_sided first refl some.0 some.1 has_s (ok_of (c (first_side e)) r.reads) in
     record {
-      some_block = some_block_of xs h (not_true ((first_block e).track == 0) a.0);
+      some_block = some_block_of xs h some_link;
       some_width = ltb-true 0 (width_of e) w.0;
       width = below (ltb-true (width_of e) 255 v.0);
       first = (behind_first first, refl);
@@ -186,8 +181,8 @@ records_right tracks c claimed after e xs h k t =
     some_of None g = absurd (cc)
     some_of (Some q) g = (q, refl)
 
-    some_block_of : (ys : List Place) → Chain tracks c (first_block e) ys → ((first_block e).track == 0) ≡ false → 1 ≤ length ys
-    some_block_of [] g z = let bad = sym (eq-eqb (first_block e).track 0 g) ∙ z in absurd (cc)
+    some_block_of : (ys : List Place) → Chain tracks c (first_block e) ys → (first_block e).track ≢ 0 → 1 ≤ length ys
+    some_block_of [] g z = absurd (z g)
     some_block_of (y ∷ ys) g z = omega arith
 
     first_sided : (bytes : List ℕ) → bytes_at c (first_side e) ≡ bytes → (q : Place) → all_along tracks c (width_of e) bytes (first_block e) ≡ Some q → Has tracks (first_side e) → IsOk (c (first_side e))
@@ -224,7 +219,7 @@ head_listed bytes f rest h = by_test (slice_index (drop 4 bytes) 0 == 0) h
 
 -- RIGHT RECORDS PASS THE TEST
 pub records_pass : (tracks : ℕ) (c : Content) (e : List ℕ) (b : Blocks) → Chain tracks c (first_block e) b.data_blocks → HasRecords tracks c e b
-    → (sides_from c (first_side e) ≡ b.sides) × (are_records tracks c e ≡ true)
+    → (sides_from c (first_side e) ≡ b.sides) × (are_records tracks c e ≡ true) × ((first_block e).track ≢ 0)
 records_pass tracks c e b h k =
     let first = first_side e in
     let bytes = bytes_at c first in
@@ -236,12 +231,13 @@ records_pass tracks c e b h k =
     let passes = all_is tracks c (width_of e) first (first_block e) numbered.0 ∙ all.1 in
     let here = same_test (place_in bytes 4) first (head_listed bytes first k.first.0 listed) in (
       sides,
-      rw (some_test b.data_blocks h k.some_block, lt-ltb 0 (width_of e) k.some_width, lt-ltb (width_of e) 255 (omega (arith, k.width)), here, passes) refl,
+      rw (lt-ltb 0 (width_of e) k.some_width, lt-ltb (width_of e) 255 (omega (arith, k.width)), here, passes) refl,
+      some_link b.data_blocks h k.some_block,
     )
   where
     same_test : (p q : Place) → p ≡ q → is_place p q ≡ true
     same_test p q g = ap (is_place p) (sym g) ∙ place_is_itself p
 
-    some_test : (ys : List Place) → Chain tracks c (first_block e) ys → 1 ≤ length ys → ((first_block e).track == 0) ≡ false
-    some_test [] g some = absurd (omega (arith, some))
-    some_test (y ∷ ys) g some = ne_eqb (first_block e).track 0 (λ z. no_track tracks y g.1 (sym (ap (λ (p : Place). p.track) g.0) ∙ z))
+    some_link : (ys : List Place) → Chain tracks c (first_block e) ys → 1 ≤ length ys → (first_block e).track ≢ 0
+    some_link [] g some = absurd (omega (arith, some))
+    some_link (y ∷ ys) g some = λ z. no_track tracks y g.1 (sym (ap (λ (p : Place). p.track) g.0) ∙ z)

@@ -1,8 +1,6 @@
 -- A write of the map: claims, releases, a map written anew.
-use Rattle.std.proofs.Common.{◌≡◌, ◌≢◌, ℕ, ◌+◌, ◌-◌, ◌%◌, ◌<◌, ◌≤◌, List, length, get_or, drop, Bool, true, IsOk, refl, sym, ap, subst, ◌∙◌, arith, inl, inr}
+use Rattle.std.proofs.Common.{◌≡◌, ◌≢◌, ℕ, ◌%◌, ◌<◌, List, Bool, true, IsOk, refl, sym, ap, subst, ◌∙◌, arith, inl, inr}
 use Rattle.std.specs.Prelude.{slice_range}
-use Rattle.std.proofs.lemmas.List.{length-take, length-drop, get_or-take, get_or-drop}
-use Rattle.std.proofs.lemmas.Grind.{same_number_lists}
 use Rattle.cbm_medium.specs.Place.{Place, directory_head, Has}
 use Rattle.cbm_medium.specs.Content.{Cell, Content, written}
 use Rattle.cbm_medium.specs.Links.{bytes_at}
@@ -12,16 +10,9 @@ use Rattle.cbm_directory.specs.Entries.{type_byte, entry_at, first_directory}
 use Rattle.cbm_volume.specs.Blocks.{Lies, slot_of}
 use Rattle.cbm_volume.specs.Layouts.{Owner, Nobody, TheMap, Directory, DataOf, SideOf, Layout, IsOwned, Sound, Describes}
 use Rattle.cbm_medium.proofs.Places.{written_there}
+use Rattle.cbm_directory.proofs.Written.{range_same}
 use Rattle.cbm_volume.proofs.Frames.{Keeps, chain_kept, lies_kept, slot_kept, write_keeps}
 use Rattle.cbm_volume.proofs.Loose.{entry_kept, writable_written}
-
--- parts of lists that agree at each place
-pub range_same : (new old : List ℕ) (a b : ℕ) → length new ≡ length old → ((i : ℕ) → a ≤ i → i < b → get_or new i 0 ≡ get_or old i 0) → slice_range new a b ≡ slice_range old a b
-range_same new old a b l h = same_number_lists (slice_range new a b) (slice_range old a b)
-    (length-take (b - a) (drop a new) ∙ omega (arith, length-drop a new, length-drop a old, length-take (b - a) (drop a old), l))
-    (λ k m. let below : k < b - a = omega (arith, length-take (b - a) (drop a new)) in
-    get_or-take (b - a) (drop a new) k 0 below ∙ get_or-drop a new k 0 ∙ h (a + k) (omega arith) (omega arith)
-    ∙ sym (get_or-drop a old k 0) ∙ sym (get_or-take (b - a) (drop a old) k 0 below))
 
 abbrev pub with_owner : Layout → (Place → Owner) → Layout
 with_owner l owner = record l { owner = owner }

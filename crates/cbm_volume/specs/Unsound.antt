@@ -91,12 +91,17 @@ pub record IsFirstMiscount (tracks : ℕ) (map : List ℕ) (t : ℕ) : Type 0 wh
   pub miscounted : is_counted_on t map ≡ false
   pub first : (u : ℕ) → 0 < u → u < t → is_counted_on u map ≡ true
 
--- What is wrong with the map: 18/0 doesn't read (9), it is free in itself (2), or a count is wrong (1).
+-- 18/0 reads, and has itself as taken
+abbrev pub IsHeadRight : Content → Type 0
+IsHeadRight content = IsOk (content directory_head) × (is_free_in (map_of content) directory_head ≡ false)
+
+-- The first thing that is wrong with the map: 18/0 doesn't read (9); it reads, and is free in itself (2); or it is right, and a
+-- count is wrong (1).
 abbrev pub IsMapFault : ℕ → Content → Unsound → Type 0
 IsMapFault tracks content u =
     ((u ≡ fault_at 9 directory_head) × (reads (content directory_head) ≡ false))
     ⊎ (((u ≡ fault_at 2 directory_head) × IsOk (content directory_head) × (is_free_in (map_of content) directory_head ≡ true))
-    ⊎ ((t : ℕ) × (u ≡ fault_at 1 (at t 0)) × IsFirstMiscount tracks (map_of content) t))
+    ⊎ (IsHeadRight content × ((t : ℕ) × (u ≡ fault_at 1 (at t 0)) × IsFirstMiscount tracks (map_of content) t)))
 
 -- ---- relative files
 
@@ -154,12 +159,12 @@ sides_along tracks content width n (s ∷ rest) a = elim (side_at tracks content
 abbrev pub all_along : ℕ → Content → ℕ → List ℕ → Place → Option Place
 all_along tracks content width first a = elim (side_along tracks content width 0 first a) [ Some b ↦ sides_along tracks content width 1 (behind_first first) b | None ↦ None ]
 
--- The records of a relative file: of 1 to 254 bytes, in some block, with a first side sector that lists itself first, and
--- side sectors whose lists are the beginning of the chain.
+-- The records of a relative file: of 1 to 254 bytes, with a first side sector that lists itself first, and side sectors whose
+-- lists are the beginning of the chain.
 abbrev pub are_records_in : ℕ → Content → List ℕ → List ℕ → Bool
 are_records_in tracks content e first =
-    not ((first_block e).track == 0) && (nat_lt 0 (width_of e) && (nat_lt (width_of e) 255
-    && (is_place (place_in first 4) (first_side e) && is_some (all_along tracks content (width_of e) first (first_block e)))))
+    nat_lt 0 (width_of e) && (nat_lt (width_of e) 255
+    && (is_place (place_in first 4) (first_side e) && is_some (all_along tracks content (width_of e) first (first_block e))))
 
 abbrev pub are_records : ℕ → Content → List ℕ → Bool
 are_records tracks content e = are_records_in tracks content e (bytes_at content (first_side e))
@@ -176,19 +181,30 @@ SidesFault tracks content claimed e u =
 
 -- ---- slots
 
--- the sectors of an entry's file are claimed: by whether it is closed, and relative
+-- the chain and the side sectors of a relative file are claimed
+abbrev pub ClaimsRelative : ℕ → Content → (Place → Bool) → List ℕ → (Place → Bool) → Type 0
+ClaimsRelative tracks content claimed e after =
+    (blocks : List Place) × ((between : Place → Bool) × (ClaimsChain OfFile tracks content claimed (first_block e) blocks between × ClaimsSides tracks content between e after))
+
+-- the chain of a relative file has a fault, or it is claimed, and the side sectors have one
+abbrev pub RelativeFault : ℕ → Content → (Place → Bool) → List ℕ → Unsound → Type 0
+RelativeFault tracks content claimed e u =
+    ((blocks : List Place) × MeetsFault OfFile tracks content claimed (first_block e) blocks u)
+    ⊎ ((blocks : List Place) × ((between : Place → Bool) × (ClaimsChain OfFile tracks content claimed (first_block e) blocks between × SidesFault tracks content between e u)))
+
+-- The sectors of an entry's file are claimed: by whether it is closed, and relative. A relative file has a block.
 abbrev pub ClaimsFile : Bool → Bool → ℕ → Content → (Place → Bool) → List ℕ → (Place → Bool) → Type 0
 ClaimsFile false r tracks content claimed e after = after ≡ claimed
 ClaimsFile true false tracks content claimed e after = (blocks : List Place) × ClaimsChain OfFile tracks content claimed (first_block e) blocks after
-ClaimsFile true true tracks content claimed e after =
-    (blocks : List Place) × ((between : Place → Bool) × (ClaimsChain OfFile tracks content claimed (first_block e) blocks between × ClaimsSides tracks content between e after))
+ClaimsFile true true tracks content claimed e after = ((first_block e).track ≢ 0) × ClaimsRelative tracks content claimed e after
 
+-- an entry's file has this fault; a relative one without a block is a link to elsewhere (4)
 abbrev pub FileFault : Bool → Bool → ℕ → Content → (Place → Bool) → List ℕ → Unsound → Type 0
 FileFault false r tracks content claimed e u = ⊥
 FileFault true false tracks content claimed e u = (blocks : List Place) × MeetsFault OfFile tracks content claimed (first_block e) blocks u
 FileFault true true tracks content claimed e u =
-    ((blocks : List Place) × MeetsFault OfFile tracks content claimed (first_block e) blocks u)
-    ⊎ ((blocks : List Place) × ((between : Place → Bool) × (ClaimsChain OfFile tracks content claimed (first_block e) blocks between × SidesFault tracks content between e u)))
+    (((first_block e).track ≡ 0) × (u ≡ fault_at 4 (first_block e)))
+    ⊎ (((first_block e).track ≢ 0) × RelativeFault tracks content claimed e u)
 
 -- the type of an entry is known, and its file is claimed
 abbrev pub ClaimsEntry : ℕ → Content → (Place → Bool) → List ℕ → (Place → Bool) → Type 0

@@ -18,14 +18,13 @@ fn has_records<M: Medium>(medium: &M, geometry: Geometry, entry: &Entry, first: 
     ensures { result ≡ are_records_in geometry (M.content medium.now) entry.now first.now }
 {
     let length = entry.record_length();
-    let blocks = entry.first_block();
-    if blocks.is_end() || length == 0 || length == 255 {
+    if length == 0 || length == 255 {
         return false;
     }
     if Link::new(first[SIDES], first[SIDES + 1]) != entry.first_side() {
         return false;
     }
-    walk_sides(medium, geometry, length, first, blocks).is_some()
+    walk_sides(medium, geometry, length, first, entry.first_block()).is_some()
 }
 
 /// Claims the side sectors of a relative file: 7 at the first of them where its records aren't right.
@@ -48,6 +47,26 @@ fn check_sides<M: Medium>(
     Err(Flaw::SideSectors.at(at))
 }
 
+/// Claims the sectors of a relative file: 4 where it has no block.
+fn check_relative<M: Medium>(
+    medium: &M,
+    geometry: Geometry,
+    entry: &Entry,
+    claimed: &mut SectorSet,
+) -> Result<(), Unsound>
+    requires tracks { geometry ≤ M.tracks medium.now }
+    requires map { IsOk (M.content medium.now directory_head) }
+    ensures ok { OnOk result (ClaimsFile true true geometry (M.content medium.now) (is_marked claimed.old) entry.now (is_marked claimed.new)) }
+    ensures err { IfErr result (λ u. FileFault true true geometry (M.content medium.now) (is_marked claimed.old) entry.now u) }
+{
+    let first = entry.first_block();
+    if first.is_end() {
+        return Err(Flaw::ChainOutside.at(first));
+    }
+    claim_chain(medium, geometry, Part::OfFile, first, claimed)?;
+    check_sides(medium, geometry, entry, claimed)
+}
+
 /// Claims the sectors of an entry's file, if it is closed.
 fn check_file<M: Medium>(
     medium: &M,
@@ -63,11 +82,10 @@ fn check_file<M: Medium>(
     if !entry.is_closed() {
         return Ok(());
     }
-    claim_chain(medium, geometry, Part::OfFile, entry.first_block(), claimed)?;
     if entry.is_relative() {
-        return check_sides(medium, geometry, entry, claimed);
+        return check_relative(medium, geometry, entry, claimed);
     }
-    Ok(())
+    claim_chain(medium, geometry, Part::OfFile, entry.first_block(), claimed)
 }
 
 /// Looks at an entry in a sector of the directory: 8 where its type is none's, else its file.
