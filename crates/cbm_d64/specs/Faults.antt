@@ -1,5 +1,5 @@
 -- The faults of an image are those that reading meets.
-use Rattle.std.specs.Prelude.{ℕ, ◌≡◌, ◌==◌, List, length, Bool, true, false, if◌then◌else◌, refl, Option, Some, None, Ok, replicate}
+use Rattle.std.specs.Prelude.{ℕ, ◌≡◌, ◌==◌, List, length, Bool, true, false, if◌then◌else◌, refl, Option, Some, Ok, replicate}
 use Rattle.cbm_medium.specs.Place.{Place, has}
 use Rattle.cbm_medium.specs.Content.{HasFaultCode, is_fault_code}
 use Rattle.cbm_d64.specs.Image.{tracks_in, index_of, code_of, cell_of, error_at, sector_at, content_of}
