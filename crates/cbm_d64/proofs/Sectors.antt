@@ -1,15 +1,15 @@
 -- Sectors in the bytes of an image.
-use Rattle.std.proofs.Common.{◌≡◌, ◌≢◌, ◌⊎◌, ℕ, ◌+◌, ◌*◌, ◌-◌, ◌<◌, ◌≤◌, List, ◌++◌, length, take, drop, set, get_or, refl, sym, ap, subst, ◌∙◌, arith, inl, inr, cond, Bool, true, false, Some, None, Ok, Err, Option, replicate}
+use Rattle.std.proofs.Common.{◌≡◌, ◌≢◌, ℕ, ◌+◌, ◌*◌, ◌-◌, ◌<◌, ◌≤◌, List, ◌++◌, length, take, drop, set, get_or, refl, sym, ap, subst, ◌∙◌, arith, inl, inr, Bool, true, false, Some, None, Ok, Option, replicate}
 use Rattle.std.proofs.lemmas.List.{take_at, drop_at, length-take-le, drop-take, get_or-drop, take-set-le, get_or-set_other, get_or-set_same, length-set, take-append-le, drop-append-le, length-replicate, drop-replicate, take-replicate, get_or-append_right, get_or-replicate, length-append, length-drop}
 use Rattle.std.proofs.lemmas.Slice.{take-put_mid_below, drop-put_mid}
-use Rattle.std.specs.Prelude.{if◌then◌else◌, ◌==◌, is_some}
+use Rattle.std.specs.Prelude.{is_some}
 use Rattle.std.proofs.lemmas.Bool.{cases_lt, cases_eq, false≢true, eq-eqb, ne_eqb}
 use Rattle.cbm_medium.proofs.Places.{place_cases, places_apart, place_is_itself, written_there, written_elsewhere}
 use Rattle.cbm_medium.proofs.Walks.{has_true, true_has, on_a_track, bool_cases}
 use borrow.Rule.Slice.PartMut.{put_mid, post_of}
 use mathlib.Core.Path.{fun_ext}
 use Rattle.cbm_medium.specs.Place.{Place, sectors_on, IsOnDisk, Has, has, is_place}
-use Rattle.cbm_medium.specs.Content.{Cell, IsWhole, Content, written, blank, header_fault}
+use Rattle.cbm_medium.specs.Content.{Cell, IsWhole, written, blank}
 use Rattle.cbm_d64.specs.Image.{IsImageSize, IsStored, IsErased, mended, tracks_in, sectors_in, index_of, sectors_before, code_of, cell_of, error_at, sector_at, content_of}
 
 -- a sector by the bytes up to its end

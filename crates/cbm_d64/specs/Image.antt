@@ -1,6 +1,6 @@
 -- The D64 format: the sectors in order of track and sector, and in one of its sizes an error byte for each behind them.
-use Rattle.std.specs.Prelude.{ℕ, ◌+◌, ◌*◌, ◌-◌, ◌<◌, ◌≡◌, ◌≢◌, ◌⊎◌, List, Bool, true, false, nat_lt, ◌==◌, if◌then◌else◌, Option, Some, None, Result, Ok, Err, take, drop, replicate, length, slice_index}
-use Rattle.cbm_medium.specs.Place.{Place, sectors_on, has}
+use Rattle.std.specs.Prelude.{ℕ, ◌+◌, ◌*◌, ◌-◌, ◌<◌, ◌≡◌, ◌≢◌, ◌⊎◌, List, Bool, nat_lt, ◌==◌, if◌then◌else◌, Option, Some, None, Ok, Err, take, drop, replicate, length, slice_index}
+use Rattle.cbm_medium.specs.Place.{Place, has}
 use Rattle.cbm_medium.specs.Content.{Cell, Content}
 
 -- an image, and whether its disk is protected

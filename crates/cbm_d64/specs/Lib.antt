@@ -1,2 +1,3 @@
 pub mod Image
 pub mod Outer
+pub mod Faults

@@ -3,7 +3,7 @@ use Rattle.std.specs.Prelude.{ℕ, ◌+◌, ◌<◌, ◌≡◌, ◌≢◌, ◌==
 use Rattle.std.proofs.Common.{ap, inl, inr, arith}
 use Rattle.std.proofs.lemmas.Bool.{cases_eq, ne_eqb}
 use Rattle.cbm_medium.specs.Place.{Place, has}
-use Rattle.cbm_medium.specs.Content.{Cell, header_fault}
+use Rattle.cbm_medium.specs.Content.{header_fault}
 use Rattle.cbm_d64.specs.Image.{tracks_in, index_of, code_of, cell_of, error_at, sector_at, content_of}
 
 narrow : (m n : ℕ) → m ≡ 35 → n ≡ 40 → m ≢ n

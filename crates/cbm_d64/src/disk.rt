@@ -1,4 +1,4 @@
-ghost use Rattle.std.specs.Prelude.{refl, ◌≡◌, ◌≢◌, ◌<◌, ◌≤◌, ◌⊎◌, ◌↔◌, ℕ, length, None, Some, IfOk, IfErr, OnOk, OnErr, IfSome};
+ghost use Rattle.std.specs.Prelude.{refl, ◌≡◌, ◌≢◌, ◌<◌, ◌≤◌, ◌⊎◌, ◌↔◌, ℕ, true, length, None, Some, IfOk, IfErr, OnOk, OnErr, IfSome};
 ghost use Rattle.cbm_d64.specs.Image.{IsImageSize, IsStored, IsErased, content_of, tracks_in, failures_of, index_of};
 ghost use Rattle.cbm_medium.specs.Place.{directory_head};
 ghost use Rattle.cbm_medium.specs.Content.{written, blank, refusal, format_refusal};
@@ -69,6 +69,7 @@ impl Medium for D64Disk {
     ghost use Rattle.std.specs.Prelude.{length};
     ghost use Rattle.cbm_d64.specs.Image.{content_of, tracks_in, failures_of};
     ghost use Rattle.cbm_d64.specs.Outer.{outer_good};
+    ghost use Rattle.cbm_d64.specs.Faults.{has_codes};
 
     ghost content = { λ d. content_of d.bytes };
 
@@ -77,6 +78,8 @@ impl Medium for D64Disk {
     ghost protected = { λ d. d.protected };
 
     ghost failures = { λ d. failures_of d };
+
+    ghost codes = { λ d p. has_codes d.bytes p };
 
     ghost outer_headers = { λ d p. outer_good d.bytes p };
 
@@ -97,6 +100,7 @@ impl Medium for D64Disk {
         ensures refused { IfSome (refusal self.old.protected (content_of self.old.bytes at))
             (λ code. result ≡ Err (record { code = code; at = at })) }
         ensures cause { IfErr result (λ fault. (refusal self.old.protected (content_of self.old.bytes at) ≡ Some fault.code) ⊎ (failures_of self.old < failures_of self.new)) }
+        ensures only_protected { IfErr result (λ fault. fault.code ≡ 26 → self.old.protected ≡ true) }
         ensures at { IfErr result (λ fault. fault.at ≡ at) }
         ensures uncounted { OnOk result (failures_of self.new ≡ failures_of self.old) }
         ensures counted { failures_of self.old ≤ failures_of self.new }
@@ -120,6 +124,7 @@ impl Medium for D64Disk {
         ensures refused { IfSome (format_refusal self.old.protected)
             (λ code. result ≡ Err (record { code = code; at = directory_head })) }
         ensures cause { IfErr result (λ fault. (format_refusal self.old.protected ≡ Some fault.code) ⊎ (failures_of self.old < failures_of self.new)) }
+        ensures only_protected { IfErr result (λ fault. fault.code ≡ 26 → self.old.protected ≡ true) }
         ensures at { IfErr result (λ fault. fault.at ≡ directory_head) }
         ensures uncounted { OnOk result (failures_of self.new ≡ failures_of self.old) }
         ensures counted { failures_of self.old ≤ failures_of self.new }

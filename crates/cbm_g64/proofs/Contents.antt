@@ -4,11 +4,12 @@ use Rattle.std.proofs.lemmas.List.{get_or-set_same, get_or-set_other, get_or_def
 use Rattle.std.proofs.lemmas.Bool.{cases_eq, cases_Bool, cond-true, cond-false, false≢true}
 use mathlib.Core.Path.{fun_ext}
 use Rattle.cbm_medium.specs.Place.{Place, sectors_on, Has, has, is_place}
-use Rattle.cbm_medium.specs.Content.{written}
+use Rattle.cbm_medium.specs.Content.{Cell, HasFaultCode, is_fault_code, written}
 use Rattle.cbm_medium.proofs.Walks.{has_true, true_has, on_a_track as track_is}
 use Rattle.cbm_medium.proofs.Places.{place_cases, place_is_itself, written_there, written_elsewhere}
 use Rattle.cbm_sector.specs.Answer.{shown, id_shown, block_of, block_code, IsOverwritten}
 use Rattle.cbm_g64.specs.Tracks.{bits_at, id_for, content_of, AreLaid, IsChanged, IsPut}
+use Rattle.cbm_g64.specs.Faults.{has_codes}
 
 -- a sector of the first 35 tracks, as a test and as a fact
 pub has_parts : (p : Place) → has 35 p ≡ true → Has 35 p
@@ -179,3 +180,7 @@ laid_kept tracks bits d new a i l h t be c same laid = record {
 
     before : (p : Place) → p.track ≡ i → bits ≡ bits_at tracks p.track
     before p e = bits_is tracks a bits d i l h t be ∙ ap (bits_at tracks) (sym (e ∙ t))
+
+-- the code of a sector that doesn't read is one of the seven
+pub known_code : (tracks : List (List Bool)) (p : Place) (code : ℕ) → content_of tracks p ≡ Err code → is_fault_code code ≡ true
+known_code tracks p code e = subst (λ (x : Cell). HasFaultCode x) e (has_codes tracks p)

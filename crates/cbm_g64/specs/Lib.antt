@@ -4,3 +4,4 @@ pub mod NewFile
 pub mod Tracks
 pub mod Image
 pub mod Outer
+pub mod Faults

@@ -130,6 +130,7 @@ impl Medium for G64Disk {
     ghost use Rattle.std.specs.Prelude.{refl};
     ghost use Rattle.cbm_g64.specs.Tracks.{content_of, failures_of, tracks_on};
     ghost use Rattle.cbm_g64.specs.Outer.{no_outer};
+    ghost use Rattle.cbm_g64.specs.Faults.{has_codes};
 
     ghost content = { λ d. content_of d.tracks };
 
@@ -139,8 +140,11 @@ impl Medium for G64Disk {
 
     ghost failures = { λ d. failures_of d };
 
+    ghost codes = { λ d p. has_codes d.tracks p };
+
     ghost outer_headers = { λ d p. no_outer 35 refl (content_of d.tracks) p };
 
+    #[tactic(auto, using(crate::proofs::Contents::known_code))]
     fn read(&self, at: Address) -> Result<[u8; 256], Fault> {
         read_on(self.tracks.as_slice(), at)
     }
@@ -154,6 +158,7 @@ impl Medium for G64Disk {
         ensures cause { IfErr result (λ fault.
             (refusal self.old.protected (content_of self.old.tracks at) ≡ Some fault.code)
             ⊎ (failures_of self.old < failures_of self.new)) }
+        ensures only_protected { IfErr result (λ fault. fault.code ≡ 26 → self.old.protected ≡ true) }
         ensures at { IfErr result (λ fault. fault.at ≡ at) }
         ensures uncounted { OnOk result (failures_of self.new ≡ failures_of self.old) }
         ensures counted { failures_of self.old ≤ failures_of self.new }
@@ -184,6 +189,7 @@ impl Medium for G64Disk {
         ensures cause { IfErr result (λ fault.
             (format_refusal self.old.protected ≡ Some fault.code)
             ⊎ (failures_of self.old < failures_of self.new)) }
+        ensures only_protected { IfErr result (λ fault. fault.code ≡ 26 → self.old.protected ≡ true) }
         ensures at { IfErr result (λ fault. fault.at ≡ directory_head) }
         ensures uncounted { OnOk result (failures_of self.new ≡ failures_of self.old) }
         ensures counted { failures_of self.old ≤ failures_of self.new }

@@ -11,6 +11,16 @@ abbrev pub IsWhole : Cell → Type 0
 IsWhole (Ok bytes) = length bytes ≡ 256
 IsWhole (Err code) = Unit {0}
 
+-- the codes of the faults that reading a sector meets: 20 to 24, 27 and 29; 25, 26 and 28 are answers to a write
+abbrev pub is_fault_code : ℕ → Bool
+is_fault_code code =
+    (code == 20) || ((code == 21) || ((code == 22) || ((code == 23) || ((code == 24) || ((code == 27) || (code == 29))))))
+
+-- in place of a sector's bytes stands one of these codes
+abbrev pub HasFaultCode : Cell → Type 0
+HasFaultCode (Ok bytes) = Unit {0}
+HasFaultCode (Err code) = is_fault_code code ≡ true
+
 -- what each sector holds
 abbrev pub Content : Type 0
 Content = Place → Cell

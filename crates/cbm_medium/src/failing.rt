@@ -94,6 +94,8 @@ impl<M: Steady> Medium for Failing<M> {
 
     ghost failures = { λ f. f.countdown.failures };
 
+    ghost codes = { λ f p. M.codes f.inner p };
+
     ghost outer_headers = { λ f p. M.outer_headers f.inner p };
 
     fn read(&self, at: Address) -> Result<[u8; 256], Fault> {
@@ -109,6 +111,7 @@ impl<M: Steady> Medium for Failing<M> {
         ensures cause { IfErr result (λ fault.
             (refusal (M.protected self.old.inner) (M.content self.old.inner at) ≡ Some fault.code)
             ⊎ (self.old.countdown.failures < self.new.countdown.failures)) }
+        ensures only_protected { IfErr result (λ fault. fault.code ≡ 26 → M.protected self.old.inner ≡ true) }
         ensures at { IfErr result (λ fault. fault.at ≡ at) }
         ensures uncounted { OnOk result (self.new.countdown.failures ≡ self.old.countdown.failures) }
         ensures counted { self.old.countdown.failures ≤ self.new.countdown.failures }
@@ -149,6 +152,7 @@ impl<M: Steady> Medium for Failing<M> {
         ensures cause { IfErr result (λ fault.
             (format_refusal (M.protected self.old.inner) ≡ Some fault.code)
             ⊎ (self.old.countdown.failures < self.new.countdown.failures)) }
+        ensures only_protected { IfErr result (λ fault. fault.code ≡ 26 → M.protected self.old.inner ≡ true) }
         ensures at { IfErr result (λ fault. fault.at ≡ directory_head) }
         ensures uncounted { OnOk result (self.new.countdown.failures ≡ self.old.countdown.failures) }
         ensures counted { self.old.countdown.failures ≤ self.new.countdown.failures }

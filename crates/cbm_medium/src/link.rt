@@ -112,6 +112,7 @@ pub fn read_linked<M: Medium>(
     ensures left { OnOk result (0 < left) }
     ensures followed { let content = M.content medium.now in
         IfOk result (λ bytes. follow geometry content left at ≡ with_block at (follow geometry content (left - 1) (link bytes))) }
+    ensures never_26 { IfErr result (λ t. t.code ≢ 26) }
     ensures err { IfErr result (λ t. follow geometry (M.content medium.now) left at ≡ (record { blocks = []; trouble = Some t })) }
 {
     let Some(address) = at.address(geometry) else {

@@ -1,6 +1,6 @@
-ghost use Rattle.std.specs.Prelude.{◌≡◌, ℕ, Bool, ◌<◌, ◌≤◌, ◌⊎◌, Option, Some, None, OnOk, OnErr, IfOk, IfErr, IfSome};
+ghost use Rattle.std.specs.Prelude.{◌≡◌, ℕ, Bool, ◌<◌, ◌≤◌, ◌⊎◌, Option, Some, None, true, OnOk, OnErr, IfOk, IfErr, IfSome};
 ghost use Rattle.cbm_medium.specs.Place.{Place, directory_head};
-ghost use Rattle.cbm_medium.specs.Content.{Content, IsWhole, written, blank, refusal, format_refusal, header_fault};
+ghost use Rattle.cbm_medium.specs.Content.{Content, HasFaultCode, IsWhole, is_fault_code, written, blank, refusal, format_refusal, header_fault};
 
 use crate::address::Address;
 use crate::fault::Fault;
@@ -24,7 +24,8 @@ pub trait Medium {
     fn read(&self, at: Address) -> Result<[u8; 256], Fault>
         requires { at.track ≤ tracks self.now }
         ensures ok { IfOk result (λ bytes. content self.now at ≡ Ok bytes) }
-        ensures err { IfErr result (λ fault. (content self.now at ≡ Err fault.code) × (fault.at ≡ at)) };
+        ensures err { IfErr result (λ fault. (content self.now at ≡ Err fault.code) × (fault.at ≡ at)) }
+        ensures code { IfErr result (λ fault. is_fault_code fault.code ≡ true) };
 
     /// Makes an address hold these bytes, and changes no other. An `Err` changes nothing.
     fn write(&mut self, at: Address, bytes: &[u8; 256]) -> Result<(), Fault>
@@ -40,6 +41,8 @@ pub trait Medium {
         ensures cause { IfErr result (λ fault.
             (refusal (protected self.old) (content self.old at) ≡ Some fault.code)
             ⊎ (failures self.old < failures self.new)) }
+        // 26 is told of protection alone, and never of a failure.
+        ensures only_protected { IfErr result (λ fault. fault.code ≡ 26 → protected self.old ≡ true) }
         ensures at { IfErr result (λ fault. fault.at ≡ at) }
         ensures uncounted { OnOk result (failures self.new ≡ failures self.old) }
         ensures counted { failures self.old ≤ failures self.new }
@@ -55,6 +58,7 @@ pub trait Medium {
         ensures cause { IfErr result (λ fault.
             (format_refusal (protected self.old) ≡ Some fault.code)
             ⊎ (failures self.old < failures self.new)) }
+        ensures only_protected { IfErr result (λ fault. fault.code ≡ 26 → protected self.old ≡ true) }
         ensures at { IfErr result (λ fault. fault.at ≡ directory_head) }
         ensures uncounted { OnOk result (failures self.new ≡ failures self.old) }
         ensures counted { failures self.old ≤ failures self.new }
@@ -74,6 +78,11 @@ pub trait Medium {
     /// How often it failed by itself.
     fn failures(&self) -> u64
         ensures { result ≡ failures self.now };
+
+    /// What stands in place of a sector's bytes is the code of a fault that reading meets. The disk controller ends a job
+    /// with one of the codes 2 to 11, which the DOS tells as 20 to 29 (Immers and Neufeld, Inside Commodore DOS): 2 to 6,
+    /// 9 and 11 come from reading, 7 and 10 from writing, and 8 from a disk that is protected.
+    ghost codes: { (m : Self) (p : Place) → HasFaultCode (Self.content m p) };
 
     /// No sector of the tracks 36 to 40 ever has a fault of its header, where the medium has these tracks.
     ghost outer_headers: { (m : Self) (p : Place) → Self.tracks m ≡ 40 → 35 < p.track → header_fault (Self.content m p) ≡ None };

@@ -1,3 +1,4 @@
 pub mod Decoding
 pub mod Answer
 pub mod Fresh
+pub mod Faults

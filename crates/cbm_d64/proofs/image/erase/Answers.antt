@@ -1,4 +1,4 @@
-use Rattle.std.proofs.Common.{◌≡◌, ◌<◌, ◌+◌, ◌*◌, ℕ, List, ◌++◌, length, replicate, arith, subst, sym, ap, ◌∙◌, None}
+use Rattle.std.proofs.Common.{◌≡◌, ◌<◌, ℕ, List, ◌++◌, length, replicate, arith, subst, sym, ap, ◌∙◌}
 use Rattle.std.proofs.lemmas.List.{length-append, length-replicate}
 use Rattle.cbm_d64.specs.Image.{sector_at, error_at, sectors_in}
 use Rattle.cbm_d64.proofs.Sectors.{sector_in_zeros, ones_are_good, sector_room}

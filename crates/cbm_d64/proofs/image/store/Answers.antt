@@ -1,5 +1,5 @@
 use Rattle.std.proofs.Common.{◌≡◌, ◌<◌, ◌≤◌, ◌+◌, ◌*◌, ℕ, length, ap, subst, sym, ◌∙◌, arith}
-use Rattle.cbm_d64.specs.Image.{code_of, sectors_in, error_at}
+use Rattle.cbm_d64.specs.Image.{sectors_in}
 use Rattle.cbm_d64.proofs.Sectors.{length-put, sector-put_same, sector-put_other, error-put, sector_room}
 use Rattle.cbm_d64.proofs.image.store.Goals as goal
 
