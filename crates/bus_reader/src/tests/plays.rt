@@ -245,6 +245,14 @@ pub fn at(moment: u64, line: Line, way: Way) -> Change {
     Change { moment, line, way }
 }
 
+// An event of the wires.
+pub fn shown(who: Who, moment: u64, line: Line, way: Way) -> Event {
+    Event {
+        who,
+        change: at(moment, line, way),
+    }
+}
+
 // A frame of the host whose bits take 40 each; DATA is set with CLOCK's pull. The last pull is 320 behind the start.
 pub fn send(changes: &mut Vec<Change>, byte: u8, ready: u64, start: u64) -> Result<(), AllocError>
     requires { start < 2 ^ 50 }

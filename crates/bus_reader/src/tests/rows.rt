@@ -124,6 +124,24 @@ fn keeps_the_order_of_ties(rt: HostRuntime) -> Result<(), Fail> {
     Ok(())
 }
 
+// ATN's pull comes with CLOCK's: where the host leaves that out, the drive's answer to ATN begins no session.
+#[test]
+fn misses_a_change_of_the_host(rt: HostRuntime) -> Result<(), Fail> {
+    for joined in [false, true] {
+        let mut trace = Vec::new(rt.alloc());
+        trace.push(shown(Who::Host, 0, Atn, Pull))?;
+        if joined {
+            trace.push(shown(Who::Host, 0, Clock, Pull))?;
+        }
+        trace.push(shown(Who::Drive(8), 20, Data, Pull))?;
+        let judge = Judge::of(rt.alloc(), &[one(8, 20)], &trace, 30)?;
+        assert_eq!(rt; judge.begins(), joined, "a session is begun");
+        assert_eq!(rt; judge.keeps, joined, "the host keeps the timing");
+        assert!(rt; !judge.late, "the drive isn't late");
+    }
+    Ok(())
+}
+
 // Reactions 1 and 60: the start at 1040 comes before the slow drive's release, which it cancels; 40 later it doesn't.
 #[test]
 fn cancels_a_release(rt: HostRuntime) -> Result<(), Fail> {

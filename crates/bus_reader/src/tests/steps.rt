@@ -32,7 +32,7 @@ impl Reading {
         }
     }
 
-    /// A drive's change is the first of all that is owed.
+    /// A drive's change is the first of all that is owed, and comes before the host's next one is due: at one moment the host's comes first.
     fn drive_step(
         mut self,
         device: u8,
@@ -44,7 +44,10 @@ impl Reading {
         };
         let rank = after(owed.place as u64, 1) as usize;
         let early = change.moment < self.last || change.moment == self.last && rank < self.rank;
-        if early || change != owed.change || index >= self.owed.len() {
+        if early || !self.is_quiet(change.moment) {
+            return Ok(());
+        }
+        if change != owed.change || index >= self.owed.len() {
             return Ok(());
         }
         self.owed.remove(index);
