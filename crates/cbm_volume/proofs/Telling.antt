@@ -5,9 +5,9 @@ use Rattle.std.specs.List.{AllZip}
 use Rattle.cbm_medium.specs.Content.{Content}
 use Rattle.cbm_file.specs.declared.file_type.FileType.TheVariants.{Rel}
 use Rattle.cbm_file.specs.Types.{type_with, is_same_type}
-use Rattle.cbm_file.specs.Files.{Disk, File, Bytes, bytes_in, file_at}
+use Rattle.cbm_file.specs.Files.{Disk, File, Bytes, bytes_in, record_length_in, file_at}
 use Rattle.cbm_chain.specs.Data.{chain_bytes}
-use Rattle.cbm_directory.specs.Entries.{entry_at, type_byte, kind_of, is_closed}
+use Rattle.cbm_directory.specs.Entries.{entry_at, type_byte, kind_of, is_closed, width_of}
 use Rattle.cbm_directory.specs.Slots.{all_entries, directory_of}
 use Rattle.cbm_volume.specs.Blocks.{Blocks, file_of, slot_with, body_as}
 use Rattle.cbm_volume.specs.Layouts.{Layout, Stands}
@@ -33,6 +33,16 @@ bytes_told true (suc (suc (suc zero))) bytes e b h k = refl
 bytes_told true (suc (suc (suc (suc zero)))) bytes e b h k = absurd (cc)
 bytes_told true (suc (suc (suc (suc (suc n))))) bytes e b h k = absurd (omega arith)
 
+length_told : (closed : Bool) (n : ℕ) (bytes e : List ℕ) (b : Blocks) → n < 5 → closed ≡ true → is_same_type Rel (kind_of n) ≡ true
+    → record_length_in (body_as (closed && (n == 4)) bytes e b) ≡ width_of e
+length_told false n bytes e b h shut k = absurd (cc)
+length_told true zero bytes e b h shut k = absurd (cc)
+length_told true (suc zero) bytes e b h shut k = absurd (cc)
+length_told true (suc (suc zero)) bytes e b h shut k = absurd (cc)
+length_told true (suc (suc (suc zero))) bytes e b h shut k = absurd (cc)
+length_told true (suc (suc (suc (suc zero)))) bytes e b h shut k = refl
+length_told true (suc (suc (suc (suc (suc n))))) bytes e b h shut k = absurd (omega arith)
+
 file_says : (bytes e : List ℕ) (b : Blocks) → (type_byte e == 0) ≡ false → type_byte e % 16 < 5 → Says (file_of bytes e b) e
 unfolding file_of
 file_says bytes e b used small = record {
@@ -43,6 +53,7 @@ file_says bytes e b used small = record {
   name = refl;
   blocks = refl;
   body = λ k. bytes_told (is_closed e) (type_byte e % 16) bytes e b small k;
+  record_length = λ shut k. length_told (is_closed e) (type_byte e % 16) bytes e b small shut k;
 }
 
 slot_says : (bytes e : List ℕ) (b : Blocks) → type_byte e % 16 < 5 → SlotSays (slot_with bytes e b) e

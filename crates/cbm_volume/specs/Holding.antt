@@ -5,9 +5,9 @@ use Rattle.cbm_medium.specs.Content.{Content}
 use Rattle.cbm_medium.specs.declared.fault.Trouble.{Trouble}
 use Rattle.cbm_file.specs.declared.file_type.FileType.TheVariants.{Rel}
 use Rattle.cbm_file.specs.Types.{type_with, is_same_type}
-use Rattle.cbm_file.specs.Files.{Disk, File, file_at, Bytes, bytes_in}
+use Rattle.cbm_file.specs.Files.{Disk, File, file_at, Bytes, bytes_in, record_length_in}
 use Rattle.cbm_bam.specs.Map.{geometry_of}
-use Rattle.cbm_directory.specs.Entries.{type_byte, bit_of, is_closed, name_in}
+use Rattle.cbm_directory.specs.Entries.{type_byte, bit_of, is_closed, width_of, name_in}
 use Rattle.cbm_directory.specs.Slots.{Listed, Answers, directory_of}
 use Rattle.cbm_volume.specs.Blocks.{Blocks, slot_with}
 use Rattle.cbm_volume.specs.Layouts.{Means}
@@ -39,7 +39,8 @@ pub record HasBytes (d : Disk) (n : ℕ) (bytes : List ℕ) : Type 0 where
   pub closed : file.closed ≡ true
   pub body : file.body ≡ Bytes bytes
 
--- The entry says of a file what the disk knows of it. What has no records has bytes.
+-- The entry says of a file what the disk knows of it. What has no records has bytes; a closed relative file has records of the
+-- length that the entry says.
 pub record Says (f : File) (entry : List ℕ) : Type 0 where
   pub used : (type_byte entry == 0) ≡ false
   pub kind : type_with (type_byte entry % 16) ≡ Some f.kind
@@ -48,6 +49,7 @@ pub record Says (f : File) (entry : List ℕ) : Type 0 where
   pub name : name_in entry ≡ f.name
   pub blocks : slice_index entry 28 + 256 * slice_index entry 29 ≡ f.shown
   pub body : is_same_type Rel f.kind ≡ false → f.body ≡ Bytes (bytes_in f.body)
+  pub record_length : f.closed ≡ true → is_same_type Rel f.kind ≡ true → record_length_in f.body ≡ width_of entry
 
 -- the entry of an empty slot, or that of its file
 abbrev pub SlotSays : Option File → List ℕ → Type 0
