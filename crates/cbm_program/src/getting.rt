@@ -52,6 +52,7 @@ fn print_unit<M: Medium, W: Write>(
         (Stands M.tracks M.content M.protected dos.old) (Stands M.tracks M.content M.protected dos.new) (unit channel)) }
     ensures more { IfOk result (λ more. (m : Machine) → Stands M.tracks M.content M.protected dos.old m → more ≡ is_more (peek channel m)) }
     ensures err { OnErr result (PrintsPart (W.contents writer.old) (W.contents writer.new) (Stands M.tracks M.content M.protected dos.old) (unit channel)) }
+    ensures medium { dos.new.medium ≡ dos.old.medium }
     ensures grows { Grows (W.contents writer.old) (W.contents writer.new) }
     ensures fault { IfErr result IsOfWriting }
 {
@@ -74,6 +75,7 @@ fn print_units<M: Medium, W: Write>(
     ensures ok { OnOk result (Prints (W.contents writer.old) (W.contents writer.new)
         (Stands M.tracks M.content M.protected dos.old) (Stands M.tracks M.content M.protected dos.new) (units most channel)) }
     ensures err { OnErr result (PrintsPart (W.contents writer.old) (W.contents writer.new) (Stands M.tracks M.content M.protected dos.old) (units most channel)) }
+    ensures medium { dos.new.medium ≡ dos.old.medium }
     ensures grows { Grows (W.contents writer.old) (W.contents writer.new) }
     ensures fault { IfErr result IsOfWriting }
 {
@@ -125,6 +127,7 @@ pub(crate) fn print_get<M: Medium, W: Write>(
         (Stands M.tracks M.content M.protected dos.old) (Stands M.tracks M.content M.protected dos.new) (printed_by (Get channel most))) }
     ensures err { OnErr result (PrintsPart (W.contents writer.old) (W.contents writer.new)
         (Stands M.tracks M.content M.protected dos.old) (printed_by (Get channel most))) }
+    ensures medium { dos.new.medium ≡ dos.old.medium }
     ensures grows { Grows (W.contents writer.old) (W.contents writer.new) }
     ensures fault { IfErr result IsOfWriting }
 {

@@ -8,7 +8,7 @@ ghost use Rattle.cbm_program.specs.declared.kind.Kind.TheVariants.{D64, G64};
 ghost use Rattle.cbm_program.specs.Checking.{printed_behind, IsCheckedFirst};
 ghost use Rattle.cbm_program.specs.Output.{Grows, Prints, PrintsPart};
 ghost use Rattle.cbm_program.specs.Running.{script_of, AreCarriedOut, EndsAs};
-ghost use Rattle.cbm_program.specs.Images.{kind_of, image_fault, tracks_of, content_of, ImageHolds, StartsOn, Begins, IsOf, IsRefusal};
+ghost use Rattle.cbm_program.specs.Images.{kind_of, image_fault, tracks_of, content_of, ImageHolds, StartsOn, Begins, IsOf, HoldSame, IsRefusal};
 
 use crate::fault::RunFault;
 use crate::kind::{Kind, kind_of};
@@ -102,6 +102,8 @@ fn run_with<M: Medium + Drop, R: Read + Drop, W: Write>(
     // Of any medium the line of the check is printed first, where one is asked for.
     ensures checked { checks ≡ true → EndsAs result (λ bad. IsCheckedFirst (M.tracks medium) (M.content medium) (W.contents writer.old) (W.contents writer.new)) }
     ensures grows { Grows (W.contents writer.old) (W.contents writer.new) }
+    // Nothing is written so far, on any medium.
+    ensures same { IfOk result (λ after. after ≡ medium) }
     ensures image { IfErr result (λ fault. (n : ℕ) → fault ≢ RunFault.Image n) }
 {
     let volume = Volume::open(medium);
@@ -139,6 +141,9 @@ fn run_d64<R: Read + Drop, W: Write>(
     ensures checked { options.now.check ≡ true → EndsAs result (λ bad. IsCheckedFirst (tracks_of (kind_of image.now) image.now) (content_of (kind_of image.now) image.now)
         (W.contents writer.old) (W.contents writer.new)) }
     ensures grows { Grows (W.contents writer.old) (W.contents writer.new) }
+
+    // Nothing is written so far, on any image: the one that is given back holds what came in.
+    ensures same { IfOk result (λ saved. HoldSame (kind_of image.now) image.now saved.items) }
 
     // The image is refused by its own fault, before anything is read or written, and by no other.
     ensures refused { IfSome (image_fault (kind_of image.now) image.now)
@@ -178,6 +183,9 @@ fn run_g64<R: Read + Drop, W: Write>(
     ensures checked { options.now.check ≡ true → EndsAs result (λ bad. IsCheckedFirst (tracks_of (kind_of image.now) image.now) (content_of (kind_of image.now) image.now)
         (W.contents writer.old) (W.contents writer.new)) }
     ensures grows { Grows (W.contents writer.old) (W.contents writer.new) }
+
+    // Nothing is written so far, on any image: the one that is given back holds what came in.
+    ensures same { IfOk result (λ saved. HoldSame (kind_of image.now) image.now saved.items) }
 
     // The image is refused by its own fault, before anything is read or written, and by no other.
     ensures refused { IfSome (image_fault (kind_of image.now) image.now)
@@ -219,6 +227,9 @@ pub fn run<R: Read + Drop, W: Write>(
     ensures checked { options.now.check ≡ true → EndsAs result (λ bad. IsCheckedFirst (tracks_of (kind_of image.now) image.now) (content_of (kind_of image.now) image.now)
         (W.contents writer.old) (W.contents writer.new)) }
     ensures grows { Grows (W.contents writer.old) (W.contents writer.new) }
+
+    // Nothing is written so far, on any image: the one that is given back holds what came in.
+    ensures same { IfOk result (λ saved. HoldSame (kind_of image.now) image.now saved.items) }
 
     // The image is refused by its own fault, before anything is read or written, and by no other.
     ensures refused { IfSome (image_fault (kind_of image.now) image.now)

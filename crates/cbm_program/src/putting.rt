@@ -12,7 +12,8 @@ use cbm_medium::Medium;
 /// Puts the bytes one after another.
 fn put_each<M: Medium>(dos: &mut Dos<M>, channel: u8, bytes: &[u8])
     requires { channel ≤ 15 }
-    ensures { Leads M.tracks M.content M.protected dos.old dos.new (puts channel bytes.now) }
+    ensures leads { Leads M.tracks M.content M.protected dos.old dos.new (puts channel bytes.now) }
+    ensures medium { dos.new.medium ≡ dos.old.medium }
 {
     for byte in bytes {
         dos.put(channel, *byte);
@@ -22,7 +23,8 @@ fn put_each<M: Medium>(dos: &mut Dos<M>, channel: u8, bytes: &[u8])
 /// Puts so many equal bytes.
 fn put_equal<M: Medium>(dos: &mut Dos<M>, channel: u8, count: u32, byte: u8)
     requires { channel ≤ 15 }
-    ensures { Leads M.tracks M.content M.protected dos.old dos.new (puts channel (replicate count byte)) }
+    ensures leads { Leads M.tracks M.content M.protected dos.old dos.new (puts channel (replicate count byte)) }
+    ensures medium { dos.new.medium ≡ dos.old.medium }
 {
     for done in 0..count {
         dos.put(channel, byte);
@@ -32,8 +34,9 @@ fn put_equal<M: Medium>(dos: &mut Dos<M>, channel: u8, count: u32, byte: u8)
 /// Puts the bytes in one listening.
 pub(crate) fn hear<M: Medium>(dos: &mut Dos<M>, channel: u8, bytes: &[u8])
     requires { channel ≤ 15 }
-    ensures { (m : Machine) → IsPutCarriedOut channel (puts channel bytes.now (listen channel m))
+    ensures leads { (m : Machine) → IsPutCarriedOut channel (puts channel bytes.now (listen channel m))
         → Stands M.tracks M.content M.protected dos.old m → Stands M.tracks M.content M.protected dos.new (hear channel bytes.now m) }
+    ensures medium { dos.new.medium ≡ dos.old.medium }
 {
     dos.listen(channel);
     put_each(dos, channel, bytes);
@@ -43,8 +46,9 @@ pub(crate) fn hear<M: Medium>(dos: &mut Dos<M>, channel: u8, bytes: &[u8])
 /// Puts so many equal bytes in one listening.
 pub(crate) fn hear_equal<M: Medium>(dos: &mut Dos<M>, channel: u8, count: u32, byte: u8)
     requires { channel ≤ 15 }
-    ensures { (m : Machine) → IsPutCarriedOut channel (puts channel (replicate count byte) (listen channel m))
+    ensures leads { (m : Machine) → IsPutCarriedOut channel (puts channel (replicate count byte) (listen channel m))
         → Stands M.tracks M.content M.protected dos.old m → Stands M.tracks M.content M.protected dos.new (hear channel (replicate count byte) m) }
+    ensures medium { dos.new.medium ≡ dos.old.medium }
 {
     dos.listen(channel);
     put_equal(dos, channel, count, byte);

@@ -61,6 +61,7 @@ pub(crate) fn run_on<M: Medium, R: Read + Drop, W: Write>(
         PrintsPart (W.contents writer.old) (W.contents writer.new)
         (λ m. AreCarriedOut (script_of input).requests m × Stands M.tracks M.content M.protected dos.old m)
         (printed (script_of input).requests))) }
+    ensures medium { dos.new.medium ≡ dos.old.medium }
     ensures grows { Grows (W.contents writer.old) (W.contents writer.new) }
     ensures image { IfErr result (λ fault. (n : ℕ) → fault ≢ RunFault.Image n) }
 {

@@ -1,4 +1,4 @@
-use Rattle.std.proofs.Common.{arith, sym, ◌∙◌}
+use Rattle.std.proofs.Common.{arith, refl, sym, ◌∙◌}
 use Rattle.std.proofs.lemmas.Result.{err_from_is_err_and}
 use Rattle.cbm_channel.specs.Standing.{Stands}
 use Rattle.cbm_program.proofs.OutputLemmas.{grows_none, grows_on}
@@ -6,7 +6,7 @@ use Rattle.cbm_program.proofs.UnitLemmas.{saying-start, saying-more, saying-last
 use Rattle.cbm_program.proofs.getting.print_units.Goals as goal
 
 pub bytes-init : goal.bytes-init
-bytes-init g c = record { saying = saying-start _ (Stands g.M.Medium.tracks g.M.Medium.content g.M.Medium.protected c.args.dos.now) _ _ _ (omega arith); grown = grows_none _ }
+bytes-init g c = record { saying = saying-start _ (Stands g.M.Medium.tracks g.M.Medium.content g.M.Medium.protected c.args.dos.now) _ _ _ (omega arith); grown = grows_none _; medium = refl }
 
 pub bytes-preserved : goal.bytes-preserved
 bytes-preserved g c =
@@ -16,6 +16,7 @@ bytes-preserved g c =
       saying = saying-more _ _ _ (stands c.args.dos.now) (stands c.bytes.dos) (stands c.print_unit.new.dos) _ _ _ _ c.bytes.invariant.saying clause.ok
           (λ m s. sym c.if-not-branch.false ∙ clause.more m s) (omega arith);
       grown = grows_on _ _ _ c.bytes.invariant.grown clause.grows;
+      medium = clause.medium ∙ c.bytes.invariant.medium;
     }
 
 pub returns-then-not-branch-clause-ok : goal.returns-then-not-branch-clause-ok

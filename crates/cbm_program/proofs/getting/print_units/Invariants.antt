@@ -1,4 +1,4 @@
-use Rattle.std.proofs.Common.{◌-◌}
+use Rattle.std.proofs.Common.{◌≡◌, ◌-◌}
 use Rattle.cbm_channel.specs.Standing.{Stands}
 use Rattle.cbm_program.proofs.UnitLemmas.{Saying}
 use Rattle.cbm_program.specs.Output.{Grows}
@@ -10,4 +10,5 @@ invariant-bytes g l = record {
       (Stands g.M.Medium.tracks g.M.Medium.content g.M.Medium.protected l.initial.dos)
       (Stands g.M.Medium.tracks g.M.Medium.content g.M.Medium.protected l.dos) l.most (l.most - l.done) l.channel;
   grown : Grows (g.W.Write.contents l.initial.writer) (g.W.Write.contents l.writer);
+  medium : l.dos.medium ≡ l.initial.dos.medium;
 }

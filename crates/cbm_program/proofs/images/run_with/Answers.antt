@@ -4,6 +4,7 @@ use Rattle.std.specs.Io.KnownBytes.{Appends}
 use Rattle.cbm_channel.specs.Files.{Disk}
 use Rattle.cbm_channel.specs.Machines.{start}
 use Rattle.cbm_channel.specs.Standing.{Stands}
+use Rattle.cbm_channel.proofs.Stands.{means_of}
 use Rattle.cbm_volume.specs.Holding.{HoldsDisk}
 use Rattle.cbm_program.specs.Images.{StartsOn}
 use Rattle.cbm_program.specs.Checking.{checked_text, IsCheckPrinted}
@@ -63,7 +64,7 @@ returns-clause-disk g c =
     printed-behind c.args.checks _ _ _ _ starts (λ m. HoldsDisk (g.M.Medium.tracks c.into_medium-2.result) (g.M.Medium.content c.into_medium-2.result) m.disk) said
     (printed-ended _ _ _ starts (stands c.new-dos.result) (stands c.run_on.new.dos)
     (λ m. HoldsDisk (g.M.Medium.tracks c.into_medium-2.result) (g.M.Medium.content c.into_medium-2.result) m.disk) _ among
-    (λ m s. subst (λ k. HoldsDisk (g.M.Medium.tracks k) (g.M.Medium.content k) m.disk) (sym c.into_medium-2.ensures) s.means)
+    (λ m s. subst (λ k. HoldsDisk (g.M.Medium.tracks k) (g.M.Medium.content k) m.disk) (sym c.into_medium-2.ensures) (means_of _ _ _ _ _ _ m s))
     c.in_ok-run_on.ensures.ended)
 
 -- the check's line comes first

@@ -1,4 +1,4 @@
-use Rattle.std.proofs.Common.{◌∙◌, ap, arith, Err}
+use Rattle.std.proofs.Common.{◌∙◌, refl, ap, arith, Err}
 use Rattle.std.proofs.lemmas.Result.{err_from_is_err_and}
 use Rattle.cbm_channel.specs.Standing.{Stands}
 use Rattle.cbm_program.specs.Lines.{bytes_left}
@@ -12,6 +12,7 @@ lines-init g c = record {
   running = run-start _ _ _ (Stands g.M.Medium.tracks g.M.Medium.content g.M.Medium.protected c.args.dos.now) c.new-lines.ensures;
   few = omega arith;
   grown = grows_none _;
+  medium = refl;
 }
 
 -- a line is carried out
@@ -23,6 +24,7 @@ lines-preserved g c =
       running = run-line _ _ _ _ _ _ (stands c.args.dos.now) (stands c.lines.dos) (stands c.perform_line.new.dos) _ _ c.lines.invariant.running read.0 c.in_ok-perform_line.ensures.ok;
       few = let r = read.1 in omega (arith, r);
       grown = grows_on _ _ _ c.lines.invariant.grown c.in_ok-perform_line.ensures.grows;
+      medium = c.in_ok-perform_line.ensures.medium ∙ c.lines.invariant.medium;
     }
 
 -- there is no line to be read

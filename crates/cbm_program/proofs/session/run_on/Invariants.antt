@@ -1,4 +1,4 @@
-use Rattle.std.proofs.Common.{◌-◌, ◌≤◌}
+use Rattle.std.proofs.Common.{◌≡◌, ◌-◌, ◌≤◌}
 use Rattle.cbm_channel.specs.Standing.{Stands}
 use Rattle.cbm_program.specs.Lines.{bytes_left}
 use Rattle.cbm_program.specs.Output.{Grows}
@@ -12,6 +12,7 @@ invariant-lines g l = record {
       (Stands g.M.Medium.tracks g.M.Medium.content g.M.Medium.protected l.dos) l.number;
   few : l.number ≤ 1000001;
   grown : Grows (g.W.Write.contents l.initial.writer) (g.W.Write.contents l.writer);
+  medium : l.dos.medium ≡ l.initial.dos.medium;
 }
 
 abbrev pub decreases-lines : goal.decreases-lines
