@@ -50,7 +50,7 @@ stands_claim tracks c c' l d p s few k =
     let map : List ℕ = k.remaps.map in
     let free : Place → Bool = with_bit (is_free_in (map_of c)) p false in
     let m : IsMapped tracks (map_of c) map free = k.remaps.mapped in
-    let less : free_in tracks (map_of c) ≡ suc (free_in tracks map) = free_claimed tracks (map_of c) map p s.sound.counted (record { has = k.has; was_free = k.was_free; mapped = m }) k.off_18 in
+    let less : free_in tracks (map_of c) ≡ suc (free_in tracks map) = free_claimed tracks (map_of c) map p s.sound.counted (record { has = k.has; was_free = k.was_free; mapped = m; counts = k.counts }) k.off_18 in
     let room : tally (is_free_in map) 18 19 ≡ tally (is_free_in (map_of c)) 18 19 =
     tally_same (is_free_in map) free 18 19 (λ i j. m.bits (record { track = 18; sector = i }) (omega arith, few, j)) ∙ tally_other (is_free_in (map_of c)) p false 18 19 (λ e. k.off_18 (sym e)) in
     let d' : with_counts tracks d map ≡ one_less d = λ i. record d { room = (room ∙ sym s.describes.room) i; free = (let e : free_in tracks map ≡ d.free - 1 = omega (arith, s.describes.free) in e) i } in
