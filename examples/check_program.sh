@@ -47,6 +47,8 @@ case_of "help" 1 "" "$drive" --help
 case_of "device 12" 1 "" "$drive" hello.d64 hello.script out.d64 --device 12
 case_of "device 9" 0 "" "$drive" hello.d64 hello.script out.d64 --device 9
 case_of "a protected disk" 0 "" "$drive" --read-only hello.d64 hello.script out.d64
+case_of "a truncated image, and no standard error" 2 "" sh -c "$drive short.d64 hello.script none.d64 2> /dev/full"
+case_of "no image, and no standard error" 3 "" sh -c "$drive nothing.d64 hello.script none.d64 2> /dev/full"
 case_of "a full standard output" 3 "file fault: output" sh -c "$drive hello.d64 hello.script none.d64 > /dev/full"
 is "then OUT isn't written" test ! -e none.d64
 case_of "a device as OUT" 0 "" "$drive" hello.d64 hello.script /dev/null
@@ -55,19 +57,51 @@ is "it stays a device" test -c /dev/null
 printf old > old.d64
 chmod 600 old.d64
 ln -s old.d64 link.d64
-printf mine > link.d64.0.new
-printf mine > old.d64.0.new
+printf mine > drive1541.0.new
 case_of "a link as OUT" 0 "" "$drive" hello.d64 hello.script link.d64
 is "it stays a link" test -L link.d64
 is "its file is the image" cmp -s hello.d64 old.d64
 is "and keeps its mode" test "$(stat -c %a old.d64)" = 600
-is "a file of the name beside stays" test "$(cat old.d64.0.new)" = mine
-is "and no other is left" test ! -e old.d64.1.new
+is "a file of the name beside stays" test "$(cat drive1541.0.new)" = mine
+is "and no other is left" test ! -e drive1541.1.new
+rm drive1541.0.new
+
+mkdir folder
+ln -s folder/second.d64 first.d64
+ln -s ../new.d64 folder/second.d64
+case_of "a link to a link to nothing as OUT" 0 "" "$drive" hello.d64 hello.script first.d64
+is "both stay links" test -L first.d64 -a -L folder/second.d64
+is "and the file where they lead is the image" cmp -s hello.d64 new.d64
+ln -s gone/new.d64 lost.d64
+case_of "a link into no folder as OUT" 3 "file fault: lost.d64" "$drive" hello.d64 hello.script lost.d64
+is "it stays a link too" test -L lost.d64
+
+long=$(printf '%0251d' 0).d64
+case_of "a name of 255 bytes as OUT" 0 "" "$drive" hello.d64 hello.script "$long"
+is "it is the image" cmp -s hello.d64 "$long"
+
+printf old > one.d64
+ln one.d64 other.d64
+case_of "a file with two names as OUT" 0 "" "$drive" hello.d64 hello.script one.d64
+is "the name is the image's" cmp -s hello.d64 one.d64
+is "and the other name keeps what was there" test "$(cat other.d64)" = old
+
+# Root may write each file, so that another user tries it, in a folder that all may write.
+printf old > locked.d64
+chmod 444 locked.d64
+chmod 777 "$work"
+cp "$drive" drive1541
+other=
+if [ "$(id -u)" = 0 ]; then other="setpriv --reuid 65534 --regid 65534 --clear-groups"; fi
+case_of "an OUT that may not be written" 3 "file fault: locked.d64" $other ./drive1541 hello.d64 hello.script locked.d64
+is "what it was stays" test "$(cat locked.d64)" = old
+case_of "a new OUT beside it" 0 "" $other ./drive1541 hello.d64 hello.script free.d64
+is "and nothing is left beside them" test ! -e drive1541.0.new
 
 printf old > small.d64
 case_of "a limit on the file's size" 3 "file fault: small.d64" sh -c "trap '' XFSZ; ulimit -f 100; exec $drive hello.d64 hello.script small.d64"
 is "what OUT was stays" test "$(cat small.d64)" = old
-is "and nothing is left beside" test ! -e small.d64.0.new
+is "and nothing is left beside" test ! -e drive1541.0.new
 # The image alone is more than the limit, so that it is no page of the stack that isn't there: that would end any program.
 truncate -s 64M big.d64
 case_of "a limit on memory" 3 "no memory" sh -c "ulimit -v 20000; exec $drive big.d64 hello.script none.d64"

@@ -3,7 +3,7 @@ ghost use Rattle.cbm_medium.specs.Place.{Has, Place, sectors_on};
 ghost use Rattle.cbm_g64.specs.File.{fault_of, tracks_in};
 ghost use Rattle.cbm_g64.specs.NewFile.{new_file};
 ghost use Rattle.cbm_g64.specs.Tracks.{content_of, id_for, or_zeros, AreFresh, AreLaid};
-ghost use Rattle.cbm_g64.specs.Image.{IsHeld};
+ghost use Rattle.cbm_g64.specs.Image.{IsHeld, IsImageOf};
 
 use crate::circles::fill_on;
 use crate::fault::G64Fault;
@@ -97,6 +97,8 @@ pub(crate) fn image_of<M: Medium>(
     requires { M.tracks medium.now ≡ 35 }
     ensures size { IfOk result (λ v. length v.items ≡ 278234) }
     ensures right { IfOk result (λ v. fault_of v.items ≡ None) }
+    ensures form { IfOk result (λ v. IsImageOf new_file (tracks_in v.items 35) v.items) }
+    ensures laid { IfOk result (λ v. AreLaid (tracks_in v.items 35)) }
     ensures shown { IfOk result (λ v. (p : Place) → Has 35 p →
         content_of (tracks_in v.items 35) p ≡ or_zeros (M.content medium.now p)) }
     ensures id { IfOk result (λ v. id_for (tracks_in v.items 35) ≡ id) }

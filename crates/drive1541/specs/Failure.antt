@@ -1,7 +1,10 @@
--- The exit statuses.
-use Rattle.std.specs.Prelude.{ℕ}
+-- How the program ends.
+use Rattle.std.specs.Prelude.{ℕ, Result, Ok, Err}
+use Rattle.cbm_program.specs.declared.fault.RunFault.{RunFault}
+use Rattle.cbm_program.specs.declared.fault.RunFault.TheVariants.{Script as LineRefused, Image as ImageRefused, Memory, Reading, Writing}
 use Rattle.drive1541.specs.declared.failure.Failure.{Failure}
 use Rattle.drive1541.specs.declared.failure.Failure.TheVariants.{Script, Image, File, NoMemory}
+use Rattle.drive1541.specs.declared.failure.Place.TheVariants.{Script as TheScript, Output}
 
 -- the exit status of a program that ended so
 abbrev pub status_of : Failure → ℕ
@@ -9,3 +12,24 @@ status_of (Script line) = 1
 status_of (Image number) = 2
 status_of (File place) = 3
 status_of NoMemory = 3
+
+-- the same where it may have ended well
+abbrev pub exit_status : Result Unit Failure → ℕ
+exit_status (Ok done) = 0
+exit_status (Err failure) = status_of failure
+
+-- the exit status of a run that ended so: a line refused, the image refused, or something that the system refused
+abbrev pub run_status : RunFault → ℕ
+run_status (LineRefused line) = 1
+run_status (ImageRefused number) = 2
+run_status Memory = 3
+run_status Reading = 3
+run_status Writing = 3
+
+-- what a run that ended so is told as: reading fails at the script, and writing at standard output
+abbrev pub failure_of : RunFault → Failure
+failure_of (LineRefused line) = Script line
+failure_of (ImageRefused number) = Image number
+failure_of Memory = NoMemory
+failure_of Reading = File TheScript
+failure_of Writing = File Output

@@ -1,6 +1,6 @@
 //! How the program ended: its exit status, and its line on standard error.
 ghost use Rattle.std.specs.Prelude.{◌≡◌};
-ghost use Rattle.drive1541.specs.Failure.{status_of};
+ghost use Rattle.drive1541.specs.Failure.{exit_status, failure_of, run_status, status_of};
 
 use crate::arguments::Arguments;
 use cbm_program::RunFault;
@@ -30,6 +30,16 @@ pub enum Failure {
     File(Place),
     /// Memory ran out.
     NoMemory,
+}
+
+/// The exit status of a program that ended so.
+pub fn exit_status(ended: &Result<(), Failure>) -> u8
+    ensures { result ≡ exit_status ended.now }
+{
+    match ended {
+        Ok(()) => 0,
+        Err(failure) => failure.status(),
+    }
 }
 
 impl Failure {
@@ -67,7 +77,10 @@ impl Failure {
     }
 
     /// What a run that ended early was.
-    pub fn of_run(fault: RunFault) -> Failure {
+    pub fn of_run(fault: RunFault) -> Failure
+        ensures failure { result ≡ failure_of fault }
+        ensures status { status_of result ≡ run_status fault }
+    {
         match fault {
             RunFault::Script(line) => Failure::Script(line),
             RunFault::Image(number) => Failure::Image(number),

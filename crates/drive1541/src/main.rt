@@ -6,9 +6,8 @@ mod failure;
 mod program;
 mod save;
 
-use std::io;
 use std::process::ExitCode;
 
-fn main(rt: HostRuntime) -> io::Result<ExitCode> {
+fn main(rt: HostRuntime) -> ExitCode {
     program::run_program(&rt)
 }

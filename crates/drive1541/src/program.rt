@@ -1,6 +1,6 @@
 //! The program: what it reads, what it runs, and what it saves.
 use crate::arguments::{self, Arguments};
-use crate::failure::{Failure, Place};
+use crate::failure::{Failure, Place, exit_status};
 use crate::save::save;
 use cbm_program::{Options, run};
 use std::io::{BufWriter, Write};
@@ -8,26 +8,24 @@ use std::process::ExitCode;
 use std::rt::Runtime;
 use std::{env, fs, io};
 
-/// Carries out the command line, and answers the exit status.
-pub fn run_program(rt: &HostRuntime) -> io::Result<ExitCode> {
+/// Carries out the command line, and answers the exit status, also where its line can't be written.
+pub fn run_program(rt: &HostRuntime) -> ExitCode {
     let Ok(words) = words_of(rt) else {
-        eprintln!(rt; "error: a word of the command line is no text")?;
-        return Ok(ExitCode::from(1));
+        let _ = eprintln!(rt; "error: a word of the command line is no text");
+        return ExitCode::from(1);
     };
     let arguments = match arguments::parse(rt.alloc(), words.as_slice()) {
         Ok(arguments) => arguments,
         Err(error) => {
-            error.print(rt)?;
-            return Ok(ExitCode::from(1));
+            let _ = error.print(rt);
+            return ExitCode::from(1);
         }
     };
-    match carry_out(rt, &arguments) {
-        Ok(()) => Ok(ExitCode::SUCCESS),
-        Err(failure) => {
-            failure.tell(rt, &arguments)?;
-            Ok(ExitCode::from(failure.status()))
-        }
+    let ended = carry_out(rt, &arguments);
+    if let Err(failure) = &ended {
+        let _ = failure.tell(rt, &arguments);
     }
+    ExitCode::from(exit_status(&ended))
 }
 
 fn words_of(rt: &HostRuntime) -> io::Result<Vec<String>> {
