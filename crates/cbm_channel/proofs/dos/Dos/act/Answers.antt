@@ -1,4 +1,6 @@
-use Rattle.std.proofs.Common.{sym, ap, subst, ◌∙◌}
+use Rattle.std.proofs.Common.{sym, ap, subst, ◌∙◌, inr}
+use Rattle.std.specs.Prelude.{slice_index_or}
+use Rattle.cbm_channel.specs.declared.channel.Channel.TheVariants.{Closed}
 use Rattle.std.proofs.lemmas.List.{length-set}
 use Rattle.std.proofs.lemmas.List.Elements.{All-set}
 use Rattle.cbm_channel.specs.declared.code.Code.TheVariants.{Fine}
@@ -25,3 +27,10 @@ invariant_of-self g c = record {
   count = length-set c.self.inside.channels c.args.channel c.in-Ok.opened ∙ c.self.invariant.count;
   each = All-set (Fits (g.M.Medium.tracks c.self.inside.volume)) c.self.inside.channels c.args.channel c.in-Ok.opened (subst (λ k. Fits (g.M.Medium.tracks k.medium) c.in-Ok.opened) (sym c.self.view_is) c.in-Ok.ensures.fits) c.self.invariant.each;
 }
+
+-- what the disk refuses leaves all channels as they were
+pub returns-in-Err-clause-others : goal.returns-in-Err-clause-others
+returns-in-Err-clause-others g c = λ k ne. ap (λ xs. slice_index_or xs k Closed) c.set.ensures.channels
+
+pub returns-in-Err-clause-refused : goal.returns-in-Err-clause-refused
+returns-in-Err-clause-refused g c = inr c.set.ensures.channels
