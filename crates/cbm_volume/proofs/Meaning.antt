@@ -1,7 +1,6 @@
 -- Each sound content means a disk.
-use Rattle.std.proofs.Common.{◌≡◌, ℕ, zero, suc, ◌+◌, ◌-◌, ◌*◌, ◌<◌, List, [], ◌∷◌, ◌++◌, length, get_or, refl, sym, ap, ◌∙◌, arith, Option, None}
+use Rattle.std.proofs.Common.{◌≡◌, ℕ, zero, suc, ◌+◌, ◌<◌, List, [], ◌∷◌, length, get_or, refl, ap, ◌∙◌, arith, Option, None}
 use Rattle.std.specs.Prelude.{slice_range}
-use Rattle.cbm_medium.specs.Place.{Place}
 use Rattle.cbm_medium.specs.Content.{Content}
 use Rattle.cbm_file.specs.Files.{Disk, File, blocks_on}
 use Rattle.cbm_bam.specs.Map.{map_of, is_free_in, free_in, tally}

@@ -1,7 +1,7 @@
 -- The places that a side sector names, one by one.
 use Rattle.std.proofs.Common.{◌≡◌, ◌≢◌, ℕ, suc, ◌+◌, ◌-◌, ◌*◌, ◌<◌, ◌≤◌, List, [], ◌∷◌, get_or, drop, Bool, true, false, Option, Some, None, Err, refl, sym, ap, subst, ◌∙◌, arith, inl, inr}
 use Rattle.std.specs.Prelude.{if◌then◌else◌, ◌&&◌, ◌==◌}
-use Rattle.std.proofs.lemmas.List.{get_or-drop, drop-drop}
+use Rattle.std.proofs.lemmas.List.{drop-drop}
 use Rattle.std.proofs.lemmas.Bool.{eq-eqb, ne_eqb}
 use Rattle.cbm_medium.specs.Place.{Place, has}
 use Rattle.cbm_medium.specs.Content.{Content}
@@ -11,14 +11,7 @@ use Rattle.cbm_bam.specs.Map.{with_bit}
 use Rattle.cbm_volume.specs.Unsound.{wrong_at, fault_at, ClaimsEach, MeetsAmong, step_along, along, listed_at, listed_blocks, side_along, side_at, sides_along}
 use Rattle.cbm_volume.specs.declared.unsound.Part.{Part}
 use Rattle.cbm_volume.specs.declared.unsound.Unsound.{Unsound}
-
-at_drop : (k i : ℕ) (bytes : List ℕ) → get_or (drop k bytes) i 0 ≡ get_or bytes (k + i) 0
-at_drop k i bytes = get_or-drop k bytes i 0
-
-pub named_none : (m k : ℕ) (bytes : List ℕ) → get_or bytes k 0 ≡ 0 → named_in (suc m) (drop k bytes) ≡ []
-named_none m k bytes e =
-    let z : get_or (drop k bytes) 0 0 ≡ 0 = at_drop k 0 bytes ∙ ap (λ (i : ℕ). get_or bytes i 0) (omega arith) ∙ e in
-    ap (λ (b : Bool). if b then [] else place_in (drop k bytes) 0 ∷ named_in m (drop 2 (drop k bytes))) (eq-eqb (get_or (drop k bytes) 0 0) 0 z)
+use Rattle.cbm_relfile.proofs.Listed.{at_drop, list_none}
 
 pub named_some : (m k : ℕ) (bytes : List ℕ) (p : Place) → p ≡ record { track = get_or bytes k 0; sector = get_or bytes (k + 1) 0 } → p.track ≢ 0
     → named_in (suc m) (drop k bytes) ≡ p ∷ named_in m (drop (k + 2) bytes)
@@ -29,12 +22,6 @@ named_some m k bytes p is ne =
     let rest : drop 2 (drop k bytes) ≡ drop (k + 2) bytes = drop-drop 2 k bytes in
     ap (λ (b : Bool). if b then [] else place_in (drop k bytes) 0 ∷ named_in m (drop 2 (drop k bytes))) (ne_eqb (get_or (drop k bytes) 0 0) 0 (λ z. ne (sym t ∙ z)))
     ∙ (λ i. here i ∷ named_in m (rest i))
-
--- the same by the number of the place, in a list of so many from a byte on
-pub list_none : (count base n : ℕ) (bytes : List ℕ) → n < count → get_or bytes (base + 2 * n) 0 ≡ 0 → named_in (count - n) (drop (base + 2 * n) bytes) ≡ []
-list_none count base n bytes l e =
-    let more : count - n ≡ suc (count - (n + 1)) = omega arith in
-    ap (λ (m : ℕ). named_in m (drop (base + 2 * n) bytes)) more ∙ named_none (count - (n + 1)) (base + 2 * n) bytes e
 
 pub list_some : (count base n : ℕ) (bytes : List ℕ) (p : Place) → n < count → p ≡ record { track = get_or bytes (base + 2 * n) 0; sector = get_or bytes (base + 2 * n + 1) 0 } → p.track ≢ 0
     → named_in (count - n) (drop (base + 2 * n) bytes) ≡ p ∷ named_in (count - (n + 1)) (drop (base + 2 * (n + 1)) bytes)

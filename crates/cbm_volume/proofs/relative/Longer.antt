@@ -1,7 +1,7 @@
 -- A relative file grows by one block: its last block now links to one that was claimed and written. Its side sectors stay.
-use Rattle.std.proofs.Common.{◌≡◌, ◌≢◌, ℕ, ◌<◌, List, [], ◌∷◌, ◌++◌, length, Bool, true, false, Ok, IsOk, refl, sym, ap, subst, ◌∙◌, arith, inl}
+use Rattle.std.proofs.Common.{◌≡◌, ◌≢◌, ℕ, ◌<◌, List, [], ◌∷◌, ◌++◌, Bool, true, false, Ok, IsOk, refl, sym, ap, subst, ◌∙◌, arith, inl}
 use Rattle.std.proofs.lemmas.List.{append_assoc, length-append}
-use Rattle.cbm_medium.specs.Place.{Place, directory_head}
+use Rattle.cbm_medium.specs.Place.{Place}
 use Rattle.cbm_medium.specs.Content.{Cell, Content, written}
 use Rattle.cbm_medium.specs.Links.{or_nothing, link, Chain}
 use Rattle.cbm_file.specs.Files.{Disk, with_slot}
@@ -12,11 +12,12 @@ use Rattle.cbm_volume.specs.Blocks.{Blocks, Lies, LiesAs, HasRecords, slot_of}
 use Rattle.cbm_volume.specs.Layouts.{Owner, Nobody, DataOf, SideOf, is_loose, OwnedBy, Layout, slot_count, Stands, own}
 use Rattle.cbm_chain.specs.Writing.{last_of}
 use Rattle.cbm_medium.proofs.Places.{written_there, written_elsewhere}
-use Rattle.cbm_volume.proofs.Frames.{Keeps, owned_nth, owned_same, write_keeps, records_kept}
-use Rattle.cbm_volume.proofs.Grows.{chain_push, owned_push, last_nth}
+use Rattle.cbm_volume.proofs.Frames.{Keeps, owned_same, write_keeps, records_kept}
+use Rattle.cbm_volume.proofs.Grows.{chain_push, owned_push}
 use Rattle.cbm_volume.proofs.OneSlot.{with_file}
 use Rattle.cbm_volume.proofs.Steps.{IsTaken, own_there, own_elsewhere, extends_own}
 use Rattle.cbm_volume.proofs.relative.Inside.{stands_inside}
+use Rattle.cbm_volume.proofs.Finishes.{last_owned}
 
 -- what lies there as a closed relative file
 pub record LiesRelative (tracks : ℕ) (c : Content) (e : List ℕ) (b : Blocks) : Type 0 where
@@ -58,9 +59,6 @@ pub record CanLengthen (tracks : ℕ) (c c' : Content) (l : Layout) (n : ℕ) (b
   pub linked : link new ≡ q
   pub written : c' ≡ written c (last_of b rest) new
 
-pub owned_last : (owner : Place → Owner) (o : Owner) (b : Place) (rest : List Place) → OwnedBy owner o (b ∷ rest) → owner (last_of b rest) ≡ o
-owned_last owner o b rest w = ap owner (last_nth b rest directory_head) ∙ owned_nth owner o (b ∷ rest) (length rest) directory_head w (omega arith)
-
 longer_lies : (tracks : ℕ) (c c' : Content) (l : Layout) (d : Disk) (n : ℕ) (b : Place) (rest : List Place) (q : Place) (new tail : List ℕ) → Stands tracks c l d → n < slot_count l → CanLengthen tracks c c' l n b rest q new tail
     → Lies tracks c' (entry_at c l.directory n) (longer (l.files n) q)
 longer_lies tracks c c' l d n b rest q new tail s k g =
@@ -68,7 +66,7 @@ longer_lies tracks c c' l d n b rest q new tail s k g =
     let p : Place = last_of b rest in
     let was : LiesRelative tracks c e (l.files n) = lies_open (is_closed e) (is_relative e) tracks c e (l.files n) g.closed g.relative (s.sound.lies n k) in
     let own_b : OwnedBy l.owner (DataOf n) (b ∷ rest) = subst (λ (xs : List Place). OwnedBy l.owner (DataOf n) xs) g.blocks (s.sound.owned.blocks n k) in
-    let own_p : l.owner p ≡ DataOf n = owned_last l.owner (DataOf n) b rest own_b in
+    let own_p : l.owner p ≡ DataOf n = last_owned l.owner (DataOf n) b rest own_b in
     let apart : p ≢ q = λ z. (let y = sym own_p ∙ ap l.owner z ∙ g.taken.nobody in (cc)) in
     let there : c' p ≡ Ok new = ap (λ (x : Content). x p) g.written ∙ written_there c p new in
     let at_q : c' q ≡ Ok tail = ap (λ (x : Content). x q) g.written ∙ written_elsewhere c p q new apart ∙ g.holds in
@@ -90,7 +88,7 @@ stands_longer tracks c c' l d n b rest q new tail s k g =
     let owner : Place → Owner = own l.owner q (DataOf n) in
     let own_b : OwnedBy l.owner (DataOf n) (b ∷ rest) = subst (λ (xs : List Place). OwnedBy l.owner (DataOf n) xs) g.blocks (s.sound.owned.blocks n k) in
     let other : (o : Owner) → Nobody ≢ o → (x : Place) → l.owner x ≡ o → owner x ≡ o = λ o ne x h. own_elsewhere l.owner q x (DataOf n) (λ z. ne (sym g.taken.nobody ∙ ap l.owner z ∙ h)) ∙ h in
-    stands_inside tracks c c' l d n (last_of b rest) new (longer (l.files n) q) owner s k (inl (owned_last l.owner (DataOf n) b rest own_b)) g.written
+    stands_inside tracks c c' l d n (last_of b rest) new (longer (l.files n) q) owner s k (inl (last_owned l.owner (DataOf n) b rest own_b)) g.written
     (longer_lies tracks c c' l d n b rest q new tail s k g)
     (extends_own l q n s.sound.owned (ap is_loose g.taken.nobody) g.taken.off_18)
     (owned_push owner (DataOf n) (l.files n).data_blocks q (owned_same l.owner owner (DataOf n) (l.files n).data_blocks (other (DataOf n) (λ z. (cc))) (s.sound.owned.blocks n k)) (own_there l.owner q (DataOf n)))

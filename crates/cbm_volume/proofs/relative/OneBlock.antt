@@ -16,8 +16,9 @@ use Rattle.cbm_volume.proofs.Loose.{entry_kept}
 use Rattle.cbm_volume.proofs.OneSlot.{with_file, blocks_here}
 use Rattle.cbm_volume.proofs.Steps.{IsTaken, one_less, stands_claim, stands_loose}
 use Rattle.cbm_volume.proofs.Writers.{written_keeps}
-use Rattle.cbm_volume.proofs.relative.Longer.{longer, stands_longer, owned_last}
+use Rattle.cbm_volume.proofs.relative.Longer.{longer, stands_longer}
 use Rattle.cbm_volume.proofs.relative.Sides.{IsListed, listed_by, Pushed, stands_pushed}
+use Rattle.cbm_volume.proofs.Finishes.{last_owned}
 
 -- side sectors that stay list what they listed
 listed_kept : (c c' : Content) (owner : Place → Owner) (o : Owner) → Keeps c c' owner o → (ss xs : List Place) → OwnedBy owner o ss → IsListed c ss xs → IsListed c' ss xs
@@ -64,7 +65,7 @@ one_more tracks c0 c1 c2 c3 c4 l d n b rest q t tail new side s k g =
     let map2 : map_of c2 ≡ map_of c1 = sector_kept c1 c2 l.owner TheMap (written_keeps c1 c2 q tail l.owner TheMap g.new_block (apart_q TheMap refl)) directory_head s.sound.owned.map in
     let taken2 : IsTaken tracks c2 l q = record { has = claim.taken.has; off_18 = claim.taken.off_18; nobody = claim.taken.nobody; taken = ap (λ (m : List ℕ). is_free_in m q) map2 ∙ claim.taken.taken } in
     let own_b : OwnedBy l.owner (DataOf n) (b ∷ rest) = subst (λ (xs : List Place). OwnedBy l.owner (DataOf n) xs) g.blocks (s.sound.owned.blocks n k) in
-    let own_p : l.owner (last_of b rest) ≡ DataOf n = owned_last l.owner (DataOf n) b rest own_b in
+    let own_p : l.owner (last_of b rest) ≡ DataOf n = last_owned l.owner (DataOf n) b rest own_b in
     let s3 = stands_longer tracks c2 c3 l (one_less d) n b rest q new tail s2 k (record {
       closed = ap is_closed same ∙ g.closed;
       relative = ap is_relative same ∙ g.relative;
