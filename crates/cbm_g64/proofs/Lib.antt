@@ -6,3 +6,4 @@ pub mod Imaging
 pub mod Held
 pub mod Kept
 pub mod Wholes
+pub mod Filled

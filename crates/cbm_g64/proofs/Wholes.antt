@@ -1,5 +1,5 @@
 -- Each sector of the circles that reads has 256 bytes.
-use Rattle.std.proofs.Common.{◌≡◌, ℕ, List, Bool, true, false, Ok}
+use Rattle.std.proofs.Common.{ℕ, List, Bool, true, false, Ok}
 use Rattle.std.specs.Prelude.{if◌then◌else◌, replicate}
 use Rattle.std.proofs.lemmas.List.{length-replicate}
 use Rattle.cbm_medium.specs.Place.{Place, has}

@@ -1,5 +1,5 @@
 -- The faults of the circles' sectors are those that reading meets.
-use Rattle.std.specs.Prelude.{ℕ, List, Bool, true, false, if◌then◌else◌, Ok, replicate}
+use Rattle.std.specs.Prelude.{List, Bool, true, false, if◌then◌else◌, Ok, replicate}
 use Rattle.cbm_medium.specs.Place.{Place, has}
 use Rattle.cbm_medium.specs.Content.{HasFaultCode}
 use Rattle.cbm_sector.specs.Answer.{shown}

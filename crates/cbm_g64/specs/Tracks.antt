@@ -1,8 +1,9 @@
-use Rattle.std.specs.Prelude.{ℕ, ◌≡◌, ◌≢◌, ◌<◌, ◌≤◌, ◌+◌, ◌-◌, List, [], ◌∷◌, Bool, length, if◌then◌else◌, Ok, Err, replicate, slice_index_or, unwrap_or}
-use Rattle.cbm_medium.specs.Place.{Place, Has, has}
+use Rattle.std.specs.Prelude.{ℕ, ◌≡◌, ◌≢◌, ◌<◌, ◌≤◌, ◌+◌, ◌*◌, ◌-◌, ◌⊎◌, List, [], ◌∷◌, Bool, false, length, if◌then◌else◌, Ok, Err, replicate, slice_index_or, unwrap_or}
+use Rattle.cbm_medium.specs.Place.{Place, Has, has, sectors_on}
 use Rattle.cbm_medium.specs.Content.{Cell, Content}
+use Rattle.cbm_track.specs.Circle.{bit}
 use Rattle.cbm_sector.specs.Answer.{shown, id_shown, block_of, block_code, IsOverwritten}
-use Rattle.cbm_sector.specs.Fresh.{block_place, fresh}
+use Rattle.cbm_sector.specs.Fresh.{block_place, bytes_on, fresh}
 use Rattle.cbm_g64.specs.File.{offset}
 use Rattle.cbm_g64.specs.NewFile.{base_of}
 
@@ -56,6 +57,17 @@ AreFresh id tracks = (i : ℕ) → i < 35 → slice_index_or tracks i [] ≡ fre
 -- each sector's data block stands where formatting puts it
 pub record AreLaid (tracks : List (List Bool)) : Type 0 where
   pub blocks : (p : Place) → Has 35 p → block_of (bits_at tracks p.track) (id_for tracks) p ≡ Ok (block_place p.sector)
+
+-- a place of track t that is in none of the data blocks that formatting puts there
+abbrev pub IsBetween : ℕ → ℕ → Type 0
+IsBetween t k = (s : ℕ) → s < sectors_on t → (k < block_place s) ⊎ (block_place s + 2600 ≤ k)
+
+-- Tracks that were formatted and then written: lengths, marks, headers and gaps are as formatting writes them, and each sector's data block is the code of what the sector shows.
+pub record AreFilled (id : List ℕ) (tracks : List (List Bool)) : Type 0 where
+  pub lengths : (i : ℕ) → i < 35 → length (slice_index_or tracks i []) ≡ 8 * bytes_on (i + 1)
+  pub between : (i k : ℕ) → i < 35 → k < 8 * bytes_on (i + 1) → IsBetween (i + 1) k → bit (slice_index_or tracks i []) k ≡ bit (fresh (i + 1) id) k
+  pub blocks : (p : Place) → Has 35 p → (bytes : List ℕ) → content_of tracks p ≡ Ok bytes
+      → (k : ℕ) → k < 2600 → bit (bits_at tracks p.track) (block_place p.sector + k) ≡ slice_index_or (block_code bytes) k false
 
 -- a cell, or zeros where it holds a fault
 abbrev pub or_zeros : Cell → Cell

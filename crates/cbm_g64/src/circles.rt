@@ -1,6 +1,6 @@
 ghost use Rattle.std.specs.Prelude.{◌≡◌, ℕ, ◌<◌, ◌≤◌, ◌-◌, List, true, Ok, Err, Some, length, IfOk, IfErr, OnOk, OnErr, IfSome};
 ghost use Rattle.cbm_medium.specs.Content.{blank, written, header_fault};
-ghost use Rattle.cbm_g64.specs.Tracks.{AreFresh, AreLaid, content_of, id_for, IsChanged, IsPut};
+ghost use Rattle.cbm_g64.specs.Tracks.{AreFilled, AreFresh, AreLaid, content_of, id_for, IsChanged, IsPut};
 ghost use Rattle.cbm_g64.specs.File.{is_inside, is_sized, track_in, tracks_in, greatest, IsGood};
 ghost use Rattle.cbm_track.specs.Circle.{bits_of};
 
@@ -92,10 +92,12 @@ pub(crate) fn fill_on(tracks: &mut [Track], at: Address, id: &[u8; 2], bytes: &[
     requires count { length tracks.old ≡ 35 }
     requires track { at.track ≤ 35 }
     requires laid { AreLaid tracks.old }
+    requires filled { AreFilled id.now tracks.old }
     requires id { id_for tracks.old ≡ id.now }
     ensures content { content_of tracks.new ≡ written (content_of tracks.old) at bytes.now }
     ensures changed { IsChanged tracks.old tracks.new (at.track - 1) }
     ensures laid { AreLaid tracks.new }
+    ensures filled { AreFilled id.now tracks.new }
 {
     let track = &mut tracks[at.track() as usize - 1];
     fill_sector(track, at, id, bytes);

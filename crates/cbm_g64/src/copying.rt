@@ -2,7 +2,7 @@ ghost use Rattle.std.specs.Prelude.{◌≡◌, ◌≢◌, ℕ, ◌<◌, ◌≤�
 ghost use Rattle.cbm_medium.specs.Place.{Has, Place, sectors_on};
 ghost use Rattle.cbm_g64.specs.File.{fault_of, tracks_in};
 ghost use Rattle.cbm_g64.specs.NewFile.{new_file};
-ghost use Rattle.cbm_g64.specs.Tracks.{content_of, id_for, or_zeros, AreFresh, AreLaid};
+ghost use Rattle.cbm_g64.specs.Tracks.{content_of, id_for, or_zeros, AreFilled, AreFresh, AreLaid};
 ghost use Rattle.cbm_g64.specs.Image.{IsHeld, IsImageOf};
 
 use crate::circles::fill_on;
@@ -21,6 +21,7 @@ fn fresh_tracks(alloc: Global, id: &[u8; 2]) -> Result<Vec<Track>, AllocError>
     ensures blank { IfOk result (λ v. (p : Place) → content_of v.items p ≡ Ok (replicate 256 0)) }
     ensures id { IfOk result (λ v. id_for v.items ≡ id.now) }
     ensures laid { IfOk result (λ v. AreLaid v.items) }
+    ensures filled { IfOk result (λ v. AreFilled id.now v.items) }
 {
     let mut tracks = Vec::with_capacity(alloc, 35)?;
     for track in 1..36u8 {
@@ -34,6 +35,7 @@ fn copy_sector<M: Medium>(medium: &M, tracks: &mut [Track], at: Address, id: &[u
     requires tracks { M.tracks medium.now ≡ 35 }
     requires held { IsHeld new_file tracks.old }
     requires laid { AreLaid tracks.old }
+    requires filled { AreFilled id.now tracks.old }
     requires id { id_for tracks.old ≡ id.now }
     requires track { at.track ≤ 35 }
     requires blank { content_of tracks.old at ≡ Ok (replicate 256 0) }
@@ -42,6 +44,7 @@ fn copy_sector<M: Medium>(medium: &M, tracks: &mut [Track], at: Address, id: &[u
     ensures held { IsHeld new_file tracks.new }
     ensures id { id_for tracks.new ≡ id_for tracks.old }
     ensures laid { AreLaid tracks.new }
+    ensures filled { AreFilled id.now tracks.new }
 {
     match medium.read(at) {
         Ok(bytes) => fill_on(tracks, at, id, &bytes),
@@ -54,6 +57,7 @@ fn copy_track<M: Medium>(medium: &M, tracks: &mut [Track], track: u8, id: &[u8; 
     requires tracks { M.tracks medium.now ≡ 35 }
     requires held { IsHeld new_file tracks.old }
     requires laid { AreLaid tracks.old }
+    requires filled { AreFilled id.now tracks.old }
     requires id { id_for tracks.old ≡ id.now }
     requires track { track ≤ 35 }
     requires blank { (p : Place) → p.track ≡ track → content_of tracks.old p ≡ Ok (replicate 256 0) }
@@ -62,6 +66,7 @@ fn copy_track<M: Medium>(medium: &M, tracks: &mut [Track], track: u8, id: &[u8; 
     ensures held { IsHeld new_file tracks.new }
     ensures id { id_for tracks.new ≡ id_for tracks.old }
     ensures laid { AreLaid tracks.new }
+    ensures filled { AreFilled id.now tracks.new }
 {
     for sector in 0..sectors_of(track) {
         match Address::new(track, sector) {
@@ -76,12 +81,14 @@ fn copy_tracks<M: Medium>(medium: &M, tracks: &mut [Track], id: &[u8; 2])
     requires tracks { M.tracks medium.now ≡ 35 }
     requires held { IsHeld new_file tracks.old }
     requires laid { AreLaid tracks.old }
+    requires filled { AreFilled id.now tracks.old }
     requires id { id_for tracks.old ≡ id.now }
     requires blank { (p : Place) → content_of tracks.old p ≡ Ok (replicate 256 0) }
     ensures shown { (p : Place) → Has 35 p → content_of tracks.new p ≡ or_zeros (M.content medium.now p) }
     ensures held { IsHeld new_file tracks.new }
     ensures id { id_for tracks.new ≡ id_for tracks.old }
     ensures laid { AreLaid tracks.new }
+    ensures filled { AreFilled id.now tracks.new }
 {
     for track in 1..36 {
         copy_track(medium, tracks, track, id);
@@ -99,6 +106,7 @@ pub(crate) fn image_of<M: Medium>(
     ensures right { IfOk result (λ v. fault_of v.items ≡ None) }
     ensures form { IfOk result (λ v. IsImageOf new_file (tracks_in v.items 35) v.items) }
     ensures laid { IfOk result (λ v. AreLaid (tracks_in v.items 35)) }
+    ensures filled { IfOk result (λ v. AreFilled id (tracks_in v.items 35)) }
     ensures shown { IfOk result (λ v. (p : Place) → Has 35 p →
         content_of (tracks_in v.items 35) p ≡ or_zeros (M.content medium.now p)) }
     ensures id { IfOk result (λ v. id_for (tracks_in v.items 35) ≡ id) }

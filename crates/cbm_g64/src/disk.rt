@@ -3,7 +3,7 @@ ghost use Rattle.cbm_medium.specs.Place.{Has, Place, directory_head};
 ghost use Rattle.cbm_medium.specs.Content.{blank, format_refusal, refusal, written};
 ghost use Rattle.cbm_g64.specs.File.{fault_of, tracks_in};
 ghost use Rattle.cbm_g64.specs.NewFile.{base_of, new_file};
-ghost use Rattle.cbm_g64.specs.Tracks.{bits_at, content_of, failures_of, id_for, or_zeros, AreFresh, AreLaid, HasTrack, IsChanged, IsPut, tracks_on};
+ghost use Rattle.cbm_g64.specs.Tracks.{bits_at, content_of, failures_of, id_for, or_zeros, AreFilled, AreFresh, AreLaid, HasTrack, IsChanged, IsPut, tracks_on};
 ghost use Rattle.cbm_g64.specs.Image.{IsImageOf};
 
 use crate::checks::fault_of;
@@ -103,8 +103,9 @@ impl G64Disk {
         ensures right { IfOk result (λ v. fault_of v.items ≡ None) }
         // All but the tracks' bytes is that of a new file: entries, speeds, lengths and padding.
         ensures form { IfOk result (λ v. IsImageOf new_file (tracks_in v.items 35) v.items) }
-        // Each data block stands where formatting puts it.
+        // Each data block stands where formatting puts it, between marks, headers and gaps as formatting writes them.
         ensures laid { IfOk result (λ v. AreLaid (tracks_in v.items 35)) }
+        ensures filled { IfOk result (λ v. AreFilled id (tracks_in v.items 35)) }
         ensures shown { IfOk result (λ v. (p : Place) → Has 35 p →
             content_of (tracks_in v.items 35) p ≡ or_zeros (M.content medium.now p)) }
         ensures id { IfOk result (λ v. id_for (tracks_in v.items 35) ≡ id) }

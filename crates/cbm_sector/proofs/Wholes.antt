@@ -1,9 +1,9 @@
 -- A sector that reads has 256 bytes.
-use Rattle.std.proofs.Common.{◌≡◌, ℕ, ◌+◌, ◌<◌, ◌≤◌, List, length, take, drop, Bool, true, false, Option, Some, None, Result, Ok, Err, refl, arith}
+use Rattle.std.proofs.Common.{◌≡◌, ℕ, List, length, take, drop, Bool, true, false, Option, Some, None, Result, Ok, Err, refl, arith}
 use Rattle.std.specs.Prelude.{if◌then◌else◌, ◌==◌, slice_index}
 use Rattle.std.proofs.lemmas.List.{length-take-le, length-drop}
 use Rattle.cbm_medium.specs.Place.{Place}
-use Rattle.cbm_medium.specs.Content.{Cell, IsWhole}
+use Rattle.cbm_medium.specs.Content.{IsWhole}
 use Rattle.cbm_sector.specs.Decoding.{coded_at}
 use Rattle.cbm_sector.specs.Answer.{xor_of, checked, data_of, data_at, data_behind, block_of, shown}
 use Rattle.cbm_sector.proofs.Stands.{coded_is}

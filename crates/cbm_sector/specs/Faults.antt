@@ -1,7 +1,7 @@
 -- The faults that a track's bits show are those that reading meets.
-use Rattle.std.specs.Prelude.{ℕ, ◌≡◌, ◌+◌, ◌==◌, ◌||◌, List, Bool, true, false, if◌then◌else◌, refl, Option, Some, None, Result, Ok, Err, is_some, take, drop, length, slice_index}
+use Rattle.std.specs.Prelude.{ℕ, ◌≡◌, ◌+◌, ◌==◌, ◌||◌, List, Bool, true, false, if◌then◌else◌, refl, Option, Some, None, Result, Ok, Err, is_some, take, drop, slice_index}
 use Rattle.cbm_medium.specs.Place.{Place}
-use Rattle.cbm_medium.specs.Content.{Cell, HasFaultCode, is_fault_code}
+use Rattle.cbm_medium.specs.Content.{HasFaultCode, is_fault_code}
 use Rattle.cbm_track.specs.Circle.{next_block}
 use Rattle.cbm_sector.specs.Decoding.{coded_at}
 use Rattle.cbm_sector.specs.Answer.{xor_of, passes, is_header, is_crowded, is_right, has_id, header_of, block_at, behind, behind_header, block_of, checked, data_of, data_at, data_behind, shown}

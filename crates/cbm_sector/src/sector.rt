@@ -114,6 +114,7 @@ pub fn fill_sector(track: &mut Track, at: Address, id: &[u8; 2], bytes: &[u8; 25
     ensures ok { shown track.new id.now at ≡ Ok bytes.now }
     ensures others { (id2 : List ℕ) (other : Place) → at ≢ other → shown track.new id2 other ≡ shown track.old id2 other }
     ensures blocks { (id2 : List ℕ) (other : Place) → block_of track.new id2 other ≡ block_of track.old id2 other }
+    ensures bits { (d : ℕ) → block_of track.old id.now at ≡ Ok d → IsOverwritten track.old track.new d (code (data_block bytes.now)) }
     ensures id { id_shown track.new ≡ id_shown track.old }
     ensures length { length track.new ≡ length track.old }
     ensures long { 2610 ≤ length track.old }

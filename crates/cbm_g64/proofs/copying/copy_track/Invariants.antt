@@ -1,7 +1,7 @@
 use Rattle.std.proofs.Common.{◌≡◌, ◌≢◌, ◌<◌, ◌≤◌, Ok, replicate}
 use Rattle.cbm_medium.specs.Place.{Place}
 use Rattle.cbm_g64.specs.NewFile.{new_file}
-use Rattle.cbm_g64.specs.Tracks.{content_of, id_for, or_zeros, AreLaid}
+use Rattle.cbm_g64.specs.Tracks.{content_of, id_for, or_zeros, AreFilled, AreLaid}
 use Rattle.cbm_g64.specs.Image.{IsHeld}
 use Rattle.cbm_g64.proofs.copying.copy_track.Given as goal
 
@@ -12,5 +12,6 @@ invariant-loop-sector g l = record {
   others : (p : Place) → p.track ≢ l.fn.track → content_of l.tracks p ≡ content_of l.fn.tracks p;
   held : IsHeld new_file l.tracks;
   laid : AreLaid l.tracks;
+  filled : AreFilled l.id l.tracks;
   id : id_for l.tracks ≡ id_for l.fn.tracks;
 }

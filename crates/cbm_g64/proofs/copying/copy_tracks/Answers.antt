@@ -12,5 +12,6 @@ loop-track-preserved g c = record {
   later = λ p l. c.copy_track.ensures.others p (λ e. omega arith) ∙ c.loop-track.invariant.later p (omega arith);
   held = search rules;
   laid = search rules;
+  filled = search rules;
   id = search rules;
 }

@@ -1,7 +1,7 @@
 use Rattle.std.proofs.Common.{◌≡◌, ◌<◌, ◌≤◌, Ok, replicate}
 use Rattle.cbm_medium.specs.Place.{Place, Has}
 use Rattle.cbm_g64.specs.NewFile.{new_file}
-use Rattle.cbm_g64.specs.Tracks.{content_of, id_for, or_zeros, AreLaid}
+use Rattle.cbm_g64.specs.Tracks.{content_of, id_for, or_zeros, AreFilled, AreLaid}
 use Rattle.cbm_g64.specs.Image.{IsHeld}
 use Rattle.cbm_g64.proofs.copying.copy_tracks.Given as goal
 
@@ -11,5 +11,6 @@ invariant-loop-track g l = record {
   later : (p : Place) → l.track ≤ p.track → content_of l.tracks p ≡ Ok (replicate 256 0);
   held : IsHeld new_file l.tracks;
   laid : AreLaid l.tracks;
+  filled : AreFilled l.id l.tracks;
   id : id_for l.tracks ≡ id_for l.fn.tracks;
 }

@@ -1,6 +1,7 @@
 use Rattle.std.proofs.Common.{arith, ap}
 use Rattle.cbm_medium.specs.Content.{Content}
 use Rattle.cbm_g64.proofs.Held.{held_fresh, fresh_content, fresh_id_for, fresh_laid}
+use Rattle.cbm_g64.proofs.Filled.{filled_fresh}
 use Rattle.cbm_g64.proofs.copying.fresh_tracks.Goals as goal
 
 pub returns-clause-held : goal.returns-clause-held
@@ -14,3 +15,6 @@ returns-clause-id c = fresh_id_for c.args.id.now c.loop-track.tracks.items c.fit
 
 pub returns-clause-laid : goal.returns-clause-laid
 returns-clause-laid c = fresh_laid c.args.id.now c.loop-track.tracks.items c.fits-id c.told-id (λ i h. c.loop-track.invariant.fresh i (omega arith))
+
+pub returns-clause-filled : goal.returns-clause-filled
+returns-clause-filled c = filled_fresh c.args.id.now c.loop-track.tracks.items c.fits-id c.told-id (λ i h. c.loop-track.invariant.fresh i (omega arith))

@@ -3,7 +3,7 @@ use Rattle.std.proofs.lemmas.List.{take_at}
 use Rattle.cbm_g64.specs.File.{tracks_in}
 use Rattle.cbm_g64.specs.NewFile.{new_file}
 use Rattle.cbm_g64.specs.Image.{IsImageOf}
-use Rattle.cbm_g64.specs.Tracks.{content_of, AreLaid}
+use Rattle.cbm_g64.specs.Tracks.{content_of, AreFilled, AreLaid}
 use Rattle.cbm_g64.proofs.NewFiles.{length-new_file}
 use Rattle.cbm_g64.proofs.copying.image_of.Goals as goal
 
@@ -30,3 +30,10 @@ returns-clause-laid g c =
     (sym (ap (λ (v : List ℕ). tracks_in v 35) (take_at c.put_tracks.new.out _ c.in-Ok-base.out.len (omega (arith, ap length c.as_mut_slice-2.ensures.value)))
     ∙ c.put_tracks.ensures.again.1 ∙ c.as_slice.ensures.value ∙ take_at c.copy_tracks.new.tracks _ c.in-Ok.tracks.len (omega (arith, ap length c.as_mut_slice.ensures.value))))
     c.copy_tracks.ensures.laid
+
+pub returns-clause-filled : goal.returns-clause-filled
+returns-clause-filled g c =
+    subst (AreFilled c.args.id)
+    (sym (ap (λ (v : List ℕ). tracks_in v 35) (take_at c.put_tracks.new.out _ c.in-Ok-base.out.len (omega (arith, ap length c.as_mut_slice-2.ensures.value)))
+    ∙ c.put_tracks.ensures.again.1 ∙ c.as_slice.ensures.value ∙ take_at c.copy_tracks.new.tracks _ c.in-Ok.tracks.len (omega (arith, ap length c.as_mut_slice.ensures.value))))
+    c.copy_tracks.ensures.filled

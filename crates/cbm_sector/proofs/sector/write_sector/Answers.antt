@@ -1,11 +1,8 @@
-use Rattle.std.proofs.Common.{◌+◌, Ok, Err, Result, ◌≡◌, ◌∙◌, sym, ap, arith, length, refl, ◌*◌, List, Bool, ℕ, get_or, false}
+use Rattle.std.proofs.Common.{◌∙◌, sym, ap, arith, refl, List, Bool, get_or, false}
 use Rattle.cbm_gcr.specs.Code.{code}
-use Rattle.cbm_medium.specs.Place.{Place}
-use Rattle.cbm_track.specs.Circle.{bit}
-use Rattle.cbm_sector.specs.Answer.{data_block, block_of, IsOverwritten}
-use Rattle.cbm_sector.proofs.Coding.{length-code}
+use Rattle.cbm_sector.specs.Answer.{data_block}
 use Rattle.cbm_sector.proofs.Writing.{IsWritten}
-use Rattle.cbm_sector.proofs.Showing.{code_size, written, own_shown, other_shown, id_kept, fault_shown, no_fault_shown, block_fits}
+use Rattle.cbm_sector.proofs.Showing.{code_size, written, overwritten, own_shown, other_shown, id_kept, fault_shown, no_fault_shown, block_fits}
 use Rattle.cbm_sector.proofs.sector.write_sector.Goals as goal
 use Rattle.cbm_sector.proofs.sector.write_sector.Goals.{After-overwrite}
 
@@ -46,21 +43,6 @@ returns-in-Ok-clause-refused c = rw (no_fault_shown c.args.track.now c.args.id c
 
 pub returns-in-Ok-clause-long : goal.returns-in-Ok-clause-long
 returns-in-Ok-clause-long c = block_fits c.args.track.now c.args.id c.args.at c.in-Ok.place c.in-Ok.ensures.below (sym c.block_of.ensures.value ∙ c.in-Ok.is)
-
-same_ok : (r : Result ℕ ℕ) (p d : ℕ) → r ≡ Ok p → r ≡ Ok d → p ≡ d
-same_ok (Ok x) p d e f = let a : x ≡ p = cc in let b : x ≡ d = cc in sym a ∙ b
-same_ok (Err x) p d e f = cc
-
--- the bits that change are those of the block
-overwritten : (old new : List Bool) (id : List ℕ) (a : Place) (p : ℕ) (bytes : List ℕ) → IsWritten old new p (data_block bytes) → block_of old id a ≡ Ok p
-    → (d : ℕ) → block_of old id a ≡ Ok d → IsOverwritten old new d (code (data_block bytes))
-overwritten old new id a p bytes w h d e =
-    let f : p ≡ d = same_ok (block_of old id a) p d h e in
-    let l : length (code (data_block bytes)) ≡ 2600 = length-code (data_block bytes) ∙ ap (λ (n : ℕ). 10 * n) w.size in
-    record {
-      here = λ k u. ap (λ (q : ℕ). bit new (q + k)) (sym f) ∙ w.here k (omega (arith, l));
-      others = λ k u b. ap (λ (q : ℕ). bit new (q + k)) (sym f) ∙ w.others k (omega (arith, l)) b ∙ ap (λ (q : ℕ). bit old (q + k)) f;
-    }
 
 pub returns-in-Ok-clause-bits : goal.returns-in-Ok-clause-bits
 returns-in-Ok-clause-bits c = λ d e. overwritten c.args.track.now c.overwrite.new.self c.args.id c.args.at c.in-Ok.place c.args.bytes.now (done c) (sym c.block_of.ensures.value ∙ c.in-Ok.is) d e
