@@ -18,7 +18,8 @@ use Rattle.cbm_iec.specs.Among.{Rest, wires_of, behind_other, behind_host, Count
 use Rattle.cbm_iec.specs.Answers.{run}
 use Rattle.cbm_iec.specs.Following.{IsInTime, own_steps, reaction_steps}
 use Rattle.cbm_iec.specs.Playing.{IsLaterDue, Station, host_event, drive_events, acted, tell, hear, hear_all, react, shown, AllInTime, AllLater, IsFirst, reacting, Plays, stays, change, reaction}
-use Rattle.cbm_iec.specs.Ports.{side_due, port_due, told, told_act, has_byte, reacted, reaction_act, changes_between, reaction_changes}
+use Rattle.cbm_iec.specs.Hearing.{after_hold}
+use Rattle.cbm_iec.specs.Ports.{side_held, side_after, side_due, port_due, told, told_act, has_byte, reacted, reaction_act, changes_between, reaction_changes}
 use Rattle.cbm_iec.specs.Seats.{lines}
 use Rattle.cbm_iec.specs.Steps.{Mark, Step, moment_of, events_of, event_of, acts_for, Plain}
 use Rattle.cbm_iec.specs.declared.act.Act.{Act}
@@ -509,3 +510,219 @@ module _ (M : Type 0) (step : M → Act → M) (peek : M → Option (ℕ × Bool
               let some : shown M step peek t o ≡ [] → ⊥ = some_shown t s.due (peek o.machine) o.port s.starts.side s.other in
               by_stand ys k (subst (λ (v : List Event). FirstIs (device_of o) t v) same (shows_own t o (moreE ++ rest) some)) d rising n s
           go (inr s) = reacts_silent t before o behind ys fin d k s
+
+  -- A drive that the pull reached, also where the host's other changes of that moment don't come.
+  abbrev pub Reached : Station M → Type 0
+  Reached x = ((u : ℕ) × ((x.port.side ≡ Hearing (Starting u)) × (at < u))) ⊎ ((x.port.side ≡ Hearing Holding) ⊎ ((u : ℕ) × ((x.port.side ≡ Hearing (Freeing u)) × (at < u) × (x.port.own.data_low ≡ true))))
+
+  abbrev pub AllReached : List (Station M) → Type 0
+  AllReached [] = Unit {0}
+  AllReached (x ∷ xs) = Reached x × AllReached xs
+
+  reached_time : (xs : List (Station M)) → AllReached xs → AllInTime M step peek at xs
+  reached_time [] h = tt
+  reached_time (x ∷ xs) h = (one h.0, reached_time xs h.1)
+    where
+      due_at : (u : ℕ) → port_due x.port ≡ Some u → at < u → IsInTime at (port_due x.port)
+      due_at u e l = subst (λ (o : Option ℕ). IsInTime at o) (sym e) (omega (arith, l))
+
+      one : Reached x → IsInTime at (port_due x.port)
+      one (inl k) = due_at k.0 (ap (λ (v : Side). side_due v) k.1.0) k.1.1
+      one (inr (inl k)) = subst (λ (v : Side). IsInTime at (side_due v)) (sym k) tt
+      one (inr (inr k)) = due_at k.0 (ap (λ (v : Side). side_due v) k.1.0) k.1.1
+
+  freeing_shows : (t : ℕ) (own : Held) → own.data_low ≡ true → changes_between t own (lines own.clock_low false) ≡ [] → ⊥
+  freeing_shows t own h k = go own.clock_low own.data_low h k
+    where
+      go : (c d : Bool) → d ≡ true → changes_between t (lines c d) (lines c false) ≡ [] → ⊥
+      go true true h k = absurd cc
+      go false true h k = absurd cc
+      go c false h k = absurd cc
+
+  -- what it does then without showing it
+  silent_reached : (t : ℕ) (x : Station M) → Reached x → port_due x.port ≡ Some t → shown M step peek t x ≡ [] → (reaction_act (has_byte (peek x.machine)) x.port ≡ None) × Reached (react M step peek t x)
+  silent_reached t x (inl k) d e =
+      let q = x.port in
+      let p = peek x.machine in
+      let side = k.1.0 in
+      let at_t : k.0 ≡ t = (let c : Some k.0 ≡ Some t = sym (ap (λ (v : Side). side_due v) side) ∙ d in cc) in
+      let later = k.1.1 in
+      let late : at < t = omega (arith, later, at_t) in
+      let own : (reacted t p q).own ≡ lines false true = ap (λ (v : Side). side_held (has_byte p) q.own v) side in
+      let now : (reacted t p q).side ≡ Hearing (after_hold q.party.reaction t q.others.clock_low) = ap (λ (v : Side). side_after q.party.reaction t q.others p v) side in
+      (start_act k.0 (has_byte p) q side, go q.others.clock_low late (ap (λ (h : Held). h.data_low) own) now)
+    where
+      go : (low : Bool) → at < t → (react M step peek t x).port.own.data_low ≡ true → (react M step peek t x).port.side ≡ Hearing (after_hold x.port.party.reaction t low) → Reached (react M step peek t x)
+      go true l o s = inr (inl s)
+      go false l o s = inr (inr (t + x.port.party.reaction, (s, omega (arith, l), o)))
+  silent_reached t x (inr (inl k)) d e = let c : Some t ≡ None = sym d ∙ ap (λ (v : Side). side_due v) k in absurd cc
+  silent_reached t x (inr (inr k)) d e =
+      let q = x.port in
+      let changes : shown M step peek t x ≡ changes_between t q.own (lines q.own.clock_low false) = ap (λ (v : Side). changes_between t q.own (side_held (has_byte (peek x.machine)) q.own v)) k.1.0 in
+      absurd (freeing_shows t q.own k.1.2 (sym changes ∙ e))
+
+  reached_parts : (before : List (Station M)) (o : Station M) (behind : List (Station M)) → AllReached (before ++ o ∷ behind) → AllReached before × Reached o × AllReached behind
+  reached_parts [] o behind h = (tt, h.0, h.1)
+  reached_parts (b ∷ before) o behind h = let k = reached_parts before o behind h.1 in ((h.0, k.0), k.1, k.2)
+
+  reached_joined : (before : List (Station M)) (o : Station M) (behind : List (Station M)) → AllReached before → Reached o → AllReached behind → AllReached (before ++ o ∷ behind)
+  reached_joined [] o behind a b c = (b, c)
+  reached_joined (x ∷ before) o behind a b c = (a.0, reached_joined before o behind a.1 b c)
+
+  -- Where a change of the host at the pull's moment is the next one and that moment is over, nothing more shows.
+  pub no_more : {n n2 : ℕ} {ss ss2 : List (Station M)} {es : List Event} → Plays M step peek n ss es n2 ss2 → at < n → AllReached ss → (x : Event) (tail rest : List Event) → x.who ≡ Host → x.change.moment ≡ at → es ++ rest ≡ x ∷ tail
+      → (es ≡ []) × AllReached ss2 × RanOn M step peek ss [] ss2
+  no_more (stays b e k f) l g x tail rest w m i = (e, subst (λ (v : List (Station M)). AllReached v) (sym f) g, ran_stays M step peek f)
+  no_more (change c more b late i e p) l g x tail rest w m j =
+      let same : host_event c ∷ (more ++ rest) ≡ x ∷ tail = sym (ap (λ (v : List Event). v ++ rest) e) ∙ j in
+      let now : c.moment ≡ at = ap (λ (v : Event). v.change.moment) (event_head (host_event c) x (more ++ rest) tail same) ∙ m in
+      absurd (omega (arith, late, l, now))
+  no_more {ss = ss} {ss2 = ss2} {es = es} (reaction t before o behind more b u f e p) l g x tail rest w m j =
+      let g2 = reached_parts before o behind (subst (λ (v : List (Station M)). AllReached v) u g) in
+      let go : (cs : List Change) → shown M step peek t o ≡ cs → (es ≡ []) × AllReached ss2 × RanOn M step peek ss [] ss2 = by_changes g2 (λ i s. no_more p (late_now g2.1 f.due) i x tail rest w m s) in
+      go (shown M step peek t o) refl
+    where
+      late_now : Reached o → port_due o.port ≡ Some t → at < suc t
+      late_now (inl k) d = let s : Some t ≡ Some k.0 = sym d ∙ ap (λ (v : Side). side_due v) k.1.0 in let n : t ≡ k.0 = cc in let a = k.1.1 in omega (arith, n, a)
+      late_now (inr (inl k)) d = let c : Some t ≡ None = sym d ∙ ap (λ (v : Side). side_due v) k in absurd cc
+      late_now (inr (inr k)) d = let s : Some t ≡ Some k.0 = sym d ∙ ap (λ (v : Side). side_due v) k.1.0 in let n : t ≡ k.0 = cc in let a = k.1.1 in omega (arith, n, a)
+
+      by_changes : AllReached before × Reached o × AllReached behind → (AllReached (reacting M step peek t before o behind) → more ++ rest ≡ x ∷ tail → (more ≡ []) × AllReached ss2 × RanOn M step peek (reacting M step peek t before o behind) [] ss2)
+          → (cs : List Change) → shown M step peek t o ≡ cs → (es ≡ []) × AllReached ss2 × RanOn M step peek ss [] ss2
+      by_changes g next [] k =
+          let a = silent_reached t o g.1 f.due k in
+          let is = silent_reacting t before o behind k in
+          let e2 : es ≡ more = e ∙ ap (λ (v : List Change). drive_events (device_of o) v ++ more) k in
+          let z = next (subst (λ (v : List (Station M)). AllReached v) (sym is) (reached_joined before (react M step peek t o) behind g.0 a.1 g.2)) (sym (ap (λ (v : List Event). v ++ rest) e2) ∙ j) in
+          let ran : RanOn M step peek (before ++ o ∷ behind) [] (reacting M step peek t before o behind) = subst (λ (v : List (Station M)). RanOn M step peek (before ++ o ∷ behind) [] v) (sym is) (silent_ran t before o behind a.0) in
+          (e2 ∙ z.0, z.1, subst (λ (v : List (Station M)). RanOn M step peek v [] ss2) (sym u) (ran_then M step peek ran z.2))
+      by_changes g next (c ∷ cs) k =
+          let same : (record { who = Drive (device_of o); change = c }) ∷ (drive_events (device_of o) cs ++ (more ++ rest)) ≡ x ∷ tail =
+          sym (append_assoc (drive_events (device_of o) (c ∷ cs)) more rest) ∙ sym (ap (λ (v : List Event). v ++ rest) (e ∙ ap (λ (v : List Change). drive_events (device_of o) v ++ more) k)) ∙ j in
+          absurd (host_no_drive (device_of o) x.who w (ap (λ (v : Event). v.who) (sym (event_head (record { who = Drive (device_of o); change = c }) x (drive_events (device_of o) cs ++ (more ++ rest)) tail same))))
+
+  -- The host's part of the pull: a change of CLOCK or DATA at its moment.
+  abbrev pub OfHost : Step → Type 0
+  OfHost s = (s.event.who ≡ Host) × (moment_of s ≡ at) × (is_atn s.event.change.line ≡ false)
+
+  waits_told : (c : Change) (y : Step) (ys : List Step) (x : Station M) (e : Rest × Port) → y.event ≡ host_event c → c.moment ≡ at → is_atn c.line ≡ false → Waits x (y ∷ ys) e
+      → Waits (tell M step peek c x) ys e × CountsFor (device_of x) y.mark (told_act (wires_of (behind_host c.line c.way x.rest)) x.port)
+  waits_told c y ys x e h m atn w =
+      let f : FollowsAmong (says (device_of x)) x.rest x.port (record { event = event_of Host c.moment c.line c.way; mark = y.mark } ∷ ys) e.0 e.1 =
+      subst (λ (v : Event). FollowsAmong (says (device_of x)) x.rest x.port (record { event = v; mark = y.mark } ∷ ys) e.0 e.1) h w.follows in
+      let later = w.starts.later in
+      let soon : c.moment ≤ w.due = omega (arith, later, m) in
+      let g = among_told (says (device_of x)) f (subst (λ (o : Option ℕ). IsInTime c.moment o) (sym (ap (λ (v : Side). side_due v) w.starts.side)) soon) in
+      let side = starting_told c.moment w.due x.rest (behind_host c.line c.way x.rest) x.port w.seen (host_atn c.line c.way x.rest atn) w.starts.side in
+      (record { due = w.due; starts = record { side = side.0; later = w.starts.later; soon = w.starts.soon }; seen = refl; follows = g.1; end = w.end; end_low = w.end_low }, g.0)
+
+  all_told : (c : Change) (y : Step) (ys : List Step) (xs : List (Station M)) (es : List (Rest × Port)) → y.event ≡ host_event c → c.moment ≡ at → is_atn c.line ≡ false → AllOf (λ x e. Waits x (y ∷ ys) e) xs es
+      → AllOf (λ x e. Waits x ys e) (map (λ x. tell M step peek c x) xs) es × AllOf (λ x e. CountsFor (device_of x) y.mark (told_act (wires_of (behind_host c.line c.way x.rest)) x.port)) xs es
+  all_told c y ys [] [] h m atn a = (tt, tt)
+  all_told c y ys [] (e ∷ es) h m atn a = elim a [ ]
+  all_told c y ys (x ∷ xs) [] h m atn a = elim a [ ]
+  all_told c y ys (x ∷ xs) (e ∷ es) h m atn a =
+      let one = waits_told c y ys x e h m atn a.0 in
+      let more = all_told c y ys xs es h m atn a.1 in
+      ((one.0, more.0), (one.1, more.1))
+
+  -- what the machines run with a change of the host
+  counted_ran : (c : Change) (y : Step) (xs : List (Station M)) (es : List (Rest × Port)) → AllOf (λ x e. CountsFor (device_of x) y.mark (told_act (wires_of (behind_host c.line c.way x.rest)) x.port)) xs es → RanOn M step peek xs (y ∷ []) (map (λ x. tell M step peek c x) xs)
+  counted_ran c y xs es a = record { runs = λ ms done h. go ms done xs es a h }
+    where
+      go : (ms : ℕ → M) (done : List Step) (xs : List (Station M)) (es : List (Rest × Port)) → AllOf (λ x e. CountsFor (device_of x) y.mark (told_act (wires_of (behind_host c.line c.way x.rest)) x.port)) xs es → AllRan M step peek ms done xs
+          → AllRan M step peek ms (done ++ y ∷ []) (map (λ x. tell M step peek c x) xs)
+      go ms done [] es a h = tt
+      go ms done (x ∷ xs) [] a h = elim a [ ]
+      go ms done (x ∷ xs) (e ∷ es) a h =
+          (run_on M step peek x.machine (ms (device_of x)) (device_of x) done (y ∷ []) (told_act (wires_of (behind_host c.line c.way x.rest)) x.port) h.0 (λ m. mark_acted M step peek (device_of x) y.mark (told_act (wires_of (behind_host c.line c.way x.rest)) x.port) m a.0), go ms done xs es a.1 h.1)
+
+  waits_reached : (ys : List Step) (xs : List (Station M)) (es : List (Rest × Port)) → AllOf (λ x e. Waits x ys e) xs es → AllReached xs
+  waits_reached ys [] [] a = tt
+  waits_reached ys [] (e ∷ es) a = elim a [ ]
+  waits_reached ys (x ∷ xs) [] a = elim a [ ]
+  waits_reached ys (x ∷ xs) (e ∷ es) a = (inl (a.0.due, (a.0.starts.side, a.0.starts.later)), waits_reached ys xs es a.1)
+
+  -- behind the host's part
+  waits_pulled : (ds : List Step) (xs : List (Station M)) (es : List (Rest × Port)) → Every (λ s. NotHost s.event.who) ds → AllOf (λ x e. Waits x ds e) xs es → AllOf (λ x e. Pulled x ds e) xs es
+  waits_pulled ds [] [] n a = tt
+  waits_pulled ds [] (e ∷ es) n a = elim a [ ]
+  waits_pulled ds (x ∷ xs) [] n a = elim a [ ]
+  waits_pulled ds (x ∷ xs) (e ∷ es) n a = (one a.0, waits_pulled ds xs es n a.1)
+    where
+      one : Waits x ds e → Pulled x ds e
+      one w =
+          let d = device_of x in
+          let host : x.rest.host ≡ e.0.host = sym (ap (λ (v : Rest). v.host) (follows_rest (says d) w.follows) ∙ host_stays d x.rest ds n) in
+          let low : x.rest.host.clock_low ≡ true = ap (λ (v : Lines). v.clock_low) host ∙ w.end_low in
+          record {
+            seen = w.seen;
+            low = low;
+            end = w.end;
+            stand = elim (holds_data_alone x.port.own) [
+              | inl own ↦ inr (record { side = inr (w.due, w.starts); own = own; follows = settled (says d) w.due w.follows n w.seen low w.starts.side own w.end })
+              | inr other ↦ inl (record { due = w.due; starts = w.starts; other = other; follows = w.follows })
+            ];
+          }
+
+  -- one more step of the host before what came
+  pub host_first_within : {from now ss : List (Station M)} {ys : List Step} {fin : List (Rest × Port)} {es more : List Event} (y : Step) (c : Change) → y.event ≡ host_event c → es ≡ host_event c ∷ more → RanOn M step peek from (y ∷ []) now → PullWithin now ys fin more ss → PullWithin from (y ∷ ys) fin es ss
+  host_first_within y c same e ran w = record {
+    front = y ∷ w.front;
+    back = w.back;
+    parts = ap (λ (v : List Step). y ∷ v) w.parts;
+    shown_so = ap (λ (v : Event). v ∷ events_of w.front) same ∙ ap (λ (v : List Event). host_event c ∷ v) w.shown_so ∙ sym e;
+    state = w.state;
+    ran = ran_then M step peek ran w.ran;
+  }
+
+  pub host_first_passed : {from now ss2 : List (Station M)} {ys : List Step} {fin : List (Rest × Port)} {es more : List Event} {n2 : ℕ} (y : Step) (c : Change) → y.event ≡ host_event c → es ≡ host_event c ∷ more → RanOn M step peek from (y ∷ []) now → PullPassed now ys fin more n2 ss2 → PullPassed from (y ∷ ys) fin es n2 ss2
+  host_first_passed {ys = ys} y c same e ran w = record {
+    more = w.more;
+    now = w.now;
+    there = w.there;
+    shown_so = e ∙ ap (λ (v : List Event). host_event c ∷ v) w.shown_so ∙ ap (λ (v : Event). v ∷ (events_of ys ++ w.more)) (sym same);
+    plays = w.plays;
+    ends = w.ends;
+    ran = ran_then M step peek ran w.ran;
+  }
+
+  -- The host's changes of CLOCK and DATA at the pull's moment, then the answers.
+  along_host : {n n2 : ℕ} {ss ss2 : List (Station M)} {es : List Event} → Plays M step peek n ss es n2 ss2 → (hs ds : List Step) (fin : List (Rest × Port)) → AllOf (λ x e. Waits x (hs ++ ds) e) ss fin → Every OfHost hs → Every (λ s. NotHost s.event.who) ds
+      → Rising M step peek says place ss → (rest more : List Event) → es ++ rest ≡ events_of (hs ++ ds) ++ more → NextHost (at + 60) more → PullWithin ss (hs ++ ds) fin es ss2 ⊎ PullPassed ss (hs ++ ds) fin es n2 ss2
+  along_host {ss = ss} p [] ds fin g h n r rest more i next = along_drives p ds fin (waits_pulled ds ss fin n g) n r rest more i next
+  along_host {ss = ss} {ss2 = ss2} (stays b e k f) (y ∷ hs) ds fin g h n r rest more i next =
+      inl (record {
+        front = [];
+        back = y ∷ (hs ++ ds);
+        parts = refl;
+        shown_so = sym e;
+        state = inl (record { next = y; others = hs ++ ds; is = refl; who = h.0.0; moment = h.0.1; in_time = subst (λ (v : List (Station M)). AllInTime M step peek at v) (sym f) (reached_time ss (waits_reached (y ∷ (hs ++ ds)) ss fin g)) });
+        ran = ran_stays M step peek f;
+      })
+  along_host {n = k} {n2 = n2} {ss = ss} {ss2 = ss2} {es = es} (change c moreE b l i e p) (y ∷ hs) ds fin g h n r rest more j next =
+      let all : host_event c ∷ (moreE ++ rest) ≡ y.event ∷ (events_of (hs ++ ds) ++ more) = sym (ap (λ (v : List Event). v ++ rest) e) ∙ j in
+      let same : y.event ≡ host_event c = sym (event_head (host_event c) y.event (moreE ++ rest) (events_of (hs ++ ds) ++ more) all) in
+      let moment : c.moment ≡ at = ap (λ (v : Event). v.change.moment) (sym same) ∙ h.0.1 in
+      let atn : is_atn c.line ≡ false = ap (λ (v : Event). is_atn v.change.line) (sym same) ∙ h.0.2 in
+      let told = all_told c y (hs ++ ds) ss fin same moment atn g in
+      let keep = devs_tell M step peek says place c ss in
+      let ran = counted_ran c y ss fin told.1 in
+      let go = along_host {n = c.moment} p hs ds fin told.0 h.1 n (subst (λ (v : List ℕ). Rattle.cbm_iec.proofs.AlongBus.RisingIn M step peek says place v) (sym keep) r) rest more (event_tail (host_event c) y.event (moreE ++ rest) (events_of (hs ++ ds) ++ more) all) next in
+      elim go [
+        | inl w ↦ inl (host_first_within y c same e ran w)
+        | inr w ↦ inr (host_first_passed y c same e ran w)
+      ]
+  along_host {ss = ss} {ss2 = ss2} {es = es} (reaction t before o behind moreE b u f e p) (y ∷ hs) ds fin g h n r rest more j next =
+      let x = no_more_from (waits_reached (y ∷ (hs ++ ds)) ss fin g) in
+      inl (record {
+        front = [];
+        back = y ∷ (hs ++ ds);
+        parts = refl;
+        shown_so = sym x.0;
+        state = inl (record { next = y; others = hs ++ ds; is = refl; who = h.0.0; moment = h.0.1; in_time = reached_time ss2 x.1 });
+        ran = x.2;
+      })
+    where
+      no_more_from : AllReached ss → (es ≡ []) × AllReached ss2 × RanOn M step peek ss [] ss2
+      no_more_from a = no_more {n = suc at} (reaction t before o behind moreE b u f e p) (omega arith) a y.event (events_of (hs ++ ds) ++ more) rest h.0.0 h.0.1 j
