@@ -1,7 +1,7 @@
 -- ATN's pull on a bus: the host's changes, then the drives' answers, of which some show nothing.
-use Rattle.std.proofs.Common.{◌≡◌, ℕ, suc, ◌+◌, ◌≤◌, ◌<◌, ◌⊎◌, inl, inr, Bool, true, false, List, [], ◌∷◌, ◌++◌, map, append_assoc, Option, Some, None, ap, sym, ◌∙◌, subst, arith, refl, eq-eqb}
-use Rattle.std.specs.Prelude.{if◌then◌else◌, nat_eq}
-use Rattle.cbm_iec.proofs.Along.{FirstIs, first_append, first_shown, reaction_events, same_reacted, same_changes, no_steps}
+use Rattle.std.proofs.Common.{◌≡◌, ℕ, suc, ◌+◌, ◌≤◌, ◌<◌, ◌⊎◌, inl, inr, Bool, true, false, List, [], ◌∷◌, ◌++◌, map, append_assoc, Option, Some, None, ap, sym, ◌∙◌, subst, arith, refl}
+use Rattle.std.specs.Prelude.{nat_eq}
+use Rattle.cbm_iec.proofs.Along.{FirstIs, first_append, first_shown, reaction_events, no_steps}
 use Rattle.cbm_iec.proofs.AlongBus.{other_atn, host_atn, dev, devs, OthersIn, Rising, others_before, others_behind, rising_first, devs_tell, devs_react}
 use Rattle.cbm_iec.proofs.AmongCalm.{Every}
 use Rattle.cbm_iec.proofs.AmongFronts.{follows_rest}
@@ -12,19 +12,16 @@ use Rattle.cbm_iec.proofs.BusStep.{another}
 use Rattle.cbm_iec.proofs.Keeping.{events_append}
 use Rattle.cbm_iec.proofs.OneReading.{is_atn}
 use Rattle.cbm_iec.proofs.PullSettled.{starting_told, holding_told, held, told_held, start_changes, start_act, start_held, no_change, holds_data_alone, not_own, among_told, other_low, host_stays, settled}
-use Rattle.cbm_iec.proofs.SideStates.{SideAsks}
-use Rattle.cbm_iec.proofs.Standing.{rest_behind}
 use Rattle.cbm_iec.specs.Among.{Rest, wires_of, behind_other, behind_host, CountsFor, FollowsAmong, ends, tells, hears, reacts}
 use Rattle.cbm_iec.specs.Answers.{run}
 use Rattle.cbm_iec.specs.Following.{IsInTime, own_steps, reaction_steps}
-use Rattle.cbm_iec.specs.Playing.{IsLaterDue, Station, host_event, drive_events, acted, tell, hear, hear_all, react, shown, AllInTime, AllLater, IsFirst, reacting, Plays, stays, change, reaction}
+use Rattle.cbm_iec.specs.Playing.{Station, host_event, drive_events, acted, tell, hear, hear_all, react, shown, AllInTime, reacting, Plays, stays, change, reaction}
 use Rattle.cbm_iec.specs.Hearing.{after_hold}
 use Rattle.cbm_iec.specs.Ports.{side_held, side_after, side_due, port_due, told, told_act, has_byte, reacted, reaction_act, changes_between, reaction_changes}
 use Rattle.cbm_iec.specs.Seats.{lines}
 use Rattle.cbm_iec.specs.Steps.{Mark, Step, moment_of, events_of, event_of, acts_for, Plain}
 use Rattle.cbm_iec.specs.declared.act.Act.{Act}
 use Rattle.cbm_iec.specs.declared.ear.Ear.TheVariants.{Starting, Holding, Freeing}
-use Rattle.cbm_iec.specs.declared.ear.Ear.{Ear}
 use Rattle.cbm_iec.specs.declared.event.Event.{Event}
 use Rattle.cbm_iec.specs.declared.event.Who.TheVariants.{Host, Drive}
 use Rattle.cbm_iec.specs.declared.event.Who.{Who}
@@ -37,10 +34,10 @@ use Rattle.cbm_iec.specs.declared.port.Port.{Port}
 use Rattle.cbm_iec.specs.declared.port.Side.TheVariants.{Hearing}
 use Rattle.cbm_iec.specs.declared.port.Side.{Side}
 
-event_head : (x y : Event) (xs ys : List Event) → x ∷ xs ≡ y ∷ ys → x ≡ y
+pub event_head : (x y : Event) (xs ys : List Event) → x ∷ xs ≡ y ∷ ys → x ≡ y
 event_head x y xs ys e = cc
 
-event_tail : (x y : Event) (xs ys : List Event) → x ∷ xs ≡ y ∷ ys → xs ≡ ys
+pub event_tail : (x y : Event) (xs ys : List Event) → x ∷ xs ≡ y ∷ ys → xs ≡ ys
 event_tail x y xs ys e = cc
 
 -- the next event, if there is one, is the host's and later than this moment
@@ -627,7 +624,7 @@ module _ (M : Type 0) (step : M → Act → M) (peek : M → Option (ℕ × Bool
       ((one.0, more.0), (one.1, more.1))
 
   -- what the machines run with a change of the host
-  counted_ran : (c : Change) (y : Step) (xs : List (Station M)) (es : List (Rest × Port)) → AllOf (λ x e. CountsFor (device_of x) y.mark (told_act (wires_of (behind_host c.line c.way x.rest)) x.port)) xs es → RanOn M step peek xs (y ∷ []) (map (λ x. tell M step peek c x) xs)
+  pub counted_ran : (c : Change) (y : Step) (xs : List (Station M)) (es : List (Rest × Port)) → AllOf (λ x e. CountsFor (device_of x) y.mark (told_act (wires_of (behind_host c.line c.way x.rest)) x.port)) xs es → RanOn M step peek xs (y ∷ []) (map (λ x. tell M step peek c x) xs)
   counted_ran c y xs es a = record { runs = λ ms done h. go ms done xs es a h }
     where
       go : (ms : ℕ → M) (done : List Step) (xs : List (Station M)) (es : List (Rest × Port)) → AllOf (λ x e. CountsFor (device_of x) y.mark (told_act (wires_of (behind_host c.line c.way x.rest)) x.port)) xs es → AllRan M step peek ms done xs
@@ -688,7 +685,7 @@ module _ (M : Type 0) (step : M → Act → M) (peek : M → Option (ℕ × Bool
   }
 
   -- The host's changes of CLOCK and DATA at the pull's moment, then the answers.
-  along_host : {n n2 : ℕ} {ss ss2 : List (Station M)} {es : List Event} → Plays M step peek n ss es n2 ss2 → (hs ds : List Step) (fin : List (Rest × Port)) → AllOf (λ x e. Waits x (hs ++ ds) e) ss fin → Every OfHost hs → Every (λ s. NotHost s.event.who) ds
+  pub along_host : {n n2 : ℕ} {ss ss2 : List (Station M)} {es : List Event} → Plays M step peek n ss es n2 ss2 → (hs ds : List Step) (fin : List (Rest × Port)) → AllOf (λ x e. Waits x (hs ++ ds) e) ss fin → Every OfHost hs → Every (λ s. NotHost s.event.who) ds
       → Rising M step peek says place ss → (rest more : List Event) → es ++ rest ≡ events_of (hs ++ ds) ++ more → NextHost (at + 60) more → PullWithin ss (hs ++ ds) fin es ss2 ⊎ PullPassed ss (hs ++ ds) fin es n2 ss2
   along_host {ss = ss} p [] ds fin g h n r rest more i next = along_drives p ds fin (waits_pulled ds ss fin n g) n r rest more i next
   along_host {ss = ss} {ss2 = ss2} (stays b e k f) (y ∷ hs) ds fin g h n r rest more i next =

@@ -1,5 +1,5 @@
 -- A drive that a pull of ATN reached: where its reaction shows nothing it goes with what comes as if it had made it already.
-use Rattle.std.proofs.Common.{◌≡◌, ℕ, ◌+◌, ◌≤◌, ◌<◌, ◌⊎◌, inl, inr, Bool, true, false, List, [], ◌∷◌, ◌++◌, Option, Some, None, ap, sym, ◌∙◌, subst, arith, refl}
+use Rattle.std.proofs.Common.{◌≡◌, ℕ, ◌≤◌, ◌<◌, ◌⊎◌, inl, inr, Bool, true, false, List, [], ◌∷◌, ◌++◌, Option, Some, None, ap, sym, ◌∙◌, subst, arith, refl}
 use Rattle.std.specs.Prelude.{if◌then◌else◌, nat_eq}
 use Rattle.cbm_iec.proofs.AlongBus.{other_atn, told_out}
 use Rattle.cbm_iec.proofs.AmongCalm.{Every}
@@ -12,7 +12,7 @@ use Rattle.cbm_iec.specs.Following.{IsInTime, own_step, own_steps, reaction_step
 use Rattle.cbm_iec.specs.Hearing.{is_same, after_hold, after_clock, after_data, after_lines}
 use Rattle.cbm_iec.specs.Ports.{side_held, side_role, side_act, side_after, port_due, lined_side, lined_act, told, told_act, has_byte, reaction_act, reacted, changes_between, reaction_changes}
 use Rattle.cbm_iec.specs.Seats.{lines}
-use Rattle.cbm_iec.specs.Steps.{Mark, Step, event_of, moment_of}
+use Rattle.cbm_iec.specs.Steps.{Mark, Step, event_of}
 use Rattle.cbm_iec.specs.declared.act.Act.{Act}
 use Rattle.cbm_iec.specs.declared.ear.Ear.TheVariants.{Starting, Holding}
 use Rattle.cbm_iec.specs.declared.ear.Ear.{Ear}
