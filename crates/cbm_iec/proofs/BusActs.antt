@@ -1,5 +1,5 @@
 -- What each machine of a bus ran: the acts that count for its drive among the steps that were played.
-use Rattle.std.proofs.Common.{◌≡◌, ℕ, Bool, true, false, List, [], ◌∷◌, ◌++◌, Option, Some, None, ap, sym, ◌∙◌, subst, refl, eq-eqb}
+use Rattle.std.proofs.Common.{◌≡◌, ℕ, Bool, true, false, List, [], ◌∷◌, ◌++◌, append_assoc, Option, Some, None, ap, sym, ◌∙◌, subst, refl, eq-eqb}
 use Rattle.std.proofs.lemmas.List.{append-nil}
 use Rattle.std.specs.Prelude.{if◌then◌else◌, nat_eq}
 use Rattle.cbm_iec.specs.Among.{CountsFor}
@@ -86,6 +86,15 @@ module _ (M : Type 0) (step : M → Act → M) (peek : M → Option (ℕ × Bool
   ran_joined ms done [] o behind a b c = (b, c)
   ran_joined ms done (x ∷ before) o behind a b c = (a.0, ran_joined ms done before o behind a.1 b c)
 
-  -- behind no step, and behind a list in two parts
-  pub ran_nothing : (ms : ℕ → M) (done : List Step) (ss : List (Station M)) → AllRan ms done ss → AllRan ms (done ++ []) ss
+  ran_nothing : (ms : ℕ → M) (done : List Step) (ss : List (Station M)) → AllRan ms done ss → AllRan ms (done ++ []) ss
   ran_nothing ms done ss h = subst (λ (v : List Step). AllRan ms v ss) (sym (append-nil done)) h
+
+  -- what the machines ran from these stations to those: what counts among these steps
+  pub record RanOn (from : List (Station M)) (zs : List Step) (there : List (Station M)) : Type 0 where
+    pub runs : (ms : ℕ → M) (done : List Step) → AllRan ms done from → AllRan ms (done ++ zs) there
+
+  pub ran_then : {ss ss2 ss3 : List (Station M)} {xs ys : List Step} → RanOn ss xs ss2 → RanOn ss2 ys ss3 → RanOn ss (xs ++ ys) ss3
+  ran_then {ss} {ss2} {ss3} {xs} {ys} f g = record { runs = λ ms done h. subst (λ (v : List Step). AllRan ms v ss3) (append_assoc done xs ys) (g.runs ms (done ++ xs) (f.runs ms done h)) }
+
+  pub ran_stays : {ss ss2 : List (Station M)} → ss2 ≡ ss → RanOn ss [] ss2
+  ran_stays {ss} {ss2} e = record { runs = λ ms done h. subst (λ (v : List (Station M)). AllRan ms (done ++ []) v) (sym e) (ran_nothing ms done ss h) }
