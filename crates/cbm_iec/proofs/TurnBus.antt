@@ -1,0 +1,271 @@
+-- The turnaround on a bus, by the answer of the talker's machine: the host pulls DATA, frees ATN, then CLOCK; the drives without a role let go, the talker leads or is silent.
+use Rattle.std.proofs.Common.{◌≡◌, ℕ, zero, ◌+◌, ◌≤◌, ◌<◌, ◌⊎◌, inl, inr, Bool, true, false, List, [], ◌∷◌, ◌++◌, map, append_assoc, Option, Some, None, ap, sym, ◌∙◌, subst, arith, refl}
+use Rattle.std.specs.Prelude.{if◌then◌else◌, nat_eq, max}
+use Rattle.cbm_iec.proofs.Along.{Meets, Compat, AsksFor, LastSaid, SaysOpen}
+use Rattle.cbm_iec.proofs.AlongBus.{GoesSo, AllGo, devs, devs_tell, ran_tell, RisingIn, IsPlain, WithinAll, PassedAll, along_bus, host_atn}
+use Rattle.cbm_iec.proofs.AmongCalm.{Every}
+use Rattle.cbm_iec.proofs.AmongFrames.{in_hold}
+use Rattle.cbm_iec.proofs.AmongFronts.{steps_order, follows_drive, follows_wires}
+use Rattle.cbm_iec.proofs.AmongPoints.{next_party, whole_sound, commanding_rest, only_talker, none_listen}
+use Rattle.cbm_iec.proofs.AmongFrames.{each_sits}
+use Rattle.cbm_iec.proofs.AmongPulls.{clock_held}
+use Rattle.cbm_iec.proofs.AmongSessions.{piece_among, left_is}
+use Rattle.cbm_iec.proofs.AmongTurns.{commanding_port}
+use Rattle.cbm_iec.proofs.Around.{every_each}
+use Rattle.cbm_iec.proofs.BusActs.{ran_then, ran_stays}
+use Rattle.cbm_iec.proofs.BusStep as bus
+use Rattle.cbm_iec.proofs.BusStep.{Tied}
+use Rattle.cbm_iec.proofs.FollowedFrames.{stands}
+use Rattle.cbm_iec.proofs.FrameBus.{ear_asks, StandsSo, AllStand, AllEnd, devs_are, steps_owned, twin_self}
+use Rattle.cbm_iec.proofs.GoesOf.{DataOf, OthersData, goes_of, goes_idle, leaving}
+use Rattle.cbm_iec.proofs.Merging.{AllBefore, InOrder}
+use Rattle.cbm_iec.proofs.OneReading.{is_atn, NoAtn}
+use Rattle.cbm_iec.proofs.Orders.{host_order}
+use Rattle.cbm_iec.proofs.Owning.{part_owned, part_order}
+use Rattle.cbm_iec.proofs.Phases.{Each, each}
+use Rattle.cbm_iec.proofs.PieceReadings.{next_seat}
+use Rattle.cbm_iec.proofs.PullSettled.{holding_told, among_told}
+use Rattle.cbm_iec.proofs.ReleaseBus.{AllQuiet}
+use Rattle.cbm_iec.proofs.SessionOrder.{part_host, piece_goes, steps_done, end_by}
+use Rattle.cbm_iec.proofs.SideStates.{SideHolds, SideAsks}
+use Rattle.cbm_iec.proofs.Standing.{IsSound}
+use Rattle.cbm_iec.proofs.TalkBus.{done_before}
+use Rattle.cbm_iec.proofs.TalkSwap.{Twin, twin_compat, twin_skip}
+use Rattle.cbm_iec.proofs.Talkers.{talker_is}
+use Rattle.cbm_iec.proofs.Ties.{Placed, tied_all}
+use Rattle.cbm_iec.proofs.TurnTwin.{twin_parts, parts_differ, turn_begins, leads, mutes, lead_steps, mute_steps, lead_mute, mute_lead}
+use Rattle.cbm_iec.specs.Among.{Rest, wires_of, behind_host, FollowsAmong}
+use Rattle.cbm_iec.specs.Buses.{rest_at, SaysAs, SideAmong, StandsAmong}
+use Rattle.cbm_iec.specs.Following.{IsInTime}
+use Rattle.cbm_iec.specs.Hearing.{is_same}
+use Rattle.cbm_iec.specs.Laws.{SeatsReact, GoesOn}
+use Rattle.cbm_iec.specs.Pieces.{Whole, Place, Point, host_part, own_part, steps_of, let_go, freed_steps, behind_all, FreedFits, Fits, whole_point, Full, ToTalker, Nothing, Commanding, Open, Leading}
+use Rattle.cbm_iec.specs.Playing.{Station, host_event, acted, tell, Plays, stays, change, reaction}
+use Rattle.cbm_iec.specs.Ports.{side_due, port_due, freed_side, turned_side, lined_side, lined_act, told, told_act}
+use Rattle.cbm_iec.specs.Seats.{lines, Seat, device, is_listener, is_talker, has_listener, talker_of}
+use Rattle.cbm_iec.specs.Speaking.{after_turn}
+use Rattle.cbm_iec.specs.Steps.{Step, moment_of, events_of, host, drive, for_each, for_one}
+use Rattle.cbm_iec.specs.declared.act.Act.TheVariants.{Pulled, Released, Silent}
+use Rattle.cbm_iec.specs.declared.act.Act.{Act}
+use Rattle.cbm_iec.specs.declared.ear.Ear.TheVariants.{Idle, Leaving, Holding}
+use Rattle.cbm_iec.specs.declared.ear.Ear.{Ear}
+use Rattle.cbm_iec.specs.declared.event.Event.{Event}
+use Rattle.cbm_iec.specs.declared.event.Who.TheVariants.{Host, Drive}
+use Rattle.cbm_iec.specs.declared.line.Change.{Change}
+use Rattle.cbm_iec.specs.declared.line.Line.TheVariants.{Atn, Clock, Data}
+use Rattle.cbm_iec.specs.declared.line.Way.TheVariants.{Pull, Free}
+use Rattle.cbm_iec.specs.declared.lines.Held.{Held}
+use Rattle.cbm_iec.specs.declared.lines.Lines.{Lines}
+use Rattle.cbm_iec.specs.declared.mouth.Mouth.TheVariants.{Turned, Led}
+use Rattle.cbm_iec.specs.declared.party.Party.{Party}
+use Rattle.cbm_iec.specs.declared.party.Role.TheVariants.{Absent, Listener, Talker}
+use Rattle.cbm_iec.specs.declared.party.Role.{Role}
+use Rattle.cbm_iec.specs.declared.port.Port.{Port}
+use Rattle.cbm_iec.specs.declared.port.Side.TheVariants.{Hearing, Speaking}
+use Rattle.cbm_iec.specs.declared.port.Side.{Side}
+
+-- a step behind ATN's release: no change of ATN, no byte said, and of the drives only the talker changes CLOCK
+abbrev pub OfTurn : ℕ → Step → Type 0
+OfTurn d s = (is_atn s.event.change.line ≡ false) × SaysOpen s.mark × DataOf d s.event.who s.event.change.line
+
+turn_noatn : (d : ℕ) (ss : List Step) → Every (OfTurn d) ss → NoAtn ss
+turn_noatn d [] a = tt
+turn_noatn d (s ∷ ss) a = (a.0.0, turn_noatn d ss a.1)
+
+turn_last : (d : ℕ) (ss : List Step) → Every (OfTurn d) ss → LastSaid ss
+turn_last d [] a = tt
+turn_last d (s ∷ []) a = tt
+turn_last d (s ∷ t ∷ ss) a = (a.0.1, turn_last d (t ∷ ss) a.1)
+
+turn_others : (d : ℕ) (ss : List Step) → Every (OfTurn d) ss → OthersData d ss
+turn_others d [] a = tt
+turn_others d (s ∷ ss) a = (a.0.2, turn_others d ss a.1)
+
+freed_turn : (d : ℕ) (freed : Option ℕ) → Every (OfTurn d) (freed_steps freed)
+freed_turn d None = tt
+freed_turn d (Some g) = ((refl, tt, tt), tt)
+
+module _ (p : Point) (s : Seat) (sound : IsSound p s) (talks : s.role ≡ Talker) (at clock : ℕ) where
+  lead_own : (x : Seat) → (nat_eq (device s) (device x) ≡ false → is_talker x.role ≡ false) → Every (OfTurn (device s)) (own_part p (ToTalker at clock) x)
+  lead_own x k = go x.role k (nat_eq (device s) (device x)) refl
+    where
+      go : (r : Role) → (nat_eq (device s) (device x) ≡ false → is_talker r ≡ false) → (v : Bool) → nat_eq (device s) (device x) ≡ v
+          → Every (OfTurn (device s)) (elim r as (λ q. List Step) [ Absent ↦ let_go at x | Listener ↦ [] | Talker ↦ drive (device x) (clock + x.party.reaction) Clock Pull ∷ drive (device x) (clock + x.party.reaction) Data Free ∷ [] ])
+      go Absent k v e = ((refl, tt, tt), tt)
+      go Listener k v e = tt
+      go Talker k true e = ((refl, tt, e), ((refl, tt, tt), tt))
+      go Talker k false e = let c : true ≡ false = k e in absurd cc
+
+  mute_own : (freed : Option ℕ) (x : Seat) → (nat_eq (device s) (device x) ≡ false → is_talker x.role ≡ false) → Every (OfTurn (device s)) (own_part p (Nothing at clock freed) x)
+  mute_own freed x k = go x.role
+    where
+      go : (r : Role) → Every (OfTurn (device s)) (elim r as (λ q. List Step) [ Absent ↦ let_go at x | Listener ↦ [] | Talker ↦ for_one (device x) Silent (drive (device x) (clock + x.party.reaction) Data Free) ∷ [] ])
+      go Absent = ((refl, tt, tt), tt)
+      go Listener = tt
+      go Talker = ((refl, tt, tt), tt)
+
+  pub lead_turn : Every (OfTurn (device s)) (leads p at clock)
+  lead_turn = every_each (OfTurn (device s)) (λ (x : Seat). own_part p (ToTalker at clock) x) (host clock Clock Free ∷ []) p.seats ((refl, tt, tt), tt)
+      (each (λ x. nat_eq (device s) (device x) ≡ false → is_talker x.role ≡ false) (λ x. Every (OfTurn (device s)) (own_part p (ToTalker at clock) x)) p.seats (λ x k. lead_own x k) (only_talker (device s) p.seats s sound.seated.one sound.seated.sits (ap is_talker talks)))
+
+  pub mute_turn : (freed : Option ℕ) → Every (OfTurn (device s)) (mutes p at clock freed)
+  mute_turn freed = every_each (OfTurn (device s)) (λ (x : Seat). own_part p (Nothing at clock freed) x) (host clock Clock Free ∷ freed_steps freed) p.seats ((refl, tt, tt), freed_turn (device s) freed)
+      (each (λ x. nat_eq (device s) (device x) ≡ false → is_talker x.role ≡ false) (λ x. Every (OfTurn (device s)) (own_part p (Nothing at clock freed) x)) p.seats (λ x k. mute_own freed x k) (only_talker (device s) p.seats s sound.seated.one sound.seated.sits (ap is_talker talks)))
+
+-- what stands behind all releases is before the talker's next frame
+behind_below : (at m k : ℕ) (seats : List Seat) → SeatsReact seats → m < k → at + 61 < k → behind_all at m seats < k
+behind_below at m k [] r l h = l
+behind_below at m k (x ∷ xs) r l h = go x.role (behind_below at m k xs r.2 l h)
+  where
+    go : (q : Role) → behind_all at m xs < k → (elim q as (λ u. ℕ) [ Absent ↦ max (at + x.party.reaction + 1) (behind_all at m xs) | Listener ↦ behind_all at m xs | Talker ↦ behind_all at m xs ]) < k
+    go Absent b = let few = r.1 in omega (arith, b, h, few)
+    go Listener b = b
+    go Talker b = b
+
+module _ (M : Type 0) (step : M → Act → M) (peek : M → Option (ℕ × Bool)) (says : ℕ → Option (ℕ × Bool)) (place : ℕ → ℕ) where
+  quiet_first : (t : ℕ) (before : List (Station M)) (o : Station M) (behind : List (Station M)) → AllQuiet M step peek says place (before ++ o ∷ behind) → port_due o.port ≡ Some t → ⊥
+  quiet_first t [] o behind h e = let k : Some t ≡ None = sym e ∙ h.0 in cc
+  quiet_first t (b ∷ before) o behind h e = quiet_first t before o behind h.1 e
+
+  -- Where nothing is due the next event is the host's, and `more` is what comes of the play behind it.
+  pub peel : {n n2 : ℕ} {xs ss2 : List (Station M)} {es : List Event} → Plays M step peek n xs es n2 ss2 → AllQuiet M step peek says place xs → (y : Step) (ys : List Step) (c : Change) (fin : List (Rest × Port)) → y.event ≡ host_event c → AllGo M step peek says place xs (y ∷ ys) fin
+      → (rest : List Event) → Compat (y ∷ ys) (es ++ rest)
+      → ((more : List Event) → Plays M step peek c.moment (map (λ x. tell M step peek c x) xs) more n2 ss2 → Compat ys (more ++ rest) → WithinAll M step peek says place (map (λ x. tell M step peek c x) xs) ys fin more rest ss2 ⊎ PassedAll M step peek says place (map (λ x. tell M step peek c x) xs) ys fin more n2 ss2)
+      → WithinAll M step peek says place xs (y ∷ ys) fin es rest ss2 ⊎ PassedAll M step peek says place xs (y ∷ ys) fin es n2 ss2
+  peel {n} {n2} {xs} {ss2} {es} (stays b e k f) quiet y ys c fin same first rest meets behind =
+      inl (record { front = []; back = y ∷ ys; parts = refl; shown_so = sym e; goes = subst (λ (v : List (Station M)). AllGo M step peek says place v (y ∷ ys) fin) (sym f) first; meets = subst (λ (v : List Event). Compat (y ∷ ys) (v ++ rest)) e meets; ran = ran_stays M step peek f })
+  peel {n} {n2} {xs} {ss2} {es} (change x more b l i e p) quiet y ys c fin same first rest meets behind =
+      let d : Compat (y ∷ ys) (host_event x ∷ (more ++ rest)) = subst (λ (v : List Event). Compat (y ∷ ys) (v ++ rest)) e meets in
+      let met : host_event c ≡ host_event x = subst (λ (w : Event). Meets w.who w.change.moment Host x.moment (w ≡ host_event x)) same d.0 in
+      let is : y.event ≡ host_event x = same ∙ met in
+      let equal : c ≡ x = ap (λ (v : Event). v.change) met in
+      let p2 : Plays M step peek c.moment (map (λ z. tell M step peek c z) xs) more n2 ss2 = subst (λ (v : Change). Plays M step peek v.moment (map (λ z. tell M step peek v z) xs) more n2 ss2) (sym equal) p in
+      elim (behind more p2 (d.1 is)) [
+        | inl w ↦ inl (record { front = y ∷ w.front; back = w.back; parts = ap (λ (v : List Step). y ∷ v) w.parts; shown_so = ap (λ (v : Event). v ∷ events_of w.front) is ∙ ap (λ (v : List Event). host_event x ∷ v) w.shown_so ∙ sym e; goes = w.goes; meets = w.meets; ran = ran_then M step peek (record { runs = λ ms done h. ran_tell M step peek says place ms done c y ys xs fin first same h }) w.ran })
+        | inr w ↦ inr (record { more = w.more; now = w.now; there = w.there; shown_so = e ∙ ap (λ (v : List Event). host_event x ∷ v) w.shown_so ∙ ap (λ (v : Event). v ∷ (events_of ys ++ w.more)) (sym is); plays = w.plays; goes = w.goes; ran = ran_then M step peek (record { runs = λ ms done h. ran_tell M step peek says place ms done c y ys xs fin first same h }) w.ran })
+      ]
+  peel {n} {n2} {xs} {ss2} {es} (reaction t before o behind more b u f e p) quiet y ys c fin same first rest meets next =
+      absurd (quiet_first t before o behind (subst (AllQuiet M step peek says place) u quiet) f.due)
+
+-- told that ATN is free
+freed_told : (t : ℕ) (r r2 : Rest) (q : Port) → q.others ≡ wires_of r → (wires_of r).atn_low ≡ true → (wires_of r2).atn_low ≡ false
+    → ((told t (wires_of r2) q).side ≡ freed_side q.party.reaction t (wires_of r2).clock_low q.role q.side) × (told_act (wires_of r2) q ≡ Some Released)
+freed_told t r r2 q seen low free =
+    let was : q.others.atn_low ≡ true = ap (λ (l : Lines). l.atn_low) seen ∙ low in
+    let now = wires_of r2 in (
+      ap (λ (v : Bool). if is_same v now.atn_low then lined_side q.party.reaction t q.others now q.side else turned_side t now q) was
+          ∙ ap (λ (v : Bool). if v then lined_side q.party.reaction t q.others now q.side else (if v then Hearing (Rattle.cbm_iec.specs.declared.ear.Ear.TheVariants.Starting (t + q.party.reaction)) else freed_side q.party.reaction t now.clock_low q.role q.side)) free,
+      ap (λ (v : Bool). if is_same v now.atn_low then lined_act q.others now q.side else Some (if now.atn_low then Pulled else Released)) was
+          ∙ ap (λ (v : Bool). if v then lined_act q.others now q.side else Some (if v then Pulled else Released)) free,
+    )
+
+module _ (M : Type 0) (step : M → Act → M) (peek : M → Option (ℕ × Bool)) (says : ℕ → Option (ℕ × Bool)) (place : ℕ → ℕ) where
+  -- A turnaround that fits, with what comes behind ATN's release.
+  module _ (p : Point) (w : Whole) (at : ℕ) (ys : List Step) (s : Seat) (sound : IsSound p s) (talks : s.role ≡ Talker) (fits : Fits p w) (attention : p.place ≡ Commanding true) (deaf : has_listener p.seats ≡ false) (steps : steps_of p w ≡ turn_begins at ys)
+      (kind : Every (OfTurn (device s)) ys) (later : (x : Seat) (q : Port) → StandsAmong (whole_point p w) (next_seat w x) q → (t : ℕ) → port_due q ≡ Some t → AllBefore t (turn_begins at ys))
+      (said : (x : Seat) → IsSound p x → (d : ℕ) → device x ≡ d → SaysAs x.role (Full w) (says d)) where
+    abbrev pulled : Change
+    pulled = (host at Data Pull).event.change
+
+    abbrev freed : Change
+    freed = (host at Atn Free).event.change
+
+    abbrev once : Station M → Station M
+    once x = tell M step peek pulled x
+
+    abbrev twice : Station M → Station M
+    twice x = tell M step peek freed (tell M step peek pulled x)
+
+    the_talker : (x : Seat) → IsSound p x → x.role ≡ Talker → x.party ≡ s.party
+    the_talker x h r = sym (talker_is (device x) p.seats x h.seated.one h.seated.sits (ap is_talker r)) ∙ talker_is (device s) p.seats s sound.seated.one sound.seated.sits (ap is_talker talks)
+
+    not_listening : (x : Seat) → IsSound p x → is_listener x.role ≡ false
+    not_listening x h = each_sits (λ z. is_listener z.role ≡ false) (device x) p.seats x (none_listen p.seats deaf) h.seated.sits
+
+    pub record Turned3 (x : Station M) (e : Rest × Port) : Type 0 where
+      pub first : GoesSo M step peek says place x (turn_begins at ys) e
+      pub second : GoesSo M step peek says place (once x) (for_each Released (host at Atn Free) ∷ ys) e
+      pub third : GoesSo M step peek says place (twice x) ys e
+      pub quiet : port_due x.port ≡ None
+      pub still : port_due (once x).port ≡ None
+
+    one_turned : (x : Seat) (z : Station M) → StandsSo M step peek says place p x z → (x.role ≡ Talker → peek (step z.machine Released) ≡ says z.port.party.device) → (r2 : Rest) (q2 : Port) → FollowsAmong (says z.port.party.device) z.rest z.port (steps_of p w) r2 q2
+        → StandsAmong (whole_point p w) (next_seat w x) q2 → Turned3 z (r2, q2)
+    one_turned x z h answer r2 q2 f there =
+        let q = z.port in
+        let d = q.party.device in
+        let k = commanding_rest p x true h.sound attention in
+        let port = commanding_port p x q true k.0 h.sound h.stands attention k.2 in
+        let side : q.side ≡ Hearing Holding = ap (λ (v : Port). v.side) port in
+        let own : q.own ≡ lines false true = ap (λ (v : Port). v.own) port in
+        let rest : z.rest ≡ in_hold true k.0 = h.rest ∙ k.2 in
+        let seen : q.others ≡ wires_of z.rest = h.stands.others ∙ ap (λ (r : Rest). wires_of r) (sym h.rest) in
+        let host_low : z.rest.host.clock_low ≡ true = ap (λ (r : Rest). r.host.clock_low) rest in
+        let atn : (wires_of z.rest).atn_low ≡ true = ap (λ (r : Rest). r.host.atn_low) rest in
+        let r1 = behind_host Data Pull z.rest in
+        let q1 = told at (wires_of r1) q in
+        let low = clock_held z.rest host_low in
+        let low1 = clock_held r1 host_low in
+        let one = holding_told at z.rest r1 q seen (host_atn Data Pull z.rest refl) low low1 side in
+        let due : port_due q ≡ None = ap (λ (v : Side). side_due v) side in
+        let due1 : port_due q1 ≡ None = ap (λ (v : Side). side_due v) one.0 in
+        let f0 : FollowsAmong (says d) z.rest q (turn_begins at ys) r2 q2 = subst (λ (v : List Step). FollowsAmong (says d) z.rest q v r2 q2) steps f in
+        let g1 = among_told (says d) f0 (subst (λ (o : Option ℕ). IsInTime at o) (sym due) tt) in
+        let g2 = among_told (says d) g1.1 (subst (λ (o : Option ℕ). IsInTime at o) (sym due1) tt) in
+        let rf = behind_host Atn Free r1 in
+        let two = freed_told at r1 rf q1 refl atn refl in
+        let now : (twice z).port.side ≡ freed_side q.party.reaction at true x.role (Hearing Holding) =
+        two.0 ∙ ap (λ (v : Bool). freed_side q.party.reaction at v q.role q1.side) (clock_held rf host_low) ∙ ap (λ (v : Role). freed_side q.party.reaction at true v q1.side) h.stands.role ∙ ap (λ (v : Side). freed_side q.party.reaction at true x.role v) one.0 in
+        let machine : (twice z).machine ≡ step z.machine Released =
+        ap (λ (v : Option Act). acted M step peek v (once z).machine) two.1 ∙ ap (λ (v : Option Act). step (acted M step peek v z.machine) Released) one.1 in
+        let holding : (y : Side) → y ≡ Hearing Holding → SideHolds y q.own = λ y e. subst (λ (v : Side). SideHolds v q.own) (sym e) (ap (λ (v : Held). v.data_low) own) in
+        let end : (t : ℕ) → port_due q2 ≡ Some t → AllBefore t (turn_begins at ys) = later x q2 there in
+        let last : GoesSo M step peek says place (twice z) ys (r2, q2) = by_role x.role refl own now answer machine g2.1 end h.sound h.stands in
+        record {
+          first = record {
+            goes = bus.tells (subst (λ (o : Option ℕ). IsInTime at o) (sym due) tt) g1.0 (bus.tells (subst (λ (o : Option ℕ). IsInTime at o) (sym due1) tt) g2.0 last.goes);
+            asks = subst (λ (v : Side). SideAsks v (peek z.machine ≡ says d)) (sym side) tt;
+            holds = holding q.side side;
+            seen = seen;
+            end = end;
+          };
+          second = record {
+            goes = bus.tells (subst (λ (o : Option ℕ). IsInTime at o) (sym due1) tt) g2.0 last.goes;
+            asks = subst (λ (v : Side). SideAsks v (peek (once z).machine ≡ says d)) (sym one.0) tt;
+            holds = holding q1.side one.0;
+            seen = refl;
+            end = λ t e. (end t e).1;
+          };
+          third = last;
+          quiet = due;
+          still = due1;
+        }
+      where
+        asks_turned : (zs : List Step) → peek (twice z).machine ≡ says z.port.party.device → AsksFor zs (Speaking Turned) (peek (twice z).machine ≡ says z.port.party.device)
+        asks_turned [] e = tt
+        asks_turned (y ∷ zs) e = e
+
+        by_role : (r : Role) → x.role ≡ r → z.port.own ≡ lines false true → (twice z).port.side ≡ freed_side z.port.party.reaction at true x.role (Hearing Holding) → (x.role ≡ Talker → peek (step z.machine Released) ≡ says z.port.party.device) → (twice z).machine ≡ step z.machine Released
+            → FollowsAmong (says z.port.party.device) (twice z).rest (twice z).port ys r2 q2 → ((t : ℕ) → port_due q2 ≡ Some t → AllBefore t (turn_begins at ys)) → IsSound p x → StandsAmong p x z.port → GoesSo M step peek says place (twice z) ys (r2, q2)
+        by_role Absent e own now answer machine f end sound2 st =
+            let side : (twice z).port.side ≡ Hearing (Leaving (at + z.port.party.reaction)) = now ∙ ap (λ (v : Role). freed_side z.port.party.reaction at true v (Hearing Holding)) e in
+            let holds : SideHolds (twice z).port.side (twice z).port.own = subst (λ (y : Side). SideHolds y (twice z).port.own) (sym side) (ap (λ (o : Held). o.data_low) own) in
+            record {
+              goes = goes_idle (says z.port.party.device) f (leaving (at + z.port.party.reaction) side) holds refl (turn_noatn (device s) ys kind);
+              asks = subst (λ (y : Side). AsksFor ys y (peek (twice z).machine ≡ says z.port.party.device)) (sym side) (ear_asks (peek (twice z).machine ≡ says z.port.party.device) (Leaving (at + z.port.party.reaction)) ys);
+              holds = holds;
+              seen = refl;
+              end = λ t d. (end t d).1.1;
+            }
+        by_role Listener e own now answer machine f end sound2 st = let c : true ≡ false = sym (ap is_listener e) ∙ not_listening x sound2 in absurd cc
+        by_role Talker e own now answer machine f end sound2 st =
+            let side : (twice z).port.side ≡ Speaking Turned = now ∙ ap (λ (v : Role). freed_side z.port.party.reaction at true v (Hearing Holding)) e in
+            let holds : SideHolds (twice z).port.side (twice z).port.own = subst (λ (y : Side). SideHolds y (twice z).port.own) (sym side) (ap (λ (o : Held). o.data_low) own) in
+            let device_is : device s ≡ z.port.party.device = sym (ap (λ (b : Party). b.device) (st.party ∙ the_talker x sound2 e)) in
+            record {
+              goes = goes_of (says z.port.party.device) f holds refl (turn_noatn (device s) ys kind) (subst (λ (n : ℕ). OthersData n ys) device_is (turn_others (device s) ys kind));
+              asks = subst (λ (y : Side). AsksFor ys y (peek (twice z).machine ≡ says z.port.party.device)) (sym side) (asks_turned ys (ap peek machine ∙ answer e));
+              holds = holds;
+              seen = refl;
+              end = λ t d. (end t d).1.1;
+            }
