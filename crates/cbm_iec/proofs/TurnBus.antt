@@ -16,7 +16,7 @@ use Rattle.cbm_iec.proofs.BusActs.{ran_then, ran_stays}
 use Rattle.cbm_iec.proofs.BusStep as bus
 use Rattle.cbm_iec.proofs.BusStep.{Tied}
 use Rattle.cbm_iec.proofs.FollowedFrames.{stands}
-use Rattle.cbm_iec.proofs.FrameBus.{ear_asks, StandsSo, AllStand, AllEnd, devs_are, steps_owned, twin_self}
+use Rattle.cbm_iec.proofs.FrameBus.{ear_asks, StandsSo, AllStand, AllEnd, AllWith, devs_are, steps_owned, twin_self}
 use Rattle.cbm_iec.proofs.GoesOf.{DataOf, OthersData, goes_of, goes_idle, leaving}
 use Rattle.cbm_iec.proofs.Merging.{AllBefore, InOrder}
 use Rattle.cbm_iec.proofs.OneReading.{is_atn, NoAtn}
@@ -160,6 +160,10 @@ freed_told t r r2 q seen low free =
     )
 
 module _ (M : Type 0) (step : M → Act → M) (peek : M → Option (ℕ × Bool)) (says : ℕ → Option (ℕ × Bool)) (place : ℕ → ℕ) where
+  -- what the machine of the talker has to say behind ATN's release
+  abbrev pub Answers : Seat → Station M → Type 0
+  Answers x z = x.role ≡ Talker → peek (step z.machine Released) ≡ says z.port.party.device
+
   -- A turnaround that fits, with what comes behind ATN's release.
   module _ (p : Point) (w : Whole) (at : ℕ) (ys : List Step) (s : Seat) (sound : IsSound p s) (talks : s.role ≡ Talker) (fits : Fits p w) (attention : p.place ≡ Commanding true) (deaf : has_listener p.seats ≡ false) (steps : steps_of p w ≡ turn_begins at ys)
       (kind : Every (OfTurn (device s)) ys) (later : (x : Seat) (q : Port) → StandsAmong (whole_point p w) (next_seat w x) q → (t : ℕ) → port_due q ≡ Some t → AllBefore t (turn_begins at ys))
@@ -269,3 +273,190 @@ module _ (M : Type 0) (step : M → Act → M) (peek : M → Option (ℕ × Bool
               seen = refl;
               end = λ t d. (end t d).1.1;
             }
+
+    all_turned : (ss : List Seat) (xs : List (Station M)) → AllStand M step peek says place p ss xs → AllWith M step peek says place Answers ss xs
+        → (es : List (Rest × Port)) × (AllGo M step peek says place xs (turn_begins at ys) es × AllGo M step peek says place (map (λ x. once x) xs) (for_each Released (host at Atn Free) ∷ ys) es
+        × AllGo M step peek says place (map (λ x. tell M step peek freed x) (map (λ x. once x) xs)) ys es
+        × AllEnd M step peek says place (whole_point p w) (map (λ x. next_seat w x) ss) es × AllQuiet M step peek says place xs × AllQuiet M step peek says place (map (λ x. once x) xs))
+    all_turned [] [] h a = ([], (tt, tt, tt, tt, tt, tt))
+    all_turned [] (z ∷ xs) h a = elim h [ ]
+    all_turned (x ∷ ss) [] h a = elim h [ ]
+    all_turned (x ∷ ss) (z ∷ xs) h a =
+        let st = h.0.stands in
+        let q = z.port in
+        let d = q.party.device in
+        let dev : device x ≡ d = sym (ap (λ (b : Party). b.device) st.party) in
+        let v = piece_among w p x q (says d) h.0.sound st fits (said x h.0.sound d dev) in
+        let p2 = whole_point p w in
+        let same = next_party w x in
+        let left = left_is p x q v.port (Full w) v.rest (says d) h.0.sound st fits v.follows in
+        let there : StandsAmong p2 (next_seat w x) v.port = record {
+          party = follows_drive (says d) v.follows ∙ st.party ∙ sym same;
+          role = v.role;
+          own = v.own;
+          others = follows_wires (says d) v.follows st.others ∙ ap (λ (r : Rest). wires_of r) left ∙ ap (λ (b : Party). wires_of (rest_at b.device p2)) (sym same);
+          side = v.side;
+        } in
+        let f : FollowsAmong (says d) z.rest q (steps_of p w) v.rest v.port = subst (λ (r : Rest). FollowsAmong (says d) r q (steps_of p w) v.rest v.port) (sym h.0.rest) v.follows in
+        let go = one_turned x z h.0 a.0 v.rest v.port f there in
+        let more = all_turned ss xs h.1 a.1 in (
+          (v.rest, v.port) ∷ more.0,
+          ((go.first, more.1.0), (go.second, more.1.1), (go.third, more.1.2), ((whole_sound p x w h.0.sound fits, there, left ∙ ap (λ (b : Party). rest_at b.device p2) (sym same)), more.1.3), (go.quiet, more.1.4), (go.still, more.1.5)),
+        )
+
+    -- The turnaround as the drives of a bus play it, as far as the host does the same.
+    pub turned_on_bus : Placed place p.seats → RisingIn M step peek says place (map (λ x. device x) p.seats) → (xs : List (Station M)) → AllStand M step peek says place p p.seats xs → AllWith M step peek says place Answers p.seats xs → {n n2 : ℕ} {ss2 : List (Station M)} {es : List Event} → Plays M step peek n xs es n2 ss2
+        → (rest : List Event) → Compat (turn_begins at ys) (es ++ rest)
+        → (fin : List (Rest × Port)) × (AllEnd M step peek says place (whole_point p w) (map (λ x. next_seat w x) p.seats) fin × (WithinAll M step peek says place xs (steps_of p w) fin es rest ss2 ⊎ PassedAll M step peek says place xs (steps_of p w) fin es n2 ss2))
+    turned_on_bus placed rising xs stand answer {n} {n2} {ss2} {es} plays rest meets =
+        let all = all_turned p.seats xs stand answer in
+        let ds = devs_are M step peek says place p p.seats xs stand in
+        let y2 = for_each Released (host at Atn Free) in
+        let xs1 = map (λ x. once x) xs in
+        let xs2 = map (λ x. tell M step peek freed x) xs1 in
+        let keep : devs M step peek says place xs2 ≡ map (λ x. device x) p.seats = devs_tell M step peek says place freed xs1 ∙ devs_tell M step peek says place pulled xs ∙ ds in
+        let plain : IsPlain M step peek says place (map (λ x. device x) p.seats) ys = record {
+          noatn = turn_noatn (device s) ys kind;
+          last = turn_last (device s) ys kind;
+          goes_on = (subst GoesOn steps (piece_goes p w fits)).1.1;
+          order = (subst InOrder steps (steps_order p w fits)).1.1;
+          tied = (subst (Tied place) steps (tied_all place (λ (x : Seat). own_part p w x) (part_owned p w) (part_order p w fits) (host_part p w) p.seats (part_host p w) (host_order p w fits) placed)).1.1;
+          owned = (subst (Rattle.cbm_iec.proofs.AlongBus.OwnedIn M step peek says place (map (λ x. device x) p.seats)) steps (steps_owned M step peek says place p w)).1.1;
+        } in
+        let out = peel M step peek says place plays all.1.4 (host at Data Pull) (y2 ∷ ys) pulled all.0 refl all.1.0 rest meets
+        (λ more p1 c1. peel M step peek says place p1 all.1.5 y2 ys freed all.0 refl all.1.1 rest c1
+        (λ more2 p2 c2. along_bus M step peek says place p2 ys all.0 all.1.2 (subst (λ (v : List ℕ). RisingIn M step peek says place v) (sym keep) rising) (subst (λ (v : List ℕ). IsPlain M step peek says place v ys) (sym keep) plain) rest c2)) in
+        (all.0, (all.1.3, subst (λ (v : List Step). WithinAll M step peek says place xs v all.0 es rest ss2 ⊎ PassedAll M step peek says place xs v all.0 es n2 ss2) (sym steps) out))
+
+  -- Of each turnaround of a session the one that the talker's machine answers.
+  pub record TurnOnBus (p : Point) (w : Whole) (answer : Option (ℕ × Bool)) (from : List (Station M)) (es rest : List Event) (n2 : ℕ) (ss2 : List (Station M)) : Type 0 where
+    pub piece : Whole
+    pub fits : Fits p piece
+    pub answered : Rattle.cbm_iec.specs.Following.Says piece answer
+    pub fin : List (Rest × Port)
+    pub all_end : AllEnd M step peek says place (whole_point p piece) (map (λ x. next_seat piece x) p.seats) fin
+    pub so : WithinAll M step peek says place from (steps_of p piece) fin es rest ss2 ⊎ ((piece ≡ w) × PassedAll M step peek says place from (steps_of p piece) fin es n2 ss2)
+
+  module _ (p : Point) (s : Seat) (sound : IsSound p s) (talks : s.role ≡ Talker) (at clock : ℕ) where
+    talker : talker_of p.seats ≡ s.party
+    talker = talker_is (device s) p.seats s sound.seated.one sound.seated.sits (ap is_talker talks)
+
+    same_says : (x : Seat) → IsSound p x → x.role ≡ Talker → (d : ℕ) → device x ≡ d → says d ≡ says (device s)
+    same_says x h r d e =
+        let same : x.party ≡ s.party = sym (talker_is (device x) p.seats x h.seated.one h.seated.sits (ap is_talker r)) ∙ talker in
+        ap says (sym e) ∙ ap (λ (b : Party). says b.device) same
+
+    -- behind the answer of a talker that leads all is done before its next frame
+    lead_later : Fits p (ToTalker at clock) → (x : Seat) (q : Port) → StandsAmong (whole_point p (ToTalker at clock)) (next_seat (ToTalker at clock) x) q → (t : ℕ) → port_due q ≡ Some t → AllBefore t (turn_begins at (leads p at clock))
+    lead_later fits x q st t e = go (next_seat (ToTalker at clock) x).role st.side
+      where
+        next : ℕ
+        next = clock + (talker_of p.seats).reaction + 80
+
+        go : (r : Role) → SideAmong (Leading (clock + (talker_of p.seats).reaction + 80)) r q.side → AllBefore t (turn_begins at (leads p at clock))
+        go Absent h = let k : Some t ≡ None = sym e ∙ ap (λ (v : Side). side_due v) h in absurd cc
+        go Listener h = elim h [ ]
+        go Talker h =
+            let k : Some t ≡ Some (clock + (talker_of p.seats).reaction + 80) = sym e ∙ ap (λ (v : Side). side_due v) h in
+            let is : t ≡ clock + (talker_of p.seats).reaction + 80 = cc in
+            let late = fits.1 in
+            let below = behind_below at (clock + (talker_of p.seats).reaction + 1) t p.seats sound.react (omega (arith, is)) (omega (arith, is, late)) in
+            subst (AllBefore t) (lead_steps p at clock fits.1) (done_before (end_by p (ToTalker at clock)) t (steps_of p (ToTalker at clock)) below (steps_done p s (ToTalker at clock) sound fits))
+
+    mute_later : (freed : Option ℕ) (x : Seat) (q : Port) → StandsAmong (whole_point p (Nothing at clock freed)) (next_seat (Nothing at clock freed) x) q → (t : ℕ) → port_due q ≡ Some t → AllBefore t (turn_begins at (mutes p at clock freed))
+    mute_later freed x q st t e = let k : Some t ≡ None = sym e ∙ st.side in absurd cc
+
+    lead_said : (v : ℕ × Bool) → says (device s) ≡ Some v → (x : Seat) → IsSound p x → (d : ℕ) → device x ≡ d → SaysAs x.role (Full (ToTalker at clock)) (says d)
+    lead_said v k x h d e = go x.role refl
+      where
+        go : (r : Role) → x.role ≡ r → SaysAs r (Full (ToTalker at clock)) (says d)
+        go Absent r = tt
+        go Listener r = tt
+        go Talker r = (v, same_says x h r d e ∙ k)
+
+    mute_said : (freed : Option ℕ) → says (device s) ≡ None → (x : Seat) → IsSound p x → (d : ℕ) → device x ≡ d → SaysAs x.role (Full (Nothing at clock freed)) (says d)
+    mute_said freed k x h d e = go x.role refl
+      where
+        go : (r : Role) → x.role ≡ r → SaysAs r (Full (Nothing at clock freed)) (says d)
+        go Absent r = tt
+        go Listener r = tt
+        go Talker r = same_says x h r d e ∙ k
+
+    module _ (placed : Placed place p.seats) (rising : RisingIn M step peek says place (map (λ x. device x) p.seats)) (xs : List (Station M)) (stand : AllStand M step peek says place p p.seats xs) (answer : AllWith M step peek says place Answers p.seats xs) where
+      leads_on_bus : Fits p (ToTalker at clock) → (v : ℕ × Bool) → says (device s) ≡ Some v → {n n2 : ℕ} {ss2 : List (Station M)} {es : List Event} → Plays M step peek n xs es n2 ss2 → (rest : List Event) → Compat (turn_begins at (leads p at clock)) (es ++ rest)
+          → (fin : List (Rest × Port)) × (AllEnd M step peek says place (whole_point p (ToTalker at clock)) (map (λ x. next_seat (ToTalker at clock) x) p.seats) fin
+          × (WithinAll M step peek says place xs (steps_of p (ToTalker at clock)) fin es rest ss2 ⊎ PassedAll M step peek says place xs (steps_of p (ToTalker at clock)) fin es n2 ss2))
+      leads_on_bus fits v k plays rest meets =
+          turned_on_bus p (ToTalker at clock) at (leads p at clock) s sound talks fits fits.0.commanding fits.0.listener (lead_steps p at clock fits.1) (lead_turn p s sound talks at clock) (lead_later fits) (lead_said v k) placed rising xs stand answer plays rest meets
+
+      mutes_on_bus : (freed : Option ℕ) → Fits p (Nothing at clock freed) → says (device s) ≡ None → {n n2 : ℕ} {ss2 : List (Station M)} {es : List Event} → Plays M step peek n xs es n2 ss2 → (rest : List Event) → Compat (turn_begins at (mutes p at clock freed)) (es ++ rest)
+          → (fin : List (Rest × Port)) × (AllEnd M step peek says place (whole_point p (Nothing at clock freed)) (map (λ x. next_seat (Nothing at clock freed) x) p.seats) fin
+          × (WithinAll M step peek says place xs (steps_of p (Nothing at clock freed)) fin es rest ss2 ⊎ PassedAll M step peek says place xs (steps_of p (Nothing at clock freed)) fin es n2 ss2))
+      mutes_on_bus freed fits k plays rest meets =
+          turned_on_bus p (Nothing at clock freed) at (mutes p at clock freed) s sound talks fits fits.0.commanding fits.0.listener (mute_steps p at clock freed fits.1) (mute_turn p s sound talks at clock freed) (mute_later freed) (mute_said freed k) placed rising xs stand answer plays rest meets
+
+      -- the other kind was not played to its end
+      not_passed : (m : ℕ) (ys zs : List Step) (w w2 : Whole) (fin : List (Rest × Port)) {n2 : ℕ} {ss2 : List (Station M)} {es : List Event} (rest more : List Event) → Rattle.cbm_iec.proofs.TurnTwin.Parts m ys zs → steps_of p w2 ≡ turn_begins at ys → steps_of p w ≡ turn_begins at zs
+          → es ++ rest ≡ events_of (steps_of p w) ++ more → PassedAll M step peek says place xs (steps_of p w2) fin es n2 ss2 → ⊥
+      not_passed m ys zs w w2 fin {es = es} rest more parts is is2 e q =
+          let a : events_of (turn_begins at ys) ++ (q.more ++ rest) ≡ events_of (turn_begins at zs) ++ more =
+          sym (append_assoc (events_of (turn_begins at ys)) q.more rest) ∙ ap (λ (v : List Event). v ++ rest) (ap (λ (v : List Step). events_of v ++ q.more) (sym is) ∙ sym q.shown_so) ∙ e ∙ ap (λ (v : List Step). events_of v ++ more) is2 in
+          parts_differ m ys zs (q.more ++ rest) more parts cc
+
+      pub to_talker_on_bus : Fits p (ToTalker at clock) → {n n2 : ℕ} {ss2 : List (Station M)} {es : List Event} → Plays M step peek n xs es n2 ss2 → (rest more : List Event) → es ++ rest ≡ events_of (steps_of p (ToTalker at clock)) ++ more → TurnOnBus p (ToTalker at clock) (says (device s)) xs es rest n2 ss2
+      to_talker_on_bus fits {n} {n2} {ss2} {es} plays rest more e = go (says (device s)) refl
+        where
+          e2 : es ++ rest ≡ events_of (turn_begins at (leads p at clock)) ++ more
+          e2 = e ∙ ap (λ (v : List Step). events_of v ++ more) (lead_steps p at clock fits.1)
+
+          go : (v : Option (ℕ × Bool)) → says (device s) ≡ v → TurnOnBus p (ToTalker at clock) (says (device s)) xs es rest n2 ss2
+          go (Some v) k =
+              let out = leads_on_bus fits v k plays rest (subst (λ (l : List Event). Compat (turn_begins at (leads p at clock)) l) (sym e2) (twin_compat zero (turn_begins at (leads p at clock)) (turn_begins at (leads p at clock)) more (twin_self zero (turn_begins at (leads p at clock))))) in
+              record { piece = ToTalker at clock; fits = fits; answered = (v, k); fin = out.0; all_end = out.1.0; so = elim out.1.1 [ inl x ↦ inl x | inr x ↦ inr (refl, x) ] }
+          go None k =
+              let fits2 : Fits p (Nothing at clock None) = (fits.0, fits.1, tt) in
+              let parts = mute_lead p s sound talks at clock in
+              let twin = twin_skip zero (host at Data Pull ∷ for_each Released (host at Atn Free) ∷ []) (mutes p at clock None) (leads p at clock) (twin_parts zero (clock + s.party.reaction) (mutes p at clock None) (leads p at clock) parts) in
+              let out = mutes_on_bus None fits2 k plays rest (subst (λ (l : List Event). Compat (turn_begins at (mutes p at clock None)) l) (sym e2) (twin_compat zero (turn_begins at (mutes p at clock None)) (turn_begins at (leads p at clock)) more twin)) in
+              record {
+                piece = Nothing at clock None;
+                fits = fits2;
+                answered = k;
+                fin = out.0;
+                all_end = out.1.0;
+                so = elim out.1.1 [
+                  | inl x ↦ inl x
+                  | inr x ↦ absurd (not_passed (clock + s.party.reaction) (mutes p at clock None) (leads p at clock) (ToTalker at clock) (Nothing at clock None) out.0 rest more parts (mute_steps p at clock None fits.1) (lead_steps p at clock fits.1) e x)
+                ];
+              }
+
+      pub nothing_on_bus : (freed : Option ℕ) → Fits p (Nothing at clock freed) → {n n2 : ℕ} {ss2 : List (Station M)} {es : List Event} → Plays M step peek n xs es n2 ss2 → (rest more : List Event) → es ++ rest ≡ events_of (steps_of p (Nothing at clock freed)) ++ more
+          → TurnOnBus p (Nothing at clock freed) (says (device s)) xs es rest n2 ss2
+      nothing_on_bus freed fits {n} {n2} {ss2} {es} plays rest more e = go (says (device s)) refl
+        where
+          e2 : es ++ rest ≡ events_of (turn_begins at (mutes p at clock freed)) ++ more
+          e2 = e ∙ ap (λ (v : List Step). events_of v ++ more) (mute_steps p at clock freed fits.1)
+
+          later : FreedFits (clock + s.party.reaction) freed
+          later = subst (λ (b : Party). FreedFits (clock + b.reaction) freed) talker fits.2
+
+          go : (v : Option (ℕ × Bool)) → says (device s) ≡ v → TurnOnBus p (Nothing at clock freed) (says (device s)) xs es rest n2 ss2
+          go None k =
+              let out = mutes_on_bus freed fits k plays rest (subst (λ (l : List Event). Compat (turn_begins at (mutes p at clock freed)) l) (sym e2) (twin_compat zero (turn_begins at (mutes p at clock freed)) (turn_begins at (mutes p at clock freed)) more (twin_self zero (turn_begins at (mutes p at clock freed))))) in
+              record { piece = Nothing at clock freed; fits = fits; answered = k; fin = out.0; all_end = out.1.0; so = elim out.1.1 [ inl x ↦ inl x | inr x ↦ inr (refl, x) ] }
+          go (Some v) k =
+              let fits2 : Fits p (ToTalker at clock) = (fits.0, fits.1) in
+              let parts = lead_mute p s sound talks at clock freed later in
+              let twin = twin_skip zero (host at Data Pull ∷ for_each Released (host at Atn Free) ∷ []) (leads p at clock) (mutes p at clock freed) (twin_parts zero (clock + s.party.reaction) (leads p at clock) (mutes p at clock freed) parts) in
+              let out = leads_on_bus fits2 v k plays rest (subst (λ (l : List Event). Compat (turn_begins at (leads p at clock)) l) (sym e2) (twin_compat zero (turn_begins at (leads p at clock)) (turn_begins at (mutes p at clock freed)) more twin)) in
+              record {
+                piece = ToTalker at clock;
+                fits = fits2;
+                answered = (v, k);
+                fin = out.0;
+                all_end = out.1.0;
+                so = elim out.1.1 [
+                  | inl x ↦ inl x
+                  | inr x ↦ absurd (not_passed (clock + s.party.reaction) (leads p at clock) (mutes p at clock freed) (Nothing at clock freed) (ToTalker at clock) out.0 rest more parts (lead_steps p at clock fits.1) (mute_steps p at clock freed fits.1) e x)
+                ];
+              }
