@@ -36,7 +36,7 @@ use Rattle.cbm_iec.proofs.Ties.{Placed, tied_all}
 use Rattle.cbm_iec.proofs.TurnTwin.{twin_parts, parts_differ, turn_begins, leads, mutes, lead_steps, mute_steps, lead_mute, mute_lead}
 use Rattle.cbm_iec.specs.Among.{Rest, wires_of, behind_host, FollowsAmong}
 use Rattle.cbm_iec.specs.Buses.{rest_at, SaysAs, SideAmong, StandsAmong}
-use Rattle.cbm_iec.specs.Following.{IsInTime}
+use Rattle.cbm_iec.specs.Following.{IsInTime, Says}
 use Rattle.cbm_iec.specs.Hearing.{is_same}
 use Rattle.cbm_iec.specs.Laws.{SeatsReact, GoesOn}
 use Rattle.cbm_iec.specs.Pieces.{Whole, Place, Point, host_part, own_part, steps_of, let_go, freed_steps, behind_all, FreedFits, Fits, whole_point, Full, ToTalker, Nothing, Commanding, Open, Leading}
@@ -332,7 +332,8 @@ module _ (M : Type 0) (step : M → Act → M) (peek : M → Option (ℕ × Bool
   pub record TurnOnBus (p : Point) (w : Whole) (answer : Option (ℕ × Bool)) (from : List (Station M)) (es rest : List Event) (n2 : ℕ) (ss2 : List (Station M)) : Type 0 where
     pub piece : Whole
     pub fits : Fits p piece
-    pub answered : Rattle.cbm_iec.specs.Following.Says piece answer
+    pub answered : Says piece answer
+    pub twin : (t : ℕ) → Twin t (steps_of p piece) (steps_of p w)
     pub fin : List (Rest × Port)
     pub all_end : AllEnd M step peek says place (whole_point p piece) (map (λ x. next_seat piece x) p.seats) fin
     pub so : WithinAll M step peek says place from (steps_of p piece) fin es rest ss2 ⊎ ((piece ≡ w) × PassedAll M step peek says place from (steps_of p piece) fin es n2 ss2)
@@ -412,16 +413,17 @@ module _ (M : Type 0) (step : M → Act → M) (peek : M → Option (ℕ × Bool
           go : (v : Option (ℕ × Bool)) → says (device s) ≡ v → TurnOnBus p (ToTalker at clock) (says (device s)) xs es rest n2 ss2
           go (Some v) k =
               let out = leads_on_bus fits v k plays rest (subst (λ (l : List Event). Compat (turn_begins at (leads p at clock)) l) (sym e2) (twin_compat zero (turn_begins at (leads p at clock)) (turn_begins at (leads p at clock)) more (twin_self zero (turn_begins at (leads p at clock))))) in
-              record { piece = ToTalker at clock; fits = fits; answered = (v, k); fin = out.0; all_end = out.1.0; so = elim out.1.1 [ inl x ↦ inl x | inr x ↦ inr (refl, x) ] }
+              record { piece = ToTalker at clock; fits = fits; answered = (v, k); twin = λ t. twin_self t (steps_of p (ToTalker at clock)); fin = out.0; all_end = out.1.0; so = elim out.1.1 [ inl x ↦ inl x | inr x ↦ inr (refl, x) ] }
           go None k =
               let fits2 : Fits p (Nothing at clock None) = (fits.0, fits.1, tt) in
               let parts = mute_lead p s sound talks at clock in
-              let twin = twin_skip zero (host at Data Pull ∷ for_each Released (host at Atn Free) ∷ []) (mutes p at clock None) (leads p at clock) (twin_parts zero (clock + s.party.reaction) (mutes p at clock None) (leads p at clock) parts) in
-              let out = mutes_on_bus None fits2 k plays rest (subst (λ (l : List Event). Compat (turn_begins at (mutes p at clock None)) l) (sym e2) (twin_compat zero (turn_begins at (mutes p at clock None)) (turn_begins at (leads p at clock)) more twin)) in
+              let twin : (t : ℕ) → Twin t (turn_begins at (mutes p at clock None)) (turn_begins at (leads p at clock)) = λ t. twin_skip t (host at Data Pull ∷ for_each Released (host at Atn Free) ∷ []) (mutes p at clock None) (leads p at clock) (twin_parts t (clock + s.party.reaction) (mutes p at clock None) (leads p at clock) parts) in
+              let out = mutes_on_bus None fits2 k plays rest (subst (λ (l : List Event). Compat (turn_begins at (mutes p at clock None)) l) (sym e2) (twin_compat zero (turn_begins at (mutes p at clock None)) (turn_begins at (leads p at clock)) more (twin zero))) in
               record {
                 piece = Nothing at clock None;
                 fits = fits2;
                 answered = k;
+                twin = λ t. subst (λ (v : List Step). Twin t v (steps_of p (ToTalker at clock))) (sym (mute_steps p at clock None fits.1)) (subst (λ (v : List Step). Twin t (turn_begins at (mutes p at clock None)) v) (sym (lead_steps p at clock fits.1)) (twin t));
                 fin = out.0;
                 all_end = out.1.0;
                 so = elim out.1.1 [
@@ -443,16 +445,17 @@ module _ (M : Type 0) (step : M → Act → M) (peek : M → Option (ℕ × Bool
           go : (v : Option (ℕ × Bool)) → says (device s) ≡ v → TurnOnBus p (Nothing at clock freed) (says (device s)) xs es rest n2 ss2
           go None k =
               let out = mutes_on_bus freed fits k plays rest (subst (λ (l : List Event). Compat (turn_begins at (mutes p at clock freed)) l) (sym e2) (twin_compat zero (turn_begins at (mutes p at clock freed)) (turn_begins at (mutes p at clock freed)) more (twin_self zero (turn_begins at (mutes p at clock freed))))) in
-              record { piece = Nothing at clock freed; fits = fits; answered = k; fin = out.0; all_end = out.1.0; so = elim out.1.1 [ inl x ↦ inl x | inr x ↦ inr (refl, x) ] }
+              record { piece = Nothing at clock freed; fits = fits; answered = k; twin = λ t. twin_self t (steps_of p (Nothing at clock freed)); fin = out.0; all_end = out.1.0; so = elim out.1.1 [ inl x ↦ inl x | inr x ↦ inr (refl, x) ] }
           go (Some v) k =
               let fits2 : Fits p (ToTalker at clock) = (fits.0, fits.1) in
               let parts = lead_mute p s sound talks at clock freed later in
-              let twin = twin_skip zero (host at Data Pull ∷ for_each Released (host at Atn Free) ∷ []) (leads p at clock) (mutes p at clock freed) (twin_parts zero (clock + s.party.reaction) (leads p at clock) (mutes p at clock freed) parts) in
-              let out = leads_on_bus fits2 v k plays rest (subst (λ (l : List Event). Compat (turn_begins at (leads p at clock)) l) (sym e2) (twin_compat zero (turn_begins at (leads p at clock)) (turn_begins at (mutes p at clock freed)) more twin)) in
+              let twin : (t : ℕ) → Twin t (turn_begins at (leads p at clock)) (turn_begins at (mutes p at clock freed)) = λ t. twin_skip t (host at Data Pull ∷ for_each Released (host at Atn Free) ∷ []) (leads p at clock) (mutes p at clock freed) (twin_parts t (clock + s.party.reaction) (leads p at clock) (mutes p at clock freed) parts) in
+              let out = leads_on_bus fits2 v k plays rest (subst (λ (l : List Event). Compat (turn_begins at (leads p at clock)) l) (sym e2) (twin_compat zero (turn_begins at (leads p at clock)) (turn_begins at (mutes p at clock freed)) more (twin zero))) in
               record {
                 piece = ToTalker at clock;
                 fits = fits2;
                 answered = (v, k);
+                twin = λ t. subst (λ (v : List Step). Twin t v (steps_of p (Nothing at clock freed))) (sym (lead_steps p at clock fits.1)) (subst (λ (v : List Step). Twin t (turn_begins at (leads p at clock)) v) (sym (mute_steps p at clock freed fits.1)) (twin t));
                 fin = out.0;
                 all_end = out.1.0;
                 so = elim out.1.1 [
