@@ -1,21 +1,20 @@
 -- Behind a piece that the drives of a bus have played, and in one: how they stand for the next, and that none of the host's changes that are left comes too soon.
 use Rattle.std.proofs.Common.{◌≡◌, ℕ, ◌≤◌, Bool, true, false, List, [], ◌∷◌, ◌++◌, map, Option, Some, None, ap, sym, ◌∙◌, subst, arith, refl}
-use Rattle.cbm_iec.proofs.AlongBus.{GoesSo, AllGo, devs, IsPlain, plain_behind, soon_inside}
+use Rattle.cbm_iec.proofs.AlongBus.{AllGo, devs, IsPlain, plain_behind, soon_inside}
 use Rattle.cbm_iec.proofs.BusStep.{goes_unique, ends}
 use Rattle.cbm_iec.proofs.FrameBus.{AllStand, AllEnd}
 use Rattle.cbm_iec.proofs.Keeping.{HostFrom}
-use Rattle.cbm_iec.proofs.Merging.{NoneBefore, InOrder, none_sooner}
+use Rattle.cbm_iec.proofs.Merging.{none_sooner}
 use Rattle.cbm_iec.proofs.PieceReadings.{next_seat}
 use Rattle.cbm_iec.proofs.PullBus.{AllOf}
 use Rattle.cbm_iec.proofs.PullPlayed.{AllShow}
 use Rattle.cbm_iec.proofs.SideStates.{side_react}
-use Rattle.cbm_iec.proofs.TalkPiece.{HostEvents, back_host, all_host_from}
+use Rattle.cbm_iec.proofs.TalkParts.{HostEvents, back_host, all_host_from}
 use Rattle.cbm_iec.proofs.TalkSwap.{Twin}
 use Rattle.cbm_iec.specs.Among.{Rest}
 use Rattle.cbm_iec.specs.Pieces.{Whole, Point, whole_point, PullPiece, Command, Byte, ToListener, ToNobody, ToTalker, Nothing, Talk}
-use Rattle.cbm_iec.specs.Playing.{Station, shown, AllInTime}
-use Rattle.cbm_iec.specs.Ports.{port_due}
-use Rattle.cbm_iec.specs.Seats.{Seat, device}
+use Rattle.cbm_iec.specs.Playing.{Station, AllInTime}
+use Rattle.cbm_iec.specs.Seats.{Seat}
 use Rattle.cbm_iec.specs.Steps.{Step, moment_of, events_of}
 use Rattle.cbm_iec.specs.Buses.{StandsAmong}
 use Rattle.cbm_iec.specs.Timing.{is_host}

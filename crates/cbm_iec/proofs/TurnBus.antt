@@ -1,8 +1,8 @@
 -- The turnaround on a bus, by the answer of the talker's machine: the host pulls DATA, frees ATN, then CLOCK; the drives without a role let go, the talker leads or is silent.
 use Rattle.std.proofs.Common.{◌≡◌, ℕ, zero, ◌+◌, ◌≤◌, ◌<◌, ◌⊎◌, inl, inr, Bool, true, false, List, [], ◌∷◌, ◌++◌, map, append_assoc, Option, Some, None, ap, sym, ◌∙◌, subst, arith, refl}
 use Rattle.std.specs.Prelude.{if◌then◌else◌, nat_eq, max}
-use Rattle.cbm_iec.proofs.Along.{Meets, Compat, AsksFor, LastSaid, SaysOpen}
-use Rattle.cbm_iec.proofs.AlongBus.{GoesSo, AllGo, devs, devs_tell, ran_tell, RisingIn, IsPlain, WithinAll, PassedAll, along_bus, host_atn}
+use Rattle.cbm_iec.proofs.Meeting.{Compat, AsksFor, LastSaid, SaysOpen}
+use Rattle.cbm_iec.proofs.AlongBus.{GoesSo, AllGo, devs, devs_tell, RisingIn, IsPlain, WithinAll, PassedAll, along_bus, host_atn}
 use Rattle.cbm_iec.proofs.AmongCalm.{Every}
 use Rattle.cbm_iec.proofs.AmongFrames.{in_hold}
 use Rattle.cbm_iec.proofs.AmongFronts.{steps_order, follows_drive, follows_wires}
@@ -12,7 +12,6 @@ use Rattle.cbm_iec.proofs.AmongPulls.{clock_held}
 use Rattle.cbm_iec.proofs.AmongSessions.{piece_among, left_is}
 use Rattle.cbm_iec.proofs.AmongTurns.{commanding_port}
 use Rattle.cbm_iec.proofs.Around.{every_each}
-use Rattle.cbm_iec.proofs.BusActs.{ran_then, ran_stays}
 use Rattle.cbm_iec.proofs.BusStep as bus
 use Rattle.cbm_iec.proofs.BusStep.{Tied}
 use Rattle.cbm_iec.proofs.FollowedFrames.{stands}
@@ -22,10 +21,10 @@ use Rattle.cbm_iec.proofs.Merging.{AllBefore, InOrder}
 use Rattle.cbm_iec.proofs.OneReading.{is_atn, NoAtn}
 use Rattle.cbm_iec.proofs.Orders.{host_order}
 use Rattle.cbm_iec.proofs.Owning.{part_owned, part_order}
-use Rattle.cbm_iec.proofs.Phases.{Each, each}
+use Rattle.cbm_iec.proofs.Phases.{each}
 use Rattle.cbm_iec.proofs.PieceReadings.{next_seat}
 use Rattle.cbm_iec.proofs.PullSettled.{holding_told, among_told}
-use Rattle.cbm_iec.proofs.ReleaseBus.{AllQuiet}
+use Rattle.cbm_iec.proofs.ReleaseBus.{AllQuiet, peel}
 use Rattle.cbm_iec.proofs.SessionOrder.{part_host, piece_goes, steps_done, end_by}
 use Rattle.cbm_iec.proofs.SideStates.{SideHolds, SideAsks}
 use Rattle.cbm_iec.proofs.Standing.{IsSound}
@@ -39,24 +38,21 @@ use Rattle.cbm_iec.specs.Buses.{rest_at, SaysAs, SideAmong, StandsAmong}
 use Rattle.cbm_iec.specs.Following.{IsInTime, Says}
 use Rattle.cbm_iec.specs.Hearing.{is_same}
 use Rattle.cbm_iec.specs.Laws.{SeatsReact, GoesOn}
-use Rattle.cbm_iec.specs.Pieces.{Whole, Place, Point, host_part, own_part, steps_of, let_go, freed_steps, behind_all, FreedFits, Fits, whole_point, Full, ToTalker, Nothing, Commanding, Open, Leading}
-use Rattle.cbm_iec.specs.Playing.{Station, host_event, acted, tell, Plays, stays, change, reaction}
+use Rattle.cbm_iec.specs.Pieces.{Whole, Point, host_part, own_part, steps_of, let_go, freed_steps, behind_all, FreedFits, Fits, whole_point, Full, ToTalker, Nothing, Commanding, Leading}
+use Rattle.cbm_iec.specs.Playing.{Station, acted, tell, Plays, change}
 use Rattle.cbm_iec.specs.Ports.{side_due, port_due, freed_side, turned_side, lined_side, lined_act, told, told_act}
 use Rattle.cbm_iec.specs.Seats.{lines, Seat, device, is_listener, is_talker, has_listener, talker_of}
-use Rattle.cbm_iec.specs.Speaking.{after_turn}
-use Rattle.cbm_iec.specs.Steps.{Step, moment_of, events_of, host, drive, for_each, for_one}
+use Rattle.cbm_iec.specs.Steps.{Step, events_of, host, drive, for_each, for_one}
 use Rattle.cbm_iec.specs.declared.act.Act.TheVariants.{Pulled, Released, Silent}
 use Rattle.cbm_iec.specs.declared.act.Act.{Act}
-use Rattle.cbm_iec.specs.declared.ear.Ear.TheVariants.{Idle, Leaving, Holding}
-use Rattle.cbm_iec.specs.declared.ear.Ear.{Ear}
+use Rattle.cbm_iec.specs.declared.ear.Ear.TheVariants.{Leaving, Holding}
 use Rattle.cbm_iec.specs.declared.event.Event.{Event}
-use Rattle.cbm_iec.specs.declared.event.Who.TheVariants.{Host, Drive}
 use Rattle.cbm_iec.specs.declared.line.Change.{Change}
 use Rattle.cbm_iec.specs.declared.line.Line.TheVariants.{Atn, Clock, Data}
 use Rattle.cbm_iec.specs.declared.line.Way.TheVariants.{Pull, Free}
 use Rattle.cbm_iec.specs.declared.lines.Held.{Held}
 use Rattle.cbm_iec.specs.declared.lines.Lines.{Lines}
-use Rattle.cbm_iec.specs.declared.mouth.Mouth.TheVariants.{Turned, Led}
+use Rattle.cbm_iec.specs.declared.mouth.Mouth.TheVariants.{Turned}
 use Rattle.cbm_iec.specs.declared.party.Party.{Party}
 use Rattle.cbm_iec.specs.declared.party.Role.TheVariants.{Absent, Listener, Talker}
 use Rattle.cbm_iec.specs.declared.party.Role.{Role}
@@ -121,31 +117,6 @@ behind_below at m k (x ∷ xs) r l h = go x.role (behind_below at m k xs r.2 l h
     go Absent b = let few = r.1 in omega (arith, b, h, few)
     go Listener b = b
     go Talker b = b
-
-module _ (M : Type 0) (step : M → Act → M) (peek : M → Option (ℕ × Bool)) (says : ℕ → Option (ℕ × Bool)) (place : ℕ → ℕ) where
-  quiet_first : (t : ℕ) (before : List (Station M)) (o : Station M) (behind : List (Station M)) → AllQuiet M step peek says place (before ++ o ∷ behind) → port_due o.port ≡ Some t → ⊥
-  quiet_first t [] o behind h e = let k : Some t ≡ None = sym e ∙ h.0 in cc
-  quiet_first t (b ∷ before) o behind h e = quiet_first t before o behind h.1 e
-
-  -- Where nothing is due the next event is the host's, and `more` is what comes of the play behind it.
-  pub peel : {n n2 : ℕ} {xs ss2 : List (Station M)} {es : List Event} → Plays M step peek n xs es n2 ss2 → AllQuiet M step peek says place xs → (y : Step) (ys : List Step) (c : Change) (fin : List (Rest × Port)) → y.event ≡ host_event c → AllGo M step peek says place xs (y ∷ ys) fin
-      → (rest : List Event) → Compat (y ∷ ys) (es ++ rest)
-      → ((more : List Event) → Plays M step peek c.moment (map (λ x. tell M step peek c x) xs) more n2 ss2 → Compat ys (more ++ rest) → WithinAll M step peek says place (map (λ x. tell M step peek c x) xs) ys fin more rest ss2 ⊎ PassedAll M step peek says place (map (λ x. tell M step peek c x) xs) ys fin more n2 ss2)
-      → WithinAll M step peek says place xs (y ∷ ys) fin es rest ss2 ⊎ PassedAll M step peek says place xs (y ∷ ys) fin es n2 ss2
-  peel {n} {n2} {xs} {ss2} {es} (stays b e k f) quiet y ys c fin same first rest meets behind =
-      inl (record { front = []; back = y ∷ ys; parts = refl; shown_so = sym e; goes = subst (λ (v : List (Station M)). AllGo M step peek says place v (y ∷ ys) fin) (sym f) first; meets = subst (λ (v : List Event). Compat (y ∷ ys) (v ++ rest)) e meets; ran = ran_stays M step peek f })
-  peel {n} {n2} {xs} {ss2} {es} (change x more b l i e p) quiet y ys c fin same first rest meets behind =
-      let d : Compat (y ∷ ys) (host_event x ∷ (more ++ rest)) = subst (λ (v : List Event). Compat (y ∷ ys) (v ++ rest)) e meets in
-      let met : host_event c ≡ host_event x = subst (λ (w : Event). Meets w.who w.change.moment Host x.moment (w ≡ host_event x)) same d.0 in
-      let is : y.event ≡ host_event x = same ∙ met in
-      let equal : c ≡ x = ap (λ (v : Event). v.change) met in
-      let p2 : Plays M step peek c.moment (map (λ z. tell M step peek c z) xs) more n2 ss2 = subst (λ (v : Change). Plays M step peek v.moment (map (λ z. tell M step peek v z) xs) more n2 ss2) (sym equal) p in
-      elim (behind more p2 (d.1 is)) [
-        | inl w ↦ inl (record { front = y ∷ w.front; back = w.back; parts = ap (λ (v : List Step). y ∷ v) w.parts; shown_so = ap (λ (v : Event). v ∷ events_of w.front) is ∙ ap (λ (v : List Event). host_event x ∷ v) w.shown_so ∙ sym e; goes = w.goes; meets = w.meets; ran = ran_then M step peek (record { runs = λ ms done h. ran_tell M step peek says place ms done c y ys xs fin first same h }) w.ran })
-        | inr w ↦ inr (record { more = w.more; now = w.now; there = w.there; shown_so = e ∙ ap (λ (v : List Event). host_event x ∷ v) w.shown_so ∙ ap (λ (v : Event). v ∷ (events_of ys ++ w.more)) (sym is); plays = w.plays; goes = w.goes; ran = ran_then M step peek (record { runs = λ ms done h. ran_tell M step peek says place ms done c y ys xs fin first same h }) w.ran })
-      ]
-  peel {n} {n2} {xs} {ss2} {es} (reaction t before o behind more b u f e p) quiet y ys c fin same first rest meets next =
-      absurd (quiet_first t before o behind (subst (AllQuiet M step peek says place) u quiet) f.due)
 
 -- told that ATN is free
 freed_told : (t : ℕ) (r r2 : Rest) (q : Port) → q.others ≡ wires_of r → (wires_of r).atn_low ≡ true → (wires_of r2).atn_low ≡ false
