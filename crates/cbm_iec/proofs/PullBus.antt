@@ -1,8 +1,8 @@
 -- ATN's pull on a bus: the host's changes, then the drives' answers, of which some show nothing.
 use Rattle.std.proofs.Common.{◌≡◌, ℕ, suc, ◌+◌, ◌≤◌, ◌<◌, ◌⊎◌, inl, inr, Bool, true, false, List, [], ◌∷◌, ◌++◌, map, append_assoc, Option, Some, None, ap, sym, ◌∙◌, subst, arith, refl}
 use Rattle.std.specs.Prelude.{nat_eq}
-use Rattle.cbm_iec.proofs.Along.{FirstIs, first_append, first_shown, reaction_events, no_steps}
-use Rattle.cbm_iec.proofs.AlongBus.{other_atn, host_atn, dev, devs, OthersIn, Rising, others_before, others_behind, rising_first, devs_tell, devs_react}
+use Rattle.cbm_iec.proofs.Meeting.{FirstIs, first_append, first_shown, reaction_events, no_steps}
+use Rattle.cbm_iec.proofs.AlongBus.{other_atn, host_atn, devs, OthersIn, Rising, others_before, others_behind, rising_first, devs_tell, devs_react}
 use Rattle.cbm_iec.proofs.AmongCalm.{Every}
 use Rattle.cbm_iec.proofs.AmongFronts.{follows_rest}
 use Rattle.cbm_iec.proofs.AmongPulls.{clock_held}
@@ -218,7 +218,7 @@ module _ (M : Type 0) (step : M → Act → M) (peek : M → Option (ℕ × Bool
           → Pulled (hear M step peek c x) ys e × ((hear M step peek c x).machine ≡ x.machine)
       by (inl k) =
           let t = starting_told c.moment k.due x.rest (behind_other c.line c.way x.rest) x.port h.seen same_atn k.starts.side in
-          let some : (u : ℕ) → port_due x.port ≡ Some u → reaction_steps u (says (device_of x)) x.port ≡ [] → ⊥ = λ u d. no_steps M step peek u (says (device_of x)) x.port (some_shown u k.due (says (device_of x)) x.port k.starts.side k.other) in (
+          let some : (u : ℕ) → port_due x.port ≡ Some u → reaction_steps u (says (device_of x)) x.port ≡ [] → ⊥ = λ u d. no_steps u (says (device_of x)) x.port (some_shown u k.due (says (device_of x)) x.port k.starts.side k.other) in (
             record {
               seen = refl;
               low = low2;
@@ -300,7 +300,7 @@ module _ (M : Type 0) (step : M → Act → M) (peek : M → Option (ℕ × Bool
     where
       one : Shows x [] e ⊎ Rests x [] e → IsInTime m (port_due x.port) → (x.rest ≡ e.0) × (x.port ≡ e.1)
       one (inl k) j =
-          let some : (u : ℕ) → port_due x.port ≡ Some u → reaction_steps u (says (device_of x)) x.port ≡ [] → ⊥ = λ u d. no_steps M step peek u (says (device_of x)) x.port (some_shown u k.due (says (device_of x)) x.port k.starts.side k.other) in
+          let some : (u : ℕ) → port_due x.port ≡ Some u → reaction_steps u (says (device_of x)) x.port ≡ [] → ⊥ = λ u d. no_steps u (says (device_of x)) x.port (some_shown u k.due (says (device_of x)) x.port k.starts.side k.other) in
           let z = ended (says (device_of x)) k.follows some in
           let c : Hearing Holding ≡ Hearing (Starting k.due) = sym h.0.end ∙ ap (λ (v : Port). v.side) z.1 ∙ k.starts.side in
           absurd cc
@@ -365,7 +365,7 @@ module _ (M : Type 0) (step : M → Act → M) (peek : M → Option (ℕ × Bool
       record {
         more = z.more;
         steps = z.steps ∙ ap (λ (v : List Step). v ++ z.more) steps;
-        some = λ v. no_steps M step peek t p q (some_shown t k.due p q side k.other) (steps ∙ v);
+        some = λ v. no_steps t p q (some_shown t k.due p q side k.other) (steps ∙ v);
         events = ap (λ (v : List Step). events_of v) (sym steps) ∙ reaction_events p t q ∙ ap (λ (v : List Change). drive_events (device_of x) v) same;
         silent = start_act k.due (has_byte (peek x.machine)) q side;
         there = record {

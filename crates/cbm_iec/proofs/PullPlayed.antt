@@ -1,7 +1,7 @@
 -- ATN's pull on a bus, from a point of a session at which it may come: the play is in the pull, or behind it with each drive as the session has it.
 use Rattle.std.proofs.Common.{◌≡◌, ℕ, ◌+◌, ◌≤◌, ◌⊎◌, inl, inr, Bool, true, false, List, [], ◌∷◌, ◌++◌, map, append_assoc, Option, Some, ap, sym, ◌∙◌, subst, arith, refl}
 use Rattle.std.specs.Prelude.{if◌then◌else◌}
-use Rattle.cbm_iec.proofs.Along.{first_append, first_shown}
+use Rattle.cbm_iec.proofs.Meeting.{first_append, first_shown}
 use Rattle.cbm_iec.proofs.AlongBus.{RisingIn, devs, devs_tell}
 use Rattle.cbm_iec.proofs.AmongCalm.{Every}
 use Rattle.cbm_iec.proofs.AmongFronts.{follows_drive, follows_wires}
@@ -186,6 +186,6 @@ module _ (M : Type 0) (step : M → Act → M) (peek : M → Option (ℕ × Bool
             let d = o.port.party.device in
             let mine = first_append d t (drive_events d (shown M step peek t o)) (moreE ++ rest) (first_shown d t o.port.own (Rattle.cbm_iec.specs.Ports.next_held (Rattle.cbm_iec.specs.Ports.has_byte (peek o.machine)) o.port) some) in
             let whole : drive_events d (shown M step peek t o) ++ (moreE ++ rest) ≡ first.event ∷ (events_of (hosts ++ drives) ++ more) = sym (append_assoc (drive_events d (shown M step peek t o)) moreE rest) ∙ sym (ap (λ (v : List Event). v ++ rest) k) ∙ j in
-            let there = subst (λ (v : List Event). Rattle.cbm_iec.proofs.Along.FirstIs d t v) whole mine in
+            let there = subst (λ (v : List Event). Rattle.cbm_iec.proofs.Meeting.FirstIs d t v) whole mine in
             let no : Host ≡ Drive d = there.0 in
             absurd cc

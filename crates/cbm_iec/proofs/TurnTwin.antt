@@ -5,16 +5,15 @@ use Rattle.std.proofs.lemmas.Bool.Decides.{leb_tells}
 use Rattle.cbm_iec.proofs.AmongPoints.{only_talker}
 use Rattle.cbm_iec.proofs.AmongTurns.{from_role, late_drives}
 use Rattle.cbm_iec.proofs.Around.{NotHost, ForOthers, merge_drives}
-use Rattle.cbm_iec.proofs.Merging.{merge_here, merge_there, merge_nil}
+use Rattle.cbm_iec.proofs.Merging.{merge_here, merge_there}
 use Rattle.cbm_iec.proofs.Phases.{each}
 use Rattle.cbm_iec.proofs.PieceReadings.{turn_first}
 use Rattle.cbm_iec.proofs.Seating.{Apart, Sits}
 use Rattle.cbm_iec.proofs.Standing.{IsSound}
-use Rattle.cbm_iec.proofs.Talkers.{talker_is, true_false}
 use Rattle.cbm_iec.proofs.TalkSwap.{Twin}
 use Rattle.cbm_iec.specs.Joins.{NotBefore}
-use Rattle.cbm_iec.specs.Pieces.{Point, host_part, own_part, steps_of, let_go, freed_steps, FreedFits, ToTalker, Nothing}
-use Rattle.cbm_iec.specs.Seats.{Seat, device, reaction, is_talker, talker_of}
+use Rattle.cbm_iec.specs.Pieces.{Point, own_part, steps_of, let_go, freed_steps, FreedFits, ToTalker, Nothing}
+use Rattle.cbm_iec.specs.Seats.{Seat, device, reaction, is_talker}
 use Rattle.cbm_iec.specs.Steps.{Step, events_of, host, drive, for_each, for_one, moment_of, merge, merge_all}
 use Rattle.cbm_iec.specs.declared.act.Act.TheVariants.{Released, Silent}
 use Rattle.cbm_iec.specs.declared.event.Event.{Event}
@@ -22,7 +21,6 @@ use Rattle.cbm_iec.specs.declared.event.Who.TheVariants.{Host, Drive}
 use Rattle.cbm_iec.specs.declared.event.Who.{Who}
 use Rattle.cbm_iec.specs.declared.line.Line.TheVariants.{Atn, Clock, Data}
 use Rattle.cbm_iec.specs.declared.line.Way.TheVariants.{Pull, Free}
-use Rattle.cbm_iec.specs.declared.party.Party.{Party}
 use Rattle.cbm_iec.specs.declared.party.Role.TheVariants.{Absent, Listener, Talker}
 use Rattle.cbm_iec.specs.declared.party.Role.{Role}
 
