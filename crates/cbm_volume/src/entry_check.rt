@@ -36,7 +36,8 @@ fn check_sides<M: Medium>(
 ) -> Result<(), Unsound>
     requires tracks { geometry ≤ M.tracks medium.now }
     requires map { IsOk (M.content medium.now directory_head) }
-    ensures ok { OnOk result (ClaimsSides geometry (M.content medium.now) (is_marked claimed.old) entry.now (is_marked claimed.new)) }
+    ensures ok { OnOk result (ClaimsSides geometry (M.content medium.now) (is_marked claimed.old) entry.now
+        (is_marked claimed.new)) }
     ensures err { IfErr result (λ u. SidesFault geometry (M.content medium.now) (is_marked claimed.old) entry.now u) }
 {
     let at = entry.first_side();
@@ -56,8 +57,10 @@ fn check_relative<M: Medium>(
 ) -> Result<(), Unsound>
     requires tracks { geometry ≤ M.tracks medium.now }
     requires map { IsOk (M.content medium.now directory_head) }
-    ensures ok { OnOk result (ClaimsFile true true geometry (M.content medium.now) (is_marked claimed.old) entry.now (is_marked claimed.new)) }
-    ensures err { IfErr result (λ u. FileFault true true geometry (M.content medium.now) (is_marked claimed.old) entry.now u) }
+    ensures ok { OnOk result (ClaimsFile true true geometry (M.content medium.now) (is_marked claimed.old) entry.now
+        (is_marked claimed.new)) }
+    ensures err { IfErr result (λ u. FileFault true true geometry (M.content medium.now)
+        (is_marked claimed.old) entry.now u) }
 {
     let first = entry.first_block();
     if first.is_end() {
@@ -76,8 +79,10 @@ fn check_file<M: Medium>(
 ) -> Result<(), Unsound>
     requires tracks { geometry ≤ M.tracks medium.now }
     requires map { IsOk (M.content medium.now directory_head) }
-    ensures ok { OnOk result (ClaimsFile (is_closed entry.now) (is_relative entry.now) geometry (M.content medium.now) (is_marked claimed.old) entry.now (is_marked claimed.new)) }
-    ensures err { IfErr result (λ u. FileFault (is_closed entry.now) (is_relative entry.now) geometry (M.content medium.now) (is_marked claimed.old) entry.now u) }
+    ensures ok { OnOk result (ClaimsFile (is_closed entry.now) (is_relative entry.now) geometry
+        (M.content medium.now) (is_marked claimed.old) entry.now (is_marked claimed.new)) }
+    ensures err { IfErr result (λ u. FileFault (is_closed entry.now) (is_relative entry.now) geometry
+        (M.content medium.now) (is_marked claimed.old) entry.now u) }
 {
     if !entry.is_closed() {
         return Ok(());
@@ -98,8 +103,10 @@ pub fn check_entry<M: Medium>(
 ) -> Result<(), Unsound>
     requires tracks { geometry ≤ M.tracks medium.now }
     requires map { IsOk (M.content medium.now directory_head) }
-    ensures ok { OnOk result (ClaimsEntry geometry (M.content medium.now) (is_marked claimed.old) entry.now (is_marked claimed.new)) }
-    ensures err { IfErr result (λ u. EntryFault geometry (M.content medium.now) (is_marked claimed.old) sector entry.now u) }
+    ensures ok { OnOk result (ClaimsEntry geometry (M.content medium.now) (is_marked claimed.old) entry.now
+        (is_marked claimed.new)) }
+    ensures err { IfErr result (λ u. EntryFault geometry (M.content medium.now)
+        (is_marked claimed.old) sector entry.now u) }
 {
     if entry.kind().is_none() {
         return Err(Flaw::UnknownType.at(sector));

@@ -29,5 +29,6 @@ pub fn contents_mean_one_disk()
 /// A chain of h blocks whose sectors are whole has 254 bytes in each but the last, and at most 254 in that.
 pub fn blocks_bound_bytes()
     ensures { (tracks : ℕ) (c : Content) (a : Place) (blocks : List Place) → AllWhole c → Chain tracks c a blocks →
-        (254 * (length blocks - 1) ≤ length (chain_bytes c blocks)) × (length (chain_bytes c blocks) ≤ 254 * length blocks) }
+        (254 * (length blocks - 1) ≤ length (chain_bytes c blocks)) ×
+        (length (chain_bytes c blocks) ≤ 254 * length blocks) }
 {}
