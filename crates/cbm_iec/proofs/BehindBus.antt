@@ -1,5 +1,5 @@
 -- Behind a piece that the drives of a bus have played, and in one: how they stand for the next, and that none of the host's changes that are left comes too soon.
-use Rattle.std.proofs.Common.{◌≡◌, ℕ, ◌≤◌, Bool, true, false, List, [], ◌∷◌, ◌++◌, map, Option, Some, None, ap, sym, ◌∙◌, subst, arith, refl}
+use Rattle.std.proofs.Common.{◌≡◌, ℕ, ◌≤◌, Bool, List, [], ◌∷◌, ◌++◌, map, Option, ap, sym, ◌∙◌, subst, refl}
 use Rattle.cbm_iec.proofs.AlongBus.{AllGo, devs, IsPlain, plain_behind, soon_inside}
 use Rattle.cbm_iec.proofs.BusStep.{goes_unique, ends}
 use Rattle.cbm_iec.proofs.FrameBus.{AllStand, AllEnd}

@@ -1,5 +1,5 @@
 -- A piece on a bus up to a moment at which a pull cuts it: all drives of the bus go so far, and nothing of theirs is due before that moment.
-use Rattle.std.proofs.Common.{◌≡◌, ℕ, suc, ◌≤◌, ◌<◌, ◌⊎◌, inl, inr, Bool, true, false, List, [], ◌∷◌, ◌++◌, append_assoc, Option, Some, None, ap, sym, ◌∙◌, subst, arith, refl}
+use Rattle.std.proofs.Common.{◌≡◌, ℕ, suc, ◌≤◌, ◌<◌, ◌⊎◌, inl, inr, Bool, List, [], ◌∷◌, ◌++◌, Option, Some, None, ap, sym, ◌∙◌, subst, arith, refl}
 use Rattle.std.proofs.lemmas.Bool.Decides.{leb_tells}
 use Rattle.cbm_iec.proofs.AlongBus.{GoesSo, AllGo, devs, OwnedIn, RisingIn, IsPlain, WithinAll, PassedAll, along_bus}
 use Rattle.cbm_iec.proofs.BusStep.{Goes, ends, tells, hears, reacts, own_first, Comes, here, there, Tied}

@@ -1,6 +1,5 @@
 -- What a drive does and the steps of a piece: how two lists meet, the events of a reaction, and what is asked of the machine.
-use Rattle.std.proofs.Common.{◌≡◌, ℕ, ◌≤◌, ◌<◌, ◌⊎◌, inl, inr, Bool, true, false, List, [], ◌∷◌, ◌++◌, append_assoc, Option, Some, None, ap, sym, ◌∙◌, subst, arith, refl, eq-eqb}
-use Rattle.std.specs.Prelude.{if◌then◌else◌}
+use Rattle.std.proofs.Common.{◌≡◌, ℕ, ◌≤◌, ◌<◌, Bool, true, false, List, [], ◌∷◌, ◌++◌, Option, Some, None, ap, sym, ◌∙◌, subst, arith, refl}
 use Rattle.cbm_iec.proofs.OneReading.{NoAtn}
 use Rattle.cbm_iec.proofs.SideStates.{SideAsks, side_same_held, side_same_after}
 use Rattle.cbm_iec.proofs.TalkStates.{NoneSaid}

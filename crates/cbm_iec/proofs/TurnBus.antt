@@ -1,5 +1,5 @@
 -- The turnaround on a bus, by the answer of the talker's machine: the host pulls DATA, frees ATN, then CLOCK; the drives without a role let go, the talker leads or is silent.
-use Rattle.std.proofs.Common.{◌≡◌, ℕ, zero, ◌+◌, ◌≤◌, ◌<◌, ◌⊎◌, inl, inr, Bool, true, false, List, [], ◌∷◌, ◌++◌, map, append_assoc, Option, Some, None, ap, sym, ◌∙◌, subst, arith, refl}
+use Rattle.std.proofs.Common.{◌≡◌, ℕ, zero, ◌+◌, ◌<◌, ◌⊎◌, inl, inr, Bool, true, false, List, [], ◌∷◌, ◌++◌, map, append_assoc, Option, Some, None, ap, sym, ◌∙◌, subst, arith, refl}
 use Rattle.std.specs.Prelude.{if◌then◌else◌, nat_eq, max}
 use Rattle.cbm_iec.proofs.Meeting.{Compat, AsksFor, LastSaid, SaysOpen}
 use Rattle.cbm_iec.proofs.AlongBus.{GoesSo, AllGo, devs, devs_tell, RisingIn, IsPlain, WithinAll, PassedAll, along_bus, host_atn}
@@ -14,7 +14,6 @@ use Rattle.cbm_iec.proofs.AmongTurns.{commanding_port}
 use Rattle.cbm_iec.proofs.Around.{every_each}
 use Rattle.cbm_iec.proofs.BusStep as bus
 use Rattle.cbm_iec.proofs.BusStep.{Tied}
-use Rattle.cbm_iec.proofs.FollowedFrames.{stands}
 use Rattle.cbm_iec.proofs.FrameBus.{ear_asks, StandsSo, AllStand, AllEnd, AllWith, devs_are, steps_owned, twin_self}
 use Rattle.cbm_iec.proofs.GoesOf.{DataOf, OthersData, goes_of, goes_idle, leaving}
 use Rattle.cbm_iec.proofs.Merging.{AllBefore, InOrder}
@@ -39,7 +38,7 @@ use Rattle.cbm_iec.specs.Following.{IsInTime, Says}
 use Rattle.cbm_iec.specs.Hearing.{is_same}
 use Rattle.cbm_iec.specs.Laws.{SeatsReact, GoesOn}
 use Rattle.cbm_iec.specs.Pieces.{Whole, Point, host_part, own_part, steps_of, let_go, freed_steps, behind_all, FreedFits, Fits, whole_point, Full, ToTalker, Nothing, Commanding, Leading}
-use Rattle.cbm_iec.specs.Playing.{Station, acted, tell, Plays, change}
+use Rattle.cbm_iec.specs.Playing.{Station, acted, tell, Plays}
 use Rattle.cbm_iec.specs.Ports.{side_due, port_due, freed_side, turned_side, lined_side, lined_act, told, told_act}
 use Rattle.cbm_iec.specs.Seats.{lines, Seat, device, is_listener, is_talker, has_listener, talker_of}
 use Rattle.cbm_iec.specs.Steps.{Step, events_of, host, drive, for_each, for_one}
