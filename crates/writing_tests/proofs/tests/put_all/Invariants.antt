@@ -1,5 +1,5 @@
 use Rattle.std.proofs.Common.{◌≤◌}
-use Rattle.writing_rows.proofs.tests.put_all.Given as goal
+use Rattle.writing_tests.proofs.tests.put_all.Given as goal
 
 -- the medium has the writer's tracks
 abbrev pub invariant-loop : goal.invariant-loop
