@@ -9,11 +9,16 @@ use Rattle.cbm_directory.specs.Entries.{is_closed, is_relative, first_block, fir
 use Rattle.cbm_directory.specs.Slots.{entries_from, all_entries}
 use Rattle.cbm_volume.specs.Blocks.{Blocks, no_blocks, HasRecords}
 use Rattle.cbm_volume.specs.Layouts.{Layout, Sound, IsWritable}
-use Rattle.cbm_volume.specs.Unsound as checked
-use Rattle.cbm_volume.specs.Unsound.{reads, wrong_at, fault_at, ClaimsChain, ClaimsEach, MeetsFault, MeetsAmong, sides_from, are_records, ClaimsSides, SidesFault, RelativeFault, ClaimsFile, FileFault, ClaimsEntry, EntryFault, ClaimsEntries, EntriesFault, entries_behind, entries_in, SlotsFault, IsMapRight, IsMapFault, is_bad_header, is_counted_on, only_head, ClaimsDisk, DiskFault}
-use Rattle.cbm_volume.specs.declared.unsound.Part.{Part}
-use Rattle.cbm_volume.specs.declared.unsound.Part.TheVariants.{OfDirectory, OfFile}
-use Rattle.cbm_volume.specs.declared.unsound.Unsound.{Unsound}
+use Rattle.cbm_volume.specs.check.SlotWalk as checked
+use Rattle.cbm_volume.specs.check.Claims.{reads, wrong_at, fault_at, ClaimsChain, MeetsFault}
+use Rattle.cbm_volume.specs.check.SideLists.{ClaimsEach, MeetsAmong, sides_from, are_records, ClaimsSides, SidesFault}
+use Rattle.cbm_volume.specs.check.SlotWalk.{RelativeFault, ClaimsFile, FileFault, ClaimsEntry, EntryFault, ClaimsEntries, EntriesFault, entries_behind, entries_in, SlotsFault}
+use Rattle.cbm_volume.specs.check.MapCounts.{IsMapRight, IsMapFault, is_counted_on}
+use Rattle.cbm_volume.specs.check.Headers.{is_bad_header}
+use Rattle.cbm_volume.specs.check.WholeDisk.{only_head, ClaimsDisk, DiskFault}
+use Rattle.cbm_volume.specs.declared.check.unsound.Part.{Part}
+use Rattle.cbm_volume.specs.declared.check.unsound.Part.TheVariants.{OfDirectory, OfFile}
+use Rattle.cbm_volume.specs.declared.check.unsound.Unsound.{Unsound}
 use Rattle.cbm_volume.proofs.Claimed.{head_claimed, ClaimsAs, ClaimsSlot, ClaimsSlots, IsClaimedOnce}
 use Rattle.cbm_volume.proofs.ClaimedSound.{is_right, inside_has, claims_chain, claimed_sound}
 use Rattle.cbm_volume.proofs.SoundClaimed.{sound_claimed}

@@ -7,8 +7,10 @@ use Rattle.cbm_directory.specs.Entries.{type_byte, is_closed, is_relative, first
 use Rattle.cbm_directory.specs.Slots.{all_entries}
 use Rattle.cbm_volume.specs.Blocks.{Blocks, no_blocks, HasRecords}
 use Rattle.cbm_volume.specs.Layouts.{IsWritable}
-use Rattle.cbm_volume.specs.Unsound.{ClaimsChain, ClaimsEach, IsMapRight}
-use Rattle.cbm_volume.specs.declared.unsound.Part.TheVariants.{OfDirectory, OfFile}
+use Rattle.cbm_volume.specs.check.Claims.{ClaimsChain}
+use Rattle.cbm_volume.specs.check.SideLists.{ClaimsEach}
+use Rattle.cbm_volume.specs.check.MapCounts.{IsMapRight}
+use Rattle.cbm_volume.specs.declared.check.unsound.Part.TheVariants.{OfDirectory, OfFile}
 
 -- the map's own sector is claimed first
 abbrev pub head_claimed : Place → Bool

@@ -12,10 +12,12 @@ use Rattle.cbm_directory.specs.Entries.{type_byte, is_closed, is_relative, first
 use Rattle.cbm_directory.specs.Slots.{all_entries}
 use Rattle.cbm_volume.specs.Blocks.{Blocks, no_blocks, Lies}
 use Rattle.cbm_volume.specs.Layouts.{Owner, Nobody, TheMap, Directory, DataOf, SideOf, Layout, OwnedBy, Sound, own}
-use Rattle.cbm_volume.specs.Unsound.{wrong_at, is_inside, outside_number, reads, ClaimsChain, ClaimsEach, IsMapRight}
+use Rattle.cbm_volume.specs.check.Claims.{wrong_at, is_inside, outside_number, reads, ClaimsChain}
+use Rattle.cbm_volume.specs.check.SideLists.{ClaimsEach}
+use Rattle.cbm_volume.specs.check.MapCounts.{IsMapRight}
 use Rattle.cbm_volume.proofs.Claimed.{head_claimed, ClaimsAs, ClaimsSlots, IsClaimedOnce}
-use Rattle.cbm_volume.specs.declared.unsound.Part.{Part}
-use Rattle.cbm_volume.specs.declared.unsound.Part.TheVariants.{OfDirectory, OfFile}
+use Rattle.cbm_volume.specs.declared.check.unsound.Part.{Part}
+use Rattle.cbm_volume.specs.declared.check.unsound.Part.TheVariants.{OfDirectory, OfFile}
 use Rattle.cbm_volume.proofs.Listing.{nth_entry}
 
 -- ---- what is right with a sector that is claimed

@@ -7,10 +7,10 @@ use Rattle.cbm_medium.specs.Links.{bytes_at, or_nothing, link}
 use Rattle.cbm_medium.proofs.Places.{place_decide}
 use Rattle.cbm_bam.specs.Map.{map_of, is_free_in, with_bit, tally, at}
 use Rattle.cbm_bam.proofs.Counts.{bit_there, bit_elsewhere, tally_less, tally_same, number_less, number_same}
-use Rattle.cbm_volume.specs.declared.unsound.Part.{Part}
-use Rattle.cbm_volume.specs.declared.unsound.Part.TheVariants.{OfDirectory, OfFile}
-use Rattle.cbm_volume.specs.declared.unsound.Unsound.{Unsound}
-use Rattle.cbm_volume.specs.Unsound.{reads, is_inside, outside_number, wrong_at, ClaimsChain, MeetsFault, unclaimed}
+use Rattle.cbm_volume.specs.declared.check.unsound.Part.{Part}
+use Rattle.cbm_volume.specs.declared.check.unsound.Part.TheVariants.{OfDirectory, OfFile}
+use Rattle.cbm_volume.specs.declared.check.unsound.Unsound.{Unsound}
+use Rattle.cbm_volume.specs.check.Claims.{reads, is_inside, outside_number, wrong_at, ClaimsChain, MeetsFault, unclaimed}
 
 -- nothing is wrong: it lies where the part may, was not claimed, reads and is not free
 pub record IsRight (part : Part) (tracks : ℕ) (content : Content) (claimed : Place → Bool) (p : Place) : Type 0 where

@@ -5,7 +5,7 @@ use Rattle.cbm_medium.specs.Place.{Place, Has, sectors_on}
 use Rattle.cbm_medium.specs.Content.{Content}
 use Rattle.cbm_bam.specs.Map.{at}
 use Rattle.cbm_volume.specs.Layouts.{IsWritable}
-use Rattle.cbm_volume.specs.Unsound.{is_bad_header, comes_before, IsFirstBad}
+use Rattle.cbm_volume.specs.check.Headers.{is_bad_header, comes_before, IsFirstBad}
 
 abbrev pub UpTo : ℕ → Content → ℕ → Type 0
 UpTo tracks content t = (p : Place) → Has tracks p → p.track < t → IsWritable (content p)

@@ -10,7 +10,7 @@ use Rattle.cbm_medium.specs.Place.{Place, sectors_on, IsOnDisk}
 use Rattle.cbm_medium.proofs.Places.{place_decide}
 use Rattle.cbm_bam.specs.Map.{with_bit}
 use Rattle.cbm_bam.proofs.Counts.{bit_there, bit_elsewhere}
-use Rattle.cbm_volume.specs.Marks.{is_marked, with_mark}
+use Rattle.cbm_volume.specs.check.Marks.{is_marked, with_mark}
 
 few : (t : ℕ) → sectors_on t < 22
 few t = grind arith

@@ -12,8 +12,9 @@ use Rattle.cbm_bam.specs.Map.{with_bit}
 use Rattle.cbm_relfile.specs.SideSectors.{named_in, sides_listed, blocks_listed, Numbered}
 use Rattle.cbm_directory.specs.Entries.{first_block, first_side, width_of}
 use Rattle.cbm_volume.specs.Blocks.{Blocks, HasRecords}
-use Rattle.cbm_volume.specs.Unsound.{reads, ClaimsEach, behind_first, sides_from, step_along, along, listed_at, listed_blocks, side_along, side_at, sides_along, all_along, are_records}
-use Rattle.cbm_volume.specs.declared.unsound.Part.TheVariants.{OfFile}
+use Rattle.cbm_volume.specs.check.Claims.{reads}
+use Rattle.cbm_volume.specs.check.SideLists.{ClaimsEach, behind_first, sides_from, step_along, along, listed_at, listed_blocks, side_along, side_at, sides_along, all_along, are_records}
+use Rattle.cbm_volume.specs.declared.check.unsound.Part.TheVariants.{OfFile}
 use Rattle.cbm_volume.proofs.ClaimedSound.{is_right, inside_has}
 use Rattle.cbm_volume.proofs.SidesListed.{named_some}
 

@@ -8,9 +8,10 @@ use Rattle.cbm_medium.specs.Content.{Content}
 use Rattle.cbm_medium.specs.Links.{bytes_at, or_nothing, place_in}
 use Rattle.cbm_relfile.specs.SideSectors.{named_in}
 use Rattle.cbm_bam.specs.Map.{with_bit}
-use Rattle.cbm_volume.specs.Unsound.{wrong_at, fault_at, ClaimsEach, MeetsAmong, step_along, along, listed_at, listed_blocks, side_along, side_at, sides_along}
-use Rattle.cbm_volume.specs.declared.unsound.Part.{Part}
-use Rattle.cbm_volume.specs.declared.unsound.Unsound.{Unsound}
+use Rattle.cbm_volume.specs.check.Claims.{wrong_at, fault_at}
+use Rattle.cbm_volume.specs.check.SideLists.{ClaimsEach, MeetsAmong, step_along, along, listed_at, listed_blocks, side_along, side_at, sides_along}
+use Rattle.cbm_volume.specs.declared.check.unsound.Part.{Part}
+use Rattle.cbm_volume.specs.declared.check.unsound.Unsound.{Unsound}
 use Rattle.cbm_relfile.proofs.Listed.{at_drop, list_none}
 
 pub named_some : (m k : ℕ) (bytes : List ℕ) (p : Place) → p ≡ record { track = get_or bytes k 0; sector = get_or bytes (k + 1) 0 } → p.track ≢ 0

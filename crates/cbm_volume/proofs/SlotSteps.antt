@@ -6,9 +6,10 @@ use Rattle.cbm_medium.specs.Links.{bytes_at, or_nothing, link}
 use Rattle.cbm_bam.specs.Map.{with_bit}
 use Rattle.cbm_directory.specs.Entries.{entry_of}
 use Rattle.cbm_directory.specs.Slots.{entries_from}
-use Rattle.cbm_volume.specs.declared.unsound.Part.TheVariants.{OfDirectory}
-use Rattle.cbm_volume.specs.declared.unsound.Unsound.{Unsound}
-use Rattle.cbm_volume.specs.Unsound.{wrong_at, fault_at, ClaimsEntry, EntryFault, ClaimsEntries, EntriesFault, entries_behind, entries_in, ClaimsSlots, SlotsFault}
+use Rattle.cbm_volume.specs.declared.check.unsound.Part.TheVariants.{OfDirectory}
+use Rattle.cbm_volume.specs.declared.check.unsound.Unsound.{Unsound}
+use Rattle.cbm_volume.specs.check.Claims.{wrong_at, fault_at}
+use Rattle.cbm_volume.specs.check.SlotWalk.{ClaimsEntry, EntryFault, ClaimsEntries, EntriesFault, entries_behind, entries_in, ClaimsSlots, SlotsFault}
 
 entries_some : (n : ℕ) (sector : List ℕ) → n < 8 → entries_behind n sector ≡ entry_of sector n ∷ entries_behind (n + 1) sector
 unfolding entries_behind

@@ -13,11 +13,12 @@ use Rattle.cbm_directory.specs.Entries.{type_byte, is_closed, is_relative, first
 use Rattle.cbm_directory.specs.Slots.{all_entries}
 use Rattle.cbm_volume.specs.Blocks.{Blocks, LiesAs}
 use Rattle.cbm_volume.specs.Layouts.{Owner, Nobody, TheMap, Directory, DataOf, SideOf, Layout, OwnedBy, Sound, slot_count}
-use Rattle.cbm_volume.specs.Unsound.{wrong_at, is_inside, reads, ClaimsChain, ClaimsEach}
+use Rattle.cbm_volume.specs.check.Claims.{wrong_at, is_inside, reads, ClaimsChain}
+use Rattle.cbm_volume.specs.check.SideLists.{ClaimsEach}
 use Rattle.cbm_volume.specs.Plain.{IsDistinct}
 use Rattle.cbm_volume.proofs.Claimed.{head_claimed, ClaimsAs, ClaimsSlots, IsClaimedOnce}
-use Rattle.cbm_volume.specs.declared.unsound.Part.{Part}
-use Rattle.cbm_volume.specs.declared.unsound.Part.TheVariants.{OfDirectory, OfFile}
+use Rattle.cbm_volume.specs.declared.check.unsound.Part.{Part}
+use Rattle.cbm_volume.specs.declared.check.unsound.Part.TheVariants.{OfDirectory, OfFile}
 use Rattle.cbm_volume.proofs.Chained.{chain_distinct}
 use Rattle.cbm_volume.proofs.Releases.{apart_by_index}
 use Rattle.cbm_volume.proofs.Listing.{entries_length, nth_entry}

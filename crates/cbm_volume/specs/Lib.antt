@@ -3,9 +3,7 @@ pub mod Layouts
 pub mod Writers
 pub mod Holding
 pub use Rattle.cbm_file.specs.Files
-pub mod Marks
-pub mod Flaws
-pub mod Unsound
+pub mod check
 pub mod Plain
 pub use Rattle.cbm_medium.specs.Content
 pub use Rattle.cbm_bam.specs.Map

@@ -1,15 +1,26 @@
 ghost use Rattle.std.specs.Prelude.{◌≡◌, OnOk, IfErr};
 ghost use Rattle.cbm_bam.specs.Map.{geometry_of};
-ghost use Rattle.cbm_volume.specs.Marks.{is_marked};
-ghost use Rattle.cbm_volume.specs.Unsound.{only_head, ClaimsDisk, DiskFault};
+ghost use Rattle.cbm_volume.specs.check.Marks.{is_marked};
+ghost use Rattle.cbm_volume.specs.check.WholeDisk.{only_head, ClaimsDisk, DiskFault};
 
-use crate::claims::claim_chain;
-use crate::headers::check_headers;
-use crate::map_check::check_map;
-use crate::sector_set::SectorSet;
-use crate::slot_check::check_slots;
-use crate::unsound::{Part, Unsound};
+mod claims;
+mod entries;
+mod headers;
+mod map;
+mod records;
+mod sector_set;
+mod sides;
+mod slots;
+mod unsound;
+
+use self::claims::claim_chain;
+use self::headers::check_headers;
+use self::map::check_map;
+use self::sector_set::SectorSet;
+use self::slots::check_slots;
+use self::unsound::Part;
 use cbm_medium::{Address, Link, Medium};
+pub use unsound::Unsound;
 
 /// A set with 18/0 alone.
 fn head_alone() -> SectorSet

@@ -1,7 +1,0 @@
-use Rattle.std.proofs.Common.{◌≡◌}
-use Rattle.cbm_volume.specs.Unsound.{along, listed_at, listed_blocks}
-use Rattle.cbm_volume.proofs.record_check.walk_listed.Given as goal
-
--- what is left from here gives what the whole list gives
-abbrev pub invariant-loop-number : goal.invariant-loop-number
-invariant-loop-number g l = along l.fn.geometry (g.M.Medium.content l.medium) (listed_at l.number l.side) l.at ≡ along l.fn.geometry (g.M.Medium.content l.medium) (listed_blocks l.side) l.fn.from

@@ -1,0 +1,19 @@
+-- The headers of all sectors, in order.
+use Rattle.std.specs.Prelude.{ℕ, ◌≡◌, ◌==◌, ◌&&◌, ◌||◌, nat_lt, Bool, true, false, Ok, Err}
+use Rattle.cbm_medium.specs.Place.{Place, has, Has}
+use Rattle.cbm_medium.specs.Content.{Cell, Content, is_header_fault}
+use Rattle.cbm_volume.specs.Layouts.{IsWritable}
+
+abbrev pub is_bad_header : Cell → Bool
+is_bad_header (Ok bytes) = false
+is_bad_header (Err code) = is_header_fault code
+
+-- addresses are ordered by their tracks, and by their sectors on one track
+abbrev pub comes_before : Place → Place → Bool
+comes_before q p = nat_lt q.track p.track || ((q.track == p.track) && nat_lt q.sector p.sector)
+
+-- the first sector of the disk that has a fault of its header
+pub record IsFirstBad (tracks : ℕ) (content : Content) (p : Place) : Type 0 where
+  pub has : Has tracks p
+  pub bad : is_bad_header (content p) ≡ true
+  pub first : (q : Place) → Has tracks q → comes_before q p ≡ true → IsWritable (content q)

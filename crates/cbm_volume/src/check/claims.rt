@@ -1,0 +1,69 @@
+ghost use Rattle.std.specs.Prelude.{◌≡◌, ◌≢◌, ◌≤◌, ℕ, List, true, Bool, None, Some, OnOk, IfOk, IfErr, IsOk, Ok};
+ghost use Rattle.cbm_medium.specs.Place.{Place, directory_head};
+ghost use Rattle.cbm_bam.specs.Map.{with_bit};
+ghost use Rattle.cbm_volume.specs.check.Marks.{is_marked};
+ghost use Rattle.cbm_volume.specs.check.Claims.{wrong_at, fault_at, ClaimsChain, MeetsFault};
+
+use crate::check::sector_set::SectorSet;
+use crate::check::unsound::{Flaw, Part, Unsound};
+use cbm_bam::is_free;
+use cbm_medium::{Geometry, Link, Medium};
+
+/// Claims the sector that a link names, and answers its bytes.
+pub fn claim<M: Medium>(
+    medium: &M,
+    geometry: Geometry,
+    part: Part,
+    at: Link,
+    claimed: &mut SectorSet,
+) -> Result<[u8; 256], Unsound>
+    requires tracks { geometry ≤ M.tracks medium.now }
+    requires map { IsOk (M.content medium.now directory_head) }
+    ensures none { OnOk result (wrong_at part geometry (M.content medium.now) (is_marked claimed.old) at ≡ None) }
+    ensures claimed { OnOk result (is_marked claimed.new ≡ with_bit (is_marked claimed.old) at true) }
+    ensures read { IfOk result (λ bytes. M.content medium.now at ≡ Ok bytes) }
+    ensures wrong { IfErr result (λ u. (wrong_at part geometry (M.content medium.now) (is_marked claimed.old) at ≡ Some u.number) × (u ≡ fault_at u.number at)) }
+{
+    let outside = match part {
+        Part::OfDirectory => Flaw::DirectoryChain,
+        Part::OfFile => Flaw::ChainOutside,
+    };
+    let inside = at
+        .address(geometry)
+        .filter(|at| (at.track() == 18) == (part == Part::OfDirectory));
+    let Some(address) = inside else {
+        return Err(outside.at(at));
+    };
+    if claimed.has(address) {
+        return Err(Flaw::SharedBlock.at(at));
+    }
+    let Ok(bytes) = medium.read(address) else {
+        return Err(Flaw::Unreadable.at(at));
+    };
+    if is_free(medium, geometry, address) != Ok(false) {
+        return Err(Flaw::ClaimedButFree.at(at));
+    }
+    claimed.insert(address);
+    Ok(bytes)
+}
+
+/// Claims the sectors of a chain from a link on, up to the last one.
+pub fn claim_chain<M: Medium>(
+    medium: &M,
+    geometry: Geometry,
+    part: Part,
+    first: Link,
+    claimed: &mut SectorSet,
+) -> Result<(), Unsound>
+    requires tracks { geometry ≤ M.tracks medium.now }
+    requires map { IsOk (M.content medium.now directory_head) }
+    ensures ok { OnOk result ((blocks : List Place) × ClaimsChain part geometry (M.content medium.now) (is_marked claimed.old) first blocks (is_marked claimed.new)) }
+    ensures err { IfErr result (λ u. (blocks : List Place) × MeetsFault part geometry (M.content medium.now) (is_marked claimed.old) first blocks u) }
+{
+    let mut at = first;
+    while !at.is_end() {
+        let bytes = claim(medium, geometry, part, at, claimed)?;
+        at = Link::of(&bytes);
+    }
+    Ok(())
+}

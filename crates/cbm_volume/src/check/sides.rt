@@ -1,0 +1,56 @@
+ghost use Rattle.std.specs.Prelude.{◌≡◌, ◌≤◌, ℕ, List, OnOk, IfErr, IfOk, IsOk, Ok};
+ghost use Rattle.cbm_medium.specs.Place.{directory_head};
+ghost use Rattle.cbm_volume.specs.declared.check.unsound.Part.TheVariants.{OfFile};
+ghost use Rattle.cbm_volume.specs.check.Marks.{is_marked};
+ghost use Rattle.cbm_volume.specs.check.SideLists.{ClaimsEach, MeetsAmong, behind_first, sides_from};
+
+use crate::check::claims::claim;
+use crate::check::sector_set::SectorSet;
+use crate::check::unsound::{Part, Unsound};
+use cbm_medium::{Geometry, Link, Medium};
+
+/// Where a side sector lists the six side sectors of its file, two bytes each (Inside Commodore DOS).
+pub const SIDES: usize = 4;
+
+/// Claims the side sectors that a file's first one lists behind itself.
+fn claim_listed<M: Medium>(
+    medium: &M,
+    geometry: Geometry,
+    first: &[u8; 256],
+    claimed: &mut SectorSet,
+) -> Result<(), Unsound>
+    requires tracks { geometry ≤ M.tracks medium.now }
+    requires map { IsOk (M.content medium.now directory_head) }
+    ensures ok { OnOk result (ClaimsEach OfFile geometry (M.content medium.now) (is_marked claimed.old) (behind_first first.now) (is_marked claimed.new)) }
+    ensures err { IfErr result (λ u. MeetsAmong OfFile geometry (M.content medium.now) (is_marked claimed.old) (behind_first first.now) u) }
+{
+    if first[SIDES] == 0 {
+        return Ok(());
+    }
+    for number in 1..6usize {
+        let at = Link::new(first[SIDES + 2 * number], first[SIDES + 2 * number + 1]);
+        if at.is_end() {
+            return Ok(());
+        }
+        claim(medium, geometry, Part::OfFile, at, claimed)?;
+    }
+    Ok(())
+}
+
+/// Claims the side sectors of a relative file, and answers the bytes of the first.
+pub fn claim_sides<M: Medium>(
+    medium: &M,
+    geometry: Geometry,
+    first: Link,
+    claimed: &mut SectorSet,
+) -> Result<[u8; 256], Unsound>
+    requires tracks { geometry ≤ M.tracks medium.now }
+    requires map { IsOk (M.content medium.now directory_head) }
+    ensures ok { OnOk result (ClaimsEach OfFile geometry (M.content medium.now) (is_marked claimed.old) (sides_from (M.content medium.now) first) (is_marked claimed.new)) }
+    ensures read { IfOk result (λ bytes. M.content medium.now first ≡ Ok bytes) }
+    ensures err { IfErr result (λ u. MeetsAmong OfFile geometry (M.content medium.now) (is_marked claimed.old) (sides_from (M.content medium.now) first) u) }
+{
+    let bytes = claim(medium, geometry, Part::OfFile, first, claimed)?;
+    claim_listed(medium, geometry, &bytes, claimed)?;
+    Ok(bytes)
+}
