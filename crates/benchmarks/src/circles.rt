@@ -2,6 +2,7 @@ use crate::disks::{failed, report, stamp, sum_of_all};
 use cbm_d64::D64Disk;
 use cbm_g64::G64Disk;
 use cbm_medium::Medium;
+use cbm_sector::track_bytes;
 use std::alloc::Global;
 use std::io;
 use std::rt::Runtime;
@@ -61,12 +62,7 @@ fn read_all(rt: &impl Runtime, name: &str, disk: &G64Disk) -> io::Result<()> {
 /// Turns each track of a new file by three bits.
 fn turn_tracks(file: &mut [u8]) {
     for i in 0..35usize {
-        let size = match i {
-            0..=16 => 7692,
-            17..=23 => 7142,
-            24..=29 => 6666,
-            _ => 6250,
-        };
+        let size = track_bytes(i as u8 + 1) as usize;
         let start = 686 + 7930 * i;
         if start + size <= file.len() {
             turn(&mut file[start..start + size]);

@@ -5,12 +5,10 @@ ghost use Rattle.cbm_medium.specs.Content.{written, blank, refusal, format_refus
 
 use crate::fault::D64Fault;
 use crate::image::{code_at, erase, index, is_size, sector, store, tracks_in};
+use cbm_medium::codes::WRITE_PROTECT_ON;
 use cbm_medium::{Address, Fault, Medium, Steady, is_of_header};
 use std::alloc::Global;
 use std::marker::Model;
-
-/// The code of a write to a protected disk.
-const WRITE_PROTECT_ON: u8 = 26;
 
 /// A disk in memory, as a D64 image: the bytes of its file, of 35 tracks, of 35 with error bytes, or of 40.
 #[derive(Drop)]

@@ -5,6 +5,7 @@ ghost use Rattle.cbm_d64.specs.Image.{index_of, IsImageSize, IsStored, IsErased,
 ghost use Rattle.cbm_medium.specs.Place.{IsOnDisk};
 
 use cbm_medium::Address;
+use cbm_medium::codes::{DISK_ID_MISMATCH, HEADER_CHECKSUM};
 
 /// The bytes of 683 sectors.
 pub const OF_35_TRACKS: usize = 174_848;
@@ -58,8 +59,8 @@ fn fault_code(error: u8) -> Option<u8>
 {
     match error {
         2..=6 => Some(error + 18),
-        9 => Some(27),
-        11 => Some(29),
+        9 => Some(HEADER_CHECKSUM),
+        11 => Some(DISK_ID_MISMATCH),
         _ => None,
     }
 }

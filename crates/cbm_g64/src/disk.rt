@@ -11,13 +11,11 @@ use crate::circles::{format_on, read_on, tracks_of, write_on};
 use crate::copying::image_of;
 use crate::fault::G64Fault;
 use crate::image::{base, offset_in, put_tracks};
+use cbm_medium::codes::WRITE_PROTECT_ON;
 use cbm_medium::{Address, Fault, Medium, Steady};
 use cbm_track::Track;
 use std::alloc::Global;
 use std::marker::Model;
-
-/// The code of a write to a protected disk.
-const WRITE_PROTECT_ON: u8 = 26;
 
 /// A disk in memory, as a G64 image: its tracks 1 to 35 as circles of bits, and beside them the
 /// bytes of the file that they came in.

@@ -8,11 +8,18 @@ ghost use Rattle.cbm_g64.specs.Image.{IsHeld, IsImageOf};
 
 use crate::numbers::offset;
 use byteorder::{ByteOrder, LittleEndian};
+use cbm_sector::track_bytes;
 use cbm_track::Track;
 use std::alloc::{AllocError, Global};
 
 /// The bytes of a new file.
 const NEW_BYTES: usize = 278_234;
+
+/// Where the first track stands in a new file: after the front and both tables.
+const FIRST_TRACK: usize = 684;
+
+/// How many bytes apart the tracks of a new file stand: two for the length, and the greatest size.
+const TRACK_ROOM: usize = 7_930;
 
 /// The signature, version 0, 84 entries and the greatest size 7,928.
 const FRONT: [u8; 12] = [71, 67, 82, 45, 49, 53, 52, 49, 0, 84, 248, 30];
@@ -43,14 +50,8 @@ fn length_field(i: u32) -> [u8; 2]
     requires { i < 35 }
     ensures { result ≡ little_bytes 2 (bytes_on (i + 1)) }
 {
-    let bytes = match i {
-        0..=16 => 7692,
-        17..=23 => 7142,
-        24..=29 => 6666,
-        _ => 6250,
-    };
     let mut field = [0; 2];
-    LittleEndian::write_u16(&mut field, bytes);
+    LittleEndian::write_u16(&mut field, track_bytes(i as u8 + 1));
     field
 }
 
@@ -58,8 +59,8 @@ fn length_field(i: u32) -> [u8; 2]
 fn append_offsets(out: &mut Vec<u8>) -> Result<(), AllocError>
     ensures { OnOk result (out.new.items ≡ out.old.items ++ entries_of new_place 35) }
 {
-    for i in 0..35 {
-        out.extend_from_slice(&entry(684 + 7930 * i))?;
+    for i in 0..35usize {
+        out.extend_from_slice(&entry((FIRST_TRACK + TRACK_ROOM * i) as u32))?;
     }
     Ok(())
 }
@@ -118,7 +119,7 @@ pub(crate) fn offset_in(file: &[u8], formatted: bool, i: usize) -> usize
     ensures below { result < 4294967296 }
 {
     if formatted {
-        684 + 7930 * i
+        FIRST_TRACK + TRACK_ROOM * i
     } else {
         offset(file, i)
     }

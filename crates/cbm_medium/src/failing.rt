@@ -4,13 +4,11 @@ ghost use Rattle.cbm_medium.specs.Content.{Content, written, blank, refusal, for
 ghost use Rattle.cbm_medium.specs.Countdown.{is_due, passed, failed};
 
 use crate::address::Address;
+use crate::codes::{WRITE_ERROR, WRITE_PROTECT_ON};
 use crate::fault::{Fault, is_of_header};
 use crate::medium::Medium;
 use crate::steady::Steady;
 use std::marker::Model;
-
-/// The code of a write that the medium itself refuses.
-const WRITE_ERROR: u8 = 25;
 
 /// A medium over another one, which lets some writes pass and then refuses one, or each from then on, with 25.
 ///
@@ -130,7 +128,10 @@ impl<M: Steady> Medium for Failing<M> {
             return Ok(());
         }
         if self.inner.protected() {
-            return Err(Fault { code: 26, at });
+            return Err(Fault {
+                code: WRITE_PROTECT_ON,
+                at,
+            });
         }
         if let Err(fault) = self.inner.read(at)
             && is_of_header(fault.code)

@@ -2,13 +2,17 @@ ghost use Rattle.std.specs.Prelude.{◌≡◌};
 ghost use Rattle.cbm_medium.specs.Content.{is_header_fault};
 
 use crate::address::Address;
+use crate::codes::{DISK_ID_MISMATCH, HEADER_CHECKSUM, NO_HEADER, NO_SYNC};
 
 /// Whether a code is a fault of a sector's header, which refuses a write too: 20, 21, 27 and 29
 /// (1541 User's Guide, "DOS error messages").
 pub fn is_of_header(code: u8) -> bool
     ensures { result ≡ is_header_fault code }
 {
-    matches!(code, 20 | 21 | 27 | 29)
+    matches!(
+        code,
+        NO_HEADER | NO_SYNC | HEADER_CHECKSUM | DISK_ID_MISMATCH
+    )
 }
 
 /// What a medium answers in place of a sector: the code of the drive's status, and where.

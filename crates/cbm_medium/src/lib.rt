@@ -2,6 +2,7 @@
 #![tactic(auto)]
 
 mod address;
+pub mod codes;
 mod failing;
 mod fault;
 mod geometry;

@@ -5,6 +5,7 @@ ghost use Rattle.cbm_medium.specs.Links.{link, Chain, IsCut, follow, with_block,
 ghost use Rattle.cbm_medium.specs.declared.fault.Trouble.{Trouble};
 
 use crate::address::Address;
+use crate::codes::{ENDLESS_CHAIN, ILLEGAL_LINK};
 use crate::fault::Trouble;
 use crate::geometry::Geometry;
 use crate::medium::Medium;
@@ -116,10 +117,10 @@ pub fn read_linked<M: Medium>(
     ensures err { IfErr result (λ t. follow geometry (M.content medium.now) left at ≡ (record { blocks = []; trouble = Some t })) }
 {
     let Some(address) = at.address(geometry) else {
-        return Err(at.trouble(66));
+        return Err(at.trouble(ILLEGAL_LINK));
     };
     if left == 0 {
-        return Err(at.trouble(71));
+        return Err(at.trouble(ENDLESS_CHAIN));
     }
     let bytes = medium.read(address)?;
     Ok(bytes)

@@ -2,12 +2,13 @@ ghost use Rattle.std.specs.Prelude.{◌≡◌, ◌<◌, length};
 ghost use Rattle.cbm_gcr.specs.Code.{code, bits_of};
 ghost use Rattle.cbm_sector.specs.Answer.{data_at, data_block, xor_of};
 
-use crate::codes::{BAD_DATA_SUM, NO_CODE, NO_DATA_BLOCK};
 use crate::group::{block_bytes, group_at};
+use crate::layout::{DATA, DATA_MARK, DATA_SUM};
 use cbm_gcr::encode4;
+use cbm_medium::codes::{BYTE_DECODING, DATA_CHECKSUM, NO_DATA_BLOCK};
 use cbm_track::Track;
 
-/// The exclusive or of bytes.
+/// The checksum of bytes: their exclusive or.
 pub(crate) fn xor(bytes: &[u8]) -> u8
     ensures { result ≡ xor_of bytes.now }
 {
@@ -25,30 +26,30 @@ pub(crate) fn data_at(track: &Track, place: u32) -> Result<[u8; 256], u8>
     ensures { result ≡ data_at track.now place }
 {
     let Some(first) = group_at(track, place) else {
-        return Err(NO_CODE);
+        return Err(BYTE_DECODING);
     };
-    if first[0] != 7 {
+    if first[0] != DATA_MARK {
         return Err(NO_DATA_BLOCK);
     }
     let Some(block) = block_bytes(track, place) else {
-        return Err(NO_CODE);
+        return Err(BYTE_DECODING);
     };
-    if xor(&block[1..257]) != block[257] {
-        return Err(BAD_DATA_SUM);
+    if xor(&block[DATA..DATA_SUM]) != block[DATA_SUM] {
+        return Err(DATA_CHECKSUM);
     }
     let mut data = [0; 256];
-    data.copy_from_slice(&block[1..257]);
+    data.copy_from_slice(&block[DATA..DATA_SUM]);
     Ok(data)
 }
 
-/// The bytes of a data block: 7, the sector, its exclusive or, and two zeros.
+/// The bytes of a data block: 7, the sector, its checksum, and two zeros.
 pub(crate) fn data_block(bytes: &[u8; 256]) -> [u8; 260]
     ensures { result ≡ data_block bytes.now }
 {
     let mut block = [0; 260];
-    block[0] = 7;
-    block[1..257].copy_from_slice(bytes);
-    block[257] = xor(bytes);
+    block[0] = DATA_MARK;
+    block[DATA..DATA_SUM].copy_from_slice(bytes);
+    block[DATA_SUM] = xor(bytes);
     block
 }
 

@@ -6,6 +6,7 @@ ghost use Rattle.cbm_sector.specs.Answer.{block_of, shown, id_shown, data_block}
 ghost use Rattle.cbm_sector.specs.Fresh.{block_place, bytes_on, fresh, fresh_sector, fresh_sectors, header_block, laid};
 
 use crate::block::{coded_block, data_block, xor};
+use crate::layout::HEADER_MARK;
 use arrayvec::ArrayVec;
 use cbm_gcr::encode4;
 use cbm_medium::sectors_of;
@@ -17,7 +18,7 @@ fn header_block(track: u8, id: [u8; 2], sector: u8) -> [u8; 8]
 {
     let [first, second] = id;
     let sum = xor(&[sector, track, second, first]);
-    [8, sum, sector, track, second, first, 15, 15]
+    [HEADER_MARK, sum, sector, track, second, first, 15, 15]
 }
 
 /// Appends bytes, for which there is room.
@@ -57,8 +58,8 @@ fn append_sector(out: &mut ArrayVec<u8, 7928>, header: &[u8; 8], block: &[u8; 32
     append(out, &[0x55; 8]);
 }
 
-/// How many bytes a fresh track has.
-fn fresh_bytes(track: u8) -> usize
+/// How many bytes formatting writes on a track: by its speed zone, the four common sizes (the G64 format).
+pub fn track_bytes(track: u8) -> u16
     ensures value { result ≡ bytes_on track }
     ensures most { result ≤ 7692 }
 {
@@ -84,7 +85,7 @@ fn laid_track(track: u8, id: &[u8; 2]) -> Track
     for sector in 0..sectors_of(track) {
         append_sector(&mut bytes, &header_block(track, *id, sector), &block);
     }
-    let rest = fresh_bytes(track) - bytes.len();
+    let rest = track_bytes(track) as usize - bytes.len();
     append(&mut bytes, &[0x55; 264][..rest]);
     match Track::from_bytes(bytes.as_slice()) {
         Some(track) => track,

@@ -6,14 +6,15 @@ ghost use Rattle.cbm_sector.specs.Answer.{header_at, is_header, is_right, passes
 
 use crate::block::xor;
 use crate::group::{group_at, header_bytes};
+use crate::layout::{CHECKSUM, HEADER_MARK, SECTOR, TRACK};
 use cbm_medium::Address;
 use cbm_track::Track;
 
-/// Whether the exclusive or of a header is right.
+/// Whether a header's checksum is right.
 pub(crate) fn is_right(header: &[u8; 8]) -> bool
     ensures { result ≡ is_right header.now }
 {
-    header[1] == xor(&header[2..6])
+    header[CHECKSUM] == xor(&header[SECTOR..SECTOR + 4])
 }
 
 /// Whether a header is one of a sector, or without one, one that the disk's id is taken from.
@@ -21,8 +22,10 @@ fn is_wanted(header: &[u8; 8], wanted: &Option<Address>) -> bool
     ensures { result ≡ wanted_test wanted.now header.now }
 {
     match wanted {
-        Some(at) => header[0] == 8 && header[2] == at.sector() && header[3] == at.track(),
-        None => header[0] == 8 && header[3] == 18 && is_right(header),
+        Some(at) => {
+            header[0] == HEADER_MARK && header[SECTOR] == at.sector() && header[TRACK] == at.track()
+        }
+        None => header[0] == HEADER_MARK && header[TRACK] == 18 && is_right(header),
     }
 }
 
@@ -51,8 +54,10 @@ fn may_begin(front: &[u8; 4], wanted: &Option<Address>) -> bool
     ensures { result ≡ false → (v : List ℕ) → take 4 v ≡ front.now → wanted_test wanted.now v ≡ false }
 {
     match wanted {
-        Some(at) => front[0] == 8 && front[2] == at.sector() && front[3] == at.track(),
-        None => front[0] == 8 && front[3] == 18,
+        Some(at) => {
+            front[0] == HEADER_MARK && front[SECTOR] == at.sector() && front[TRACK] == at.track()
+        }
+        None => front[0] == HEADER_MARK && front[TRACK] == 18,
     }
 }
 
@@ -113,7 +118,7 @@ pub(crate) fn begins_header(track: &Track, place: u32) -> bool
     ensures { result ≡ passes is_header (coded_at track.now place 4) }
 {
     match group_at(track, place) {
-        Some(group) => group[0] == 8,
+        Some(group) => group[0] == HEADER_MARK,
         None => false,
     }
 }

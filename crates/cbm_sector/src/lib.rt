@@ -2,14 +2,14 @@
 #![tactic(auto)]
 
 mod block;
-mod codes;
 mod fresh;
 mod group;
 mod header;
+mod layout;
 mod sector;
 #[cfg(test)]
 mod tests;
 
-pub use fresh::fresh_track;
+pub use fresh::{fresh_track, track_bytes};
 pub use group::decoding_undoes_code;
 pub use sector::{fill_sector, id_of, read_sector, write_sector};

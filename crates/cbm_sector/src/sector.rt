@@ -7,9 +7,10 @@ ghost use Rattle.cbm_sector.specs.Answer.{shown, block_of, id_shown, data_block,
 ghost use Rattle.cbm_sector.specs.Fresh.{block_place};
 
 use crate::block::{coded_block, data_at, data_block};
-use crate::codes::{BAD_HEADER_SUM, NO_BLOCK, NO_SYNC, OTHER_ID};
 use crate::group::header_bytes;
 use crate::header::{begins_header, find_header, is_right};
+use crate::layout::{ID_FIRST, ID_SECOND};
+use cbm_medium::codes::{DISK_ID_MISMATCH, HEADER_CHECKSUM, NO_HEADER, NO_SYNC};
 use cbm_medium::{Address, Fault};
 use cbm_track::Track;
 
@@ -34,29 +35,29 @@ fn block_of(track: &Track, at: Address, id: [u8; 2]) -> Result<u32, u8>
         return Err(NO_SYNC);
     }
     let Some(place) = find_header(track, &Some(at)) else {
-        return Err(NO_BLOCK);
+        return Err(NO_HEADER);
     };
     let Some(header) = header_bytes(track, place) else {
-        return Err(NO_BLOCK);
+        return Err(NO_HEADER);
     };
     if !is_right(&header) {
-        return Err(BAD_HEADER_SUM);
+        return Err(HEADER_CHECKSUM);
     }
-    if header[4] != id[1] || header[5] != id[0] {
-        return Err(OTHER_ID);
+    if header[ID_SECOND] != id[1] || header[ID_FIRST] != id[0] {
+        return Err(DISK_ID_MISMATCH);
     }
     let Some(block) = block_behind(track, place) else {
-        return Err(NO_BLOCK);
+        return Err(NO_HEADER);
     };
     if begins_header(track, block) || !track.is_clear(block, 2600) {
-        return Err(NO_BLOCK);
+        return Err(NO_HEADER);
     }
     Ok(block)
 }
 
-/// A sector's 256 bytes, or the first fault that the track shows: 21 no sync mark; 20 no header of
-/// the sector, 27 its exclusive or, 29 its id; 20 no data block behind it; 24 no code, 22 no data
-/// block, 23 its exclusive or (this project's order of the drive's faults).
+/// Reads a sector: its 256 bytes. Errors, in the order of the tests (this project's order): 21 no sync mark on the track;
+/// 20 header not found; 27 header checksum; 29 disk id mismatch; 20 no data block after the header; 24 a byte that isn't
+/// group code; 22 not a data block; 23 data checksum.
 #[tactic(auto, unfolding(crate::specs::Answer::shown))]
 pub fn read_sector(track: &Track, at: Address, id: [u8; 2]) -> Result<[u8; 256], Fault>
     requires { at.track ≤ 35 }
@@ -107,8 +108,8 @@ const SECTOR_BITS: u32 = 2896;
 
 const BITS_BEFORE: u32 = 232;
 
-/// Writes the data block of a sector anew where formatting put it, without a search: the block that
-/// the track's headers give the sector is the one there.
+/// Overwrites a sector's data block on a freshly formatted track. Its place is computed; the precondition says that a search
+/// would find the same place.
 pub fn fill_sector(track: &mut Track, at: Address, id: &[u8; 2], bytes: &[u8; 256])
     requires laid { block_of track.old id.now at ≡ Ok (block_place at.sector) }
     ensures ok { shown track.new id.now at ≡ Ok bytes.now }
@@ -125,12 +126,12 @@ pub fn fill_sector(track: &mut Track, at: Address, id: &[u8; 2], bytes: &[u8; 25
 }
 
 /// The disk's id: that of the first header, from the track's first bit on, that names track 18 and
-/// whose exclusive or is right.
+/// whose checksum is right.
 #[tactic(auto, unfolding(crate::specs::Answer::id_shown))]
 pub fn id_of(track: &Track) -> Option<[u8; 2]>
     ensures { result ≡ id_shown track.now }
 {
     let place = find_header(track, &None)?;
     let header = header_bytes(track, place)?;
-    Some([header[5], header[4]])
+    Some([header[ID_FIRST], header[ID_SECOND]])
 }

@@ -1,5 +1,12 @@
 ghost use Rattle.std.specs.Prelude.{◌≡◌, slice_range};
 
+use std::ops::Range;
+
+/// Where the title and the mark stand in 18/0.
+const TITLE: Range<usize> = 144..160;
+
+const MARK: Range<usize> = 162..167;
+
 /// What 18/0 says of the disk: its title, and the five bytes of the id and the kind of DOS, padded with $A0
 /// (Inside Commodore DOS).
 #[derive(Clone, Copy, Debug, PartialEq, Eq)]
@@ -17,9 +24,9 @@ impl Label {
         ensures mark { result.mark ≡ slice_range map.now 162 167 }
     {
         let mut title = [0; 16];
-        title.copy_from_slice(&map[144..160]);
+        title.copy_from_slice(&map[TITLE]);
         let mut mark = [0; 5];
-        mark.copy_from_slice(&map[162..167]);
+        mark.copy_from_slice(&map[MARK]);
         Label { title, mark }
     }
 }

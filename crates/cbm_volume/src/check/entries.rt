@@ -8,10 +8,11 @@ ghost use Rattle.cbm_volume.specs.check.SlotWalk.{ClaimsFile, FileFault, ClaimsE
 use crate::check::claims::claim_chain;
 use crate::check::records::walk_sides;
 use crate::check::sector_set::SectorSet;
-use crate::check::sides::{SIDES, claim_sides};
+use crate::check::sides::claim_sides;
 use crate::check::unsound::{Flaw, Part, Unsound};
 use cbm_directory::Entry;
 use cbm_medium::{Geometry, Link, Medium};
+use cbm_relfile::side::SIDES;
 
 /// Whether the records of an entry's file are right, from the bytes of its first side sector.
 fn has_records<M: Medium>(medium: &M, geometry: Geometry, entry: &Entry, first: &[u8; 256]) -> bool

@@ -2,17 +2,10 @@ ghost use Rattle.std.specs.Prelude.{◌≡◌, ◌≤◌, ◌<◌, ℕ, List, Op
 ghost use Rattle.cbm_medium.specs.Links.{link, bytes_at};
 ghost use Rattle.cbm_volume.specs.check.SideLists.{step_along, along, listed_blocks, side_along, side_at, all_along};
 
-use crate::check::sides::SIDES;
 use cbm_medium::{Geometry, Link, Medium};
+use cbm_relfile::side::{BLOCKS, NUMBER, RECORD_LENGTH, SIDES};
 
-/// Where a side sector has its number, the records' length, and the list of its blocks (Inside Commodore DOS).
-const NUMBER: usize = 2;
-
-const RECORD_LENGTH: usize = 3;
-
-const BLOCKS: usize = 16;
-
-/// Where the chain goes on behind a place, if the next block is at that place.
+/// Where the chain goes on after a block, if that block is the one that the side sector lists next; None if it isn't.
 fn step<M: Medium>(medium: &M, geometry: Geometry, listed: Link, at: Link) -> Option<Link>
     requires { geometry ≤ M.tracks medium.now }
     ensures { result ≡ step_along geometry (M.content medium.now) listed at }
@@ -27,7 +20,8 @@ fn step<M: Medium>(medium: &M, geometry: Geometry, listed: Link, at: Link) -> Op
     }
 }
 
-/// Where the chain goes on behind the blocks that a side sector lists, if they are the next ones.
+/// Checks that the data blocks a side sector lists are, in order, the next blocks of the file's chain. Returns the link after
+/// the last of them, or None at the first difference.
 fn walk_listed<M: Medium>(
     medium: &M,
     geometry: Geometry,
@@ -48,7 +42,7 @@ fn walk_listed<M: Medium>(
     Some(at)
 }
 
-/// The same of a side sector that has its number and the records' length.
+/// First checks the side sector's own number and record length.
 #[tactic(auto, using(crate::proofs::SidesListed::side_right))]
 pub fn walk_side<M: Medium>(
     medium: &M,
@@ -67,7 +61,7 @@ pub fn walk_side<M: Medium>(
     walk_listed(medium, geometry, side, from)
 }
 
-/// The same of the side sector that a link names.
+/// Checks the side sector that a link names; None where the link names no sector of the disk, or it doesn't read.
 fn walk_side_at<M: Medium>(
     medium: &M,
     geometry: Geometry,
@@ -87,7 +81,8 @@ fn walk_side_at<M: Medium>(
     }
 }
 
-/// Where the chain goes on behind the blocks that a file's side sectors list, from the first one's bytes, if they are right.
+/// Checks all side sectors of a file, from the bytes of the first. Returns the link after the last block that they list, or None
+/// at the first that isn't right.
 pub fn walk_sides<M: Medium>(
     medium: &M,
     geometry: Geometry,

@@ -8,9 +8,7 @@ use crate::check::claims::claim;
 use crate::check::sector_set::SectorSet;
 use crate::check::unsound::{Part, Unsound};
 use cbm_medium::{Geometry, Link, Medium};
-
-/// Where a side sector lists the six side sectors of its file, two bytes each (Inside Commodore DOS).
-pub const SIDES: usize = 4;
+use cbm_relfile::side::SIDES;
 
 /// Claims the side sectors that a file's first one lists behind itself.
 fn claim_listed<M: Medium>(

@@ -24,9 +24,9 @@ made : (c : In-Some) → c.in-Some.track ≡ fresh c.args.track c.args.id.now
 made c =
     let z = sized c.args.track (c.requires.0) (c.requires.1) in
     let all : c.loop-sector.sector ≡ sectors_on c.args.track = omega arith in
-    let r : c.fresh_bytes.result - c.len.result ≡ bytes_on c.args.track - 362 * sectors_on c.args.track = omega arith in
+    let r : c.track_bytes.result - c.len.result ≡ bytes_on c.args.track - 362 * sectors_on c.args.track = omega arith in
     c.in-Some.ensures.some ∙ ap bits_of c.as_slice.ensures.value
-    ∙ track_built c.args.track c.args.id.now c.loop-sector.bytes.items c.append.new.out.items (c.fresh_bytes.result - c.len.result)
+    ∙ track_built c.args.track c.args.id.now c.loop-sector.bytes.items c.append.new.out.items (c.track_bytes.result - c.len.result)
     (c.loop-sector.invariant.made ∙ ap (fresh_sectors c.args.track c.args.id.now) all) c.append.ensures.items r (omega (arith, z.rest))
 
 pub returns-clause-value : goal.returns-clause-value
