@@ -2,9 +2,9 @@
 #![tactic(auto)]
 
 mod file_type;
-mod padded;
+mod padding;
 #[cfg(test)]
 mod tests;
 
 pub use file_type::FileType;
-pub use padded::before_filler;
+pub use padding::{before_filler, padded};

@@ -1,0 +1,41 @@
+-- What becomes of an entry: it is made, opened again, renamed, cleared. What isn't named stays as it is.
+use Rattle.std.specs.Prelude.{ℕ, ◌+◌, ◌*◌, ◌%◌, ◌<◌, ◌≤◌, ◌≡◌, List, ◌∷◌, ◌++◌, drop, take, replicate, slice_index, slice_set}
+use Rattle.cbm_medium.specs.Place.{Place}
+use Rattle.cbm_file.specs.Padding.{before_filler, padded}
+use Rattle.cbm_file.specs.Types.{type_number}
+use Rattle.cbm_file.specs.declared.file_type.FileType.{FileType}
+use Rattle.cbm_directory.specs.Entries.{type_byte, first_block, name_in}
+
+-- A new entry of a file that isn't closed: its type, the link to its first block and its name, and all else is 0.
+abbrev pub fresh_entry : FileType → List ℕ → Place → List ℕ
+fresh_entry kind name first = type_number kind ∷ first.track ∷ first.sector ∷ (padded name ++ replicate 11 0)
+
+-- what a new entry says
+pub record IsFreshAs (new : List ℕ) (kind : FileType) (name : List ℕ) (first : Place) : Type 0 where
+  pub typed : type_byte new ≡ type_number kind
+  pub begins : first_block new ≡ first
+  pub named : name_in new ≡ before_filler name
+  pub shown : slice_index new 28 + 256 * slice_index new 29 ≡ 0
+
+-- The entry of a closed file as one that is being written: bit 7 of the type byte is cleared.
+abbrev pub reopened_entry : List ℕ → List ℕ
+reopened_entry e = slice_set e 0 (type_byte e % 128)
+
+-- An empty slot: the type byte is 0, and the other bytes are what they were.
+abbrev pub cleared_entry : List ℕ → List ℕ
+cleared_entry e = slice_set e 0 0
+
+-- only the type byte is another
+pub record IsTypedAs (old new : List ℕ) (type : ℕ) : Type 0 where
+  pub typed : type_byte new ≡ type
+  pub others : (i : ℕ) → 0 < i → slice_index new i ≡ slice_index old i
+
+-- The entry under another name.
+abbrev pub renamed_entry : List ℕ → List ℕ → List ℕ
+renamed_entry e name = take 3 e ++ (padded name ++ drop 19 e)
+
+-- only the sixteen bytes of the name are others
+pub record IsRenamedAs (old new name : List ℕ) : Type 0 where
+  pub named : name_in new ≡ before_filler name
+  pub before : (i : ℕ) → i < 3 → slice_index new i ≡ slice_index old i
+  pub behind : (i : ℕ) → 19 ≤ i → slice_index new i ≡ slice_index old i
