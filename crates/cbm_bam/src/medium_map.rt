@@ -9,11 +9,11 @@ use cbm_medium::{Address, Geometry, Medium, Trouble};
 /// How many tracks the disk uses: 40 where the medium has 40, 18/0 reads and each count of the tracks 36 to 40 is the
 /// number of its free bits, else 35 (this project's rule).
 pub fn geometry<M: Medium>(medium: &M) -> Geometry
-    ensures value { result ≡ geometry_of (M.tracks medium.now) (M.content medium.now) }
-    ensures room { result ≤ M.tracks medium.now }
+    ensures value { result ≡ geometry_of (M.seen medium.now).tracks (M.seen medium.now).content }
+    ensures room { result ≤ (M.seen medium.now).tracks }
 
     // A sector that reads has 256 bytes.
-    ensures whole { (p : Place) → IsWhole (M.content medium.now p) }
+    ensures whole { (p : Place) → IsWhole ((M.seen medium.now).content p) }
 {
     if medium.tracks() < 40 {
         return Geometry::of_35();
@@ -30,9 +30,10 @@ pub fn geometry<M: Medium>(medium: &M) -> Geometry
 
 /// The 256 bytes of 18/0, or the medium's fault there.
 pub fn read_map<M: Medium>(medium: &M, geometry: Geometry) -> Result<[u8; 256], Trouble>
-    requires { geometry ≤ M.tracks medium.now }
-    ensures ok { IfOk result (λ map. M.content medium.now directory_head ≡ Ok map) }
-    ensures err { IfErr result (λ t. (M.content medium.now directory_head ≡ Err t.code) × (t.track ≡ 18) × (t.sector ≡ 0)) }
+    requires { geometry ≤ (M.seen medium.now).tracks }
+    ensures ok { IfOk result (λ map. (M.seen medium.now).content directory_head ≡ Ok map) }
+    ensures err { IfErr result (λ t. ((M.seen medium.now).content directory_head ≡ Err t.code) × (t.track ≡ 18) ×
+        (t.sector ≡ 0)) }
 {
     prove!(geometry.tracks() >= 35);
     let map = medium.read(Address::of_map())?;
@@ -41,10 +42,11 @@ pub fn read_map<M: Medium>(medium: &M, geometry: Geometry) -> Result<[u8; 256], 
 
 /// Whether the map has a sector as free.
 pub fn is_free<M: Medium>(medium: &M, geometry: Geometry, at: Address) -> Result<bool, Trouble>
-    requires { geometry ≤ M.tracks medium.now }
-    ensures ok { IfOk result (λ free. free ≡ is_free_in (map_of (M.content medium.now)) at) }
-    ensures read { OnOk result (IsOk (M.content medium.now directory_head)) }
-    ensures err { IfErr result (λ t. (M.content medium.now directory_head ≡ Err t.code) × (t.track ≡ 18) × (t.sector ≡ 0)) }
+    requires { geometry ≤ (M.seen medium.now).tracks }
+    ensures ok { IfOk result (λ free. free ≡ is_free_in (map_of (M.seen medium.now).content) at) }
+    ensures read { OnOk result (IsOk ((M.seen medium.now).content directory_head)) }
+    ensures err { IfErr result (λ t. ((M.seen medium.now).content directory_head ≡ Err t.code) × (t.track ≡ 18) ×
+        (t.sector ≡ 0)) }
 {
     let map = read_map(medium, geometry)?;
     Ok(map::has(&map, at))
@@ -52,10 +54,11 @@ pub fn is_free<M: Medium>(medium: &M, geometry: Geometry, at: Address) -> Result
 
 /// How many blocks of files the map counts as free: the sum of its counts but track 18's.
 pub fn free_blocks<M: Medium>(medium: &M, geometry: Geometry) -> Result<u16, Trouble>
-    requires { geometry ≤ M.tracks medium.now }
-    ensures ok { IfOk result (λ free. free ≡ free_in geometry (map_of (M.content medium.now))) }
-    ensures read { OnOk result (IsOk (M.content medium.now directory_head)) }
-    ensures err { IfErr result (λ t. (M.content medium.now directory_head ≡ Err t.code) × (t.track ≡ 18) × (t.sector ≡ 0)) }
+    requires { geometry ≤ (M.seen medium.now).tracks }
+    ensures ok { IfOk result (λ free. free ≡ free_in geometry (map_of (M.seen medium.now).content)) }
+    ensures read { OnOk result (IsOk ((M.seen medium.now).content directory_head)) }
+    ensures err { IfErr result (λ t. ((M.seen medium.now).content directory_head ≡ Err t.code) × (t.track ≡ 18) ×
+        (t.sector ≡ 0)) }
 {
     let map = read_map(medium, geometry)?;
     Ok(map::free_blocks(&map, geometry.tracks()))
@@ -63,12 +66,13 @@ pub fn free_blocks<M: Medium>(medium: &M, geometry: Geometry) -> Result<u16, Tro
 
 /// Whether the map's count of a track is the number of its free bits.
 pub fn is_counted<M: Medium>(medium: &M, geometry: Geometry, track: u8) -> Result<bool, Trouble>
-    requires room { geometry ≤ M.tracks medium.now }
+    requires room { geometry ≤ (M.seen medium.now).tracks }
     requires track { track ≤ 40 }
-    ensures ok { let map = map_of (M.content medium.now) in
+    ensures ok { let map = map_of (M.seen medium.now).content in
         IfOk result (λ counted. counted ≡ (count_in map track == tally (is_free_in map) track (sectors_on track))) }
-    ensures read { OnOk result (IsOk (M.content medium.now directory_head)) }
-    ensures err { IfErr result (λ t. (M.content medium.now directory_head ≡ Err t.code) × (t.track ≡ 18) × (t.sector ≡ 0)) }
+    ensures read { OnOk result (IsOk ((M.seen medium.now).content directory_head)) }
+    ensures err { IfErr result (λ t. ((M.seen medium.now).content directory_head ≡ Err t.code) × (t.track ≡ 18) ×
+        (t.sector ≡ 0)) }
 {
     let map = read_map(medium, geometry)?;
     Ok(map::is_counted(&map, track))

@@ -7,6 +7,7 @@ use Rattle.std.proofs.lemmas.Bool.{ne_eqb, eq-eqb, cases_lt}
 use Rattle.cbm_medium.specs.Links.{follow}
 use Rattle.cbm_medium.proofs.Walks.{follow_end}
 use Rattle.cbm_channel.specs.Statuses.{status_line}
+use Rattle.cbm_medium.specs.Seen.{Seen}
 use Rattle.cbm_volume.specs.Content.{Content}
 use Rattle.cbm_volume.specs.Reading.{Reading, rest_of, held_from, held_in, shown, IsSettled}
 use Rattle.cbm_file.specs.Files.{Disk}
@@ -404,6 +405,6 @@ pub begun : (ch b : ℕ) (m : machine.Machine) (new : ℕ × List ℕ) → HasNo
 begun ch b m new has e = ap (λ x. kept_text (Some (ch, x ++ b ∷ []))) has.none ∙ ap (λ (t : ℕ × List ℕ). Some t) (sym e)
 
 -- a drive that is known by its parts
-pub stood : {M : Type 0} (tracks : M → ℕ) (content : M → Content) (protected : M → Bool) (k k' : Kept M) (m : machine.Machine) → k' ≡ k
-    → Stands tracks content protected k m → Stands tracks content protected k' m
-stood tracks content protected k k' m e s = subst (λ x. Stands tracks content protected x m) (sym e) s
+pub stood : {M : Type 0} (seen : M → Seen) (k k' : Kept M) (m : machine.Machine) → k' ≡ k
+    → Stands seen k m → Stands seen k' m
+stood seen k k' m e s = subst (λ x. Stands seen x m) (sym e) s

@@ -5,6 +5,7 @@ use Rattle.std.specs.List.{Contains}
 use Rattle.cbm_medium.specs.declared.fault.Trouble.{Trouble}
 use Rattle.cbm_medium.specs.Place.{Place, sector_count}
 use Rattle.cbm_medium.specs.Links.{follow}
+use Rattle.cbm_medium.specs.Seen.{Seen}
 use Rattle.cbm_volume.specs.Content.{Content}
 use Rattle.cbm_volume.specs.Reading.{Rest, held_from}
 use Rattle.cbm_volume.specs.Map.{geometry_of}
@@ -41,9 +42,9 @@ pub entry_broken : (tracks : ℕ) (c : Content) (entry : List ℕ) (t : Trouble)
 entry_broken tracks c entry t there e = inr (inr (entry, there, broken_at_once tracks c (sector_count tracks) (first_block entry) t e))
 
 -- the file that is read is one of the directory's
-pub read_from : {M : Type 0} (tracks : M → ℕ) (content : M → Content) (m : M) (p : Plan) (found : Found) → p ≡ ReadFile found → IsFromDirectory tracks content m p
-    → Contains (directory_of (geometry_of (tracks m) (content m)) (content m)).entries found.entry
-read_from tracks content m p found e from = subst (IsFromDirectory tracks content m) e from
+pub read_from : {M : Type 0} (seen : M → Seen) (m : M) (p : Plan) (found : Found) → p ≡ ReadFile found → IsFromDirectory seen m p
+    → Contains (directory_of (geometry_of (seen m).tracks (seen m).content) (seen m).content).entries found.entry
+read_from seen m p found e from = subst (IsFromDirectory seen m) e from
 
 -- what an error is passed on as
 pub passed_on : {A E : Type 0} (r : Result A E) (x : E) (P : E → Type 0) → IsErrAnd r (λ e. e ≡ x) → P x → IfErr r P

@@ -4,6 +4,7 @@ use Rattle.std.specs.List.{Contains}
 use Rattle.cbm_medium.specs.Place.{sector_count}
 use Rattle.cbm_medium.specs.Links.{follow}
 use Rattle.cbm_medium.specs.declared.fault.Trouble.{Trouble}
+use Rattle.cbm_medium.specs.Seen.{Seen, HasFailed}
 use Rattle.cbm_volume.specs.Content.{Content}
 use Rattle.cbm_volume.specs.Map.{geometry_of}
 use Rattle.cbm_volume.specs.Entries.{first_block}
@@ -29,24 +30,25 @@ ShowsTrouble tracks c t =
     ⊎ ((entry : List ℕ) × Contains (directory_of tracks c).entries entry × ((follow tracks c (sector_count tracks) (first_block entry)).trouble ≡ Some t)))
 
 -- A STATUS HAS ITS GROUND: it is no fault of a disk; or the disk is protected; or the content shows the fault.
-abbrev pub HasGround : {M : Type 0} → (M → ℕ) → (M → Content) → (M → Bool) → M → Status → Type 0
-HasGround tracks content protected medium status =
+abbrev pub HasGround : {M : Type 0} → (M → Seen) → M → Status → Type 0
+HasGround seen medium status =
     (is_fault_number (code_number status.code) ≡ false)
-    ⊎ (((status ≡ plain WriteProtected) × (protected medium ≡ true))
-    ⊎ ((t : Trouble) × (status ≡ trouble_status t) × ShowsTrouble (geometry_of (tracks medium) (content medium)) (content medium) t))
+    ⊎ (((status ≡ plain WriteProtected) × ((seen medium).protected ≡ true))
+    ⊎ ((t : Trouble) × (status ≡ trouble_status t) × ShowsTrouble (geometry_of (seen medium).tracks (seen medium).content) (seen medium).content t))
 
 -- a status with its ground is told
-abbrev pub HasTold : {M : Type 0} → (M → ℕ) → (M → Content) → (M → Bool) → Kept M → Kept M → Type 0
-HasTold tracks content protected old new = HasGround tracks content protected old.medium new.told.status
+abbrev pub HasTold : {M : Type 0} → (M → Seen) → Kept M → Kept M → Type 0
+HasTold seen old new = HasGround seen old.medium new.told.status
 
 -- What is told stays; or a status with its ground is told anew; or the medium failed in this call, and its fault is told.
-abbrev pub IsToldFor : {M : Type 0} → (M → ℕ) → (M → Content) → (M → Bool) → (M → ℕ) → Kept M → Kept M → Type 0
-IsToldFor tracks content protected failures old new =
+abbrev pub IsToldFor : {M : Type 0} → (M → Seen) → Kept M → Kept M → Type 0
+IsToldFor seen old new =
     (new.told ≡ old.told)
-    ⊎ (HasTold tracks content protected old new
-    ⊎ ((t : Trouble) × (new.told.status ≡ trouble_status t) × (failures old.medium < failures new.medium)))
+    ⊎ (HasTold seen old new
+    ⊎ ((t : Trouble) × (new.told.status ≡ trouble_status t) × HasFailed (seen old.medium) (seen new.medium)))
 
 -- the file that a plan reads was found in the directory
-abbrev pub IsFromDirectory : {M : Type 0} → (M → ℕ) → (M → Content) → M → Plan → Type 0
-IsFromDirectory tracks content medium (planned.ReadListing pattern) = Unit {0}
-IsFromDirectory tracks content medium (planned.ReadFile found) = Contains (directory_of (geometry_of (tracks medium) (content medium)) (content medium)).entries found.entry
+abbrev pub IsFromDirectory : {M : Type 0} → (M → Seen) → M → Plan → Type 0
+IsFromDirectory seen medium (planned.ReadListing pattern) = Unit {0}
+IsFromDirectory seen medium (planned.ReadFile found) =
+    Contains (directory_of (geometry_of (seen medium).tracks (seen medium).content) (seen medium).content).entries found.entry

@@ -1,6 +1,7 @@
 -- The drive's code, over the content of its medium, stands for a machine.
 use Rattle.std.specs.Prelude.{ℕ, ◌≤◌, ◌≡◌, ◌≢◌, Bool, List, [], length, take, drop, slice_index_or, Option, Some, None, option_map}
 use Rattle.std.specs.List.{All, AllZip}
+use Rattle.cbm_medium.specs.Seen.{Seen}
 use Rattle.cbm_volume.specs.Content.{Content}
 use Rattle.cbm_volume.specs.Reading.{rest_of, IsSettled}
 use Rattle.cbm_volume.specs.Writers.{Use, Idle, Reads, HoldsNow}
@@ -77,9 +78,9 @@ pub record StandsBy (c : Content) (tracks : ℕ) (protected : Bool) (channels : 
   pub same_text : kept_text m.text ≡ text
 
 -- what a drive keeps stands for a machine
-abbrev pub Stands : {M : Type 0} → (M → ℕ) → (M → Content) → (M → Bool) → Kept M → machine.Machine → Type 0
-Stands tracks content protected k m = StandsBy (content k.medium) (tracks k.medium) (protected k.medium) k.channels k.told k.text m
+abbrev pub Stands : {M : Type 0} → (M → Seen) → Kept M → machine.Machine → Type 0
+Stands seen k m = StandsBy (seen k.medium).content (seen k.medium).tracks (seen k.medium).protected k.channels k.told k.text m
 
 -- A CALL LEADS from each machine that the drive stood for to the machine's next state.
-abbrev pub Leads : {M : Type 0} → (M → ℕ) → (M → Content) → (M → Bool) → Kept M → Kept M → (machine.Machine → machine.Machine) → Type 0
-Leads tracks content protected old new next = (m : machine.Machine) → Stands tracks content protected old m → Stands tracks content protected new (next m)
+abbrev pub Leads : {M : Type 0} → (M → Seen) → Kept M → Kept M → (machine.Machine → machine.Machine) → Type 0
+Leads seen old new next = (m : machine.Machine) → Stands seen old m → Stands seen new (next m)

@@ -79,13 +79,15 @@ impl Channel {
 
     /// Goes to the next byte. An `Err` is what the disk answers behind that one, which is the last then.
     pub(crate) fn taken<M: Medium>(&mut self, volume: &Volume<M>) -> Result<(), Trouble>
-        requires { Fits (M.tracks volume.now) self.old }
-        ensures fits { Fits (M.tracks volume.now) self.new }
-        ensures taken { IsTakenBy (M.content volume.now) self.old self.new result }
-        ensures well { (d : Disk) (channel : machine.Channel) → ChannelStands (M.content volume.now) self.old channel →
-            IsOk result × ChannelStands (M.content volume.now) self.new (taken_on d channel) }
-        ensures uses { (d : Disk) (uses : ℕ → Use) (ch : ℕ) (x y : machine.Channel) → HoldsNow (M.tracks volume.now) (M.content volume.now) d uses →
-            uses ch ≡ use_of self.old x → OnOk result (HoldsNow (M.tracks volume.now) (M.content volume.now) d (with_use uses ch (use_of self.new y))) }
+        requires { Fits (M.seen volume.now).tracks self.old }
+        ensures fits { Fits (M.seen volume.now).tracks self.new }
+        ensures taken { IsTakenBy (M.seen volume.now).content self.old self.new result }
+        ensures well { (d : Disk) (channel : machine.Channel) →
+            ChannelStands (M.seen volume.now).content self.old channel →
+            IsOk result × ChannelStands (M.seen volume.now).content self.new (taken_on d channel) }
+        ensures uses { let now = M.seen volume.now in (d : Disk) (uses : ℕ → Use) (ch : ℕ) (x y : machine.Channel) →
+            HoldsNow now.tracks now.content d uses → uses ch ≡ use_of self.old x →
+            OnOk result (HoldsNow now.tracks now.content d (with_use uses ch (use_of self.new y))) }
     {
         match self {
             Channel::Closed => {}

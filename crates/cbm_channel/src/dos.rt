@@ -27,7 +27,7 @@ impl<M: Medium> Model for Dos<M> {
 
     ghost view = { λ d. record { medium = d.volume; channels = d.channels; told = d.telling; text = d.text } };
 
-    ghost invariant = { λ d. AreFit (M.tracks d.volume) d.channels };
+    ghost invariant = { λ d. AreFit (M.seen d.volume).tracks d.channels };
 }
 
 impl<M: Medium> Dos<M> {
@@ -42,8 +42,8 @@ impl<M: Medium> Dos<M> {
     /// The drive at power up, with no channel open. It reads nothing.
     pub fn new(medium: M) -> Dos<M>
         ensures medium { result.medium ≡ medium }
-        ensures stands { (d : Disk) → HoldsDisk (M.tracks medium) (M.content medium) d
-            → Stands M.tracks M.content M.protected result (start d (M.protected medium) (M.tracks medium)) }
+        ensures stands { (d : Disk) → HoldsDisk (M.seen medium).tracks (M.seen medium).content d
+            → Stands M.seen result (start d (M.seen medium).protected (M.seen medium).tracks) }
     {
         Dos {
             volume: Volume::open(medium),
@@ -71,7 +71,7 @@ impl<M: Medium> Dos<M> {
     /// The status: its code and two numbers.
     pub fn status(&self) -> Status
         ensures value { result ≡ self.now.told.status }
-        ensures status { (m : Machine) → Stands M.tracks M.content M.protected self.now m → result ≡ m.status }
+        ensures status { (m : Machine) → Stands M.seen self.now m → result ≡ m.status }
     {
         self.telling.status()
     }
@@ -79,14 +79,14 @@ impl<M: Medium> Dos<M> {
     /// The number of the status, as 62 where a file isn't there.
     pub fn status_code(&self) -> u8
         ensures value { result ≡ code_number self.now.told.status.code }
-        ensures code { (m : Machine) → Stands M.tracks M.content M.protected self.now m → result ≡ code_number m.status.code }
+        ensures code { (m : Machine) → Stands M.seen self.now m → result ≡ code_number m.status.code }
     {
         self.status().code.number()
     }
 
     /// Sets the status, which is told from its beginning.
     fn set(&mut self, status: Status)
-        ensures leads { Leads M.tracks M.content M.protected self.old self.new (tell status) }
+        ensures leads { Leads M.seen self.old self.new (tell status) }
         ensures medium { self.new.medium ≡ self.old.medium }
         ensures channels { self.new.channels ≡ self.old.channels }
         ensures told { self.new.told ≡ (record { status = status; told = 0 }) }
@@ -96,7 +96,7 @@ impl<M: Medium> Dos<M> {
 
     /// Sets a status whose numbers are 0.
     fn say(&mut self, code: Code)
-        ensures leads { Leads M.tracks M.content M.protected self.old self.new (say code) }
+        ensures leads { Leads M.seen self.old self.new (say code) }
         ensures medium { self.new.medium ≡ self.old.medium }
         ensures channels { self.new.channels ≡ self.old.channels }
         ensures told { self.new.told ≡ (record { status = plain code; told = 0 }) }

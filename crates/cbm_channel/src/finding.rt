@@ -29,10 +29,13 @@ impl<M: Medium> Dos<M> {
     /// The first file that matches and is of the type, where one is meant. An `Err` is 64 where the name is there and has
     /// none of the type, 62 where it isn't there, or what the disk answers.
     pub(crate) fn found(&self, pattern: &Name, kind: Option<FileType>) -> Result<Found, Status>
-        ensures ground { IfErr result (HasGround M.tracks M.content M.protected self.now.medium) }
-        ensures from { IfOk result (λ f. Contains (directory_of (geometry_of (M.tracks self.now.medium) (M.content self.now.medium)) (M.content self.now.medium)).entries f.entry) }
-        ensures found { (m : Machine) → Stands M.tracks M.content M.protected self.now m
-            → FoundAs (M.tracks self.now.medium) (M.content self.now.medium) m.disk (found m.disk pattern.now kind) result }
+        ensures ground { IfErr result (HasGround M.seen self.now.medium) }
+        ensures from { let now = M.seen self.now.medium in
+            IfOk result
+            (λ f. Contains (directory_of (geometry_of now.tracks now.content) now.content).entries f.entry) }
+        ensures found { (m : Machine) → Stands M.seen self.now m →
+            FoundAs (M.seen self.now.medium).tracks (M.seen self.now.medium).content m.disk
+            (found m.disk pattern.now kind) result }
     {
         if let Some((slot, entry)) = self.volume().find(&Sought { pattern, kind })? {
             return Ok(Found { slot, entry });

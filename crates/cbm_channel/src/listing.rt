@@ -35,8 +35,9 @@ fn add_entry(listing: &mut Listing, pattern: &Name, entry: &Entry)
 
 /// The listing of the files that match a pattern. An `Err` is what the disk answers in place of 18/0 or of the directory.
 pub(crate) fn list<M: Medium>(volume: &Volume<M>, pattern: &Name) -> Result<Listing, Trouble>
-    ensures shown { IfErr result (ShowsTrouble (geometry_of (M.tracks volume.now) (M.content volume.now)) (M.content volume.now)) }
-    ensures whole { (d : Disk) → HoldsDisk (M.tracks volume.now) (M.content volume.now) d →
+    ensures shown { let now = M.seen volume.now in
+        IfErr result (ShowsTrouble (geometry_of now.tracks now.content) now.content) }
+    ensures whole { (d : Disk) → HoldsDisk (M.seen volume.now).tracks (M.seen volume.now).content d →
         IsOkAnd result (λ l. l ≡ (record { bytes = listing d pattern.now; taken = 0 })) }
 {
     let label = volume.label()?;

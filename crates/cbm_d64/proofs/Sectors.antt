@@ -9,8 +9,9 @@ use Rattle.cbm_medium.proofs.Walks.{has_true, true_has, on_a_track, bool_cases}
 use borrow.Rule.Slice.PartMut.{put_mid, post_of}
 use mathlib.Core.Path.{fun_ext}
 use Rattle.cbm_medium.specs.Place.{Place, sectors_on, IsOnDisk, Has, has, is_place}
-use Rattle.cbm_medium.specs.Content.{Cell, IsWhole, written, blank}
-use Rattle.cbm_d64.specs.Image.{IsImageSize, IsStored, IsErased, mended, tracks_in, sectors_in, index_of, sectors_before, code_of, cell_of, error_at, sector_at, content_of}
+use Rattle.cbm_medium.specs.Content.{Cell, Content, IsWhole, written, blank}
+use Rattle.cbm_medium.specs.Seen.{with_content}
+use Rattle.cbm_d64.specs.Image.{Image, IsImageSize, IsStored, IsErased, mended, tracks_in, sectors_in, index_of, sectors_before, code_of, cell_of, error_at, sector_at, content_of, seen_of}
 
 -- a sector by the bytes up to its end
 sector_in_front : (xs : List ℕ) (j : ℕ) → sector_at xs j ≡ drop (256 * j) (take (256 * j + 256) xs)
@@ -240,3 +241,8 @@ image_whole image p size = by_test (has (tracks_in (length image)) p) refl
         subst (λ (x : Cell). IsWhole x) (sym (content_on_disk image p t.2 t.1))
         (cell_whole (code_of (error_at image (index_of p))) (length-take-le 256 (drop (256 * index_of p) image) (omega (arith, room, length-drop {A = ℕ} (256 * index_of p) image))))
     by_test false h = subst (λ (x : Cell). IsWhole x) (sym (content_off_disk image p h)) (length-replicate {A = ℕ} 256 0)
+
+-- an image of as many bytes shows another content, and nothing else that is new
+pub seen_with : (old new : Image) (content : Content) → content_of new.bytes ≡ content → length new.bytes ≡ length old.bytes
+    → new.protected ≡ old.protected → seen_of new ≡ with_content content (seen_of old)
+seen_with old new content is size protected = rw (is, size, protected) refl

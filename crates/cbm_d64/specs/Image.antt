@@ -2,15 +2,12 @@
 use Rattle.std.specs.Prelude.{ℕ, ◌+◌, ◌*◌, ◌-◌, ◌<◌, ◌≡◌, ◌≢◌, ◌⊎◌, List, Bool, nat_lt, ◌==◌, if◌then◌else◌, Option, Some, None, Ok, Err, take, drop, replicate, length, slice_index}
 use Rattle.cbm_medium.specs.Place.{Place, has}
 use Rattle.cbm_medium.specs.Content.{Cell, Content}
+use Rattle.cbm_medium.specs.Seen.{Seen}
 
 -- an image, and whether its disk is protected
 pub record Image : Type 0 where
   pub bytes : List ℕ
   pub protected : Bool
-
--- an image in memory never fails by itself
-abbrev pub failures_of : Image → ℕ
-failures_of d = 0
 
 -- 35 tracks, 35 tracks with error bytes, 40 tracks
 abbrev pub IsImageSize : ℕ → Type 0
@@ -62,6 +59,10 @@ unfoldable pub content_of : List ℕ → Content
 content_of image p =
     if has (tracks_in (length image)) p then cell_of (code_of (error_at image (index_of p))) (sector_at image (index_of p))
     else Ok (replicate 256 0)
+
+-- what the disk shows; an image in memory never fails by itself
+abbrev pub seen_of : Image → Seen
+seen_of d = record { content = content_of d.bytes; tracks = tracks_in (length d.bytes); protected = d.protected; failures = 0 }
 
 -- the error byte of a sector that was written: a fault is mended, and what was good stays, whatever it says of writing
 abbrev pub mended : ℕ → ℕ

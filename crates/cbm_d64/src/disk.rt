@@ -1,7 +1,8 @@
-ghost use Rattle.std.specs.Prelude.{refl, ◌≡◌, ◌≢◌, ◌<◌, ◌≤◌, ◌⊎◌, ◌↔◌, ℕ, true, length, None, Some, IfOk, IfErr, OnOk, OnErr, IfSome};
-ghost use Rattle.cbm_d64.specs.Image.{IsImageSize, IsStored, IsErased, content_of, tracks_in, failures_of, index_of};
+ghost use Rattle.std.specs.Prelude.{refl, ◌≡◌, ◌≢◌, ◌≤◌, ◌↔◌, length, IfOk, IfErr, OnOk, OnErr, IfSome};
+ghost use Rattle.cbm_d64.specs.Image.{IsImageSize, IsStored, IsErased, content_of, tracks_in, seen_of, index_of};
 ghost use Rattle.cbm_medium.specs.Place.{directory_head};
 ghost use Rattle.cbm_medium.specs.Content.{written, blank, refusal, format_refusal};
+ghost use Rattle.cbm_medium.specs.Seen.{with_content, write_refusal, IsRefused};
 
 use crate::fault::D64Fault;
 use crate::image::{code_at, erase, index, is_size, sector, store, tracks_in};
@@ -64,18 +65,11 @@ impl D64Disk {
 }
 
 impl Medium for D64Disk {
-    ghost use Rattle.std.specs.Prelude.{length};
-    ghost use Rattle.cbm_d64.specs.Image.{content_of, tracks_in, failures_of};
+    ghost use Rattle.cbm_d64.specs.Image.{seen_of};
     ghost use Rattle.cbm_d64.specs.Outer.{outer_good};
     ghost use Rattle.cbm_d64.specs.Faults.{has_codes};
 
-    ghost content = { λ d. content_of d.bytes };
-
-    ghost tracks = { λ d. tracks_in (length d.bytes) };
-
-    ghost protected = { λ d. d.protected };
-
-    ghost failures = { λ d. failures_of d };
+    ghost seen = { seen_of };
 
     ghost codes = { λ d p. has_codes d.bytes p };
 
@@ -93,17 +87,12 @@ impl Medium for D64Disk {
     #[tactic(auto, using(crate::proofs::Sectors::index_in))]
     fn write(&mut self, at: Address, bytes: &[u8; 256]) -> Result<(), Fault>
         requires { at.track ≤ tracks_in (length self.old.bytes) }
-        ensures ok { OnOk result (content_of self.new.bytes ≡ written (content_of self.old.bytes) at bytes.now) }
-        ensures err { OnErr result (content_of self.new.bytes ≡ content_of self.old.bytes) }
+        ensures ok { let old = seen_of self.old in
+            OnOk result (seen_of self.new ≡ with_content (written old.content at bytes.now) old) }
         ensures refused { IfSome (refusal self.old.protected (content_of self.old.bytes at))
             (λ code. result ≡ Err (record { code = code; at = at })) }
-        ensures cause { IfErr result (λ fault. (refusal self.old.protected (content_of self.old.bytes at) ≡ Some fault.code) ⊎ (failures_of self.old < failures_of self.new)) }
-        ensures only_protected { IfErr result (λ fault. fault.code ≡ 26 → self.old.protected ≡ true) }
-        ensures at { IfErr result (λ fault. fault.at ≡ at) }
-        ensures uncounted { OnOk result (failures_of self.new ≡ failures_of self.old) }
-        ensures counted { failures_of self.old ≤ failures_of self.new }
-        ensures protected { self.new.protected ≡ self.old.protected }
-        ensures tracks { tracks_in (length self.new.bytes) ≡ tracks_in (length self.old.bytes) }
+        ensures err { IfErr result (λ fault. (fault.at ≡ at)
+            × IsRefused (write_refusal (seen_of self.old) at) fault.code (seen_of self.old) (seen_of self.new)) }
 
         // What the image holds then, its error bytes too, which the content doesn't show.
         ensures stored { OnOk result (IsStored self.old.bytes self.new.bytes (index_of at) bytes.now) }
@@ -117,17 +106,11 @@ impl Medium for D64Disk {
     }
 
     fn format(&mut self, _id: [u8; 2]) -> Result<(), Fault>
-        ensures ok { OnOk result (content_of self.new.bytes ≡ blank) }
-        ensures err { OnErr result (content_of self.new.bytes ≡ content_of self.old.bytes) }
+        ensures ok { OnOk result (seen_of self.new ≡ with_content blank (seen_of self.old)) }
         ensures refused { IfSome (format_refusal self.old.protected)
             (λ code. result ≡ Err (record { code = code; at = directory_head })) }
-        ensures cause { IfErr result (λ fault. (format_refusal self.old.protected ≡ Some fault.code) ⊎ (failures_of self.old < failures_of self.new)) }
-        ensures only_protected { IfErr result (λ fault. fault.code ≡ 26 → self.old.protected ≡ true) }
-        ensures at { IfErr result (λ fault. fault.at ≡ directory_head) }
-        ensures uncounted { OnOk result (failures_of self.new ≡ failures_of self.old) }
-        ensures counted { failures_of self.old ≤ failures_of self.new }
-        ensures protected { self.new.protected ≡ self.old.protected }
-        ensures tracks { tracks_in (length self.new.bytes) ≡ tracks_in (length self.old.bytes) }
+        ensures err { IfErr result (λ fault. (fault.at ≡ directory_head)
+            × IsRefused (format_refusal self.old.protected) fault.code (seen_of self.old) (seen_of self.new)) }
         ensures erased { OnOk result (IsErased self.old.bytes self.new.bytes) }
         ensures unchanged { OnErr result (self.new ≡ self.old) }
     {

@@ -56,10 +56,11 @@ impl Slots {
 
     /// Reads the next sector where this one is used up and another follows.
     fn fill<M: Medium>(&mut self, medium: &M) -> Result<(), Trouble>
-        requires { self.old.tracks ≤ M.tracks medium.now }
-        ensures left { left_of (M.content medium.now) self.new ≡ left_of (M.content medium.now) self.old }
+        requires { self.old.tracks ≤ (M.seen medium.now).tracks }
+        ensures left { left_of (M.seen medium.now).content self.new ≡ left_of (M.seen medium.now).content self.old }
         ensures ready { OnOk result (self.new.entries ≡ [] → self.new.next.track ≡ 0) }
-        ensures err { IfErr result (λ t. left_of (M.content medium.now) self.old ≡ record { entries = []; trouble = Some t }) }
+        ensures err { IfErr result
+            (λ t. left_of (M.seen medium.now).content self.old ≡ record { entries = []; trouble = Some t }) }
         ensures tracks { self.new.tracks ≡ self.old.tracks }
         ensures most { most_left self.new ≡ most_left self.old }
     {
@@ -77,8 +78,9 @@ impl Slots {
     /// The entry of the next slot, None past the last. An `Err` is what breaks the directory off there: 66 at
     /// a link to no sector of the disk, 71 at a nineteenth sector, or the medium's fault; and it comes again.
     pub fn next<M: Medium>(&mut self, medium: &M) -> Result<Option<Entry>, Trouble>
-        requires { self.old.tracks ≤ M.tracks medium.now }
-        ensures gives { Gives (left_of (M.content medium.now) self.old) (left_of (M.content medium.now) self.new) result }
+        requires { self.old.tracks ≤ (M.seen medium.now).tracks }
+        ensures gives { Gives (left_of (M.seen medium.now).content self.old)
+            (left_of (M.seen medium.now).content self.new) result }
         ensures tracks { self.new.tracks ≡ self.old.tracks }
         ensures most { IfGiven result (most_left self.new + 1 ≡ most_left self.old) }
     {
@@ -94,8 +96,8 @@ impl Slots {
 
 /// The entry of a slot by its number, counted from 0; None past the last. An `Err` is what breaks the directory off before.
 pub fn slot<M: Medium>(medium: &M, geometry: Geometry, number: u8) -> Result<Option<Entry>, Trouble>
-    requires { geometry ≤ M.tracks medium.now }
-    ensures { Answers (directory_of geometry (M.content medium.now)) number result }
+    requires { geometry ≤ (M.seen medium.now).tracks }
+    ensures { Answers (directory_of geometry (M.seen medium.now).content) number result }
 {
     let mut slots = Slots::begin(geometry);
     for passed in 0..number {
@@ -123,8 +125,8 @@ pub fn find<M: Medium, W: Wanted>(
     geometry: Geometry,
     wanted: &W,
 ) -> Result<Option<(u8, Entry)>, Trouble>
-    requires { geometry ≤ M.tracks medium.now }
-    ensures { Finds (W.wants wanted.now) (directory_of geometry (M.content medium.now)) result }
+    requires { geometry ≤ (M.seen medium.now).tracks }
+    ensures { Finds (W.wants wanted.now) (directory_of geometry (M.seen medium.now).content) result }
 {
     let mut slots = Slots::begin(geometry);
     let mut number = 0;

@@ -1,6 +1,7 @@
 use Rattle.std.specs.Prelude.{ℕ, ◌≡◌, ◌≢◌, ◌<◌, ◌≤◌, ◌+◌, ◌*◌, ◌-◌, ◌⊎◌, List, [], ◌∷◌, Bool, false, length, if◌then◌else◌, Ok, Err, replicate, slice_index_or, unwrap_or}
 use Rattle.cbm_medium.specs.Place.{Place, Has, has, sectors_on}
 use Rattle.cbm_medium.specs.Content.{Cell, Content}
+use Rattle.cbm_medium.specs.Seen.{Seen}
 use Rattle.cbm_track.specs.Circle.{bit}
 use Rattle.cbm_sector.specs.Answer.{shown, id_shown, block_of, block_code, IsOverwritten}
 use Rattle.cbm_sector.specs.Fresh.{block_place, bytes_on, fresh}
@@ -42,13 +43,9 @@ pub record IsPut (old new : List (List Bool)) (a : Place) (bytes : List ℕ) : T
 abbrev pub HasTrack : Disk → ℕ → Type 0
 HasTrack d t = (0 < t) × (t ≤ 35) × (offset (base_of d.formatted d.file) (t - 1) ≢ 0)
 
--- an image has 35 tracks
-abbrev pub tracks_on : Disk → ℕ
-tracks_on d = 35
-
--- a disk in memory never fails by itself
-abbrev pub failures_of : Disk → ℕ
-failures_of d = 0
+-- what the disk shows: an image has 35 tracks, and a disk in memory never fails by itself
+abbrev pub seen_of : Disk → Seen
+seen_of d = record { content = content_of d.tracks; tracks = 35; protected = d.protected; failures = 0 }
 
 -- each track is as formatting writes it
 abbrev pub AreFresh : List ℕ → List (List Bool) → Type 0

@@ -32,14 +32,14 @@ fn fresh_tracks(alloc: Global, id: &[u8; 2]) -> Result<Vec<Track>, AllocError>
 
 /// Copies a sector of a medium to a track where it still holds zeros; one with a fault stays zeros.
 fn copy_sector<M: Medium>(medium: &M, tracks: &mut [Track], at: Address, id: &[u8; 2])
-    requires tracks { M.tracks medium.now ≡ 35 }
+    requires tracks { (M.seen medium.now).tracks ≡ 35 }
     requires held { IsHeld new_file tracks.old }
     requires laid { AreLaid tracks.old }
     requires filled { AreFilled id.now tracks.old }
     requires id { id_for tracks.old ≡ id.now }
     requires track { at.track ≤ 35 }
     requires blank { content_of tracks.old at ≡ Ok (replicate 256 0) }
-    ensures here { content_of tracks.new at ≡ or_zeros (M.content medium.now at) }
+    ensures here { content_of tracks.new at ≡ or_zeros ((M.seen medium.now).content at) }
     ensures others { (p : Place) → at ≢ p → content_of tracks.new p ≡ content_of tracks.old p }
     ensures held { IsHeld new_file tracks.new }
     ensures id { id_for tracks.new ≡ id_for tracks.old }
@@ -54,14 +54,15 @@ fn copy_sector<M: Medium>(medium: &M, tracks: &mut [Track], at: Address, id: &[u
 
 /// Copies the sectors of a track.
 fn copy_track<M: Medium>(medium: &M, tracks: &mut [Track], track: u8, id: &[u8; 2])
-    requires tracks { M.tracks medium.now ≡ 35 }
+    requires tracks { (M.seen medium.now).tracks ≡ 35 }
     requires held { IsHeld new_file tracks.old }
     requires laid { AreLaid tracks.old }
     requires filled { AreFilled id.now tracks.old }
     requires id { id_for tracks.old ≡ id.now }
     requires track { track ≤ 35 }
     requires blank { (p : Place) → p.track ≡ track → content_of tracks.old p ≡ Ok (replicate 256 0) }
-    ensures here { (p : Place) → p.track ≡ track → p.sector < sectors_on track → content_of tracks.new p ≡ or_zeros (M.content medium.now p) }
+    ensures here { (p : Place) → p.track ≡ track → p.sector < sectors_on track →
+        content_of tracks.new p ≡ or_zeros ((M.seen medium.now).content p) }
     ensures others { (p : Place) → p.track ≢ track → content_of tracks.new p ≡ content_of tracks.old p }
     ensures held { IsHeld new_file tracks.new }
     ensures id { id_for tracks.new ≡ id_for tracks.old }
@@ -78,13 +79,13 @@ fn copy_track<M: Medium>(medium: &M, tracks: &mut [Track], track: u8, id: &[u8; 
 
 /// Copies the sectors of a medium to the tracks of a formatted disk.
 fn copy_tracks<M: Medium>(medium: &M, tracks: &mut [Track], id: &[u8; 2])
-    requires tracks { M.tracks medium.now ≡ 35 }
+    requires tracks { (M.seen medium.now).tracks ≡ 35 }
     requires held { IsHeld new_file tracks.old }
     requires laid { AreLaid tracks.old }
     requires filled { AreFilled id.now tracks.old }
     requires id { id_for tracks.old ≡ id.now }
     requires blank { (p : Place) → content_of tracks.old p ≡ Ok (replicate 256 0) }
-    ensures shown { (p : Place) → Has 35 p → content_of tracks.new p ≡ or_zeros (M.content medium.now p) }
+    ensures shown { (p : Place) → Has 35 p → content_of tracks.new p ≡ or_zeros ((M.seen medium.now).content p) }
     ensures held { IsHeld new_file tracks.new }
     ensures id { id_for tracks.new ≡ id_for tracks.old }
     ensures laid { AreLaid tracks.new }
@@ -101,14 +102,14 @@ pub(crate) fn image_of<M: Medium>(
     medium: &M,
     id: [u8; 2],
 ) -> Result<Vec<u8>, G64Fault>
-    requires { M.tracks medium.now ≡ 35 }
+    requires { (M.seen medium.now).tracks ≡ 35 }
     ensures size { IfOk result (λ v. length v.items ≡ 278234) }
     ensures right { IfOk result (λ v. fault_of v.items ≡ None) }
     ensures form { IfOk result (λ v. IsImageOf new_file (tracks_in v.items 35) v.items) }
     ensures laid { IfOk result (λ v. AreLaid (tracks_in v.items 35)) }
     ensures filled { IfOk result (λ v. AreFilled id (tracks_in v.items 35)) }
     ensures shown { IfOk result (λ v. (p : Place) → Has 35 p →
-        content_of (tracks_in v.items 35) p ≡ or_zeros (M.content medium.now p)) }
+        content_of (tracks_in v.items 35) p ≡ or_zeros ((M.seen medium.now).content p)) }
     ensures id { IfOk result (λ v. id_for (tracks_in v.items 35) ≡ id) }
     ensures err { IfErr result (λ fault. fault ≡ G64Fault.Memory) }
 {

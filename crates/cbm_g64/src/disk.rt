@@ -1,9 +1,10 @@
 ghost use Rattle.std.specs.Prelude.{refl, ◌≡◌, ◌<◌, ◌≤◌, ◌-◌, ◌⊎◌, ◌↔◌, ℕ, Ok, Err, None, Some, false, true, IfErr, IfOk, IfSome, IsSome, OnErr, OnOk, length};
 ghost use Rattle.cbm_medium.specs.Place.{Has, Place, directory_head};
 ghost use Rattle.cbm_medium.specs.Content.{blank, format_refusal, refusal, written};
+ghost use Rattle.cbm_medium.specs.Seen.{with_content, write_refusal, IsRefused};
 ghost use Rattle.cbm_g64.specs.File.{fault_of, tracks_in};
 ghost use Rattle.cbm_g64.specs.NewFile.{base_of, new_file};
-ghost use Rattle.cbm_g64.specs.Tracks.{bits_at, content_of, failures_of, id_for, or_zeros, AreFilled, AreFresh, AreLaid, HasTrack, IsChanged, IsPut, tracks_on};
+ghost use Rattle.cbm_g64.specs.Tracks.{bits_at, content_of, id_for, or_zeros, seen_of, AreFilled, AreFresh, AreLaid, HasTrack, IsChanged, IsPut};
 ghost use Rattle.cbm_g64.specs.Image.{IsImageOf};
 
 use crate::checks::fault_of;
@@ -96,7 +97,7 @@ impl G64Disk {
         medium: &M,
         id: [u8; 2],
     ) -> Result<Vec<u8>, G64Fault>
-        requires { M.tracks medium.now ≡ 35 }
+        requires { (M.seen medium.now).tracks ≡ 35 }
         ensures size { IfOk result (λ v. length v.items ≡ 278234) }
         ensures right { IfOk result (λ v. fault_of v.items ≡ None) }
         // All but the tracks' bytes is that of a new file: entries, speeds, lengths and padding.
@@ -105,7 +106,7 @@ impl G64Disk {
         ensures laid { IfOk result (λ v. AreLaid (tracks_in v.items 35)) }
         ensures filled { IfOk result (λ v. AreFilled id (tracks_in v.items 35)) }
         ensures shown { IfOk result (λ v. (p : Place) → Has 35 p →
-            content_of (tracks_in v.items 35) p ≡ or_zeros (M.content medium.now p)) }
+            content_of (tracks_in v.items 35) p ≡ or_zeros ((M.seen medium.now).content p)) }
         ensures id { IfOk result (λ v. id_for (tracks_in v.items 35) ≡ id) }
         ensures err { IfErr result (λ fault. fault ≡ G64Fault.Memory) }
     {
@@ -131,17 +132,11 @@ impl G64Disk {
 
 impl Medium for G64Disk {
     ghost use Rattle.std.specs.Prelude.{refl};
-    ghost use Rattle.cbm_g64.specs.Tracks.{content_of, failures_of, tracks_on};
+    ghost use Rattle.cbm_g64.specs.Tracks.{content_of, seen_of};
     ghost use Rattle.cbm_g64.specs.Outer.{no_outer};
     ghost use Rattle.cbm_g64.specs.Faults.{has_codes};
 
-    ghost content = { λ d. content_of d.tracks };
-
-    ghost tracks = { λ d. tracks_on d };
-
-    ghost protected = { λ d. d.protected };
-
-    ghost failures = { λ d. failures_of d };
+    ghost seen = { seen_of };
 
     ghost codes = { λ d p. has_codes d.tracks p };
 
@@ -153,20 +148,13 @@ impl Medium for G64Disk {
     }
 
     fn write(&mut self, at: Address, bytes: &[u8; 256]) -> Result<(), Fault>
-        requires { at.track ≤ tracks_on self.old }
-        ensures ok { OnOk result (content_of self.new.tracks ≡ written (content_of self.old.tracks) at bytes.now) }
-        ensures err { OnErr result (content_of self.new.tracks ≡ content_of self.old.tracks) }
+        requires { at.track ≤ 35 }
+        ensures ok { let old = seen_of self.old in
+            OnOk result (seen_of self.new ≡ with_content (written old.content at bytes.now) old) }
         ensures refused { IfSome (refusal self.old.protected (content_of self.old.tracks at))
             (λ code. result ≡ Err (record { code = code; at = at })) }
-        ensures cause { IfErr result (λ fault.
-            (refusal self.old.protected (content_of self.old.tracks at) ≡ Some fault.code)
-            ⊎ (failures_of self.old < failures_of self.new)) }
-        ensures only_protected { IfErr result (λ fault. fault.code ≡ 26 → self.old.protected ≡ true) }
-        ensures at { IfErr result (λ fault. fault.at ≡ at) }
-        ensures uncounted { OnOk result (failures_of self.new ≡ failures_of self.old) }
-        ensures counted { failures_of self.old ≤ failures_of self.new }
-        ensures protected { self.new.protected ≡ self.old.protected }
-        ensures tracks { tracks_on self.new ≡ tracks_on self.old }
+        ensures err { IfErr result (λ fault. (fault.at ≡ at)
+            × IsRefused (write_refusal (seen_of self.old) at) fault.code (seen_of self.old) (seen_of self.new)) }
 
         // What the circles are then, which the content doesn't show.
         ensures changed { OnOk result (IsChanged self.old.tracks self.new.tracks (at.track - 1)) }
@@ -185,19 +173,11 @@ impl Medium for G64Disk {
     }
 
     fn format(&mut self, id: [u8; 2]) -> Result<(), Fault>
-        ensures ok { OnOk result (content_of self.new.tracks ≡ blank) }
-        ensures err { OnErr result (content_of self.new.tracks ≡ content_of self.old.tracks) }
+        ensures ok { OnOk result (seen_of self.new ≡ with_content blank (seen_of self.old)) }
         ensures refused { IfSome (format_refusal self.old.protected)
             (λ code. result ≡ Err (record { code = code; at = directory_head })) }
-        ensures cause { IfErr result (λ fault.
-            (format_refusal self.old.protected ≡ Some fault.code)
-            ⊎ (failures_of self.old < failures_of self.new)) }
-        ensures only_protected { IfErr result (λ fault. fault.code ≡ 26 → self.old.protected ≡ true) }
-        ensures at { IfErr result (λ fault. fault.at ≡ directory_head) }
-        ensures uncounted { OnOk result (failures_of self.new ≡ failures_of self.old) }
-        ensures counted { failures_of self.old ≤ failures_of self.new }
-        ensures protected { self.new.protected ≡ self.old.protected }
-        ensures tracks { tracks_on self.new ≡ tracks_on self.old }
+        ensures err { IfErr result (λ fault. (fault.at ≡ directory_head)
+            × IsRefused (format_refusal self.old.protected) fault.code (seen_of self.old) (seen_of self.new)) }
 
         // The tracks are fresh ones, and the image will be a new file.
         ensures fresh { OnOk result (AreFresh id self.new.tracks) }

@@ -1,5 +1,8 @@
 -- A medium that is made to fail: which of its writes it refuses by itself.
-use Rattle.std.specs.Prelude.{ℕ, suc, zero, ◌+◌, ◌-◌, ◌^◌, Bool, true, false, Option, Some, None, nat_lt, if◌then◌else◌}
+use Rattle.std.specs.Prelude.{ℕ, suc, zero, ◌+◌, ◌-◌, ◌^◌, ◌≡◌, Bool, true, false, Option, Some, None, Result, Ok, Err, nat_lt, if◌then◌else◌}
+use Rattle.cbm_medium.specs.Place.{Place}
+use Rattle.cbm_medium.specs.Seen.{Seen}
+use Rattle.cbm_medium.specs.declared.fault.Fault.{Fault}
 
 -- how many writes pass before one is refused, None where all pass; whether all are refused from then on; how often it failed
 pub record Countdown : Type 0 where
@@ -33,3 +36,19 @@ failed c = record c { passes = if c.all then c.passes else None; failures = c.fa
 pub record Watched (M : Type 0) : Type 0 where
   pub inner : M
   pub countdown : Countdown
+
+-- what it shows: what the medium below shows, with its own failures
+abbrev pub seen_by : {M : Type 0} → (M → Seen) → Watched M → Seen
+seen_by seen w = record (seen w.inner) { failures = w.countdown.failures }
+
+-- the countdown after a write; one that is refused for what the medium shows (why) isn't counted
+abbrev pub after_write : Option ℕ → Countdown → Countdown
+after_write (Some code) c = c
+after_write None c = if is_due c then failed c else passed c
+
+-- What a write makes of the countdown, and what it answers at this place where the medium shows nothing that refuses it:
+-- 25 where the countdown is due, else Ok.
+pub record CountsDown (why : Option ℕ) (at : Place) (old new : Countdown) (result : Result (Unit {0}) Fault) : Type 0 where
+  pub countdown : new ≡ after_write why old
+  pub due : why ≡ None → is_due old ≡ true → result ≡ Err (record { code = 25; at = at })
+  pub passes : why ≡ None → is_due old ≡ false → result ≡ Ok tt

@@ -1,4 +1,5 @@
 pub mod Place
 pub mod Content
+pub mod Seen
 pub mod Links
 pub mod Countdown

@@ -1,7 +1,8 @@
-ghost use Rattle.std.specs.Prelude.{◌≡◌, ◌<◌, ◌≤◌, ◌⊎◌, Option, Some, None, true, false, refl, Bool, OnOk, OnErr, IfOk, IfErr, IfSome, MatchBool};
+ghost use Rattle.std.specs.Prelude.{◌≡◌, ◌≤◌, Some, true, OnOk, IfErr, IfSome};
 ghost use Rattle.cbm_medium.specs.Place.{directory_head};
-ghost use Rattle.cbm_medium.specs.Content.{Content, written, blank, refusal, format_refusal};
-ghost use Rattle.cbm_medium.specs.Countdown.{is_due, passed, failed};
+ghost use Rattle.cbm_medium.specs.Content.{written, blank, format_refusal};
+ghost use Rattle.cbm_medium.specs.Countdown.{is_due, passed, failed, seen_by, CountsDown};
+ghost use Rattle.cbm_medium.specs.Seen.{with_content, write_refusal, IsRefused};
 
 use crate::address::Address;
 use crate::codes::{WRITE_ERROR, WRITE_PROTECT_ON};
@@ -84,13 +85,7 @@ impl<M: Steady> Failing<M> {
 }
 
 impl<M: Steady> Medium for Failing<M> {
-    ghost content = { λ f. M.content f.inner };
-
-    ghost tracks = { λ f. M.tracks f.inner };
-
-    ghost protected = { λ f. M.protected f.inner };
-
-    ghost failures = { λ f. f.countdown.failures };
+    ghost seen = { seen_by M.seen };
 
     ghost codes = { λ f p. M.codes f.inner p };
 
@@ -101,26 +96,15 @@ impl<M: Steady> Medium for Failing<M> {
     }
 
     fn write(&mut self, at: Address, bytes: &[u8; 256]) -> Result<(), Fault>
-        requires { at.track ≤ M.tracks self.old.inner }
-        ensures ok { OnOk result (M.content self.new.inner ≡ written (M.content self.old.inner) at bytes.now) }
-        ensures err { OnErr result (M.content self.new.inner ≡ M.content self.old.inner) }
-        ensures refused { IfSome (refusal (M.protected self.old.inner) (M.content self.old.inner at))
+        requires { at.track ≤ (M.seen self.old.inner).tracks }
+        ensures ok { let old = seen_by M.seen self.old in
+            OnOk result (seen_by M.seen self.new ≡ with_content (written old.content at bytes.now) old) }
+        ensures refused { IfSome (write_refusal (M.seen self.old.inner) at)
             (λ code. result ≡ Err (record { code = code; at = at })) }
-        ensures cause { IfErr result (λ fault.
-            (refusal (M.protected self.old.inner) (M.content self.old.inner at) ≡ Some fault.code)
-            ⊎ (self.old.countdown.failures < self.new.countdown.failures)) }
-        ensures only_protected { IfErr result (λ fault. fault.code ≡ 26 → M.protected self.old.inner ≡ true) }
-        ensures at { IfErr result (λ fault. fault.at ≡ at) }
-        ensures uncounted { OnOk result (self.new.countdown.failures ≡ self.old.countdown.failures) }
-        ensures counted { self.old.countdown.failures ≤ self.new.countdown.failures }
-        ensures protected { M.protected self.new.inner ≡ M.protected self.old.inner }
-        ensures tracks { M.tracks self.new.inner ≡ M.tracks self.old.inner }
-        ensures due { refusal (M.protected self.old.inner) (M.content self.old.inner at) ≡ None → is_due self.old.countdown ≡ true →
-            (result ≡ Err (record { code = 25; at = at })) × (self.new.countdown ≡ failed self.old.countdown) }
-        ensures passes { refusal (M.protected self.old.inner) (M.content self.old.inner at) ≡ None → is_due self.old.countdown ≡ false →
-            (result ≡ Ok tt) × (self.new.countdown ≡ passed self.old.countdown) }
-        ensures outside { IfSome (refusal (M.protected self.old.inner) (M.content self.old.inner at))
-            (λ _. self.new.countdown ≡ self.old.countdown) }
+        ensures err { let old = seen_by M.seen self.old in IfErr result (λ fault. (fault.at ≡ at)
+            × IsRefused (write_refusal old at) fault.code old (seen_by M.seen self.new)) }
+        ensures countdown { CountsDown (write_refusal (M.seen self.old.inner) at) at
+            self.old.countdown self.new.countdown result }
     {
         if !self.is_due() {
             self.inner.write(at, bytes)?;
@@ -146,24 +130,13 @@ impl<M: Steady> Medium for Failing<M> {
     }
 
     fn format(&mut self, id: [u8; 2]) -> Result<(), Fault>
-        ensures ok { OnOk result (M.content self.new.inner ≡ blank) }
-        ensures err { OnErr result (M.content self.new.inner ≡ M.content self.old.inner) }
-        ensures refused { IfSome (format_refusal (M.protected self.old.inner))
+        ensures ok { OnOk result (seen_by M.seen self.new ≡ with_content blank (seen_by M.seen self.old)) }
+        ensures refused { IfSome (format_refusal (M.seen self.old.inner).protected)
             (λ code. result ≡ Err (record { code = code; at = directory_head })) }
-        ensures cause { IfErr result (λ fault.
-            (format_refusal (M.protected self.old.inner) ≡ Some fault.code)
-            ⊎ (self.old.countdown.failures < self.new.countdown.failures)) }
-        ensures only_protected { IfErr result (λ fault. fault.code ≡ 26 → M.protected self.old.inner ≡ true) }
-        ensures at { IfErr result (λ fault. fault.at ≡ directory_head) }
-        ensures uncounted { OnOk result (self.new.countdown.failures ≡ self.old.countdown.failures) }
-        ensures counted { self.old.countdown.failures ≤ self.new.countdown.failures }
-        ensures protected { M.protected self.new.inner ≡ M.protected self.old.inner }
-        ensures tracks { M.tracks self.new.inner ≡ M.tracks self.old.inner }
-        ensures due { M.protected self.old.inner ≡ false → is_due self.old.countdown ≡ true →
-            (result ≡ Err (record { code = 25; at = directory_head })) × (self.new.countdown ≡ failed self.old.countdown) }
-        ensures passes { M.protected self.old.inner ≡ false → is_due self.old.countdown ≡ false →
-            (result ≡ Ok tt) × (self.new.countdown ≡ passed self.old.countdown) }
-        ensures outside { M.protected self.old.inner ≡ true → self.new.countdown ≡ self.old.countdown }
+        ensures err { let old = seen_by M.seen self.old in IfErr result (λ fault. (fault.at ≡ directory_head)
+            × IsRefused (format_refusal old.protected) fault.code old (seen_by M.seen self.new)) }
+        ensures countdown { CountsDown (format_refusal (M.seen self.old.inner).protected) directory_head
+            self.old.countdown self.new.countdown result }
     {
         if self.inner.protected() || !self.is_due() {
             self.inner.format(id)?;

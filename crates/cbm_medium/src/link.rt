@@ -106,15 +106,16 @@ pub fn read_linked<M: Medium>(
     at: Link,
     left: u16,
 ) -> Result<[u8; 256], Trouble>
-    requires tracks { geometry ≤ M.tracks medium.now }
+    requires tracks { geometry ≤ (M.seen medium.now).tracks }
     requires going { at.track ≢ 0 }
-    ensures ok { IfOk result (λ bytes. M.content medium.now at ≡ Ok bytes) }
+    ensures ok { IfOk result (λ bytes. (M.seen medium.now).content at ≡ Ok bytes) }
     ensures has { OnOk result (Has geometry at) }
     ensures left { OnOk result (0 < left) }
-    ensures followed { let content = M.content medium.now in
+    ensures followed { let content = (M.seen medium.now).content in
         IfOk result (λ bytes. follow geometry content left at ≡ with_block at (follow geometry content (left - 1) (link bytes))) }
     ensures never_26 { IfErr result (λ t. t.code ≢ 26) }
-    ensures err { IfErr result (λ t. follow geometry (M.content medium.now) left at ≡ (record { blocks = []; trouble = Some t })) }
+    ensures err { IfErr result (λ t.
+        follow geometry (M.seen medium.now).content left at ≡ (record { blocks = []; trouble = Some t })) }
 {
     let Some(address) = at.address(geometry) else {
         return Err(at.trouble(ILLEGAL_LINK));

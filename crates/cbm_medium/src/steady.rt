@@ -5,5 +5,5 @@ use crate::medium::Medium;
 /// A medium that never fails by itself.
 pub trait Steady: Medium {
     /// It has counted no failure.
-    ghost steady: { (m : Self) → Self.failures m ≡ 0 };
+    ghost steady: { (m : Self) → (Self.seen m).failures ≡ 0 };
 }

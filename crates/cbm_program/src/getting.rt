@@ -49,9 +49,10 @@ fn print_unit<M: Medium, W: Write>(
 ) -> Result<bool, RunFault>
     requires { channel ≤ 15 }
     ensures ok { OnOk result (Prints (W.contents writer.old) (W.contents writer.new)
-        (Stands M.tracks M.content M.protected dos.old) (Stands M.tracks M.content M.protected dos.new) (unit channel)) }
-    ensures more { IfOk result (λ more. (m : Machine) → Stands M.tracks M.content M.protected dos.old m → more ≡ is_more (peek channel m)) }
-    ensures err { OnErr result (PrintsPart (W.contents writer.old) (W.contents writer.new) (Stands M.tracks M.content M.protected dos.old) (unit channel)) }
+        (Stands M.seen dos.old) (Stands M.seen dos.new) (unit channel)) }
+    ensures more { IfOk result (λ more. (m : Machine) → Stands M.seen dos.old m → more ≡ is_more (peek channel m)) }
+    ensures err { OnErr result (PrintsPart (W.contents writer.old) (W.contents writer.new)
+        (Stands M.seen dos.old) (unit channel)) }
     ensures medium { dos.new.medium ≡ dos.old.medium }
     ensures grows { Grows (W.contents writer.old) (W.contents writer.new) }
     ensures fault { IfErr result IsOfWriting }
@@ -73,8 +74,9 @@ fn print_units<M: Medium, W: Write>(
 ) -> Result<(), RunFault>
     requires { channel ≤ 15 }
     ensures ok { OnOk result (Prints (W.contents writer.old) (W.contents writer.new)
-        (Stands M.tracks M.content M.protected dos.old) (Stands M.tracks M.content M.protected dos.new) (units most channel)) }
-    ensures err { OnErr result (PrintsPart (W.contents writer.old) (W.contents writer.new) (Stands M.tracks M.content M.protected dos.old) (units most channel)) }
+        (Stands M.seen dos.old) (Stands M.seen dos.new) (units most channel)) }
+    ensures err { OnErr result (PrintsPart (W.contents writer.old) (W.contents writer.new)
+        (Stands M.seen dos.old) (units most channel)) }
     ensures medium { dos.new.medium ≡ dos.old.medium }
     ensures grows { Grows (W.contents writer.old) (W.contents writer.new) }
     ensures fault { IfErr result IsOfWriting }
@@ -107,7 +109,7 @@ fn print_head<W: Write>(writer: &mut W, channel: u8, tail: &[u8]) -> Result<(), 
 /// Whether a byte is asked for and there.
 fn has_unit<M: Medium>(dos: &Dos<M>, channel: u8, most: u32) -> bool
     requires { channel ≤ 15 }
-    ensures { (m : Machine) → Stands M.tracks M.content M.protected dos.now m → result ≡ has_unit most (peek channel m) }
+    ensures { (m : Machine) → Stands M.seen dos.now m → result ≡ has_unit most (peek channel m) }
 {
     match dos.peek(channel) {
         Some(_) => most > 0,
@@ -124,9 +126,9 @@ pub(crate) fn print_get<M: Medium, W: Write>(
 ) -> Result<(), RunFault>
     requires { channel ≤ 15 }
     ensures ok { OnOk result (Prints (W.contents writer.old) (W.contents writer.new)
-        (Stands M.tracks M.content M.protected dos.old) (Stands M.tracks M.content M.protected dos.new) (printed_by (Get channel most))) }
+        (Stands M.seen dos.old) (Stands M.seen dos.new) (printed_by (Get channel most))) }
     ensures err { OnErr result (PrintsPart (W.contents writer.old) (W.contents writer.new)
-        (Stands M.tracks M.content M.protected dos.old) (printed_by (Get channel most))) }
+        (Stands M.seen dos.old) (printed_by (Get channel most))) }
     ensures medium { dos.new.medium ≡ dos.old.medium }
     ensures grows { Grows (W.contents writer.old) (W.contents writer.new) }
     ensures fault { IfErr result IsOfWriting }

@@ -24,10 +24,10 @@ fn perform<M: Medium, W: Write>(
 ) -> Result<(), RunFault>
     requires { HasChannel request.now }
     ensures ok { OnOk result (Prints (W.contents writer.old) (W.contents writer.new)
-        (λ m. IsRequestCarriedOut request.now m × Stands M.tracks M.content M.protected dos.old m)
-        (Stands M.tracks M.content M.protected dos.new) (printed_by request.now)) }
+        (λ m. IsRequestCarriedOut request.now m × Stands M.seen dos.old m)
+        (Stands M.seen dos.new) (printed_by request.now)) }
     ensures err { OnErr result (PrintsPart (W.contents writer.old) (W.contents writer.new)
-        (λ m. IsRequestCarriedOut request.now m × Stands M.tracks M.content M.protected dos.old m) (printed_by request.now)) }
+        (λ m. IsRequestCarriedOut request.now m × Stands M.seen dos.old m) (printed_by request.now)) }
     ensures medium { dos.new.medium ≡ dos.old.medium }
     ensures grows { Grows (W.contents writer.old) (W.contents writer.new) }
     ensures fault { IfErr result IsOfWriting }
@@ -62,10 +62,10 @@ pub(crate) fn perform_line<M: Medium, W: Write>(
 ) -> Result<(), RunFault>
     requires { LineHasChannel line.now }
     ensures ok { OnOk result (Prints (W.contents writer.old) (W.contents writer.new)
-        (λ m. AreCarriedOut (requests_in line.now) m × Stands M.tracks M.content M.protected dos.old m)
-        (Stands M.tracks M.content M.protected dos.new) (printed (requests_in line.now))) }
+        (λ m. AreCarriedOut (requests_in line.now) m × Stands M.seen dos.old m)
+        (Stands M.seen dos.new) (printed (requests_in line.now))) }
     ensures err { OnErr result (PrintsPart (W.contents writer.old) (W.contents writer.new)
-        (λ m. AreCarriedOut (requests_in line.now) m × Stands M.tracks M.content M.protected dos.old m) (printed (requests_in line.now))) }
+        (λ m. AreCarriedOut (requests_in line.now) m × Stands M.seen dos.old m) (printed (requests_in line.now))) }
     ensures medium { dos.new.medium ≡ dos.old.medium }
     ensures grows { Grows (W.contents writer.old) (W.contents writer.new) }
     ensures fault { IfErr result IsOfWriting }

@@ -12,7 +12,7 @@ use cbm_medium::Medium;
 /// Puts the bytes one after another.
 fn put_each<M: Medium>(dos: &mut Dos<M>, channel: u8, bytes: &[u8])
     requires { channel ≤ 15 }
-    ensures leads { Leads M.tracks M.content M.protected dos.old dos.new (puts channel bytes.now) }
+    ensures leads { Leads M.seen dos.old dos.new (puts channel bytes.now) }
     ensures medium { dos.new.medium ≡ dos.old.medium }
 {
     for byte in bytes {
@@ -23,7 +23,7 @@ fn put_each<M: Medium>(dos: &mut Dos<M>, channel: u8, bytes: &[u8])
 /// Puts so many equal bytes.
 fn put_equal<M: Medium>(dos: &mut Dos<M>, channel: u8, count: u32, byte: u8)
     requires { channel ≤ 15 }
-    ensures leads { Leads M.tracks M.content M.protected dos.old dos.new (puts channel (replicate count byte)) }
+    ensures leads { Leads M.seen dos.old dos.new (puts channel (replicate count byte)) }
     ensures medium { dos.new.medium ≡ dos.old.medium }
 {
     for done in 0..count {
@@ -35,7 +35,7 @@ fn put_equal<M: Medium>(dos: &mut Dos<M>, channel: u8, count: u32, byte: u8)
 pub(crate) fn hear<M: Medium>(dos: &mut Dos<M>, channel: u8, bytes: &[u8])
     requires { channel ≤ 15 }
     ensures leads { (m : Machine) → IsPutCarriedOut channel (puts channel bytes.now (listen channel m))
-        → Stands M.tracks M.content M.protected dos.old m → Stands M.tracks M.content M.protected dos.new (hear channel bytes.now m) }
+        → Stands M.seen dos.old m → Stands M.seen dos.new (hear channel bytes.now m) }
     ensures medium { dos.new.medium ≡ dos.old.medium }
 {
     dos.listen(channel);
@@ -47,7 +47,7 @@ pub(crate) fn hear<M: Medium>(dos: &mut Dos<M>, channel: u8, bytes: &[u8])
 pub(crate) fn hear_equal<M: Medium>(dos: &mut Dos<M>, channel: u8, count: u32, byte: u8)
     requires { channel ≤ 15 }
     ensures leads { (m : Machine) → IsPutCarriedOut channel (puts channel (replicate count byte) (listen channel m))
-        → Stands M.tracks M.content M.protected dos.old m → Stands M.tracks M.content M.protected dos.new (hear channel (replicate count byte) m) }
+        → Stands M.seen dos.old m → Stands M.seen dos.new (hear channel (replicate count byte) m) }
     ensures medium { dos.new.medium ≡ dos.old.medium }
 {
     dos.listen(channel);

@@ -53,13 +53,13 @@ pub(crate) fn run_on<M: Medium, R: Read + Drop, W: Write>(
     // Up to its end or its first bad line the script prints what was written, and the drive stands behind it.
     ensures ended { EndsAs result (λ bad. IfSome (R.remaining reader) (λ input.
         ((script_of input).bad ≡ bad) × Prints (W.contents writer.old) (W.contents writer.new)
-        (λ m. AreCarriedOut (script_of input).requests m × Stands M.tracks M.content M.protected dos.old m)
-        (Stands M.tracks M.content M.protected dos.new) (printed (script_of input).requests))) }
+        (λ m. AreCarriedOut (script_of input).requests m × Stands M.seen dos.old m)
+        (Stands M.seen dos.new) (printed (script_of input).requests))) }
 
     // At a fault a beginning of that was written.
     ensures fault { OnErr result (IfSome (R.remaining reader) (λ input.
         PrintsPart (W.contents writer.old) (W.contents writer.new)
-        (λ m. AreCarriedOut (script_of input).requests m × Stands M.tracks M.content M.protected dos.old m)
+        (λ m. AreCarriedOut (script_of input).requests m × Stands M.seen dos.old m)
         (printed (script_of input).requests))) }
     ensures medium { dos.new.medium ≡ dos.old.medium }
     ensures grows { Grows (W.contents writer.old) (W.contents writer.new) }

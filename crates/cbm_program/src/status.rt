@@ -32,8 +32,8 @@ fn without_return(text: &[u8]) -> &[u8]
 /// What channel 15 tells of the status, to the line's end.
 fn status_line<M: Medium>(dos: &mut Dos<M>) -> StatusLine
     ensures medium { dos.new.medium ≡ dos.old.medium }
-    ensures told { (m : Machine) → Stands M.tracks M.content M.protected dos.old m
-        → ((status_said m).bytes ≡ result.items) × Stands M.tracks M.content M.protected dos.new (status_said m).machine }
+    ensures told { (m : Machine) → Stands M.seen dos.old m
+        → ((status_said m).bytes ≡ result.items) × Stands M.seen dos.new (status_said m).machine }
 {
     let mut line = StatusLine::new();
     dos.talk(STATUS);
@@ -56,9 +56,9 @@ pub(crate) fn print_status<M: Medium, W: Write>(
     writer: &mut W,
 ) -> Result<(), RunFault>
     ensures ok { OnOk result (Prints (W.contents writer.old) (W.contents writer.new)
-        (Stands M.tracks M.content M.protected dos.old) (Stands M.tracks M.content M.protected dos.new) (printed_by Status)) }
+        (Stands M.seen dos.old) (Stands M.seen dos.new) (printed_by Status)) }
     ensures err { OnErr result (PrintsPart (W.contents writer.old) (W.contents writer.new)
-        (Stands M.tracks M.content M.protected dos.old) (printed_by Status)) }
+        (Stands M.seen dos.old) (printed_by Status)) }
     ensures medium { dos.new.medium ≡ dos.old.medium }
     ensures grows { Grows (W.contents writer.old) (W.contents writer.new) }
     ensures fault { IfErr result IsOfWriting }

@@ -33,8 +33,10 @@ fn head_alone() -> SectorSet
 
 /// Looks at the whole disk, and answers the first fault that it meets: of the headers, of the map, of the directory, of the slots.
 pub fn check_disk<M: Medium>(medium: &M) -> Result<(), Unsound>
-    ensures ok { OnOk result (ClaimsDisk (geometry_of (M.tracks medium.now) (M.content medium.now)) (M.content medium.now)) }
-    ensures err { IfErr result (λ u. DiskFault (geometry_of (M.tracks medium.now) (M.content medium.now)) (M.content medium.now) u) }
+    ensures ok { let now = M.seen medium.now in
+        OnOk result (ClaimsDisk (geometry_of now.tracks now.content) now.content) }
+    ensures err { let now = M.seen medium.now in
+        IfErr result (λ u. DiskFault (geometry_of now.tracks now.content) now.content u) }
 {
     let geometry = cbm_bam::geometry(medium);
     check_headers(medium, geometry)?;

@@ -31,7 +31,7 @@ fn read_all<M: Medium>(
     volume: &Volume<M>,
     reader: &mut ChainReader,
 ) -> (u32, u32, [u8; 3])
-    requires { reader.old.tracks ≤ M.tracks volume.now }
+    requires { reader.old.tracks ≤ (M.seen volume.now).tracks }
 {
     let mut count = 0u32;
     let mut sum = 0u32;

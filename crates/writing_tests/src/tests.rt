@@ -70,8 +70,8 @@ fn sectors_of_the_directory(rt: HostRuntime) -> Result<(), Fail> {
 
 /// Puts so many bytes $41.
 fn put_all<M: Medium>(rt: &impl Abort, medium: &mut M, writer: &mut ChainWriter, count: u16)
-    requires { writer.old.tracks ≤ M.tracks medium.old }
-    ensures { writer.new.tracks ≤ M.tracks medium.new }
+    requires { writer.old.tracks ≤ (M.seen medium.old).tracks }
+    ensures { writer.new.tracks ≤ (M.seen medium.new).tracks }
 {
     for _ in 0..count {
         assert!(rt; writer.put(medium, 0x41) == Ok(true));

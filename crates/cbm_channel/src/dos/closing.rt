@@ -14,11 +14,11 @@ impl<M: Medium> Dos<M> {
     /// Closes a channel; 15 closes all others, in order.
     pub fn close(&mut self, channel: u8)
         requires { channel ≤ 15 }
-        ensures leads { Leads M.tracks M.content M.protected self.old self.new (close channel) }
+        ensures leads { Leads M.seen self.old self.new (close channel) }
         // On any disk:
         ensures others { channel < 15 → SameBut channel self.old.channels self.new.channels }
         ensures closed { (k : ℕ) → (k ≡ channel) ⊎ (channel ≡ 15) → slice_index_or self.new.channels k Closed ≡ Closed }
-        ensures told { IsToldFor M.tracks M.content M.protected M.failures self.old self.new }
+        ensures told { IsToldFor M.seen self.old self.new }
         ensures medium { self.new.medium ≡ self.old.medium }
     {
         if channel < 15 {
@@ -32,7 +32,7 @@ impl<M: Medium> Dos<M> {
     /// Closes a channel from 0 to 14.
     pub(super) fn close_one(&mut self, channel: u8)
         requires { channel < 15 }
-        ensures leads { Leads M.tracks M.content M.protected self.old self.new (close_one channel) }
+        ensures leads { Leads M.seen self.old self.new (close_one channel) }
         ensures channels { self.new.channels ≡ slice_set self.old.channels channel Closed }
         ensures count { length self.new.channels ≡ 15 }
         ensures told { self.new.told ≡ self.old.told }
@@ -44,7 +44,7 @@ impl<M: Medium> Dos<M> {
 
     /// Closes the channels 0 to 14 in order.
     fn close_all(&mut self)
-        ensures leads { Leads M.tracks M.content M.protected self.old self.new (close_all channel_numbers) }
+        ensures leads { Leads M.seen self.old self.new (close_all channel_numbers) }
         ensures closed { (k : ℕ) → slice_index_or self.new.channels k Closed ≡ Closed }
         ensures told { self.new.told ≡ self.old.told }
         ensures medium { self.new.medium ≡ self.old.medium }
@@ -56,7 +56,7 @@ impl<M: Medium> Dos<M> {
 
     /// Drops the text that is gathered for this channel.
     fn forget_text(&mut self, channel: u8)
-        ensures leads { Leads M.tracks M.content M.protected self.old self.new (without_text channel) }
+        ensures leads { Leads M.seen self.old self.new (without_text channel) }
         ensures channels { self.new.channels ≡ self.old.channels }
         ensures told { self.new.told ≡ self.old.told }
         ensures medium { self.new.medium ≡ self.old.medium }

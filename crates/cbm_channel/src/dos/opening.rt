@@ -75,12 +75,12 @@ impl<M: Medium> Dos<M> {
     /// open is closed first. What is refused is the status, and the channel is closed then.
     pub fn open(&mut self, channel: u8, text: &[u8])
         requires { channel ≤ 15 }
-        ensures leads { (m : Machine) → IsCarriedOut channel text.now m → Stands M.tracks M.content M.protected self.old m
-            → Stands M.tracks M.content M.protected self.new (after_open channel text.now m) }
+        ensures leads { (m : Machine) → IsCarriedOut channel text.now m → Stands M.seen self.old m
+            → Stands M.seen self.new (after_open channel text.now m) }
         // On any disk:
         ensures others { SameBut channel self.old.channels self.new.channels }
         ensures refused { channel < 15 → (self.new.told.status.code ≡ Fine) ⊎ (slice_index_or self.new.channels channel Closed ≡ Closed) }
-        ensures told { IsToldFor M.tracks M.content M.protected M.failures self.old self.new }
+        ensures told { IsToldFor M.seen self.old self.new }
         ensures medium { self.new.medium ≡ self.old.medium }
     {
         if channel == 15 {
@@ -97,12 +97,12 @@ impl<M: Medium> Dos<M> {
     /// Carries out what an OPEN asks for, or sets the status of its refusal.
     fn begin(&mut self, channel: u8, opening: Opening)
         requires { channel < 15 }
-        ensures leads { (m : Machine) → IsAskedCarriedOut channel m (Ok opening) → Stands M.tracks M.content M.protected self.old m
-            → Stands M.tracks M.content M.protected self.new (begun_by channel opening m) }
+        ensures leads { (m : Machine) → IsAskedCarriedOut channel m (Ok opening) → Stands M.seen self.old m
+            → Stands M.seen self.new (begun_by channel opening m) }
         ensures others { SameBut channel self.old.channels self.new.channels }
         ensures refused { slice_index_or self.old.channels channel Closed ≡ Closed →
             (self.new.told.status.code ≡ Fine) ⊎ (slice_index_or self.new.channels channel Closed ≡ Closed) }
-        ensures told { HasTold M.tracks M.content M.protected self.old self.new }
+        ensures told { HasTold M.seen self.old self.new }
         ensures medium { self.new.medium ≡ self.old.medium }
     {
         match self.plan(opening) {
@@ -113,10 +113,11 @@ impl<M: Medium> Dos<M> {
 
     /// What an OPEN will do. An `Err` is its refusal, or what the disk answers.
     fn plan(&self, opening: Opening) -> Result<Plan, Status>
-        ensures ground { IfErr result (HasGround M.tracks M.content M.protected self.now.medium) }
-        ensures from { IfOk result (IsFromDirectory M.tracks M.content self.now.medium) }
-        ensures planned { (m : Machine) (ch : ℕ) → IsAskedCarriedOut ch m (Ok opening) → Stands M.tracks M.content M.protected self.now m
-            → PlannedAs (M.tracks self.now.medium) (M.content self.now.medium) m.disk (plans.plan ch opening m) result }
+        ensures ground { IfErr result (HasGround M.seen self.now.medium) }
+        ensures from { IfOk result (IsFromDirectory M.seen self.now.medium) }
+        ensures planned { (m : Machine) (ch : ℕ) → IsAskedCarriedOut ch m (Ok opening) → Stands M.seen self.now m →
+            PlannedAs (M.seen self.now.medium).tracks (M.seen self.now.medium).content m.disk
+            (plans.plan ch opening m) result }
     {
         match opening {
             Opening::Listing(pattern) => {
@@ -131,11 +132,12 @@ impl<M: Medium> Dos<M> {
 
     /// What an OPEN of a file will do. Writing is answered 30 so far, and records 64.
     fn plan_file(&self, wanted: &Wanted) -> Result<Plan, Status>
-        ensures ground { IfErr result (HasGround M.tracks M.content M.protected self.now.medium) }
-        ensures from { IfOk result (IsFromDirectory M.tracks M.content self.now.medium) }
-        ensures planned { (m : Machine) (ch : ℕ) → reads_bytes wanted.now ≡ true → MeetsNoRecords (plans.plan ch (opening.File wanted.now) m)
-            → Stands M.tracks M.content M.protected self.now m
-            → PlannedAs (M.tracks self.now.medium) (M.content self.now.medium) m.disk (plans.plan ch (opening.File wanted.now) m) result }
+        ensures ground { IfErr result (HasGround M.seen self.now.medium) }
+        ensures from { IfOk result (IsFromDirectory M.seen self.now.medium) }
+        ensures planned { (m : Machine) (ch : ℕ) → reads_bytes wanted.now ≡ true →
+            MeetsNoRecords (plans.plan ch (opening.File wanted.now) m) → Stands M.seen self.now m →
+            PlannedAs (M.seen self.now.medium).tracks (M.seen self.now.medium).content m.disk (plans.plan ch
+            (opening.File wanted.now) m) result }
     {
         if wanted.kind == Some(FileType::Rel) {
             return Err(Status::plain(Code::WrongType));
@@ -156,7 +158,7 @@ impl<M: Medium> Dos<M> {
     /// Whether channels of this cost more would be too many.
     fn is_too_many(&self, cost: usize) -> bool
         requires { cost ≤ 2 }
-        ensures { (m : Machine) → Stands M.tracks M.content M.protected self.now m → result ≡ too_many cost m }
+        ensures { (m : Machine) → Stands M.seen self.now m → result ≡ too_many cost m }
     {
         cost + open_count(self.channels.as_slice()) > 3
     }
@@ -164,11 +166,12 @@ impl<M: Medium> Dos<M> {
     /// Does what was planned.
     fn act(&mut self, channel: u8, plan: Plan)
         requires { channel < 15 }
-        ensures leads { (m : Machine) (p : plans.Plan) → PlannedAs (M.tracks self.old.medium) (M.content self.old.medium) m.disk (Ok p) (Ok plan)
-            → Stands M.tracks M.content M.protected self.old m → Stands M.tracks M.content M.protected self.new (say Fine (plans.act channel p m)) }
+        ensures leads { (m : Machine) (p : plans.Plan) →
+            PlannedAs (M.seen self.old.medium).tracks (M.seen self.old.medium).content m.disk (Ok p) (Ok plan) →
+            Stands M.seen self.old m → Stands M.seen self.new (say Fine (plans.act channel p m)) }
         ensures others { SameBut channel self.old.channels self.new.channels }
         ensures refused { (self.new.told.status.code ≡ Fine) ⊎ (self.new.channels ≡ self.old.channels) }
-        ensures told { IsFromDirectory M.tracks M.content self.old.medium plan → HasTold M.tracks M.content M.protected self.old self.new }
+        ensures told { IsFromDirectory M.seen self.old.medium plan → HasTold M.seen self.old self.new }
         ensures medium { self.new.medium ≡ self.old.medium }
     {
         match self.opened(plan) {
@@ -182,14 +185,17 @@ impl<M: Medium> Dos<M> {
 
     /// The channel that a plan opens. An `Err` is what the disk answers.
     fn opened(&self, plan: Plan) -> Result<Channel, Trouble>
-        ensures fits { IfOk result (Fits (M.tracks self.now.medium)) }
-        ensures shown { IsFromDirectory M.tracks M.content self.now.medium plan →
-            IfErr result (ShowsTrouble (geometry_of (M.tracks self.now.medium) (M.content self.now.medium)) (M.content self.now.medium)) }
-        ensures stands { (m : Machine) (p : plans.Plan) → PlannedAs (M.tracks self.now.medium) (M.content self.now.medium) m.disk (Ok p) (Ok plan)
-            → Stands M.tracks M.content M.protected self.now m → IsOkAnd result (λ ch. ChannelStands (M.content self.now.medium) ch (opened_by m.disk p)) }
-        ensures uses { (m : Machine) (p : plans.Plan) (ch : ℕ) → PlannedAs (M.tracks self.now.medium) (M.content self.now.medium) m.disk (Ok p) (Ok plan)
-            → Stands M.tracks M.content M.protected self.now m → IfOk result (λ x. HoldsNow (M.tracks self.now.medium) (M.content self.now.medium) m.disk
-            (with_use (uses_of self.now.channels m.channels) ch (use_of x (opened_by m.disk p)))) }
+        ensures fits { IfOk result (Fits (M.seen self.now.medium).tracks) }
+        ensures shown { let now = M.seen self.now.medium in IsFromDirectory M.seen self.now.medium plan →
+            IfErr result (ShowsTrouble (geometry_of now.tracks now.content) now.content) }
+        ensures stands { let now = M.seen self.now.medium in (m : Machine) (p : plans.Plan) →
+            PlannedAs now.tracks now.content m.disk (Ok p) (Ok plan) → Stands M.seen self.now m →
+            IsOkAnd result (λ ch. ChannelStands now.content ch (opened_by m.disk p)) }
+        ensures uses { let now = M.seen self.now.medium in (m : Machine) (p : plans.Plan) (ch : ℕ) →
+            PlannedAs now.tracks now.content m.disk (Ok p) (Ok plan) → Stands M.seen self.now m →
+            IfOk result
+            (λ x. HoldsNow now.tracks now.content m.disk (with_use (uses_of self.now.channels m.channels) ch
+            (use_of x (opened_by m.disk p)))) }
     {
         match plan {
             Plan::ReadListing(pattern) => Ok(Channel::Listing(list(&self.volume, &pattern)?)),

@@ -31,10 +31,10 @@ impl<M: Medium> Dos<M> {
     /// Puts a byte on a channel: on 15 it is gathered, on a channel that isn't open for writing it is dropped.
     pub fn put(&mut self, channel: u8, byte: u8)
         requires { channel ≤ 15 }
-        ensures leads { Leads M.tracks M.content M.protected self.old self.new (put channel byte) }
+        ensures leads { Leads M.seen self.old self.new (put channel byte) }
         // On any disk:
         ensures others { SameBut channel self.old.channels self.new.channels }
-        ensures told { IsToldFor M.tracks M.content M.protected M.failures self.old self.new }
+        ensures told { IsToldFor M.seen self.old self.new }
         ensures medium { self.new.medium ≡ self.old.medium }
     {
         if channel == 15 {
@@ -44,7 +44,7 @@ impl<M: Medium> Dos<M> {
 
     /// A byte goes to the text that is gathered for channel 15.
     fn gather(&mut self, byte: u8)
-        ensures leads { Leads M.tracks M.content M.protected self.old self.new (gather 15 byte) }
+        ensures leads { Leads M.seen self.old self.new (gather 15 byte) }
         ensures channels { self.new.channels ≡ self.old.channels }
         ensures told { self.new.told ≡ self.old.told }
         ensures medium { self.new.medium ≡ self.old.medium }
@@ -60,11 +60,11 @@ impl<M: Medium> Dos<M> {
 
     /// Takes the text that is gathered for a channel.
     pub(super) fn take_text(&mut self, channel: u8) -> Option<Gathered>
-        ensures leads { Leads M.tracks M.content M.protected self.old self.new (without_text channel) }
+        ensures leads { Leads M.seen self.old self.new (without_text channel) }
         ensures channels { self.new.channels ≡ self.old.channels }
         ensures told { self.new.told ≡ self.old.told }
         ensures medium { self.new.medium ≡ self.old.medium }
-        ensures text { (m : Machine) → Stands M.tracks M.content M.protected self.old m →
+        ensures text { (m : Machine) → Stands M.seen self.old m →
             MatchOption result (HasNoText channel m) (HasText channel m) }
     {
         let text = self.text.take()?;
@@ -78,11 +78,11 @@ impl<M: Medium> Dos<M> {
     /// The end of what was put: the text that was gathered for channel 15 is a command.
     pub fn end_put(&mut self, channel: u8)
         requires { channel ≤ 15 }
-        ensures leads { (m : Machine) → IsPutCarriedOut channel m → Stands M.tracks M.content M.protected self.old m
-            → Stands M.tracks M.content M.protected self.new (end_put channel m) }
+        ensures leads { (m : Machine) → IsPutCarriedOut channel m → Stands M.seen self.old m
+            → Stands M.seen self.new (end_put channel m) }
         // On any disk:
         ensures others { SameBut channel self.old.channels self.new.channels }
-        ensures told { IsToldFor M.tracks M.content M.protected M.failures self.old self.new }
+        ensures told { IsToldFor M.seen self.old self.new }
         ensures medium { self.new.medium ≡ self.old.medium }
     {
         if let Some(text) = self.take_text(channel) {
@@ -95,9 +95,9 @@ impl<M: Medium> Dos<M> {
     /// Carries a text for channel 15 out; an empty one does nothing.
     pub(super) fn command(&mut self, text: &[u8])
         ensures leads { (m : Machine) → IsTextCarriedOut (without_return text.now)
-            → Stands M.tracks M.content M.protected self.old m → Stands M.tracks M.content M.protected self.new (command text.now m) }
+            → Stands M.seen self.old m → Stands M.seen self.new (command text.now m) }
         ensures channels { self.new.channels ≡ self.old.channels }
-        ensures told { IsToldFor M.tracks M.content M.protected M.failures self.old self.new }
+        ensures told { IsToldFor M.seen self.old self.new }
         ensures medium { self.new.medium ≡ self.old.medium }
     {
         let text = without_return(text);
@@ -112,10 +112,10 @@ impl<M: Medium> Dos<M> {
 
     /// Carries a command out.
     fn run(&mut self, command: &Command)
-        ensures leads { (m : Machine) → IsCommandCarriedOut (Ok command.now) → Stands M.tracks M.content M.protected self.old m
-            → Stands M.tracks M.content M.protected self.new (answered m (run command.now m)) }
+        ensures leads { (m : Machine) → IsCommandCarriedOut (Ok command.now) → Stands M.seen self.old m
+            → Stands M.seen self.new (answered m (run command.now m)) }
         ensures channels { self.new.channels ≡ self.old.channels }
-        ensures told { HasTold M.tracks M.content M.protected self.old self.new }
+        ensures told { HasTold M.seen self.old self.new }
         ensures medium { self.new.medium ≡ self.old.medium }
     {
         match command {
@@ -127,9 +127,9 @@ impl<M: Medium> Dos<M> {
 
     /// Answers a place on a channel, as no relative file is open: 70 where nothing is open, else 64.
     fn place(&mut self, channel: u8)
-        ensures leads { (k p : ℕ) → Leads M.tracks M.content M.protected self.old self.new (λ m. answered m (run (Position channel k p) m)) }
+        ensures leads { (k p : ℕ) → Leads M.seen self.old self.new (λ m. answered m (run (Position channel k p) m)) }
         ensures channels { self.new.channels ≡ self.old.channels }
-        ensures told { HasTold M.tracks M.content M.protected self.old self.new }
+        ensures told { HasTold M.seen self.old self.new }
         ensures medium { self.new.medium ≡ self.old.medium }
     {
         let channels = self.channels.as_slice();

@@ -20,10 +20,10 @@ impl<M: Medium> Dos<M> {
     /// Asks a channel to talk; 61 where it isn't open for reading.
     pub fn talk(&mut self, channel: u8)
         requires { channel ≤ 15 }
-        ensures leads { Leads M.tracks M.content M.protected self.old self.new (talk channel) }
+        ensures leads { Leads M.seen self.old self.new (talk channel) }
         // On any disk:
         ensures channels { self.new.channels ≡ self.old.channels }
-        ensures told { IsToldFor M.tracks M.content M.protected M.failures self.old self.new }
+        ensures told { IsToldFor M.seen self.old self.new }
         ensures medium { self.new.medium ≡ self.old.medium }
     {
         if channel == 15 {
@@ -37,10 +37,10 @@ impl<M: Medium> Dos<M> {
     /// Asks a channel to listen; 61 where it is neither 15 nor open for writing.
     pub fn listen(&mut self, channel: u8)
         requires { channel ≤ 15 }
-        ensures leads { Leads M.tracks M.content M.protected self.old self.new (listen channel) }
+        ensures leads { Leads M.seen self.old self.new (listen channel) }
         // On any disk:
         ensures channels { self.new.channels ≡ self.old.channels }
-        ensures told { IsToldFor M.tracks M.content M.protected M.failures self.old self.new }
+        ensures told { IsToldFor M.seen self.old self.new }
         ensures medium { self.new.medium ≡ self.old.medium }
     {
         if channel != 15 {
@@ -52,7 +52,7 @@ impl<M: Medium> Dos<M> {
     pub fn peek(&self, channel: u8) -> Option<(u8, bool)>
         requires { channel ≤ 15 }
         ensures value { result ≡ shown_by channel self.now }
-        ensures next { (m : Machine) → Stands M.tracks M.content M.protected self.now m → result ≡ peek channel m }
+        ensures next { (m : Machine) → Stands M.seen self.now m → result ≡ peek channel m }
     {
         if channel < 15 {
             self.channels[channel as usize].peek()
@@ -65,9 +65,10 @@ impl<M: Medium> Dos<M> {
     /// where it doesn't read on, is the status.
     pub fn taken(&mut self, channel: u8)
         requires { channel ≤ 15 }
-        ensures leads { Leads M.tracks M.content M.protected self.old self.new (taken channel) }
+        ensures leads { Leads M.seen self.old self.new (taken channel) }
         ensures status { channel ≡ 15 → self.new.told ≡ behind_next self.old.told }
-        ensures byte { channel < 15 → IsTaken (M.content self.old.medium) (slice_index_or self.old.channels channel Closed)
+        ensures byte { channel < 15 →
+            IsTaken (M.seen self.old.medium).content (slice_index_or self.old.channels channel Closed)
             (slice_index_or self.new.channels channel Closed) self.old.told self.new.told }
         ensures others { SameBut channel self.old.channels self.new.channels }
         ensures medium { self.new.medium ≡ self.old.medium }

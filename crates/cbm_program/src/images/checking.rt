@@ -43,11 +43,12 @@ fn check_line(answer: &Result<(), Unsound>) -> ArrayVec<u8, 32>
 
 /// Prints whether the disk is sound, or what is wrong with it and where.
 fn print_line<M: Medium, W: Write>(volume: &Volume<M>, writer: &mut W) -> Result<(), RunFault>
-    ensures ok { (d : Disk) → HoldsDisk (M.tracks volume.now) (M.content volume.now) d
+    ensures ok { (d : Disk) → HoldsDisk (M.seen volume.now).tracks (M.seen volume.now).content d
         → OnOk result (Appends (W.contents writer.old) (W.contents writer.new) (checked_text true)) }
-    ensures err { (d : Disk) → HoldsDisk (M.tracks volume.now) (M.content volume.now) d
+    ensures err { (d : Disk) → HoldsDisk (M.seen volume.now).tracks (M.seen volume.now).content d
         → OnErr result (AppendsPart (W.contents writer.old) (W.contents writer.new) (checked_text true)) }
-    ensures said { OnOk result (IsCheckPrinted (M.tracks volume.now) (M.content volume.now) (W.contents writer.old) (W.contents writer.new)) }
+    ensures said { OnOk result (IsCheckPrinted (M.seen volume.now).tracks (M.seen volume.now).content
+        (W.contents writer.old) (W.contents writer.new)) }
     ensures grows { Grows (W.contents writer.old) (W.contents writer.new) }
     ensures fault { IfErr result IsOfWriting }
 {
@@ -61,11 +62,13 @@ pub(crate) fn print_check<M: Medium, W: Write>(
     checks: bool,
     writer: &mut W,
 ) -> Result<(), RunFault>
-    ensures ok { (d : Disk) → HoldsDisk (M.tracks volume.now) (M.content volume.now) d
+    ensures ok { (d : Disk) → HoldsDisk (M.seen volume.now).tracks (M.seen volume.now).content d
         → OnOk result (Appends (W.contents writer.old) (W.contents writer.new) (checked_text checks)) }
-    ensures err { (d : Disk) → HoldsDisk (M.tracks volume.now) (M.content volume.now) d
+    ensures err { (d : Disk) → HoldsDisk (M.seen volume.now).tracks (M.seen volume.now).content d
         → OnErr result (AppendsPart (W.contents writer.old) (W.contents writer.new) (checked_text checks)) }
-    ensures said { checks ≡ true → OnOk result (IsCheckPrinted (M.tracks volume.now) (M.content volume.now) (W.contents writer.old) (W.contents writer.new)) }
+    ensures said { checks ≡ true →
+        OnOk result (IsCheckPrinted (M.seen volume.now).tracks (M.seen volume.now).content (W.contents writer.old)
+        (W.contents writer.new)) }
     ensures grows { Grows (W.contents writer.old) (W.contents writer.new) }
     ensures fault { IfErr result IsOfWriting }
 {

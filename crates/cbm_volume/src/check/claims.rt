@@ -17,12 +17,14 @@ pub fn claim<M: Medium>(
     at: Link,
     claimed: &mut SectorSet,
 ) -> Result<[u8; 256], Unsound>
-    requires tracks { geometry ≤ M.tracks medium.now }
-    requires map { IsOk (M.content medium.now directory_head) }
-    ensures none { OnOk result (wrong_at part geometry (M.content medium.now) (is_marked claimed.old) at ≡ None) }
+    requires tracks { geometry ≤ (M.seen medium.now).tracks }
+    requires map { IsOk ((M.seen medium.now).content directory_head) }
+    ensures none { OnOk result (wrong_at part geometry (M.seen medium.now).content (is_marked claimed.old) at ≡ None) }
     ensures claimed { OnOk result (is_marked claimed.new ≡ with_bit (is_marked claimed.old) at true) }
-    ensures read { IfOk result (λ bytes. M.content medium.now at ≡ Ok bytes) }
-    ensures wrong { IfErr result (λ u. (wrong_at part geometry (M.content medium.now) (is_marked claimed.old) at ≡ Some u.number) × (u ≡ fault_at u.number at)) }
+    ensures read { IfOk result (λ bytes. (M.seen medium.now).content at ≡ Ok bytes) }
+    ensures wrong { IfErr result
+        (λ u. (wrong_at part geometry (M.seen medium.now).content (is_marked claimed.old) at ≡ Some u.number) ×
+        (u ≡ fault_at u.number at)) }
 {
     let outside = match part {
         Part::OfDirectory => Flaw::DirectoryChain,
@@ -55,10 +57,12 @@ pub fn claim_chain<M: Medium>(
     first: Link,
     claimed: &mut SectorSet,
 ) -> Result<(), Unsound>
-    requires tracks { geometry ≤ M.tracks medium.now }
-    requires map { IsOk (M.content medium.now directory_head) }
-    ensures ok { OnOk result ((blocks : List Place) × ClaimsChain part geometry (M.content medium.now) (is_marked claimed.old) first blocks (is_marked claimed.new)) }
-    ensures err { IfErr result (λ u. (blocks : List Place) × MeetsFault part geometry (M.content medium.now) (is_marked claimed.old) first blocks u) }
+    requires tracks { geometry ≤ (M.seen medium.now).tracks }
+    requires map { IsOk ((M.seen medium.now).content directory_head) }
+    ensures ok { OnOk result ((blocks : List Place) × ClaimsChain part geometry (M.seen medium.now).content
+        (is_marked claimed.old) first blocks (is_marked claimed.new)) }
+    ensures err { IfErr result (λ u. (blocks : List Place) × MeetsFault part geometry (M.seen medium.now).content
+        (is_marked claimed.old) first blocks u) }
 {
     let mut at = first;
     while !at.is_end() {

@@ -16,8 +16,8 @@ use cbm_relfile::side::SIDES;
 
 /// Whether the records of an entry's file are right, from the bytes of its first side sector.
 fn has_records<M: Medium>(medium: &M, geometry: Geometry, entry: &Entry, first: &[u8; 256]) -> bool
-    requires { geometry ≤ M.tracks medium.now }
-    ensures { result ≡ are_records_in geometry (M.content medium.now) entry.now first.now }
+    requires { geometry ≤ (M.seen medium.now).tracks }
+    ensures { result ≡ are_records_in geometry (M.seen medium.now).content entry.now first.now }
 {
     let length = entry.record_length();
     if length == 0 || length == 255 {
@@ -36,11 +36,12 @@ fn check_sides<M: Medium>(
     entry: &Entry,
     claimed: &mut SectorSet,
 ) -> Result<(), Unsound>
-    requires tracks { geometry ≤ M.tracks medium.now }
-    requires map { IsOk (M.content medium.now directory_head) }
-    ensures ok { OnOk result (ClaimsSides geometry (M.content medium.now) (is_marked claimed.old) entry.now
+    requires tracks { geometry ≤ (M.seen medium.now).tracks }
+    requires map { IsOk ((M.seen medium.now).content directory_head) }
+    ensures ok { OnOk result (ClaimsSides geometry (M.seen medium.now).content (is_marked claimed.old) entry.now
         (is_marked claimed.new)) }
-    ensures err { IfErr result (λ u. SidesFault geometry (M.content medium.now) (is_marked claimed.old) entry.now u) }
+    ensures err { IfErr result
+        (λ u. SidesFault geometry (M.seen medium.now).content (is_marked claimed.old) entry.now u) }
 {
     let at = entry.first_side();
     let first = claim_sides(medium, geometry, at, claimed)?;
@@ -57,11 +58,11 @@ fn check_relative<M: Medium>(
     entry: &Entry,
     claimed: &mut SectorSet,
 ) -> Result<(), Unsound>
-    requires tracks { geometry ≤ M.tracks medium.now }
-    requires map { IsOk (M.content medium.now directory_head) }
-    ensures ok { OnOk result (ClaimsFile true true geometry (M.content medium.now) (is_marked claimed.old) entry.now
-        (is_marked claimed.new)) }
-    ensures err { IfErr result (λ u. FileFault true true geometry (M.content medium.now)
+    requires tracks { geometry ≤ (M.seen medium.now).tracks }
+    requires map { IsOk ((M.seen medium.now).content directory_head) }
+    ensures ok { OnOk result (ClaimsFile true true geometry (M.seen medium.now).content
+        (is_marked claimed.old) entry.now (is_marked claimed.new)) }
+    ensures err { IfErr result (λ u. FileFault true true geometry (M.seen medium.now).content
         (is_marked claimed.old) entry.now u) }
 {
     let first = entry.first_block();
@@ -79,12 +80,12 @@ fn check_file<M: Medium>(
     entry: &Entry,
     claimed: &mut SectorSet,
 ) -> Result<(), Unsound>
-    requires tracks { geometry ≤ M.tracks medium.now }
-    requires map { IsOk (M.content medium.now directory_head) }
+    requires tracks { geometry ≤ (M.seen medium.now).tracks }
+    requires map { IsOk ((M.seen medium.now).content directory_head) }
     ensures ok { OnOk result (ClaimsFile (is_closed entry.now) (is_relative entry.now) geometry
-        (M.content medium.now) (is_marked claimed.old) entry.now (is_marked claimed.new)) }
+        (M.seen medium.now).content (is_marked claimed.old) entry.now (is_marked claimed.new)) }
     ensures err { IfErr result (λ u. FileFault (is_closed entry.now) (is_relative entry.now) geometry
-        (M.content medium.now) (is_marked claimed.old) entry.now u) }
+        (M.seen medium.now).content (is_marked claimed.old) entry.now u) }
 {
     if !entry.is_closed() {
         return Ok(());
@@ -103,11 +104,11 @@ pub fn check_entry<M: Medium>(
     entry: &Entry,
     claimed: &mut SectorSet,
 ) -> Result<(), Unsound>
-    requires tracks { geometry ≤ M.tracks medium.now }
-    requires map { IsOk (M.content medium.now directory_head) }
-    ensures ok { OnOk result (ClaimsEntry geometry (M.content medium.now) (is_marked claimed.old) entry.now
+    requires tracks { geometry ≤ (M.seen medium.now).tracks }
+    requires map { IsOk ((M.seen medium.now).content directory_head) }
+    ensures ok { OnOk result (ClaimsEntry geometry (M.seen medium.now).content (is_marked claimed.old) entry.now
         (is_marked claimed.new)) }
-    ensures err { IfErr result (λ u. EntryFault geometry (M.content medium.now)
+    ensures err { IfErr result (λ u. EntryFault geometry (M.seen medium.now).content
         (is_marked claimed.old) sector entry.now u) }
 {
     if entry.kind().is_none() {

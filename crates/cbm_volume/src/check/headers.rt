@@ -10,9 +10,9 @@ use cbm_medium::{Address, Geometry, Link, Medium, is_of_header, sectors_of};
 
 /// Looks at a sector's header.
 fn check_header<M: Medium>(medium: &M, at: Address) -> Result<(), Unsound>
-    requires { at.track ≤ M.tracks medium.now }
-    ensures ok { OnOk result (IsWritable (M.content medium.now at)) }
-    ensures err { IfErr result (λ u. (is_bad_header (M.content medium.now at) ≡ true) × (u ≡ fault_at 5 at)) }
+    requires { at.track ≤ (M.seen medium.now).tracks }
+    ensures ok { OnOk result (IsWritable ((M.seen medium.now).content at)) }
+    ensures err { IfErr result (λ u. (is_bad_header ((M.seen medium.now).content at) ≡ true) × (u ≡ fault_at 5 at)) }
 {
     match medium.read(at) {
         Err(fault) if is_of_header(fault.code) => Err(Flaw::BadHeader.at(Link::from(at))),
@@ -22,10 +22,11 @@ fn check_header<M: Medium>(medium: &M, at: Address) -> Result<(), Unsound>
 
 /// Looks at the headers of a track in order.
 fn check_track<M: Medium>(medium: &M, track: u8) -> Result<(), Unsound>
-    requires { (0 < track) × (track ≤ M.tracks medium.now) }
-    ensures ok { OnOk result ((s : ℕ) → s < sectors_on track → IsWritable (M.content medium.now (at track s))) }
-    ensures err { IfErr result (λ u. (s : ℕ) × (s < sectors_on track) × (is_bad_header (M.content medium.now (at track s)) ≡ true)
-        × ((r : ℕ) → r < s → IsWritable (M.content medium.now (at track r))) × (u ≡ fault_at 5 (at track s))) }
+    requires { (0 < track) × (track ≤ (M.seen medium.now).tracks) }
+    ensures ok { OnOk result ((s : ℕ) → s < sectors_on track → IsWritable ((M.seen medium.now).content (at track s))) }
+    ensures err { IfErr result (λ u. (s : ℕ) × (s < sectors_on track) ×
+        (is_bad_header ((M.seen medium.now).content (at track s)) ≡ true) × ((r : ℕ) → r < s →
+        IsWritable ((M.seen medium.now).content (at track r))) × (u ≡ fault_at 5 (at track s))) }
 {
     for sector in 0..sectors_of(track) {
         let at = Address::new(track, sector).unwrap();
@@ -36,9 +37,10 @@ fn check_track<M: Medium>(medium: &M, track: u8) -> Result<(), Unsound>
 
 /// Looks at the headers of all sectors in order: 5 at the first that has a fault.
 pub fn check_headers<M: Medium>(medium: &M, geometry: Geometry) -> Result<(), Unsound>
-    requires { geometry ≤ M.tracks medium.now }
-    ensures ok { OnOk result ((p : Place) → Has geometry p → IsWritable (M.content medium.now p)) }
-    ensures err { IfErr result (λ u. (p : Place) × IsFirstBad geometry (M.content medium.now) p × (u ≡ fault_at 5 p)) }
+    requires { geometry ≤ (M.seen medium.now).tracks }
+    ensures ok { OnOk result ((p : Place) → Has geometry p → IsWritable ((M.seen medium.now).content p)) }
+    ensures err { IfErr result (λ u. (p : Place) × IsFirstBad geometry (M.seen medium.now).content p ×
+        (u ≡ fault_at 5 p)) }
 {
     for track in 1..geometry.tracks() + 1 {
         check_track(medium, track)?;

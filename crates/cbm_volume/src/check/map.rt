@@ -10,11 +10,12 @@ use cbm_medium::{Address, Geometry, Link, Medium};
 
 /// Looks at a track's count.
 fn check_count<M: Medium>(medium: &M, geometry: Geometry, track: u8) -> Result<(), Unsound>
-    requires room { geometry ≤ M.tracks medium.now }
+    requires room { geometry ≤ (M.seen medium.now).tracks }
     requires track { track ≤ 40 }
-    requires map { IsOk (M.content medium.now directory_head) }
-    ensures ok { OnOk result (is_counted_on track (map_of (M.content medium.now)) ≡ true) }
-    ensures err { IfErr result (λ u. (is_counted_on track (map_of (M.content medium.now)) ≡ false) × (u ≡ fault_at 1 (at track 0))) }
+    requires map { IsOk ((M.seen medium.now).content directory_head) }
+    ensures ok { OnOk result (is_counted_on track (map_of (M.seen medium.now).content) ≡ true) }
+    ensures err { IfErr result (λ u. (is_counted_on track (map_of (M.seen medium.now).content) ≡ false) ×
+        (u ≡ fault_at 1 (at track 0))) }
 {
     if is_counted(medium, geometry, track) == Ok(true) {
         return Ok(());
@@ -24,9 +25,9 @@ fn check_count<M: Medium>(medium: &M, geometry: Geometry, track: u8) -> Result<(
 
 /// Looks whether 18/0 reads: 9 where it doesn't.
 fn check_reads<M: Medium>(medium: &M, geometry: Geometry) -> Result<(), Unsound>
-    requires room { geometry ≤ M.tracks medium.now }
-    ensures reads { OnOk result (IsOk (M.content medium.now directory_head)) }
-    ensures err { IfErr result (IsMapFault geometry (M.content medium.now)) }
+    requires room { geometry ≤ (M.seen medium.now).tracks }
+    ensures reads { OnOk result (IsOk ((M.seen medium.now).content directory_head)) }
+    ensures err { IfErr result (IsMapFault geometry (M.seen medium.now).content) }
 {
     match read_map(medium, geometry) {
         Ok(_) => Ok(()),
@@ -36,10 +37,10 @@ fn check_reads<M: Medium>(medium: &M, geometry: Geometry) -> Result<(), Unsound>
 
 /// Looks at 18/0's own bit: 2 where it is free.
 fn check_own_bit<M: Medium>(medium: &M, geometry: Geometry) -> Result<(), Unsound>
-    requires room { geometry ≤ M.tracks medium.now }
-    requires map { IsOk (M.content medium.now directory_head) }
-    ensures taken { OnOk result (is_free_in (map_of (M.content medium.now)) directory_head ≡ false) }
-    ensures err { IfErr result (IsMapFault geometry (M.content medium.now)) }
+    requires room { geometry ≤ (M.seen medium.now).tracks }
+    requires map { IsOk ((M.seen medium.now).content directory_head) }
+    ensures taken { OnOk result (is_free_in (map_of (M.seen medium.now).content) directory_head ≡ false) }
+    ensures err { IfErr result (IsMapFault geometry (M.seen medium.now).content) }
 {
     if is_free(medium, geometry, Address::of_map()) == Ok(false) {
         return Ok(());
@@ -50,9 +51,9 @@ fn check_own_bit<M: Medium>(medium: &M, geometry: Geometry) -> Result<(), Unsoun
 /// Looks at the map: whether 18/0 reads, then at its own bit, then at the counts of its tracks in order, 1 at the first that
 /// is wrong.
 pub fn check_map<M: Medium>(medium: &M, geometry: Geometry) -> Result<(), Unsound>
-    requires { geometry ≤ M.tracks medium.now }
-    ensures ok { OnOk result (IsMapRight geometry (M.content medium.now)) }
-    ensures err { IfErr result (IsMapFault geometry (M.content medium.now)) }
+    requires { geometry ≤ (M.seen medium.now).tracks }
+    ensures ok { OnOk result (IsMapRight geometry (M.seen medium.now).content) }
+    ensures err { IfErr result (IsMapFault geometry (M.seen medium.now).content) }
 {
     check_reads(medium, geometry)?;
     check_own_bit(medium, geometry)?;

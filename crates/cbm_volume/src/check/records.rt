@@ -7,8 +7,8 @@ use cbm_relfile::side::{BLOCKS, NUMBER, RECORD_LENGTH, SIDES};
 
 /// Where the chain goes on after a block, if that block is the one that the side sector lists next; None if it isn't.
 fn step<M: Medium>(medium: &M, geometry: Geometry, listed: Link, at: Link) -> Option<Link>
-    requires { geometry ≤ M.tracks medium.now }
-    ensures { result ≡ step_along geometry (M.content medium.now) listed at }
+    requires { geometry ≤ (M.seen medium.now).tracks }
+    ensures { result ≡ step_along geometry (M.seen medium.now).content listed at }
 {
     if listed != at {
         return None;
@@ -28,8 +28,8 @@ fn walk_listed<M: Medium>(
     side: &[u8; 256],
     from: Link,
 ) -> Option<Link>
-    requires { geometry ≤ M.tracks medium.now }
-    ensures { result ≡ along geometry (M.content medium.now) (listed_blocks side.now) from }
+    requires { geometry ≤ (M.seen medium.now).tracks }
+    ensures { result ≡ along geometry (M.seen medium.now).content (listed_blocks side.now) from }
 {
     let mut at = from;
     for number in 0..120usize {
@@ -52,8 +52,8 @@ pub fn walk_side<M: Medium>(
     side: &[u8; 256],
     from: Link,
 ) -> Option<Link>
-    requires { geometry ≤ M.tracks medium.now }
-    ensures { result ≡ side_along geometry (M.content medium.now) length number side.now from }
+    requires { geometry ≤ (M.seen medium.now).tracks }
+    ensures { result ≡ side_along geometry (M.seen medium.now).content length number side.now from }
 {
     if side[NUMBER] != number || side[RECORD_LENGTH] != length {
         return None;
@@ -70,9 +70,9 @@ fn walk_side_at<M: Medium>(
     at: Link,
     from: Link,
 ) -> Option<Link>
-    requires tracks { geometry ≤ M.tracks medium.now }
+    requires tracks { geometry ≤ (M.seen medium.now).tracks }
     requires length { 0 < length }
-    ensures { result ≡ side_at geometry (M.content medium.now) length number at from }
+    ensures { result ≡ side_at geometry (M.seen medium.now).content length number at from }
 {
     let address = at.address(geometry)?;
     match medium.read(address) {
@@ -90,9 +90,9 @@ pub fn walk_sides<M: Medium>(
     first: &[u8; 256],
     from: Link,
 ) -> Option<Link>
-    requires tracks { geometry ≤ M.tracks medium.now }
+    requires tracks { geometry ≤ (M.seen medium.now).tracks }
     requires length { 0 < length }
-    ensures { result ≡ all_along geometry (M.content medium.now) length first.now from }
+    ensures { result ≡ all_along geometry (M.seen medium.now).content length first.now from }
 {
     let mut at = walk_side(medium, geometry, length, 0, first, from)?;
     if first[SIDES] == 0 {

@@ -17,10 +17,12 @@ fn claim_listed<M: Medium>(
     first: &[u8; 256],
     claimed: &mut SectorSet,
 ) -> Result<(), Unsound>
-    requires tracks { geometry ≤ M.tracks medium.now }
-    requires map { IsOk (M.content medium.now directory_head) }
-    ensures ok { OnOk result (ClaimsEach OfFile geometry (M.content medium.now) (is_marked claimed.old) (behind_first first.now) (is_marked claimed.new)) }
-    ensures err { IfErr result (λ u. MeetsAmong OfFile geometry (M.content medium.now) (is_marked claimed.old) (behind_first first.now) u) }
+    requires tracks { geometry ≤ (M.seen medium.now).tracks }
+    requires map { IsOk ((M.seen medium.now).content directory_head) }
+    ensures ok { OnOk result (ClaimsEach OfFile geometry (M.seen medium.now).content (is_marked claimed.old)
+        (behind_first first.now) (is_marked claimed.new)) }
+    ensures err { IfErr result (λ u. MeetsAmong OfFile geometry (M.seen medium.now).content (is_marked claimed.old)
+        (behind_first first.now) u) }
 {
     if first[SIDES] == 0 {
         return Ok(());
@@ -42,11 +44,13 @@ pub fn claim_sides<M: Medium>(
     first: Link,
     claimed: &mut SectorSet,
 ) -> Result<[u8; 256], Unsound>
-    requires tracks { geometry ≤ M.tracks medium.now }
-    requires map { IsOk (M.content medium.now directory_head) }
-    ensures ok { OnOk result (ClaimsEach OfFile geometry (M.content medium.now) (is_marked claimed.old) (sides_from (M.content medium.now) first) (is_marked claimed.new)) }
-    ensures read { IfOk result (λ bytes. M.content medium.now first ≡ Ok bytes) }
-    ensures err { IfErr result (λ u. MeetsAmong OfFile geometry (M.content medium.now) (is_marked claimed.old) (sides_from (M.content medium.now) first) u) }
+    requires tracks { geometry ≤ (M.seen medium.now).tracks }
+    requires map { IsOk ((M.seen medium.now).content directory_head) }
+    ensures ok { OnOk result (ClaimsEach OfFile geometry (M.seen medium.now).content (is_marked claimed.old)
+        (sides_from (M.seen medium.now).content first) (is_marked claimed.new)) }
+    ensures read { IfOk result (λ bytes. (M.seen medium.now).content first ≡ Ok bytes) }
+    ensures err { IfErr result (λ u. MeetsAmong OfFile geometry (M.seen medium.now).content (is_marked claimed.old)
+        (sides_from (M.seen medium.now).content first) u) }
 {
     let bytes = claim(medium, geometry, Part::OfFile, first, claimed)?;
     claim_listed(medium, geometry, &bytes, claimed)?;

@@ -18,10 +18,12 @@ fn check_entries<M: Medium>(
     sector: &[u8; 256],
     claimed: &mut SectorSet,
 ) -> Result<(), Unsound>
-    requires tracks { geometry ≤ M.tracks medium.now }
-    requires map { IsOk (M.content medium.now directory_head) }
-    ensures ok { OnOk result (ClaimsEntries geometry (M.content medium.now) (is_marked claimed.old) (entries_in sector.now) (is_marked claimed.new)) }
-    ensures err { IfErr result (λ u. EntriesFault geometry (M.content medium.now) (is_marked claimed.old) at (entries_in sector.now) u) }
+    requires tracks { geometry ≤ (M.seen medium.now).tracks }
+    requires map { IsOk ((M.seen medium.now).content directory_head) }
+    ensures ok { OnOk result (ClaimsEntries geometry (M.seen medium.now).content (is_marked claimed.old)
+        (entries_in sector.now) (is_marked claimed.new)) }
+    ensures err { IfErr result (λ u. EntriesFault geometry (M.seen medium.now).content (is_marked claimed.old) at
+        (entries_in sector.now) u) }
 {
     for number in 0..8u8 {
         let entry = Entry::of(sector, number);
@@ -38,10 +40,13 @@ pub fn check_slots<M: Medium>(
     met: &mut SectorSet,
     claimed: &mut SectorSet,
 ) -> Result<(), Unsound>
-    requires tracks { geometry ≤ M.tracks medium.now }
-    requires map { IsOk (M.content medium.now directory_head) }
-    ensures ok { OnOk result ((blocks : List Place) × ClaimsSlots geometry (M.content medium.now) (is_marked met.old) (is_marked claimed.old) first blocks (is_marked claimed.new)) }
-    ensures err { IfErr result (λ u. (blocks : List Place) × SlotsFault geometry (M.content medium.now) (is_marked met.old) (is_marked claimed.old) first blocks u) }
+    requires tracks { geometry ≤ (M.seen medium.now).tracks }
+    requires map { IsOk ((M.seen medium.now).content directory_head) }
+    ensures ok { OnOk result ((blocks : List Place) ×
+        ClaimsSlots geometry (M.seen medium.now).content (is_marked met.old) (is_marked claimed.old) first blocks
+        (is_marked claimed.new)) }
+    ensures err { IfErr result (λ u. (blocks : List Place) ×
+        SlotsFault geometry (M.seen medium.now).content (is_marked met.old) (is_marked claimed.old) first blocks u) }
 {
     let mut at = first;
     while !at.is_end() {

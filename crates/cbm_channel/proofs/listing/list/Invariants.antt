@@ -5,9 +5,9 @@ use Rattle.cbm_channel.proofs.ListedLines.{Lists}
 use Rattle.cbm_channel.proofs.listing.list.Given as goal
 
 abbrev pub invariant-slots : goal.invariant-slots
-invariant-slots g l = (l.slots.tracks ≤ g.M.Medium.tracks l.volume)
-    × Lists l.pattern l.initial.listing.bytes (directory_of (geometry_of (g.M.Medium.tracks l.volume) (g.M.Medium.content l.volume)) (g.M.Medium.content l.volume))
-    (left_of (g.M.Medium.content l.volume) l.slots) (most_left l.slots) l.listing
+invariant-slots g l = (l.slots.tracks ≤ (g.M.Medium.seen l.volume).tracks)
+    × Lists l.pattern l.initial.listing.bytes (directory_of (geometry_of (g.M.Medium.seen l.volume).tracks (g.M.Medium.seen l.volume).content) (g.M.Medium.seen l.volume).content)
+    (left_of (g.M.Medium.seen l.volume).content l.slots) (most_left l.slots) l.listing
 
 abbrev pub decreases-slots : goal.decreases-slots
 decreases-slots g l = most_left l.slots

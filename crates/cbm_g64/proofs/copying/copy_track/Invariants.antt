@@ -7,7 +7,7 @@ use Rattle.cbm_g64.proofs.copying.copy_track.Given as goal
 
 abbrev pub invariant-loop-sector : goal.invariant-loop-sector
 invariant-loop-sector g l = record {
-  here : (p : Place) → p.track ≡ l.fn.track → p.sector < l.sector → content_of l.tracks p ≡ or_zeros (g.M.Medium.content l.medium p);
+  here : (p : Place) → p.track ≡ l.fn.track → p.sector < l.sector → content_of l.tracks p ≡ or_zeros ((g.M.Medium.seen l.medium).content p);
   later : (p : Place) → p.track ≡ l.fn.track → l.sector ≤ p.sector → content_of l.tracks p ≡ Ok (replicate 256 0);
   others : (p : Place) → p.track ≢ l.fn.track → content_of l.tracks p ≡ content_of l.fn.tracks p;
   held : IsHeld new_file l.tracks;

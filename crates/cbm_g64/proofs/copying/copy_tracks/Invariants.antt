@@ -7,7 +7,7 @@ use Rattle.cbm_g64.proofs.copying.copy_tracks.Given as goal
 
 abbrev pub invariant-loop-track : goal.invariant-loop-track
 invariant-loop-track g l = record {
-  here : (p : Place) → Has 35 p → p.track < l.track → content_of l.tracks p ≡ or_zeros (g.M.Medium.content l.medium p);
+  here : (p : Place) → Has 35 p → p.track < l.track → content_of l.tracks p ≡ or_zeros ((g.M.Medium.seen l.medium).content p);
   later : (p : Place) → l.track ≤ p.track → content_of l.tracks p ≡ Ok (replicate 256 0);
   held : IsHeld new_file l.tracks;
   laid : AreLaid l.tracks;

@@ -10,9 +10,9 @@ pub returns-in_err-bytes-clause-err : goal.returns-in_err-bytes-clause-err
 returns-in_err-bytes-clause-err g c =
     let p = err_from_is_err_and c.from_residual.result c.from_residual.ensures.1 in
     rw (p.1, p.2)
-    (subst (λ (x : Place). follow c.args.geometry (g.M.Medium.content c.args.medium.now) c.args.left c.args.at
+    (subst (λ (x : Place). follow c.args.geometry (g.M.Medium.seen c.args.medium.now).content c.args.left c.args.at
     ≡ record { blocks = []; trouble = Some (record { code = c.in_err-bytes.field-0.0.code; track = x.track; sector = x.sector }) })
     (sym (c.in_err-bytes.ensures.err.1 ∙ c.in-Some.ensures.1))
-    (follow_fault c.args.geometry (g.M.Medium.content c.args.medium.now) c.args.left (c.args.left - 1) c.args.at c.in_err-bytes.field-0.0.code
+    (follow_fault c.args.geometry (g.M.Medium.seen c.args.medium.now).content c.args.left (c.args.left - 1) c.args.at c.in_err-bytes.field-0.0.code
     c.requires.going c.in-Some.ensures.0 (omega arith)
-    (ap (g.M.Medium.content c.args.medium.now) (sym c.in-Some.ensures.1) ∙ c.in_err-bytes.ensures.err.0)))
+    (ap (g.M.Medium.seen c.args.medium.now).content (sym c.in-Some.ensures.1) ∙ c.in_err-bytes.ensures.err.0)))

@@ -7,8 +7,8 @@ use Rattle.cbm_program.proofs.getting.print_units.Given as goal
 abbrev pub invariant-bytes : goal.invariant-bytes
 invariant-bytes g l = record {
   saying : Saying (g.W.Write.contents l.initial.writer) (g.W.Write.contents l.writer)
-      (Stands g.M.Medium.tracks g.M.Medium.content g.M.Medium.protected l.initial.dos)
-      (Stands g.M.Medium.tracks g.M.Medium.content g.M.Medium.protected l.dos) l.most (l.most - l.done) l.channel;
+      (Stands g.M.Medium.seen l.initial.dos)
+      (Stands g.M.Medium.seen l.dos) l.most (l.most - l.done) l.channel;
   grown : Grows (g.W.Write.contents l.initial.writer) (g.W.Write.contents l.writer);
   medium : l.dos.medium ≡ l.initial.dos.medium;
 }

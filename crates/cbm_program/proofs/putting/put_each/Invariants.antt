@@ -4,5 +4,5 @@ use Rattle.cbm_program.proofs.PutLemmas.{Puts}
 use Rattle.cbm_program.proofs.putting.put_each.Given as goal
 
 abbrev pub invariant-loop-byte : goal.invariant-loop-byte
-invariant-loop-byte g l = Puts (Stands g.M.Medium.tracks g.M.Medium.content g.M.Medium.protected l.initial.dos)
-    (Stands g.M.Medium.tracks g.M.Medium.content g.M.Medium.protected l.dos) l.channel l.bytes (drop l.byte-index l.bytes) × (l.dos.medium ≡ l.initial.dos.medium)
+invariant-loop-byte g l = Puts (Stands g.M.Medium.seen l.initial.dos)
+    (Stands g.M.Medium.seen l.dos) l.channel l.bytes (drop l.byte-index l.bytes) × (l.dos.medium ≡ l.initial.dos.medium)

@@ -5,14 +5,14 @@ use Rattle.cbm_program.proofs.putting.put_equal.Goals as goal
 
 pub loop-done-init : goal.loop-done-init
 loop-done-init g c = (
-  puts-start (Stands g.M.Medium.tracks g.M.Medium.content g.M.Medium.protected c.args.dos.now) _ (replicate c.args.count c.args.byte) (replicate (c.args.count - 0) c.args.byte)
+  puts-start (Stands g.M.Medium.seen c.args.dos.now) _ (replicate c.args.count c.args.byte) (replicate (c.args.count - 0) c.args.byte)
       (replicate-same c.args.count (c.args.count - 0) c.args.byte (omega arith)),
   refl,
 )
 
 pub loop-done-preserved : goal.loop-done-preserved
 loop-done-preserved g c =
-    let stands = Stands g.M.Medium.tracks g.M.Medium.content g.M.Medium.protected in (
+    let stands = Stands g.M.Medium.seen in (
       puts-on (stands c.args.dos.now) (stands c.loop-done.dos) (stands c.put.new.self) _ (replicate c.args.count c.args.byte)
           (replicate (c.args.count - c.loop-done.done) c.args.byte) (replicate (c.args.count - (c.loop-done.done + 1)) c.args.byte) c.args.byte
           c.loop-done.invariant.0 (replicate-more _ _ _ (omega arith)) c.put.ensures.leads,
@@ -21,6 +21,6 @@ loop-done-preserved g c =
 
 pub returns-clause-leads : goal.returns-clause-leads
 returns-clause-leads g c =
-    let stands = Stands g.M.Medium.tracks g.M.Medium.content g.M.Medium.protected in
+    let stands = Stands g.M.Medium.seen in
     puts-end (stands c.args.dos.now) (stands c.loop-done.dos) _ (replicate c.args.count c.args.byte) (replicate (c.args.count - c.loop-done.done) c.args.byte)
     c.loop-done.invariant.0 (replicate-none _ _ (omega arith))

@@ -4,5 +4,5 @@ use Rattle.cbm_program.proofs.PutLemmas.{Puts}
 use Rattle.cbm_program.proofs.putting.put_equal.Given as goal
 
 abbrev pub invariant-loop-done : goal.invariant-loop-done
-invariant-loop-done g l = Puts (Stands g.M.Medium.tracks g.M.Medium.content g.M.Medium.protected l.initial.dos)
-    (Stands g.M.Medium.tracks g.M.Medium.content g.M.Medium.protected l.dos) l.channel (replicate l.count l.byte) (replicate (l.count - l.done) l.byte) × (l.dos.medium ≡ l.initial.dos.medium)
+invariant-loop-done g l = Puts (Stands g.M.Medium.seen l.initial.dos)
+    (Stands g.M.Medium.seen l.dos) l.channel (replicate l.count l.byte) (replicate (l.count - l.done) l.byte) × (l.dos.medium ≡ l.initial.dos.medium)

@@ -9,7 +9,7 @@ use Rattle.cbm_program.proofs.session.run_on.Goals as goal
 
 pub lines-init : goal.lines-init
 lines-init g c = record {
-  running = run-start _ _ _ (Stands g.M.Medium.tracks g.M.Medium.content g.M.Medium.protected c.args.dos.now) c.new-lines.ensures;
+  running = run-start _ _ _ (Stands g.M.Medium.seen c.args.dos.now) c.new-lines.ensures;
   few = omega arith;
   grown = grows_none _;
   medium = refl;
@@ -19,7 +19,7 @@ lines-init g c = record {
 pub lines-preserved : goal.lines-preserved
 lines-preserved g c =
     let read = rw c.in-Some.is at c.in_ok-line.ensures in
-    let stands = Stands g.M.Medium.tracks g.M.Medium.content g.M.Medium.protected in
+    let stands = Stands g.M.Medium.seen in
     record {
       running = run-line _ _ _ _ _ _ (stands c.args.dos.now) (stands c.lines.dos) (stands c.perform_line.new.dos) _ _ c.lines.invariant.running read.0 c.in_ok-perform_line.ensures.ok;
       few = let r = read.1 in omega (arith, r);
@@ -31,26 +31,26 @@ lines-preserved g c =
 pub returns-in_err-line-clause-ended : goal.returns-in_err-line-clause-ended
 returns-in_err-line-clause-ended g c =
     let p = err_from_is_err_and c.from_residual.result c.from_residual.ensures.1 in
-    let stands = Stands g.M.Medium.tracks g.M.Medium.content g.M.Medium.protected in
+    let stands = Stands g.M.Medium.seen in
     faulted _ _ _ _ (bytes_left g.R.Read.remaining c.read_line.new.lines) (stands c.args.dos.now) (stands c.lines.dos) _ _ _ c.lines.invariant.running c.in_err-line.ensures (p.1 ∙ ap Err p.2)
 
 pub returns-in_err-line-clause-fault : goal.returns-in_err-line-clause-fault
 returns-in_err-line-clause-fault g c =
-    let stands = Stands g.M.Medium.tracks g.M.Medium.content g.M.Medium.protected in
+    let stands = Stands g.M.Medium.seen in
     if_err c.from_residual.result (run-part _ _ _ _ (stands c.args.dos.now) (stands c.lines.dos) _ c.lines.invariant.running)
 
 -- a line broke off
 pub returns-in_err-perform_line-clause-fault : goal.returns-in_err-perform_line-clause-fault
 returns-in_err-perform_line-clause-fault g c =
     let read = rw c.in-Some.is at c.in_ok-line.ensures in
-    let stands = Stands g.M.Medium.tracks g.M.Medium.content g.M.Medium.protected in
+    let stands = Stands g.M.Medium.seen in
     if_err c.from_residual-in_err-perform_line.result
     (run-broken _ _ _ _ _ _ (stands c.args.dos.now) (stands c.lines.dos) _ _ c.lines.invariant.running read.0 c.in_err-perform_line.ensures.err)
 
 -- the script is at its end
 pub returns-clause-ended : goal.returns-clause-ended
 returns-clause-ended g c =
-    let stands = Stands g.M.Medium.tracks g.M.Medium.content g.M.Medium.protected in
+    let stands = Stands g.M.Medium.seen in
     run-end _ _ _ _ (stands c.args.dos.now) (stands c.lines.dos) _ c.lines.invariant.running (rw c.in_default.is at c.in_ok-line.ensures)
 
 -- what was written only grew

@@ -8,8 +8,8 @@ use Rattle.cbm_program.proofs.session.run_on.Given as goal
 abbrev pub invariant-lines : goal.invariant-lines
 invariant-lines g l = record {
   running : Running (g.W.Write.contents l.initial.writer) (g.W.Write.contents l.writer) (g.R.Read.remaining l.fn.reader)
-      (bytes_left g.R.Read.remaining l.lines) (Stands g.M.Medium.tracks g.M.Medium.content g.M.Medium.protected l.initial.dos)
-      (Stands g.M.Medium.tracks g.M.Medium.content g.M.Medium.protected l.dos) l.number;
+      (bytes_left g.R.Read.remaining l.lines) (Stands g.M.Medium.seen l.initial.dos)
+      (Stands g.M.Medium.seen l.dos) l.number;
   few : l.number ≤ 1000001;
   grown : Grows (g.W.Write.contents l.initial.writer) (g.W.Write.contents l.writer);
   medium : l.dos.medium ≡ l.initial.dos.medium;

@@ -7,7 +7,7 @@ pub returns-then-is_end-clause-ok : goal.returns-then-is_end-clause-ok
 unfolding rest_of
 returns-then-is_end-clause-ok g c =
     taken_last c.self.inside.waiting c.first_of-waiting.result.0 c.self.inside.sector c.self.inside.from c.first_of-waiting.result.1 c.self.inside.to
-    (held_from c.self.inside.geometry (g.M.Medium.content c.args.medium.now) c.self.inside.left c.self.inside.next)
-    (held_end c.self.inside.geometry (g.M.Medium.content c.args.medium.now) c.self.inside.left c.self.inside.next (c.is_end.ensures.0 (search rules)))
+    (held_from c.self.inside.geometry (g.M.Medium.seen c.args.medium.now).content c.self.inside.left c.self.inside.next)
+    (held_end c.self.inside.geometry (g.M.Medium.seen c.args.medium.now).content c.self.inside.left c.self.inside.next (c.is_end.ensures.0 (search rules)))
     c.self.invariant.3 c.first_of-waiting.ensures.bytes
-    ∙ ap (λ (r : Reading). one_less (rest_of (g.M.Medium.content c.args.medium.now) r)) c.self.view_is
+    ∙ ap (λ (r : Reading). one_less (rest_of (g.M.Medium.seen c.args.medium.now).content r)) c.self.view_is

@@ -14,9 +14,9 @@ use Rattle.cbm_channel.proofs.dos.Dos.act.Goals as goal
 
 pub returns-in-Ok-clause-leads : goal.returns-in-Ok-clause-leads
 returns-in-Ok-clause-leads g c = λ m p h s.
-    let st = stood g.M.Medium.tracks g.M.Medium.content g.M.Medium.protected _ _ m c.self.view_is s in
-    let stands = subst (λ k. ChannelStands (g.M.Medium.content k.medium) c.in-Ok.opened (opened_by m.disk p)) (sym c.self.view_is) (c.in-Ok.ensures.stands m p h s) in
-    let uses = subst (λ k. HoldsNow (g.M.Medium.tracks k.medium) (g.M.Medium.content k.medium) m.disk (with_use (uses_of k.channels m.channels) c.args.channel (use_of c.in-Ok.opened (opened_by m.disk p)))) (sym c.self.view_is)
+    let st = stood g.M.Medium.seen _ _ m c.self.view_is s in
+    let stands = subst (λ k. ChannelStands (g.M.Medium.seen k.medium).content c.in-Ok.opened (opened_by m.disk p)) (sym c.self.view_is) (c.in-Ok.ensures.stands m p h s) in
+    let uses = subst (λ k. HoldsNow (g.M.Medium.seen k.medium).tracks (g.M.Medium.seen k.medium).content m.disk (with_use (uses_of k.channels m.channels) c.args.channel (use_of c.in-Ok.opened (opened_by m.disk p)))) (sym c.self.view_is)
     (c.in-Ok.ensures.uses m p c.args.channel h s) in
     moved _ _ _ _ _ _ _ _ (ap (say Fine) (act_reads _ _ c.args.channel m p c.args.plan h))
     (c.say.ensures.leads _ (with_one _ _ _ _ _ _ m c.args.channel c.in-Ok.opened (opened_by m.disk p) c.requires c.self.invariant stands uses (opened_well _ _ m.disk p c.args.plan h) st))
@@ -25,7 +25,7 @@ returns-in-Ok-clause-leads g c = λ m p h s.
 pub invariant_of-self : goal.invariant_of-self
 invariant_of-self g c = record {
   count = length-set c.self.inside.channels c.args.channel c.in-Ok.opened ∙ c.self.invariant.count;
-  each = All-set (Fits (g.M.Medium.tracks c.self.inside.volume)) c.self.inside.channels c.args.channel c.in-Ok.opened (subst (λ k. Fits (g.M.Medium.tracks k.medium) c.in-Ok.opened) (sym c.self.view_is) c.in-Ok.ensures.fits) c.self.invariant.each;
+  each = All-set (Fits (g.M.Medium.seen c.self.inside.volume).tracks) c.self.inside.channels c.args.channel c.in-Ok.opened (subst (λ k. Fits (g.M.Medium.seen k.medium).tracks c.in-Ok.opened) (sym c.self.view_is) c.in-Ok.ensures.fits) c.self.invariant.each;
 }
 
 -- what the disk refuses leaves all channels as they were

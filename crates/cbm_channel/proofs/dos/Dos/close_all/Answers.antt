@@ -12,7 +12,7 @@ use Rattle.cbm_channel.proofs.dos.Dos.close_all.Goals as goal
 pub returns-clause-leads : goal.returns-clause-leads
 returns-clause-leads g c = λ m s.
     let all : c.loop-channel.channel ≡ 15 = omega (arith, c.loop-channel-test.false, c.loop-channel.auto.channel-end) in
-    subst (λ k. Stands g.M.Medium.tracks g.M.Medium.content g.M.Medium.protected c.loop-channel.self (close_all (take k channel_numbers) m))
+    subst (λ k. Stands g.M.Medium.seen c.loop-channel.self (close_all (take k channel_numbers) m))
     all (c.loop-channel.invariant.0 m s)
 
 pub returns-clause-medium : goal.returns-clause-medium

@@ -16,40 +16,40 @@ use Rattle.cbm_channel.proofs.dos.Dos.found.Goals as goal
 -- the directory of a sound disk doesn't break off
 pub returns-in_err-slot-clause-found : goal.returns-in_err-slot-clause-found
 returns-in_err-slot-clause-found g c = λ m s.
-    let whole = (c.in_err-slot.ensures.means m.disk (subst (λ v. HoldsDisk (g.M.Medium.tracks v) (g.M.Medium.content v) m.disk) (sym c.volume.ensures) (means_of _ _ _ _ _ _ m s))).whole in
+    let whole = (c.in_err-slot.ensures.means m.disk (subst (λ v. HoldsDisk (g.M.Medium.seen v).tracks (g.M.Medium.seen v).content m.disk) (sym c.volume.ensures) (means_of _ _ _ _ _ _ m s))).whole in
     let bad = sym whole ∙ c.in_err-slot.ensures.finds.1 in absurd (cc)
 
 pub returns-in-Some-clause-found : goal.returns-in-Some-clause-found
 returns-in-Some-clause-found g c = λ m s.
-    let finds = subst (λ r. Finds (is_sought c.args.pattern.now c.args.kind) (directory_of (geometry_of (g.M.Medium.tracks c.volume.result.now) (g.M.Medium.content c.volume.result.now)) (g.M.Medium.content c.volume.result.now)) (Ok r)) c.in-Some.is c.in_ok-slot.ensures.finds in
-    subst (λ v. FoundAs (g.M.Medium.tracks v) (g.M.Medium.content v) m.disk (found m.disk c.args.pattern.now c.args.kind) (Ok (record { slot = c.in-Some.slot; entry = c.in-Some.entry }))) c.volume.ensures
-    (found_as (g.M.Medium.tracks c.volume.result.now) (g.M.Medium.content c.volume.result.now) c.args.pattern.now c.args.kind m.disk c.in-Some.slot c.in-Some.entry
-    (c.in_ok-slot.ensures.means m.disk (subst (λ v. HoldsDisk (g.M.Medium.tracks v) (g.M.Medium.content v) m.disk) (sym c.volume.ensures) (means_of _ _ _ _ _ _ m s))) finds)
+    let finds = subst (λ r. Finds (is_sought c.args.pattern.now c.args.kind) (directory_of (geometry_of (g.M.Medium.seen c.volume.result.now).tracks (g.M.Medium.seen c.volume.result.now).content) (g.M.Medium.seen c.volume.result.now).content) (Ok r)) c.in-Some.is c.in_ok-slot.ensures.finds in
+    subst (λ v. FoundAs (g.M.Medium.seen v).tracks (g.M.Medium.seen v).content m.disk (found m.disk c.args.pattern.now c.args.kind) (Ok (record { slot = c.in-Some.slot; entry = c.in-Some.entry }))) c.volume.ensures
+    (found_as (g.M.Medium.seen c.volume.result.now).tracks (g.M.Medium.seen c.volume.result.now).content c.args.pattern.now c.args.kind m.disk c.in-Some.slot c.in-Some.entry
+    (c.in_ok-slot.ensures.means m.disk (subst (λ v. HoldsDisk (g.M.Medium.seen v).tracks (g.M.Medium.seen v).content m.disk) (sym c.volume.ensures) (means_of _ _ _ _ _ _ m s))) finds)
 
 pub returns-in_err-find-clause-found : goal.returns-in_err-find-clause-found
 returns-in_err-find-clause-found g c = λ m s.
-    let whole = (c.in_err-find.ensures.means m.disk (subst (λ v. HoldsDisk (g.M.Medium.tracks v) (g.M.Medium.content v) m.disk) (sym c.volume-2.ensures) (means_of _ _ _ _ _ _ m s))).whole in
+    let whole = (c.in_err-find.ensures.means m.disk (subst (λ v. HoldsDisk (g.M.Medium.seen v).tracks (g.M.Medium.seen v).content m.disk) (sym c.volume-2.ensures) (means_of _ _ _ _ _ _ m s))).whole in
     let bad = sym whole ∙ c.in_err-find.ensures.finds.1 in absurd (cc)
 
 -- the name is there, and has none of the type
 pub returns-then-is_some-clause-found : goal.returns-then-is_some-clause-found
 returns-then-is_some-clause-found g c = λ m s.
-    let first = subst (λ r. Finds (is_sought c.args.pattern.now c.args.kind) (directory_of (geometry_of (g.M.Medium.tracks c.volume.result.now) (g.M.Medium.content c.volume.result.now)) (g.M.Medium.content c.volume.result.now)) (Ok r)) c.in_default.is c.in_ok-slot.ensures.finds in
-    let there = named_as c.args.pattern.now m.disk (directory_of (geometry_of (g.M.Medium.tracks c.volume-2.result.now) (g.M.Medium.content c.volume-2.result.now)) (g.M.Medium.content c.volume-2.result.now)) c.in_ok-find.field-0 _ (c.in_ok-find.ensures.means m.disk (subst (λ v. HoldsDisk (g.M.Medium.tracks v) (g.M.Medium.content v) m.disk) (sym c.volume-2.ensures) (means_of _ _ _ _ _ _ m s))) c.in_ok-find.ensures.finds (sym c.is_some.ensures ∙ c.if-is_some.true) in
-    refused_as (g.M.Medium.tracks c.args.self.now.medium) (g.M.Medium.content c.args.self.now.medium) c.args.pattern.now c.args.kind m.disk WrongType c.plain.result
-    (found_none c.args.pattern.now c.args.kind m.disk (directory_of (geometry_of (g.M.Medium.tracks c.volume.result.now) (g.M.Medium.content c.volume.result.now)) (g.M.Medium.content c.volume.result.now)) _ (c.in_ok-slot.ensures.means m.disk (subst (λ v. HoldsDisk (g.M.Medium.tracks v) (g.M.Medium.content v) m.disk) (sym c.volume.ensures) (means_of _ _ _ _ _ _ m s))) first.0 there) c.plain.ensures
+    let first = subst (λ r. Finds (is_sought c.args.pattern.now c.args.kind) (directory_of (geometry_of (g.M.Medium.seen c.volume.result.now).tracks (g.M.Medium.seen c.volume.result.now).content) (g.M.Medium.seen c.volume.result.now).content) (Ok r)) c.in_default.is c.in_ok-slot.ensures.finds in
+    let there = named_as c.args.pattern.now m.disk (directory_of (geometry_of (g.M.Medium.seen c.volume-2.result.now).tracks (g.M.Medium.seen c.volume-2.result.now).content) (g.M.Medium.seen c.volume-2.result.now).content) c.in_ok-find.field-0 _ (c.in_ok-find.ensures.means m.disk (subst (λ v. HoldsDisk (g.M.Medium.seen v).tracks (g.M.Medium.seen v).content m.disk) (sym c.volume-2.ensures) (means_of _ _ _ _ _ _ m s))) c.in_ok-find.ensures.finds (sym c.is_some.ensures ∙ c.if-is_some.true) in
+    refused_as (g.M.Medium.seen c.args.self.now.medium).tracks (g.M.Medium.seen c.args.self.now.medium).content c.args.pattern.now c.args.kind m.disk WrongType c.plain.result
+    (found_none c.args.pattern.now c.args.kind m.disk (directory_of (geometry_of (g.M.Medium.seen c.volume.result.now).tracks (g.M.Medium.seen c.volume.result.now).content) (g.M.Medium.seen c.volume.result.now).content) _ (c.in_ok-slot.ensures.means m.disk (subst (λ v. HoldsDisk (g.M.Medium.seen v).tracks (g.M.Medium.seen v).content m.disk) (sym c.volume.ensures) (means_of _ _ _ _ _ _ m s))) first.0 there) c.plain.ensures
 
 -- the name isn't there
 pub returns-clause-found : goal.returns-clause-found
 returns-clause-found g c = λ m s.
-    let first = subst (λ r. Finds (is_sought c.args.pattern.now c.args.kind) (directory_of (geometry_of (g.M.Medium.tracks c.volume.result.now) (g.M.Medium.content c.volume.result.now)) (g.M.Medium.content c.volume.result.now)) (Ok r)) c.in_default.is c.in_ok-slot.ensures.finds in
-    let there = named_as c.args.pattern.now m.disk (directory_of (geometry_of (g.M.Medium.tracks c.volume-2.result.now) (g.M.Medium.content c.volume-2.result.now)) (g.M.Medium.content c.volume-2.result.now)) c.in_ok-find.field-0 _ (c.in_ok-find.ensures.means m.disk (subst (λ v. HoldsDisk (g.M.Medium.tracks v) (g.M.Medium.content v) m.disk) (sym c.volume-2.ensures) (means_of _ _ _ _ _ _ m s))) c.in_ok-find.ensures.finds (sym c.is_some.ensures ∙ c.if-is_some.false) in
-    refused_as (g.M.Medium.tracks c.args.self.now.medium) (g.M.Medium.content c.args.self.now.medium) c.args.pattern.now c.args.kind m.disk FileNotFound c.plain-2.result
-    (found_none c.args.pattern.now c.args.kind m.disk (directory_of (geometry_of (g.M.Medium.tracks c.volume.result.now) (g.M.Medium.content c.volume.result.now)) (g.M.Medium.content c.volume.result.now)) _ (c.in_ok-slot.ensures.means m.disk (subst (λ v. HoldsDisk (g.M.Medium.tracks v) (g.M.Medium.content v) m.disk) (sym c.volume.ensures) (means_of _ _ _ _ _ _ m s))) first.0 there) c.plain-2.ensures
+    let first = subst (λ r. Finds (is_sought c.args.pattern.now c.args.kind) (directory_of (geometry_of (g.M.Medium.seen c.volume.result.now).tracks (g.M.Medium.seen c.volume.result.now).content) (g.M.Medium.seen c.volume.result.now).content) (Ok r)) c.in_default.is c.in_ok-slot.ensures.finds in
+    let there = named_as c.args.pattern.now m.disk (directory_of (geometry_of (g.M.Medium.seen c.volume-2.result.now).tracks (g.M.Medium.seen c.volume-2.result.now).content) (g.M.Medium.seen c.volume-2.result.now).content) c.in_ok-find.field-0 _ (c.in_ok-find.ensures.means m.disk (subst (λ v. HoldsDisk (g.M.Medium.seen v).tracks (g.M.Medium.seen v).content m.disk) (sym c.volume-2.ensures) (means_of _ _ _ _ _ _ m s))) c.in_ok-find.ensures.finds (sym c.is_some.ensures ∙ c.if-is_some.false) in
+    refused_as (g.M.Medium.seen c.args.self.now.medium).tracks (g.M.Medium.seen c.args.self.now.medium).content c.args.pattern.now c.args.kind m.disk FileNotFound c.plain-2.result
+    (found_none c.args.pattern.now c.args.kind m.disk (directory_of (geometry_of (g.M.Medium.seen c.volume.result.now).tracks (g.M.Medium.seen c.volume.result.now).content) (g.M.Medium.seen c.volume.result.now).content) _ (c.in_ok-slot.ensures.means m.disk (subst (λ v. HoldsDisk (g.M.Medium.seen v).tracks (g.M.Medium.seen v).content m.disk) (sym c.volume.ensures) (means_of _ _ _ _ _ _ m s))) first.0 there) c.plain-2.ensures
 
 -- the entry is one of the directory's
 pub returns-in-Some-clause-from : goal.returns-in-Some-clause-from
 returns-in-Some-clause-from g c =
-    let finds = subst (λ r. Finds (is_sought c.args.pattern.now c.args.kind) (directory_of (geometry_of (g.M.Medium.tracks c.volume.result.now) (g.M.Medium.content c.volume.result.now)) (g.M.Medium.content c.volume.result.now)) (Ok r)) c.in-Some.is c.in_ok-slot.ensures.finds in
-    subst (λ v. Contains (directory_of (geometry_of (g.M.Medium.tracks v) (g.M.Medium.content v)) (g.M.Medium.content v)).entries c.in-Some.entry) c.volume.ensures
+    let finds = subst (λ r. Finds (is_sought c.args.pattern.now c.args.kind) (directory_of (geometry_of (g.M.Medium.seen c.volume.result.now).tracks (g.M.Medium.seen c.volume.result.now).content) (g.M.Medium.seen c.volume.result.now).content) (Ok r)) c.in-Some.is c.in_ok-slot.ensures.finds in
+    subst (λ v. Contains (directory_of (geometry_of (g.M.Medium.seen v).tracks (g.M.Medium.seen v).content) (g.M.Medium.seen v).content).entries c.in-Some.entry) c.volume.ensures
     (first_contained _ 0 _ c.in-Some.slot c.in-Some.entry finds)

@@ -8,6 +8,6 @@ use Rattle.cbm_channel.proofs.dos.Dos.new.Goals as goal
 
 pub returns-clause-stands : goal.returns-clause-stands
 returns-clause-stands g c = λ d h.
-    subst (λ x. StandsBy (g.M.Medium.content x) (g.M.Medium.tracks x) (g.M.Medium.protected x) c.all_closed.result c.new.result None (start d (g.M.Medium.protected c.args.medium) (g.M.Medium.tracks c.args.medium)))
+    subst (λ x. StandsBy (g.M.Medium.seen x).content (g.M.Medium.seen x).tracks (g.M.Medium.seen x).protected c.all_closed.result c.new.result None (start d (g.M.Medium.seen c.args.medium).protected (g.M.Medium.seen c.args.medium).tracks))
     (sym c.open.ensures)
     (stands_at_first _ _ _ d _ _ c.all_closed.ensures (c.new.ensures ∙ ap (λ x. record { status = x; told = 0 }) c.plain.ensures) h)

@@ -9,19 +9,19 @@ use Rattle.cbm_channel.proofs.dos.Dos.taken.Goals as goal
 
 pub returns-then-channel-eq15-clause-leads : goal.returns-then-channel-eq15-clause-leads
 returns-then-channel-eq15-clause-leads g c = λ m s.
-    let st = stood g.M.Medium.tracks g.M.Medium.content g.M.Medium.protected _ _ m c.self.view_is s in
+    let st = stood g.M.Medium.seen _ _ m c.self.view_is s in
     moved _ _ _ _ _ _ _ _ (ap (λ k. taken k m) c.if-channel-eq15.true) (told_on _ _ _ _ _ _ m _ c.taken.ensures st)
 
 pub returns-in-Err-clause-leads : goal.returns-in-Err-clause-leads
 returns-in-Err-clause-leads g c = λ m s.
-    let st = stood g.M.Medium.tracks g.M.Medium.content g.M.Medium.protected _ _ m c.self.view_is s in
+    let st = stood g.M.Medium.seen _ _ m c.self.view_is s in
     let lt : c.args.channel < 15 = omega (arith, c.requires, c.if-channel-eq15.false) in
     let at = stands_at _ _ _ _ _ _ m c.args.channel c.index-self-channel.result lt c.self.invariant st in
     absurd (not_ok c.in-Err.trouble c.taken-2.result c.in-Err.is (c.taken-2.ensures.well m.disk _ at).0)
 
 pub returns-in_default-clause-leads : goal.returns-in_default-clause-leads
 returns-in_default-clause-leads g c = λ m s.
-    let st = stood g.M.Medium.tracks g.M.Medium.content g.M.Medium.protected _ _ m c.self.view_is s in
+    let st = stood g.M.Medium.seen _ _ m c.self.view_is s in
     let lt : c.args.channel < 15 = omega (arith, c.requires, c.if-channel-eq15.false) in
     let at = stands_at _ _ _ _ _ _ m c.args.channel c.index-self-channel.result lt c.self.invariant st in
     let y = channel m c.args.channel in

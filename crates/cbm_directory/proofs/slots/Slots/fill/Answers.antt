@@ -10,14 +10,14 @@ unfolding left_of
 returns-in_err-sector-clause-err g c =
     let p = err_from_is_err_and c.from_residual.result c.from_residual.ensures.1 in
     rw (p.1, p.2)
-    (ap (λ (r : Cursor). left_of (g.M.Medium.content c.args.medium.now) r) (sym c.self.view_is)
-    ∙ broken c.self.inside.geometry (g.M.Medium.content c.args.medium.now) c.self.inside.left c.self.inside.number c.self.inside.sector c.self.inside.next
+    (ap (λ (r : Cursor). left_of (g.M.Medium.seen c.args.medium.now).content r) (sym c.self.view_is)
+    ∙ broken c.self.inside.geometry (g.M.Medium.seen c.args.medium.now).content c.self.inside.left c.self.inside.number c.self.inside.sector c.self.inside.next
     c.in_err-sector.field-0.0 (omega arith) c.in_err-sector.ensures.err)
 
 pub returns-clause-left : goal.returns-clause-left
 unfolding left_of
 returns-clause-left g c =
-    ap (λ (q : Place). behind (entries_from 8 c.in_ok-sector.sector 0) (listed_from c.self.inside.geometry (g.M.Medium.content c.args.medium.now) (c.self.inside.left - 1) q)) c.of-self-inside.ensures
-    ∙ sym (filled c.self.inside.geometry (g.M.Medium.content c.args.medium.now) c.self.inside.left (c.self.inside.left - 1) c.self.inside.number c.self.inside.sector c.in_ok-sector.sector
+    ap (λ (q : Place). behind (entries_from 8 c.in_ok-sector.sector 0) (listed_from c.self.inside.geometry (g.M.Medium.seen c.args.medium.now).content (c.self.inside.left - 1) q)) c.of-self-inside.ensures
+    ∙ sym (filled c.self.inside.geometry (g.M.Medium.seen c.args.medium.now).content c.self.inside.left (c.self.inside.left - 1) c.self.inside.number c.self.inside.sector c.in_ok-sector.sector
     c.self.inside.next (omega arith) c.in_ok-sector.ensures.ok c.in_ok-sector.ensures.followed)
-    ∙ ap (λ (r : Cursor). left_of (g.M.Medium.content c.args.medium.now) r) c.self.view_is
+    ∙ ap (λ (r : Cursor). left_of (g.M.Medium.seen c.args.medium.now).content r) c.self.view_is

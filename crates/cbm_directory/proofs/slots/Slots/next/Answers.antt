@@ -10,8 +10,8 @@ returns-then-self-eq-ENTRIES-clause-gives g c =
     let none = ap (λ (r : Cursor). r.entries) (sym c.self.view_is) ∙ none_left c.self.inside.number c.self.inside.sector (omega arith) in
     let last = ap (λ (r : Cursor). r.next.track) c.self.view_is ∙ c.in_ok-fill.ensures.ready none in (
       sym c.in_ok-fill.ensures.left
-          ∙ ap (λ (r : Cursor). left_of (g.M.Medium.content c.args.medium.now) r) (sym c.self.view_is)
-          ∙ used_up c.self.inside.geometry (g.M.Medium.content c.args.medium.now) c.self.inside.left c.self.inside.number c.self.inside.sector c.self.inside.next (omega arith) last,
+          ∙ ap (λ (r : Cursor). left_of (g.M.Medium.seen c.args.medium.now).content r) (sym c.self.view_is)
+          ∙ used_up c.self.inside.geometry (g.M.Medium.seen c.args.medium.now).content c.self.inside.left c.self.inside.number c.self.inside.sector c.self.inside.next (omega arith) last,
       c.in_ok-fill.ensures.left,
     )
 
@@ -19,11 +19,11 @@ pub returns-clause-gives : goal.returns-clause-gives
 unfolding left_of
 returns-clause-gives g c =
     sym c.in_ok-fill.ensures.left
-    ∙ ap (λ (r : Cursor). left_of (g.M.Medium.content c.args.medium.now) r) (sym c.self.view_is)
-    ∙ one_given c.self.inside.number c.self.inside.sector (listed_from c.self.inside.geometry (g.M.Medium.content c.args.medium.now) c.self.inside.left c.self.inside.next) (omega arith)
+    ∙ ap (λ (r : Cursor). left_of (g.M.Medium.seen c.args.medium.now).content r) (sym c.self.view_is)
+    ∙ one_given c.self.inside.number c.self.inside.sector (listed_from c.self.inside.geometry (g.M.Medium.seen c.args.medium.now).content c.self.inside.left c.self.inside.next) (omega arith)
     ∙ ap (λ (entry : List ℕ). behind (entry ∷ [])
     (behind (entries_from (8 - (c.self.inside.number + 1)) c.self.inside.sector (c.self.inside.number + 1))
-    (listed_from c.self.inside.geometry (g.M.Medium.content c.args.medium.now) c.self.inside.left c.self.inside.next))) (sym c.of-entry.ensures)
+    (listed_from c.self.inside.geometry (g.M.Medium.seen c.args.medium.now).content c.self.inside.left c.self.inside.next))) (sym c.of-entry.ensures)
 
 pub returns-clause-most : goal.returns-clause-most
 returns-clause-most g c =

@@ -13,7 +13,7 @@ returns-in_err-bytes-clause-err g c = let w = c.loop-geometry.invariant.faulty [
 
 pub loop-geometry-smaller : goal.loop-geometry-smaller
 loop-geometry-smaller g c =
-    let r = is_right c.args.part c.args.geometry (g.M.Medium.content c.args.medium.now) (is_marked c.loop-geometry.claimed) c.loop-geometry.at c.in_ok-bytes.ensures.none in
+    let r = is_right c.args.part c.args.geometry (g.M.Medium.seen c.args.medium.now).content (is_marked c.loop-geometry.claimed) c.loop-geometry.at c.in_ok-bytes.ensures.none in
     let less : unclaimed c.args.part (is_marked c.loop-geometry.claimed) ≡ suc (unclaimed c.args.part (with_bit (is_marked c.loop-geometry.claimed) c.loop-geometry.at true))
     = unclaimed_less c.args.part c.args.geometry (is_marked c.loop-geometry.claimed) c.loop-geometry.at r.inside r.fresh in
     let same : unclaimed c.args.part (is_marked c.claim.new.claimed) ≡ unclaimed c.args.part (with_bit (is_marked c.loop-geometry.claimed) c.loop-geometry.at true) = ap (unclaimed c.args.part) c.in_ok-bytes.ensures.claimed in
@@ -22,7 +22,7 @@ loop-geometry-smaller g c =
 pub loop-geometry-preserved : goal.loop-geometry-preserved
 loop-geometry-preserved g c = record {
   forth = λ blocks after w. c.loop-geometry.invariant.forth (c.loop-geometry.at ∷ blocks) after
-      (claims_step c.args.part c.args.geometry (g.M.Medium.content c.args.medium.now) (is_marked c.loop-geometry.claimed) (is_marked c.claim.new.claimed) after c.loop-geometry.at c.of-at.result blocks c.in_ok-bytes.ensures.none c.in_ok-bytes.ensures.claimed (link_read (g.M.Medium.content c.args.medium.now) c.loop-geometry.at c.of-at.result c.in_ok-bytes.bytes c.in_ok-bytes.ensures.read c.of-at.ensures) w);
+      (claims_step c.args.part c.args.geometry (g.M.Medium.seen c.args.medium.now).content (is_marked c.loop-geometry.claimed) (is_marked c.claim.new.claimed) after c.loop-geometry.at c.of-at.result blocks c.in_ok-bytes.ensures.none c.in_ok-bytes.ensures.claimed (link_read (g.M.Medium.seen c.args.medium.now).content c.loop-geometry.at c.of-at.result c.in_ok-bytes.bytes c.in_ok-bytes.ensures.read c.of-at.ensures) w);
   faulty = λ blocks u w. c.loop-geometry.invariant.faulty (c.loop-geometry.at ∷ blocks) u
-      (meets_step c.args.part c.args.geometry (g.M.Medium.content c.args.medium.now) (is_marked c.loop-geometry.claimed) (is_marked c.claim.new.claimed) u c.loop-geometry.at c.of-at.result blocks c.in_ok-bytes.ensures.none c.in_ok-bytes.ensures.claimed (link_read (g.M.Medium.content c.args.medium.now) c.loop-geometry.at c.of-at.result c.in_ok-bytes.bytes c.in_ok-bytes.ensures.read c.of-at.ensures) w);
+      (meets_step c.args.part c.args.geometry (g.M.Medium.seen c.args.medium.now).content (is_marked c.loop-geometry.claimed) (is_marked c.claim.new.claimed) u c.loop-geometry.at c.of-at.result blocks c.in_ok-bytes.ensures.none c.in_ok-bytes.ensures.claimed (link_read (g.M.Medium.seen c.args.medium.now).content c.loop-geometry.at c.of-at.result c.in_ok-bytes.bytes c.in_ok-bytes.ensures.read c.of-at.ensures) w);
 }

@@ -8,10 +8,10 @@ use Rattle.cbm_volume.proofs.check.claims.claim_chain.Given as goal
 -- what is still to be claimed, or met, makes the whole
 abbrev pub invariant-loop-geometry : goal.invariant-loop-geometry
 invariant-loop-geometry g l = record {
-  forth : (blocks : List Place) (after : Place → Bool) → ClaimsChain l.part l.geometry (g.M.Medium.content l.medium) (is_marked l.claimed) l.at blocks after
-      → ((whole : List Place) × ClaimsChain l.part l.geometry (g.M.Medium.content l.medium) (is_marked l.fn.claimed) l.fn.first whole after);
-  faulty : (blocks : List Place) (u : Unsound) → MeetsFault l.part l.geometry (g.M.Medium.content l.medium) (is_marked l.claimed) l.at blocks u
-      → ((whole : List Place) × MeetsFault l.part l.geometry (g.M.Medium.content l.medium) (is_marked l.fn.claimed) l.fn.first whole u);
+  forth : (blocks : List Place) (after : Place → Bool) → ClaimsChain l.part l.geometry (g.M.Medium.seen l.medium).content (is_marked l.claimed) l.at blocks after
+      → ((whole : List Place) × ClaimsChain l.part l.geometry (g.M.Medium.seen l.medium).content (is_marked l.fn.claimed) l.fn.first whole after);
+  faulty : (blocks : List Place) (u : Unsound) → MeetsFault l.part l.geometry (g.M.Medium.seen l.medium).content (is_marked l.claimed) l.at blocks u
+      → ((whole : List Place) × MeetsFault l.part l.geometry (g.M.Medium.seen l.medium).content (is_marked l.fn.claimed) l.fn.first whole u);
 }
 
 abbrev pub decreases-loop-geometry : goal.decreases-loop-geometry

@@ -5,4 +5,4 @@ use Rattle.cbm_volume.proofs.check.headers.check_headers.Given as goal
 
 -- the sectors of the tracks before this one have no fault of their header
 abbrev pub invariant-loop-track : goal.invariant-loop-track
-invariant-loop-track g l = (p : Place) → Has l.fn.geometry p → p.track < l.track → IsWritable (g.M.Medium.content l.medium p)
+invariant-loop-track g l = (p : Place) → Has l.fn.geometry p → p.track < l.track → IsWritable ((g.M.Medium.seen l.medium).content p)

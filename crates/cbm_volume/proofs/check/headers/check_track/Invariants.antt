@@ -5,4 +5,4 @@ use Rattle.cbm_volume.proofs.check.headers.check_track.Given as goal
 
 -- the sectors before this one have no fault of their header
 abbrev pub invariant-loop-sector : goal.invariant-loop-sector
-invariant-loop-sector g l = (r : ℕ) → r < l.sector → IsWritable (g.M.Medium.content l.medium (at l.track r))
+invariant-loop-sector g l = (r : ℕ) → r < l.sector → IsWritable ((g.M.Medium.seen l.medium).content (at l.track r))

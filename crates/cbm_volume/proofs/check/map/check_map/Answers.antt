@@ -6,6 +6,6 @@ use Rattle.cbm_volume.proofs.check.map.check_map.Goals as goal
 
 pub loop-track-preserved : goal.loop-track-preserved
 loop-track-preserved g c = λ u some l. elim (cases_eq u c.loop-track.track) [
-  | inl e ↦ subst (λ (t : ℕ). is_counted_on t (map_of (g.M.Medium.content c.args.medium.now)) ≡ true) (sym e) c.in_ok-check_count.ensures.ok
+  | inl e ↦ subst (λ (t : ℕ). is_counted_on t (map_of (g.M.Medium.seen c.args.medium.now).content) ≡ true) (sym e) c.in_ok-check_count.ensures.ok
   | inr ne ↦ c.loop-track.invariant u some (omega arith)
 ]

@@ -10,8 +10,8 @@ use Rattle.cbm_volume.proofs.check.sides.claim_listed.Given as goal
 -- what is still to be claimed, or met, makes the whole
 abbrev pub invariant-loop-number : goal.invariant-loop-number
 invariant-loop-number g l = record {
-  forth : (after : Place → Bool) → ClaimsEach OfFile l.fn.geometry (g.M.Medium.content l.medium) (is_marked l.claimed) (named_in (6 - l.number) (drop (4 + 2 * l.number) l.first)) after
-      → ClaimsEach OfFile l.fn.geometry (g.M.Medium.content l.medium) (is_marked l.fn.claimed) (behind_first l.first) after;
-  faulty : (u : Unsound) → MeetsAmong OfFile l.fn.geometry (g.M.Medium.content l.medium) (is_marked l.claimed) (named_in (6 - l.number) (drop (4 + 2 * l.number) l.first)) u
-      → MeetsAmong OfFile l.fn.geometry (g.M.Medium.content l.medium) (is_marked l.fn.claimed) (behind_first l.first) u;
+  forth : (after : Place → Bool) → ClaimsEach OfFile l.fn.geometry (g.M.Medium.seen l.medium).content (is_marked l.claimed) (named_in (6 - l.number) (drop (4 + 2 * l.number) l.first)) after
+      → ClaimsEach OfFile l.fn.geometry (g.M.Medium.seen l.medium).content (is_marked l.fn.claimed) (behind_first l.first) after;
+  faulty : (u : Unsound) → MeetsAmong OfFile l.fn.geometry (g.M.Medium.seen l.medium).content (is_marked l.claimed) (named_in (6 - l.number) (drop (4 + 2 * l.number) l.first)) u
+      → MeetsAmong OfFile l.fn.geometry (g.M.Medium.seen l.medium).content (is_marked l.fn.claimed) (behind_first l.first) u;
 }

@@ -5,5 +5,5 @@ use Rattle.cbm_volume.proofs.volume.Volume.slot.Goals as goal
 
 pub returns-clause-means : goal.returns-clause-means
 returns-clause-means g c = λ d m.
-    slot_shown (geometry_of (g.M.Medium.tracks c.args.self.now) (g.M.Medium.content c.args.self.now)) (g.M.Medium.content c.args.self.now) m.layout d c.args.number c.slot.result m.stands
+    slot_shown (geometry_of (g.M.Medium.seen c.args.self.now).tracks (g.M.Medium.seen c.args.self.now).content) (g.M.Medium.seen c.args.self.now).content m.layout d c.args.number c.slot.result m.stands
     (search rules)
