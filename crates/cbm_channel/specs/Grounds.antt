@@ -1,5 +1,5 @@
 -- Where a status comes from, on any disk.
-use Rattle.std.specs.Prelude.{ℕ, ◌<◌, ◌≡◌, ◌⊎◌, ◌&&◌, ◌||◌, ◌==◌, nat_lt, Bool, true, false, List, Some, Err}
+use Rattle.std.specs.Prelude.{ℕ, ◌≡◌, ◌⊎◌, ◌&&◌, ◌||◌, ◌==◌, nat_lt, Bool, true, false, List, Some, Err}
 use Rattle.std.specs.List.{Contains}
 use Rattle.cbm_medium.specs.Place.{sector_count}
 use Rattle.cbm_medium.specs.Links.{follow}

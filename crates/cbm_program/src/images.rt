@@ -90,18 +90,18 @@ fn run_with<M: Medium + Drop, R: Read + Drop, W: Write>(
     ensures ended { EndsAs result (λ bad. IfSome (R.remaining reader) (λ input.
         ((script_of input).bad ≡ bad) × Prints (W.contents writer.old) (W.contents writer.new)
         (λ m. AreCarriedOut (script_of input).requests m
-            × StartsOn (M.seen medium).tracks (M.seen medium).content (M.seen medium).protected m)
+        × StartsOn (M.seen medium).tracks (M.seen medium).content (M.seen medium).protected m)
         (λ _. Unit {0}) (printed_behind checks (script_of input).requests))) }
     ensures disk { IfOk result (λ after. IfSome (R.remaining reader) (λ input.
         Prints (W.contents writer.old) (W.contents writer.new)
         (λ m. AreCarriedOut (script_of input).requests m
-            × StartsOn (M.seen medium).tracks (M.seen medium).content (M.seen medium).protected m)
+        × StartsOn (M.seen medium).tracks (M.seen medium).content (M.seen medium).protected m)
         (λ m. HoldsDisk (M.seen after).tracks (M.seen after).content m.disk)
         (printed_behind checks (script_of input).requests))) }
     ensures fault { OnErr result (IfSome (R.remaining reader) (λ input.
         PrintsPart (W.contents writer.old) (W.contents writer.new)
         (λ m. AreCarriedOut (script_of input).requests m
-            × StartsOn (M.seen medium).tracks (M.seen medium).content (M.seen medium).protected m)
+        × StartsOn (M.seen medium).tracks (M.seen medium).content (M.seen medium).protected m)
         (printed_behind checks (script_of input).requests))) }
     // Of any medium the line of the check is printed first, where one is asked for.
     ensures checked { checks ≡ true → EndsAs result (λ bad.

@@ -9,4 +9,4 @@ returns-clause-ok c =
     let erased : IsErased c.args.self.now.bytes c.erase.new.image = search rules in
     let whole = take_at c.erase.new.image _ c.self.inside.bytes.len (omega arith) in
     seen_with c.args.self.now _ _
-        (ap content_of whole ∙ content_blank c.args.self.now.bytes c.erase.new.image erased) (ap length whole ∙ erased.size) (search rules)
+    (ap content_of whole ∙ content_blank c.args.self.now.bytes c.erase.new.image erased) (ap length whole ∙ erased.size) (search rules)

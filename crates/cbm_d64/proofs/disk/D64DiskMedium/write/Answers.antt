@@ -9,5 +9,5 @@ returns-clause-ok c =
     let stored : IsStored c.args.self.now.bytes c.store.new.image (index_of c.args.at) c.args.bytes.now = search rules in
     let whole = take_at c.store.new.image _ c.self.inside.bytes.len (omega arith) in
     seen_with c.args.self.now _ _
-        (ap content_of whole ∙ content_written c.args.self.now.bytes c.store.new.image c.args.at c.args.bytes.now c.index.ensures.on_disk c.requires stored)
-        (ap length whole ∙ stored.size) (search rules)
+    (ap content_of whole ∙ content_written c.args.self.now.bytes c.store.new.image c.args.at c.args.bytes.now c.index.ensures.on_disk c.requires stored)
+    (ap length whole ∙ stored.size) (search rules)
