@@ -1,7 +1,7 @@
 -- The channels are closed one after another.
 use Rattle.std.proofs.Common.{◌≡◌, ℕ, zero, suc, ◌+◌, ◌<◌, false, take, refl, arith}
-use Rattle.cbm_channel.specs.Machines.{Machine}
-use Rattle.cbm_channel.specs.Closing.{close, close_one, close_all, channel_numbers, without_text}
+use Rattle.cbm_machine.specs.Machines.{Machine}
+use Rattle.cbm_machine.specs.Closing.{close, close_one, close_all, channel_numbers, without_text}
 use Rattle.std.specs.Prelude.{◌==◌}
 
 -- the first channels, and one more

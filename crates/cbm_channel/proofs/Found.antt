@@ -12,12 +12,12 @@ use Rattle.cbm_volume.specs.Content.{Content}
 use Rattle.cbm_volume.specs.Map.{geometry_of}
 use Rattle.cbm_volume.specs.Slots.{Listed, Finds, first_from, directory_of}
 use Rattle.cbm_volume.specs.Holding.{Says, SlotSays, TellsOf}
-use Rattle.cbm_channel.specs.declared.code.Code.{Code}
-use Rattle.cbm_channel.specs.declared.code.Code.TheVariants.{WrongType, FileNotFound}
-use Rattle.cbm_channel.specs.declared.status.Status.{Status}
-use Rattle.cbm_channel.specs.Statuses.{plain}
+use Rattle.cbm_machine.specs.declared.code.Code.{Code}
+use Rattle.cbm_machine.specs.declared.code.Code.TheVariants.{WrongType, FileNotFound}
+use Rattle.cbm_machine.specs.declared.status.Status.{Status}
+use Rattle.cbm_machine.specs.Statuses.{plain}
 use Rattle.cbm_channel.specs.Planned.{FoundAs}
-use Rattle.cbm_channel.specs.Finding.{of_kind, is_there, first_or, found}
+use Rattle.cbm_machine.specs.Finding.{of_kind, is_there, first_or, found}
 use Rattle.cbm_channel.specs.Sought.{is_meant, is_sought}
 
 -- the type that an entry tells is the one that is meant where the file's is

@@ -2,13 +2,13 @@
 use Rattle.std.proofs.Common.{◌≡◌, ◌⊎◌, ℕ, ◌<◌, ◌≤◌, Bool, true, false, List, [], ◌∷◌, length, refl, ap, arith, inl, inr}
 use Rattle.std.specs.Prelude.{◌==◌, Option, if◌then◌else◌, Err}
 use Rattle.std.proofs.lemmas.Bool.{ne_eqb}
-use Rattle.cbm_channel.specs.declared.code.Code.TheVariants.{FileNotOpen, NoChannel, WrongType}
+use Rattle.cbm_machine.specs.declared.code.Code.TheVariants.{FileNotOpen, NoChannel, WrongType}
 use Rattle.cbm_command.specs.declared.command.Command.TheVariants.{Position}
-use Rattle.cbm_channel.specs.Machines.{Machine, Channel, Closed, Reading, channel, with_channel, say, answered}
-use Rattle.cbm_channel.specs.Closing.{close_one, without_text}
-use Rattle.cbm_channel.specs.Talking.{peek, peek_on, taken, taken_on, talk, listen}
-use Rattle.cbm_channel.specs.Calls.{put, command, store_text}
-use Rattle.cbm_channel.specs.Running.{place, run}
+use Rattle.cbm_machine.specs.Machines.{Machine, Channel, Closed, Reading, channel, with_channel, say, answered}
+use Rattle.cbm_machine.specs.Closing.{close_one, without_text}
+use Rattle.cbm_machine.specs.Talking.{peek, peek_on, taken, taken_on, talk, listen}
+use Rattle.cbm_machine.specs.Calls.{put, command, store_text}
+use Rattle.cbm_machine.specs.Running.{place, run}
 
 -- closed, or reading
 unfoldable pub Idle : Channel → Type 0

@@ -1,4 +1,3 @@
-pub mod NextBytes
 pub mod Kept
 pub mod Idle
 pub mod Orders

@@ -13,7 +13,7 @@ use Rattle.cbm_volume.specs.Entries.{type_byte, bit_of, is_closed, name_in}
 use Rattle.cbm_volume.specs.Slots.{Listed, behind}
 use Rattle.cbm_volume.specs.Holding.{Says, SlotSays, TellsOf}
 use Rattle.cbm_channel.specs.Listing.{line_of, lines_of}
-use Rattle.cbm_channel.specs.Listings.{named, listing}
+use Rattle.cbm_machine.specs.Listings.{named, listing}
 use Rattle.cbm_channel.proofs.Found.{sought_file, sought_empty}
 
 -- The lines so far, and those of the entries that are left, are the title and those of all entries.

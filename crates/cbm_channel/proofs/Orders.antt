@@ -1,13 +1,13 @@
 -- Channels that write nothing are in order where what they read is there.
-use Rattle.std.proofs.Common.{◌≡◌, ℕ, ◌+◌, Bool, true, false, List, [], drop, refl, sym, ap, ◌∙◌, subst, inl, inr}
+use Rattle.std.proofs.Common.{◌≡◌, ℕ, ◌+◌, Bool, false, List, [], drop, sym, ap, ◌∙◌, subst, inl, inr}
 use Rattle.std.specs.Prelude.{Some, None}
 use Rattle.std.proofs.lemmas.List.{drop-drop}
 use Rattle.cbm_file.specs.Files.{Disk, bytes_in}
 use Rattle.cbm_volume.specs.Holding.{HasBytes}
-use Rattle.cbm_channel.specs.Finding.{body_at}
-use Rattle.cbm_channel.specs.Machines.{Channel, Closed, Reading, Writing, Relative, uses, writes}
-use Rattle.cbm_channel.specs.Orderly.{IsReadFrom, IsOrderly, channel_in}
-use Rattle.cbm_channel.specs.Talking.{taken_on}
+use Rattle.cbm_machine.specs.Finding.{body_at}
+use Rattle.cbm_machine.specs.Machines.{Channel, Closed, Reading, Writing, Relative, writes}
+use Rattle.cbm_machine.specs.Orderly.{IsReadFrom, IsOrderly, channel_in}
+use Rattle.cbm_machine.specs.Talking.{taken_on}
 use Rattle.cbm_channel.proofs.Idle.{Idle}
 
 abbrev slot_of : Channel → ℕ

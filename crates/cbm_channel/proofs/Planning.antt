@@ -12,22 +12,22 @@ use Rattle.cbm_command.specs.Openings.{is_relative, opening_of}
 use Rattle.cbm_command.specs.Refusals.{◌>>=◌}
 use Rattle.cbm_volume.specs.Content.{Content}
 use Rattle.cbm_volume.specs.Reading.{Reading, Rest, rest_of}
-use Rattle.cbm_channel.specs.declared.code.Code.{Code}
-use Rattle.cbm_channel.specs.declared.code.Code.TheVariants.{NoChannel, Fine}
-use Rattle.cbm_channel.specs.declared.status.Status.{Status}
+use Rattle.cbm_machine.specs.declared.code.Code.{Code}
+use Rattle.cbm_machine.specs.declared.code.Code.TheVariants.{NoChannel, Fine}
+use Rattle.cbm_machine.specs.declared.status.Status.{Status}
 use Rattle.cbm_channel.specs.declared.finding.Found.{Found}
 use Rattle.cbm_channel.specs.declared.plan.Plan as code
 use Rattle.cbm_channel.specs.declared.plan.Plan.TheVariants as planned
-use Rattle.cbm_channel.specs.Statuses.{plain}
-use Rattle.cbm_channel.specs.Machines.{Machine, too_many, answered, say, tell, with_channel}
-use Rattle.cbm_channel.specs.Machines as machine
-use Rattle.cbm_channel.specs.Finding.{found, body_at}
-use Rattle.cbm_channel.specs.Plans.{Plan, ReadListing, ReadFile, WriteFile, AppendFile, ReplaceFile, OpenRecords, MakeRecords, plan, plan_read, act, meets_records, asked, open_text}
+use Rattle.cbm_machine.specs.Statuses.{plain}
+use Rattle.cbm_machine.specs.Machines.{Machine, too_many, answered, say, tell, with_channel}
+use Rattle.cbm_machine.specs.Machines as machine
+use Rattle.cbm_machine.specs.Finding.{found, body_at}
+use Rattle.cbm_machine.specs.Plans.{Plan, ReadListing, ReadFile, WriteFile, AppendFile, ReplaceFile, OpenRecords, MakeRecords, plan, plan_read, act, meets_records, asked, open_text}
 use Rattle.cbm_channel.specs.Planned.{FoundAs, PlannedAs, IsFound, IsReadable, opened_by, begun_by}
-use Rattle.cbm_channel.specs.CarriedOut.{is_reading, reads_bytes, MeetsNoRecords, IsCarriedOut, IsAskedCarriedOut, IsTextCarriedOut}
-use Rattle.cbm_channel.specs.Codes.{code_of_refusal}
-use Rattle.cbm_channel.specs.Closing.{close, close_one}
-use Rattle.cbm_channel.specs.Calls.{after_open, command, without_return}
+use Rattle.cbm_machine.specs.CarriedOut.{is_reading, reads_bytes, MeetsNoRecords, IsCarriedOut, IsAskedCarriedOut, IsTextCarriedOut}
+use Rattle.cbm_machine.specs.Codes.{code_of_refusal}
+use Rattle.cbm_machine.specs.Closing.{close, close_one}
+use Rattle.cbm_machine.specs.Calls.{after_open, command, without_return}
 use Rattle.cbm_channel.proofs.Closes.{close_first}
 use Rattle.cbm_channel.proofs.Orders.{ReadsWell, closed_well, reads_file}
 

@@ -6,7 +6,7 @@ use Rattle.std.proofs.lemmas.List.Sums.{sum_by-cons}
 use Rattle.std.proofs.lemmas.Bool.{ne_eqb, eq-eqb, cases_lt}
 use Rattle.cbm_medium.specs.Links.{follow}
 use Rattle.cbm_medium.proofs.Walks.{follow_end}
-use Rattle.cbm_channel.specs.Statuses.{status_line}
+use Rattle.cbm_machine.specs.Statuses.{status_line}
 use Rattle.cbm_medium.specs.Seen.{Seen}
 use Rattle.cbm_volume.specs.Content.{Content}
 use Rattle.cbm_volume.specs.Reading.{Reading, rest_of, held_from, held_in, shown, IsSettled}
@@ -21,14 +21,14 @@ use Rattle.std.proofs.lemmas.Bool.Decides.{nat_tests, eqb_tells}
 use Rattle.std.proofs.lemmas.List.{get_or-set_same, get_or-set_other, get_or-replicate, get_or_past, length-replicate}
 use Rattle.cbm_channel.specs.declared.channel.Channel.{Channel}
 use Rattle.cbm_channel.specs.declared.channel.Channel.TheVariants as code
-use Rattle.cbm_channel.specs.declared.status.Status.{Status}
-use Rattle.cbm_channel.specs.declared.code.Code.TheVariants.{Fine}
-use Rattle.cbm_channel.specs.Machines as machine
-use Rattle.cbm_channel.specs.Orderly.{channel_in}
-use Rattle.cbm_channel.specs.Closing.{forget_text, without_text}
-use Rattle.cbm_channel.specs.Talking.{peek_on, taken, taken_on}
-use Rattle.cbm_channel.specs.Calls.{text_for}
-use Rattle.cbm_channel.specs.Told.{Told, told_by, behind_next}
+use Rattle.cbm_machine.specs.declared.status.Status.{Status}
+use Rattle.cbm_machine.specs.declared.code.Code.TheVariants.{Fine}
+use Rattle.cbm_machine.specs.Machines as machine
+use Rattle.cbm_machine.specs.Orderly.{channel_in}
+use Rattle.cbm_machine.specs.Closing.{forget_text, without_text}
+use Rattle.cbm_machine.specs.Talking.{peek_on, taken, taken_on}
+use Rattle.cbm_machine.specs.Calls.{text_for}
+use Rattle.cbm_machine.specs.Told.{Told, told_by, behind_next}
 use Rattle.cbm_channel.specs.Standing.{Kept, Fits, AreFit, ChannelStands, use_of, uses_of, kept_text, StandsBy, Stands, HasText, HasNoText}
 use Rattle.cbm_channel.specs.Shown.{is_closed, shown_on, cost_on}
 use Rattle.cbm_volume.proofs.Storing.{let_go}

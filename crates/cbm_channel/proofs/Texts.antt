@@ -9,12 +9,12 @@ use Rattle.cbm_command.specs.declared.refusal.Refusal.{Refusal}
 use Rattle.cbm_command.specs.declared.refusal.Refusal.TheVariants.{LongText}
 use Rattle.cbm_command.specs.Commands.{command_of}
 use Rattle.cbm_command.specs.Refusals.{◌>>=◌}
-use Rattle.cbm_channel.specs.Codes.{code_of_refusal}
-use Rattle.cbm_channel.specs.Machines.{Machine, say, answered}
-use Rattle.cbm_channel.specs.Plans.{asked}
-use Rattle.cbm_channel.specs.Running.{run}
-use Rattle.cbm_channel.specs.Calls.{without_return, command, command_text}
-use Rattle.cbm_channel.specs.CarriedOut.{IsCommandCarriedOut, IsTextCarriedOut}
+use Rattle.cbm_machine.specs.Codes.{code_of_refusal}
+use Rattle.cbm_machine.specs.Machines.{Machine, say, answered}
+use Rattle.cbm_machine.specs.Plans.{asked}
+use Rattle.cbm_machine.specs.Running.{run}
+use Rattle.cbm_machine.specs.Calls.{without_return, command, command_text}
+use Rattle.cbm_machine.specs.CarriedOut.{IsCommandCarriedOut, IsTextCarriedOut}
 use Rattle.cbm_channel.proofs.Kept.{take_all}
 
 take_length : (n : ℕ) (xs : List ℕ) → n ≤ length xs → length (take n xs) ≡ n

@@ -1,15 +1,12 @@
 -- How the channels use the disk, before and behind a change of one of them.
-use Rattle.std.proofs.Common.{◌≡◌, ◌≢◌, ℕ, ◌<◌, Bool, true, false, List, length, refl, sym, ap, ◌∙◌, subst}
-use Rattle.std.specs.Prelude.{◌==◌, slice_index_or, slice_set}
+use Rattle.std.proofs.Common.{◌≡◌, ◌≢◌, ℕ, ◌<◌, Bool, true, false, List, length, refl, sym, ap, ◌∙◌}
+use Rattle.std.specs.Prelude.{◌==◌, slice_set}
 use Rattle.std.proofs.lemmas.List.{get_or-set_same, get_or-set_other}
 use Rattle.std.proofs.lemmas.Bool.{eqb-false, eqb-true}
-use Rattle.cbm_volume.specs.Content.{Content}
-use Rattle.cbm_volume.specs.Holding.{HoldsDisk}
-use Rattle.cbm_volume.specs.Writers.{Use, Idle, HoldsNow, with_use}
-use Rattle.cbm_file.specs.Files.{Disk}
+use Rattle.cbm_volume.specs.Writers.{with_use}
 use Rattle.cbm_channel.specs.declared.channel.Channel.{Channel}
 use Rattle.cbm_channel.specs.declared.channel.Channel.TheVariants as code
-use Rattle.cbm_channel.specs.Machines as machine
+use Rattle.cbm_machine.specs.Machines as machine
 use Rattle.cbm_channel.specs.Standing.{use_of, uses_of}
 
 module _ (xs : List Channel) (ys : List machine.Channel) (i : ℕ) (x : Channel) (y : machine.Channel) (more : i < length xs) (also : i < length ys) where

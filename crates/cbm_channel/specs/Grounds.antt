@@ -9,11 +9,10 @@ use Rattle.cbm_volume.specs.Content.{Content}
 use Rattle.cbm_volume.specs.Map.{geometry_of}
 use Rattle.cbm_volume.specs.Entries.{first_block}
 use Rattle.cbm_volume.specs.Slots.{directory_of}
-use Rattle.cbm_channel.specs.declared.code.Code.{Code}
-use Rattle.cbm_channel.specs.declared.code.Code.TheVariants.{WriteProtected}
-use Rattle.cbm_channel.specs.declared.status.Status.{Status}
-use Rattle.cbm_channel.specs.Codes.{code_number}
-use Rattle.cbm_channel.specs.Statuses.{plain, trouble_status}
+use Rattle.cbm_machine.specs.declared.code.Code.TheVariants.{WriteProtected}
+use Rattle.cbm_machine.specs.declared.status.Status.{Status}
+use Rattle.cbm_machine.specs.Codes.{code_number}
+use Rattle.cbm_machine.specs.Statuses.{plain, trouble_status}
 use Rattle.cbm_channel.specs.Standing.{Kept}
 use Rattle.cbm_channel.specs.declared.plan.Plan.{Plan}
 use Rattle.cbm_channel.specs.declared.plan.Plan.TheVariants as planned

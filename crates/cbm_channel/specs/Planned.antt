@@ -3,19 +3,19 @@ use Rattle.std.specs.Prelude.{ℕ, ◌≡◌, Some, None, Result, Ok, Err}
 use Rattle.cbm_file.specs.Files.{Disk, File, file_at, bytes_in}
 use Rattle.cbm_volume.specs.Content.{Content}
 use Rattle.cbm_volume.specs.Holding.{StandsAt, HasBytes, Says}
-use Rattle.cbm_channel.specs.declared.code.Code.{Code}
-use Rattle.cbm_channel.specs.declared.status.Status.{Status}
+use Rattle.cbm_machine.specs.declared.code.Code.{Code}
+use Rattle.cbm_machine.specs.declared.status.Status.{Status}
 use Rattle.cbm_channel.specs.declared.finding.Found.{Found}
 use Rattle.cbm_channel.specs.declared.plan.Plan as code
 use Rattle.cbm_channel.specs.declared.plan.Plan.TheVariants as planned
-use Rattle.cbm_channel.specs.Statuses.{plain}
-use Rattle.cbm_channel.specs.declared.code.Code.TheVariants.{Fine}
+use Rattle.cbm_machine.specs.Statuses.{plain}
+use Rattle.cbm_machine.specs.declared.code.Code.TheVariants.{Fine}
 use Rattle.cbm_command.specs.declared.opening.Opening.{Opening}
 use Rattle.cbm_command.specs.Refusals.{◌>>=◌}
-use Rattle.cbm_channel.specs.Listings.{listing}
-use Rattle.cbm_channel.specs.Machines.{Channel, Closed, Reading, Machine, answered, say}
-use Rattle.cbm_channel.specs.Finding.{body_at}
-use Rattle.cbm_channel.specs.Plans.{Plan, ReadListing, ReadFile, WriteFile, AppendFile, ReplaceFile, OpenRecords, MakeRecords, plan, act}
+use Rattle.cbm_machine.specs.Listings.{listing}
+use Rattle.cbm_machine.specs.Machines.{Channel, Closed, Reading, Machine, answered, say}
+use Rattle.cbm_machine.specs.Finding.{body_at}
+use Rattle.cbm_machine.specs.Plans.{Plan, ReadListing, ReadFile, WriteFile, AppendFile, ReplaceFile, OpenRecords, MakeRecords, plan, act}
 
 -- the entry stands in the directory at the slot's number, and says what is known of the file in the slot
 pub record IsFound (tracks : ℕ) (c : Content) (d : Disk) (s : ℕ) (f : File) (found : Found) : Type 0 where

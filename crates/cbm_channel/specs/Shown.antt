@@ -4,7 +4,7 @@ use Rattle.cbm_volume.specs.Reading.{shown}
 use Rattle.cbm_channel.specs.declared.channel.Channel.{Channel}
 use Rattle.cbm_channel.specs.declared.channel.Channel.TheVariants as code
 use Rattle.cbm_channel.specs.Standing.{Kept}
-use Rattle.cbm_channel.specs.Told.{next_told}
+use Rattle.cbm_machine.specs.Told.{next_told}
 
 -- nothing is open
 abbrev pub is_closed : Channel → Bool

@@ -7,11 +7,11 @@ use Rattle.cbm_volume.specs.Reading.{rest_of, IsSettled}
 use Rattle.cbm_volume.specs.Writers.{Use, Idle, Reads, HoldsNow}
 use Rattle.cbm_channel.specs.declared.channel.Channel.{Channel}
 use Rattle.cbm_channel.specs.declared.channel.Channel.TheVariants as code
-use Rattle.cbm_channel.specs.Machines as machine
-use Rattle.cbm_channel.specs.Orderly.{IsOrderly}
-use Rattle.cbm_channel.specs.Closing.{forget_text}
-use Rattle.cbm_channel.specs.Calls.{text_for}
-use Rattle.cbm_channel.specs.Told.{Told, told_by}
+use Rattle.cbm_machine.specs.Machines as machine
+use Rattle.cbm_machine.specs.Orderly.{IsOrderly}
+use Rattle.cbm_machine.specs.Closing.{forget_text}
+use Rattle.cbm_machine.specs.Calls.{text_for}
+use Rattle.cbm_machine.specs.Told.{Told, told_by}
 
 -- what the drive keeps: its medium, fifteen channels, the status, and the text that is gathered with its channel
 pub record Kept (M : Type 0) : Type 0 where

@@ -6,8 +6,8 @@ use Rattle.cbm_volume.specs.Reading.{Reading, rest_of, one_less}
 use Rattle.cbm_listing.specs.Listed.{behind_next}
 use Rattle.cbm_channel.specs.declared.channel.Channel.{Channel}
 use Rattle.cbm_channel.specs.declared.channel.Channel.TheVariants as code
-use Rattle.cbm_channel.specs.Statuses.{trouble_status}
-use Rattle.cbm_channel.specs.Told.{Told}
+use Rattle.cbm_machine.specs.Statuses.{trouble_status}
+use Rattle.cbm_machine.specs.Told.{Told}
 
 -- A byte was taken of a channel. Of a file one byte less is left; or its chain breaks off behind the byte that waits next,
 -- which is the last then, and the trouble is told.

@@ -42,8 +42,8 @@ impl Channel {
     ghost use Rattle.cbm_volume.specs.Writers.{Use, HoldsNow, with_use};
     ghost use Rattle.cbm_volume.specs.Reading.{shown};
     ghost use Rattle.cbm_file.specs.Files.{Disk};
-    ghost use Rattle.cbm_channel.specs.Machines as machine;
-    ghost use Rattle.cbm_channel.specs.Talking.{taken_on};
+    ghost use Rattle.cbm_machine.specs.Machines as machine;
+    ghost use Rattle.cbm_machine.specs.Talking.{taken_on};
     ghost use Rattle.cbm_channel.specs.Standing.{Fits, ChannelStands, use_of};
     ghost use Rattle.cbm_channel.specs.Shown.{is_closed, shown_on};
     ghost use Rattle.cbm_channel.specs.Taken.{IsTakenBy};

@@ -1,8 +1,6 @@
 use crate::channel::Channel;
-use crate::code::Code;
 use crate::gathered::Gathered;
-use crate::status::Status;
-use crate::telling::Telling;
+use cbm_machine::{Code, Status, Telling};
 use cbm_volume::{Medium, Volume};
 use std::marker::Model;
 
@@ -34,9 +32,9 @@ impl<M: Medium> Dos<M> {
     ghost use Rattle.std.specs.Prelude.{◌≡◌, ◌≤◌};
     ghost use Rattle.cbm_file.specs.Files.{Disk};
     ghost use Rattle.cbm_volume.specs.Holding.{HoldsDisk};
-    ghost use Rattle.cbm_channel.specs.Machines.{Machine, start, tell, say};
-    ghost use Rattle.cbm_channel.specs.Codes.{code_number};
-    ghost use Rattle.cbm_channel.specs.Statuses.{plain};
+    ghost use Rattle.cbm_machine.specs.Machines.{Machine, start, tell, say};
+    ghost use Rattle.cbm_machine.specs.Codes.{code_number};
+    ghost use Rattle.cbm_machine.specs.Statuses.{plain};
     ghost use Rattle.cbm_channel.specs.Standing.{Stands, Leads};
 
     /// The drive at power up, with no channel open. It reads nothing.

@@ -1,11 +1,10 @@
 ghost use Rattle.std.specs.Prelude.{◌≡◌};
 
-use crate::code::Code;
 use crate::dos::Dos;
 use crate::sought::Sought;
-use crate::status::Status;
 use cbm_command::Name;
 use cbm_file::FileType;
+use cbm_machine::{Code, Status};
 use cbm_volume::{Entry, Medium};
 
 /// A file that was found: the number of its slot, and its entry.
@@ -21,8 +20,8 @@ impl<M: Medium> Dos<M> {
     ghost use Rattle.cbm_volume.specs.Map.{geometry_of};
     ghost use Rattle.cbm_volume.specs.Slots.{directory_of};
     ghost use Rattle.cbm_channel.specs.Grounds.{HasGround};
-    ghost use Rattle.cbm_channel.specs.Machines.{Machine};
-    ghost use Rattle.cbm_channel.specs.Finding.{found};
+    ghost use Rattle.cbm_machine.specs.Machines.{Machine};
+    ghost use Rattle.cbm_machine.specs.Finding.{found};
     ghost use Rattle.cbm_channel.specs.Standing.{Stands};
     ghost use Rattle.cbm_channel.specs.Planned.{FoundAs};
 

@@ -1,22 +1,15 @@
-//! The drive as the named-files machine: its status, and the definitions of its channels, calls and commands.
+//! The drive's DOS over a medium, which stands for the named-files machine: its channels and calls.
 #![tactic(auto)]
 
 mod channel;
-mod code;
 mod dos;
 mod finding;
 mod gathered;
 mod listing;
 mod plan;
 mod sought;
-mod status;
-mod telling;
-#[cfg(test)]
-mod tests;
 
 pub use cbm_command::{Command, Mode, Name, Names, Opening, Refusal, Wanted};
 pub use cbm_file::FileType;
-pub use code::Code;
+pub use cbm_machine::{Code, Status, StatusLine, Telling, tells_as_the_machine};
 pub use dos::Dos;
-pub use status::{Status, StatusLine};
-pub use telling::{Telling, tells_as_the_machine};

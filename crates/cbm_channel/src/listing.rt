@@ -3,7 +3,7 @@ ghost use Rattle.cbm_volume.specs.Map.{geometry_of};
 ghost use Rattle.cbm_channel.specs.Grounds.{ShowsTrouble};
 ghost use Rattle.cbm_file.specs.Files.{Disk};
 ghost use Rattle.cbm_volume.specs.Holding.{HoldsDisk};
-ghost use Rattle.cbm_channel.specs.Listings.{listing};
+ghost use Rattle.cbm_machine.specs.Listings.{listing};
 ghost use Rattle.cbm_channel.specs.Listing.{line_of};
 
 use crate::sought::Sought;

@@ -1,14 +1,13 @@
 -- The status as it is read to its end.
 use Rattle.std.proofs.Common.{◌≡◌, ◌≢◌, ℕ, zero, suc, ◌+◌, ◌-◌, ◌<◌, ◌≤◌, List, [], ◌∷◌, ◌++◌, length, drop, Option, Some, None, refl, ap, sym, ◌∙◌, arith, length-append, length-drop, drop-drop, true, false, Bool, subst, if◌then◌else◌}
 use Rattle.std.specs.Prelude.{nat_lt, ◌==◌}
-use Rattle.cbm_channel.specs.declared.code.Code.{Code}
-use Rattle.cbm_channel.specs.declared.code.Code.TheVariants.{Fine, FilesScratched, NoHeader, NoSync, NoData, DataChecksum, DataCode, WriteFailed, WriteProtected, HeaderChecksum, LongData, WrongId, Syntax, UnknownCommand, LongText, WildName, NoName, NoRecord, RecordOverflow, FileTooLarge, WriteFileOpen, FileNotOpen, FileNotFound, FileExists, WrongType, WrongLink, NoChannel, EndlessChain, DiskFull, PowerUp, DriveNotReady}
-use Rattle.cbm_channel.specs.declared.status.Status.{Status}
+use Rattle.cbm_channel.specs.declared.Code.{Code}
+use Rattle.cbm_channel.specs.declared.Code.TheVariants.{Fine, FilesScratched, NoHeader, NoSync, NoData, DataChecksum, DataCode, WriteFailed, WriteProtected, HeaderChecksum, LongData, WrongId, Syntax, UnknownCommand, LongText, WildName, NoName, NoRecord, RecordOverflow, FileTooLarge, WriteFileOpen, FileNotOpen, FileNotFound, FileExists, WrongType, WrongLink, NoChannel, EndlessChain, DiskFull, PowerUp, DriveNotReady}
+use Rattle.cbm_channel.specs.declared.Status.{Status}
 use Rattle.cbm_channel.specs.Codes.{code_text}
 use Rattle.cbm_channel.specs.Statuses.{status_line}
 use Rattle.cbm_channel.specs.Machines.{Machine, say}
-use Rattle.cbm_channel.specs.Talking.{peek, taken, talk}
-use Rattle.cbm_volume.specs.Reading.{shown}
+use Rattle.cbm_channel.specs.Talking.{peek, shown, taken, talk}
 use Rattle.cbm_channel.specs.Calls.{without_return}
 use Rattle.cbm_program.specs.Scripts.{Said, says, status_said}
 use Rattle.cbm_program.proofs.SaidLemmas.{says_from, Talks}

@@ -10,3 +10,4 @@ pub mod Running
 pub mod Spelling
 pub mod Checking
 pub mod Images
+pub mod Outcome

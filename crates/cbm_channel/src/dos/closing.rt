@@ -8,7 +8,7 @@ impl<M: Medium> Dos<M> {
     ghost use Rattle.std.specs.Prelude.{◌≡◌, ◌≤◌, ◌<◌, ◌⊎◌, ℕ, length, slice_index_or, slice_set};
     ghost use Rattle.cbm_channel.specs.declared.channel.Channel.TheVariants.{Closed};
     ghost use Rattle.cbm_channel.specs.Grounds.{IsToldFor};
-    ghost use Rattle.cbm_channel.specs.Closing.{close, close_one, close_all, channel_numbers, without_text};
+    ghost use Rattle.cbm_machine.specs.Closing.{close, close_one, close_all, channel_numbers, without_text};
     ghost use Rattle.cbm_channel.specs.Standing.{SameBut, Leads};
 
     /// Closes a channel; 15 closes all others, in order.

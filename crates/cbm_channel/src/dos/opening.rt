@@ -1,24 +1,23 @@
-ghost use Rattle.cbm_channel.specs.Codes.{code_number};
+ghost use Rattle.cbm_machine.specs.Codes.{code_number};
 ghost use Rattle.cbm_channel.specs.Grounds.{is_fault_number};
 ghost use Rattle.cbm_channel.specs.declared.plan.Plan.TheVariants as planned;
 ghost use Rattle.std.specs.Prelude.{◌≡◌, ◌≤◌, ℕ, Bool, false, Result, Ok, Err, IfOk, IfErr, if◌then◌else◌, not, ◌&&◌};
 ghost use Rattle.cbm_file.specs.Files.{Disk, File};
 ghost use Rattle.cbm_volume.specs.Content.{Content};
-ghost use Rattle.cbm_channel.specs.Machines.{Machine, in_writing};
-ghost use Rattle.cbm_channel.specs.Plans as plans;
+ghost use Rattle.cbm_machine.specs.Machines.{Machine, in_writing};
+ghost use Rattle.cbm_machine.specs.Plans as plans;
 ghost use Rattle.cbm_channel.specs.Planned.{FoundAs, PlannedAs, IsFound};
-ghost use Rattle.cbm_channel.specs.CarriedOut.{MeetsNoRecords};
-ghost use Rattle.cbm_channel.specs.declared.code.Code as code;
+ghost use Rattle.cbm_machine.specs.CarriedOut.{MeetsNoRecords};
+ghost use Rattle.cbm_machine.specs.declared.code.Code as code;
 
 use crate::channel::{Channel, open_count};
-use crate::code::Code;
 use crate::dos::Dos;
 use crate::finding::Found;
 use crate::listing::list;
 use crate::plan::Plan;
-use crate::status::Status;
 use cbm_command::{Mode, Opening, Wanted, parse_open};
 use cbm_file::FileType;
+use cbm_machine::{Code, Status};
 use cbm_volume::{Medium, Trouble};
 
 /// How many channels a file costs that is found for reading: two where it has records, unless `@` refuses these.
@@ -62,14 +61,14 @@ impl<M: Medium> Dos<M> {
     ghost use Rattle.cbm_channel.specs.declared.channel.Channel.TheVariants.{Closed};
     ghost use Rattle.cbm_channel.specs.Grounds.{HasGround, ShowsTrouble, HasTold, IsToldFor, IsFromDirectory};
     ghost use Rattle.cbm_command.specs.declared.opening.Opening.TheVariants as opening;
-    ghost use Rattle.cbm_channel.specs.declared.code.Code.TheVariants.{Fine};
-    ghost use Rattle.cbm_channel.specs.Machines.{Machine, say, too_many};
-    ghost use Rattle.cbm_channel.specs.Plans as plans;
-    ghost use Rattle.cbm_channel.specs.Calls.{after_open};
+    ghost use Rattle.cbm_machine.specs.declared.code.Code.TheVariants.{Fine};
+    ghost use Rattle.cbm_machine.specs.Machines.{Machine, say, too_many};
+    ghost use Rattle.cbm_machine.specs.Plans as plans;
+    ghost use Rattle.cbm_machine.specs.Calls.{after_open};
     ghost use Rattle.cbm_volume.specs.Writers.{HoldsNow, with_use};
     ghost use Rattle.cbm_channel.specs.Standing.{Stands, SameBut, Fits, ChannelStands, use_of, uses_of};
     ghost use Rattle.cbm_channel.specs.Planned.{PlannedAs, opened_by, begun_by};
-    ghost use Rattle.cbm_channel.specs.CarriedOut.{IsCarriedOut, IsAskedCarriedOut, reads_bytes, MeetsNoRecords};
+    ghost use Rattle.cbm_machine.specs.CarriedOut.{IsCarriedOut, IsAskedCarriedOut, reads_bytes, MeetsNoRecords};
 
     /// Opens a channel: on 15 the text is a command, on the others it asks for a file or the listing. A channel that is
     /// open is closed first. What is refused is the status, and the channel is closed then.

@@ -1,10 +1,10 @@
 ghost use Rattle.std.specs.Prelude.{◌≡◌};
-ghost use Rattle.cbm_channel.specs.Calls.{without_return};
+ghost use Rattle.cbm_machine.specs.Calls.{without_return};
 
-use crate::code::Code;
 use crate::dos::Dos;
 use crate::gathered::Gathered;
 use cbm_command::{Command, parse_command};
+use cbm_machine::Code;
 use cbm_volume::Medium;
 
 /// A text without one return at its end.
@@ -19,14 +19,14 @@ fn without_return(text: &[u8]) -> &[u8]
 
 impl<M: Medium> Dos<M> {
     ghost use Rattle.std.specs.Prelude.{◌≡◌, ◌≤◌, ℕ, Ok, MatchOption};
-    ghost use Rattle.cbm_channel.specs.Machines.{Machine, answered};
-    ghost use Rattle.cbm_channel.specs.Closing.{without_text};
-    ghost use Rattle.cbm_channel.specs.Calls.{put, end_put, gather, command, without_return};
-    ghost use Rattle.cbm_channel.specs.Running.{run};
+    ghost use Rattle.cbm_machine.specs.Machines.{Machine, answered};
+    ghost use Rattle.cbm_machine.specs.Closing.{without_text};
+    ghost use Rattle.cbm_machine.specs.Calls.{put, end_put, gather, command, without_return};
+    ghost use Rattle.cbm_machine.specs.Running.{run};
     ghost use Rattle.cbm_command.specs.declared.command.Command.TheVariants.{Position};
     ghost use Rattle.cbm_channel.specs.Grounds.{HasTold, IsToldFor};
     ghost use Rattle.cbm_channel.specs.Standing.{Stands, SameBut, Leads, HasNoText, HasText};
-    ghost use Rattle.cbm_channel.specs.CarriedOut.{IsPutCarriedOut, IsTextCarriedOut, IsCommandCarriedOut};
+    ghost use Rattle.cbm_machine.specs.CarriedOut.{IsPutCarriedOut, IsTextCarriedOut, IsCommandCarriedOut};
 
     /// Puts a byte on a channel: on 15 it is gathered, on a channel that isn't open for writing it is dropped.
     pub fn put(&mut self, channel: u8, byte: u8)

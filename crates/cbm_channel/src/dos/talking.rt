@@ -1,19 +1,18 @@
 ghost use Rattle.std.specs.Prelude.{◌≡◌, ◌≤◌};
 
 use crate::channel::Channel;
-use crate::code::Code;
 use crate::dos::Dos;
-use crate::status::Status;
+use cbm_machine::{Code, Status};
 use cbm_volume::Medium;
 
 impl<M: Medium> Dos<M> {
     ghost use Rattle.std.specs.Prelude.{◌≡◌, ◌≤◌, ◌<◌, slice_index_or};
-    ghost use Rattle.cbm_channel.specs.Machines.{Machine};
-    ghost use Rattle.cbm_channel.specs.Talking.{peek, taken, talk, listen};
+    ghost use Rattle.cbm_machine.specs.Machines.{Machine};
+    ghost use Rattle.cbm_machine.specs.Talking.{peek, taken, talk, listen};
     ghost use Rattle.cbm_channel.specs.Grounds.{IsToldFor};
     ghost use Rattle.cbm_channel.specs.Standing.{Stands, SameBut, Leads};
     ghost use Rattle.cbm_channel.specs.Shown.{shown_by};
-    ghost use Rattle.cbm_channel.specs.Told.{behind_next};
+    ghost use Rattle.cbm_machine.specs.Told.{behind_next};
     ghost use Rattle.cbm_channel.specs.Taken.{IsTaken};
     ghost use Rattle.cbm_channel.specs.declared.channel.Channel.TheVariants.{Closed};
 

@@ -3,8 +3,8 @@ use Rattle.std.specs.Prelude.{slice_index_or}
 use Rattle.cbm_channel.specs.declared.channel.Channel.TheVariants.{Closed}
 use Rattle.std.proofs.lemmas.List.{length-set}
 use Rattle.std.proofs.lemmas.List.Elements.{All-set}
-use Rattle.cbm_channel.specs.declared.code.Code.TheVariants.{Fine}
-use Rattle.cbm_channel.specs.Machines.{say}
+use Rattle.cbm_machine.specs.declared.code.Code.TheVariants.{Fine}
+use Rattle.cbm_machine.specs.Machines.{say}
 use Rattle.cbm_volume.specs.Writers.{HoldsNow, with_use}
 use Rattle.cbm_channel.specs.Standing.{Fits, ChannelStands, use_of, uses_of}
 use Rattle.cbm_channel.specs.Planned.{opened_by}

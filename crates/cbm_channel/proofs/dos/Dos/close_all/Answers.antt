@@ -3,7 +3,7 @@ use Rattle.std.proofs.lemmas.Bool.{cases_lt}
 use Rattle.std.proofs.lemmas.List.{get_or_past}
 use Rattle.cbm_channel.specs.declared.channel.Channel.TheVariants.{Closed}
 use Rattle.cbm_channel.proofs.Changed.{closed_next}
-use Rattle.cbm_channel.specs.Closing.{close_all, channel_numbers}
+use Rattle.cbm_machine.specs.Closing.{close_all, channel_numbers}
 use Rattle.cbm_channel.specs.Standing.{Stands}
 use Rattle.cbm_channel.proofs.Stands.{moved}
 use Rattle.cbm_channel.proofs.Closes.{close_next}

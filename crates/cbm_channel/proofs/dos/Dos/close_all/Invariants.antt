@@ -1,7 +1,7 @@
 use Rattle.std.proofs.Common.{◌≡◌, ◌<◌, ℕ, length, take}
 use Rattle.std.specs.Prelude.{slice_index_or}
 use Rattle.cbm_channel.specs.declared.channel.Channel.TheVariants.{Closed}
-use Rattle.cbm_channel.specs.Closing.{close_all, channel_numbers}
+use Rattle.cbm_machine.specs.Closing.{close_all, channel_numbers}
 use Rattle.cbm_channel.specs.Standing.{Leads}
 use Rattle.cbm_channel.proofs.dos.Dos.close_all.Given as goal
 

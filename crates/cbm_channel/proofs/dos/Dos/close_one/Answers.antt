@@ -1,6 +1,6 @@
 use Rattle.std.proofs.Common.{refl}
 use Rattle.cbm_channel.specs.declared.channel.Channel.TheVariants as code
-use Rattle.cbm_channel.specs.Machines as machine
+use Rattle.cbm_machine.specs.Machines as machine
 use Rattle.cbm_channel.proofs.Idle.{below_15, close_idle}
 use Rattle.cbm_channel.proofs.Stands.{with_one, let_go_at, idle_at, moved, stood}
 use Rattle.cbm_channel.proofs.Orders.{closed_well}

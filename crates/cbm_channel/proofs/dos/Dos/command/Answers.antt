@@ -1,7 +1,7 @@
 use Rattle.std.proofs.Common.{◌≤◌, length, sym, ap, subst, ◌∙◌}
-use Rattle.cbm_channel.specs.Calls.{command_text}
-use Rattle.cbm_channel.specs.CarriedOut.{IsTextCarriedOut}
-use Rattle.cbm_channel.specs.Machines.{say}
+use Rattle.cbm_machine.specs.Calls.{command_text}
+use Rattle.cbm_machine.specs.CarriedOut.{IsTextCarriedOut}
+use Rattle.cbm_machine.specs.Machines.{say}
 use Rattle.cbm_channel.proofs.Stands.{moved}
 use Rattle.cbm_channel.proofs.Texts.{refused, asked_for, carried_command, not_empty}
 use Rattle.cbm_channel.proofs.dos.Dos.command.Goals as goal

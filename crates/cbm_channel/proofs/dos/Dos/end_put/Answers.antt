@@ -1,10 +1,10 @@
 use Rattle.std.proofs.Common.{◌≡◌, ◌≤◌, ℕ, List, length, take, sym, ap, subst, ◌∙◌, arith}
 use Rattle.std.specs.Prelude.{◌==◌, true}
 use Rattle.std.proofs.lemmas.Bool.{eq-eqb}
-use Rattle.cbm_channel.specs.Calls.{without_return}
-use Rattle.cbm_channel.specs.CarriedOut.{IsTextCarriedOut}
-use Rattle.cbm_channel.specs.Closing.{without_text}
-use Rattle.cbm_channel.specs.Calls.{text_for, command}
+use Rattle.cbm_machine.specs.Calls.{without_return}
+use Rattle.cbm_machine.specs.CarriedOut.{IsTextCarriedOut}
+use Rattle.cbm_machine.specs.Closing.{without_text}
+use Rattle.cbm_machine.specs.Calls.{text_for, command}
 use Rattle.cbm_channel.proofs.Idle.{below_15, store_command, store_idle, store_nothing}
 use Rattle.cbm_channel.proofs.Stands.{idle_at, moved}
 use Rattle.cbm_channel.proofs.Texts.{some_kept, command_kept, carried_kept}

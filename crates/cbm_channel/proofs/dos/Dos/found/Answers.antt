@@ -3,8 +3,8 @@ use Rattle.std.specs.Prelude.{Ok}
 use Rattle.cbm_volume.specs.Map.{geometry_of}
 use Rattle.cbm_volume.specs.Slots.{Finds, directory_of}
 use Rattle.cbm_volume.specs.Holding.{HoldsDisk}
-use Rattle.cbm_channel.specs.declared.code.Code.TheVariants.{WrongType, FileNotFound}
-use Rattle.cbm_channel.specs.Finding.{found}
+use Rattle.cbm_machine.specs.declared.code.Code.TheVariants.{WrongType, FileNotFound}
+use Rattle.cbm_machine.specs.Finding.{found}
 use Rattle.cbm_channel.specs.Sought.{is_sought}
 use Rattle.cbm_channel.specs.Planned.{FoundAs}
 use Rattle.cbm_channel.proofs.Found.{found_as, refused_as, found_none, named_as}

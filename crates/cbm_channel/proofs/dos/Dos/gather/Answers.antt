@@ -1,4 +1,4 @@
-use Rattle.cbm_channel.specs.Closing.{without_text}
+use Rattle.cbm_machine.specs.Closing.{without_text}
 use Rattle.cbm_channel.proofs.Stands.{other_text, stood, gathered, begun}
 use Rattle.cbm_channel.proofs.dos.Dos.gather.Goals as goal
 

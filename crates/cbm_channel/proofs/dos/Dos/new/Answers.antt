@@ -1,8 +1,7 @@
 use Rattle.std.proofs.Common.{sym, ap, subst, ◌∙◌}
 use Rattle.std.specs.Prelude.{None}
-use Rattle.cbm_channel.specs.Machines.{start}
+use Rattle.cbm_machine.specs.Machines.{start}
 use Rattle.cbm_channel.specs.Standing.{StandsBy}
-use Rattle.cbm_channel.specs.Told.{Told}
 use Rattle.cbm_channel.proofs.Stands.{stands_at_first}
 use Rattle.cbm_channel.proofs.dos.Dos.new.Goals as goal
 

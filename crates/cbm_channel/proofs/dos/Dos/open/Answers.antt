@@ -1,6 +1,6 @@
 use Rattle.std.proofs.Common.{sym, ap, ◌∙◌, arith}
-use Rattle.cbm_channel.specs.Closing.{close_one}
-use Rattle.cbm_channel.specs.Machines.{say}
+use Rattle.cbm_machine.specs.Closing.{close_one}
+use Rattle.cbm_machine.specs.Machines.{say}
 use Rattle.cbm_channel.proofs.Idle.{below_15}
 use Rattle.cbm_channel.proofs.Stands.{moved}
 use Rattle.cbm_channel.proofs.Planning.{opened_text, refused_text, carried_text}

@@ -2,8 +2,8 @@ use Rattle.std.proofs.Common.{◌≡◌, sym, subst}
 use Rattle.std.specs.Prelude.{Some, None, Ok}
 use Rattle.cbm_file.specs.Files.{bytes_in}
 use Rattle.cbm_volume.specs.Reading.{rest_of}
-use Rattle.cbm_channel.specs.Machines.{Reading}
-use Rattle.cbm_channel.specs.Finding.{body_at}
+use Rattle.cbm_machine.specs.Machines.{Reading}
+use Rattle.cbm_machine.specs.Finding.{body_at}
 use Rattle.cbm_volume.specs.Writers.{HoldsNow, with_use, Idle, Reads}
 use Rattle.cbm_channel.specs.Standing.{uses_of}
 use Rattle.cbm_channel.specs.Planned.{PlannedAs, opened_by}

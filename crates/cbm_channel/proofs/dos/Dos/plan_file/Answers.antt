@@ -1,5 +1,5 @@
 use Rattle.std.proofs.Common.{sym, subst, ◌∙◌}
-use Rattle.cbm_channel.specs.Finding.{found}
+use Rattle.cbm_machine.specs.Finding.{found}
 use Rattle.cbm_channel.specs.Planned.{FoundAs}
 use Rattle.cbm_channel.proofs.Stands.{none_writes}
 use Rattle.cbm_channel.proofs.Planning.{refused_planned, read_planned}

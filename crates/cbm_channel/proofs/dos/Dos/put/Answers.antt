@@ -1,7 +1,7 @@
 use Rattle.std.proofs.Common.{ap, arith}
 use Rattle.cbm_channel.proofs.Idle.{below_15, put_idle}
 use Rattle.cbm_channel.proofs.Stands.{idle_at, moved}
-use Rattle.cbm_channel.specs.Calls.{put}
+use Rattle.cbm_machine.specs.Calls.{put}
 use Rattle.cbm_channel.proofs.dos.Dos.put.Goals as goal
 
 pub returns-then-channel-eq15-clause-leads : goal.returns-then-channel-eq15-clause-leads

@@ -1,8 +1,8 @@
 use Rattle.std.proofs.Common.{ap}
 use Rattle.cbm_channel.proofs.Stands.{moved}
 use Rattle.cbm_channel.proofs.Texts.{nothing_else}
-use Rattle.cbm_channel.specs.Machines.{answered}
-use Rattle.cbm_channel.specs.Running.{run}
+use Rattle.cbm_machine.specs.Machines.{answered}
+use Rattle.cbm_machine.specs.Running.{run}
 use Rattle.cbm_channel.proofs.dos.Dos.run.Goals as goal
 
 -- nothing is read anew, as the disk is always what it is

@@ -1,6 +1,6 @@
 use Rattle.std.proofs.Common.{sym, ap, subst, ◌∙◌}
 use Rattle.std.specs.Prelude.{MatchOption}
-use Rattle.cbm_channel.specs.Closing.{forget_text}
+use Rattle.cbm_machine.specs.Closing.{forget_text}
 use Rattle.cbm_channel.specs.Standing.{HasText, HasNoText}
 use Rattle.cbm_channel.proofs.Stands.{forgotten, stood, text_taken, text_stays, none_there, other_there, this_there}
 use Rattle.cbm_channel.proofs.dos.Dos.take_text.Goals as goal

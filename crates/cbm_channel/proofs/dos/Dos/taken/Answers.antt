@@ -1,7 +1,7 @@
 use Rattle.std.proofs.Common.{◌<◌, refl, ap, arith}
 use Rattle.std.specs.Prelude.{slice_index_or}
-use Rattle.cbm_channel.specs.Machines.{channel}
-use Rattle.cbm_channel.specs.Talking.{taken, taken_on}
+use Rattle.cbm_machine.specs.Machines.{channel}
+use Rattle.cbm_machine.specs.Talking.{taken, taken_on}
 use Rattle.cbm_channel.proofs.Idle.{below_15, taken_other}
 use Rattle.cbm_channel.proofs.Stands.{with_one, told_on, stands_at, idle_at, use_at, ok_is, moved, stood, not_ok}
 use Rattle.cbm_channel.proofs.Orders.{taken_well}

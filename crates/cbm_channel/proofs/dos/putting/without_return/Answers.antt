@@ -1,5 +1,5 @@
 use Rattle.std.proofs.Common.{[], ◌∷◌, ◌++◌, sym, ap, ◌∙◌}
-use Rattle.cbm_channel.specs.Calls.{without_return}
+use Rattle.cbm_machine.specs.Calls.{without_return}
 use Rattle.cbm_channel.proofs.Texts.{return_dropped, last_stays}
 use Rattle.cbm_channel.proofs.dos.putting.without_return.Goals as goal
 

@@ -11,11 +11,11 @@ use Rattle.cbm_command.specs.declared.command.Command.{Command}
 use Rattle.cbm_command.specs.declared.command.Command.TheVariants.{Initialize, Position}
 use Rattle.cbm_command.specs.Openings.{is_relative, opening_of}
 use Rattle.cbm_command.specs.Commands.{command_of}
-use Rattle.cbm_channel.specs.declared.code.Code.{Code}
-use Rattle.cbm_channel.specs.Machines.{Machine}
-use Rattle.cbm_channel.specs.Closing.{close}
-use Rattle.cbm_channel.specs.Plans.{Plan, ReadListing, ReadFile, WriteFile, AppendFile, ReplaceFile, OpenRecords, MakeRecords, plan}
-use Rattle.cbm_channel.specs.Calls.{without_return, text_for}
+use Rattle.cbm_machine.specs.declared.code.Code.{Code}
+use Rattle.cbm_machine.specs.Machines.{Machine}
+use Rattle.cbm_machine.specs.Closing.{close}
+use Rattle.cbm_machine.specs.Plans.{Plan, ReadListing, ReadFile, WriteFile, AppendFile, ReplaceFile, OpenRecords, MakeRecords, plan}
+use Rattle.cbm_machine.specs.Calls.{without_return, text_for}
 
 -- the mode reads
 abbrev pub is_reading : Mode → Bool

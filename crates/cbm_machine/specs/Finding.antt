@@ -3,9 +3,9 @@ use Rattle.std.specs.Prelude.{ℕ, ◌-◌, nat_lt, Bool, true, false, ◌||◌,
 use Rattle.cbm_file.specs.declared.file_type.FileType.{FileType}
 use Rattle.cbm_file.specs.Types.{is_same_type}
 use Rattle.cbm_file.specs.Files.{Body, Bytes, File, Disk, empty_from, file_at}
-use Rattle.cbm_channel.specs.declared.code.Code.{Code}
-use Rattle.cbm_channel.specs.declared.code.Code.TheVariants.{WrongType, FileNotFound}
-use Rattle.cbm_channel.specs.Listings.{named}
+use Rattle.cbm_machine.specs.declared.code.Code.{Code}
+use Rattle.cbm_machine.specs.declared.code.Code.TheVariants.{WrongType, FileNotFound}
+use Rattle.cbm_machine.specs.Listings.{named}
 
 -- the file is of this type
 abbrev pub is_kind : FileType → File → Bool

@@ -1,10 +1,10 @@
 -- What channel 15 tells of the status.
 use Rattle.std.specs.Prelude.{ℕ, ◌+◌, nat_lt, Bool, length, drop, if◌then◌else◌, Option}
-use Rattle.cbm_channel.specs.declared.code.Code.TheVariants.{Fine}
-use Rattle.cbm_channel.specs.declared.status.Status.{Status}
-use Rattle.cbm_channel.specs.Statuses.{plain, status_line}
-use Rattle.cbm_channel.specs.Machines.{Machine}
-use Rattle.cbm_volume.specs.Reading.{shown}
+use Rattle.cbm_machine.specs.declared.code.Code.TheVariants.{Fine}
+use Rattle.cbm_machine.specs.declared.status.Status.{Status}
+use Rattle.cbm_machine.specs.Statuses.{plain, status_line}
+use Rattle.cbm_machine.specs.Machines.{Machine}
+use Rattle.cbm_machine.specs.Talking.{shown}
 
 -- a status, and how many bytes of its line were taken
 pub record Told : Type 0 where

@@ -11,13 +11,13 @@ use Rattle.cbm_command.specs.declared.opening.Opening.{Opening}
 use Rattle.cbm_command.specs.declared.opening.Opening.TheVariants as opening
 use Rattle.cbm_command.specs.Refusals.{◌>>=◌, unless}
 use Rattle.cbm_command.specs.Openings.{is_relative, opening_of}
-use Rattle.cbm_channel.specs.declared.code.Code.{Code}
-use Rattle.cbm_channel.specs.declared.code.Code.TheVariants.{Fine, WriteProtected, NoRecord, WriteFileOpen, FileNotFound, FileExists, WrongType, NoChannel, DiskFull}
-use Rattle.cbm_channel.specs.Codes.{code_of_refusal}
-use Rattle.cbm_channel.specs.Listings.{listing}
-use Rattle.cbm_channel.specs.Machines.{Machine, Reading, Writing, Relative, with_disk, with_free, with_channel, say, answered, in_use, in_writing, too_many}
-use Rattle.cbm_channel.specs.Finding.{is_kind, is_there, found, body_at, has_slot, new_slot, with_file, unclosed, closed_file}
-use Rattle.cbm_channel.specs.Records.{new_records}
+use Rattle.cbm_machine.specs.declared.code.Code.{Code}
+use Rattle.cbm_machine.specs.declared.code.Code.TheVariants.{Fine, WriteProtected, NoRecord, WriteFileOpen, FileNotFound, FileExists, WrongType, NoChannel, DiskFull}
+use Rattle.cbm_machine.specs.Codes.{code_of_refusal}
+use Rattle.cbm_machine.specs.Listings.{listing}
+use Rattle.cbm_machine.specs.Machines.{Machine, Reading, Writing, Relative, with_disk, with_free, with_channel, say, answered, in_use, in_writing, too_many}
+use Rattle.cbm_machine.specs.Finding.{is_kind, is_there, found, body_at, has_slot, new_slot, with_file, unclosed, closed_file}
+use Rattle.cbm_machine.specs.Records.{new_records}
 
 -- What an OPEN will do. Slots go by number.
 pub data Plan : Type 0 where

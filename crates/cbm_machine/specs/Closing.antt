@@ -1,9 +1,9 @@
 -- Bytes that are written, and CLOSE.
 use Rattle.std.specs.Prelude.{ℕ, ◌+◌, ◌-◌, ◌*◌, ◌==◌, Bool, true, false, List, [], ◌∷◌, ◌++◌, length, if◌then◌else◌, Option, Some, None}
 use Rattle.cbm_file.specs.Files.{Bytes, File, Disk, file_at, with_slot}
-use Rattle.cbm_channel.specs.declared.code.Code.TheVariants.{DiskFull}
-use Rattle.cbm_channel.specs.Statuses.{return}
-use Rattle.cbm_channel.specs.Machines.{Channel, Closed, Writing, Machine, say, with_disk, with_free, channel, with_channel}
+use Rattle.cbm_machine.specs.declared.code.Code.TheVariants.{DiskFull}
+use Rattle.cbm_machine.specs.Statuses.{return}
+use Rattle.cbm_machine.specs.Machines.{Channel, Closed, Writing, Machine, say, with_disk, with_free, channel, with_channel}
 
 -- The byte goes to the file, and claims a block where those so far are full. Where none is free, it and all later ones are dropped.
 abbrev pub put_on : ℕ → ℕ → Channel → Machine → Machine

@@ -1,5 +1,5 @@
 ghost use Rattle.std.specs.Prelude.{◌≡◌, ◌≤◌, length};
-ghost use Rattle.cbm_channel.specs.Codes.{code_number, code_text, code_of_refusal, code_of_fault, refusal_gives};
+ghost use Rattle.cbm_machine.specs.Codes.{code_number, code_text, code_of_refusal, code_of_fault, refusal_gives};
 
 use cbm_command::Refusal;
 

@@ -1,10 +1,10 @@
 -- The status and its line.
 use Rattle.std.specs.Prelude.{ℕ, ◌≡◌, ◌==◌, ◌+◌, ◌/◌, ◌%◌, min, List, [], ◌∷◌, ◌++◌, if◌then◌else◌}
 use Rattle.cbm_medium.specs.declared.fault.Trouble.{Trouble}
-use Rattle.cbm_channel.specs.declared.code.Code.{Code}
-use Rattle.cbm_channel.specs.declared.code.Code.TheVariants.{WriteProtected}
-use Rattle.cbm_channel.specs.declared.status.Status.{Status}
-use Rattle.cbm_channel.specs.Codes.{code_number, code_text, code_of_fault}
+use Rattle.cbm_machine.specs.declared.code.Code.{Code}
+use Rattle.cbm_machine.specs.declared.code.Code.TheVariants.{WriteProtected}
+use Rattle.cbm_machine.specs.declared.status.Status.{Status}
+use Rattle.cbm_machine.specs.Codes.{code_number, code_text, code_of_fault}
 
 -- a status whose two numbers are 0
 abbrev pub plain : Code → Status

@@ -2,12 +2,12 @@
 use Rattle.std.specs.Prelude.{ℕ, ◌==◌, Bool, true, false, ◌||◌, List, [], ◌∷◌, ◌++◌, if◌then◌else◌, Option, Some, None}
 use Rattle.cbm_command.specs.Refusals.{◌>>=◌}
 use Rattle.cbm_command.specs.Commands.{command_of}
-use Rattle.cbm_channel.specs.Statuses.{return}
-use Rattle.cbm_channel.specs.Machines.{Channel, Relative, Machine, answered, channel}
-use Rattle.cbm_channel.specs.Records.{write_record}
-use Rattle.cbm_channel.specs.Closing.{put_on, close, without_text}
-use Rattle.cbm_channel.specs.Plans.{asked, open_text}
-use Rattle.cbm_channel.specs.Running.{run}
+use Rattle.cbm_machine.specs.Statuses.{return}
+use Rattle.cbm_machine.specs.Machines.{Channel, Relative, Machine, answered, channel}
+use Rattle.cbm_machine.specs.Records.{write_record}
+use Rattle.cbm_machine.specs.Closing.{put_on, close, without_text}
+use Rattle.cbm_machine.specs.Plans.{asked, open_text}
+use Rattle.cbm_machine.specs.Running.{run}
 
 -- the text without one return at its end
 abbrev pub without_return : List ℕ → List ℕ

@@ -1,7 +1,7 @@
 -- What holds of every machine that a drive stands for.
-use Rattle.std.specs.Prelude.{ℕ, ◌≤◌, ◌≡◌, Bool, true, false, List, drop, slice_index_or, Option, Some}
+use Rattle.std.specs.Prelude.{ℕ, ◌≤◌, ◌≡◌, Bool, true, false, List, drop, slice_index_or, Some}
 use Rattle.cbm_file.specs.Files.{Bytes, Records, File, Disk, file_at}
-use Rattle.cbm_channel.specs.Machines.{Channel, Closed, Reading, Writing, Relative, uses, writes}
+use Rattle.cbm_machine.specs.Machines.{Channel, Closed, Reading, Writing, Relative, uses, writes}
 
 -- The slot has a closed file with bytes, and this is what is left of them.
 pub record IsReadFrom (d : Disk) (slot : ℕ) (left : List ℕ) : Type 0 where

@@ -3,10 +3,10 @@
 use Rattle.std.specs.Prelude.{ℕ, ◌+◌, ◌==◌, nat_lt, Bool, true, false, List, replicate, sum_by, slice_index_or, slice_set, Option, Some, None, Result, Ok, Err}
 use Rattle.std.specs.List.{list_any}
 use Rattle.cbm_file.specs.Files.{Disk}
-use Rattle.cbm_channel.specs.declared.code.Code.{Code}
-use Rattle.cbm_channel.specs.declared.code.Code.TheVariants.{PowerUp}
-use Rattle.cbm_channel.specs.declared.status.Status.{Status}
-use Rattle.cbm_channel.specs.Statuses.{plain}
+use Rattle.cbm_machine.specs.declared.code.Code.{Code}
+use Rattle.cbm_machine.specs.declared.code.Code.TheVariants.{PowerUp}
+use Rattle.cbm_machine.specs.declared.status.Status.{Status}
+use Rattle.cbm_machine.specs.Statuses.{plain}
 
 -- A channel from 0 to 14.
 pub data Channel : Type 0 where

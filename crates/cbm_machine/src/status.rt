@@ -1,11 +1,11 @@
 ghost use Rattle.std.specs.Prelude.{◌≡◌, ◌+◌, ◌≤◌, ◌++◌, length};
 ghost use Rattle.arrayvec.specs.ArrayVec.{array_vec_len};
-ghost use Rattle.cbm_channel.specs.Codes.{code_text};
-ghost use Rattle.cbm_channel.specs.Statuses.{two_digits, plain, status_line, trouble_gives};
+ghost use Rattle.cbm_machine.specs.Codes.{code_text};
+ghost use Rattle.cbm_machine.specs.Statuses.{two_digits, plain, status_line, trouble_gives};
 
 use crate::code::Code;
 use arrayvec::ArrayVec;
-use cbm_volume::Trouble;
+use cbm_medium::Trouble;
 
 /// A status line of at most 33 bytes.
 pub type StatusLine = ArrayVec<u8, 33>;

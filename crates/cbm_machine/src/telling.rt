@@ -1,7 +1,7 @@
 ghost use Rattle.std.specs.Prelude.{◌≡◌, ℕ};
-ghost use Rattle.cbm_channel.specs.Told.{next_told, behind_next, told_by};
-ghost use Rattle.cbm_channel.specs.Machines.{Machine};
-ghost use Rattle.cbm_channel.specs.Talking.{peek, taken};
+ghost use Rattle.cbm_machine.specs.Told.{next_told, behind_next, told_by};
+ghost use Rattle.cbm_machine.specs.Machines.{Machine};
+ghost use Rattle.cbm_machine.specs.Talking.{peek, taken};
 
 use crate::code::Code;
 use crate::status::{Status, StatusLine};
@@ -17,8 +17,8 @@ pub struct Telling {
 
 impl Model for Telling {
     ghost use Rattle.std.specs.Prelude.{◌≡◌, ◌<◌, length};
-    ghost use Rattle.cbm_channel.specs.Statuses.{status_line};
-    ghost use Rattle.cbm_channel.specs.Told.{Told};
+    ghost use Rattle.cbm_machine.specs.Statuses.{status_line};
+    ghost use Rattle.cbm_machine.specs.Told.{Told};
 
     ghost Value = { Told };
 

@@ -2,10 +2,10 @@
 use Rattle.std.specs.Prelude.{ℕ, ◌+◌, ◌-◌, ◌*◌, ◌/◌, ◌==◌, nat_lt, max, ◌||◌, List, [], ◌∷◌, ◌++◌, length, take, replicate, slice_get, slice_index_or, slice_set, if◌then◌else◌, Option, Some, None, is_some, Result, Ok}
 use Rattle.cbm_file.specs.Files.{Body, Bytes, Records, Disk, parts, file_at, with_slot}
 use Rattle.cbm_command.specs.Refusals.{◌>>=◌, unless}
-use Rattle.cbm_channel.specs.declared.code.Code.{Code}
-use Rattle.cbm_channel.specs.declared.code.Code.TheVariants.{WriteProtected, RecordOverflow, FileTooLarge}
-use Rattle.cbm_channel.specs.Machines.{Channel, Relative, Machine, with_disk, with_channel, say, answered}
-use Rattle.cbm_channel.specs.Finding.{body_at}
+use Rattle.cbm_machine.specs.declared.code.Code.{Code}
+use Rattle.cbm_machine.specs.declared.code.Code.TheVariants.{WriteProtected, RecordOverflow, FileTooLarge}
+use Rattle.cbm_machine.specs.Machines.{Channel, Relative, Machine, with_disk, with_channel, say, answered}
+use Rattle.cbm_machine.specs.Finding.{body_at}
 
 -- so many zeros
 abbrev pub zeros : ℕ → List ℕ

@@ -1,9 +1,9 @@
 use Rattle.std.proofs.Common.{◌≡◌, ℕ, List, length, drop, ap, sym, ◌∙◌, arith}
-use Rattle.cbm_channel.specs.Statuses.{status_line}
-use Rattle.cbm_volume.specs.Reading.{shown}
-use Rattle.cbm_channel.specs.Told.{Told, next_told}
-use Rattle.cbm_channel.proofs.NextBytes.{next_dropped}
-use Rattle.cbm_channel.proofs.telling.Telling.peek.Goals as goal
+use Rattle.cbm_machine.specs.Statuses.{status_line}
+use Rattle.cbm_machine.specs.Talking.{shown}
+use Rattle.cbm_machine.specs.Told.{Told, next_told}
+use Rattle.cbm_machine.proofs.NextBytes.{next_dropped}
+use Rattle.cbm_machine.proofs.telling.Telling.peek.Goals as goal
 
 -- the line is that of the status
 pub returns : goal.returns

@@ -1,0 +1,16 @@
+pub mod Codes
+pub mod Statuses
+pub mod Listings
+pub mod Machines
+pub mod Finding
+pub mod Records
+pub mod Closing
+pub mod Plans
+pub mod Talking
+pub mod Running
+pub mod Calls
+pub mod Told
+pub mod Orderly
+pub mod CarriedOut
+pub use Rattle.cbm_file.specs.Types
+pub use Rattle.cbm_file.specs.Files

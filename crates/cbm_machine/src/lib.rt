@@ -1,0 +1,12 @@
+//! The named-files machine: what the drive is to its host, with no word about sectors; its codes and its status.
+#![tactic(auto)]
+
+mod code;
+mod status;
+mod telling;
+#[cfg(test)]
+mod tests;
+
+pub use code::Code;
+pub use status::{Status, StatusLine};
+pub use telling::{Telling, tells_as_the_machine};

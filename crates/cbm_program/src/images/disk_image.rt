@@ -1,0 +1,64 @@
+//! Opening and saving the disk of an image.
+ghost use Rattle.std.specs.Prelude.{◌≡◌, None, Err, IfSome, IfOk, IfErr};
+ghost use Rattle.cbm_program.specs.declared.kind.Kind.{Kind};
+ghost use Rattle.cbm_program.specs.Images.{image_fault, IsOf, IsRefusal};
+
+use crate::fault::RunFault;
+use cbm_d64::{D64Disk, D64Fault};
+use cbm_g64::{G64Disk, G64Fault};
+use cbm_medium::Medium;
+use std::alloc::Global;
+
+/// A disk that the bytes of an image's file give, and that gives them back.
+pub(crate) trait DiskImage: Medium {
+    /// The format of its images.
+    ghost kind: { Kind };
+
+    /// The disk of an image. Errors: `Image` with the number of the format's first fault, or `Memory`.
+    fn open(alloc: Global, image: &[u8], protected: bool) -> Result<Self, RunFault>
+        ensures ok { IfOk result (λ d. IsOf kind image.now (Self.seen d).tracks (Self.seen d).content
+            × ((Self.seen d).protected ≡ protected) × (image_fault kind image.now ≡ None)) }
+        ensures refused { IfSome (image_fault kind image.now) (λ n. result ≡ Err (RunFault.Image n)) }
+        ensures cause { IfErr result (IsRefusal (image_fault kind image.now)) };
+
+    /// The image of the disk as it is now. The one error is `Memory`.
+    fn save(&self, alloc: Global) -> Result<Vec<u8>, RunFault>
+        ensures ok { IfOk result (λ image. IsOf kind image.items (Self.seen self.now).tracks (Self.seen self.now).content) }
+        ensures err { IfErr result (λ fault. fault ≡ RunFault.Memory) };
+}
+
+impl DiskImage for D64Disk {
+    ghost use Rattle.cbm_program.specs.declared.kind.Kind.TheVariants.{D64};
+
+    ghost kind = { D64 };
+
+    fn open(alloc: Global, image: &[u8], protected: bool) -> Result<D64Disk, RunFault> {
+        match D64Disk::from_bytes(alloc, image, protected) {
+            Ok(disk) => Ok(disk),
+            Err(D64Fault::Size) => Err(RunFault::Image(D64Fault::Size.number())),
+            Err(D64Fault::Memory) => Err(RunFault::Memory),
+        }
+    }
+
+    fn save(&self, alloc: Global) -> Result<Vec<u8>, RunFault> {
+        self.to_bytes(alloc).map_err(|_| RunFault::Memory)
+    }
+}
+
+impl DiskImage for G64Disk {
+    ghost use Rattle.cbm_program.specs.declared.kind.Kind.TheVariants.{G64};
+
+    ghost kind = { G64 };
+
+    fn open(alloc: Global, image: &[u8], protected: bool) -> Result<G64Disk, RunFault> {
+        match G64Disk::from_bytes(alloc, image, protected) {
+            Ok(disk) => Ok(disk),
+            Err(G64Fault::Memory) => Err(RunFault::Memory),
+            Err(fault) => Err(RunFault::Image(fault.number())),
+        }
+    }
+
+    fn save(&self, alloc: Global) -> Result<Vec<u8>, RunFault> {
+        self.to_bytes(alloc).map_err(|_| RunFault::Memory)
+    }
+}
