@@ -107,7 +107,7 @@ pub fn chains(rt: &impl Runtime, alloc: Global) -> io::Result<()> {
     report(rt, "ChainReader, a byte", &start, count)
 }
 
-/// Links each sector of 664 to the one behind it.
+/// Links each sector of 664 to the next.
 fn link_all(image: &mut Vec<u8>) {
     let mut place = 0usize;
     for track in 1..36u8 {

@@ -82,7 +82,7 @@ impl<M: Medium> Dos<M> {
         self.status().code.number()
     }
 
-    /// Sets the status, which is told from its beginning.
+    /// Sets the status; channel 15 sends it from its beginning.
     fn set(&mut self, status: Status)
         ensures leads { Leads M.seen self.old self.new (tell status) }
         ensures medium { self.new.medium ≡ self.old.medium }

@@ -1,4 +1,4 @@
-//! The drive's DOS over a medium, which stands for the named-files machine: its channels and calls.
+//! The drive's DOS over a medium: its channels and calls, each of which does what the named-files machine does.
 #![tactic(auto)]
 
 mod channel;

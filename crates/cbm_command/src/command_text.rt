@@ -13,7 +13,7 @@ use crate::open_text::LONGEST;
 use crate::refusal::Refusal;
 use crate::text::{before_first, behind_first, contains, first_or_zero, is_digit};
 
-/// A name behind the first: the drive's digit and a colon before it are skipped.
+/// A name after the first: the drive's digit and a colon before it are skipped.
 fn later_name(text: &[u8]) -> Result<Name, Refusal>
     ensures { result ≡ later_name text.now }
 {
@@ -134,7 +134,7 @@ fn position_asked(text: &[u8]) -> Result<Command, Refusal>
     Ok(Command::Position(*channel % 16, record.max(1), first_or_zero(rest).max(1)))
 }
 
-/// What stands behind the colon of a right head.
+/// What follows the colon of a correct head.
 fn behind_head(text: &[u8]) -> Result<&[u8], Refusal>
     ensures value { result_map_both (λ rest. rest.now) (λ refusal. refusal) result ≡ behind_head text.now }
     ensures short { IfOk result (λ rest. length rest.now ≤ length text.now) }

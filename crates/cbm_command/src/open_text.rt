@@ -17,7 +17,7 @@ use cbm_file::FileType;
 /// The most bytes of a text.
 pub(crate) const LONGEST: usize = 58;
 
-/// One pattern, and nothing behind it.
+/// One pattern, and nothing after it.
 fn pattern_asked(text: &[u8]) -> Result<Opening, Refusal>
     ensures { result ≡ pattern_asked text.now }
 {
@@ -30,7 +30,7 @@ fn pattern_asked(text: &[u8]) -> Result<Opening, Refusal>
     Ok(Opening::Listing(Name::of(text)))
 }
 
-/// What stands behind `$`.
+/// What follows `$`.
 fn listing_asked(text: &[u8]) -> Result<Opening, Refusal>
     ensures { result ≡ listing_asked text.now }
 {
@@ -155,7 +155,7 @@ fn file_named(wanted: Wanted) -> Result<Opening, Refusal>
     Ok(Opening::File(wanted))
 }
 
-/// A name, and pieces behind commas.
+/// A name, and the pieces after its commas.
 fn file_asked(channel: u8, has_at: bool, text: &[u8]) -> Result<Opening, Refusal>
     ensures { result ≡ file_asked channel has_at text.now }
 {
@@ -210,7 +210,8 @@ pub fn parse_open(channel: u8, text: &[u8]) -> Result<Opening, Refusal>
     ensures value { result ≡ opening_of channel text.now }
 
     // The usual text `name,type,mode` on the channels from 2 on is read as the file that it names.
-    ensures usual { (name : List ℕ) (kind : FileType) (mode : Mode) → 2 ≤ channel → IsPlain name → holds_bytes kind ≡ true
+    ensures usual { (name : List ℕ) (kind : FileType) (mode : Mode) → 2 ≤ channel → IsPlain name →
+        holds_bytes kind ≡ true
         → text.now ≡ spelled name kind mode → result ≡ Ok (Opening.File (usual_file name kind mode)) }
 {
     if text.len() > LONGEST {

@@ -81,7 +81,7 @@ fn refuses_openings(rt: HostRuntime) {
         (0, b"$:A=P".as_slice(), 30),
         (1, b"$".as_slice(), 30),
         (2, b"$:A".as_slice(), 30),
-        // two faults: the left one answers, and a pattern only behind the whole text
+        // two faults: the left one answers, and a pattern only after the whole text
         (2, b"1:,X".as_slice(), 74),
         (2, b"0X:,X".as_slice(), 30),
         (2, b":,X".as_slice(), 34),

@@ -94,7 +94,8 @@ impl Slots {
     }
 }
 
-/// The entry of a slot by its number, counted from 0; None past the last. An `Err` is what breaks the directory off before.
+/// The entry of a slot by its number, counted from 0; None past the last. An `Err` is what breaks the directory off
+/// before.
 pub fn slot<M: Medium>(medium: &M, geometry: Geometry, number: u8) -> Result<Option<Entry>, Trouble>
     requires { geometry ≤ (M.seen medium.now).tracks }
     ensures { Answers (directory_of geometry (M.seen medium.now).content) number result }
@@ -118,8 +119,8 @@ pub trait Wanted {
         ensures { result ≡ wants self.now entry.now };
 }
 
-/// The first entry that is wanted, and the number of its slot; None where none is. An `Err` is what breaks the directory off
-/// before one was met.
+/// The first entry that is wanted, and the number of its slot; None where none is. An `Err` is what breaks the
+/// directory off before one was met.
 pub fn find<M: Medium, W: Wanted>(
     medium: &M,
     geometry: Geometry,

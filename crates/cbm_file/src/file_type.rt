@@ -1,7 +1,7 @@
 ghost use Rattle.std.specs.Prelude.{◌≡◌};
 ghost use Rattle.cbm_file.specs.Types.{type_number, type_text, type_with};
 
-/// The type of a file, as the low four bits of its directory entry's type byte tell it
+/// The type of a file, as the low four bits of its directory entry's type byte give it
 /// (Immers and Neufeld, Inside Commodore DOS).
 #[derive(Clone, Copy, Debug, PartialEq, Eq)]
 pub enum FileType {

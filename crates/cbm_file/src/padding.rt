@@ -17,7 +17,8 @@ pub fn before_filler(name: &[u8]) -> &[u8]
     name
 }
 
-/// A name of at most sixteen bytes, filled up with $A0 to sixteen as an entry of the directory has it (Inside Commodore DOS).
+/// A name of at most sixteen bytes, filled up with $A0 to sixteen as an entry of the directory has it (Inside
+/// Commodore DOS).
 pub fn padded(name: &[u8]) -> [u8; 16]
     requires { length name.now ≤ 16 }
     ensures { result ≡ padded name.now }

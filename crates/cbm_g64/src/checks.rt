@@ -33,7 +33,7 @@ fn has_greatest(file: &[u8]) -> bool
     file.len() >= 12 && two_at(file, 10) <= 7928
 }
 
-/// Whether a track lies in the file, behind the tables.
+/// Whether a track lies in the file, after the tables.
 #[tactic(auto, unfolding(crate::specs::File::is_inside, crate::specs::File::size))]
 fn is_inside(file: &[u8], i: usize) -> bool
     requires track { i < 35 }

@@ -77,8 +77,10 @@ pub(crate) fn write_on(tracks: &mut [Track], at: Address, bytes: &[u8; 256]) -> 
     requires track { at.track ≤ 35 }
     ensures ok { OnOk result (content_of tracks.new ≡ written (content_of tracks.old) at bytes.now) }
     ensures err { OnErr result (tracks.new ≡ tracks.old) }
-    ensures refused { IfSome (header_fault (content_of tracks.old at)) (λ code. result ≡ Err (record { code = code; at = at })) }
-    ensures cause { IfErr result (λ fault. (header_fault (content_of tracks.old at) ≡ Some fault.code) × (fault.at ≡ at)) }
+    ensures refused { IfSome (header_fault (content_of tracks.old at))
+        (λ code. result ≡ Err (record { code = code; at = at })) }
+    ensures cause { IfErr result (λ fault. (header_fault (content_of tracks.old at) ≡ Some fault.code) ×
+        (fault.at ≡ at)) }
     ensures changed { IsChanged tracks.old tracks.new (at.track - 1) }
     ensures block { OnOk result (IsPut tracks.old tracks.new at bytes.now) }
 {

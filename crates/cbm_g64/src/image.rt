@@ -24,7 +24,7 @@ const TRACK_ROOM: usize = 7_930;
 /// The signature, version 0, 84 entries and the greatest size 7,928.
 const FRONT: [u8; 12] = [71, 67, 82, 45, 49, 53, 52, 49, 0, 84, 248, 30];
 
-/// An entry of the tables of a new file, and that of the half track behind it.
+/// An entry of the tables of a new file, and that of the half track after it.
 fn entry(number: u32) -> [u8; 8]
     ensures { result ≡ little_bytes 4 number ++ replicate 4 0 }
 {

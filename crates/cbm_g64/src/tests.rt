@@ -170,7 +170,7 @@ fn a_new_file_has_its_tables(rt: HostRuntime) -> Result<(), Fail> {
     ] {
         assert!(rt; stands_at(image.as_slice(), at, &bytes), "at {at}");
     }
-    // The length of track 1, its first header, and the padding behind it.
+    // The length of track 1, its first header, and the padding after it.
     let start = [0x0c, 0x1e, 0xff, 0xff, 0xff, 0xff, 0xff];
     assert!(rt; stands_at(image.as_slice(), FIRST, &start));
     assert!(rt; stands_at(image.as_slice(), FIRST + 2 + 7692, &[0; 236]));

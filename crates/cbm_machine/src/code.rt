@@ -110,7 +110,7 @@ impl Code {
         }
     }
 
-    /// The code of a medium's fault or of what breaks a chain off; a number that the table hasn't is told as 25, since
+    /// The code of a medium's fault or of what breaks a chain off; a number that the table hasn't is shown as 25, since
     /// only a write that fails can have one.
     pub fn of_fault(number: u8) -> Code
         ensures { result ≡ code_of_fault number }
@@ -132,7 +132,7 @@ impl Code {
         }
     }
 
-    /// The text between the number and the two numbers behind it, at most 23 bytes.
+    /// The text between the number and the two numbers after it, at most 23 bytes.
     pub fn text(self) -> &'static [u8]
         ensures value { result.now ≡ code_text self }
         ensures short { length result.now ≤ 23 }

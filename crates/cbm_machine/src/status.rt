@@ -10,7 +10,7 @@ use cbm_medium::Trouble;
 /// A status line of at most 33 bytes.
 pub type StatusLine = ArrayVec<u8, 33>;
 
-/// What channel 15 tells: a code and two numbers.
+/// What channel 15 says: a code and two numbers.
 #[derive(Clone, Copy, Debug, PartialEq, Eq)]
 pub struct Status {
     pub code: Code,
@@ -66,7 +66,8 @@ impl Status {
 impl From<Trouble> for Status {
     ghost from_gives = { trouble_gives };
 
-    /// What a disk answers in place of bytes: the fault, its track and its sector. A protected disk is told with 0 and 0.
+    /// What a disk answers in place of bytes: the fault, its track and its sector. A protected disk is shown with 0
+    /// and 0.
     fn from(trouble: Trouble) -> Status {
         if trouble.code == Code::WriteProtected.number() {
             return Status::plain(Code::WriteProtected);

@@ -7,7 +7,7 @@ use crate::code::Code;
 use crate::status::{Status, StatusLine};
 use std::marker::Model;
 
-/// The status as channel 15 tells it: its line is made once, and told byte by byte.
+/// The status as channel 15 sends it: its line is made once, and sent byte by byte.
 #[derive(Drop)]
 pub struct Telling {
     status: Status,
@@ -28,7 +28,7 @@ impl Model for Telling {
 }
 
 impl Telling {
-    /// A status that is set, told from its beginning.
+    /// A status that was just set: nothing of it was sent yet.
     pub fn new(status: Status) -> Telling
         ensures { result ≡ (record { status = status; told = 0 }) }
     {
@@ -66,7 +66,7 @@ impl Telling {
     }
 }
 
-/// What is told on channel 15 is the machine's.
+/// The bytes that channel 15 sends are the machine's.
 pub fn tells_as_the_machine()
     ensures peek { (m : Machine) → peek 15 m ≡ next_told (told_by m) }
     ensures taken { (m : Machine) → told_by (taken 15 m) ≡ behind_next (told_by m) }

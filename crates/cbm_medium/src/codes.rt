@@ -1,5 +1,5 @@
-//! The codes of the drive's status that a disk's sectors answer (1541 User's Guide, "Error messages"; Immers and Neufeld,
-//! Inside Commodore DOS): faults that reading meets, refusals of a write, and links that lead nowhere.
+//! The codes of the drive's status that a disk's sectors answer (1541 User's Guide, "Error messages"; Immers and
+//! Neufeld, Inside Commodore DOS): faults that reading meets, refusals of a write, and links that lead nowhere.
 
 /// 20: no header of the sector is on the track, or no data block can stand after it.
 pub const NO_HEADER: u8 = 20;

@@ -112,7 +112,8 @@ pub fn read_linked<M: Medium>(
     ensures has { OnOk result (Has geometry at) }
     ensures left { OnOk result (0 < left) }
     ensures followed { let content = (M.seen medium.now).content in
-        IfOk result (λ bytes. follow geometry content left at ≡ with_block at (follow geometry content (left - 1) (link bytes))) }
+        IfOk result (λ bytes. follow geometry content left at ≡ with_block at
+        (follow geometry content (left - 1) (link bytes))) }
     ensures never_26 { IfErr result (λ t. t.code ≢ 26) }
     ensures err { IfErr result (λ t.
         follow geometry (M.seen medium.now).content left at ≡ (record { blocks = []; trouble = Some t })) }
@@ -127,13 +128,14 @@ pub fn read_linked<M: Medium>(
     Ok(bytes)
 }
 
-/// Following links gives the blocks of a chain that is short enough, and no others; and where it is cut, the blocks up to
-/// there, with 66 at a link to no sector of the disk, 71 at one sector too many, or the fault of the sector.
+/// Following links gives the blocks of a chain that is short enough, and no others; and where it is cut, the blocks
+/// up to there, with 66 at a link to no sector of the disk, 71 at one sector too many, or the fault of the sector.
 pub fn chains_are_followed()
     ensures whole { (tracks : ℕ) (content : Content) (most : ℕ) (a : Place) (blocks : List Place) →
         ((Chain tracks content a blocks × (length blocks ≤ most)) ↔ (follow tracks content most a ≡ ended blocks)) }
     ensures cut { (tracks : ℕ) (content : Content) (most : ℕ) (a : Place) (blocks : List Place) (t : Trouble) →
-        (IsCut tracks content most a blocks t ↔ (follow tracks content most a ≡ (record { blocks = blocks; trouble = Some t }))) }
+        (IsCut tracks content most a blocks t ↔
+        (follow tracks content most a ≡ (record { blocks = blocks; trouble = Some t }))) }
 {}
 
 /// A write to a sector that is none of a chain's leaves the chain.

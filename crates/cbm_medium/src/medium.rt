@@ -32,7 +32,7 @@ pub trait Medium {
         ensures refused { IfSome (write_refusal (seen self.old) at)
             (λ code. result ≡ Err (record { code = code; at = at })) }
 
-        // Any other fault is the medium's own, and is counted; 26 is told of protection alone, and never of a failure.
+        // Any other fault is the medium's own, and is counted; 26 means protection alone, and never a failure.
         ensures err { IfErr result (λ fault. (fault.at ≡ at)
             × IsRefused (write_refusal (seen self.old) at) fault.code (seen self.old) (seen self.new)) };
 
@@ -58,9 +58,9 @@ pub trait Medium {
     fn failures(&self) -> u64
         ensures { result ≡ (seen self.now).failures };
 
-    /// What stands in place of a sector's bytes is the code of a fault that reading meets. The disk controller ends a job
-    /// with one of the codes 2 to 11, which the DOS tells as 20 to 29 (Immers and Neufeld, Inside Commodore DOS): 2 to 6,
-    /// 9 and 11 come from reading, 7 and 10 from writing, and 8 from a disk that is protected.
+    /// What stands in place of a sector's bytes is the code of a fault that reading meets. The disk controller ends a
+    /// job with one of the codes 2 to 11, which the DOS shows as 20 to 29 (Immers and Neufeld, Inside Commodore DOS):
+    /// 2 to 6, 9 and 11 come from reading, 7 and 10 from writing, and 8 from a disk that is protected.
     ghost codes: { (m : Self) (p : Place) → HasFaultCode ((Self.seen m).content p) };
 
     /// No sector of the tracks 36 to 40 ever has a fault of its header, where the medium has these tracks.

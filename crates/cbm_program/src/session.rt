@@ -50,7 +50,7 @@ pub(crate) fn run_on<M: Medium, R: Read + Drop, W: Write>(
     reader: R,
     writer: &mut W,
 ) -> Result<(), RunFault>
-    // Up to its end or its first bad line the script prints what was written, and the drive stands behind it.
+    // Up to its end or its first bad line the script prints what was written, and the drive is in the state after it.
     ensures ended { EndsAs result (λ bad. IfSome (R.remaining reader) (λ input.
         ((script_of input).bad ≡ bad) × Prints (W.contents writer.old) (W.contents writer.new)
         (λ m. AreCarriedOut (script_of input).requests m × Stands M.seen dos.old m)

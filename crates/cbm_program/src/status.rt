@@ -15,7 +15,7 @@ use cbm_channel::{Dos, StatusLine};
 use cbm_medium::Medium;
 use std::io::Write;
 
-/// The channel that tells the status.
+/// The channel that sends the status.
 const STATUS: u8 = 15;
 
 /// The text without one return at its end.
@@ -29,7 +29,7 @@ fn without_return(text: &[u8]) -> &[u8]
     if *last == b'\r' { front } else { text }
 }
 
-/// What channel 15 tells of the status, to the line's end.
+/// What channel 15 sends of the status, up to the end of the line.
 fn status_line<M: Medium>(dos: &mut Dos<M>) -> StatusLine
     ensures medium { dos.new.medium ≡ dos.old.medium }
     ensures told { (m : Machine) → Stands M.seen dos.old m

@@ -23,7 +23,7 @@ fn is_plain(byte: u8) -> bool
     (0x20..=0x7e).contains(&byte)
 }
 
-/// What a text stands for: each byte itself, or a backslash and two hexadecimal digits.
+/// The bytes that a text means: each byte itself, or a backslash and two hexadecimal digits.
 pub fn decode(text: &[u8]) -> Option<Text>
     requires { length text.now ≤ 1000 }
     ensures { option_map (λ bytes. bytes.items) result ≡ text_of text.now }

@@ -11,7 +11,7 @@ fn space_in(bytes: &[u8]) -> Option<usize>
     bytes.iter().position(|b| *b == b' ')
 }
 
-/// The first word, and what stands behind the space that ends it.
+/// The first word, and what follows the space that ends it.
 pub(crate) fn split_word(bytes: &[u8]) -> (&[u8], Option<&[u8]>)
     ensures word { result.0.now ≡ first_word bytes.now }
     ensures short { IfSome result.1 (λ rest. length rest.now ≤ length bytes.now) }

@@ -76,9 +76,11 @@ fn laid_track(track: u8, id: &[u8; 2]) -> Track
     requires { (0 < track) × (track < 36) }
     ensures value { result ≡ fresh track id.now }
     ensures length { length result ≡ 8 * bytes_on track }
-    ensures shown { (s : ℕ) → s < sectors_on track → shown result id.now (record { track = track; sector = s }) ≡ Ok (replicate 256 0) }
+    ensures shown { (s : ℕ) → s < sectors_on track →
+        shown result id.now (record { track = track; sector = s }) ≡ Ok (replicate 256 0) }
     ensures id { track ≡ 18 → id_shown result ≡ Some id.now }
-    ensures blocks { (s : ℕ) → s < sectors_on track → block_of result id.now (record { track = track; sector = s }) ≡ Ok (block_place s) }
+    ensures blocks { (s : ℕ) → s < sectors_on track →
+        block_of result id.now (record { track = track; sector = s }) ≡ Ok (block_place s) }
 {
     let block = coded_block(&data_block(&[0; 256]));
     let mut bytes = ArrayVec::new();
@@ -100,9 +102,11 @@ pub fn fresh_track(track: u8, id: [u8; 2]) -> Track
     requires { (0 < track) × (track < 36) }
     ensures value { result ≡ fresh track id }
     ensures length { length result ≡ 8 * bytes_on track }
-    ensures shown { (s : ℕ) → s < sectors_on track → shown result id (record { track = track; sector = s }) ≡ Ok (replicate 256 0) }
+    ensures shown { (s : ℕ) → s < sectors_on track →
+        shown result id (record { track = track; sector = s }) ≡ Ok (replicate 256 0) }
     ensures id { track ≡ 18 → id_shown result ≡ Some id }
-    ensures blocks { (s : ℕ) → s < sectors_on track → block_of result id (record { track = track; sector = s }) ≡ Ok (block_place s) }
+    ensures blocks { (s : ℕ) → s < sectors_on track →
+        block_of result id (record { track = track; sector = s }) ≡ Ok (block_place s) }
 {
     laid_track(track, &id)
 }

@@ -8,15 +8,18 @@ use cbm_track::Track;
 /// What bytes are coded as is decoded to them, and nothing else is.
 pub fn decoding_undoes_code()
     ensures again { (v : List ℕ) → IsBytes v → decoded (length v) (code v) ≡ Some v }
-    ensures only { (n : ℕ) (bits : List Bool) (v : List ℕ) → length bits ≡ 10 * n → decoded n bits ≡ Some v → (length v ≡ n) × IsBytes v × (bits ≡ code v) }
-    ensures no_sync { (v : List ℕ) → IsBytes v → (j : ℕ) → j + 10 ≤ 10 * length v → ((k : ℕ) → k < 10 → slice_index_or (code v) (j + k) false ≡ true) → ⊥ }
+    ensures only { (n : ℕ) (bits : List Bool) (v : List ℕ) → length bits ≡ 10 * n → decoded n bits ≡ Some v →
+        (length v ≡ n) × IsBytes v × (bits ≡ code v) }
+    ensures no_sync { (v : List ℕ) → IsBytes v → (j : ℕ) → j + 10 ≤ 10 * length v →
+        ((k : ℕ) → k < 10 → slice_index_or (code v) (j + k) false ≡ true) → ⊥ }
 {}
 
 /// The four bytes whose code stands at a byte of others.
 fn group_in(coded: &[u8], at: usize) -> Option<[u8; 4]>
     requires inside { at + 5 ≤ length coded.now }
     requires few { length coded.now ≤ 325 }
-    ensures value { (v : List ℕ) → IsBlock v → ((result ≡ Some v) ↔ (code v ≡ take 40 (drop (8 * at) (bits_of coded.now)))) }
+    ensures value { (v : List ℕ) → IsBlock v →
+        ((result ≡ Some v) ↔ (code v ≡ take 40 (drop (8 * at) (bits_of coded.now)))) }
     ensures block { IfSome result IsBlock }
 {
     decode5(&[

@@ -85,7 +85,8 @@ fn is_wanted_at(track: &Track, place: u32, wanted: &Option<Address>) -> bool
 /// The first block from a place on that begins before the track's end.
 fn block_after(track: &Track, from: u32) -> Option<u32>
     requires { from < length track.now }
-    ensures some { IfSome result (λ p. (from ≤ p) × (p < length track.now) × (begins track.now p ≡ true) × ((q : ℕ) → from ≤ q → q < p → begins track.now q ≡ false)) }
+    ensures some { IfSome result (λ p. (from ≤ p) × (p < length track.now) × (begins track.now p ≡ true) ×
+        ((q : ℕ) → from ≤ q → q < p → begins track.now q ≡ false)) }
     ensures none { IfNone result ((q : ℕ) → from ≤ q → q < length track.now → begins track.now q ≡ false) }
 {
     let place = track.next_sync(from)?;

@@ -6,7 +6,8 @@ pub(crate) const HEADER_MARK: u8 = 8;
 /// The first byte of a data block.
 pub(crate) const DATA_MARK: u8 = 7;
 
-/// In a header block: the checksum of the four bytes after it, which are the sector, the track and the disk's id, its second byte first.
+/// In a header block: the checksum of the four bytes after it, which are the sector, the track and the disk's id, its
+/// second byte first.
 pub(crate) const CHECKSUM: usize = 1;
 
 pub(crate) const SECTOR: usize = 2;

@@ -1,4 +1,4 @@
-//! The sectors on a track: headers and data blocks in group code, behind sync marks.
+//! The sectors on a track: headers and data blocks in group code, each after a sync mark.
 #![tactic(auto)]
 
 mod block;

@@ -14,7 +14,7 @@ use cbm_medium::codes::{DISK_ID_MISMATCH, HEADER_CHECKSUM, NO_HEADER, NO_SYNC};
 use cbm_medium::{Address, Fault};
 use cbm_track::Track;
 
-/// The first block behind a place, all the way round.
+/// The first block that begins after a place, going all the way round.
 fn block_behind(track: &Track, place: u32) -> Option<u32>
     requires { place < length track.now }
     ensures value { result ≡ next_block track.now (place + 1) }
@@ -55,9 +55,9 @@ fn block_of(track: &Track, at: Address, id: [u8; 2]) -> Result<u32, u8>
     Ok(block)
 }
 
-/// Reads a sector: its 256 bytes. Errors, in the order of the tests (this project's order): 21 no sync mark on the track;
-/// 20 header not found; 27 header checksum; 29 disk id mismatch; 20 no data block after the header; 24 a byte that isn't
-/// group code; 22 not a data block; 23 data checksum.
+/// Reads a sector: its 256 bytes. Errors, in the order of the tests (this project's order): 21 no sync mark on the
+/// track; 20 header not found; 27 header checksum; 29 disk id mismatch; 20 no data block after the header; 24 a byte
+/// that isn't group code; 22 not a data block; 23 data checksum.
 #[tactic(auto, unfolding(crate::specs::Answer::shown))]
 pub fn read_sector(track: &Track, at: Address, id: [u8; 2]) -> Result<[u8; 256], Fault>
     requires { at.track ≤ 35 }
@@ -73,7 +73,7 @@ pub fn read_sector(track: &Track, at: Address, id: [u8; 2]) -> Result<[u8; 256],
     }
 }
 
-/// Writes a sector's data block anew, over the 2,600 bits behind its sync mark. The faults of its
+/// Writes a sector's data block anew, over the 2,600 bits after its sync mark. The faults of its
 /// header refuse it as they refuse a read; an `Err` changes nothing.
 pub fn write_sector(
     track: &mut Track,
@@ -83,14 +83,17 @@ pub fn write_sector(
 ) -> Result<(), Fault>
     requires { at.track ≤ 35 }
     ensures ok { OnOk result (shown track.new id at ≡ Ok bytes.now) }
-    ensures others { OnOk result ((id2 : List ℕ) (other : Place) → at ≢ other → shown track.new id2 other ≡ shown track.old id2 other) }
-    ensures bits { OnOk result ((d : ℕ) → block_of track.old id at ≡ Ok d → IsOverwritten track.old track.new d (code (data_block bytes.now))) }
+    ensures others { OnOk result ((id2 : List ℕ) (other : Place) → at ≢ other →
+        shown track.new id2 other ≡ shown track.old id2 other) }
+    ensures bits { OnOk result ((d : ℕ) → block_of track.old id at ≡ Ok d →
+        IsOverwritten track.old track.new d (code (data_block bytes.now))) }
     ensures id { id_shown track.new ≡ id_shown track.old }
     ensures length { length track.new ≡ length track.old }
     // A data block and its sync mark take 2,610 bits.
     ensures long { OnOk result (2610 ≤ length track.old) }
     ensures err { OnErr result (track.new ≡ track.old) }
-    ensures refused { IfSome (header_fault (shown track.old id at)) (λ code. result ≡ Err (record { code = code; at = at })) }
+    ensures refused { IfSome (header_fault (shown track.old id at))
+        (λ code. result ≡ Err (record { code = code; at = at })) }
     ensures cause { IfErr result (λ fault. (header_fault (shown track.old id at) ≡ Some fault.code) × (fault.at ≡ at)) }
 {
     match block_of(track, at, id) {
@@ -108,14 +111,16 @@ const SECTOR_BITS: u32 = 2896;
 
 const BITS_BEFORE: u32 = 232;
 
-/// Overwrites a sector's data block on a freshly formatted track. Its place is computed; the precondition says that a search
-/// would find the same place.
+/// Overwrites a sector's data block on a freshly formatted track. Its place is computed; the precondition says that a
+/// search would find the same place.
 pub fn fill_sector(track: &mut Track, at: Address, id: &[u8; 2], bytes: &[u8; 256])
     requires laid { block_of track.old id.now at ≡ Ok (block_place at.sector) }
     ensures ok { shown track.new id.now at ≡ Ok bytes.now }
-    ensures others { (id2 : List ℕ) (other : Place) → at ≢ other → shown track.new id2 other ≡ shown track.old id2 other }
+    ensures others { (id2 : List ℕ) (other : Place) → at ≢ other →
+        shown track.new id2 other ≡ shown track.old id2 other }
     ensures blocks { (id2 : List ℕ) (other : Place) → block_of track.new id2 other ≡ block_of track.old id2 other }
-    ensures bits { (d : ℕ) → block_of track.old id.now at ≡ Ok d → IsOverwritten track.old track.new d (code (data_block bytes.now)) }
+    ensures bits { (d : ℕ) → block_of track.old id.now at ≡ Ok d →
+        IsOverwritten track.old track.new d (code (data_block bytes.now)) }
     ensures id { id_shown track.new ≡ id_shown track.old }
     ensures length { length track.new ≡ length track.old }
     ensures long { 2610 ≤ length track.old }

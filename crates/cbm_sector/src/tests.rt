@@ -93,7 +93,7 @@ const DAMAGE: [(&[(usize, u8)], u8, u8); 12] = [
     (&[], 0, 0),
     // A byte of the header has no code.
     (&[(5, 0)], 20, 0),
-    // The header's exclusive or is 7 in place of 17.
+    // The header's checksum is 7 in place of 17.
     (&[(6, 0x55), (7, 0x75)], 27, 0),
     // No sync mark stands before the data block: the next block is a header.
     (
@@ -111,7 +111,7 @@ const DAMAGE: [(&[(usize, u8)], u8, u8); 12] = [
     (&[(29, 0x55), (30, 0x94)], 22, 0),
     // A later byte has no code.
     (&[(200, 0)], 24, 0),
-    // A byte of the data is $70 in place of 0, so the exclusive or is wrong.
+    // A byte of the data is $70 in place of 0, so the checksum is wrong.
     (&[(34, 0xba)], 23, 0),
     // The header of 18/1 has no code.
     (&[(367, 0)], 0, 20),

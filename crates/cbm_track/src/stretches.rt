@@ -61,8 +61,10 @@ fn write_around(track: &mut [u8], place: usize, bytes: &[u8])
     requires place { place < 8 * length track.old }
     requires size { length track.old ≤ 7928 }
     requires fits { length bytes.now ≤ length track.old }
-    ensures written { (k : ℕ) → k < 8 * length bytes.now → bit (bits_of track.new) (place + k) ≡ slice_index_or (bits_of bytes.now) k false }
-    ensures others { (k : ℕ) → 8 * length bytes.now ≤ k → k < 8 * length track.old → bit (bits_of track.new) (place + k) ≡ bit (bits_of track.old) (place + k) }
+    ensures written { (k : ℕ) → k < 8 * length bytes.now →
+        bit (bits_of track.new) (place + k) ≡ slice_index_or (bits_of bytes.now) k false }
+    ensures others { (k : ℕ) → 8 * length bytes.now ≤ k → k < 8 * length track.old →
+        bit (bits_of track.new) (place + k) ≡ bit (bits_of track.old) (place + k) }
 {
     let bits = 8 * track.len();
     let mut at = place;
@@ -77,8 +79,10 @@ pub(crate) fn write_bytes(track: &mut [u8], place: usize, bytes: &[u8])
     requires place { place < 8 * length track.old }
     requires size { length track.old ≤ 7928 }
     requires fits { length bytes.now ≤ length track.old }
-    ensures written { (k : ℕ) → k < 8 * length bytes.now → bit (bits_of track.new) (place + k) ≡ slice_index_or (bits_of bytes.now) k false }
-    ensures others { (k : ℕ) → 8 * length bytes.now ≤ k → k < 8 * length track.old → bit (bits_of track.new) (place + k) ≡ bit (bits_of track.old) (place + k) }
+    ensures written { (k : ℕ) → k < 8 * length bytes.now →
+        bit (bits_of track.new) (place + k) ≡ slice_index_or (bits_of bytes.now) k false }
+    ensures others { (k : ℕ) → 8 * length bytes.now ≤ k → k < 8 * length track.old →
+        bit (bits_of track.new) (place + k) ≡ bit (bits_of track.old) (place + k) }
 {
     let first = place / 8;
     let end = first + bytes.len();

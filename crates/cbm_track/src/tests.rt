@@ -83,7 +83,7 @@ const MARKS: [([u8; 4], u32, Option<u32>); 9] = [
     ([0x7f, 0xe0, 0x00, 0x00], 11, Some(11)),
     // The search goes all the way round.
     ([0x7f, 0xe0, 0x00, 0x00], 12, Some(11)),
-    // A mark that runs over the end belongs to the block behind it.
+    // A mark that runs over the end belongs to the block after it.
     ([0xf0, 0x00, 0x00, 0x3f], 0, Some(4)),
     ([0xe0, 0x00, 0x00, 0x3f], 4, None),
     ([0xff, 0xff, 0xff, 0xff], 0, None),

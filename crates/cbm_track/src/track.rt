@@ -84,8 +84,10 @@ impl Track {
         requires place { place < length self.old }
         requires fits { 8 * length bytes.now ≤ length self.old }
         ensures length { length self.new ≡ length self.old }
-        ensures written { (k : ℕ) → k < 8 * length bytes.now → bit self.new (place + k) ≡ slice_index_or (bits_of bytes.now) k false }
-        ensures others { (k : ℕ) → 8 * length bytes.now ≤ k → k < length self.old → bit self.new (place + k) ≡ bit self.old (place + k) }
+        ensures written { (k : ℕ) → k < 8 * length bytes.now →
+            bit self.new (place + k) ≡ slice_index_or (bits_of bytes.now) k false }
+        ensures others { (k : ℕ) → 8 * length bytes.now ≤ k → k < length self.old →
+            bit self.new (place + k) ≡ bit self.old (place + k) }
     {
         write_bytes(self.bytes.as_mut_slice(), place as usize, bytes);
     }

@@ -131,7 +131,8 @@ fn plain_bytes(track: &[u8], from: usize) -> usize
 pub(crate) fn step_at(track: &[u8], place: usize) -> Option<usize>
     requires place { place < 8 * length track.now }
     requires size { length track.now ≤ 7928 }
-    ensures some { IfSome result (λ s. (0 < s) × (s ≤ 63480) × ((j : ℕ) → j < s → ten_ones (bits_of track.now) (place + j) ≡ false)) }
+    ensures some { IfSome result (λ s. (0 < s) × (s ≤ 63480) ×
+        ((j : ℕ) → j < s → ten_ones (bits_of track.now) (place + j) ≡ false)) }
     ensures none { IfNone result (ten_ones (bits_of track.now) place ≡ true) }
 {
     let word = window(track, place);

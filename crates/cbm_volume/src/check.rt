@@ -31,7 +31,8 @@ fn head_alone() -> SectorSet
     set
 }
 
-/// Looks at the whole disk, and answers the first fault that it meets: of the headers, of the map, of the directory, of the slots.
+/// Looks at the whole disk, and answers the first fault that it meets: of the headers, of the map, of the directory,
+/// of the slots.
 pub fn check_disk<M: Medium>(medium: &M) -> Result<(), Unsound>
     ensures ok { let now = M.seen medium.now in
         OnOk result (ClaimsDisk (geometry_of now.tracks now.content) now.content) }

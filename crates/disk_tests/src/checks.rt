@@ -17,7 +17,7 @@ pub const CHECKED: Options = Options {
     check: true,
 };
 
-/// The script prints this behind the check's line, and the image stays as it was.
+/// The script prints this after the check's line, and the image stays as it was.
 fn shows(
     rt: &impl Abort,
     alloc: Global,
@@ -127,7 +127,8 @@ fn sectors_that_do_not_read(rt: HostRuntime) -> Result<(), Fail> {
     )
 }
 
-/// A relative file of five records of 100 bytes, the third of which begins with HI: blocks 17/0 and 17/20, side sector 17/10.
+/// A relative file of five records of 100 bytes, the third of which begins with HI: blocks 17/0 and 17/20, side
+/// sector 17/10.
 const RECORDS: &str = "18/01+02=84 18/01+15=110a64 18/01+1e=0300 18/00+44=12fefb0f \
 17/00+00=1114ff 17/00+66=ff 17/00+ca=4849 17/20+00=00f7 17/20+30=ff 17/20+94=ff \
 17/10+00=00130064110a 17/10+10=11001114";

@@ -13,7 +13,7 @@ pub const EMPTY: usize = 174_848;
 /// The same with an error byte for each sector.
 pub const WITH_ERRORS: usize = 175_531;
 
-/// A formatted disk of forty tracks, if the map behind the title counts them.
+/// A formatted disk of forty tracks, if the map after the title counts them.
 pub const WIDE: usize = 196_608;
 
 fn digit(byte: u8) -> u8 {
@@ -115,7 +115,7 @@ fn sound_disks(rt: HostRuntime) -> Result<(), Fail> {
             // closed files without a block, one of them deleted
             ("18/01+22=820000", [0; 3]),
             ("18/01+22=800000", [0; 3]),
-            // bits behind a track's last sector, the link of 18/0 and its byte 2
+            // bits after a track's last sector, the link of 18/0 and its byte 2
             ("18/00+8c=11ffff03", [0; 3]),
             ("18/00+00=6363ff", [0; 3]),
             // a second sector of the directory

@@ -1,4 +1,4 @@
-// Scripts on worked disks: what they print, and the image behind them.
+// Scripts on worked disks: what they print, and the image afterwards.
 use crate::image::{enter, formatted, place, put};
 use cbm_d64::D64Disk;
 use cbm_g64::G64Disk;

@@ -23,7 +23,8 @@ use cbm_volume::{Medium, Trouble};
 /// How many channels a file costs that is found for reading: two where it has records, unless `@` refuses these.
 fn cost_of(wanted: &Wanted, found: &Result<Found, Status>) -> usize
     ensures few { result ≤ 2 }
-    ensures cost { (tracks : ℕ) (c : Content) (d : Disk) (r : Result (ℕ × File) code.Code) → FoundAs tracks c d r found.now
+    ensures cost { (tracks : ℕ) (c : Content) (d : Disk) (r : Result (ℕ × File) code.Code) →
+        FoundAs tracks c d r found.now
         → result ≡ (if not wanted.now.has_at && plans.meets_records r then 2 else 1) }
 {
     match found {
@@ -36,8 +37,10 @@ fn cost_of(wanted: &Wanted, found: &Result<Found, Status>) -> usize
 fn plan_read(wanted: &Wanted, found: Found) -> Result<Plan, Status>
     ensures own { IfErr result (λ s. is_fault_number (code_number s.code) ≡ false) }
     ensures same { IfOk result (λ p. p ≡ planned.ReadFile found) }
-    ensures planned { (tracks : ℕ) (c : Content) (m : Machine) (s : ℕ) (f : File) → in_writing m s ≡ false → IsFound tracks c m.disk s f found
-        → MeetsNoRecords (plans.plan_read wanted.now m (s, f)) → PlannedAs tracks c m.disk (plans.plan_read wanted.now m (s, f)) result }
+    ensures planned { (tracks : ℕ) (c : Content) (m : Machine) (s : ℕ) (f : File) → in_writing m s ≡ false →
+        IsFound tracks c m.disk s f found
+        → MeetsNoRecords (plans.plan_read wanted.now m (s, f)) →
+        PlannedAs tracks c m.disk (plans.plan_read wanted.now m (s, f)) result }
 {
     let kind = found.entry.kind();
     if kind == Some(FileType::Del) {
@@ -78,7 +81,8 @@ impl<M: Medium> Dos<M> {
             → Stands M.seen self.new (after_open channel text.now m) }
         // On any disk:
         ensures others { SameBut channel self.old.channels self.new.channels }
-        ensures refused { channel < 15 → (self.new.told.status.code ≡ Fine) ⊎ (slice_index_or self.new.channels channel Closed ≡ Closed) }
+        ensures refused { channel < 15 → (self.new.told.status.code ≡ Fine) ⊎
+            (slice_index_or self.new.channels channel Closed ≡ Closed) }
         ensures told { IsToldFor M.seen self.old self.new }
         ensures medium { self.new.medium ≡ self.old.medium }
     {

@@ -23,7 +23,8 @@ pub(crate) trait DiskImage: Medium {
 
     /// The image of the disk as it is now. The one error is `Memory`.
     fn save(&self, alloc: Global) -> Result<Vec<u8>, RunFault>
-        ensures ok { IfOk result (λ image. IsOf kind image.items (Self.seen self.now).tracks (Self.seen self.now).content) }
+        ensures ok { IfOk result (λ image. IsOf kind image.items (Self.seen self.now).tracks
+            (Self.seen self.now).content) }
         ensures err { IfErr result (λ fault. fault ≡ RunFault.Memory) };
 }
 

@@ -48,8 +48,8 @@ fn check_own_bit<M: Medium>(medium: &M, geometry: Geometry) -> Result<(), Unsoun
     Err(Flaw::ClaimedButFree.at(Link::from(Address::of_map())))
 }
 
-/// Looks at the map: whether 18/0 reads, then at its own bit, then at the counts of its tracks in order, 1 at the first that
-/// is wrong.
+/// Looks at the map: whether 18/0 reads, then at its own bit, then at the counts of its tracks in order, 1 at the
+/// first that is wrong.
 pub fn check_map<M: Medium>(medium: &M, geometry: Geometry) -> Result<(), Unsound>
     requires { geometry ≤ (M.seen medium.now).tracks }
     ensures ok { OnOk result (IsMapRight geometry (M.seen medium.now).content) }

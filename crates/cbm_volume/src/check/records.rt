@@ -20,8 +20,8 @@ fn step<M: Medium>(medium: &M, geometry: Geometry, listed: Link, at: Link) -> Op
     }
 }
 
-/// Checks that the data blocks a side sector lists are, in order, the next blocks of the file's chain. Returns the link after
-/// the last of them, or None at the first difference.
+/// Checks that the data blocks a side sector lists are, in order, the next blocks of the file's chain. Returns the
+/// link after the last of them, or None at the first difference.
 fn walk_listed<M: Medium>(
     medium: &M,
     geometry: Geometry,
@@ -81,8 +81,8 @@ fn walk_side_at<M: Medium>(
     }
 }
 
-/// Checks all side sectors of a file, from the bytes of the first. Returns the link after the last block that they list, or None
-/// at the first that isn't right.
+/// Checks all side sectors of a file, from the bytes of the first. Returns the link after the last block that they
+/// list, or None at the first that isn't right.
 pub fn walk_sides<M: Medium>(
     medium: &M,
     geometry: Geometry,

@@ -10,7 +10,7 @@ use crate::check::unsound::{Part, Unsound};
 use cbm_medium::{Geometry, Link, Medium};
 use cbm_relfile::side::SIDES;
 
-/// Claims the side sectors that a file's first one lists behind itself.
+/// Claims the side sectors that a file's first one lists after itself.
 fn claim_listed<M: Medium>(
     medium: &M,
     geometry: Geometry,
