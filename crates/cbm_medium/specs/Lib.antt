@@ -3,3 +3,4 @@ pub mod Content
 pub mod Seen
 pub mod Links
 pub mod Countdown
+pub mod Met
