@@ -25,8 +25,8 @@ impl<M: Medium> Dos<M> {
     ghost use Rattle.cbm_channel.specs.Standing.{Stands};
     ghost use Rattle.cbm_channel.specs.Planned.{FoundAs};
 
-    /// The first file that matches and is of the type, where one is meant. An `Err` is 64 where the name is there and
-    /// has none of the type, 62 where it isn't there, or what the disk answers.
+    /// The first file whose name matches and whose type is the one asked for, if one is. Errors: 62 no such name; 64
+    /// the name is there, with other types alone; or the fault of the directory.
     pub(crate) fn found(&self, pattern: &Name, kind: Option<FileType>) -> Result<Found, Status>
         ensures ground { IfErr result (HasGround M.seen self.now.medium) }
         ensures from { let now = M.seen self.now.medium in

@@ -33,8 +33,7 @@ fn add_entry(listing: &mut Listing, pattern: &Name, entry: &Entry)
     }
 }
 
-/// The listing of the files that match a pattern. An `Err` is what the disk answers in place of 18/0 or of the
-/// directory.
+/// The listing of the files that match a pattern. Errors: the fault of 18/0, or of the directory.
 pub(crate) fn list<M: Medium>(volume: &Volume<M>, pattern: &Name) -> Result<Listing, Trouble>
     ensures shown { let now = M.seen volume.now in
         IfErr result (ShowsTrouble (geometry_of now.tracks now.content) now.content) }

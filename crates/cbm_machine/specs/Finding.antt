@@ -1,5 +1,5 @@
 -- Files by their names, and slots for new ones.
-use Rattle.std.specs.Prelude.{ℕ, ◌-◌, nat_lt, Bool, true, false, ◌||◌, List, [], ◌∷◌, ◌++◌, length, replicate, filter, slice_set, if◌then◌else◌, Option, Some, None, is_some, is_none, Result, Ok, Err}
+use Rattle.std.specs.Prelude.{ℕ, ◌-◌, nat_lt, Bool, true, false, ◌||◌, List, [], ◌∷◌, ◌++◌, length, replicate, filter, slice_set, if◌then◌else◌, Option, Some, None, is_some, is_none, unwrap_or, Result, Ok, Err}
 use Rattle.cbm_file.specs.declared.file_type.FileType.{FileType}
 use Rattle.cbm_file.specs.Types.{is_same_type}
 use Rattle.cbm_file.specs.Files.{Body, Bytes, File, Disk, empty_from, file_at}
@@ -44,14 +44,9 @@ grown d = if is_none (empty_from 0 d.slots) then record d { slots = d.slots ++ r
 abbrev pub has_slot : Disk → Bool
 has_slot d = is_some (empty_from 0 d.slots) || nat_lt 0 d.room
 
--- the number of a slot, if there is one
-abbrev pub slot_or : Option ℕ → ℕ
-slot_or None = 0
-slot_or (Some n) = n
-
--- the first empty slot after the growth
+-- the first empty slot after the growth, or 0 where none is
 abbrev pub new_slot : Disk → ℕ
-new_slot d = slot_or (empty_from 0 (grown d).slots)
+new_slot d = unwrap_or (empty_from 0 (grown d).slots) 0
 
 -- the file in the first empty slot, with so many free blocks fewer
 abbrev pub with_file : Disk → File → ℕ → Disk

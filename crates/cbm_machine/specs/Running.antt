@@ -1,5 +1,5 @@
 -- The commands.
-use Rattle.std.specs.Prelude.{ℕ, ◌+◌, ◌-◌, ◌/◌, ◌==◌, nat_lt, Bool, ◌&&◌, ◌||◌, not, List, [], ◌∷◌, ◌++◌, length, take, replicate, flat_map, map, if◌then◌else◌, Option, Some, None, is_some, Result, Ok, Err}
+use Rattle.std.specs.Prelude.{ℕ, ◌+◌, ◌-◌, ◌/◌, ◌==◌, nat_lt, Bool, ◌&&◌, ◌||◌, not, List, [], ◌∷◌, ◌++◌, length, take, replicate, flat_map, map, if◌then◌else◌, Option, Some, None, is_some, unwrap_or, Result, Ok, Err}
 use Rattle.std.specs.List.{list_any}
 use Rattle.cbm_file.specs.declared.file_type.FileType.TheVariants.{Del, Rel}
 use Rattle.cbm_file.specs.Files.{Bytes, File, Disk, blocks_on, blocks_of, held_on, files, with_slot, bytes_in, record_length_in}
@@ -19,16 +19,11 @@ use Rattle.cbm_machine.specs.Records.{record_at}
 abbrev pub padded_title : List ℕ → List ℕ
 padded_title name = name ++ replicate (16 - length name) filler
 
--- the new id, or the old one
-abbrev pub id_or : Option (List ℕ) → List ℕ → List ℕ
-id_or None old = old
-id_or (Some id) old = id
-
--- eight empty slots, and all else free but the directory's two sectors
+-- The new id, or the old one where none is given; eight empty slots, and all else free but the directory's two sectors.
 abbrev pub new_disk : ℕ → List ℕ → Option (List ℕ) → Disk → Disk
 new_disk tracks name id d = record {
   title = padded_title name;
-  mark = id_or id (take 2 d.mark) ++ filler ∷ 50 ∷ 65 ∷ [];
+  mark = unwrap_or id (take 2 d.mark) ++ filler ∷ 50 ∷ 65 ∷ [];
   slots = replicate 8 None;
   room = 17;
   free = blocks_on tracks;

@@ -13,11 +13,15 @@ pub type StatusLine = ArrayVec<u8, 33>;
 /// What channel 15 says: a code and two numbers.
 #[derive(Clone, Copy, Debug, PartialEq, Eq)]
 pub struct Status {
+    /// What it says.
     pub code: Code,
+    /// A track, a count of files, or 0.
     pub first: u8,
+    /// A sector, or 0.
     pub second: u8,
 }
 
+/// Adds bytes to a line that has room for them.
 fn add(line: &mut StatusLine, bytes: &[u8])
     requires { array_vec_len line.old + length bytes.now ≤ 33 }
     ensures items { line.new.items ≡ line.old.items ++ bytes.now }
@@ -66,8 +70,8 @@ impl Status {
 impl From<Trouble> for Status {
     ghost from_gives = { trouble_gives };
 
-    /// What a disk answers in place of bytes: the fault, its track and its sector. A protected disk is shown with 0
-    /// and 0.
+    /// The status of what a disk answers in place of bytes: its fault, track and sector, or 26, 0 and 0 where the disk
+    /// is protected.
     fn from(trouble: Trouble) -> Status {
         if trouble.code == Code::WriteProtected.number() {
             return Status::plain(Code::WriteProtected);

@@ -27,10 +27,10 @@ fn hex_digit(n: u8) -> u8
 
 /// Prints a byte, and whether it is the last.
 fn print_byte<W: Write>(writer: &mut W, byte: u8, is_last: bool) -> Result<(), RunFault>
-    ensures ok { OnOk result (Appends (W.contents writer.old) (W.contents writer.new) (unit_text
-        (Some (byte, is_last)))) }
-    ensures err { OnErr result (AppendsPart (W.contents writer.old) (W.contents writer.new) (unit_text
-        (Some (byte, is_last)))) }
+    ensures ok { OnOk result
+        (Appends (W.contents writer.old) (W.contents writer.new) (unit_text (Some (byte, is_last)))) }
+    ensures err { OnErr result
+        (AppendsPart (W.contents writer.old) (W.contents writer.new) (unit_text (Some (byte, is_last)))) }
     ensures grows { Grows (W.contents writer.old) (W.contents writer.new) }
     ensures fault { IfErr result IsOfWriting }
 {
@@ -95,8 +95,8 @@ fn print_units<M: Medium, W: Write>(
 fn print_head<W: Write>(writer: &mut W, channel: u8, tail: &[u8]) -> Result<(), RunFault>
     requires { length tail.now ≤ 8 }
     ensures ok { OnOk result (Appends (W.contents writer.old) (W.contents writer.new) (get_head channel tail.now)) }
-    ensures err { OnErr result (AppendsPart (W.contents writer.old) (W.contents writer.new)
-        (get_head channel tail.now)) }
+    ensures err { OnErr result
+        (AppendsPart (W.contents writer.old) (W.contents writer.new) (get_head channel tail.now)) }
     ensures grows { Grows (W.contents writer.old) (W.contents writer.new) }
     ensures fault { IfErr result IsOfWriting }
 {

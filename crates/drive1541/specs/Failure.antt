@@ -4,13 +4,13 @@ use Rattle.cbm_program.specs.declared.fault.RunFault.{RunFault}
 use Rattle.cbm_program.specs.declared.fault.RunFault.TheVariants.{Script as LineRefused, Image as ImageRefused, Memory, Reading, Writing}
 use Rattle.drive1541.specs.declared.failure.Failure.{Failure}
 use Rattle.drive1541.specs.declared.failure.Failure.TheVariants.{Script, Image, File, NoMemory}
-use Rattle.drive1541.specs.declared.failure.Place.TheVariants.{Script as TheScript, Output}
+use Rattle.drive1541.specs.declared.failure.Stream.TheVariants.{Script as TheScript, Output}
 
 -- the exit status of a program that ended so
 abbrev pub status_of : Failure → ℕ
 status_of (Script line) = 1
 status_of (Image number) = 2
-status_of (File place) = 3
+status_of (File stream) = 3
 status_of NoMemory = 3
 
 -- the same where it may have ended well

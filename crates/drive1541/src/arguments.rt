@@ -1,5 +1,5 @@
 //! The words of the command line.
-use crate::failure::Place;
+use crate::failure::Stream;
 use clap::{Arg, ArgAction, Command, Error, value_parser};
 use std::alloc::Global;
 
@@ -21,13 +21,13 @@ pub struct Arguments<'a> {
 }
 
 impl<'a> Arguments<'a> {
-    /// The word that names a place.
-    pub fn name_of(&self, place: Place) -> &'a str {
-        match place {
-            Place::Image => self.image,
-            Place::Script => self.script,
-            Place::Out => self.out,
-            Place::Output => "output",
+    /// The word of the command line that names a stream, or `output`.
+    pub fn name_of(&self, stream: Stream) -> &'a str {
+        match stream {
+            Stream::Image => self.image,
+            Stream::Script => self.script,
+            Stream::Out => self.out,
+            Stream::Output => "output",
         }
     }
 }

@@ -8,7 +8,7 @@ use std::io;
 
 /// A file of the command line, or standard output.
 #[derive(Clone, Copy, Debug, PartialEq, Eq)]
-pub enum Place {
+pub enum Stream {
     /// The image that is read.
     Image,
     /// The script.
@@ -27,7 +27,7 @@ pub enum Failure {
     /// The image is refused, by its fault's number.
     Image(u8),
     /// A file couldn't be read or written.
-    File(Place),
+    File(Stream),
     /// Memory ran out.
     NoMemory,
 }
@@ -59,8 +59,8 @@ impl Failure {
         match self {
             Failure::Script(line) => eprintln!(rt; "script line {line} refused"),
             Failure::Image(number) => eprintln!(rt; "image refused: {number}"),
-            Failure::File(place) => {
-                let name = arguments.name_of(place);
+            Failure::File(stream) => {
+                let name = arguments.name_of(stream);
                 eprintln!(rt; "file fault: {name}")
             }
             Failure::NoMemory => eprintln!(rt; "no memory"),
@@ -68,11 +68,11 @@ impl Failure {
     }
 
     /// What a refused call on a file was.
-    pub fn of_file(error: io::Error, place: Place) -> Failure {
+    pub fn of_file(error: io::Error, stream: Stream) -> Failure {
         if error.kind() == io::ErrorKind::OutOfMemory {
             Failure::NoMemory
         } else {
-            Failure::File(place)
+            Failure::File(stream)
         }
     }
 
@@ -85,8 +85,8 @@ impl Failure {
             RunFault::Script(line) => Failure::Script(line),
             RunFault::Image(number) => Failure::Image(number),
             RunFault::Memory => Failure::NoMemory,
-            RunFault::Reading => Failure::File(Place::Script),
-            RunFault::Writing => Failure::File(Place::Output),
+            RunFault::Reading => Failure::File(Stream::Script),
+            RunFault::Writing => Failure::File(Stream::Output),
         }
     }
 }

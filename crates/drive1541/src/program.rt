@@ -1,6 +1,6 @@
 //! The program: what it reads, what it runs, and what it saves.
 use crate::arguments::{self, Arguments};
-use crate::failure::{Failure, Place, exit_status};
+use crate::failure::{Failure, Stream, exit_status};
 use crate::save::save;
 use cbm_program::{Options, run};
 use std::io::{BufWriter, Write};
@@ -34,10 +34,10 @@ fn words_of(rt: &HostRuntime) -> io::Result<Vec<String>> {
 }
 
 fn carry_out<R: Runtime + AllocGlobal>(rt: &R, arguments: &Arguments<'_>) -> Result<(), Failure> {
-    let image = fs::read(rt, arguments.image).map_err(|e| Failure::of_file(e, Place::Image))?;
-    let script = fs::open(rt, arguments.script).map_err(|e| Failure::of_file(e, Place::Script))?;
+    let image = fs::read(rt, arguments.image).map_err(|e| Failure::of_file(e, Stream::Image))?;
+    let script = fs::open(rt, arguments.script).map_err(|e| Failure::of_file(e, Stream::Script))?;
     let saved = run_script(rt, script, image.as_slice(), arguments)?;
-    save(rt, arguments.out, saved.as_slice()).map_err(|e| Failure::of_file(e, Place::Out))
+    save(rt, arguments.out, saved.as_slice()).map_err(|e| Failure::of_file(e, Stream::Out))
 }
 
 // What was printed before a fault is written too.
@@ -54,6 +54,6 @@ fn run_script<R: Runtime + AllocGlobal, S: io::Read + Drop>(
     };
     let mut output = BufWriter::new(rt.alloc(), io::writer(rt)).map_err(|_| Failure::NoMemory)?;
     let ended = run(rt.alloc(), script, &mut output, image, &options);
-    output.flush().map_err(|_| Failure::File(Place::Output))?;
+    output.flush().map_err(|_| Failure::File(Stream::Output))?;
     ended.map_err(Failure::of_run)
 }
