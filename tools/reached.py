@@ -51,9 +51,10 @@ class Specs:
             specs = os.path.join(top, "crates", crate, "specs")
             if not os.path.isdir(specs):
                 continue
-            for file in sorted(os.listdir(specs)):
-                path = os.path.join(specs, file)
-                module = f"Rattle.{crate}.specs.{file[:-5]}"
+            paths = (os.path.join(at, file) for at, _, names in os.walk(specs) for file in names)
+            for path in sorted(paths):
+                file = os.path.relpath(path, specs)
+                module = f"Rattle.{crate}.specs.{file[:-5].replace(os.sep, '.')}"
                 if file == "Lib.antt":
                     for other in re.findall(r"pub use (Rattle\.[\w.]+)", open(path, encoding="utf-8").read()):
                         self.passed[f"Rattle.{crate}.specs.{other.rsplit('.', 1)[1]}"] = other
