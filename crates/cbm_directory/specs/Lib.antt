@@ -1,3 +1,4 @@
 pub mod Entries
 pub mod EntryChanges
 pub mod Slots
+pub mod Growth

@@ -1,4 +1,4 @@
-use Rattle.std.proofs.Common.{◌≡◌, ◌∙◌, List, ℕ, subst}
+use Rattle.std.proofs.Common.{◌∙◌, List, ℕ, subst}
 use borrow.Rule.Slice.PartMut.{put_mid}
 use Rattle.cbm_directory.specs.EntryChanges.{IsRenamedAs}
 use Rattle.cbm_directory.proofs.Named.{renamed_as}

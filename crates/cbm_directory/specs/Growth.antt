@@ -1,0 +1,40 @@
+-- The directory grows by a sector of track 18.
+use Rattle.std.specs.Prelude.{ℕ, ◌<◌, ◌≡◌, ◌⊎◌, List, [], ◌∷◌, ◌++◌, length, replicate, Some}
+use Rattle.cbm_medium.specs.Place.{Place, directory_head}
+use Rattle.cbm_medium.specs.Content.{Content, written}
+use Rattle.cbm_medium.specs.Links.{Chain, bytes_at, follow}
+use Rattle.cbm_medium.specs.Seen.{Seen, write_refusal}
+use Rattle.cbm_medium.specs.declared.fault.Trouble.{Trouble}
+use Rattle.cbm_bam.specs.Map.{ClaimsOn18}
+use Rattle.cbm_bam.specs.Causes.{HasCause}
+use Rattle.cbm_directory.specs.Entries.{first_directory, HasLink}
+
+-- the directory ends with this sector, one of at most eighteen
+abbrev pub IsLastSector : ℕ → Content → Place → Type 0
+IsLastSector tracks c p = (before : List Place) × (Chain tracks c first_directory (before ++ p ∷ []) × (length before < 18))
+
+-- a new sector of the directory: the last one, whose entries are empty
+abbrev pub new_sector : List ℕ
+new_sector = 0 ∷ 255 ∷ replicate 254 0
+
+-- A FREE SECTOR OF TRACK 18 was claimed, written as a new one, and then the last sector links to it.
+pub record Grows (tracks : ℕ) (old new : Content) : Type 0 where
+  pub last : Place
+  pub is_last : IsLastSector tracks old last
+  pub more : Place
+  pub claimed : Content
+  pub claims : ClaimsOn18 tracks old claimed more
+  pub sector : List ℕ
+  pub links : HasLink (bytes_at old last) sector more
+  pub written : new ≡ written (written claimed more new_sector) last sector
+
+-- what a refused write leaves: nothing has changed; or a sector of track 18 is claimed, and may be written as a new one
+abbrev pub GrowthStopped : ℕ → Content → Content → Type 0
+GrowthStopped tracks old new =
+    (new ≡ old) ⊎ ((q : Place) × ((claimed : Content) × (ClaimsOn18 tracks old claimed q × ((new ≡ claimed) ⊎ (new ≡ written claimed q new_sector)))))
+
+-- why the growth was refused: the directory breaks off, 18/0 doesn't read, a sector's write is refused, or the medium failed
+abbrev pub IsGrowthRefused : ℕ → Seen → Seen → Trouble → Type 0
+IsGrowthRefused tracks old new t =
+    ((follow tracks old.content 18 first_directory).trouble ≡ Some t)
+    ⊎ (HasCause old new directory_head t.code ⊎ ((p : Place) × (write_refusal old p ≡ Some t.code)))
