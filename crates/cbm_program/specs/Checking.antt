@@ -4,7 +4,7 @@ use Rattle.std.specs.Io.KnownBytes.{Appends}
 use Rattle.cbm_medium.specs.Content.{Content}
 use Rattle.cbm_volume.specs.Map.{geometry_of}
 use Rattle.cbm_volume.specs.Layouts.{Layout, Sound}
-use Rattle.cbm_volume.specs.Unsound.{DiskFault}
+use Rattle.cbm_volume.specs.check.WholeDisk.{DiskFault}
 use Rattle.cbm_volume.specs.declared.Unsound.{Unsound}
 use Rattle.cbm_channel.specs.Machines.{Machine}
 use Rattle.cbm_program.specs.declared.request.Request.{Request}
