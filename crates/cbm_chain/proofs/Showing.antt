@@ -8,7 +8,8 @@ use Rattle.cbm_medium.specs.Content.{Content}
 use Rattle.cbm_medium.specs.Links.{Followed}
 use Rattle.cbm_medium.proofs.Walks.{follow_end}
 use Rattle.cbm_chain.specs.Data.{chain_bytes}
-use Rattle.cbm_chain.specs.Reading.{Rest, held_from, with_front, one_less, shown}
+use Rattle.cbm_chain.specs.Reading.{Rest, held_from, with_front, one_less}
+use Rattle.cbm_file.specs.Waiting.{shown}
 
 range_empty : (xs : List ℕ) (from to : ℕ) → to ≤ from → slice_range xs from to ≡ []
 range_empty xs from to h = let none : to - from ≡ 0 = omega arith in ap (λ (k : ℕ). take k (drop from xs)) none

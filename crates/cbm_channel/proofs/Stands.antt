@@ -9,7 +9,8 @@ use Rattle.cbm_medium.proofs.Walks.{follow_end}
 use Rattle.cbm_machine.specs.Statuses.{status_line}
 use Rattle.cbm_medium.specs.Seen.{Seen}
 use Rattle.cbm_volume.specs.Content.{Content}
-use Rattle.cbm_volume.specs.Reading.{Reading, rest_of, held_from, held_in, shown, IsSettled}
+use Rattle.cbm_volume.specs.Reading.{Reading, rest_of, held_from, held_in, IsSettled}
+use Rattle.cbm_file.specs.Waiting.{shown}
 use Rattle.cbm_file.specs.Files.{Disk}
 use Rattle.cbm_volume.specs.Holding.{HoldsDisk}
 use Rattle.cbm_volume.specs.Map.{geometry_of}

@@ -1,6 +1,6 @@
 -- What a channel of the code shows, on any disk.
 use Rattle.std.specs.Prelude.{ℕ, ◌==◌, Bool, true, false, drop, slice_index_or, if◌then◌else◌, Option, None}
-use Rattle.cbm_volume.specs.Reading.{shown}
+use Rattle.cbm_file.specs.Waiting.{shown}
 use Rattle.cbm_channel.specs.declared.channel.Channel.{Channel}
 use Rattle.cbm_channel.specs.declared.channel.Channel.TheVariants as code
 use Rattle.cbm_channel.specs.Standing.{Kept}

@@ -1,6 +1,6 @@
 ghost use Rattle.std.specs.Prelude.{◌≡◌, ◌≤◌, length, sum_by};
 ghost use Rattle.cbm_channel.specs.Shown.{cost_on};
-ghost use Rattle.cbm_volume.specs.Reading.{shown};
+ghost use Rattle.cbm_file.specs.Waiting.{shown};
 ghost use Rattle.cbm_channel.specs.declared.channel.Channel.TheVariants.{Closed};
 
 use cbm_listing::Listing;
@@ -40,7 +40,7 @@ pub(crate) fn open_count(channels: &[Channel]) -> usize
 impl Channel {
     ghost use Rattle.std.specs.Prelude.{◌≡◌, ℕ, OnOk, IsOk, replicate};
     ghost use Rattle.cbm_volume.specs.Writers.{Use, HoldsNow, with_use};
-    ghost use Rattle.cbm_volume.specs.Reading.{shown};
+    ghost use Rattle.cbm_file.specs.Waiting.{shown};
     ghost use Rattle.cbm_file.specs.Files.{Disk};
     ghost use Rattle.cbm_machine.specs.Machines as machine;
     ghost use Rattle.cbm_machine.specs.Talking.{taken_on};
@@ -77,7 +77,7 @@ impl Channel {
         }
     }
 
-    /// Goes to the next byte. `Err` says why the disk can't be read past that byte, which thereby becomes the last.
+    /// Goes to the next byte. Errors: why the chain cannot be followed past that byte, which thereby becomes its last.
     pub(crate) fn taken<M: Medium>(&mut self, volume: &Volume<M>) -> Result<(), Trouble>
         requires { Fits (M.seen volume.now).tracks self.old }
         ensures fits { Fits (M.seen volume.now).tracks self.new }

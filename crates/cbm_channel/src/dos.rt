@@ -9,7 +9,7 @@ mod opening;
 mod putting;
 mod talking;
 
-/// A drive's disk operating system over a medium: files, the listing and the status by sixteen channels.
+/// The drive's DOS on a medium: files, the listing and the status by sixteen channels, the secondary addresses.
 #[derive(Drop)]
 pub struct Dos<M: Medium> {
     volume: Volume<M>,
@@ -58,7 +58,7 @@ impl<M: Medium> Dos<M> {
         &self.volume
     }
 
-    /// The medium, as it stands.
+    /// The medium as it is now; channels that are open are dropped.
     pub fn into_medium(self) -> M
         ensures { result ≡ self.medium }
     {
@@ -74,7 +74,7 @@ impl<M: Medium> Dos<M> {
         self.telling.status()
     }
 
-    /// The number of the status, as 62 where a file isn't there.
+    /// The number of the status, such as 62 after an OPEN of a file that isn't there.
     pub fn status_code(&self) -> u8
         ensures value { result ≡ code_number self.now.told.status.code }
         ensures code { (m : Machine) → Stands M.seen self.now m → result ≡ code_number m.status.code }

@@ -24,7 +24,7 @@ impl Model for Gathered {
 }
 
 impl Gathered {
-    /// The text of one byte.
+    /// A text of this one byte.
     pub fn begin(channel: u8, byte: u8) -> Gathered
         ensures { result ≡ (channel, byte ∷ []) }
     {
@@ -49,7 +49,7 @@ impl Gathered {
         self.bytes.as_slice()
     }
 
-    /// One byte more, which is dropped where 256 are kept.
+    /// Adds a byte; from the 257th on they are dropped.
     pub fn add(&mut self, byte: u8)
         ensures { self.new ≡ (self.old.0, take 256 (self.old.1 ++ byte ∷ [])) }
     {

@@ -1,4 +1,4 @@
-//! The drive's DOS over a medium: its channels and calls, each of which does what the named-files machine does.
+//! The drive's DOS over a medium: OPEN, CLOSE and bytes by sixteen channels. It refines the named-files machine.
 #![tactic(auto)]
 
 mod channel;

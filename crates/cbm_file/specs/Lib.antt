@@ -1,3 +1,4 @@
 pub mod Types
 pub mod Padding
 pub mod Files
+pub mod Waiting

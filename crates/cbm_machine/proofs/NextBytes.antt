@@ -2,7 +2,7 @@
 use Rattle.std.proofs.Common.{◌≡◌, ℕ, zero, suc, ◌+◌, ◌<◌, List, [], ◌∷◌, length, drop, get_or, true, false, Some, refl, sym, ◌∙◌, arith, inl, inr}
 use Rattle.std.specs.Prelude.{◌==◌}
 use Rattle.std.proofs.lemmas.Bool.{cases_eq, eq-eqb, ne_eqb}
-use Rattle.cbm_machine.specs.Talking.{shown}
+use Rattle.cbm_file.specs.Waiting.{shown}
 
 next_last : (xs : List ℕ) (n : ℕ) → n + 1 ≡ length xs → shown (drop n xs) ≡ Some (get_or xs n 0, true)
 next_last [] n h = absurd (omega arith)

@@ -1,19 +1,14 @@
 -- What a channel has to say, and the calls before bytes.
-use Rattle.std.specs.Prelude.{ℕ, ◌+◌, ◌-◌, ◌==◌, nat_lt, Bool, true, false, List, [], ◌∷◌, length, drop, slice_index_or, if◌then◌else◌, Option, Some, None, is_some}
+use Rattle.std.specs.Prelude.{ℕ, ◌+◌, ◌-◌, ◌==◌, nat_lt, Bool, true, List, length, drop, slice_index_or, if◌then◌else◌, Option, Some, None, is_some}
 use Rattle.std.specs.List.{list_all}
 use Rattle.cbm_file.specs.Files.{Disk}
+use Rattle.cbm_file.specs.Waiting.{shown}
 use Rattle.cbm_machine.specs.declared.code.Code.{Code}
 use Rattle.cbm_machine.specs.declared.code.Code.TheVariants.{Fine, NoRecord, FileNotOpen}
 use Rattle.cbm_machine.specs.Statuses.{return, status_line}
 use Rattle.cbm_machine.specs.Machines.{Channel, Closed, Reading, Writing, Stopped, Relative, Machine, say, channel, with_channel}
 use Rattle.cbm_machine.specs.Finding.{body_at}
 use Rattle.cbm_machine.specs.Records.{record_at}
-
--- the byte that waits, and whether it is the last
-abbrev pub shown : List ℕ → Option (ℕ × Bool)
-shown [] = None
-shown (byte ∷ []) = Some (byte, true)
-shown (byte ∷ more ∷ rest) = Some (byte, false)
 
 -- of a record the next byte, which is the last where only zeros follow; of no record a return
 abbrev pub next_of_record : Option (List ℕ) → ℕ → Option (ℕ × Bool)

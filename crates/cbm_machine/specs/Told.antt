@@ -4,7 +4,7 @@ use Rattle.cbm_machine.specs.declared.code.Code.TheVariants.{Fine}
 use Rattle.cbm_machine.specs.declared.status.Status.{Status}
 use Rattle.cbm_machine.specs.Statuses.{plain, status_line}
 use Rattle.cbm_machine.specs.Machines.{Machine}
-use Rattle.cbm_machine.specs.Talking.{shown}
+use Rattle.cbm_file.specs.Waiting.{shown}
 
 -- a status, and how many bytes of its line were taken
 pub record Told : Type 0 where

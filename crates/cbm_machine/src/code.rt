@@ -3,14 +3,14 @@ ghost use Rattle.cbm_machine.specs.Codes.{code_number, code_text, code_of_refusa
 
 use cbm_command::Refusal;
 
-/// What a status says (the Commodore 1541 User's Guide; texts of all but 00, 01 and 73 are this project's).
+/// The codes of a status (Commodore 1541 User's Guide; the texts of all but 00, 01 and 73 are this project's).
 #[derive(Clone, Copy, Debug, PartialEq, Eq)]
 pub enum Code {
-    /// 00: nothing else is said.
+    /// 00: no error.
     Fine,
-    /// 01: with the count of the files.
+    /// 01: files were scratched; the first number is their count.
     FilesScratched,
-    /// 20: no header of the sector.
+    /// 20: no header block of the sector, or no data block after it.
     NoHeader,
     /// 21: no sync mark.
     NoSync,
@@ -18,7 +18,7 @@ pub enum Code {
     NoData,
     /// 23: a data block's checksum.
     DataChecksum,
-    /// 24: a data block's code.
+    /// 24: bits in a data block that are no group code.
     DataCode,
     /// 25: a write that failed.
     WriteFailed,
@@ -28,9 +28,9 @@ pub enum Code {
     HeaderChecksum,
     /// 28: a data block that is too long.
     LongData,
-    /// 29: a header with another id.
+    /// 29: a header block with another disk id.
     WrongId,
-    /// 30: a byte or a piece that may not stand there.
+    /// 30: a byte or a piece of the text that isn't allowed there.
     Syntax,
     /// 31: no such command.
     UnknownCommand,
@@ -52,13 +52,13 @@ pub enum Code {
     FileNotOpen,
     /// 62: no such file.
     FileNotFound,
-    /// 63: the name is there.
+    /// 63: the name is taken.
     FileExists,
-    /// 64: another type.
+    /// 64: the file has another type.
     WrongType,
     /// 66: a link to no sector of the disk.
     WrongLink,
-    /// 70: no channel is left, or none of that kind is there.
+    /// 70: no channel is free, or the one that is meant isn't open.
     NoChannel,
     /// 71: a chain that never ends.
     EndlessChain,
@@ -66,12 +66,12 @@ pub enum Code {
     DiskFull,
     /// 73: the drive was just switched on.
     PowerUp,
-    /// 74: another drive's digit.
+    /// 74: the text names another drive than 0.
     DriveNotReady,
 }
 
 impl Code {
-    /// Its two digits as a number.
+    /// The number that the status line begins with, 0 to 74.
     pub fn number(self) -> u8
         ensures { result ≡ code_number self }
     {
@@ -110,8 +110,8 @@ impl Code {
         }
     }
 
-    /// The code of a medium's fault or of what breaks a chain off; a number that the table hasn't is shown as 25, since
-    /// only a write that fails can have one.
+    /// The code of a sector's fault (20 to 29), of a link to no sector (66) or of an endless chain (71). Any other
+    /// number becomes 25, since only a write that fails can have one.
     pub fn of_fault(number: u8) -> Code
         ensures { result ≡ code_of_fault number }
     {
@@ -132,7 +132,7 @@ impl Code {
         }
     }
 
-    /// The text between the number and the two numbers after it, at most 23 bytes.
+    /// The text of the status line, at most 23 bytes.
     pub fn text(self) -> &'static [u8]
         ensures value { result.now ≡ code_text self }
         ensures short { length result.now ≤ 23 }

@@ -10,10 +10,10 @@ use cbm_medium::Trouble;
 /// A status line of at most 33 bytes.
 pub type StatusLine = ArrayVec<u8, 33>;
 
-/// What channel 15 says: a code and two numbers.
+/// The status of the drive, which channel 15 sends: a code and two numbers.
 #[derive(Clone, Copy, Debug, PartialEq, Eq)]
 pub struct Status {
-    /// What it says.
+    /// What happened.
     pub code: Code,
     /// A track, a count of files, or 0.
     pub first: u8,
@@ -50,7 +50,7 @@ impl Status {
         }
     }
 
-    /// `code,text,nn,nn` and a return; a number above 99 is shown as 99.
+    /// The line that channel 15 sends: `code,text,nn,nn` and a return; a number above 99 is shown as 99.
     pub fn line(self) -> StatusLine
         ensures { result.items ≡ status_line self }
     {

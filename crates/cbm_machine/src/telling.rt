@@ -28,7 +28,7 @@ impl Model for Telling {
 }
 
 impl Telling {
-    /// A status that was just set: nothing of it was sent yet.
+    /// A new status, of whose line nothing was sent yet.
     pub fn new(status: Status) -> Telling
         ensures { result ≡ (record { status = status; told = 0 }) }
     {
@@ -46,7 +46,7 @@ impl Telling {
         self.status
     }
 
-    /// The next byte of the line, and whether it is the last.
+    /// The next byte of the line, and whether it is the last (EOI).
     pub fn peek(&self) -> Option<(u8, bool)>
         ensures { result ≡ next_told self.now }
     {
@@ -54,7 +54,7 @@ impl Telling {
         Some((line[self.told], self.told + 1 == line.len()))
     }
 
-    /// The byte that `peek` shows was taken. Behind the last one the status is 00.
+    /// The byte that `peek` shows was sent. After the last one the status is 00.
     pub fn taken(&mut self)
         ensures { self.new ≡ behind_next self.old }
     {
@@ -66,7 +66,7 @@ impl Telling {
     }
 }
 
-/// The bytes that channel 15 sends are the machine's.
+/// A law: channel 15 sends what the machine's channel 15 sends.
 pub fn tells_as_the_machine()
     ensures peek { (m : Machine) → peek 15 m ≡ next_told (told_by m) }
     ensures taken { (m : Machine) → told_by (taken 15 m) ≡ behind_next (told_by m) }

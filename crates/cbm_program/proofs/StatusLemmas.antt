@@ -7,7 +7,8 @@ use Rattle.cbm_channel.specs.declared.Status.{Status}
 use Rattle.cbm_channel.specs.Codes.{code_text}
 use Rattle.cbm_channel.specs.Statuses.{status_line}
 use Rattle.cbm_channel.specs.Machines.{Machine, say}
-use Rattle.cbm_channel.specs.Talking.{peek, shown, taken, talk}
+use Rattle.cbm_channel.specs.Talking.{peek, taken, talk}
+use Rattle.cbm_file.specs.Waiting.{shown}
 use Rattle.cbm_channel.specs.Calls.{without_return}
 use Rattle.cbm_program.specs.Scripts.{Said, says, status_said}
 use Rattle.cbm_program.proofs.SaidLemmas.{says_from, Talks}

@@ -24,7 +24,7 @@ pub enum RunFault {
 }
 
 impl RunFault {
-    /// Its number, from 1 on.
+    /// Its number: 1 script, 2 image, 3 memory, 4 reading, 5 writing.
     pub fn number(self) -> u8
         ensures { result ≡ fault_number self }
     {

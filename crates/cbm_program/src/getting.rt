@@ -1,4 +1,4 @@
-//! Printing what a channel says.
+//! Printing what a channel sends.
 ghost use Rattle.std.specs.Prelude.{◌≡◌, ◌<◌, ◌≤◌, length, Some, IfErr, IfOk, OnOk, OnErr};
 ghost use Rattle.std.specs.Io.KnownBytes.{Appends};
 ghost use Rattle.cbm_channel.specs.Machines.{Machine};
@@ -120,7 +120,7 @@ fn has_unit<M: Medium>(dos: &Dos<M>, channel: u8, most: u32) -> bool
     }
 }
 
-/// Carries out a get: what a channel says is printed as it comes, in one line.
+/// Carries out a get: what a channel sends is printed as it comes, in one line.
 pub(crate) fn print_get<M: Medium, W: Write>(
     dos: &mut Dos<M>,
     writer: &mut W,

@@ -95,6 +95,9 @@ fn run_image<I: DiskImage + Drop, R: Read + Drop, W: Write>(
 /// The image is tested before the script is read, and if a check is asked for, its line is printed first. The script is
 /// read a line at a time, and what a line prints is written before the next one is read. Takes memory for the disk and
 /// for the image.
+///
+/// Errors: `Image` with the number of the format's first fault, before anything is read or written; `Script` with the
+/// number of the first bad line, behind all that the lines before it print; `Memory`, `Reading` or `Writing`.
 pub fn run<R: Read + Drop, W: Write>(
     alloc: Global,
     reader: R,

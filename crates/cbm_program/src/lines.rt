@@ -77,7 +77,7 @@ impl<R: Read> Lines<R> {
     }
 
     /// Puts the next line into `line`, and answers whether there was one. An interrupted read is a fault as any
-    /// other. Behind an `Err` nothing is promised of what comes.
+    /// other. After an error nothing is promised of later lines.
     pub fn next_line(&mut self, line: &mut ArrayVec<u8, 1000>) -> Result<bool, LineFault>
         ensures line { IfOk result (λ found. MatchBool found
             (TakesLine (bytes_left R.remaining self.old) (bytes_left R.remaining self.new) line.new.items)

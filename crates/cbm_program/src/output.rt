@@ -27,7 +27,7 @@ pub(crate) fn print<W: Write>(writer: &mut W, bytes: &[u8]) -> Result<(), RunFau
     Ok(())
 }
 
-/// Sends on what the writer holds back.
+/// Flushes the writer.
 pub(crate) fn flush<W: Write>(writer: &mut W) -> Result<(), RunFault>
     ensures bytes { Keeps (W.contents writer.old) (W.contents writer.new) }
     ensures fault { IfErr result IsOfWriting }

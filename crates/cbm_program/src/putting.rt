@@ -31,7 +31,7 @@ fn put_equal<M: Medium>(dos: &mut Dos<M>, channel: u8, count: u32, byte: u8)
     }
 }
 
-/// Puts the bytes in one listening.
+/// Sends the bytes to a channel, between LISTEN and UNLISTEN.
 pub(crate) fn hear<M: Medium>(dos: &mut Dos<M>, channel: u8, bytes: &[u8])
     requires { channel ≤ 15 }
     ensures leads { (m : Machine) → IsPutCarriedOut channel (puts channel bytes.now (listen channel m))
@@ -43,7 +43,7 @@ pub(crate) fn hear<M: Medium>(dos: &mut Dos<M>, channel: u8, bytes: &[u8])
     dos.end_put(channel);
 }
 
-/// Puts so many equal bytes in one listening.
+/// Sends so many equal bytes to a channel, between LISTEN and UNLISTEN.
 pub(crate) fn hear_equal<M: Medium>(dos: &mut Dos<M>, channel: u8, count: u32, byte: u8)
     requires { channel ≤ 15 }
     ensures leads { (m : Machine) → IsPutCarriedOut channel (puts channel (replicate count byte) (listen channel m))

@@ -8,11 +8,11 @@ pub type Text = ArrayVec<u8, 1000>;
 pub enum Request {
     /// The channel, and the text of the OPEN.
     Open(u8, Text),
-    /// The channel, and the bytes that are put in one listening.
+    /// The channel, and the bytes that are sent to it between LISTEN and UNLISTEN.
     Put(u8, Text),
-    /// The channel, and so many equal bytes in one listening.
+    /// The channel, how many bytes are sent to it so, and the byte that each of them is.
     Fill(u8, u32, u8),
-    /// The channel, and the most bytes that are got in one talk.
+    /// The channel, and the most bytes that are read from it between TALK and UNTALK.
     Get(u8, u32),
     Close(u8),
     /// The status line, read to its end.

@@ -11,7 +11,7 @@ impl<M: Medium> Dos<M> {
     ghost use Rattle.cbm_machine.specs.Closing.{close, close_one, close_all, channel_numbers, without_text};
     ghost use Rattle.cbm_channel.specs.Standing.{SameBut, Leads};
 
-    /// Closes a channel; 15 closes all others, in order.
+    /// CLOSE: the channel is closed; on 15 the channels 0 to 14 are, in order.
     pub fn close(&mut self, channel: u8)
         requires { channel ≤ 15 }
         ensures leads { Leads M.seen self.old self.new (close channel) }

@@ -73,8 +73,8 @@ impl<M: Medium> Dos<M> {
     ghost use Rattle.cbm_channel.specs.Planned.{PlannedAs, opened_by, begun_by};
     ghost use Rattle.cbm_machine.specs.CarriedOut.{IsCarriedOut, IsAskedCarriedOut, reads_bytes, MeetsNoRecords};
 
-    /// Opens a channel: on 15 the text is a command, on the others it asks for a file or the listing. A channel that is
-    /// open is closed first. What is refused is the status, and the channel is closed then.
+    /// OPEN: on channel 15 the text is a command, on the others it names a file or asks for the listing. A channel that
+    /// is open is closed first. A refusal becomes the status and leaves the channel closed.
     pub fn open(&mut self, channel: u8, text: &[u8])
         requires { channel ≤ 15 }
         ensures leads { (m : Machine) → IsCarriedOut channel text.now m → Stands M.seen self.old m
@@ -114,7 +114,7 @@ impl<M: Medium> Dos<M> {
         }
     }
 
-    /// What an OPEN will do. An `Err` is its refusal, or what the disk answers.
+    /// What an OPEN will do. Errors: its refusal, or the fault of the directory.
     fn plan(&self, opening: Opening) -> Result<Plan, Status>
         ensures ground { IfErr result (HasGround M.seen self.now.medium) }
         ensures from { IfOk result (IsFromDirectory M.seen self.now.medium) }
@@ -186,7 +186,7 @@ impl<M: Medium> Dos<M> {
         }
     }
 
-    /// The channel that a plan opens. An `Err` is what the disk answers.
+    /// The channel that a plan opens. Errors: the fault of 18/0, of the directory or of the file's first block.
     fn opened(&self, plan: Plan) -> Result<Channel, Trouble>
         ensures fits { IfOk result (Fits (M.seen self.now.medium).tracks) }
         ensures shown { let now = M.seen self.now.medium in IsFromDirectory M.seen self.now.medium plan →

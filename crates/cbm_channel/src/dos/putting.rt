@@ -28,7 +28,8 @@ impl<M: Medium> Dos<M> {
     ghost use Rattle.cbm_channel.specs.Standing.{Stands, SameBut, Leads, HasNoText, HasText};
     ghost use Rattle.cbm_machine.specs.CarriedOut.{IsPutCarriedOut, IsTextCarriedOut, IsCommandCarriedOut};
 
-    /// Puts a byte on a channel: on 15 it is gathered, on a channel that isn't open for writing it is dropped.
+    /// A byte that the host sends to a channel: on 15 it is gathered for a command. On the others it is dropped, as
+    /// none is open for writing yet.
     pub fn put(&mut self, channel: u8, byte: u8)
         requires { channel ≤ 15 }
         ensures leads { Leads M.seen self.old self.new (put channel byte) }
@@ -75,7 +76,7 @@ impl<M: Medium> Dos<M> {
         None
     }
 
-    /// The end of what was put: the text that was gathered for channel 15 is a command.
+    /// The host sends no more (UNLISTEN): the text that was gathered for channel 15 is carried out as a command.
     pub fn end_put(&mut self, channel: u8)
         requires { channel ≤ 15 }
         ensures leads { (m : Machine) → IsPutCarriedOut channel m → Stands M.seen self.old m

@@ -16,7 +16,7 @@ impl<M: Medium> Dos<M> {
     ghost use Rattle.cbm_channel.specs.Taken.{IsTaken};
     ghost use Rattle.cbm_channel.specs.declared.channel.Channel.TheVariants.{Closed};
 
-    /// Asks a channel to talk; 61 where it isn't open for reading.
+    /// TALK: asks a channel to send; the status becomes 61 where it isn't open for reading.
     pub fn talk(&mut self, channel: u8)
         requires { channel ≤ 15 }
         ensures leads { Leads M.seen self.old self.new (talk channel) }
@@ -33,7 +33,7 @@ impl<M: Medium> Dos<M> {
         }
     }
 
-    /// Asks a channel to listen; 61 where it is neither 15 nor open for writing.
+    /// LISTEN: asks a channel to take bytes; the status becomes 61 where it is neither 15 nor open for writing.
     pub fn listen(&mut self, channel: u8)
         requires { channel ≤ 15 }
         ensures leads { Leads M.seen self.old self.new (listen channel) }
@@ -47,7 +47,7 @@ impl<M: Medium> Dos<M> {
         }
     }
 
-    /// The next byte that a channel has to say, and whether it is the last; None where there is nothing to say.
+    /// The next byte that a channel sends, and whether it is the last (EOI); None where it has nothing to send.
     pub fn peek(&self, channel: u8) -> Option<(u8, bool)>
         requires { channel ≤ 15 }
         ensures value { result ≡ shown_by channel self.now }
@@ -60,8 +60,8 @@ impl<M: Medium> Dos<M> {
         }
     }
 
-    /// The byte that `peek` shows was taken; nothing happens where it shows none. Where the file's next sector
-    /// doesn't read, its fault becomes the status.
+    /// The byte that `peek` shows was sent; nothing happens where it shows none. Where the file's next sector doesn't
+    /// read, its fault becomes the status.
     pub fn taken(&mut self, channel: u8)
         requires { channel ≤ 15 }
         ensures leads { Leads M.seen self.old self.new (taken channel) }

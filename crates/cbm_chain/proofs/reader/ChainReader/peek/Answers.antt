@@ -1,6 +1,7 @@
 use Rattle.std.proofs.Common.{◌++◌, ℕ, Option, ap, sym, ◌∙◌, arith}
 use Rattle.std.specs.Prelude.{option_to_list, slice_range}
-use Rattle.cbm_chain.specs.Reading.{Reading, shown}
+use Rattle.cbm_chain.specs.Reading.{Reading}
+use Rattle.cbm_file.specs.Waiting.{shown}
 use Rattle.cbm_chain.proofs.Showing.{shown_next}
 use Rattle.cbm_chain.proofs.reader.ChainReader.peek.Goals as goal
 

@@ -1,6 +1,6 @@
 use Rattle.std.proofs.Common.{◌≡◌, ℕ, List, length, drop, ap, sym, ◌∙◌, arith}
 use Rattle.cbm_machine.specs.Statuses.{status_line}
-use Rattle.cbm_machine.specs.Talking.{shown}
+use Rattle.cbm_file.specs.Waiting.{shown}
 use Rattle.cbm_machine.specs.Told.{Told, next_told}
 use Rattle.cbm_machine.proofs.NextBytes.{next_dropped}
 use Rattle.cbm_machine.proofs.telling.Telling.peek.Goals as goal

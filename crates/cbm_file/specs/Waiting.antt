@@ -1,0 +1,8 @@
+-- The byte that waits, of the bytes that are left to be read.
+use Rattle.std.specs.Prelude.{ℕ, List, [], ◌∷◌, Bool, true, false, Option, Some, None}
+
+-- the first of these bytes, and whether it is the last
+abbrev pub shown : List ℕ → Option (ℕ × Bool)
+shown [] = None
+shown (byte ∷ []) = Some (byte, true)
+shown (byte ∷ more ∷ rest) = Some (byte, false)
