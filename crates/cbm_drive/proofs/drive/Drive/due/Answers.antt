@@ -1,12 +1,12 @@
 use Rattle.std.proofs.Common.{◌≡◌, ℕ, Bool, Option, None, ap, sym, ◌∙◌, subst}
 use Rattle.cbm_drive.proofs.drive.Drive.due.Goals as goal
-use Rattle.cbm_iec.specs.Playing.{acted}
-use Rattle.cbm_iec.specs.Ports.{has_byte, reaction_act}
+use Rattle.cbm_iec.specs.Machines.{acted}
+use Rattle.cbm_iec.specs.Ports.{reaction_act}
 use Rattle.cbm_iec.specs.declared.act.Act.{Act}
 
 -- where the reaction has no act the machine stays as it is
 pub returns-in_default-clause-machine : goal.returns-in_default-clause-machine
 returns-in_default-clause-machine g c = λ m stood.
     let port = c.args.self.now.port in
-    let none : reaction_act (has_byte (g.D.Machine.says m)) port ≡ None = ap (λ (v : Option (ℕ × Bool)). reaction_act (has_byte v) port) (sym (c.peek-peek.ensures m stood)) ∙ sym c.due-reaction.ensures.act ∙ c.in_default.is in
-    subst (λ (v : Option Act). g.D.Machine.stands c.args.self.now.machine (acted g.D.Machine.State g.D.Machine.step g.D.Machine.says v m)) (sym none) stood
+    let none : reaction_act (g.D.Machine.says m) port ≡ None = ap (λ (v : Option (ℕ × Bool)). reaction_act v port) (sym (c.peek-peek.ensures m stood)) ∙ sym c.due-reaction.ensures.act ∙ c.in_default.is in
+    subst (λ (v : Option Act). g.D.Machine.stands c.args.self.now.machine (acted g.D.Machine.State g.D.Machine.step v m)) (sym none) stood

@@ -1,0 +1,56 @@
+-- The times of the bus, in microseconds: what drives keep to, then what the host keeps to.
+use Rattle.std.specs.Prelude.{ℕ, ◌+◌, ◌*◌}
+
+-- a drive reacts in 1 to so many
+abbrev pub slowest_reaction : ℕ
+slowest_reaction = 60
+
+-- EOI: a listener's pulse begins so long, and its reaction, after DATA was first free on the wire
+abbrev pub eoi_wait : ℕ
+eoi_wait = 200
+
+-- EOI: how long a listener's pulse pulls DATA
+abbrev pub eoi_pulse : ℕ
+eoi_pulse = 60
+
+-- EOI: so long after DATA was first free on the wire, and its reaction, a listener's pulse has ended
+abbrev pub eoi_end : ℕ
+eoi_end = eoi_wait + eoi_pulse
+
+-- how long a talker holds CLOCK after the turnaround, before it offers its first byte
+abbrev pub lead : ℕ
+lead = 80
+
+-- how long a talker holds CLOCK after the accept of a byte, before it offers the next one
+abbrev pub next_byte : ℕ
+next_byte = 100
+
+-- how long each half of a talker's bit lasts: CLOCK pulled, then CLOCK free
+abbrev pub half_bit : ℕ
+half_bit = 60
+
+abbrev pub bit_time : ℕ
+bit_time = 2 * half_bit
+
+-- the host: CLOCK and DATA stand at least so long before the next change of CLOCK in a bit; as long from an accept to ATN's change, and from ATN's release to CLOCK's in a turnaround
+abbrev pub settle : ℕ
+settle = 20
+
+-- the host: with several drives, from the first accept to ATN's change
+abbrev pub settle_all : ℕ
+settle_all = 60
+
+-- the host: from a change of ATN, or an accept, to the release of CLOCK for a byte; and from ATN's release to its next pull
+abbrev pub pause : ℕ
+pause = 100
+
+-- the host: without EOI its first bit begins at most so long after DATA was first free on the wire
+abbrev pub latest_start : ℕ
+latest_start = 199
+
+-- the host: it accepts a byte 1 to 1,000 after its eighth bit, counted here from the first one
+abbrev pub first_accept : ℕ
+first_accept = 8 * bit_time + 1
+
+abbrev pub latest_accept : ℕ
+latest_accept = 8 * bit_time + 1000

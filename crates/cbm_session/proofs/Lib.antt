@@ -1,0 +1,7 @@
+pub mod joining
+pub mod frames
+pub mod reading
+pub mod alone
+pub mod among
+pub mod timing
+pub mod headline

@@ -1,0 +1,21 @@
+-- Each drive of a bus follows every session among the others.
+pub mod Changes
+pub mod Releases
+pub mod Accepts
+pub mod Bits
+pub mod Frames
+pub mod Standing
+pub mod Calm
+pub mod Around
+pub mod Pulls
+pub mod Pulses
+pub mod Bytes
+pub mod Fronts
+pub mod Alternating
+pub mod Counted
+pub mod Points
+pub mod Turns
+pub mod Answers
+pub mod Alone
+pub mod Talks
+pub mod Sessions

@@ -1,0 +1,238 @@
+-- A drive among others that is to talk: it answers ATN's release, with a byte to say or none.
+use Rattle.std.proofs.Common.{◌≡◌, ℕ, zero, ◌+◌, ◌≤◌, inl, inr, Bool, true, false, List, [], ◌∷◌, ◌++◌, Option, Some, None, ap, sym, ◌∙◌, subst, arith, refl}
+use Rattle.std.proofs.lemmas.Bool.Decides.{leb_tells}
+use Rattle.std.specs.Prelude.{if◌then◌else◌, nat_eq}
+use Rattle.cbm_iec.specs.Ports.{side_due}
+use Rattle.cbm_iec.specs.declared.act.Act.TheVariants.{Released, Silent}
+use Rattle.cbm_iec.specs.declared.event.Who.TheVariants.{Host, Drive}
+use Rattle.cbm_iec.specs.declared.event.Who.{Who}
+use Rattle.cbm_iec.specs.declared.line.Line.TheVariants.{Atn, Clock, Data}
+use Rattle.cbm_iec.specs.declared.line.Line.{Line}
+use Rattle.cbm_iec.specs.declared.line.Way.TheVariants.{Pull, Free}
+use Rattle.cbm_iec.specs.declared.line.Way.{Way}
+use Rattle.cbm_iec.specs.declared.lines.Held.{Held}
+use Rattle.cbm_iec.specs.declared.lines.Lines.{Lines}
+use Rattle.cbm_iec.specs.declared.mouth.Mouth.TheVariants.{Turned, Answering, Led, Over}
+use Rattle.cbm_iec.specs.declared.party.Party.{Party}
+use Rattle.cbm_iec.specs.declared.party.Role.TheVariants.{Absent, Listener, Talker}
+use Rattle.cbm_iec.specs.declared.port.Port.{Port}
+use Rattle.cbm_iec.specs.declared.port.Side.TheVariants.{Speaking}
+use Rattle.cbm_session.proofs.alone.Frames.{wires, stands}
+use Rattle.cbm_session.proofs.alone.Fronts.{AllAt}
+use Rattle.cbm_session.proofs.among.Around.{ForOthers, IsPart, IsLateBy, own_late, Around, around_drives, weave_late, merge_drives, every, is_behind}
+use Rattle.cbm_session.proofs.among.Calm.{Every, IsOthers, ByAnother, KeepsClock, IsAside, InTime, passes_all, asides, aside_host, calm_turned, calm_answering, calm_led, calm_over}
+use Rattle.cbm_session.proofs.among.Points.{commanding_rest, only_talker}
+use Rattle.cbm_session.proofs.among.Pulls.{in_time, never_due}
+use Rattle.cbm_session.proofs.among.Standing.{rest_next, rest_behind}
+use Rattle.cbm_session.proofs.among.Turns.{SeatLaw, drives_of, turned_rest, answering_rest, released, talking_turn, answering_turn, late_drives, from_role, part_untalked, freed_others}
+use Rattle.cbm_session.proofs.joining.Merging.{merge_here, merge_there, NoneBefore}
+use Rattle.cbm_session.proofs.joining.OneDrive.{AllUpTo}
+use Rattle.cbm_session.proofs.joining.Showing.{merge_first}
+use Rattle.cbm_session.proofs.joining.Talkers.{talker_is}
+use Rattle.cbm_session.proofs.reading.PieceReadings.{seat, turn_first}
+use Rattle.cbm_session.specs.Among.{Rest, wires_of, behind_other, FollowsAmong, reacts}
+use Rattle.cbm_session.specs.Buses.{rest_at}
+use Rattle.cbm_session.specs.Joins.{NotBefore}
+use Rattle.cbm_session.specs.Laws.{SeatsReact}
+use Rattle.cbm_session.specs.Pieces.{FreedFits, freed_steps, host_part, let_go, own_part, steps_of, ToTalker, Nothing}
+use Rattle.cbm_session.specs.Seats.{lines, Seat, device, reaction, is_talker, talker_of}
+use Rattle.cbm_session.specs.Steps.{Step, host, drive, for_each, for_one, moment_of, merge}
+
+-- a host's step that comes into a front: what of the front is before it, and what behind
+insert_host : (x : Step) (xs front rest : List Step) → NotBefore (moment_of x) rest → (a : List Step) × ((c : List Step) × ((front ≡ a ++ c) × (merge (x ∷ xs) (front ++ rest) ≡ a ++ x ∷ merge xs (c ++ rest))))
+insert_host x xs [] rest n = ([], ([], (refl, merge_first x xs rest n)))
+insert_host x xs (y ∷ front) rest n = elim (leb_tells (moment_of x) (moment_of y)) [
+  | inl h ↦ ([], (y ∷ front, (refl, merge_here x xs y (front ++ rest) h.1)))
+  | inr h ↦ (
+      let k = insert_host x xs front rest n in
+      (y ∷ k.0, (k.1.0, (ap (λ (zs : List Step). y ∷ zs) k.1.1.0, merge_there x xs y (front ++ rest) h.1 ∙ ap (λ (zs : List Step). y ∷ zs) k.1.1.1)))
+      )
+]
+
+every_left : (P : Step → Type 0) (xs ys : List Step) → Every P (xs ++ ys) → Every P xs
+every_left P [] ys a = tt
+every_left P (x ∷ xs) ys a = (a.0, every_left P xs ys a.1)
+
+every_right : (P : Step → Type 0) (xs ys : List Step) → Every P (xs ++ ys) → Every P ys
+every_right P [] ys a = a
+every_right P (x ∷ xs) ys a = every_right P xs ys a.1
+
+upto_right : (t : ℕ) (xs ys : List Step) → AllUpTo t (xs ++ ys) → AllUpTo t ys
+upto_right t [] ys a = a
+upto_right t (x ∷ xs) ys a = upto_right t xs ys a.1
+
+-- where only DATA changes, CLOCK's holders stay
+data_keeps : (held : Bool) (line : Line) → KeepsClock false line → KeepsClock held line
+data_keeps held Atn h = elim h [ ]
+data_keeps held Clock h = elim h [ ]
+data_keeps held Data h = tt
+
+aside_keeps : (d : ℕ) (held : Bool) (s : Step) → IsAside d false s → IsAside d held s
+aside_keeps d held s h = record { who = h.who; counts = h.counts; line = data_keeps held s.event.change.line h.line }
+
+other_clocks : (line : Line) (way : Way) (r : Rest) → KeepsClock false line → (behind_other line way r).clocks ≡ r.clocks
+other_clocks Atn way r h = elim h [ ]
+other_clocks Clock way r h = elim h [ ]
+other_clocks Data way r h = refl
+
+next_clocks : (d : ℕ) (who : Who) (line : Line) (way : Way) (r : Rest) → ByAnother d who → KeepsClock false line → (rest_next d who line way r).clocks ≡ r.clocks
+next_clocks d Host line way r w h = elim w [ ]
+next_clocks d (Drive o) line way r w h = ap (λ (v : Bool). (if v then r else behind_other line way r).clocks) w ∙ other_clocks line way r h
+
+aside_clocks : (d : ℕ) (r : Rest) (ss : List Step) → Every (IsAside d false) ss → (rest_behind d r ss).clocks ≡ r.clocks
+aside_clocks d r [] a = refl
+aside_clocks d r (s ∷ ss) a =
+    aside_clocks d (rest_next d s.event.who s.event.change.line s.event.change.way r) ss a.1 ∙ next_clocks d s.event.who s.event.change.line s.event.change.way r a.0.who a.0.line
+
+-- so behind others' changes of DATA the rest is known but for how many hold DATA
+rest_known : (d : ℕ) (l : Lines) (r : Rest) (ss : List Step) → r.host ≡ l → r.clocks ≡ zero → Every (IsAside d false) ss → rest_behind d r ss ≡ record { host = l; clocks = zero; datas = (rest_behind d r ss).datas }
+rest_known d l r ss e c a =
+    let r2 = rest_behind d r ss in
+    ap (λ (x : Lines). (record { host = x; clocks = r2.clocks; datas = r2.datas })) (aside_host d false r ss a ∙ e) ∙ ap (λ (n : ℕ). (record { host = l; clocks = n; datas = r2.datas })) (aside_clocks d r ss a ∙ c)
+
+-- the talker's way through a turnaround, up to its answer
+module _ (peek : Option (ℕ × Bool)) (b : Party) (clock n : ℕ) (B : Step → Type 0) (mine freed ds : List Step) (End : Port → Rest → Type 0) where
+  abbrev due : ℕ
+  due = clock + b.reaction
+
+  abbrev answers : Rest → Port
+  answers r = stands b Talker (lines false true) (wires_of r) (Speaking (Answering due))
+
+  -- with what comes from the answer on
+  answer_follows : AllAt due mine → NoneBefore (due + 1) freed → Every B freed → Around due (IsAside b.device false) B mine ds
+      → ((r : Rest) (back : List Step) → Every B back → Every (IsLateBy due) back → (r2 : Rest) × ((q2 : Port) × (FollowsAmong peek r (answers r) (mine ++ back) r2 q2 × End q2 r2)))
+      → (r2 : Rest) × ((q2 : Port) × (FollowsAmong peek (turned_rest n) (stands b Talker (lines false true) (wires_of (turned_rest n)) (Speaking Turned)) (merge (host clock Clock Free ∷ freed) ds) r2 q2 × End q2 r2))
+  answer_follows m l fb a more =
+      let d = b.device in
+      let free = host clock Clock Free in
+      let rest = mine ++ a.back in
+      let i = insert_host free freed a.front rest (own_late due mine a.back clock (omega arith) m a.late) in
+      let first : Every (IsAside d false) (i.0 ++ i.1.0) = subst (Every (IsAside d false)) i.1.1.0 a.first in
+      let upto : AllUpTo due (i.0 ++ i.1.0) = subst (AllUpTo due) i.1.1.0 a.upto in
+      let there : Around due (IsAside d false) B mine (i.1.0 ++ rest) = record { front = i.1.0; back = a.back; is = refl; first = every_right (IsAside d false) i.0 i.1.0 first; upto = upto_right due i.0 i.1.0 upto; behind = a.behind; late = a.late } in
+      let c = weave_late due (IsAside d false) B mine m freed (i.1.0 ++ rest) l fb there in
+      let r1 = rest_behind d (turned_rest n) i.0 in
+      let left = every_left (IsAside d false) i.0 i.1.0 first in
+      let known = rest_known d (wires false true true) (turned_rest n) i.0 refl refl left in
+      let r3 = answering_rest r1.datas in
+      let r4 = rest_behind d r3 c.front in
+      let all = more r4 c.back c.behind c.late in
+      let answer = asides peek b Talker (lines false true) (Speaking (Answering due)) (calm_answering due) false r3 all.0 all.1.0 c.front (mine ++ c.back) refl c.first (in_time (Speaking (Answering due)) due c.front refl c.upto) all.1.1.0 in
+      let here = subst (λ (zs : List Step). FollowsAmong peek r3 (answers r3) zs all.0 all.1.0) {x = c.front ++ (mine ++ c.back)} (sym {b = c.front ++ (mine ++ c.back)} c.is) answer in
+      let turn = answering_turn peek b clock r1.datas (merge freed (i.1.0 ++ rest)) all.0 all.1.0 here in
+      let from = subst (λ (r : Rest). FollowsAmong peek r (stands b Talker (lines false true) (wires_of r) (Speaking Turned)) (free ∷ merge freed (i.1.0 ++ rest)) all.0 all.1.0) (sym known) turn in
+      let whole = asides peek b Talker (lines false true) (Speaking Turned) calm_turned true (turned_rest n) all.0 all.1.0 i.0 (free ∷ merge freed (i.1.0 ++ rest)) refl (every (IsAside d false) (IsAside d true) i.0 (aside_keeps d true) left) (never_due (Speaking Turned) i.0 refl) from in
+      (all.0, (all.1.0, (subst (λ (zs : List Step). FollowsAmong peek (turned_rest n) (stands b Talker (lines false true) (wires_of (turned_rest n)) (Speaking Turned)) zs all.0 all.1.0) (sym (ap (λ (zs : List Step). merge (free ∷ freed) zs) a.is ∙ i.1.1.1)) whole, all.1.1.1)))
+
+-- not later than this moment, besides
+abbrev Short : ℕ → ℕ → Step → Type 0
+Short d at s = IsOthers d s × (moment_of s ≤ at + 60)
+
+-- the other drives only let go of DATA, within 60
+talk_parts : (d at : ℕ) (answer : Seat → List Step) (seats : List Seat) → ForOthers d (λ x. is_talker x.role ≡ false) seats → SeatsReact seats
+    → ForOthers d (λ x. IsPart (IsAside d false) (Short d at) (elim x.role as (λ r. List Step) [ Absent ↦ let_go at x | Listener ↦ [] | Talker ↦ answer x ])) seats
+talk_parts d at answer [] e r = tt
+talk_parts d at answer (x ∷ xs) e r = (
+  λ (h : nat_eq d (device x) ≡ false). part_untalked (IsAside d false) (Short d at) x.role (let_go at x) (answer x) (e.0 h) (one h),
+  talk_parts d at answer xs e.1 r.2,
+)
+  where
+    one : nat_eq d (device x) ≡ false → IsPart (IsAside d false) (Short d at) (let_go at x)
+    one h = let k = r.1 in record { order = (tt, tt); first = (record { who = h; counts = refl; line = tt }, tt); behind = ((record { who = h; counts = refl; line = refl }, omega (arith, k)), tt); drives = (tt, tt) }
+
+short_others : (d at : ℕ) (s : Step) → Short d at s → IsOthers d s
+short_others d at s h = h.0
+
+short_in_time : (d at t : ℕ) (ss : List Step) → at + 60 ≤ t → Every (Short d at) ss → Every (InTime (Speaking (Led t))) ss
+short_in_time d at t [] l a = tt
+short_in_time d at t (s ∷ ss) l a = let k = a.0.1 in (omega (arith, k, l), short_in_time d at t ss l a.1)
+
+-- with a byte to say it pulls CLOCK and lets go of DATA, and leads 80 later
+led_follows : (b : Party) (x : ℕ × Bool) (at clock : ℕ) → at + 20 ≤ clock → (r : Rest) (back : List Step) → Every (Short b.device at) back → Every (IsLateBy (clock + b.reaction)) back
+    → (r2 : Rest) × ((q2 : Port) × (FollowsAmong (Some x) r (stands b Talker (lines false true) (wires_of r) (Speaking (Answering (clock + b.reaction)))) ((drive b.device (clock + b.reaction) Clock Pull ∷ drive b.device (clock + b.reaction) Data Free ∷ []) ++ back) r2 q2
+    × (q2 ≡ stands b Talker (lines true false) (wires_of r2) (Speaking (Led (clock + b.reaction + 80))))))
+led_follows b x at clock l r back a late =
+    let t = clock + b.reaction in
+    let r2 = rest_behind b.device r back in
+    let q2 = stands b Talker (lines true false) (wires_of r2) (Speaking (Led (t + 80))) in
+    let more = passes_all (Some x) b Talker (lines true false) (Speaking (Led (t + 80))) (calm_led (t + 80)) r back (every (Short b.device at) (IsOthers b.device) back (short_others b.device at) a) (short_in_time b.device at (t + 80) back (omega (arith, l)) a) in
+    (r2, (q2, (reacts t back refl refl tt (is_behind t back late) more, refl)))
+
+-- with none it lets go of DATA alone
+silent_follows : (b : Party) (clock : ℕ) (r : Rest) (back : List Step) → Every (IsOthers b.device) back → Every (IsLateBy (clock + b.reaction)) back
+    → (r2 : Rest) × ((q2 : Port) × (FollowsAmong None r (stands b Talker (lines false true) (wires_of r) (Speaking (Answering (clock + b.reaction)))) ((for_one b.device Silent (drive b.device (clock + b.reaction) Data Free) ∷ []) ++ back) r2 q2
+    × (q2 ≡ stands b Talker (lines false false) (wires_of r2) (Speaking Over))))
+silent_follows b clock r back a late =
+    let t = clock + b.reaction in
+    let r2 = rest_behind b.device r back in
+    let q2 = stands b Talker (lines false false) (wires_of r2) (Speaking Over) in
+    let more = passes_all None b Talker (lines false false) (Speaking Over) calm_over r back a (never_due (Speaking Over) back refl) in
+    (r2, (q2, (reacts t back refl refl tt (is_behind t back late) more, refl)))
+
+pub talker_law : (b : Party) (o : Held) (at clock : ℕ) → SeatLaw (ToTalker at clock) (seat b Talker o)
+talker_law b o at clock p q peek sound st f y =
+    let s = seat b Talker o in
+    let d = b.device in
+    let t = clock + b.reaction in
+    let w = ToTalker at clock in
+    let gap = f.1 in
+    let k = commanding_rest p s true sound f.0.commanding in
+    let answer : Seat → List Step = λ (x : Seat). drive (device x) (clock + reaction x) Clock Pull ∷ drive (device x) (clock + reaction x) Data Free ∷ [] in
+    let only = only_talker d p.seats s sound.seated.one sound.seated.sits refl in
+    let a = around_drives t (IsAside d false) (Short d at) d (λ x. own_part p w x) p.seats s (talk_parts d at answer p.seats only sound.react) sound.seated.sits (refl, (refl, tt)) in
+    let after = late_drives at (λ x. own_part p w x) p.seats (λ (x : Seat). from_role at x.role (let_go at x) (answer x) (omega arith, tt) (omega (arith, gap), (omega (arith, gap), tt))) in
+    let steps : steps_of p w ≡ host at Data Pull ∷ for_each Released (host at Atn Free) ∷ merge (host clock Clock Free ∷ []) (drives_of p w) =
+    merge_drives (λ x. own_part p w x) (host_part p w) p.seats ∙ turn_first at (host clock Clock Free ∷ []) (drives_of p w) after in
+    let tail = merge (host clock Clock Free ∷ []) (drives_of p w) in
+    let x = y.0 in
+    let all = answer_follows (Some x) b clock k.0 (Short d at) (answer s) [] (drives_of p w) (λ q2 r2. q2 ≡ stands b Talker (lines true false) (wires_of r2) (Speaking (Led (t + 80)))) (refl, (refl, tt)) tt tt a (led_follows b x at clock gap) in
+    let whole = released (Some x) p s w q all.1.0 k.0 all.0 (host at Data Pull ∷ for_each Released (host at Atn Free) ∷ tail) sound st f.0.commanding k.2 steps (talking_turn (Some x) b at k.0 tail all.0 all.1.0 all.1.1.0) in
+    let same : talker_of p.seats ≡ b = talker_is d p.seats s sound.seated.one sound.seated.sits refl in
+    record {
+      rest = all.0;
+      port = all.1.0;
+      follows = subst (λ (z : Option (ℕ × Bool)). FollowsAmong z (rest_at d p) q (steps_of p w) all.0 all.1.0) (sym y.1) whole;
+      role = ap (λ (z : Port). z.role) all.1.1.1;
+      own = ap (λ (z : Port). z.own) all.1.1.1;
+      side = ap (λ (z : Port). z.side) all.1.1.1 ∙ ap (λ (z : Party). Speaking (Led (clock + z.reaction + 80))) (sym same);
+    }
+
+freed_none : (t : ℕ) (freed : Option ℕ) → FreedFits t freed → NoneBefore (t + 1) (freed_steps freed)
+freed_none t None h = tt
+freed_none t (Some g) h = (h, tt)
+
+part_others : (d at : ℕ) (seats : List Seat) (own : Seat → List Step) → ForOthers d (λ x. IsPart (IsAside d false) (Short d at) (own x)) seats → ForOthers d (λ x. IsPart (IsAside d false) (IsOthers d) (own x)) seats
+part_others d at [] own e = tt
+part_others d at (x ∷ xs) own e = (
+  λ (h : nat_eq d (device x) ≡ false). let k = e.0 h in record { order = k.order; first = k.first; behind = every (Short d at) (IsOthers d) (own x) (short_others d at) k.behind; drives = k.drives },
+  part_others d at xs own e.1,
+)
+
+pub nothing_law : (b : Party) (o : Held) (at clock : ℕ) (freed : Option ℕ) → SeatLaw (Nothing at clock freed) (seat b Talker o)
+nothing_law b o at clock freed p q peek sound st f y =
+    let s = seat b Talker o in
+    let d = b.device in
+    let t = clock + b.reaction in
+    let w = Nothing at clock freed in
+    let gap = f.1 in
+    let k = commanding_rest p s true sound f.0.commanding in
+    let answer : Seat → List Step = λ (x : Seat). for_one (device x) Silent (drive (device x) (clock + reaction x) Data Free) ∷ [] in
+    let own : Seat → List Step = λ (x : Seat). own_part p w x in
+    let only = only_talker d p.seats s sound.seated.one sound.seated.sits refl in
+    let same : talker_of p.seats ≡ b = talker_is d p.seats s sound.seated.one sound.seated.sits refl in
+    let fits : FreedFits t freed = subst (λ (z : Party). FreedFits (clock + z.reaction) freed) same f.2 in
+    let a = around_drives t (IsAside d false) (IsOthers d) d own p.seats s (part_others d at p.seats own (talk_parts d at answer p.seats only sound.react)) sound.seated.sits (refl, tt) in
+    let after = late_drives at own p.seats (λ (x : Seat). from_role at x.role (let_go at x) (answer x) (omega arith, tt) (omega (arith, gap), tt)) in
+    let steps : steps_of p w ≡ host at Data Pull ∷ for_each Released (host at Atn Free) ∷ merge (host clock Clock Free ∷ freed_steps freed) (drives_of p w) =
+    merge_drives own (host_part p w) p.seats ∙ turn_first at (host clock Clock Free ∷ freed_steps freed) (drives_of p w) after in
+    let tail = merge (host clock Clock Free ∷ freed_steps freed) (drives_of p w) in
+    let all = answer_follows None b clock k.0 (IsOthers d) (answer s) (freed_steps freed) (drives_of p w) (λ q2 r2. q2 ≡ stands b Talker (lines false false) (wires_of r2) (Speaking Over)) (refl, tt) (freed_none t freed fits) (freed_others d freed) a (silent_follows b clock) in
+    let whole = released None p s w q all.1.0 k.0 all.0 (host at Data Pull ∷ for_each Released (host at Atn Free) ∷ tail) sound st f.0.commanding k.2 steps (talking_turn None b at k.0 tail all.0 all.1.0 all.1.1.0) in
+    record {
+      rest = all.0;
+      port = all.1.0;
+      follows = subst (λ (z : Option (ℕ × Bool)). FollowsAmong z (rest_at d p) q (steps_of p w) all.0 all.1.0) (sym y) whole;
+      role = ap (λ (z : Port). z.role) all.1.1.1;
+      own = ap (λ (z : Port). z.own) all.1.1.1;
+      side = ap (λ (z : Port). side_due z.side) all.1.1.1;
+    }

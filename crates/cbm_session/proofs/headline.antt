@@ -1,0 +1,22 @@
+-- A bus at work under any changes of the host, as far as it keeps to a session.
+pub mod TalkStates
+pub mod SideStates
+pub mod BusActs
+pub mod AlongBus
+pub mod GoesOf
+pub mod Ties
+pub mod BusStep
+pub mod Meeting
+pub mod TalkSwap
+pub mod TalkParts
+pub mod TurnTwin
+pub mod TurnBus
+pub mod BehindBus
+pub mod CutBus
+pub mod FrameBus
+pub mod TalkBus
+pub mod ReleaseBus
+pub mod PullSettled
+pub mod PullBus
+pub mod PullPlayed
+pub mod Keeping

@@ -1,0 +1,71 @@
+-- The bits of a frame: changes that come only where they change a line, the cells of a frame of the host, and the byte.
+use Rattle.std.specs.Prelude.{◌≡◌, ℕ, ◌+◌, ◌*◌, ◌≤◌, Bool, true, false, not, List, [], ◌∷◌, ◌++◌, if◌then◌else◌}
+use Rattle.cbm_iec.specs.Profile.{settle}
+use Rattle.cbm_iec.specs.declared.line.Line.TheVariants.{Clock, Data}
+use Rattle.cbm_iec.specs.declared.line.Way.TheVariants.{Pull, Free}
+use Rattle.cbm_iec.specs.declared.line.Way.{Way}
+use Rattle.cbm_session.specs.Steps.{Step, host}
+
+-- a change comes only where it changes something
+abbrev pub where_held : Bool → Step → List Step
+where_held held step = if held then step ∷ [] else []
+
+abbrev pub where_free : Bool → Step → List Step
+where_free held step = if held then [] else step ∷ []
+
+-- DATA for a bit: 1 is DATA free
+abbrev pub data_for : (Way → Step) → Bool → Bool → List Step
+data_for step held bit = if bit then where_held held (step Free) else where_free held (step Pull)
+
+-- one bit of a frame of the host: when DATA is set, where it changes, and else the pull before; then CLOCK is freed and pulled
+pub record Cell : Type 0 where
+  pub bit : Bool
+  pub set : ℕ
+  pub free : ℕ
+  pub pull : ℕ
+
+abbrev pub cell_steps : Bool → Cell → List Step
+cell_steps held c = data_for (λ way. host c.set Data way) held c.bit ++ host c.free Clock Free ∷ host c.pull Clock Pull ∷ []
+
+-- eight times, from whether the host holds DATA
+abbrev pub cells_steps : Bool → List Cell → List Step
+cells_steps held [] = []
+cells_steps held (c ∷ cs) = cell_steps held c ++ cells_steps (not c.bit) cs
+
+abbrev pub held_after : Bool → List Cell → Bool
+held_after held [] = held
+held_after held (c ∷ cs) = held_after (not c.bit) cs
+
+abbrev pub last_pull : ℕ → List Cell → ℕ
+last_pull pull [] = pull
+last_pull pull (c ∷ cs) = last_pull c.pull cs
+
+-- DATA is set at the pull or later
+abbrev pub SetFits : Bool → Bool → ℕ → ℕ → Type 0
+SetFits true true pull set = pull ≤ set
+SetFits false false pull set = pull ≤ set
+SetFits true false pull set = set ≡ pull
+SetFits false true pull set = set ≡ pull
+
+-- CLOCK is freed once it and DATA have settled, and pulled once it has settled again
+pub record CellFits (held : Bool) (pull : ℕ) (c : Cell) : Type 0 where
+  pub set : SetFits held c.bit pull c.set
+  pub free : pull + settle ≤ c.free
+  pub settled : c.set + settle ≤ c.free
+  pub pulled : c.free + settle ≤ c.pull
+
+abbrev pub CellsFit : Bool → ℕ → List Cell → Type 0
+CellsFit held pull [] = Unit {0}
+CellsFit held pull (c ∷ cs) = CellFits held pull c × CellsFit (not c.bit) c.pull cs
+
+-- lowest bit first
+abbrev pub number_of : List Bool → ℕ
+number_of [] = 0
+number_of (bit ∷ bits) = (if bit then 1 else 0) + 2 * number_of bits
+
+abbrev pub bits_of : List Cell → List Bool
+bits_of [] = []
+bits_of (c ∷ cs) = c.bit ∷ bits_of cs
+
+abbrev pub byte_of : List Cell → ℕ
+byte_of cells = number_of (bits_of cells)

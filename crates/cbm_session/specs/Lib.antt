@@ -1,0 +1,15 @@
+pub mod Steps
+pub mod Bits
+pub mod Joins
+pub mod Seats
+pub mod Frames
+pub mod Pieces
+pub mod Sessions
+pub mod Timing
+pub mod Answers
+pub mod Following
+pub mod Among
+pub mod Buses
+pub mod Playing
+pub mod Rows
+pub mod Laws

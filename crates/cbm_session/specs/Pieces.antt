@@ -1,0 +1,254 @@
+-- The pieces of a session: the host's events and each drive's own, their bounds, and what may follow.
+use Rattle.std.specs.Prelude.{◌≡◌, ℕ, ◌+◌, ◌≤◌, max, Bool, true, false, not, List, [], ◌∷◌, ◌++◌, map, Option, Some, None, if◌then◌else◌, nat_le, nat_lt, filter}
+use Rattle.cbm_iec.specs.Profile.{lead, next_byte, settle, settle_all, pause}
+use Rattle.cbm_iec.specs.Roles.{role_after}
+use Rattle.cbm_iec.specs.declared.act.Act.TheVariants.{Pulled, Attention, Released, Heard, Silent}
+use Rattle.cbm_iec.specs.declared.line.Line.TheVariants.{Atn, Clock, Data}
+use Rattle.cbm_iec.specs.declared.line.Way.TheVariants.{Pull, Free}
+use Rattle.cbm_iec.specs.declared.line.Way.{Way}
+use Rattle.cbm_iec.specs.declared.lines.Held.{Held}
+use Rattle.cbm_iec.specs.declared.party.Party.{Party}
+use Rattle.cbm_iec.specs.declared.party.Role.TheVariants.{Absent, Listener, Talker}
+use Rattle.cbm_iec.specs.declared.party.Role.{Role}
+use Rattle.cbm_session.specs.Bits.{where_held, where_free, byte_of}
+use Rattle.cbm_session.specs.Frames.{Sent, Told, wire, accept_of, hearing, sending, SentFits, is_last, telling, taking, ToldFits}
+use Rattle.cbm_session.specs.Seats.{lines, Seat, device, reaction, is_listener, is_talker, has_listener, has_talker, talker_of, listeners}
+use Rattle.cbm_session.specs.Steps.{Step, host, drive, for_each, for_one, moment_of, merge_all}
+
+pub data Whole : Type 0 where
+  -- the part of an attention up to its first byte: ATN's pull
+  PullPiece : (at : ℕ) → Whole
+  -- a frame of the host in attention; to listeners, with EOI or without
+  Command : (frame : Sent) → Whole
+  Byte : (eoi : Bool) → (frame : Sent) → Whole
+  -- ATN's release: with a listener; with neither, and CLOCK freed then
+  ToListener : (at : ℕ) → Whole
+  ToNobody : (at : ℕ) → (clock : ℕ) → Whole
+  -- ATN's release with a talker and CLOCK freed then: up to Lead; or nothing to say, and the host may free DATA
+  ToTalker : (at : ℕ) → (clock : ℕ) → Whole
+  Nothing : (at : ℕ) → (clock : ℕ) → (freed : Option ℕ) → Whole
+  -- a frame of the drive, which frees CLOCK at that moment
+  Talk : (at : ℕ) → (frame : Told) → Whole
+
+pub data Piece : Type 0 where
+  Full : Whole → Piece
+  -- a piece of a talking drive that a pull at this moment cuts
+  Cut : Whole → (at : ℕ) → Piece
+
+pub data Place : Type 0 where
+  -- from rest, and after a talk is over
+  Open : Place
+  -- in attention, behind a byte or before the first
+  Commanding : (some : Bool) → Place
+  Listening : Place
+  -- the drive frees CLOCK at that moment for its next frame
+  Leading : (at : ℕ) → Place
+  -- a pull at that moment comes next
+  Cutting : (at : ℕ) → Place
+
+-- what the next piece reads of the past
+pub record Point : Type 0 where
+  pub place : Place
+  pub seats : List Seat
+  pub host : Held
+  -- ATN's last pull, and its release where no drive talks; none before the first
+  pub pulled : ℕ
+  pub released : Option ℕ
+  -- the accept of the last byte that the host sent: DATA pulled on the wire, by the fastest that hears it
+  pub accepted : ℕ
+  -- no pull comes before: the last event, or the moment behind it where that was a drive's
+  pub since : ℕ
+
+abbrev pub freed_steps : Option ℕ → List Step
+freed_steps None = []
+freed_steps (Some at) = host at Data Free ∷ []
+
+-- the host's part of each piece
+abbrev pub host_part : Point → Whole → List Step
+host_part p (PullPiece at) = for_each Pulled (host at Atn Pull) ∷ (where_free p.host.clock_low (host at Clock Pull) ++ where_held p.host.data_low (host at Data Free))
+host_part p (Command f) = sending f
+host_part p (Byte eoi f) = sending f
+host_part p (ToListener at) = for_each Released (host at Atn Free) ∷ []
+host_part p (ToNobody at clock) = for_each Released (host at Atn Free) ∷ host clock Clock Free ∷ []
+host_part p (ToTalker at clock) = host at Data Pull ∷ for_each Released (host at Atn Free) ∷ host clock Clock Free ∷ []
+host_part p (Nothing at clock freed) = host at Data Pull ∷ for_each Released (host at Atn Free) ∷ host clock Clock Free ∷ freed_steps freed
+host_part p (Talk at f) = taking (talker_of p.seats) f
+
+-- a drive without a role lets go of DATA at ATN's release
+abbrev pub let_go : ℕ → Seat → List Step
+let_go at s = drive (device s) (at + reaction s) Data Free ∷ []
+
+-- each drive's own part
+abbrev pub own_part : Point → Whole → Seat → List Step
+own_part p (PullPiece at) s = where_held s.own.clock_low (drive (device s) (at + reaction s) Clock Free) ++ where_free s.own.data_low (drive (device s) (at + reaction s) Data Pull)
+own_part p (Command f) s = hearing (wire p.seats f) false (Attention (byte_of f.cells)) f s
+own_part p (Byte eoi f) s = if is_listener s.role then hearing (wire (listeners p.seats) f) eoi (Heard (byte_of f.cells) eoi) f s else []
+own_part p (ToListener at) s = elim s.role [ Absent ↦ let_go at s | Listener ↦ [] | Talker ↦ [] ]
+own_part p (ToNobody at clock) s = let_go at s
+own_part p (ToTalker at clock) s = elim s.role [
+  | Absent ↦ let_go at s
+  | Listener ↦ []
+  | Talker ↦ drive (device s) (clock + reaction s) Clock Pull ∷ drive (device s) (clock + reaction s) Data Free ∷ []
+]
+own_part p (Nothing at clock freed) s = elim s.role [
+  | Absent ↦ let_go at s
+  | Listener ↦ []
+  | Talker ↦ for_one (device s) Silent (drive (device s) (clock + reaction s) Data Free) ∷ []
+]
+own_part p (Talk at f) s = if is_talker s.role then telling s.party at f else []
+
+-- the events of a piece: all parts joined by moments, at one moment the host's first, then the drives' as they are listed
+abbrev pub steps_of : Point → Whole → List Step
+steps_of p w = merge_all (host_part p w) (map (λ s. own_part p w s) p.seats)
+
+abbrev pub before : ℕ → List Step → List Step
+before at steps = filter (λ s. nat_lt (moment_of s) at) steps
+
+abbrev pub piece_steps : Point → Piece → List Step
+piece_steps p (Full w) = steps_of p w
+piece_steps p (Cut w at) = before at (steps_of p w)
+
+-- bounds
+abbrev pub AtLeast : ℕ → Option ℕ → ℕ → Type 0
+AtLeast gap None moment = Unit {0}
+AtLeast gap (Some since) moment = since + gap ≤ moment
+
+-- from a byte's accept to the next change of ATN
+abbrev pub gap : List Seat → ℕ
+gap [] = settle
+gap (s ∷ ss) = elim ss [ [] ↦ settle | t ∷ ts ↦ settle_all ]
+
+pub record MayRelease (p : Point) (listens talks : Bool) (at : ℕ) : Type 0 where
+  pub commanding : p.place ≡ Commanding true
+  pub listener : has_listener p.seats ≡ listens
+  pub talker : has_talker p.seats ≡ talks
+  pub gap : p.accepted + gap p.seats ≤ at
+
+abbrev pub PullFits : Point → ℕ → Place → Type 0
+PullFits p at Open = AtLeast pause p.released at × (p.since ≤ at)
+PullFits p at (Commanding some) = ⊥
+PullFits p at Listening = AtLeast pause p.released at × (p.accepted + gap p.seats ≤ at)
+PullFits p at (Leading s) = ⊥
+PullFits p at (Cutting cut) = at ≡ cut
+
+-- behind the drive's own release of DATA
+abbrev pub FreedFits : ℕ → Option ℕ → Type 0
+FreedFits since None = Unit {0}
+FreedFits since (Some at) = since + 1 ≤ at
+
+pub data IsCommanding : Place → Type 0 where
+  commanding : {some : Bool} → IsCommanding (Commanding some)
+
+abbrev pub Fits : Point → Whole → Type 0
+Fits p (PullPiece at) = PullFits p at p.place
+Fits p (Command f) = IsCommanding p.place × (p.pulled + pause ≤ f.ready) × (p.accepted + pause ≤ f.ready) × SentFits p.seats false f
+Fits p (Byte eoi f) = (p.place ≡ Listening) × AtLeast pause p.released f.ready × (p.accepted + pause ≤ f.ready) × SentFits (listeners p.seats) eoi f
+Fits p (ToListener at) = MayRelease p true false at
+Fits p (ToNobody at clock) = MayRelease p false false at × (at ≤ clock)
+Fits p (ToTalker at clock) = MayRelease p false true at × (at + settle ≤ clock)
+Fits p (Nothing at clock freed) = MayRelease p false true at × (at + settle ≤ clock) × FreedFits (clock + (talker_of p.seats).reaction) freed
+Fits p (Talk at f) = (p.place ≡ Leading at) × ToldFits (talker_of p.seats) at f
+
+-- A cut is of a piece of a talking drive, behind the moment at which that begins. A frame begins where the piece before ends.
+abbrev pub CutFits : Point → Whole → ℕ → Type 0
+CutFits p (ToTalker at clock) cut = at + 1 ≤ cut
+CutFits p (Nothing at clock freed) cut = at + 1 ≤ cut
+CutFits p (Talk at f) cut = p.since ≤ cut
+CutFits p w cut = ⊥
+
+-- whether some of these steps isn't before that moment
+abbrev pub some_from : ℕ → List Step → Bool
+some_from at [] = false
+some_from at (s ∷ ss) = if nat_le at (moment_of s) then true else some_from at ss
+
+abbrev pub PieceFits : Point → Piece → Type 0
+PieceFits p (Full w) = Fits p w
+PieceFits p (Cut w at) = Fits p w × CutFits p w at × (some_from at (steps_of p w) ≡ true)
+
+-- the lines that a party holds after these steps of its own
+abbrev pub is_pull : Way → Bool
+is_pull Pull = true
+is_pull Free = false
+
+abbrev pub held_by : Held → List Step → Held
+held_by held [] = held
+held_by held (s ∷ ss) =
+    held_by (elim s.event.change.line [ Atn ↦ held | Clock ↦ record held { clock_low = is_pull s.event.change.way } | Data ↦ record held { data_low = is_pull s.event.change.way } ]) ss
+
+-- what stands behind a piece
+abbrev pub told_place : Told → Place
+told_place f = if is_last f then Open else Leading (f.accept + next_byte)
+
+abbrev pub told_since : Party → Told → ℕ
+told_since b f = if is_last f then f.accept + b.reaction + 1 else f.accept
+
+-- the moment behind the last event of a nothing to say, but for drives without a role
+abbrev pub behind : ℕ → Option ℕ → ℕ
+behind answer None = answer + 1
+behind answer (Some at) = at
+
+-- and behind their releases of DATA
+abbrev pub behind_all : ℕ → ℕ → List Seat → ℕ
+behind_all at moment [] = moment
+behind_all at moment (s ∷ ss) = elim s.role [ Absent ↦ max (at + reaction s + 1) (behind_all at moment ss) | Listener ↦ behind_all at moment ss | Talker ↦ behind_all at moment ss ]
+
+abbrev pub is_none : Option ℕ → Bool
+is_none None = true
+is_none (Some at) = false
+
+-- the drives behind a piece, by their roles
+abbrev pub seat_with : Role → Held → Seat → Seat
+seat_with role own s = record { party = s.party; role = role; own = own }
+
+abbrev pub obeying : ℕ → Seat → Seat
+obeying byte s = seat_with (role_after (device s) byte s.role) (lines false true) s
+
+-- listeners hold DATA, a talker its line, the others nothing
+abbrev pub standing : Held → Seat → Seat
+standing talking s = elim s.role [ Absent ↦ seat_with Absent (lines false false) s | Listener ↦ seat_with Listener (lines false true) s | Talker ↦ seat_with Talker talking s ]
+
+abbrev pub whole_point : Point → Whole → Point
+whole_point p (PullPiece at) = record { place = Commanding false; seats = map (λ s. seat_with s.role (lines false true) s) p.seats; host = lines true false; pulled = at; released = None; accepted = p.accepted; since = at }
+whole_point p (Command f) = record { place = Commanding true; seats = map (λ s. obeying (byte_of f.cells) s) p.seats; host = lines true false; pulled = p.pulled; released = None; accepted = accept_of p.seats f; since = p.since }
+whole_point p (Byte eoi f) = record { place = Listening; seats = map (λ s. standing (lines false false) s) p.seats; host = lines true false; pulled = p.pulled; released = p.released; accepted = accept_of (listeners p.seats) f; since = p.since }
+whole_point p (ToListener at) = record { place = Listening; seats = map (λ s. standing (lines false false) s) p.seats; host = lines true false; pulled = p.pulled; released = Some at; accepted = p.accepted; since = at }
+whole_point p (ToNobody at clock) = record { place = Open; seats = map (λ s. standing (lines false false) s) p.seats; host = lines false false; pulled = p.pulled; released = Some at; accepted = p.accepted; since = clock }
+whole_point p (ToTalker at clock) = record {
+  place = Leading (clock + (talker_of p.seats).reaction + lead);
+  seats = map (λ s. standing (lines true false) s) p.seats;
+  host = lines false true;
+  pulled = p.pulled;
+  released = None;
+  accepted = p.accepted;
+  since = behind_all at (clock + (talker_of p.seats).reaction + 1) p.seats;
+}
+whole_point p (Nothing at clock freed) = record {
+  place = Open;
+  seats = map (λ s. standing (lines false false) s) p.seats;
+  host = lines false (is_none freed);
+  pulled = p.pulled;
+  released = None;
+  accepted = p.accepted;
+  since = behind_all at (behind (clock + (talker_of p.seats).reaction) freed) p.seats;
+}
+whole_point p (Talk at f) = record {
+  place = told_place f;
+  seats = map (λ s. standing (lines (not (is_last f)) false) s) p.seats;
+  host = lines false true;
+  pulled = p.pulled;
+  released = None;
+  accepted = p.accepted;
+  since = told_since (talker_of p.seats) f;
+}
+
+abbrev pub point_after : Point → Piece → Point
+point_after p (Full w) = whole_point p w
+point_after p (Cut w at) = record {
+  place = Cutting at;
+  seats = map (λ s. seat_with s.role (held_by s.own (before at (own_part p w s))) s) p.seats;
+  host = held_by p.host (before at (host_part p w));
+  pulled = p.pulled;
+  released = None;
+  accepted = p.accepted;
+  since = at;
+}

@@ -1,0 +1,123 @@
+-- A bus at work: each drive on the wires with the machine above it, under a list of timed changes of the host.
+use Rattle.std.specs.Prelude.{◌≡◌, ℕ, zero, suc, ◌≤◌, ◌<◌, Bool, false, List, [], ◌∷◌, ◌++◌, map, Option, Some, None}
+use Rattle.cbm_iec.specs.Machines.{acted}
+use Rattle.cbm_iec.specs.Ports.{resting, port_due, told, told_act, reacted, reaction_act, reaction_changes}
+use Rattle.cbm_iec.specs.declared.act.Act.TheVariants.{Said}
+use Rattle.cbm_iec.specs.declared.act.Act.{Act}
+use Rattle.cbm_iec.specs.declared.event.Event.{Event}
+use Rattle.cbm_iec.specs.declared.event.Who.TheVariants.{Host, Drive}
+use Rattle.cbm_iec.specs.declared.line.Change.{Change}
+use Rattle.cbm_iec.specs.declared.party.Party.{Party}
+use Rattle.cbm_iec.specs.declared.port.Port.{Port}
+use Rattle.cbm_session.specs.Among.{Rest, wires_of, behind_other, behind_host}
+use Rattle.cbm_session.specs.Answers.{Run, Allowed}
+use Rattle.cbm_session.specs.Following.{IsInTime}
+use Rattle.cbm_session.specs.Pieces.{Piece}
+use Rattle.cbm_session.specs.Sessions.{rest, Splits, IsBus}
+use Rattle.cbm_session.specs.Steps.{Step, events_of, acts_for}
+use Rattle.cbm_session.specs.Timing.{IsLate, HostKeeps}
+
+-- nothing is due at or before this moment
+abbrev pub IsLaterDue : ℕ → Option ℕ → Type 0
+IsLaterDue moment None = Unit {0}
+IsLaterDue moment (Some t) = moment < t
+
+-- a drive at work: its port, what all others hold, and its machine
+pub record Station (M : Type 0) : Type 0 where
+  pub port : Port
+  pub rest : Rest
+  pub machine : M
+
+abbrev pub host_event : Change → Event
+host_event c = record { who = Host; change = c }
+
+abbrev pub drive_events : ℕ → List Change → List Event
+drive_events d [] = []
+drive_events d (c ∷ cs) = (record { who = Drive d; change = c }) ∷ drive_events d cs
+
+abbrev pub nobody : Rest
+nobody = record { host = record { atn_low = false; clock_low = false; data_low = false }; clocks = zero; datas = zero }
+
+module _ (M : Type 0) (step : M → Act → M) (peek : M → Option (ℕ × Bool)) where
+  -- a drive told a change of the host, and one of another drive
+  abbrev pub told_lines : ℕ → Rest → Station M → Station M
+  told_lines t r s = record { port = told t (wires_of r) s.port; rest = r; machine = acted M step (told_act (wires_of r) s.port) s.machine }
+
+  abbrev pub tell : Change → Station M → Station M
+  tell c s = told_lines c.moment (behind_host c.line c.way s.rest) s
+
+  abbrev pub hear : Change → Station M → Station M
+  hear c s = told_lines c.moment (behind_other c.line c.way s.rest) s
+
+  abbrev pub hear_all : List Change → Station M → Station M
+  hear_all [] s = s
+  hear_all (c ∷ cs) s = hear_all cs (hear c s)
+
+  -- a drive's reaction that is due, and its changes
+  abbrev pub react : ℕ → Station M → Station M
+  react t s = record { port = reacted t (peek s.machine) s.port; rest = s.rest; machine = acted M step (reaction_act (peek s.machine) s.port) s.machine }
+
+  abbrev pub shown : ℕ → Station M → List Change
+  shown t s = reaction_changes t (peek s.machine) s.port
+
+  abbrev pub AllInTime : ℕ → List (Station M) → Type 0
+  AllInTime t [] = Unit {0}
+  AllInTime t (s ∷ ss) = IsInTime t (port_due s.port) × AllInTime t ss
+
+  abbrev pub AllLater : ℕ → List (Station M) → Type 0
+  AllLater t [] = Unit {0}
+  AllLater t (s ∷ ss) = IsLaterDue t (port_due s.port) × AllLater t ss
+
+  -- the reaction of this drive is due first: sooner than those of the drives before it, not later than those of the drives behind
+  pub record IsFirst (t : ℕ) (before : List (Station M)) (o : Station M) (behind : List (Station M)) : Type 0 where
+    pub due : port_due o.port ≡ Some t
+    pub later : AllLater t before
+    pub in_time : AllInTime t behind
+
+  abbrev pub reacting : ℕ → List (Station M) → Station M → List (Station M) → List (Station M)
+  reacting t before o behind = map (λ s. hear_all (shown t o) s) before ++ react t o ∷ map (λ s. hear_all (shown t o) s) behind
+
+  -- what each has to say is a byte
+  abbrev pub IsByte : Option (ℕ × Bool) → Type 0
+  IsByte None = Unit {0}
+  IsByte (Some x) = x.0 < 256
+
+  abbrev pub AllBytes : List (Station M) → Type 0
+  AllBytes [] = Unit {0}
+  AllBytes (s ∷ ss) = IsByte (peek s.machine) × AllBytes ss
+
+  -- From these drives these events come, one after the other, and then the drives stand so. The numbers are moments before which the host changes nothing more.
+  -- A change of the host comes where nothing is due before it; the reaction that is due first comes before each later change of the host. It may show nothing.
+  pub data Plays : ℕ → List (Station M) → List Event → ℕ → List (Station M) → Type 0 where
+    stays : {n n2 : ℕ} {ss ss2 : List (Station M)} {es : List Event} → AllBytes ss → es ≡ [] → n2 ≡ n → ss2 ≡ ss → Plays n ss es n2 ss2
+    change : {n n2 : ℕ} {ss ss2 : List (Station M)} {es : List Event} (c : Change) (more : List Event) → AllBytes ss → n ≤ c.moment → AllInTime c.moment ss
+        → es ≡ host_event c ∷ more → Plays c.moment (map (λ s. tell c s) ss) more n2 ss2 → Plays n ss es n2 ss2
+    reaction : {n n2 : ℕ} {ss ss2 : List (Station M)} {es : List Event} (t : ℕ) (before : List (Station M)) (o : Station M) (behind : List (Station M)) (more : List Event) → AllBytes ss → ss ≡ before ++ o ∷ behind
+        → IsFirst t before o behind → es ≡ drive_events o.port.party.device (shown t o) ++ more → Plays (suc t) (reacting t before o behind) more n2 ss2 → Plays n ss es n2 ss2
+
+  abbrev pub at_rest : (ℕ → M) → List Party → List (Station M)
+  at_rest ms bs = map (λ b. (record { port = resting b; rest = nobody; machine = ms b.device })) bs
+
+  -- what is asked of a machine: behind a byte that isn't the last there is another
+  pub record IsMachine : Type 0 where
+    pub more : (m : M) (n : ℕ) → peek m ≡ Some (n, false) → (x : ℕ × Bool) × (peek (step m (Said n false)) ≡ Some x)
+
+  -- each drive's machine ran the acts that count for it
+  abbrev pub RanEach : (ℕ → M) → List Step → List (Station M) → Type 0
+  RanEach ms steps [] = Unit {0}
+  RanEach ms steps (s ∷ ss) = Run M step peek (ms s.port.party.device) (acts_for s.port.party.device steps) s.machine × RanEach ms steps ss
+
+  -- The trace is a beginning of a session in which each byte talked is the answer of its drive's machine, the machines ran what counts in it, and no reaction is late.
+  pub record IsKept (bs : List Party) (ms : ℕ → M) (trace : List Event) (end : ℕ) (ss : List (Station M)) : Type 0 where
+    pub pieces : List Piece
+    pub done : List Step
+    pub more : List Step
+    pub splits : Splits bs pieces done more
+    pub events : events_of done ≡ trace
+    pub allowed : Allowed M step peek (rest bs) ms pieces
+    pub ran : RanEach ms done ss
+    pub prompt : IsLate bs (λ ks. Allowed M step peek (rest bs) ms ks) trace end → ⊥
+
+  -- Where the host keeps the timing, a bus that plays from rest keeps to a session.
+  abbrev pub KeepsSessions : Type 0
+  KeepsSessions = (bs : List Party) (ms : ℕ → M) (n end : ℕ) (trace : List Event) (ss : List (Station M)) → IsBus bs → IsMachine → Plays zero (at_rest ms bs) trace n ss → AllLater end ss → HostKeeps bs trace end → IsKept bs ms trace end ss

@@ -1,0 +1,84 @@
+//! Laws of the definitions, each the contract of a function with nothing to do.
+
+ghost use Rattle.cbm_session.specs.Joins.{JoinsItsParts, IsOnlyJoin};
+ghost use Rattle.cbm_session.specs.Buses.{FollowsBuses};
+ghost use Rattle.cbm_session.specs.Following.{FollowsPieces, FollowsFronts, FollowsSessions};
+ghost use Rattle.cbm_session.specs.Laws.{OnePulse, PulseEnds, ListenersAccepted, DrivesAccepted, CommandsGoInParts, BytesGoInParts, SessionsGoOn, OneReading, FrontsKeep, FrontsInTime};
+ghost use Rattle.cbm_session.specs.Rows.{ListenOwn, ListenOther, TalkCut, TalkCutEarly, TwoListeners, Ties98, Ties89, BesideAListener, SilentBeside};
+
+/// The events of a piece are the only join of its parts.
+pub fn is_joined()
+    ensures joins { JoinsItsParts }
+    ensures only { IsOnlyJoin }
+{}
+
+/// The pulses of listeners are one pulse on the wire.
+pub fn is_one_pulse()
+    ensures one { OnePulse }
+    ensures ends { PulseEnds }
+{}
+
+/// Each that hears a frame has accepted before the host may go on.
+pub fn has_accepted()
+    ensures listeners { ListenersAccepted }
+    ensures drives { DrivesAccepted }
+{}
+
+/// A frame of the host to any number of drives: CLOCK is freed, all let go of DATA, then come the pulses, the bits and the accepts.
+pub fn goes_in_parts()
+    ensures commands { CommandsGoInParts }
+    ensures bytes { BytesGoInParts }
+{}
+
+/// Sessions by numbers: their events, and what each drive was told.
+pub fn rows()
+    ensures listen_own { ListenOwn }
+    ensures listen_other { ListenOther }
+    ensures talk_cut { TalkCut }
+    ensures talk_cut_early { TalkCutEarly }
+    ensures two_listeners { TwoListeners }
+    ensures ties_9_8 { Ties98 }
+    ensures ties_8_9 { Ties89 }
+    ensures beside_a_listener { BesideAListener }
+    ensures silent_beside { SilentBeside }
+{}
+
+/// A session's moments never go back, and at one moment the host's changes come before the drives'.
+pub fn goes_on()
+    ensures { SessionsGoOn }
+{}
+
+/// A trace has only one reading: what each drive was told is determined by the events on the wires.
+pub fn one_reading()
+    ensures { OneReading }
+{}
+
+/// A host whose changes are those of a session, with no further one up to an end, keeps the timing up to there; and where then no
+/// drive owes a change, none was late.
+pub fn keeps_timing()
+    ensures host { FrontsKeep }
+    ensures drives { FrontsInTime }
+{}
+
+/// A drive alone with the host that stands at a point of a session follows each piece that fits there: told the
+/// host's part, it makes its own part and gives the piece's acts, and it stands at the point behind.
+pub fn follows_pieces()
+    ensures { FollowsPieces }
+{}
+
+/// The same up to each moment before a piece's last event: what stands before is made, and nothing is overdue.
+pub fn follows_fronts()
+    ensures { FollowsFronts }
+{}
+
+/// From rest a drive alone with the host follows every session, cut pieces too: its trace is the session's, and the acts are those that count.
+pub fn follows_sessions()
+    ensures { FollowsSessions }
+{}
+
+/// From rest each of one to four unlike drives on a bus follows every session among the host and the other drives, cut pieces too,
+/// whatever its reaction and theirs are (1 to 60 microseconds) and in any order of ties: its part of the trace is the session's, it is
+/// told what counts for it, and at each point of the session it stands with the role, the lines and the next reaction that the session gives it.
+pub fn follows_buses()
+    ensures { FollowsBuses }
+{}
