@@ -1,5 +1,6 @@
 //! Statuses, as the drive's table has them.
-use crate::{Code, Refusal, Status, Telling};
+use crate::{Code, Status, Telling};
+use cbm_command::Refusal;
 
 #[test]
 fn tells_statuses(rt: HostRuntime) {
