@@ -29,6 +29,7 @@ next_byte = 100
 abbrev pub half_bit : ℕ
 half_bit = 60
 
+-- how long a talker's bit lasts
 abbrev pub bit_time : ℕ
 bit_time = 2 * half_bit
 
@@ -48,9 +49,10 @@ pause = 100
 abbrev pub latest_start : ℕ
 latest_start = 199
 
--- the host: it accepts a byte 1 to 1,000 after its eighth bit, counted here from the first one
+-- the host: it accepts a byte at least 1 after its eighth bit, counted here from the first one
 abbrev pub first_accept : ℕ
 first_accept = 8 * bit_time + 1
 
+-- the host: and at most 1,000 after its eighth bit
 abbrev pub latest_accept : ℕ
 latest_accept = 8 * bit_time + 1000

@@ -283,17 +283,9 @@ fn talks_a_byte(rt: HostRuntime) -> Result<(), Fail> {
     Ok(())
 }
 
-// ATN is pulled after four bits of the first byte; the next TALK says all 27 bytes from the first, EOI with the last.
-#[test]
-fn says_again_what_was_cut(rt: HostRuntime) -> Result<(), Fail> {
-    let mut changes = Vec::new(rt.alloc());
-    let c = talk(&rt, &mut changes, 0)?;
-    assert!(rt; c < 100_000);
-    changes.push(at(c + 120, Data, Free))?;
-    let cut = c + 140 + 120 * 3 + 90;
-    let again = talk(&rt, &mut changes, cut)?;
-    assert!(rt; again < 200_000);
-    let mut offer = again + 100;
+// The host takes the status of 27 bytes, offered first at that moment; before the last byte it waits for EOI. Answers the moment 100 behind the last accept.
+fn take_status(rt: &impl Abort, changes: &mut Vec<Change>, first: u64) -> Result<u64, AllocError> {
+    let mut offer = first;
     for k in 0..27 {
         assert!(rt; offer < 1_000_000);
         changes.push(at(offer + 20, Data, Free))?;
@@ -303,13 +295,14 @@ fn says_again_what_was_cut(rt: HostRuntime) -> Result<(), Fail> {
             changes.push(at(offer + 280, Data, Free))?;
             sending = offer + 300;
         }
-        assert!(rt; sending < 2_000_000);
         changes.push(at(sending + 980, Data, Pull))?;
         offer = sending + 980 + 100;
     }
-    let mut bus = Bus::new(rt.alloc(), &[one(8, 20)])?;
-    assert!(rt; offer < 10_000_000);
-    bus.play(&rt, &changes, offer + 1000)?;
+    Ok(offer)
+}
+
+// The drive said the status, EOI with its last byte.
+fn expect_status(rt: &impl Abort, bus: &Bus) {
     let mut place = 0;
     for (_, act) in &bus.heard {
         if let Act::Said(byte, last) = *act {
@@ -320,6 +313,23 @@ fn says_again_what_was_cut(rt: HostRuntime) -> Result<(), Fail> {
         }
     }
     assert_eq!(rt; place, 27, "27 bytes");
+}
+
+// ATN is pulled after four bits of the first byte; the next TALK says all 27 bytes from the first, EOI with the last.
+#[test]
+fn says_again_what_was_cut(rt: HostRuntime) -> Result<(), Fail> {
+    let mut changes = Vec::new(rt.alloc());
+    let c = talk(&rt, &mut changes, 0)?;
+    assert!(rt; c < 100_000);
+    changes.push(at(c + 120, Data, Free))?;
+    let cut = c + 140 + 120 * 3 + 90;
+    let again = talk(&rt, &mut changes, cut)?;
+    assert!(rt; again < 200_000);
+    let offer = take_status(&rt, &mut changes, again + 100)?;
+    assert!(rt; offer < 10_000_000);
+    let mut bus = Bus::new(rt.alloc(), &[one(8, 20)])?;
+    bus.play(&rt, &changes, offer + 1000)?;
+    expect_status(&rt, &bus);
     assert_eq!(rt; bus.next_due(), None, "nothing is due");
     judged(&rt, rt.alloc(), &bus, offer + 1000, "a status", true)?;
     Ok(())
@@ -350,6 +360,26 @@ fn with_one(
     Ok(other)
 }
 
+// With the change at that place moved by `shift - 1`, or left out for 3: late, or no session's where it comes too soon.
+fn expect_moved(
+    rt: &impl Abort,
+    alloc: Global,
+    bus: &Bus,
+    place: usize,
+    shift: u64,
+) -> Result<(), AllocError> {
+    let trace = with_one(alloc, &bus.events, place, shift)?;
+    let judge = Judge::of(alloc, &[one(8, 20)], &trace, 1500)?;
+    assert_eq!(rt;
+        judge.late,
+        shift != 0,
+        "change {place} moved by {shift} - 1"
+    );
+    assert!(rt; judge.keeps, "change {place}: the host keeps the timing");
+    assert!(rt; shift != 0 || !judge.begins(), "change {place}: no session");
+    Ok(())
+}
+
 // A drive's change that is left out or comes 1 later makes the trace late; 1 earlier it is no session's. The host is never to blame.
 #[test]
 fn tells_a_late_drive(rt: HostRuntime) -> Result<(), Fail> {
@@ -363,16 +393,8 @@ fn tells_a_late_drive(rt: HostRuntime) -> Result<(), Fail> {
             continue;
         }
         tried = after(tried, 1);
-        for shift in [0, 2, 3u64] {
-            let trace = with_one(rt.alloc(), &bus.events, place, shift)?;
-            let judge = Judge::of(rt.alloc(), &[one(8, 20)], &trace, 1500)?;
-            assert_eq!(rt;
-                judge.late,
-                shift != 0,
-                "change {place} moved by {shift} - 1"
-            );
-            assert!(rt; judge.keeps, "change {place}: the host keeps the timing");
-            assert!(rt; shift != 0 || !judge.begins(), "change {place}: no session");
+        for shift in [0, 2, 3] {
+            expect_moved(&rt, rt.alloc(), &bus, place, shift)?;
         }
     }
     assert_eq!(rt; tried, 4, "the changes of the drive");

@@ -128,7 +128,102 @@ fn disturbed(
     Ok(other)
 }
 
-// Hosts made of one seed: one that keeps the timing, whole and up to a moment of its own, one that is disturbed, and one that breaks a bound by 1; where that is by a change too late, also up to the moment before it.
+// A host that keeps the timing: the drives make what was written down, and the trace is a session.
+fn check_whole(
+    rt: &impl Abort,
+    alloc: Global,
+    session: &Session,
+    end: u64,
+    seed: u64,
+) -> Result<(), AllocError> {
+    let bus = played(rt, alloc, session, &session.changes, end)?;
+    follows(rt, alloc, &bus, session, seed)?;
+    keeps(rt, alloc, &bus, end, "session", seed)
+}
+
+// The same host up to a moment of its own.
+fn check_front(
+    rt: &impl Abort,
+    alloc: Global,
+    session: &Session,
+    until: u64,
+    seed: u64,
+) -> Result<(), AllocError> {
+    let changes = ended(alloc, &session.changes, until)?;
+    let bus = played(rt, alloc, session, &changes, until)?;
+    keeps(rt, alloc, &bus, until, "front of session", seed)
+}
+
+// A host that leaves a change out, doubles it, or swaps it with the next one where that matters; how many traces were judged.
+fn check_disturbed(
+    rt: &impl Abort,
+    alloc: Global,
+    session: &Session,
+    place: usize,
+    how: u64,
+    end: u64,
+    seed: u64,
+) -> Result<u64, AllocError> {
+    if how != 1 && !comes_again(&session.changes, place) {
+        return Ok(0);
+    }
+    let changes = disturbed(alloc, &session.changes, place, how)?;
+    let bus = played(rt, alloc, session, &changes, end)?;
+    breaks(
+        rt,
+        alloc,
+        &bus,
+        end,
+        "a change left out, doubled or swapped in",
+        seed,
+    )?;
+    Ok(1)
+}
+
+// A host that is late with a change, up to the moment before it.
+fn check_late(
+    rt: &impl Abort,
+    alloc: Global,
+    flawed: &Session,
+    until: u64,
+    seed: u64,
+) -> Result<(), AllocError> {
+    let changes = ended(alloc, &flawed.changes, until)?;
+    let bus = played(rt, alloc, flawed, &changes, until)?;
+    breaks(
+        rt,
+        alloc,
+        &bus,
+        until,
+        "a change that is due left out in",
+        seed,
+    )
+}
+
+// A host that breaks a bound by 1, and the same before its late change where it is late; how many traces were judged.
+fn check_flawed(
+    rt: &impl Abort,
+    alloc: Global,
+    seed: u64,
+    flaw: u64,
+    broken: &mut Vec<Bound>,
+) -> Result<u64, AllocError> {
+    let mut flawed = Session::new(alloc, seed, flaw)?;
+    let end = after(flawed.write(alloc)?, 3000);
+    if let Some((bound, moment, late)) = flawed.broken {
+        let bus = played(rt, alloc, &flawed, &flawed.changes, end)?;
+        breaks(rt, alloc, &bus, end, "a bound broken by 1 in", seed)?;
+        broken.push(bound)?;
+        if late {
+            check_late(rt, alloc, &flawed, moment.wrapping_sub(1), seed)?;
+            return Ok(2);
+        }
+        return Ok(1);
+    }
+    Ok(0)
+}
+
+// Hosts made of one seed: one that keeps the timing, whole and up to a moment of its own, one that is disturbed, and one that breaks a bound. Answers how many traces were judged.
 fn check(
     rt: &impl Abort,
     alloc: Global,
@@ -138,69 +233,15 @@ fn check(
     let mut session = Session::new(alloc, seed, 0)?;
     let end = session.write(alloc)?;
     let last = after(end, 3000);
-    let bus = played(rt, alloc, &session, &session.changes, last)?;
-    follows(rt, alloc, &bus, &session, seed)?;
-    keeps(rt, alloc, &bus, last, "session", seed)?;
+    check_whole(rt, alloc, &session, last, seed)?;
     let until = session.random(after(end, 1));
-    let bus = played(
-        rt,
-        alloc,
-        &session,
-        &ended(alloc, &session.changes, until)?,
-        until,
-    )?;
-    keeps(rt, alloc, &bus, until, "front of session", seed)?;
-    let mut traces = 2;
+    check_front(rt, alloc, &session, until, seed)?;
     let how = session.random(3);
     let count = session.changes.len() as u64;
     let place = session.random(count) as usize;
-    if how == 1 || comes_again(&session.changes, place) {
-        let bus = played(
-            rt,
-            alloc,
-            &session,
-            &disturbed(alloc, &session.changes, place, how)?,
-            last,
-        )?;
-        breaks(
-            rt,
-            alloc,
-            &bus,
-            last,
-            "a change left out, doubled or swapped in",
-            seed,
-        )?;
-        traces = 3;
-    }
-    let flaw = session.choose();
-    let mut flawed = Session::new(alloc, seed, flaw)?;
-    let end = after(flawed.write(alloc)?, 3000);
-    if let Some((bound, moment, late)) = flawed.broken {
-        let bus = played(rt, alloc, &flawed, &flawed.changes, end)?;
-        breaks(rt, alloc, &bus, end, "a bound broken by 1 in", seed)?;
-        broken.push(bound)?;
-        traces = after(traces, 1);
-        if late {
-            let until = moment.wrapping_sub(1);
-            let bus = played(
-                rt,
-                alloc,
-                &flawed,
-                &ended(alloc, &flawed.changes, until)?,
-                until,
-            )?;
-            breaks(
-                rt,
-                alloc,
-                &bus,
-                until,
-                "a change that is due left out in",
-                seed,
-            )?;
-            traces = after(traces, 1);
-        }
-    }
-    Ok(traces)
+    let disturbed = check_disturbed(rt, alloc, &session, place, how, last, seed)?;
+    let flawed = check_flawed(rt, alloc, seed, session.choose(), broken)?;
+    Ok(after(2, after(disturbed, flawed)))
 }
 
 // So many traces of some seeds, with each bound broken at least once.
