@@ -77,7 +77,7 @@ impl Channel {
         }
     }
 
-    /// Goes to the next byte. An `Err` is what the disk answers behind that one, which is the last then.
+    /// Goes to the next byte. Errors: why the chain cannot be followed past that byte, which thereby becomes its last.
     pub(crate) fn taken<M: Medium>(&mut self, volume: &Volume<M>) -> Result<(), Trouble>
         requires { Fits (M.seen volume.now).tracks self.old }
         ensures fits { Fits (M.seen volume.now).tracks self.new }

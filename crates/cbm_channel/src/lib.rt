@@ -1,4 +1,4 @@
-//! The drive's DOS over a medium, which stands for the named-files machine: its channels and calls.
+//! The drive's DOS over a medium: OPEN, CLOSE and bytes by sixteen channels. It refines the named-files machine.
 #![tactic(auto)]
 
 mod channel;

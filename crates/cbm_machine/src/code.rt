@@ -110,8 +110,8 @@ impl Code {
         }
     }
 
-    /// The code of a medium's fault or of what breaks a chain off; a number that the table hasn't is told as 25, since
-    /// only a write that fails can have one.
+    /// The code of a sector's fault (20 to 29), of a link to no sector (66) or of an endless chain (71). Any other
+    /// number becomes 25, since only a write that fails can have one.
     pub fn of_fault(number: u8) -> Code
         ensures { result ≡ code_of_fault number }
     {
@@ -132,7 +132,7 @@ impl Code {
         }
     }
 
-    /// The text between the number and the two numbers behind it, at most 23 bytes.
+    /// The text of the status line, at most 23 bytes.
     pub fn text(self) -> &'static [u8]
         ensures value { result.now ≡ code_text self }
         ensures short { length result.now ≤ 23 }

@@ -10,7 +10,7 @@ use cbm_medium::Trouble;
 /// A status line of at most 33 bytes.
 pub type StatusLine = ArrayVec<u8, 33>;
 
-/// What channel 15 tells: a code and two numbers.
+/// The status of the drive, which channel 15 sends: a code and two numbers.
 #[derive(Clone, Copy, Debug, PartialEq, Eq)]
 pub struct Status {
     /// What happened.

@@ -28,7 +28,7 @@ impl Model for Telling {
 }
 
 impl Telling {
-    /// A status that is set, told from its beginning.
+    /// A new status, of whose line nothing was sent yet.
     pub fn new(status: Status) -> Telling
         ensures { result ≡ (record { status = status; told = 0 }) }
     {
@@ -66,7 +66,7 @@ impl Telling {
     }
 }
 
-/// What is told on channel 15 is the machine's.
+/// A law: channel 15 sends what the machine's channel 15 sends.
 pub fn tells_as_the_machine()
     ensures peek { (m : Machine) → peek 15 m ≡ next_told (told_by m) }
     ensures taken { (m : Machine) → told_by (taken 15 m) ≡ behind_next (told_by m) }

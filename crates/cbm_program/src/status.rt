@@ -29,7 +29,7 @@ fn without_return(text: &[u8]) -> &[u8]
     if *last == b'\r' { front } else { text }
 }
 
-/// What channel 15 tells of the status, to the line's end.
+/// The status line as channel 15 sends it, to its end.
 fn status_line<M: Medium>(dos: &mut Dos<M>) -> StatusLine
     ensures medium { dos.new.medium ≡ dos.old.medium }
     ensures told { (m : Machine) → Stands M.seen dos.old m

@@ -24,7 +24,8 @@ pub fn has_accepted()
     ensures drives { DrivesAccepted }
 {}
 
-/// A frame of the host to any number of drives: CLOCK is freed, all let go of DATA, then come the pulses, the bits and the accepts.
+/// A frame of the host to any number of drives: CLOCK is freed, all let go of DATA, then come the pulses, the bits
+/// and the accepts.
 pub fn goes_in_parts()
     ensures commands { CommandsGoInParts }
     ensures bytes { BytesGoInParts }
@@ -53,8 +54,8 @@ pub fn one_reading()
     ensures { OneReading }
 {}
 
-/// A host whose changes are those of a session, with no further one up to an end, keeps the timing up to there; and where then no
-/// drive owes a change, none was late.
+/// A host whose changes are those of a session, with no further one up to an end, keeps the timing up to there; and
+/// where then no drive owes a change, none was late.
 pub fn keeps_timing()
     ensures host { FrontsKeep }
     ensures drives { FrontsInTime }
@@ -71,14 +72,16 @@ pub fn follows_fronts()
     ensures { FollowsFronts }
 {}
 
-/// From rest a drive alone with the host follows every session, cut pieces too: its trace is the session's, and the acts are those that count.
+/// From rest a drive alone with the host follows every session, cut pieces too: its trace is the session's, and the
+/// acts are those that count.
 pub fn follows_sessions()
     ensures { FollowsSessions }
 {}
 
-/// From rest each of one to four unlike drives on a bus follows every session among the host and the other drives, cut pieces too,
-/// whatever its reaction and theirs are (1 to 60 microseconds) and in any order of ties: its part of the trace is the session's, it is
-/// told what counts for it, and at each point of the session it stands with the role, the lines and the next reaction that the session gives it.
+/// From rest each of one to four unlike drives on a bus follows every session among the host and the other drives,
+/// cut pieces too, whatever its reaction and theirs are (1 to 60 microseconds) and in any order of ties: its part of
+/// the trace is the session's, it is told what counts for it, and at each point of the session it stands with the
+/// role, the lines and the next reaction that the session gives it.
 pub fn follows_buses()
     ensures { FollowsBuses }
 {}

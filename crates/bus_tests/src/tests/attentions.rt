@@ -10,7 +10,8 @@ use cbm_iec::*;
 use std::alloc::{AllocError, Global};
 
 impl Session {
-    // ATN's release, and what follows it up to the next attention; the moment from which ATN may be pulled behind all of that.
+    // ATN's release, and what follows it up to the next attention; the moment from which ATN may be pulled behind all
+    // of that.
     pub fn release(&mut self, alloc: Global) -> Result<u64, AllocError> {
         let first = after(self.accepted, self.gap());
         let moment = self.from(Bound::Release, first, after(first, 80))?;

@@ -22,7 +22,8 @@ impl Reading {
         self.is_clear() && is_behind(moment, 100, changed) && is_behind(moment, 100, self.accepted)
     }
 
-    /// CLOCK is free: each that hears frees DATA, and where the end is signalled it pulses from the moment at which DATA is free on the wire.
+    /// CLOCK is free: each that hears frees DATA, and where the end is signalled it pulses from the moment at which
+    /// DATA is free on the wire.
     pub fn ready(
         mut self,
         alloc: Global,

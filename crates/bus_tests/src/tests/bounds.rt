@@ -7,7 +7,8 @@ pub enum Bound {
     Together,
     // ATN's pull, behind its release and behind the last accept.
     Attention,
-    // A frame of the host: ready, its first pull of CLOCK, without the end signalled and with it, and the phases of a bit.
+    // A frame of the host: ready, its first pull of CLOCK, without the end signalled and with it, and the phases of a
+    // bit.
     Ready,
     Start,
     StartBehindPulse,

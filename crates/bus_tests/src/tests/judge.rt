@@ -12,13 +12,15 @@ pub struct Judge {
     pub readings: Vec<Reading>,
     /// Up to which moment the trace was seen.
     seen: u64,
-    /// Unless a drive was late before, each change of the host goes on with a session, and none that is due is left out.
+    /// Unless a drive was late before, each change of the host goes on with a session, and none that is due is left
+    /// out.
     pub keeps: bool,
     /// A drive left out a change that was due in every reading.
     pub late: bool,
 }
 
-/// Whether a drive is late at a moment: some session may be quiet up to then, and in each that may, a change of a drive is overdue.
+/// Whether a drive is late at a moment: some session may be quiet up to then, and in each that may, a change of a
+/// drive is overdue.
 fn is_late_at(readings: &[Reading], moment: u64) -> bool {
     let mut some = false;
     for reading in readings {
@@ -45,7 +47,8 @@ impl Judge {
         })
     }
 
-    /// Whether a drive was late at a moment from what was seen to before that one. Only where something falls due can it begin to be so.
+    /// Whether a drive was late at a moment from what was seen to before that one. Only where something falls due can
+    /// it begin to be so.
     fn is_late_before(&self, moment: u64) -> bool {
         if moment <= self.seen {
             return false;

@@ -1,6 +1,7 @@
 //! How far the host's part of a piece has come.
 
-/// A frame of the host, as far as its bits were read: to whom it goes, whether its end is signalled, and the bits, the last one at the top.
+/// A frame of the host, as far as its bits were read: to whom it goes, whether its end is signalled, and the bits,
+/// the last one at the top.
 #[derive(Clone, Copy, Drop)]
 pub struct Frame {
     pub attention: bool,

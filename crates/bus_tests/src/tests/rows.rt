@@ -13,7 +13,8 @@ use std::alloc::{AllocError, Global};
 use std::process::Abort;
 use std::test::Fail;
 
-// The reader says whether the host keeps the timing; where it does, the trace begins a session with the acts that the drives were told.
+// The reader says whether the host keeps the timing; where it does, the trace begins a session with the acts that the
+// drives were told.
 fn judged(
     rt: &impl Abort,
     alloc: Global,
@@ -101,7 +102,8 @@ fn hears_listen(rt: HostRuntime) -> Result<(), Fail> {
     Ok(())
 }
 
-// Two drives with one reaction pull DATA at one moment, in the order of ties. A host that doesn't pull CLOCK with ATN breaks the timing.
+// Two drives with one reaction pull DATA at one moment, in the order of ties. A host that doesn't pull CLOCK with ATN
+// breaks the timing.
 #[test]
 fn keeps_the_order_of_ties(rt: HostRuntime) -> Result<(), Fail> {
     for (first, second) in [(9, 8), (8, 9)] {
@@ -191,7 +193,8 @@ fn cancels_a_release(rt: HostRuntime) -> Result<(), Fail> {
     Ok(())
 }
 
-// An attention of these bytes for drives of reactions up to 60, from a pull at that moment; the last accept is 60 behind what it answers at the latest.
+// An attention of these bytes for drives of reactions up to 60, from a pull at that moment; the last accept is 60
+// behind what it answers at the latest.
 fn attend(changes: &mut Vec<Change>, moment: u64, bytes: &[u8]) -> Result<u64, AllocError>
     requires { moment < 2 ^ 40 }
 {
@@ -239,7 +242,8 @@ fn joins_the_pulses(rt: HostRuntime) -> Result<(), Fail> {
     Ok(())
 }
 
-// The host frees CLOCK for the turnaround 80 behind the last accept's moment of an attention with TALK 8; where the talker frees CLOCK then.
+// The host frees CLOCK for the turnaround 80 behind the last accept's moment of an attention with TALK 8; where the
+// talker frees CLOCK then.
 fn talk(rt: &impl Abort, changes: &mut Vec<Change>, moment: u64) -> Result<u64, AllocError>
     requires { moment < 2 ^ 40 }
 {
@@ -251,7 +255,8 @@ fn talk(rt: &impl Abort, changes: &mut Vec<Change>, moment: u64) -> Result<u64, 
     Ok(last + 140)
 }
 
-// The talker says the first byte of the status, which is $37: each change at its moment behind the host's release of CLOCK.
+// The talker says the first byte of the status, which is $37: each change at its moment behind the host's release of
+// CLOCK.
 #[test]
 fn talks_a_byte(rt: HostRuntime) -> Result<(), Fail> {
     let mut changes = Vec::new(rt.alloc());
@@ -283,7 +288,8 @@ fn talks_a_byte(rt: HostRuntime) -> Result<(), Fail> {
     Ok(())
 }
 
-// The host takes the status of 27 bytes, offered first at that moment; before the last byte it waits for EOI. Answers the moment 100 behind the last accept.
+// The host takes the status of 27 bytes, offered first at that moment; before the last byte it waits for EOI. Answers
+// the moment 100 behind the last accept.
 fn take_status(rt: &impl Abort, changes: &mut Vec<Change>, first: u64) -> Result<u64, AllocError> {
     let mut offer = first;
     for k in 0..27 {
@@ -380,7 +386,8 @@ fn expect_moved(
     Ok(())
 }
 
-// A drive's change that is left out or comes 1 later makes the trace late; 1 earlier it is no session's. The host is never to blame.
+// A drive's change that is left out or comes 1 later makes the trace late; 1 earlier it is no session's. The host is
+// never to blame.
 #[test]
 fn tells_a_late_drive(rt: HostRuntime) -> Result<(), Fail> {
     let changes = listen(rt.alloc(), 0x29, 0)?;

@@ -1,5 +1,6 @@
 //! Generated sessions: the pieces with moments at and inside their bounds, and what each drive makes of them.
-//! The generator writes down the host's changes and each drive's own from the pieces, and knows nothing of ear and mouth.
+//! The generator writes down the host's changes and each drive's own from the pieces, and knows nothing of ear and
+//! mouth.
 
 use crate::tests::bounds::{BOUNDS, Bound};
 use crate::tests::plays::*;
@@ -18,7 +19,8 @@ pub struct Member {
     pub own: Held,
 }
 
-// A session as it is written down: the host's changes, the drives' events, and the acts that count, each with its moment.
+// A session as it is written down: the host's changes, the drives' events, and the acts that count, each with its
+// moment.
 #[derive(Drop)]
 pub struct Session {
     pub seed: u64,
@@ -32,7 +34,8 @@ pub struct Session {
     pub released: u64,
     pub accepted: u64,
     pub silent: bool,
-    // The bounds in order, and which of them is to be broken, counted from 1; which one was, the moment of the change, and whether that is too late.
+    // The bounds in order, and which of them is to be broken, counted from 1; which one was, the moment of the
+    // change, and whether that is too late.
     pub bounds: Vec<Bound>,
     pub flaw: u64,
     pub broken: Option<(Bound, u64, bool)>,
@@ -103,7 +106,8 @@ impl Session {
         chosen
     }
 
-    // A moment that is at least the first, often that or the last. Where this bound is to be broken it is 1 too early, if it still comes behind all others.
+    // A moment that is at least the first, often that or the last. Where this bound is to be broken it is 1 too
+    // early, if it still comes behind all others.
     pub fn from(&mut self, bound: Bound, first: u64, last: u64) -> Result<u64, AllocError> {
         if self.is_flaw(bound)? && self.is_behind_all(first.wrapping_sub(1)) {
             self.broken = Some((bound, first.wrapping_sub(1), false));
@@ -326,7 +330,8 @@ impl Session {
 }
 
 impl Session {
-    /// A session of one to four drives, whose order of ties rises or falls; of its bounds the one with that number is broken, counted from 1.
+    /// A session of one to four drives, whose order of ties rises or falls; of its bounds the one with that number is
+    /// broken, counted from 1.
     pub fn new(alloc: Global, seed: u64, flaw: u64) -> Result<Session, AllocError> {
         let mut session = Session {
             seed,

@@ -32,7 +32,8 @@ impl Reading {
         }
     }
 
-    /// A drive's change is the first of all that is owed, and comes before the host's next one is due: at one moment the host's comes first.
+    /// A drive's change is the first of all that is owed, and comes before the host's next one is due: at one moment
+    /// the host's comes first.
     fn drive_step(
         mut self,
         device: u8,

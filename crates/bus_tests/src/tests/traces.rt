@@ -154,7 +154,8 @@ fn check_front(
     keeps(rt, alloc, &bus, until, "front of session", seed)
 }
 
-// A host that leaves a change out, doubles it, or swaps it with the next one where that matters; how many traces were judged.
+// A host that leaves a change out, doubles it, or swaps it with the next one where that matters; how many traces were
+// judged.
 fn check_disturbed(
     rt: &impl Abort,
     alloc: Global,
@@ -223,7 +224,8 @@ fn check_flawed(
     Ok(0)
 }
 
-// Hosts made of one seed: one that keeps the timing, whole and up to a moment of its own, one that is disturbed, and one that breaks a bound. Answers how many traces were judged.
+// Hosts made of one seed: one that keeps the timing, whole and up to a moment of its own, one that is disturbed, and
+// one that breaks a bound. Answers how many traces were judged.
 fn check(
     rt: &impl Abort,
     alloc: Global,

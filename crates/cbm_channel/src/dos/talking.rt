@@ -60,8 +60,8 @@ impl<M: Medium> Dos<M> {
         }
     }
 
-    /// The byte that `peek` shows was taken; nothing happens where it shows none. Where the file's next sector doesn't read,
-    /// its fault becomes the status.
+    /// The byte that `peek` shows was sent; nothing happens where it shows none. Where the file's next sector doesn't
+    /// read, its fault becomes the status.
     pub fn taken(&mut self, channel: u8)
         requires { channel ≤ 15 }
         ensures leads { Leads M.seen self.old self.new (taken channel) }
