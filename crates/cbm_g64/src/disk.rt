@@ -35,7 +35,12 @@ impl Model for G64Disk {
 
     ghost Value = { Disk };
 
-    ghost view = { λ d. record { tracks = d.tracks.items; file = d.file.items; formatted = d.formatted; protected = d.protected } };
+    ghost view = { λ d. record {
+      tracks = d.tracks.items;
+      file = d.file.items;
+      formatted = d.formatted;
+      protected = d.protected;
+    } };
 
     ghost invariant = { λ d. IsHeld (base_of d.formatted d.file.items) d.tracks.items };
 }
@@ -44,7 +49,8 @@ impl G64Disk {
     /// The disk that an image is. Takes memory for all that the disk ever holds, after all other
     /// tests.
     pub fn from_bytes(alloc: Global, bytes: &[u8], protected: bool) -> Result<G64Disk, G64Fault>
-        ensures ok { IfOk result (λ d. d ≡ (record { tracks = tracks_in bytes.now 35; file = bytes.now; formatted = false; protected = protected })) }
+        ensures ok { IfOk result (λ d. d ≡ (record {
+            tracks = tracks_in bytes.now 35; file = bytes.now; formatted = false; protected = protected })) }
         ensures refused { IfSome (fault_of bytes.now) (λ fault. result ≡ Err fault) }
         ensures cause { IfErr result (λ fault. (fault_of bytes.now ≡ Some fault) ⊎ (fault ≡ G64Fault.Memory)) }
     {

@@ -110,7 +110,8 @@ fn kind_text(kind: Option<FileType>) -> &'static [u8; 3]
 /// The line of a slot that isn't empty.
 pub(crate) fn entry_line(entry: &Entry<'_>) -> Line
     requires { length entry.now.name.now ≤ 16 }
-    ensures value { result.items ≡ entry_line entry.now.blocks entry.now.name.now entry.now.kind entry.now.closed entry.now.locked }
+    ensures value { result.items ≡
+        entry_line entry.now.blocks entry.now.name.now entry.now.kind entry.now.closed entry.now.locked }
     ensures full { array_vec_len result ≡ 32 }
 {
     let width = indent_width(entry.blocks);

@@ -58,7 +58,8 @@ impl Listing {
     pub fn line(&mut self, entry: &Entry<'_>)
         requires room { length self.old.bytes ≤ 4640 }
         requires short { length entry.now.name.now ≤ 16 }
-        ensures value { self.new ≡ with_line (entry_line entry.now.blocks entry.now.name.now entry.now.kind entry.now.closed entry.now.locked) self.old }
+        ensures value { self.new ≡ with_line
+            (entry_line entry.now.blocks entry.now.name.now entry.now.kind entry.now.closed entry.now.locked) self.old }
         ensures longer { length self.new.bytes ≡ length self.old.bytes + 32 }
     {
         self.add(&line::entry_line(entry));

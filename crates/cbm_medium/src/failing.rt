@@ -30,13 +30,17 @@ impl<M> Model for Failing<M> {
 
     ghost Value = { Watched M };
 
-    ghost view = { λ f. record { inner = f.inner; countdown = record { passes = f.passes; all = f.all; failures = f.failures } } };
+    ghost view = { λ f. record {
+      inner = f.inner;
+      countdown = record { passes = f.passes; all = f.all; failures = f.failures };
+    } };
 }
 
 impl<M: Steady> Failing<M> {
     /// A medium that passes `after` writes and refuses the next one, or with `all` every later one.
     pub fn new(inner: M, after: u32, all: bool) -> Failing<M>
-        ensures { result ≡ (record { inner = inner; countdown = record { passes = Some after; all = all; failures = 0 } }) }
+        ensures { result ≡ (record {
+            inner = inner; countdown = record { passes = Some after; all = all; failures = 0 } }) }
     {
         Failing {
             inner,
