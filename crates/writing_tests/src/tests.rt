@@ -6,7 +6,8 @@ use crate::image::{empty_disk, empty_image, place, put};
 use cbm_bam::{Release, claim_directory, claim_first, claim_next, free_blocks, geometry, is_free};
 use cbm_chain::{ChainWriter, free_chain};
 use cbm_d64::D64Disk;
-use cbm_directory::{Entry, put_slot, slot};
+use cbm_directory::{Entry, grow, put_slot, slot};
+use cbm_file::FileType;
 use cbm_medium::{Address, Link, Medium};
 use cbm_volume::Volume;
 use std::process::Abort;
@@ -182,5 +183,83 @@ fn records_by_their_number(rt: HostRuntime) -> Result<(), Fail> {
         }
     }
     assert!(rt; volume.read_record(0, 5)?.is_none());
+    Ok(())
+}
+
+#[test]
+fn directory_grows(rt: HostRuntime) -> Result<(), Fail> {
+    let mut disk = empty_disk(rt.alloc())?;
+    let mut last = 1;
+    for sector in [4, 7, 10, 13, 16, 2, 5, 8, 11, 14, 17, 3, 6, 9, 12, 15, 18] {
+        let tracks = geometry(&disk);
+        assert!(rt; grow(&mut disk, tracks)?);
+        // The last sector links to the new one, which is the last: 0, $FF and zeros.
+        let old = sector_of(&rt, &disk, 18, last);
+        assert_eq!(rt; (old[0], old[1]), (18, sector));
+        let new = sector_of(&rt, &disk, 18, sector);
+        assert_eq!(rt; (new[0], new[1]), (0, 0xff));
+        assert!(rt; new.iter().skip(2).all(|byte| *byte == 0));
+        last = sector;
+    }
+    // All nineteen sectors are in use: nothing is changed.
+    let tracks = geometry(&disk);
+    assert!(rt; !grow(&mut disk, tracks)?);
+    assert_eq!(rt; free_on(&disk), 664);
+    Ok(())
+}
+
+#[test]
+fn writer_goes_on_after_a_chain(rt: HostRuntime) -> Result<(), Fail> {
+    // Each row: the bytes there, the bytes put after them, then the blocks, the last block and its first two bytes.
+    for (there, more, blocks, sector, place_of_last) in [
+        (0, 1, 1, 0, 2),
+        (3, 2, 1, 0, 6),
+        (253, 1, 1, 0, 255),
+        (254, 1, 2, 10, 2),
+        (255, 253, 2, 10, 255),
+    ] {
+        let mut disk = empty_disk(rt.alloc())?;
+        let tracks = geometry(&disk);
+        let mut writer = ChainWriter::begin(&mut disk, tracks)?.expect(&rt, "a first block");
+        put_all(&rt, &mut disk, &mut writer, there);
+        writer.finish(&mut disk)?;
+        let tracks = geometry(&disk);
+        let mut writer = ChainWriter::after(&disk, tracks, writer.first_block())?;
+        put_all(&rt, &mut disk, &mut writer, more);
+        writer.finish(&mut disk)?;
+        assert_eq!(rt; writer.count(), blocks);
+        let last = sector_of(&rt, &disk, 17, sector);
+        assert_eq!(rt; (last[0], last[1]), (0, place_of_last), "{there} {more}");
+        for (i, byte) in last.iter().enumerate().skip(2) {
+            let used = i <= place_of_last as usize;
+            assert_eq!(rt; *byte, if used { 0x41 } else { 0 }, "{there} {more} {i}");
+        }
+    }
+    Ok(())
+}
+
+#[test]
+fn what_becomes_of_an_entry(rt: HostRuntime) -> Result<(), Fail> {
+    let first = Link::new(17, 10);
+    let fresh = Entry::fresh(FileType::Prg, b"HELLO", first);
+    let mut bytes = [0u8; 30];
+    bytes[0] = 2;
+    bytes[1] = 17;
+    bytes[2] = 10;
+    bytes[3..19].copy_from_slice(b"HELLO\xa0\xa0\xa0\xa0\xa0\xa0\xa0\xa0\xa0\xa0\xa0");
+    assert_eq!(rt; *fresh.bytes(), bytes);
+    // Closed over two blocks, then opened again, renamed, cleared: what isn't named stays.
+    let closed = fresh.closed(first, 2);
+    bytes[0] = 0x82;
+    bytes[28] = 2;
+    assert_eq!(rt; *closed.bytes(), bytes);
+    bytes[0] = 2;
+    assert_eq!(rt; *closed.reopened().bytes(), bytes);
+    bytes[0] = 0x82;
+    bytes[3..19].copy_from_slice(b"ABCDEFGHIJKLMNOP");
+    let renamed = closed.renamed(b"ABCDEFGHIJKLMNOP");
+    assert_eq!(rt; *renamed.bytes(), bytes);
+    bytes[0] = 0;
+    assert_eq!(rt; *renamed.cleared().bytes(), bytes);
     Ok(())
 }
