@@ -1,11 +1,12 @@
 -- The directory grows by a sector of track 18.
-use Rattle.std.specs.Prelude.{ℕ, ◌<◌, ◌≡◌, ◌⊎◌, List, [], ◌∷◌, ◌++◌, length, replicate, Some}
+use Rattle.std.specs.Prelude.{ℕ, ◌<◌, ◌≡◌, ◌⊎◌, List, [], ◌∷◌, ◌++◌, length, replicate, find, Some, None}
 use Rattle.cbm_medium.specs.Place.{Place, directory_head}
 use Rattle.cbm_medium.specs.Content.{Content, written}
 use Rattle.cbm_medium.specs.Links.{Chain, bytes_at, follow}
 use Rattle.cbm_medium.specs.Seen.{Seen, write_refusal}
 use Rattle.cbm_medium.specs.declared.fault.Trouble.{Trouble}
-use Rattle.cbm_bam.specs.Map.{ClaimsOn18}
+use Rattle.cbm_bam.specs.Map.{map_of, is_free_in, ClaimsOn18}
+use Rattle.cbm_bam.specs.Orders.{directory_order}
 use Rattle.cbm_bam.specs.Causes.{HasCause}
 use Rattle.cbm_directory.specs.Entries.{first_directory, HasLink}
 
@@ -16,6 +17,10 @@ IsLastSector tracks c p = (before : List Place) × (Chain tracks c first_directo
 -- a new sector of the directory: the last one, whose entries are empty
 abbrev pub new_sector : List ℕ
 new_sector = 0 ∷ 255 ∷ replicate 254 0
+
+-- the map has no sector of track 18 as free that the directory could use
+abbrev pub HasNoRoom : Content → Type 0
+HasNoRoom c = find (is_free_in (map_of c)) directory_order ≡ None
 
 -- A FREE SECTOR OF TRACK 18 was claimed, written as a new one, and then the last sector links to it.
 pub record Grows (tracks : ℕ) (old new : Content) : Type 0 where

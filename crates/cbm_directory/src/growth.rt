@@ -4,7 +4,7 @@ ghost use Rattle.std.specs.Prelude.{◌≡◌, ℕ, ◌≤◌, ◌⊎◌, Some, 
 ghost use Rattle.cbm_medium.specs.Links.{follow};
 ghost use Rattle.cbm_medium.specs.Seen.{OnlyContent};
 ghost use Rattle.cbm_directory.specs.Entries.{HasLink, first_directory};
-ghost use Rattle.cbm_directory.specs.Growth.{IsLastSector, new_sector, Grows, GrowthStopped, IsGrowthRefused};
+ghost use Rattle.cbm_directory.specs.Growth.{IsLastSector, new_sector, HasNoRoom, Grows, GrowthStopped, IsGrowthRefused};
 
 use cbm_bam::claim_directory;
 use cbm_medium::{Address, Geometry, Link, Medium, Trouble, read_linked};
@@ -67,7 +67,8 @@ fn blank() -> [u8; 256]
 pub fn grow<M: Medium>(medium: &mut M, geometry: Geometry) -> Result<bool, Trouble>
     requires { geometry ≤ (M.seen medium.old).tracks }
     ensures grown { let old = M.seen medium.old in let new = M.seen medium.new in
-        IfOk result (λ done. MatchBool done (Grows geometry old.content new.content) (new.content ≡ old.content)) }
+        IfOk result (λ done. MatchBool done (Grows geometry old.content new.content)
+        (HasNoRoom old.content × (new.content ≡ old.content))) }
     ensures stopped { OnErr result
         (GrowthStopped geometry (M.seen medium.old).content (M.seen medium.new).content) }
     ensures cause { IfErr result (IsGrowthRefused geometry (M.seen medium.old) (M.seen medium.new)) }
