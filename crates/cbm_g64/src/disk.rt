@@ -50,7 +50,11 @@ impl G64Disk {
     /// tests.
     pub fn from_bytes(alloc: Global, bytes: &[u8], protected: bool) -> Result<G64Disk, G64Fault>
         ensures ok { IfOk result (λ d. d ≡ (record {
-            tracks = tracks_in bytes.now 35; file = bytes.now; formatted = false; protected = protected })) }
+          tracks = tracks_in bytes.now 35;
+          file = bytes.now;
+          formatted = false;
+          protected = protected;
+        })) }
         ensures refused { IfSome (fault_of bytes.now) (λ fault. result ≡ Err fault) }
         ensures cause { IfErr result (λ fault. (fault_of bytes.now ≡ Some fault) ⊎ (fault ≡ G64Fault.Memory)) }
     {

@@ -40,7 +40,9 @@ impl<M: Steady> Failing<M> {
     /// A medium that passes `after` writes and refuses the next one, or with `all` every later one.
     pub fn new(inner: M, after: u32, all: bool) -> Failing<M>
         ensures { result ≡ (record {
-            inner = inner; countdown = record { passes = Some after; all = all; failures = 0 } }) }
+          inner = inner;
+          countdown = record { passes = Some after; all = all; failures = 0 };
+        }) }
     {
         Failing {
             inner,
