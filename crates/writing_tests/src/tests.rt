@@ -79,6 +79,16 @@ fn put_all<M: Medium>(rt: &impl Abort, medium: &mut M, writer: &mut ChainWriter,
     }
 }
 
+/// A last block on track 17 has bytes $41 up to a place, which its link names, and zeros after it.
+fn assert_last(rt: &impl Abort, disk: &D64Disk, sector: u8, place_of_last: u8) {
+    let last = sector_of(rt, disk, 17, sector);
+    assert_eq!(rt; (last[0], last[1]), (0, place_of_last));
+    for (i, byte) in last.iter().enumerate().skip(2) {
+        let used = i <= place_of_last as usize;
+        assert_eq!(rt; *byte, if used { 0x41 } else { 0 }, "{sector} {i}");
+    }
+}
+
 #[test]
 fn full_blocks_and_one_byte_more(rt: HostRuntime) -> Result<(), Fail> {
     // Each row: the bytes, the blocks, the last block with its first two bytes, and the free blocks.
@@ -97,12 +107,7 @@ fn full_blocks_and_one_byte_more(rt: HostRuntime) -> Result<(), Fail> {
         writer.finish(&mut disk)?;
         assert_eq!(rt; writer.count(), blocks);
         assert_eq!(rt; free_on(&disk), free);
-        let last = sector_of(&rt, &disk, 17, sector);
-        assert_eq!(rt; (last[0], last[1]), (0, place_of_last));
-        for (i, byte) in last.iter().enumerate().skip(2) {
-            let used = i <= place_of_last as usize;
-            assert_eq!(rt; *byte, if used { 0x41 } else { 0 }, "{bytes} {i}");
-        }
+        assert_last(&rt, &disk, sector, place_of_last);
         let tracks = geometry(&disk);
         let mut release = Release::begin(&disk, tracks)?;
         free_chain(&disk, tracks, writer.first_block(), &mut release)?;
@@ -228,12 +233,7 @@ fn writer_goes_on_after_a_chain(rt: HostRuntime) -> Result<(), Fail> {
         put_all(&rt, &mut disk, &mut writer, more);
         writer.finish(&mut disk)?;
         assert_eq!(rt; writer.count(), blocks);
-        let last = sector_of(&rt, &disk, 17, sector);
-        assert_eq!(rt; (last[0], last[1]), (0, place_of_last), "{there} {more}");
-        for (i, byte) in last.iter().enumerate().skip(2) {
-            let used = i <= place_of_last as usize;
-            assert_eq!(rt; *byte, if used { 0x41 } else { 0 }, "{there} {more} {i}");
-        }
+        assert_last(&rt, &disk, sector, place_of_last);
     }
     Ok(())
 }
