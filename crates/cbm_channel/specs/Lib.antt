@@ -7,6 +7,7 @@ pub mod Sought
 pub mod Listing
 pub use Rattle.cbm_file.specs.Types
 pub use Rattle.cbm_file.specs.Files
+pub use Rattle.cbm_file.specs.Changes
 pub use Rattle.cbm_machine.specs.Codes
 pub use Rattle.cbm_machine.specs.Statuses
 pub use Rattle.cbm_machine.specs.Listings

@@ -2,3 +2,4 @@ pub mod Types
 pub mod Padding
 pub mod Files
 pub mod Waiting
+pub mod Changes

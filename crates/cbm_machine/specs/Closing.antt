@@ -1,6 +1,7 @@
 -- Bytes that are written, and CLOSE.
 use Rattle.std.specs.Prelude.{ℕ, ◌+◌, ◌-◌, ◌*◌, ◌==◌, Bool, true, false, List, [], ◌∷◌, ◌++◌, length, if◌then◌else◌, Option, Some, None}
-use Rattle.cbm_file.specs.Files.{Bytes, File, Disk, file_at, with_slot}
+use Rattle.cbm_file.specs.Files.{File, Disk, file_at}
+use Rattle.cbm_file.specs.Changes.{finished_in, replaced_in}
 use Rattle.cbm_machine.specs.declared.code.Code.TheVariants.{DiskFull}
 use Rattle.cbm_machine.specs.Statuses.{return}
 use Rattle.cbm_machine.specs.Machines.{Channel, Closed, Writing, Machine, say, with_disk, with_free, channel, with_channel}
@@ -21,17 +22,13 @@ abbrev pub with_some_byte : ℕ → Channel → Machine → Machine
 with_some_byte ch (Writing s [] blocks full replaces) m = put_on ch return (Writing s [] blocks full replaces) m
 with_some_byte ch c m = m
 
--- the file closed, of these bytes and blocks
-abbrev pub finished : File → List ℕ → ℕ → File
-finished f bytes blocks = record f { closed = true; shown = blocks; held = blocks; body = Bytes bytes }
-
 -- The slot of a written file is closed. A replacement gives the old blocks back, or on a full disk the new ones.
 abbrev pub finish_slot : Option File → ℕ → List ℕ → ℕ → Bool → Bool → Disk → Disk
 finish_slot None s bytes blocks full replaces d = d
 finish_slot (Some f) s bytes blocks full true d =
     if full then record d { free = d.free + blocks }
-    else record (with_slot d s (Some (finished f bytes blocks))) { free = d.free + f.held }
-finish_slot (Some f) s bytes blocks full false d = with_slot d s (Some (finished f bytes blocks))
+    else replaced_in (Some f) d s bytes blocks
+finish_slot (Some f) s bytes blocks full false d = finished_in (Some f) d s bytes blocks
 
 -- what CLOSE of a channel does to the disk
 abbrev pub finish_on : Channel → Machine → Machine

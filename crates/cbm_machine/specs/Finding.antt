@@ -1,8 +1,8 @@
--- Files by their names, and slots for new ones.
-use Rattle.std.specs.Prelude.{ℕ, ◌-◌, nat_lt, Bool, true, false, ◌||◌, List, [], ◌∷◌, ◌++◌, length, replicate, filter, slice_set, if◌then◌else◌, Option, Some, None, is_some, is_none, unwrap_or, Result, Ok, Err}
+-- Files by their names.
+use Rattle.std.specs.Prelude.{ℕ, nat_lt, Bool, true, List, [], ◌∷◌, length, filter, if◌then◌else◌, Option, Some, None, Result, Ok, Err}
 use Rattle.cbm_file.specs.declared.file_type.FileType.{FileType}
 use Rattle.cbm_file.specs.Types.{is_same_type}
-use Rattle.cbm_file.specs.Files.{Body, Bytes, File, Disk, empty_from, file_at}
+use Rattle.cbm_file.specs.Files.{Body, Bytes, File, Disk, file_at}
 use Rattle.cbm_machine.specs.declared.code.Code.{Code}
 use Rattle.cbm_machine.specs.declared.code.Code.TheVariants.{WrongType, FileNotFound}
 use Rattle.cbm_machine.specs.Listings.{named}
@@ -33,29 +33,3 @@ found d name kind =
 -- the body of the file in a slot
 abbrev pub body_at : Disk → ℕ → Body
 body_at d s = elim (file_at d s) [ None ↦ Bytes [] | Some f ↦ f.body ]
-
--- ---- a new name
-
--- eight empty slots more, in a sector of the directory's room, where none is empty
-abbrev pub grown : Disk → Disk
-grown d = if is_none (empty_from 0 d.slots) then record d { slots = d.slots ++ replicate 8 None; room = d.room - 1 } else d
-
--- a slot is empty, or there is room for more
-abbrev pub has_slot : Disk → Bool
-has_slot d = is_some (empty_from 0 d.slots) || nat_lt 0 d.room
-
--- the first empty slot after the growth, or 0 where none is
-abbrev pub new_slot : Disk → ℕ
-new_slot d = unwrap_or (empty_from 0 (grown d).slots) 0
-
--- the file in the first empty slot, with so many free blocks fewer
-abbrev pub with_file : Disk → File → ℕ → Disk
-with_file d f n = record (grown d) { slots = slice_set (grown d).slots (new_slot d) (Some f); free = d.free - n }
-
--- a name whose file is being written
-abbrev pub unclosed : FileType → List ℕ → File
-unclosed kind name = record { kind = kind; closed = false; locked = false; name = name; shown = 0; held = 0; body = Bytes [] }
-
--- a file of so many blocks
-abbrev pub closed_file : FileType → List ℕ → ℕ → Body → File
-closed_file kind name n body = record { kind = kind; closed = true; locked = false; name = name; shown = n; held = n; body = body }

@@ -2,7 +2,8 @@
 use Rattle.std.specs.Prelude.{ℕ, ◌-◌, ◌==◌, nat_lt, Bool, true, false, ◌&&◌, ◌||◌, not, List, [], ◌∷◌, if◌then◌else◌, Option, Some, None, Result, Ok, Err}
 use Rattle.cbm_file.specs.declared.file_type.FileType.{FileType}
 use Rattle.cbm_file.specs.declared.file_type.FileType.TheVariants.{Del, Rel}
-use Rattle.cbm_file.specs.Files.{Bytes, File, file_at, with_slot, bytes_in, record_length_in}
+use Rattle.cbm_file.specs.Files.{File, file_at, with_slot, bytes_in, record_length_in}
+use Rattle.cbm_file.specs.Changes.{has_slot, new_slot, with_file, unclosed, closed_file, reopened}
 use Rattle.cbm_command.specs.declared.refusal.Refusal.{Refusal}
 use Rattle.cbm_command.specs.declared.opening.Mode.{Mode}
 use Rattle.cbm_command.specs.declared.opening.Mode.TheVariants.{Read, Write, Append}
@@ -16,7 +17,7 @@ use Rattle.cbm_machine.specs.declared.code.Code.TheVariants.{Fine, WriteProtecte
 use Rattle.cbm_machine.specs.Codes.{code_of_refusal}
 use Rattle.cbm_machine.specs.Listings.{listing}
 use Rattle.cbm_machine.specs.Machines.{Machine, Reading, Writing, Relative, with_disk, with_free, with_channel, say, answered, in_use, in_writing, too_many}
-use Rattle.cbm_machine.specs.Finding.{is_kind, is_there, found, body_at, has_slot, new_slot, with_file, unclosed, closed_file}
+use Rattle.cbm_machine.specs.Finding.{is_kind, is_there, found, body_at}
 use Rattle.cbm_machine.specs.Records.{new_records}
 
 -- What an OPEN will do. Slots go by number.
@@ -104,10 +105,6 @@ plan ch (opening.File w) m = unless ((too_many (asked_cost w m) m, NoChannel) �
     (if is_relative w then plan_relative ch w m else plan_by_mode w.mode w m)
 
 -- ---- doing it
-
--- the entry is not closed until CLOSE; its bytes and blocks are the channel's until then
-abbrev pub reopened : File → File
-reopened f = record f { closed = false; held = 0; body = Bytes [] }
 
 -- the file's bytes and blocks go to the channel
 abbrev pub append_slot : Option File → ℕ → ℕ → Machine → Machine

@@ -4,7 +4,7 @@ use Rattle.std.specs.Fmt.{digits}
 use Rattle.cbm_channel.specs.declared.FileType.TheVariants.{Prg}
 use Rattle.cbm_channel.specs.Files.{Bytes, with_slot}
 use Rattle.cbm_channel.specs.Machines.{Machine}
-use Rattle.cbm_channel.specs.Finding.{closed_file}
+use Rattle.cbm_channel.specs.Changes.{closed_file}
 use Rattle.cbm_program.specs.declared.request.Request.TheVariants.{Get, Close, Status}
 use Rattle.cbm_program.proofs.Words.{open_by, formatted, powered, blank, prints, status_is}
 

@@ -3,7 +3,7 @@ use Rattle.std.specs.Prelude.{ℕ, true, false, List, [], ◌∷◌, ◌++◌, m
 use Rattle.cbm_channel.specs.declared.FileType.{FileType}
 use Rattle.cbm_channel.specs.Files.{Bytes, File, Disk, files}
 use Rattle.cbm_channel.specs.Machines.{Machine, start}
-use Rattle.cbm_channel.specs.Finding.{closed_file}
+use Rattle.cbm_channel.specs.Changes.{closed_file}
 use Rattle.cbm_channel.specs.Running.{new_disk}
 use Rattle.cbm_program.specs.declared.request.Request.{Request}
 use Rattle.cbm_program.specs.declared.request.Request.TheVariants.{Open, Put}

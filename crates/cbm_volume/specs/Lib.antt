@@ -2,6 +2,7 @@ pub mod Blocks
 pub mod Layouts
 pub mod Writers
 pub mod Holding
+pub mod Opens
 pub use Rattle.cbm_file.specs.Files
 pub mod check
 pub mod Plain

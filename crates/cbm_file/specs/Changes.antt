@@ -1,0 +1,58 @@
+-- What writing does to a disk: a new file, a file that is appended to or replaced, CLOSE.
+use Rattle.std.specs.Prelude.{ℕ, ◌+◌, ◌-◌, ◌++◌, nat_lt, Bool, true, false, ◌||◌, List, [], replicate, slice_set, if◌then◌else◌, Option, Some, None, is_some, is_none, unwrap_or}
+use Rattle.cbm_file.specs.declared.file_type.FileType.{FileType}
+use Rattle.cbm_file.specs.Files.{Body, Bytes, File, Disk, empty_from, file_at, with_slot}
+
+-- ---- a new name
+
+-- eight empty slots more, in a sector of the directory's room, where none is empty
+abbrev pub grown : Disk → Disk
+grown d = if is_none (empty_from 0 d.slots) then record d { slots = d.slots ++ replicate 8 None; room = d.room - 1 } else d
+
+-- a slot is empty, or there is room for more
+abbrev pub has_slot : Disk → Bool
+has_slot d = is_some (empty_from 0 d.slots) || nat_lt 0 d.room
+
+-- the first empty slot after the growth, or 0 where none is
+abbrev pub new_slot : Disk → ℕ
+new_slot d = unwrap_or (empty_from 0 (grown d).slots) 0
+
+-- the file in the first empty slot, with so many free blocks fewer
+abbrev pub with_file : Disk → File → ℕ → Disk
+with_file d f n = record (grown d) { slots = slice_set (grown d).slots (new_slot d) (Some f); free = d.free - n }
+
+-- a name whose file is being written
+abbrev pub unclosed : FileType → List ℕ → File
+unclosed kind name = record { kind = kind; closed = false; locked = false; name = name; shown = 0; held = 0; body = Bytes [] }
+
+-- a file of so many blocks
+abbrev pub closed_file : FileType → List ℕ → ℕ → Body → File
+closed_file kind name n body = record { kind = kind; closed = true; locked = false; name = name; shown = n; held = n; body = body }
+
+-- ---- a file that is appended to
+
+-- the entry is not closed until CLOSE; its bytes and blocks are the channel's until then
+abbrev pub reopened : File → File
+reopened f = record f { closed = false; held = 0; body = Bytes [] }
+
+-- ---- CLOSE
+
+-- the file closed, of these bytes and blocks
+abbrev pub finished : File → List ℕ → ℕ → File
+finished f bytes blocks = record f { closed = true; shown = blocks; held = blocks; body = Bytes bytes }
+
+-- the slot's file closed, of these bytes and blocks
+abbrev pub finished_in : Option File → Disk → ℕ → List ℕ → ℕ → Disk
+finished_in None d n bytes blocks = d
+finished_in (Some f) d n bytes blocks = with_slot d n (Some (finished f bytes blocks))
+
+abbrev pub with_finished : Disk → ℕ → List ℕ → ℕ → Disk
+with_finished d n bytes blocks = finished_in (file_at d n) d n bytes blocks
+
+-- the same where the old file is replaced, whose blocks are free again
+abbrev pub replaced_in : Option File → Disk → ℕ → List ℕ → ℕ → Disk
+replaced_in None d n bytes blocks = d
+replaced_in (Some f) d n bytes blocks = record (with_slot d n (Some (finished f bytes blocks))) { free = d.free + f.held }
+
+abbrev pub with_replaced : Disk → ℕ → List ℕ → ℕ → Disk
+with_replaced d n bytes blocks = replaced_in (file_at d n) d n bytes blocks
