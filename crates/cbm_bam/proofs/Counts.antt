@@ -1,5 +1,5 @@
 -- How the number of free sectors changes with one bit, and with the bits of a list.
-use Rattle.std.proofs.Common.{◌≡◌, ◌≢◌, ◌⊎◌, ℕ, zero, suc, ◌+◌, ◌<◌, ◌≤◌, List, [], ◌∷◌, length, Bool, true, false, refl, sym, ap, subst, ◌∙◌, arith, inl, inr}
+use Rattle.std.proofs.Common.{◌≡◌, ◌≢◌, ◌⊎◌, ℕ, zero, suc, ◌+◌, ◌-◌, add_comm, ◌<◌, ◌≤◌, List, [], ◌∷◌, length, Bool, true, false, refl, sym, ap, subst, ◌∙◌, arith, inl, inr}
 use Rattle.std.proofs.lemmas.Bool.{cases_eq, eq-eqb, ne_eqb}
 use Rattle.cbm_medium.specs.Place.{Place, sectors_on, Has}
 use Rattle.cbm_bam.specs.Map.{is_free_in, count_in, free_in, one_if, at, tally, unless_18, summed, IsCounted, with_bit, with_freed, number, IsMapped, IsClaimed}
@@ -143,3 +143,12 @@ summed_none f (suc n) h = elim (cases_eq (suc n) 18) [
 -- none is free where no sector of files is
 pub free_none : (tracks : ℕ) (map : List ℕ) → IsCounted tracks map → ((p : Place) → Has tracks p → p.track ≢ 18 → is_free_in map p ≡ false) → free_in tracks map ≡ 0
 free_none tracks map c h = free_is_number tracks map c ∙ summed_none (λ t. tally (is_free_in map) t (sectors_on t)) tracks (λ t a b ne. tally_none (is_free_in map) t (sectors_on t) (λ s k. h (at t s) (a, b, k) ne))
+
+-- one track more is counted
+pub number_on : (f : Place → Bool) (t n m : ℕ) → 0 < t → n ≡ number (t - 1) f → m ≡ n + unless_18 t (tally f t (sectors_on t)) → m ≡ number (t + 1 - 1) f
+number_on f zero n m some e k = absurd (omega arith)
+number_on f (suc t) n m some e k =
+    let z : suc t - 1 ≡ t = omega arith in
+    let y : suc t + 1 - 1 ≡ suc t = omega arith in
+    let here : ℕ = unless_18 (suc t) (tally f (suc t) (sectors_on (suc t))) in
+    k ∙ ap (λ (x : ℕ). x + here) (e ∙ ap (λ (i : ℕ). number i f) z) ∙ add_comm (number t f) here ∙ ap (λ (i : ℕ). number i f) (sym y)

@@ -1,9 +1,11 @@
-ghost use Rattle.std.specs.Prelude.{◌≡◌, ◌==◌, ◌≤◌, Ok, Err, IsOk, IfOk, IfErr, OnOk};
+ghost use Rattle.std.specs.Prelude.{◌≡◌, ◌==◌, ◌≤◌, Ok, Err, IsOk, IfOk, IfErr, OnOk, find, is_some};
 ghost use Rattle.cbm_medium.specs.Place.{Place, directory_head, sectors_on};
 ghost use Rattle.cbm_medium.specs.Content.{IsWhole};
-ghost use Rattle.cbm_bam.specs.Map.{map_of, is_free_in, count_in, tally, free_in, geometry_of};
+ghost use Rattle.cbm_bam.specs.Orders.{directory_order};
+ghost use Rattle.cbm_bam.specs.Map.{map_of, is_free_in, count_in, tally, free_in, number, geometry_of};
 
 use crate::map;
+use crate::order::in_directory;
 use cbm_medium::{Address, Geometry, Medium, Trouble};
 
 /// How many tracks the disk uses: 40 where the medium has 40, 18/0 reads and each count of the tracks 36 to 40 is the
@@ -62,6 +64,31 @@ pub fn free_blocks<M: Medium>(medium: &M, geometry: Geometry) -> Result<u16, Tro
 {
     let map = read_map(medium, geometry)?;
     Ok(map::free_blocks(&map, geometry.tracks()))
+}
+
+/// How many sectors outside track 18 the map has as free, by its bits and not by its counts.
+pub fn free_bits<M: Medium>(medium: &M, geometry: Geometry) -> Result<u16, Trouble>
+    requires { geometry ≤ (M.seen medium.now).tracks }
+    ensures ok { IfOk result (λ free. free ≡ number geometry (is_free_in (map_of (M.seen medium.now).content))) }
+    ensures read { OnOk result (IsOk ((M.seen medium.now).content directory_head)) }
+    ensures err { IfErr result (λ t. ((M.seen medium.now).content directory_head ≡ Err t.code) × (t.track ≡ 18) ×
+        (t.sector ≡ 0)) }
+{
+    let map = read_map(medium, geometry)?;
+    Ok(map::free_bits(&map, geometry.tracks()))
+}
+
+/// Whether track 18 has a free sector that the directory could use.
+pub fn has_directory_room<M: Medium>(medium: &M, geometry: Geometry) -> Result<bool, Trouble>
+    requires { geometry ≤ (M.seen medium.now).tracks }
+    ensures ok { IfOk result (λ room. room ≡ is_some (find (is_free_in (map_of (M.seen medium.now).content))
+        directory_order)) }
+    ensures read { OnOk result (IsOk ((M.seen medium.now).content directory_head)) }
+    ensures err { IfErr result (λ t. ((M.seen medium.now).content directory_head ≡ Err t.code) × (t.track ≡ 18) ×
+        (t.sector ≡ 0)) }
+{
+    let map = read_map(medium, geometry)?;
+    Ok(in_directory(&map).is_some())
 }
 
 /// Whether the map's count of a track is the number of its free bits.
