@@ -1,0 +1,37 @@
+use Rattle.std.proofs.Common.{◌≡◌, ◌-◌, ℕ, Some, sym, ap, subst, ◌∙◌, inl}
+use Rattle.std.proofs.lemmas.Result.{err_from_is_err_and}
+use Rattle.cbm_medium.specs.Place.{Place}
+use Rattle.cbm_medium.specs.Content.{Content}
+use Rattle.cbm_medium.specs.Met.{IsMet}
+use Rattle.cbm_bam.specs.Map.{Frees}
+use Rattle.cbm_chain.specs.Writing.{State}
+use Rattle.cbm_chain.specs.GivenUp.{linked_blocks}
+use Rattle.cbm_chain.proofs.Linked.{linked_met, not_cut, all_given_back}
+use Rattle.cbm_chain.proofs.writer.ChainWriter.abandon.Goals as goal
+
+pub returns-in_err-give_linked-clause-cause : goal.returns-in_err-give_linked-clause-cause
+returns-in_err-give_linked-clause-cause g c =
+    let content : Content = (g.M.Medium.seen c.args.medium.now).content in
+    let p = err_from_is_err_and c.from_residual-in_err-give_linked.result c.from_residual-in_err-give_linked.ensures.1 in
+    rw (p.1, p.2) (inl (subst (λ (n : ℕ). IsMet n content c.in_err-give_linked.field-0.0) (ap (λ (s : State). s.tracks) c.self.view_is)
+    (linked_met c.self.inside.geometry content c.saturating_sub-more.result c.from.result c.in_err-give_linked.field-0.0 c.in_err-give_linked.ensures.err)))
+
+-- the blocks that were written are linked
+pub returns-in_err-give_linked-clause-linked : goal.returns-in_err-give_linked-clause-linked
+returns-in_err-give_linked-clause-linked g c = λ blocks bytes w few.
+    let content : Content = (g.M.Medium.seen c.args.medium.now).content in
+    let first : c.args.self.now.first ≡ Some c.from.result = sym (ap (λ (s : State). s.first) c.self.view_is) ∙ c.in-Some.is ∙ ap (λ (p : Place). Some p) (sym c.from.ensures) in
+    let more : c.saturating_sub-more.result ≡ c.args.self.now.count - 1 = c.saturating_sub-more.ensures ∙ ap (λ (s : State). s.count - 1) c.self.view_is in
+    let cut : (linked_blocks c.args.self.now.tracks content c.saturating_sub-more.result c.from.result).trouble ≡ Some c.in_err-give_linked.field-0.0 =
+    subst (λ (n : ℕ). (linked_blocks n content c.saturating_sub-more.result c.from.result).trouble ≡ Some c.in_err-give_linked.field-0.0) (ap (λ (s : State). s.tracks) c.self.view_is) c.in_err-give_linked.ensures.err in
+    absurd (not_cut content c.args.self.now c.from.result c.saturating_sub-more.result c.in_err-give_linked.field-0.0 first more cut blocks bytes w few)
+
+pub returns-clause-given : goal.returns-clause-given
+returns-clause-given g c =
+    let old : Content = (g.M.Medium.seen c.args.medium.now).content in
+    let new : Content = (g.M.Medium.seen c.write.new.medium).content in
+    let first : c.args.self.now.first ≡ Some c.from.result = sym (ap (λ (s : State). s.first) c.self.view_is) ∙ c.in-Some.is ∙ ap (λ (p : Place). Some p) (sym c.from.ensures) in
+    let more : c.saturating_sub-more.result ≡ c.args.self.now.count - 1 = c.saturating_sub-more.ensures ∙ ap (λ (s : State). s.count - 1) c.self.view_is in
+    let frees : Frees c.args.self.now.tracks c.in_ok-release.release (linked_blocks c.args.self.now.tracks old c.saturating_sub-more.result c.from.result).blocks c.give_linked.new.release =
+    subst (λ (n : ℕ). Frees n c.in_ok-release.release (linked_blocks n old c.saturating_sub-more.result c.from.result).blocks c.give_linked.new.release) (ap (λ (s : State). s.tracks) c.self.view_is) c.in_ok-give_linked.ensures.freed in
+    all_given_back old new c.args.self.now c.from.result c.saturating_sub-more.result c.in_ok-release.release c.give_linked.new.release c.write.result first more c.in_ok-release.ensures.ok frees c.write.ensures.ok
