@@ -20,8 +20,8 @@ refused false c p q s code e = by_place (is_place p q) e
     by_place true k = absurd (cc)
     by_place false k = k
 
-pub refused_before : (old mid new : Seen) (p q : Place) (s : List ℕ) (code : ℕ) → mid.content ≡ written old.content p s → mid.protected ≡ old.protected → old.failures ≤ mid.failures
-    → (write_refusal mid q ≡ Some code) ⊎ HasFailed mid new → HasCause old new directory_head code ⊎ ((x : Place) × (write_refusal old x ≡ Some code))
-refused_before old mid new p q s code w e l (inl r) =
-    inr (q, refused old.protected old.content p q s code (ap (λ (x : Content). refusal old.protected (x q)) (sym w) ∙ ap (λ (b : Bool). refusal b (mid.content q)) (sym e) ∙ r))
-refused_before old mid new p q s code w e l (inr f) = inl (inr (inr (omega arith)))
+pub refused_before : (tracks : ℕ) (old mid new : Seen) (p q : Place) (s : List ℕ) (code : ℕ) → Has tracks q → mid.content ≡ written old.content p s → mid.protected ≡ old.protected → old.failures ≤ mid.failures
+    → (write_refusal mid q ≡ Some code) ⊎ HasFailed mid new → HasCause old new directory_head code ⊎ ((x : Place) × (Has tracks x × (write_refusal old x ≡ Some code)))
+refused_before tracks old mid new p q s code has w e l (inl r) =
+    inr (q, (has, refused old.protected old.content p q s code (ap (λ (x : Content). refusal old.protected (x q)) (sym w) ∙ ap (λ (b : Bool). refusal b (mid.content q)) (sym e) ∙ r)))
+refused_before tracks old mid new p q s code has w e l (inr f) = inl (inr (inr (omega arith)))

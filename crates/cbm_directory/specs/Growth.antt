@@ -1,6 +1,6 @@
 -- The directory grows by a sector of track 18.
 use Rattle.std.specs.Prelude.{ℕ, ◌<◌, ◌≡◌, ◌⊎◌, List, [], ◌∷◌, ◌++◌, length, replicate, find, Some, None}
-use Rattle.cbm_medium.specs.Place.{Place, directory_head}
+use Rattle.cbm_medium.specs.Place.{Place, Has, directory_head}
 use Rattle.cbm_medium.specs.Content.{Content, written}
 use Rattle.cbm_medium.specs.Links.{Chain, bytes_at, follow}
 use Rattle.cbm_medium.specs.Seen.{Seen, write_refusal}
@@ -38,8 +38,9 @@ abbrev pub GrowthStopped : ℕ → Content → Content → Type 0
 GrowthStopped tracks old new =
     (new ≡ old) ⊎ ((q : Place) × ((claimed : Content) × (ClaimsOn18 tracks old claimed q × ((new ≡ claimed) ⊎ (new ≡ written claimed q new_sector)))))
 
--- why the growth was refused: the directory breaks off, 18/0 doesn't read, a sector's write is refused, or the medium failed
+-- why the growth was refused: the directory breaks off, 18/0 doesn't read, a write of a sector of the disk is refused, or the
+-- medium failed
 abbrev pub IsGrowthRefused : ℕ → Seen → Seen → Trouble → Type 0
 IsGrowthRefused tracks old new t =
     ((follow tracks old.content 18 first_directory).trouble ≡ Some t)
-    ⊎ (HasCause old new directory_head t.code ⊎ ((p : Place) × (write_refusal old p ≡ Some t.code)))
+    ⊎ (HasCause old new directory_head t.code ⊎ ((p : Place) × (Has tracks p × (write_refusal old p ≡ Some t.code))))
