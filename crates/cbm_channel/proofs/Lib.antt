@@ -10,3 +10,4 @@ pub mod Found
 pub mod Closes
 pub mod ListedLines
 pub mod Planning
+pub mod Takes

@@ -12,6 +12,9 @@ use Rattle.cbm_command.specs.Openings.{is_relative, opening_of}
 use Rattle.cbm_command.specs.Refusals.{◌>>=◌}
 use Rattle.cbm_volume.specs.Content.{Content}
 use Rattle.cbm_volume.specs.Reading.{Reading, Rest, rest_of}
+use Rattle.cbm_volume.specs.Writers.{Use, Reads, HoldsNow, with_use}
+use Rattle.cbm_channel.specs.declared.channel.Channel.TheVariants as kept
+use Rattle.cbm_channel.specs.Standing.{use_of}
 use Rattle.cbm_machine.specs.declared.code.Code.{Code}
 use Rattle.cbm_machine.specs.declared.code.Code.TheVariants.{NoChannel, Fine}
 use Rattle.cbm_machine.specs.declared.status.Status.{Status}
@@ -157,6 +160,13 @@ file_opens c d p s slot r e number rest = (
   ap (opened_by d) e ∙ (λ i. machine.Reading (Some (number i)) (sym rest i).bytes),
   ap (λ (x : Rest). x.trouble) rest,
 )
+
+-- what the file's channel does with the disk
+pub reads_as : (t : ℕ) (c : Content) (d : Disk) (p : Plan) (s slot : ℕ) (r : Reading) (uses : ℕ → Use) (ch : ℕ) → p ≡ ReadFile s → s ≡ slot → HoldsNow t c d (with_use uses ch (Reads s r (bytes_in (body_at d s))))
+    → HoldsNow t c d (with_use uses ch (use_of (kept.File slot r) (opened_by d p)))
+reads_as t c d p s slot r uses ch e number h =
+    subst (λ (y : machine.Channel). HoldsNow t c d (with_use uses ch (use_of (kept.File slot r) y))) (sym (ap (opened_by d) e))
+    (subst (λ (n : ℕ). HoldsNow t c d (with_use uses ch (Reads n r (bytes_in (body_at d s))))) number h)
 
 -- ---- the text of an OPEN
 

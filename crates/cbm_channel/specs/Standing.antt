@@ -37,11 +37,19 @@ ChannelStands c code.Closed channel = channel ≡ machine.Closed
 ChannelStands c (code.Listing l) channel = channel ≡ machine.Reading None (drop l.taken l.bytes)
 ChannelStands c (code.File slot r) channel = (channel ≡ machine.Reading (Some slot) (rest_of c r).bytes) × ((rest_of c r).trouble ≡ None)
 
+-- what is left to be read on a channel of the machine
+abbrev pub left_on : machine.Channel → List ℕ
+left_on machine.Closed = []
+left_on (machine.Reading slot left) = left
+left_on (machine.Writing slot bytes blocks full replaces) = []
+left_on (machine.Stopped slot) = []
+left_on (machine.Relative slot k p) = []
+
 -- What a channel does with the disk, by what the code keeps and what the machine has.
 abbrev pub use_of : Channel → machine.Channel → Use
 use_of code.Closed channel = Idle
 use_of (code.Listing l) channel = Idle
-use_of (code.File slot r) channel = Reads slot r
+use_of (code.File slot r) channel = Reads slot r (left_on channel)
 
 -- the uses of all channels, by their numbers
 abbrev pub uses_of : List Channel → List machine.Channel → ℕ → Use

@@ -38,7 +38,7 @@ pub(crate) fn open_count(channels: &[Channel]) -> usize
 }
 
 impl Channel {
-    ghost use Rattle.std.specs.Prelude.{◌≡◌, ℕ, OnOk, IsOk, replicate};
+    ghost use Rattle.std.specs.Prelude.{◌≡◌, ℕ, IsOk, replicate};
     ghost use Rattle.cbm_volume.specs.Writers.{Use, HoldsNow, with_use};
     ghost use Rattle.cbm_file.specs.Waiting.{shown};
     ghost use Rattle.cbm_file.specs.Files.{Disk};
@@ -82,12 +82,11 @@ impl Channel {
         requires { Fits (M.seen volume.now).tracks self.old }
         ensures fits { Fits (M.seen volume.now).tracks self.new }
         ensures taken { IsTakenBy (M.seen volume.now).content self.old self.new result }
-        ensures well { (d : Disk) (channel : machine.Channel) →
-            ChannelStands (M.seen volume.now).content self.old channel →
-            IsOk result × ChannelStands (M.seen volume.now).content self.new (taken_on d channel) }
-        ensures uses { let now = M.seen volume.now in (d : Disk) (uses : ℕ → Use) (ch : ℕ) (x y : machine.Channel) →
+        ensures well { let now = M.seen volume.now in (d : Disk) (uses : ℕ → Use) (ch : ℕ) (x : machine.Channel) →
             HoldsNow now.tracks now.content d uses → uses ch ≡ use_of self.old x →
-            OnOk result (HoldsNow now.tracks now.content d (with_use uses ch (use_of self.new y))) }
+            ChannelStands now.content self.old x →
+            IsOk result × ChannelStands now.content self.new (taken_on d x) ×
+            HoldsNow now.tracks now.content d (with_use uses ch (use_of self.new (taken_on d x))) }
     {
         match self {
             Channel::Closed => {}

@@ -10,10 +10,10 @@ use Rattle.cbm_directory.specs.Slots.{entries_from, all_entries}
 use Rattle.cbm_volume.specs.Blocks.{Blocks, no_blocks, HasRecords}
 use Rattle.cbm_volume.specs.Layouts.{Layout, Sound, IsWritable}
 use Rattle.cbm_volume.specs.check.SlotWalk as checked
-use Rattle.cbm_volume.specs.check.Claims.{reads, wrong_at, fault_at, ClaimsChain, MeetsFault}
-use Rattle.cbm_volume.specs.check.SideLists.{ClaimsEach, MeetsAmong, sides_from, are_records, ClaimsSides, SidesFault}
+use Rattle.cbm_volume.specs.check.Claims.{reads, wrong_at, ClaimsChain, MeetsFault}
+use Rattle.cbm_volume.specs.check.SideLists.{ClaimsEach, MeetsAmong, sides_from, are_records, SidesFault}
 use Rattle.cbm_volume.specs.check.SlotWalk.{RelativeFault, ClaimsFile, FileFault, ClaimsEntry, EntryFault, ClaimsEntries, EntriesFault, entries_behind, entries_in, SlotsFault}
-use Rattle.cbm_volume.specs.check.MapCounts.{IsMapRight, IsMapFault, is_counted_on}
+use Rattle.cbm_volume.specs.check.MapCounts.{IsMapRight, IsMapFault}
 use Rattle.cbm_volume.specs.check.Headers.{is_bad_header}
 use Rattle.cbm_volume.specs.check.WholeDisk.{only_head, ClaimsDisk, DiskFault}
 use Rattle.cbm_volume.specs.declared.check.unsound.Part.{Part}

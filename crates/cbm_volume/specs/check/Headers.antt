@@ -1,6 +1,6 @@
 -- The headers of all sectors, in order.
 use Rattle.std.specs.Prelude.{ℕ, ◌≡◌, ◌==◌, ◌&&◌, ◌||◌, nat_lt, Bool, true, false, Ok, Err}
-use Rattle.cbm_medium.specs.Place.{Place, has, Has}
+use Rattle.cbm_medium.specs.Place.{Place, Has}
 use Rattle.cbm_medium.specs.Content.{Cell, Content, is_header_fault}
 use Rattle.cbm_volume.specs.Layouts.{IsWritable}
 

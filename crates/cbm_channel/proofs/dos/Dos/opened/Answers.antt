@@ -4,8 +4,9 @@ use Rattle.cbm_file.specs.Files.{bytes_in}
 use Rattle.cbm_volume.specs.Reading.{rest_of}
 use Rattle.cbm_machine.specs.Machines.{Reading}
 use Rattle.cbm_machine.specs.Finding.{body_at}
-use Rattle.cbm_volume.specs.Writers.{HoldsNow, with_use, Idle, Reads}
-use Rattle.cbm_channel.specs.Standing.{uses_of}
+use Rattle.cbm_volume.specs.Writers.{HoldsNow, with_use, Idle}
+use Rattle.cbm_channel.specs.Standing.{use_of, uses_of}
+use Rattle.cbm_channel.specs.declared.channel.Channel.TheVariants.{File}
 use Rattle.cbm_channel.specs.Planned.{PlannedAs, opened_by}
 use Rattle.std.proofs.Common.{[], ap}
 use Rattle.cbm_medium.specs.Place.{sector_count}
@@ -15,7 +16,7 @@ use Rattle.cbm_volume.specs.Reading.{held_from}
 use Rattle.cbm_channel.specs.Grounds.{ShowsTrouble}
 use Rattle.cbm_channel.proofs.Troubles.{read_from, entry_broken, passed_on}
 use Rattle.cbm_channel.proofs.Stands.{stood, means_of, let_go_at, unwritten_at}
-use Rattle.cbm_channel.proofs.Planning.{readable, file_opens}
+use Rattle.cbm_channel.proofs.Planning.{readable, file_opens, reads_as}
 use Rattle.cbm_channel.proofs.dos.Dos.opened.Goals as goal
 
 pub returns-in_err-list-in-ReadListing-clause-stands : goal.returns-in_err-list-in-ReadListing-clause-stands
@@ -45,8 +46,8 @@ pub returns-in_ok-begin_read-in-ReadFile-clause-uses : goal.returns-in_ok-begin_
 returns-in_ok-begin_read-in-ReadFile-clause-uses g c = λ m p ch h s.
     let x = readable _ _ m.disk p c.args.plan c.in-ReadFile.found (subst (λ k. PlannedAs (g.M.Medium.seen k.medium).tracks (g.M.Medium.seen k.medium).content m.disk (Ok p) (Ok c.args.plan)) (sym c.self.view_is) h) c.in-ReadFile.is in
     let st = stood g.M.Medium.seen _ _ m c.self.view_is s in
-    subst (λ k. HoldsNow (g.M.Medium.seen k.medium).tracks (g.M.Medium.seen k.medium).content m.disk (with_use (uses_of k.channels m.channels) ch (Reads c.in-ReadFile.found.slot c.in_ok-begin_read-in-ReadFile.field-0))) c.self.view_is
-    (subst (λ n. HoldsNow (g.M.Medium.seen c.self.inside.volume).tracks (g.M.Medium.seen c.self.inside.volume).content m.disk (with_use (uses_of c.self.inside.channels m.channels) ch (Reads n c.in_ok-begin_read-in-ReadFile.field-0))) x.2.number
+    subst (λ k. HoldsNow (g.M.Medium.seen k.medium).tracks (g.M.Medium.seen k.medium).content m.disk (with_use (uses_of k.channels m.channels) ch (use_of (File c.in-ReadFile.found.slot c.in_ok-begin_read-in-ReadFile.field-0) (opened_by m.disk p)))) c.self.view_is
+    (reads_as (g.M.Medium.seen c.self.inside.volume).tracks (g.M.Medium.seen c.self.inside.volume).content m.disk p x.0 c.in-ReadFile.found.slot c.in_ok-begin_read-in-ReadFile.field-0 (uses_of c.self.inside.channels m.channels) ch x.1 x.2.number
     (c.in_ok-begin_read-in-ReadFile.ensures.reads m.disk (uses_of c.self.inside.channels m.channels) ch x.0 (bytes_in (body_at m.disk x.0)) st.holds x.2.stands x.2.has (unwritten_at x.0 c.self.inside.channels m.channels)))
 
 -- the file's chain breaks off at its first block

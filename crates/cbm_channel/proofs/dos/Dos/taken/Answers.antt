@@ -1,9 +1,10 @@
 use Rattle.std.proofs.Common.{◌<◌, refl, ap, arith}
 use Rattle.std.specs.Prelude.{slice_index_or}
 use Rattle.cbm_machine.specs.Machines.{channel}
-use Rattle.cbm_machine.specs.Talking.{taken, taken_on}
+use Rattle.cbm_machine.specs.Talking.{taken}
+use Rattle.cbm_channel.specs.Standing.{uses_of}
 use Rattle.cbm_channel.proofs.Idle.{below_15, taken_other}
-use Rattle.cbm_channel.proofs.Stands.{with_one, told_on, stands_at, idle_at, use_at, ok_is, moved, stood, not_ok}
+use Rattle.cbm_channel.proofs.Stands.{with_one, told_on, stands_at, idle_at, use_at, moved, stood, not_ok}
 use Rattle.cbm_channel.proofs.Orders.{taken_well}
 use Rattle.cbm_channel.proofs.dos.Dos.taken.Goals as goal
 
@@ -17,7 +18,8 @@ returns-in-Err-clause-leads g c = λ m s.
     let st = stood g.M.Medium.seen _ _ m c.self.view_is s in
     let lt : c.args.channel < 15 = omega (arith, c.requires, c.if-channel-eq15.false) in
     let at = stands_at _ _ _ _ _ _ m c.args.channel c.index-self-channel.result lt c.self.invariant st in
-    absurd (not_ok c.in-Err.trouble c.taken-2.result c.in-Err.is (c.taken-2.ensures.well m.disk _ at).0)
+    let same = use_at (slice_index_or c.self.inside.channels c.args.channel c.index-self-channel.result) _ m.channels c.args.channel _ (omega (arith, lt, c.self.invariant.count)) refl in
+    absurd (not_ok c.in-Err.trouble c.taken-2.result c.in-Err.is (c.taken-2.ensures.well m.disk (uses_of c.self.inside.channels m.channels) c.args.channel (channel m c.args.channel) st.holds same at).0)
 
 pub returns-in_default-clause-leads : goal.returns-in_default-clause-leads
 returns-in_default-clause-leads g c = λ m s.
@@ -26,7 +28,7 @@ returns-in_default-clause-leads g c = λ m s.
     let at = stands_at _ _ _ _ _ _ m c.args.channel c.index-self-channel.result lt c.self.invariant st in
     let y = channel m c.args.channel in
     let same = use_at (slice_index_or c.self.inside.channels c.args.channel c.index-self-channel.result) _ m.channels c.args.channel _ (omega (arith, lt, c.self.invariant.count)) refl in
-    let uses = ok_is c.taken-2.result (c.taken-2.ensures.well m.disk y at).0 (c.taken-2.ensures.uses m.disk _ c.args.channel y (taken_on m.disk y) st.holds same) in
+    let well = c.taken-2.ensures.well m.disk (uses_of c.self.inside.channels m.channels) c.args.channel y st.holds same at in
     moved _ _ _ _ _ _ _ _ (taken_other c.args.channel m (below_15 c.args.channel lt))
-    (with_one _ _ _ _ _ _ m c.args.channel _ _ lt c.self.invariant (c.taken-2.ensures.well m.disk _ at).1 uses
+    (with_one _ _ _ _ _ _ m c.args.channel _ _ lt c.self.invariant well.1 well.2
     (taken_well m.disk y (idle_at _ _ _ _ _ _ m c.args.channel st) (st.orderly.reading c.args.channel)) st)
