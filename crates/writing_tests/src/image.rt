@@ -2,6 +2,7 @@
 
 use cbm_d64::{D64Disk, D64Fault};
 use cbm_medium::sectors_of;
+use cbm_volume::Volume;
 use std::alloc::Global;
 
 /// Where a sector's bytes stand in an image.
@@ -22,9 +23,9 @@ pub fn put(image: &mut Vec<u8>, at: usize, bytes: &[u8]) {
     }
 }
 
-/// The bytes of an empty disk of 35 tracks.
-pub fn empty_image(alloc: Global) -> Result<Vec<u8>, D64Fault> {
-    let Ok(mut image) = vec![in alloc; 0; 174_848] else {
+/// An empty disk's map entries of the tracks 1 to 35, its directory's first sector, and zeros up to so many bytes.
+fn formatted(alloc: Global, bytes: usize) -> Result<Vec<u8>, D64Fault> {
+    let Ok(mut image) = vec![in alloc; 0; bytes] else {
         return Err(D64Fault::Memory);
     };
     let head = place(18, 0);
@@ -43,8 +44,42 @@ pub fn empty_image(alloc: Global) -> Result<Vec<u8>, D64Fault> {
     Ok(image)
 }
 
+/// The bytes of an empty disk of 35 tracks.
+pub fn empty_image(alloc: Global) -> Result<Vec<u8>, D64Fault> {
+    formatted(alloc, 174_848)
+}
+
+/// The bytes of an empty disk of 40 tracks, whose map has the last five from its byte 192 on.
+pub fn wide_image(alloc: Global) -> Result<Vec<u8>, D64Fault> {
+    let mut image = formatted(alloc, 196_608)?;
+    let outer = place(18, 0).wrapping_add(192);
+    for track in 0..5usize {
+        let at = outer.wrapping_add(4 * track);
+        put(&mut image, at, &[17, 0xff, 0xff, 1]);
+    }
+    Ok(image)
+}
+
 /// An empty disk of 35 tracks.
 pub fn empty_disk(alloc: Global) -> Result<D64Disk, D64Fault> {
     let image = empty_image(alloc)?;
     D64Disk::from_bytes(alloc, image.as_slice(), false)
+}
+
+/// An empty volume of 35 tracks.
+pub fn empty_volume(alloc: Global) -> Result<Volume<D64Disk>, D64Fault> {
+    Ok(Volume::open(empty_disk(alloc)?))
+}
+
+/// An empty volume of 40 tracks.
+pub fn wide_volume(alloc: Global) -> Result<Volume<D64Disk>, D64Fault> {
+    let image = wide_image(alloc)?;
+    Ok(Volume::open(D64Disk::from_bytes(alloc, image.as_slice(), false)?))
+}
+
+/// Whether these bytes stand in an image from a place on.
+pub fn stands(image: &[u8], at: usize, bytes: &[u8]) -> bool {
+    image
+        .get(at..at.wrapping_add(bytes.len()))
+        .is_some_and(|there| there == bytes)
 }

@@ -2,6 +2,16 @@
 #![tactic(auto)]
 
 #[cfg(test)]
+mod changes;
+#[cfg(test)]
+mod files;
+#[cfg(test)]
 mod image;
+#[cfg(test)]
+mod new_files;
+#[cfg(test)]
+mod opens;
+#[cfg(test)]
+mod stops;
 #[cfg(test)]
 mod tests;

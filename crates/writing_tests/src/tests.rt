@@ -263,3 +263,36 @@ fn what_becomes_of_an_entry(rt: HostRuntime) -> Result<(), Fail> {
     assert_eq!(rt; *renamed.cleared().bytes(), bytes);
     Ok(())
 }
+
+#[test]
+fn a_file_is_replaced(rt: HostRuntime) -> Result<(), Fail> {
+    // A file of two bytes in 17/0: what replaces it takes 17/1, and 17/0 is given back at the end.
+    let mut image = empty_image(rt.alloc())?;
+    put(&mut image, place(17, 0), &[0, 3, 0x42, 0x42]);
+    put(
+        &mut image,
+        place(18, 1).wrapping_add(2),
+        b"\x82\x11\x00HELLO\xa0\xa0\xa0\xa0\xa0\xa0\xa0\xa0\xa0\xa0\xa0",
+    );
+    put(&mut image, place(18, 1).wrapping_add(30), &[1]);
+    put(
+        &mut image,
+        place(18, 0).wrapping_add(68),
+        &[20, 0xfe, 0xff, 0x1f],
+    );
+    let mut volume = Volume::open(D64Disk::from_bytes(rt.alloc(), image.as_slice(), false)?);
+    assert!(rt; volume.check().is_ok());
+    let mut writer = volume.begin_replace(0)?.expect(&rt, "a first block");
+    assert_eq!(rt; (writer.slot(), writer.replaces()), (0, true));
+    assert!(rt; volume.is_empty(&writer));
+    assert!(rt; volume.store(&mut writer, 0x41)?);
+    assert!(rt; !volume.is_empty(&writer));
+    assert_eq!(rt; volume.free()?, 662);
+    volume.finish_replacement(&writer)?;
+    assert!(rt; volume.check().is_ok());
+    assert_eq!(rt; volume.free()?, 663);
+    let entry = volume.slot(0)?.expect(&rt, "a slot");
+    assert_eq!(rt; entry.first_block(), Link::new(17, 1));
+    assert_last(&rt, &volume.into_medium(), 1, 2);
+    Ok(())
+}
