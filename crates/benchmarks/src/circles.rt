@@ -60,7 +60,7 @@ fn read_all(rt: &impl Runtime, name: &str, disk: &G64Disk) -> io::Result<()> {
 }
 
 /// Turns each track of a new file by three bits.
-fn turn_tracks(file: &mut [u8]) {
+pub fn turn_tracks(file: &mut [u8]) {
     for i in 0..35usize {
         let size = track_bytes(i as u8 + 1) as usize;
         let start = 686 + 7930 * i;

@@ -87,7 +87,7 @@ fn bytes_of_file<M: Medium>(dos: &mut Dos<M>) -> u32 {
     count
 }
 
-fn set(image: &mut Vec<u8>, at: usize, bytes: &[u8]) {
+pub fn set(image: &mut Vec<u8>, at: usize, bytes: &[u8]) {
     for (i, byte) in bytes.iter().enumerate() {
         if let Some(old) = image.get_mut(at.wrapping_add(i)) {
             *old = *byte;

@@ -4,6 +4,7 @@
 mod circles;
 mod disks;
 mod drives;
+mod writes;
 
 use std::io;
 
@@ -13,5 +14,6 @@ fn main(rt: HostRuntime) -> io::Result<()> {
     disks::chains(&rt, rt.alloc())?;
     drives::files(&rt, rt.alloc())?;
     drives::checks(&rt, rt.alloc())?;
+    writes::files(&rt, rt.alloc())?;
     circles::images(&rt, rt.alloc())
 }
