@@ -1,10 +1,16 @@
 -- What becomes of an entry: it is made, opened again, renamed, cleared. What isn't named stays as it is.
-use Rattle.std.specs.Prelude.{ℕ, ◌+◌, ◌*◌, ◌%◌, ◌<◌, ◌≤◌, ◌≡◌, List, ◌∷◌, ◌++◌, drop, take, replicate, slice_index, slice_set}
+use Rattle.std.specs.Prelude.{ℕ, ◌+◌, ◌*◌, ◌/◌, ◌%◌, ◌<◌, ◌≤◌, ◌≡◌, ◌⊎◌, Some, List, ◌∷◌, ◌++◌, drop, take, replicate, slice_index, slice_set, MatchOption}
 use Rattle.cbm_medium.specs.Place.{Place}
+use Rattle.cbm_medium.specs.Content.{Content}
+use Rattle.cbm_medium.specs.Links.{bytes_at}
+use Rattle.cbm_medium.specs.Seen.{Seen}
+use Rattle.cbm_medium.specs.Met.{IsMet}
+use Rattle.cbm_medium.specs.declared.fault.Trouble.{Trouble}
+use Rattle.cbm_bam.specs.Causes.{HasCause}
 use Rattle.cbm_file.specs.Padding.{before_filler, padded}
 use Rattle.cbm_file.specs.Types.{type_number}
 use Rattle.cbm_file.specs.declared.file_type.FileType.{FileType}
-use Rattle.cbm_directory.specs.Entries.{type_byte, first_block, name_in}
+use Rattle.cbm_directory.specs.Entries.{Enters, entry_of, led_to, first_directory, type_byte, first_block, name_in}
 
 -- A new entry of a file that isn't closed: its type, the link to its first block and its name, and all else is 0.
 abbrev pub fresh_entry : FileType → List ℕ → Place → List ℕ
@@ -29,6 +35,21 @@ cleared_entry e = slice_set e 0 0
 pub record IsTypedAs (old new : List ℕ) (type : ℕ) : Type 0 where
   pub typed : type_byte new ≡ type
   pub others : (i : ℕ) → 0 < i → slice_index new i ≡ slice_index old i
+
+-- One entry of a sector of the directory is cleared, by one write of the sector, and nothing else is changed.
+abbrev pub Clears : Content → Content → Place → ℕ → Type 0
+Clears old new p e = Enters old new p e (cleared_entry (entry_of (bytes_at old p) e))
+
+-- The entry of this number is cleared where the directory's links lead, on any content; nothing where they lead nowhere.
+abbrev pub ClearsLed : ℕ → Content → Content → ℕ → Type 0
+ClearsLed tracks old new n =
+    MatchOption (led_to tracks old (n / 8) first_directory) (new ≡ old) (λ p. Clears old new p (n % 8))
+
+-- Why an entry isn't written, on any content: a link on the way to it meets this, or its sector refuses.
+abbrev pub IsEntryRefused : ℕ → Seen → Seen → ℕ → Trouble → Type 0
+IsEntryRefused tracks old new n t =
+    IsMet tracks old.content t
+    ⊎ ((p : Place) × (led_to tracks old.content (n / 8) first_directory ≡ Some p) × HasCause old new p t.code)
 
 -- The entry under another name.
 abbrev pub renamed_entry : List ℕ → List ℕ → List ℕ
