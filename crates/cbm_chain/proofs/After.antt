@@ -1,17 +1,18 @@
 -- A writer that goes on after a chain that is there takes up its blocks one by one.
-use Rattle.std.proofs.Common.{◌≡◌, ℕ, ◌+◌, ◌-◌, List, [], ◌∷◌, ◌++◌, length, Option, None, Some, refl, sym, ap, ◌∙◌, arith}
+use Rattle.std.proofs.Common.{◌≡◌, ℕ, ◌+◌, ◌-◌, List, [], ◌∷◌, ◌++◌, length, Option, None, Some, Ok, Err, refl, sym, ap, subst, ◌∙◌, arith}
 use Rattle.std.specs.Prelude.{min}
 use Rattle.std.specs.Prelude.{◌≤◌, take, drop, get_or, replicate, slice_range}
-use Rattle.std.proofs.lemmas.List.{length-append, append_assoc, append-nil, drop-take, drop_all, length-drop, length-take-le, get_or-append_right}
+use Rattle.std.proofs.lemmas.List.{length-append, length-take, append_assoc, append-nil, drop-take, drop_all, length-drop, length-take-le, get_or-append_right}
 use Rattle.std.proofs.lemmas.Slice.{take-put_mid_below}
 use borrow.Rule.Slice.PartMut.{put_mid, post_of}
 use Rattle.cbm_medium.specs.Place.{Place}
-use Rattle.cbm_medium.specs.Content.{Content}
-use Rattle.cbm_medium.specs.Links.{Followed, follow, with_block, bytes_at}
+use Rattle.cbm_medium.specs.Content.{Cell, Content, IsWhole}
+use Rattle.cbm_medium.specs.Links.{Followed, follow, with_block, bytes_at, or_nothing}
 use Rattle.cbm_medium.proofs.Walks.{follow_end}
-use Rattle.cbm_chain.specs.Data.{data_of}
+use Rattle.cbm_chain.specs.Data.{data_end, data_of, chain_bytes}
 use Rattle.cbm_chain.proofs.Filling.{zeros_at}
-use Rattle.cbm_chain.specs.Writing.{State, StandsAfter, taken_up, first_or, first_of, end_of, last_of, data_at, one_more}
+use Rattle.cbm_chain.proofs.Parts.{part_chain_bytes}
+use Rattle.cbm_chain.specs.Writing.{State, StandsAfter, taken_up, first_or, first_of, end_of, last_of, data_at, one_more, Part, part_bytes, Wrote}
 
 -- what follows, with these blocks before it
 abbrev pub behind_these : List Place → Followed → Followed
@@ -76,3 +77,30 @@ alone_zeros block zs end n l few z i h =
     let none : post_of end (256 - end) block ≡ [] = drop_all (256 - end) (drop end block) (omega (arith, length-drop end block)) in
     get_or-append_right (take end block) (zs ++ post_of end (256 - end) block) end i 0 (length-take-le end block (omega arith)) h
     ∙ ap (λ (xs : List ℕ). get_or (zs ++ xs) (i - end) 0) none ∙ ap (λ (xs : List ℕ). get_or xs (i - end) 0) (append-nil zs ∙ z) ∙ zeros_at n (i - end)
+
+-- ---- what it has written
+
+-- a block has at most 254 bytes of data
+data_fits : (c : Content) (o : Option Place) → ((p : Place) → IsWhole (c p)) → length (data_at c o) ≤ 254
+data_fits c None whole = omega arith
+data_fits c (Some p) whole = by_cell (c p) (whole p)
+  where
+    by_cell : (cell : Cell) → IsWhole cell → length (data_of (or_nothing cell)) ≤ 254
+    by_cell (Ok bytes) l = omega (arith, length-take (data_end bytes - 2) (drop 2 bytes), length-drop 2 bytes)
+    by_cell (Err code) l = omega (arith, length-take (data_end [] - 2) (drop {A = ℕ} 2 []), length-drop {A = ℕ} 2 [])
+
+-- A WRITER AFTER THE LAST BYTE OF A CHAIN has written its bytes
+pub chain_wrote : (tracks : ℕ) (c : Content) (xs : List Place) (s : State) → ((p : Place) → IsWhole (c p)) → Part tracks c xs → StandsAfter tracks c xs s → Wrote c s xs (chain_bytes c xs)
+chain_wrote tracks c xs s whole part after = record {
+  part = subst (λ (n : ℕ). Part n c xs) (sym after.same_tracks) part;
+  first = after.first;
+  current = after.current;
+  count = after.count;
+  all = all xs part ∙ ap (λ (x : List ℕ). part_bytes c xs ++ x) (sym after.waiting);
+  fits = subst (λ (x : List ℕ). length x ≤ 254) (sym after.waiting) (data_fits c (end_of xs) whole);
+  none = λ e. after.waiting ∙ ap (data_at c) (sym after.current ∙ e);
+}
+  where
+    all : (ys : List Place) → Part tracks c ys → chain_bytes c ys ≡ part_bytes c ys ++ data_at c (end_of ys)
+    all [] h = refl
+    all (b ∷ rest) h = part_chain_bytes tracks c b rest h

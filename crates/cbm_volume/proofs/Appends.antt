@@ -1,10 +1,10 @@
 -- OPEN for appending: the blocks of a closed file go to a channel, and its entry is opened.
-use Rattle.std.proofs.Common.{◌≡◌, ◌≢◌, ℕ, zero, suc, ◌+◌, ◌-◌, ◌*◌, ◌/◌, ◌%◌, ◌<◌, ◌≤◌, length, drop, arith, List, [], ◌∷◌, ◌++◌, Bool, true, false, IsOk, refl, sym, ap, subst, ◌∙◌, inl, inr, Option, Some, None, Ok, Err}
+use Rattle.std.proofs.Common.{◌≡◌, ◌≢◌, ℕ, zero, suc, ◌+◌, ◌*◌, ◌/◌, ◌%◌, ◌<◌, length, arith, List, [], ◌∷◌, ◌++◌, Bool, true, false, IsOk, refl, sym, ap, subst, ◌∙◌, inl, inr, Option, Some, None, Ok, Err}
 use Rattle.std.specs.Prelude.{◌==◌, ◌&&◌, MatchOption, slice_index, slice_range, slice_set}
 use Rattle.std.proofs.lemmas.Bool.{cases_eq, eq-eqb, ne_eqb}
-use Rattle.std.proofs.lemmas.List.{get_or-set_same, length-take, length-drop}
+use Rattle.std.proofs.lemmas.List.{get_or-set_same}
 use Rattle.cbm_medium.specs.Place.{Place, Has, directory_head, sector_count}
-use Rattle.cbm_medium.specs.Content.{Cell, Content, IsWhole}
+use Rattle.cbm_medium.specs.Content.{Cell, Content}
 use Rattle.cbm_medium.specs.Seen.{Seen}
 use Rattle.cbm_medium.specs.Links.{bytes_at, or_nothing, link, Chain, Followed, follow, ended, IsApart}
 use Rattle.cbm_medium.specs.declared.fault.Trouble.{Trouble}
@@ -17,8 +17,8 @@ use Rattle.cbm_file.specs.Files.{Bytes, File, Disk, with_slot, bytes_in}
 use Rattle.cbm_file.specs.Changes.{reopened}
 use Rattle.cbm_bam.specs.Map.{geometry_of}
 use Rattle.cbm_bam.specs.Causes.{HasCause}
-use Rattle.cbm_chain.specs.Data.{data_of, data_end, chain_bytes}
-use Rattle.cbm_chain.specs.Writing.{State, Part, part_bytes, end_of, data_at, Wrote, StandsAfter}
+use Rattle.cbm_chain.specs.Data.{chain_bytes}
+use Rattle.cbm_chain.specs.Writing.{State, Part, Wrote, StandsAfter}
 use Rattle.cbm_directory.specs.Entries.{Enters, EntersLed, led_to, first_directory, type_byte, is_closed, is_relative, bit_of, kind_of, name_in, first_block, entry_at, sector_of}
 use Rattle.cbm_directory.specs.EntryChanges.{reopened_entry, IsTypedAs}
 use Rattle.cbm_directory.proofs.Placing.{led_on, led_nowhere}
@@ -35,8 +35,10 @@ use Rattle.cbm_volume.proofs.Chained.{chain_distinct}
 use Rattle.cbm_volume.proofs.Releases.{apart_by_index}
 use Rattle.cbm_volume.proofs.Lengths.{file_length}
 use Rattle.cbm_volume.proofs.Listing.{entry_found, geometry_size}
-use Rattle.cbm_volume.proofs.Finishes.{own_all, own_all_keeps, own_all_there, part_chain_bytes, stands_reopen}
-use Rattle.cbm_volume.proofs.Writers.{Spares, used_kept, use_here, use_other, written_keeps, part_kept, part_bytes_kept}
+use Rattle.cbm_volume.proofs.Finishes.{own_all, own_all_keeps, own_all_there, stands_reopen}
+use Rattle.cbm_chain.proofs.Parts.{part_kept, part_bytes_kept}
+use Rattle.cbm_chain.proofs.After.{chain_wrote}
+use Rattle.cbm_volume.proofs.Writers.{Spares, used_kept, use_here, use_other, written_keeps, owned_kept}
 use Rattle.cbm_volume.proofs.Storing.{geometry_elsewhere}
 use Rattle.cbm_volume.proofs.Closing.{other_slot, some_file, plain_entry}
 use Rattle.cbm_volume.proofs.Beginning.{alone_more}
@@ -54,31 +56,6 @@ chain_part tracks c owner o off a (b ∷ []) h w = (h.1, off b w.0)
 chain_part tracks c owner o off a (b ∷ b' ∷ rest) h w =
     let apart : IsApart b (b' ∷ rest) = apart_by_index b (b' ∷ rest) directory_head (λ j k e. let z = chain_distinct tracks c a (b ∷ b' ∷ rest) (suc j) 0 directory_head h (omega arith) (omega arith) e in omega arith) in
     (h.1, off b w.0, apart, h.2, h.3.0, chain_part tracks c owner o off (link (bytes_at c b)) (b' ∷ rest) h.3 w.1)
-
--- a block has at most 254 bytes of data
-data_fits : (c : Content) (o : Option Place) → AllWhole c → length (data_at c o) ≤ 254
-data_fits c None whole = omega arith
-data_fits c (Some p) whole = by_cell (c p) (whole p)
-  where
-    by_cell : (cell : Cell) → IsWhole cell → length (data_of (or_nothing cell)) ≤ 254
-    by_cell (Ok bytes) l = omega (arith, length-take (data_end bytes - 2) (drop 2 bytes), length-drop 2 bytes)
-    by_cell (Err code) l = omega (arith, length-take (data_end [] - 2) (drop {A = ℕ} 2 []), length-drop {A = ℕ} 2 [])
-
--- A WRITER AFTER THE LAST BYTE OF A CHAIN has written its bytes
-chain_wrote : (tracks : ℕ) (c : Content) (xs : List Place) (s : State) → AllWhole c → Part tracks c xs → StandsAfter tracks c xs s → Wrote c s xs (chain_bytes c xs)
-chain_wrote tracks c xs s whole part after = record {
-  part = subst (λ (n : ℕ). Part n c xs) (sym after.same_tracks) part;
-  first = after.first;
-  current = after.current;
-  count = after.count;
-  all = all xs part ∙ ap (λ (x : List ℕ). part_bytes c xs ++ x) (sym after.waiting);
-  fits = subst (λ (x : List ℕ). length x ≤ 254) (sym after.waiting) (data_fits c (end_of xs) whole);
-  none = λ e. after.waiting ∙ ap (data_at c) (sym after.current ∙ e);
-}
-  where
-    all : (ys : List Place) → Part tracks c ys → chain_bytes c ys ≡ part_bytes c ys ++ data_at c (end_of ys)
-    all [] h = refl
-    all (b ∷ rest) h = part_chain_bytes tracks c b rest h
 
 -- ---- the entry that is opened
 
@@ -151,11 +128,11 @@ appended_over tracks c c2 l d uses ch n s body bytes f h idle can k enters kind 
       places = xs;
       owned = own_all_there l.owner xs (Writer ch);
       wrote = record {
-        part = part_kept s.tracks c c2 l.owner (DataOf n) mine_keeps xs old_owned wrote.part;
+        part = part_kept s.tracks c c2 xs (owned_kept c c2 l.owner (DataOf n) mine_keeps xs old_owned) wrote.part;
         first = wrote.first;
         current = wrote.current;
         count = wrote.count;
-        all = wrote.all ∙ ap (λ (x : List ℕ). x ++ s.waiting) (sym (part_bytes_kept c c2 l.owner (DataOf n) mine_keeps xs old_owned));
+        all = wrote.all ∙ ap (λ (x : List ℕ). x ++ s.waiting) (sym (part_bytes_kept c c2 xs (owned_kept c c2 l.owner (DataOf n) mine_keeps xs old_owned)));
         fits = wrote.fits;
         none = wrote.none;
       };
