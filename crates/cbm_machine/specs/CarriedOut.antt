@@ -1,10 +1,7 @@
--- What the drive carries out so far: each text that is refused, the listing, reading a file that has no records,
--- I, and P, which has no relative channel to move. All else answers 30, 64 or 31 and changes nothing.
-use Rattle.std.specs.Prelude.{ℕ, ◌≡◌, ◌==◌, Bool, true, false, ◌&&◌, not, List, [], ◌∷◌, Result, Ok, Err, MatchBool}
+-- What the drive carries out so far: each text that is refused, the listing, reading and writing a file that has no records,
+-- I, and P, which has no relative channel to move. All else answers 64 or 31 and changes nothing.
+use Rattle.std.specs.Prelude.{ℕ, ◌≡◌, ◌==◌, false, List, [], ◌∷◌, Result, Ok, Err, MatchBool}
 use Rattle.cbm_command.specs.declared.refusal.Refusal.{Refusal}
-use Rattle.cbm_command.specs.declared.opening.Mode.{Mode}
-use Rattle.cbm_command.specs.declared.opening.Mode.TheVariants.{Read, Write, Append}
-use Rattle.cbm_command.specs.declared.opening.Wanted.{Wanted}
 use Rattle.cbm_command.specs.declared.opening.Opening.{Opening}
 use Rattle.cbm_command.specs.declared.opening.Opening.TheVariants as opening
 use Rattle.cbm_command.specs.declared.command.Command.{Command}
@@ -16,16 +13,6 @@ use Rattle.cbm_machine.specs.Machines.{Machine}
 use Rattle.cbm_machine.specs.Closing.{close}
 use Rattle.cbm_machine.specs.Plans.{Plan, ReadListing, ReadFile, WriteFile, AppendFile, ReplaceFile, OpenRecords, MakeRecords, plan}
 use Rattle.cbm_machine.specs.Calls.{without_return, text_for}
-
--- the mode reads
-abbrev pub is_reading : Mode → Bool
-is_reading Read = true
-is_reading Write = false
-is_reading Append = false
-
--- bytes are to be read
-abbrev pub reads_bytes : Wanted → Bool
-reads_bytes w = is_reading w.mode && not (is_relative w)
 
 -- no relative file is met
 abbrev pub MeetsNoRecords : Result Plan Code → Type 0
@@ -42,7 +29,7 @@ MeetsNoRecords (Err code) = Unit {0}
 abbrev pub IsAskedCarriedOut : ℕ → Machine → Result Opening Refusal → Type 0
 IsAskedCarriedOut ch m (Err e) = Unit {0}
 IsAskedCarriedOut ch m (Ok (opening.Listing pattern)) = Unit {0}
-IsAskedCarriedOut ch m (Ok (opening.File w)) = (reads_bytes w ≡ true) × MeetsNoRecords (plan ch (opening.File w) m)
+IsAskedCarriedOut ch m (Ok (opening.File w)) = (is_relative w ≡ false) × MeetsNoRecords (plan ch (opening.File w) m)
 
 -- the command is carried out
 abbrev pub IsCommandCarriedOut : Result Command Refusal → Type 0
@@ -56,9 +43,13 @@ abbrev pub IsTextCarriedOut : List ℕ → Type 0
 IsTextCarriedOut [] = Unit {0}
 IsTextCarriedOut (c ∷ text) = IsCommandCarriedOut (command_of (c ∷ text))
 
+-- an OPEN is carried out, once its channel is closed
+abbrev pub IsOpenCarriedOut : ℕ → List ℕ → Machine → Type 0
+IsOpenCarriedOut ch text m = MatchBool (ch == 15) (IsTextCarriedOut (without_return text)) (IsAskedCarriedOut ch m (opening_of ch text))
+
 -- AN OPEN IS CARRIED OUT
 abbrev pub IsCarriedOut : ℕ → List ℕ → Machine → Type 0
-IsCarriedOut ch text m = MatchBool (ch == 15) (IsTextCarriedOut (without_return text)) (IsAskedCarriedOut ch (close ch m) (opening_of ch text))
+IsCarriedOut ch text m = IsOpenCarriedOut ch text (close ch m)
 
 -- THE END OF WHAT WAS PUT IS CARRIED OUT
 abbrev pub IsPutCarriedOut : ℕ → Machine → Type 0
