@@ -1,5 +1,5 @@
 pub mod Kept
-pub mod Idle
+pub mod Asked
 pub mod Orders
 pub mod Uses
 pub mod Changed
@@ -7,7 +7,15 @@ pub mod Troubles
 pub mod Stands
 pub mod Texts
 pub mod Found
+pub mod Named
+pub mod Asking
+pub mod WritePlans
 pub mod Closes
 pub mod ListedLines
 pub mod Planning
+pub mod BytesPut
+pub mod Finished
 pub mod Takes
+pub mod Stores
+pub mod Goings
+pub mod Opens

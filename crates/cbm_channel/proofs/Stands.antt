@@ -9,7 +9,7 @@ use Rattle.cbm_medium.proofs.Walks.{follow_end}
 use Rattle.cbm_machine.specs.Statuses.{status_line}
 use Rattle.cbm_medium.specs.Seen.{Seen}
 use Rattle.cbm_volume.specs.Content.{Content}
-use Rattle.cbm_volume.specs.Reading.{Reading, rest_of, held_from, held_in, IsSettled}
+use Rattle.cbm_volume.specs.Reading.{Reading, Rest, rest_of, held_from, held_in, IsSettled}
 use Rattle.cbm_file.specs.Waiting.{shown}
 use Rattle.cbm_file.specs.Files.{Disk}
 use Rattle.cbm_volume.specs.Holding.{HoldsDisk}
@@ -18,8 +18,8 @@ use Rattle.cbm_volume.specs.Writers.{Use, IsUsed, HoldsNow, with_use, writes_slo
 use Rattle.cbm_volume.specs.Writers as usage
 use Rattle.cbm_listing.specs.Listed as listed
 use Rattle.std.proofs.lemmas.List.{drop-drop}
-use Rattle.std.proofs.lemmas.Bool.Decides.{nat_tests, eqb_tells}
-use Rattle.std.proofs.lemmas.List.{get_or-set_same, get_or-set_other, get_or-replicate, get_or_past, length-replicate}
+use Rattle.std.proofs.lemmas.Bool.Decides.{nat_tests}
+use Rattle.std.proofs.lemmas.List.{get_or-replicate, get_or_past, length-replicate}
 use Rattle.cbm_channel.specs.declared.channel.Channel.{Channel}
 use Rattle.cbm_channel.specs.declared.channel.Channel.TheVariants as code
 use Rattle.cbm_machine.specs.declared.status.Status.{Status}
@@ -31,10 +31,10 @@ use Rattle.cbm_machine.specs.Talking.{peek_on, taken, taken_on}
 use Rattle.cbm_machine.specs.Calls.{text_for}
 use Rattle.cbm_machine.specs.Told.{Told, told_by, behind_next}
 use Rattle.cbm_channel.specs.Standing.{Kept, Fits, AreFit, ChannelStands, use_of, uses_of, kept_text, StandsBy, Stands, HasText, HasNoText}
-use Rattle.cbm_channel.specs.Shown.{is_closed, shown_on, cost_on}
+use Rattle.cbm_channel.specs.Shown.{shown_on, cost_on, writes_on}
 use Rattle.cbm_volume.proofs.Storing.{let_go}
-use Rattle.cbm_channel.proofs.Idle.{Idle}
-use Rattle.cbm_channel.proofs.Orders.{ReadsWell, idle_orderly, closed_well}
+use Rattle.cbm_volume.proofs.ReadingUses.{read_whole}
+use Rattle.cbm_channel.proofs.Orders.{FitsIn, orderly_set, first_orderly}
 use Rattle.cbm_channel.proofs.Uses.{uses_set}
 use Rattle.cbm_channel.proofs.Kept.{take_more, same_pair}
 
@@ -48,20 +48,20 @@ zip_set R (a ∷ xs) (b ∷ ys) zero x y h r = (r, h.1)
 zip_set R (a ∷ xs) (b ∷ ys) (suc i) x y h r = (h.0, zip_set R xs ys i x y h.1 r)
 
 -- what is known at one place; past the end both are closed
-pub zip_at : (c : Content) (xs : List Channel) (ys : List machine.Channel) (i : ℕ) → AllZip (ChannelStands c) xs ys
-    → ChannelStands c (slice_index_or xs i code.Closed) (slice_index_or ys i machine.Closed)
-zip_at c [] [] i h = refl
-zip_at c [] (b ∷ ys) i h = absurd h
-zip_at c (a ∷ xs) [] i h = absurd h
-zip_at c (a ∷ xs) (b ∷ ys) zero h = h.0
-zip_at c (a ∷ xs) (b ∷ ys) (suc i) h = zip_at c xs ys i h.1
+pub zip_at : (xs : List Channel) (ys : List machine.Channel) (i : ℕ) → AllZip ChannelStands xs ys
+    → ChannelStands (slice_index_or xs i code.Closed) (slice_index_or ys i machine.Closed)
+zip_at [] [] i h = refl
+zip_at [] (b ∷ ys) i h = absurd h
+zip_at (a ∷ xs) [] i h = absurd h
+zip_at (a ∷ xs) (b ∷ ys) zero h = h.0
+zip_at (a ∷ xs) (b ∷ ys) (suc i) h = zip_at xs ys i h.1
 
 -- the two lists are of one length
-pub zip_length : (c : Content) (xs : List Channel) (ys : List machine.Channel) → AllZip (ChannelStands c) xs ys → length ys ≡ length xs
-zip_length c [] [] h = refl
-zip_length c [] (b ∷ ys) h = absurd h
-zip_length c (a ∷ xs) [] h = absurd h
-zip_length c (a ∷ xs) (b ∷ ys) h = ap suc (zip_length c xs ys h.1)
+pub zip_length : (xs : List Channel) (ys : List machine.Channel) → AllZip ChannelStands xs ys → length ys ≡ length xs
+zip_length [] [] h = refl
+zip_length [] (b ∷ ys) h = absurd h
+zip_length (a ∷ xs) [] h = absurd h
+zip_length (a ∷ xs) (b ∷ ys) h = ap suc (zip_length xs ys h.1)
 
 -- each of so many is this one
 pub any_of : {A : Type 0} (n : ℕ) (x : A) (i : ℕ) → slice_index_or (replicate n x) i x ≡ x
@@ -76,64 +76,29 @@ any_default [] i d e lt = absurd (omega (arith, lt))
 any_default (x ∷ xs) zero d e lt = refl
 any_default (x ∷ xs) (suc i) d e lt = any_default xs i d e (omega (arith, lt))
 
-pub past_end : (c : Content) (xs : List Channel) (ys : List machine.Channel) (i : ℕ) → length xs ≤ i → AllZip (ChannelStands c) xs ys → slice_index_or ys i machine.Closed ≡ machine.Closed
-past_end c [] [] i far h = refl
-past_end c [] (b ∷ ys) i far h = absurd h
-past_end c (a ∷ xs) [] i far h = absurd h
-past_end c (a ∷ xs) (b ∷ ys) zero far h = absurd (omega (arith, far))
-past_end c (a ∷ xs) (b ∷ ys) (suc i) far h = past_end c xs ys i (omega (arith, far)) h.1
+pub past_end : (xs : List Channel) (ys : List machine.Channel) (i : ℕ) → length xs ≤ i → AllZip ChannelStands xs ys → slice_index_or ys i machine.Closed ≡ machine.Closed
+past_end [] [] i far h = refl
+past_end [] (b ∷ ys) i far h = absurd h
+past_end (a ∷ xs) [] i far h = absurd h
+past_end (a ∷ xs) (b ∷ ys) zero far h = absurd (omega (arith, far))
+past_end (a ∷ xs) (b ∷ ys) (suc i) far h = past_end xs ys i (omega (arith, far)) h.1
 
 -- ---- one channel
 
-pub idle : (c : Content) (x : Channel) (y : machine.Channel) → ChannelStands c x y → Idle y
-unfolding Idle
-idle c code.Closed y h = inl h
-idle c (code.Listing l) y h = inr (None, drop l.taken l.bytes, h)
-idle c (code.File slot r) y h = inr (Some slot, (rest_of c r).bytes, h.0)
-
-pub closed_is : (c : Content) (x : Channel) (y : machine.Channel) → ChannelStands c x y → is_closed x ≡ true → y ≡ machine.Closed
-closed_is c code.Closed y h e = h
-closed_is c (code.Listing l) y h e = absurd (cc)
-closed_is c (code.File slot r) y h e = absurd (cc)
-
-pub reads_is : (c : Content) (x : Channel) (y : machine.Channel) → ChannelStands c x y → is_closed x ≡ false → (s : Option ℕ) × (left : List ℕ) × (y ≡ machine.Reading s left)
-reads_is c code.Closed y h e = absurd (cc)
-reads_is c (code.Listing l) y h e = (None, drop l.taken l.bytes, h)
-reads_is c (code.File slot r) y h e = (Some slot, (rest_of c r).bytes, h.0)
-
 -- what the channels cost
-cost_same : (c : Content) (x : Channel) (y : machine.Channel) → ChannelStands c x y → machine.cost y ≡ cost_on x
-cost_same c code.Closed y h = ap machine.cost h
-cost_same c (code.Listing l) y h = ap machine.cost h
-cost_same c (code.File slot r) y h = ap machine.cost h.0
+cost_same : (x : Channel) (y : machine.Channel) → ChannelStands x y → machine.cost y ≡ cost_on x
+cost_same code.Closed y h = ap machine.cost h
+cost_same (code.Listing l) y h = ap machine.cost h
+cost_same (code.File slot r) y h = ap machine.cost h.1
+cost_same (code.Writing w full) y h = ap machine.cost h.2
+cost_same (code.Stopped slot) y h = ap machine.cost h
 
-pub costs_same : (c : Content) (xs : List Channel) (ys : List machine.Channel) → AllZip (ChannelStands c) xs ys → sum_by machine.cost ys ≡ sum_by cost_on xs
-costs_same c [] [] h = refl
-costs_same c [] (y ∷ ys) h = absurd h
-costs_same c (x ∷ xs) [] h = absurd h
-costs_same c (x ∷ xs) (y ∷ ys) h =
-    sum_by-cons machine.cost y ys ∙ (λ i. cost_same c x y h.0 i + costs_same c xs ys h.1 i) ∙ sym (sum_by-cons cost_on x xs)
-
--- no channel writes
-writes_none : (n : ℕ) (y : machine.Channel) → Idle y → machine.writes n y ≡ false
-unfolding Idle
-writes_none n y (inl e) = ap (machine.writes n) e
-writes_none n y (inr r) = ap (machine.writes n) r.2
-
-pub none_writes : (c : Content) (n : ℕ) (xs : List Channel) (ys : List machine.Channel) → AllZip (ChannelStands c) xs ys → list_any (machine.writes n) ys ≡ false
-none_writes c n [] [] h = refl
-none_writes c n [] (y ∷ ys) h = absurd h
-none_writes c n (x ∷ xs) [] h = absurd h
-none_writes c n (x ∷ xs) (y ∷ ys) h = λ i. writes_none n y (idle c x y h.0) i || none_writes c n xs ys h.1 i
-
--- no channel's use writes
-pub unwritten_at : (n : ℕ) (xs : List Channel) (ys : List machine.Channel) (k : ℕ) → writes_slot n (uses_of xs ys k) ≡ false
-unwritten_at n xs ys k = by_channel (slice_index_or xs k code.Closed)
-  where
-    by_channel : (x : Channel) → writes_slot n (use_of x (slice_index_or ys k machine.Closed)) ≡ false
-    by_channel code.Closed = refl
-    by_channel (code.Listing l) = refl
-    by_channel (code.File slot r) = refl
+pub costs_same : (xs : List Channel) (ys : List machine.Channel) → AllZip ChannelStands xs ys → sum_by machine.cost ys ≡ sum_by cost_on xs
+costs_same [] [] h = refl
+costs_same [] (y ∷ ys) h = absurd h
+costs_same (x ∷ xs) [] h = absurd h
+costs_same (x ∷ xs) (y ∷ ys) h =
+    sum_by-cons machine.cost y ys ∙ (λ i. cost_same x y h.0 i + costs_same xs ys h.1 i) ∙ sym (sum_by-cons cost_on x xs)
 
 -- a reader that holds one byte at most holds all that is left
 more_shown : (xs ys : List ℕ) → (length xs ≤ 1 → ys ≡ []) → shown (xs ++ ys) ≡ shown xs
@@ -145,10 +110,14 @@ rest_shown : (c : Content) (r : Reading) → IsSettled r → shown (rest_of c r)
 unfolding rest_of held_from
 rest_shown c r settled = more_shown r.bytes (held_in c (follow r.tracks c r.left r.next)).bytes (λ few. ap (λ f. (held_in c f).bytes) (follow_end r.tracks c r.left r.next (settled few)))
 
-pub shows : (c : Content) (t : ℕ) (d : Disk) (x : Channel) (y : machine.Channel) → Fits t x → ChannelStands c x y → peek_on d y ≡ shown_on x
-shows c t d code.Closed y f h = ap (peek_on d) h
-shows c t d (code.Listing l) y f h = ap (peek_on d) h
-shows c t d (code.File slot r) y f h = ap (peek_on d) h.0 ∙ rest_shown c r f.1
+-- what waits on a channel, where a file's reader gives what the machine has left
+pub shows : (t : ℕ) (c : Content) (d : Disk) (uses : ℕ → Use) (ch : ℕ) (x : Channel) (y : machine.Channel) → Fits t x → ChannelStands x y → HoldsNow t c d uses → uses ch ≡ use_of x y → peek_on d y ≡ shown_on x
+shows t c d uses ch code.Closed y f h k e = ap (peek_on d) h
+shows t c d uses ch (code.Listing l) y f h k e = ap (peek_on d) h
+shows t c d uses ch (code.File slot r) y f h k e =
+    ap (peek_on d) h.1 ∙ sym (ap (λ (x : Rest). shown x.bytes) (read_whole t c d uses ch slot h.0 r k (e ∙ ap (use_of (code.File slot r)) h.1))) ∙ rest_shown c r f.1
+shows t c d uses ch (code.Writing w full) y f h k e = ap (peek_on d) h.2
+shows t c d uses ch (code.Stopped slot) y f h k e = ap (peek_on d) h
 
 -- a byte of the listing is taken
 drop_on : (n : ℕ) (xs : List ℕ) → drop 1 (drop n xs) ≡ drop (n + 1) xs
@@ -205,30 +174,32 @@ module _ (c : Content) (t : ℕ) (p : Bool) (chs : List Channel) (told : Told) (
   pub let_go_at : (ch : ℕ) → StandsBy c t p chs told text m → HoldsNow t c m.disk (with_use (uses_of chs m.channels) ch usage.Idle)
   let_go_at ch st = let_go_now t c m.disk (uses_of chs m.channels) ch st.holds
 
-  -- one channel is another, which uses the disk so and reads what is there
-  pub with_one : (ch : ℕ) (x : Channel) (y : machine.Channel) → ch < 15 → AreFit t chs → ChannelStands c x y
-      → HoldsNow t c m.disk (with_use (uses_of chs m.channels) ch (use_of x y)) → ReadsWell m.disk y → StandsBy c t p chs told text m
-      → StandsBy c t p (slice_set chs ch x) told text (machine.with_channel ch y m)
-  with_one ch x y lt fit h uses well st =
-      let more : ch < length chs = omega (arith, lt, fit.count) in
-      let also : ch < length m.channels = omega (arith, more, zip_length c chs m.channels st.each) in
-      let each = zip_set (ChannelStands c) chs m.channels ch x y st.each h in
+  -- one channel is another, and so are the content and the disk
+  pub with_step_at : (c' : Content) (d' : Disk) (ch : ℕ) (x : Channel) (y : machine.Channel) → ch < length chs → ChannelStands x y
+      → HoldsNow t c' d' (with_use (uses_of chs m.channels) ch (use_of x y)) → FitsIn m.disk d' m.protected m.channels ch y → StandsBy c t p chs told text m
+      → StandsBy c' t p (slice_set chs ch x) told text (machine.with_channel ch y (machine.with_disk d' m))
+  with_step_at c' d' ch x y more h uses well st =
+      let also : ch < length m.channels = omega (arith, more, zip_length chs m.channels st.each) in
       record {
-        holds = subst (HoldsNow t c m.disk) (sym (uses_set chs m.channels ch x y more also)) uses;
-        orderly = idle_orderly m.disk m.protected (slice_set m.channels ch y) (λ k. idle c _ _ (zip_at c _ _ k each)) (reads_set ch y also well st.orderly.reading);
+        holds = subst (HoldsNow t c' d') (sym (uses_set chs m.channels ch x y more also)) uses;
+        orderly = orderly_set m.disk d' m.protected m.channels ch y also st.orderly well;
         same_tracks = st.same_tracks;
         same_protection = st.same_protection;
-        each = each;
+        each = zip_set ChannelStands chs m.channels ch x y st.each h;
         same_told = st.same_told;
         same_text = st.same_text;
       }
-    where
-      reads_set : (i : ℕ) (z : machine.Channel) → i < length m.channels → ReadsWell m.disk z → ((k : ℕ) → ReadsWell m.disk (channel_in m.channels k))
-          → (k : ℕ) → ReadsWell m.disk (channel_in (slice_set m.channels i z) k)
-      reads_set i z at here there k = elim (eqb_tells k i) [
-        | inl same ↦ subst (ReadsWell m.disk) (sym (ap (channel_in (slice_set m.channels i z)) same.1 ∙ get_or-set_same m.channels i z machine.Closed at)) here
-        | inr other ↦ subst (ReadsWell m.disk) (sym (get_or-set_other m.channels i k z machine.Closed other.1)) (there k)
-      ]
+
+  pub with_step : (c' : Content) (d' : Disk) (ch : ℕ) (x : Channel) (y : machine.Channel) → ch < 15 → AreFit t chs → ChannelStands x y
+      → HoldsNow t c' d' (with_use (uses_of chs m.channels) ch (use_of x y)) → FitsIn m.disk d' m.protected m.channels ch y → StandsBy c t p chs told text m
+      → StandsBy c' t p (slice_set chs ch x) told text (machine.with_channel ch y (machine.with_disk d' m))
+  with_step c' d' ch x y lt fit h uses well st = with_step_at c' d' ch x y (omega (arith, lt, fit.count)) h uses well st
+
+  -- on the same disk
+  pub with_one : (ch : ℕ) (x : Channel) (y : machine.Channel) → ch < 15 → AreFit t chs → ChannelStands x y
+      → HoldsNow t c m.disk (with_use (uses_of chs m.channels) ch (use_of x y)) → FitsIn m.disk m.disk m.protected m.channels ch y → StandsBy c t p chs told text m
+      → StandsBy c t p (slice_set chs ch x) told text (machine.with_channel ch y m)
+  with_one ch x y lt fit h uses well st = with_step c m.disk ch x y lt fit h uses well st
 
   pub forgotten : (ch : ℕ) (new : Option (ℕ × List ℕ)) → new ≡ forget_text ch text → StandsBy c t p chs told text m → StandsBy c t p chs told new (without_text ch m)
   forgotten ch new is st = record {
@@ -285,16 +256,13 @@ module _ (c : Content) (t : ℕ) (p : Bool) (chs : List Channel) (told : Told) (
       })
 
   -- what the channel of the code, with whatever would stand past the end, stands for
-  pub stands_at : (ch : ℕ) (d : Channel) → ch < 15 → AreFit t chs → StandsBy c t p chs told text m → ChannelStands c (slice_index_or chs ch d) (machine.channel m ch)
+  pub stands_at : (ch : ℕ) (d : Channel) → ch < 15 → AreFit t chs → StandsBy c t p chs told text m → ChannelStands (slice_index_or chs ch d) (machine.channel m ch)
   stands_at ch d lt fit st =
-      subst (λ x. ChannelStands c x (machine.channel m ch)) (any_default chs ch code.Closed d (omega (arith, lt, fit.count))) (zip_at c chs m.channels ch st.each)
+      subst (λ x. ChannelStands x (machine.channel m ch)) (any_default chs ch code.Closed d (omega (arith, lt, fit.count))) (zip_at chs m.channels ch st.each)
 
   -- past the end the machine's channel is closed too
   pub closed_past : (ch : ℕ) → 15 ≤ ch → AreFit t chs → StandsBy c t p chs told text m → machine.channel m ch ≡ machine.Closed
-  closed_past ch far fit st = past_end c chs m.channels ch (omega (arith, far, fit.count)) st.each
-
-  pub idle_at : (ch : ℕ) → StandsBy c t p chs told text m → Idle (machine.channel m ch)
-  idle_at ch st = idle c (slice_index_or chs ch code.Closed) (machine.channel m ch) (zip_at c chs m.channels ch st.each)
+  closed_past ch far fit st = past_end chs m.channels ch (omega (arith, far, fit.count)) st.each
 
 -- the machine goes by another name
 pub moved : (c : Content) (t : ℕ) (p : Bool) (chs : List Channel) (told : Told) (text : Option (ℕ × List ℕ)) (m n : machine.Machine) → m ≡ n → StandsBy c t p chs told text n → StandsBy c t p chs told text m
@@ -324,10 +292,10 @@ zip_same R (suc n) x y h = (h, zip_same R n x y h)
 pub powered_up : (c : Content) (t : ℕ) (p : Bool) (d : Disk) → HoldsDisk t c d → StandsBy c t p (replicate 15 code.Closed) (told_by (machine.start d p t)) None (machine.start d p t)
 powered_up c t p d h = record {
   holds = none_used c t d h;
-  orderly = idle_orderly d p (replicate 15 machine.Closed) (λ k. idle c code.Closed _ (any_of 15 machine.Closed k)) (λ k. subst (ReadsWell d) (sym (any_of 15 machine.Closed k)) (closed_well d));
+  orderly = first_orderly d p (replicate 15 machine.Closed) (λ k. any_of 15 machine.Closed k);
   same_tracks = refl;
   same_protection = refl;
-  each = zip_same (ChannelStands c) 15 code.Closed machine.Closed refl;
+  each = zip_same ChannelStands 15 code.Closed machine.Closed refl;
   same_told = refl;
   same_text = refl;
 }
@@ -409,3 +377,29 @@ begun ch b m new has e = ap (λ x. kept_text (Some (ch, x ++ b ∷ []))) has.non
 pub stood : {M : Type 0} (seen : M → Seen) (k k' : Kept M) (m : machine.Machine) → k' ≡ k
     → Stands seen k m → Stands seen k' m
 stood seen k k' m e s = subst (λ x. Stands seen x m) (sym e) s
+
+-- ---- which slots are written
+
+writes_same : (n : ℕ) (x : Channel) (y : machine.Channel) → ChannelStands x y → machine.writes n y ≡ writes_on n x
+writes_same n code.Closed y h = ap (machine.writes n) h
+writes_same n (code.Listing l) y h = ap (machine.writes n) h
+writes_same n (code.File slot r) y h = ap (machine.writes n) h.1
+writes_same n (code.Writing w full) y h = ap (machine.writes n) h.2
+writes_same n (code.Stopped slot) y h = ap (machine.writes n) h
+
+pub any_same : (n : ℕ) (xs : List Channel) (ys : List machine.Channel) → AllZip ChannelStands xs ys → list_any (machine.writes n) ys ≡ list_any (writes_on n) xs
+any_same n [] [] h = refl
+any_same n [] (y ∷ ys) h = absurd h
+any_same n (x ∷ xs) [] h = absurd h
+any_same n (x ∷ xs) (y ∷ ys) h = λ i. writes_same n x y h.0 i || any_same n xs ys h.1 i
+
+use_writes : (n : ℕ) (x : Channel) (y : machine.Channel) → ChannelStands x y → machine.writes n y ≡ false → writes_slot n (use_of x y) ≡ false
+use_writes n code.Closed y h e = refl
+use_writes n (code.Listing l) y h e = refl
+use_writes n (code.File slot r) y h e = refl
+use_writes n (code.Writing w full) y h e = sym (ap (machine.writes n) h.2) ∙ e
+use_writes n (code.Stopped slot) y h e = refl
+
+-- a slot that no channel writes is in no channel's use for writing
+pub unwritten_at : (n : ℕ) (xs : List Channel) (ys : List machine.Channel) (k : ℕ) → AllZip ChannelStands xs ys → ((j : ℕ) → machine.writes n (channel_in ys j) ≡ false) → writes_slot n (uses_of xs ys k) ≡ false
+unwritten_at n xs ys k h none = use_writes n (slice_index_or xs k code.Closed) (slice_index_or ys k machine.Closed) (zip_at xs ys k h) (none k)

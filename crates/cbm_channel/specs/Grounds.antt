@@ -46,8 +46,12 @@ IsToldFor seen old new =
     ⊎ (HasTold seen old new
     ⊎ ((t : Trouble) × (new.told.status ≡ trouble_status t) × HasFailed (seen old.medium) (seen new.medium)))
 
--- the file that a plan reads was found in the directory
+-- the file that a plan reads or appends to was found in the directory
 abbrev pub IsFromDirectory : {M : Type 0} → (M → Seen) → M → Plan → Type 0
 IsFromDirectory seen medium (planned.ReadListing pattern) = Unit {0}
 IsFromDirectory seen medium (planned.ReadFile found) =
     Contains (directory_of (geometry_of (seen medium).tracks (seen medium).content) (seen medium).content).entries found.entry
+IsFromDirectory seen medium (planned.WriteFile kind name) = Unit {0}
+IsFromDirectory seen medium (planned.AppendFile found) =
+    Contains (directory_of (geometry_of (seen medium).tracks (seen medium).content) (seen medium).content).entries found.entry
+IsFromDirectory seen medium (planned.ReplaceFile slot) = Unit {0}

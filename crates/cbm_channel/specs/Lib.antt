@@ -1,4 +1,6 @@
 pub mod Standing
+pub mod Going
+pub mod Written
 pub mod Grounds
 pub mod Shown
 pub mod Taken

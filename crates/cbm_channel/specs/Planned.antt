@@ -1,8 +1,16 @@
 -- What the code found and plans, beside what the machine does.
-use Rattle.std.specs.Prelude.{ℕ, ◌≡◌, Some, None, Result, Ok, Err}
-use Rattle.cbm_file.specs.Files.{Disk, File, file_at, bytes_in}
+use Rattle.std.specs.Prelude.{ℕ, ◌-◌, ◌≡◌, ◌==◌, Bool, true, false, List, [], if◌then◌else◌, Option, Some, None, Result, Ok, Err}
+use Rattle.cbm_file.specs.declared.file_type.FileType.{FileType}
+use Rattle.cbm_file.specs.declared.file_type.FileType.TheVariants.{Del, Rel}
+use Rattle.cbm_file.specs.Types.{is_same_type}
+use Rattle.cbm_file.specs.Padding.{before_filler}
+use Rattle.cbm_file.specs.Files.{Disk, File, file_at, bytes_in, with_slot}
+use Rattle.cbm_file.specs.Changes.{has_slot, new_slot, with_file, unclosed, reopened}
 use Rattle.cbm_volume.specs.Content.{Content}
 use Rattle.cbm_volume.specs.Holding.{StandsAt, HasBytes, Says}
+use Rattle.cbm_volume.specs.Writers.{Use, HoldsNow, with_use}
+use Rattle.cbm_channel.specs.declared.channel.Channel as kept
+use Rattle.cbm_channel.specs.Standing.{ChannelStands, use_of}
 use Rattle.cbm_machine.specs.declared.code.Code.{Code}
 use Rattle.cbm_machine.specs.declared.status.Status.{Status}
 use Rattle.cbm_channel.specs.declared.finding.Found.{Found}
@@ -11,9 +19,12 @@ use Rattle.cbm_channel.specs.declared.plan.Plan.TheVariants as planned
 use Rattle.cbm_machine.specs.Statuses.{plain}
 use Rattle.cbm_machine.specs.declared.code.Code.TheVariants.{Fine}
 use Rattle.cbm_command.specs.declared.opening.Opening.{Opening}
+use Rattle.cbm_command.specs.declared.opening.Opening.TheVariants as opening
+use Rattle.cbm_command.specs.declared.opening.Mode.TheVariants.{Read}
+use Rattle.cbm_command.specs.Openings.{opening_of}
 use Rattle.cbm_command.specs.Refusals.{◌>>=◌}
 use Rattle.cbm_machine.specs.Listings.{listing}
-use Rattle.cbm_machine.specs.Machines.{Channel, Closed, Reading, Machine, answered, say}
+use Rattle.cbm_machine.specs.Machines.{Channel, Closed, Reading, Writing, Machine, answered, say, in_writing, in_use}
 use Rattle.cbm_machine.specs.Finding.{body_at}
 use Rattle.cbm_machine.specs.Plans.{Plan, ReadListing, ReadFile, WriteFile, AppendFile, ReplaceFile, OpenRecords, MakeRecords, plan, act}
 
@@ -31,34 +42,117 @@ FoundAs tracks c d (Ok p) (Err status) = ⊥
 FoundAs tracks c d (Err code) (Ok found) = ⊥
 FoundAs tracks c d (Err code) (Err status) = status ≡ plain code
 
--- the entry of a closed file with bytes, which stands in the directory at the slot's number
-pub record IsReadable (tracks : ℕ) (c : Content) (d : Disk) (s : ℕ) (found : Found) : Type 0 where
+-- the entry of a closed file with bytes that no channel writes, which stands in the directory at the slot's number
+pub record IsReadable (tracks : ℕ) (c : Content) (m : Machine) (s : ℕ) (found : Found) : Type 0 where
   pub number : s ≡ found.slot
   pub stands : StandsAt tracks c s found.entry
-  pub has : HasBytes d s (bytes_in (body_at d s))
+  pub has : HasBytes m.disk s (bytes_in (body_at m.disk s))
+  pub unwritten : in_writing m s ≡ false
 
--- the code's plan is the machine's: to read the same listing, or the same file
-abbrev pub IsPlannedBy : ℕ → Content → Disk → Plan → code.Plan → Type 0
-IsPlannedBy tracks c d (ReadListing p) (planned.ReadListing q) = p ≡ q
-IsPlannedBy tracks c d (ReadFile s) (planned.ReadFile found) = IsReadable tracks c d s found
-IsPlannedBy tracks c d p x = ⊥
+-- A new file can be written: its type and name are those that a text gives, and the disk has a block and a place for it.
+pub record IsWritable (m : Machine) (kind : FileType) (name : List ℕ) : Type 0 where
+  pub kept : is_same_type Del kind ≡ false
+  pub plain : is_same_type Rel kind ≡ false
+  pub cut : before_filler name ≡ name
+  pub block : (m.disk.free == 0) ≡ false
+  pub place : has_slot m.disk ≡ true
+  pub unprotected : m.protected ≡ false
+
+-- Bytes can be put behind those of a file: it is closed, has bytes, and is open on no channel; and its entry stands in the
+-- directory at the slot's number.
+pub record IsAppendable (tracks : ℕ) (c : Content) (m : Machine) (s : ℕ) (found : Found) : Type 0 where
+  pub number : s ≡ found.slot
+  pub stands : StandsAt tracks c s found.entry
+  pub file : File
+  pub in_slot : file_at m.disk s ≡ Some file
+  pub closed : file.closed ≡ true
+  pub kept : is_same_type Del file.kind ≡ false
+  pub plain : is_same_type Rel file.kind ≡ false
+  pub unused : in_use m s ≡ false
+  pub unprotected : m.protected ≡ false
+
+-- A file can be replaced: it is closed, has bytes, and is open on no channel; and a block is free.
+pub record IsReplaceable (m : Machine) (s slot : ℕ) : Type 0 where
+  pub number : s ≡ slot
+  pub file : File
+  pub in_slot : file_at m.disk s ≡ Some file
+  pub closed : file.closed ≡ true
+  pub plain : is_same_type Rel file.kind ≡ false
+  pub unused : in_use m s ≡ false
+  pub block : (m.disk.free == 0) ≡ false
+  pub unprotected : m.protected ≡ false
+
+-- the code's plan is the machine's, and can be done
+abbrev pub IsPlannedBy : ℕ → Content → Machine → Plan → code.Plan → Type 0
+IsPlannedBy tracks c m (ReadListing p) (planned.ReadListing q) = p ≡ q
+IsPlannedBy tracks c m (ReadFile s) (planned.ReadFile found) = IsReadable tracks c m s found
+IsPlannedBy tracks c m (WriteFile kind name) (planned.WriteFile k n) = (kind ≡ k) × (name ≡ n) × IsWritable m kind name
+IsPlannedBy tracks c m (AppendFile s) (planned.AppendFile found) = IsAppendable tracks c m s found
+IsPlannedBy tracks c m (ReplaceFile s) (planned.ReplaceFile slot) = IsReplaceable m s slot
+IsPlannedBy tracks c m p x = ⊥
 
 -- the code plans what the machine plans, or refuses by the same code
-abbrev pub PlannedAs : ℕ → Content → Disk → Result Plan Code → Result code.Plan Status → Type 0
-PlannedAs tracks c d (Ok p) (Ok x) = IsPlannedBy tracks c d p x
-PlannedAs tracks c d (Ok p) (Err status) = ⊥
-PlannedAs tracks c d (Err code) (Ok x) = ⊥
-PlannedAs tracks c d (Err code) (Err status) = status ≡ plain code
+abbrev pub PlannedAs : ℕ → Content → Machine → Result Plan Code → Result code.Plan Status → Type 0
+PlannedAs tracks c m (Ok p) (Ok x) = IsPlannedBy tracks c m p x
+PlannedAs tracks c m (Ok p) (Err status) = ⊥
+PlannedAs tracks c m (Err code) (Ok x) = ⊥
+PlannedAs tracks c m (Err code) (Err status) = status ≡ plain code
 
--- The channel that a plan to read opens. The other plans are not carried out yet, and open none.
+-- the slot's file, whose bytes and blocks go to the channel
+abbrev pub appended_to : Option File → ℕ → Channel
+appended_to None s = Closed
+appended_to (Some f) s = Writing s (bytes_in f.body) f.held false false
+
+abbrev pub reopened_at : Option File → Disk → ℕ → Disk
+reopened_at None d s = d
+reopened_at (Some f) d s = with_slot d s (Some (reopened f))
+
+-- The channel that a plan opens, and the disk then. Records are not carried out yet, and open none.
 abbrev pub opened_by : Disk → Plan → Channel
 opened_by d (ReadListing p) = Reading None (listing d p)
 opened_by d (ReadFile s) = Reading (Some s) (bytes_in (body_at d s))
-opened_by d (WriteFile kind name) = Closed
-opened_by d (AppendFile s) = Closed
-opened_by d (ReplaceFile s) = Closed
+opened_by d (WriteFile kind name) = Writing (new_slot d) [] 1 false false
+opened_by d (AppendFile s) = appended_to (file_at d s) s
+opened_by d (ReplaceFile s) = Writing s [] 1 false true
 opened_by d (OpenRecords s) = Closed
 opened_by d (MakeRecords name len) = Closed
+
+abbrev pub disk_opened : Disk → Plan → Disk
+disk_opened d (ReadListing p) = d
+disk_opened d (ReadFile s) = d
+disk_opened d (WriteFile kind name) = with_file d (unclosed kind name) 1
+disk_opened d (AppendFile s) = reopened_at (file_at d s) d s
+disk_opened d (ReplaceFile s) = record d { free = d.free - 1 }
+disk_opened d (OpenRecords s) = d
+disk_opened d (MakeRecords name len) = d
+
+-- The channel was opened by the plan: it stands for the machine's, and the medium holds the disk that the plan leaves. A disk
+-- without a place is none that was planned for.
+abbrev pub IsOpened : ℕ → Content → Machine → ℕ → Plan → (ℕ → Use) → Option kept.Channel → Type 0
+IsOpened tracks c m ch p uses None = ⊥
+IsOpened tracks c m ch p uses (Some x) =
+    ChannelStands x (opened_by m.disk p) × HoldsNow tracks c (disk_opened m.disk p) (with_use uses ch (use_of x (opened_by m.disk p)))
+
+-- what an OPEN asks for came from a text
+abbrev pub IsOfText : Opening → Type 0
+IsOfText o = (ch : ℕ) × (text : List ℕ) × (opening_of ch text ≡ Ok o)
+
+-- it asks for a file to be written
+abbrev pub is_for_writing : Opening → Bool
+is_for_writing (opening.Listing pattern) = false
+is_for_writing (opening.File w) = elim w.mode [ Read ↦ false | _ ↦ true ]
+
+-- the text of an OPEN does; on 15 it is a command
+abbrev pub text_writes : ℕ → List ℕ → Bool
+text_writes ch text = if ch == 15 then false else elim (opening_of ch text) [ Ok o ↦ is_for_writing o | Err e ↦ false ]
+
+-- a file is written by what was planned
+abbrev pub plan_writes : code.Plan → Bool
+plan_writes (planned.ReadListing q) = false
+plan_writes (planned.ReadFile found) = false
+plan_writes (planned.WriteFile kind name) = true
+plan_writes (planned.AppendFile found) = true
+plan_writes (planned.ReplaceFile slot) = true
 
 -- an OPEN that was read is planned and done
 abbrev pub begun_by : ℕ → Opening → Machine → Machine

@@ -1,5 +1,5 @@
 -- What a channel of the code shows, on any disk.
-use Rattle.std.specs.Prelude.{ℕ, ◌==◌, Bool, true, false, drop, slice_index_or, if◌then◌else◌, Option, None}
+use Rattle.std.specs.Prelude.{ℕ, ◌≡◌, ◌==◌, Bool, true, false, drop, slice_index_or, if◌then◌else◌, Option, None}
 use Rattle.cbm_file.specs.Waiting.{shown}
 use Rattle.cbm_channel.specs.declared.channel.Channel.{Channel}
 use Rattle.cbm_channel.specs.declared.channel.Channel.TheVariants as code
@@ -11,18 +11,72 @@ abbrev pub is_closed : Channel → Bool
 is_closed code.Closed = true
 is_closed (code.Listing l) = false
 is_closed (code.File slot r) = false
+is_closed (code.Writing w full) = false
+is_closed (code.Stopped slot) = false
+
+-- it is open for reading
+abbrev pub is_read : Channel → Bool
+is_read code.Closed = false
+is_read (code.Listing l) = true
+is_read (code.File slot r) = true
+is_read (code.Writing w full) = false
+is_read (code.Stopped slot) = false
+
+-- it is open for writing
+abbrev pub is_written : Channel → Bool
+is_written code.Closed = false
+is_written (code.Listing l) = false
+is_written (code.File slot r) = false
+is_written (code.Writing w full) = true
+is_written (code.Stopped slot) = true
+
+-- a file is being written on it: bytes go to the disk
+abbrev pub is_writing : Channel → Bool
+is_writing code.Closed = false
+is_writing (code.Listing l) = false
+is_writing (code.File slot r) = false
+is_writing (code.Writing w full) = true
+is_writing (code.Stopped slot) = false
+
+-- the channel of this number of what the drive keeps
+abbrev pub is_writing_on : {M : Type 0} → ℕ → Kept M → Bool
+is_writing_on ch k = is_writing (slice_index_or k.channels ch code.Closed)
+
+-- what is told and the medium are as they were
+abbrev pub IsQuiet : {M : Type 0} → Kept M → Kept M → Type 0
+IsQuiet old new = (new.told ≡ old.told) × (new.medium ≡ old.medium)
+
+-- it has the slot open for writing
+abbrev pub writes_on : ℕ → Channel → Bool
+writes_on n code.Closed = false
+writes_on n (code.Listing l) = false
+writes_on n (code.File slot r) = false
+writes_on n (code.Writing w full) = w.slot == n
+writes_on n (code.Stopped slot) = slot == n
+
+-- it has the slot open
+abbrev pub uses_on : ℕ → Channel → Bool
+uses_on n code.Closed = false
+uses_on n (code.Listing l) = false
+uses_on n (code.File slot r) = slot == n
+uses_on n (code.Writing w full) = w.slot == n
+uses_on n (code.Stopped slot) = slot == n
 
 -- what a channel costs of the three that may be open
 abbrev pub cost_on : Channel → ℕ
 cost_on code.Closed = 0
 cost_on (code.Listing l) = 1
 cost_on (code.File slot r) = 1
+cost_on (code.Writing w full) = 1
+cost_on (code.Stopped slot) = 1
 
 -- the byte that waits on a channel from 0 to 14, and whether it is the last
 abbrev pub shown_on : Channel → Option (ℕ × Bool)
 shown_on code.Closed = None
 shown_on (code.Listing l) = shown (drop l.taken l.bytes)
 shown_on (code.File slot r) = shown r.bytes
+shown_on (code.Writing w full) = None
+shown_on (code.Stopped slot) = None
 
 -- the byte that waits on a channel
 abbrev pub shown_by : {M : Type 0} → ℕ → Kept M → Option (ℕ × Bool)

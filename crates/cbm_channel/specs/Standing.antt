@@ -3,8 +3,8 @@ use Rattle.std.specs.Prelude.{ℕ, ◌≤◌, ◌≡◌, ◌≢◌, Bool, List, 
 use Rattle.std.specs.List.{All, AllZip}
 use Rattle.cbm_medium.specs.Seen.{Seen}
 use Rattle.cbm_volume.specs.Content.{Content}
-use Rattle.cbm_volume.specs.Reading.{rest_of, IsSettled}
-use Rattle.cbm_volume.specs.Writers.{Use, Idle, Reads, HoldsNow}
+use Rattle.cbm_volume.specs.Reading.{IsSettled}
+use Rattle.cbm_volume.specs.Writers.{Use, Idle, Reads, Writes, HoldsNow}
 use Rattle.cbm_channel.specs.declared.channel.Channel.{Channel}
 use Rattle.cbm_channel.specs.declared.channel.Channel.TheVariants as code
 use Rattle.cbm_machine.specs.Machines as machine
@@ -20,36 +20,49 @@ pub record Kept (M : Type 0) : Type 0 where
   pub told : Told
   pub text : Option (ℕ × List ℕ)
 
--- A channel that reads a file reads from a disk of no more tracks than the medium has, and is one byte ahead.
+-- A channel that reads or writes a file does so on a disk of no more tracks than the medium has; one that reads is one byte ahead.
 abbrev pub Fits : ℕ → Channel → Type 0
 Fits tracks code.Closed = Unit {0}
 Fits tracks (code.Listing l) = Unit {0}
 Fits tracks (code.File slot r) = (r.tracks ≤ tracks) × IsSettled r
+Fits tracks (code.Writing w full) = w.chain.tracks ≤ tracks
+Fits tracks (code.Stopped slot) = Unit {0}
 
 -- there are fifteen channels, and each fits the medium
 pub record AreFit (tracks : ℕ) (channels : List Channel) : Type 0 where
   pub count : length channels ≡ 15
   pub each : All (Fits tracks) channels
 
--- A channel stands for the machine's: what it still gives is what is left there.
-abbrev pub ChannelStands : Content → Channel → machine.Channel → Type 0
-ChannelStands c code.Closed channel = channel ≡ machine.Closed
-ChannelStands c (code.Listing l) channel = channel ≡ machine.Reading None (drop l.taken l.bytes)
-ChannelStands c (code.File slot r) channel = (channel ≡ machine.Reading (Some slot) (rest_of c r).bytes) × ((rest_of c r).trouble ≡ None)
+-- A channel stands for the machine's. That the bytes of a file are those which the machine has is said of the use of the disk.
+abbrev pub ChannelStands : Channel → machine.Channel → Type 0
+ChannelStands code.Closed channel = channel ≡ machine.Closed
+ChannelStands (code.Listing l) channel = channel ≡ machine.Reading None (drop l.taken l.bytes)
+ChannelStands (code.File slot r) channel = (left : List ℕ) × (channel ≡ machine.Reading (Some slot) left)
+ChannelStands (code.Writing w full) channel = (bytes : List ℕ) × (blocks : ℕ) × (channel ≡ machine.Writing w.slot bytes blocks full w.replaces)
+ChannelStands (code.Stopped slot) channel = channel ≡ machine.Stopped slot
 
--- what is left to be read on a channel of the machine
-abbrev pub left_on : machine.Channel → List ℕ
-left_on machine.Closed = []
-left_on (machine.Reading slot left) = left
-left_on (machine.Writing slot bytes blocks full replaces) = []
-left_on (machine.Stopped slot) = []
-left_on (machine.Relative slot k p) = []
+-- what is left to be read on a channel of the machine, or was written on it so far: bytes, and blocks
+abbrev pub bytes_on : machine.Channel → List ℕ
+bytes_on machine.Closed = []
+bytes_on (machine.Reading slot left) = left
+bytes_on (machine.Writing slot bytes blocks full replaces) = bytes
+bytes_on (machine.Stopped slot) = []
+bytes_on (machine.Relative slot k p) = []
+
+abbrev pub blocks_on : machine.Channel → ℕ
+blocks_on machine.Closed = 0
+blocks_on (machine.Reading slot left) = 0
+blocks_on (machine.Writing slot bytes blocks full replaces) = blocks
+blocks_on (machine.Stopped slot) = 0
+blocks_on (machine.Relative slot k p) = 0
 
 -- What a channel does with the disk, by what the code keeps and what the machine has.
 abbrev pub use_of : Channel → machine.Channel → Use
 use_of code.Closed channel = Idle
 use_of (code.Listing l) channel = Idle
-use_of (code.File slot r) channel = Reads slot r (left_on channel)
+use_of (code.File slot r) channel = Reads slot r (bytes_on channel)
+use_of (code.Writing w full) channel = Writes w (bytes_on channel) (blocks_on channel)
+use_of (code.Stopped slot) channel = Idle
 
 -- the uses of all channels, by their numbers
 abbrev pub uses_of : List Channel → List machine.Channel → ℕ → Use
@@ -81,7 +94,7 @@ pub record StandsBy (c : Content) (tracks : ℕ) (protected : Bool) (channels : 
   pub orderly : IsOrderly m.disk m.protected m.channels
   pub same_tracks : m.tracks ≡ tracks
   pub same_protection : m.protected ≡ protected
-  pub each : AllZip (ChannelStands c) channels m.channels
+  pub each : AllZip ChannelStands channels m.channels
   pub same_told : told_by m ≡ told
   pub same_text : kept_text m.text ≡ text
 

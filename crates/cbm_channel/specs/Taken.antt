@@ -16,6 +16,8 @@ IsTakenBy c (code.File slot r) new (Ok _) = (s : Reading) × (new ≡ code.File 
 IsTakenBy c (code.File slot r) new (Err t) = (s : Reading) × (new ≡ code.File slot s) × ((rest_of c r).trouble ≡ Some t) × (s.bytes ≡ drop 1 (rest_of c r).bytes)
 IsTakenBy c (code.Listing l) new (Ok _) = new ≡ code.Listing (behind_next l)
 IsTakenBy c code.Closed new (Ok _) = new ≡ code.Closed
+IsTakenBy c (code.Writing w full) new (Ok _) = new ≡ code.Writing w full
+IsTakenBy c (code.Stopped slot) new (Ok _) = new ≡ code.Stopped slot
 IsTakenBy c old new (Err t) = ⊥
 
 -- a trouble is the status, told from its beginning

@@ -1,10 +1,11 @@
 ghost use Rattle.std.specs.Prelude.{◌≡◌, ◌≤◌, length, sum_by};
-ghost use Rattle.cbm_channel.specs.Shown.{cost_on};
+ghost use Rattle.std.specs.List.{list_any};
+ghost use Rattle.cbm_channel.specs.Shown.{cost_on, writes_on, uses_on};
 ghost use Rattle.cbm_file.specs.Waiting.{shown};
 ghost use Rattle.cbm_channel.specs.declared.channel.Channel.TheVariants.{Closed};
 
 use cbm_listing::Listing;
-use cbm_volume::{ChainReader, Medium, Trouble, Volume};
+use cbm_volume::{ChainReader, FileWriter, Medium, Trouble, Volume};
 
 /// A channel from 0 to 14.
 #[derive(Drop)]
@@ -15,6 +16,10 @@ pub enum Channel {
     Listing(Listing),
     /// A file that is read: the number of its slot, and what is left of its chain.
     File(u8, ChainReader),
+    /// A file that is written, and whether the disk was full.
+    Writing(FileWriter, bool),
+    /// A file whose writing the medium refused: the number of its slot.
+    Stopped(u8),
 }
 
 /// The first of these bytes, and whether it is the last.
@@ -37,15 +42,38 @@ pub(crate) fn open_count(channels: &[Channel]) -> usize
     }
 }
 
+/// Whether a channel has a slot open for writing.
+pub(crate) fn any_writes(channels: &[Channel], slot: u8) -> bool
+    ensures { result ≡ list_any (writes_on slot) channels.now }
+{
+    match channels.split_first() {
+        None => false,
+        Some((first, rest)) => first.writes(slot) || any_writes(rest, slot),
+    }
+}
+
+/// Whether a channel has a slot open.
+pub(crate) fn any_uses(channels: &[Channel], slot: u8) -> bool
+    ensures { result ≡ list_any (uses_on slot) channels.now }
+{
+    match channels.split_first() {
+        None => false,
+        Some((first, rest)) => first.uses(slot) || any_uses(rest, slot),
+    }
+}
+
 impl Channel {
-    ghost use Rattle.std.specs.Prelude.{◌≡◌, ℕ, IsOk, replicate};
-    ghost use Rattle.cbm_volume.specs.Writers.{Use, HoldsNow, with_use};
+    ghost use Rattle.std.specs.Prelude.{◌≡◌, ℕ, true, false, not, Ok, IsOk, IfOk, IfErr, OnOk, OnErr, replicate};
+    ghost use Rattle.cbm_medium.specs.Seen.{OnlyContent};
+    ghost use Rattle.cbm_volume.specs.Writers.{Use, Idle, HoldsNow, with_use, Stopped};
+    ghost use Rattle.cbm_volume.specs.Opens.{IsHindered};
     ghost use Rattle.cbm_file.specs.Waiting.{shown};
     ghost use Rattle.cbm_file.specs.Files.{Disk};
     ghost use Rattle.cbm_machine.specs.Machines as machine;
     ghost use Rattle.cbm_machine.specs.Talking.{taken_on};
     ghost use Rattle.cbm_channel.specs.Standing.{Fits, ChannelStands, use_of};
-    ghost use Rattle.cbm_channel.specs.Shown.{is_closed, shown_on};
+    ghost use Rattle.cbm_channel.specs.Shown.{is_closed, is_read, is_written, is_writing, writes_on, uses_on, shown_on};
+    ghost use Rattle.cbm_channel.specs.Written.{is_lost, channel_put, disk_put, IsCutOff, is_unbegun, disk_closed, IsBeingWritten};
     ghost use Rattle.cbm_channel.specs.Taken.{IsTakenBy};
 
     /// Fifteen channels that are closed.
@@ -66,12 +94,48 @@ impl Channel {
         matches!(self, Channel::Closed)
     }
 
+    /// Whether it is open for reading.
+    pub(crate) fn is_read(&self) -> bool
+        ensures { result ≡ is_read self.now }
+    {
+        matches!(self, Channel::Listing(_) | Channel::File(_, _))
+    }
+
+    /// Whether it is open for writing.
+    pub(crate) fn is_written(&self) -> bool
+        ensures { result ≡ is_written self.now }
+    {
+        matches!(self, Channel::Writing(_, _) | Channel::Stopped(_))
+    }
+
+    /// Whether it has this slot open for writing.
+    pub(crate) fn writes(&self, slot: u8) -> bool
+        ensures { result ≡ writes_on slot self.now }
+    {
+        match self {
+            Channel::Closed | Channel::Listing(_) | Channel::File(_, _) => false,
+            Channel::Writing(writer, _) => writer.slot() == slot,
+            Channel::Stopped(at) => *at == slot,
+        }
+    }
+
+    /// Whether it has this slot open.
+    pub(crate) fn uses(&self, slot: u8) -> bool
+        ensures { result ≡ uses_on slot self.now }
+    {
+        match self {
+            Channel::Closed | Channel::Listing(_) => false,
+            Channel::Writing(writer, _) => writer.slot() == slot,
+            Channel::File(at, _) | Channel::Stopped(at) => *at == slot,
+        }
+    }
+
     /// The byte that waits, and whether it is the last.
     pub(crate) fn peek(&self) -> Option<(u8, bool)>
         ensures { result ≡ shown_on self.now }
     {
         match self {
-            Channel::Closed => None,
+            Channel::Closed | Channel::Writing(_, _) | Channel::Stopped(_) => None,
             Channel::Listing(listing) => first_of(listing.left()),
             Channel::File(_, reader) => reader.peek(),
         }
@@ -83,18 +147,134 @@ impl Channel {
         ensures fits { Fits (M.seen volume.now).tracks self.new }
         ensures taken { IsTakenBy (M.seen volume.now).content self.old self.new result }
         ensures well { let now = M.seen volume.now in (d : Disk) (uses : ℕ → Use) (ch : ℕ) (x : machine.Channel) →
-            HoldsNow now.tracks now.content d uses → uses ch ≡ use_of self.old x →
-            ChannelStands now.content self.old x →
-            IsOk result × ChannelStands now.content self.new (taken_on d x) ×
+            HoldsNow now.tracks now.content d uses → uses ch ≡ use_of self.old x → ChannelStands self.old x →
+            IsOk result × ChannelStands self.new (taken_on d x) ×
             HoldsNow now.tracks now.content d (with_use uses ch (use_of self.new (taken_on d x))) }
     {
         match self {
-            Channel::Closed => {}
             Channel::Listing(listing) => {
                 listing.next_byte();
             }
             Channel::File(_, reader) => volume.read_on(reader)?,
+            _ => {}
         }
         Ok(())
+    }
+
+    /// Adds a byte to a file that is written; false where it is the first for which no block is free, and from then on
+    /// bytes are dropped. On a channel that isn't written it is dropped. Errors: why a write was refused; the channel
+    /// takes no more bytes then.
+    pub(crate) fn put<M: Medium>(
+        &mut self,
+        volume: &mut Volume<M>,
+        byte: u8,
+    ) -> Result<bool, Trouble>
+        requires { Fits (M.seen volume.old).tracks self.old }
+        ensures fits { Fits (M.seen volume.new).tracks self.new }
+        ensures put { let old = M.seen volume.old in let new = M.seen volume.new in
+            (d : Disk) (uses : ℕ → Use) (ch : ℕ) (x : machine.Channel) →
+            HoldsNow old.tracks old.content d uses → uses ch ≡ use_of self.old x → ChannelStands self.old x →
+            IfOk result (λ done. (done ≡ not (is_lost d x)) × ChannelStands self.new (channel_put byte d x) ×
+            HoldsNow old.tracks new.content (disk_put d x)
+            (with_use uses ch (use_of self.new (channel_put byte d x)))) }
+        ensures stopped { let old = M.seen volume.old in let new = M.seen volume.new in
+            (d : Disk) (uses : ℕ → Use) (ch : ℕ) (x : machine.Channel) →
+            HoldsNow old.tracks old.content d uses → uses ch ≡ use_of self.old x → ChannelStands self.old x →
+            OnErr result (IsCutOff self.new x × Stopped old.tracks new.content d d (with_use uses ch Idle)) }
+        ensures cause { let old = M.seen volume.old in
+            (d : Disk) (uses : ℕ → Use) (ch : ℕ) (x : machine.Channel) →
+            HoldsNow old.tracks old.content d uses → uses ch ≡ use_of self.old x → ChannelStands self.old x →
+            IfErr result (IsHindered old (M.seen volume.new)) }
+        ensures quiet { is_writing self.old ≡ false →
+            (result ≡ Ok true) × (self.new ≡ self.old) × (volume.new ≡ volume.old) }
+        ensures only { OnlyContent result (M.seen volume.old) (M.seen volume.new) }
+    {
+        let Channel::Writing(writer, full) = self else {
+            return Ok(true);
+        };
+        if *full {
+            return Ok(true);
+        }
+        match volume.store(writer, byte) {
+            Ok(stored) => {
+                *full = !stored;
+                Ok(stored)
+            }
+            Err(trouble) => {
+                *self = Channel::Stopped(writer.slot());
+                Err(trouble)
+            }
+        }
+    }
+
+    /// Whether it writes a file that has no byte yet.
+    pub(crate) fn is_empty<M: Medium>(&self, volume: &Volume<M>) -> bool
+        ensures value { let now = M.seen volume.now in (d : Disk) (uses : ℕ → Use) (ch : ℕ) (x : machine.Channel) →
+            HoldsNow now.tracks now.content d uses → uses ch ≡ use_of self.now x → ChannelStands self.now x →
+            result ≡ is_unbegun x }
+        ensures quiet { is_writing self.now ≡ false → result ≡ false }
+    {
+        match self {
+            Channel::Writing(writer, _) => volume.is_empty(writer),
+            _ => false,
+        }
+    }
+
+    /// Finishes the file that it writes; a replacement after the disk was full is given up. Errors: why a write was
+    /// refused; the slot has the file from before or the one from after.
+    fn finish_file<M: Medium>(&self, volume: &mut Volume<M>) -> Result<(), Trouble>
+        requires { Fits (M.seen volume.old).tracks self.now }
+        ensures closed { let old = M.seen volume.old in let new = M.seen volume.new in
+            (d : Disk) (uses : ℕ → Use) (ch : ℕ) (x : machine.Channel) →
+            HoldsNow old.tracks old.content d uses → uses ch ≡ use_of self.now x → ChannelStands self.now x →
+            OnOk result (HoldsNow old.tracks new.content (disk_closed d x) (with_use uses ch Idle)) }
+        ensures stopped { let old = M.seen volume.old in let new = M.seen volume.new in
+            (d : Disk) (uses : ℕ → Use) (ch : ℕ) (x : machine.Channel) →
+            HoldsNow old.tracks old.content d uses → uses ch ≡ use_of self.now x → ChannelStands self.now x →
+            OnErr result (Stopped old.tracks new.content d (disk_closed d x) (with_use uses ch Idle)) }
+        ensures cause { let old = M.seen volume.old in
+            (d : Disk) (uses : ℕ → Use) (ch : ℕ) (x : machine.Channel) →
+            HoldsNow old.tracks old.content d uses → uses ch ≡ use_of self.now x → ChannelStands self.now x →
+            IfErr result (IsHindered old (M.seen volume.new)) }
+        ensures wrote { (x : machine.Channel) → ChannelStands self.now x → OnErr result (IsBeingWritten x) }
+        ensures quiet { is_writing self.now ≡ false → IsOk result × (volume.new ≡ volume.old) }
+        ensures only { OnlyContent result (M.seen volume.old) (M.seen volume.new) }
+    {
+        let Channel::Writing(writer, full) = self else {
+            return Ok(());
+        };
+        if !writer.replaces() {
+            return volume.finish(writer);
+        }
+        if *full {
+            volume.give_up(writer)
+        } else {
+            volume.finish_replacement(writer)
+        }
+    }
+
+    /// CLOSE: the file that it writes is finished, and the channel is closed. Errors: why a write was refused.
+    pub(crate) fn finish<M: Medium>(&mut self, volume: &mut Volume<M>) -> Result<(), Trouble>
+        requires { Fits (M.seen volume.old).tracks self.old }
+        ensures is_closed { self.new ≡ Closed }
+        ensures closed { let old = M.seen volume.old in let new = M.seen volume.new in
+            (d : Disk) (uses : ℕ → Use) (ch : ℕ) (x : machine.Channel) →
+            HoldsNow old.tracks old.content d uses → uses ch ≡ use_of self.old x → ChannelStands self.old x →
+            OnOk result (HoldsNow old.tracks new.content (disk_closed d x) (with_use uses ch Idle)) }
+        ensures stopped { let old = M.seen volume.old in let new = M.seen volume.new in
+            (d : Disk) (uses : ℕ → Use) (ch : ℕ) (x : machine.Channel) →
+            HoldsNow old.tracks old.content d uses → uses ch ≡ use_of self.old x → ChannelStands self.old x →
+            OnErr result (Stopped old.tracks new.content d (disk_closed d x) (with_use uses ch Idle)) }
+        ensures cause { let old = M.seen volume.old in
+            (d : Disk) (uses : ℕ → Use) (ch : ℕ) (x : machine.Channel) →
+            HoldsNow old.tracks old.content d uses → uses ch ≡ use_of self.old x → ChannelStands self.old x →
+            IfErr result (IsHindered old (M.seen volume.new)) }
+        ensures only { OnlyContent result (M.seen volume.old) (M.seen volume.new) }
+        ensures wrote { (x : machine.Channel) → ChannelStands self.old x → OnErr result (IsBeingWritten x) }
+        ensures quiet { is_writing self.old ≡ false → IsOk result × (volume.new ≡ volume.old) }
+    {
+        let finished = self.finish_file(volume);
+        *self = Channel::Closed;
+        finished
     }
 }

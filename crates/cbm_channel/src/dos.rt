@@ -6,6 +6,7 @@ use std::marker::Model;
 
 mod closing;
 mod opening;
+mod planning;
 mod putting;
 mod talking;
 

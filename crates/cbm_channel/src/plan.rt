@@ -1,5 +1,6 @@
 use crate::finding::Found;
 use cbm_command::Name;
+use cbm_file::FileType;
 
 /// What an OPEN will do.
 #[derive(Drop)]
@@ -8,4 +9,10 @@ pub enum Plan {
     ReadListing(Name),
     /// A file is read.
     ReadFile(Found),
+    /// A new file of this type and name is written.
+    WriteFile(FileType, Name),
+    /// Bytes are put behind those of a file.
+    AppendFile(Found),
+    /// The file in the slot of this number is replaced.
+    ReplaceFile(u8),
 }

@@ -1,25 +1,31 @@
 ghost use Rattle.std.specs.Prelude.{◌≡◌, ◌≤◌, ◌<◌};
 
-use crate::channel::Channel;
 use crate::dos::Dos;
+use cbm_machine::Status;
 use cbm_volume::Medium;
 
 impl<M: Medium> Dos<M> {
-    ghost use Rattle.std.specs.Prelude.{◌≡◌, ◌≤◌, ◌<◌, ◌⊎◌, ℕ, length, slice_index_or, slice_set};
+    ghost use Rattle.std.specs.Prelude.{◌≡◌, ◌≤◌, ◌<◌, ◌⊎◌, ℕ, [], ◌∷◌, false, length, slice_index_or, slice_set};
     ghost use Rattle.cbm_channel.specs.declared.channel.Channel.TheVariants.{Closed};
-    ghost use Rattle.cbm_channel.specs.Grounds.{IsToldFor};
-    ghost use Rattle.cbm_machine.specs.Closing.{close, close_one, close_all, channel_numbers, without_text};
-    ghost use Rattle.cbm_channel.specs.Standing.{SameBut, Leads};
+    ghost use Rattle.cbm_machine.specs.Closing.{close_one, finish_channel, without_text};
+    ghost use Rattle.cbm_channel.specs.Standing.{Stands, SameBut, Leads};
+    ghost use Rattle.cbm_channel.specs.Written.{is_unbegun};
+    ghost use Rattle.cbm_channel.specs.Shown.{is_writing_on, IsQuiet};
+    ghost use Rattle.cbm_machine.specs.Machines.{Machine, channel as channel_of};
+    ghost use Rattle.cbm_channel.specs.Going.{Goes, Went, some_byte_put, closing, closings, KeepsMedium};
 
-    /// CLOSE: the channel is closed; on 15 the channels 0 to 14 are, in order.
+    /// CLOSE: the file that is written on the channel is finished, and the channel is closed; on 15 the channels 0 to
+    /// 14 are, in order. Where the medium refuses a write, its fault becomes the status.
     pub fn close(&mut self, channel: u8)
         requires { channel ≤ 15 }
-        ensures leads { Leads M.seen self.old self.new (close channel) }
+        ensures goes { Goes M.seen self.old self.new (closing channel) }
         // On any disk:
         ensures others { channel < 15 → SameBut channel self.old.channels self.new.channels }
         ensures closed { (k : ℕ) → (k ≡ channel) ⊎ (channel ≡ 15) → slice_index_or self.new.channels k Closed ≡ Closed }
-        ensures told { IsToldFor M.seen self.old self.new }
-        ensures medium { self.new.medium ≡ self.old.medium }
+        // Where no file is written, nothing is told and the medium stays as it is.
+        ensures quiet { channel < 15 → is_writing_on channel self.old ≡ false → IsQuiet self.old self.new }
+        ensures all_quiet { ((k : ℕ) → is_writing_on k self.old ≡ false) → IsQuiet self.old self.new }
+        ensures medium { KeepsMedium (M.seen self.old.medium) (M.seen self.new.medium) }
     {
         if channel < 15 {
             self.close_one(channel);
@@ -32,22 +38,60 @@ impl<M: Medium> Dos<M> {
     /// Closes a channel from 0 to 14.
     pub(super) fn close_one(&mut self, channel: u8)
         requires { channel < 15 }
-        ensures leads { Leads M.seen self.old self.new (close_one channel) }
+        ensures goes { Went M.seen self.old self.new channel (close_one channel) }
+        ensures others { SameBut channel self.old.channels self.new.channels }
+        ensures closed { slice_index_or self.new.channels channel Closed ≡ Closed }
+        ensures count { length self.new.channels ≡ 15 }
+        ensures quiet { is_writing_on channel self.old ≡ false → IsQuiet self.old self.new }
+        ensures medium { KeepsMedium (M.seen self.old.medium) (M.seen self.new.medium) }
+    {
+        self.fill(channel);
+        self.finish(channel);
+        self.forget_text(channel);
+    }
+
+    /// A file that has no byte yet gets a return.
+    fn fill(&mut self, channel: u8)
+        requires { channel < 15 }
+        ensures goes { Went M.seen self.old self.new channel (some_byte_put channel) }
+        ensures others { SameBut channel self.old.channels self.new.channels }
+        ensures quiet { is_writing_on channel self.old ≡ false → self.new ≡ self.old }
+        ensures medium { KeepsMedium (M.seen self.old.medium) (M.seen self.new.medium) }
+    {
+        if self.is_empty(channel) {
+            self.store(channel, b'\r');
+        }
+    }
+
+    /// Whether a file is written on the channel that has no byte yet.
+    fn is_empty(&self, channel: u8) -> bool
+        requires { channel < 15 }
+        ensures value { (m : Machine) → Stands M.seen self.now m → result ≡ is_unbegun (channel_of m channel) }
+        ensures quiet { is_writing_on channel self.now ≡ false → result ≡ false }
+    {
+        self.channels[channel as usize].is_empty(&self.volume)
+    }
+
+    /// Finishes the file that is written on a channel, and closes the channel.
+    fn finish(&mut self, channel: u8)
+        requires { channel < 15 }
+        ensures goes { Went M.seen self.old self.new channel (finish_channel channel) }
         ensures channels { self.new.channels ≡ slice_set self.old.channels channel Closed }
         ensures count { length self.new.channels ≡ 15 }
-        ensures told { self.new.told ≡ self.old.told }
-        ensures medium { self.new.medium ≡ self.old.medium }
+        ensures quiet { is_writing_on channel self.old ≡ false → IsQuiet self.old self.new }
+        ensures medium { KeepsMedium (M.seen self.old.medium) (M.seen self.new.medium) }
     {
-        self.channels[channel as usize] = Channel::Closed;
-        self.forget_text(channel);
+        if let Err(trouble) = self.channels[channel as usize].finish(&mut self.volume) {
+            self.set(Status::from(trouble));
+        }
     }
 
     /// Closes the channels 0 to 14 in order.
     fn close_all(&mut self)
-        ensures leads { Leads M.seen self.old self.new (close_all channel_numbers) }
+        ensures goes { Goes M.seen self.old self.new closings }
         ensures closed { (k : ℕ) → slice_index_or self.new.channels k Closed ≡ Closed }
-        ensures told { self.new.told ≡ self.old.told }
-        ensures medium { self.new.medium ≡ self.old.medium }
+        ensures quiet { ((k : ℕ) → is_writing_on k self.old ≡ false) → IsQuiet self.old self.new }
+        ensures medium { KeepsMedium (M.seen self.old.medium) (M.seen self.new.medium) }
     {
         for channel in 0..15 {
             self.close_one(channel);

@@ -4,7 +4,7 @@ ghost use Rattle.cbm_machine.specs.Calls.{without_return};
 use crate::dos::Dos;
 use crate::gathered::Gathered;
 use cbm_command::{Command, parse_command};
-use cbm_machine::Code;
+use cbm_machine::{Code, Status};
 use cbm_volume::Medium;
 
 /// A text without one return at its end.
@@ -18,7 +18,7 @@ fn without_return(text: &[u8]) -> &[u8]
 }
 
 impl<M: Medium> Dos<M> {
-    ghost use Rattle.std.specs.Prelude.{◌≡◌, ◌≤◌, ℕ, Ok, MatchOption};
+    ghost use Rattle.std.specs.Prelude.{◌≡◌, ◌≤◌, ◌<◌, ℕ, [], ◌∷◌, false, Ok, MatchOption};
     ghost use Rattle.cbm_machine.specs.Machines.{Machine, answered};
     ghost use Rattle.cbm_machine.specs.Closing.{without_text};
     ghost use Rattle.cbm_machine.specs.Calls.{put, end_put, gather, command, without_return};
@@ -26,20 +26,40 @@ impl<M: Medium> Dos<M> {
     ghost use Rattle.cbm_command.specs.declared.command.Command.TheVariants.{Position};
     ghost use Rattle.cbm_channel.specs.Grounds.{HasTold, IsToldFor};
     ghost use Rattle.cbm_channel.specs.Standing.{Stands, SameBut, Leads, HasNoText, HasText};
+    ghost use Rattle.cbm_channel.specs.Shown.{is_writing_on, IsQuiet};
+    ghost use Rattle.cbm_channel.specs.Going.{Goes, Went, put_written, KeepsMedium};
     ghost use Rattle.cbm_machine.specs.CarriedOut.{IsPutCarriedOut, IsTextCarriedOut, IsCommandCarriedOut};
 
-    /// A byte that the host sends to a channel: on 15 it is gathered for a command. On the others it is dropped, as
-    /// none is open for writing yet.
+    /// A byte that the host sends to a channel: on 15 it is gathered for a command, and on a channel that is open for
+    /// writing it goes to its file; on others it is dropped. The first byte for which no block is free sets the status
+    /// 72, and it and all later ones are dropped; where the medium refuses a write, its fault becomes the status.
     pub fn put(&mut self, channel: u8, byte: u8)
         requires { channel ≤ 15 }
-        ensures leads { Leads M.seen self.old self.new (put channel byte) }
+        ensures goes { Goes M.seen self.old self.new ((channel, put channel byte) ∷ []) }
         // On any disk:
         ensures others { SameBut channel self.old.channels self.new.channels }
-        ensures told { IsToldFor M.seen self.old self.new }
-        ensures medium { self.new.medium ≡ self.old.medium }
+        ensures quiet { is_writing_on channel self.old ≡ false → IsQuiet self.old self.new }
+        ensures medium { KeepsMedium (M.seen self.old.medium) (M.seen self.new.medium) }
     {
         if channel == 15 {
             self.gather(byte);
+        } else {
+            self.store(channel, byte);
+        }
+    }
+
+    /// A byte goes to the file that is written on a channel from 0 to 14.
+    pub(super) fn store(&mut self, channel: u8, byte: u8)
+        requires { channel < 15 }
+        ensures goes { Went M.seen self.old self.new channel (put_written channel byte) }
+        ensures others { SameBut channel self.old.channels self.new.channels }
+        ensures quiet { is_writing_on channel self.old ≡ false → IsQuiet self.old self.new }
+        ensures medium { KeepsMedium (M.seen self.old.medium) (M.seen self.new.medium) }
+    {
+        match self.channels[channel as usize].put(&mut self.volume, byte) {
+            Ok(true) => {}
+            Ok(false) => self.say(Code::DiskFull),
+            Err(trouble) => self.set(Status::from(trouble)),
         }
     }
 

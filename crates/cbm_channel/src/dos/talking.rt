@@ -28,7 +28,7 @@ impl<M: Medium> Dos<M> {
         if channel == 15 {
             return;
         }
-        if self.channels[channel as usize].is_closed() {
+        if !self.channels[channel as usize].is_read() {
             self.say(Code::FileNotOpen);
         }
     }
@@ -42,7 +42,10 @@ impl<M: Medium> Dos<M> {
         ensures told { IsToldFor M.seen self.old self.new }
         ensures medium { self.new.medium ≡ self.old.medium }
     {
-        if channel != 15 {
+        if channel == 15 {
+            return;
+        }
+        if !self.channels[channel as usize].is_written() {
             self.say(Code::FileNotOpen);
         }
     }

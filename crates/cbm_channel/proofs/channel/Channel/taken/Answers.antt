@@ -1,30 +1,26 @@
 use Rattle.std.proofs.Common.{subst, refl}
 use Rattle.cbm_channel.specs.Standing.{ChannelStands}
 use Rattle.cbm_channel.proofs.Stands.{listing_on, let_go_now}
-use Rattle.cbm_channel.proofs.Takes.{closed_taken, file_left, file_taken}
+use Rattle.cbm_channel.proofs.Takes.{nothing_taken, file_left, file_taken}
 use Rattle.cbm_channel.proofs.channel.Channel.taken.Goals as goal
 
--- nothing is open
-pub returns-in-Closed-clause-well : goal.returns-in-Closed-clause-well
-returns-in-Closed-clause-well g c = λ d uses ch x h e s.
-    let on = closed_taken (g.M.Medium.seen c.args.volume.now).tracks (g.M.Medium.seen c.args.volume.now).content d uses ch c.args.self.now x c.in-Closed.is s h in
-    (refl, on.0, on.1)
+pub returns-in_default-clause-well : goal.returns-in_default-clause-well
+returns-in_default-clause-well g c = λ d uses ch x h e s.
+    let on = nothing_taken (g.M.Medium.seen c.args.volume.now).tracks (g.M.Medium.seen c.args.volume.now).content d uses ch c.args.self.now x c.in_default.not-Listing c.in_default.not-File h e s in (refl, on.0, on.1)
 
 -- what writes nothing and reads nothing uses nothing of the disk
 pub returns-in-Listing-clause-well : goal.returns-in-Listing-clause-well
 returns-in-Listing-clause-well g c = λ d uses ch x h e s.
-    let stands = subst (λ k. ChannelStands (g.M.Medium.seen c.args.volume.now).content k x) c.in-Listing.is s in
+    let stands = subst (λ k. ChannelStands k x) c.in-Listing.is s in
     (refl, listing_on d c.in-Listing.listing c.next_byte.new.self x c.next_byte.ensures.moved stands, let_go_now _ _ d uses ch h)
 
 -- on a sound disk nothing breaks off
 pub returns-in_err-read_on-in-File-clause-well : goal.returns-in_err-read_on-in-File-clause-well
 returns-in_err-read_on-in-File-clause-well g c = λ d uses ch x h e s.
-    let at = file_left _ c.args.self.now c.in-File.field-0 c.in-File.reader x (uses ch) c.in-File.is s e in
-    absurd (let bad = (c.in_err-read_on-in-File.ensures.reads d uses ch c.in-File.field-0 _ h at.2).0 in (cc))
+    let at = file_left c.args.self.now c.in-File.field-0 c.in-File.reader x (uses ch) c.in-File.is s e in
+    absurd (let bad = (c.in_err-read_on-in-File.ensures.reads d uses ch c.in-File.field-0 at.0 h at.2).0 in (cc))
 
 pub returns-in_ok-read_on-in-File-clause-well : goal.returns-in_ok-read_on-in-File-clause-well
 returns-in_ok-read_on-in-File-clause-well g c = λ d uses ch x h e s.
-    let at = file_left _ c.args.self.now c.in-File.field-0 c.in-File.reader x (uses ch) c.in-File.is s e in
-    let on = file_taken (g.M.Medium.seen c.args.volume.now).tracks (g.M.Medium.seen c.args.volume.now).content d uses ch c.in-File.field-0 c.in-File.reader c.read_on.new.reader x at.0 at.1
-    c.in_ok-read_on-in-File.ensures.ok (c.in_ok-read_on-in-File.ensures.reads d uses ch c.in-File.field-0 _ h at.2).1 in
-    (refl, on.0, on.1)
+    let at = file_left c.args.self.now c.in-File.field-0 c.in-File.reader x (uses ch) c.in-File.is s e in
+    let on = file_taken (g.M.Medium.seen c.args.volume.now).tracks (g.M.Medium.seen c.args.volume.now).content d uses ch c.in-File.field-0 c.read_on.new.reader at.0 x at.1 (c.in_ok-read_on-in-File.ensures.reads d uses ch c.in-File.field-0 at.0 h at.2).1 in (refl, on.0, on.1)

@@ -1,36 +1,39 @@
-use Rattle.std.proofs.Common.{sym, ap, subst, ◌∙◌, inr}
-use Rattle.std.specs.Prelude.{slice_index_or}
-use Rattle.cbm_channel.specs.declared.channel.Channel.TheVariants.{Closed}
-use Rattle.std.proofs.lemmas.List.{length-set}
-use Rattle.std.proofs.lemmas.List.Elements.{All-set}
+use Rattle.std.proofs.Common.{◌<◌, sym, ap, subst, ◌∙◌, refl, inl, inr, arith, length}
+use Rattle.std.specs.Prelude.{slice_set}
 use Rattle.cbm_machine.specs.declared.code.Code.TheVariants.{Fine}
 use Rattle.cbm_machine.specs.Machines.{say}
-use Rattle.cbm_volume.specs.Writers.{HoldsNow, with_use}
-use Rattle.cbm_channel.specs.Standing.{Fits, ChannelStands, use_of, uses_of}
-use Rattle.cbm_channel.specs.Planned.{opened_by}
-use Rattle.cbm_channel.proofs.Stands.{stood, moved, with_one}
-use Rattle.cbm_channel.proofs.Planning.{act_reads, opened_well}
+use Rattle.cbm_machine.specs.Plans.{act}
+use Rattle.cbm_medium.specs.Seen.{HasFailed}
+use Rattle.cbm_channel.specs.Standing.{StandsBy, uses_of}
+use Rattle.cbm_channel.specs.Planned.{IsOpened}
+use Rattle.cbm_channel.proofs.Stores.{renamed}
+use Rattle.cbm_channel.proofs.Opens.{opened_stands, opened_cut, idle_at}
 use Rattle.cbm_channel.proofs.dos.Dos.act.Goals as goal
 
-pub returns-in-Ok-clause-leads : goal.returns-in-Ok-clause-leads
-returns-in-Ok-clause-leads g c = λ m p h s.
-    let st = stood g.M.Medium.seen _ _ m c.self.view_is s in
-    let stands = subst (λ k. ChannelStands (g.M.Medium.seen k.medium).content c.in-Ok.opened (opened_by m.disk p)) (sym c.self.view_is) (c.in-Ok.ensures.stands m p h s) in
-    let uses = subst (λ k. HoldsNow (g.M.Medium.seen k.medium).tracks (g.M.Medium.seen k.medium).content m.disk (with_use (uses_of k.channels m.channels) c.args.channel (use_of c.in-Ok.opened (opened_by m.disk p)))) (sym c.self.view_is)
-    (c.in-Ok.ensures.uses m p c.args.channel h s) in
-    moved _ _ _ _ _ _ _ _ (ap (say Fine) (act_reads _ _ c.args.channel m p c.args.plan h))
-    (c.say.ensures.leads _ (with_one _ _ _ _ _ _ m c.args.channel c.in-Ok.opened (opened_by m.disk p) c.requires c.self.invariant stands uses (opened_well _ _ m.disk p c.args.plan h) st))
+-- the channel was opened
+pub returns-in-Ok-Some-clause-goes : goal.returns-in-Ok-Some-clause-goes
+returns-in-Ok-Some-clause-goes g c = λ m p h shut s.
+    let old = c.args.self.now in
+    let whole = c.self.view_is ∙ c.opened.ensures.rest in
+    let more : c.args.channel < length old.channels = omega (arith, c.requires, c.opened.ensures.count, ap (λ k. length k.channels) c.opened.ensures.rest) in
+    let is = subst (IsOpened (g.M.Medium.seen old.medium).tracks (g.M.Medium.seen c.opened.new.self.medium).content m c.args.channel p (uses_of old.channels m.channels)) c.in-Ok-Some.field-0-is
+    (c.in-Ok-Some.ensures.opened m p c.args.channel h s (idle_at old.channels m.channels c.args.channel shut)) in
+    let next = opened_stands _ _ _ _ old.channels old.told old.text m c.args.channel p c.args.plan more s h c.in-Ok-Some.opened is in (
+      say Fine (act c.args.channel p m),
+      inl refl,
+      c.say.ensures.leads _ (subst (λ k. StandsBy (g.M.Medium.seen k.medium).content (g.M.Medium.seen k.medium).tracks (g.M.Medium.seen k.medium).protected (slice_set k.channels c.args.channel c.in-Ok-Some.opened) k.told k.text (act c.args.channel p m)) (sym whole)
+          (renamed _ _ _ _ _ _ _ _ _ c.opened.ensures.medium.tracks c.opened.ensures.medium.protected next)),
+    )
 
--- the opened channel fits the medium
-pub invariant_of-self : goal.invariant_of-self
-invariant_of-self g c = record {
-  count = length-set c.self.inside.channels c.args.channel c.in-Ok.opened ∙ c.self.invariant.count;
-  each = All-set (Fits (g.M.Medium.seen c.self.inside.volume).tracks) c.self.inside.channels c.args.channel c.in-Ok.opened (subst (λ k. Fits (g.M.Medium.seen k.medium).tracks c.in-Ok.opened) (sym c.self.view_is) c.in-Ok.ensures.fits) c.self.invariant.each;
-}
-
--- what the disk refuses leaves all channels as they were
-pub returns-in-Err-clause-others : goal.returns-in-Err-clause-others
-returns-in-Err-clause-others g c = λ k ne. ap (λ xs. slice_index_or xs k Closed) c.set.ensures.channels
-
-pub returns-in-Err-clause-refused : goal.returns-in-Err-clause-refused
-returns-in-Err-clause-refused g c = inr c.set.ensures.channels
+-- a write was refused
+pub returns-in-Err-clause-goes : goal.returns-in-Err-clause-goes
+returns-in-Err-clause-goes g c = λ m p h shut s.
+    let old = c.args.self.now in
+    let more : c.args.channel < length old.channels = omega (arith, c.requires, c.opened.ensures.count, ap (λ k. length k.channels) c.opened.ensures.rest) in
+    let stop = c.in-Err.ensures.stopped m p h s in
+    let next = opened_cut _ _ _ _ old.channels old.told old.text m c.args.channel p c.args.plan more s h shut stop.0 in (
+      _,
+      inr (subst (λ v. HasFailed (g.M.Medium.seen old.medium) (g.M.Medium.seen v)) (sym c.set.ensures.medium) stop.1, next.1 c.in-Err.trouble c.from.result c.from.ensures),
+      c.set.ensures.leads next.0 (subst (λ k. StandsBy (g.M.Medium.seen k.medium).content (g.M.Medium.seen k.medium).tracks (g.M.Medium.seen k.medium).protected k.channels k.told k.text next.0) (sym c.opened.ensures.rest)
+          (renamed _ _ _ _ _ _ _ _ _ c.opened.ensures.medium.tracks c.opened.ensures.medium.protected next.2)),
+    )

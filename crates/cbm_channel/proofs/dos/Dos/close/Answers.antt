@@ -1,13 +1,20 @@
-use Rattle.std.proofs.Common.{arith}
-use Rattle.cbm_channel.proofs.Idle.{below_15}
-use Rattle.cbm_channel.proofs.Stands.{moved}
-use Rattle.cbm_channel.proofs.Closes.{close_first, close_15}
+use Rattle.std.proofs.Common.{arith, sym, ap, subst}
+use Rattle.cbm_machine.specs.Closing.{close_one, without_text}
+use Rattle.cbm_channel.specs.Going.{Goes, closings}
+use Rattle.cbm_channel.proofs.Asked.{below_15}
+use Rattle.cbm_channel.proofs.Closes.{parts_first, parts_15}
+use Rattle.cbm_channel.proofs.Goings.{went_goes, goes_on, leads_went, keeps_same}
 use Rattle.cbm_channel.proofs.dos.Dos.close.Goals as goal
 
-pub returns-then-channel-lt15-clause-leads : goal.returns-then-channel-lt15-clause-leads
-returns-then-channel-lt15-clause-leads g c = λ m s.
-    moved _ _ _ _ _ _ _ _ (close_first c.args.channel m (below_15 c.args.channel c.if-channel-lt15.true)) (c.close_one.ensures.leads m s)
+pub returns-then-channel-lt15-clause-goes : goal.returns-then-channel-lt15-clause-goes
+returns-then-channel-lt15-clause-goes g c =
+    subst (λ parts. Goes g.M.Medium.seen c.args.self.now c.close_one.new.self parts) (sym (parts_first c.args.channel (below_15 c.args.channel c.if-channel-lt15.true)))
+    (went_goes g.M.Medium.seen c.args.self.now c.close_one.new.self c.args.channel (close_one c.args.channel) c.close_one.ensures.goes)
 
-pub returns-else-channel-lt15-clause-leads : goal.returns-else-channel-lt15-clause-leads
-returns-else-channel-lt15-clause-leads g c = λ m s.
-    moved _ _ _ _ _ _ _ _ (close_15 c.args.channel m (omega (arith, c.requires, c.if-channel-lt15.false))) (c.forget_text.ensures.leads _ (c.close_all.ensures.leads m s))
+-- the fifteen channels, and the text
+pub returns-else-channel-lt15-clause-goes : goal.returns-else-channel-lt15-clause-goes
+returns-else-channel-lt15-clause-goes g c =
+    subst (λ parts. Goes g.M.Medium.seen c.args.self.now c.forget_text.new.self parts) (sym (parts_15 c.args.channel (omega (arith, c.requires, c.if-channel-lt15.false))))
+    (goes_on g.M.Medium.seen c.args.self.now c.close_all.new.self c.forget_text.new.self closings 15 (without_text 15) c.close_all.ensures.medium
+    (keeps_same _ _ (ap g.M.Medium.seen c.forget_text.ensures.medium)) c.close_all.ensures.goes
+    (leads_went g.M.Medium.seen c.close_all.new.self c.forget_text.new.self 15 (without_text 15) c.forget_text.ensures.leads))

@@ -1,39 +1,51 @@
-use Rattle.std.proofs.Common.{◌≡◌, take, subst, ◌∙◌, arith, inl, inr}
+use Rattle.std.proofs.Common.{◌≡◌, take, sym, subst, ◌∙◌, ap, arith, inl, inr}
+use Rattle.std.specs.Prelude.{ℕ, slice_index_or}
 use Rattle.std.proofs.lemmas.Bool.{cases_lt}
+use Rattle.std.proofs.lemmas.Bool.Decides.{eqb_tells}
+use Rattle.cbm_channel.specs.Shown.{is_writing}
 use Rattle.std.proofs.lemmas.List.{get_or_past}
 use Rattle.cbm_channel.specs.declared.channel.Channel.TheVariants.{Closed}
+use Rattle.cbm_machine.specs.Closing.{channel_numbers, close_one}
+use Rattle.cbm_channel.specs.Going.{Goes, closings_of}
 use Rattle.cbm_channel.proofs.Changed.{closed_next}
-use Rattle.cbm_machine.specs.Closing.{close_all, channel_numbers}
-use Rattle.cbm_channel.specs.Standing.{Stands}
-use Rattle.cbm_channel.proofs.Stands.{moved}
-use Rattle.cbm_channel.proofs.Closes.{close_next}
+use Rattle.cbm_channel.proofs.Closes.{closings_next}
+use Rattle.cbm_channel.proofs.Goings.{goes_on, keeps_then}
 use Rattle.cbm_channel.proofs.dos.Dos.close_all.Goals as goal
 
-pub returns-clause-leads : goal.returns-clause-leads
-returns-clause-leads g c = λ m s.
+pub returns-clause-goes : goal.returns-clause-goes
+returns-clause-goes g c =
     let all : c.loop-channel.channel ≡ 15 = omega (arith, c.loop-channel-test.false, c.loop-channel.auto.channel-end) in
-    subst (λ k. Stands g.M.Medium.seen c.loop-channel.self (close_all (take k channel_numbers) m))
-    all (c.loop-channel.invariant.0 m s)
+    subst (λ k. Goes g.M.Medium.seen c.args.self.now c.loop-channel.self (closings_of (take k channel_numbers))) all c.loop-channel.invariant.0
 
 pub returns-clause-medium : goal.returns-clause-medium
-returns-clause-medium g c = c.loop-channel.invariant.1
-
-pub returns-clause-told : goal.returns-clause-told
-returns-clause-told g c = c.loop-channel.invariant.3
+returns-clause-medium g c = c.loop-channel.invariant.2
 
 pub returns-clause-closed : goal.returns-clause-closed
 returns-clause-closed g c = λ k.
     let all : c.loop-channel.channel ≡ 15 = omega (arith, c.loop-channel-test.false, c.loop-channel.auto.channel-end) in
     elim (cases_lt k 15) [
-      | inl lt ↦ c.loop-channel.invariant.2 k (omega (arith, lt, all))
-      | inr far ↦ get_or_past c.loop-channel.self.channels k Closed (omega (arith, far, c.loop-channel.invariant.4 (omega (arith, all))))
+      | inl lt ↦ c.loop-channel.invariant.1 k (omega (arith, lt, all))
+      | inr far ↦ get_or_past c.loop-channel.self.channels k Closed (omega (arith, far, c.loop-channel.invariant.3 (omega (arith, all))))
     ]
 
 pub loop-channel-preserved : goal.loop-channel-preserved
 loop-channel-preserved g c = (
-  λ m s. moved _ _ _ _ _ _ _ _ (close_next c.loop-channel.channel c.loop-channel-test.true m) (c.close_one.ensures.leads _ (c.loop-channel.invariant.0 m s)),
-  c.close_one.ensures.medium ∙ c.loop-channel.invariant.1,
-  (λ k lt. closed_next c.loop-channel.self.channels c.close_one.new.self.channels c.loop-channel.channel k c.close_one.ensures.channels c.close_one.ensures.count c.loop-channel-test.true lt c.loop-channel.invariant.2),
-  c.close_one.ensures.told ∙ c.loop-channel.invariant.3,
+  subst (λ parts. Goes g.M.Medium.seen c.args.self.now c.close_one.new.self parts) (sym (closings_next c.loop-channel.channel c.loop-channel-test.true))
+      (goes_on g.M.Medium.seen c.args.self.now c.loop-channel.self c.close_one.new.self (closings_of (take c.loop-channel.channel channel_numbers)) c.loop-channel.channel (close_one c.loop-channel.channel)
+      c.loop-channel.invariant.2 c.close_one.ensures.medium c.loop-channel.invariant.0 c.close_one.ensures.goes),
+  (λ k lt. closed_next c.loop-channel.self.channels c.close_one.new.self.channels c.loop-channel.channel k c.close_one.ensures.closed c.close_one.ensures.others lt c.loop-channel.invariant.1),
+  keeps_then _ _ _ c.loop-channel.invariant.2 c.close_one.ensures.medium,
   (λ lt. c.close_one.ensures.count),
+  (λ none.
+      let x = c.loop-channel.invariant.4 none in
+      let q = c.close_one.ensures.quiet (x.1 c.loop-channel.channel) in (
+        (q.0 ∙ x.0.0, q.1 ∙ x.0.1),
+        (λ k. elim (eqb_tells k c.loop-channel.channel) [
+          | inl same ↦ ap is_writing (ap (λ (n : ℕ). slice_index_or c.close_one.new.self.channels n Closed) same.1 ∙ c.close_one.ensures.closed)
+          | inr other ↦ ap is_writing (c.close_one.ensures.others k other.1) ∙ x.1 k
+        ]),
+      )),
 )
+
+pub returns-clause-quiet : goal.returns-clause-quiet
+returns-clause-quiet g c = λ none. (c.loop-channel.invariant.4 none).0

@@ -1,13 +1,28 @@
-use Rattle.std.proofs.Common.{refl}
-use Rattle.cbm_channel.specs.declared.channel.Channel.TheVariants as code
-use Rattle.cbm_machine.specs.Machines as machine
-use Rattle.cbm_channel.proofs.Idle.{below_15, close_idle}
-use Rattle.cbm_channel.proofs.Stands.{with_one, let_go_at, idle_at, moved, stood}
-use Rattle.cbm_channel.proofs.Orders.{closed_well}
+use Rattle.std.proofs.Common.{◌≡◌, ap, ◌∙◌, subst, arith, length, sym}
+use Rattle.std.proofs.lemmas.List.{length-set}
+use Rattle.cbm_medium.specs.Seen.{Seen, HasFailed}
+use Rattle.cbm_machine.specs.Closing.{without_text, finish_channel, close_one}
+use Rattle.cbm_channel.specs.declared.channel.Channel.TheVariants.{Closed}
+use Rattle.cbm_channel.specs.Going.{some_byte_put}
+use Rattle.cbm_channel.proofs.Goings.{passes_on, close_passes, closed_at, early, late}
 use Rattle.cbm_channel.proofs.dos.Dos.close_one.Goals as goal
 
-pub returns-clause-leads : goal.returns-clause-leads
-returns-clause-leads g c = λ m s.
-    let st = stood g.M.Medium.seen _ _ m c.self.view_is s in
-    moved _ _ _ _ _ _ _ _ (close_idle c.args.channel m (below_15 c.args.channel c.requires) (idle_at _ _ _ _ _ _ m c.args.channel st))
-    (c.forget_text.ensures.leads _ (with_one _ _ _ _ _ _ m c.args.channel code.Closed machine.Closed c.requires c.self.invariant refl (let_go_at _ _ _ _ _ _ m c.args.channel st) (closed_well m.disk) st))
+-- the return, CLOSE and the text are one part
+pub returns-clause-goes : goal.returns-clause-goes
+returns-clause-goes g c = λ m s.
+    let first = c.fill.ensures.goes m s in
+    let second = c.finish.ensures.goes first.0 first.2 in
+    let count : length c.fill.new.self.channels ≡ 15 = sym (length-set c.fill.new.self.channels c.args.channel Closed) ∙ ap length (sym c.finish.ensures.channels) ∙ c.finish.ensures.count in
+    let closed = closed_at g.M.Medium.seen c.finish.new.self second.0 c.fill.new.self.channels c.args.channel second.2 c.finish.ensures.channels (omega (arith, c.requires, count)) in
+    let a : Seen = g.M.Medium.seen c.args.self.now.medium in
+    let b : Seen = g.M.Medium.seen c.fill.new.self.medium in
+    let d : Seen = g.M.Medium.seen c.finish.new.self.medium in
+    let z : Seen = g.M.Medium.seen c.forget_text.new.self.medium in
+    let last : d ≡ z = ap g.M.Medium.seen (sym c.forget_text.ensures.medium) in
+    let all = close_passes (HasFailed a d) c.args.channel m first.0 second.0 closed
+    (passes_on (HasFailed a b) (HasFailed a d) c.args.channel (some_byte_put c.args.channel) m first.0 (early a b d c.finish.ensures.medium.counted) first.1)
+    (passes_on (HasFailed b d) (HasFailed a d) c.args.channel (finish_channel c.args.channel) first.0 second.0 (late a b d c.fill.ensures.medium.counted) second.1) in (
+      without_text c.args.channel second.0,
+      passes_on (HasFailed a d) (HasFailed a z) c.args.channel (close_one c.args.channel) m (without_text c.args.channel second.0) (λ f. subst (λ (v : Seen). HasFailed a v) last f) all,
+      c.forget_text.ensures.leads second.0 second.2,
+    )

@@ -5,8 +5,8 @@ use Rattle.cbm_machine.specs.Calls.{without_return}
 use Rattle.cbm_machine.specs.CarriedOut.{IsTextCarriedOut}
 use Rattle.cbm_machine.specs.Closing.{without_text}
 use Rattle.cbm_machine.specs.Calls.{text_for, command}
-use Rattle.cbm_channel.proofs.Idle.{below_15, store_command, store_idle, store_nothing}
-use Rattle.cbm_channel.proofs.Stands.{idle_at, moved}
+use Rattle.cbm_channel.proofs.Asked.{below_15, store_command, store_other, store_nothing}
+use Rattle.cbm_channel.proofs.Stands.{zip_at, moved}
 use Rattle.cbm_channel.proofs.Texts.{some_kept, command_kept, carried_kept}
 use Rattle.cbm_channel.proofs.dos.Dos.end_put.Goals as goal
 
@@ -29,7 +29,7 @@ returns-else-channel-eq15-clause-leads g c = λ m carried s.
     let whole : List ℕ = text_for c.args.channel m.text in
     let some : 1 ≤ length whole = some_kept whole (subst (λ x. 1 ≤ length x) has.kept has.some) in
     let other = below_15 c.args.channel (omega (arith, c.requires, c.if-channel-eq15.false)) in
-    moved _ _ _ _ _ _ _ _ (store_idle c.args.channel whole m some other (idle_at _ _ _ _ _ _ m c.args.channel s)) (c.in-Some.ensures.leads m s)
+    moved _ _ _ _ _ _ _ _ (store_other c.args.channel m _ other (zip_at c.args.self.now.channels m.channels c.args.channel s.each) whole some) (c.in-Some.ensures.leads m s)
 
 -- nothing was put
 pub returns-in_default-clause-leads : goal.returns-in_default-clause-leads

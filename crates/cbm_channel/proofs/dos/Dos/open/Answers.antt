@@ -1,21 +1,61 @@
-use Rattle.std.proofs.Common.{sym, ap, ◌∙◌, arith}
-use Rattle.cbm_machine.specs.Closing.{close_one}
+use Rattle.std.proofs.Common.{◌≡◌, sym, ap, subst, ◌∙◌, arith, refl, inl, inr}
+use Rattle.std.specs.Prelude.{◌==◌, true}
+use Rattle.cbm_machine.specs.Codes.{code_number}
+use Rattle.cbm_channel.specs.Grounds.{is_fault_number, HasGround}
+use Rattle.std.proofs.lemmas.Bool.{eq-eqb}
 use Rattle.cbm_machine.specs.Machines.{say}
-use Rattle.cbm_channel.proofs.Idle.{below_15}
+use Rattle.cbm_machine.specs.Closing.{close_one}
+use Rattle.cbm_machine.specs.Plans.{open_text}
+use Rattle.cbm_machine.specs.Calls.{command}
+use Rattle.cbm_channel.specs.Going.{GoesFrom}
+use Rattle.cbm_channel.specs.Planned.{begun_by}
+use Rattle.cbm_channel.proofs.Asked.{below_15}
 use Rattle.cbm_channel.proofs.Stands.{moved}
-use Rattle.cbm_channel.proofs.Planning.{opened_text, refused_text, carried_text}
+use Rattle.cbm_channel.proofs.Planning.{opened_text, refused_text, carried_text, carried_command, writes_text, own_refusal}
+use Rattle.cbm_channel.proofs.Goings.{part_same, close_then, close_begin, parts_other, parts_command, after_close, after_none}
 use Rattle.cbm_channel.proofs.dos.Dos.open.Goals as goal
 
-pub returns-in-Ok-clause-leads : goal.returns-in-Ok-clause-leads
-returns-in-Ok-clause-leads g c = λ m carried s.
+-- a command
+pub returns-then-channel-eq15-clause-goes : goal.returns-then-channel-eq15-clause-goes
+returns-then-channel-eq15-clause-goes g c = λ m s carried.
+    let fifteen : (c.args.channel == 15) ≡ true = eq-eqb c.args.channel 15 c.if-channel-eq15.true in
+    subst (λ parts. GoesFrom g.M.Medium.seen c.args.self.now c.command.new.self parts m) (sym (parts_command c.args.channel c.args.text.now fifteen)) (
+      command c.args.text.now m,
+      (command c.args.text.now m, inl refl, refl),
+      c.command.ensures.leads m (carried_command c.args.channel c.args.text.now m fifteen (carried m (after_none g.M.Medium.seen c.args.self.now c.command.new.self c.args.channel m fifteen))) s,
+    )
+
+-- CLOSE, and then OPEN
+pub returns-in-Ok-clause-goes : goal.returns-in-Ok-clause-goes
+returns-in-Ok-clause-goes g c = λ m s carried.
     let other = below_15 c.args.channel (omega (arith, c.requires, c.if-channel-eq15.false)) in
     let is = sym c.parse_open.ensures.value ∙ c.in-Ok.is in
-    moved _ _ _ _ _ _ _ _ (opened_text c.args.channel c.args.text.now c.in-Ok.opening m other is)
-    (c.begin.ensures.leads (close_one c.args.channel m) (carried_text c.args.channel c.args.text.now c.in-Ok.opening m other is carried) (c.close_one.ensures.leads m s))
+    subst (λ parts. GoesFrom g.M.Medium.seen c.args.self.now c.begin.new.self parts m) (sym (parts_other c.args.channel c.args.text.now other))
+    (close_begin g.M.Medium.seen c.args.self.now c.close_one.new.self c.begin.new.self c.args.channel (close_one c.args.channel) (open_text c.args.channel c.args.text.now) m c.close_one.ensures.medium c.begin.ensures.medium c.close_one.ensures.goes s
+    (λ n stands passes.
+    let next = c.begin.ensures.goes n (c.args.channel, c.args.text.now, is) (carried_text c.args.channel c.args.text.now c.in-Ok.opening n other is (carried n (after_close g.M.Medium.seen c.args.self.now c.begin.new.self c.args.channel m n other passes)))
+    c.close_one.ensures.closed stands in
+    (next.0, part_same _ c.args.channel (begun_by c.args.channel c.in-Ok.opening) (open_text c.args.channel c.args.text.now) n next.0 (opened_text c.args.channel c.args.text.now c.in-Ok.opening n is) next.1, next.2)))
 
-pub returns-in-Err-clause-leads : goal.returns-in-Err-clause-leads
-returns-in-Err-clause-leads g c = λ m carried s.
+pub returns-in-Err-clause-goes : goal.returns-in-Err-clause-goes
+returns-in-Err-clause-goes g c = λ m s carried.
     let other = below_15 c.args.channel (omega (arith, c.requires, c.if-channel-eq15.false)) in
     let is = sym c.parse_open.ensures.value ∙ c.in-Err.is in
-    moved _ _ _ _ _ _ _ _ (refused_text c.args.channel c.args.text.now c.in-Err.refusal m other is ∙ ap (λ k. say k (close_one c.args.channel m)) (sym c.from.ensures))
-    (c.say.ensures.leads _ (c.close_one.ensures.leads m s))
+    subst (λ parts. GoesFrom g.M.Medium.seen c.args.self.now c.say.new.self parts m) (sym (parts_other c.args.channel c.args.text.now other))
+    (close_then g.M.Medium.seen c.args.self.now c.close_one.new.self c.say.new.self c.args.channel (close_one c.args.channel) (open_text c.args.channel c.args.text.now) m (ap g.M.Medium.seen c.say.ensures.medium) c.close_one.ensures.goes s
+    (λ n stands passes. moved _ _ _ _ _ _ _ _ (refused_text c.args.channel c.args.text.now c.in-Err.refusal n is ∙ ap (λ k. say k n) (sym c.from.ensures)) (c.say.ensures.leads n stands)))
+
+-- ---- what isn't for writing
+
+pub returns-in-Ok-clause-quiet : goal.returns-in-Ok-clause-quiet
+returns-in-Ok-clause-quiet g c = λ none reads.
+    let other = below_15 c.args.channel (omega (arith, c.requires, c.if-channel-eq15.false)) in
+    let is = sym c.parse_open.ensures.value ∙ c.in-Ok.is in
+    let before = c.close_one.ensures.quiet none in
+    let after = c.begin.ensures.quiet (writes_text c.args.channel c.args.text.now c.in-Ok.opening other is reads) in
+    (inr (inl (subst (λ v. HasGround g.M.Medium.seen v c.begin.new.self.told.status) before.1 after.0)), after.1 ∙ before.1)
+
+pub returns-in-Err-clause-quiet : goal.returns-in-Err-clause-quiet
+returns-in-Err-clause-quiet g c = λ none reads.
+    let before = c.close_one.ensures.quiet none in
+    (inr (inl (inl (ap (λ x. is_fault_number (code_number x.status.code)) c.say.ensures.told ∙ ap (λ x. is_fault_number (code_number x)) c.from.ensures ∙ own_refusal c.in-Err.refusal))), c.say.ensures.medium ∙ before.1)

@@ -1,59 +1,127 @@
-use Rattle.std.proofs.Common.{◌≡◌, sym, subst}
-use Rattle.std.specs.Prelude.{Some, None, Ok}
-use Rattle.cbm_file.specs.Files.{bytes_in}
-use Rattle.cbm_volume.specs.Reading.{rest_of}
-use Rattle.cbm_machine.specs.Machines.{Reading}
-use Rattle.cbm_machine.specs.Finding.{body_at}
-use Rattle.cbm_volume.specs.Writers.{HoldsNow, with_use, Idle}
-use Rattle.cbm_channel.specs.Standing.{use_of, uses_of}
-use Rattle.cbm_channel.specs.declared.channel.Channel.TheVariants.{File}
-use Rattle.cbm_channel.specs.Planned.{PlannedAs, opened_by}
-use Rattle.std.proofs.Common.{[], ap}
+use Rattle.std.proofs.Common.{◌≡◌, [], refl, sym, ap, ◌∙◌, subst}
+use Rattle.std.specs.Prelude.{Some, false, true, Ok}
 use Rattle.cbm_medium.specs.Place.{sector_count}
+use Rattle.cbm_medium.specs.Seen.{HasFailed}
+use Rattle.cbm_file.specs.Files.{bytes_in}
+use Rattle.cbm_file.specs.Padding.{before_filler}
+use Rattle.cbm_file.specs.Changes.{new_slot, with_file, unclosed}
 use Rattle.cbm_volume.specs.Map.{geometry_of}
 use Rattle.cbm_volume.specs.Entries.{first_block}
 use Rattle.cbm_volume.specs.Reading.{held_from}
+use Rattle.cbm_volume.specs.Writers.{HoldsNow, with_use, Idle, Stopped}
+use Rattle.cbm_machine.specs.Machines.{Writing}
+use Rattle.cbm_machine.specs.Finding.{body_at}
+use Rattle.cbm_channel.specs.declared.channel.Channel.TheVariants as code
+use Rattle.cbm_channel.specs.declared.channel.Channel.TheVariants.{File}
 use Rattle.cbm_channel.specs.Grounds.{ShowsTrouble}
+use Rattle.cbm_channel.specs.Standing.{use_of, uses_of}
+use Rattle.cbm_channel.specs.Planned.{PlannedAs, IsOpened, opened_by, disk_opened, appended_to, reopened_at}
 use Rattle.cbm_channel.proofs.Troubles.{read_from, entry_broken, passed_on}
-use Rattle.cbm_channel.proofs.Stands.{stood, means_of, let_go_at, unwritten_at}
-use Rattle.cbm_channel.proofs.Planning.{readable, file_opens, reads_as}
+use Rattle.cbm_channel.proofs.Stands.{stood, means_of, unwritten_at}
+use Rattle.cbm_channel.proofs.Planning.{readable, writable, appendable, replaceable, file_opens, reads_as, none_passes}
+use Rattle.cbm_machine.specs.Machines as machine
+use Rattle.cbm_channel.proofs.Opens.{begins_as, nothing_begun, failed_by, not_del, match_some, match_none, has_place, no_block, can_be, on_err}
 use Rattle.cbm_channel.proofs.dos.Dos.opened.Goals as goal
 
-pub returns-in_err-list-in-ReadListing-clause-stands : goal.returns-in_err-list-in-ReadListing-clause-stands
-returns-in_err-list-in-ReadListing-clause-stands g c = λ m p h s. absurd (c.in_err-list-in-ReadListing.ensures.whole m.disk (means_of _ _ _ _ _ _ m (stood g.M.Medium.seen _ _ m c.self.view_is s)))
+-- a listing
 
-pub returns-in_err-begin_read-in-ReadFile-clause-stands : goal.returns-in_err-begin_read-in-ReadFile-clause-stands
-returns-in_err-begin_read-in-ReadFile-clause-stands g c = λ m p h s.
-    let x = readable _ _ m.disk p c.args.plan c.in-ReadFile.found (subst (λ k. PlannedAs (g.M.Medium.seen k.medium).tracks (g.M.Medium.seen k.medium).content m.disk (Ok p) (Ok c.args.plan)) (sym c.self.view_is) h) c.in-ReadFile.is in
-    absurd (c.in_err-begin_read-in-ReadFile.ensures.means m.disk x.0 (bytes_in (body_at m.disk x.0)) (means_of _ _ _ _ _ _ m (stood g.M.Medium.seen _ _ m c.self.view_is s)) x.2.stands x.2.has)
+pub returns-in_err-list-in-ReadListing-clause-stopped : goal.returns-in_err-list-in-ReadListing-clause-stopped
+returns-in_err-list-in-ReadListing-clause-stopped g c = λ m p h s. absurd (c.in_err-list-in-ReadListing.ensures.whole m.disk (means_of _ _ _ _ _ _ m (stood g.M.Medium.seen _ _ m c.self.view_is s)))
 
-pub returns-in_ok-begin_read-in-ReadFile-clause-stands : goal.returns-in_ok-begin_read-in-ReadFile-clause-stands
-returns-in_ok-begin_read-in-ReadFile-clause-stands g c = λ m p h s.
-    let x = readable _ _ m.disk p c.args.plan c.in-ReadFile.found (subst (λ k. PlannedAs (g.M.Medium.seen k.medium).tracks (g.M.Medium.seen k.medium).content m.disk (Ok p) (Ok c.args.plan)) (sym c.self.view_is) h) c.in-ReadFile.is in
-    let rest = c.in_ok-begin_read-in-ReadFile.ensures.means m.disk x.0 (bytes_in (body_at m.disk x.0)) (means_of _ _ _ _ _ _ m (stood g.M.Medium.seen _ _ m c.self.view_is s)) x.2.stands x.2.has in
-    subst (λ k. (opened_by m.disk p ≡ Reading (Some c.in-ReadFile.found.slot) (rest_of (g.M.Medium.seen k.medium).content c.in_ok-begin_read-in-ReadFile.field-0).bytes)
-    × ((rest_of (g.M.Medium.seen k.medium).content c.in_ok-begin_read-in-ReadFile.field-0).trouble ≡ None)) c.self.view_is
-    (file_opens (g.M.Medium.seen c.self.inside.volume).content m.disk p x.0 c.in-ReadFile.found.slot c.in_ok-begin_read-in-ReadFile.field-0 x.1 x.2.number rest)
+-- a file that is read
 
--- a listing uses nothing of the disk
-pub returns-in_ok-list-in-ReadListing-clause-uses : goal.returns-in_ok-list-in-ReadListing-clause-uses
-returns-in_ok-list-in-ReadListing-clause-uses g c = λ m p ch h s.
-    subst (λ k. HoldsNow (g.M.Medium.seen k.medium).tracks (g.M.Medium.seen k.medium).content m.disk (with_use (uses_of k.channels m.channels) ch Idle)) c.self.view_is
-    (let_go_at _ _ _ _ _ _ m ch (stood g.M.Medium.seen _ _ m c.self.view_is s))
-
--- the file is read
-pub returns-in_ok-begin_read-in-ReadFile-clause-uses : goal.returns-in_ok-begin_read-in-ReadFile-clause-uses
-returns-in_ok-begin_read-in-ReadFile-clause-uses g c = λ m p ch h s.
-    let x = readable _ _ m.disk p c.args.plan c.in-ReadFile.found (subst (λ k. PlannedAs (g.M.Medium.seen k.medium).tracks (g.M.Medium.seen k.medium).content m.disk (Ok p) (Ok c.args.plan)) (sym c.self.view_is) h) c.in-ReadFile.is in
-    let st = stood g.M.Medium.seen _ _ m c.self.view_is s in
-    subst (λ k. HoldsNow (g.M.Medium.seen k.medium).tracks (g.M.Medium.seen k.medium).content m.disk (with_use (uses_of k.channels m.channels) ch (use_of (File c.in-ReadFile.found.slot c.in_ok-begin_read-in-ReadFile.field-0) (opened_by m.disk p)))) c.self.view_is
-    (reads_as (g.M.Medium.seen c.self.inside.volume).tracks (g.M.Medium.seen c.self.inside.volume).content m.disk p x.0 c.in-ReadFile.found.slot c.in_ok-begin_read-in-ReadFile.field-0 (uses_of c.self.inside.channels m.channels) ch x.1 x.2.number
-    (c.in_ok-begin_read-in-ReadFile.ensures.reads m.disk (uses_of c.self.inside.channels m.channels) ch x.0 (bytes_in (body_at m.disk x.0)) st.holds x.2.stands x.2.has (unwritten_at x.0 c.self.inside.channels m.channels)))
+pub returns-in_err-reader-in-ReadFile-clause-stopped : goal.returns-in_err-reader-in-ReadFile-clause-stopped
+returns-in_err-reader-in-ReadFile-clause-stopped g c = λ m p h s.
+    let x = readable _ _ m p c.args.plan c.in-ReadFile.found (subst (λ k. PlannedAs (g.M.Medium.seen k.medium).tracks (g.M.Medium.seen k.medium).content m (Ok p) (Ok c.args.plan)) (sym c.self.view_is) h) c.in-ReadFile.is in
+    absurd (c.in_err-reader-in-ReadFile.ensures.means m.disk x.0 (bytes_in (body_at m.disk x.0)) (means_of _ _ _ _ _ _ m (stood g.M.Medium.seen _ _ m c.self.view_is s)) x.2.stands x.2.has)
 
 -- the file's chain breaks off at its first block
-pub returns-in_err-begin_read-in-ReadFile-clause-shown : goal.returns-in_err-begin_read-in-ReadFile-clause-shown
-returns-in_err-begin_read-in-ReadFile-clause-shown g c = λ from.
+pub returns-in_err-reader-in-ReadFile-clause-shown : goal.returns-in_err-reader-in-ReadFile-clause-shown
+returns-in_err-reader-in-ReadFile-clause-shown g c = λ reads from.
     let there = read_from g.M.Medium.seen c.args.self.now.medium c.args.plan c.in-ReadFile.found c.in-ReadFile.is from in
-    let broken = subst (λ v. held_from (geometry_of (g.M.Medium.seen v).tracks (g.M.Medium.seen v).content) (g.M.Medium.seen v).content (sector_count (geometry_of (g.M.Medium.seen v).tracks (g.M.Medium.seen v).content)) (first_block c.in-ReadFile.found.entry) ≡ record { bytes = []; trouble = Some c.in_err-begin_read-in-ReadFile.field-0.0 }) (ap (λ k. k.medium) c.self.view_is) c.in_err-begin_read-in-ReadFile.ensures.err in
+    let broken = subst (λ v. held_from (geometry_of (g.M.Medium.seen v).tracks (g.M.Medium.seen v).content) (g.M.Medium.seen v).content (sector_count (geometry_of (g.M.Medium.seen v).tracks (g.M.Medium.seen v).content)) (first_block c.in-ReadFile.found.entry) ≡ record { bytes = []; trouble = Some c.in_err-reader-in-ReadFile.field-0.0 }) (ap (λ k. k.medium) c.self.view_is) c.in_err-reader-in-ReadFile.ensures.err in
     let shows = ShowsTrouble (geometry_of (g.M.Medium.seen c.args.self.now.medium).tracks (g.M.Medium.seen c.args.self.now.medium).content) (g.M.Medium.seen c.args.self.now.medium).content in
-    passed_on c.from_residual-in_err-begin_read-in-ReadFile.result c.in_err-begin_read-in-ReadFile.field-0.0 shows c.from_residual-in_err-begin_read-in-ReadFile.ensures.1 (entry_broken _ _ c.in-ReadFile.found.entry _ there broken)
+    passed_on c.from_residual-in_err-reader-in-ReadFile.result c.in_err-reader-in-ReadFile.field-0.0 shows c.from_residual-in_err-reader-in-ReadFile.ensures.1 (entry_broken _ _ c.in-ReadFile.found.entry _ there broken)
+
+pub returns-in_ok-reader-in-ReadFile-clause-opened : goal.returns-in_ok-reader-in-ReadFile-clause-opened
+returns-in_ok-reader-in-ReadFile-clause-opened g c = λ m p ch h s idle.
+    let x = readable _ _ m p c.args.plan c.in-ReadFile.found (subst (λ k. PlannedAs (g.M.Medium.seen k.medium).tracks (g.M.Medium.seen k.medium).content m (Ok p) (Ok c.args.plan)) (sym c.self.view_is) h) c.in-ReadFile.is in
+    let st = stood g.M.Medium.seen _ _ m c.self.view_is s in
+    let disk = ap (disk_opened m.disk) x.1 in (
+      (bytes_in (body_at m.disk x.0), file_opens m.disk p x.0 c.in-ReadFile.found.slot x.1 x.2.number),
+      subst (λ d. HoldsNow (g.M.Medium.seen c.args.self.now.medium).tracks (g.M.Medium.seen c.args.self.now.medium).content d (with_use (uses_of c.args.self.now.channels m.channels) ch (use_of (File c.in-ReadFile.found.slot c.in_ok-reader-in-ReadFile.reader) (opened_by m.disk p)))) (sym disk)
+          (subst (λ k. HoldsNow (g.M.Medium.seen k.medium).tracks (g.M.Medium.seen k.medium).content m.disk (with_use (uses_of k.channels m.channels) ch (use_of (File c.in-ReadFile.found.slot c.in_ok-reader-in-ReadFile.reader) (opened_by m.disk p)))) c.self.view_is
+          (reads_as (g.M.Medium.seen c.self.inside.volume).tracks (g.M.Medium.seen c.self.inside.volume).content m.disk p x.0 c.in-ReadFile.found.slot c.in_ok-reader-in-ReadFile.reader (uses_of c.self.inside.channels m.channels) ch x.1 x.2.number
+          (c.in_ok-reader-in-ReadFile.ensures.reads m.disk (uses_of c.self.inside.channels m.channels) ch x.0 (bytes_in (body_at m.disk x.0)) st.holds x.2.stands x.2.has
+          (λ k. unwritten_at x.0 c.self.inside.channels m.channels k st.each (λ j. none_passes (machine.writes x.0) refl m.channels j x.2.unwritten))))),
+    )
+
+-- a new file
+
+pub returns-in_default-clause-opened : goal.returns-in_default-clause-opened
+returns-in_default-clause-opened g c = λ m p ch h s idle.
+    let st = stood g.M.Medium.seen _ _ m c.self.view_is s in
+    let x = writable _ _ m p c.args.plan c.in-WriteFile.kind c.in-WriteFile.name h c.in-WriteFile.is in
+    let none = match_none _ _ _ c.in_default.not-Some (c.in_ok-writer-in-WriteFile.ensures.begun m.disk (uses_of c.self.inside.channels m.channels) ch st.holds
+    (subst (λ k. uses_of k.channels m.channels ch ≡ Idle) (sym c.self.view_is) idle) (not_del _ x.1.kept) x.1.plain) in
+    absurd (has_place m.disk x.1.block x.1.place none.0)
+
+pub returns-in-Some-clause-opened : goal.returns-in-Some-clause-opened
+returns-in-Some-clause-opened g c = λ m p ch h s idle.
+    let st = stood g.M.Medium.seen _ _ m c.self.view_is s in
+    let x = writable _ _ m p c.args.plan c.in-WriteFile.kind c.in-WriteFile.name h c.in-WriteFile.is in
+    let begun = match_some _ _ _ _ c.in-Some.is (c.in_ok-writer-in-WriteFile.ensures.begun m.disk (uses_of c.self.inside.channels m.channels) ch st.holds
+    (subst (λ k. uses_of k.channels m.channels ch ≡ Idle) (sym c.self.view_is) idle) (not_del _ x.1.kept) x.1.plain) in
+    let disk = ap (disk_opened m.disk) x.0 ∙ ap (λ n. with_file m.disk (unclosed c.in-WriteFile.kind n) 1) (sym x.1.cut ∙ ap before_filler (sym c.bytes.ensures.value)) in
+    subst (λ k. IsOpened (g.M.Medium.seen k.medium).tracks (g.M.Medium.seen c.begin_write.new.self).content m ch p (uses_of k.channels m.channels) (Some (code.Writing c.in-Some.writer false))) c.self.view_is
+    (begins_as _ _ m p _ (uses_of c.self.inside.channels m.channels) ch (new_slot m.disk) false [] 1 c.in-Some.writer (ap (opened_by m.disk) x.0) disk begun)
+
+-- a file that is appended to
+
+pub returns-in_err-writer-in-AppendFile-clause-stopped : goal.returns-in_err-writer-in-AppendFile-clause-stopped
+returns-in_err-writer-in-AppendFile-clause-stopped g c = λ m p h s.
+    let st = stood g.M.Medium.seen _ _ m c.self.view_is s in
+    let x = appendable _ _ m p c.args.plan c.in-AppendFile.found (subst (λ k. PlannedAs (g.M.Medium.seen k.medium).tracks (g.M.Medium.seen k.medium).content m (Ok p) (Ok c.args.plan)) (sym c.self.view_is) h) c.in-AppendFile.is in
+    let can = can_be c.in-AppendFile.found.slot c.self.inside.channels m x.1.file st.each x.1.in_slot x.1.closed x.1.plain x.1.unused in
+    let failed = failed_by (g.M.Medium.seen c.self.inside.volume) (g.M.Medium.seen c.begin_append.new.self) c.in_err-writer-in-AppendFile.field-0.0 m.protected st.same_protection x.1.unprotected
+    (c.in_err-writer-in-AppendFile.ensures.cause m.disk (uses_of c.self.inside.channels m.channels) x.1.file st.holds can x.1.stands) in
+    on_err _ _ (subst (λ k. Stopped (g.M.Medium.seen k.medium).tracks (g.M.Medium.seen c.begin_append.new.self).content m.disk (disk_opened m.disk p) (uses_of k.channels m.channels) × HasFailed (g.M.Medium.seen k.medium) (g.M.Medium.seen c.begin_append.new.self)) c.self.view_is
+    (nothing_begun _ _ _ _ _ _ c.in_err-writer-in-AppendFile.ensures.err st.holds, failed))
+
+pub returns-in_ok-writer-in-AppendFile-clause-opened : goal.returns-in_ok-writer-in-AppendFile-clause-opened
+returns-in_ok-writer-in-AppendFile-clause-opened g c = λ m p ch h s idle.
+    let st = stood g.M.Medium.seen _ _ m c.self.view_is s in
+    let x = appendable _ _ m p c.args.plan c.in-AppendFile.found (subst (λ k. PlannedAs (g.M.Medium.seen k.medium).tracks (g.M.Medium.seen k.medium).content m (Ok p) (Ok c.args.plan)) (sym c.self.view_is) h) c.in-AppendFile.is in
+    let can = can_be c.in-AppendFile.found.slot c.self.inside.channels m x.1.file st.each x.1.in_slot x.1.closed x.1.plain x.1.unused in
+    let begun = c.in_ok-writer-in-AppendFile.ensures.begun m.disk (uses_of c.self.inside.channels m.channels) ch x.1.file st.holds (subst (λ k. uses_of k.channels m.channels ch ≡ Idle) (sym c.self.view_is) idle) can x.1.kept x.1.stands in
+    subst (λ k. IsOpened (g.M.Medium.seen k.medium).tracks (g.M.Medium.seen c.begin_append.new.self).content m ch p (uses_of k.channels m.channels) (Some (code.Writing c.in_ok-writer-in-AppendFile.writer false))) c.self.view_is
+    (begins_as _ _ m p _ (uses_of c.self.inside.channels m.channels) ch c.in-AppendFile.found.slot false (bytes_in x.1.file.body) x.1.file.held c.in_ok-writer-in-AppendFile.writer
+    (ap (opened_by m.disk) x.0 ∙ ap (λ o. appended_to o c.in-AppendFile.found.slot) x.1.in_slot) (ap (disk_opened m.disk) x.0 ∙ ap (λ o. reopened_at o m.disk c.in-AppendFile.found.slot) x.1.in_slot) begun)
+
+-- a file that is replaced
+
+pub returns-in_err-writer-in-ReplaceFile-clause-stopped : goal.returns-in_err-writer-in-ReplaceFile-clause-stopped
+returns-in_err-writer-in-ReplaceFile-clause-stopped g c = λ m p h s.
+    let st = stood g.M.Medium.seen _ _ m c.self.view_is s in
+    let x = replaceable _ _ m p c.args.plan c.in-ReplaceFile.slot h c.in-ReplaceFile.is in
+    let failed = failed_by (g.M.Medium.seen c.self.inside.volume) (g.M.Medium.seen c.begin_replace.new.self) c.in_err-writer-in-ReplaceFile.field-0.0 m.protected st.same_protection x.1.unprotected
+    (c.in_err-writer-in-ReplaceFile.ensures.cause m.disk (uses_of c.self.inside.channels m.channels) st.holds) in
+    on_err _ _ (subst (λ k. Stopped (g.M.Medium.seen k.medium).tracks (g.M.Medium.seen c.begin_replace.new.self).content m.disk (disk_opened m.disk p) (uses_of k.channels m.channels) × HasFailed (g.M.Medium.seen k.medium) (g.M.Medium.seen c.begin_replace.new.self)) c.self.view_is
+    (nothing_begun _ _ _ _ _ _ c.in_err-writer-in-ReplaceFile.ensures.err st.holds, failed))
+
+pub returns-in_default-2-clause-opened : goal.returns-in_default-2-clause-opened
+returns-in_default-2-clause-opened g c = λ m p ch h s idle.
+    let st = stood g.M.Medium.seen _ _ m c.self.view_is s in
+    let x = replaceable _ _ m p c.args.plan c.in-ReplaceFile.slot h c.in-ReplaceFile.is in
+    let can = can_be c.in-ReplaceFile.slot c.self.inside.channels m x.1.file st.each x.1.in_slot x.1.closed x.1.plain x.1.unused in
+    let none = match_none _ _ _ c.in_default-2.not-Some (c.in_ok-writer-in-ReplaceFile.ensures.begun m.disk (uses_of c.self.inside.channels m.channels) ch x.1.file st.holds (subst (λ k. uses_of k.channels m.channels ch ≡ Idle) (sym c.self.view_is) idle) can) in
+    absurd (no_block m.disk x.1.block none.0)
+
+pub returns-in-Some-2-clause-opened : goal.returns-in-Some-2-clause-opened
+returns-in-Some-2-clause-opened g c = λ m p ch h s idle.
+    let st = stood g.M.Medium.seen _ _ m c.self.view_is s in
+    let x = replaceable _ _ m p c.args.plan c.in-ReplaceFile.slot h c.in-ReplaceFile.is in
+    let can = can_be c.in-ReplaceFile.slot c.self.inside.channels m x.1.file st.each x.1.in_slot x.1.closed x.1.plain x.1.unused in
+    let begun = match_some _ _ _ _ c.in-Some-2.is (c.in_ok-writer-in-ReplaceFile.ensures.begun m.disk (uses_of c.self.inside.channels m.channels) ch x.1.file st.holds (subst (λ k. uses_of k.channels m.channels ch ≡ Idle) (sym c.self.view_is) idle) can) in
+    subst (λ k. IsOpened (g.M.Medium.seen k.medium).tracks (g.M.Medium.seen c.begin_replace.new.self).content m ch p (uses_of k.channels m.channels) (Some (code.Writing c.in-Some-2.writer false))) c.self.view_is
+    (begins_as _ _ m p _ (uses_of c.self.inside.channels m.channels) ch c.in-ReplaceFile.slot true [] 1 c.in-Some-2.writer (ap (opened_by m.disk) x.0) (ap (disk_opened m.disk) x.0) begun)

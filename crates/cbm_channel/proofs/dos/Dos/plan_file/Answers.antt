@@ -1,19 +1,22 @@
-use Rattle.std.proofs.Common.{sym, subst, ◌∙◌}
-use Rattle.cbm_machine.specs.Finding.{found}
-use Rattle.cbm_channel.specs.Planned.{FoundAs}
-use Rattle.cbm_channel.proofs.Stands.{none_writes}
-use Rattle.cbm_channel.proofs.Planning.{refused_planned, read_planned}
+use Rattle.std.proofs.Common.{sym, ◌∙◌}
+use Rattle.cbm_channel.proofs.Asking.{is_append, is_write, passed_refusal, refused_append, append_planned, writing_planned, too_many_put}
 use Rattle.cbm_channel.proofs.dos.Dos.plan_file.Goals as goal
 
-pub returns-in-Ok-clause-planned : goal.returns-in-Ok-clause-planned
-returns-in-Ok-clause-planned g c = λ m ch reads none s.
-    let met = c.found-found.ensures.found m s in
-    read_planned (g.M.Medium.seen c.args.self.now.medium).tracks (g.M.Medium.seen c.args.self.now.medium).content m ch c.args.wanted.now reads c.cost_of.result c.in-Ok.found c.plan_read.result (c.cost_of.ensures.cost _ _ m.disk _ met) (sym (c.is_too_many.ensures m s) ∙ c.if-is_too_many.false)
-    (subst (FoundAs (g.M.Medium.seen c.args.self.now.medium).tracks (g.M.Medium.seen c.args.self.now.medium).content m.disk (found m.disk c.args.wanted.now.name c.args.wanted.now.kind)) c.in-Ok.is met) none
-    (λ n f is meets. c.plan_read.ensures.planned _ _ m n f (none_writes _ n _ m.channels s.each) is meets)
+pub returns-in_err-found-clause-planned : goal.returns-in_err-found-clause-planned
+returns-in_err-found-clause-planned g c = λ m ch text bytes none s.
+    passed_refusal _ _ m _ c.in_err-found.field-0.0 c.from_residual.result c.from_residual.ensures.1
+    (refused_append _ _ m ch c.args.wanted bytes (is_append c.args.wanted.mode c.eq-3.result c.eq-3.ensures c.if-eq-3.true) c.in_err-found.field-0.0 (sym (c.is_too_many.ensures m s) ∙ c.if-is_too_many.false) (c.in_err-found.ensures.found m s))
 
-pub returns-in-Err-clause-planned : goal.returns-in-Err-clause-planned
-returns-in-Err-clause-planned g c = λ m ch reads none s.
-    let met = c.found-found.ensures.found m s in
-    refused_planned (g.M.Medium.seen c.args.self.now.medium).tracks (g.M.Medium.seen c.args.self.now.medium).content m ch c.args.wanted.now reads c.cost_of.result c.in-Err.status (c.cost_of.ensures.cost _ _ m.disk _ met) (sym (c.is_too_many.ensures m s) ∙ c.if-is_too_many.false)
-    (subst (FoundAs (g.M.Medium.seen c.args.self.now.medium).tracks (g.M.Medium.seen c.args.self.now.medium).content m.disk (found m.disk c.args.wanted.now.name c.args.wanted.now.kind)) c.in-Err.is met)
+pub returns-then-eq-3-clause-planned : goal.returns-then-eq-3-clause-planned
+returns-then-eq-3-clause-planned g c = λ m ch text bytes none s.
+    append_planned _ _ m ch c.args.wanted bytes (is_append c.args.wanted.mode c.eq-3.result c.eq-3.ensures c.if-eq-3.true) c.in_ok-found.found c.plan_append.result (sym (c.is_too_many.ensures m s) ∙ c.if-is_too_many.false)
+    (c.in_ok-found.ensures.found m s) (λ n f is. c.plan_append.ensures.planned m n f s is)
+
+pub returns-clause-planned : goal.returns-clause-planned
+returns-clause-planned g c = λ m ch text bytes none s.
+    writing_planned _ _ m ch c.args.wanted bytes (is_write c.args.wanted.mode c.eq-2.result c.eq-3.result c.eq-2.ensures c.if-eq-2.false c.eq-3.ensures c.if-eq-3.false) c.plan_writing.result (sym (c.is_too_many.ensures m s) ∙ c.if-is_too_many.false)
+    (c.plan_writing.ensures.planned m text bytes s)
+
+pub returns-then-is_too_many-clause-planned : goal.returns-then-is_too_many-clause-planned
+returns-then-is_too_many-clause-planned g c = λ m ch text bytes none s.
+    too_many_put _ _ m ch c.args.wanted bytes c.plain-then-is_too_many.result c.eq-2.result c.eq-2.ensures c.if-eq-2.false (sym (c.is_too_many.ensures m s) ∙ c.if-is_too_many.true) c.plain-then-is_too_many.ensures

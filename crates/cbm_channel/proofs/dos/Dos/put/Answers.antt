@@ -1,12 +1,19 @@
-use Rattle.std.proofs.Common.{ap, arith}
-use Rattle.cbm_channel.proofs.Idle.{below_15, put_idle}
-use Rattle.cbm_channel.proofs.Stands.{idle_at, moved}
+use Rattle.std.proofs.Common.{ap, arith, refl, inl, sym}
 use Rattle.cbm_machine.specs.Calls.{put}
+use Rattle.cbm_channel.specs.Going.{put_written}
+use Rattle.cbm_channel.proofs.Asked.{below_15, put_other}
+use Rattle.cbm_channel.proofs.Stands.{zip_at}
+use Rattle.cbm_channel.proofs.Goings.{part_same}
 use Rattle.cbm_channel.proofs.dos.Dos.put.Goals as goal
 
-pub returns-then-channel-eq15-clause-leads : goal.returns-then-channel-eq15-clause-leads
-returns-then-channel-eq15-clause-leads g c = λ m s. moved _ _ _ _ _ _ _ _ (ap (λ x. put x c.args.byte m) c.if-channel-eq15.true) (c.gather.ensures.leads m s)
+-- a text for channel 15
+pub returns-then-channel-eq15-clause-goes : goal.returns-then-channel-eq15-clause-goes
+returns-then-channel-eq15-clause-goes g c = λ m s.
+    (_, (_, inl (ap (λ x. put x c.args.byte m) (sym c.if-channel-eq15.true)), refl), c.gather.ensures.leads m s)
 
-pub returns-else-channel-eq15-clause-leads : goal.returns-else-channel-eq15-clause-leads
-returns-else-channel-eq15-clause-leads g c = λ m s.
-    moved _ _ _ _ _ _ _ _ (put_idle c.args.channel m (below_15 c.args.channel (omega (arith, c.requires, c.if-channel-eq15.false))) c.args.byte (idle_at _ _ _ _ _ _ m c.args.channel s)) s
+-- a file
+pub returns-else-channel-eq15-clause-goes : goal.returns-else-channel-eq15-clause-goes
+returns-else-channel-eq15-clause-goes g c = λ m s.
+    let next = c.store.ensures.goes m s in
+    let law = put_other c.args.channel m _ (below_15 c.args.channel (omega (arith, c.requires, c.if-channel-eq15.false))) (zip_at c.args.self.now.channels m.channels c.args.channel s.each) c.args.byte in
+    (next.0, (next.0, part_same _ c.args.channel (put_written c.args.channel c.args.byte) (put c.args.channel c.args.byte) m next.0 law next.1, refl), next.2)

@@ -3,9 +3,9 @@ use Rattle.std.specs.Prelude.{slice_index_or}
 use Rattle.cbm_machine.specs.Machines.{channel}
 use Rattle.cbm_machine.specs.Talking.{taken}
 use Rattle.cbm_channel.specs.Standing.{uses_of}
-use Rattle.cbm_channel.proofs.Idle.{below_15, taken_other}
-use Rattle.cbm_channel.proofs.Stands.{with_one, told_on, stands_at, idle_at, use_at, moved, stood, not_ok}
-use Rattle.cbm_channel.proofs.Orders.{taken_well}
+use Rattle.cbm_channel.proofs.Asked.{below_15, taken_other, never_relative}
+use Rattle.cbm_channel.proofs.Stands.{with_one, told_on, stands_at, use_at, moved, stood, not_ok}
+use Rattle.cbm_channel.proofs.Orders.{taken_fits}
 use Rattle.cbm_channel.proofs.dos.Dos.taken.Goals as goal
 
 pub returns-then-channel-eq15-clause-leads : goal.returns-then-channel-eq15-clause-leads
@@ -26,9 +26,8 @@ returns-in_default-clause-leads g c = λ m s.
     let st = stood g.M.Medium.seen _ _ m c.self.view_is s in
     let lt : c.args.channel < 15 = omega (arith, c.requires, c.if-channel-eq15.false) in
     let at = stands_at _ _ _ _ _ _ m c.args.channel c.index-self-channel.result lt c.self.invariant st in
-    let y = channel m c.args.channel in
     let same = use_at (slice_index_or c.self.inside.channels c.args.channel c.index-self-channel.result) _ m.channels c.args.channel _ (omega (arith, lt, c.self.invariant.count)) refl in
-    let well = c.taken-2.ensures.well m.disk (uses_of c.self.inside.channels m.channels) c.args.channel y st.holds same at in
-    moved _ _ _ _ _ _ _ _ (taken_other c.args.channel m (below_15 c.args.channel lt))
+    let well = c.taken-2.ensures.well m.disk (uses_of c.self.inside.channels m.channels) c.args.channel (channel m c.args.channel) st.holds same at in
+    moved _ _ _ _ _ _ _ _ (taken_other c.args.channel m _ (below_15 c.args.channel lt) at)
     (with_one _ _ _ _ _ _ m c.args.channel _ _ lt c.self.invariant well.1 well.2
-    (taken_well m.disk y (idle_at _ _ _ _ _ _ m c.args.channel st) (st.orderly.reading c.args.channel)) st)
+    (taken_fits m.disk m.protected m.channels c.args.channel (channel m c.args.channel) refl (never_relative _ _ at) st.orderly) st)

@@ -1,0 +1,205 @@
+-- Parts of a call one after another.
+use Rattle.std.proofs.Common.{◌≡◌, ◌≢◌, ◌⊎◌, ℕ, ◌*◌, ◌<◌, ◌≤◌, Bool, true, false, List, [], ◌∷◌, ◌++◌, length, refl, sym, ap, ◌∙◌, subst, arith, inl, inr}
+use Rattle.cbm_medium.specs.Seen.{Seen, HasFailed}
+use Rattle.std.specs.Prelude.{◌==◌, MatchBool, slice_set, slice_index_or}
+use Rattle.cbm_machine.specs.Plans.{open_text}
+use Rattle.cbm_machine.specs.Calls.{command}
+use Rattle.std.proofs.lemmas.List.{get_or-set_same, get_or-set_other}
+use Rattle.cbm_file.specs.Files.{Disk, file_at}
+use Rattle.cbm_volume.specs.Writers.{known}
+use Rattle.cbm_machine.specs.Statuses.{return}
+use Rattle.cbm_machine.specs.Machines.{Machine, Channel, Closed, Reading, Writing, Stopped, Relative, channel, with_channel, with_disk}
+use Rattle.cbm_machine.specs.Closing.{put_on, with_some_byte, finish_channel, close_one, without_text}
+use Rattle.cbm_channel.specs.declared.channel.Channel.TheVariants as code
+use Rattle.cbm_channel.specs.declared.channel.Channel as kept
+use Rattle.cbm_channel.specs.Written.{disk_closed}
+use Rattle.cbm_channel.proofs.Finished.{finish_law}
+use Rattle.cbm_channel.proofs.Stands.{zip_at}
+use Rattle.cbm_channel.specs.Standing.{Kept, ChannelStands, Stands}
+use Rattle.cbm_channel.specs.Going.{IsStopped, Passes, PassesAll, WentFrom, Went, Goes, GoesFrom, AfterClose, opening_parts, KeepsMedium, some_byte_put}
+
+-- a part by another name, from this machine
+pub part_same : (failed : Type 0) (ch : ℕ) (part part' : Machine → Machine) (m n : Machine) → part' m ≡ part m → Passes failed ch part m n → Passes failed ch part' m n
+part_same failed ch part part' m n e (inl x) = inl (x ∙ sym e)
+part_same failed ch part part' m n e (inr x) = inr (x.0, subst (λ y. IsStopped ch m y n) (sym e) x.1)
+
+-- a failure in a part is one in the whole
+pub passes_on : (failed failed' : Type 0) (ch : ℕ) (part : Machine → Machine) (m n : Machine) → (failed → failed') → Passes failed ch part m n → Passes failed' ch part m n
+passes_on failed failed' ch part m n f (inl x) = inl x
+passes_on failed failed' ch part m n f (inr x) = inr (f x.0, x.1)
+
+pub all_on : (failed failed' : Type 0) (parts : List (ℕ × (Machine → Machine))) (m n : Machine) → (failed → failed') → PassesAll failed parts m n → PassesAll failed' parts m n
+all_on failed failed' [] m n f h = h
+all_on failed failed' (x ∷ parts) m n f h = (h.0, passes_on failed failed' x.0 x.1 m h.0 f h.1, all_on failed failed' parts h.0 n f h.2)
+
+-- one part is a call of one
+pub went_goes : {M : Type 0} (seen : M → Seen) (old new : Kept M) (ch : ℕ) (part : Machine → Machine) → Went seen old new ch part → Goes seen old new ((ch, part) ∷ [])
+went_goes seen old new ch part w m s = let x = w m s in (x.0, (x.0, x.1, refl), x.2)
+
+-- one more part behind those
+pub all_more : (failed : Type 0) (parts : List (ℕ × (Machine → Machine))) (ch : ℕ) (part : Machine → Machine) (m k n : Machine) → PassesAll failed parts m k → Passes failed ch part k n → PassesAll failed (parts ++ (ch, part) ∷ []) m n
+all_more failed [] ch part m k n h p = (n, subst (λ y. Passes failed ch part y n) h p, refl)
+all_more failed (x ∷ parts) ch part m k n h p = (h.0, h.1, all_more failed parts ch part h.0 k n h.2 p)
+
+-- a failure early, and late
+pub early : (a b c : Seen) → b.failures ≤ c.failures → HasFailed a b → HasFailed a c
+early a b c le h = omega (arith, h, le)
+
+pub late : (a b c : Seen) → a.failures ≤ b.failures → HasFailed b c → HasFailed a c
+late a b c le h = omega (arith, h, le)
+
+-- ---- CLOSE of a channel
+
+-- what is near to a machine: a byte more on one channel
+record IsNear (ch : ℕ) (m n : Machine) : Type 0 where
+  pub slots : (slot : ℕ) → file_at n.disk slot ≡ file_at m.disk slot
+  pub tracks : n.tracks ≡ m.tracks
+  pub protection : n.protected ≡ m.protected
+  pub others : (k : ℕ) → k ≢ ch → channel n k ≡ channel m k
+
+near_itself : (ch : ℕ) (m : Machine) → IsNear ch m m
+near_itself ch m = record { slots = λ slot. refl; tracks = refl; protection = refl; others = λ k ne. refl }
+
+near_put : (ch byte : ℕ) (x : Channel) (m : Machine) → IsNear ch m (put_on ch byte x m)
+near_put ch byte Closed m = near_itself ch m
+near_put ch byte (Reading s left) m = near_itself ch m
+near_put ch byte (Stopped s) m = near_itself ch m
+near_put ch byte (Relative s k p) m = near_itself ch m
+near_put ch byte (Writing s bytes blocks true replaces) m = near_itself ch m
+near_put ch byte (Writing s bytes blocks false replaces) m = by_need (length bytes == 254 * blocks) (m.disk.free == 0) refl refl
+  where
+    other : (y : Channel) (k : ℕ) → k ≢ ch → slice_index_or (slice_set m.channels ch y) k Closed ≡ slice_index_or m.channels k Closed
+    other y k ne = get_or-set_other m.channels ch k y Closed ne
+
+    by_need : (b f : Bool) → (length bytes == 254 * blocks) ≡ b → (m.disk.free == 0) ≡ f → IsNear ch m (put_on ch byte (Writing s bytes blocks false replaces) m)
+    by_need false f e g = rw e (record { slots = λ slot. refl; tracks = refl; protection = refl; others = λ k ne. other _ k ne })
+    by_need true true e g = rw (e, g) (record { slots = λ slot. refl; tracks = refl; protection = refl; others = λ k ne. other _ k ne })
+    by_need true false e g = rw (e, g) (record { slots = λ slot. refl; tracks = refl; protection = refl; others = λ k ne. other _ k ne })
+
+near_some : (ch : ℕ) (x : Channel) (m : Machine) → IsNear ch m (with_some_byte ch x m)
+near_some ch Closed m = near_itself ch m
+near_some ch (Reading s left) m = near_itself ch m
+near_some ch (Stopped s) m = near_itself ch m
+near_some ch (Relative s k p) m = near_itself ch m
+near_some ch (Writing s [] blocks full replaces) m = near_put ch return (Writing s [] blocks full replaces) m
+near_some ch (Writing s (b ∷ bytes) blocks full replaces) m = near_itself ch m
+
+-- a channel that is closed, or takes no more bytes: CLOSE writes nothing
+quiet : (d : Disk) (x : Channel) → (x ≡ Closed) ⊎ ((slot : ℕ) × (x ≡ Stopped slot)) → disk_closed d x ≡ d
+quiet d x (inl e) = ap (disk_closed d) e
+quiet d x (inr e) = ap (disk_closed d) e.1
+
+module _ (failed : Type 0) (ch : ℕ) (m n1 n2 : Machine) (closed : channel n2 ch ≡ Closed) where
+  finish_else : (k : ℕ) → k ≢ ch → channel (finish_channel ch n1) k ≡ channel n1 k
+  finish_else k ne = ap (λ (y : Machine). channel y k) (finish_law ch n1 (channel n1 ch) refl) ∙ get_or-set_other n1.channels ch k Closed Closed ne
+
+  -- the return was put, and then CLOSE was stopped
+  stopped_late : n1 ≡ some_byte_put ch m → IsStopped ch n1 (finish_channel ch n1) n2 → IsStopped ch m (close_one ch m) (without_text ch n2)
+  stopped_late e s =
+      let near : IsNear ch m n1 = subst (IsNear ch m) (sym e) (near_some ch (channel m ch) m) in
+      let after : (slot : ℕ) → file_at (finish_channel ch n1).disk slot ≡ file_at (close_one ch m).disk slot = λ slot. ap (λ (y : Machine). file_at (finish_channel ch y).disk slot) e in
+      record {
+        either = λ slot. elim (s.either slot) [ inl k ↦ inl (k ∙ ap known (near.slots slot)) | inr k ↦ inr (k ∙ ap known (after slot)) ];
+        same_tracks = s.same_tracks ∙ near.tracks;
+        same_protection = s.same_protection ∙ near.protection;
+        own = inl closed;
+        others = λ k ne. s.others k ne ∙ near.others k ne;
+        fault = s.fault;
+      }
+
+  -- the return was refused, and CLOSE wrote nothing
+  stopped_early : IsStopped ch m (some_byte_put ch m) n1 → n2 ≡ finish_channel ch n1 → IsStopped ch m (close_one ch m) (without_text ch n2)
+  stopped_early s e =
+      let same : finish_channel ch n1 ≡ with_channel ch Closed (with_disk n1.disk n1) = finish_law ch n1 (channel n1 ch) refl ∙ ap (λ d. with_channel ch Closed (with_disk d n1)) (quiet n1.disk (channel n1 ch) s.own) in
+      let at : n2 ≡ with_channel ch Closed (with_disk n1.disk n1) = e ∙ same in
+      record {
+        either = λ slot. elim (s.either slot) [
+          | inl k ↦ inl (ap (λ (y : Machine). known (file_at y.disk slot)) at ∙ k)
+          | inr k ↦ inl (ap (λ (y : Machine). known (file_at y.disk slot)) at ∙ k ∙ ap known ((near_some ch (channel m ch) m).slots slot))
+        ];
+        same_tracks = ap (λ (y : Machine). y.tracks) at ∙ s.same_tracks;
+        same_protection = ap (λ (y : Machine). y.protected) at ∙ s.same_protection;
+        own = inl closed;
+        others = λ k ne. ap (λ (y : Machine). channel y k) e ∙ finish_else k ne ∙ s.others k ne;
+        fault = (s.fault.0, ap (λ (y : Machine). y.status) at ∙ s.fault.1);
+      }
+
+  -- both were refused
+  stopped_twice : IsStopped ch m (some_byte_put ch m) n1 → IsStopped ch n1 (finish_channel ch n1) n2 → IsStopped ch m (close_one ch m) (without_text ch n2)
+  stopped_twice s z =
+      let disk : (finish_channel ch n1).disk ≡ n1.disk = ap (λ (y : Machine). y.disk) (finish_law ch n1 (channel n1 ch) refl) ∙ quiet n1.disk (channel n1 ch) s.own in
+      let second : (slot : ℕ) → known (file_at n2.disk slot) ≡ known (file_at n1.disk slot) = λ slot. elim (z.either slot) [ inl k ↦ k | inr k ↦ k ∙ ap (λ (d : Disk). known (file_at d slot)) disk ] in
+      record {
+        either = λ slot. elim (s.either slot) [ inl k ↦ inl (second slot ∙ k) | inr k ↦ inl (second slot ∙ k ∙ ap known ((near_some ch (channel m ch) m).slots slot)) ];
+        same_tracks = z.same_tracks ∙ s.same_tracks;
+        same_protection = z.same_protection ∙ s.same_protection;
+        own = inl closed;
+        others = λ k ne. z.others k ne ∙ s.others k ne;
+        fault = z.fault;
+      }
+
+  -- CLOSE IS ONE PART of a call
+  pub close_passes : Passes failed ch (some_byte_put ch) m n1 → Passes failed ch (finish_channel ch) n1 n2 → Passes failed ch (close_one ch) m (without_text ch n2)
+  close_passes (inl a) (inl b) = inl (ap (without_text ch) (b ∙ ap (finish_channel ch) a))
+  close_passes (inl a) (inr b) = inr (b.0, stopped_late a b.1)
+  close_passes (inr a) (inl b) = inr (a.0, stopped_early a.1 b)
+  close_passes (inr a) (inr b) = inr (b.0, stopped_twice a.1 b.1)
+
+-- the machine's channel of one that the code has closed
+pub closed_at : {M : Type 0} (seen : M → Seen) (k : Kept M) (n : Machine) (chs : List kept.Channel) (ch : ℕ) → Stands seen k n → k.channels ≡ slice_set chs ch code.Closed → ch < length chs → channel n ch ≡ Closed
+closed_at seen k n chs ch st e lt =
+    subst (λ x. ChannelStands x (channel n ch)) (ap (λ xs. slice_index_or xs ch code.Closed) e ∙ get_or-set_same chs ch code.Closed code.Closed lt) (zip_at k.channels n.channels ch st.each)
+
+-- ---- calls in several parts
+
+pub keeps_then : (a b c : Seen) → KeepsMedium a b → KeepsMedium b c → KeepsMedium a c
+keeps_then a b c x y = record { tracks = y.tracks ∙ x.tracks; protected = y.protected ∙ x.protected; counted = omega (arith, x.counted, y.counted) }
+
+pub keeps_same : (a b : Seen) → b ≡ a → KeepsMedium a b
+keeps_same a b e = record { tracks = ap (λ (s : Seen). s.tracks) e; protected = ap (λ (s : Seen). s.protected) e; counted = omega (arith, ap (λ (s : Seen). s.failures) e) }
+
+module _ {M : Type 0} (seen : M → Seen) (old mid new : Kept M) (parts : List (ℕ × (Machine → Machine))) (ch : ℕ) (part : Machine → Machine) where
+  -- one part more
+  pub goes_on : KeepsMedium (seen old.medium) (seen mid.medium) → KeepsMedium (seen mid.medium) (seen new.medium) → Goes seen old mid parts → Went seen mid new ch part → Goes seen old new (parts ++ (ch, part) ∷ [])
+  goes_on a b h w m s =
+      let x = h m s in
+      let y = w x.0 x.2 in (
+        y.0,
+        all_more _ parts ch part m x.0 y.0 (all_on _ _ parts m x.0 (early (seen old.medium) (seen mid.medium) (seen new.medium) b.counted) x.1)
+            (passes_on _ _ ch part x.0 y.0 (late (seen old.medium) (seen mid.medium) (seen new.medium) a.counted) y.1),
+        y.2,
+      )
+
+-- a part that can't be stopped
+pub leads_went : {M : Type 0} (seen : M → Seen) (old new : Kept M) (ch : ℕ) (part : Machine → Machine) → ((m : Machine) → Stands seen old m → Stands seen new (part m)) → Went seen old new ch part
+leads_went seen old new ch part h m s = (part m, inl refl, h m s)
+
+-- CLOSE, and then a part that can't be stopped
+pub close_then : {M : Type 0} (seen : M → Seen) (old mid new : Kept M) (ch : ℕ) (first second : Machine → Machine) (m : Machine) → seen new.medium ≡ seen mid.medium → Went seen old mid ch first → Stands seen old m
+    → ((n : Machine) → Stands seen mid n → Passes (HasFailed (seen old.medium) (seen new.medium)) ch first m n → Stands seen new (second n)) → GoesFrom seen old new ((ch, first) ∷ (ch, second) ∷ []) m
+close_then seen old mid new ch first second m same w s h =
+    let x = w m s in
+    let passes : Passes (HasFailed (seen old.medium) (seen new.medium)) ch first m x.0 =
+    passes_on (HasFailed (seen old.medium) (seen mid.medium)) (HasFailed (seen old.medium) (seen new.medium)) ch first m x.0 (λ f. subst (λ (v : Seen). HasFailed (seen old.medium) v) (sym same) f) x.1 in
+    (second x.0, (x.0, passes, (second x.0, inl refl, refl)), h x.0 x.2 passes)
+
+-- CLOSE, and then a part that may be stopped
+pub close_begin : {M : Type 0} (seen : M → Seen) (old mid new : Kept M) (ch : ℕ) (first second : Machine → Machine) (m : Machine) → KeepsMedium (seen old.medium) (seen mid.medium) → KeepsMedium (seen mid.medium) (seen new.medium) → Went seen old mid ch first → Stands seen old m
+    → ((n : Machine) → Stands seen mid n → Passes (HasFailed (seen old.medium) (seen new.medium)) ch first m n → WentFrom seen mid new ch second n) → GoesFrom seen old new ((ch, first) ∷ (ch, second) ∷ []) m
+close_begin seen old mid new ch first second m a b w s h =
+    let x = w m s in
+    let passes : Passes (HasFailed (seen old.medium) (seen new.medium)) ch first m x.0 = passes_on _ _ ch first m x.0 (early (seen old.medium) (seen mid.medium) (seen new.medium) b.counted) x.1 in
+    let y = h x.0 x.2 passes in
+    (y.0, (x.0, passes, (y.0, passes_on _ _ ch second x.0 y.0 (late (seen old.medium) (seen mid.medium) (seen new.medium) a.counted) y.1, refl)), y.2)
+
+pub parts_other : (ch : ℕ) (text : List ℕ) → (ch == 15) ≡ false → opening_parts ch text ≡ (ch, close_one ch) ∷ (ch, open_text ch text) ∷ []
+parts_other ch text e = rw e refl
+
+pub parts_command : (ch : ℕ) (text : List ℕ) → (ch == 15) ≡ true → opening_parts ch text ≡ (15, command text) ∷ []
+parts_command ch text e = rw e refl
+
+pub after_close : {M : Type 0} (seen : M → Seen) (old new : Kept M) (ch : ℕ) (m n : Machine) → (ch == 15) ≡ false → Passes (HasFailed (seen old.medium) (seen new.medium)) ch (close_one ch) m n → AfterClose seen old new ch m n
+after_close seen old new ch m n e h = subst (λ (b : Bool). MatchBool b (n ≡ m) (Passes (HasFailed (seen old.medium) (seen new.medium)) ch (close_one ch) m n)) (sym e) h
+
+pub after_none : {M : Type 0} (seen : M → Seen) (old new : Kept M) (ch : ℕ) (m : Machine) → (ch == 15) ≡ true → AfterClose seen old new ch m m
+after_none seen old new ch m e = subst (λ (b : Bool). MatchBool b (m ≡ m) (Passes (HasFailed (seen old.medium) (seen new.medium)) ch (close_one ch) m m)) (sym e) refl

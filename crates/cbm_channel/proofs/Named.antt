@@ -1,0 +1,143 @@
+-- What the text of an OPEN can ask for: the name ends before its first filler, and no deleted file is meant.
+use Rattle.std.proofs.Common.{◌≡◌, ℕ, zero, suc, Bool, true, false, List, [], ◌∷◌, take, refl, ap, subst}
+use Rattle.std.specs.Prelude.{◌==◌, nat_lt, ◌&&◌, ◌||◌, length, is_some, if◌then◌else◌, Option, Some, None, Result, Ok, Err, IfOk}
+use Rattle.cbm_file.specs.declared.file_type.FileType.{FileType}
+use Rattle.cbm_file.specs.declared.file_type.FileType.TheVariants.{Del, Seq, Prg}
+use Rattle.cbm_file.specs.Types.{is_same_type}
+use Rattle.cbm_file.specs.Padding.{before_filler}
+use Rattle.cbm_command.specs.declared.refusal.Refusal.{Refusal}
+use Rattle.cbm_command.specs.declared.refusal.Refusal.TheVariants.{Syntax, LongText}
+use Rattle.cbm_command.specs.declared.opening.Mode.{Mode}
+use Rattle.cbm_command.specs.declared.opening.Mode.TheVariants.{Read, Write, Append}
+use Rattle.cbm_command.specs.declared.opening.Wanted.{Wanted}
+use Rattle.cbm_command.specs.declared.opening.Opening.{Opening}
+use Rattle.cbm_command.specs.declared.opening.Opening.TheVariants as opening
+use Rattle.cbm_command.specs.Texts.{comma, colon, equals, before, behind, has, parts_at}
+use Rattle.cbm_command.specs.Names.{name_of, is_empty, is_wild, filler, asterisk}
+use Rattle.cbm_command.specs.Refusals.{◌>>=◌, drive_head}
+use Rattle.cbm_command.specs.Openings.{set_mode, with_piece, with_pieces, is_length_piece, first_byte, by_channel, default_kind, or_default, is_named_whole, file_named, plain_file, file_asked, at_in_head, headed_file, pattern_asked, listing_asked, by_first, opening_of}
+
+-- the type of a deleted file is meant
+abbrev pub means_deleted : Option FileType → Bool
+means_deleted None = false
+means_deleted (Some k) = is_same_type Del k
+
+abbrev IsAskable : Wanted → Type 0
+IsAskable w = (before_filler w.name ≡ w.name) × (means_deleted w.kind ≡ false)
+
+abbrev CanBeAsked : Opening → Type 0
+CanBeAsked (opening.Listing pattern) = Unit {0}
+CanBeAsked (opening.File w) = IsAskable w
+
+-- ---- what follows where nothing was refused
+
+bound : {A B : Type 0} (P : A → Type 0) (Q : B → Type 0) (r : Result A Refusal) (f : A → Result B Refusal) → IfOk r P → ((x : A) → P x → IfOk (f x) Q) → IfOk (r >>= f) Q
+bound P Q (Ok x) f h more = more x h
+bound P Q (Err e) f h more = tt
+
+chosen : {A : Type 0} (P : A → Type 0) (b : Bool) (x y : A) → P x → P y → P (if b then x else y)
+chosen P true x y p q = p
+chosen P false x y p q = q
+
+always : {A : Type 0} (r : Result A Refusal) → IfOk r (λ x. Unit {0})
+always (Ok x) = tt
+always (Err e) = tt
+
+-- ---- the name
+
+cut : (n : ℕ) (text : List ℕ) → before_filler (take n (before filler text)) ≡ take n (before filler text)
+cut zero text = refl
+cut (suc n) [] = refl
+cut (suc n) (x ∷ text) = by_test (x == 160) refl (cut n text)
+  where
+    by_test : (b : Bool) → (x == 160) ≡ b → before_filler (take n (before filler text)) ≡ take n (before filler text)
+        → before_filler (take (suc n) (before filler (x ∷ text))) ≡ take (suc n) (before filler (x ∷ text))
+    by_test true t more = rw t refl
+    by_test false t more = rw t (rw t (ap (λ xs. x ∷ xs) more))
+
+-- ---- the pieces
+
+abbrev Answers : Result Wanted Refusal → Type 0
+Answers r = IfOk r IsAskable
+
+abbrev Opens : Result Opening Refusal → Type 0
+Opens r = IfOk r CanBeAsked
+
+piece_asked : (p : List ℕ) (w : Wanted) → IsAskable w → Answers (with_piece p w)
+piece_asked [] w h = tt
+piece_asked (c ∷ rest) w h =
+    chosen Answers (c == 80) _ _ (h.0, refl)
+    (chosen Answers (c == 83) _ _ (h.0, refl)
+    (chosen Answers (c == 85) _ _ (h.0, refl)
+    (chosen Answers (c == 76) _ _ (h.0, refl)
+    (chosen Answers (c == 82) _ _ h
+    (chosen Answers (c == 77) _ _ h
+    (chosen Answers (c == 87) _ _ h
+    (chosen Answers (c == 65) _ _ h tt)))))))
+
+pieces_asked : (ps : List (List ℕ)) (w : Wanted) → IsAskable w → Answers (with_pieces ps w)
+pieces_asked [] w h = h
+pieces_asked (p ∷ ps) w h =
+    bound IsAskable IsAskable (with_piece p w) (λ v. if is_length_piece p then Ok (record v { record_length = first_byte ps }) else with_pieces ps v) (piece_asked p w h)
+    (λ v x. chosen Answers (is_length_piece p) (Ok (record v { record_length = first_byte ps })) (with_pieces ps v) x (pieces_asked ps v x))
+
+default_kept : (ch : ℕ) (mode : Mode) → means_deleted (default_kind ch mode) ≡ false
+default_kept ch Write = chosen (λ k. means_deleted (Some k) ≡ false) (ch == 1) Prg Seq refl refl
+default_kept ch Read = chosen (λ k. means_deleted k ≡ false) (ch == 0) (Some Prg) None refl refl
+default_kept ch Append = chosen (λ k. means_deleted k ≡ false) (ch == 0) (Some Prg) None refl refl
+
+channel_asked : (ch : ℕ) (w : Wanted) → IsAskable w → IsAskable (by_channel ch w)
+channel_asked ch w h = chosen IsAskable (ch == 0) (set_mode Read w) (if ch == 1 then set_mode Write w else w) h (chosen IsAskable (ch == 1) (set_mode Write w) w h h)
+
+default_asked : (ch : ℕ) (w : Wanted) → IsAskable w → IsAskable (or_default ch w)
+default_asked ch w h = chosen IsAskable (is_some w.kind) w (record w { kind = default_kind ch w.mode }) h (h.0, default_kept ch w.mode)
+
+-- ---- the text
+
+file_opens : (w : Wanted) → IsAskable w → Opens (file_named w)
+file_opens w h = chosen Opens (is_named_whole w && is_wild w.name) _ _ tt h
+
+asked_opens : (ch : ℕ) (at : Bool) (text : List ℕ) → Opens (file_asked ch at text)
+asked_opens ch at text =
+    let name = name_of (before comma text) in
+    let all : IsAskable (plain_file at name) = (cut 16 (before comma text), refl) in
+    chosen Opens (is_empty name) _ _ tt
+    (bound IsAskable CanBeAsked (if has comma text then with_pieces (parts_at comma (behind comma text)) (plain_file at name) else Ok (plain_file at name))
+    (λ w. file_named (or_default ch (by_channel ch w)))
+    (chosen Answers (has comma text) (with_pieces (parts_at comma (behind comma text)) (plain_file at name)) (Ok (plain_file at name))
+    (pieces_asked (parts_at comma (behind comma text)) (plain_file at name) all) all)
+    (λ w x. file_opens (or_default ch (by_channel ch w)) (default_asked ch (by_channel ch w) (channel_asked ch w x))))
+
+headed_opens : (ch : ℕ) (text : List ℕ) → Opens (headed_file ch text)
+headed_opens ch text =
+    chosen Opens (has colon (before comma text)) _ _
+    (bound (λ at. Unit {0}) CanBeAsked (at_in_head (before colon text)) (λ at. file_asked ch at (behind colon text)) (always (at_in_head (before colon text))) (λ at x. asked_opens ch at (behind colon text)))
+    (asked_opens ch false text)
+
+pattern_opens : (text : List ℕ) → Opens (pattern_asked text)
+pattern_opens text =
+    chosen Opens (is_empty (name_of (before comma text))) _ _ tt
+    (chosen Opens (has comma text || has equals text) _ _ tt tt)
+
+listing_opens : (text : List ℕ) → Opens (listing_asked text)
+listing_opens text =
+    bound (λ x. Unit {0}) CanBeAsked (drive_head (before colon text)) (λ x. if has colon text then pattern_asked (behind colon text) else Ok (opening.Listing (asterisk ∷ []))) (always (drive_head (before colon text)))
+    (λ x y. chosen Opens (has colon text) (pattern_asked (behind colon text)) (Ok (opening.Listing (asterisk ∷ []))) (pattern_opens (behind colon text)) tt)
+
+first_opens : (ch : ℕ) (text : List ℕ) → Opens (by_first ch text)
+first_opens ch [] = tt
+first_opens ch (c ∷ text) =
+    chosen Opens (c == 35) _ _ tt
+    (chosen Opens (c == 36) _ _ (chosen Opens (ch == 0) (listing_asked text) (Err Syntax) (listing_opens text) tt) (headed_opens ch (c ∷ text)))
+
+text_opens : (ch : ℕ) (text : List ℕ) → Opens (opening_of ch text)
+text_opens ch text = chosen Opens (nat_lt 58 (length text)) (Err LongText) (by_first ch text) tt (first_opens ch text)
+
+module _ (ch : ℕ) (text : List ℕ) (w : Wanted) (is : opening_of ch text ≡ Ok (opening.File w)) where
+  -- the name ends before its first filler
+  pub name_cut : before_filler w.name ≡ w.name
+  name_cut = (subst Opens is (text_opens ch text)).0
+
+  -- a file that isn't deleted is meant
+  pub kind_kept : means_deleted w.kind ≡ false
+  kind_kept = (subst Opens is (text_opens ch text)).1

@@ -1,0 +1,15 @@
+use Rattle.std.proofs.Common.{sym, ◌∙◌, inl}
+use Rattle.cbm_machine.specs.Machines.{channel}
+use Rattle.cbm_channel.specs.Going.{put_written, some_byte_put}
+use Rattle.cbm_channel.proofs.Stores.{fills, fills_none}
+use Rattle.cbm_channel.proofs.Goings.{part_same}
+use Rattle.cbm_channel.proofs.dos.Dos.fill.Goals as goal
+
+pub returns-then-is_empty-clause-goes : goal.returns-then-is_empty-clause-goes
+returns-then-is_empty-clause-goes g c = λ m s.
+    let next = c.store.ensures.goes m s in
+    (next.0, part_same _ c.args.channel (put_written c.args.channel 13) (some_byte_put c.args.channel) m next.0 (fills c.args.channel (channel m c.args.channel) m (sym (c.is_empty.ensures.value m s) ∙ c.if-is_empty.true)) next.1, next.2)
+
+pub returns-else-is_empty-clause-goes : goal.returns-else-is_empty-clause-goes
+returns-else-is_empty-clause-goes g c = λ m s.
+    (m, inl (sym (fills_none c.args.channel (channel m c.args.channel) m (sym (c.is_empty.ensures.value m s) ∙ c.if-is_empty.false))), s)

@@ -1,0 +1,40 @@
+use Rattle.std.proofs.Common.{refl, sym, subst, arith, inl, inr}
+use Rattle.std.specs.Prelude.{slice_index_or, slice_set}
+use Rattle.cbm_medium.specs.Seen.{HasFailed}
+use Rattle.cbm_machine.specs.Machines.{channel}
+use Rattle.cbm_machine.specs.Closing.{finish_channel}
+use Rattle.cbm_channel.specs.Standing.{uses_of, StandsBy}
+use Rattle.cbm_channel.proofs.Stands.{stood, stands_at, use_at}
+use Rattle.cbm_channel.proofs.Stores.{finish_done, finish_cut, has_failed, renamed}
+use Rattle.cbm_channel.proofs.dos.Dos.finish.Goals as goal
+
+pub returns-in_default-clause-goes : goal.returns-in_default-clause-goes
+returns-in_default-clause-goes g c = λ m s.
+    let st = stood g.M.Medium.seen _ _ m c.self.view_is s in
+    let at = stands_at _ _ _ _ _ _ m c.args.channel c.index-self-channel.result c.requires c.self.invariant st in
+    let same = use_at (slice_index_or c.self.inside.channels c.args.channel c.index-self-channel.result) _ m.channels c.args.channel _ (omega (arith, c.requires, c.self.invariant.count)) refl in
+    let done = c.in_default.ensures.closed m.disk (uses_of c.self.inside.channels m.channels) c.args.channel (channel m c.args.channel) st.holds same at in (
+      finish_channel c.args.channel m,
+      inl refl,
+      renamed _ _ _ _ _ _ _ _ _ c.finish.ensures.only.tracks c.finish.ensures.only.protected
+          (subst (λ x. StandsBy (g.M.Medium.seen c.finish.new.volume).content (g.M.Medium.seen c.self.inside.volume).tracks (g.M.Medium.seen c.self.inside.volume).protected (slice_set c.self.inside.channels c.args.channel x) c.self.inside.telling c.self.inside.text (finish_channel c.args.channel m))
+          (sym c.finish.ensures.is_closed) (finish_done _ _ _ _ _ _ m c.args.channel c.requires c.self.invariant st _ done)),
+    )
+
+pub returns-in-Err-clause-goes : goal.returns-in-Err-clause-goes
+returns-in-Err-clause-goes g c = λ m s.
+    let st = stood g.M.Medium.seen _ _ m c.self.view_is s in
+    let at = stands_at _ _ _ _ _ _ m c.args.channel c.index-self-channel.result c.requires c.self.invariant st in
+    let same = use_at (slice_index_or c.self.inside.channels c.args.channel c.index-self-channel.result) _ m.channels c.args.channel _ (omega (arith, c.requires, c.self.invariant.count)) refl in
+    let cut = c.in-Err.ensures.stopped m.disk (uses_of c.self.inside.channels m.channels) c.args.channel (channel m c.args.channel) st.holds same at in
+    let wrote = c.in-Err.ensures.wrote (channel m c.args.channel) at in
+    let next = finish_cut _ _ _ _ _ _ m c.args.channel c.requires c.self.invariant st _ cut in
+    let failed = has_failed _ _ _ c.args.channel wrote.slot (g.M.Medium.seen c.self.inside.volume) (g.M.Medium.seen c.finish.new.volume) c.in-Err.trouble st.orderly st.same_protection wrote.bytes wrote.blocks wrote.full wrote.replaces wrote.is
+    (c.in-Err.ensures.cause m.disk (uses_of c.self.inside.channels m.channels) c.args.channel (channel m c.args.channel) st.holds same at) in
+    let moved = subst (λ k. HasFailed (g.M.Medium.seen k.medium) (g.M.Medium.seen c.set.new.self.medium)) c.self.view_is (subst (λ v. HasFailed (g.M.Medium.seen c.self.inside.volume) (g.M.Medium.seen v)) (sym c.set.ensures.medium) failed) in (
+      _,
+      inr (moved, next.1 c.in-Err.trouble c.from.result c.from.ensures),
+      c.set.ensures.leads next.0 (renamed _ _ _ _ _ _ _ _ _ c.finish.ensures.only.tracks c.finish.ensures.only.protected
+          (subst (λ x. StandsBy (g.M.Medium.seen c.finish.new.volume).content (g.M.Medium.seen c.self.inside.volume).tracks (g.M.Medium.seen c.self.inside.volume).protected (slice_set c.self.inside.channels c.args.channel x) c.self.inside.telling c.self.inside.text next.0)
+          (sym c.finish.ensures.is_closed) next.2)),
+    )
