@@ -13,6 +13,7 @@ pub mod NumberLemmas
 pub mod OutputLemmas
 pub mod UnitLemmas
 pub mod SaidLemmas
+pub mod SteadyLemmas
 pub mod PutLemmas
 pub mod StatusLemmas
 pub mod LinePrints

@@ -1,5 +1,6 @@
 -- Bytes that are put one after another.
-use Rattle.std.proofs.Common.{◌≡◌, ℕ, List, [], ◌∷◌, ap, ◌∙◌, sym, subst, zero, suc, ◌+◌, replicate, refl, arith}
+use Rattle.std.proofs.Common.{◌≡◌, ℕ, List, [], ◌∷◌, ap, ◌∙◌, sym, subst, zero, suc, ◌+◌, ◌<◌, length, drop, slice_index, replicate, refl, arith}
+use Rattle.std.proofs.Math.Seq.{drop-cons}
 use Rattle.cbm_channel.specs.Machines.{Machine}
 use Rattle.cbm_channel.specs.Calls.{put}
 use Rattle.cbm_program.specs.Scripts.{puts}
@@ -27,6 +28,10 @@ pub puts-end : (stood now : Machine → Type 0) (ch : ℕ) (all left : List ℕ)
     → (m : Machine) → stood m → now (puts ch all m)
 puts-end stood now ch all left p e m s =
     let o = p m s in subst (λ x. now x) (sym (o.same ∙ ap (λ t. puts ch t o.machine) e)) o.stands
+
+-- the next byte of those that are left
+pub one_off : (bytes : List ℕ) (i : ℕ) → i < length bytes → drop i bytes ≡ slice_index bytes i ∷ drop (i + 1) bytes
+one_off bytes i lt = let next : suc i ≡ i + 1 = omega arith in subst (λ k. drop i bytes ≡ slice_index bytes i ∷ drop k bytes) next (drop-cons bytes i 0 lt)
 
 pub replicate-more : (n k b : ℕ) → k + 1 ≡ n → replicate n b ≡ b ∷ replicate k b
 replicate-more zero k b e = absurd (omega arith)

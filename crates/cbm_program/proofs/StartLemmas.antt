@@ -1,5 +1,5 @@
 -- From a machine at power up to the run of a script.
-use Rattle.std.proofs.Common.{◌≡◌, ℕ, List, [], Bool, Option, Some, None, refl, sym, subst}
+use Rattle.std.proofs.Common.{◌≡◌, ℕ, List, [], Bool, Option, Some, None, refl, sym, subst, ◌∙◌}
 use Rattle.std.specs.Prelude.{IfSome, Result, Ok, Err}
 use Rattle.cbm_medium.specs.Content.{Content}
 use Rattle.cbm_volume.specs.Holding.{HoldsDisk}
@@ -145,6 +145,11 @@ pub holds-as : (kind other : Kind) (image : List ℕ) (tracks : ℕ) (content : 
     → AreAmong (λ m. HoldsDisk tracks content m.disk) (λ m. ImageHolds other image m.disk)
 holds-as kind other image tracks content same is = rw same (λ m h.
     subst (λ c. HoldsDisk (tracks_of kind image) c m.disk) (sym is.same_content) (subst (λ n. HoldsDisk n content m.disk) (sym is.same_tracks) h))
+
+-- the image of a medium that has as many tracks as before has as many as the image before
+pub tracks-as : (kind other : Kind) (old new : List ℕ) (tracks after : ℕ) (content written : Content) → other ≡ kind → IsOf kind old tracks content
+    → after ≡ tracks → IsOf kind new after written → tracks_of other new ≡ tracks_of other old
+tracks-as kind other old new tracks after content written same was e is = rw same (is.same_tracks ∙ e ∙ sym was.same_tracks)
 
 -- what was printed whole is a beginning, and so is nothing
 pub behind-begun : (checks : Bool) (a b x : Option (List ℕ)) (stood now : Machine → Type 0) → PrintedBehind checks a b x stood now → BegunBehind checks a b x stood

@@ -51,11 +51,6 @@ StartsOn tracks content protected m = (d : Disk) × HoldsDisk tracks content d �
 abbrev pub Begins : List ℕ → Bool → List Request → Machine → Type 0
 Begins image protected script m = AreCarriedOut script m × StartsOn (tracks_of (kind_of image) image) (content_of (kind_of image) image) protected m
 
--- two images hold the same: as many tracks, and the same in each sector
-pub record HoldSame (kind : Kind) (old new : List ℕ) : Type 0 where
-  pub same_tracks : tracks_of kind new ≡ tracks_of kind old
-  pub same_content : content_of kind new ≡ content_of kind old
-
 -- a medium of so many tracks and of this content is what an image is
 pub record IsOf (kind : Kind) (image : List ℕ) (tracks : ℕ) (content : Content) : Type 0 where
   pub same_tracks : tracks_of kind image ≡ tracks

@@ -6,7 +6,7 @@ use Rattle.cbm_program.specs.declared.fault.RunFault.TheVariants.{Image}
 use Rattle.cbm_program.specs.Output.{Grows, Prints, PrintsPart}
 use Rattle.cbm_program.specs.Running.{script_of, EndsAs}
 use Rattle.cbm_program.specs.Checking.{printed_behind, IsCheckedFirst}
-use Rattle.cbm_program.specs.Images.{kind_of, image_fault, tracks_of, content_of, ImageHolds, Begins, HoldSame}
+use Rattle.cbm_program.specs.Images.{kind_of, image_fault, tracks_of, content_of, ImageHolds, Begins}
 
 -- WHAT A RUN PROMISES on an image of these bytes: `items` are the bytes of the image that it gives back, `input` is what the
 -- reader still had to give, and `old` and `new` are what the writer held before the run and behind it, as far as they are known.
@@ -15,7 +15,7 @@ pub record IsOutcome {A : Type 0} (result : Result A RunFault) (items : A → Li
   -- What was written is what the script prints on the image's disk up to its end or its first bad line.
   pub ended : EndsAs result (λ bad. IfSome input (λ bytes. ((script_of bytes).bad ≡ bad)
       × Prints old new (Begins image protected (script_of bytes).requests) (λ _. Unit {0}) (printed_behind checks (script_of bytes).requests)))
-  -- The image that is given back holds the disk behind the script.
+  -- The image that is given back holds the disk behind the script, with all that the script wrote.
   pub disk : IfOk result (λ saved. IfSome input (λ bytes. Prints old new (Begins image protected (script_of bytes).requests)
       (λ m. ImageHolds (kind_of image) (items saved) m.disk) (printed_behind checks (script_of bytes).requests)))
   -- At a fault a beginning of that was written.
@@ -25,8 +25,8 @@ pub record IsOutcome {A : Type 0} (result : Result A RunFault) (items : A → Li
   pub checked : checks ≡ true → EndsAs result (λ bad. IsCheckedFirst (tracks_of (kind_of image) image) (content_of (kind_of image) image) old new)
   -- All that is printed is added to what was written.
   pub grows : Grows old new
-  -- Nothing is written so far, on any image: the one that is given back holds what came in.
-  pub same : IfOk result (λ saved. HoldSame (kind_of image) image (items saved))
+  -- Whatever the script writes, and on any image: the one that is given back has as many tracks.
+  pub same_tracks : IfOk result (λ saved. tracks_of (kind_of image) (items saved) ≡ tracks_of (kind_of image) image)
   -- The image is refused by its own fault, before anything is read or written,
   pub refused : IfSome (image_fault (kind_of image) image) (λ n. (result ≡ Err (Image n)) × Keeps old new)
   -- and by no other.

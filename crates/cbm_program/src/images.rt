@@ -13,7 +13,7 @@ use crate::session::run_on;
 use cbm_channel::Dos;
 use cbm_d64::D64Disk;
 use cbm_g64::G64Disk;
-use cbm_medium::Medium;
+use cbm_medium::Steady;
 use cbm_volume::Volume;
 use std::alloc::Global;
 use std::io::{Read, Write};
@@ -35,8 +35,8 @@ pub struct Options {
     pub check: bool,
 }
 
-/// Runs a script on a drive at power up with this medium, and gives the medium back.
-fn run_with<M: Medium + Drop, R: Read + Drop, W: Write>(
+/// Runs a script on a drive at power up with this medium, and gives the medium back with what the script wrote.
+fn run_with<M: Steady + Drop, R: Read + Drop, W: Write>(
     medium: M,
     checks: bool,
     reader: R,
@@ -62,8 +62,7 @@ fn run_with<M: Medium + Drop, R: Read + Drop, W: Write>(
     ensures checked { checks ≡ true → EndsAs result (λ bad.
         IsCheckedFirst (M.seen medium).tracks (M.seen medium).content (W.contents writer.old) (W.contents writer.new)) }
     ensures grows { Grows (W.contents writer.old) (W.contents writer.new) }
-    // Nothing is written so far, on any medium.
-    ensures same { IfOk result (λ after. after ≡ medium) }
+    ensures same_tracks { IfOk result (λ after. (M.seen after).tracks ≡ (M.seen medium).tracks) }
     ensures image { IfErr result (λ fault. (n : ℕ) → fault ≢ RunFault.Image n) }
 {
     let volume = Volume::open(medium);
@@ -90,7 +89,8 @@ fn run_image<I: DiskImage + Drop, R: Read + Drop, W: Write>(
     disk.save(alloc)
 }
 
-/// Runs a script on the disk of an image, and gives the image as it is then, of the same format.
+/// Runs a script on the disk of an image, and gives the image as it is then, with all that the script wrote: of the
+/// same format, and with as many tracks.
 ///
 /// The image is tested before the script is read, and if a check is asked for, its line is printed first. The script is
 /// read a line at a time, and what a line prints is written before the next one is read. Takes memory for the disk and

@@ -1,6 +1,7 @@
 //! Carrying out the requests of a script.
-ghost use Rattle.std.specs.Prelude.{◌≡◌, IfErr, OnOk, OnErr};
+ghost use Rattle.std.specs.Prelude.{IfErr, OnOk, OnErr};
 ghost use Rattle.cbm_channel.specs.Standing.{Stands};
+ghost use Rattle.cbm_channel.specs.Going.{KeepsMedium};
 ghost use Rattle.cbm_program.specs.Scripts.{printed, printed_by};
 ghost use Rattle.cbm_program.specs.Output.{Grows, Prints, PrintsPart};
 ghost use Rattle.cbm_program.specs.Running.{HasChannel, LineHasChannel, IsRequestCarriedOut, AreCarriedOut, requests_in, IsOfWriting};
@@ -13,11 +14,11 @@ use crate::putting::{hear, hear_equal};
 use crate::request::Request;
 use crate::status::print_status;
 use cbm_channel::Dos;
-use cbm_medium::Medium;
+use cbm_medium::Steady;
 use std::io::Write;
 
 /// Carries out a request, and prints what it prints.
-fn perform<M: Medium, W: Write>(
+fn perform<M: Steady, W: Write>(
     dos: &mut Dos<M>,
     writer: &mut W,
     request: &Request,
@@ -28,7 +29,7 @@ fn perform<M: Medium, W: Write>(
         (Stands M.seen dos.new) (printed_by request.now)) }
     ensures err { OnErr result (PrintsPart (W.contents writer.old) (W.contents writer.new)
         (λ m. IsRequestCarriedOut request.now m × Stands M.seen dos.old m) (printed_by request.now)) }
-    ensures medium { dos.new.medium ≡ dos.old.medium }
+    ensures medium { KeepsMedium (M.seen dos.old.medium) (M.seen dos.new.medium) }
     ensures grows { Grows (W.contents writer.old) (W.contents writer.new) }
     ensures fault { IfErr result IsOfWriting }
 {
@@ -55,7 +56,7 @@ fn perform<M: Medium, W: Write>(
 }
 
 /// Carries out a line, and sends on what it prints.
-pub(crate) fn perform_line<M: Medium, W: Write>(
+pub(crate) fn perform_line<M: Steady, W: Write>(
     dos: &mut Dos<M>,
     writer: &mut W,
     line: &Line,
@@ -66,7 +67,7 @@ pub(crate) fn perform_line<M: Medium, W: Write>(
         (Stands M.seen dos.new) (printed (requests_in line.now))) }
     ensures err { OnErr result (PrintsPart (W.contents writer.old) (W.contents writer.new)
         (λ m. AreCarriedOut (requests_in line.now) m × Stands M.seen dos.old m) (printed (requests_in line.now))) }
-    ensures medium { dos.new.medium ≡ dos.old.medium }
+    ensures medium { KeepsMedium (M.seen dos.old.medium) (M.seen dos.new.medium) }
     ensures grows { Grows (W.contents writer.old) (W.contents writer.new) }
     ensures fault { IfErr result IsOfWriting }
 {

@@ -1,19 +1,20 @@
 //! Putting bytes to a channel.
-ghost use Rattle.std.specs.Prelude.{◌≡◌, ◌≤◌, replicate};
+ghost use Rattle.std.specs.Prelude.{◌≤◌, replicate};
 ghost use Rattle.cbm_channel.specs.Machines.{Machine};
 ghost use Rattle.cbm_channel.specs.Standing.{Stands, Leads};
+ghost use Rattle.cbm_channel.specs.Going.{KeepsMedium};
 ghost use Rattle.cbm_channel.specs.CarriedOut.{IsPutCarriedOut};
 ghost use Rattle.cbm_channel.specs.Talking.{listen};
 ghost use Rattle.cbm_program.specs.Scripts.{puts, hear};
 
 use cbm_channel::Dos;
-use cbm_medium::Medium;
+use cbm_medium::Steady;
 
 /// Puts the bytes one after another.
-fn put_each<M: Medium>(dos: &mut Dos<M>, channel: u8, bytes: &[u8])
+fn put_each<M: Steady>(dos: &mut Dos<M>, channel: u8, bytes: &[u8])
     requires { channel ≤ 15 }
     ensures leads { Leads M.seen dos.old dos.new (puts channel bytes.now) }
-    ensures medium { dos.new.medium ≡ dos.old.medium }
+    ensures medium { KeepsMedium (M.seen dos.old.medium) (M.seen dos.new.medium) }
 {
     for byte in bytes {
         dos.put(channel, *byte);
@@ -21,10 +22,10 @@ fn put_each<M: Medium>(dos: &mut Dos<M>, channel: u8, bytes: &[u8])
 }
 
 /// Puts so many equal bytes.
-fn put_equal<M: Medium>(dos: &mut Dos<M>, channel: u8, count: u32, byte: u8)
+fn put_equal<M: Steady>(dos: &mut Dos<M>, channel: u8, count: u32, byte: u8)
     requires { channel ≤ 15 }
     ensures leads { Leads M.seen dos.old dos.new (puts channel (replicate count byte)) }
-    ensures medium { dos.new.medium ≡ dos.old.medium }
+    ensures medium { KeepsMedium (M.seen dos.old.medium) (M.seen dos.new.medium) }
 {
     for done in 0..count {
         dos.put(channel, byte);
@@ -32,11 +33,11 @@ fn put_equal<M: Medium>(dos: &mut Dos<M>, channel: u8, count: u32, byte: u8)
 }
 
 /// Sends the bytes to a channel, between LISTEN and UNLISTEN.
-pub(crate) fn hear<M: Medium>(dos: &mut Dos<M>, channel: u8, bytes: &[u8])
+pub(crate) fn hear<M: Steady>(dos: &mut Dos<M>, channel: u8, bytes: &[u8])
     requires { channel ≤ 15 }
     ensures leads { (m : Machine) → IsPutCarriedOut channel (puts channel bytes.now (listen channel m))
         → Stands M.seen dos.old m → Stands M.seen dos.new (hear channel bytes.now m) }
-    ensures medium { dos.new.medium ≡ dos.old.medium }
+    ensures medium { KeepsMedium (M.seen dos.old.medium) (M.seen dos.new.medium) }
 {
     dos.listen(channel);
     put_each(dos, channel, bytes);
@@ -44,11 +45,11 @@ pub(crate) fn hear<M: Medium>(dos: &mut Dos<M>, channel: u8, bytes: &[u8])
 }
 
 /// Sends so many equal bytes to a channel, between LISTEN and UNLISTEN.
-pub(crate) fn hear_equal<M: Medium>(dos: &mut Dos<M>, channel: u8, count: u32, byte: u8)
+pub(crate) fn hear_equal<M: Steady>(dos: &mut Dos<M>, channel: u8, count: u32, byte: u8)
     requires { channel ≤ 15 }
     ensures leads { (m : Machine) → IsPutCarriedOut channel (puts channel (replicate count byte) (listen channel m))
         → Stands M.seen dos.old m → Stands M.seen dos.new (hear channel (replicate count byte) m) }
-    ensures medium { dos.new.medium ≡ dos.old.medium }
+    ensures medium { KeepsMedium (M.seen dos.old.medium) (M.seen dos.new.medium) }
 {
     dos.listen(channel);
     put_equal(dos, channel, count, byte);

@@ -2,6 +2,7 @@
 ghost use Rattle.std.specs.Prelude.{◌≡◌, ◌≢◌, ℕ, IfSome, IfErr, OnErr};
 ghost use Rattle.cbm_channel.specs.Machines.{Machine};
 ghost use Rattle.cbm_channel.specs.Standing.{Stands};
+ghost use Rattle.cbm_channel.specs.Going.{KeepsMedium};
 ghost use Rattle.cbm_program.specs.Lines.{bytes_left};
 ghost use Rattle.cbm_program.specs.Scripts.{printed};
 ghost use Rattle.cbm_program.specs.Output.{Grows, Prints, PrintsPart};
@@ -13,7 +14,7 @@ use crate::lines::{LineFault, Lines};
 use crate::performing::perform_line;
 use arrayvec::ArrayVec;
 use cbm_channel::Dos;
-use cbm_medium::Medium;
+use cbm_medium::Steady;
 use std::io::{Read, Write};
 
 /// The greatest number of lines.
@@ -45,7 +46,7 @@ fn read_line<R: Read>(
 }
 
 /// Runs a script on a drive: reads a line, carries it out, and prints what comes of it before the next line is read.
-pub(crate) fn run_on<M: Medium, R: Read + Drop, W: Write>(
+pub(crate) fn run_on<M: Steady, R: Read + Drop, W: Write>(
     dos: &mut Dos<M>,
     reader: R,
     writer: &mut W,
@@ -61,7 +62,7 @@ pub(crate) fn run_on<M: Medium, R: Read + Drop, W: Write>(
         PrintsPart (W.contents writer.old) (W.contents writer.new)
         (λ m. AreCarriedOut (script_of input).requests m × Stands M.seen dos.old m)
         (printed (script_of input).requests))) }
-    ensures medium { dos.new.medium ≡ dos.old.medium }
+    ensures medium { KeepsMedium (M.seen dos.old.medium) (M.seen dos.new.medium) }
     ensures grows { Grows (W.contents writer.old) (W.contents writer.new) }
     ensures image { IfErr result (λ fault. (n : ℕ) → fault ≢ RunFault.Image n) }
 {

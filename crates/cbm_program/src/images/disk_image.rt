@@ -6,11 +6,11 @@ ghost use Rattle.cbm_program.specs.Images.{image_fault, IsOf, IsRefusal};
 use crate::fault::RunFault;
 use cbm_d64::{D64Disk, D64Fault};
 use cbm_g64::{G64Disk, G64Fault};
-use cbm_medium::Medium;
+use cbm_medium::Steady;
 use std::alloc::Global;
 
-/// A disk that the bytes of an image's file give, and that gives them back.
-pub(crate) trait DiskImage: Medium {
+/// A disk that the bytes of an image's file give, and that gives them back. It never fails by itself.
+pub(crate) trait DiskImage: Steady {
     /// The format of its images.
     ghost kind: { Kind };
 

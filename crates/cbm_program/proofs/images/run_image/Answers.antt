@@ -3,7 +3,7 @@ use Rattle.std.proofs.lemmas.Result.{IfOk-weaker, err_from_is_err_and}
 use Rattle.cbm_volume.specs.Holding.{HoldsDisk}
 use Rattle.cbm_program.specs.Images.{kind_of, tracks_of, content_of, StartsOn, ImageHolds}
 use Rattle.cbm_program.proofs.LinePrints.{if_err}
-use Rattle.cbm_program.proofs.StartLemmas.{ends-again, ends-any, checked-as, behind-among, begun-behind-among, behind-begun, nothing-begun, starts-as, holds-as}
+use Rattle.cbm_program.proofs.StartLemmas.{ends-again, ends-any, checked-as, behind-among, begun-behind-among, behind-begun, nothing-begun, starts-as, holds-as, tracks-as}
 use Rattle.cbm_program.proofs.images.run_image.Goals as goal
 
 -- the image isn't taken, and nothing is written
@@ -15,7 +15,7 @@ returns-in_err-disk g c = record {
       (StartsOn (tracks_of (kind_of c.args.image.now) c.args.image.now) (content_of (kind_of c.args.image.now) c.args.image.now) c.args.options.now.protected));
   checked = (search rules);
   grows = (search rules);
-  same = (search rules);
+  same_tracks = (search rules);
   refused = (search rules);
   cause = (search rules);
 }
@@ -32,7 +32,7 @@ returns-in_err-disk-2 g c =
       checked = λ e. ends-again _ _ _ _ (c.in_err-disk-2.ensures.checked e) (p.1 ∙ ap Err p.2)
           (λ bad. checked-as g.I.DiskImage.kind (kind_of c.args.image.now) c.args.image.now (g.I.Medium.seen disk).tracks (g.I.Medium.seen disk).content _ _ c.requires c.in_ok-disk.ensures.ok.0);
       grows = (search rules);
-      same = (search rules);
+      same_tracks = (search rules);
       refused = (search rules);
       cause = (search rules);
     }
@@ -58,7 +58,8 @@ returns g c =
       checked = λ e. ends-any c.save.result _
           (λ bad. checked-as g.I.DiskImage.kind (kind_of c.args.image.now) c.args.image.now (g.I.Medium.seen disk).tracks (g.I.Medium.seen disk).content _ _ c.requires first.0 (c.in_ok-disk-2.ensures.checked e));
       grows = (search rules);
-      same = (search rules);
+      same_tracks = IfOk-weaker c.save.result _ _ (λ saved is. tracks-as g.I.DiskImage.kind (kind_of c.args.image.now) c.args.image.now saved.items
+          (g.I.Medium.seen disk).tracks (g.I.Medium.seen after).tracks (g.I.Medium.seen disk).content (g.I.Medium.seen after).content c.requires first.0 c.in_ok-disk-2.ensures.same_tracks is) c.save.ensures.ok;
       refused = (search rules);
       cause = (search rules);
     }

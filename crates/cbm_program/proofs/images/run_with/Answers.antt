@@ -83,3 +83,9 @@ returns-in_err-run_on-clause-grows g c = grows_on _ _ _ c.in_ok-print_check.ensu
 
 pub returns-clause-grows : goal.returns-clause-grows
 returns-clause-grows g c = grows_on _ _ _ c.in_ok-print_check.ensures.grows c.in_ok-run_on.ensures.grows
+
+-- a script changes no number of tracks
+pub returns-clause-same_tracks : goal.returns-clause-same_tracks
+returns-clause-same_tracks g c =
+    ap (λ k. (g.M.Medium.seen k).tracks) c.into_medium-2.ensures ∙ c.in_ok-run_on.ensures.medium.tracks
+    ∙ ap (λ k. (g.M.Medium.seen k).tracks) (c.new-dos.ensures.medium ∙ c.into_medium.ensures ∙ c.open-volume.ensures)

@@ -1,6 +1,7 @@
 use Rattle.std.proofs.Common.{◌∙◌, refl, ap, arith, Err}
 use Rattle.std.proofs.lemmas.Result.{err_from_is_err_and}
 use Rattle.cbm_channel.specs.Standing.{Stands}
+use Rattle.cbm_channel.proofs.Goings.{keeps_then, keeps_same}
 use Rattle.cbm_program.specs.Lines.{bytes_left}
 use Rattle.cbm_program.proofs.OutputLemmas.{grows_none, grows_on}
 use Rattle.cbm_program.proofs.RunLemmas.{run-start, run-line, run-part, run-broken, run-end, faulted}
@@ -12,7 +13,7 @@ lines-init g c = record {
   running = run-start _ _ _ (Stands g.M.Medium.seen c.args.dos.now) c.new-lines.ensures;
   few = omega arith;
   grown = grows_none _;
-  medium = refl;
+  medium = keeps_same _ _ refl;
 }
 
 -- a line is carried out
@@ -24,7 +25,7 @@ lines-preserved g c =
       running = run-line _ _ _ _ _ _ (stands c.args.dos.now) (stands c.lines.dos) (stands c.perform_line.new.dos) _ _ c.lines.invariant.running read.0 c.in_ok-perform_line.ensures.ok;
       few = let r = read.1 in omega (arith, r);
       grown = grows_on _ _ _ c.lines.invariant.grown c.in_ok-perform_line.ensures.grows;
-      medium = c.in_ok-perform_line.ensures.medium ∙ c.lines.invariant.medium;
+      medium = keeps_then _ _ _ c.lines.invariant.medium c.in_ok-perform_line.ensures.medium;
     }
 
 -- there is no line to be read
@@ -62,3 +63,12 @@ returns-in_err-perform_line-clause-grows g c = grows_on _ _ _ c.lines.invariant.
 
 pub returns-clause-grows : goal.returns-clause-grows
 returns-clause-grows g c = c.lines.invariant.grown
+
+pub returns-in_err-line-clause-medium : goal.returns-in_err-line-clause-medium
+returns-in_err-line-clause-medium g c = c.lines.invariant.medium
+
+pub returns-in_err-perform_line-clause-medium : goal.returns-in_err-perform_line-clause-medium
+returns-in_err-perform_line-clause-medium g c = keeps_then _ _ _ c.lines.invariant.medium c.in_err-perform_line.ensures.medium
+
+pub returns-clause-medium : goal.returns-clause-medium
+returns-clause-medium g c = c.lines.invariant.medium

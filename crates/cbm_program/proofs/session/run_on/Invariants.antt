@@ -1,5 +1,6 @@
-use Rattle.std.proofs.Common.{◌≡◌, ◌-◌, ◌≤◌}
+use Rattle.std.proofs.Common.{◌-◌, ◌≤◌}
 use Rattle.cbm_channel.specs.Standing.{Stands}
+use Rattle.cbm_channel.specs.Going.{KeepsMedium}
 use Rattle.cbm_program.specs.Lines.{bytes_left}
 use Rattle.cbm_program.specs.Output.{Grows}
 use Rattle.cbm_program.proofs.RunLemmas.{Running}
@@ -12,7 +13,7 @@ invariant-lines g l = record {
       (Stands g.M.Medium.seen l.dos) l.number;
   few : l.number ≤ 1000001;
   grown : Grows (g.W.Write.contents l.initial.writer) (g.W.Write.contents l.writer);
-  medium : l.dos.medium ≡ l.initial.dos.medium;
+  medium : KeepsMedium (g.M.Medium.seen l.initial.dos.medium) (g.M.Medium.seen l.dos.medium);
 }
 
 abbrev pub decreases-lines : goal.decreases-lines
