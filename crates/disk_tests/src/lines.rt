@@ -2,12 +2,19 @@
 use crate::faulty::{FaultyReader, FaultyWriter, Sink};
 use crate::scripts::{OPEN, hello};
 use cbm_program::{RunFault, run};
+use std::alloc::Global;
 use std::io::ErrorKind;
+use std::process::Abort;
 use std::test::Fail;
 
 const SCRIPT: &str = "; one\nopen 0 HELLO\nget 0 2\n\nget 0 9\nget 0 1\nput 15 I\\30\nstatus";
 
 const PRINTED: &str = "get 0 0102\nget 0 03 eoi\nget 0 none\nstatus 00, OK,00,00\n";
+
+/// A script that writes a file.
+const WRITING: &str = "open 1 NEW\nput 1 AB\nclose 1\nopen 0 NEW\nget 0 9\nstatus";
+
+const WRITTEN: &str = "get 0 4142 eoi\nstatus 00, OK,00,00\n";
 
 #[test]
 fn lines_that_are_refused(rt: HostRuntime) -> Result<(), Fail> {
@@ -112,51 +119,83 @@ fn a_million_lines_and_one(rt: HostRuntime) -> Result<(), Fail> {
     Ok(())
 }
 
+/// After so many reads of the script the next one fails: what was printed is a beginning of this.
+fn read_fails(
+    rt: &impl Abort,
+    alloc: Global,
+    row: (&str, &str),
+    calls: u32,
+    kind: ErrorKind,
+) -> Result<(), Fail> {
+    let image = hello(alloc)?;
+    let (script, text) = row;
+    let reader = FaultyReader {
+        bytes: script.as_bytes(),
+        calls,
+        kind,
+    };
+    let mut out: Vec<u8> = Vec::new(alloc);
+    let ended = run(alloc, reader, &mut out, image.as_slice(), &OPEN);
+    assert_eq!(rt; ended.err(), Some(RunFault::Reading), "{script} {calls}");
+    assert!(rt;
+        text.as_bytes().starts_with(out.as_slice()),
+        "{script} {calls}"
+    );
+    Ok(())
+}
+
 #[test]
 fn each_read_fails_in_turn(rt: HostRuntime) -> Result<(), Fail> {
-    let image = hello(rt.alloc())?;
     for kind in [ErrorKind::Interrupted, ErrorKind::Other] {
         for calls in 0..23u32 {
-            let reader = FaultyReader {
-                bytes: SCRIPT.as_bytes(),
-                calls,
-                kind,
-            };
-            let mut out: Vec<u8> = Vec::new(rt.alloc());
-            let ended = run(rt.alloc(), reader, &mut out, image.as_slice(), &OPEN);
-            assert_eq!(rt; ended.err(), Some(RunFault::Reading), "after {calls}");
-            assert!(rt;
-                PRINTED.as_bytes().starts_with(out.as_slice()),
-                "after {calls}"
-            );
+            read_fails(&rt, rt.alloc(), (SCRIPT, PRINTED), calls, kind)?;
+        }
+        for calls in 0..20u32 {
+            read_fails(&rt, rt.alloc(), (WRITING, WRITTEN), calls, kind)?;
         }
     }
     Ok(())
 }
 
+/// After so many written bytes the next write fails, or takes nothing: what was printed is a beginning of this.
+fn write_fails(
+    rt: &impl Abort,
+    alloc: Global,
+    row: (&str, &str),
+    calls: u32,
+    kind: Option<ErrorKind>,
+) -> Result<(), Fail> {
+    let image = hello(alloc)?;
+    let (script, text) = row;
+    let mut writer = FaultyWriter {
+        bytes: Vec::new(alloc),
+        calls,
+        kind,
+    };
+    let ended = run(
+        alloc,
+        script.as_bytes(),
+        &mut writer,
+        image.as_slice(),
+        &OPEN,
+    );
+    assert_eq!(rt; ended.err(), Some(RunFault::Writing), "{script} {calls}");
+    assert_eq!(rt; writer.bytes.len(), calls as usize);
+    assert!(rt;
+        text.as_bytes().starts_with(writer.bytes.as_slice()),
+        "{script} {calls}"
+    );
+    Ok(())
+}
+
 #[test]
 fn each_write_fails_in_turn(rt: HostRuntime) -> Result<(), Fail> {
-    let image = hello(rt.alloc())?;
     for kind in [Some(ErrorKind::Interrupted), Some(ErrorKind::Other), None] {
         for calls in 0..55u32 {
-            let mut writer = FaultyWriter {
-                bytes: Vec::new(rt.alloc()),
-                calls,
-                kind,
-            };
-            let ended = run(
-                rt.alloc(),
-                SCRIPT.as_bytes(),
-                &mut writer,
-                image.as_slice(),
-                &OPEN,
-            );
-            assert_eq!(rt; ended.err(), Some(RunFault::Writing), "after {calls}");
-            assert_eq!(rt; writer.bytes.len(), calls as usize);
-            assert!(rt;
-                PRINTED.as_bytes().starts_with(writer.bytes.as_slice()),
-                "after {calls}"
-            );
+            write_fails(&rt, rt.alloc(), (SCRIPT, PRINTED), calls, kind)?;
+        }
+        for calls in 0..35u32 {
+            write_fails(&rt, rt.alloc(), (WRITING, WRITTEN), calls, kind)?;
         }
     }
     Ok(())

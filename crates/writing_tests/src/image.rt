@@ -23,7 +23,8 @@ pub fn put(image: &mut Vec<u8>, at: usize, bytes: &[u8]) {
     }
 }
 
-/// An empty disk's map entries of the tracks 1 to 35, its directory's first sector, and zeros up to so many bytes.
+/// An empty disk as `N0:TEST,AB` leaves it: the map of the tracks 1 to 35, the label, the directory's first sector, and
+/// zeros up to so many bytes.
 fn formatted(alloc: Global, bytes: usize) -> Result<Vec<u8>, D64Fault> {
     let Ok(mut image) = vec![in alloc; 0; bytes] else {
         return Err(D64Fault::Memory);
@@ -40,6 +41,10 @@ fn formatted(alloc: Global, bytes: usize) -> Result<Vec<u8>, D64Fault> {
         };
         put(&mut image, head.wrapping_add(4 * track as usize), &bits);
     }
+    put(&mut image, head.wrapping_add(144), &[0xa0; 27]);
+    put(&mut image, head.wrapping_add(144), b"TEST");
+    put(&mut image, head.wrapping_add(162), b"AB");
+    put(&mut image, head.wrapping_add(165), b"2A");
     put(&mut image, place(18, 1), &[0, 0xff]);
     Ok(image)
 }

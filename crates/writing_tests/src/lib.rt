@@ -1,4 +1,4 @@
-//! Worked writes, block by block, over D64 images.
+//! Worked writes, block by block and by scripts, over D64 and G64 images.
 #![tactic(auto)]
 
 #[cfg(test)]
@@ -11,6 +11,20 @@ mod image;
 mod new_files;
 #[cfg(test)]
 mod opens;
+#[cfg(test)]
+mod script_changes;
+#[cfg(test)]
+mod script_channels;
+#[cfg(test)]
+mod script_faults;
+#[cfg(test)]
+mod script_rows;
+#[cfg(test)]
+mod script_stops;
+#[cfg(test)]
+mod scripts;
+#[cfg(test)]
+mod stop_cases;
 #[cfg(test)]
 mod stops;
 #[cfg(test)]

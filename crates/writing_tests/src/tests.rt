@@ -6,7 +6,7 @@ use crate::image::{empty_disk, empty_image, place, put};
 use cbm_bam::{Release, claim_directory, claim_first, claim_next, free_blocks, geometry, is_free};
 use cbm_chain::{ChainWriter, free_chain};
 use cbm_d64::D64Disk;
-use cbm_directory::{Entry, grow, put_slot, slot};
+use cbm_directory::{Entry, clear_slot, grow, put_slot, slot};
 use cbm_file::FileType;
 use cbm_medium::{Address, Link, Medium};
 use cbm_volume::Volume;
@@ -113,6 +113,30 @@ fn full_blocks_and_one_byte_more(rt: HostRuntime) -> Result<(), Fail> {
         free_chain(&disk, tracks, writer.first_block(), &mut release)?;
         release.write(&mut disk, tracks)?;
         assert_eq!(rt; free_on(&disk), 664);
+    }
+    Ok(())
+}
+
+#[test]
+fn a_slot_is_cleared(rt: HostRuntime) -> Result<(), Fail> {
+    let mut image = empty_image(rt.alloc())?;
+    let entry = place(18, 1).wrapping_add(32 * 3);
+    put(&mut image, entry, &[7, 9, 0x82, 17, 10]);
+    put(&mut image, entry.wrapping_add(5), b"HELLO");
+    put(&mut image, entry.wrapping_add(34), &[0x81, 17, 11]);
+    let mut disk = D64Disk::from_bytes(rt.alloc(), image.as_slice(), false)?;
+    let before = sector_of(&rt, &disk, 18, 1);
+    let tracks = geometry(&disk);
+    clear_slot(&mut disk, tracks, 3)?;
+    // The directory has one sector, so it has no ninth slot.
+    clear_slot(&mut disk, tracks, 8)?;
+    let after = sector_of(&rt, &disk, 18, 1);
+    for (i, byte) in after.iter().enumerate() {
+        let want = match i {
+            98 => 0,
+            _ => before.get(i).copied().unwrap_or(0xee),
+        };
+        assert_eq!(rt; *byte, want, "{i}");
     }
     Ok(())
 }
