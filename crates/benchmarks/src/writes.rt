@@ -1,10 +1,10 @@
 use crate::circles::turn_tracks;
 use crate::disks::{failed, report};
 use crate::drives::set;
+use cbm_channel::Dos;
 use cbm_d64::D64Disk;
 use cbm_g64::G64Disk;
-use cbm_medium::{Medium, Trouble, sectors_of};
-use cbm_volume::{FileType, Volume};
+use cbm_medium::{Medium, sectors_of};
 use std::alloc::Global;
 use std::io;
 use std::rt::Runtime;
@@ -19,7 +19,7 @@ const HEAD: usize = 91_392;
 /// The bytes of a file of 664 blocks.
 const LARGEST: u32 = 168_656;
 
-/// A file of 664 blocks written byte by byte to an empty disk: a D64, a G64, and a G64 whose blocks begin inside bytes.
+/// A file of 664 blocks written byte by byte to an empty disk through `Dos`: a D64, a G64, and a G64 whose blocks begin inside bytes.
 pub fn files(rt: &impl Runtime, alloc: Global) -> io::Result<()> {
     let mut image = vec![in alloc; 0; IMAGE]?;
     enter_map(&mut image);
@@ -28,7 +28,7 @@ pub fn files(rt: &impl Runtime, alloc: Global) -> io::Result<()> {
         return Err(failed());
     }
     let mut file = G64Disk::from_sectors(alloc, &disk, [65, 66]).map_err(|_| failed())?;
-    write(rt, "Volume, a byte of a file of 664 blocks written", disk)?;
+    write(rt, "Dos, a byte of a file of 664 blocks written", disk)?;
     let circles = G64Disk::from_bytes(alloc, file.as_slice(), false).map_err(|_| failed())?;
     write(rt, "the same on a G64", circles)?;
     turn_tracks(file.as_mut_slice());
@@ -36,33 +36,21 @@ pub fn files(rt: &impl Runtime, alloc: Global) -> io::Result<()> {
     write(rt, "the same, each track turned by 3 bits", turned)
 }
 
-/// The time of a byte.
+/// The time of a byte, with OPEN and CLOSE in it.
 fn write<M: Medium + Drop>(rt: &impl Runtime, name: &str, medium: M) -> io::Result<()> {
-    let mut volume = Volume::open(medium);
+    let mut dos = Dos::new(medium);
     let start = Instant::now(rt)?;
-    let written = write_all(&mut volume).map_err(|_| failed())?;
+    dos.open(1, b"BIG");
+    for _ in 0..LARGEST {
+        dos.put(1, 65);
+    }
+    dos.close(1);
     report(rt, name, &start, LARGEST)?;
-    if written == LARGEST {
+    if dos.status_code() == 0 {
         Ok(())
     } else {
         Err(failed())
     }
-}
-
-/// A file of as many bytes as the disk has room for.
-fn write_all<M: Medium>(volume: &mut Volume<M>) -> Result<u32, Trouble> {
-    let Some(mut writer) = volume.begin_write(FileType::Seq, b"BIG")? else {
-        return Ok(0);
-    };
-    let mut written = 0u32;
-    for _ in 0..200_000u32 {
-        if !volume.store(&mut writer, 65)? {
-            break;
-        }
-        written = written.wrapping_add(1);
-    }
-    volume.finish(&writer)?;
-    Ok(written)
 }
 
 /// The map of an empty disk, and its directory's one sector.
