@@ -47,6 +47,15 @@ case_of "help" 1 "" "$drive" --help
 case_of "device 12" 1 "" "$drive" hello.d64 hello.script out.d64 --device 12
 case_of "device 9" 0 "" "$drive" hello.d64 hello.script out.d64 --device 9
 case_of "a protected disk" 0 "" "$drive" --read-only hello.d64 hello.script out.d64
+printf 'open 1 SAVED\nput 1 \\01\\08HI\nclose 1\nstatus\n' > save.script
+printf 'open 0 SAVED\nget 0 9\n' > back.script
+case_of "a file is written" 0 "" "$drive" hello.d64 save.script saved.d64
+is "which the status says" grep -q "^status 00, OK,00,00$" out.txt
+case_of "and it is read back from OUT" 0 "" "$drive" saved.d64 back.script again.d64
+is "byte for byte" grep -q "^get 0 01084849 eoi$" out.txt
+case_of "a protected disk isn't written" 0 "" "$drive" --read-only hello.d64 save.script saved.d64
+is "which the status says too" grep -q "^status 26,WRITE PROTECT ON,00,00$" out.txt
+is "and OUT equals IMAGE" cmp -s hello.d64 saved.d64
 case_of "a truncated image, and no standard error" 2 "" sh -c "$drive short.d64 hello.script none.d64 2> /dev/full"
 case_of "no image, and no standard error" 3 "" sh -c "$drive nothing.d64 hello.script none.d64 2> /dev/full"
 case_of "a full standard output" 3 "file fault: output" sh -c "$drive hello.d64 hello.script none.d64 > /dev/full"
