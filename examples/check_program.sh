@@ -53,7 +53,8 @@ case_of "a file is written" 0 "" "$drive" hello.d64 save.script saved.d64
 is "which the status says" grep -q "^status 00, OK,00,00$" out.txt
 case_of "and it is read back from OUT" 0 "" "$drive" saved.d64 back.script again.d64
 is "byte for byte" grep -q "^get 0 01084849 eoi$" out.txt
-case_of "a protected disk isn't written" 0 "" "$drive" --read-only hello.d64 save.script saved.d64
+printf 'open 1 SAVED\nstatus\n' > asked.script
+case_of "a protected disk isn't written" 0 "" "$drive" --read-only hello.d64 asked.script saved.d64
 is "which the status says too" grep -q "^status 26,WRITE PROTECT ON,00,00$" out.txt
 is "and OUT equals IMAGE" cmp -s hello.d64 saved.d64
 case_of "a truncated image, and no standard error" 2 "" sh -c "$drive short.d64 hello.script none.d64 2> /dev/full"
