@@ -44,7 +44,7 @@ mid_length : (a k : ℕ) (xs ys : List ℕ) → length ys ≡ k → a + k ≤ le
 mid_length a k xs ys e h = search (rules, places)
 
 -- a bit of the circle, by its byte
-bit_by : (xs : List ℕ) (p r : ℕ) → 0 < length xs → r ≡ p % (8 * length xs) → bit (bits_of xs) p ≡ bit_in (get_or xs (r / 8) 0) (r % 8)
+pub bit_by : (xs : List ℕ) (p r : ℕ) → 0 < length xs → r ≡ p % (8 * length xs) → bit (bits_of xs) p ≡ bit_in (get_or xs (r / 8) 0) (r % 8)
 unfolding bit
 bit_by xs p r h e =
     ap (λ (n : ℕ). get_or (bits_of xs) (p % n) false) (length-bits_of xs)

@@ -1,4 +1,4 @@
-ghost use Rattle.std.specs.Prelude.{◌≡◌, ◌<◌, ◌*◌, ◌%◌, false, length, slice_index_or, slice_set};
+ghost use Rattle.std.specs.Prelude.{◌≡◌, ◌<◌, ◌*◌, ◌%◌, false, length, slice_index_or};
 ghost use Rattle.cbm_track.specs.Circle.{bits_of};
 
 /// The bit at a place of bytes, where the high bit of the first byte is the first.
@@ -7,16 +7,6 @@ pub(crate) fn bit_of(bytes: &[u8], place: usize) -> bool
     ensures { result ≡ slice_index_or (bits_of bytes.now) place false }
 {
     bytes[place / 8] >> (7 - place % 8) & 1 == 1
-}
-
-/// Sets the bit at a place of bytes.
-pub(crate) fn set_bit(bytes: &mut [u8], place: usize, value: bool)
-    requires { place < 8 * length bytes.old }
-    ensures { bits_of bytes.new ≡ slice_set (bits_of bytes.old) place value }
-{
-    let mask = 1 << (7 - place % 8);
-    let byte = bytes[place / 8];
-    bytes[place / 8] = if value { byte | mask } else { byte & !mask };
 }
 
 /// The place on a circle of some bits, for one that is past its end at most once.

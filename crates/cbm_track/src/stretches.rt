@@ -1,7 +1,8 @@
-ghost use Rattle.std.specs.Prelude.{◌≡◌, ℕ, ◌<◌, ◌≤◌, ◌+◌, ◌*◌, [], ◌∷◌, drop, false, length, slice_index_or, take};
+ghost use Rattle.std.specs.Prelude.{◌≡◌, ℕ, ◌<◌, ◌≤◌, ◌+◌, ◌-◌, ◌*◌, [], ◌∷◌};
+ghost use Rattle.std.specs.Prelude.{drop, false, length, slice_index_or, take};
 ghost use Rattle.cbm_track.specs.Circle.{bits, bits_of, bit, stretch};
 
-use crate::bits::{bit_of, set_bit, wrapped};
+use crate::bits::wrapped;
 
 /// The eight bits from a bit of the first of two bytes on.
 fn joined(first: u8, second: u8, bit: usize) -> u8
@@ -56,7 +57,43 @@ pub(crate) fn read_bytes(track: &[u8], place: usize, out: &mut [u8])
     }
 }
 
-/// Writes bytes from a place of the circle on, bit after bit.
+/// A byte in which another one begins at a bit.
+fn begun(old: u8, byte: u8, bit: usize) -> u8
+    requires { bit < 8 }
+    ensures kept { (k : ℕ) → k < bit → slice_index_or (bits 8 result) k false ≡ slice_index_or (bits 8 old) k false }
+    ensures written { (k : ℕ) → bit ≤ k → k < 8 →
+        slice_index_or (bits 8 result) k false ≡ slice_index_or (bits 8 byte) (k - bit) false }
+{
+    let room = 8 - bit;
+    ((old as u32 >> room << room) + (byte as u32 >> bit)) as u8
+}
+
+/// A byte in which another one ends, so many of whose bits are left.
+fn ended(old: u8, byte: u8, left: usize) -> u8
+    requires { left < 8 }
+    ensures written { (k : ℕ) → k < left →
+        slice_index_or (bits 8 result) k false ≡ slice_index_or (bits 8 byte) (8 - left + k) false }
+    ensures kept { (k : ℕ) → left ≤ k → k < 8 →
+        slice_index_or (bits 8 result) k false ≡ slice_index_or (bits 8 old) k false }
+{
+    let room = 8 - left;
+    (((byte as u32) << room) % 256 + old as u32 % (1 << room)) as u8
+}
+
+/// Writes a byte from a place of the circle on: it ends in the next byte, unless it is a whole one there.
+fn put_byte(track: &mut [u8], place: usize, byte: u8)
+    requires { place < 8 * length track.old }
+    ensures written { (k : ℕ) → k < 8 → bit (bits_of track.new) (place + k) ≡ slice_index_or (bits 8 byte) k false }
+    ensures others { (k : ℕ) → 8 ≤ k → k < 8 * length track.old →
+        bit (bits_of track.new) (place + k) ≡ bit (bits_of track.old) (place + k) }
+{
+    let first = place / 8;
+    let last = wrapped(first + 1, track.len());
+    track[first] = begun(track[first], byte, place % 8);
+    track[last] = ended(track[last], byte, place % 8);
+}
+
+/// Writes bytes from a place of the circle on, one after another.
 fn write_around(track: &mut [u8], place: usize, bytes: &[u8])
     requires place { place < 8 * length track.old }
     requires size { length track.old ≤ 7928 }
@@ -67,10 +104,10 @@ fn write_around(track: &mut [u8], place: usize, bytes: &[u8])
         bit (bits_of track.new) (place + k) ≡ bit (bits_of track.old) (place + k) }
 {
     let bits = 8 * track.len();
-    let mut at = place;
-    for k in 0..8 * bytes.len() {
-        set_bit(track, at, bit_of(bytes, k));
-        at = wrapped(at + 1, bits);
+    let mut to = place;
+    for byte in bytes {
+        put_byte(track, to, *byte);
+        to = wrapped(to + 8, bits);
     }
 }
 
