@@ -128,7 +128,7 @@ free_released tracks old new xs c h t =
     free_is_number tracks new (h.counted c) ∙ number_same tracks (is_free_in new) (with_freed (is_free_in old) xs) h.bits
     ∙ number_freed tracks (is_free_in old) xs t ∙ ap (λ (x : ℕ). x + length xs) (sym (free_is_number tracks old c))
 
-tally_none : (f : Place → Bool) (t n : ℕ) → ((s : ℕ) → s < n → f (at t s) ≡ false) → tally f t n ≡ 0
+pub tally_none : (f : Place → Bool) (t n : ℕ) → ((s : ℕ) → s < n → f (at t s) ≡ false) → tally f t n ≡ 0
 tally_none f t zero h = refl
 tally_none f t (suc n) h = omega (arith, ap one_if (h n (omega arith)), tally_none f t n (λ s k. h s (omega arith)))
 
@@ -140,9 +140,12 @@ summed_none f (suc n) h = elim (cases_eq (suc n) 18) [
       omega (arith, h (suc n) (omega arith) (omega arith) ne, summed_none f n (λ t k l. h t k (omega arith))))
 ]
 
--- none is free where no sector of files is
+-- none is free where no sector of files is, by the bits and by the counts
+pub number_none : (tracks : ℕ) (free : Place → Bool) → ((p : Place) → Has tracks p → p.track ≢ 18 → free p ≡ false) → number tracks free ≡ 0
+number_none tracks free h = summed_none (λ t. tally free t (sectors_on t)) tracks (λ t a b ne. tally_none free t (sectors_on t) (λ s k. h (at t s) (a, b, k) ne))
+
 pub free_none : (tracks : ℕ) (map : List ℕ) → IsCounted tracks map → ((p : Place) → Has tracks p → p.track ≢ 18 → is_free_in map p ≡ false) → free_in tracks map ≡ 0
-free_none tracks map c h = free_is_number tracks map c ∙ summed_none (λ t. tally (is_free_in map) t (sectors_on t)) tracks (λ t a b ne. tally_none (is_free_in map) t (sectors_on t) (λ s k. h (at t s) (a, b, k) ne))
+free_none tracks map c h = free_is_number tracks map c ∙ number_none tracks (is_free_in map) h
 
 -- one track more is counted
 pub number_on : (f : Place → Bool) (t n m : ℕ) → 0 < t → n ≡ number (t - 1) f → m ≡ n + unless_18 t (tally f t (sectors_on t)) → m ≡ number (t + 1 - 1) f

@@ -1,4 +1,4 @@
-ghost use Rattle.std.specs.Prelude.{◌≡◌, ◌==◌, ◌≤◌, Ok, Err, IsOk, IfOk, IfErr, OnOk, find, is_some};
+ghost use Rattle.std.specs.Prelude.{◌≡◌, ◌≢◌, ◌==◌, ◌≤◌, Ok, Err, IsOk, IfOk, IfErr, OnOk, find, is_some};
 ghost use Rattle.cbm_medium.specs.Place.{Place, directory_head, sectors_on};
 ghost use Rattle.cbm_medium.specs.Content.{IsWhole};
 ghost use Rattle.cbm_bam.specs.Orders.{directory_order};
@@ -36,6 +36,7 @@ pub fn read_map<M: Medium>(medium: &M, geometry: Geometry) -> Result<[u8; 256], 
     ensures ok { IfOk result (λ map. (M.seen medium.now).content directory_head ≡ Ok map) }
     ensures err { IfErr result (λ t. ((M.seen medium.now).content directory_head ≡ Err t.code) × (t.track ≡ 18) ×
         (t.sector ≡ 0)) }
+    ensures never_26 { IfErr result (λ t. t.code ≢ 26) }
 {
     prove!(geometry.tracks() >= 35);
     let map = medium.read(Address::of_map())?;
@@ -73,6 +74,7 @@ pub fn free_bits<M: Medium>(medium: &M, geometry: Geometry) -> Result<u16, Troub
     ensures read { OnOk result (IsOk ((M.seen medium.now).content directory_head)) }
     ensures err { IfErr result (λ t. ((M.seen medium.now).content directory_head ≡ Err t.code) × (t.track ≡ 18) ×
         (t.sector ≡ 0)) }
+    ensures never_26 { IfErr result (λ t. t.code ≢ 26) }
 {
     let map = read_map(medium, geometry)?;
     Ok(map::free_bits(&map, geometry.tracks()))
