@@ -1,6 +1,6 @@
 // The blocks of a chain whose last one was never written are given back.
 
-ghost use Rattle.std.specs.Prelude.{◌≡◌, ◌≤◌, ℕ, suc, false, [], OnOk, IfOk, IfErr, None, Some};
+ghost use Rattle.std.specs.Prelude.{◌≡◌, ◌≢◌, ◌≤◌, ℕ, suc, false, [], OnOk, IfOk, IfErr, None, Some};
 ghost use Rattle.cbm_medium.specs.Place.{Has, has};
 ghost use Rattle.cbm_medium.specs.Links.{with_block};
 ghost use Rattle.cbm_bam.specs.Map.{Frees, IsGiven};
@@ -25,6 +25,7 @@ pub(crate) fn give_linked<M: Medium>(
     ensures whole { OnOk result ((linked_blocks geometry (M.seen medium.now).content more first).trouble ≡ None) }
     ensures err { IfErr result (λ t.
         (linked_blocks geometry (M.seen medium.now).content more first).trouble ≡ Some t) }
+    ensures never_26 { IfErr result (λ t. t.code ≢ 26) }
 {
     let mut at = first;
     for passed in 0..more {
@@ -48,6 +49,7 @@ fn give_and_follow<M: Medium>(
     ensures given { OnOk result (IsGiven geometry release.old release.new at) }
     ensures err { (n : ℕ) → IfErr result (λ t. linked_blocks geometry (M.seen medium.now).content (suc n) at ≡
         (record { blocks = []; trouble = Some t })) }
+    ensures never_26 { IfErr result (λ t. t.code ≢ 26) }
 {
     let address = give_at(geometry, at, release)?;
     let bytes = medium.read(address)?;
@@ -61,6 +63,7 @@ fn give_at(geometry: Geometry, at: Link, release: &mut Release) -> Result<Addres
     ensures has { OnOk result (Has geometry at) }
     ensures err { IfErr result (λ t. (has geometry at ≡ false) ×
         (t ≡ (record { code = 66; track = at.track; sector = at.sector }))) }
+    ensures never_26 { IfErr result (λ t. t.code ≢ 26) }
 {
     let Some(address) = at.address(geometry) else {
         return Err(at.trouble(ILLEGAL_LINK));
