@@ -8,6 +8,7 @@ use Rattle.cbm_directory.specs.Entries.{type_byte}
 use Rattle.cbm_directory.specs.Slots.{directory_of, first_from}
 use Rattle.cbm_directory.specs.Growth.{Grows}
 use Rattle.cbm_directory.specs.Empties.{empty_in, FindsEmpty, TakesSlot, SlotStopped, IsSlotRefused}
+use Rattle.cbm_directory.proofs.Refilled.{never_full}
 
 pub first_is : (n : ℕ) (xs : List (List ℕ)) (o : Option (ℕ × List ℕ)) → first_from (λ entry. type_byte entry == 0) n xs ≡ o → empty_in n xs ≡ option_map (λ (x : ℕ × List ℕ). x.0) o
 first_is n [] o e = ap (option_map (λ (x : ℕ × List ℕ). x.0)) e
@@ -22,7 +23,7 @@ first_is n (entry ∷ rest) o e = by_test (type_byte entry == 0) e (first_is (n 
 -- the directory grew, and was searched again
 pub grown_then : (tracks : ℕ) (c c' : Content) (r : Result (Option ℕ) Trouble) → FindsEmpty (directory_of tracks c) (Ok None) → Grows tracks c c' → FindsEmpty (directory_of tracks c') r → IfOk r (TakesSlot tracks c c')
 grown_then tracks c c' (Ok (Some n)) none grows found = inr (none, grows, found)
-grown_then tracks c c' (Ok None) none grows found = (none, inr (grows, found))
+grown_then tracks c c' (Ok None) none grows found = absurd (never_full tracks c c' grows found)
 grown_then tracks c c' (Err t) none grows found = tt
 
 pub grown_stopped : (tracks : ℕ) (c c' : Content) (r : Result (Option ℕ) Trouble) → FindsEmpty (directory_of tracks c) (Ok None) → Grows tracks c c' → FindsEmpty (directory_of tracks c') r → IfErr r (SlotStopped tracks c c')

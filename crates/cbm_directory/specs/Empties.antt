@@ -19,14 +19,13 @@ FindsEmpty d (Ok None) = (empty_in 0 d.entries ≡ None) × (d.trouble ≡ None)
 FindsEmpty d (Err t) = (empty_in 0 d.entries ≡ None) × (d.trouble ≡ Some t)
 
 -- THE FIRST EMPTY SLOT IS TAKEN from the directory as it is; or none is empty, it grows, and then the slot is one of those that it has
--- now. Where it can't grow, nothing has changed.
+-- now. No slot is taken only where it can't grow, and then nothing has changed.
 abbrev pub TakesSlot : ℕ → Content → Content → Option ℕ → Type 0
 TakesSlot tracks c c' (Some n) =
     (FindsEmpty (directory_of tracks c) (Ok (Some n)) × (c' ≡ c))
     ⊎ (FindsEmpty (directory_of tracks c) (Ok None) × Grows tracks c c' × FindsEmpty (directory_of tracks c') (Ok (Some n)))
 TakesSlot tracks c c' None =
-    FindsEmpty (directory_of tracks c) (Ok None)
-    × ((HasNoRoom c × (c' ≡ c)) ⊎ (Grows tracks c c' × FindsEmpty (directory_of tracks c') (Ok None)))
+    FindsEmpty (directory_of tracks c) (Ok None) × HasNoRoom c × (c' ≡ c)
 
 -- what is left where the search or the growth was cut short: nothing has changed, or no slot was empty and the growth was stopped, or
 -- the directory grew and breaks off

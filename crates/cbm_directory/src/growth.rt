@@ -1,6 +1,6 @@
 // The directory grows.
 
-ghost use Rattle.std.specs.Prelude.{◌≡◌, ℕ, ◌≤◌, ◌⊎◌, Some, Ok, IfOk, IfErr, OnErr, MatchBool};
+ghost use Rattle.std.specs.Prelude.{◌≡◌, ◌≢◌, ℕ, ◌≤◌, true, ◌⊎◌, Some, Ok, IfOk, IfErr, OnErr, MatchBool};
 ghost use Rattle.cbm_medium.specs.Links.{follow};
 ghost use Rattle.cbm_medium.specs.Seen.{OnlyContent};
 ghost use Rattle.cbm_directory.specs.Entries.{HasLink, first_directory};
@@ -27,6 +27,7 @@ fn last_sector<M: Medium>(medium: &M, geometry: Geometry) -> Result<Sector, Trou
     ensures track { IfOk result (λ s. s.at.track ≤ geometry) }
     ensures err { IfErr result (λ t.
         (follow geometry (M.seen medium.now).content 18 first_directory).trouble ≡ Some t) }
+    ensures never_26 { IfErr result (λ t. t.code ≢ 26) }
 {
     let mut at = Link::new(18, 1);
     let mut left = 18u16;
@@ -72,6 +73,7 @@ pub fn grow<M: Medium>(medium: &mut M, geometry: Geometry) -> Result<bool, Troub
     ensures stopped { OnErr result
         (GrowthStopped geometry (M.seen medium.old).content (M.seen medium.new).content) }
     ensures cause { IfErr result (IsGrowthRefused geometry (M.seen medium.old) (M.seen medium.new)) }
+    ensures protection { IfErr result (λ t. t.code ≡ 26 → (M.seen medium.old).protected ≡ true) }
     ensures only { OnlyContent result (M.seen medium.old) (M.seen medium.new) }
 {
     let last = last_sector(medium, geometry)?;

@@ -1,8 +1,10 @@
 use Rattle.std.proofs.Common.{◌≡◌, ℕ, Bool, Option, None, Ok, subst, MatchBool, refl, inl}
+use Rattle.std.proofs.lemmas.Result.{err_from_is_err_and}
 use Rattle.cbm_medium.specs.Content.{Content}
 use Rattle.cbm_directory.specs.Slots.{directory_of}
 use Rattle.cbm_directory.specs.Growth.{Grows, HasNoRoom}
 use Rattle.cbm_directory.specs.Empties.{FindsEmpty}
+use Rattle.cbm_directory.proofs.Codes.{directory_never_26, found_never_26}
 use Rattle.cbm_directory.proofs.Emptied.{grown_then, grown_stopped, grown_refused, only_then}
 use Rattle.cbm_directory.proofs.empty.empty_slot.Goals as goal
 use Rattle.cbm_directory.proofs.empty.empty_slot.Given.{Over}
@@ -35,3 +37,13 @@ returns-clause-only g c =
 pub returns-in-Some-clause-taken : goal.returns-in-Some-clause-taken
 returns-in-Some-clause-taken g c =
     inl (subst (λ (o : Option ℕ). FindsEmpty (directory_of c.args.geometry (g.M.Medium.seen c.args.medium.now).content) (Ok o)) c.in-Some.is c.in_ok-slot.ensures, refl)
+
+-- what breaks the directory off is never told as protection
+pub returns-in_err-slot-clause-protection : goal.returns-in_err-slot-clause-protection
+returns-in_err-slot-clause-protection g c =
+    let p = err_from_is_err_and c.from_residual.result c.from_residual.ensures.1 in
+    rw (p.1, p.2) (λ is. absurd (directory_never_26 c.args.geometry (g.M.Medium.seen c.args.medium.now).content c.in_err-slot.field-0.0 (λ q. g.met.M.Medium.codes c.args.medium.now q) c.in_err-slot.ensures.1 is))
+
+pub returns-clause-protection : goal.returns-clause-protection
+returns-clause-protection g c =
+    found_never_26 c.args.geometry (g.M.Medium.seen c.grow.new.medium).content c.first_empty-2.result _ (λ q. g.met.M.Medium.codes c.grow.new.medium q) c.first_empty-2.ensures
