@@ -1,7 +1,21 @@
--- What writing does to a disk: a new file, a file that is appended to or replaced, CLOSE.
-use Rattle.std.specs.Prelude.{ℕ, ◌+◌, ◌-◌, ◌++◌, nat_lt, Bool, true, false, ◌||◌, List, [], replicate, slice_set, if◌then◌else◌, Option, Some, None, is_some, is_none, unwrap_or}
+-- What writing does to a disk: an empty disk, a new file, a file that is appended to or replaced, CLOSE.
+use Rattle.std.specs.Prelude.{ℕ, ◌+◌, ◌-◌, ◌/◌, ◌++◌, nat_lt, Bool, true, false, ◌||◌, List, [], ◌∷◌, length, map, take, replicate, slice_set, if◌then◌else◌, Option, Some, None, is_some, is_none, unwrap_or}
 use Rattle.cbm_file.specs.declared.file_type.FileType.{FileType}
-use Rattle.cbm_file.specs.Files.{Body, Bytes, File, Disk, empty_from, file_at, with_slot}
+use Rattle.cbm_file.specs.Files.{Body, Bytes, File, Disk, held_by, held_on, empty_from, file_at, with_slot, blocks_on}
+use Rattle.cbm_file.specs.Padding.{padded}
+
+-- ---- an empty disk
+
+-- The new id, or the old one where none is given; eight empty slots, and all else free but the directory's two sectors.
+abbrev pub new_disk : ℕ → List ℕ → Option (List ℕ) → Disk → Disk
+new_disk tracks title id d = record {
+  title = padded title;
+  mark = unwrap_or id (take 2 d.mark) ++ 160 ∷ 50 ∷ 65 ∷ [];
+  slots = replicate 8 None;
+  room = 17;
+  free = blocks_on tracks;
+  total = blocks_on tracks;
+}
 
 -- ---- a new name
 
@@ -56,3 +70,25 @@ replaced_in (Some f) d n bytes blocks = record (with_slot d n (Some (finished f 
 
 abbrev pub with_replaced : Disk → ℕ → List ℕ → ℕ → Disk
 with_replaced d n bytes blocks = replaced_in (file_at d n) d n bytes blocks
+
+-- ---- a file that is scratched: its slot is empty, and what it held is free; one that isn't closed held nothing
+
+abbrev pub scratched_in : Option File → Disk → ℕ → Disk
+scratched_in None d n = d
+scratched_in (Some f) d n = record (with_slot d n None) { free = d.free + held_by (Some f) }
+
+abbrev pub scratched : Disk → ℕ → Disk
+scratched d n = scratched_in (file_at d n) d n
+
+-- ---- VALIDATE
+
+-- a slot that isn't closed is empty
+abbrev pub only_closed : Option File → Option File
+only_closed None = None
+only_closed (Some f) = if f.closed then Some f else None
+
+-- the closed files alone, and each block is free or a file's
+abbrev pub validated : Disk → Disk
+validated d =
+    let slots = map only_closed d.slots in
+    record d { slots = slots; free = d.total - held_on d; room = 18 - length d.slots / 8 }
