@@ -1,7 +1,7 @@
 -- What `check` claims is a sound disk, and on a sound disk it meets no fault.
 use Rattle.std.proofs.Common.{◌≡◌, ◌≢◌, ◌⊎◌, ℕ, ◌≤◌, List, [], ◌∷◌, ◌++◌, Bool, true, false, Option, Some, None, Ok, Err, refl, sym, ap, ◌∙◌, subst, arith, inl, inr}
-use Rattle.std.specs.Prelude.{IsOk, Result, OnOk, IfErr}
-use Rattle.cbm_medium.specs.Place.{Place, directory_head}
+use Rattle.std.specs.Prelude.{IsOk, Result, IfErr}
+use Rattle.cbm_medium.specs.Place.{Place, Has, directory_head}
 use Rattle.cbm_medium.specs.Content.{Cell, Content}
 use Rattle.cbm_medium.specs.Links.{Chain, bytes_at, link}
 use Rattle.cbm_bam.specs.Map.{with_bit, geometry_of}
@@ -15,7 +15,7 @@ use Rattle.cbm_volume.specs.check.SideLists.{ClaimsEach, MeetsAmong, sides_from,
 use Rattle.cbm_volume.specs.check.SlotWalk.{RelativeFault, ClaimsFile, FileFault, ClaimsEntry, EntryFault, ClaimsEntries, EntriesFault, entries_behind, entries_in, SlotsFault}
 use Rattle.cbm_volume.specs.check.MapCounts.{IsMapRight, IsMapFault}
 use Rattle.cbm_volume.specs.check.Headers.{is_bad_header}
-use Rattle.cbm_volume.specs.check.WholeDisk.{only_head, ClaimsDisk, DiskFault}
+use Rattle.cbm_volume.specs.check.WholeDisk.{only_head, ClaimsDisk, ClaimsInto, DiskFault}
 use Rattle.cbm_volume.specs.declared.check.unsound.Part.{Part}
 use Rattle.cbm_volume.specs.declared.check.unsound.Part.TheVariants.{OfDirectory, OfFile}
 use Rattle.cbm_volume.specs.declared.check.unsound.Unsound.{Unsound}
@@ -205,21 +205,27 @@ slots_clean tracks c met claimed a (b ∷ xs) (d ∷ ys) bs x after u h k g =
 
 -- ---- the disk
 
+-- what was claimed, with the blocks of each file
+pub checked_once : (tracks : ℕ) (c : Content) (k : ClaimsDisk tracks c) → (once : IsClaimedOnce tracks c) × (once.after ≡ k.after)
+checked_once tracks c k =
+    let same = again_same tracks c only_head k.between first_directory k.sectors k.again k.between k.after k.directory k.slots in
+    let slots = slots_claimed tracks c only_head k.between first_directory k.again k.after k.slots in (
+      record {
+        writable = k.writable;
+        map = k.map;
+        directory = k.sectors;
+        files = slots.0;
+        middle = k.between;
+        after = k.after;
+        directory_claimed = k.directory;
+        files_claimed = subst (λ (xs : List Place). ClaimsSlots tracks c k.between (all_entries c xs) slots.0 k.after) same slots.1;
+      },
+      refl,
+    )
+
 -- WHAT IS CLAIMED IS A SOUND DISK
 pub checked_sound : (tracks : ℕ) (c : Content) → ClaimsDisk tracks c → (l : Layout) × Sound tracks c l
-checked_sound tracks c k =
-    let same = again_same tracks c only_head k.between first_directory k.sectors k.again k.between k.after k.directory k.slots in
-    let slots = slots_claimed tracks c only_head k.between first_directory k.again k.after k.slots in
-    claimed_sound tracks c (record {
-      writable = k.writable;
-      map = k.map;
-      directory = k.sectors;
-      files = slots.0;
-      middle = k.between;
-      after = k.after;
-      directory_claimed = k.directory;
-      files_claimed = subst (λ (xs : List Place). ClaimsSlots tracks c k.between (all_entries c xs) slots.0 k.after) same slots.1;
-    })
+checked_sound tracks c k = claimed_sound tracks c (checked_once tracks c k).0
 
 good_header : (cell : Cell) → IsWritable cell → is_bad_header cell ≡ true → ⊥
 good_header (Ok bytes) h g = absurd (cc)
@@ -250,9 +256,23 @@ sound_clean tracks c l u wide s f = by_fault (sound_claimed tracks c l s wide) f
 -- ---- what the check answers
 
 -- each step's success is the whole's
-pub ends_sound : (tracks : ℕ) (c : Content) (r : Result (Unit {0}) Unsound) → OnOk r (ClaimsDisk tracks c) → OnOk r ((l : Layout) × Sound tracks c l)
-ends_sound tracks c (Ok _) h = checked_sound tracks c h
-ends_sound tracks c (Err u) h = tt
+pub claims_into : (tracks g : ℕ) (c : Content) (first : Place) (head met between after : Place → Bool) → g ≡ tracks → first ≡ first_directory → head ≡ only_head → met ≡ only_head → ((p : Place) → Has g p → IsWritable (c p)) → IsMapRight g c
+    → ((xs : List Place) × ClaimsChain OfDirectory g c head first xs between) → ((xs : List Place) × checked.ClaimsSlots g c met between first xs after) → ClaimsInto tracks c after
+claims_into tracks g c first head met between after same at h m writable map chain slots = (
+  record {
+    writable = subst (λ (n : ℕ). (p : Place) → Has n p → IsWritable (c p)) same writable;
+    map = subst (λ (n : ℕ). IsMapRight n c) same map;
+    sectors = chain.0;
+    between = between;
+    directory = subst (λ (n : ℕ). ClaimsChain OfDirectory n c only_head first_directory chain.0 between) same
+        (subst (λ (p : Place). ClaimsChain OfDirectory g c only_head p chain.0 between) at (subst (λ (x : Place → Bool). ClaimsChain OfDirectory g c x first chain.0 between) h chain.1));
+    again = slots.0;
+    after = after;
+    slots = subst (λ (n : ℕ). checked.ClaimsSlots n c only_head between first_directory slots.0 after) same
+        (subst (λ (p : Place). checked.ClaimsSlots g c only_head between p slots.0 after) at (subst (λ (x : Place → Bool). checked.ClaimsSlots g c x between first slots.0 after) m slots.1));
+  },
+  refl,
+)
 
 pub ends_exact : (medium : ℕ) (c : Content) (l : Layout) (r : Result (Unit {0}) Unsound) → IfErr r (DiskFault (geometry_of medium c) c) → Sound (geometry_of medium c) c l → IsOk r
 ends_exact medium c l (Ok _) h s = refl

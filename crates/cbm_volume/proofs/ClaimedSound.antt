@@ -314,17 +314,25 @@ nobody_agrees c taken = record {
 counted : (tracks : ℕ) (c : Content) → IsMapRight tracks c → IsCounted tracks (map_of c)
 counted tracks c m = λ t some few. eqb-true _ _ (m.counted t some few)
 
--- WHERE EACH SECTOR IS CLAIMED ONCE THE DISK IS SOUND
-pub claimed_sound : (tracks : ℕ) (c : Content) → IsClaimedOnce tracks c → (l : Layout) × Sound tracks c l
-claimed_sound tracks c k =
+-- the layout of what is claimed, and who owns its sectors: what wasn't claimed is nobody's
+abbrev pub layout_of : List Place → List Blocks → (Place → Owner) → Layout
+layout_of directory files owner = record { directory = directory; files = λ n. slice_index_or files n no_blocks; owner = owner }
+
+pub record IsLaidOut (tracks : ℕ) (c : Content) (k : IsClaimedOnce tracks c) : Type 0 where
+  pub owner : Place → Owner
+  pub sound : Sound tracks c (layout_of k.directory k.files owner)
+  pub fresh : (p : Place) → k.after p ≡ false → owner p ≡ Nobody
+
+pub laid_out : (tracks : ℕ) (c : Content) (k : IsClaimedOnce tracks c) → IsLaidOut tracks c k
+laid_out tracks c k =
     let start = own (λ _. Nobody) directory_head TheMap in
     let d = chain_owned OfDirectory tracks c head_claimed start first_directory k.directory k.middle Directory refl (nobody_agrees c k.map.taken) k.directory_claimed in
     let s = slots_owned tracks c k.middle d.new 0 (all_entries c k.directory) k.files k.after d.agrees k.files_claimed in
     let all = keeps_both start d.new s.new d.keeps s.keeps in
     let one = λ (n : ℕ) (lt : n < 8 * length k.directory). from_zero tracks c s.new n (entry_at c k.directory n) (slice_index_or k.files n no_blocks)
-    (one_owned tracks c s.new 0 n (all_entries c k.directory) k.files (entry_at c k.directory n) s.each (nth_entry c k.directory n lt)) in (
-      record { directory = k.directory; files = λ n. slice_index_or k.files n no_blocks; owner = s.new },
-      record {
+    (one_owned tracks c s.new 0 n (all_entries c k.directory) k.files (entry_at c k.directory n) s.each (nth_entry c k.directory n lt)) in record {
+      owner = s.new;
+      sound = record {
         owned = record {
           map = all.keeps directory_head TheMap (λ e. absurd (cc)) (owned_there (λ _. Nobody) directory_head TheMap);
           directory = owned_kept d.new s.new Directory k.directory (λ e. absurd (cc)) s.keeps d.each;
@@ -340,5 +348,10 @@ claimed_sound tracks c k =
         lies = λ n lt. (one n lt).lies;
         free = λ p _ h. s.agrees.free p h;
         counted = counted tracks c k.map;
-      },
-    )
+      };
+      fresh = s.agrees.fresh;
+    }
+
+-- WHERE EACH SECTOR IS CLAIMED ONCE THE DISK IS SOUND
+pub claimed_sound : (tracks : ℕ) (c : Content) → IsClaimedOnce tracks c → (l : Layout) × Sound tracks c l
+claimed_sound tracks c k = let laid = laid_out tracks c k in (layout_of k.directory k.files laid.owner, laid.sound)

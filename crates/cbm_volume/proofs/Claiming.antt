@@ -56,7 +56,7 @@ on_18 tracks p h = let z = (both (has tracks p) (p.track == 18) h).1 in grind ar
 pub off_18 : (tracks : ℕ) (p : Place) → is_inside OfFile tracks p ≡ true → p.track ≢ 18
 off_18 tracks p h = let z = (both (has tracks p) (not (p.track == 18)) h).1 in λ e. grind arith
 
-not_with : (f : Place → Bool) (p q : Place) → with_bit (λ x. not (f x)) p false q ≡ not (with_bit f p true q)
+pub not_with : (f : Place → Bool) (p q : Place) → with_bit (λ x. not (f x)) p false q ≡ not (with_bit f p true q)
 not_with f p q = elim (place_decide p q) [
   | inl e ↦ subst (λ (x : Place). with_bit (λ y. not (f y)) p false x ≡ not (with_bit f p true x)) e (bit_there (λ y. not (f y)) p false ∙ sym (ap not (bit_there f p true)))
   | inr ne ↦ bit_elsewhere (λ y. not (f y)) p q false ne ∙ sym (ap not (bit_elsewhere f p q true ne))

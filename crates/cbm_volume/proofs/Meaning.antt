@@ -6,7 +6,7 @@ use Rattle.cbm_file.specs.Files.{Disk, File, blocks_on}
 use Rattle.cbm_bam.specs.Map.{map_of, is_free_in, free_in, tally}
 use Rattle.cbm_directory.specs.Entries.{entry_at}
 use Rattle.cbm_volume.specs.Blocks.{slot_of}
-use Rattle.cbm_volume.specs.Layouts.{Layout, slot_count, Sound, Means}
+use Rattle.cbm_volume.specs.Layouts.{Layout, slot_count, Sound, Stands, Means}
 
 -- n slots, counted from k
 slots_from : (ℕ → Option File) → ℕ → ℕ → List (Option File)
@@ -24,8 +24,9 @@ slots_at f k zero i h = absurd (omega arith)
 slots_at f k (suc n) zero h = let e : k ≡ k + 0 = omega arith in ap f e
 slots_at f k (suc n) (suc i) h = slots_at f (k + 1) n i (omega arith) ∙ (let e : k + 1 + i ≡ k + suc i = omega arith in ap f e)
 
-pub sound_means : (tracks : ℕ) (c : Content) (l : Layout) → Sound tracks c l → (d : Disk) × Means tracks c d
-sound_means tracks c l s =
+-- where it lies as it lies
+pub sound_stands : (tracks : ℕ) (c : Content) (l : Layout) → Sound tracks c l → (d : Disk) × Stands tracks c l d
+sound_stands tracks c l s =
     let f : ℕ → Option File = λ n. slot_of c (entry_at c l.directory n) (l.files n) in
     let d : Disk = record {
       title = slice_range (map_of c) 144 160;
@@ -37,18 +38,18 @@ sound_means tracks c l s =
     } in (
       d,
       record {
-        layout = l;
-        stands = record {
-          sound = s;
-          describes = record {
-            title = refl;
-            mark = refl;
-            size = slots_length f 0 (slot_count l);
-            slots = λ n h. slots_at f 0 (slot_count l) n h ∙ (let e : 0 + n ≡ n = omega arith in ap f e);
-            total = refl;
-            room = refl;
-            free = refl;
-          };
+        sound = s;
+        describes = record {
+          title = refl;
+          mark = refl;
+          size = slots_length f 0 (slot_count l);
+          slots = λ n h. slots_at f 0 (slot_count l) n h ∙ (let e : 0 + n ≡ n = omega arith in ap f e);
+          total = refl;
+          room = refl;
+          free = refl;
         };
       },
     )
+
+pub sound_means : (tracks : ℕ) (c : Content) (l : Layout) → Sound tracks c l → (d : Disk) × Means tracks c d
+sound_means tracks c l s = let m = sound_stands tracks c l s in (m.0, record { layout = l; stands = m.1 })

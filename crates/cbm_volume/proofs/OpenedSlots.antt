@@ -1,12 +1,12 @@
 -- OPEN for writing finds an empty slot, for which the directory may have grown: what the medium holds then.
-use Rattle.std.proofs.Common.{◌≡◌, ◌≢◌, ◌⊎◌, ℕ, zero, suc, ◌+◌, ◌-◌, ◌<◌, arith, List, [], ◌∷◌, ◌++◌, true, false, refl, sym, ap, subst, ◌∙◌, inl, inr, Option, Some, None, Ok}
+use Rattle.std.proofs.Common.{◌≡◌, ◌≢◌, ◌⊎◌, ℕ, zero, suc, ◌-◌, ◌<◌, arith, List, [], ◌∷◌, ◌++◌, true, false, refl, sym, ap, subst, ◌∙◌, inl, inr, Option, Some, None, Ok}
 use Rattle.std.specs.Prelude.{if◌then◌else◌, replicate, is_none, is_some, nat_lt, ◌||◌}
 use Rattle.cbm_medium.specs.Place.{Place, directory_head}
 use Rattle.cbm_medium.specs.Content.{Content, written}
 use Rattle.cbm_medium.specs.Links.{bytes_at, or_nothing}
 use Rattle.cbm_medium.specs.declared.fault.Trouble.{Trouble}
 use Rattle.cbm_medium.proofs.Places.{place_decide, written_there, written_elsewhere}
-use Rattle.cbm_file.specs.Files.{File, Disk, file_at, empty_from}
+use Rattle.cbm_file.specs.Files.{Disk, file_at, empty_from}
 use Rattle.cbm_file.specs.Changes.{grown, has_slot}
 use Rattle.cbm_bam.specs.Map.{map_of, is_free_in, with_bit, geometry_of, Claims, ClaimsOn18}
 use Rattle.cbm_bam.proofs.Counts.{bit_there}
@@ -87,7 +87,7 @@ ends : (xs : List Place) (p : Place) → Ends (xs ++ p ∷ []) p
 ends [] p = record { first = p; rest = []; is = refl; last = refl }
 ends (x ∷ xs) p = record { first = x; rest = xs ++ p ∷ []; is = refl; last = last_behind x xs p }
 
-blank_entry : (k : ℕ) → k < 8 → type_byte (entry_of new_sector k) ≡ 0
+pub blank_entry : (k : ℕ) → k < 8 → type_byte (entry_of new_sector k) ≡ 0
 blank_entry zero h = refl
 blank_entry (suc zero) h = refl
 blank_entry (suc (suc zero)) h = refl
@@ -180,16 +180,6 @@ has_grown medium c c1 d uses h none g = subst (λ (x : Disk). Reached medium c h
 
 -- ---- the slot
 
--- eight empty slots more have an empty one
-some_empty : (k : ℕ) (xs : List (Option File)) → is_some (empty_from k (xs ++ replicate 8 None)) ≡ true
-some_empty k [] = refl
-some_empty k (None ∷ xs) = refl
-some_empty k (Some f ∷ xs) = some_empty (k + 1) xs
-
-never_full : (d : Disk) → empty_from 0 d.slots ≡ None → empty_from 0 (grown d).slots ≡ None → ⊥
-never_full d none full =
-    let z = sym (some_empty 0 d.slots) ∙ ap (λ (x : Disk). is_some (empty_from 0 x.slots)) (grown_is d none) ∙ ap is_some full in (cc)
-
 none_in : (medium : ℕ) (c : Content) (d : Disk) (uses : ℕ → Use) → HoldsNow medium c d uses → FindsEmpty (directory_of (geometry_of medium c) c) (Ok None) → empty_from 0 d.slots ≡ None
 none_in medium c d uses h f = sym (empty_of (geometry_of medium c) c h.layout d h.so.stands) ∙ f.0
 
@@ -212,12 +202,8 @@ slot_ready medium c c1 n d uses h (inr k) =
 
 -- there is no place for a name, and nothing has changed
 pub no_slot : (medium : ℕ) (c c1 : Content) (d : Disk) (uses : ℕ → Use) → HoldsNow medium c d uses → TakesSlot (geometry_of medium c) c c1 None → (has_slot d ≡ false) × (c1 ≡ c)
-no_slot medium c c1 d uses h (n, inl r) =
-    (ap (λ (o : Option ℕ). is_some o || nat_lt 0 d.room) (none_in medium c d uses h n) ∙ sym (room_of (geometry_of medium c) c h.layout d (few medium c) h.so.stands) ∙ ap is_some r.0, r.1)
-no_slot medium c c1 d uses h (n, inr r) =
-    let none : empty_from 0 d.slots ≡ None = none_in medium c d uses h n in
-    let g : Reached medium c h.layout c1 (grown d) uses = has_grown medium c c1 d uses h none r.0 in
-    absurd (never_full d none (sym (empty_of (geometry_of medium c) c1 g.layout (grown d) g.so.stands) ∙ r.1.0))
+no_slot medium c c1 d uses h k =
+    (ap (λ (o : Option ℕ). is_some o || nat_lt 0 d.room) (none_in medium c d uses h k.0) ∙ sym (room_of (geometry_of medium c) c h.layout d (few medium c) h.so.stands) ∙ ap is_some k.1, k.2)
 
 -- ---- stopped on the way
 

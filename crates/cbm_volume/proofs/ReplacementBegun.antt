@@ -20,7 +20,7 @@ use Rattle.cbm_volume.proofs.Storing.{few, geometry_claimed, none_free}
 use Rattle.cbm_volume.proofs.Writers.{Spares, used_kept, stands_owned, use_here, use_other}
 
 -- a slot that has a file is one of the disk's
-slot_within : (d : Disk) (n : ℕ) (f : File) → file_at d n ≡ Some f → n < length d.slots
+pub slot_within : (d : Disk) (n : ℕ) (f : File) → file_at d n ≡ Some f → n < length d.slots
 slot_within d n f some = elim (cases_lt n (length d.slots)) [
   | inl h ↦ h
   | inr past ↦ absurd (let z = sym some ∙ get_or_past d.slots n None past in (cc))

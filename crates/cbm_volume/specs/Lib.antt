@@ -3,6 +3,11 @@ pub mod Layouts
 pub mod Writers
 pub mod Holding
 pub mod Opens
+pub mod NewDisks
+pub mod Views
+pub mod Sweeps
+pub mod Unmendable
+pub mod ViewLaws
 pub use Rattle.cbm_file.specs.Files
 pub mod check
 pub mod Plain

@@ -14,6 +14,10 @@ use Rattle.cbm_volume.specs.Writers as usage
 abbrev pub IsUnused : (ℕ → Use) → ℕ → Type 0
 IsUnused uses n = (m : ℕ) → usage.has_slot n (uses m) ≡ false
 
+-- no channel writes the slot; some may read it
+abbrev pub IsUnwritten : (ℕ → Use) → ℕ → Type 0
+IsUnwritten uses n = (m : ℕ) → usage.writes_slot n (uses m) ≡ false
+
 -- A file that can be appended to or replaced: closed, without records, and open on no channel.
 pub record CanBeWritten (d : Disk) (uses : ℕ → Use) (slot : ℕ) (file : File) : Type 0 where
   pub in_slot : file_at d slot ≡ Some file

@@ -1,6 +1,5 @@
 -- What `check` looks at, part by part, and what it says is wrong.
 pub mod Flaws
-pub mod Marks
 pub mod Claims
 pub mod Headers
 pub mod MapCounts

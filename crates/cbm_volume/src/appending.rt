@@ -1,6 +1,6 @@
 // OPEN for appending.
 
-ghost use Rattle.std.specs.Prelude.{◌≡◌, ◌≤◌, ℕ, Some, false, OnErr, IfOk, IfErr};
+ghost use Rattle.std.specs.Prelude.{◌≡◌, ◌≤◌, ℕ, Some, true, false, OnErr, IfOk, IfErr};
 ghost use Rattle.cbm_medium.specs.Seen.{OnlyContent};
 ghost use Rattle.cbm_file.specs.declared.file_type.FileType.TheVariants.{Del};
 ghost use Rattle.cbm_file.specs.Types.{is_same_type};
@@ -37,6 +37,8 @@ impl<M: Medium> Volume<M> {
             HoldsNow old.tracks old.content d uses →
             Untouched (geometry_of old.tracks old.content) old.content (M.seen self.new).content (λ m. false) }
         ensures tracks { IfOk result (λ w. w.chain.tracks ≤ (M.seen self.old).tracks) }
+        // The code 26 says that the medium is protected, whatever it holds.
+        ensures protection { IfErr result (λ t. t.code ≡ 26 → (M.seen self.old).protected ≡ true) }
         ensures only { OnlyContent result (M.seen self.old) (M.seen self.new) }
     {
         let geometry = self.geometry();

@@ -1,14 +1,13 @@
-ghost use Rattle.std.specs.Prelude.{◌≡◌, OnOk, IfErr};
+ghost use Rattle.std.specs.Prelude.{◌≡◌, IfOk, IfErr};
 ghost use Rattle.cbm_bam.specs.Map.{geometry_of};
-ghost use Rattle.cbm_volume.specs.check.Marks.{is_marked};
-ghost use Rattle.cbm_volume.specs.check.WholeDisk.{only_head, ClaimsDisk, DiskFault};
+ghost use Rattle.cbm_bam.specs.Marks.{is_marked};
+ghost use Rattle.cbm_volume.specs.check.WholeDisk.{only_head, ClaimsInto, DiskFault};
 
 mod claims;
 mod entries;
 mod headers;
 mod map;
 mod records;
-mod sector_set;
 mod sides;
 mod slots;
 mod unsound;
@@ -16,11 +15,11 @@ mod unsound;
 use self::claims::claim_chain;
 use self::headers::check_headers;
 use self::map::check_map;
-use self::sector_set::SectorSet;
 use self::slots::check_slots;
 use self::unsound::Part;
+use cbm_bam::SectorSet;
 use cbm_medium::{Address, Link, Medium};
-pub use unsound::Unsound;
+pub use unsound::{Flaw, Unsound};
 
 /// A set with 18/0 alone.
 fn head_alone() -> SectorSet
@@ -31,11 +30,11 @@ fn head_alone() -> SectorSet
     set
 }
 
-/// Looks at the whole disk, and answers the first fault that it meets: of the headers, of the map, of the directory,
-/// of the slots.
-pub fn check_disk<M: Medium>(medium: &M) -> Result<(), Unsound>
+/// Looks at the whole disk, and answers the sectors of its parts, or the first fault that it meets: of the headers, of
+/// the map, of the directory, of the slots.
+pub fn check_disk<M: Medium>(medium: &M) -> Result<SectorSet, Unsound>
     ensures ok { let now = M.seen medium.now in
-        OnOk result (ClaimsDisk (geometry_of now.tracks now.content) now.content) }
+        IfOk result (λ set. ClaimsInto (geometry_of now.tracks now.content) now.content (is_marked set)) }
     ensures err { let now = M.seen medium.now in
         IfErr result (λ u. DiskFault (geometry_of now.tracks now.content) now.content u) }
 {
@@ -46,5 +45,6 @@ pub fn check_disk<M: Medium>(medium: &M) -> Result<(), Unsound>
     let mut claimed = head_alone();
     claim_chain(medium, geometry, Part::OfDirectory, first, &mut claimed)?;
     let mut met = head_alone();
-    check_slots(medium, geometry, first, &mut met, &mut claimed)
+    check_slots(medium, geometry, first, &mut met, &mut claimed)?;
+    Ok(claimed)
 }

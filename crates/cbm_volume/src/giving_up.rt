@@ -1,6 +1,6 @@
 // A replacement that is given up.
 
-ghost use Rattle.std.specs.Prelude.{◌≡◌, ◌≤◌, ◌+◌, ℕ, List, false, OnOk, OnErr, IfErr};
+ghost use Rattle.std.specs.Prelude.{◌≡◌, ◌≤◌, ◌+◌, ℕ, List, true, false, OnOk, OnErr, IfErr};
 ghost use Rattle.cbm_medium.specs.Seen.{OnlyContent};
 ghost use Rattle.cbm_file.specs.Files.{Disk};
 ghost use Rattle.cbm_bam.specs.Map.{geometry_of};
@@ -35,6 +35,8 @@ impl<M: Medium> Volume<M> {
             (d : Disk) (uses : ℕ → Use) (ch : ℕ) (bytes : List ℕ) (blocks : ℕ) →
             HoldsNow old.tracks old.content d uses → uses ch ≡ Writes writer.now bytes blocks →
             Untouched (geometry_of old.tracks old.content) old.content (M.seen self.new).content (λ m. false) }
+        // The code 26 says that the medium is protected, whatever it holds.
+        ensures protection { IfErr result (λ t. t.code ≡ 26 → (M.seen self.old).protected ≡ true) }
         ensures only { OnlyContent result (M.seen self.old) (M.seen self.new) }
     {
         writer.chain.abandon(&mut self.medium)

@@ -1,6 +1,6 @@
 // OPEN of a new file for writing.
 
-ghost use Rattle.std.specs.Prelude.{◌≡◌, ◌≢◌, ◌≤◌, ℕ, [], false, length, IfOk, IfErr, OnErr, IfSome, MatchOption};
+ghost use Rattle.std.specs.Prelude.{◌≡◌, ◌≢◌, ◌≤◌, ℕ, [], true, false, length, IfOk, IfErr, OnErr, IfSome, MatchOption};
 ghost use Rattle.cbm_medium.specs.Seen.{OnlyContent};
 ghost use Rattle.cbm_file.specs.declared.file_type.FileType.TheVariants.{Del, Rel};
 ghost use Rattle.cbm_file.specs.Types.{is_same_type};
@@ -48,6 +48,11 @@ impl<M: Medium> Volume<M> {
             HoldsNow old.tracks old.content d uses →
             Untouched (geometry_of old.tracks old.content) old.content (M.seen self.new).content (λ m. false) }
         ensures tracks { IfOk result (λ o. IfSome o (λ w. w.chain.tracks ≤ (M.seen self.old).tracks)) }
+        // None says that nothing has changed, whatever the medium holds.
+        ensures kept { IfOk result
+            (λ o. MatchOption o ((M.seen self.new).content ≡ (M.seen self.old).content) (λ w. Unit {0})) }
+        // The code 26 says that the medium is protected, whatever it holds.
+        ensures protection { IfErr result (λ t. t.code ≡ 26 → (M.seen self.old).protected ≡ true) }
         ensures only { OnlyContent result (M.seen self.old) (M.seen self.new) }
     {
         let geometry = self.geometry();

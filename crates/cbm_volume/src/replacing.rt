@@ -30,6 +30,11 @@ impl<M: Medium> Volume<M> {
             HoldsNow old.tracks old.content d uses →
             Untouched (geometry_of old.tracks old.content) old.content (M.seen self.new).content (λ m. false) }
         ensures tracks { IfOk result (λ o. IfSome o (λ w. w.chain.tracks ≤ (M.seen self.old).tracks)) }
+        // None says that nothing has changed, whatever the medium holds.
+        ensures kept { IfOk result
+            (λ o. MatchOption o ((M.seen self.new).content ≡ (M.seen self.old).content) (λ w. Unit {0})) }
+        // The code 26 says that the medium is protected, whatever it holds.
+        ensures protection { IfErr result (λ t. t.code ≡ 26 → (M.seen self.old).protected ≡ true) }
         ensures only { OnlyContent result (M.seen self.old) (M.seen self.new) }
     {
         let geometry = self.geometry();

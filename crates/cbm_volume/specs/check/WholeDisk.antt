@@ -1,8 +1,9 @@
 -- The whole disk: that nothing is wrong with it, and the first thing that is.
-use Rattle.std.specs.Prelude.{ℕ, ◌⊎◌, ◌≡◌, List, Bool, true, false}
+use Rattle.std.specs.Prelude.{ℕ, ◌⊎◌, ◌≡◌, List, Bool, true}
 use Rattle.cbm_medium.specs.Place.{Place, Has, directory_head}
 use Rattle.cbm_medium.specs.Content.{Content}
 use Rattle.cbm_bam.specs.Map.{with_bit}
+use Rattle.cbm_bam.specs.Marks.{nothing}
 use Rattle.cbm_directory.specs.Entries.{first_directory}
 use Rattle.cbm_volume.specs.Layouts.{IsWritable}
 use Rattle.cbm_volume.specs.declared.check.unsound.Part.TheVariants.{OfDirectory}
@@ -11,9 +12,6 @@ use Rattle.cbm_volume.specs.check.Claims.{ClaimsChain, fault_at, MeetsFault}
 use Rattle.cbm_volume.specs.check.Headers.{IsFirstBad}
 use Rattle.cbm_volume.specs.check.MapCounts.{IsMapRight, IsMapFault}
 use Rattle.cbm_volume.specs.check.SlotWalk.{ClaimsSlots, SlotsFault}
-
-abbrev pub nothing : Place → Bool
-nothing p = false
 
 -- the map's sector is the first that is claimed
 abbrev pub only_head : Place → Bool
@@ -29,6 +27,10 @@ pub record ClaimsDisk (tracks : ℕ) (content : Content) : Type 0 where
   pub again : List Place
   pub after : Place → Bool
   pub slots : ClaimsSlots tracks content only_head between first_directory again after
+
+-- the same, and these are the sectors that were claimed
+abbrev pub ClaimsInto : ℕ → Content → (Place → Bool) → Type 0
+ClaimsInto tracks content claimed = (k : ClaimsDisk tracks content) × (k.after ≡ claimed)
 
 -- the first header at fault (5)
 abbrev pub HeaderFault : ℕ → Content → Unsound → Type 0

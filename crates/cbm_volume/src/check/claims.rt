@@ -1,12 +1,11 @@
 ghost use Rattle.std.specs.Prelude.{◌≡◌, ◌≢◌, ◌≤◌, ℕ, List, true, Bool, None, Some, OnOk, IfOk, IfErr, IsOk, Ok};
 ghost use Rattle.cbm_medium.specs.Place.{Place, directory_head};
 ghost use Rattle.cbm_bam.specs.Map.{with_bit};
-ghost use Rattle.cbm_volume.specs.check.Marks.{is_marked};
+ghost use Rattle.cbm_bam.specs.Marks.{is_marked};
 ghost use Rattle.cbm_volume.specs.check.Claims.{wrong_at, fault_at, ClaimsChain, MeetsFault};
 
-use crate::check::sector_set::SectorSet;
 use crate::check::unsound::{Flaw, Part, Unsound};
-use cbm_bam::is_free;
+use cbm_bam::{SectorSet, is_free};
 use cbm_medium::{Geometry, Link, Medium};
 
 /// Claims the sector that a link names, and answers its bytes.

@@ -1,15 +1,15 @@
 ghost use Rattle.std.specs.Prelude.{◌≡◌, ◌≤◌, ◌<◌, ◌%◌, ℕ, true, false, OnOk, IfErr, IsOk, Ok};
 ghost use Rattle.cbm_medium.specs.Place.{directory_head};
 ghost use Rattle.cbm_directory.specs.Entries.{is_closed, is_relative, first_side};
-ghost use Rattle.cbm_volume.specs.check.Marks.{is_marked};
+ghost use Rattle.cbm_bam.specs.Marks.{is_marked};
 ghost use Rattle.cbm_volume.specs.check.SideLists.{are_records_in, ClaimsSides, SidesFault};
 ghost use Rattle.cbm_volume.specs.check.SlotWalk.{ClaimsFile, FileFault, ClaimsEntry, EntryFault};
 
 use crate::check::claims::claim_chain;
 use crate::check::records::walk_sides;
-use crate::check::sector_set::SectorSet;
 use crate::check::sides::claim_sides;
 use crate::check::unsound::{Flaw, Part, Unsound};
+use cbm_bam::SectorSet;
 use cbm_directory::Entry;
 use cbm_medium::{Geometry, Link, Medium};
 use cbm_relfile::side::SIDES;

@@ -1,12 +1,12 @@
 ghost use Rattle.std.specs.Prelude.{◌≡◌, ◌≤◌, ℕ, List, OnOk, IfErr, IfOk, IsOk, Ok};
 ghost use Rattle.cbm_medium.specs.Place.{directory_head};
 ghost use Rattle.cbm_volume.specs.declared.check.unsound.Part.TheVariants.{OfFile};
-ghost use Rattle.cbm_volume.specs.check.Marks.{is_marked};
+ghost use Rattle.cbm_bam.specs.Marks.{is_marked};
 ghost use Rattle.cbm_volume.specs.check.SideLists.{ClaimsEach, MeetsAmong, behind_first, sides_from};
 
 use crate::check::claims::claim;
-use crate::check::sector_set::SectorSet;
 use crate::check::unsound::{Part, Unsound};
+use cbm_bam::SectorSet;
 use cbm_medium::{Geometry, Link, Medium};
 use cbm_relfile::side::SIDES;
 

@@ -1,12 +1,12 @@
 ghost use Rattle.std.specs.Prelude.{◌≡◌, ◌≤◌, ℕ, List, OnOk, IfErr, IsOk};
 ghost use Rattle.cbm_medium.specs.Place.{Place, directory_head};
-ghost use Rattle.cbm_volume.specs.check.Marks.{is_marked};
+ghost use Rattle.cbm_bam.specs.Marks.{is_marked};
 ghost use Rattle.cbm_volume.specs.check.SlotWalk.{entries_in, ClaimsEntries, EntriesFault, ClaimsSlots, SlotsFault};
 
 use crate::check::claims::claim;
 use crate::check::entries::check_entry;
-use crate::check::sector_set::SectorSet;
 use crate::check::unsound::{Part, Unsound};
+use cbm_bam::SectorSet;
 use cbm_directory::Entry;
 use cbm_medium::{Geometry, Link, Medium};
 

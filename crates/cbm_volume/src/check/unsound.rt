@@ -1,4 +1,4 @@
-ghost use Rattle.std.specs.Prelude.{◌≡◌};
+ghost use Rattle.std.specs.Prelude.{◌≡◌, ◌==◌};
 ghost use Rattle.cbm_volume.specs.check.Flaws.{flaw_number};
 ghost use Rattle.cbm_volume.specs.check.Claims.{fault_at};
 
@@ -13,6 +13,15 @@ pub struct Unsound {
     pub number: u8,
     pub track: u8,
     pub sector: u8,
+}
+
+impl Unsound {
+    /// Whether this is what is wrong.
+    pub(crate) fn is(self, flaw: Flaw) -> bool
+        ensures { result ≡ (self.number == flaw_number flaw) }
+    {
+        self.number == flaw.number()
+    }
 }
 
 /// What can be wrong with a disk.

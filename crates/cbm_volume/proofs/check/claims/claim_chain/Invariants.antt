@@ -1,6 +1,6 @@
 use Rattle.std.proofs.Common.{List, Bool}
 use Rattle.cbm_medium.specs.Place.{Place}
-use Rattle.cbm_volume.specs.check.Marks.{is_marked}
+use Rattle.cbm_bam.specs.Marks.{is_marked}
 use Rattle.cbm_volume.specs.check.Claims.{ClaimsChain, MeetsFault, unclaimed}
 use Rattle.cbm_volume.specs.declared.check.unsound.Unsound.{Unsound}
 use Rattle.cbm_volume.proofs.check.claims.claim_chain.Given as goal

@@ -1,7 +1,7 @@
 use Rattle.std.proofs.Common.{rules, ◌≡◌, ◌+◌, ◌-◌, ◌*◌, List, [], ℕ, drop, refl, sym, ap, subst, ◌∙◌, arith}
 use Rattle.cbm_medium.specs.Place.{Place}
 use Rattle.cbm_relfile.specs.SideSectors.{named_in}
-use Rattle.cbm_volume.specs.check.Marks.{is_marked}
+use Rattle.cbm_bam.specs.Marks.{is_marked}
 use Rattle.cbm_volume.specs.check.SideLists.{ClaimsEach}
 use Rattle.cbm_volume.specs.declared.check.unsound.Part.TheVariants.{OfFile}
 use Rattle.cbm_volume.proofs.SidesListed.{sides_none, sides_some, each_step, among_step, among_here}

@@ -1,6 +1,6 @@
 use Rattle.std.proofs.Common.{Bool}
 use Rattle.cbm_medium.specs.Place.{Place}
-use Rattle.cbm_volume.specs.check.Marks.{is_marked}
+use Rattle.cbm_bam.specs.Marks.{is_marked}
 use Rattle.cbm_volume.specs.check.SlotWalk.{ClaimsEntries, EntriesFault, entries_behind, entries_in}
 use Rattle.cbm_volume.specs.declared.check.unsound.Unsound.{Unsound}
 use Rattle.cbm_volume.proofs.check.slots.check_entries.Given as goal

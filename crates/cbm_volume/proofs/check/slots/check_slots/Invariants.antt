@@ -1,6 +1,6 @@
 use Rattle.std.proofs.Common.{List, Bool}
 use Rattle.cbm_medium.specs.Place.{Place}
-use Rattle.cbm_volume.specs.check.Marks.{is_marked}
+use Rattle.cbm_bam.specs.Marks.{is_marked}
 use Rattle.cbm_volume.specs.check.SlotWalk.{ClaimsSlots, SlotsFault}
 use Rattle.cbm_volume.specs.check.Claims.{unclaimed}
 use Rattle.cbm_volume.specs.declared.check.unsound.Part.TheVariants.{OfDirectory}

@@ -1,4 +1,5 @@
-use Rattle.std.proofs.Common.{ℕ, false, Some, None, IfErr, ap, subst, ◌∙◌}
+use Rattle.std.proofs.Common.{ℕ, false, Some, None, IfErr, ap, sym, subst, ◌∙◌}
+use Rattle.std.proofs.lemmas.Result.{err_from_is_err_and}
 use Rattle.cbm_medium.specs.Content.{Content}
 use Rattle.cbm_medium.specs.Seen.{Seen}
 use Rattle.cbm_file.specs.Files.{Disk}
@@ -48,3 +49,14 @@ returns-clause-untouched g c = λ d uses h.
     let new : Content = (g.M.Medium.seen c.begin.new.medium).content in
     let some : ChainBegins (geometry_of old.tracks old.content) old.content new (Some c.in-Some.chain) = chain_begins (g.M.Medium.seen c.self.inside.medium) old new c.geometry-geometry.result c.in_ok-chain.field-0 (Some c.in-Some.chain) (ap (λ m. g.M.Medium.seen m) c.self.view_is) c.geometry-geometry.ensures.value c.in-Some.is c.in_ok-chain.ensures.begun in
     claim_untouched (geometry_of old.tracks old.content) old.content new h.layout some.0 (λ m. false) h.so.stands.sound some.1
+
+-- ---- on any disk
+
+-- no free block is told as no protection
+pub returns-in_default-clause-protection : goal.returns-in_default-clause-protection
+returns-in_default-clause-protection g c = tt
+
+pub returns-in_err-chain-clause-protection : goal.returns-in_err-chain-clause-protection
+returns-in_err-chain-clause-protection g c =
+    let p = err_from_is_err_and c.from_residual.result c.from_residual.ensures.1 in
+    rw (p.1, p.2) (λ is. ap (λ m. (g.M.Medium.seen m).protected) (sym c.self.view_is) ∙ c.in_err-chain.ensures.protection is)

@@ -1,6 +1,7 @@
 use Rattle.std.proofs.Common.{◌≡◌, ◌<◌, ◌≤◌, ◌*◌, ◌%◌, ℕ, List, length, Option, Some, None, refl, sym, ap, subst, ◌∙◌, inl, inr, MatchOption, [], false, Ok}
 use Rattle.std.proofs.lemmas.Result.{err_from_is_err_and}
 use Rattle.cbm_medium.specs.Place.{Place, directory_head}
+use Rattle.cbm_medium.specs.Content.{Content}
 use Rattle.cbm_medium.specs.Links.{Chain}
 use Rattle.cbm_medium.specs.Seen.{Seen, OnlyContent}
 use Rattle.cbm_file.specs.Files.{Disk}
@@ -17,6 +18,7 @@ use Rattle.cbm_volume.specs.Writers.{Filling, Use, HoldsNow}
 use Rattle.cbm_volume.proofs.Finishing.{on_err}
 use Rattle.cbm_volume.proofs.Refusals.{sector_hindered, hindered_since, sector_reads}
 use Rattle.cbm_volume.proofs.HinderedOpens.{slot_hinders}
+use Rattle.cbm_volume.proofs.KeptOpens.{nothing_claimed}
 use Rattle.cbm_volume.proofs.OnlyContents.{only_behind, only_failed}
 use Rattle.cbm_volume.proofs.OpenedFiles.{EntersSlot, IsSet, reached_set, files_set, begins, not_full, stopped_at, untouched_by, chain_set, moved}
 use Rattle.cbm_volume.proofs.OpenedSlots.{Reached, reached_same, SlotReady, slot_ready, no_slot, same_files_grown, SlotLost, slot_lost}
@@ -210,3 +212,44 @@ put_entered g c =
 pub returns-clause-only : goal.returns-clause-only
 returns-clause-only g c =
     only_then c.put_slot.result (Ok (Some c.of_new.result)) c.in_ok-put_slot.field-0 (g.M.Medium.seen c.args.self.now) (g.M.Medium.seen c.put_slot.new.medium) c.in_ok-put_slot.was (put_entered g c)
+
+-- ---- on any disk
+
+pub returns-in_err-slot-clause-protection : goal.returns-in_err-slot-clause-protection
+returns-in_err-slot-clause-protection g c =
+    let p = err_from_is_err_and c.from_residual-in_err-slot.result c.from_residual-in_err-slot.ensures.1 in
+    rw (p.1, p.2) (λ is. ap (λ m. (g.M.Medium.seen m).protected) (sym c.self.view_is) ∙ c.in_err-slot.ensures.protection is)
+
+pub returns-in_err-chain-clause-protection : goal.returns-in_err-chain-clause-protection
+returns-in_err-chain-clause-protection g c =
+    let p = err_from_is_err_and c.from_residual-in_err-chain.result c.from_residual-in_err-chain.ensures.1 in
+    rw (p.1, p.2) (λ is. ap (λ m. (g.M.Medium.seen m).protected) (sym c.self.view_is) ∙ sym c.empty_slot.ensures.only.protected ∙ c.in_err-chain.ensures.protection is)
+
+pub returns-in_err-put_slot-clause-protection : goal.returns-in_err-put_slot-clause-protection
+returns-in_err-put_slot-clause-protection g c =
+    let p = err_from_is_err_and c.from_residual-in_err-put_slot.result c.from_residual-in_err-put_slot.ensures.1 in
+    rw (p.1, p.2) (λ is. ap (λ m. (g.M.Medium.seen m).protected) (sym c.self.view_is) ∙ sym c.empty_slot.ensures.only.protected ∙ sym c.begin.ensures.only.protected
+    ∙ c.in_err-put_slot.ensures.protection is)
+
+pub returns-in_default-clause-kept : goal.returns-in_default-clause-kept
+returns-in_default-clause-kept g c = (none g c).2
+
+-- no block is free behind the slot, though one was before
+pub returns-in_default-2-clause-kept : goal.returns-in_default-2-clause-kept
+returns-in_default-2-clause-kept g c =
+    let before : Content = (g.M.Medium.seen c.self.inside.medium).content in
+    let slotted : Content = (g.M.Medium.seen c.empty_slot.new.medium).content in
+    let after : Content = (g.M.Medium.seen c.begin.new.medium).content in
+    let tracks : ℕ = c.geometry-geometry.result in
+    let full : IsFull tracks (map_of slotted) × (after ≡ slotted) = subst (λ (o : Option State). MatchOption o (IsFull tracks (map_of slotted) × (after ≡ slotted)) (λ w. (q : Place) × Claims tracks slotted after q × (w ≡ begun_at tracks q))) c.in_default-2.is c.in_ok-chain.ensures.begun in
+    nothing_claimed tracks before slotted after c.in-Some.slot c.in_ok-free_bits.field-0
+    (subst (λ (o : Option ℕ). TakesSlot tracks before slotted o) c.in-Some.is c.in_ok-slot.ensures.taken) c.in_ok-free_bits.ensures.ok c.if-branch-eq0.false full.0 full.1
+    ∙ ap (λ m. (g.M.Medium.seen m).content) c.self.view_is
+
+-- no place is told as no protection
+pub returns-in_default-2-clause-protection : goal.returns-in_default-2-clause-protection
+returns-in_default-2-clause-protection g c = tt
+
+-- an OPEN that went well claims nothing of the kind
+pub returns-clause-kept : goal.returns-clause-kept
+returns-clause-kept g c = tt

@@ -1,0 +1,213 @@
+use Rattle.std.proofs.Common.{◌≡◌, ◌≤◌, ◌<◌, ◌*◌, ℕ, List, length, Option, Some, Ok, Err, Result, refl, ap, sym, subst, ◌∙◌, IfErr}
+use Rattle.std.proofs.lemmas.Result.{err_from_is_err_and}
+use Rattle.std.specs.Prelude.{OnErr}
+use Rattle.cbm_medium.specs.Place.{Place, directory_head, sector_count}
+use Rattle.cbm_medium.specs.Content.{Content}
+use Rattle.cbm_medium.specs.Links.{Chain, follow}
+use Rattle.cbm_medium.specs.Seen.{Seen}
+use Rattle.cbm_medium.specs.declared.fault.Trouble.{Trouble}
+use Rattle.cbm_bam.specs.Causes.{HasCause}
+use Rattle.cbm_bam.specs.Map.{geometry_of, Frees}
+use Rattle.cbm_directory.specs.Entries.{first_directory, first_block, sector_of}
+use Rattle.cbm_directory.specs.Slots.{Answers, directory_of}
+use Rattle.cbm_directory.proofs.Codes.{directory_never_26}
+use Rattle.cbm_volume.proofs.Finishing.{on_err}
+use Rattle.cbm_volume.proofs.Scratched.{EntryCleared, ClearingRefused, SlotEmpty, no_entry, no_slot, no_map, no_chain, entry_refused, open_scratched, is_scratched, scratched_ok, scratched_stopped, slot_hindered, map_hindered, chain_hindered, clearing_hindered, clearing_handed_on, release_hindered, nothing_written, clearing_spared, release_spared}
+use Rattle.cbm_volume.proofs.volume.Volume.scratch.Goals as goal
+use Rattle.cbm_volume.proofs.volume.Volume.scratch.Given.{Over}
+
+-- what the calls say, of the content before
+cleared_here : (inside old : Seen) (new : Content) (k n : ℕ) (r : Result (Unit {0}) Trouble) → inside ≡ old → k ≡ geometry_of old.tracks old.content
+    → EntryCleared k inside.content new n r → EntryCleared (geometry_of old.tracks old.content) old.content new n r
+cleared_here inside old new k n r same size h = subst (λ (s : Seen). EntryCleared (geometry_of old.tracks old.content) s.content new n r) same (subst (λ (m : ℕ). EntryCleared m inside.content new n r) size h)
+
+refused_here : (inside old new : Seen) (k n : ℕ) (r : Result (Unit {0}) Trouble) → inside ≡ old → k ≡ geometry_of old.tracks old.content
+    → ((directory : List Place) → Chain k inside.content first_directory directory → n < 8 * length directory → IfErr r (λ t. HasCause inside new (sector_of directory n) t.code)) → ClearingRefused old new n r
+refused_here inside old new k n r same size h =
+    subst (λ (s : Seen). (directory : List Place) → Chain (geometry_of old.tracks old.content) s.content first_directory directory → n < 8 * length directory → IfErr r (λ t. HasCause s new (sector_of directory n) t.code)) same
+    (subst (λ (m : ℕ). (directory : List Place) → Chain m inside.content first_directory directory → n < 8 * length directory → IfErr r (λ t. HasCause inside new (sector_of directory n) t.code)) size h)
+
+found_here : (d : Content) (k n : ℕ) (o : Option (List ℕ)) (entry : List ℕ) → o ≡ Some entry → Answers (directory_of k d) n (Ok o) → Answers (directory_of k d) n (Ok (Some entry))
+found_here d k n o entry is h = subst (λ (x : Option (List ℕ)). Answers (directory_of k d) n (Ok x)) is h
+
+cut_here : (inside old : Seen) (k : ℕ) (p : Place) (entry : List ℕ) (t : Trouble) → inside ≡ old → k ≡ geometry_of old.tracks old.content → p ≡ first_block entry → (follow k inside.content (sector_count k) p).trouble ≡ Some t
+    → (follow (geometry_of old.tracks old.content) old.content (sector_count (geometry_of old.tracks old.content)) (first_block entry)).trouble ≡ Some t
+cut_here inside old k p entry t same size at h = subst (λ (q : Place). (follow (geometry_of old.tracks old.content) old.content (sector_count (geometry_of old.tracks old.content)) q).trouble ≡ Some t) at
+    (subst (λ (s : Seen). (follow (geometry_of old.tracks old.content) s.content (sector_count (geometry_of old.tracks old.content)) p).trouble ≡ Some t) same
+    (subst (λ (m : ℕ). (follow m inside.content (sector_count m) p).trouble ≡ Some t) size h))
+
+freed_here : (inside old : Seen) (k : ℕ) (p : Place) (entry map freed : List ℕ) → inside ≡ old → k ≡ geometry_of old.tracks old.content → p ≡ first_block entry → Frees k map (follow k inside.content (sector_count k) p).blocks freed
+    → Frees (geometry_of old.tracks old.content) map (follow (geometry_of old.tracks old.content) old.content (sector_count (geometry_of old.tracks old.content)) (first_block entry)).blocks freed
+freed_here inside old k p entry map freed same size at h = subst (λ (q : Place). Frees (geometry_of old.tracks old.content) map (follow (geometry_of old.tracks old.content) old.content (sector_count (geometry_of old.tracks old.content)) q).blocks freed) at
+    (subst (λ (s : Seen). Frees (geometry_of old.tracks old.content) map (follow (geometry_of old.tracks old.content) s.content (sector_count (geometry_of old.tracks old.content)) p).blocks freed) same
+    (subst (λ (m : ℕ). Frees m map (follow m inside.content (sector_count m) p).blocks freed) size h))
+
+-- ---- the directory breaks off
+
+pub returns-in_err-entry-clause-stopped : goal.returns-in_err-entry-clause-stopped
+returns-in_err-entry-clause-stopped g c =
+    let old : Seen = g.M.Medium.seen c.args.self.now in
+    no_entry old.tracks old.content old.content c.args.slot c.in_err-entry.field-0.0 c.from_residual.result c.in_err-entry.ensures.answers
+
+pub returns-in_err-entry-clause-cause : goal.returns-in_err-entry-clause-cause
+returns-in_err-entry-clause-cause g c =
+    let old : Seen = g.M.Medium.seen c.args.self.now in
+    slot_hindered old old c.args.slot c.in_err-entry.field-0.0 c.from_residual.result c.in_err-entry.ensures.answers
+
+pub returns-in_err-entry-clause-untouched : goal.returns-in_err-entry-clause-untouched
+returns-in_err-entry-clause-untouched g c =
+    let old : Seen = g.M.Medium.seen c.args.self.now in
+    nothing_written old.tracks old.content old.content c.args.slot refl
+
+-- ---- there is no such slot
+
+pub returns-in_default-clause-scratched : goal.returns-in_default-clause-scratched
+returns-in_default-clause-scratched g c =
+    let old : Seen = g.M.Medium.seen c.args.self.now in
+    no_slot old.tracks old.content old.content c.args.slot c.in_ok-entry.field-0 (Ok tt) c.in_default.is c.in_ok-entry.ensures.answers
+
+pub returns-in_default-clause-untouched : goal.returns-in_default-clause-untouched
+returns-in_default-clause-untouched g c =
+    let old : Seen = g.M.Medium.seen c.args.self.now in
+    nothing_written old.tracks old.content old.content c.args.slot refl
+
+-- ---- a file that isn't closed
+
+pub returns-then-not-is_closed-clause-scratched : goal.returns-then-not-is_closed-clause-scratched
+returns-then-not-is_closed-clause-scratched g c =
+    let old : Seen = g.M.Medium.seen c.args.self.now in
+    open_scratched old.tracks old.content (g.M.Medium.seen c.clear_slot.new.medium).content c.args.slot c.in-Some.entry c.clear_slot.result
+    (found_here old.content (geometry_of old.tracks old.content) c.args.slot c.in_ok-entry.field-0 c.in-Some.entry c.in-Some.is c.in_ok-entry.ensures.answers)
+    (sym c.is_closed.ensures ∙ c.if-not-is_closed.true)
+    (cleared_here (g.M.Medium.seen c.self.inside.medium) old (g.M.Medium.seen c.clear_slot.new.medium).content c.geometry-geometry.result c.args.slot c.clear_slot.result (ap g.M.Medium.seen c.self.view_is) c.geometry-geometry.ensures.value c.clear_slot.ensures.cleared)
+
+pub returns-then-not-is_closed-clause-stopped : goal.returns-then-not-is_closed-clause-stopped
+returns-then-not-is_closed-clause-stopped g c =
+    let old : Seen = g.M.Medium.seen c.args.self.now in
+    entry_refused old.tracks old.content (g.M.Medium.seen c.clear_slot.new.medium).content c.args.slot c.clear_slot.result
+    (subst (λ (s : Seen). OnErr c.clear_slot.result ((g.M.Medium.seen c.clear_slot.new.medium).content ≡ s.content)) (ap g.M.Medium.seen c.self.view_is) c.clear_slot.ensures.err)
+
+pub returns-then-not-is_closed-clause-cause : goal.returns-then-not-is_closed-clause-cause
+returns-then-not-is_closed-clause-cause g c =
+    let old : Seen = g.M.Medium.seen c.args.self.now in
+    clearing_hindered old (g.M.Medium.seen c.clear_slot.new.medium) c.args.slot c.clear_slot.result
+    (refused_here (g.M.Medium.seen c.self.inside.medium) old (g.M.Medium.seen c.clear_slot.new.medium) c.geometry-geometry.result c.args.slot c.clear_slot.result (ap g.M.Medium.seen c.self.view_is) c.geometry-geometry.ensures.value c.clear_slot.ensures.cause)
+
+pub returns-then-not-is_closed-clause-untouched : goal.returns-then-not-is_closed-clause-untouched
+returns-then-not-is_closed-clause-untouched g c =
+    let old : Seen = g.M.Medium.seen c.args.self.now in
+    let new : Content = (g.M.Medium.seen c.clear_slot.new.medium).content in
+    clearing_spared old.tracks old.content new c.args.slot c.clear_slot.result
+    (cleared_here (g.M.Medium.seen c.self.inside.medium) old new c.geometry-geometry.result c.args.slot c.clear_slot.result (ap g.M.Medium.seen c.self.view_is) c.geometry-geometry.ensures.value c.clear_slot.ensures.cleared)
+    (subst (λ (s : Seen). OnErr c.clear_slot.result (new ≡ s.content)) (ap g.M.Medium.seen c.self.view_is) c.clear_slot.ensures.err)
+
+-- ---- the map doesn't read
+
+pub returns-in_err-release-clause-stopped : goal.returns-in_err-release-clause-stopped
+returns-in_err-release-clause-stopped g c =
+    let old : Seen = g.M.Medium.seen c.args.self.now in
+    no_map old.tracks old.content old.content c.args.slot c.in_err-release.field-0.0.code c.from_residual-in_err-release.result
+    (ap (λ m. (g.M.Medium.seen m).content directory_head) (sym c.self.view_is) ∙ c.in_err-release.ensures.err.0)
+
+pub returns-in_err-release-clause-cause : goal.returns-in_err-release-clause-cause
+returns-in_err-release-clause-cause g c =
+    let old : Seen = g.M.Medium.seen c.args.self.now in
+    map_hindered old old c.args.slot c.in_err-release.field-0.0.code c.from_residual-in_err-release.result
+    (ap (λ m. (g.M.Medium.seen m).content directory_head) (sym c.self.view_is) ∙ c.in_err-release.ensures.err.0)
+
+pub returns-in_err-release-clause-untouched : goal.returns-in_err-release-clause-untouched
+returns-in_err-release-clause-untouched g c =
+    let old : Seen = g.M.Medium.seen c.args.self.now in
+    nothing_written old.tracks old.content old.content c.args.slot refl
+
+-- ---- the file's chain breaks off
+
+pub returns-in_err-free_chain-clause-stopped : goal.returns-in_err-free_chain-clause-stopped
+returns-in_err-free_chain-clause-stopped g c =
+    let old : Seen = g.M.Medium.seen c.args.self.now in
+    no_chain old.tracks old.content old.content c.args.slot c.in-Some.entry c.in_err-free_chain.field-0.0 c.from_residual-in_err-free_chain.result
+    (found_here old.content (geometry_of old.tracks old.content) c.args.slot c.in_ok-entry.field-0 c.in-Some.entry c.in-Some.is c.in_ok-entry.ensures.answers)
+    (sym c.is_closed.ensures ∙ c.if-not-is_closed.false)
+    (cut_here (g.M.Medium.seen c.self.inside.medium) old c.geometry-geometry.result c.first_block.result c.in-Some.entry c.in_err-free_chain.field-0.0 (ap g.M.Medium.seen c.self.view_is) c.geometry-geometry.ensures.value c.first_block.ensures c.in_err-free_chain.ensures.err)
+
+pub returns-in_err-free_chain-clause-cause : goal.returns-in_err-free_chain-clause-cause
+returns-in_err-free_chain-clause-cause g c =
+    let old : Seen = g.M.Medium.seen c.args.self.now in
+    chain_hindered old old c.args.slot c.in-Some.entry c.in_err-free_chain.field-0.0 c.from_residual-in_err-free_chain.result
+    (found_here old.content (geometry_of old.tracks old.content) c.args.slot c.in_ok-entry.field-0 c.in-Some.entry c.in-Some.is c.in_ok-entry.ensures.answers)
+    (sym c.is_closed.ensures ∙ c.if-not-is_closed.false)
+    (cut_here (g.M.Medium.seen c.self.inside.medium) old c.geometry-geometry.result c.first_block.result c.in-Some.entry c.in_err-free_chain.field-0.0 (ap g.M.Medium.seen c.self.view_is) c.geometry-geometry.ensures.value c.first_block.ensures c.in_err-free_chain.ensures.err)
+
+pub returns-in_err-free_chain-clause-untouched : goal.returns-in_err-free_chain-clause-untouched
+returns-in_err-free_chain-clause-untouched g c =
+    let old : Seen = g.M.Medium.seen c.args.self.now in
+    nothing_written old.tracks old.content old.content c.args.slot refl
+
+-- ---- the entry of a closed file is refused
+
+pub returns-in_err-clear_slot-clause-stopped : goal.returns-in_err-clear_slot-clause-stopped
+returns-in_err-clear_slot-clause-stopped g c =
+    let old : Seen = g.M.Medium.seen c.args.self.now in
+    entry_refused old.tracks old.content (g.M.Medium.seen c.clear_slot-2.new.medium).content c.args.slot c.from_residual-in_err-clear_slot.result
+    (on_err c.from_residual-in_err-clear_slot.result (c.in_err-clear_slot.ensures.err ∙ ap (λ m. (g.M.Medium.seen m).content) c.self.view_is))
+
+pub returns-in_err-clear_slot-clause-cause : goal.returns-in_err-clear_slot-clause-cause
+returns-in_err-clear_slot-clause-cause g c =
+    let old : Seen = g.M.Medium.seen c.args.self.now in
+    let new : Seen = g.M.Medium.seen c.clear_slot-2.new.medium in
+    clearing_handed_on old new c.args.slot c.in_err-clear_slot.field-0.0 c.from_residual-in_err-clear_slot.result c.from_residual-in_err-clear_slot.ensures.1
+    (refused_here (g.M.Medium.seen c.self.inside.medium) old new c.geometry-geometry.result c.args.slot (Err c.in_err-clear_slot.field-0.0) (ap g.M.Medium.seen c.self.view_is) c.geometry-geometry.ensures.value c.in_err-clear_slot.ensures.cause)
+
+pub returns-in_err-clear_slot-clause-untouched : goal.returns-in_err-clear_slot-clause-untouched
+returns-in_err-clear_slot-clause-untouched g c =
+    let old : Seen = g.M.Medium.seen c.args.self.now in
+    nothing_written old.tracks old.content (g.M.Medium.seen c.clear_slot-2.new.medium).content c.args.slot (c.in_err-clear_slot.ensures.err ∙ ap (λ m. (g.M.Medium.seen m).content) c.self.view_is)
+
+-- ---- the entry of a closed file is cleared, and the map is written or refused
+
+-- the entry is cleared, by one write
+cleared : (g : Over) (c : goal.After-write g) → EntryCleared (geometry_of (g.M.Medium.seen c.args.self.now).tracks (g.M.Medium.seen c.args.self.now).content) (g.M.Medium.seen c.args.self.now).content (g.M.Medium.seen c.clear_slot-2.new.medium).content c.args.slot (Ok tt)
+cleared g c = cleared_here (g.M.Medium.seen c.self.inside.medium) (g.M.Medium.seen c.args.self.now) (g.M.Medium.seen c.clear_slot-2.new.medium).content c.geometry-geometry.result c.args.slot (Ok tt) (ap g.M.Medium.seen c.self.view_is) c.geometry-geometry.ensures.value c.in_ok-clear_slot.ensures.cleared
+
+-- the slot is empty
+slot_empty : (g : Over) (c : goal.After-write g) → SlotEmpty (g.M.Medium.seen c.args.self.now).tracks (g.M.Medium.seen c.args.self.now).content (g.M.Medium.seen c.clear_slot-2.new.medium).content c.args.slot c.free_chain.new.release
+slot_empty g c =
+    let inside : Seen = g.M.Medium.seen c.self.inside.medium in
+    let old : Seen = g.M.Medium.seen c.args.self.now in
+    is_scratched old.tracks old.content (g.M.Medium.seen c.clear_slot-2.new.medium).content c.args.slot c.in-Some.entry c.in_ok-release.release c.free_chain.new.release
+    (found_here old.content (geometry_of old.tracks old.content) c.args.slot c.in_ok-entry.field-0 c.in-Some.entry c.in-Some.is c.in_ok-entry.ensures.answers)
+    (sym c.is_closed.ensures ∙ c.if-not-is_closed.false)
+    (ap (λ m. (g.M.Medium.seen m).content directory_head) (sym c.self.view_is) ∙ c.in_ok-release.ensures.ok)
+    (freed_here inside old c.geometry-geometry.result c.first_block.result c.in-Some.entry c.in_ok-release.release c.free_chain.new.release (ap g.M.Medium.seen c.self.view_is) c.geometry-geometry.ensures.value c.first_block.ensures c.in_ok-free_chain.ensures.freed)
+    (cleared g c)
+
+pub returns-clause-scratched : goal.returns-clause-scratched
+returns-clause-scratched g c =
+    let old : Seen = g.M.Medium.seen c.args.self.now in
+    scratched_ok old.tracks old.content (g.M.Medium.seen c.clear_slot-2.new.medium).content (g.M.Medium.seen c.write.new.medium).content c.args.slot c.free_chain.new.release c.write.result c.write.ensures.ok (slot_empty g c)
+
+pub returns-clause-stopped : goal.returns-clause-stopped
+returns-clause-stopped g c =
+    let old : Seen = g.M.Medium.seen c.args.self.now in
+    scratched_stopped old.tracks old.content (g.M.Medium.seen c.clear_slot-2.new.medium).content (g.M.Medium.seen c.write.new.medium).content c.args.slot c.free_chain.new.release c.write.result c.write.ensures.err (slot_empty g c)
+
+pub returns-clause-cause : goal.returns-clause-cause
+returns-clause-cause g c =
+    let old : Seen = g.M.Medium.seen c.args.self.now in
+    let mid : Seen = g.M.Medium.seen c.clear_slot-2.new.medium in
+    release_hindered old mid (g.M.Medium.seen c.write.new.medium) c.args.slot c.free_chain.new.release c.write.result
+    (c.clear_slot-2.ensures.only.protected ∙ ap (λ m. (g.M.Medium.seen m).protected) c.self.view_is)
+    (subst (λ (n : ℕ). n ≤ mid.failures) (ap (λ m. (g.M.Medium.seen m).failures) c.self.view_is) c.clear_slot-2.ensures.only.counted)
+    (slot_empty g c) c.write.ensures.cause
+
+pub returns-clause-untouched : goal.returns-clause-untouched
+returns-clause-untouched g c =
+    let old : Seen = g.M.Medium.seen c.args.self.now in
+    release_spared old.tracks old.content (g.M.Medium.seen c.clear_slot-2.new.medium).content (g.M.Medium.seen c.write.new.medium).content c.args.slot c.free_chain.new.release c.write.result (cleared g c) c.write.ensures.ok c.write.ensures.err
+
+-- what breaks the directory off is never told as protection
+pub returns-in_err-entry-clause-protection : goal.returns-in_err-entry-clause-protection
+returns-in_err-entry-clause-protection g c =
+    let old : Seen = g.M.Medium.seen c.args.self.now in
+    let p = err_from_is_err_and c.from_residual.result c.from_residual.ensures.1 in
+    rw (p.1, p.2) (λ is. absurd (directory_never_26 (geometry_of old.tracks old.content) old.content c.in_err-entry.field-0.0 (λ q. g.met.M.Medium.codes c.args.self.now q) c.in_err-entry.ensures.answers.1 is))

@@ -1,0 +1,47 @@
+-- What NEW writes: the map's sector with the title and the id, and an empty first sector of the directory.
+use Rattle.std.specs.Prelude.{ℕ, ◌≡◌, ◌++◌, ◌∷◌, [], List, Bool, true, false, not, replicate, slice_index, slice_range, Option, Some, None}
+use Rattle.cbm_medium.specs.Place.{Place, Has, directory_head}
+use Rattle.cbm_medium.specs.Content.{Content, written, blank}
+use Rattle.cbm_file.specs.Padding.{padded}
+use Rattle.cbm_bam.specs.Map.{map_of, is_free_in, IsCounted, IsOutside, IsSpare, with_bit}
+use Rattle.cbm_bam.specs.Marks.{nothing}
+use Rattle.cbm_directory.specs.Entries.{first_directory}
+use Rattle.cbm_directory.specs.Growth.{new_sector}
+
+-- the two sectors that an empty disk uses: 18/0 and 18/1
+abbrev pub used_by_new : Place → Bool
+used_by_new = with_bit (with_bit nothing directory_head true) first_directory true
+
+-- the title, the id and the kind of DOS as they stand from byte 144 on, with $A0 around them
+abbrev pub new_label : List ℕ → List ℕ → List ℕ
+new_label title id = padded title ++ (160 ∷ 160 ∷ (id ++ (160 ∷ 50 ∷ 65 ∷ replicate 4 160)))
+
+-- 18/0 around the map: the link to 18/1, the letter of the format, the label, and zeros
+unfoldable pub around_map : List ℕ → List ℕ → List ℕ
+around_map title id = (18 ∷ 1 ∷ 65 ∷ replicate 141 0) ++ (new_label title id ++ replicate 85 0)
+
+-- THE BYTES OF 18/0 on an empty disk of so many tracks: all sectors but two are free, each count is right, the bits of no
+-- sector are 0, and so it is around the map. So it says its title and its id.
+pub record IsNewHead (tracks : ℕ) (title id : List ℕ) (head : List ℕ) : Type 0 where
+  pub free : (p : Place) → Has tracks p → is_free_in head p ≡ not (used_by_new p)
+  pub counted : IsCounted tracks head
+  pub spare : (p : Place) → IsSpare tracks p → is_free_in head p ≡ false
+  pub around : (i : ℕ) → IsOutside tracks i → slice_index head i ≡ slice_index (around_map title id) i
+  pub titled : slice_range head 144 160 ≡ padded title
+  pub marked : slice_range head 162 167 ≡ id ++ 160 ∷ 50 ∷ 65 ∷ []
+
+-- 18/0 is written, and then 18/1 with eight empty slots.
+pub record IsEmptied (tracks : ℕ) (title id : List ℕ) (old new : Content) : Type 0 where
+  pub head : List ℕ
+  pub is_head : IsNewHead tracks title id head
+  pub written : new ≡ written (written old directory_head head) first_directory new_sector
+
+-- the id behind NEW: the new one, or the one that 18/0 told
+abbrev pub id_behind : Option (List ℕ) → Content → List ℕ
+id_behind None old = slice_range (map_of old) 162 164
+id_behind (Some id) old = id
+
+-- what these two sectors are written over: a disk that was formatted, or the old one
+abbrev pub content_under : Option (List ℕ) → Content → Content
+content_under None old = old
+content_under (Some id) old = blank

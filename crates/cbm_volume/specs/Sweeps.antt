@@ -1,0 +1,31 @@
+-- Slots that were never closed become empty, one after another.
+use Rattle.std.specs.Prelude.{ℕ, ◌*◌, ◌%◌, ◌<◌, ◌≤◌, ◌⊎◌, ◌≡◌, List, true, false, length, IsOk}
+use Rattle.cbm_medium.specs.Place.{Place}
+use Rattle.cbm_medium.specs.Content.{Content}
+use Rattle.cbm_medium.specs.Links.{Chain, IsApart, bytes_at, link}
+use Rattle.cbm_directory.specs.Entries.{type_byte, is_closed, entry_at, sector_of, first_directory}
+use Rattle.cbm_directory.specs.EntryChanges.{Clears}
+use Rattle.cbm_volume.specs.Layouts.{IsWritable}
+
+-- A closed entry stays, and one that isn't closed is an empty slot then.
+pub record IsSweptAs (old new : List ℕ) : Type 0 where
+  pub closed : is_closed old ≡ true → new ≡ old
+  pub unclosed : is_closed old ≡ false → type_byte new ≡ 0
+
+-- these are the sectors of the directory, and no more than there are
+abbrev pub IsDirectory : ℕ → Content → List Place → Type 0
+IsDirectory tracks c directory = Chain tracks c first_directory directory × (length directory ≤ 18)
+
+-- The slots before k are swept, those from k on are as they were, and so are the directory's links and all other sectors.
+pub record IsSwept (old new : Content) (directory : List Place) (k : ℕ) : Type 0 where
+  pub elsewhere : (p : Place) → IsApart p directory → new p ≡ old p
+  pub links : (p : Place) → IsOk (old p) → IsOk (new p) × (link (bytes_at new p) ≡ link (bytes_at old p))
+  pub writable : (p : Place) → IsWritable (old p) → IsWritable (new p)
+  pub before : (n : ℕ) → n < 8 * length directory → n < k → IsSweptAs (entry_at old directory n) (entry_at new directory n)
+  pub behind : (n : ℕ) → n < 8 * length directory → k ≤ n → entry_at new directory n ≡ entry_at old directory n
+
+-- One slot is swept: it is closed or empty or none, and nothing changes; or it was never closed, and is cleared.
+abbrev pub SlotSwept : Content → Content → List Place → ℕ → Type 0
+SlotSwept old new directory n =
+    ((n < 8 * length directory → IsSweptAs (entry_at old directory n) (entry_at old directory n)) × (new ≡ old))
+    ⊎ ((n < 8 * length directory) × (is_closed (entry_at old directory n) ≡ false) × Clears old new (sector_of directory n) (n % 8))

@@ -1,0 +1,166 @@
+// NEW: an empty disk.
+
+ghost use Rattle.std.specs.Prelude.{◌≡◌, ◌≢◌, ◌≤◌, ◌⊎◌, ℕ, List, true, None, Some, Ok, Err, OnOk, IfOk, IfErr, length, slice_range, take, drop, ◌++◌};
+ghost use Rattle.cbm_medium.specs.Place.{directory_head};
+ghost use Rattle.cbm_medium.specs.Seen.{OnlyContent};
+ghost use Rattle.cbm_file.specs.Files.{Disk};
+ghost use Rattle.cbm_file.specs.Changes.{new_disk};
+ghost use Rattle.cbm_bam.specs.Map.{map_of};
+ghost use Rattle.cbm_bam.specs.Marks.{is_marked};
+ghost use Rattle.cbm_directory.specs.Entries.{first_directory};
+ghost use Rattle.cbm_directory.specs.Growth.{new_sector};
+ghost use Rattle.cbm_volume.specs.Holding.{HoldsDisk};
+ghost use Rattle.cbm_volume.specs.Layouts.{IsWritable};
+ghost use Rattle.cbm_volume.specs.NewDisks.{used_by_new, new_label, around_map, IsNewHead, IsEmptied, id_behind, content_under};
+ghost use Rattle.cbm_volume.specs.Opens.{IsHindered};
+ghost use Rattle.cbm_volume.specs.Writers.{Use, Idle, HoldsNow};
+
+use crate::volume::Volume;
+use cbm_bam::{SectorSet, anew, read_map};
+use cbm_file::padded;
+use cbm_medium::{Address, Geometry, Medium, Trouble};
+use std::ops::Range;
+
+/// The byte that fills the label up.
+const FILLER: u8 = 0xA0;
+
+/// Where the label stands in 18/0.
+const LABEL: Range<usize> = 144..171;
+
+/// The sector in which the directory begins.
+fn first_directory_sector() -> Address
+    ensures { result ≡ first_directory }
+{
+    Address::new(18, 1).unwrap()
+}
+
+/// The sectors that an empty disk uses.
+fn used_by_new() -> SectorSet
+    ensures { is_marked result ≡ used_by_new }
+{
+    let mut used = SectorSet::new();
+    used.insert(Address::of_map());
+    used.insert(first_directory_sector());
+    used
+}
+
+/// The title, the id and the kind of DOS as they stand in 18/0 from byte 144 on, with $A0 around them.
+fn new_label(title: &[u8], id: [u8; 2]) -> [u8; 27]
+    requires { length title.now ≤ 16 }
+    ensures { result ≡ new_label title.now id }
+{
+    let mut label = [FILLER; 27];
+    label[18] = id[0];
+    label[19] = id[1];
+    label[21] = b'2';
+    label[22] = b'A';
+    label[..16].copy_from_slice(&padded(title));
+    label
+}
+
+/// Writes the label into the bytes of 18/0.
+fn put_label(head: &mut [u8; 256], title: &[u8], id: [u8; 2])
+    requires { length title.now ≤ 16 }
+    ensures { head.new ≡ take 144 head.old ++ (new_label title.now id ++ drop 27 (drop 144 head.old)) }
+{
+    head[LABEL].copy_from_slice(&new_label(title, id));
+}
+
+/// The bytes of 18/0 around the map: the link to 18/1, the letter of the format, and the label.
+fn around_map(title: &[u8], id: [u8; 2]) -> [u8; 256]
+    requires { length title.now ≤ 16 }
+    ensures { result ≡ around_map title.now id }
+{
+    let mut head = [0; 256];
+    head[0] = 18;
+    head[1] = 1;
+    head[2] = b'A';
+    put_label(&mut head, title, id);
+    head
+}
+
+/// The 256 bytes of 18/0 on an empty disk of these tracks.
+fn new_head(title: &[u8], id: [u8; 2], geometry: Geometry) -> [u8; 256]
+    requires { length title.now ≤ 16 }
+    ensures { IsNewHead geometry title.now id result }
+{
+    anew(&around_map(title, id), geometry, &used_by_new())
+}
+
+/// The first sector of an empty directory, which is the last one too.
+fn empty_directory() -> [u8; 256]
+    ensures { result ≡ new_sector }
+{
+    let mut sector = [0; 256];
+    sector[1] = 0xFF;
+    sector
+}
+
+/// All tracks of the medium.
+fn all_tracks<M: Medium>(medium: &M) -> Geometry
+    ensures value { result ≡ (M.seen medium.now).tracks }
+    ensures either { (result ≡ 35) ⊎ (result ≡ 40) }
+{
+    if medium.tracks() < 40 {
+        return Geometry::of_35();
+    }
+    Geometry::of_40()
+}
+
+/// The id that 18/0 tells, or the medium's fault there.
+fn told_id<M: Medium>(medium: &M) -> Result<[u8; 2], Trouble>
+    ensures ok { IfOk result (λ id. id ≡ slice_range (map_of (M.seen medium.now).content) 162 164) }
+    ensures err { IfErr result (λ t. (M.seen medium.now).content directory_head ≡ Err t.code) }
+{
+    let map = read_map(medium, all_tracks(medium))?;
+    Ok([map[162], map[163]])
+}
+
+/// Writes 18/0 and 18/1 of an empty disk on all tracks of the medium.
+fn write_new<M: Medium>(medium: &mut M, title: &[u8], id: [u8; 2]) -> Result<(), Trouble>
+    requires { length title.now ≤ 16 }
+    ensures either { let tracks = (M.seen medium.old).tracks in (tracks ≡ 35) ⊎ (tracks ≡ 40) }
+    ensures emptied { let old = M.seen medium.old in
+        OnOk result (IsEmptied old.tracks title.now id old.content (M.seen medium.new).content) }
+    ensures cause { let old = M.seen medium.old in IsWritable (old.content directory_head) →
+        IsWritable (old.content first_directory) → IfErr result (IsHindered old (M.seen medium.new)) }
+    ensures protected { let old = M.seen medium.old in old.protected ≡ true →
+        (M.seen medium.new).content ≡ old.content }
+    ensures only { OnlyContent result (M.seen medium.old) (M.seen medium.new) }
+{
+    let head = new_head(title, id, all_tracks(medium));
+    medium.write(Address::of_map(), &head)?;
+    medium.write(first_directory_sector(), &empty_directory())?;
+    Ok(())
+}
+
+impl<M: Medium> Volume<M> {
+    /// NEW: an empty disk of this title on all tracks of the medium. With an id each sector is formatted first, so it
+    /// needs no sound disk; without one only 18/0 and 18/1 are written, and the id of 18/0 stays. The title has at
+    /// most sixteen bytes. An `Err` says on a sound disk that the medium is protected (26), which changes nothing, or
+    /// failed by itself; nothing is promised of a disk on which NEW was stopped.
+    pub fn new_disk(&mut self, title: &[u8], id: Option<[u8; 2]>) -> Result<(), Trouble>
+        requires { length title.now ≤ 16 }
+        ensures made { let old = M.seen self.old in (d : Disk) (uses : ℕ → Use) →
+            HoldsNow old.tracks old.content d uses → ((ch : ℕ) → uses ch ≡ Idle) →
+            OnOk result (HoldsNow old.tracks (M.seen self.new).content (new_disk old.tracks title.now id d) uses) }
+        ensures formatted { let old = M.seen self.old in id ≢ None → (d : Disk) →
+            OnOk result (HoldsDisk old.tracks (M.seen self.new).content (new_disk old.tracks title.now id d)) }
+        // On any content: what stands in 18/0 and 18/1 behind it. All other sectors are zeros where an id is given, and as
+        // they were where none is.
+        ensures emptied { let old = M.seen self.old in OnOk result (IsEmptied old.tracks title.now
+            (id_behind id old.content) (content_under id old.content) (M.seen self.new).content) }
+        ensures protected { let old = M.seen self.old in old.protected ≡ true →
+            (M.seen self.new).content ≡ old.content }
+        ensures only { OnlyContent result (M.seen self.old) (M.seen self.new) }
+        ensures cause { let old = M.seen self.old in (d : Disk) (uses : ℕ → Use) →
+            HoldsNow old.tracks old.content d uses → IfErr result (IsHindered old (M.seen self.new)) }
+    {
+        let Some(id) = id else {
+            let id = told_id(&self.medium)?;
+            return write_new(&mut self.medium, title, id);
+        };
+        self.medium.format(id)?;
+        write_new(&mut self.medium, title, id)
+    }
+}
