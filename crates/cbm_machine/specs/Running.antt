@@ -1,35 +1,19 @@
 -- The commands.
-use Rattle.std.specs.Prelude.{ℕ, ◌+◌, ◌-◌, ◌/◌, ◌==◌, nat_lt, Bool, ◌&&◌, ◌||◌, not, List, [], ◌∷◌, ◌++◌, length, take, replicate, flat_map, map, if◌then◌else◌, Option, Some, None, is_some, unwrap_or, Result, Ok, Err}
+use Rattle.std.specs.Prelude.{ℕ, ◌+◌, ◌-◌, ◌/◌, ◌==◌, nat_lt, Bool, ◌&&◌, ◌||◌, not, List, [], ◌∷◌, length, flat_map, map, if◌then◌else◌, Option, Some, None, is_some, Result, Ok, Err}
 use Rattle.std.specs.List.{list_any}
 use Rattle.cbm_file.specs.declared.file_type.FileType.TheVariants.{Del, Rel}
-use Rattle.cbm_file.specs.Files.{Bytes, File, Disk, blocks_on, blocks_of, held_on, files, with_slot, bytes_in, record_length_in}
+use Rattle.cbm_file.specs.Files.{Bytes, File, Disk, blocks_of, held_on, files, with_slot, bytes_in, record_length_in}
 use Rattle.cbm_command.specs.declared.command.Command.{Command}
 use Rattle.cbm_command.specs.declared.command.Command.TheVariants.{New, Scratch, Rename, Copy, Validate, Initialize, Position}
-use Rattle.cbm_command.specs.Names.{is_match, filler}
+use Rattle.cbm_command.specs.Names.{is_match}
 use Rattle.cbm_command.specs.Refusals.{◌>>=◌, unless}
 use Rattle.cbm_machine.specs.declared.code.Code.{Code}
 use Rattle.cbm_machine.specs.declared.code.Code.TheVariants.{Fine, FilesScratched, WriteProtected, NoName, NoRecord, RecordOverflow, WriteFileOpen, FileExists, WrongType, NoChannel, DiskFull}
 use Rattle.cbm_machine.specs.Machines.{Channel, Closed, Relative, Machine, tell, say, with_disk, channel, with_channel, in_use, in_writing, any_open}
-use Rattle.cbm_file.specs.Changes.{has_slot, with_file, closed_file}
+pub use Rattle.cbm_file.specs.Changes.{new_disk}
+use Rattle.cbm_file.specs.Changes.{has_slot, with_file, closed_file, validated}
 use Rattle.cbm_machine.specs.Finding.{is_kind, is_there, found, body_at}
 use Rattle.cbm_machine.specs.Records.{record_at}
-
--- ---- N
-
--- a title of sixteen bytes
-abbrev pub padded_title : List ℕ → List ℕ
-padded_title name = name ++ replicate (16 - length name) filler
-
--- The new id, or the old one where none is given; eight empty slots, and all else free but the directory's two sectors.
-abbrev pub new_disk : ℕ → List ℕ → Option (List ℕ) → Disk → Disk
-new_disk tracks name id d = record {
-  title = padded_title name;
-  mark = unwrap_or id (take 2 d.mark) ++ filler ∷ 50 ∷ 65 ∷ [];
-  slots = replicate 8 None;
-  room = 17;
-  free = blocks_on tracks;
-  total = blocks_on tracks;
-}
 
 -- ---- S
 
@@ -93,19 +77,6 @@ copied new (f ∷ fs) m =
 -- files are joined into a new one
 abbrev pub copy : List ℕ → List (List ℕ) → Machine → Result Machine Code
 copy new olds m = unless ((is_there m.disk new, FileExists) ∷ []) (sources m.disk olds >>= λ fs. copied new fs m)
-
--- ---- V
-
--- a slot that isn't closed is empty
-abbrev pub only_closed : Option File → Option File
-only_closed None = None
-only_closed (Some f) = if f.closed then Some f else None
-
--- the closed files alone, and each block is free or a file's
-abbrev pub validated : Disk → Disk
-validated d =
-    let slots = map only_closed d.slots in
-    record d { slots = slots; free = d.total - held_on d; room = 18 - length d.slots / 8 }
 
 -- ---- P
 
