@@ -203,3 +203,13 @@ after_close seen old new ch m n e h = subst (λ (b : Bool). MatchBool b (n ≡ m
 
 pub after_none : {M : Type 0} (seen : M → Seen) (old new : Kept M) (ch : ℕ) (m : Machine) → (ch == 15) ≡ true → AfterClose seen old new ch m m
 after_none seen old new ch m e = subst (λ (b : Bool). MatchBool b (m ≡ m) (Passes (HasFailed (seen old.medium) (seen new.medium)) ch (close_one ch) m m)) (sym e) refl
+
+-- ---- a text that was gathered
+
+stopped_from : (ch number : ℕ) (m after now : Machine) → IsStopped ch (without_text number m) after now → IsStopped ch m after now
+stopped_from ch number m after now s = record { either = s.either; same_tracks = s.same_tracks; same_protection = s.same_protection; own = s.own; others = s.others; fault = s.fault }
+
+-- the text is dropped, and then carried out
+pub text_passes : (failed : Type 0) (ch number : ℕ) (part whole : Machine → Machine) (m n : Machine) → whole m ≡ part (without_text number m) → Passes failed ch part (without_text number m) n → Passes failed ch whole m n
+text_passes failed ch number part whole m n e (inl x) = inl (x ∙ sym e)
+text_passes failed ch number part whole m n e (inr x) = inr (x.0, subst (λ y. IsStopped ch m y n) (sym e) (stopped_from ch number m (part (without_text number m)) n x.1))

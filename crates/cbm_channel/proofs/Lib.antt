@@ -4,6 +4,8 @@ pub mod Orders
 pub mod Uses
 pub mod Changed
 pub mod Troubles
+pub mod Scratches
+pub mod Commanding
 pub mod Stands
 pub mod Texts
 pub mod Found
@@ -14,6 +16,7 @@ pub mod Closes
 pub mod ListedLines
 pub mod Planning
 pub mod BytesPut
+pub mod DiskSteps
 pub mod Finished
 pub mod Takes
 pub mod Stores

@@ -1,12 +1,15 @@
--- What the text of an OPEN can ask for: the name ends before its first filler, and no deleted file is meant.
+-- What a text can ask for: a name ends before its first filler, and OPEN means no deleted file.
 use Rattle.std.proofs.Common.{◌≡◌, ℕ, zero, suc, Bool, true, false, List, [], ◌∷◌, take, refl, ap, subst}
-use Rattle.std.specs.Prelude.{◌==◌, nat_lt, ◌&&◌, ◌||◌, length, is_some, if◌then◌else◌, Option, Some, None, Result, Ok, Err, IfOk}
+use Rattle.std.specs.Prelude.{◌==◌, nat_lt, ◌&&◌, ◌||◌, not, length, is_some, if◌then◌else◌, Option, Some, None, Result, Ok, Err, IfOk}
 use Rattle.cbm_file.specs.declared.file_type.FileType.{FileType}
 use Rattle.cbm_file.specs.declared.file_type.FileType.TheVariants.{Del, Seq, Prg}
 use Rattle.cbm_file.specs.Types.{is_same_type}
 use Rattle.cbm_file.specs.Padding.{before_filler}
 use Rattle.cbm_command.specs.declared.refusal.Refusal.{Refusal}
-use Rattle.cbm_command.specs.declared.refusal.Refusal.TheVariants.{Syntax, LongText}
+use Rattle.cbm_command.specs.declared.refusal.Refusal.TheVariants.{Syntax, LongText, NoName, WildName, UnknownCommand}
+use Rattle.cbm_command.specs.declared.command.Command.{Command}
+use Rattle.cbm_command.specs.declared.command.Command.TheVariants.{New, Scratch, Rename, Copy, Validate, Initialize, Position}
+use Rattle.cbm_command.specs.Commands.{command_head, later_name, later_names, names_in, new_asked, scratch_asked, rename_asked, copy_asked, behind_head, position_asked, by_letter, command_in, command_of}
 use Rattle.cbm_command.specs.declared.opening.Mode.{Mode}
 use Rattle.cbm_command.specs.declared.opening.Mode.TheVariants.{Read, Write, Append}
 use Rattle.cbm_command.specs.declared.opening.Wanted.{Wanted}
@@ -14,7 +17,8 @@ use Rattle.cbm_command.specs.declared.opening.Opening.{Opening}
 use Rattle.cbm_command.specs.declared.opening.Opening.TheVariants as opening
 use Rattle.cbm_command.specs.Texts.{comma, colon, equals, before, behind, has, parts_at}
 use Rattle.cbm_command.specs.Names.{name_of, is_empty, is_wild, filler, asterisk}
-use Rattle.cbm_command.specs.Refusals.{◌>>=◌, drive_head}
+use Rattle.cbm_command.specs.Refusals.{◌>>=◌, unless, drive_head}
+use Rattle.std.specs.List.{list_any}
 use Rattle.cbm_command.specs.Openings.{set_mode, with_piece, with_pieces, is_length_piece, first_byte, by_channel, default_kind, or_default, is_named_whole, file_named, plain_file, file_asked, at_in_head, headed_file, pattern_asked, listing_asked, by_first, opening_of}
 
 -- the type of a deleted file is meant
@@ -141,3 +145,73 @@ module _ (ch : ℕ) (text : List ℕ) (w : Wanted) (is : opening_of ch text ≡ 
   -- a file that isn't deleted is meant
   pub kind_kept : means_deleted w.kind ≡ false
   kind_kept = (subst Opens is (text_opens ch text)).1
+
+-- ---- the text of a command
+
+-- the new name of R ends before its first filler
+abbrev IsCutName : Command → Type 0
+IsCutName (Rename new old) = before_filler new ≡ new
+IsCutName (New name id) = Unit {0}
+IsCutName (Scratch ps) = Unit {0}
+IsCutName (Copy new olds) = Unit {0}
+IsCutName Validate = Unit {0}
+IsCutName Initialize = Unit {0}
+IsCutName (Position ch k p) = Unit {0}
+
+abbrev Cuts : Result Command Refusal → Type 0
+Cuts r = IfOk r IsCutName
+
+new_cuts : (text : List ℕ) → Cuts (new_asked text)
+new_cuts text =
+    chosen Cuts (is_empty (name_of (before comma text))) _ _ tt
+    (chosen Cuts (is_wild (name_of (before comma text))) _ _ tt (chosen Cuts (has comma text && nat_lt (length (behind comma text)) 2) _ _ tt tt))
+
+scratch_cuts : (text : List ℕ) → Cuts (scratch_asked text)
+scratch_cuts text =
+    bound (λ x. Unit {0}) IsCutName (names_in (parts_at comma text)) (λ ps. unless ((list_any is_empty ps, NoName) ∷ []) (Ok (Scratch ps))) (always (names_in (parts_at comma text)))
+    (λ ps x. chosen Cuts (list_any is_empty ps) (Err NoName) (Ok (Scratch ps)) tt tt)
+
+rename_cuts : (text : List ℕ) → Cuts (rename_asked text)
+rename_cuts text =
+    let new = name_of (before equals text) in
+    bound (λ x. Unit {0}) IsCutName (later_name (behind equals text))
+    (λ old. unless ((not (has equals text) || is_empty new || is_empty old, NoName) ∷ (is_wild new || is_wild old, WildName) ∷ []) (Ok (Rename new old))) (always (later_name (behind equals text)))
+    (λ old x. chosen Cuts (not (has equals text) || is_empty new || is_empty old) _ _ tt (chosen Cuts (is_wild new || is_wild old) (Err WildName) (Ok (Rename new old)) tt (cut 16 (before equals text))))
+
+copy_cuts : (text : List ℕ) → Cuts (copy_asked text)
+copy_cuts text =
+    let new = name_of (before equals text) in
+    bound (λ x. Unit {0}) IsCutName (later_names (parts_at comma (behind equals text)))
+    (λ olds. unless ((not (has equals text) || is_empty new || list_any is_empty olds, NoName) ∷ (is_wild new || list_any is_wild olds, WildName) ∷ (nat_lt 4 (length olds), Syntax) ∷ []) (Ok (Copy new olds)))
+    (always (later_names (parts_at comma (behind equals text))))
+    (λ olds x. chosen Cuts (not (has equals text) || is_empty new || list_any is_empty olds) _ _ tt
+    (chosen Cuts (is_wild new || list_any is_wild olds) _ _ tt (chosen Cuts (nat_lt 4 (length olds)) (Err Syntax) (Ok (Copy new olds)) tt tt)))
+
+position_cuts : (text : List ℕ) → Cuts (position_asked text)
+position_cuts [] = tt
+position_cuts (a ∷ []) = tt
+position_cuts (a ∷ b ∷ []) = tt
+position_cuts (a ∷ b ∷ c ∷ text) = tt
+
+headed_cuts : (text : List ℕ) (f : List ℕ → Result Command Refusal) → ((rest : List ℕ) → Cuts (f rest)) → Cuts (behind_head text >>= f)
+headed_cuts text f h = bound (λ x. Unit {0}) IsCutName (behind_head text) f (always (behind_head text)) (λ rest x. h rest)
+
+plain_cuts : (text : List ℕ) (x : Command) → IsCutName x → Cuts (command_head (before colon text) >>= λ _. Ok x)
+plain_cuts text x h = bound (λ y. Unit {0}) IsCutName (command_head (before colon text)) (λ y. Ok x) (always (command_head (before colon text))) (λ y z. h)
+
+letter_cuts : (c : ℕ) (text : List ℕ) → Cuts (by_letter c text)
+letter_cuts c text =
+    chosen Cuts (c == 78) _ _ (headed_cuts text new_asked new_cuts)
+    (chosen Cuts (c == 83) _ _ (headed_cuts text scratch_asked scratch_cuts)
+    (chosen Cuts (c == 82) _ _ (headed_cuts text rename_asked rename_cuts)
+    (chosen Cuts (c == 67) _ _ (headed_cuts text copy_asked copy_cuts)
+    (chosen Cuts (c == 86) _ _ (plain_cuts text Validate tt)
+    (chosen Cuts (c == 73) _ _ (plain_cuts text Initialize tt)
+    (chosen Cuts (c == 80) (position_asked text) (Err UnknownCommand) (position_cuts text) tt))))))
+
+command_cuts : (text : List ℕ) → Cuts (command_in text)
+command_cuts [] = tt
+command_cuts (c ∷ text) = letter_cuts c text
+
+pub new_name_cut : (text new old : List ℕ) → command_of text ≡ Ok (Rename new old) → before_filler new ≡ new
+new_name_cut text new old is = subst Cuts is (chosen Cuts (nat_lt 58 (length text)) (Err LongText) (command_in text) tt (command_cuts text))

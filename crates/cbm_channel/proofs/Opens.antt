@@ -62,7 +62,7 @@ writes_still n (Stopped s) h = refl
 writes_still n (Relative s k p) h = h
 
 -- a slot that no channel has open
-unused_at : (n : ℕ) (chs : List kept.Channel) (m : Machine) → AllZip ChannelStands chs m.channels → in_use m n ≡ false → IsUnused (uses_of chs m.channels) n
+pub unused_at : (n : ℕ) (chs : List kept.Channel) (m : Machine) → AllZip ChannelStands chs m.channels → in_use m n ≡ false → IsUnused (uses_of chs m.channels) n
 unused_at n chs m each none k =
     sym (uses_alike n (slice_index_or chs k code.Closed) (channel_in m.channels k) (zip_at chs m.channels k each))
     ∙ uses_still n (channel_in m.channels k) (none_passes (machine.uses n) refl m.channels k none)

@@ -36,7 +36,7 @@ pub record FitsIn (d d' : Disk) (protected : Bool) (channels : List Channel) (ch
   pub writable : (slot : ℕ) (bytes : List ℕ) (blocks : ℕ) (full replaces : Bool) → y ≡ Writing slot bytes blocks full replaces → protected ≡ false
 
 -- a closed file that is known is there
-known_is : (x y : Option File) (f : File) → known y ≡ known x → x ≡ Some f → f.closed ≡ true → y ≡ Some f
+pub known_is : (x y : Option File) (f : File) → known y ≡ known x → x ≡ Some f → f.closed ≡ true → y ≡ Some f
 known_is x None f e at closed =
     let z : None ≡ Some f = e ∙ ap known at ∙ rw closed refl in absurd (cc)
 known_is x (Some g) f e at closed = by_test g.closed refl

@@ -148,10 +148,10 @@ refused_text ch text e m is = ap (λ (r : Result Opening Refusal). answered m (a
 
 pub carried_text : (ch : ℕ) (text : List ℕ) (o : Opening) (m : Machine) → (ch == 15) ≡ false → opening_of ch text ≡ Ok o → IsOpenCarriedOut ch text m → IsAskedCarriedOut ch m (Ok o)
 carried_text ch text o m other e h =
-    subst (IsAskedCarriedOut ch m) e (subst (λ (b : Bool). MatchBool b (IsTextCarriedOut (without_return text)) (IsAskedCarriedOut ch m (opening_of ch text))) other h)
+    subst (IsAskedCarriedOut ch m) e (subst (λ (b : Bool). MatchBool b (IsTextCarriedOut (without_return text) m) (IsAskedCarriedOut ch m (opening_of ch text))) other h)
 
-pub carried_command : (ch : ℕ) (text : List ℕ) (m : Machine) → (ch == 15) ≡ true → IsOpenCarriedOut ch text m → IsTextCarriedOut (without_return text)
-carried_command ch text m fifteen h = subst (λ (b : Bool). MatchBool b (IsTextCarriedOut (without_return text)) (IsAskedCarriedOut ch m (opening_of ch text))) fifteen h
+pub carried_command : (ch : ℕ) (text : List ℕ) (m : Machine) → (ch == 15) ≡ true → IsOpenCarriedOut ch text m → IsTextCarriedOut (without_return text) m
+carried_command ch text m fifteen h = subst (λ (b : Bool). MatchBool b (IsTextCarriedOut (without_return text) m) (IsAskedCarriedOut ch m (opening_of ch text))) fifteen h
 
 pub writes_text : (ch : ℕ) (text : List ℕ) (o : Opening) → (ch == 15) ≡ false → opening_of ch text ≡ Ok o → text_writes ch text ≡ false → is_for_writing o ≡ false
 writes_text ch text o other e h = sym (rw (other, e) refl) ∙ h

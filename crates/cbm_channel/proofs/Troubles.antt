@@ -1,11 +1,11 @@
 -- Where the faults that are told come from.
-use Rattle.std.proofs.Common.{◌≡◌, ℕ, suc, ◌+◌, Bool, true, false, List, [], ◌∷◌, refl, sym, ap, ◌∙◌, subst, arith, inr}
+use Rattle.std.proofs.Common.{◌≡◌, ℕ, suc, ◌+◌, Bool, true, false, List, [], ◌∷◌, refl, sym, ap, ◌∙◌, subst, arith, inl, inr}
 use Rattle.std.specs.Prelude.{if◌then◌else◌, Option, Some, None, Result, Ok, Err, IfErr, IsErrAnd}
 use Rattle.std.specs.List.{Contains}
 use Rattle.cbm_medium.specs.declared.fault.Trouble.{Trouble}
 use Rattle.cbm_medium.specs.Place.{Place, sector_count}
 use Rattle.cbm_medium.specs.Links.{follow}
-use Rattle.cbm_medium.specs.Seen.{Seen}
+use Rattle.cbm_medium.specs.Seen.{Seen, HasFailed}
 use Rattle.cbm_volume.specs.Content.{Content}
 use Rattle.cbm_volume.specs.Reading.{Rest, held_from}
 use Rattle.cbm_volume.specs.Map.{geometry_of}
@@ -14,7 +14,8 @@ use Rattle.cbm_volume.specs.Slots.{first_from, directory_of}
 use Rattle.cbm_channel.specs.declared.finding.Found.{Found}
 use Rattle.cbm_channel.specs.declared.plan.Plan.{Plan}
 use Rattle.cbm_channel.specs.declared.plan.Plan.TheVariants.{ReadFile}
-use Rattle.cbm_channel.specs.Grounds.{ShowsTrouble, IsFromDirectory}
+use Rattle.cbm_channel.specs.Standing.{Kept}
+use Rattle.cbm_channel.specs.Grounds.{ShowsTrouble, IsFromDirectory, HasGround, IsToldFor}
 
 abbrev entry_in : List ℕ → Option (ℕ × List ℕ) → List ℕ
 entry_in e None = e
@@ -50,3 +51,9 @@ read_from seen m p found e from = subst (IsFromDirectory seen m) e from
 pub passed_on : {A E : Type 0} (r : Result A E) (x : E) (P : E → Type 0) → IsErrAnd r (λ e. e ≡ x) → P x → IfErr r P
 passed_on (Ok a) x P is h = tt
 passed_on (Err e) x P is h = subst P (sym is) h
+
+-- what is told is told of a drive with the same medium and status
+pub told_for : {M : Type 0} (seen : M → Seen) (old old' new : Kept M) → old'.medium ≡ old.medium → old'.told ≡ old.told → IsToldFor seen old' new → IsToldFor seen old new
+told_for seen old old' new e f (inl x) = inl (x ∙ f)
+told_for seen old old' new e f (inr (inl x)) = inr (inl (subst (λ v. HasGround seen v new.told.status) e x))
+told_for seen old old' new e f (inr (inr x)) = inr (inr (x.0, x.1, subst (λ v. HasFailed (seen v) (seen new.medium)) e x.2))

@@ -4,6 +4,7 @@ pub mod Written
 pub mod Grounds
 pub mod Shown
 pub mod Taken
+pub mod Commanded
 pub mod Planned
 pub mod Sought
 pub mod Listing

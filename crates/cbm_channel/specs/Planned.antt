@@ -11,6 +11,7 @@ use Rattle.cbm_volume.specs.Holding.{StandsAt, HasBytes, Says}
 use Rattle.cbm_volume.specs.Writers.{Use, HoldsNow, with_use}
 use Rattle.cbm_channel.specs.declared.channel.Channel as kept
 use Rattle.cbm_channel.specs.Standing.{ChannelStands, use_of}
+use Rattle.cbm_channel.specs.Commanded.{commands_change}
 use Rattle.cbm_machine.specs.declared.code.Code.{Code}
 use Rattle.cbm_machine.specs.declared.status.Status.{Status}
 use Rattle.cbm_channel.specs.declared.finding.Found.{Found}
@@ -142,9 +143,9 @@ abbrev pub is_for_writing : Opening → Bool
 is_for_writing (opening.Listing pattern) = false
 is_for_writing (opening.File w) = elim w.mode [ Read ↦ false | _ ↦ true ]
 
--- the text of an OPEN does; on 15 it is a command
+-- the text of an OPEN does; on 15 it is a command, which may change the disk
 abbrev pub text_writes : ℕ → List ℕ → Bool
-text_writes ch text = if ch == 15 then false else elim (opening_of ch text) [ Ok o ↦ is_for_writing o | Err e ↦ false ]
+text_writes ch text = if ch == 15 then commands_change text else elim (opening_of ch text) [ Ok o ↦ is_for_writing o | Err e ↦ false ]
 
 -- a file is written by what was planned
 abbrev pub plan_writes : code.Plan → Bool

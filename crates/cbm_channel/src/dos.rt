@@ -8,6 +8,8 @@ mod closing;
 mod opening;
 mod planning;
 mod putting;
+mod renaming;
+mod scratching;
 mod talking;
 
 /// The drive's DOS on a medium: files, the listing and the status by sixteen channels, the secondary addresses.

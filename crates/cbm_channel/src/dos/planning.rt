@@ -243,7 +243,7 @@ impl<M: Medium> Dos<M> {
     }
 
     /// Whether some file has the name. An `Err` is the fault of the directory.
-    fn is_there(&self, name: &Name) -> Result<bool, Status>
+    pub(super) fn is_there(&self, name: &Name) -> Result<bool, Status>
         ensures ground { IfErr result (HasGround M.seen self.now.medium) }
         ensures there { (m : Machine) → Stands M.seen self.now m → result ≡ Ok (is_there m.disk name.now) }
     {
@@ -262,7 +262,7 @@ impl<M: Medium> Dos<M> {
     }
 
     /// Whether a slot is open for writing.
-    fn in_writing(&self, slot: u8) -> bool
+    pub(super) fn in_writing(&self, slot: u8) -> bool
         ensures { (m : Machine) → Stands M.seen self.now m → result ≡ in_writing m slot }
     {
         any_writes(self.channels.as_slice(), slot)

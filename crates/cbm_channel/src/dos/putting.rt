@@ -18,7 +18,7 @@ fn without_return(text: &[u8]) -> &[u8]
 }
 
 impl<M: Medium> Dos<M> {
-    ghost use Rattle.std.specs.Prelude.{◌≡◌, ◌≤◌, ◌<◌, ℕ, [], ◌∷◌, false, Ok, MatchOption};
+    ghost use Rattle.std.specs.Prelude.{◌≡◌, ◌≤◌, ◌<◌, ℕ, [], ◌∷◌, false, Some, Ok, IfSome, MatchOption};
     ghost use Rattle.cbm_machine.specs.Machines.{Machine, answered};
     ghost use Rattle.cbm_machine.specs.Closing.{without_text};
     ghost use Rattle.cbm_machine.specs.Calls.{put, end_put, gather, command, without_return};
@@ -27,7 +27,8 @@ impl<M: Medium> Dos<M> {
     ghost use Rattle.cbm_channel.specs.Grounds.{HasTold, IsToldFor};
     ghost use Rattle.cbm_channel.specs.Standing.{Stands, SameBut, Leads, HasNoText, HasText};
     ghost use Rattle.cbm_channel.specs.Shown.{is_writing_on, IsQuiet};
-    ghost use Rattle.cbm_channel.specs.Going.{Goes, Went, put_written, KeepsMedium};
+    ghost use Rattle.cbm_channel.specs.Going.{Goes, GoesFrom, Went, WentFrom, put_written, KeepsMedium};
+    ghost use Rattle.cbm_channel.specs.Commanded.{IsOfCommandText, changes_disk, commands_change, ends_command};
     ghost use Rattle.cbm_machine.specs.CarriedOut.{IsPutCarriedOut, IsTextCarriedOut, IsCommandCarriedOut};
 
     /// A byte that the host sends to a channel: on 15 it is gathered for a command, and on a channel that is open for
@@ -87,6 +88,7 @@ impl<M: Medium> Dos<M> {
         ensures medium { self.new.medium ≡ self.old.medium }
         ensures text { (m : Machine) → Stands M.seen self.old m →
             MatchOption result (HasNoText channel m) (HasText channel m) }
+        ensures taken { IfSome result (λ t. (self.old.text ≡ Some t) × (t.0 ≡ channel)) }
     {
         let text = self.text.take()?;
         if text.channel() == channel {
@@ -99,12 +101,14 @@ impl<M: Medium> Dos<M> {
     /// The host sends no more (UNLISTEN): the text that was gathered for channel 15 is carried out as a command.
     pub fn end_put(&mut self, channel: u8)
         requires { channel ≤ 15 }
-        ensures leads { (m : Machine) → IsPutCarriedOut channel m → Stands M.seen self.old m
-            → Stands M.seen self.new (end_put channel m) }
+        ensures goes { (m : Machine) → IsPutCarriedOut channel m → Stands M.seen self.old m →
+            GoesFrom M.seen self.old self.new ((channel, end_put channel) ∷ []) m }
         // On any disk:
         ensures others { SameBut channel self.old.channels self.new.channels }
-        ensures told { IsToldFor M.seen self.old self.new }
-        ensures medium { self.new.medium ≡ self.old.medium }
+        // What is no command that changes the disk leaves the medium as it is.
+        ensures quiet { ends_command channel self.old.text ≡ false →
+            IsToldFor M.seen self.old self.new × (self.new.medium ≡ self.old.medium) }
+        ensures medium { KeepsMedium (M.seen self.old.medium) (M.seen self.new.medium) }
     {
         if let Some(text) = self.take_text(channel) {
             if channel == 15 {
@@ -115,11 +119,12 @@ impl<M: Medium> Dos<M> {
 
     /// Carries a text for channel 15 out; an empty one does nothing.
     pub(super) fn command(&mut self, text: &[u8])
-        ensures leads { (m : Machine) → IsTextCarriedOut (without_return text.now)
-            → Stands M.seen self.old m → Stands M.seen self.new (command text.now m) }
+        ensures goes { (m : Machine) → IsTextCarriedOut (without_return text.now) m → Stands M.seen self.old m →
+            WentFrom M.seen self.old self.new 15 (command text.now) m }
         ensures channels { self.new.channels ≡ self.old.channels }
-        ensures told { IsToldFor M.seen self.old self.new }
-        ensures medium { self.new.medium ≡ self.old.medium }
+        ensures quiet { commands_change text.now ≡ false →
+            IsToldFor M.seen self.old self.new × (self.new.medium ≡ self.old.medium) }
+        ensures medium { KeepsMedium (M.seen self.old.medium) (M.seen self.new.medium) }
     {
         let text = without_return(text);
         if text.is_empty() {
@@ -133,13 +138,17 @@ impl<M: Medium> Dos<M> {
 
     /// Carries a command out.
     fn run(&mut self, command: &Command)
-        ensures leads { (m : Machine) → IsCommandCarriedOut (Ok command.now) → Stands M.seen self.old m
-            → Stands M.seen self.new (answered m (run command.now m)) }
+        ensures goes { (m : Machine) → IsOfCommandText command.now → IsCommandCarriedOut (Ok command.now) m →
+            Stands M.seen self.old m →
+            WentFrom M.seen self.old self.new 15 (λ n. answered n (run command.now n)) m }
         ensures channels { self.new.channels ≡ self.old.channels }
-        ensures told { HasTold M.seen self.old self.new }
-        ensures medium { self.new.medium ≡ self.old.medium }
+        ensures quiet { changes_disk command.now ≡ false →
+            HasTold M.seen self.old self.new × (self.new.medium ≡ self.old.medium) }
+        ensures medium { KeepsMedium (M.seen self.old.medium) (M.seen self.new.medium) }
     {
         match command {
+            Command::Scratch(patterns) => self.scratch(patterns),
+            Command::Rename(new, old) => self.rename(new, old),
             Command::Initialize => self.say(Code::Fine),
             Command::Position(channel, _, _) => self.place(*channel),
             _ => self.say(Code::UnknownCommand),

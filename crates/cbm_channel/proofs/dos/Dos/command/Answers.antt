@@ -1,23 +1,26 @@
-use Rattle.std.proofs.Common.{◌≤◌, length, sym, ap, subst, ◌∙◌}
-use Rattle.cbm_machine.specs.Calls.{command_text}
+use Rattle.std.proofs.Common.{◌≤◌, length, sym, ap, subst, ◌∙◌, inl}
+use Rattle.cbm_machine.specs.Calls.{command_text, command}
 use Rattle.cbm_machine.specs.CarriedOut.{IsTextCarriedOut}
-use Rattle.cbm_machine.specs.Machines.{say}
-use Rattle.cbm_channel.proofs.Stands.{moved}
+use Rattle.cbm_machine.specs.Machines.{answered, say}
+use Rattle.cbm_machine.specs.Running.{run}
+use Rattle.cbm_channel.proofs.Goings.{part_same}
 use Rattle.cbm_channel.proofs.Texts.{refused, asked_for, carried_command, not_empty}
 use Rattle.cbm_channel.proofs.dos.Dos.command.Goals as goal
 
-pub returns-in-Ok-clause-leads : goal.returns-in-Ok-clause-leads
-returns-in-Ok-clause-leads g c = λ m carried s.
+pub returns-in-Ok-clause-goes : goal.returns-in-Ok-clause-goes
+returns-in-Ok-clause-goes g c = λ m carried s.
     let some : 1 ≤ length c.without_return-text.result.now = not_empty c.without_return-text.result.now (sym c.is_empty.ensures ∙ c.if-is_empty.false) in
     let is = sym c.parse_command.ensures ∙ c.in-Ok.is in
     let text = c.without_return-text.ensures in
-    moved _ _ _ _ _ _ _ _ (ap (λ w. command_text w m) (sym text) ∙ asked_for c.without_return-text.result.now c.in-Ok.command m some is)
-    (c.run.ensures.leads m (carried_command c.without_return-text.result.now c.in-Ok.command some is (subst IsTextCarriedOut (sym text) carried)) s)
+    let next = c.run.ensures.goes m (c.without_return-text.result.now, is) (carried_command c.without_return-text.result.now c.in-Ok.command m some is (subst (λ x. IsTextCarriedOut x m) (sym text) carried)) s in
+    (next.0, part_same _ 15 (λ n. answered n (run c.in-Ok.command n)) (command c.args.text.now) m next.0 (ap (λ w. command_text w m) (sym text) ∙ asked_for c.without_return-text.result.now c.in-Ok.command m some is) next.1, next.2)
 
-pub returns-in-Err-clause-leads : goal.returns-in-Err-clause-leads
-returns-in-Err-clause-leads g c = λ m carried s.
+pub returns-in-Err-clause-goes : goal.returns-in-Err-clause-goes
+returns-in-Err-clause-goes g c = λ m carried s.
     let some : 1 ≤ length c.without_return-text.result.now = not_empty c.without_return-text.result.now (sym c.is_empty.ensures ∙ c.if-is_empty.false) in
     let is = sym c.parse_command.ensures ∙ c.in-Err.is in
-    let text = c.without_return-text.ensures in
-    moved _ _ _ _ _ _ _ _ (ap (λ w. command_text w m) (sym text) ∙ refused c.without_return-text.result.now c.in-Err.refusal m some is ∙ ap (λ k. say k m) (sym c.from.ensures))
-    (c.say.ensures.leads m s)
+    let text = c.without_return-text.ensures in (
+      say c.from.result m,
+      inl (sym (ap (λ w. command_text w m) (sym text) ∙ refused c.without_return-text.result.now c.in-Err.refusal m some is ∙ ap (λ k. say k m) (sym c.from.ensures))),
+      c.say.ensures.leads m s,
+    )

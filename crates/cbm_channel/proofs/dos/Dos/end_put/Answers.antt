@@ -1,38 +1,58 @@
-use Rattle.std.proofs.Common.{◌≡◌, ◌≤◌, ℕ, List, length, take, sym, ap, subst, ◌∙◌, arith}
-use Rattle.std.specs.Prelude.{◌==◌, true}
+use Rattle.std.proofs.Common.{◌≡◌, ◌≤◌, ℕ, List, length, take, refl, sym, ap, subst, ◌∙◌, arith, inl}
+use Rattle.std.specs.Prelude.{◌==◌, ◌&&◌, true, false}
 use Rattle.std.proofs.lemmas.Bool.{eq-eqb}
-use Rattle.cbm_machine.specs.Calls.{without_return}
+use Rattle.cbm_medium.specs.Seen.{HasFailed}
+use Rattle.cbm_machine.specs.Calls.{without_return, end_put}
 use Rattle.cbm_machine.specs.CarriedOut.{IsTextCarriedOut}
 use Rattle.cbm_machine.specs.Closing.{without_text}
 use Rattle.cbm_machine.specs.Calls.{text_for, command}
-use Rattle.cbm_channel.proofs.Asked.{below_15, store_command, store_other, store_nothing}
-use Rattle.cbm_channel.proofs.Stands.{zip_at, moved}
-use Rattle.cbm_channel.proofs.Texts.{some_kept, command_kept, carried_kept}
+use Rattle.cbm_channel.specs.Commanded.{commands_change, ends_command}
+use Rattle.cbm_channel.specs.Going.{Passes}
+use Rattle.cbm_channel.proofs.Asked.{below_15, store_command, store_other}
+use Rattle.cbm_channel.proofs.Goings.{text_passes}
+use Rattle.cbm_channel.proofs.Stands.{zip_at}
+use Rattle.cbm_channel.proofs.Texts.{some_kept, command_kept, carried_kept, carried_on}
+use Rattle.cbm_channel.proofs.Troubles.{told_for}
 use Rattle.cbm_channel.proofs.dos.Dos.end_put.Goals as goal
 
 -- a command
-pub returns-then-channel-eq15-clause-leads : goal.returns-then-channel-eq15-clause-leads
-returns-then-channel-eq15-clause-leads g c = λ m carried s.
+pub returns-then-channel-eq15-clause-goes : goal.returns-then-channel-eq15-clause-goes
+returns-then-channel-eq15-clause-goes g c = λ m carried s.
     let has = c.in-Some.ensures.text m s in
     let whole : List ℕ = text_for c.args.channel m.text in
     let some : 1 ≤ length whole = some_kept whole (subst (λ x. 1 ≤ length x) has.kept has.some) in
     let bytes : take 256 whole ≡ c.bytes.result.now = sym has.kept ∙ sym c.bytes.ensures in
     let fifteen : (c.args.channel == 15) ≡ true = eq-eqb c.args.channel 15 c.if-channel-eq15.true in
-    moved _ _ _ _ _ _ _ _
-    (store_command c.args.channel whole m some fifteen ∙ command_kept whole (without_text c.args.channel m) ∙ ap (λ x. command x (without_text c.args.channel m)) bytes)
-    (c.command.ensures.leads _ (subst (λ x. IsTextCarriedOut (without_return x)) bytes (carried_kept whole carried)) (c.in-Some.ensures.leads m s))
+    let law : end_put c.args.channel m ≡ command c.bytes.result.now (without_text c.args.channel m) =
+    store_command c.args.channel whole m some fifteen ∙ command_kept whole (without_text c.args.channel m) ∙ ap (λ x. command x (without_text c.args.channel m)) bytes in
+    let next = c.command.ensures.goes (without_text c.args.channel m) (subst (λ x. IsTextCarriedOut (without_return x) (without_text c.args.channel m)) bytes (carried_on (without_return (take 256 whole)) c.args.channel m (carried_kept whole m carried))) (c.in-Some.ensures.leads m s) in
+    let passes = text_passes _ 15 c.args.channel (command c.bytes.result.now) (end_put c.args.channel) m next.0 law next.1 in (
+      next.0,
+      (
+        next.0,
+        subst (λ ch. Passes (HasFailed (g.M.Medium.seen c.args.self.now.medium) (g.M.Medium.seen c.command.new.self.medium)) ch (end_put c.args.channel) m next.0) (sym c.if-channel-eq15.true)
+            (subst (λ v. Passes (HasFailed (g.M.Medium.seen v) (g.M.Medium.seen c.command.new.self.medium)) 15 (end_put c.args.channel) m next.0) c.in-Some.ensures.medium passes),
+        refl,
+      ),
+      next.2,
+    )
+
+-- one that changes nothing of the disk
+pub returns-then-channel-eq15-clause-quiet : goal.returns-then-channel-eq15-clause-quiet
+returns-then-channel-eq15-clause-quiet g c = λ quiet.
+    let fifteen : (c.args.channel == 15) ≡ true = eq-eqb c.args.channel 15 c.if-channel-eq15.true in
+    let number : (c.in-Some.text.0 == 15) ≡ true = eq-eqb c.in-Some.text.0 15 (c.in-Some.ensures.taken.1 ∙ c.if-channel-eq15.true) in
+    let none : commands_change c.in-Some.text.1 ≡ false =
+    sym (λ i. fifteen i && (number i && commands_change c.in-Some.text.1)) ∙ sym (ap (ends_command c.args.channel) c.in-Some.ensures.taken.0) ∙ quiet in
+    let said = c.command.ensures.quiet (ap commands_change c.bytes.ensures ∙ none) in
+    (told_for g.M.Medium.seen c.args.self.now c.take_text.new.self c.command.new.self c.in-Some.ensures.medium c.in-Some.ensures.told said.0, said.1 ∙ c.in-Some.ensures.medium)
 
 -- no channel has records
-pub returns-else-channel-eq15-clause-leads : goal.returns-else-channel-eq15-clause-leads
-returns-else-channel-eq15-clause-leads g c = λ m carried s.
+pub returns-else-channel-eq15-clause-goes : goal.returns-else-channel-eq15-clause-goes
+returns-else-channel-eq15-clause-goes g c = λ m carried s.
     let has = c.in-Some.ensures.text m s in
     let whole : List ℕ = text_for c.args.channel m.text in
     let some : 1 ≤ length whole = some_kept whole (subst (λ x. 1 ≤ length x) has.kept has.some) in
     let other = below_15 c.args.channel (omega (arith, c.requires, c.if-channel-eq15.false)) in
-    moved _ _ _ _ _ _ _ _ (store_other c.args.channel m _ other (zip_at c.args.self.now.channels m.channels c.args.channel s.each) whole some) (c.in-Some.ensures.leads m s)
-
--- nothing was put
-pub returns-in_default-clause-leads : goal.returns-in_default-clause-leads
-returns-in_default-clause-leads g c = λ m carried s.
-    let has = c.in_default.ensures.text m s in
-    moved _ _ _ _ _ _ _ _ (store_nothing c.args.channel (text_for c.args.channel m.text) m has.none ∙ sym (λ i. record m { text = has.stays i })) (c.in_default.ensures.leads m s)
+    let law = store_other c.args.channel m _ other (zip_at c.args.self.now.channels m.channels c.args.channel s.each) whole some in
+    (without_text c.args.channel m, (without_text c.args.channel m, inl (sym law), refl), c.in-Some.ensures.leads m s)

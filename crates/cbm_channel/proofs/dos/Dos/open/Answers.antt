@@ -6,7 +6,6 @@ use Rattle.std.proofs.lemmas.Bool.{eq-eqb}
 use Rattle.cbm_machine.specs.Machines.{say}
 use Rattle.cbm_machine.specs.Closing.{close_one}
 use Rattle.cbm_machine.specs.Plans.{open_text}
-use Rattle.cbm_machine.specs.Calls.{command}
 use Rattle.cbm_channel.specs.Going.{GoesFrom}
 use Rattle.cbm_channel.specs.Planned.{begun_by}
 use Rattle.cbm_channel.proofs.Asked.{below_15}
@@ -19,11 +18,9 @@ use Rattle.cbm_channel.proofs.dos.Dos.open.Goals as goal
 pub returns-then-channel-eq15-clause-goes : goal.returns-then-channel-eq15-clause-goes
 returns-then-channel-eq15-clause-goes g c = λ m s carried.
     let fifteen : (c.args.channel == 15) ≡ true = eq-eqb c.args.channel 15 c.if-channel-eq15.true in
-    subst (λ parts. GoesFrom g.M.Medium.seen c.args.self.now c.command.new.self parts m) (sym (parts_command c.args.channel c.args.text.now fifteen)) (
-      command c.args.text.now m,
-      (command c.args.text.now m, inl refl, refl),
-      c.command.ensures.leads m (carried_command c.args.channel c.args.text.now m fifteen (carried m (after_none g.M.Medium.seen c.args.self.now c.command.new.self c.args.channel m fifteen))) s,
-    )
+    let next = c.command.ensures.goes m (carried_command c.args.channel c.args.text.now m fifteen (carried m (after_none g.M.Medium.seen c.args.self.now c.command.new.self c.args.channel m fifteen))) s in
+    subst (λ parts. GoesFrom g.M.Medium.seen c.args.self.now c.command.new.self parts m) (sym (parts_command c.args.channel c.args.text.now fifteen))
+    (next.0, (next.0, next.1, refl), next.2)
 
 -- CLOSE, and then OPEN
 pub returns-in-Ok-clause-goes : goal.returns-in-Ok-clause-goes

@@ -1,0 +1,74 @@
+use Rattle.std.proofs.Common.{length, sym, ap, subst, ◌∙◌, arith}
+use Rattle.cbm_medium.specs.Seen.{Seen}
+use Rattle.cbm_volume.specs.Opens.{IsHindered}
+use Rattle.cbm_channel.specs.Commanded.{all_scratched}
+use Rattle.cbm_channel.specs.Standing.{uses_of}
+use Rattle.cbm_channel.proofs.DiskSteps.{nothing_yet, nothing_more, refused_then, fits_same}
+use Rattle.cbm_channel.proofs.Opens.{on_err, failed_by}
+use Rattle.cbm_channel.proofs.Scratches.{IsClearing, clearing_first, clearing_next, clearing_stopped, clearing_hindered, clearing_done, next_left}
+use Rattle.cbm_channel.proofs.Goings.{late}
+use Rattle.cbm_channel.proofs.dos.Dos.clear.Goals as goal
+
+pub slots-init : goal.slots-init
+slots-init g c =
+    let old = c.args.self.now in
+    let vol = ap (λ k. k.medium) c.self.view_is in (
+      (λ m st can. subst (λ x. IsClearing (g.M.Medium.seen old.medium).tracks (g.M.Medium.seen x).content (uses_of old.channels m.channels) m.disk (all_scratched m.disk c.args.slots.now) c.args.slots.now) (sym vol)
+          (clearing_first _ _ _ m.disk c.args.slots.now st.holds can)),
+      nothing_yet _ _ (ap g.M.Medium.seen vol),
+      c.self.view_is ∙ ap (λ v. record old { medium = v }) (sym vol),
+    )
+
+pub invariant_of-self : goal.invariant_of-self
+invariant_of-self g c =
+    let vol = ap (λ k. k.medium) c.self.view_is in
+    fits_same _ _ _ _ (c.slots.invariant.1.tracks ∙ sym (ap (λ x. (g.M.Medium.seen x).tracks) vol)) (ap (λ k. k.channels) c.slots.invariant.2 ∙ sym (ap (λ k. k.channels) c.self.view_is)) c.self.invariant
+
+pub invariant_of-self-in_err-scratch : goal.invariant_of-self-in_err-scratch
+invariant_of-self-in_err-scratch g c =
+    let vol = ap (λ k. k.medium) c.self.view_is in
+    fits_same _ _ _ _ (c.in_err-scratch.ensures.only.tracks ∙ c.slots.invariant.1.tracks ∙ sym (ap (λ x. (g.M.Medium.seen x).tracks) vol)) (ap (λ k. k.channels) c.slots.invariant.2 ∙ sym (ap (λ k. k.channels) c.self.view_is)) c.self.invariant
+
+pub returns-in_err-scratch-clause-stopped : goal.returns-in_err-scratch-clause-stopped
+returns-in_err-scratch-clause-stopped g c = λ m st can unprotected.
+    let old = c.args.self.now in
+    let mid : Seen = g.M.Medium.seen c.slots.self-inside.volume in
+    let new : Seen = g.M.Medium.seen c.scratch.new.self in
+    let uses = uses_of old.channels m.channels in
+    let h = next_left _ _ _ m.disk (all_scratched m.disk c.args.slots.now) c.args.slots.now c.slots.slot-index c.slots-test.true (c.slots.invariant.0 m st can) in
+    on_err c.from_residual.result _ (
+      clearing_stopped _ _ new.content uses m.disk (all_scratched m.disk c.args.slots.now) _ _ h mid.tracks c.slots.invariant.1.tracks c.in_err-scratch.ensures.stopped,
+      late (g.M.Medium.seen old.medium) mid new c.slots.invariant.1.counted (failed_by mid new c.in_err-scratch.field-0.0 m.protected (st.same_protection ∙ sym c.slots.invariant.1.protected) (unprotected (λ e. omega (arith, c.slots-test.true, ap length e)))
+          (clearing_hindered _ _ new.content uses m.disk (all_scratched m.disk c.args.slots.now) _ _ h mid.tracks (IsHindered mid new c.in_err-scratch.field-0.0) c.slots.invariant.1.tracks c.in_err-scratch.ensures.cause)),
+    )
+
+pub returns-in_err-scratch-clause-rest : goal.returns-in_err-scratch-clause-rest
+returns-in_err-scratch-clause-rest g c = (λ i. record (c.slots.invariant.2 i) { medium = c.scratch.new.self })
+
+pub returns-in_err-scratch-clause-count : goal.returns-in_err-scratch-clause-count
+returns-in_err-scratch-clause-count g c = (invariant_of-self-in_err-scratch g c).count
+
+pub returns-in_err-scratch-clause-medium : goal.returns-in_err-scratch-clause-medium
+returns-in_err-scratch-clause-medium g c = refused_then c.in_err-scratch.field-0.0 c.in_err-scratch.field-0.0 c.from_residual.result _ _ _ c.from_residual.ensures.1 c.slots.invariant.1 c.in_err-scratch.ensures.only
+
+pub slots-preserved : goal.slots-preserved
+slots-preserved g c =
+    let old = c.args.self.now in (
+      (λ m st can.
+          let h = next_left _ _ _ m.disk (all_scratched m.disk c.args.slots.now) c.args.slots.now c.slots.slot-index c.slots-test.true (c.slots.invariant.0 m st can) in
+          clearing_next _ _ (g.M.Medium.seen c.scratch.new.self).content (uses_of old.channels m.channels) m.disk (all_scratched m.disk c.args.slots.now) _ _ h (g.M.Medium.seen c.slots.self-inside.volume).tracks c.slots.invariant.1.tracks c.in_ok-scratch.ensures.scratched),
+      nothing_more c.in_ok-scratch.field-0 _ _ _ c.slots.invariant.1 c.in_ok-scratch.ensures.only,
+      (λ i. record (c.slots.invariant.2 i) { medium = c.scratch.new.self }),
+    )
+
+pub returns-clause-scratched : goal.returns-clause-scratched
+returns-clause-scratched g c = λ m st can. clearing_done _ _ _ m.disk (all_scratched m.disk c.args.slots.now) c.args.slots.now c.slots.slot-index c.slots-test.false (c.slots.invariant.0 m st can)
+
+pub returns-clause-rest : goal.returns-clause-rest
+returns-clause-rest g c = c.slots.invariant.2
+
+pub returns-clause-count : goal.returns-clause-count
+returns-clause-count g c = (invariant_of-self g c).count
+
+pub returns-clause-medium : goal.returns-clause-medium
+returns-clause-medium g c = c.slots.invariant.1

@@ -1,0 +1,37 @@
+use Rattle.std.proofs.Common.{length, sym, ap, subst, ◌∙◌, inl, inr}
+use Rattle.cbm_medium.specs.Seen.{HasFailed}
+use Rattle.cbm_machine.specs.declared.code.Code.TheVariants.{FilesScratched}
+use Rattle.cbm_machine.specs.Machines.{tell, with_disk}
+use Rattle.cbm_channel.specs.Commanded.{all_scratched}
+use Rattle.cbm_channel.specs.Standing.{StandsBy, uses_of}
+use Rattle.cbm_channel.proofs.Commanding.{scratch_stands, scratch_cut}
+use Rattle.cbm_channel.proofs.Opens.{unused_at}
+use Rattle.cbm_channel.proofs.Scratches.{scratch_done, all_can_go}
+use Rattle.cbm_channel.proofs.Stores.{renamed}
+use Rattle.cbm_channel.proofs.dos.Dos.scratch_slots.Goals as goal
+
+pub returns-in-Ok-clause-goes : goal.returns-in-Ok-clause-goes
+returns-in-Ok-clause-goes g c = λ m ps none going s.
+    let old = c.args.self.now in
+    let whole = c.clear.ensures.rest in
+    let can = all_can_go m ps (uses_of old.channels m.channels) (λ n u. unused_at n old.channels m s.each u) c.args.slots.now going.all none in
+    let next = scratch_stands _ _ (g.M.Medium.seen c.clear.new.self.medium).content _ old.channels old.told old.text m s ps c.args.slots.now going (c.in-Ok.ensures.scratched m s can) in (
+      tell (record { code = FilesScratched; first = length c.args.slots.now; second = 0 }) (with_disk (all_scratched m.disk c.args.slots.now) m),
+      inl (sym (scratch_done m ps c.args.slots.now going)),
+      c.set.ensures.leads _ (subst (λ k. StandsBy (g.M.Medium.seen k.medium).content (g.M.Medium.seen k.medium).tracks (g.M.Medium.seen k.medium).protected k.channels k.told k.text (with_disk (all_scratched m.disk c.args.slots.now) m)) (sym whole)
+          (renamed _ _ _ _ _ _ _ _ _ c.clear.ensures.medium.tracks c.clear.ensures.medium.protected next)),
+    )
+
+-- a write was refused
+pub returns-in-Err-clause-goes : goal.returns-in-Err-clause-goes
+returns-in-Err-clause-goes g c = λ m ps none going s.
+    let old = c.args.self.now in
+    let whole = c.clear.ensures.rest in
+    let can = all_can_go m ps (uses_of old.channels m.channels) (λ n u. unused_at n old.channels m s.each u) c.args.slots.now going.all none in
+    let stop = c.in-Err.ensures.stopped m s can going.unprotected in
+    let next = scratch_cut _ _ (g.M.Medium.seen c.clear.new.self.medium).content _ old.channels old.told old.text m s ps c.args.slots.now going stop.0 in (
+      _,
+      inr (subst (λ v. HasFailed (g.M.Medium.seen old.medium) (g.M.Medium.seen v)) (sym c.set-in-Err.ensures.medium) stop.1, next.1 c.in-Err.trouble c.from.result (sym (ap (λ k. length k.channels) whole) ∙ c.clear.ensures.count) c.from.ensures),
+      c.set-in-Err.ensures.leads next.0 (subst (λ k. StandsBy (g.M.Medium.seen k.medium).content (g.M.Medium.seen k.medium).tracks (g.M.Medium.seen k.medium).protected k.channels k.told k.text next.0) (sym whole)
+          (renamed _ _ _ _ _ _ _ _ _ c.clear.ensures.medium.tracks c.clear.ensures.medium.protected next.2)),
+    )

@@ -1,0 +1,112 @@
+-- What a command will do, beside what the machine does.
+use Rattle.std.specs.Prelude.{ℕ, ◌+◌, ◌≡◌, ◌≢◌, ◌==◌, ◌&&◌, ◌||◌, Bool, true, false, not, List, [], ◌∷◌, if◌then◌else◌, Option, Some, None, Result, Ok, Err}
+use Rattle.std.specs.List.{list_any}
+use Rattle.cbm_file.specs.declared.file_type.FileType.TheVariants.{Rel}
+use Rattle.cbm_file.specs.Types.{is_same_type}
+use Rattle.cbm_file.specs.Files.{File, Disk, file_at}
+use Rattle.cbm_file.specs.Changes.{scratched}
+use Rattle.cbm_command.specs.declared.command.Command.{Command}
+use Rattle.cbm_command.specs.declared.command.Command.TheVariants.{New, Scratch, Rename, Copy, Validate, Initialize, Position}
+use Rattle.cbm_command.specs.Commands.{command_of}
+use Rattle.cbm_command.specs.Names.{is_match}
+use Rattle.cbm_volume.specs.Entries.{type_byte, bit_of, is_relative, name_in}
+use Rattle.cbm_volume.specs.Opens.{IsUnused}
+use Rattle.cbm_volume.specs.Writers.{Use}
+use Rattle.cbm_machine.specs.declared.code.Code.{Code}
+use Rattle.cbm_machine.specs.declared.code.Code.TheVariants.{WriteProtected}
+use Rattle.cbm_machine.specs.declared.status.Status.{Status}
+use Rattle.cbm_machine.specs.Statuses.{plain}
+use Rattle.cbm_machine.specs.Machines.{Machine, in_writing}
+use Rattle.cbm_machine.specs.Finding.{is_there, found}
+use Rattle.cbm_machine.specs.Running.{may_go, rename, scratch}
+use Rattle.cbm_machine.specs.Calls.{without_return}
+use Rattle.cbm_channel.specs.declared.channel.Channel.{Channel}
+use Rattle.cbm_channel.specs.Shown.{uses_on}
+
+-- a command came from a text
+abbrev pub IsOfCommandText : Command → Type 0
+IsOfCommandText command = (text : List ℕ) × (command_of text ≡ Ok command)
+
+-- it is one that may change the disk
+abbrev pub changes_disk : Command → Bool
+changes_disk (New name id) = false
+changes_disk (Scratch patterns) = true
+changes_disk (Rename new old) = true
+changes_disk (Copy new olds) = false
+changes_disk Validate = false
+changes_disk Initialize = false
+changes_disk (Position ch k p) = false
+
+-- the text of a command does
+abbrev pub commands_change : List ℕ → Bool
+commands_change text = elim (command_of (without_return text)) [ Ok command ↦ changes_disk command | Err e ↦ false ]
+
+-- the text that is gathered for channel 15 does, when it is ended
+abbrev pub ends_command : ℕ → Option (ℕ × List ℕ) → Bool
+ends_command ch None = false
+ends_command ch (Some t) = (ch == 15) && ((t.0 == 15) && commands_change t.1)
+
+-- ---- R
+
+-- The slot has the first file of the old name, which no channel writes; and no file has the new name.
+pub record IsRenamable (m : Machine) (new old : List ℕ) (slot : ℕ) : Type 0 where
+  pub file : File
+  pub first : found m.disk old None ≡ Ok (slot, file)
+  pub in_slot : file_at m.disk slot ≡ Some file
+  pub unwritten : in_writing m slot ≡ false
+  pub fresh : is_there m.disk new ≡ false
+  pub unprotected : m.protected ≡ false
+
+-- the slot whose file gets the name, or the machine's refusal
+abbrev pub RenamesAs : Machine → List ℕ → List ℕ → Result ℕ Status → Type 0
+RenamesAs m new old (Ok slot) = IsRenamable m new old slot
+RenamesAs m new old (Err status) = (code : Code) × (rename new old m ≡ Err code) × (status ≡ plain code)
+
+-- ---- S
+
+-- the file of an entry may go: a pattern matches its name, it isn't locked, and no channel has its slot open
+abbrev pub entry_may_go : List Channel → List (List ℕ) → ℕ → List ℕ → Bool
+entry_may_go channels patterns n entry =
+    not (type_byte entry == 0) && list_any (λ p. is_match p (name_in entry)) patterns && not (bit_of (type_byte entry) 6) && not (list_any (uses_on n) channels)
+
+-- the numbers of the entries that may go, counted from n
+abbrev pub entries_going : List Channel → List (List ℕ) → ℕ → List (List ℕ) → List ℕ
+entries_going channels ps n [] = []
+entries_going channels ps n (e ∷ entries) = if entry_may_go channels ps n e then n ∷ entries_going channels ps (n + 1) entries else entries_going channels ps (n + 1) entries
+
+-- a relative file is among them
+abbrev pub records_going : List Channel → List (List ℕ) → ℕ → List (List ℕ) → Bool
+records_going channels ps n [] = false
+records_going channels ps n (e ∷ entries) = (entry_may_go channels ps n e && is_relative e) || records_going channels ps (n + 1) entries
+
+-- the numbers of the slots that the machine clears, counted from n
+abbrev pub slots_going : Machine → List (List ℕ) → ℕ → List (Option File) → List ℕ
+slots_going m ps n [] = []
+slots_going m ps n (None ∷ slots) = slots_going m ps (n + 1) slots
+slots_going m ps n (Some f ∷ slots) = if may_go m ps n f then n ∷ slots_going m ps (n + 1) slots else slots_going m ps (n + 1) slots
+
+-- the slots of these numbers are scratched, one after another
+abbrev pub all_scratched : Disk → List ℕ → Disk
+all_scratched d [] = d
+all_scratched d (n ∷ ns) = all_scratched (scratched d n) ns
+
+-- the slot has a file without records that no channel has open
+pub record CanGo (d : Disk) (uses : ℕ → Use) (n : ℕ) : Type 0 where
+  pub file : File
+  pub in_slot : file_at d n ≡ Some file
+  pub plain : is_same_type Rel file.kind ≡ false
+  pub unused : IsUnused uses n
+
+-- each of the slots can go when its turn has come
+abbrev pub CanAllGo : Disk → (ℕ → Use) → List ℕ → Type 0
+CanAllGo d uses [] = Unit {0}
+CanAllGo d uses (n ∷ ns) = CanGo d uses n × CanAllGo (scratched d n) uses ns
+
+-- the slots that the machine clears, none on a protected disk
+pub record IsGoing (m : Machine) (ps : List (List ℕ)) (slots : List ℕ) : Type 0 where
+  pub all : slots ≡ slots_going m ps 0 m.disk.slots
+  pub unprotected : slots ≢ [] → m.protected ≡ false
+
+-- or its refusal
+abbrev pub RefusesScratch : Machine → List (List ℕ) → Status → Type 0
+RefusesScratch m ps status = (scratch ps m ≡ Err WriteProtected) × (status ≡ plain WriteProtected)

@@ -1,0 +1,154 @@
+// S: files are cleared.
+
+ghost use Rattle.std.specs.Prelude.{◌≡◌, ◌&&◌, not};
+ghost use Rattle.std.specs.List.{list_any};
+ghost use Rattle.cbm_command.specs.Names.{is_match};
+ghost use Rattle.cbm_channel.specs.Commanded.{entry_may_go};
+
+use crate::channel::{Channel, any_uses};
+use crate::dos::Dos;
+use arrayvec::ArrayVec;
+use cbm_command::{Name, Names, matches};
+use cbm_machine::{Code, Status};
+use cbm_volume::{Entry, Medium, Trouble};
+
+/// The numbers of slots: a directory has at most 144.
+type Numbers = ArrayVec<u8, 144>;
+
+/// Whether one of the patterns matches a name.
+fn is_named(patterns: &[Name], name: &[u8]) -> bool
+    ensures { result ≡ list_any (λ p. is_match p name.now) patterns.now }
+{
+    patterns
+        .iter()
+        .any(|pattern| matches(pattern.bytes(), name))
+}
+
+/// A file stays that is locked or open.
+fn can_go(locked: bool, used: bool) -> bool
+    ensures { result ≡ (not locked && not used) }
+{
+    !locked && !used
+}
+
+/// Whether the file of an entry may go: a pattern matches its name, it isn't locked, and no channel has it open.
+fn may_go(channels: &[Channel], patterns: &[Name], number: u8, entry: &Entry) -> bool
+    ensures { result ≡ entry_may_go channels.now patterns.now number entry.now }
+{
+    if entry.is_empty() || !is_named(patterns, entry.name()) {
+        return false;
+    }
+    can_go(entry.is_locked(), any_uses(channels, number))
+}
+
+impl<M: Medium> Dos<M> {
+    ghost use Rattle.std.specs.Prelude.{◌≡◌, ◌≢◌, ◌≤◌, [], false, IfOk, IfErr, OnOk, OnErr, IsOkAnd, length};
+    ghost use Rattle.cbm_medium.specs.Seen.{OnlyContent, HasFailed};
+    ghost use Rattle.cbm_volume.specs.Map.{geometry_of};
+    ghost use Rattle.cbm_volume.specs.Slots.{directory_of};
+    ghost use Rattle.cbm_volume.specs.Writers.{HoldsNow, Stopped};
+    ghost use Rattle.cbm_machine.specs.Machines.{Machine, answered};
+    ghost use Rattle.cbm_machine.specs.Running.{scratch};
+    ghost use Rattle.cbm_machine.specs.CarriedOut.{scratches_records};
+    ghost use Rattle.cbm_channel.specs.Grounds.{HasGround};
+    ghost use Rattle.cbm_channel.specs.Standing.{Stands, uses_of};
+    ghost use Rattle.cbm_channel.specs.Going.{WentFrom, KeepsMedium};
+    ghost use Rattle.cbm_channel.specs.Commanded.{entries_going, slots_going, all_scratched, CanAllGo, IsGoing, RefusesScratch};
+
+    /// S: each file that matches a pattern, isn't locked and isn't open goes; 01 tells how many.
+    pub(super) fn scratch(&mut self, patterns: &Names)
+        ensures goes { (m : Machine) → scratches_records m patterns.now 0 m.disk.slots ≡ false →
+            Stands M.seen self.old m →
+            WentFrom M.seen self.old self.new 15 (λ n. answered n (scratch patterns.now n)) m }
+        ensures channels { self.new.channels ≡ self.old.channels }
+        ensures medium { KeepsMedium (M.seen self.old.medium) (M.seen self.new.medium) }
+    {
+        match self.plan_scratch(patterns) {
+            Ok(slots) => self.scratch_slots(slots.as_slice()),
+            Err(status) => self.set(status),
+        }
+    }
+
+    /// The slots of the files that go. Errors: 64 one is a relative file, which isn't scratched so far; 26 the disk is
+    /// protected; or the fault of the directory.
+    fn plan_scratch(&self, patterns: &Names) -> Result<Numbers, Status>
+        ensures ground { IfErr result (HasGround M.seen self.now.medium) }
+        ensures planned { (m : Machine) → scratches_records m patterns.now 0 m.disk.slots ≡ false →
+            Stands M.seen self.now m → IfOk result (λ v. IsGoing m patterns.now v.items) }
+        ensures refused { (m : Machine) → scratches_records m patterns.now 0 m.disk.slots ≡ false →
+            Stands M.seen self.now m → IfErr result (RefusesScratch m patterns.now) }
+        ensures few { IfOk result (λ v. length v.items ≤ 144) }
+    {
+        let slots = self.slots_going(patterns)?;
+        if !slots.is_empty() && self.volume().is_protected() {
+            return Err(Status::plain(Code::WriteProtected));
+        }
+        Ok(slots)
+    }
+
+    /// The slots of the files that may go, in order. Errors: 64 one is a relative file; or the fault of the directory.
+    fn slots_going(&self, patterns: &Names) -> Result<Numbers, Status>
+        ensures ground { IfErr result (HasGround M.seen self.now.medium) }
+        ensures value { let now = M.seen self.now.medium in IfOk result (λ v. v.items ≡ entries_going
+            self.now.channels patterns.now 0 (directory_of (geometry_of now.tracks now.content) now.content).entries) }
+        ensures means { (m : Machine) → scratches_records m patterns.now 0 m.disk.slots ≡ false →
+            Stands M.seen self.now m → IsOkAnd result (λ v. v.items ≡ slots_going m patterns.now 0 m.disk.slots) }
+    {
+        let channels = self.channels.as_slice();
+        let mut slots = self.volume.slots();
+        let mut number = 0;
+        let mut going = Numbers::new();
+        'slots: while let Some(entry) = self.volume.next_slot(&mut slots)? {
+            if may_go(channels, patterns.as_slice(), number, &entry) {
+                if entry.is_relative() {
+                    return Err(Status::plain(Code::WrongType));
+                }
+                going.push(number);
+            }
+            number += 1;
+        }
+        Ok(going)
+    }
+
+    /// Scratches these slots, and tells how many they were.
+    fn scratch_slots(&mut self, slots: &[u8])
+        requires { length slots.now ≤ 144 }
+        ensures goes { (m : Machine) (patterns : _) → scratches_records m patterns 0 m.disk.slots ≡ false →
+            IsGoing m patterns slots.now → Stands M.seen self.old m →
+            WentFrom M.seen self.old self.new 15 (λ n. answered n (scratch patterns n)) m }
+        ensures channels { self.new.channels ≡ self.old.channels }
+        ensures count { length self.new.channels ≡ 15 }
+        ensures medium { KeepsMedium (M.seen self.old.medium) (M.seen self.new.medium) }
+    {
+        match self.clear(slots) {
+            Ok(()) => self.set(Status {
+                code: Code::FilesScratched,
+                first: slots.len() as u8,
+                second: 0,
+            }),
+            Err(trouble) => self.set(Status::from(trouble)),
+        }
+    }
+
+    /// Scratches these slots, one after another. An `Err` is what ended it: the slots before stay scratched.
+    fn clear(&mut self, slots: &[u8]) -> Result<(), Trouble>
+        ensures scratched { let old = M.seen self.old.medium in (m : Machine) → Stands M.seen self.old m →
+            CanAllGo m.disk (uses_of self.old.channels m.channels) slots.now →
+            OnOk result (HoldsNow old.tracks (M.seen self.new.medium).content (all_scratched m.disk slots.now)
+            (uses_of self.old.channels m.channels)) }
+        ensures stopped { let old = M.seen self.old.medium in (m : Machine) → Stands M.seen self.old m →
+            CanAllGo m.disk (uses_of self.old.channels m.channels) slots.now →
+            (slots.now ≢ [] → m.protected ≡ false) →
+            OnErr result (Stopped old.tracks (M.seen self.new.medium).content m.disk
+            (all_scratched m.disk slots.now) (uses_of self.old.channels m.channels)
+            × HasFailed old (M.seen self.new.medium)) }
+        ensures rest { self.new ≡ record self.old { medium = self.new.medium } }
+        ensures count { length self.new.channels ≡ 15 }
+        ensures medium { OnlyContent result (M.seen self.old.medium) (M.seen self.new.medium) }
+    {
+        'slots: for slot in slots {
+            self.volume.scratch(*slot)?;
+        }
+        Ok(())
+    }
+}
