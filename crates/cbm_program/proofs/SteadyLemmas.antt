@@ -5,8 +5,8 @@ use Rattle.cbm_medium.specs.Seen.{Seen, HasFailed}
 use Rattle.cbm_channel.specs.Machines.{Machine}
 use Rattle.cbm_channel.specs.Closing.{close_one, close_all, close, channel_numbers, without_text}
 use Rattle.cbm_channel.specs.Plans.{open_text}
-use Rattle.cbm_channel.specs.Calls.{put, command, after_open}
-use Rattle.cbm_channel.specs.CarriedOut.{IsOpenCarriedOut, IsCarriedOut}
+use Rattle.cbm_channel.specs.Calls.{put, end_put, command, after_open}
+use Rattle.cbm_channel.specs.CarriedOut.{IsOpenCarriedOut, IsCarriedOut, IsPutCarriedOut}
 use Rattle.cbm_channel.specs.Standing.{Kept, Stands, Leads}
 use Rattle.cbm_channel.specs.Going.{Passes, PassesAll, closings, closing, opening_parts, AfterClose, GoesFrom, Goes}
 
@@ -39,16 +39,11 @@ opened_by : (b : Bool) (ch : ℕ) (text : List ℕ) (m : Machine)
 opened_by true ch text m = refl
 opened_by false ch text m = refl
 
--- a choice that looks at one side alone
-when_true : (b : Bool) (A P Q : Type 0) → b ≡ true → MatchBool b A P → MatchBool b A Q
-when_true true A P Q e h = h
-when_true false A P Q e h = absurd (cc)
-
 -- An OPEN that is carried out once its channel is closed is so wherever that CLOSE led.
 asked_by : (b : Bool) (failed : Type 0) (ch : ℕ) (text : List ℕ) (m n : Machine) → (ch == 15) ≡ b → (failed → ⊥)
-    → IsOpenCarriedOut ch text (if b then without_text 15 (close_all channel_numbers m) else close_one ch m)
+    → IsOpenCarriedOut ch text (if b then m else close_one ch m)
     → MatchBool b (n ≡ m) (Passes failed ch (close_one ch) m n) → IsOpenCarriedOut ch text n
-asked_by true failed ch text m n e never h closed = when_true (ch == 15) _ _ _ e h
+asked_by true failed ch text m n e never h closed = subst (λ x. IsOpenCarriedOut ch text x) (sym closed) h
 asked_by false failed ch text m n e never h closed = subst (λ x. IsOpenCarriedOut ch text x) (sym (is_done failed ch (close_one ch) m n never closed)) h
 
 -- ---- the calls, where neither the medium before nor the one behind has failed
@@ -63,6 +58,11 @@ module _ {M : Type 0} (seen : M → Seen) (steady : (k : M) → (seen k).failure
   -- a byte that is put
   pub steady_put : (ch b : ℕ) → Goes seen old new ((ch, put ch b) ∷ []) → Leads seen old new (put ch b)
   steady_put ch b goes m s = goes_done ((ch, put ch b) ∷ []) m (goes m s)
+
+  -- the end of what was put
+  pub steady_end : (ch : ℕ) → ((m : Machine) → IsPutCarriedOut ch m → Stands seen old m → GoesFrom seen old new ((ch, end_put ch) ∷ []) m)
+      → (m : Machine) → IsPutCarriedOut ch m → Stands seen old m → Stands seen new (end_put ch m)
+  steady_end ch goes m carried s = goes_done ((ch, end_put ch) ∷ []) m (goes m carried s)
 
   pub steady_close : (ch : ℕ) → Goes seen old new (closing ch) → Leads seen old new (close ch)
   steady_close ch goes m s = subst (λ x. Stands seen new x) (closed_by (ch == 15) ch m) (goes_done (closing ch) m (goes m s))
