@@ -178,6 +178,7 @@ fn protected_disks(rt: HostRuntime) -> Result<(), Fail> {
     assert_eq!(rt; code(volume.begin_write(FileType::Seq, b"TWO")), 26);
     assert_eq!(rt; code(volume.begin_append(0, &entry)), 26);
     assert_eq!(rt; code(volume.begin_replace(0)), 26);
+    assert_eq!(rt; code(volume.rename(0, b"NEW")), 26);
     let after = volume.into_medium().to_bytes(rt.alloc())?;
     let before = protected_volume(rt.alloc())?
         .into_medium()

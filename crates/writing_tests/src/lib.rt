@@ -6,15 +6,23 @@ mod changes;
 #[cfg(test)]
 mod files;
 #[cfg(test)]
+mod formats;
+#[cfg(test)]
 mod image;
 #[cfg(test)]
 mod new_files;
 #[cfg(test)]
 mod opens;
 #[cfg(test)]
+mod renames;
+#[cfg(test)]
+mod scratches;
+#[cfg(test)]
 mod script_changes;
 #[cfg(test)]
 mod script_channels;
+#[cfg(test)]
+mod script_commands;
 #[cfg(test)]
 mod script_faults;
 #[cfg(test)]
@@ -29,3 +37,5 @@ mod stop_cases;
 mod stops;
 #[cfg(test)]
 mod tests;
+#[cfg(test)]
+mod validates;
