@@ -124,11 +124,15 @@ fn an_empty_disk_is_sound(rt: HostRuntime) -> Result<(), Fail> {
 #[test]
 fn a_disk_of_circles_is_formatted(rt: HostRuntime) -> Result<(), Fail> {
     let alloc = rt.alloc();
-    let old = G64Disk::from_sectors(alloc, &zeros(alloc, 174_848, false)?, *b"XY")?;
+    let zeros = zeros(alloc, 174_848, false)?;
+    assert!(rt; zeros.tracks() == 35);
+    let old = G64Disk::from_sectors(alloc, &zeros, *b"XY")?;
     let mut volume = Volume::open(G64Disk::from_bytes(alloc, old.as_slice(), false)?);
     volume.new_disk(b"TEST", Some(*b"AB"))?;
     let made = volume.into_medium().to_bytes(alloc)?;
-    let wanted = G64Disk::from_sectors(alloc, &empty_disk(alloc)?, *b"AB")?;
+    let empty = empty_disk(alloc)?;
+    assert!(rt; empty.tracks() == 35);
+    let wanted = G64Disk::from_sectors(alloc, &empty, *b"AB")?;
     assert!(rt; made.as_slice() == wanted.as_slice());
     // Without an id the circles keep their own.
     let mut again = Volume::open(G64Disk::from_bytes(alloc, made.as_slice(), false)?);
