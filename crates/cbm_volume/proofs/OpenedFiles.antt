@@ -48,11 +48,11 @@ made_new e name Prg ne = refl
 made_new e name Usr ne = refl
 made_new e name Rel ne = refl
 
-fresh_file : (c : Content) (e : List ℕ) (kind : FileType) (name : List ℕ) (first : Place) → IsFreshAs e kind name first → kind ≢ Del → slot_of c e no_blocks ≡ Some (unclosed kind (before_filler name))
+pub fresh_file : (c : Content) (e : List ℕ) (kind : FileType) (name : List ℕ) (first : Place) → IsFreshAs e kind name first → kind ≢ Del → slot_of c e no_blocks ≡ Some (unclosed kind (before_filler name))
 fresh_file c e kind name first says ne =
     entry_made c e ∙ (λ i. made e (says.typed i) (says.named i) (says.shown i)) ∙ made_new e (before_filler name) kind ne
 
-fresh_kind : (e : List ℕ) (kind : FileType) (name : List ℕ) (first : Place) → IsFreshAs e kind name first → type_byte e % 16 < 5
+pub fresh_kind : (e : List ℕ) (kind : FileType) (name : List ℕ) (first : Place) → IsFreshAs e kind name first → type_byte e % 16 < 5
 fresh_kind e kind name first says = subst (λ (t : ℕ). t % 16 < 5) (sym says.typed) (small kind)
   where
     small : (k : FileType) → type_number k % 16 < 5
@@ -74,7 +74,7 @@ fresh_unclosed e kind name first says = ap (λ (t : ℕ). bit_of t 7) says.typed
 
 -- ---- the empty slot
 
-empty_at : (k n : ℕ) (xs : List (Option File)) → empty_from k xs ≡ Some n → (k ≤ n) × ((n - k < length xs) × (get_or xs (n - k) None ≡ None))
+pub empty_at : (k n : ℕ) (xs : List (Option File)) → empty_from k xs ≡ Some n → (k ≤ n) × ((n - k < length xs) × (get_or xs (n - k) None ≡ None))
 empty_at k n [] h = absurd (cc)
 empty_at k n (None ∷ xs) h =
     let same : k ≡ n = cc in
@@ -86,14 +86,14 @@ empty_at k n (Some f ∷ xs) h =
     let z : n - k ≡ suc (n - (k + 1)) = omega (arith, r.0) in
     (omega (arith, r.0), (omega (arith, r.1.0, z), ap (λ (i : ℕ). get_or (Some f ∷ xs) i None) z ∙ r.1.1))
 
-free_grown : (d : Disk) → (grown d).free ≡ d.free
+pub free_grown : (d : Disk) → (grown d).free ≡ d.free
 free_grown d = by_empty (empty_from 0 d.slots) refl
   where
     by_empty : (o : Option ℕ) → empty_from 0 d.slots ≡ o → (grown d).free ≡ d.free
     by_empty None e = ap (λ (x : Disk). x.free) (sym (grown_is d e))
     by_empty (Some n) e = ap (λ (x : Disk). x.free) (sym (grown_none d n e))
 
-slot_is : (d : Disk) (n : ℕ) → empty_from 0 (grown d).slots ≡ Some n → n ≡ new_slot d
+pub slot_is : (d : Disk) (n : ℕ) → empty_from 0 (grown d).slots ≡ Some n → n ≡ new_slot d
 slot_is d n e = ap (λ (o : Option ℕ). unwrap_or o 0) (sym e)
 
 disk_is : (d : Disk) (n : ℕ) (f : File) → empty_from 0 (grown d).slots ≡ Some n → with_slot (one_less (grown d)) n (Some f) ≡ with_file d f 1
@@ -114,7 +114,7 @@ pub reached_set : (medium : ℕ) (c : Content) (l : Layout) (c1 c2 : Content) (d
 reached_set medium c l c1 c2 d uses n q s = claimed_too medium c l c1 c2 (grown d) uses q s.ready.reached s.claims
 
 -- the slot is one of the directory's
-slot_there : (medium : ℕ) (c : Content) (l : Layout) (c1 : Content) (d : Disk) (uses : ℕ → Use) (n : ℕ) (s : SlotReady medium c l c1 d uses n) → n < slot_count s.reached.layout
+pub slot_there : (medium : ℕ) (c : Content) (l : Layout) (c1 : Content) (d : Disk) (uses : ℕ → Use) (n : ℕ) (s : SlotReady medium c l c1 d uses n) → n < slot_count s.reached.layout
 slot_there medium c l c1 d uses n s = omega (arith, (empty_at 0 n (grown d).slots s.slot).1.0, s.reached.so.stands.describes.size)
 
 enters_at : (medium : ℕ) (c : Content) (l : Layout) (c1 c2 c3 : Content) (d : Disk) (uses : ℕ → Use) (n : ℕ) (q : Place) (body : List ℕ) (s : IsSet medium c l c1 c2 d uses n q)

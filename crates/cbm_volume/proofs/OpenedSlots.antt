@@ -1,5 +1,5 @@
 -- OPEN for writing finds an empty slot, for which the directory may have grown: what the medium holds then.
-use Rattle.std.proofs.Common.{◌≡◌, ◌≢◌, ◌⊎◌, ℕ, zero, suc, ◌-◌, ◌<◌, arith, List, [], ◌∷◌, ◌++◌, true, false, refl, sym, ap, subst, ◌∙◌, inl, inr, Option, Some, None, Ok}
+use Rattle.std.proofs.Common.{◌≡◌, ◌≢◌, ◌⊎◌, ℕ, zero, suc, ◌-◌, ◌<◌, arith, List, [], ◌∷◌, ◌++◌, false, refl, sym, ap, subst, ◌∙◌, inl, inr, Option, Some, None, Ok}
 use Rattle.std.specs.Prelude.{if◌then◌else◌, replicate, is_none, is_some, nat_lt, ◌||◌}
 use Rattle.cbm_medium.specs.Place.{Place, directory_head}
 use Rattle.cbm_medium.specs.Content.{Content, written}
@@ -18,6 +18,7 @@ use Rattle.cbm_directory.specs.Empties.{FindsEmpty, TakesSlot, SlotStopped}
 use Rattle.cbm_volume.specs.Layouts.{Nobody, TheMap, Directory, OwnedBy, Layout, Stands, own}
 use Rattle.cbm_volume.specs.Layouts as layouts
 use Rattle.cbm_volume.specs.Writers.{Use, HoldsAt, Holds, HoldsNow}
+pub use Rattle.cbm_volume.specs.Reaches.{Reached, SlotLost}
 use Rattle.cbm_volume.proofs.Chained.{chain_settled}
 use Rattle.cbm_volume.proofs.Finishes.{last_owned}
 use Rattle.cbm_volume.proofs.Grows.{CanGrow, more_slots}
@@ -29,14 +30,6 @@ use Rattle.cbm_volume.proofs.Steps.{one_less, own_elsewhere, Claimed, stands_cla
 use Rattle.cbm_volume.proofs.Storing.{few, geometry_claimed, geometry_elsewhere}
 use Rattle.cbm_volume.proofs.Untouched.{is_file, KeepsFiles, files_same, files_then, files_written}
 use Rattle.cbm_volume.proofs.Vacant.{empty_of, room_of, never_broken}
-
--- WHAT A CALL HAS REACHED on its way: the medium holds this disk, in a layout of as many tracks, and the files' sectors are the same
-pub record Reached (medium : ℕ) (c : Content) (l : Layout) (c1 : Content) (d1 : Disk) (uses : ℕ → Use) : Type 0 where
-  pub layout : Layout
-  pub so : HoldsAt (geometry_of medium c) c1 layout d1 uses
-  pub same : geometry_of medium c1 ≡ geometry_of medium c
-  pub files : KeepsFiles l c c1
-  pub later : (p : Place) → is_file (l.owner p) ≡ true → is_file (layout.owner p) ≡ true
 
 pub reached_now : (medium : ℕ) (c : Content) (l : Layout) (c1 : Content) (d1 : Disk) (uses : ℕ → Use) → Reached medium c l c1 d1 uses → HoldsNow medium c1 d1 uses
 reached_now medium c l c1 d1 uses r = subst (λ (k : ℕ). Holds k c1 d1 uses) (sym r.same) (record { layout = r.layout; so = r.so })
@@ -213,12 +206,6 @@ same_files_grown d m = by_empty (empty_from 0 d.slots) refl
     by_empty : (o : Option ℕ) → empty_from 0 d.slots ≡ o → file_at (grown d) m ≡ file_at d m
     by_empty None e = ap (λ (x : Disk). file_at x m) (sym (grown_is d e)) ∙ same_slots d.slots m
     by_empty (Some n) e = ap (λ (x : Disk). file_at x m) (sym (grown_none d n e))
-
--- A WRITE WAS REFUSED BEFORE THE SLOT WAS THERE: a disk with the same slots, and at most a sector of the directory's room less
-pub record SlotLost (medium : ℕ) (c : Content) (l : Layout) (c1 : Content) (d : Disk) (uses : ℕ → Use) : Type 0 where
-  pub disk : Disk
-  pub reached : Reached medium c l c1 disk uses
-  pub slots : (m : ℕ) → file_at disk m ≡ file_at d m
 
 pub slot_lost : (medium : ℕ) (c c1 : Content) (t : Trouble) (d : Disk) (uses : ℕ → Use) (h : HoldsNow medium c d uses) → SlotStopped (geometry_of medium c) c c1 t → SlotLost medium c h.layout c1 d uses
 slot_lost medium c c1 t d uses h (inl k) = absurd (never_broken (geometry_of medium c) c h.layout d t h.so.stands k.0.1)

@@ -56,7 +56,7 @@ file_says bytes e b used small = record {
   record_length = λ shut k. length_told (is_closed e) (type_byte e % 16) bytes e b small shut k;
 }
 
-slot_says : (bytes e : List ℕ) (b : Blocks) → type_byte e % 16 < 5 → SlotSays (slot_with bytes e b) e
+pub slot_says : (bytes e : List ℕ) (b : Blocks) → type_byte e % 16 < 5 → SlotSays (slot_with bytes e b) e
 slot_says bytes e b small = by_test (type_byte e == 0) refl
   where
     by_test : (t : Bool) → (type_byte e == 0) ≡ t → SlotSays (if t then None else Some (file_of bytes e b)) e

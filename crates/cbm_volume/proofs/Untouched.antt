@@ -6,16 +6,8 @@ use Rattle.cbm_medium.specs.Links.{AllSame}
 use Rattle.cbm_bam.specs.Map.{Claims}
 use Rattle.cbm_directory.specs.Entries.{Enters}
 use Rattle.cbm_volume.specs.Layouts.{Owner, Nobody, TheMap, Directory, DataOf, SideOf, OwnedBy, Layout, Sound, Untouched}
+pub use Rattle.cbm_volume.specs.Reaches.{is_file, KeepsFiles}
 use Rattle.cbm_volume.proofs.Frames.{owned_nth, write_keeps}
-
-abbrev pub is_file : Owner → Bool
-is_file (DataOf n) = true
-is_file (SideOf n) = true
-is_file _ = false
-
--- the sectors of all files are the same in both
-abbrev pub KeepsFiles : Layout → Content → Content → Type 0
-KeepsFiles l c c' = (p : Place) → is_file (l.owner p) ≡ true → c' p ≡ c p
 
 pub all_same : (c c' : Content) (l : Layout) (o : Owner) (xs : List Place) → KeepsFiles l c c' → is_file o ≡ true → OwnedBy l.owner o xs → AllSame c c' xs
 all_same c c' l o [] k f w = tt

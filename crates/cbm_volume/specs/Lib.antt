@@ -3,6 +3,8 @@ pub mod Layouts
 pub mod Writers
 pub mod Holding
 pub mod Opens
+pub mod Reaches
+pub mod Copies
 pub mod NewDisks
 pub mod Views
 pub mod Sweeps

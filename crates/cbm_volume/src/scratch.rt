@@ -1,12 +1,13 @@
 // Files that are scratched.
 
-ghost use Rattle.std.specs.Prelude.{◌≡◌, ◌==◌, ℕ, true, false, Some, OnOk, OnErr, IfErr};
+ghost use Rattle.std.specs.Prelude.{◌≡◌, ◌≢◌, ◌==◌, ◌≤◌, ℕ, ◌++◌, true, length, Some, OnOk, OnErr, IsOk, IfErr};
+ghost use Rattle.cbm_medium.specs.Place.{sector_count};
 ghost use Rattle.cbm_medium.specs.Seen.{OnlyContent};
-ghost use Rattle.cbm_file.specs.declared.file_type.FileType.TheVariants.{Rel};
-ghost use Rattle.cbm_file.specs.Types.{is_same_type};
 ghost use Rattle.cbm_file.specs.Files.{Disk, File, file_at};
 ghost use Rattle.cbm_file.specs.Changes.{scratched};
-ghost use Rattle.cbm_bam.specs.Map.{geometry_of};
+ghost use Rattle.cbm_bam.specs.Map.{Frees, geometry_of};
+ghost use Rattle.cbm_directory.specs.Entries.{is_relative};
+ghost use Rattle.cbm_volume.specs.Blocks.{Blocks, LiesAs};
 ghost use Rattle.cbm_volume.specs.Layouts.{Untouched};
 ghost use Rattle.cbm_volume.specs.Opens.{IsUnused, IsHindered};
 ghost use Rattle.cbm_volume.specs.Writers.{Use, HoldsNow, Stopped};
@@ -14,29 +15,29 @@ ghost use Rattle.cbm_volume.specs.Writers.{Use, HoldsNow, Stopped};
 use crate::volume::Volume;
 use cbm_bam::Release;
 use cbm_chain::free_chain;
-use cbm_directory::clear_slot;
-use cbm_medium::{Medium, Trouble};
+use cbm_directory::{Entry, clear_slot};
+use cbm_medium::{Geometry, Medium, Trouble};
+use cbm_relfile::free_sides;
 
 impl<M: Medium> Volume<M> {
-    /// SCRATCH of one slot: its entry is cleared, and then the blocks of a closed file are given back; those of a file
-    /// that was never closed are lost until VALIDATE. Nothing is written where the file's chain breaks off. An `Err`
-    /// leaves the slot as it was, or empty and its blocks to nobody. On a sound disk it says that the medium is
-    /// protected (26), or failed by itself.
+    /// SCRATCH of one slot: its entry is cleared, and then the blocks of a closed file are given back, and with them
+    /// the side sectors of a relative one; those of a file that was never closed are lost until VALIDATE. Nothing is
+    /// written where the file's chain or the list of its side sectors breaks off. An `Err` leaves the slot as it was,
+    /// or empty and its blocks to nobody. On a sound disk it says that the medium is protected (26), or failed by
+    /// itself.
     pub fn scratch(&mut self, slot: u8) -> Result<(), Trouble>
         ensures scratched { let old = M.seen self.old in (d : Disk) (uses : ℕ → Use) (f : File) →
-            HoldsNow old.tracks old.content d uses → file_at d slot ≡ Some f → is_same_type Rel f.kind ≡ false →
-            IsUnused uses slot →
+            HoldsNow old.tracks old.content d uses → file_at d slot ≡ Some f → IsUnused uses slot →
             OnOk result (HoldsNow old.tracks (M.seen self.new).content (scratched d slot) uses) }
         ensures stopped { let old = M.seen self.old in (d : Disk) (uses : ℕ → Use) (f : File) →
-            HoldsNow old.tracks old.content d uses → file_at d slot ≡ Some f → is_same_type Rel f.kind ≡ false →
-            IsUnused uses slot →
+            HoldsNow old.tracks old.content d uses → file_at d slot ≡ Some f → IsUnused uses slot →
             OnErr result (Stopped old.tracks (M.seen self.new).content d (scratched d slot) uses) }
         ensures cause { let old = M.seen self.old in (d : Disk) (uses : ℕ → Use) (f : File) →
-            HoldsNow old.tracks old.content d uses → file_at d slot ≡ Some f → is_same_type Rel f.kind ≡ false →
-            IsUnused uses slot → IfErr result (IsHindered old (M.seen self.new)) }
+            HoldsNow old.tracks old.content d uses → file_at d slot ≡ Some f → IsUnused uses slot →
+            IfErr result (IsHindered old (M.seen self.new)) }
         ensures untouched { let old = M.seen self.old in (d : Disk) (uses : ℕ → Use) (f : File) →
-            HoldsNow old.tracks old.content d uses → file_at d slot ≡ Some f → is_same_type Rel f.kind ≡ false →
-            IsUnused uses slot → Untouched (geometry_of old.tracks old.content) old.content
+            HoldsNow old.tracks old.content d uses → file_at d slot ≡ Some f → IsUnused uses slot →
+            Untouched (geometry_of old.tracks old.content) old.content
             (M.seen self.new).content (λ m. m == slot) }
         // The code 26 says that the medium is protected, whatever it holds.
         ensures protection { IfErr result (λ t. t.code ≡ 26 → (M.seen self.old).protected ≡ true) }
@@ -50,8 +51,30 @@ impl<M: Medium> Volume<M> {
             return clear_slot(&mut self.medium, geometry, slot);
         }
         let mut release = Release::begin(&self.medium, geometry)?;
-        free_chain(&self.medium, geometry, entry.first_block(), &mut release)?;
+        free_file(&self.medium, geometry, &entry, &mut release)?;
         clear_slot(&mut self.medium, geometry, slot)?;
         release.write(&mut self.medium, geometry)
     }
+}
+
+/// Gives all sectors of a closed file back to a map that was read: its blocks, and its side sectors where it is
+/// relative. An `Err` is what breaks off its chain (66, 71 or the medium's fault) or the list of its side sectors (66
+/// or the medium's fault).
+fn free_file<M: Medium>(
+    medium: &M,
+    geometry: Geometry,
+    entry: &Entry,
+    release: &mut Release,
+) -> Result<(), Trouble>
+    requires { geometry ≤ (M.seen medium.now).tracks }
+    ensures freed { (b : Blocks) → LiesAs true (is_relative entry.now) geometry (M.seen medium.now).content entry.now b →
+        length b.data_blocks ≤ sector_count geometry →
+        IsOk result × Frees geometry release.old (b.data_blocks ++ b.sides) release.new }
+    ensures never_26 { IfErr result (λ t. t.code ≢ 26) }
+{
+    free_chain(medium, geometry, entry.first_block(), release)?;
+    if !entry.is_relative() {
+        return Ok(());
+    }
+    free_sides(medium, geometry, entry.first_side(), release)
 }

@@ -1,6 +1,6 @@
 // VALIDATE: the map is written anew from the closed files.
 
-ghost use Rattle.std.specs.Prelude.{◌≡◌, ◌≤◌, ◌⊎◌, ℕ, List, Some, IfOk, IfErr, IsOk, OnOk, OnErr};
+ghost use Rattle.std.specs.Prelude.{◌≡◌, ◌≤◌, ◌⊎◌, ℕ, List, Some, true, IfOk, IfErr, IsOk, IsErrAnd, OnOk, OnErr};
 ghost use Rattle.cbm_medium.specs.Place.{Place, directory_head};
 ghost use Rattle.cbm_medium.specs.Seen.{OnlyContent, HasFailed, write_refusal};
 ghost use Rattle.cbm_medium.specs.Content.{written};
@@ -22,7 +22,7 @@ use crate::view::ClosedView;
 use crate::volume::Volume;
 use cbm_bam::{SectorSet, anew, read_map};
 use cbm_directory::{clear_slot, slot};
-use cbm_medium::codes::{ENDLESS_CHAIN, ILLEGAL_LINK};
+use cbm_medium::codes::{ENDLESS_CHAIN, ILLEGAL_LINK, WRITE_PROTECT_ON};
 use cbm_medium::{Address, Geometry, Link, Medium, Trouble};
 
 /// The most slots that a directory has.
@@ -137,7 +137,8 @@ impl<M: Medium> Volume<M> {
     /// VALIDATE: slots that were never closed become empty, and the map is written anew from the directory and the
     /// closed files, so that each block is free or a file's. Where a header has a fault, a sector of these doesn't
     /// read or is used twice, a link leads elsewhere, or an entry or the records of a file aren't right, nothing is
-    /// changed, and the `Err` tells of the first that is met. Else an `Err` is the medium's refusal.
+    /// changed, and the `Err` tells of the first that is met. Else an `Err` is the medium's refusal: 26 where it is
+    /// protected, with nothing changed.
     pub fn validate(&mut self) -> Result<(), Trouble>
         ensures validated { let old = M.seen self.old in (d : Disk) (uses : ℕ → Use) →
             HoldsNow old.tracks old.content d uses → ((ch : ℕ) → uses ch ≡ Idle) →
@@ -155,10 +156,21 @@ impl<M: Medium> Volume<M> {
         // On any content: the disk is sound, each of its files is closed, and each block is free or a file's.
         ensures sound { let old = M.seen self.old in OnOk result
             ((e : Disk) × HoldsDisk old.tracks (M.seen self.new).content e × (e ≡ validated e)) }
+        ensures kept { (M.seen self.old).protected ≡ true →
+            (M.seen self.new).content ≡ (M.seen self.old).content }
+        ensures guarded { let old = M.seen self.old in (d : Disk) (uses : ℕ → Use) →
+            HoldsNow old.tracks old.content d uses → old.protected ≡ true → IsErrAnd result (λ t. t.code ≡ 26) }
         ensures only { OnlyContent result (M.seen self.old) (M.seen self.new) }
     {
         let geometry = self.geometry();
         let used = closed_sectors(&self.medium)?;
+        if self.medium.protected() {
+            return Err(Trouble {
+                code: WRITE_PROTECT_ON,
+                track: 0,
+                sector: 0,
+            });
+        }
         let map = read_map(&self.medium, geometry)?;
         sweep(&mut self.medium, geometry)?;
         write_map(&mut self.medium, geometry, &anew(&map, geometry, &used))

@@ -1,32 +1,25 @@
--- A relative file is scratched: its entry is cleared, then its blocks and its side sectors are given back in one write.
-use Rattle.std.proofs.Common.{◌≡◌, ℕ, ◌+◌, ◌%◌, ◌<◌, ◌≤◌, List, [], ◌∷◌, ◌++◌, length, Bool, true, refl, sym, ap, subst, ◌∙◌, arith, inl, inr, Option, Some, None}
+-- A file is scratched: its entry is cleared, then its blocks and its side sectors are given back in one write.
+use Rattle.std.proofs.Common.{◌≡◌, ◌≢◌, ℕ, ◌+◌, ◌%◌, ◌<◌, List, [], ◌∷◌, ◌++◌, Bool, true, false, refl, sym, ap, subst, ◌∙◌, arith, inl, inr, Option, Some, None}
 use Rattle.std.specs.Prelude.{if◌then◌else◌}
 use Rattle.std.proofs.lemmas.Bool.{eq-eqb}
-use Rattle.cbm_medium.specs.Place.{Place, Has}
+use Rattle.cbm_medium.specs.Place.{Place}
 use Rattle.cbm_medium.specs.Content.{Content}
 use Rattle.cbm_medium.specs.Links.{bytes_at, link, Chain}
 use Rattle.cbm_file.specs.Files.{Disk, File, with_slot}
-use Rattle.cbm_bam.specs.Map.{is_free_in, map_of, with_freed, Remaps}
+use Rattle.cbm_bam.specs.Map.{is_free_in, map_of}
 use Rattle.cbm_bam.proofs.Counts.{AreTaken}
-use Rattle.cbm_relfile.specs.SideSectors.{Numbered}
-use Rattle.cbm_directory.specs.Entries.{entry_at, type_byte, bit_of, is_closed, is_relative, width_of, first_block, sector_of, Enters}
+use Rattle.cbm_relfile.specs.SideSectors.{AllHave, Numbered}
+use Rattle.cbm_directory.specs.Entries.{type_byte, bit_of, is_relative, width_of, first_block, sector_of, Enters}
 use Rattle.cbm_volume.specs.Blocks.{Blocks, no_blocks, Lies, LiesAs, file_of}
 use Rattle.cbm_volume.specs.Layouts.{Owner, Nobody, DataOf, SideOf, OwnedBy, Layout, slot_count, Sound, Stands, Extends}
 use Rattle.cbm_volume.specs.Plain.{IsDistinct}
 use Rattle.cbm_volume.proofs.Finishes.{own_all, own_all_was, own_all_keeps, own_all_there, AllOff, all_off_18}
 use Rattle.cbm_volume.proofs.Frames.{owned_same}
-use Rattle.cbm_volume.proofs.OneSlot.{with_file, blocks_here}
+use Rattle.cbm_volume.proofs.OneSlot.{with_file}
 use Rattle.cbm_volume.proofs.PlainSound.{distinct_join, apart_owned}
-use Rattle.cbm_volume.proofs.Releases.{disowned, freed_other, owned_taken, stands_release}
-use Rattle.cbm_volume.proofs.Remaps.{with_owner}
+use Rattle.cbm_volume.proofs.Releases.{freed_other, owned_taken}
 use Rattle.cbm_volume.proofs.SoundClaimed.{chain_is_distinct, sides_distinct}
 use Rattle.cbm_volume.proofs.Steps.{stands_entry}
-use Rattle.cbm_volume.proofs.relative.Longer.{LiesRelative, lies_open}
-
--- sectors of the disk
-abbrev pub AllHave : ℕ → List Place → Type 0
-AllHave tracks [] = Unit {0}
-AllHave tracks (p ∷ rest) = Has tracks p × AllHave tracks rest
 
 chain_have : (tracks : ℕ) (c : Content) (a : Place) (xs : List Place) → Chain tracks c a xs → AllHave tracks xs
 chain_have tracks c a [] h = tt
@@ -69,36 +62,60 @@ extends_sides tracks c l n xs s h = record {
 all_kept : (owner : Place → Owner) (xs : List Place) (o : Owner) (q : Place) → owner q ≡ o → own_all owner xs o q ≡ o
 all_kept owner xs o q e = elim (own_all_was owner xs o q) [ inl a ↦ a | inr b ↦ b ∙ e ]
 
-pub record Scratched (tracks : ℕ) (c1 c2 : Content) (l : Layout) (d : Disk) (n : ℕ) : Type 0 where
-  -- behind the write of the entry, and behind that of the map
-  pub owner : Place → Owner
-  pub cleared : Stands tracks c1 (with_file l n no_blocks owner) (with_slot d n None)
-  pub freed : Stands tracks c2 (with_owner (with_file l n no_blocks owner) (disowned owner ((l.files n).data_blocks ++ (l.files n).sides)))
-      (record (with_slot d n None) { free = d.free + length ((l.files n).data_blocks ++ (l.files n).sides) })
+-- ---- the entry is cleared
 
-pub stands_scratched : (tracks : ℕ) (c c1 c2 : Content) (l : Layout) (d : Disk) (n : ℕ) (p : Place) (body : List ℕ) → Stands tracks c l d → 18 ≤ tracks → n < slot_count l → is_closed (entry_at c l.directory n) ≡ true → is_relative (entry_at c l.directory n) ≡ true
-    → p ≡ sector_of l.directory n → Enters c c1 p (n % 8) body → type_byte body ≡ 0 → Remaps tracks c1 c2 (with_freed (is_free_in (map_of c1)) ((l.files n).data_blocks ++ (l.files n).sides))
-    → Scratched tracks c1 c2 l d n
-stands_scratched tracks c c1 c2 l d n p body st few k cl r at e z m =
-    let b : Blocks = l.files n in
-    let xs : List Place = b.data_blocks ++ b.sides in
-    let entry : List ℕ = entry_at c l.directory n in
-    let was : LiesRelative tracks c entry b = lies_open (is_closed entry) (is_relative entry) tracks c entry b cl r (st.sound.lies n k) in
-    let sides : OwnedBy l.owner (SideOf n) b.sides = st.sound.owned.sides n k in
-    let owner : Place → Owner = own_all l.owner b.sides (DataOf n) in
+-- the owners when the side sectors of a slot are counted among its blocks
+abbrev pub gathered : Layout → ℕ → Place → Owner
+gathered l n = own_all l.owner (l.files n).sides (DataOf n)
+
+-- all sectors of a slot's file
+abbrev pub all_blocks : Blocks → List Place
+all_blocks b = b.data_blocks ++ b.sides
+
+-- what was no side sector of the slot keeps its owner
+pub gathered_keeps : (tracks : ℕ) (c : Content) (l : Layout) (n : ℕ) (o : Owner) (q : Place) → Sound tracks c l → n < slot_count l → SideOf n ≢ o → l.owner q ≡ o → gathered l n q ≡ o
+gathered_keeps tracks c l n o q s k ne e = own_all_keeps l.owner (SideOf n) (DataOf n) o (l.files n).sides q (s.owned.sides n k) ne e
+
+pub stands_cleared : (tracks : ℕ) (c c1 : Content) (l : Layout) (d : Disk) (n : ℕ) (p : Place) (body : List ℕ) → Stands tracks c l d → n < slot_count l → p ≡ sector_of l.directory n → Enters c c1 p (n % 8) body → type_byte body ≡ 0
+    → Stands tracks c1 (with_file l n no_blocks (gathered l n)) (with_slot d n None)
+stands_cleared tracks c c1 l d n p body st k at e z =
     let lies : Lies tracks c body no_blocks = subst (λ (x : Bool). LiesAs x (is_relative body) tracks c body no_blocks) (sym (ap (λ (x : ℕ). bit_of x 7) z)) refl in
-    let cleared : Stands tracks c1 (with_file l n no_blocks owner) (with_slot d n None) = subst (λ (x : Option File). Stands tracks c1 (with_file l n no_blocks owner) (with_slot d n x))
+    subst (λ (x : Option File). Stands tracks c1 (with_file l n no_blocks (gathered l n)) (with_slot d n x))
     (ap (λ (x : Bool). if x then None else Some (file_of [] body no_blocks)) (eq-eqb (type_byte body) 0 z))
-    (stands_entry tracks c c1 l d n p body no_blocks owner st k at e (subst (λ (x : ℕ). x % 16 < 5) (sym z) (omega arith)) lies (extends_sides tracks c l n b.sides st.sound sides) tt tt
-    (λ q h f. own_all_keeps l.owner (SideOf n) (DataOf n) Nobody b.sides q sides (λ y. (cc)) (st.sound.free q h f))) in
-    let own_xs : OwnedBy owner (DataOf n) xs = owned_join owner (DataOf n) b.data_blocks b.sides
-    (owned_same l.owner owner (DataOf n) b.data_blocks (λ q h. all_kept l.owner b.sides (DataOf n) q h) (st.sound.owned.blocks n k)) (own_all_there l.owner b.sides (DataOf n)) in
-    let distinct : IsDistinct xs = distinct_join l.owner (DataOf n) b.data_blocks b.sides (st.sound.owned.blocks n k) (λ q h. apart_owned l.owner q (DataOf n) (SideOf n) b.sides h (λ y. (cc)) sides)
-    (chain_is_distinct tracks c (first_block entry) b.data_blocks was.chain) (sides_distinct tracks c (width_of entry) 0 b.sides was.records.numbered) in
-    let have : AllHave tracks xs = have_join tracks b.data_blocks b.sides (chain_have tracks c (first_block entry) b.data_blocks was.chain) (sides_have tracks c (width_of entry) 0 b.sides was.records.numbered) in
-    record {
-      owner = owner;
-      cleared = cleared;
-      freed = stands_release tracks c1 c2 (with_file l n no_blocks owner) (with_slot d n None) n xs cleared few (blocks_here l.files n no_blocks) own_xs
-          (taken_of tracks c1 (with_file l n no_blocks owner) n xs cleared.sound have distinct own_xs) m;
-    }
+    (stands_entry tracks c c1 l d n p body no_blocks (gathered l n) st k at e (subst (λ (x : ℕ). x % 16 < 5) (sym z) (omega arith)) lies (extends_sides tracks c l n (l.files n).sides st.sound (st.sound.owned.sides n k)) tt tt
+    (λ q h f. gathered_keeps tracks c l n Nobody q st.sound k (λ y. (cc)) (st.sound.free q h f)))
+
+-- ---- what is given back
+
+-- the sectors of a closed file, with or without records
+pub record LiesClosed (tracks : ℕ) (c : Content) (e : List ℕ) (b : Blocks) : Type 0 where
+  pub chain : Chain tracks c (first_block e) b.data_blocks
+  pub sides_are : AllHave tracks b.sides
+  pub distinct : IsDistinct b.sides
+
+pub lies_closed : (r : Bool) (tracks : ℕ) (c : Content) (e : List ℕ) (b : Blocks) → LiesAs true r tracks c e b → LiesClosed tracks c e b
+lies_closed true tracks c e b h = record {
+  chain = h.0;
+  sides_are = sides_have tracks c (width_of e) 0 b.sides h.1.numbered;
+  distinct = sides_distinct tracks c (width_of e) 0 b.sides h.1.numbered;
+}
+lies_closed false tracks c e b h = record {
+  chain = h.0;
+  sides_are = subst (λ (xs : List Place). AllHave tracks xs) (sym h.1) tt;
+  distinct = subst (λ (xs : List Place). IsDistinct xs) (sym h.1) tt;
+}
+
+pub gathered_owned : (tracks : ℕ) (c : Content) (l : Layout) (n : ℕ) → Sound tracks c l → n < slot_count l → OwnedBy (gathered l n) (DataOf n) (all_blocks (l.files n))
+gathered_owned tracks c l n s k =
+    let b : Blocks = l.files n in
+    owned_join (gathered l n) (DataOf n) b.data_blocks b.sides
+    (owned_same l.owner (gathered l n) (DataOf n) b.data_blocks (λ q h. all_kept l.owner b.sides (DataOf n) q h) (s.owned.blocks n k)) (own_all_there l.owner b.sides (DataOf n))
+
+pub gathered_taken : (tracks : ℕ) (c c1 : Content) (l : Layout) (d1 : Disk) (n : ℕ) (e : List ℕ) → Sound tracks c l → n < slot_count l → LiesClosed tracks c e (l.files n) → Stands tracks c1 (with_file l n no_blocks (gathered l n)) d1
+    → AreTaken tracks (is_free_in (map_of c1)) (all_blocks (l.files n))
+gathered_taken tracks c c1 l d1 n e s k lies st =
+    let b : Blocks = l.files n in
+    let distinct : IsDistinct (all_blocks b) = distinct_join l.owner (DataOf n) b.data_blocks b.sides (s.owned.blocks n k) (λ q h. apart_owned l.owner q (DataOf n) (SideOf n) b.sides h (λ y. (cc)) (s.owned.sides n k))
+    (chain_is_distinct tracks c (first_block e) b.data_blocks lies.chain) lies.distinct in
+    let have : AllHave tracks (all_blocks b) = have_join tracks b.data_blocks b.sides (chain_have tracks c (first_block e) b.data_blocks lies.chain) lies.sides_are in
+    taken_of tracks c1 (with_file l n no_blocks (gathered l n)) n (all_blocks b) st.sound have distinct (gathered_owned tracks c l n s k)

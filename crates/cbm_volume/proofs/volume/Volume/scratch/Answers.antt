@@ -1,18 +1,18 @@
 use Rattle.std.proofs.Common.{◌≡◌, ◌≤◌, ◌<◌, ◌*◌, ℕ, List, length, Option, Some, Ok, Err, Result, refl, ap, sym, subst, ◌∙◌, IfErr}
 use Rattle.std.proofs.lemmas.Result.{err_from_is_err_and}
 use Rattle.std.specs.Prelude.{OnErr}
-use Rattle.cbm_medium.specs.Place.{Place, directory_head, sector_count}
+use Rattle.cbm_medium.specs.Place.{Place, directory_head}
 use Rattle.cbm_medium.specs.Content.{Content}
-use Rattle.cbm_medium.specs.Links.{Chain, follow}
+use Rattle.cbm_medium.specs.Links.{Chain}
 use Rattle.cbm_medium.specs.Seen.{Seen}
 use Rattle.cbm_medium.specs.declared.fault.Trouble.{Trouble}
 use Rattle.cbm_bam.specs.Causes.{HasCause}
-use Rattle.cbm_bam.specs.Map.{geometry_of, Frees}
-use Rattle.cbm_directory.specs.Entries.{first_directory, first_block, sector_of}
+use Rattle.cbm_bam.specs.Map.{geometry_of}
+use Rattle.cbm_directory.specs.Entries.{first_directory, sector_of}
 use Rattle.cbm_directory.specs.Slots.{Answers, directory_of}
 use Rattle.cbm_directory.proofs.Codes.{directory_never_26}
 use Rattle.cbm_volume.proofs.Finishing.{on_err}
-use Rattle.cbm_volume.proofs.Scratched.{EntryCleared, ClearingRefused, SlotEmpty, no_entry, no_slot, no_map, no_chain, entry_refused, open_scratched, is_scratched, scratched_ok, scratched_stopped, slot_hindered, map_hindered, chain_hindered, clearing_hindered, clearing_handed_on, release_hindered, nothing_written, clearing_spared, release_spared}
+use Rattle.cbm_volume.proofs.Scratched.{EntryCleared, ClearingRefused, GivesAll, SlotEmpty, no_entry, no_slot, no_map, no_chain, entry_refused, open_scratched, is_scratched, scratched_ok, scratched_stopped, slot_hindered, map_hindered, chain_hindered, clearing_hindered, clearing_handed_on, release_hindered, nothing_written, clearing_spared, release_spared}
 use Rattle.cbm_volume.proofs.volume.Volume.scratch.Goals as goal
 use Rattle.cbm_volume.proofs.volume.Volume.scratch.Given.{Over}
 
@@ -30,17 +30,9 @@ refused_here inside old new k n r same size h =
 found_here : (d : Content) (k n : ℕ) (o : Option (List ℕ)) (entry : List ℕ) → o ≡ Some entry → Answers (directory_of k d) n (Ok o) → Answers (directory_of k d) n (Ok (Some entry))
 found_here d k n o entry is h = subst (λ (x : Option (List ℕ)). Answers (directory_of k d) n (Ok x)) is h
 
-cut_here : (inside old : Seen) (k : ℕ) (p : Place) (entry : List ℕ) (t : Trouble) → inside ≡ old → k ≡ geometry_of old.tracks old.content → p ≡ first_block entry → (follow k inside.content (sector_count k) p).trouble ≡ Some t
-    → (follow (geometry_of old.tracks old.content) old.content (sector_count (geometry_of old.tracks old.content)) (first_block entry)).trouble ≡ Some t
-cut_here inside old k p entry t same size at h = subst (λ (q : Place). (follow (geometry_of old.tracks old.content) old.content (sector_count (geometry_of old.tracks old.content)) q).trouble ≡ Some t) at
-    (subst (λ (s : Seen). (follow (geometry_of old.tracks old.content) s.content (sector_count (geometry_of old.tracks old.content)) p).trouble ≡ Some t) same
-    (subst (λ (m : ℕ). (follow m inside.content (sector_count m) p).trouble ≡ Some t) size h))
-
-freed_here : (inside old : Seen) (k : ℕ) (p : Place) (entry map freed : List ℕ) → inside ≡ old → k ≡ geometry_of old.tracks old.content → p ≡ first_block entry → Frees k map (follow k inside.content (sector_count k) p).blocks freed
-    → Frees (geometry_of old.tracks old.content) map (follow (geometry_of old.tracks old.content) old.content (sector_count (geometry_of old.tracks old.content)) (first_block entry)).blocks freed
-freed_here inside old k p entry map freed same size at h = subst (λ (q : Place). Frees (geometry_of old.tracks old.content) map (follow (geometry_of old.tracks old.content) old.content (sector_count (geometry_of old.tracks old.content)) q).blocks freed) at
-    (subst (λ (s : Seen). Frees (geometry_of old.tracks old.content) map (follow (geometry_of old.tracks old.content) s.content (sector_count (geometry_of old.tracks old.content)) p).blocks freed) same
-    (subst (λ (m : ℕ). Frees m map (follow m inside.content (sector_count m) p).blocks freed) size h))
+given_here : (inside old : Seen) (k : ℕ) (entry map freed : List ℕ) (r : Result (Unit {0}) Trouble) → inside ≡ old → k ≡ geometry_of old.tracks old.content → GivesAll k inside.content entry map freed r → GivesAll (geometry_of old.tracks old.content) old.content entry map freed r
+given_here inside old k entry map freed r same size h = subst (λ (s : Seen). GivesAll (geometry_of old.tracks old.content) s.content entry map freed r) same
+    (subst (λ (m : ℕ). GivesAll m inside.content entry map freed r) size h)
 
 -- ---- the directory breaks off
 
@@ -120,26 +112,26 @@ returns-in_err-release-clause-untouched g c =
     let old : Seen = g.M.Medium.seen c.args.self.now in
     nothing_written old.tracks old.content old.content c.args.slot refl
 
--- ---- the file's chain breaks off
+-- ---- the file's chain or its list of side sectors breaks off
 
-pub returns-in_err-free_chain-clause-stopped : goal.returns-in_err-free_chain-clause-stopped
-returns-in_err-free_chain-clause-stopped g c =
+pub returns-in_err-free_file-clause-stopped : goal.returns-in_err-free_file-clause-stopped
+returns-in_err-free_file-clause-stopped g c =
     let old : Seen = g.M.Medium.seen c.args.self.now in
-    no_chain old.tracks old.content old.content c.args.slot c.in-Some.entry c.in_err-free_chain.field-0.0 c.from_residual-in_err-free_chain.result
+    no_chain old.tracks old.content old.content c.args.slot c.in-Some.entry c.in_ok-release.release c.free_file.new.release c.in_err-free_file.field-0.0 c.from_residual-in_err-free_file.result
     (found_here old.content (geometry_of old.tracks old.content) c.args.slot c.in_ok-entry.field-0 c.in-Some.entry c.in-Some.is c.in_ok-entry.ensures.answers)
     (sym c.is_closed.ensures ∙ c.if-not-is_closed.false)
-    (cut_here (g.M.Medium.seen c.self.inside.medium) old c.geometry-geometry.result c.first_block.result c.in-Some.entry c.in_err-free_chain.field-0.0 (ap g.M.Medium.seen c.self.view_is) c.geometry-geometry.ensures.value c.first_block.ensures c.in_err-free_chain.ensures.err)
+    (given_here (g.M.Medium.seen c.self.inside.medium) old c.geometry-geometry.result c.in-Some.entry c.in_ok-release.release c.free_file.new.release (Err c.in_err-free_file.field-0.0) (ap g.M.Medium.seen c.self.view_is) c.geometry-geometry.ensures.value c.in_err-free_file.ensures.freed)
 
-pub returns-in_err-free_chain-clause-cause : goal.returns-in_err-free_chain-clause-cause
-returns-in_err-free_chain-clause-cause g c =
+pub returns-in_err-free_file-clause-cause : goal.returns-in_err-free_file-clause-cause
+returns-in_err-free_file-clause-cause g c =
     let old : Seen = g.M.Medium.seen c.args.self.now in
-    chain_hindered old old c.args.slot c.in-Some.entry c.in_err-free_chain.field-0.0 c.from_residual-in_err-free_chain.result
+    chain_hindered old old c.args.slot c.in-Some.entry c.in_ok-release.release c.free_file.new.release c.in_err-free_file.field-0.0 c.from_residual-in_err-free_file.result
     (found_here old.content (geometry_of old.tracks old.content) c.args.slot c.in_ok-entry.field-0 c.in-Some.entry c.in-Some.is c.in_ok-entry.ensures.answers)
     (sym c.is_closed.ensures ∙ c.if-not-is_closed.false)
-    (cut_here (g.M.Medium.seen c.self.inside.medium) old c.geometry-geometry.result c.first_block.result c.in-Some.entry c.in_err-free_chain.field-0.0 (ap g.M.Medium.seen c.self.view_is) c.geometry-geometry.ensures.value c.first_block.ensures c.in_err-free_chain.ensures.err)
+    (given_here (g.M.Medium.seen c.self.inside.medium) old c.geometry-geometry.result c.in-Some.entry c.in_ok-release.release c.free_file.new.release (Err c.in_err-free_file.field-0.0) (ap g.M.Medium.seen c.self.view_is) c.geometry-geometry.ensures.value c.in_err-free_file.ensures.freed)
 
-pub returns-in_err-free_chain-clause-untouched : goal.returns-in_err-free_chain-clause-untouched
-returns-in_err-free_chain-clause-untouched g c =
+pub returns-in_err-free_file-clause-untouched : goal.returns-in_err-free_file-clause-untouched
+returns-in_err-free_file-clause-untouched g c =
     let old : Seen = g.M.Medium.seen c.args.self.now in
     nothing_written old.tracks old.content old.content c.args.slot refl
 
@@ -170,32 +162,32 @@ cleared : (g : Over) (c : goal.After-write g) → EntryCleared (geometry_of (g.M
 cleared g c = cleared_here (g.M.Medium.seen c.self.inside.medium) (g.M.Medium.seen c.args.self.now) (g.M.Medium.seen c.clear_slot-2.new.medium).content c.geometry-geometry.result c.args.slot (Ok tt) (ap g.M.Medium.seen c.self.view_is) c.geometry-geometry.ensures.value c.in_ok-clear_slot.ensures.cleared
 
 -- the slot is empty
-slot_empty : (g : Over) (c : goal.After-write g) → SlotEmpty (g.M.Medium.seen c.args.self.now).tracks (g.M.Medium.seen c.args.self.now).content (g.M.Medium.seen c.clear_slot-2.new.medium).content c.args.slot c.free_chain.new.release
+slot_empty : (g : Over) (c : goal.After-write g) → SlotEmpty (g.M.Medium.seen c.args.self.now).tracks (g.M.Medium.seen c.args.self.now).content (g.M.Medium.seen c.clear_slot-2.new.medium).content c.args.slot c.free_file.new.release
 slot_empty g c =
     let inside : Seen = g.M.Medium.seen c.self.inside.medium in
     let old : Seen = g.M.Medium.seen c.args.self.now in
-    is_scratched old.tracks old.content (g.M.Medium.seen c.clear_slot-2.new.medium).content c.args.slot c.in-Some.entry c.in_ok-release.release c.free_chain.new.release
+    is_scratched old.tracks old.content (g.M.Medium.seen c.clear_slot-2.new.medium).content c.args.slot c.in-Some.entry c.in_ok-release.release c.free_file.new.release
     (found_here old.content (geometry_of old.tracks old.content) c.args.slot c.in_ok-entry.field-0 c.in-Some.entry c.in-Some.is c.in_ok-entry.ensures.answers)
     (sym c.is_closed.ensures ∙ c.if-not-is_closed.false)
     (ap (λ m. (g.M.Medium.seen m).content directory_head) (sym c.self.view_is) ∙ c.in_ok-release.ensures.ok)
-    (freed_here inside old c.geometry-geometry.result c.first_block.result c.in-Some.entry c.in_ok-release.release c.free_chain.new.release (ap g.M.Medium.seen c.self.view_is) c.geometry-geometry.ensures.value c.first_block.ensures c.in_ok-free_chain.ensures.freed)
+    (given_here inside old c.geometry-geometry.result c.in-Some.entry c.in_ok-release.release c.free_file.new.release (Ok c.in_ok-free_file.field-0) (ap g.M.Medium.seen c.self.view_is) c.geometry-geometry.ensures.value c.in_ok-free_file.ensures.freed)
     (cleared g c)
 
 pub returns-clause-scratched : goal.returns-clause-scratched
 returns-clause-scratched g c =
     let old : Seen = g.M.Medium.seen c.args.self.now in
-    scratched_ok old.tracks old.content (g.M.Medium.seen c.clear_slot-2.new.medium).content (g.M.Medium.seen c.write.new.medium).content c.args.slot c.free_chain.new.release c.write.result c.write.ensures.ok (slot_empty g c)
+    scratched_ok old.tracks old.content (g.M.Medium.seen c.clear_slot-2.new.medium).content (g.M.Medium.seen c.write.new.medium).content c.args.slot c.free_file.new.release c.write.result c.write.ensures.ok (slot_empty g c)
 
 pub returns-clause-stopped : goal.returns-clause-stopped
 returns-clause-stopped g c =
     let old : Seen = g.M.Medium.seen c.args.self.now in
-    scratched_stopped old.tracks old.content (g.M.Medium.seen c.clear_slot-2.new.medium).content (g.M.Medium.seen c.write.new.medium).content c.args.slot c.free_chain.new.release c.write.result c.write.ensures.err (slot_empty g c)
+    scratched_stopped old.tracks old.content (g.M.Medium.seen c.clear_slot-2.new.medium).content (g.M.Medium.seen c.write.new.medium).content c.args.slot c.free_file.new.release c.write.result c.write.ensures.err (slot_empty g c)
 
 pub returns-clause-cause : goal.returns-clause-cause
 returns-clause-cause g c =
     let old : Seen = g.M.Medium.seen c.args.self.now in
     let mid : Seen = g.M.Medium.seen c.clear_slot-2.new.medium in
-    release_hindered old mid (g.M.Medium.seen c.write.new.medium) c.args.slot c.free_chain.new.release c.write.result
+    release_hindered old mid (g.M.Medium.seen c.write.new.medium) c.args.slot c.free_file.new.release c.write.result
     (c.clear_slot-2.ensures.only.protected ∙ ap (λ m. (g.M.Medium.seen m).protected) c.self.view_is)
     (subst (λ (n : ℕ). n ≤ mid.failures) (ap (λ m. (g.M.Medium.seen m).failures) c.self.view_is) c.clear_slot-2.ensures.only.counted)
     (slot_empty g c) c.write.ensures.cause
@@ -203,7 +195,7 @@ returns-clause-cause g c =
 pub returns-clause-untouched : goal.returns-clause-untouched
 returns-clause-untouched g c =
     let old : Seen = g.M.Medium.seen c.args.self.now in
-    release_spared old.tracks old.content (g.M.Medium.seen c.clear_slot-2.new.medium).content (g.M.Medium.seen c.write.new.medium).content c.args.slot c.free_chain.new.release c.write.result (cleared g c) c.write.ensures.ok c.write.ensures.err
+    release_spared old.tracks old.content (g.M.Medium.seen c.clear_slot-2.new.medium).content (g.M.Medium.seen c.write.new.medium).content c.args.slot c.free_file.new.release c.write.result (cleared g c) c.write.ensures.ok c.write.ensures.err
 
 -- what breaks the directory off is never told as protection
 pub returns-in_err-entry-clause-protection : goal.returns-in_err-entry-clause-protection
