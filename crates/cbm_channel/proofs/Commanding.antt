@@ -9,19 +9,49 @@ use Rattle.cbm_machine.specs.declared.code.Code.{Code}
 use Rattle.cbm_machine.specs.declared.code.Code.TheVariants.{Fine, WriteFileOpen, FileExists, WriteProtected}
 use Rattle.cbm_machine.specs.declared.status.Status.{Status}
 use Rattle.cbm_machine.specs.Statuses.{plain, trouble_status}
-use Rattle.cbm_machine.specs.Machines.{Machine, Closed, answered, say, tell, with_disk, channel, in_writing}
+use Rattle.cbm_machine.specs.Machines.{Machine, Channel, Closed, Reading, Writing, Stopped, Relative, answered, say, tell, with_disk, channel, in_writing, is_open, any_open}
+use Rattle.cbm_machine.specs.Codes.{code_of_fault}
+use Rattle.cbm_machine.specs.Orderly.{channel_in, still_uses}
+use Rattle.cbm_command.specs.declared.command.Command.TheVariants.{New, Validate}
+use Rattle.cbm_file.specs.Changes.{new_disk, validated}
+use Rattle.std.proofs.lemmas.Bool.{eq-eqb}
+use Rattle.cbm_channel.proofs.Planning.{none_passes}
+use Rattle.std.specs.Prelude.{◌⊎◌, if◌then◌else◌, slice_index_or}
+use Rattle.std.specs.List.{AllZip, list_any}
 use Rattle.cbm_machine.specs.Finding.{is_there, found}
-use Rattle.cbm_machine.specs.Running.{rename, scratch}
+use Rattle.cbm_machine.specs.Running.{rename, scratch, run}
 use Rattle.cbm_machine.specs.Told.{Told}
 use Rattle.cbm_channel.specs.declared.channel.Channel as kept
-use Rattle.cbm_channel.specs.Standing.{StandsBy, uses_of}
+use Rattle.cbm_channel.specs.declared.channel.Channel.TheVariants as code
+use Rattle.cbm_channel.specs.Standing.{ChannelStands, StandsBy, use_of, uses_of}
 use Rattle.cbm_channel.specs.Going.{IsStopped}
 use Rattle.cbm_channel.specs.declared.finding.Found.{Found}
 use Rattle.cbm_channel.specs.Planned.{FoundAs}
 use Rattle.cbm_channel.specs.Commanded.{all_scratched, IsGoing, IsRenamable, RenamesAs}
-use Rattle.cbm_channel.proofs.DiskSteps.{with_other_disk, changed_keeps, known_keeps}
+use Rattle.cbm_channel.proofs.DiskSteps.{KeepsOpen, with_other_disk, changed_keeps, known_keeps}
 use Rattle.cbm_channel.proofs.Scratches.{open_stays, still_in_use, scratch_done}
-use Rattle.cbm_channel.proofs.Stands.{past_end}
+use Rattle.cbm_channel.proofs.Stands.{past_end, zip_at}
+
+-- ---- where nothing is open
+
+idle_use : (x : kept.Channel) (y : Channel) → ChannelStands x y → is_open y ≡ false → use_of x y ≡ usage.Idle
+idle_use code.Closed y h e = refl
+idle_use (code.Listing l) y h e = refl
+idle_use (code.File slot r) y h e = absurd (let z = sym e ∙ ap is_open h.1 in (cc))
+idle_use (code.Writing w full) y h e = absurd (let z = sym e ∙ ap is_open h.2 in (cc))
+idle_use (code.Stopped slot) y h e = refl
+
+-- where nothing is open, no channel uses the disk
+pub all_idle : (xs : List kept.Channel) (ys : List Channel) → AllZip ChannelStands xs ys → list_any is_open ys ≡ false → (k : ℕ) → uses_of xs ys k ≡ usage.Idle
+all_idle xs ys h none k = idle_use (slice_index_or xs k code.Closed) (slice_index_or ys k Closed) (zip_at xs ys k h) (none_passes is_open refl ys k none)
+
+-- what a channel still uses is open
+open_if_used : (slot : ℕ) (x : Channel) → still_uses slot x ≡ true → is_open x ≡ true
+open_if_used slot Closed u = absurd (cc)
+open_if_used slot (Reading s left) u = refl
+open_if_used slot (Writing s bytes blocks full replaces) u = refl
+open_if_used slot (Stopped s) u = refl
+open_if_used slot (Relative s k p) u = refl
 
 module _ (t : ℕ) (c c' : Content) (p : Bool) (chs : List kept.Channel) (told : Told) (text : Option (ℕ × List ℕ)) (m : Machine) (st : StandsBy c t p chs told text m) where
   -- 15 is none of the machine's channels
@@ -77,6 +107,64 @@ module _ (t : ℕ) (c c' : Content) (p : Bool) (chs : List kept.Channel) (told :
                 | inr e ↦ e ∙ ap known (open_stays m ps slots slot is.all (still_in_use m k slot u))
               ])),
         )
+
+  -- ---- V
+
+  module _ (shut : any_open m ≡ false) where
+    none_open : (d' : Disk) → KeepsOpen m.disk d' m.channels
+    none_open d' k slot f u at closed = absurd (let z = none_passes is_open refl m.channels k shut in let y = open_if_used slot (channel_in m.channels k) u in (cc))
+
+    pub validate_done : m.protected ≡ false → answered m (run Validate m) ≡ say Fine (with_disk (validated m.disk) m)
+    validate_done unprotected = rw (shut, unprotected) refl
+
+    pub validate_guarded : m.protected ≡ true → answered m (run Validate m) ≡ say WriteProtected m
+    validate_guarded guarded = rw (shut, guarded) refl
+
+    pub validate_stands : HoldsNow t c' (validated m.disk) (uses_of chs m.channels) → StandsBy c' t p chs told text (with_disk (validated m.disk) m)
+    validate_stands holds = with_other_disk t c c' p chs told text m (validated m.disk) st holds (none_open (validated m.disk))
+
+    pub validate_cut : m.protected ≡ false → usage.Stopped t c' m.disk (validated m.disk) (uses_of chs m.channels)
+        → (n : Machine) × ((trouble : Trouble) (status : Status) → length chs ≡ 15 → status ≡ trouble_status trouble → IsStopped 15 m (answered m (run Validate m)) (tell status n)) × StandsBy c' t p chs told text n
+    validate_cut unprotected stop =
+        let same : (answered m (run Validate m)).disk ≡ validated m.disk = ap (λ (y : Machine). y.disk) (validate_done unprotected) in (
+          with_disk stop.disk m,
+          (λ trouble status count e. record {
+            either = λ n. subst (λ (y : Disk). IsEither m.disk y stop.disk n) (sym same) (stop.either n);
+            same_tracks = refl;
+            same_protection = refl;
+            own = inl (none_at_15 count);
+            others = λ k ne. refl;
+            fault = (trouble, e);
+          }),
+          with_other_disk t c c' p chs told text m stop.disk st stop.holds (none_open stop.disk),
+        )
+
+    -- ---- N
+
+    module _ (name : List ℕ) (id : Option (List ℕ)) where
+      pub new_done : m.protected ≡ false → answered m (run (New name id) m) ≡ say Fine (with_disk (new_disk m.tracks name id m.disk) m)
+      new_done unprotected = rw (shut, unprotected) refl
+
+      pub new_guarded : m.protected ≡ true → answered m (run (New name id) m) ≡ say WriteProtected m
+      new_guarded guarded = rw (shut, guarded) refl
+
+      pub new_stands : HoldsNow t c' (new_disk m.tracks name id m.disk) (uses_of chs m.channels) → StandsBy c' t p chs told text (with_disk (new_disk m.tracks name id m.disk) m)
+      new_stands holds = with_other_disk t c c' p chs told text m (new_disk m.tracks name id m.disk) st holds (none_open (new_disk m.tracks name id m.disk))
+
+-- a channel is open
+pub new_open : (m : Machine) (name : List ℕ) (id : Option (List ℕ)) → any_open m ≡ true → answered m (run (New name id) m) ≡ say WriteFileOpen m
+new_open m name id e = rw e refl
+
+pub validate_open : (m : Machine) → any_open m ≡ true → answered m (run Validate m) ≡ say WriteFileOpen m
+validate_open m e = rw e refl
+
+pub true_or_false : (b : Bool) → (b ≡ true) ⊎ (b ≡ false)
+true_or_false true = inl refl
+true_or_false false = inr refl
+
+-- what is told on a protected disk
+pub protected_status : (trouble : Trouble) (status : Status) → status ≡ trouble_status trouble → trouble.code ≡ 26 → status ≡ plain WriteProtected
+protected_status trouble status e code = e ∙ ap (λ (b : Bool). if b then plain WriteProtected else record { code = code_of_fault trouble.code; first = trouble.track; second = trouble.sector }) (eq-eqb trouble.code 26 code)
 
 -- ---- what R finds
 

@@ -201,9 +201,6 @@ parts_command ch text e = rw e refl
 pub after_close : {M : Type 0} (seen : M → Seen) (old new : Kept M) (ch : ℕ) (m n : Machine) → (ch == 15) ≡ false → Passes (HasFailed (seen old.medium) (seen new.medium)) ch (close_one ch) m n → AfterClose seen old new ch m n
 after_close seen old new ch m n e h = subst (λ (b : Bool). MatchBool b (n ≡ m) (Passes (HasFailed (seen old.medium) (seen new.medium)) ch (close_one ch) m n)) (sym e) h
 
-pub after_none : {M : Type 0} (seen : M → Seen) (old new : Kept M) (ch : ℕ) (m : Machine) → (ch == 15) ≡ true → AfterClose seen old new ch m m
-after_none seen old new ch m e = subst (λ (b : Bool). MatchBool b (m ≡ m) (Passes (HasFailed (seen old.medium) (seen new.medium)) ch (close_one ch) m m)) (sym e) refl
-
 -- ---- a text that was gathered
 
 stopped_from : (ch number : ℕ) (m after now : Machine) → IsStopped ch (without_text number m) after now → IsStopped ch m after now

@@ -6,6 +6,7 @@ pub mod Changed
 pub mod Troubles
 pub mod Scratches
 pub mod Commanding
+pub mod Copies
 pub mod Stands
 pub mod Texts
 pub mod Found

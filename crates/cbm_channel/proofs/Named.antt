@@ -148,12 +148,12 @@ module _ (ch : ℕ) (text : List ℕ) (w : Wanted) (is : opening_of ch text ≡ 
 
 -- ---- the text of a command
 
--- the new name of R ends before its first filler
+-- the new name of R or C ends before its first filler
 abbrev IsCutName : Command → Type 0
 IsCutName (Rename new old) = before_filler new ≡ new
 IsCutName (New name id) = Unit {0}
 IsCutName (Scratch ps) = Unit {0}
-IsCutName (Copy new olds) = Unit {0}
+IsCutName (Copy new olds) = before_filler new ≡ new
 IsCutName Validate = Unit {0}
 IsCutName Initialize = Unit {0}
 IsCutName (Position ch k p) = Unit {0}
@@ -185,7 +185,7 @@ copy_cuts text =
     (λ olds. unless ((not (has equals text) || is_empty new || list_any is_empty olds, NoName) ∷ (is_wild new || list_any is_wild olds, WildName) ∷ (nat_lt 4 (length olds), Syntax) ∷ []) (Ok (Copy new olds)))
     (always (later_names (parts_at comma (behind equals text))))
     (λ olds x. chosen Cuts (not (has equals text) || is_empty new || list_any is_empty olds) _ _ tt
-    (chosen Cuts (is_wild new || list_any is_wild olds) _ _ tt (chosen Cuts (nat_lt 4 (length olds)) (Err Syntax) (Ok (Copy new olds)) tt tt)))
+    (chosen Cuts (is_wild new || list_any is_wild olds) _ _ tt (chosen Cuts (nat_lt 4 (length olds)) (Err Syntax) (Ok (Copy new olds)) tt (cut 16 (before equals text)))))
 
 position_cuts : (text : List ℕ) → Cuts (position_asked text)
 position_cuts [] = tt
@@ -215,3 +215,6 @@ command_cuts (c ∷ text) = letter_cuts c text
 
 pub new_name_cut : (text new old : List ℕ) → command_of text ≡ Ok (Rename new old) → before_filler new ≡ new
 new_name_cut text new old is = subst Cuts is (chosen Cuts (nat_lt 58 (length text)) (Err LongText) (command_in text) tt (command_cuts text))
+
+pub copy_name_cut : (text new : List ℕ) (olds : List (List ℕ)) → command_of text ≡ Ok (Copy new olds) → before_filler new ≡ new
+copy_name_cut text new olds is = subst Cuts is (chosen Cuts (nat_lt 58 (length text)) (Err LongText) (command_in text) tt (command_cuts text))

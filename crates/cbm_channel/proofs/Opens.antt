@@ -289,7 +289,7 @@ past_end : {A : Type 0} (xs : List (Option A)) → slice_index_or xs (length xs)
 past_end [] = refl
 past_end (x ∷ xs) = past_end xs
 
-new_empty : (d : Disk) → file_at d (new_slot d) ≡ None
+pub new_empty : (d : Disk) → file_at d (new_slot d) ≡ None
 new_empty d = by_slot (empty_from 0 d.slots) refl
   where
     by_slot : (o : Option ℕ) → empty_from 0 d.slots ≡ o → file_at d (new_slot d) ≡ None
@@ -336,7 +336,7 @@ opened_stays t c m (ReplaceFile s) x h k slot u = refl
 opened_stays t c m (OpenRecords s) x h k slot u = refl
 opened_stays t c m (MakeRecords name len) x h k slot u = refl
 
-either_stays : (before after now : Disk) (slot : ℕ) → IsEither before after now slot → known (file_at after slot) ≡ known (file_at before slot) → known (file_at now slot) ≡ known (file_at before slot)
+pub either_stays : (before after now : Disk) (slot : ℕ) → IsEither before after now slot → known (file_at after slot) ≡ known (file_at before slot) → known (file_at now slot) ≡ known (file_at before slot)
 either_stays before after now slot (inl e) h = e
 either_stays before after now slot (inr e) h = e ∙ h
 

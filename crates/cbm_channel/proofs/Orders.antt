@@ -128,7 +128,7 @@ writes_uses (Writing s bytes blocks full replaces) slot h = h
 writes_uses (Stopped s) slot h = absurd (cc)
 writes_uses (Relative s k p) slot h = h
 
-not_so : (b : Bool) → (b ≡ true → ⊥) → b ≡ false
+pub not_so : (b : Bool) → (b ≡ true → ⊥) → b ≡ false
 not_so true h = absurd (h refl)
 not_so false h = refl
 

@@ -26,10 +26,9 @@ use Rattle.cbm_machine.specs.Machines as machine
 use Rattle.cbm_machine.specs.Finding.{body_at}
 use Rattle.cbm_machine.specs.Plans.{Plan, ReadListing, ReadFile, WriteFile, AppendFile, ReplaceFile, OpenRecords, MakeRecords, plan, act, asked, open_text}
 use Rattle.cbm_channel.specs.Planned.{PlannedAs, IsReadable, IsWritable, IsAppendable, IsReplaceable, opened_by, begun_by, is_for_writing, text_writes}
-use Rattle.cbm_machine.specs.CarriedOut.{IsOpenCarriedOut, IsAskedCarriedOut, IsTextCarriedOut}
+use Rattle.cbm_machine.specs.CarriedOut.{IsOpenCarriedOut, IsAskedCarriedOut}
 use Rattle.cbm_machine.specs.Codes.{code_number, code_of_refusal}
 use Rattle.cbm_channel.specs.Grounds.{is_fault_number}
-use Rattle.cbm_machine.specs.Calls.{without_return}
 use Rattle.cbm_machine.specs.Orderly.{channel_in}
 
 -- ---- what was planned
@@ -148,10 +147,7 @@ refused_text ch text e m is = ap (λ (r : Result Opening Refusal). answered m (a
 
 pub carried_text : (ch : ℕ) (text : List ℕ) (o : Opening) (m : Machine) → (ch == 15) ≡ false → opening_of ch text ≡ Ok o → IsOpenCarriedOut ch text m → IsAskedCarriedOut ch m (Ok o)
 carried_text ch text o m other e h =
-    subst (IsAskedCarriedOut ch m) e (subst (λ (b : Bool). MatchBool b (IsTextCarriedOut (without_return text) m) (IsAskedCarriedOut ch m (opening_of ch text))) other h)
-
-pub carried_command : (ch : ℕ) (text : List ℕ) (m : Machine) → (ch == 15) ≡ true → IsOpenCarriedOut ch text m → IsTextCarriedOut (without_return text) m
-carried_command ch text m fifteen h = subst (λ (b : Bool). MatchBool b (IsTextCarriedOut (without_return text) m) (IsAskedCarriedOut ch m (opening_of ch text))) fifteen h
+    subst (IsAskedCarriedOut ch m) e (subst (λ (b : Bool). MatchBool b (Unit {0}) (IsAskedCarriedOut ch m (opening_of ch text))) other h)
 
 pub writes_text : (ch : ℕ) (text : List ℕ) (o : Opening) → (ch == 15) ≡ false → opening_of ch text ≡ Ok o → text_writes ch text ≡ false → is_for_writing o ≡ false
 writes_text ch text o other e h = sym (rw (other, e) refl) ∙ h

@@ -1,19 +1,16 @@
 -- The slots that S clears: those of the directory's entries are the machine's, and cleared one after another they leave its disk.
 use Rattle.std.proofs.Common.{◌≡◌, ◌≢◌, ◌⊎◌, ℕ, zero, suc, ◌+◌, ◌-◌, ◌<◌, ◌≤◌, Bool, true, false, List, [], ◌∷◌, ◌++◌, length, drop, refl, sym, ap, ◌∙◌, subst, inl, inr, Option, Some, None, Err, arith}
-use Rattle.std.specs.Prelude.{◌==◌, ◌%◌, ◌&&◌, ◌||◌, nat_lt, not, sum_by, slice_index_or, slice_set, if◌then◌else◌}
+use Rattle.std.specs.Prelude.{◌==◌, ◌&&◌, nat_lt, not, sum_by, slice_index_or, slice_set, if◌then◌else◌}
 use Rattle.std.specs.List.{AllZip, list_any}
 use Rattle.std.proofs.lemmas.List.{at_drop_more, append-nil, append_assoc, length-append, drop_all, get_or_past, get_or-set_same, get_or-set_other}
-use Rattle.std.proofs.lemmas.Bool.{cases_lt, eqb-true}
+use Rattle.std.proofs.lemmas.Bool.{cases_lt}
 use Rattle.std.proofs.lemmas.Bool.Decides.{eqb_tells, nat_tests}
 use Rattle.std.proofs.lemmas.List.Sums.{sum_by-cons}
-use Rattle.cbm_file.specs.declared.file_type.FileType.{FileType}
-use Rattle.cbm_file.specs.declared.file_type.FileType.TheVariants.{Rel}
-use Rattle.cbm_file.specs.Types.{type_with, is_same_type}
 use Rattle.cbm_file.specs.Files.{File, Disk, held_by, files, files_from, file_at}
 use Rattle.cbm_file.specs.Changes.{scratched_in, scratched}
 use Rattle.cbm_command.specs.Names.{is_match}
 use Rattle.cbm_medium.specs.declared.fault.Trouble.{Trouble}
-use Rattle.cbm_volume.specs.Entries.{type_byte, bit_of, is_relative, name_in}
+use Rattle.cbm_volume.specs.Entries.{type_byte, bit_of, name_in}
 use Rattle.cbm_volume.specs.Slots.{Listed, behind}
 use Rattle.cbm_volume.specs.Holding.{Says, SlotSays, TellsOf}
 use Rattle.cbm_volume.specs.Content.{Content}
@@ -24,36 +21,14 @@ use Rattle.cbm_machine.specs.Machines as machine
 use Rattle.cbm_machine.specs.Machines.{Machine, answered, tell, with_disk, in_use, uses}
 use Rattle.cbm_machine.specs.Orderly.{channel_in, still_uses}
 use Rattle.cbm_machine.specs.Running.{may_go, kept_slots, scratched_disk, scratch}
-use Rattle.cbm_machine.specs.CarriedOut.{scratches_records}
 use Rattle.cbm_channel.specs.declared.channel.Channel.{Channel}
 use Rattle.cbm_channel.specs.Standing.{ChannelStands}
 use Rattle.cbm_channel.specs.Shown.{uses_on}
-use Rattle.cbm_channel.specs.Commanded.{entry_may_go, entries_going, records_going, slots_going, all_scratched, CanGo, CanAllGo, IsGoing}
+use Rattle.cbm_channel.specs.Commanded.{entry_may_go, entries_going, slots_going, all_scratched, CanGo, CanAllGo, IsGoing}
 use Rattle.cbm_channel.proofs.Planning.{none_passes}
 use Rattle.cbm_channel.proofs.Uses.{any_uses_same}
 
 -- ---- the entries tell of the slots
-
-abbrev is_relative_one : Option FileType → Bool
-is_relative_one None = false
-is_relative_one (Some k) = is_same_type Rel k
-
-tells_relative : (x : ℕ) → is_relative_one (type_with x) ≡ (x == 4)
-tells_relative x = by_tests (x == 0) (x == 1) (x == 2) (x == 3) (x == 4) refl refl refl refl refl
-  where
-    at : (n : ℕ) → (x == n) ≡ true → is_relative_one (type_with n) ≡ (n == 4) → is_relative_one (type_with x) ≡ (x == 4)
-    at n e h = subst (λ k. is_relative_one (type_with k) ≡ (k == 4)) (sym (eqb-true x n e)) h
-
-    by_tests : (a b c d e : Bool) → (x == 0) ≡ a → (x == 1) ≡ b → (x == 2) ≡ c → (x == 3) ≡ d → (x == 4) ≡ e → is_relative_one (type_with x) ≡ (x == 4)
-    by_tests true b c d e p q r s t = at 0 p refl
-    by_tests false true c d e p q r s t = at 1 q refl
-    by_tests false false true d e p q r s t = at 2 r refl
-    by_tests false false false true e p q r s t = at 3 s refl
-    by_tests false false false false true p q r s t = at 4 t refl
-    by_tests false false false false false p q r s t = rw (p, q, r, s, t) refl
-
-relative_number : (x : ℕ) (k : FileType) → type_with x ≡ Some k → (x == 4) ≡ is_same_type Rel k
-relative_number x k e = sym (tells_relative x) ∙ ap is_relative_one e
 
 module _ (chs : List Channel) (m : Machine) (each : AllZip ChannelStands chs m.channels) (ps : List (List ℕ)) where
   same_use : (n : ℕ) → list_any (uses_on n) chs ≡ in_use m n
@@ -72,14 +47,6 @@ module _ (chs : List Channel) (m : Machine) (each : AllZip ChannelStands chs m.c
   numbers_same n (None ∷ slots) (e ∷ entries) z = rw (entry_none n e z.0) (numbers_same (n + 1) slots entries z.1)
   numbers_same n (Some f ∷ slots) (e ∷ entries) z =
       (λ i. if entry_says n f e z.0 i then n ∷ numbers_same (n + 1) slots entries z.1 i else numbers_same (n + 1) slots entries z.1 i)
-
-  pub records_same : (n : ℕ) (slots : List (Option File)) (entries : List (List ℕ)) → AllZip SlotSays slots entries → records_going chs ps n entries ≡ scratches_records m ps n slots
-  records_same n [] [] z = refl
-  records_same n [] (e ∷ entries) z = absurd z
-  records_same n (s ∷ slots) [] z = absurd z
-  records_same n (None ∷ slots) (e ∷ entries) z = rw (entry_none n e z.0) (records_same (n + 1) slots entries z.1)
-  records_same n (Some f ∷ slots) (e ∷ entries) z =
-      (λ i. (entry_says n f e z.0 i && relative_number (type_byte e % 16) f.kind z.0.kind i) || records_same (n + 1) slots entries z.1 i)
 
 -- ---- one slot behind others
 
@@ -207,10 +174,6 @@ module _ (m : Machine) (ps : List (List ℕ)) where
 
   -- ---- none of them is open
 
-  first_of : (a b : Bool) → (a || b) ≡ false → (a ≡ false) × (b ≡ false)
-  first_of true b h = absurd (cc)
-  first_of false b h = (refl, h)
-
   gone_unused : (n : ℕ) (f : File) → may_go m ps n f ≡ true → in_use m n ≡ false
   gone_unused n f h = last (list_any (λ p. is_match p f.name) ps && not f.locked) (in_use m n) h
     where
@@ -220,40 +183,38 @@ module _ (m : Machine) (ps : List (List ℕ)) where
       last false true h = absurd (cc)
 
   module _ (uses : ℕ → Use) (unused : (n : ℕ) → in_use m n ≡ false → IsUnused uses n) where
-    can_go : (d : Disk) (pre slots : List (Option File)) (n free : ℕ) → n ≡ length pre → scratches_records m ps n slots ≡ false → CanAllGo (having d (pre ++ slots) free) uses (slots_going m ps n slots)
-    can_go d pre [] n free e none = tt
-    can_go d pre (None ∷ slots) n free e none =
-        subst (λ (xs : List (Option File)). CanAllGo (having d xs free) uses (slots_going m ps (n + 1) slots)) (append_assoc pre (None ∷ []) slots) (can_go d (pre ++ None ∷ []) slots (n + 1) free (one_more pre None n e) none)
-    can_go d pre (Some f ∷ slots) n free e none =
-        let both = first_of (may_go m ps n f && is_same_type Rel f.kind) (scratches_records m ps (n + 1) slots) none in
-        by_test (may_go m ps n f) refl both.0 (can_go d (pre ++ None ∷ []) slots (n + 1) (free + held_by (Some f)) (one_more pre None n e) both.1) (can_go d (pre ++ Some f ∷ []) slots (n + 1) free (one_more pre (Some f) n e) both.1)
+    can_go : (d : Disk) (pre slots : List (Option File)) (n free : ℕ) → n ≡ length pre → CanAllGo (having d (pre ++ slots) free) uses (slots_going m ps n slots)
+    can_go d pre [] n free e = tt
+    can_go d pre (None ∷ slots) n free e =
+        subst (λ (xs : List (Option File)). CanAllGo (having d xs free) uses (slots_going m ps (n + 1) slots)) (append_assoc pre (None ∷ []) slots) (can_go d (pre ++ None ∷ []) slots (n + 1) free (one_more pre None n e))
+    can_go d pre (Some f ∷ slots) n free e =
+        by_test (may_go m ps n f) refl (can_go d (pre ++ None ∷ []) slots (n + 1) (free + held_by (Some f)) (one_more pre None n e)) (can_go d (pre ++ Some f ∷ []) slots (n + 1) free (one_more pre (Some f) n e))
       where
         x : Disk
         x = having d (pre ++ Some f ∷ slots) free
 
-        by_test : (b : Bool) → may_go m ps n f ≡ b → (may_go m ps n f && is_same_type Rel f.kind) ≡ false
+        by_test : (b : Bool) → may_go m ps n f ≡ b
             → CanAllGo (having d ((pre ++ None ∷ []) ++ slots) (free + held_by (Some f))) uses (slots_going m ps (n + 1) slots)
             → CanAllGo (having d ((pre ++ Some f ∷ []) ++ slots) free) uses (slots_going m ps (n + 1) slots) → CanAllGo x uses (slots_going m ps n (Some f ∷ slots))
-        by_test true t plain gone kept =
+        by_test true t gone kept =
             let same : having d ((pre ++ None ∷ []) ++ slots) (free + held_by (Some f)) ≡ scratched x n =
             ap (λ (xs : List (Option File)). having d xs (free + held_by (Some f))) (append_assoc pre (None ∷ []) slots) ∙ sym (scratched_behind d pre slots n free f e) in
             let can : CanGo x uses n × CanAllGo (scratched x n) uses (slots_going m ps (n + 1) slots) = (
               record {
                 file = f;
                 in_slot = ap (file_at x) e ∙ at_behind pre slots (Some f) None;
-                plain = sym (ap (λ (b : Bool). b && is_same_type Rel f.kind) t) ∙ plain;
                 unused = unused n (gone_unused n f t);
               },
               subst (λ (y : Disk). CanAllGo y uses (slots_going m ps (n + 1) slots)) same gone,
             ) in
             subst (CanAllGo x uses) (sym (ap (λ (b : Bool). if b then n ∷ slots_going m ps (n + 1) slots else slots_going m ps (n + 1) slots) t)) can
-        by_test false t plain gone kept =
+        by_test false t gone kept =
             subst (CanAllGo x uses) (sym (ap (λ (b : Bool). if b then n ∷ slots_going m ps (n + 1) slots else slots_going m ps (n + 1) slots) t))
             (subst (λ (xs : List (Option File)). CanAllGo (having d xs free) uses (slots_going m ps (n + 1) slots)) (append_assoc pre (Some f ∷ []) slots) kept)
 
     -- each can go when its turn has come
-    pub all_can_go : (slots : List ℕ) → slots ≡ slots_going m ps 0 m.disk.slots → scratches_records m ps 0 m.disk.slots ≡ false → CanAllGo m.disk uses slots
-    all_can_go slots e none = subst (CanAllGo m.disk uses) (sym e) (can_go m.disk [] m.disk.slots 0 m.disk.free refl none)
+    pub all_can_go : (slots : List ℕ) → slots ≡ slots_going m ps 0 m.disk.slots → CanAllGo m.disk uses slots
+    all_can_go slots e = subst (CanAllGo m.disk uses) (sym e) (can_go m.disk [] m.disk.slots 0 m.disk.free refl)
 
   used_stays : (n : ℕ) (f : File) → in_use m n ≡ true → may_go m ps n f ≡ false
   used_stays n f u = ap (λ (b : Bool). list_any (λ p. is_match p f.name) ps && not f.locked && not b) u ∙ and_false (list_any (λ p. is_match p f.name) ps && not f.locked)
@@ -340,10 +301,10 @@ module _ (t : ℕ) (c c' : Content) (uses : ℕ → Use) (before after : Disk) (
   ]
 
   -- one more
-  pub clearing_next : (t' : ℕ) → t' ≡ t → ((d : Disk) (us : ℕ → Use) (f : File) → HoldsNow t' c d us → file_at d n ≡ Some f → is_same_type Rel f.kind ≡ false → IsUnused us n → HoldsNow t' c' (scratched d n) us)
+  pub clearing_next : (t' : ℕ) → t' ≡ t → ((d : Disk) (us : ℕ → Use) (f : File) → HoldsNow t' c d us → file_at d n ≡ Some f → IsUnused us n → HoldsNow t' c' (scratched d n) us)
       → IsClearing t c' uses before after left
   clearing_next t' e step =
-      let holds = step h.disk uses h.can.0.file (subst (λ (x : ℕ). HoldsNow x c h.disk uses) (sym e) h.holds) h.can.0.in_slot h.can.0.plain h.can.0.unused in
+      let holds = step h.disk uses h.can.0.file (subst (λ (x : ℕ). HoldsNow x c h.disk uses) (sym e) h.holds) h.can.0.in_slot h.can.0.unused in
       record { disk = scratched h.disk n; holds = subst (λ (x : ℕ). HoldsNow x c' (scratched h.disk n) uses) e holds; can = h.can.1; leads = h.leads; slots = now_gone }
 
   either_then : Stopped t c' h.disk (scratched h.disk n) uses → Stopped t c' before after uses
@@ -358,14 +319,14 @@ module _ (t : ℕ) (c c' : Content) (uses : ℕ → Use) (before after : Disk) (
 
   -- or a write was refused
   pub clearing_stopped : (t' : ℕ) → t' ≡ t
-      → ((d : Disk) (us : ℕ → Use) (f : File) → HoldsNow t' c d us → file_at d n ≡ Some f → is_same_type Rel f.kind ≡ false → IsUnused us n → Stopped t' c' d (scratched d n) us) → Stopped t c' before after uses
+      → ((d : Disk) (us : ℕ → Use) (f : File) → HoldsNow t' c d us → file_at d n ≡ Some f → IsUnused us n → Stopped t' c' d (scratched d n) us) → Stopped t c' before after uses
   clearing_stopped t' e step =
-      let stop = step h.disk uses h.can.0.file (subst (λ (x : ℕ). HoldsNow x c h.disk uses) (sym e) h.holds) h.can.0.in_slot h.can.0.plain h.can.0.unused in
+      let stop = step h.disk uses h.can.0.file (subst (λ (x : ℕ). HoldsNow x c h.disk uses) (sym e) h.holds) h.can.0.in_slot h.can.0.unused in
       either_then (subst (λ (x : ℕ). Stopped x c' h.disk (scratched h.disk n) uses) e stop)
 
   -- for this reason
-  pub clearing_hindered : (t' : ℕ) (why : Type 0) → t' ≡ t → ((d : Disk) (us : ℕ → Use) (f : File) → HoldsNow t' c d us → file_at d n ≡ Some f → is_same_type Rel f.kind ≡ false → IsUnused us n → why) → why
-  clearing_hindered t' why e step = step h.disk uses h.can.0.file (subst (λ (x : ℕ). HoldsNow x c h.disk uses) (sym e) h.holds) h.can.0.in_slot h.can.0.plain h.can.0.unused
+  pub clearing_hindered : (t' : ℕ) (why : Type 0) → t' ≡ t → ((d : Disk) (us : ℕ → Use) (f : File) → HoldsNow t' c d us → file_at d n ≡ Some f → IsUnused us n → why) → why
+  clearing_hindered t' why e step = step h.disk uses h.can.0.file (subst (λ (x : ℕ). HoldsNow x c h.disk uses) (sym e) h.holds) h.can.0.in_slot h.can.0.unused
 
 -- the next of those that are left
 pub next_left : (t : ℕ) (c : Content) (uses : ℕ → Use) (before after : Disk) (all : List ℕ) (i : ℕ) → i < length all → IsClearing t c uses before after (drop i all)
@@ -379,10 +340,9 @@ clearing_done t c uses before after all i over h =
 
 -- ---- on the way through the directory
 
--- The numbers so far, and those of the entries that are left, are those of all entries; and no relative file was met.
+-- The numbers so far, and those of the entries that are left, are those of all entries.
 pub record Gathers (chs : List Channel) (ps : List (List ℕ)) (all left : Listed) (most n : ℕ) (items : List ℕ) : Type 0 where
   pub numbers : items ++ entries_going chs ps n left.entries ≡ entries_going chs ps 0 all.entries
-  pub records : records_going chs ps 0 all.entries ≡ records_going chs ps n left.entries
   pub trouble : left.trouble ≡ all.trouble
   pub count : n + most ≡ 144
   pub room : length items ≤ n
@@ -390,7 +350,6 @@ pub record Gathers (chs : List Channel) (ps : List (List ℕ)) (all left : Liste
 pub gathers_first : (chs : List Channel) (ps : List (List ℕ)) (all left : Listed) (most : ℕ) → left ≡ all → most ≡ 144 → Gathers chs ps all left most 0 []
 gathers_first chs ps all left most e n = record {
   numbers = ap (λ (x : Listed). entries_going chs ps 0 x.entries) e;
-  records = ap (λ (x : Listed). records_going chs ps 0 x.entries) (sym e);
   trouble = ap (λ (x : Listed). x.trouble) e;
   count = omega (arith, n);
   room = omega arith;
@@ -398,16 +357,13 @@ gathers_first chs ps all left most e n = record {
 
 module _ (chs : List Channel) (ps : List (List ℕ)) (all left next : Listed) (most less n : ℕ) (items : List ℕ) (entry : List ℕ) (e : left ≡ behind (entry ∷ []) next) (fewer : less + 1 ≡ most)
     (h : Gathers chs ps all left most n items) where
-  -- an entry may go, and has no records
-  pub gathers_on : entry_may_go chs ps n entry ≡ true → is_relative entry ≡ false → Gathers chs ps all next less (n + 1) (items ++ n ∷ [])
-  gathers_on goes plain = record {
+  -- an entry may go
+  pub gathers_on : entry_may_go chs ps n entry ≡ true → Gathers chs ps all next less (n + 1) (items ++ n ∷ [])
+  gathers_on goes = record {
     numbers =
         append_assoc items (n ∷ []) (entries_going chs ps (n + 1) next.entries)
         ∙ ap (λ (xs : List ℕ). items ++ xs) (sym (ap (λ (b : Bool). if b then n ∷ entries_going chs ps (n + 1) next.entries else entries_going chs ps (n + 1) next.entries) goes))
         ∙ sym (ap (λ (x : Listed). items ++ entries_going chs ps n x.entries) e) ∙ h.numbers;
-    records =
-        h.records ∙ ap (λ (x : Listed). records_going chs ps n x.entries) e
-        ∙ (λ i. (goes i && plain i) || records_going chs ps (n + 1) next.entries);
     trouble = sym (ap (λ (x : Listed). x.trouble) e) ∙ h.trouble;
     count = omega (arith, h.count, fewer);
     room = omega (arith, h.room, length-append items (n ∷ []));
@@ -419,19 +375,10 @@ module _ (chs : List Channel) (ps : List (List ℕ)) (all left next : Listed) (m
     numbers =
         ap (λ (xs : List ℕ). items ++ xs) (sym (ap (λ (b : Bool). if b then n ∷ entries_going chs ps (n + 1) next.entries else entries_going chs ps (n + 1) next.entries) stays))
         ∙ sym (ap (λ (x : Listed). items ++ entries_going chs ps n x.entries) e) ∙ h.numbers;
-    records =
-        h.records ∙ ap (λ (x : Listed). records_going chs ps n x.entries) e
-        ∙ (λ i. (stays i && is_relative entry) || records_going chs ps (n + 1) next.entries);
     trouble = sym (ap (λ (x : Listed). x.trouble) e) ∙ h.trouble;
     count = omega (arith, h.count, fewer);
     room = omega (arith, h.room);
   }
-
--- a relative file is met
-pub records_met : (chs : List Channel) (ps : List (List ℕ)) (all left next : Listed) (most n : ℕ) (items : List ℕ) (entry : List ℕ) → left ≡ behind (entry ∷ []) next → Gathers chs ps all left most n items → entry_may_go chs ps n entry ≡ true
-    → is_relative entry ≡ true → records_going chs ps 0 all.entries ≡ true
-records_met chs ps all left next most n items entry e h goes relative =
-    h.records ∙ ap (λ (x : Listed). records_going chs ps n x.entries) e ∙ (λ i. (goes i && relative i) || records_going chs ps (n + 1) next.entries)
 
 -- all entries were met
 pub gathered_all : (chs : List Channel) (ps : List (List ℕ)) (all left : Listed) (most n : ℕ) (items : List ℕ) → Gathers chs ps all left most n items → left ≡ record { entries = []; trouble = None } → items ≡ entries_going chs ps 0 all.entries

@@ -1,10 +1,9 @@
 -- Of a text for channel 15 the first 256 bytes tell all.
-use Rattle.std.proofs.Common.{◌≡◌, ◌≢◌, ℕ, zero, suc, ◌+◌, ◌≤◌, Bool, true, false, List, [], ◌∷◌, ◌++◌, length, take, refl, sym, ap, ◌∙◌, subst, arith, inl, inr}
+use Rattle.std.proofs.Common.{◌≡◌, ◌≢◌, ℕ, zero, suc, ◌+◌, ◌≤◌, Bool, true, false, List, [], ◌∷◌, ◌++◌, length, take, refl, sym, ap, ◌∙◌, arith, inl, inr}
 use Rattle.std.specs.Prelude.{◌==◌, nat_lt, if◌then◌else◌, Result, Ok, Err}
 use Rattle.std.proofs.lemmas.Bool.{cases_lt, ne_eqb}
 use Rattle.std.proofs.lemmas.Bool.Decides.{nat_tests}
 use Rattle.cbm_command.specs.declared.command.Command.{Command}
-use Rattle.cbm_command.specs.declared.command.Command.TheVariants.{New, Scratch, Rename, Copy, Validate, Initialize, Position}
 use Rattle.cbm_command.specs.declared.refusal.Refusal.{Refusal}
 use Rattle.cbm_command.specs.declared.refusal.Refusal.TheVariants.{LongText}
 use Rattle.cbm_command.specs.Commands.{command_of}
@@ -13,9 +12,8 @@ use Rattle.cbm_machine.specs.Codes.{code_of_refusal}
 use Rattle.cbm_machine.specs.Machines.{Machine, say, answered}
 use Rattle.cbm_machine.specs.Plans.{asked}
 use Rattle.cbm_machine.specs.Running.{run}
-use Rattle.cbm_machine.specs.Closing.{without_text}
 use Rattle.cbm_machine.specs.Calls.{without_return, command, command_text}
-use Rattle.cbm_machine.specs.CarriedOut.{IsCommandCarriedOut, IsTextCarriedOut}
+use Rattle.cbm_channel.specs.Commanded.{formats}
 use Rattle.cbm_channel.proofs.Kept.{take_all}
 
 take_length : (n : ℕ) (xs : List ℕ) → n ≤ length xs → length (take n xs) ≡ n
@@ -47,20 +45,12 @@ pub asked_for : (w : List ℕ) (x : Command) (m : Machine) → 1 ≤ length w �
 asked_for [] x m some is = absurd (omega (arith, some))
 asked_for (c ∷ w) x m some is = ap (λ (r : Result Command Refusal). answered m (asked r >>= λ y. run y m)) is
 
-pub carried_command : (w : List ℕ) (x : Command) (m : Machine) → 1 ≤ length w → command_of w ≡ Ok x → IsTextCarriedOut w m → IsCommandCarriedOut (Ok x) m
-carried_command [] x m some is h = absurd (omega (arith, some))
-carried_command (c ∷ w) x m some is h = subst (λ (r : Result Command Refusal). IsCommandCarriedOut r m) is h
-
 -- ---- long texts
 
 long_of : (xs : List ℕ) → 59 ≤ length xs → command_of xs ≡ Err LongText
 long_of xs h =
     let over : nat_lt 58 (length xs) ≡ true = grind (arith, nat_tests, h) in
     rw over refl
-
-long_carried : (xs : List ℕ) (m : Machine) → 59 ≤ length xs → IsTextCarriedOut xs m
-long_carried [] m h = absurd (omega (arith, h))
-long_carried (c ∷ xs) m h = subst (λ (r : Result Command Refusal). IsCommandCarriedOut r m) (sym (long_of (c ∷ xs) h)) tt
 
 long_said : (xs : List ℕ) (m : Machine) → 59 ≤ length xs → command_text xs m ≡ say (code_of_refusal LongText) m
 long_said xs m h = refused xs LongText m (omega (arith, h)) (long_of xs h)
@@ -73,38 +63,10 @@ command_kept w m = elim (cases_lt 256 (length w)) [
   | inr short ↦ ap (λ x. command x m) (sym (take_all 256 w (omega (arith, short))))
 ]
 
-pub carried_kept : (w : List ℕ) (m : Machine) → IsTextCarriedOut (without_return w) m → IsTextCarriedOut (without_return (take 256 w)) m
-carried_kept w m h = elim (cases_lt 256 (length w)) [
-  | inl over ↦ (let b : 59 ≤ length (without_return (take 256 w)) = omega (arith, take_length 256 w (omega (arith, over)), shorter_by_one (take 256 w)) in
-      long_carried (without_return (take 256 w)) m b)
-  | inr short ↦ subst (λ x. IsTextCarriedOut (without_return x) m) (sym (take_all 256 w (omega (arith, short)))) h
-]
-
-command_on : (r : Result Command Refusal) (number : ℕ) (m : Machine) → IsCommandCarriedOut r m → IsCommandCarriedOut r (without_text number m)
-command_on (Err e) number m h = tt
-command_on (Ok (New a b)) number m h = h
-command_on (Ok (Scratch a)) number m h = h
-command_on (Ok (Rename a b)) number m h = tt
-command_on (Ok (Copy a b)) number m h = h
-command_on (Ok Validate) number m h = h
-command_on (Ok Initialize) number m h = tt
-command_on (Ok (Position a b c)) number m h = tt
-
--- the text is dropped before it is carried out
-pub carried_on : (w : List ℕ) (number : ℕ) (m : Machine) → IsTextCarriedOut w m → IsTextCarriedOut w (without_text number m)
-carried_on [] number m h = tt
-carried_on (c ∷ w) number m h = command_on (command_of (c ∷ w)) number m h
-
--- no other command is carried out
-pub nothing_else : (x : Command) (m : Machine) → ((ps : List (List ℕ)) → x ≡ Scratch ps → ⊥) → ((new old : List ℕ) → x ≡ Rename new old → ⊥) → (x ≡ Initialize → ⊥) → ((ch k p : ℕ) → x ≡ Position ch k p → ⊥)
-    → IsCommandCarriedOut (Ok x) m → ⊥
-nothing_else (New a b) m s r i p h = h
-nothing_else (Scratch a) m s r i p h = s a refl
-nothing_else (Rename a b) m s r i p h = r a b refl
-nothing_else (Copy a b) m s r i p h = h
-nothing_else Validate m s r i p h = h
-nothing_else Initialize m s r i p h = i refl
-nothing_else (Position a b c) m s r i p h = p a b c refl
+-- whether what was read is NEW
+abbrev pub formats_of : Result Command Refusal → Bool
+formats_of (Ok command) = formats command
+formats_of (Err e) = false
 
 -- a text that isn't empty
 pub not_empty : (xs : List ℕ) → (length xs == 0) ≡ false → 1 ≤ length xs

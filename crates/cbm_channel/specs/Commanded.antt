@@ -1,15 +1,13 @@
 -- What a command will do, beside what the machine does.
-use Rattle.std.specs.Prelude.{ℕ, ◌+◌, ◌≡◌, ◌≢◌, ◌==◌, ◌&&◌, ◌||◌, Bool, true, false, not, List, [], ◌∷◌, if◌then◌else◌, Option, Some, None, Result, Ok, Err}
+use Rattle.std.specs.Prelude.{ℕ, ◌+◌, ◌≡◌, ◌≢◌, ◌==◌, ◌&&◌, Bool, true, false, not, List, [], ◌∷◌, if◌then◌else◌, Option, Some, None, Result, Ok, Err}
 use Rattle.std.specs.List.{list_any}
-use Rattle.cbm_file.specs.declared.file_type.FileType.TheVariants.{Rel}
-use Rattle.cbm_file.specs.Types.{is_same_type}
 use Rattle.cbm_file.specs.Files.{File, Disk, file_at}
 use Rattle.cbm_file.specs.Changes.{scratched}
 use Rattle.cbm_command.specs.declared.command.Command.{Command}
 use Rattle.cbm_command.specs.declared.command.Command.TheVariants.{New, Scratch, Rename, Copy, Validate, Initialize, Position}
 use Rattle.cbm_command.specs.Commands.{command_of}
 use Rattle.cbm_command.specs.Names.{is_match}
-use Rattle.cbm_volume.specs.Entries.{type_byte, bit_of, is_relative, name_in}
+use Rattle.cbm_volume.specs.Entries.{type_byte, bit_of, name_in}
 use Rattle.cbm_volume.specs.Opens.{IsUnused}
 use Rattle.cbm_volume.specs.Writers.{Use}
 use Rattle.cbm_machine.specs.declared.code.Code.{Code}
@@ -29,11 +27,11 @@ IsOfCommandText command = (text : List ℕ) × (command_of text ≡ Ok command)
 
 -- it is one that may change the disk
 abbrev pub changes_disk : Command → Bool
-changes_disk (New name id) = false
+changes_disk (New name id) = true
 changes_disk (Scratch patterns) = true
 changes_disk (Rename new old) = true
-changes_disk (Copy new olds) = false
-changes_disk Validate = false
+changes_disk (Copy new olds) = true
+changes_disk Validate = true
 changes_disk Initialize = false
 changes_disk (Position ch k p) = false
 
@@ -45,6 +43,35 @@ commands_change text = elim (command_of (without_return text)) [ Ok command ↦ 
 abbrev pub ends_command : ℕ → Option (ℕ × List ℕ) → Bool
 ends_command ch None = false
 ends_command ch (Some t) = (ch == 15) && ((t.0 == 15) && commands_change t.1)
+
+-- ---- N
+
+-- it is NEW: where the medium fails in it, no disk is promised
+abbrev pub formats : Command → Bool
+formats (New name id) = true
+formats (Scratch patterns) = false
+formats (Rename new old) = false
+formats (Copy new olds) = false
+formats Validate = false
+formats Initialize = false
+formats (Position ch k p) = false
+
+-- the text of a command is
+abbrev pub text_formats : List ℕ → Bool
+text_formats text = elim (command_of (without_return text)) [ Ok command ↦ formats command | Err e ↦ false ]
+
+-- the text of an OPEN is
+abbrev pub open_formats : ℕ → List ℕ → Bool
+open_formats ch text = (ch == 15) && text_formats text
+
+-- the text that is gathered for channel 15 is
+abbrev pub end_formats : ℕ → Option (ℕ × List ℕ) → Bool
+end_formats ch None = false
+end_formats ch (Some t) = (ch == 15) && ((t.0 == 15) && text_formats t.1)
+
+-- the medium doesn't fail in NEW
+abbrev pub IsWhole : Bool → Type 0 → Type 0
+IsWhole formats failed = formats ≡ true → failed → ⊥
 
 -- ---- R
 
@@ -74,11 +101,6 @@ abbrev pub entries_going : List Channel → List (List ℕ) → ℕ → List (Li
 entries_going channels ps n [] = []
 entries_going channels ps n (e ∷ entries) = if entry_may_go channels ps n e then n ∷ entries_going channels ps (n + 1) entries else entries_going channels ps (n + 1) entries
 
--- a relative file is among them
-abbrev pub records_going : List Channel → List (List ℕ) → ℕ → List (List ℕ) → Bool
-records_going channels ps n [] = false
-records_going channels ps n (e ∷ entries) = (entry_may_go channels ps n e && is_relative e) || records_going channels ps (n + 1) entries
-
 -- the numbers of the slots that the machine clears, counted from n
 abbrev pub slots_going : Machine → List (List ℕ) → ℕ → List (Option File) → List ℕ
 slots_going m ps n [] = []
@@ -90,11 +112,10 @@ abbrev pub all_scratched : Disk → List ℕ → Disk
 all_scratched d [] = d
 all_scratched d (n ∷ ns) = all_scratched (scratched d n) ns
 
--- the slot has a file without records that no channel has open
+-- the slot has a file that no channel has open
 pub record CanGo (d : Disk) (uses : ℕ → Use) (n : ℕ) : Type 0 where
   pub file : File
   pub in_slot : file_at d n ≡ Some file
-  pub plain : is_same_type Rel file.kind ≡ false
   pub unused : IsUnused uses n
 
 -- each of the slots can go when its turn has come

@@ -5,6 +5,7 @@ pub mod Grounds
 pub mod Shown
 pub mod Taken
 pub mod Commanded
+pub mod Joined
 pub mod Planned
 pub mod Sought
 pub mod Listing

@@ -1,5 +1,5 @@
 -- What a channel of the code shows, on any disk.
-use Rattle.std.specs.Prelude.{ℕ, ◌≡◌, ◌==◌, Bool, true, false, drop, slice_index_or, if◌then◌else◌, Option, None}
+use Rattle.std.specs.Prelude.{ℕ, ◌≡◌, ◌==◌, Bool, true, false, not, drop, slice_index_or, if◌then◌else◌, Option, None}
 use Rattle.cbm_file.specs.Waiting.{shown}
 use Rattle.cbm_channel.specs.declared.channel.Channel.{Channel}
 use Rattle.cbm_channel.specs.declared.channel.Channel.TheVariants as code
@@ -13,6 +13,10 @@ is_closed (code.Listing l) = false
 is_closed (code.File slot r) = false
 is_closed (code.Writing w full) = false
 is_closed (code.Stopped slot) = false
+
+-- something is open
+abbrev pub is_open : Channel → Bool
+is_open x = not (is_closed x)
 
 -- it is open for reading
 abbrev pub is_read : Channel → Bool

@@ -1,6 +1,6 @@
 ghost use Rattle.std.specs.Prelude.{◌≡◌, ◌≤◌, length, sum_by};
 ghost use Rattle.std.specs.List.{list_any};
-ghost use Rattle.cbm_channel.specs.Shown.{cost_on, writes_on, uses_on};
+ghost use Rattle.cbm_channel.specs.Shown.{is_open, cost_on, writes_on, uses_on};
 ghost use Rattle.cbm_file.specs.Waiting.{shown};
 ghost use Rattle.cbm_channel.specs.declared.channel.Channel.TheVariants.{Closed};
 
@@ -60,6 +60,13 @@ pub(crate) fn any_uses(channels: &[Channel], slot: u8) -> bool
         None => false,
         Some((first, rest)) => first.uses(slot) || any_uses(rest, slot),
     }
+}
+
+/// Whether a channel is open.
+pub(crate) fn any_open(channels: &[Channel]) -> bool
+    ensures { result ≡ list_any is_open channels.now }
+{
+    channels.iter().any(|channel| !channel.is_closed())
 }
 
 impl Channel {

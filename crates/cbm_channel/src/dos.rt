@@ -5,12 +5,15 @@ use cbm_volume::{Medium, Volume};
 use std::marker::Model;
 
 mod closing;
+mod copying;
+mod formatting;
 mod opening;
 mod planning;
 mod putting;
 mod renaming;
 mod scratching;
 mod talking;
+mod validating;
 
 /// The drive's DOS on a medium: files, the listing and the status by sixteen channels, the secondary addresses.
 #[derive(Drop)]

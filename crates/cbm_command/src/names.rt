@@ -34,9 +34,10 @@ impl Names {
         self.names.push(name);
     }
 
-    /// The names.
+    /// The names, at most 58.
     pub fn as_slice(&self) -> &[Name]
-        ensures { result.now ≡ self.now }
+        ensures names { result.now ≡ self.now }
+        ensures few { length self.now ≤ 58 }
     {
         self.names.as_slice()
     }

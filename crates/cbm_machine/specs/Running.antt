@@ -1,5 +1,5 @@
 -- The commands.
-use Rattle.std.specs.Prelude.{ℕ, ◌+◌, ◌-◌, ◌/◌, ◌==◌, nat_lt, Bool, ◌&&◌, ◌||◌, not, List, [], ◌∷◌, length, flat_map, map, if◌then◌else◌, Option, Some, None, is_some, Result, Ok, Err}
+use Rattle.std.specs.Prelude.{ℕ, ◌+◌, ◌-◌, ◌==◌, nat_lt, Bool, ◌&&◌, ◌||◌, not, List, [], ◌∷◌, length, flat_map, if◌then◌else◌, Option, Some, None, is_some, Result, Ok, Err}
 use Rattle.std.specs.List.{list_any}
 use Rattle.cbm_file.specs.declared.file_type.FileType.TheVariants.{Del, Rel}
 use Rattle.cbm_file.specs.Files.{Bytes, File, Disk, blocks_of, held_on, files, with_slot, bytes_in, record_length_in}

@@ -19,6 +19,7 @@ fn without_return(text: &[u8]) -> &[u8]
 
 impl<M: Medium> Dos<M> {
     ghost use Rattle.std.specs.Prelude.{◌≡◌, ◌≤◌, ◌<◌, ℕ, [], ◌∷◌, false, Some, Ok, IfSome, MatchOption};
+    ghost use Rattle.cbm_medium.specs.Seen.{HasFailed};
     ghost use Rattle.cbm_machine.specs.Machines.{Machine, answered};
     ghost use Rattle.cbm_machine.specs.Closing.{without_text};
     ghost use Rattle.cbm_machine.specs.Calls.{put, end_put, gather, command, without_return};
@@ -28,8 +29,7 @@ impl<M: Medium> Dos<M> {
     ghost use Rattle.cbm_channel.specs.Standing.{Stands, SameBut, Leads, HasNoText, HasText};
     ghost use Rattle.cbm_channel.specs.Shown.{is_writing_on, IsQuiet};
     ghost use Rattle.cbm_channel.specs.Going.{Goes, GoesFrom, Went, WentFrom, put_written, KeepsMedium};
-    ghost use Rattle.cbm_channel.specs.Commanded.{IsOfCommandText, changes_disk, commands_change, ends_command};
-    ghost use Rattle.cbm_machine.specs.CarriedOut.{IsPutCarriedOut, IsTextCarriedOut, IsCommandCarriedOut};
+    ghost use Rattle.cbm_channel.specs.Commanded.{IsOfCommandText, changes_disk, commands_change, ends_command, IsWhole, formats, text_formats, end_formats};
 
     /// A byte that the host sends to a channel: on 15 it is gathered for a command, and on a channel that is open for
     /// writing it goes to its file; on others it is dropped. The first byte for which no block is free sets the status
@@ -101,7 +101,9 @@ impl<M: Medium> Dos<M> {
     /// The host sends no more (UNLISTEN): the text that was gathered for channel 15 is carried out as a command.
     pub fn end_put(&mut self, channel: u8)
         requires { channel ≤ 15 }
-        ensures goes { (m : Machine) → IsPutCarriedOut channel m → Stands M.seen self.old m →
+        ensures goes { (m : Machine) → Stands M.seen self.old m →
+            IsWhole (end_formats channel self.old.text)
+            (HasFailed (M.seen self.old.medium) (M.seen self.new.medium)) →
             GoesFrom M.seen self.old self.new ((channel, end_put channel) ∷ []) m }
         // On any disk:
         ensures others { SameBut channel self.old.channels self.new.channels }
@@ -119,7 +121,8 @@ impl<M: Medium> Dos<M> {
 
     /// Carries a text for channel 15 out; an empty one does nothing.
     pub(super) fn command(&mut self, text: &[u8])
-        ensures goes { (m : Machine) → IsTextCarriedOut (without_return text.now) m → Stands M.seen self.old m →
+        ensures goes { (m : Machine) → Stands M.seen self.old m →
+            IsWhole (text_formats text.now) (HasFailed (M.seen self.old.medium) (M.seen self.new.medium)) →
             WentFrom M.seen self.old self.new 15 (command text.now) m }
         ensures channels { self.new.channels ≡ self.old.channels }
         ensures quiet { commands_change text.now ≡ false →
@@ -138,8 +141,8 @@ impl<M: Medium> Dos<M> {
 
     /// Carries a command out.
     fn run(&mut self, command: &Command)
-        ensures goes { (m : Machine) → IsOfCommandText command.now → IsCommandCarriedOut (Ok command.now) m →
-            Stands M.seen self.old m →
+        ensures goes { (m : Machine) → IsOfCommandText command.now → Stands M.seen self.old m →
+            IsWhole (formats command.now) (HasFailed (M.seen self.old.medium) (M.seen self.new.medium)) →
             WentFrom M.seen self.old self.new 15 (λ n. answered n (run command.now n)) m }
         ensures channels { self.new.channels ≡ self.old.channels }
         ensures quiet { changes_disk command.now ≡ false →
@@ -147,11 +150,13 @@ impl<M: Medium> Dos<M> {
         ensures medium { KeepsMedium (M.seen self.old.medium) (M.seen self.new.medium) }
     {
         match command {
+            Command::New(title, id) => self.format(title, *id),
             Command::Scratch(patterns) => self.scratch(patterns),
             Command::Rename(new, old) => self.rename(new, old),
+            Command::Copy(new, olds) => self.copy(new, olds),
+            Command::Validate => self.validate(),
             Command::Initialize => self.say(Code::Fine),
             Command::Position(channel, _, _) => self.place(*channel),
-            _ => self.say(Code::UnknownCommand),
         }
     }
 

@@ -49,7 +49,6 @@ impl<M: Medium> Dos<M> {
     ghost use Rattle.cbm_volume.specs.Writers.{HoldsNow, Stopped};
     ghost use Rattle.cbm_machine.specs.Machines.{Machine, answered};
     ghost use Rattle.cbm_machine.specs.Running.{scratch};
-    ghost use Rattle.cbm_machine.specs.CarriedOut.{scratches_records};
     ghost use Rattle.cbm_channel.specs.Grounds.{HasGround};
     ghost use Rattle.cbm_channel.specs.Standing.{Stands, uses_of};
     ghost use Rattle.cbm_channel.specs.Going.{WentFrom, KeepsMedium};
@@ -57,8 +56,7 @@ impl<M: Medium> Dos<M> {
 
     /// S: each file that matches a pattern, isn't locked and isn't open goes; 01 tells how many.
     pub(super) fn scratch(&mut self, patterns: &Names)
-        ensures goes { (m : Machine) → scratches_records m patterns.now 0 m.disk.slots ≡ false →
-            Stands M.seen self.old m →
+        ensures goes { (m : Machine) → Stands M.seen self.old m →
             WentFrom M.seen self.old self.new 15 (λ n. answered n (scratch patterns.now n)) m }
         ensures channels { self.new.channels ≡ self.old.channels }
         ensures medium { KeepsMedium (M.seen self.old.medium) (M.seen self.new.medium) }
@@ -69,14 +67,13 @@ impl<M: Medium> Dos<M> {
         }
     }
 
-    /// The slots of the files that go. Errors: 64 one is a relative file, which isn't scratched so far; 26 the disk is
-    /// protected; or the fault of the directory.
+    /// The slots of the files that go. Errors: 26 the disk is protected; or the fault of the directory.
     fn plan_scratch(&self, patterns: &Names) -> Result<Numbers, Status>
         ensures ground { IfErr result (HasGround M.seen self.now.medium) }
-        ensures planned { (m : Machine) → scratches_records m patterns.now 0 m.disk.slots ≡ false →
-            Stands M.seen self.now m → IfOk result (λ v. IsGoing m patterns.now v.items) }
-        ensures refused { (m : Machine) → scratches_records m patterns.now 0 m.disk.slots ≡ false →
-            Stands M.seen self.now m → IfErr result (RefusesScratch m patterns.now) }
+        ensures planned { (m : Machine) → Stands M.seen self.now m →
+            IfOk result (λ v. IsGoing m patterns.now v.items) }
+        ensures refused { (m : Machine) → Stands M.seen self.now m →
+            IfErr result (RefusesScratch m patterns.now) }
         ensures few { IfOk result (λ v. length v.items ≤ 144) }
     {
         let slots = self.slots_going(patterns)?;
@@ -86,13 +83,13 @@ impl<M: Medium> Dos<M> {
         Ok(slots)
     }
 
-    /// The slots of the files that may go, in order. Errors: 64 one is a relative file; or the fault of the directory.
+    /// The slots of the files that may go, in order. An `Err` is the fault of the directory.
     fn slots_going(&self, patterns: &Names) -> Result<Numbers, Status>
         ensures ground { IfErr result (HasGround M.seen self.now.medium) }
         ensures value { let now = M.seen self.now.medium in IfOk result (λ v. v.items ≡ entries_going
             self.now.channels patterns.now 0 (directory_of (geometry_of now.tracks now.content) now.content).entries) }
-        ensures means { (m : Machine) → scratches_records m patterns.now 0 m.disk.slots ≡ false →
-            Stands M.seen self.now m → IsOkAnd result (λ v. v.items ≡ slots_going m patterns.now 0 m.disk.slots) }
+        ensures means { (m : Machine) → Stands M.seen self.now m →
+            IsOkAnd result (λ v. v.items ≡ slots_going m patterns.now 0 m.disk.slots) }
     {
         let channels = self.channels.as_slice();
         let mut slots = self.volume.slots();
@@ -100,9 +97,6 @@ impl<M: Medium> Dos<M> {
         let mut going = Numbers::new();
         'slots: while let Some(entry) = self.volume.next_slot(&mut slots)? {
             if may_go(channels, patterns.as_slice(), number, &entry) {
-                if entry.is_relative() {
-                    return Err(Status::plain(Code::WrongType));
-                }
                 going.push(number);
             }
             number += 1;
@@ -113,8 +107,7 @@ impl<M: Medium> Dos<M> {
     /// Scratches these slots, and tells how many they were.
     fn scratch_slots(&mut self, slots: &[u8])
         requires { length slots.now ≤ 144 }
-        ensures goes { (m : Machine) (patterns : _) → scratches_records m patterns 0 m.disk.slots ≡ false →
-            IsGoing m patterns slots.now → Stands M.seen self.old m →
+        ensures goes { (m : Machine) (patterns : _) → IsGoing m patterns slots.now → Stands M.seen self.old m →
             WentFrom M.seen self.old self.new 15 (λ n. answered n (scratch patterns n)) m }
         ensures channels { self.new.channels ≡ self.old.channels }
         ensures count { length self.new.channels ≡ 15 }

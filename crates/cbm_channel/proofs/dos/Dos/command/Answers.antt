@@ -1,22 +1,23 @@
-use Rattle.std.proofs.Common.{◌≤◌, length, sym, ap, subst, ◌∙◌, inl}
+use Rattle.std.proofs.Common.{◌≤◌, length, sym, ap, ◌∙◌, inl}
 use Rattle.cbm_machine.specs.Calls.{command_text, command}
-use Rattle.cbm_machine.specs.CarriedOut.{IsTextCarriedOut}
 use Rattle.cbm_machine.specs.Machines.{answered, say}
 use Rattle.cbm_machine.specs.Running.{run}
+use Rattle.cbm_command.specs.Commands.{command_of}
 use Rattle.cbm_channel.proofs.Goings.{part_same}
-use Rattle.cbm_channel.proofs.Texts.{refused, asked_for, carried_command, not_empty}
+use Rattle.cbm_channel.proofs.Texts.{refused, asked_for, not_empty, formats_of}
 use Rattle.cbm_channel.proofs.dos.Dos.command.Goals as goal
 
 pub returns-in-Ok-clause-goes : goal.returns-in-Ok-clause-goes
-returns-in-Ok-clause-goes g c = λ m carried s.
+returns-in-Ok-clause-goes g c = λ m s whole.
     let some : 1 ≤ length c.without_return-text.result.now = not_empty c.without_return-text.result.now (sym c.is_empty.ensures ∙ c.if-is_empty.false) in
     let is = sym c.parse_command.ensures ∙ c.in-Ok.is in
     let text = c.without_return-text.ensures in
-    let next = c.run.ensures.goes m (c.without_return-text.result.now, is) (carried_command c.without_return-text.result.now c.in-Ok.command m some is (subst (λ x. IsTextCarriedOut x m) (sym text) carried)) s in
+    let next = c.run.ensures.goes m (c.without_return-text.result.now, is) s
+    (λ e. whole (ap formats_of (ap command_of (sym text) ∙ is) ∙ e)) in
     (next.0, part_same _ 15 (λ n. answered n (run c.in-Ok.command n)) (command c.args.text.now) m next.0 (ap (λ w. command_text w m) (sym text) ∙ asked_for c.without_return-text.result.now c.in-Ok.command m some is) next.1, next.2)
 
 pub returns-in-Err-clause-goes : goal.returns-in-Err-clause-goes
-returns-in-Err-clause-goes g c = λ m carried s.
+returns-in-Err-clause-goes g c = λ m s whole.
     let some : 1 ≤ length c.without_return-text.result.now = not_empty c.without_return-text.result.now (sym c.is_empty.ensures ∙ c.if-is_empty.false) in
     let is = sym c.parse_command.ensures ∙ c.in-Err.is in
     let text = c.without_return-text.ensures in (

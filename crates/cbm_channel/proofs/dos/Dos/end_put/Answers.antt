@@ -2,30 +2,33 @@ use Rattle.std.proofs.Common.{◌≡◌, ◌≤◌, ℕ, List, length, take, ref
 use Rattle.std.specs.Prelude.{◌==◌, ◌&&◌, true, false}
 use Rattle.std.proofs.lemmas.Bool.{eq-eqb}
 use Rattle.cbm_medium.specs.Seen.{HasFailed}
-use Rattle.cbm_machine.specs.Calls.{without_return, end_put}
-use Rattle.cbm_machine.specs.CarriedOut.{IsTextCarriedOut}
+use Rattle.cbm_machine.specs.Calls.{end_put}
 use Rattle.cbm_machine.specs.Closing.{without_text}
 use Rattle.cbm_machine.specs.Calls.{text_for, command}
-use Rattle.cbm_channel.specs.Commanded.{commands_change, ends_command}
+use Rattle.cbm_channel.specs.Commanded.{commands_change, ends_command, text_formats, end_formats}
 use Rattle.cbm_channel.specs.Going.{Passes}
 use Rattle.cbm_channel.proofs.Asked.{below_15, store_command, store_other}
 use Rattle.cbm_channel.proofs.Goings.{text_passes}
 use Rattle.cbm_channel.proofs.Stands.{zip_at}
-use Rattle.cbm_channel.proofs.Texts.{some_kept, command_kept, carried_kept, carried_on}
+use Rattle.cbm_channel.proofs.Texts.{some_kept, command_kept}
 use Rattle.cbm_channel.proofs.Troubles.{told_for}
 use Rattle.cbm_channel.proofs.dos.Dos.end_put.Goals as goal
 
 -- a command
 pub returns-then-channel-eq15-clause-goes : goal.returns-then-channel-eq15-clause-goes
-returns-then-channel-eq15-clause-goes g c = λ m carried s.
+returns-then-channel-eq15-clause-goes g c = λ m s unfailed.
     let has = c.in-Some.ensures.text m s in
     let whole : List ℕ = text_for c.args.channel m.text in
     let some : 1 ≤ length whole = some_kept whole (subst (λ x. 1 ≤ length x) has.kept has.some) in
     let bytes : take 256 whole ≡ c.bytes.result.now = sym has.kept ∙ sym c.bytes.ensures in
     let fifteen : (c.args.channel == 15) ≡ true = eq-eqb c.args.channel 15 c.if-channel-eq15.true in
+    let number : (c.in-Some.text.0 == 15) ≡ true = eq-eqb c.in-Some.text.0 15 (c.in-Some.ensures.taken.1 ∙ c.if-channel-eq15.true) in
+    let kept = sym c.bytes.ensures in
     let law : end_put c.args.channel m ≡ command c.bytes.result.now (without_text c.args.channel m) =
     store_command c.args.channel whole m some fifteen ∙ command_kept whole (without_text c.args.channel m) ∙ ap (λ x. command x (without_text c.args.channel m)) bytes in
-    let next = c.command.ensures.goes (without_text c.args.channel m) (subst (λ x. IsTextCarriedOut (without_return x) (without_text c.args.channel m)) bytes (carried_on (without_return (take 256 whole)) c.args.channel m (carried_kept whole m carried))) (c.in-Some.ensures.leads m s) in
+    let next = c.command.ensures.goes (without_text c.args.channel m) (c.in-Some.ensures.leads m s)
+    (λ e f. unfailed (ap (end_formats c.args.channel) c.in-Some.ensures.taken.0 ∙ (λ i. fifteen i && (number i && text_formats (kept i))) ∙ e)
+    (subst (λ v. HasFailed (g.M.Medium.seen v) (g.M.Medium.seen c.command.new.self.medium)) c.in-Some.ensures.medium f)) in
     let passes = text_passes _ 15 c.args.channel (command c.bytes.result.now) (end_put c.args.channel) m next.0 law next.1 in (
       next.0,
       (
@@ -49,7 +52,7 @@ returns-then-channel-eq15-clause-quiet g c = λ quiet.
 
 -- no channel has records
 pub returns-else-channel-eq15-clause-goes : goal.returns-else-channel-eq15-clause-goes
-returns-else-channel-eq15-clause-goes g c = λ m carried s.
+returns-else-channel-eq15-clause-goes g c = λ m s unfailed.
     let has = c.in-Some.ensures.text m s in
     let whole : List ℕ = text_for c.args.channel m.text in
     let some : 1 ≤ length whole = some_kept whole (subst (λ x. 1 ≤ length x) has.kept has.some) in

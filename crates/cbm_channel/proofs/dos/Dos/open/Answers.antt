@@ -1,5 +1,5 @@
 use Rattle.std.proofs.Common.{◌≡◌, sym, ap, subst, ◌∙◌, arith, refl, inl, inr}
-use Rattle.std.specs.Prelude.{◌==◌, true}
+use Rattle.std.specs.Prelude.{◌==◌, ◌&&◌, true}
 use Rattle.cbm_machine.specs.Codes.{code_number}
 use Rattle.cbm_channel.specs.Grounds.{is_fault_number, HasGround}
 use Rattle.std.proofs.lemmas.Bool.{eq-eqb}
@@ -7,24 +7,26 @@ use Rattle.cbm_machine.specs.Machines.{say}
 use Rattle.cbm_machine.specs.Closing.{close_one}
 use Rattle.cbm_machine.specs.Plans.{open_text}
 use Rattle.cbm_channel.specs.Going.{GoesFrom}
+use Rattle.cbm_channel.specs.Commanded.{text_formats}
 use Rattle.cbm_channel.specs.Planned.{begun_by}
 use Rattle.cbm_channel.proofs.Asked.{below_15}
 use Rattle.cbm_channel.proofs.Stands.{moved}
-use Rattle.cbm_channel.proofs.Planning.{opened_text, refused_text, carried_text, carried_command, writes_text, own_refusal}
-use Rattle.cbm_channel.proofs.Goings.{part_same, close_then, close_begin, parts_other, parts_command, after_close, after_none}
+use Rattle.cbm_channel.proofs.Planning.{opened_text, refused_text, carried_text, writes_text, own_refusal}
+use Rattle.cbm_channel.proofs.Goings.{part_same, close_then, close_begin, parts_other, parts_command, after_close}
 use Rattle.cbm_channel.proofs.dos.Dos.open.Goals as goal
 
 -- a command
 pub returns-then-channel-eq15-clause-goes : goal.returns-then-channel-eq15-clause-goes
-returns-then-channel-eq15-clause-goes g c = λ m s carried.
+returns-then-channel-eq15-clause-goes g c = λ m s carried whole.
     let fifteen : (c.args.channel == 15) ≡ true = eq-eqb c.args.channel 15 c.if-channel-eq15.true in
-    let next = c.command.ensures.goes m (carried_command c.args.channel c.args.text.now m fifteen (carried m (after_none g.M.Medium.seen c.args.self.now c.command.new.self c.args.channel m fifteen))) s in
+    let next = c.command.ensures.goes m s
+    (λ e. whole (ap (λ b. b && text_formats c.args.text.now) fifteen ∙ e)) in
     subst (λ parts. GoesFrom g.M.Medium.seen c.args.self.now c.command.new.self parts m) (sym (parts_command c.args.channel c.args.text.now fifteen))
     (next.0, (next.0, next.1, refl), next.2)
 
 -- CLOSE, and then OPEN
 pub returns-in-Ok-clause-goes : goal.returns-in-Ok-clause-goes
-returns-in-Ok-clause-goes g c = λ m s carried.
+returns-in-Ok-clause-goes g c = λ m s carried whole.
     let other = below_15 c.args.channel (omega (arith, c.requires, c.if-channel-eq15.false)) in
     let is = sym c.parse_open.ensures.value ∙ c.in-Ok.is in
     subst (λ parts. GoesFrom g.M.Medium.seen c.args.self.now c.begin.new.self parts m) (sym (parts_other c.args.channel c.args.text.now other))
@@ -35,7 +37,7 @@ returns-in-Ok-clause-goes g c = λ m s carried.
     (next.0, part_same _ c.args.channel (begun_by c.args.channel c.in-Ok.opening) (open_text c.args.channel c.args.text.now) n next.0 (opened_text c.args.channel c.args.text.now c.in-Ok.opening n is) next.1, next.2)))
 
 pub returns-in-Err-clause-goes : goal.returns-in-Err-clause-goes
-returns-in-Err-clause-goes g c = λ m s carried.
+returns-in-Err-clause-goes g c = λ m s carried whole.
     let other = below_15 c.args.channel (omega (arith, c.requires, c.if-channel-eq15.false)) in
     let is = sym c.parse_open.ensures.value ∙ c.in-Err.is in
     subst (λ parts. GoesFrom g.M.Medium.seen c.args.self.now c.say.new.self parts m) (sym (parts_other c.args.channel c.args.text.now other))

@@ -1,31 +1,41 @@
-use Rattle.std.proofs.Common.{sym, ap, subst, ◌∙◌, inl}
+use Rattle.std.proofs.Common.{sym, ap, ◌∙◌, inl}
 use Rattle.std.specs.Prelude.{Ok}
-use Rattle.cbm_machine.specs.CarriedOut.{IsCommandCarriedOut}
+use Rattle.cbm_command.specs.declared.command.Command.TheVariants.{New, Validate}
 use Rattle.cbm_machine.specs.Machines.{answered}
-use Rattle.cbm_machine.specs.Running.{run, rename, scratch}
+use Rattle.cbm_machine.specs.Running.{run, rename, scratch, copy}
+use Rattle.cbm_channel.specs.Commanded.{formats}
 use Rattle.cbm_channel.proofs.Goings.{part_same}
-use Rattle.cbm_channel.proofs.Named.{new_name_cut}
-use Rattle.cbm_channel.proofs.Texts.{nothing_else}
+use Rattle.cbm_channel.proofs.Named.{new_name_cut, copy_name_cut}
 use Rattle.cbm_channel.proofs.dos.Dos.run.Goals as goal
 
+pub returns-in-New-clause-goes : goal.returns-in-New-clause-goes
+returns-in-New-clause-goes g c = λ m of s whole.
+    let next = c.format.ensures.goes (whole (ap formats c.in-New.is)) m s in
+    (next.0, part_same _ 15 (λ n. answered n (run (New c.in-New.title c.in-New.id) n)) (λ n. answered n (run c.args.command.now n)) m next.0 (ap (λ x. answered m (run x m)) c.in-New.is) next.1, next.2)
+
 pub returns-in-Scratch-clause-goes : goal.returns-in-Scratch-clause-goes
-returns-in-Scratch-clause-goes g c = λ m of carried s.
-    let next = c.scratch.ensures.goes m (subst (λ x. IsCommandCarriedOut (Ok x) m) c.in-Scratch.is carried) s in
+returns-in-Scratch-clause-goes g c = λ m of s whole.
+    let next = c.scratch.ensures.goes m s in
     (next.0, part_same _ 15 (λ n. answered n (scratch c.in-Scratch.patterns n)) (λ n. answered n (run c.args.command.now n)) m next.0 (ap (λ x. answered m (run x m)) c.in-Scratch.is) next.1, next.2)
 
 pub returns-in-Rename-clause-goes : goal.returns-in-Rename-clause-goes
-returns-in-Rename-clause-goes g c = λ m of carried s.
+returns-in-Rename-clause-goes g c = λ m of s whole.
     let next = c.rename.ensures.goes (new_name_cut of.0 c.in-Rename.new c.in-Rename.old (of.1 ∙ ap (λ x. Ok x) c.in-Rename.is)) m s in
     (next.0, part_same _ 15 (λ n. answered n (rename c.in-Rename.new c.in-Rename.old n)) (λ n. answered n (run c.args.command.now n)) m next.0 (ap (λ x. answered m (run x m)) c.in-Rename.is) next.1, next.2)
 
+pub returns-in-Copy-clause-goes : goal.returns-in-Copy-clause-goes
+returns-in-Copy-clause-goes g c = λ m of s whole.
+    let next = c.copy.ensures.goes (copy_name_cut of.0 c.in-Copy.new c.in-Copy.olds (of.1 ∙ ap (λ x. Ok x) c.in-Copy.is)) m s in
+    (next.0, part_same _ 15 (λ n. answered n (copy c.in-Copy.new c.in-Copy.olds n)) (λ n. answered n (run c.args.command.now n)) m next.0 (ap (λ x. answered m (run x m)) c.in-Copy.is) next.1, next.2)
+
+pub returns-in-Validate-clause-goes : goal.returns-in-Validate-clause-goes
+returns-in-Validate-clause-goes g c = λ m of s whole.
+    let next = c.validate.ensures.goes m s in
+    (next.0, part_same _ 15 (λ n. answered n (run Validate n)) (λ n. answered n (run c.args.command.now n)) m next.0 (ap (λ x. answered m (run x m)) c.in-Validate.is) next.1, next.2)
+
 -- nothing is read anew, as the disk is always what it is
 pub returns-in-Initialize-clause-goes : goal.returns-in-Initialize-clause-goes
-returns-in-Initialize-clause-goes g c = λ m of carried s. (_, inl (sym (ap (λ x. answered m (run x m)) c.in-Initialize.is)), c.say.ensures.leads m s)
+returns-in-Initialize-clause-goes g c = λ m of s whole. (_, inl (sym (ap (λ x. answered m (run x m)) c.in-Initialize.is)), c.say.ensures.leads m s)
 
 pub returns-in-Position-clause-goes : goal.returns-in-Position-clause-goes
-returns-in-Position-clause-goes g c = λ m of carried s. (_, inl (sym (ap (λ x. answered m (run x m)) c.in-Position.is)), c.place.ensures.leads _ _ m s)
-
--- no other command is carried out yet
-pub returns-in_default-clause-goes : goal.returns-in_default-clause-goes
-returns-in_default-clause-goes g c = λ m of carried s.
-    absurd (nothing_else c.args.command.now m (λ ps e. c.in_default.not-Scratch ps e) (λ new old e. c.in_default.not-Rename new old e) (λ e. c.in_default.not-Initialize e) (λ ch k p e. c.in_default.not-Position ch k p e) carried)
+returns-in-Position-clause-goes g c = λ m of s whole. (_, inl (sym (ap (λ x. answered m (run x m)) c.in-Position.is)), c.place.ensures.leads _ _ m s)

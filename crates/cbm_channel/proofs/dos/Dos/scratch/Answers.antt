@@ -3,6 +3,6 @@ use Rattle.cbm_machine.specs.Machines.{answered, tell}
 use Rattle.cbm_channel.proofs.dos.Dos.scratch.Goals as goal
 
 pub returns-in-Err-clause-goes : goal.returns-in-Err-clause-goes
-returns-in-Err-clause-goes g c = λ m none s.
-    let x = c.in-Err.ensures.refused m none s in
+returns-in-Err-clause-goes g c = λ m s.
+    let x = c.in-Err.ensures.refused m s in
     (tell c.in-Err.status m, inl (sym (ap (answered m) x.0 ∙ ap (λ t. tell t m) (sym x.1))), c.set.ensures.leads m s)

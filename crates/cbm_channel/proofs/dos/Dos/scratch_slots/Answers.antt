@@ -11,10 +11,10 @@ use Rattle.cbm_channel.proofs.Stores.{renamed}
 use Rattle.cbm_channel.proofs.dos.Dos.scratch_slots.Goals as goal
 
 pub returns-in-Ok-clause-goes : goal.returns-in-Ok-clause-goes
-returns-in-Ok-clause-goes g c = λ m ps none going s.
+returns-in-Ok-clause-goes g c = λ m ps going s.
     let old = c.args.self.now in
     let whole = c.clear.ensures.rest in
-    let can = all_can_go m ps (uses_of old.channels m.channels) (λ n u. unused_at n old.channels m s.each u) c.args.slots.now going.all none in
+    let can = all_can_go m ps (uses_of old.channels m.channels) (λ n u. unused_at n old.channels m s.each u) c.args.slots.now going.all in
     let next = scratch_stands _ _ (g.M.Medium.seen c.clear.new.self.medium).content _ old.channels old.told old.text m s ps c.args.slots.now going (c.in-Ok.ensures.scratched m s can) in (
       tell (record { code = FilesScratched; first = length c.args.slots.now; second = 0 }) (with_disk (all_scratched m.disk c.args.slots.now) m),
       inl (sym (scratch_done m ps c.args.slots.now going)),
@@ -24,10 +24,10 @@ returns-in-Ok-clause-goes g c = λ m ps none going s.
 
 -- a write was refused
 pub returns-in-Err-clause-goes : goal.returns-in-Err-clause-goes
-returns-in-Err-clause-goes g c = λ m ps none going s.
+returns-in-Err-clause-goes g c = λ m ps going s.
     let old = c.args.self.now in
     let whole = c.clear.ensures.rest in
-    let can = all_can_go m ps (uses_of old.channels m.channels) (λ n u. unused_at n old.channels m s.each u) c.args.slots.now going.all none in
+    let can = all_can_go m ps (uses_of old.channels m.channels) (λ n u. unused_at n old.channels m s.each u) c.args.slots.now going.all in
     let stop = c.in-Err.ensures.stopped m s can going.unprotected in
     let next = scratch_cut _ _ (g.M.Medium.seen c.clear.new.self.medium).content _ old.channels old.told old.text m s ps c.args.slots.now going stop.0 in (
       _,

@@ -1,15 +1,14 @@
-use Rattle.std.proofs.Common.{◌≡◌, sym, ap, subst, ◌∙◌}
-use Rattle.std.specs.Prelude.{Ok, true}
+use Rattle.std.proofs.Common.{sym, ap, subst, ◌∙◌}
+use Rattle.std.specs.Prelude.{Ok}
 use Rattle.cbm_volume.specs.Map.{geometry_of}
 use Rattle.cbm_volume.specs.Slots.{Gives, directory_of, left_of}
 use Rattle.cbm_volume.specs.Holding.{HoldsDisk, TellsOf}
-use Rattle.cbm_channel.specs.Commanded.{entry_may_go}
 use Rattle.cbm_channel.proofs.Stands.{means_of}
-use Rattle.cbm_channel.proofs.Scratches.{numbers_same, records_same, records_met, gathered_all, never_broken}
+use Rattle.cbm_channel.proofs.Scratches.{numbers_same, gathered_all, never_broken}
 use Rattle.cbm_channel.proofs.dos.Dos.slots_going.Goals as goal
 
 pub returns-in_err-entry-clause-means : goal.returns-in_err-entry-clause-means
-returns-in_err-entry-clause-means g c = λ m none s.
+returns-in_err-entry-clause-means g c = λ m s.
     let now = c.args.self.now.medium in
     let vol = ap (λ k. k.medium) c.self.view_is in
     let tells = subst (λ v. TellsOf m.disk (directory_of (geometry_of (g.M.Medium.seen v).tracks (g.M.Medium.seen v).content) (g.M.Medium.seen v).content)) vol
@@ -17,22 +16,8 @@ returns-in_err-entry-clause-means g c = λ m none s.
     absurd (never_broken _ _ m.disk _ _ _ _ _ c.in_err-entry.field-0.0 tells c.slots.invariant.1
     (ap (λ v. left_of (g.M.Medium.seen v).content c.slots.slots) (sym vol) ∙ c.in_err-entry.ensures.gives.0))
 
-pub returns-then-is_relative-clause-means : goal.returns-then-is_relative-clause-means
-returns-then-is_relative-clause-means g c = λ m none s.
-    let now = c.args.self.now.medium in
-    let vol = ap (λ k. k.medium) c.self.view_is in
-    let tells = subst (λ v. TellsOf m.disk (directory_of (geometry_of (g.M.Medium.seen v).tracks (g.M.Medium.seen v).content) (g.M.Medium.seen v).content)) vol
-    (subst (TellsOf m.disk) c.slots-slots.ensures.left (c.slots-slots.ensures.means m.disk (subst (λ v. HoldsDisk (g.M.Medium.seen v).tracks (g.M.Medium.seen v).content m.disk) (sym vol) (means_of _ _ _ _ _ _ m s)))) in
-    let channels = c.as_slice-channels.ensures ∙ ap (λ k. k.channels) c.self.view_is in
-    let goes : entry_may_go c.args.self.now.channels c.args.patterns.now c.slots.number c.in-Some.entry ≡ true =
-    sym (λ i. entry_may_go (channels i) (c.as_slice.ensures i) c.slots.number c.in-Some.entry) ∙ sym c.if-may_go.ensures in
-    let gives = ap (λ v. left_of (g.M.Medium.seen v).content c.slots.slots) (sym vol)
-    ∙ subst (λ o. Gives (left_of (g.M.Medium.seen c.self.inside.volume).content c.slots.slots) (left_of (g.M.Medium.seen c.self.inside.volume).content c.next_slot.new.slots) (Ok o)) c.in-Some.is c.in_ok-entry.ensures.gives in
-    let met = records_met c.args.self.now.channels c.args.patterns.now _ _ _ _ c.slots.number c.slots.going.items c.in-Some.entry gives c.slots.invariant.1 goes (sym c.if-is_relative.ensures) in
-    let bad = sym none ∙ sym (records_same c.args.self.now.channels m s.each c.args.patterns.now 0 m.disk.slots _ tells.each) ∙ met in absurd (cc)
-
 pub returns-clause-means : goal.returns-clause-means
-returns-clause-means g c = λ m none s.
+returns-clause-means g c = λ m s.
     let now = c.args.self.now.medium in
     let vol = ap (λ k. k.medium) c.self.view_is in
     let tells = subst (λ v. TellsOf m.disk (directory_of (geometry_of (g.M.Medium.seen v).tracks (g.M.Medium.seen v).content) (g.M.Medium.seen v).content)) vol

@@ -1,0 +1,56 @@
+use Rattle.std.proofs.Common.{◌≡◌, ℕ, true, false, sym, ap, subst, ◌∙◌, inl}
+use Rattle.cbm_medium.specs.Seen.{HasFailed}
+use Rattle.cbm_file.specs.Changes.{new_disk}
+use Rattle.cbm_volume.specs.Writers.{Idle, HoldsNow}
+use Rattle.cbm_machine.specs.Machines.{any_open, say, with_disk}
+use Rattle.cbm_machine.specs.declared.code.Code.TheVariants.{Fine, WriteFileOpen, WriteProtected}
+use Rattle.cbm_channel.specs.Standing.{StandsBy, uses_of}
+use Rattle.cbm_channel.proofs.Commanding.{new_open, new_done, new_guarded, new_stands, all_idle}
+use Rattle.cbm_channel.proofs.Opens.{failed_by}
+use Rattle.cbm_channel.proofs.Stands.{stood}
+use Rattle.cbm_channel.proofs.Stores.{renamed}
+use Rattle.cbm_channel.proofs.dos.Dos.format.Goals as goal
+
+-- a channel is open
+pub returns-then-is_any_open-clause-goes : goal.returns-then-is_any_open-clause-goes
+returns-then-is_any_open-clause-goes g c = λ whole m s.
+    (say WriteFileOpen m, inl (sym (new_open m c.args.title.now c.args.id (sym (c.is_any_open.ensures m s) ∙ c.if-is_any_open.true))), c.say.ensures.leads m s)
+
+-- the disk is protected
+pub returns-then-is_protected-clause-goes : goal.returns-then-is_protected-clause-goes
+returns-then-is_protected-clause-goes g c = λ whole m s.
+    let old = c.args.self.now in
+    let shut : any_open m ≡ false = sym (c.is_any_open.ensures m s) ∙ c.if-is_any_open.false in
+    let guarded : m.protected ≡ true = s.same_protection ∙ ap (λ v. (g.M.Medium.seen v).protected) (sym c.volume.ensures) ∙ sym c.is_protected.ensures ∙ c.if-is_protected.true in (
+      say WriteProtected m,
+      inl (sym (new_guarded _ (g.M.Medium.seen old.medium).content (g.M.Medium.seen old.medium).content _ old.channels old.told old.text m s shut c.args.title.now c.args.id guarded)),
+      c.say-then-is_protected.ensures.leads m s,
+    )
+
+-- the disk is empty
+pub returns-in-Ok-clause-goes : goal.returns-in-Ok-clause-goes
+returns-in-Ok-clause-goes g c = λ whole m s.
+    let here = c.self.inside in
+    let new = g.M.Medium.seen c.new_disk.new.self in
+    let st : StandsBy (g.M.Medium.seen here.volume).content (g.M.Medium.seen here.volume).tracks (g.M.Medium.seen here.volume).protected here.channels here.telling here.text m = stood g.M.Medium.seen c.args.self.now _ m c.self.view_is s in
+    let shut : any_open m ≡ false = sym (c.is_any_open.ensures m s) ∙ c.if-is_any_open.false in
+    let idle : (k : ℕ) → uses_of here.channels m.channels k ≡ Idle = all_idle here.channels m.channels st.each shut in
+    let unprotected : m.protected ≡ false = s.same_protection ∙ ap (λ v. (g.M.Medium.seen v).protected) (sym c.volume.ensures) ∙ sym c.is_protected.ensures ∙ c.if-is_protected.false in
+    let tracks = sym st.same_tracks in
+    let holds = subst (λ x. HoldsNow (g.M.Medium.seen here.volume).tracks new.content x (uses_of here.channels m.channels))
+    (λ i. new_disk (tracks i) (c.bytes.ensures.value i) c.args.id m.disk) (c.in-Ok.ensures.made m.disk (uses_of here.channels m.channels) st.holds idle) in
+    let next = new_stands _ _ new.content _ here.channels here.telling here.text m st shut c.args.title.now c.args.id holds in (
+      say Fine (with_disk (new_disk m.tracks c.args.title.now c.args.id m.disk) m),
+      inl (sym (new_done _ _ new.content _ here.channels here.telling here.text m st shut c.args.title.now c.args.id unprotected)),
+      c.say-in-Ok.ensures.leads _ (renamed _ _ _ _ _ _ _ _ _ c.new_disk.ensures.only.tracks c.new_disk.ensures.only.protected next),
+    )
+
+-- a write was refused: that is a failure
+pub returns-in-Err-clause-goes : goal.returns-in-Err-clause-goes
+returns-in-Err-clause-goes g c = λ whole m s.
+    let here = c.self.inside in
+    let new = g.M.Medium.seen c.new_disk.new.self in
+    let st : StandsBy (g.M.Medium.seen here.volume).content (g.M.Medium.seen here.volume).tracks (g.M.Medium.seen here.volume).protected here.channels here.telling here.text m = stood g.M.Medium.seen c.args.self.now _ m c.self.view_is s in
+    let unprotected : m.protected ≡ false = s.same_protection ∙ ap (λ v. (g.M.Medium.seen v).protected) (sym c.volume.ensures) ∙ sym c.is_protected.ensures ∙ c.if-is_protected.false in
+    let failed = failed_by (g.M.Medium.seen here.volume) new c.in-Err.trouble m.protected st.same_protection unprotected (c.in-Err.ensures.cause m.disk (uses_of here.channels m.channels) st.holds) in
+    absurd (whole (subst (λ v. HasFailed (g.M.Medium.seen v) (g.M.Medium.seen c.set.new.self.medium)) (ap (λ k. k.medium) c.self.view_is) (subst (λ v. HasFailed (g.M.Medium.seen here.volume) (g.M.Medium.seen v)) (sym c.set.ensures.medium) failed)))

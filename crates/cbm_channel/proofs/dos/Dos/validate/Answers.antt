@@ -1,0 +1,60 @@
+use Rattle.std.proofs.Common.{◌≡◌, ℕ, false, sym, ap, subst, ◌∙◌, inl, inr}
+use Rattle.cbm_medium.specs.Seen.{HasFailed}
+use Rattle.cbm_file.specs.Changes.{validated}
+use Rattle.cbm_volume.specs.Writers.{Idle}
+use Rattle.cbm_machine.specs.Machines.{any_open, say, tell, with_disk}
+use Rattle.cbm_machine.specs.declared.code.Code.TheVariants.{Fine, WriteFileOpen}
+use Rattle.cbm_channel.specs.Standing.{StandsBy, uses_of}
+use Rattle.cbm_channel.proofs.Commanding.{validate_open, validate_done, validate_guarded, validate_stands, validate_cut, protected_status, all_idle, true_or_false}
+use Rattle.cbm_channel.proofs.Opens.{failed_by}
+use Rattle.cbm_channel.proofs.Stands.{stood}
+use Rattle.cbm_channel.proofs.Stores.{renamed}
+use Rattle.cbm_channel.proofs.Orders.{not_so}
+use Rattle.cbm_channel.proofs.dos.Dos.validate.Goals as goal
+
+-- a channel is open
+pub returns-then-is_any_open-clause-goes : goal.returns-then-is_any_open-clause-goes
+returns-then-is_any_open-clause-goes g c = λ m s.
+    (say WriteFileOpen m, inl (sym (validate_open m (sym (c.is_any_open.ensures m s) ∙ c.if-is_any_open.true))), c.say.ensures.leads m s)
+
+-- the map is written
+pub returns-in-Ok-clause-goes : goal.returns-in-Ok-clause-goes
+returns-in-Ok-clause-goes g c = λ m s.
+    let here = c.self.inside in
+    let st : StandsBy (g.M.Medium.seen here.volume).content (g.M.Medium.seen here.volume).tracks (g.M.Medium.seen here.volume).protected here.channels here.telling here.text m = stood g.M.Medium.seen c.args.self.now _ m c.self.view_is s in
+    let shut : any_open m ≡ false = sym (c.is_any_open.ensures m s) ∙ c.if-is_any_open.false in
+    let idle : (k : ℕ) → uses_of here.channels m.channels k ≡ Idle = all_idle here.channels m.channels st.each shut in
+    let unprotected : m.protected ≡ false = not_so m.protected (λ e. c.in-Ok.ensures.guarded m.disk (uses_of here.channels m.channels) st.holds (sym st.same_protection ∙ e)) in
+    let next = validate_stands _ _ (g.M.Medium.seen c.validate.new.self).content _ here.channels here.telling here.text m st shut (c.in-Ok.ensures.validated m.disk (uses_of here.channels m.channels) st.holds idle) in (
+      say Fine (with_disk (validated m.disk) m),
+      inl (sym (validate_done _ _ (g.M.Medium.seen c.validate.new.self).content _ here.channels here.telling here.text m st shut unprotected)),
+      c.say-in-Ok.ensures.leads _ (renamed _ _ _ _ _ _ _ _ _ c.validate.ensures.only.tracks c.validate.ensures.only.protected next),
+    )
+
+-- the disk is protected, or a write was refused
+pub returns-in-Err-clause-goes : goal.returns-in-Err-clause-goes
+returns-in-Err-clause-goes g c = λ m s.
+    let here = c.self.inside in
+    let new = g.M.Medium.seen c.validate.new.self in
+    let st : StandsBy (g.M.Medium.seen here.volume).content (g.M.Medium.seen here.volume).tracks (g.M.Medium.seen here.volume).protected here.channels here.telling here.text m = stood g.M.Medium.seen c.args.self.now _ m c.self.view_is s in
+    let shut : any_open m ≡ false = sym (c.is_any_open.ensures m s) ∙ c.if-is_any_open.false in
+    let idle : (k : ℕ) → uses_of here.channels m.channels k ≡ Idle = all_idle here.channels m.channels st.each shut in
+    elim (true_or_false m.protected) [
+      | inl guarded ↦ (
+          let kept = subst (λ x. StandsBy x (g.M.Medium.seen here.volume).tracks (g.M.Medium.seen here.volume).protected here.channels here.telling here.text m) (sym (c.in-Err.ensures.kept (sym st.same_protection ∙ guarded))) st in
+          let told = protected_status c.in-Err.trouble c.from.result c.from.ensures (c.in-Err.ensures.guarded m.disk (uses_of here.channels m.channels) st.holds (sym st.same_protection ∙ guarded)) in (
+            tell c.from.result m,
+            inl (ap (λ x. tell x m) told ∙ sym (validate_guarded _ _ new.content _ here.channels here.telling here.text m st shut guarded)),
+            c.set.ensures.leads m (renamed _ _ _ _ _ _ _ _ _ c.validate.ensures.only.tracks c.validate.ensures.only.protected kept),
+          ))
+      | inr unprotected ↦ (
+          let failed = failed_by (g.M.Medium.seen here.volume) new c.in-Err.trouble m.protected st.same_protection unprotected (c.in-Err.ensures.cause m.disk (uses_of here.channels m.channels) st.holds idle) in
+          let next = validate_cut _ _ new.content _ here.channels here.telling here.text m st shut unprotected (c.in-Err.ensures.stopped m.disk (uses_of here.channels m.channels) st.holds idle) in (
+            tell c.from.result next.0,
+            inr (
+              subst (λ v. HasFailed (g.M.Medium.seen v) (g.M.Medium.seen c.set.new.self.medium)) (ap (λ k. k.medium) c.self.view_is) (subst (λ v. HasFailed (g.M.Medium.seen here.volume) (g.M.Medium.seen v)) (sym c.set.ensures.medium) failed),
+              next.1 c.in-Err.trouble c.from.result c.self.invariant.count c.from.ensures,
+            ),
+            c.set.ensures.leads next.0 (renamed _ _ _ _ _ _ _ _ _ c.validate.ensures.only.tracks c.validate.ensures.only.protected next.2),
+          ))
+    ]

@@ -1,0 +1,38 @@
+// N: an empty disk.
+
+use crate::dos::Dos;
+use cbm_command::Name;
+use cbm_machine::{Code, Status};
+use cbm_volume::Medium;
+
+impl<M: Medium> Dos<M> {
+    ghost use Rattle.std.specs.Prelude.{◌≡◌, length};
+    ghost use Rattle.cbm_medium.specs.Seen.{HasFailed};
+    ghost use Rattle.cbm_command.specs.declared.command.Command.TheVariants.{New};
+    ghost use Rattle.cbm_machine.specs.Machines.{answered};
+    ghost use Rattle.cbm_machine.specs.Running.{run};
+    ghost use Rattle.cbm_channel.specs.Going.{Went, KeepsMedium};
+
+    /// N: an empty disk of this title; with an id it is formatted, else it keeps its own. 60 where a channel is open,
+    /// 26 where the disk is protected. Where the medium fails in it, no disk is promised.
+    pub(super) fn format(&mut self, title: &Name, id: Option<[u8; 2]>)
+        ensures goes { (HasFailed (M.seen self.old.medium) (M.seen self.new.medium) → ⊥) →
+            Went M.seen self.old self.new 15 (λ m. answered m (run (New title.now id) m)) }
+        ensures channels { self.new.channels ≡ self.old.channels }
+        ensures count { length self.new.channels ≡ 15 }
+        ensures medium { KeepsMedium (M.seen self.old.medium) (M.seen self.new.medium) }
+    {
+        if self.is_any_open() {
+            self.say(Code::WriteFileOpen);
+            return;
+        }
+        if self.volume().is_protected() {
+            self.say(Code::WriteProtected);
+            return;
+        }
+        match self.volume.new_disk(title.bytes(), id) {
+            Ok(()) => self.say(Code::Fine),
+            Err(trouble) => self.set(Status::from(trouble)),
+        }
+    }
+}
