@@ -6,8 +6,9 @@ use Rattle.cbm_channel.specs.Machines.{Machine}
 use Rattle.cbm_channel.specs.Closing.{close_one, close_all, close, channel_numbers, without_text}
 use Rattle.cbm_channel.specs.Plans.{open_text}
 use Rattle.cbm_channel.specs.Calls.{put, end_put, command, after_open}
-use Rattle.cbm_channel.specs.CarriedOut.{IsOpenCarriedOut, IsCarriedOut, IsPutCarriedOut}
+use Rattle.cbm_channel.specs.CarriedOut.{IsOpenCarriedOut, IsCarriedOut}
 use Rattle.cbm_channel.specs.Standing.{Kept, Stands, Leads}
+use Rattle.cbm_channel.specs.Commanded.{IsWhole, open_formats, end_formats}
 use Rattle.cbm_channel.specs.Going.{Passes, PassesAll, closings, closing, opening_parts, AfterClose, GoesFrom, Goes}
 
 -- the machine behind all parts
@@ -60,16 +61,16 @@ module _ {M : Type 0} (seen : M → Seen) (steady : (k : M) → (seen k).failure
   steady_put ch b goes m s = goes_done ((ch, put ch b) ∷ []) m (goes m s)
 
   -- the end of what was put
-  pub steady_end : (ch : ℕ) → ((m : Machine) → IsPutCarriedOut ch m → Stands seen old m → GoesFrom seen old new ((ch, end_put ch) ∷ []) m)
-      → (m : Machine) → IsPutCarriedOut ch m → Stands seen old m → Stands seen new (end_put ch m)
-  steady_end ch goes m carried s = goes_done ((ch, end_put ch) ∷ []) m (goes m carried s)
+  pub steady_end : (ch : ℕ) → ((m : Machine) → Stands seen old m → IsWhole (end_formats ch old.text) (HasFailed (seen old.medium) (seen new.medium)) → GoesFrom seen old new ((ch, end_put ch) ∷ []) m)
+      → Leads seen old new (end_put ch)
+  steady_end ch goes m s = goes_done ((ch, end_put ch) ∷ []) m (goes m s (λ e. never))
 
   pub steady_close : (ch : ℕ) → Goes seen old new (closing ch) → Leads seen old new (close ch)
   steady_close ch goes m s = subst (λ x. Stands seen new x) (closed_by (ch == 15) ch m) (goes_done (closing ch) m (goes m s))
 
   pub steady_open : (ch : ℕ) (text : List ℕ)
-      → ((m : Machine) → Stands seen old m → ((n : Machine) → AfterClose seen old new ch m n → IsOpenCarriedOut ch text n) → GoesFrom seen old new (opening_parts ch text) m)
+      → ((m : Machine) → Stands seen old m → ((n : Machine) → AfterClose seen old new ch m n → IsOpenCarriedOut ch text n) → IsWhole (open_formats ch text) (HasFailed (seen old.medium) (seen new.medium)) → GoesFrom seen old new (opening_parts ch text) m)
       → (m : Machine) → IsCarriedOut ch text m → Stands seen old m → Stands seen new (after_open ch text m)
   steady_open ch text goes m carried s =
       let asked : (n : Machine) → AfterClose seen old new ch m n → IsOpenCarriedOut ch text n = λ n closed. asked_by (ch == 15) _ ch text m n refl never carried closed in
-      subst (λ x. Stands seen new x) (opened_by (ch == 15) ch text m) (goes_done (opening_parts ch text) m (goes m s asked))
+      subst (λ x. Stands seen new x) (opened_by (ch == 15) ch text m) (goes_done (opening_parts ch text) m (goes m s asked (λ e. never)))
