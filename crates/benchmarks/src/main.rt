@@ -15,5 +15,7 @@ fn main(rt: HostRuntime) -> io::Result<()> {
     drives::files(&rt, rt.alloc())?;
     drives::checks(&rt, rt.alloc())?;
     writes::files(&rt, rt.alloc())?;
+    writes::validations(&rt, rt.alloc())?;
+    writes::copies(&rt, rt.alloc())?;
     circles::images(&rt, rt.alloc())
 }

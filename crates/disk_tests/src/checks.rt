@@ -1,7 +1,7 @@
 // Scripts whose disk is checked first: the line that comes before all else, and an image that stays as it was.
 
 use crate::damaged::{EMPTY, WIDE, WITH_ERRORS, patch};
-use crate::image::{enter, formatted, place, put};
+use crate::image::enter;
 use cbm_d64::D64Disk;
 use cbm_g64::G64Disk;
 use cbm_medium::Medium;
@@ -9,6 +9,7 @@ use cbm_program::{Options, run};
 use std::alloc::{AllocError, Global};
 use std::process::Abort;
 use std::test::Fail;
+use test_images::{formatted, place, put};
 
 /// A drive whose disk is checked first.
 pub const CHECKED: Options = Options {

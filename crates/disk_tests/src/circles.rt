@@ -1,7 +1,7 @@
 // A worked disk as circles of bits.
 
 use crate::checks::CHECKED;
-use crate::image::{enter, formatted, place, put};
+use crate::image::enter;
 use cbm_d64::D64Disk;
 use cbm_g64::G64Disk;
 use cbm_medium::{Address, Medium, sectors_of};
@@ -9,6 +9,7 @@ use cbm_program::run;
 use cbm_volume::Volume;
 use std::alloc::Global;
 use std::test::Fail;
+use test_images::{formatted, place, put};
 
 /// The bytes of a sector, where it reads.
 fn held<M: Medium>(disk: &M, track: u8, sector: u8) -> Option<[u8; 256]> {

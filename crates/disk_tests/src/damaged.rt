@@ -1,11 +1,12 @@
 // Images that are damaged at a few bytes, and what `check` says of each.
 
-use crate::image::{enter, formatted, place, put};
+use crate::image::enter;
 use cbm_d64::D64Disk;
 use cbm_volume::Volume;
 use std::alloc::{AllocError, Global};
 use std::process::Abort;
 use std::test::Fail;
+use test_images::{formatted, place, put};
 
 /// A formatted disk of 35 tracks.
 pub const EMPTY: usize = 174_848;

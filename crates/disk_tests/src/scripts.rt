@@ -1,5 +1,5 @@
 // Scripts on worked disks: what they print, and the image afterwards.
-use crate::image::{enter, formatted, place, put};
+use crate::image::enter;
 use cbm_d64::D64Disk;
 use cbm_g64::G64Disk;
 use cbm_medium::Medium;
@@ -7,6 +7,7 @@ use cbm_program::{Options, RunFault, run};
 use std::alloc::Global;
 use std::process::Abort;
 use std::test::Fail;
+use test_images::{formatted, place, put};
 
 /// A drive whose disk may be written.
 pub const OPEN: Options = Options {

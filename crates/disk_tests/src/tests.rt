@@ -1,11 +1,12 @@
 ghost use Rattle.std.specs.Prelude.{◌≤◌};
 
-use crate::image::{enter, formatted, place, put};
+use crate::image::enter;
 use cbm_d64::D64Disk;
 use cbm_volume::{ChainReader, Entry, Medium, Trouble, Volume, Wanted};
 use std::alloc::Global;
 use std::process::Abort;
 use std::test::Fail;
+use test_images::{formatted, place, put};
 
 /// The first entry that isn't empty.
 struct AnyFile;

@@ -3,13 +3,14 @@
 ghost use Rattle.std.specs.Prelude.{◌≤◌};
 
 use crate::files::{append, bytes_from, holds, new_file, put_bytes, reads, replace};
-use crate::image::{empty_volume, place, stands};
+use crate::image::empty_volume;
 use cbm_d64::D64Disk;
 use cbm_file::FileType;
 use cbm_medium::{Medium, Trouble};
 use cbm_volume::{ChainReader, FileWriter, Volume};
 use std::alloc::Global;
 use std::test::Fail;
+use test_images::{place, stands};
 
 #[test]
 fn bytes_are_appended(rt: HostRuntime) -> Result<(), Fail> {

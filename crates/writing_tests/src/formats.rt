@@ -3,7 +3,7 @@
 ghost use Rattle.std.specs.Prelude.{◌≡◌, ◌≤◌, length};
 
 use crate::files::{bytes_from, new_file};
-use crate::image::{empty_disk, empty_image, empty_volume, place, put, wide_image};
+use crate::image::{empty_disk, empty_volume};
 use cbm_d64::{D64Disk, D64Fault};
 use cbm_file::FileType;
 use cbm_g64::G64Disk;
@@ -11,6 +11,7 @@ use cbm_medium::{Failing, Medium};
 use cbm_volume::Volume;
 use std::alloc::Global;
 use std::test::Fail;
+use test_images::{empty_image, place, put, wide_image};
 
 /// A disk of so many zeros.
 fn zeros(alloc: Global, bytes: usize, protected: bool) -> Result<D64Disk, D64Fault> {

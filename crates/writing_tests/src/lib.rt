@@ -1,8 +1,12 @@
-//! Worked writes, block by block and by scripts, over D64 and G64 images.
+//! Worked writes, block by block, over D64 and G64 images.
 #![tactic(auto)]
 
 #[cfg(test)]
 mod changes;
+#[cfg(test)]
+mod copies;
+#[cfg(test)]
+mod drive_stops;
 #[cfg(test)]
 mod files;
 #[cfg(test)]
@@ -17,20 +21,6 @@ mod opens;
 mod renames;
 #[cfg(test)]
 mod scratches;
-#[cfg(test)]
-mod script_changes;
-#[cfg(test)]
-mod script_channels;
-#[cfg(test)]
-mod script_commands;
-#[cfg(test)]
-mod script_faults;
-#[cfg(test)]
-mod script_rows;
-#[cfg(test)]
-mod script_stops;
-#[cfg(test)]
-mod scripts;
 #[cfg(test)]
 mod stop_cases;
 #[cfg(test)]

@@ -1,10 +1,11 @@
 // New files: the blocks that they take, their entries, and disks that are full.
 
 use crate::files::{blocks, bytes_from, holds, new_file, reads};
-use crate::image::{empty_volume, place, stands, wide_volume};
+use crate::image::{empty_volume, wide_volume};
 use cbm_file::FileType;
 use std::process::Abort;
 use std::test::Fail;
+use test_images::{place, stands};
 
 #[test]
 fn blocks_of_new_files(rt: HostRuntime) -> Result<(), Fail> {

@@ -1,11 +1,12 @@
 // OPEN for writing: which slot and which block it takes, and where it has no place.
 
-use crate::image::{empty_disk, empty_image, place, put};
+use crate::image::empty_disk;
 use cbm_d64::D64Disk;
 use cbm_file::FileType;
 use cbm_medium::Failing;
 use cbm_volume::Volume;
 use std::test::Fail;
+use test_images::{empty_image, place, put};
 
 #[test]
 fn a_file_without_a_byte(rt: HostRuntime) -> Result<(), Fail> {

@@ -3,13 +3,14 @@
 ghost use Rattle.std.specs.Prelude.{◌≤◌, length};
 
 use crate::files::{bytes_from, holds, new_file};
-use crate::image::{empty_volume, place, put};
+use crate::image::empty_volume;
 use cbm_d64::D64Disk;
 use cbm_file::FileType;
 use cbm_medium::{Failing, Medium};
 use cbm_volume::Volume;
 use std::alloc::Global;
 use std::test::Fail;
+use test_images::{place, put};
 
 /// A disk with the files ONE and TWO, of two blocks each.
 fn two_files(alloc: Global) -> Result<Volume<D64Disk>, Fail> {

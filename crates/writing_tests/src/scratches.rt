@@ -1,7 +1,7 @@
 // Files that are scratched: the entry's type byte, the blocks given back, and each write refused.
 
 use crate::files::{Bytes, blocks, bytes_from, new_file, reads};
-use crate::image::{empty_volume, place, stands};
+use crate::image::empty_volume;
 use cbm_d64::D64Disk;
 use cbm_file::FileType;
 use cbm_medium::{Failing, Medium, Trouble};
@@ -9,6 +9,7 @@ use cbm_volume::Volume;
 use std::alloc::Global;
 use std::process::Abort;
 use std::test::Fail;
+use test_images::{place, stands};
 
 /// The bytes of the file in a slot: two blocks.
 fn bytes_of(slot: u8) -> Bytes {

@@ -2,7 +2,7 @@
 
 ghost use Rattle.std.specs.Prelude.{◌≤◌};
 
-use crate::image::{empty_disk, empty_image, place, put};
+use crate::image::empty_disk;
 use cbm_bam::{Release, claim_directory, claim_first, claim_next, free_blocks, geometry, is_free};
 use cbm_chain::{ChainWriter, free_chain};
 use cbm_d64::D64Disk;
@@ -12,6 +12,7 @@ use cbm_medium::{Address, Link, Medium};
 use cbm_volume::Volume;
 use std::process::Abort;
 use std::test::Fail;
+use test_images::{empty_image, place, put};
 
 /// The bytes of a sector.
 fn sector_of(rt: &impl Abort, disk: &D64Disk, track: u8, sector: u8) -> [u8; 256] {

@@ -1,7 +1,7 @@
 // VALIDATE: files that were never closed go, a wrong map is mended, and what can't be mended is told.
 
 use crate::files::{Bytes, bytes_from, new_file, reads};
-use crate::image::{empty_volume, place, put, stands};
+use crate::image::empty_volume;
 use cbm_d64::D64Disk;
 use cbm_file::FileType;
 use cbm_medium::{Failing, Medium, Trouble};
@@ -9,6 +9,7 @@ use cbm_volume::Volume;
 use std::alloc::Global;
 use std::process::Abort;
 use std::test::Fail;
+use test_images::{place, put, stands};
 
 /// The bytes of the file in a slot: two blocks.
 fn bytes_of(slot: u8) -> Bytes {

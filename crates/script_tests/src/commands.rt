@@ -1,6 +1,5 @@
 // Scripts that rename and scratch files, and commands on a drive whose disk refuses a write.
 
-use crate::image::{empty_image, place, put};
 use crate::scripts::{circles_of, got, keep, keep_protected, list, play, play_on_both, written};
 use cbm_channel::Dos;
 use cbm_d64::D64Disk;
@@ -10,13 +9,14 @@ use cbm_volume::Volume;
 use std::alloc::Global;
 use std::process::Abort;
 use std::test::Fail;
+use test_images::{empty_image, lost_blocks, place, put};
 
 /// Three files of a byte: A1, A2 and A3.
-const THREE: &str = "open 2 A1,S,W\nput 2 A\nclose 2\nopen 2 A2,S,W\nput 2 B\nclose 2\n\
+pub const THREE: &str = "open 2 A1,S,W\nput 2 A\nclose 2\nopen 2 A2,S,W\nput 2 B\nclose 2\n\
 open 2 A3,S,W\nput 2 C\nclose 2\n";
 
 /// Where the type byte of an entry of 18/1 stands.
-fn type_at(slot: usize) -> usize {
+pub fn type_at(slot: usize) -> usize {
     let entry = slot.wrapping_mul(32).wrapping_add(2);
     place(18, 1).wrapping_add(entry)
 }
@@ -161,11 +161,11 @@ fn commands_on_a_protected_disk(rt: HostRuntime) -> Result<(), Fail> {
     let read = got(alloc, 0, b"A")?;
     let script =
         "put 15 S0:Z\nstatus\nput 15 S0:A\nstatus\nput 15 R0:C=Q\nstatus\nput 15 R0:C=A\nstatus\n\
-put 15 I0\nstatus\nopen 0 A\nget 0 9\n";
+put 15 V0\nstatus\nput 15 I0\nstatus\nopen 0 A\nget 0 9\n";
     let mut text = String::new(alloc);
     text.push_str("status 01, FILES SCRATCHED,00,00\nstatus 26,WRITE PROTECT ON,00,00\n")?;
     text.push_str("status 62,FILE NOT FOUND,00,00\nstatus 26,WRITE PROTECT ON,00,00\n")?;
-    text.push_str("status 00, OK,00,00\n")?;
+    text.push_str("status 26,WRITE PROTECT ON,00,00\nstatus 00, OK,00,00\n")?;
     text.push_str(read.as_str())?;
     keep_protected(&rt, alloc, image.as_slice(), &[(script, text.as_str())])
 }
@@ -173,7 +173,7 @@ put 15 I0\nstatus\nopen 0 A\nget 0 9\n";
 #[test]
 fn commands_on_a_disk_of_forty_tracks(rt: HostRuntime) -> Result<(), Fail> {
     let alloc = rt.alloc();
-    let image = crate::image::wide_image(alloc)?;
+    let image = test_images::wide_image(alloc)?;
     let image = play(&rt, alloc, image.as_slice(), THREE, "")?;
     let script = "put 15 S0:A1,A3\nstatus\nput 15 R0:B=A2\nstatus\nopen 2 B\nget 2 9\n";
     let text = "status 01, FILES SCRATCHED,02,00\nstatus 00, OK,00,00\nget 2 42 eoi\n";
@@ -183,7 +183,7 @@ fn commands_on_a_disk_of_forty_tracks(rt: HostRuntime) -> Result<(), Fail> {
 }
 
 /// What a slot of a disk has: its name and whether it is closed.
-fn slot_of<M: Medium>(volume: &Volume<M>, slot: u8) -> Option<(u8, bool)> {
+pub fn slot_of<M: Medium>(volume: &Volume<M>, slot: u8) -> Option<(u8, bool)> {
     let entry = volume.slot(slot).ok()??;
     if entry.is_empty() {
         return None;
@@ -212,6 +212,12 @@ fn stops_well<M: Steady + Drop>(
         let slot = slot as usize;
         assert!(rt; now == after[slot] || (refused && now == before[slot]));
     }
+    // A new start and VALIDATE give each block back that is nobody's.
+    let mut dos = Dos::new(volume.into_medium());
+    dos.open(15, b"V0");
+    assert_eq!(rt; dos.status_code(), 0);
+    let volume = Volume::open(dos.into_medium());
+    assert!(rt; volume.check().is_ok() && lost_blocks(&volume) == Ok(0));
     refused
 }
 
@@ -254,4 +260,37 @@ fn commands_stop_at_each_write(rt: HostRuntime) -> Result<(), Fail> {
     let named = [Some((b'A', true)), Some((b'X', true)), Some((b'C', true))];
     assert_eq!(&rt; writes_of(&rt, alloc, image, b"R0:X=B", named)?, 1);
     Ok(())
+}
+
+#[test]
+fn a_copy_stops_at_each_write(rt: HostRuntime) -> Result<(), Fail> {
+    let alloc = rt.alloc();
+    let script =
+        "open 2 A,S,W\nput 2 A\nclose 2\nopen 2 B,S,W\nput 2 B\nclose 2\nopen 2 C,S,W\nput 2 C\nclose 2\n";
+    let image = written(&rt, alloc, script)?;
+    // The map, the block, and last the entry.
+    let all = [Some((b'A', true)), Some((b'B', true)), Some((b'C', true))];
+    let writes = writes_of(&rt, alloc, image.as_slice(), b"C0:X=A,B", all)?;
+    assert_eq!(&rt; writes, 3);
+    Ok(())
+}
+
+#[test]
+fn commands_that_do_nothing(rt: HostRuntime) -> Result<(), Fail> {
+    let alloc = rt.alloc();
+    let image = written(&rt, alloc, THREE)?;
+    let rows = [
+        ("put 15 X\nstatus\n", "status 31,SYNTAX ERROR,00,00\n"),
+        ("put 15 P\\62\nstatus\n", "status 30,SYNTAX ERROR,00,00\n"),
+        (
+            "put 15 P\\62\\01\\00\nstatus\n",
+            "status 70,NO CHANNEL,00,00\n",
+        ),
+        (
+            "open 2 A1\nput 15 P\\62\\01\\00\nstatus\n",
+            "status 64,FILE TYPE MISMATCH,00,00\n",
+        ),
+        ("put 15 I0\nstatus\n", "status 00, OK,00,00\n"),
+    ];
+    keep(&rt, alloc, image.as_slice(), &rows)
 }

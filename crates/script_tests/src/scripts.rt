@@ -1,6 +1,5 @@
 // Scripts on the disks of images: what they print, and the images that they leave.
 
-use crate::image::empty_image;
 use cbm_d64::D64Disk;
 use cbm_g64::G64Disk;
 use cbm_medium::{Address, Medium, sectors_of};
@@ -8,6 +7,7 @@ use cbm_program::{Options, run};
 use std::alloc::Global;
 use std::process::Abort;
 use std::test::Fail;
+use test_images::empty_image;
 
 /// A drive whose disk may be written.
 const WRITABLE: Options = Options {
@@ -17,7 +17,7 @@ const WRITABLE: Options = Options {
 };
 
 /// A drive whose disk is checked first.
-const CHECKED: Options = Options {
+pub const CHECKED: Options = Options {
     device: 8,
     protected: false,
     check: true,

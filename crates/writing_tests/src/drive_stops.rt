@@ -1,8 +1,6 @@
 // Calls of the drive that stop at a write that the medium refuses, over D64 and G64 images.
 
 use crate::files::{Bytes, bytes_from, new_file, reads};
-use crate::image::{empty_image, wide_image};
-use crate::scripts::circles_of;
 use crate::stop_cases::{
     APPEND, Call, Case, GIVEN_UP, NEW_FILE, NINTH_FILE, REPLACEMENT, State, allowed,
 };
@@ -15,6 +13,7 @@ use cbm_volume::Volume;
 use std::alloc::Global;
 use std::process::Abort;
 use std::test::Fail;
+use test_images::{empty_image, lost_blocks, wide_image};
 
 /// The number of a write that is refused.
 const WRITE_ERROR: u8 = 25;
@@ -81,6 +80,16 @@ fn others_stay<M: Medium>(volume: &Volume<M>, case: &Case) -> Result<bool, Troub
     Ok(true)
 }
 
+/// Whether a new start and VALIDATE give each block back that is nobody's.
+fn is_mended<M: Medium + Drop>(medium: M) -> Result<bool, Trouble> {
+    let mut dos = Dos::new(medium);
+    dos.open(15, b"V0");
+    let is_fine = dos.status_code() == 0;
+    let volume = Volume::open(dos.into_medium());
+    let lost = lost_blocks(&volume)?;
+    Ok(is_fine && lost == 0 && volume.check().is_ok())
+}
+
 /// Lets so many writes pass, and refuses the next one or each from then on; whether one was refused. The drive writes
 /// no more behind it, whatever is sent to the channel.
 fn is_stopped<M: Steady + Drop>(
@@ -114,6 +123,7 @@ fn is_stopped<M: Steady + Drop>(
     assert!(rt; volume.check().is_ok(), "{case:?} {passes} {all}");
     assert!(rt; others_stay(&volume, case)?, "{case:?} {passes} {all}");
     assert!(rt; is_allowed, "{case:?} {passes} {all}");
+    assert!(rt; is_mended(volume.into_medium())?, "{case:?} {passes} {all}");
     Ok(refused.is_some())
 }
 
@@ -156,7 +166,9 @@ fn judge(rt: &impl Abort, alloc: Global, case: &Case) -> Result<(), Fail> {
             "{case:?}"
         );
     }
-    let circles = circles_of(rt, alloc, image.as_slice())?;
+    let disk = D64Disk::from_bytes(alloc, image.as_slice(), false)?;
+    assert!(rt; disk.tracks() == 35);
+    let circles = G64Disk::from_sectors(alloc, &disk, *b"AB")?;
     assert_eq!(rt;
         writes(rt, alloc, circles.as_slice(), case, false)?,
         case.writes,

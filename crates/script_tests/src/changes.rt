@@ -1,8 +1,8 @@
 // Scripts that append to files and replace them, and that have several files open at once.
 
-use crate::image::{empty_image, place, put, stands};
 use crate::scripts::{got_equal, keep, list, play, play_on_both, written};
 use std::test::Fail;
+use test_images::{empty_image, place, put, stands};
 
 #[test]
 fn bytes_are_appended(rt: HostRuntime) -> Result<(), Fail> {

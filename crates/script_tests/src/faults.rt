@@ -2,7 +2,6 @@
 
 ghost use Rattle.std.specs.Prelude.{◌≤◌};
 
-use crate::image::empty_image;
 use crate::scripts::{play, written};
 use cbm_channel::{Dos, StatusLine};
 use cbm_d64::D64Disk;
@@ -11,6 +10,7 @@ use cbm_volume::Volume;
 use std::alloc::Global;
 use std::process::Abort;
 use std::test::Fail;
+use test_images::empty_image;
 
 /// The drive on a D64 image that lets so many writes pass, and refuses the next one or each from then on.
 fn failing(
@@ -86,6 +86,22 @@ fn a_program_has_four_writes(rt: HostRuntime) -> Result<(), Fail> {
             found,
             "{text}"
         );
+        // A new start and V give back what was lost: the program is whole, or gone.
+        let validate = "put 15 V0\nstatus\n";
+        let after = play(
+            &rt,
+            rt.alloc(),
+            image.as_slice(),
+            validate,
+            "status 00, OK,00,00\n",
+        )?;
+        let closed = found.1;
+        let found = (closed, closed, if closed { 663 } else { 664 });
+        assert_eq!(rt;
+            hello_of(&rt, rt.alloc(), after.as_slice())?,
+            found,
+            "{text}"
+        );
     }
     Ok(())
 }
@@ -117,6 +133,18 @@ fn a_replaced_program_stays_closed(rt: HostRuntime) -> Result<(), Fail> {
             "get 0 58\n"
         };
         play(&rt, alloc, after.as_slice(), script, text)?;
+        // A new start and V give back what was lost.
+        let validate = "put 15 V0\nstatus\n";
+        let after = play(
+            &rt,
+            alloc,
+            after.as_slice(),
+            validate,
+            "status 00, OK,00,00\n",
+        )?;
+        let volume = Volume::open(D64Disk::from_bytes(alloc, after.as_slice(), false)?);
+        let free = if is_new { 663 } else { 662 };
+        assert_eq!(rt; volume.free()?, free, "{passes}");
     }
     Ok(())
 }

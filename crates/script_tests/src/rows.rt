@@ -1,12 +1,12 @@
 // Files that scripts write: what is printed, and the blocks on the image afterwards.
 
-use crate::image::{empty_image, place, stands, wide_image};
 use crate::scripts::{got_equal, keep, list, listed, play, play_on_both};
 use cbm_d64::D64Disk;
 use cbm_volume::Volume;
 use std::alloc::Global;
 use std::process::Abort;
 use std::test::Fail;
+use test_images::{empty_image, place, stands, wide_image};
 
 #[test]
 fn a_program_is_written_and_listed(rt: HostRuntime) -> Result<(), Fail> {

@@ -1,12 +1,12 @@
 // Scripts that have several files open at once, and scripts on protected disks.
 
-use crate::image::{empty_image, place, put, stands};
 use crate::scripts::{
     circles_of, got_equal, keep, keep_protected, list, play, play_on_both, written,
 };
 use std::alloc::Global;
 use std::process::Abort;
 use std::test::Fail;
+use test_images::{empty_image, place, put, stands};
 
 #[test]
 fn a_fourth_channel_is_refused(rt: HostRuntime) -> Result<(), Fail> {
