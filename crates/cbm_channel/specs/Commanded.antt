@@ -69,9 +69,9 @@ abbrev pub end_formats : ℕ → Option (ℕ × List ℕ) → Bool
 end_formats ch None = false
 end_formats ch (Some t) = (ch == 15) && ((t.0 == 15) && text_formats t.1)
 
--- the medium doesn't fail in NEW
-abbrev pub IsWhole : Bool → Type 0 → Type 0
-IsWhole formats failed = formats ≡ true → failed → ⊥
+-- if it is NEW, the medium doesn't fail in it
+abbrev pub FormatsUnfailing : Bool → Type 0 → Type 0
+FormatsUnfailing formats failed = formats ≡ true → failed → ⊥
 
 -- ---- R
 

@@ -82,11 +82,12 @@ scratched d n = scratched_in (file_at d n) d n
 
 -- ---- COPY
 
--- the bytes of the files in these slots, one after another
+-- the bytes of what a slot has
 abbrev pub bytes_at : Option File → List ℕ
 bytes_at None = []
 bytes_at (Some f) = bytes_in f.body
 
+-- the bytes of the files in these slots, one after another
 abbrev pub joined : Disk → List ℕ → List ℕ
 joined d [] = []
 joined d (n ∷ ns) = bytes_at (file_at d n) ++ joined d ns

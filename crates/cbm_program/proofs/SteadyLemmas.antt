@@ -8,7 +8,7 @@ use Rattle.cbm_channel.specs.Plans.{open_text}
 use Rattle.cbm_channel.specs.Calls.{put, end_put, command, after_open}
 use Rattle.cbm_channel.specs.CarriedOut.{IsOpenCarriedOut, IsCarriedOut}
 use Rattle.cbm_channel.specs.Standing.{Kept, Stands, Leads}
-use Rattle.cbm_channel.specs.Commanded.{IsWhole, open_formats, end_formats}
+use Rattle.cbm_channel.specs.Commanded.{FormatsUnfailing, open_formats, end_formats}
 use Rattle.cbm_channel.specs.Going.{Passes, PassesAll, closings, closing, opening_parts, AfterClose, GoesFrom, Goes}
 
 -- the machine behind all parts
@@ -61,7 +61,7 @@ module _ {M : Type 0} (seen : M → Seen) (steady : (k : M) → (seen k).failure
   steady_put ch b goes m s = goes_done ((ch, put ch b) ∷ []) m (goes m s)
 
   -- the end of what was put
-  pub steady_end : (ch : ℕ) → ((m : Machine) → Stands seen old m → IsWhole (end_formats ch old.text) (HasFailed (seen old.medium) (seen new.medium)) → GoesFrom seen old new ((ch, end_put ch) ∷ []) m)
+  pub steady_end : (ch : ℕ) → ((m : Machine) → Stands seen old m → FormatsUnfailing (end_formats ch old.text) (HasFailed (seen old.medium) (seen new.medium)) → GoesFrom seen old new ((ch, end_put ch) ∷ []) m)
       → Leads seen old new (end_put ch)
   steady_end ch goes m s = goes_done ((ch, end_put ch) ∷ []) m (goes m s (λ e. never))
 
@@ -69,7 +69,7 @@ module _ {M : Type 0} (seen : M → Seen) (steady : (k : M) → (seen k).failure
   steady_close ch goes m s = subst (λ x. Stands seen new x) (closed_by (ch == 15) ch m) (goes_done (closing ch) m (goes m s))
 
   pub steady_open : (ch : ℕ) (text : List ℕ)
-      → ((m : Machine) → Stands seen old m → ((n : Machine) → AfterClose seen old new ch m n → IsOpenCarriedOut ch text n) → IsWhole (open_formats ch text) (HasFailed (seen old.medium) (seen new.medium)) → GoesFrom seen old new (opening_parts ch text) m)
+      → ((m : Machine) → Stands seen old m → ((n : Machine) → AfterClose seen old new ch m n → IsOpenCarriedOut ch text n) → FormatsUnfailing (open_formats ch text) (HasFailed (seen old.medium) (seen new.medium)) → GoesFrom seen old new (opening_parts ch text) m)
       → (m : Machine) → IsCarriedOut ch text m → Stands seen old m → Stands seen new (after_open ch text m)
   steady_open ch text goes m carried s =
       let asked : (n : Machine) → AfterClose seen old new ch m n → IsOpenCarriedOut ch text n = λ n closed. asked_by (ch == 15) _ ch text m n refl never carried closed in

@@ -1,5 +1,5 @@
 -- What COPY answers, by what its parts answer.
-use Rattle.std.proofs.Common.{◌≡◌, ◌≢◌, ℕ, ◌≤◌, length, arith, List, Bool, true, false, refl, sym, ap, ◌∙◌, inl, inr, Result}
+use Rattle.std.proofs.Common.{◌≡◌, ◌≢◌, ℕ, ◌≤◌, length, arith, List, Bool, true, false, refl, sym, ap, ◌∙◌, inl, inr, Result, Ok}
 use Rattle.std.specs.Prelude.{◌||◌, min, not, nat_lt, IsOkAnd, MatchResult}
 use Rattle.std.proofs.lemmas.Bool.{cases_lt, lt-ltb, le-ltb}
 use Rattle.cbm_medium.specs.Seen.{Seen}
@@ -52,3 +52,8 @@ room_is_none d sources slot enough none =
     let n : nat_lt d.free (copy_blocks d sources) ≡ false = le-ltb d.free (copy_blocks d sources) enough in
     let some : (nat_lt d.free (copy_blocks d sources) || not (has_slot d)) ≡ false = rw n (ap not slot) in
     let z = sym some ∙ none in (cc)
+
+-- what was counted, and what the disk has room for
+pub room_for : (old : Seen) (d : Disk) (uses : ℕ → Use) (sources : List ℕ) (bytes blocks : ℕ) (slot : Bool) → Totals old sources (Ok bytes) → HoldsNow old.tracks old.content d uses → AreCopied d sources → (blocks ≡ d.free) × (slot ≡ has_slot d)
+    → (blocks_of bytes ≤ blocks) × (slot ≡ true) × (blocks ≤ 65535) → (has_slot d ≡ true) × (copy_blocks d sources ≤ d.free)
+room_for old d uses sources bytes blocks slot totals h are means enough = (sym means.1 ∙ enough.1, some_room d sources bytes blocks (totals d uses h are) means.0 enough.0 enough.2)

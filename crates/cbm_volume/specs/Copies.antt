@@ -22,6 +22,7 @@ pub record CanBeCopied (d : Disk) (slot : ℕ) : Type 0 where
   pub closed : file.closed ≡ true
   pub plain : is_same_type Rel file.kind ≡ false
 
+-- each of the slots has one
 abbrev pub AreCopied : Disk → List ℕ → Type 0
 AreCopied d [] = Unit {0}
 AreCopied d (n ∷ ns) = CanBeCopied d n × AreCopied d ns

@@ -7,6 +7,7 @@ use Rattle.cbm_bam.specs.Map.{geometry_of}
 use Rattle.cbm_volume.specs.Layouts.{Owner, DataOf, SideOf, Layout}
 use Rattle.cbm_volume.specs.Writers.{Use, HoldsAt}
 
+-- the sector is a file's, or one of its side sectors
 abbrev pub is_file : Owner → Bool
 is_file (DataOf n) = true
 is_file (SideOf n) = true

@@ -22,7 +22,7 @@ impl<M: Medium> Dos<M> {
     ghost use Rattle.cbm_channel.specs.Standing.{Stands, SameBut, Fits, uses_of};
     ghost use Rattle.cbm_channel.specs.Going.{GoesFrom, WentFrom, AfterClose, opening_parts, KeepsMedium};
     ghost use Rattle.cbm_channel.specs.Shown.{is_writing_on};
-    ghost use Rattle.cbm_channel.specs.Commanded.{IsWhole, open_formats};
+    ghost use Rattle.cbm_channel.specs.Commanded.{FormatsUnfailing, open_formats};
     ghost use Rattle.cbm_channel.specs.Planned.{PlannedAs, IsOfText, IsOpened, is_for_writing, text_writes, plan_writes, disk_opened, begun_by};
 
     /// OPEN: on channel 15 the text is a command, on the others it names a file or asks for the listing. A channel that
@@ -31,7 +31,7 @@ impl<M: Medium> Dos<M> {
         requires { channel ≤ 15 }
         ensures goes { (m : Machine) → Stands M.seen self.old m →
             ((n : Machine) → AfterClose M.seen self.old self.new channel m n → IsOpenCarriedOut channel text.now n) →
-            IsWhole (open_formats channel text.now)
+            FormatsUnfailing (open_formats channel text.now)
             (HasFailed (M.seen self.old.medium) (M.seen self.new.medium)) →
             GoesFrom M.seen self.old self.new (opening_parts channel text.now) m }
         // On any disk:

@@ -29,7 +29,7 @@ impl<M: Medium> Dos<M> {
     ghost use Rattle.cbm_channel.specs.Standing.{Stands, SameBut, Leads, HasNoText, HasText};
     ghost use Rattle.cbm_channel.specs.Shown.{is_writing_on, IsQuiet};
     ghost use Rattle.cbm_channel.specs.Going.{Goes, GoesFrom, Went, WentFrom, put_written, KeepsMedium};
-    ghost use Rattle.cbm_channel.specs.Commanded.{IsOfCommandText, changes_disk, commands_change, ends_command, IsWhole, formats, text_formats, end_formats};
+    ghost use Rattle.cbm_channel.specs.Commanded.{IsOfCommandText, changes_disk, commands_change, ends_command, FormatsUnfailing, formats, text_formats, end_formats};
 
     /// A byte that the host sends to a channel: on 15 it is gathered for a command, and on a channel that is open for
     /// writing it goes to its file; on others it is dropped. The first byte for which no block is free sets the status
@@ -102,7 +102,7 @@ impl<M: Medium> Dos<M> {
     pub fn end_put(&mut self, channel: u8)
         requires { channel ≤ 15 }
         ensures goes { (m : Machine) → Stands M.seen self.old m →
-            IsWhole (end_formats channel self.old.text)
+            FormatsUnfailing (end_formats channel self.old.text)
             (HasFailed (M.seen self.old.medium) (M.seen self.new.medium)) →
             GoesFrom M.seen self.old self.new ((channel, end_put channel) ∷ []) m }
         // On any disk:
@@ -122,7 +122,7 @@ impl<M: Medium> Dos<M> {
     /// Carries a text for channel 15 out; an empty one does nothing.
     pub(super) fn command(&mut self, text: &[u8])
         ensures goes { (m : Machine) → Stands M.seen self.old m →
-            IsWhole (text_formats text.now) (HasFailed (M.seen self.old.medium) (M.seen self.new.medium)) →
+            FormatsUnfailing (text_formats text.now) (HasFailed (M.seen self.old.medium) (M.seen self.new.medium)) →
             WentFrom M.seen self.old self.new 15 (command text.now) m }
         ensures channels { self.new.channels ≡ self.old.channels }
         ensures quiet { commands_change text.now ≡ false →
@@ -142,7 +142,7 @@ impl<M: Medium> Dos<M> {
     /// Carries a command out.
     fn run(&mut self, command: &Command)
         ensures goes { (m : Machine) → IsOfCommandText command.now → Stands M.seen self.old m →
-            IsWhole (formats command.now) (HasFailed (M.seen self.old.medium) (M.seen self.new.medium)) →
+            FormatsUnfailing (formats command.now) (HasFailed (M.seen self.old.medium) (M.seen self.new.medium)) →
             WentFrom M.seen self.old self.new 15 (λ n. answered n (run command.now n)) m }
         ensures channels { self.new.channels ≡ self.old.channels }
         ensures quiet { changes_disk command.now ≡ false →

@@ -14,7 +14,7 @@ use Rattle.cbm_volume.specs.Copies.{AreCopied, IsCutShort}
 use Rattle.cbm_volume.specs.Opens.{IsHindered}
 use Rattle.cbm_volume.specs.Reaches.{Reached}
 use Rattle.cbm_volume.specs.Writers.{Use, Idle, HoldsNow}
-use Rattle.cbm_volume.proofs.CopyResults.{Totals, Makes, no_room, some_room, room_is_none}
+use Rattle.cbm_volume.proofs.CopyResults.{Totals, Makes, no_room, room_is_none, room_for}
 use Rattle.cbm_volume.proofs.Finishing.{on_err}
 use Rattle.cbm_volume.proofs.Hindered.{handed_on}
 use Rattle.cbm_volume.proofs.OpenedFiles.{stopped_at, untouched_by}
@@ -72,12 +72,11 @@ returns-then-protected-clause-untouched g c = λ d uses ch h idle ne plain are.
 cut : (g : Over) (c : goal.After-from_residual-in_err-make g) (d : Disk) (uses : ℕ → Use) (ch : ℕ) (h : HoldsNow (g.M.Medium.seen c.args.self.now).tracks (g.M.Medium.seen c.args.self.now).content d uses) → uses ch ≡ Idle → c.args.kind ≢ Del → is_same_type Rel c.args.kind ≡ false → AreCopied d c.args.sources.now
     → IsCutShort (g.M.Medium.seen c.args.self.now) (g.M.Medium.seen c.make.new.medium) (g.M.Medium.seen c.args.self.now).content h.layout d uses c.in_err-make.field-0.0
 cut g c d uses ch h idle ne plain are =
+    let old : Seen = g.M.Medium.seen c.args.self.now in
     let seen = ap (λ m. g.M.Medium.seen m) c.self.view_is in
-    let total = subst (λ (s : Seen). Totals s c.args.sources.now (Ok c.in_ok-bytes.bytes)) seen c.in_ok-bytes.ensures.total d uses h are in
-    let means = c.in_ok-room.ensures.means d (record { layout = h.layout; stands = h.so.stands }) in
-    let enough = c.has_room.ensures.enough c.if-not-has_room.false in
-    subst (λ (s : Seen). Makes s (g.M.Medium.seen c.make.new.medium) c.args.kind c.args.name.now c.args.sources.now (Err c.in_err-make.field-0.0)) seen c.in_err-make.ensures.made d uses ch h idle ne plain are (sym means.1 ∙ enough.1)
-    (some_room d c.args.sources.now c.in_ok-bytes.bytes c.in_ok-room.room.blocks total means.0 enough.0 enough.2)
+    let room = room_for old d uses c.args.sources.now c.in_ok-bytes.bytes c.in_ok-room.room.blocks c.in_ok-room.room.slot (subst (λ (s : Seen). Totals s c.args.sources.now (Ok c.in_ok-bytes.bytes)) seen c.in_ok-bytes.ensures.total) h are
+    (c.in_ok-room.ensures.means d (record { layout = h.layout; stands = h.so.stands })) (c.has_room.ensures.enough c.if-not-has_room.false) in
+    subst (λ (s : Seen). Makes s (g.M.Medium.seen c.make.new.medium) c.args.kind c.args.name.now c.args.sources.now (Err c.in_err-make.field-0.0)) seen c.in_err-make.ensures.made d uses ch h idle ne plain are room.0 room.1
 
 pub returns-in_err-make-clause-stopped : goal.returns-in_err-make-clause-stopped
 returns-in_err-make-clause-stopped g c = λ d uses ch h idle ne plain are.
@@ -97,12 +96,11 @@ returns-in_err-make-clause-untouched g c = λ d uses ch h idle ne plain are.
 made : (g : Over) (c : goal.In_ok-make g) (d : Disk) (uses : ℕ → Use) (ch : ℕ) (h : HoldsNow (g.M.Medium.seen c.args.self.now).tracks (g.M.Medium.seen c.args.self.now).content d uses) → uses ch ≡ Idle → c.args.kind ≢ Del → is_same_type Rel c.args.kind ≡ false → AreCopied d c.args.sources.now
     → Reached (g.M.Medium.seen c.args.self.now).tracks (g.M.Medium.seen c.args.self.now).content h.layout (g.M.Medium.seen c.make.new.medium).content (with_copy d c.args.kind (before_filler c.args.name.now) c.args.sources.now) uses
 made g c d uses ch h idle ne plain are =
+    let old : Seen = g.M.Medium.seen c.args.self.now in
     let seen = ap (λ m. g.M.Medium.seen m) c.self.view_is in
-    let total = subst (λ (s : Seen). Totals s c.args.sources.now (Ok c.in_ok-bytes.bytes)) seen c.in_ok-bytes.ensures.total d uses h are in
-    let means = c.in_ok-room.ensures.means d (record { layout = h.layout; stands = h.so.stands }) in
-    let enough = c.has_room.ensures.enough c.if-not-has_room.false in
-    subst (λ (s : Seen). Makes s (g.M.Medium.seen c.make.new.medium) c.args.kind c.args.name.now c.args.sources.now (Ok c.in_ok-make.field-0)) seen c.in_ok-make.ensures.made d uses ch h idle ne plain are (sym means.1 ∙ enough.1)
-    (some_room d c.args.sources.now c.in_ok-bytes.bytes c.in_ok-room.room.blocks total means.0 enough.0 enough.2)
+    let room = room_for old d uses c.args.sources.now c.in_ok-bytes.bytes c.in_ok-room.room.blocks c.in_ok-room.room.slot (subst (λ (s : Seen). Totals s c.args.sources.now (Ok c.in_ok-bytes.bytes)) seen c.in_ok-bytes.ensures.total) h are
+    (c.in_ok-room.ensures.means d (record { layout = h.layout; stands = h.so.stands })) (c.has_room.ensures.enough c.if-not-has_room.false) in
+    subst (λ (s : Seen). Makes s (g.M.Medium.seen c.make.new.medium) c.args.kind c.args.name.now c.args.sources.now (Ok c.in_ok-make.field-0)) seen c.in_ok-make.ensures.made d uses ch h idle ne plain are room.0 room.1
 
 pub returns-clause-copied : goal.returns-clause-copied
 returns-clause-copied g c = λ d uses ch h idle ne plain are.
@@ -126,24 +124,24 @@ returns-in_err-room-clause-full g c = λ d uses h are none.
 
 pub returns-then-protected-clause-full : goal.returns-then-protected-clause-full
 returns-then-protected-clause-full g c = λ d uses h are none.
+    let old : Seen = g.M.Medium.seen c.args.self.now in
     let seen = ap (λ m. g.M.Medium.seen m) c.self.view_is in
-    let total = subst (λ (s : Seen). Totals s c.args.sources.now (Ok c.in_ok-bytes.bytes)) seen c.in_ok-bytes.ensures.total d uses h are in
-    let means = c.in_ok-room.ensures.means d (record { layout = h.layout; stands = h.so.stands }) in
-    let enough = c.has_room.ensures.enough c.if-not-has_room.false in
-    absurd (room_is_none d c.args.sources.now (sym means.1 ∙ enough.1) (some_room d c.args.sources.now c.in_ok-bytes.bytes c.in_ok-room.room.blocks total means.0 enough.0 enough.2) none)
+    let room = room_for old d uses c.args.sources.now c.in_ok-bytes.bytes c.in_ok-room.room.blocks c.in_ok-room.room.slot (subst (λ (s : Seen). Totals s c.args.sources.now (Ok c.in_ok-bytes.bytes)) seen c.in_ok-bytes.ensures.total) h are
+    (c.in_ok-room.ensures.means d (record { layout = h.layout; stands = h.so.stands })) (c.has_room.ensures.enough c.if-not-has_room.false) in
+    absurd (room_is_none d c.args.sources.now room.0 room.1 none)
 
 pub returns-in_err-make-clause-full : goal.returns-in_err-make-clause-full
 returns-in_err-make-clause-full g c = λ d uses h are none.
+    let old : Seen = g.M.Medium.seen c.args.self.now in
     let seen = ap (λ m. g.M.Medium.seen m) c.self.view_is in
-    let total = subst (λ (s : Seen). Totals s c.args.sources.now (Ok c.in_ok-bytes.bytes)) seen c.in_ok-bytes.ensures.total d uses h are in
-    let means = c.in_ok-room.ensures.means d (record { layout = h.layout; stands = h.so.stands }) in
-    let enough = c.has_room.ensures.enough c.if-not-has_room.false in
-    absurd (room_is_none d c.args.sources.now (sym means.1 ∙ enough.1) (some_room d c.args.sources.now c.in_ok-bytes.bytes c.in_ok-room.room.blocks total means.0 enough.0 enough.2) none)
+    let room = room_for old d uses c.args.sources.now c.in_ok-bytes.bytes c.in_ok-room.room.blocks c.in_ok-room.room.slot (subst (λ (s : Seen). Totals s c.args.sources.now (Ok c.in_ok-bytes.bytes)) seen c.in_ok-bytes.ensures.total) h are
+    (c.in_ok-room.ensures.means d (record { layout = h.layout; stands = h.so.stands })) (c.has_room.ensures.enough c.if-not-has_room.false) in
+    absurd (room_is_none d c.args.sources.now room.0 room.1 none)
 
 pub returns-clause-full : goal.returns-clause-full
 returns-clause-full g c = λ d uses h are none.
+    let old : Seen = g.M.Medium.seen c.args.self.now in
     let seen = ap (λ m. g.M.Medium.seen m) c.self.view_is in
-    let total = subst (λ (s : Seen). Totals s c.args.sources.now (Ok c.in_ok-bytes.bytes)) seen c.in_ok-bytes.ensures.total d uses h are in
-    let means = c.in_ok-room.ensures.means d (record { layout = h.layout; stands = h.so.stands }) in
-    let enough = c.has_room.ensures.enough c.if-not-has_room.false in
-    absurd (room_is_none d c.args.sources.now (sym means.1 ∙ enough.1) (some_room d c.args.sources.now c.in_ok-bytes.bytes c.in_ok-room.room.blocks total means.0 enough.0 enough.2) none)
+    let room = room_for old d uses c.args.sources.now c.in_ok-bytes.bytes c.in_ok-room.room.blocks c.in_ok-room.room.slot (subst (λ (s : Seen). Totals s c.args.sources.now (Ok c.in_ok-bytes.bytes)) seen c.in_ok-bytes.ensures.total) h are
+    (c.in_ok-room.ensures.means d (record { layout = h.layout; stands = h.so.stands })) (c.has_room.ensures.enough c.if-not-has_room.false) in
+    absurd (room_is_none d c.args.sources.now room.0 room.1 none)
