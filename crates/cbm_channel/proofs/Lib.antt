@@ -4,6 +4,7 @@ pub mod Orders
 pub mod Uses
 pub mod Changed
 pub mod Troubles
+pub mod Refused
 pub mod Scratches
 pub mod Commanding
 pub mod Copies

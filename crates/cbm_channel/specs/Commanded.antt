@@ -131,3 +131,7 @@ pub record IsGoing (m : Machine) (ps : List (List ℕ)) (slots : List ℕ) : Typ
 -- or its refusal
 abbrev pub RefusesScratch : Machine → List (List ℕ) → Status → Type 0
 RefusesScratch m ps status = (scratch ps m ≡ Err WriteProtected) × (status ≡ plain WriteProtected)
+
+-- where the disk is protected, there are none to be cleared
+pub record AreUnguarded (protected : Bool) (slots : List ℕ) : Type 0 where
+  pub unprotected : slots ≢ [] → protected ≡ false

@@ -9,7 +9,8 @@ use Rattle.cbm_volume.specs.Content.{Content}
 use Rattle.cbm_volume.specs.Map.{geometry_of}
 use Rattle.cbm_volume.specs.Entries.{first_block}
 use Rattle.cbm_volume.specs.Slots.{directory_of}
-use Rattle.cbm_machine.specs.declared.code.Code.TheVariants.{WriteProtected}
+use Rattle.cbm_machine.specs.declared.code.Code.{Code}
+use Rattle.cbm_machine.specs.declared.code.Code.TheVariants.{Fine, FilesScratched, NoHeader, NoSync, NoData, DataChecksum, DataCode, WriteFailed, WriteProtected, HeaderChecksum, LongData, WrongId, Syntax, UnknownCommand, LongText, WildName, NoName, NoRecord, RecordOverflow, FileTooLarge, WriteFileOpen, FileNotOpen, FileNotFound, FileExists, WrongType, WrongLink, NoChannel, EndlessChain, DiskFull, PowerUp, DriveNotReady}
 use Rattle.cbm_machine.specs.declared.status.Status.{Status}
 use Rattle.cbm_machine.specs.Codes.{code_number}
 use Rattle.cbm_machine.specs.Statuses.{plain, trouble_status}
@@ -55,3 +56,42 @@ IsFromDirectory seen medium (planned.WriteFile kind name) = Unit {0}
 IsFromDirectory seen medium (planned.AppendFile found) =
     Contains (directory_of (geometry_of (seen medium).tracks (seen medium).content) (seen medium).content).entries found.entry
 IsFromDirectory seen medium (planned.ReplaceFile slot) = Unit {0}
+
+-- A request is refused with this code: for protection (26), its text (30 to 34), a record (50, 51), the files and the channels
+-- (60 to 64, 70), for want of room (72) or of a disk (74).
+abbrev pub is_refusal : Code → Bool
+is_refusal Fine = false
+is_refusal FilesScratched = false
+is_refusal NoHeader = false
+is_refusal NoSync = false
+is_refusal NoData = false
+is_refusal DataChecksum = false
+is_refusal DataCode = false
+is_refusal WriteFailed = false
+is_refusal WriteProtected = true
+is_refusal HeaderChecksum = false
+is_refusal LongData = false
+is_refusal WrongId = false
+is_refusal Syntax = true
+is_refusal UnknownCommand = true
+is_refusal LongText = true
+is_refusal WildName = true
+is_refusal NoName = true
+is_refusal NoRecord = true
+is_refusal RecordOverflow = true
+is_refusal FileTooLarge = false
+is_refusal WriteFileOpen = true
+is_refusal FileNotOpen = true
+is_refusal FileNotFound = true
+is_refusal FileExists = true
+is_refusal WrongType = true
+is_refusal WrongLink = false
+is_refusal NoChannel = true
+is_refusal EndlessChain = false
+is_refusal DiskFull = true
+is_refusal PowerUp = false
+is_refusal DriveNotReady = true
+
+-- WHAT IS REFUSED LEAVES THE DISK: where such a code is told, each sector holds what it held.
+abbrev pub KeepsIfRefused : {M : Type 0} → (M → Seen) → Kept M → Kept M → Type 0
+KeepsIfRefused seen old new = is_refusal new.told.status.code ≡ true → (seen new.medium).content ≡ (seen old.medium).content

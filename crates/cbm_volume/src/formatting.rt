@@ -111,6 +111,7 @@ fn all_tracks<M: Medium>(medium: &M) -> Geometry
 fn told_id<M: Medium>(medium: &M) -> Result<[u8; 2], Trouble>
     ensures ok { IfOk result (λ id. id ≡ slice_range (map_of (M.seen medium.now).content) 162 164) }
     ensures err { IfErr result (λ t. (M.seen medium.now).content directory_head ≡ Err t.code) }
+    ensures never_26 { IfErr result (λ t. t.code ≢ 26) }
 {
     let map = read_map(medium, all_tracks(medium))?;
     Ok([map[162], map[163]])
@@ -126,6 +127,7 @@ fn write_new<M: Medium>(medium: &mut M, title: &[u8], id: [u8; 2]) -> Result<(),
         IsWritable (old.content first_directory) → IfErr result (IsHindered old (M.seen medium.new)) }
     ensures protected { let old = M.seen medium.old in old.protected ≡ true →
         (M.seen medium.new).content ≡ old.content }
+    ensures protection { IfErr result (λ t. t.code ≡ 26 → (M.seen medium.old).protected ≡ true) }
     ensures only { OnlyContent result (M.seen medium.old) (M.seen medium.new) }
 {
     let head = new_head(title, id, all_tracks(medium));
@@ -152,6 +154,8 @@ impl<M: Medium> Volume<M> {
             (id_behind id old.content) (content_under id old.content) (M.seen self.new).content) }
         ensures protected { let old = M.seen self.old in old.protected ≡ true →
             (M.seen self.new).content ≡ old.content }
+        // The code 26 says that the medium is protected, whatever it holds.
+        ensures protection { IfErr result (λ t. t.code ≡ 26 → (M.seen self.old).protected ≡ true) }
         ensures only { OnlyContent result (M.seen self.old) (M.seen self.new) }
         ensures cause { let old = M.seen self.old in (d : Disk) (uses : ℕ → Use) →
             HoldsNow old.tracks old.content d uses → IfErr result (IsHindered old (M.seen self.new)) }

@@ -1,6 +1,6 @@
 // VALIDATE: the map is written anew from the closed files.
 
-ghost use Rattle.std.specs.Prelude.{◌≡◌, ◌≤◌, ◌⊎◌, ℕ, List, Some, true, IfOk, IfErr, IsOk, IsErrAnd, OnOk, OnErr};
+ghost use Rattle.std.specs.Prelude.{◌≡◌, ◌≢◌, ◌≤◌, ◌⊎◌, ℕ, List, Some, true, IfOk, IfErr, IsOk, IsErrAnd, OnOk, OnErr};
 ghost use Rattle.cbm_medium.specs.Place.{Place, directory_head};
 ghost use Rattle.cbm_medium.specs.Seen.{OnlyContent, HasFailed, write_refusal};
 ghost use Rattle.cbm_medium.specs.Content.{written};
@@ -31,7 +31,8 @@ const SLOTS: u8 = 144;
 /// The code of the fault that stands at a place of the disk; 71 where none does.
 fn code_at<M: Medium>(medium: &M, geometry: Geometry, at: Link) -> u8
     requires { geometry ≤ (M.seen medium.now).tracks }
-    ensures { result ≡ code_at geometry (M.seen medium.now).content at }
+    ensures value { result ≡ code_at geometry (M.seen medium.now).content at }
+    ensures never_26 { result ≢ 26 }
 {
     let Some(address) = at.address(geometry) else {
         return ENDLESS_CHAIN;
@@ -46,7 +47,8 @@ fn code_at<M: Medium>(medium: &M, geometry: Geometry, at: Link) -> u8
 /// to no sector for it, and 71 for all else.
 fn flaw_code<M: Medium>(medium: &M, geometry: Geometry, flaw: Unsound) -> u8
     requires { geometry ≤ (M.seen medium.now).tracks }
-    ensures { result ≡ flaw_code geometry (M.seen medium.now).content flaw }
+    ensures value { result ≡ flaw_code geometry (M.seen medium.now).content flaw }
+    ensures never_26 { result ≢ 26 }
 {
     if flaw.is(Flaw::BadHeader) || flaw.is(Flaw::Unreadable) {
         return code_at(medium, geometry, Link::new(flaw.track, flaw.sector));
@@ -66,6 +68,7 @@ fn closed_sectors<M: Medium>(medium: &M) -> Result<SectorSet, Trouble>
         Sound (geometry_of now.tracks now.content) now.content l → IsOk result }
     ensures err { let now = M.seen medium.now in
         IfErr result (IsUnmendable (geometry_of now.tracks now.content) now.content) }
+    ensures never_26 { IfErr result (λ t. t.code ≢ 26) }
 {
     let geometry = cbm_bam::geometry(medium);
     let view = ClosedView { medium, geometry };
@@ -88,6 +91,7 @@ fn sweep_slot<M: Medium>(medium: &mut M, geometry: Geometry, number: u8) -> Resu
     ensures err { OnErr result ((M.seen medium.new).content ≡ (M.seen medium.old).content) }
     ensures cause { let old = M.seen medium.old in (directory : List Place) →
         IsDirectory geometry old.content directory → IfErr result (IsHindered old (M.seen medium.new)) }
+    ensures protection { IfErr result (λ t. t.code ≡ 26 → (M.seen medium.old).protected ≡ true) }
     ensures only { OnlyContent result (M.seen medium.old) (M.seen medium.new) }
 {
     let Some(entry) = slot(medium, geometry, number)? else {
@@ -110,6 +114,7 @@ fn sweep<M: Medium>(medium: &mut M, geometry: Geometry) -> Result<(), Trouble>
         OnErr result ((k : ℕ) × IsSwept old.content (M.seen medium.new).content directory k) }
     ensures cause { let old = M.seen medium.old in (directory : List Place) →
         IsDirectory geometry old.content directory → IfErr result (IsHindered old (M.seen medium.new)) }
+    ensures protection { IfErr result (λ t. t.code ≡ 26 → (M.seen medium.old).protected ≡ true) }
     ensures only { OnlyContent result (M.seen medium.old) (M.seen medium.new) }
 {
     for number in 0..SLOTS {
@@ -126,6 +131,7 @@ fn write_map<M: Medium>(medium: &mut M, geometry: Geometry, map: &[u8; 256]) -> 
     ensures err { OnErr result ((M.seen medium.new).content ≡ (M.seen medium.old).content) }
     ensures cause { IfErr result (λ t. (write_refusal (M.seen medium.old) directory_head ≡ Some t.code) ⊎
         HasFailed (M.seen medium.old) (M.seen medium.new)) }
+    ensures protection { IfErr result (λ t. t.code ≡ 26 → (M.seen medium.old).protected ≡ true) }
     ensures only { OnlyContent result (M.seen medium.old) (M.seen medium.new) }
 {
     prove!(geometry.tracks() >= 35);
@@ -160,6 +166,8 @@ impl<M: Medium> Volume<M> {
             (M.seen self.new).content ≡ (M.seen self.old).content }
         ensures guarded { let old = M.seen self.old in (d : Disk) (uses : ℕ → Use) →
             HoldsNow old.tracks old.content d uses → old.protected ≡ true → IsErrAnd result (λ t. t.code ≡ 26) }
+        // The code 26 says that the medium is protected, whatever it holds.
+        ensures protection { IfErr result (λ t. t.code ≡ 26 → (M.seen self.old).protected ≡ true) }
         ensures only { OnlyContent result (M.seen self.old) (M.seen self.new) }
     {
         let geometry = self.geometry();

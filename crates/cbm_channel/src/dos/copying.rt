@@ -38,7 +38,7 @@ impl<M: Medium> Dos<M> {
     ghost use Rattle.cbm_machine.specs.Codes.{code_number};
     ghost use Rattle.cbm_machine.specs.Machines.{Machine, answered};
     ghost use Rattle.cbm_machine.specs.Running.{copy, source, sources};
-    ghost use Rattle.cbm_channel.specs.Grounds.{HasGround, is_fault_number};
+    ghost use Rattle.cbm_channel.specs.Grounds.{HasGround, is_fault_number, KeepsIfRefused};
     ghost use Rattle.cbm_channel.specs.Standing.{Stands};
     ghost use Rattle.cbm_channel.specs.Going.{Went, WentFrom, KeepsMedium};
     ghost use Rattle.cbm_channel.specs.Joined.{SourceAs, AddsSources, IsCopying, RefusesCopy};
@@ -52,6 +52,7 @@ impl<M: Medium> Dos<M> {
             (self.new.told.status.code ≡ Fine) ⊎
             ((M.seen self.new.medium).content ≡ (M.seen self.old.medium).content) }
         ensures channels { self.new.channels ≡ self.old.channels }
+        ensures spared { KeepsIfRefused M.seen self.old self.new }
         ensures medium { KeepsMedium (M.seen self.old.medium) (M.seen self.new.medium) }
     {
         match self.plan_copy(new, olds) {
@@ -130,6 +131,7 @@ impl<M: Medium> Dos<M> {
             ((M.seen self.new.medium).content ≡ (M.seen self.old.medium).content) }
         ensures channels { self.new.channels ≡ self.old.channels }
         ensures count { length self.new.channels ≡ 15 }
+        ensures spared { KeepsIfRefused M.seen self.old self.new }
         ensures medium { KeepsMedium (M.seen self.old.medium) (M.seen self.new.medium) }
     {
         match self.volume.copy(kind, name.bytes(), slots) {

@@ -9,7 +9,7 @@ use cbm_machine::{Code, Status};
 use cbm_volume::{Medium, Trouble};
 
 impl<M: Medium> Dos<M> {
-    ghost use Rattle.std.specs.Prelude.{◌≡◌, ◌≤◌, ◌<◌, ◌⊎◌, ◌==◌, ℕ, true, false, length, is_some, IfOk, IfErr, OnErr, IfSome, Ok, slice_index_or};
+    ghost use Rattle.std.specs.Prelude.{◌≡◌, ◌≤◌, ◌<◌, ◌⊎◌, ◌==◌, ℕ, true, false, length, is_some, IfOk, IfErr, OnErr, IfSome, MatchOption, Ok, slice_index_or};
     ghost use Rattle.cbm_medium.specs.Seen.{OnlyContent, HasFailed};
     ghost use Rattle.cbm_volume.specs.Map.{geometry_of};
     ghost use Rattle.cbm_volume.specs.Writers.{Idle, Stopped};
@@ -18,7 +18,7 @@ impl<M: Medium> Dos<M> {
     ghost use Rattle.cbm_machine.specs.Plans as plans;
     ghost use Rattle.cbm_machine.specs.CarriedOut.{IsOpenCarriedOut, IsAskedCarriedOut};
     ghost use Rattle.cbm_channel.specs.declared.channel.Channel.TheVariants.{Closed};
-    ghost use Rattle.cbm_channel.specs.Grounds.{ShowsTrouble, HasTold, IsToldFor, IsFromDirectory};
+    ghost use Rattle.cbm_channel.specs.Grounds.{ShowsTrouble, HasTold, IsToldFor, IsFromDirectory, KeepsIfRefused};
     ghost use Rattle.cbm_channel.specs.Standing.{Stands, SameBut, Fits, uses_of};
     ghost use Rattle.cbm_channel.specs.Going.{GoesFrom, WentFrom, AfterClose, opening_parts, KeepsMedium};
     ghost use Rattle.cbm_channel.specs.Shown.{is_writing_on};
@@ -42,6 +42,8 @@ impl<M: Medium> Dos<M> {
         ensures quiet { is_writing_on channel self.old ≡ false →
             text_writes channel text.now ≡ false →
             IsToldFor M.seen self.old self.new × (self.new.medium ≡ self.old.medium) }
+        // What is refused, on a channel that isn't written, has changed nothing of the disk.
+        ensures spared { is_writing_on channel self.old ≡ false → KeepsIfRefused M.seen self.old self.new }
         ensures medium { KeepsMedium (M.seen self.old.medium) (M.seen self.new.medium) }
     {
         if channel == 15 {
@@ -66,6 +68,7 @@ impl<M: Medium> Dos<M> {
             (self.new.told.status.code ≡ Fine) ⊎ (slice_index_or self.new.channels channel Closed ≡ Closed) }
         ensures quiet { is_for_writing opening ≡ false →
             HasTold M.seen self.old self.new × (self.new.medium ≡ self.old.medium) }
+        ensures spared { KeepsIfRefused M.seen self.old self.new }
         ensures medium { KeepsMedium (M.seen self.old.medium) (M.seen self.new.medium) }
     {
         match self.plan(opening) {
@@ -85,6 +88,8 @@ impl<M: Medium> Dos<M> {
         ensures refused { (self.new.told.status.code ≡ Fine) ⊎ (self.new.channels ≡ self.old.channels) }
         ensures quiet { plan_writes plan ≡ false → IsFromDirectory M.seen self.old.medium plan →
             HasTold M.seen self.old self.new × (self.new.medium ≡ self.old.medium) }
+        ensures spared { (plan_writes plan ≡ true → (M.seen self.old.medium).protected ≡ false) →
+            KeepsIfRefused M.seen self.old self.new }
         ensures medium { KeepsMedium (M.seen self.old.medium) (M.seen self.new.medium) }
     {
         match self.opened(plan) {
@@ -115,6 +120,10 @@ impl<M: Medium> Dos<M> {
         ensures shown { let old = M.seen self.old.medium in plan_writes plan ≡ false →
             IsFromDirectory M.seen self.old.medium plan →
             IfErr result (ShowsTrouble (geometry_of old.tracks old.content) old.content) }
+        ensures kept { IfOk result (λ o. MatchOption o
+            ((M.seen self.new.medium).content ≡ (M.seen self.old.medium).content) (λ w. Unit {0})) }
+        ensures guarded { (plan_writes plan ≡ true → (M.seen self.old.medium).protected ≡ false) → IfErr result
+            (λ t. t.code ≡ 26 → (M.seen self.new.medium).content ≡ (M.seen self.old.medium).content) }
         ensures rest { self.new ≡ record self.old { medium = self.new.medium } }
         ensures count { length self.new.channels ≡ 15 }
         ensures medium { OnlyContent result (M.seen self.old.medium) (M.seen self.new.medium) }

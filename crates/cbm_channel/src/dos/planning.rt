@@ -61,7 +61,7 @@ fn plan_read(wanted: &Wanted, found: Found, written: bool) -> Result<Plan, Statu
 }
 
 impl<M: Medium> Dos<M> {
-    ghost use Rattle.std.specs.Prelude.{◌≡◌, ◌≤◌, ℕ, false, Ok, IfOk, IfErr};
+    ghost use Rattle.std.specs.Prelude.{◌≡◌, ◌≤◌, ℕ, true, false, Ok, IfOk, IfErr};
     ghost use Rattle.cbm_file.specs.declared.file_type.FileType.TheVariants.{Del, Rel};
     ghost use Rattle.cbm_file.specs.Types.{is_same_type};
     ghost use Rattle.cbm_file.specs.Padding.{before_filler};
@@ -81,6 +81,7 @@ impl<M: Medium> Dos<M> {
         ensures ground { IfErr result (HasGround M.seen self.now.medium) }
         ensures from { IfOk result (IsFromDirectory M.seen self.now.medium) }
         ensures reads { is_for_writing opening ≡ false → IfOk result (λ p. plan_writes p ≡ false) }
+        ensures allowed { IfOk result (λ p. plan_writes p ≡ true → (M.seen self.now.medium).protected ≡ false) }
         ensures planned { (m : Machine) (ch : ℕ) → IsOfText opening → IsAskedCarriedOut ch m (Ok opening) →
             Stands M.seen self.now m →
             PlannedAs (M.seen self.now.medium).tracks (M.seen self.now.medium).content m
@@ -102,6 +103,7 @@ impl<M: Medium> Dos<M> {
         ensures ground { IfErr result (HasGround M.seen self.now.medium) }
         ensures from { IfOk result (IsFromDirectory M.seen self.now.medium) }
         ensures reads { wanted.mode ≡ Read → IfOk result (λ p. plan_writes p ≡ false) }
+        ensures allowed { IfOk result (λ p. plan_writes p ≡ true → (M.seen self.now.medium).protected ≡ false) }
         ensures planned { (m : Machine) (ch : ℕ) → IsOfText (opening.File wanted) → is_relative wanted ≡ false →
             MeetsNoRecords (plans.plan ch (opening.File wanted) m) → Stands M.seen self.now m →
             PlannedAs (M.seen self.now.medium).tracks (M.seen self.now.medium).content m (plans.plan ch
@@ -151,6 +153,7 @@ impl<M: Medium> Dos<M> {
     fn plan_append(&self, found: Found) -> Result<Plan, Status>
         ensures ground { IfErr result (HasGround M.seen self.now.medium) }
         ensures same { IfOk result (λ p. p ≡ planned.AppendFile found) }
+        ensures allowed { IfOk result (λ p. plan_writes p ≡ true → (M.seen self.now.medium).protected ≡ false) }
         ensures planned { (m : Machine) (s : ℕ) (f : File) → Stands M.seen self.now m →
             IsFound (M.seen self.now.medium).tracks (M.seen self.now.medium).content m.disk s f found →
             PlannedAs (M.seen self.now.medium).tracks (M.seen self.now.medium).content m
@@ -176,6 +179,7 @@ impl<M: Medium> Dos<M> {
     fn plan_writing(&self, wanted: Wanted) -> Result<Plan, Status>
         ensures ground { IfErr result (HasGround M.seen self.now.medium) }
         ensures from { IfOk result (IsFromDirectory M.seen self.now.medium) }
+        ensures allowed { IfOk result (λ p. plan_writes p ≡ true → (M.seen self.now.medium).protected ≡ false) }
         ensures planned { (m : Machine) → IsOfText (opening.File wanted) → is_relative wanted ≡ false →
             Stands M.seen self.now m →
             PlannedAs (M.seen self.now.medium).tracks (M.seen self.now.medium).content m
@@ -200,6 +204,7 @@ impl<M: Medium> Dos<M> {
     fn plan_write(&self, kind: FileType, name: Name) -> Result<Plan, Status>
         ensures ground { IfErr result (HasGround M.seen self.now.medium) }
         ensures same { IfOk result (λ p. p ≡ planned.WriteFile kind name) }
+        ensures allowed { IfOk result (λ p. plan_writes p ≡ true → (M.seen self.now.medium).protected ≡ false) }
         ensures planned { (m : Machine) (w : Wanted) → w.name ≡ name → is_there m.disk name ≡ false →
             before_filler name ≡ name → is_same_type Del kind ≡ false → is_same_type Rel kind ≡ false →
             Stands M.seen self.now m →
@@ -221,6 +226,7 @@ impl<M: Medium> Dos<M> {
     fn plan_replace(&self, found: &Found) -> Result<Plan, Status>
         ensures ground { IfErr result (HasGround M.seen self.now.medium) }
         ensures same { IfOk result (λ p. p ≡ planned.ReplaceFile found.now.slot) }
+        ensures allowed { IfOk result (λ p. plan_writes p ≡ true → (M.seen self.now.medium).protected ≡ false) }
         ensures planned { (m : Machine) (s : ℕ) (f : File) → Stands M.seen self.now m →
             IsFound (M.seen self.now.medium).tracks (M.seen self.now.medium).content m.disk s f found.now →
             is_same_type Rel f.kind ≡ false →

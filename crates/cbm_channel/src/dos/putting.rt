@@ -25,7 +25,7 @@ impl<M: Medium> Dos<M> {
     ghost use Rattle.cbm_machine.specs.Calls.{put, end_put, gather, command, without_return};
     ghost use Rattle.cbm_machine.specs.Running.{run};
     ghost use Rattle.cbm_command.specs.declared.command.Command.TheVariants.{Position};
-    ghost use Rattle.cbm_channel.specs.Grounds.{HasTold, IsToldFor};
+    ghost use Rattle.cbm_channel.specs.Grounds.{HasTold, IsToldFor, KeepsIfRefused};
     ghost use Rattle.cbm_channel.specs.Standing.{Stands, SameBut, Leads, HasNoText, HasText};
     ghost use Rattle.cbm_channel.specs.Shown.{is_writing_on, IsQuiet};
     ghost use Rattle.cbm_channel.specs.Going.{Goes, GoesFrom, Went, WentFrom, put_written, KeepsMedium};
@@ -110,6 +110,8 @@ impl<M: Medium> Dos<M> {
         // What is no command that changes the disk leaves the medium as it is.
         ensures quiet { ends_command channel self.old.text ≡ false →
             IsToldFor M.seen self.old self.new × (self.new.medium ≡ self.old.medium) }
+        // What is refused has changed nothing of the disk.
+        ensures spared { KeepsIfRefused M.seen self.old self.new }
         ensures medium { KeepsMedium (M.seen self.old.medium) (M.seen self.new.medium) }
     {
         if let Some(text) = self.take_text(channel) {
@@ -127,6 +129,7 @@ impl<M: Medium> Dos<M> {
         ensures channels { self.new.channels ≡ self.old.channels }
         ensures quiet { commands_change text.now ≡ false →
             IsToldFor M.seen self.old self.new × (self.new.medium ≡ self.old.medium) }
+        ensures spared { KeepsIfRefused M.seen self.old self.new }
         ensures medium { KeepsMedium (M.seen self.old.medium) (M.seen self.new.medium) }
     {
         let text = without_return(text);
@@ -147,6 +150,7 @@ impl<M: Medium> Dos<M> {
         ensures channels { self.new.channels ≡ self.old.channels }
         ensures quiet { changes_disk command.now ≡ false →
             HasTold M.seen self.old self.new × (self.new.medium ≡ self.old.medium) }
+        ensures spared { KeepsIfRefused M.seen self.old self.new }
         ensures medium { KeepsMedium (M.seen self.old.medium) (M.seen self.new.medium) }
     {
         match command {

@@ -12,7 +12,7 @@ impl<M: Medium> Dos<M> {
     ghost use Rattle.cbm_machine.specs.declared.code.Code.TheVariants.{Fine};
     ghost use Rattle.cbm_machine.specs.Machines.{Machine, answered};
     ghost use Rattle.cbm_machine.specs.Running.{rename};
-    ghost use Rattle.cbm_channel.specs.Grounds.{HasGround};
+    ghost use Rattle.cbm_channel.specs.Grounds.{HasGround, KeepsIfRefused};
     ghost use Rattle.cbm_channel.specs.Standing.{Stands};
     ghost use Rattle.cbm_channel.specs.Going.{Went, WentFrom, KeepsMedium};
     ghost use Rattle.cbm_channel.specs.Commanded.{IsRenamable, RenamesAs};
@@ -25,6 +25,7 @@ impl<M: Medium> Dos<M> {
         ensures refused { (self.new.told.status.code ≡ Fine) ⊎
             ((M.seen self.new.medium).content ≡ (M.seen self.old.medium).content) }
         ensures channels { self.new.channels ≡ self.old.channels }
+        ensures spared { KeepsIfRefused M.seen self.old self.new }
         ensures medium { KeepsMedium (M.seen self.old.medium) (M.seen self.new.medium) }
     {
         match self.plan_rename(new, old) {
@@ -61,6 +62,7 @@ impl<M: Medium> Dos<M> {
             ((M.seen self.new.medium).content ≡ (M.seen self.old.medium).content) }
         ensures channels { self.new.channels ≡ self.old.channels }
         ensures count { length self.new.channels ≡ 15 }
+        ensures spared { KeepsIfRefused M.seen self.old self.new }
         ensures medium { KeepsMedium (M.seen self.old.medium) (M.seen self.new.medium) }
     {
         match self.volume.rename(slot, name.bytes()) {

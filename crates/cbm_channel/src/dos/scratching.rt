@@ -49,16 +49,18 @@ impl<M: Medium> Dos<M> {
     ghost use Rattle.cbm_volume.specs.Writers.{HoldsNow, Stopped};
     ghost use Rattle.cbm_machine.specs.Machines.{Machine, answered};
     ghost use Rattle.cbm_machine.specs.Running.{scratch};
-    ghost use Rattle.cbm_channel.specs.Grounds.{HasGround};
+    ghost use Rattle.cbm_channel.specs.Grounds.{HasGround, KeepsIfRefused};
     ghost use Rattle.cbm_channel.specs.Standing.{Stands, uses_of};
     ghost use Rattle.cbm_channel.specs.Going.{WentFrom, KeepsMedium};
-    ghost use Rattle.cbm_channel.specs.Commanded.{entries_going, slots_going, all_scratched, CanAllGo, IsGoing, RefusesScratch};
+    ghost use Rattle.cbm_channel.specs.Commanded.{entries_going, slots_going, all_scratched, CanAllGo, IsGoing, AreUnguarded, RefusesScratch};
 
     /// S: each file that matches a pattern, isn't locked and isn't open goes; 01 tells how many.
     pub(super) fn scratch(&mut self, patterns: &Names)
         ensures goes { (m : Machine) → Stands M.seen self.old m →
             WentFrom M.seen self.old self.new 15 (λ n. answered n (scratch patterns.now n)) m }
         ensures channels { self.new.channels ≡ self.old.channels }
+        // On any disk: what is refused has changed nothing of it.
+        ensures spared { KeepsIfRefused M.seen self.old self.new }
         ensures medium { KeepsMedium (M.seen self.old.medium) (M.seen self.new.medium) }
     {
         match self.plan_scratch(patterns) {
@@ -74,6 +76,7 @@ impl<M: Medium> Dos<M> {
             IfOk result (λ v. IsGoing m patterns.now v.items) }
         ensures refused { (m : Machine) → Stands M.seen self.now m →
             IfErr result (RefusesScratch m patterns.now) }
+        ensures unguarded { IfOk result (λ v. AreUnguarded (M.seen self.now.medium).protected v.items) }
         ensures few { IfOk result (λ v. length v.items ≤ 144) }
     {
         let slots = self.slots_going(patterns)?;
@@ -111,6 +114,8 @@ impl<M: Medium> Dos<M> {
             WentFrom M.seen self.old self.new 15 (λ n. answered n (scratch patterns n)) m }
         ensures channels { self.new.channels ≡ self.old.channels }
         ensures count { length self.new.channels ≡ 15 }
+        ensures spared { AreUnguarded (M.seen self.old.medium).protected slots.now →
+            KeepsIfRefused M.seen self.old self.new }
         ensures medium { KeepsMedium (M.seen self.old.medium) (M.seen self.new.medium) }
     {
         match self.clear(slots) {
@@ -135,6 +140,7 @@ impl<M: Medium> Dos<M> {
             OnErr result (Stopped old.tracks (M.seen self.new.medium).content m.disk
             (all_scratched m.disk slots.now) (uses_of self.old.channels m.channels)
             × HasFailed old (M.seen self.new.medium)) }
+        ensures unguarded { AreUnguarded (M.seen self.old.medium).protected slots.now → IfErr result (λ t. t.code ≢ 26) }
         ensures rest { self.new ≡ record self.old { medium = self.new.medium } }
         ensures count { length self.new.channels ≡ 15 }
         ensures medium { OnlyContent result (M.seen self.old.medium) (M.seen self.new.medium) }

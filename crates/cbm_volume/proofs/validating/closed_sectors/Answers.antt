@@ -10,4 +10,4 @@ pub returns-in-Err-clause-exact : goal.returns-in-Err-clause-exact
 returns-in-Err-clause-exact g c = λ l s. absurd (no_flaw (g.M.Medium.seen c.args.medium.now).tracks (g.M.Medium.seen c.args.medium.now).content c.geometry-geometry.result c.in-Err.flaw c.geometry-geometry.ensures.whole c.geometry-geometry.ensures.value c.in-Err.ensures.err l s)
 
 pub returns-in-Err-clause-err : goal.returns-in-Err-clause-err
-returns-in-Err-clause-err g c = flaw_there (g.M.Medium.seen c.args.medium.now).tracks (g.M.Medium.seen c.args.medium.now).content c.geometry-geometry.result c.flaw_code.result c.in-Err.flaw c.geometry-geometry.ensures.whole c.geometry-geometry.ensures.value c.flaw_code.ensures c.in-Err.ensures.err
+returns-in-Err-clause-err g c = flaw_there (g.M.Medium.seen c.args.medium.now).tracks (g.M.Medium.seen c.args.medium.now).content c.geometry-geometry.result c.flaw_code.result c.in-Err.flaw c.geometry-geometry.ensures.whole c.geometry-geometry.ensures.value c.flaw_code.ensures.value c.in-Err.ensures.err

@@ -8,6 +8,7 @@ use Rattle.cbm_channel.specs.Standing.{StandsBy, uses_of}
 use Rattle.cbm_channel.specs.Planned.{IsOpened}
 use Rattle.cbm_channel.proofs.Stores.{renamed}
 use Rattle.cbm_channel.proofs.Opens.{opened_stands, opened_cut, idle_at}
+use Rattle.cbm_channel.proofs.Refused.{not_refused, refused_26}
 use Rattle.cbm_channel.proofs.dos.Dos.act.Goals as goal
 
 -- the channel was opened
@@ -37,3 +38,12 @@ returns-in-Err-clause-goes g c = λ m p h shut s.
       c.set.ensures.leads next.0 (subst (λ k. StandsBy (g.M.Medium.seen k.medium).content (g.M.Medium.seen k.medium).tracks (g.M.Medium.seen k.medium).protected k.channels k.told k.text next.0) (sym c.opened.ensures.rest)
           (renamed _ _ _ _ _ _ _ _ _ c.opened.ensures.medium.tracks c.opened.ensures.medium.protected next.2)),
     )
+
+-- ---- what is refused
+
+pub returns-in-Ok-Some-clause-spared : goal.returns-in-Ok-Some-clause-spared
+returns-in-Ok-Some-clause-spared g c = λ free. not_refused _ _ c.say.ensures.told refl
+
+pub returns-in-Err-clause-spared : goal.returns-in-Err-clause-spared
+returns-in-Err-clause-spared g c = λ free is.
+    ap (λ v. (g.M.Medium.seen v).content) c.set.ensures.medium ∙ c.in-Err.ensures.guarded free (refused_26 c.in-Err.trouble c.from.result _ c.from.ensures c.set.ensures.told is)

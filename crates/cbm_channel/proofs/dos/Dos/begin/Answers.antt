@@ -17,3 +17,7 @@ pub returns-in-Err-clause-goes : goal.returns-in-Err-clause-goes
 returns-in-Err-clause-goes g c = λ m text carried shut s.
     let x = begun_err _ _ m _ c.in-Err.status (c.in-Err.ensures.planned m c.args.channel text carried s) in
     (tell c.in-Err.status m, inl (sym (begun_refuses c.args.channel c.args.opening m x.0 c.in-Err.status x.1 x.2)), c.set.ensures.leads m s)
+
+-- what is refused
+pub returns-in-Ok-clause-spared : goal.returns-in-Ok-clause-spared
+returns-in-Ok-clause-spared g c = c.act.ensures.spared c.in-Ok.ensures.allowed

@@ -1,4 +1,4 @@
-use Rattle.std.proofs.Common.{length, sym, ap, subst, ◌∙◌, arith}
+use Rattle.std.proofs.Common.{length, sym, ap, subst, ◌∙◌, arith, ◌≢◌}
 use Rattle.cbm_medium.specs.Seen.{Seen}
 use Rattle.cbm_volume.specs.Opens.{IsHindered}
 use Rattle.cbm_channel.specs.Commanded.{all_scratched}
@@ -7,6 +7,7 @@ use Rattle.cbm_channel.proofs.DiskSteps.{nothing_yet, nothing_more, refused_then
 use Rattle.cbm_channel.proofs.Opens.{on_err, failed_by}
 use Rattle.cbm_channel.proofs.Scratches.{IsClearing, clearing_first, clearing_next, clearing_stopped, clearing_hindered, clearing_done, next_left}
 use Rattle.cbm_channel.proofs.Goings.{late}
+use Rattle.cbm_channel.proofs.Troubles.{passed_on}
 use Rattle.cbm_channel.proofs.dos.Dos.clear.Goals as goal
 
 pub slots-init : goal.slots-init
@@ -72,3 +73,8 @@ returns-clause-count g c = (invariant_of-self g c).count
 
 pub returns-clause-medium : goal.returns-clause-medium
 returns-clause-medium g c = c.slots.invariant.1
+
+-- none is cleared on a protected disk
+pub returns-in_err-scratch-clause-unguarded : goal.returns-in_err-scratch-clause-unguarded
+returns-in_err-scratch-clause-unguarded g c = λ free. passed_on c.from_residual.result c.in_err-scratch.field-0.0 (λ t. t.code ≢ 26) c.from_residual.ensures.1
+    (λ is. let z = sym (c.in_err-scratch.ensures.protection is) ∙ c.slots.invariant.1.protected ∙ free.unprotected (λ e. omega (arith, c.slots-test.true, ap length e)) in absurd (cc))

@@ -1,4 +1,4 @@
-use Rattle.std.proofs.Common.{◌≡◌, ℕ, Bool, false, List, sym, ap, subst, ◌∙◌, inl, inr}
+use Rattle.std.proofs.Common.{◌≡◌, ℕ, Bool, false, List, sym, ap, subst, ◌∙◌, inl, inr, refl}
 use Rattle.std.specs.Prelude.{MatchBool, ◌||◌, nat_lt, not}
 use Rattle.cbm_medium.specs.Seen.{HasFailed}
 use Rattle.cbm_file.specs.Padding.{before_filler}
@@ -17,6 +17,7 @@ use Rattle.cbm_channel.proofs.Opens.{failed_by}
 use Rattle.cbm_channel.proofs.Orders.{not_so}
 use Rattle.cbm_channel.proofs.Stands.{stood}
 use Rattle.cbm_channel.proofs.Stores.{renamed}
+use Rattle.cbm_channel.proofs.Refused.{not_refused, refused_26}
 use Rattle.cbm_channel.proofs.dos.Dos.copy_slots.Goals as goal
 
 -- the new file is there
@@ -107,3 +108,13 @@ pub returns-in-Err-clause-refused : goal.returns-in-Err-clause-refused
 returns-in-Err-clause-refused g c = λ none.
     let fault = trouble_told c.in-Err.trouble c.from.result c.from.ensures in
     let z = sym fault ∙ sym (ap (λ t. is_fault_number (code_number t.status.code)) c.set.ensures.told) ∙ none in absurd (cc)
+
+pub returns-in-Ok-true-clause-spared : goal.returns-in-Ok-true-clause-spared
+returns-in-Ok-true-clause-spared g c = not_refused _ _ c.say.ensures.told refl
+
+-- 26 says that the disk is protected
+pub returns-in-Err-clause-spared : goal.returns-in-Err-clause-spared
+returns-in-Err-clause-spared g c = λ is.
+    ap (λ v. (g.M.Medium.seen v).content) c.set.ensures.medium
+    ∙ (c.in-Err.ensures.guarded (c.in-Err.ensures.protection (refused_26 c.in-Err.trouble c.from.result _ c.from.ensures c.set.ensures.told is))
+    ∙ ap (λ k. (g.M.Medium.seen k.medium).content) c.self.view_is)

@@ -59,3 +59,8 @@ returns-else-channel-eq15-clause-goes g c = λ m s unfailed.
     let other = below_15 c.args.channel (omega (arith, c.requires, c.if-channel-eq15.false)) in
     let law = store_other c.args.channel m _ other (zip_at c.args.self.now.channels m.channels c.args.channel s.each) whole some in
     (without_text c.args.channel m, (without_text c.args.channel m, inl (sym law), refl), c.in-Some.ensures.leads m s)
+
+-- ---- what is refused
+
+pub returns-then-channel-eq15-clause-spared : goal.returns-then-channel-eq15-clause-spared
+returns-then-channel-eq15-clause-spared g c = λ is. c.command.ensures.spared is ∙ ap (λ v. (g.M.Medium.seen v).content) c.in-Some.ensures.medium

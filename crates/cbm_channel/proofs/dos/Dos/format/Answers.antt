@@ -1,4 +1,4 @@
-use Rattle.std.proofs.Common.{◌≡◌, ℕ, true, false, sym, ap, subst, ◌∙◌, inl}
+use Rattle.std.proofs.Common.{◌≡◌, ℕ, true, false, sym, ap, subst, ◌∙◌, inl, refl}
 use Rattle.cbm_medium.specs.Seen.{HasFailed}
 use Rattle.cbm_file.specs.Changes.{new_disk}
 use Rattle.cbm_volume.specs.Writers.{Idle, HoldsNow}
@@ -9,6 +9,7 @@ use Rattle.cbm_channel.proofs.Commanding.{new_open, new_done, new_guarded, new_s
 use Rattle.cbm_channel.proofs.Opens.{failed_by}
 use Rattle.cbm_channel.proofs.Stands.{stood}
 use Rattle.cbm_channel.proofs.Stores.{renamed}
+use Rattle.cbm_channel.proofs.Refused.{not_refused, refused_26}
 use Rattle.cbm_channel.proofs.dos.Dos.format.Goals as goal
 
 -- a channel is open
@@ -54,3 +55,15 @@ returns-in-Err-clause-goes g c = λ whole m s.
     let unprotected : m.protected ≡ false = s.same_protection ∙ ap (λ v. (g.M.Medium.seen v).protected) (sym c.volume.ensures) ∙ sym c.is_protected.ensures ∙ c.if-is_protected.false in
     let failed = failed_by (g.M.Medium.seen here.volume) new c.in-Err.trouble m.protected st.same_protection unprotected (c.in-Err.ensures.cause m.disk (uses_of here.channels m.channels) st.holds) in
     absurd (whole (subst (λ v. HasFailed (g.M.Medium.seen v) (g.M.Medium.seen c.set.new.self.medium)) (ap (λ k. k.medium) c.self.view_is) (subst (λ v. HasFailed (g.M.Medium.seen here.volume) (g.M.Medium.seen v)) (sym c.set.ensures.medium) failed)))
+
+-- ---- what is refused
+
+pub returns-in-Ok-clause-spared : goal.returns-in-Ok-clause-spared
+returns-in-Ok-clause-spared g c = not_refused _ _ c.say-in-Ok.ensures.told refl
+
+-- 26 says that the disk is protected
+pub returns-in-Err-clause-spared : goal.returns-in-Err-clause-spared
+returns-in-Err-clause-spared g c = λ is.
+    ap (λ v. (g.M.Medium.seen v).content) c.set.ensures.medium
+    ∙ (c.in-Err.ensures.protected (c.in-Err.ensures.protection (refused_26 c.in-Err.trouble c.from.result _ c.from.ensures c.set.ensures.told is))
+    ∙ ap (λ k. (g.M.Medium.seen k.medium).content) c.self.view_is)

@@ -58,3 +58,14 @@ pub returns-in-Err-clause-quiet : goal.returns-in-Err-clause-quiet
 returns-in-Err-clause-quiet g c = λ none reads.
     let before = c.close_one.ensures.quiet none in
     (inr (inl (inl (ap (λ x. is_fault_number (code_number x.status.code)) c.say.ensures.told ∙ ap (λ x. is_fault_number (code_number x)) c.from.ensures ∙ own_refusal c.in-Err.refusal))), c.say.ensures.medium ∙ before.1)
+
+-- ---- what is refused
+
+pub returns-then-channel-eq15-clause-spared : goal.returns-then-channel-eq15-clause-spared
+returns-then-channel-eq15-clause-spared g c = λ none. c.command.ensures.spared
+
+pub returns-in-Ok-clause-spared : goal.returns-in-Ok-clause-spared
+returns-in-Ok-clause-spared g c = λ none is. c.begin.ensures.spared is ∙ ap (λ v. (g.M.Medium.seen v).content) (c.close_one.ensures.quiet none).1
+
+pub returns-in-Err-clause-spared : goal.returns-in-Err-clause-spared
+returns-in-Err-clause-spared g c = λ none is. ap (λ v. (g.M.Medium.seen v).content) (c.say.ensures.medium ∙ (c.close_one.ensures.quiet none).1)

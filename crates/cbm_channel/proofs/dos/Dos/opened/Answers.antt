@@ -15,7 +15,7 @@ use Rattle.cbm_channel.specs.declared.channel.Channel.TheVariants as code
 use Rattle.cbm_channel.specs.declared.channel.Channel.TheVariants.{File}
 use Rattle.cbm_channel.specs.Grounds.{ShowsTrouble}
 use Rattle.cbm_channel.specs.Standing.{use_of, uses_of}
-use Rattle.cbm_channel.specs.Planned.{PlannedAs, IsOpened, opened_by, disk_opened, appended_to, reopened_at}
+use Rattle.cbm_channel.specs.Planned.{PlannedAs, IsOpened, opened_by, disk_opened, appended_to, reopened_at, plan_writes}
 use Rattle.cbm_channel.proofs.Troubles.{read_from, entry_broken, passed_on}
 use Rattle.cbm_channel.proofs.Stands.{stood, means_of, unwritten_at}
 use Rattle.cbm_channel.proofs.Planning.{readable, writable, appendable, replaceable, file_opens, reads_as, none_passes}
@@ -125,3 +125,20 @@ returns-in-Some-2-clause-opened g c = λ m p ch h s idle.
     let begun = match_some _ _ _ _ c.in-Some-2.is (c.in_ok-writer-in-ReplaceFile.ensures.begun m.disk (uses_of c.self.inside.channels m.channels) ch x.1.file st.holds (subst (λ k. uses_of k.channels m.channels ch ≡ Idle) (sym c.self.view_is) idle) can) in
     subst (λ k. IsOpened (g.M.Medium.seen k.medium).tracks (g.M.Medium.seen c.begin_replace.new.self).content m ch p (uses_of k.channels m.channels) (Some (code.Writing c.in-Some-2.writer false))) c.self.view_is
     (begins_as _ _ m p _ (uses_of c.self.inside.channels m.channels) ch c.in-ReplaceFile.slot true [] 1 c.in-Some-2.writer (ap (opened_by m.disk) x.0) (ap (disk_opened m.disk) x.0) begun)
+
+-- ---- nothing has changed
+
+pub returns-in_default-clause-kept : goal.returns-in_default-clause-kept
+returns-in_default-clause-kept g c =
+    match_none _ _ _ c.in_default.not-Some c.in_ok-writer-in-WriteFile.ensures.kept ∙ ap (λ k. (g.M.Medium.seen k.medium).content) c.self.view_is
+
+pub returns-in_default-2-clause-kept : goal.returns-in_default-2-clause-kept
+returns-in_default-2-clause-kept g c =
+    match_none _ _ _ c.in_default-2.not-Some c.in_ok-writer-in-ReplaceFile.ensures.kept ∙ ap (λ k. (g.M.Medium.seen k.medium).content) c.self.view_is
+
+-- a new file was planned, so the disk isn't protected
+pub returns-in_err-writer-in-WriteFile-clause-guarded : goal.returns-in_err-writer-in-WriteFile-clause-guarded
+returns-in_err-writer-in-WriteFile-clause-guarded g c = λ free.
+    passed_on c.from_residual-in_err-writer-in-WriteFile.result c.in_err-writer-in-WriteFile.field-0.0
+    (λ t. t.code ≡ 26 → (g.M.Medium.seen c.begin_write.new.self).content ≡ (g.M.Medium.seen c.args.self.now.medium).content) c.from_residual-in_err-writer-in-WriteFile.ensures.1
+    (λ is. let z = sym (c.in_err-writer-in-WriteFile.ensures.protection is) ∙ ap (λ k. (g.M.Medium.seen k.medium).protected) c.self.view_is ∙ free (ap plan_writes c.in-WriteFile.is) in absurd (cc))

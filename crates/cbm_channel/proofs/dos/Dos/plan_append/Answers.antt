@@ -30,3 +30,6 @@ returns-clause-planned g c = λ m s f st is.
     appended _ _ m s f c.args.found is (type_tested Del f.kind c.kind-kind.result _ kind c.eq.ensures ∙ c.if-eq.false) (type_tested Rel f.kind c.kind-kind.result _ kind c.eq-2.ensures ∙ c.if-eq-2.false)
     (sym is.says.closed ∙ sym c.is_closed.ensures ∙ c.if-not-is_closed.false) (ap (in_use m) is.number ∙ sym (c.in_use.ensures m st) ∙ c.if-in_use.false)
     (st.same_protection ∙ sym (ap (λ v. (g.M.Medium.seen v).protected) c.volume.ensures) ∙ sym c.is_protected.ensures ∙ c.if-is_protected.false)
+
+pub returns-clause-allowed : goal.returns-clause-allowed
+returns-clause-allowed g c = λ writes. sym (ap (λ v. (g.M.Medium.seen v).protected) c.volume.ensures) ∙ sym c.is_protected.ensures ∙ c.if-is_protected.false

@@ -1,5 +1,6 @@
 use Rattle.std.proofs.Common.{sym, ◌∙◌}
 use Rattle.cbm_channel.proofs.Asking.{is_append, is_write, passed_refusal, refused_append, append_planned, writing_planned, too_many_put}
+use Rattle.cbm_channel.proofs.Refused.{only_reads}
 use Rattle.cbm_channel.proofs.dos.Dos.plan_file.Goals as goal
 
 pub returns-in_err-found-clause-planned : goal.returns-in_err-found-clause-planned
@@ -20,3 +21,6 @@ returns-clause-planned g c = λ m ch text bytes none s.
 pub returns-then-is_too_many-clause-planned : goal.returns-then-is_too_many-clause-planned
 returns-then-is_too_many-clause-planned g c = λ m ch text bytes none s.
     too_many_put _ _ m ch c.args.wanted bytes c.plain-then-is_too_many.result c.eq-2.result c.eq-2.ensures c.if-eq-2.false (sym (c.is_too_many.ensures m s) ∙ c.if-is_too_many.true) c.plain-then-is_too_many.ensures
+
+pub returns-then-eq-2-clause-allowed : goal.returns-then-eq-2-clause-allowed
+returns-then-eq-2-clause-allowed g c = only_reads c.plan_reading.result _ c.plan_reading.ensures.reads

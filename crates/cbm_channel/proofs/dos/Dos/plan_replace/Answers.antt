@@ -54,3 +54,6 @@ returns-clause-planned g c = λ m s f st is bytes.
     (sym is.says.locked ∙ sym c.is_locked.ensures ∙ c.if-is_locked.false)
     (ne_eqb m.disk.free 0 (λ e. c.if-branch-eq0.false (room.0 ∙ e)))
     (st.same_protection ∙ sym (ap (λ v. (g.M.Medium.seen v).protected) c.volume-2.ensures) ∙ sym c.is_protected.ensures ∙ c.if-is_protected.false) bytes
+
+pub returns-clause-allowed : goal.returns-clause-allowed
+returns-clause-allowed g c = λ writes. sym (ap (λ v. (g.M.Medium.seen v).protected) c.volume-2.ensures) ∙ sym c.is_protected.ensures ∙ c.if-is_protected.false

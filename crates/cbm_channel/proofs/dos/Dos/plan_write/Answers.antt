@@ -37,3 +37,6 @@ returns-clause-planned g c = λ m w named there cut kept bytes st.
     (ne_eqb m.disk.free 0 (λ e. c.if-room-eq0.false (room.0 ∙ e))) (sym room.1 ∙ is_true _ c.if-not-room.false)
     (st.same_protection ∙ sym (ap (λ v. (g.M.Medium.seen v).protected) c.volume-2.ensures) ∙ sym c.is_protected.ensures ∙ c.if-is_protected.false)
     cut kept bytes
+
+pub returns-clause-allowed : goal.returns-clause-allowed
+returns-clause-allowed g c = λ writes. sym (ap (λ v. (g.M.Medium.seen v).protected) c.volume-2.ensures) ∙ sym c.is_protected.ensures ∙ c.if-is_protected.false

@@ -13,6 +13,7 @@ use Rattle.cbm_channel.proofs.Opens.{failed_by}
 use Rattle.cbm_channel.proofs.Planning.{none_passes}
 use Rattle.cbm_channel.proofs.Stands.{stood, unwritten_at}
 use Rattle.cbm_channel.proofs.Stores.{renamed}
+use Rattle.cbm_channel.proofs.Refused.{not_refused}
 use Rattle.cbm_channel.proofs.dos.Dos.rename_slot.Goals as goal
 
 pub returns-in-Ok-clause-goes : goal.returns-in-Ok-clause-goes
@@ -41,3 +42,6 @@ returns-in-Err-clause-goes g c = λ m old cut is s.
       inr (subst (λ v. HasFailed (g.M.Medium.seen v) (g.M.Medium.seen c.set.new.self.medium)) (ap (λ k. k.medium) c.self.view_is) (subst (λ v. HasFailed (g.M.Medium.seen here.volume) (g.M.Medium.seen v)) (sym c.set.ensures.medium) failed), stopped_at_once _ _ new.content _ here.channels here.telling here.text m st (answered m (rename c.args.name.now old m)) c.in-Err.trouble c.from.result c.self.invariant.count c.from.ensures),
       c.set.ensures.leads m (renamed _ _ _ _ _ _ _ _ _ c.rename.ensures.only.tracks c.rename.ensures.only.protected same),
     )
+
+pub returns-in-Ok-clause-spared : goal.returns-in-Ok-clause-spared
+returns-in-Ok-clause-spared g c = not_refused _ _ c.say.ensures.told refl

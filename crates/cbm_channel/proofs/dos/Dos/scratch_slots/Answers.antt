@@ -1,4 +1,4 @@
-use Rattle.std.proofs.Common.{length, sym, ap, subst, ◌∙◌, inl, inr}
+use Rattle.std.proofs.Common.{length, sym, ap, subst, ◌∙◌, inl, inr, refl}
 use Rattle.cbm_medium.specs.Seen.{HasFailed}
 use Rattle.cbm_machine.specs.declared.code.Code.TheVariants.{FilesScratched}
 use Rattle.cbm_machine.specs.Machines.{tell, with_disk}
@@ -8,6 +8,7 @@ use Rattle.cbm_channel.proofs.Commanding.{scratch_stands, scratch_cut}
 use Rattle.cbm_channel.proofs.Opens.{unused_at}
 use Rattle.cbm_channel.proofs.Scratches.{scratch_done, all_can_go}
 use Rattle.cbm_channel.proofs.Stores.{renamed}
+use Rattle.cbm_channel.proofs.Refused.{not_refused, refused_26}
 use Rattle.cbm_channel.proofs.dos.Dos.scratch_slots.Goals as goal
 
 pub returns-in-Ok-clause-goes : goal.returns-in-Ok-clause-goes
@@ -35,3 +36,11 @@ returns-in-Err-clause-goes g c = λ m ps going s.
       c.set-in-Err.ensures.leads next.0 (subst (λ k. StandsBy (g.M.Medium.seen k.medium).content (g.M.Medium.seen k.medium).tracks (g.M.Medium.seen k.medium).protected k.channels k.told k.text next.0) (sym whole)
           (renamed _ _ _ _ _ _ _ _ _ c.clear.ensures.medium.tracks c.clear.ensures.medium.protected next.2)),
     )
+
+-- ---- what is refused
+
+pub returns-in-Ok-clause-spared : goal.returns-in-Ok-clause-spared
+returns-in-Ok-clause-spared g c = λ free. not_refused _ _ c.set.ensures.told refl
+
+pub returns-in-Err-clause-spared : goal.returns-in-Err-clause-spared
+returns-in-Err-clause-spared g c = λ free is. absurd (c.in-Err.ensures.unguarded free (refused_26 c.in-Err.trouble c.from.result _ c.from.ensures c.set-in-Err.ensures.told is))

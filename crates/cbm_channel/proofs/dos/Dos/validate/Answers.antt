@@ -1,4 +1,4 @@
-use Rattle.std.proofs.Common.{◌≡◌, ℕ, false, sym, ap, subst, ◌∙◌, inl, inr}
+use Rattle.std.proofs.Common.{◌≡◌, ℕ, false, sym, ap, subst, ◌∙◌, inl, inr, refl}
 use Rattle.cbm_medium.specs.Seen.{HasFailed}
 use Rattle.cbm_file.specs.Changes.{validated}
 use Rattle.cbm_volume.specs.Writers.{Idle}
@@ -10,6 +10,7 @@ use Rattle.cbm_channel.proofs.Opens.{failed_by}
 use Rattle.cbm_channel.proofs.Stands.{stood}
 use Rattle.cbm_channel.proofs.Stores.{renamed}
 use Rattle.cbm_channel.proofs.Orders.{not_so}
+use Rattle.cbm_channel.proofs.Refused.{not_refused, refused_26}
 use Rattle.cbm_channel.proofs.dos.Dos.validate.Goals as goal
 
 -- a channel is open
@@ -58,3 +59,15 @@ returns-in-Err-clause-goes g c = λ m s.
             c.set.ensures.leads next.0 (renamed _ _ _ _ _ _ _ _ _ c.validate.ensures.only.tracks c.validate.ensures.only.protected next.2),
           ))
     ]
+
+-- ---- what is refused
+
+pub returns-in-Ok-clause-spared : goal.returns-in-Ok-clause-spared
+returns-in-Ok-clause-spared g c = not_refused _ _ c.say-in-Ok.ensures.told refl
+
+-- 26 says that the disk is protected
+pub returns-in-Err-clause-spared : goal.returns-in-Err-clause-spared
+returns-in-Err-clause-spared g c = λ is.
+    ap (λ v. (g.M.Medium.seen v).content) c.set.ensures.medium
+    ∙ (c.in-Err.ensures.kept (c.in-Err.ensures.protection (refused_26 c.in-Err.trouble c.from.result _ c.from.ensures c.set.ensures.told is))
+    ∙ ap (λ k. (g.M.Medium.seen k.medium).content) c.self.view_is)

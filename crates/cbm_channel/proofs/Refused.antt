@@ -1,0 +1,64 @@
+-- What is refused has changed nothing of the disk.
+use Rattle.std.proofs.Common.{◌≡◌, ℕ, Bool, true, false, refl, sym, ap, ◌∙◌, inl, inr}
+use Rattle.std.specs.Prelude.{if◌then◌else◌, ◌==◌, Result, Ok, Err, IfOk}
+use Rattle.std.proofs.lemmas.Bool.Decides.{eqb_tells}
+use Rattle.cbm_medium.specs.declared.fault.Trouble.{Trouble}
+use Rattle.cbm_machine.specs.declared.code.Code.{Code}
+use Rattle.cbm_machine.specs.declared.code.Code.TheVariants.{WriteProtected, WriteFailed, EndlessChain}
+use Rattle.cbm_machine.specs.declared.status.Status.{Status}
+use Rattle.cbm_machine.specs.Codes.{code_of_fault}
+use Rattle.cbm_machine.specs.Statuses.{plain, trouble_status}
+use Rattle.cbm_machine.specs.Told.{Told}
+use Rattle.cbm_channel.specs.declared.plan.Plan.{Plan}
+use Rattle.cbm_channel.specs.Grounds.{is_refusal}
+use Rattle.cbm_channel.specs.Planned.{plan_writes}
+
+either_way : (P : Code → Type 0) (b : Bool) (x y : Code) → P x → P y → P (if b then x else y)
+either_way P true x y p q = p
+either_way P false x y p q = q
+
+other_way : (P : Code → Type 0) (b : Bool) (x y : Code) → b ≡ false → P y → P (if b then x else y)
+other_way P true x y e q = absurd (cc)
+other_way P false x y e q = q
+
+abbrev IsNone : Code → Type 0
+IsNone code = is_refusal code ≡ false
+
+-- no fault but 26 is told by the code of a refusal
+fault_code : (n : ℕ) → (n == 26) ≡ false → IsNone (code_of_fault n)
+fault_code n other =
+    either_way IsNone (n == 20) _ _ refl
+    (either_way IsNone (n == 21) _ _ refl
+    (either_way IsNone (n == 22) _ _ refl
+    (either_way IsNone (n == 23) _ _ refl
+    (either_way IsNone (n == 24) _ _ refl
+    (either_way IsNone (n == 25) _ _ refl
+    (other_way IsNone (n == 26) _ _ other
+    (either_way IsNone (n == 27) _ _ refl
+    (either_way IsNone (n == 28) _ _ refl
+    (either_way IsNone (n == 29) _ _ refl
+    (either_way IsNone (n == 66) _ _ refl
+    (either_way IsNone (n == 71) EndlessChain WriteFailed refl refl)))))))))))
+
+trouble_none : (t : Trouble) → (t.code == 26) ≡ false → is_refusal (trouble_status t).code ≡ false
+trouble_none t other =
+    ap (λ (b : Bool). is_refusal ((if b then plain WriteProtected else record { code = code_of_fault t.code; first = t.track; second = t.sector }).code)) other ∙ fault_code t.code other
+
+trouble_26 : (t : Trouble) (s : Status) → s ≡ trouble_status t → is_refusal s.code ≡ true → t.code ≡ 26
+trouble_26 t s e is = elim (eqb_tells t.code 26) [
+  | inl x ↦ x.1
+  | inr x ↦ let z = sym (ap (λ (y : Status). is_refusal y.code) e ∙ trouble_none t x.0) ∙ is in absurd (cc)
+]
+
+-- a trouble that is told as a refusal is 26
+pub refused_26 : (t : Trouble) (s : Status) (new : Told) → s ≡ trouble_status t → new ≡ record { status = s; told = 0 } → is_refusal new.status.code ≡ true → t.code ≡ 26
+refused_26 t s new e told is = trouble_26 t s e (sym (ap (λ (x : Told). is_refusal x.status.code) told) ∙ is)
+
+-- what is told is no refusal
+pub not_refused : {P : Type 0} (s : Status) (new : Told) → new ≡ record { status = s; told = 0 } → is_refusal s.code ≡ false → is_refusal new.status.code ≡ true → P
+not_refused s new told none is = let z = sym none ∙ sym (ap (λ (x : Told). is_refusal x.status.code) told) ∙ is in absurd (cc)
+
+-- a plan that reads asks nothing of the disk
+pub only_reads : {E : Type 0} (r : Result Plan E) (P : Type 0) → IfOk r (λ p. plan_writes p ≡ false) → IfOk r (λ p. plan_writes p ≡ true → P)
+only_reads (Ok p) P reads = λ writes. let z = sym reads ∙ writes in absurd (cc)
+only_reads (Err e) P reads = tt
