@@ -1,5 +1,5 @@
 -- What becomes of an entry: it is made, opened again, renamed, cleared. What isn't named stays as it is.
-use Rattle.std.specs.Prelude.{ℕ, ◌+◌, ◌*◌, ◌/◌, ◌%◌, ◌<◌, ◌≤◌, ◌≡◌, ◌⊎◌, Some, List, ◌∷◌, ◌++◌, drop, take, replicate, slice_index, slice_set, MatchOption}
+use Rattle.std.specs.Prelude.{ℕ, ◌+◌, ◌*◌, ◌/◌, ◌%◌, ◌<◌, ◌≤◌, ◌≡◌, ◌⊎◌, Some, List, ◌∷◌, ◌++◌, drop, take, replicate, slice_index, slice_range, slice_set, MatchOption}
 use Rattle.cbm_medium.specs.Place.{Place}
 use Rattle.cbm_medium.specs.Content.{Content}
 use Rattle.cbm_medium.specs.Links.{bytes_at}
@@ -10,7 +10,7 @@ use Rattle.cbm_bam.specs.Causes.{HasCause}
 use Rattle.cbm_file.specs.Padding.{before_filler, padded}
 use Rattle.cbm_file.specs.Types.{type_number}
 use Rattle.cbm_file.specs.declared.file_type.FileType.{FileType}
-use Rattle.cbm_directory.specs.Entries.{Enters, entry_of, led_to, first_directory, type_byte, first_block, name_in}
+use Rattle.cbm_directory.specs.Entries.{Enters, entry_of, led_to, first_directory, type_byte, first_block, first_side, width_of, name_in}
 
 -- A new entry of a file that isn't closed: its type, the link to its first block and its name, and all else is 0.
 abbrev pub fresh_entry : FileType → List ℕ → Place → List ℕ
@@ -60,3 +60,12 @@ pub record IsRenamedAs (old new name : List ℕ) : Type 0 where
   pub named : name_in new ≡ before_filler name
   pub before : (i : ℕ) → i < 3 → slice_index new i ≡ slice_index old i
   pub behind : (i : ℕ) → 19 ≤ i → slice_index new i ≡ slice_index old i
+
+-- The entry names the first side sector and the length of its file's records; what else it says of the file stays.
+pub record IsRelativeAs (old new : List ℕ) (side : Place) (width : ℕ) : Type 0 where
+  pub typed : type_byte new ≡ type_byte old
+  pub begins : first_block new ≡ first_block old
+  pub named : slice_range new 3 19 ≡ slice_range old 3 19
+  pub lists : first_side new ≡ side
+  pub long : width_of new ≡ width
+  pub shown : slice_index new 28 + 256 * slice_index new 29 ≡ slice_index old 28 + 256 * slice_index old 29

@@ -3,3 +3,4 @@ pub mod Padding
 pub mod Files
 pub mod Waiting
 pub mod Changes
+pub mod Records

@@ -1,15 +1,12 @@
 -- Fresh records byte by byte, as they are written into blocks.
 use Rattle.std.proofs.Common.{◌≡◌, ℕ, zero, suc, ◌+◌, ◌-◌, ◌*◌, ◌%◌, ◌<◌, ◌≤◌, List, ◌++◌, get_or, Bool, sym, ap, ◌∙◌, arith, inl, inr}
-use Rattle.std.specs.Prelude.{replicate, if◌then◌else◌, ◌==◌, nat_lt}
+use Rattle.std.specs.Prelude.{replicate, if◌then◌else◌, ◌==◌}
 use Rattle.std.proofs.lemmas.Bool.{cases_lt, eq-eqb, ne_eqb, lt-ltb, le-ltb}
 use Rattle.std.proofs.lemmas.List.{append_assoc, get_or-append_right, get_or_append_left, get_or-replicate, get_or_past, length-replicate}
 use Rattle.std.proofs.Math.Nat.{suc-mul, add-mul-mod_self_right, mod-eq_of_lt}
+pub use Rattle.cbm_relfile.specs.Making.{fresh_byte}
 use Rattle.cbm_volume.proofs.Slices.{joined}
 use Rattle.cbm_volume.proofs.relative.Grown.{fresh, fresh_length}
-
--- the byte at a place of so many fresh records of this width, and 0 behind them
-abbrev pub fresh_byte : ℕ → ℕ → ℕ → ℕ
-fresh_byte w j o = if nat_lt o (j * w) then (if o % w == 0 then 255 else 0) else 0
 
 inside : (w j o : ℕ) → o < j * w → fresh_byte w j o ≡ (if o % w == 0 then 255 else 0)
 inside w j o h = ap (λ (b : Bool). if b then (if o % w == 0 then 255 else 0) else 0) (lt-ltb o (j * w) h)
