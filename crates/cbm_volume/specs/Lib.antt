@@ -3,6 +3,7 @@ pub mod Layouts
 pub mod Writers
 pub mod Holding
 pub mod Opens
+pub mod RecordFaults
 pub mod Reaches
 pub mod Copies
 pub mod NewDisks

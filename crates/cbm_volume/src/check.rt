@@ -19,6 +19,7 @@ use self::slots::check_slots;
 use self::unsound::Part;
 use cbm_bam::SectorSet;
 use cbm_medium::{Address, Link, Medium};
+pub(crate) use entries::has_records;
 pub use unsound::{Flaw, Unsound};
 
 /// A set with 18/0 alone.

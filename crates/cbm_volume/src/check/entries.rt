@@ -15,7 +15,12 @@ use cbm_medium::{Geometry, Link, Medium};
 use cbm_relfile::side::SIDES;
 
 /// Whether the records of an entry's file are right, from the bytes of its first side sector.
-fn has_records<M: Medium>(medium: &M, geometry: Geometry, entry: &Entry, first: &[u8; 256]) -> bool
+pub(crate) fn has_records<M: Medium>(
+    medium: &M,
+    geometry: Geometry,
+    entry: &Entry,
+    first: &[u8; 256],
+) -> bool
     requires { geometry ≤ (M.seen medium.now).tracks }
     ensures { result ≡ are_records_in geometry (M.seen medium.now).content entry.now first.now }
 {
