@@ -1,0 +1,96 @@
+use Rattle.std.proofs.Common.{◌≡◌, ◌⊎◌, ℕ, length, ◌+◌, ◌-◌, ◌*◌, ◌/◌, ◌%◌, List, ◌∷◌, refl, sym, ap, ◌∙◌, subst, arith}
+use Rattle.std.specs.Prelude.{option_map, nat_lt, Bool, MatchBool}
+use Rattle.cbm_file.specs.Records.{with_bytes}
+use Rattle.cbm_medium.specs.Seen.{Seen}
+use Rattle.cbm_chain.specs.Data.{chain_bytes}
+use Rattle.cbm_relfile.specs.Records.{stretch_in, front_written, IsRewritten, EndsBefore}
+use Rattle.cbm_relfile.specs.Changing.{record_bytes, IsChangedIfThere, IsChangeStopped}
+use Rattle.cbm_relfile.proofs.Changed.{refused_by, read_from, no_stretch, with_bytes_length}
+use Rattle.cbm_relfile.proofs.Stretches.{no_block, block_found}
+use Rattle.cbm_relfile.proofs.changing.write_record.Goals as goal
+
+-- the block in which it would begin isn't there
+pub returns-in_default-clause-laid : goal.returns-in_default-clause-laid
+returns-in_default-clause-laid g c = λ blocks sides w laid short. (
+  sym (no_block c.args.geometry (g.M.Medium.seen c.args.medium.now).content c.args.file.first blocks c.args.number c.args.file.width ((c.args.number - 1) * c.length.result) w laid.chain c.requires.number.0 c.requires.length.0
+      (ap (λ (m : ℕ). (c.args.number - 1) * m) c.length.ensures)
+      (sym c.in_default.is ∙ c.in_ok-at.ensures.laid blocks sides laid short)),
+  refl,
+)
+
+-- that block reads
+pub returns-in_err-sector-clause-laid : goal.returns-in_err-sector-clause-laid
+returns-in_err-sector-clause-laid g c = λ blocks sides w laid short.
+    let found = block_found c.args.geometry (g.M.Medium.seen c.args.medium.now).content c.args.file.first blocks (((c.args.number - 1) * c.length.result) / 254) c.in-Some.at laid.chain
+    (sym c.in-Some.is ∙ c.in_ok-at.ensures.laid blocks sides laid short) in
+    let ok = c.in_err-sector.ensures.readable found.chain.1 found.chain.2 in
+    absurd (cc)
+
+-- so does the next one
+pub returns-in_err-old-clause-laid : goal.returns-in_err-old-clause-laid
+returns-in_err-old-clause-laid g c = λ blocks sides w laid short.
+    let found = block_found c.args.geometry (g.M.Medium.seen c.args.medium.now).content c.args.file.first blocks (((c.args.number - 1) * c.length.result) / 254) c.in-Some.at laid.chain
+    (sym c.in-Some.is ∙ c.in_ok-at.ensures.laid blocks sides laid short) in
+    absurd (c.in_err-old.ensures.chain c.in-Some.at found.rest w c.in_ok-sector.ensures.ok found.chain)
+
+-- the chain ends before the record does
+pub returns-in_default-2-clause-laid : goal.returns-in_default-2-clause-laid
+returns-in_default-2-clause-laid g c = λ blocks sides w laid short. (
+  no_stretch c.args.geometry (g.M.Medium.seen c.args.medium.now).content c.args.file.first blocks c.args.number c.args.file.width ((c.args.number - 1) * c.length.result) c.in-Some.at c.in_ok-sector.sector w laid.chain c.requires.number.0 c.requires.length.0
+      (ap (λ (m : ℕ). (c.args.number - 1) * m) c.length.ensures) (sym c.in-Some.is ∙ c.in_ok-at.ensures.laid blocks sides laid short) c.in_ok-sector.ensures.ok
+      (λ x xs v h k. ap (option_map (λ r. r.items)) (sym c.in_default-2.is) ∙ c.in_ok-old.ensures.chain x xs v h k ∙ ap (λ (n : ℕ). stretch_in (chain_bytes (g.M.Medium.seen c.args.medium.now).content (x ∷ xs)) (((c.args.number - 1) * c.length.result) % 254) n) c.length-2.ensures),
+  refl,
+)
+
+-- the record that was read has the file's length
+pub changed-new-requires : goal.changed-new-requires
+changed-new-requires g c = let size = rw c.in-Some-2.is at c.in_ok-old.ensures.size in (c.requires.position.0, omega (arith, c.requires.position.1, size, c.length-2.ensures))
+
+pub returns-in_err-rewrite-clause-laid : goal.returns-in_err-rewrite-clause-laid
+returns-in_err-rewrite-clause-laid g c = λ blocks sides w laid short.
+    let from = read_from c.args.geometry (g.M.Medium.seen c.args.medium.now).content c.args.file.first blocks c.args.number c.args.file.width ((c.args.number - 1) * c.length.result) c.in-Some.at c.in_ok-sector.sector c.in-Some-2.old.items w laid.chain c.requires.number.0 c.requires.length.0 c.requires.length.1
+    (ap (λ (m : ℕ). (c.args.number - 1) * m) c.length.ensures) (sym c.in-Some.is ∙ c.in_ok-at.ensures.laid blocks sides laid short) c.in_ok-sector.ensures.ok
+    (λ x xs v h k. ap (option_map (λ r. r.items)) (sym c.in-Some-2.is) ∙ c.in_ok-old.ensures.chain x xs v h k ∙ ap (λ (n : ℕ). stretch_in (chain_bytes (g.M.Medium.seen c.args.medium.now).content (x ∷ xs)) (((c.args.number - 1) * c.length.result) % 254) n) c.length-2.ensures) in
+    let size : length c.in-Some-2.old.items ≡ c.args.file.width = (let n = rw c.in-Some-2.is at c.in_ok-old.ensures.size in n ∙ c.length-2.ensures) in
+    let new : c.deref.result.now ≡ with_bytes c.args.file.width (record_bytes c.args.file.width (chain_bytes (g.M.Medium.seen c.args.medium.now).content blocks) c.args.number) c.args.position c.args.bytes.now =
+    c.deref.ensures.0 ∙ c.changed-new.ensures ∙ (λ i. with_bytes (size i) (from.bytes i) c.args.position c.args.bytes.now) in
+    let old : Seen = g.M.Medium.seen c.args.medium.now in
+    let now : Seen = g.M.Medium.seen c.rewrite.new.medium in
+    refused_by c.from_residual-in_err-rewrite.result c.in_err-rewrite.field-0.0 (IsChangedIfThere old.content now.content blocks c.args.file.width c.args.number c.args.position c.args.bytes.now)
+    (λ t. IsChangeStopped c.args.geometry old now blocks c.args.file.width c.args.number c.args.position c.args.bytes.now t.code) c.from_residual-in_err-rewrite.ensures.1
+    (record {
+      at = c.in-Some.at;
+      sector = c.in_ok-sector.sector;
+      place = ((c.args.number - 1) * c.length.result) % 254;
+      lies = from.lies;
+      so_far = subst (λ (ys : List ℕ). (now.content ≡ old.content) ⊎ (now.content ≡ front_written old.content c.in-Some.at c.in_ok-sector.sector (((c.args.number - 1) * c.length.result) % 254) ys)) new c.in_err-rewrite.ensures.err;
+      cause = c.in_err-rewrite.ensures.refused from.has from.next;
+    })
+
+pub returns-then-not-branch-clause-laid : goal.returns-then-not-branch-clause-laid
+returns-then-not-branch-clause-laid g c = λ blocks sides w laid short.
+    let from = read_from c.args.geometry (g.M.Medium.seen c.args.medium.now).content c.args.file.first blocks c.args.number c.args.file.width ((c.args.number - 1) * c.length.result) c.in-Some.at c.in_ok-sector.sector c.in-Some-2.old.items w laid.chain c.requires.number.0 c.requires.length.0 c.requires.length.1
+    (ap (λ (m : ℕ). (c.args.number - 1) * m) c.length.ensures) (sym c.in-Some.is ∙ c.in_ok-at.ensures.laid blocks sides laid short) c.in_ok-sector.ensures.ok
+    (λ x xs v h k. ap (option_map (λ r. r.items)) (sym c.in-Some-2.is) ∙ c.in_ok-old.ensures.chain x xs v h k ∙ ap (λ (n : ℕ). stretch_in (chain_bytes (g.M.Medium.seen c.args.medium.now).content (x ∷ xs)) (((c.args.number - 1) * c.length.result) % 254) n) c.length-2.ensures) in
+    let size : length c.in-Some-2.old.items ≡ c.args.file.width = (let n = rw c.in-Some-2.is at c.in_ok-old.ensures.size in n ∙ c.length-2.ensures) in
+    let new : c.deref.result.now ≡ with_bytes c.args.file.width (record_bytes c.args.file.width (chain_bytes (g.M.Medium.seen c.args.medium.now).content blocks) c.args.number) c.args.position c.args.bytes.now =
+    c.deref.ensures.0 ∙ c.changed-new.ensures ∙ (λ i. with_bytes (size i) (from.bytes i) c.args.position c.args.bytes.now) in
+    let long : length c.deref.result.now ≡ c.args.file.width = ap length new ∙ with_bytes_length c.args.file.width (record_bytes c.args.file.width (chain_bytes (g.M.Medium.seen c.args.medium.now).content blocks) c.args.number) c.args.position c.args.bytes.now c.requires.position.0 c.requires.position.1 in
+    absurd (from.goes_on (subst (λ (n : ℕ). EndsBefore (g.M.Medium.seen c.args.medium.now).content c.in_ok-sector.sector (((c.args.number - 1) * c.length.result) % 254 + n)) long (c.in_ok-rewrite.ensures.short c.if-not-branch.true)))
+
+pub returns-clause-laid : goal.returns-clause-laid
+returns-clause-laid g c = λ blocks sides w laid short.
+    let from = read_from c.args.geometry (g.M.Medium.seen c.args.medium.now).content c.args.file.first blocks c.args.number c.args.file.width ((c.args.number - 1) * c.length.result) c.in-Some.at c.in_ok-sector.sector c.in-Some-2.old.items w laid.chain c.requires.number.0 c.requires.length.0 c.requires.length.1
+    (ap (λ (m : ℕ). (c.args.number - 1) * m) c.length.ensures) (sym c.in-Some.is ∙ c.in_ok-at.ensures.laid blocks sides laid short) c.in_ok-sector.ensures.ok
+    (λ x xs v h k. ap (option_map (λ r. r.items)) (sym c.in-Some-2.is) ∙ c.in_ok-old.ensures.chain x xs v h k ∙ ap (λ (n : ℕ). stretch_in (chain_bytes (g.M.Medium.seen c.args.medium.now).content (x ∷ xs)) (((c.args.number - 1) * c.length.result) % 254) n) c.length-2.ensures) in
+    let size : length c.in-Some-2.old.items ≡ c.args.file.width = (let n = rw c.in-Some-2.is at c.in_ok-old.ensures.size in n ∙ c.length-2.ensures) in
+    let new : c.deref.result.now ≡ with_bytes c.args.file.width (record_bytes c.args.file.width (chain_bytes (g.M.Medium.seen c.args.medium.now).content blocks) c.args.number) c.args.position c.args.bytes.now =
+    c.deref.ensures.0 ∙ c.changed-new.ensures ∙ (λ i. with_bytes (size i) (from.bytes i) c.args.position c.args.bytes.now) in
+    record {
+      at = c.in-Some.at;
+      sector = c.in_ok-sector.sector;
+      place = ((c.args.number - 1) * c.length.result) % 254;
+      lies = from.lies;
+      rewritten = subst (λ (ys : List ℕ). IsRewritten (g.M.Medium.seen c.args.medium.now).content (g.M.Medium.seen c.rewrite.new.medium).content c.in-Some.at c.in_ok-sector.sector (((c.args.number - 1) * c.length.result) % 254) ys) new (subst (λ (b : Bool). MatchBool b (IsRewritten (g.M.Medium.seen c.args.medium.now).content (g.M.Medium.seen c.rewrite.new.medium).content c.in-Some.at c.in_ok-sector.sector (((c.args.number - 1) * c.length.result) % 254) c.deref.result.now) ((g.M.Medium.seen c.rewrite.new.medium).content ≡ (g.M.Medium.seen c.args.medium.now).content)) c.if-not-branch.false c.in_ok-rewrite.ensures.done);
+      cut_is = (let room : c.len.result - (c.args.position - 1) ≡ c.args.file.width + 1 - c.args.position = omega (arith, c.len.ensures.value, size, c.requires.position.0, c.requires.position.1) in ap (λ (n : ℕ). nat_lt n (length c.args.bytes.now)) room);
+    }

@@ -1,0 +1,14 @@
+use Rattle.cbm_medium.specs.Seen.{Seen}
+use Rattle.cbm_relfile.specs.Changing.{IsWriteRefused}
+use Rattle.cbm_relfile.proofs.Changed.{handed, back_refused}
+use Rattle.cbm_relfile.proofs.writing.rewrite.Goals as goal
+
+-- the second sector was read before the first one was written
+pub returns-in_err-put_part-3-clause-refused : goal.returns-in_err-put_part-3-clause-refused
+returns-in_err-put_part-3-clause-refused g c = λ here next.
+    let old : Seen = g.M.Medium.seen c.args.medium.now in
+    let mid : Seen = g.M.Medium.seen c.put_part-2.new.medium in
+    let new : Seen = g.M.Medium.seen c.put_part-3.new.medium in
+    handed c.from_residual-in_err-put_part-3.result c.in_err-put_part-3.field-0.0 (λ t. IsWriteRefused c.args.geometry old new t.code) c.from_residual-in_err-put_part-3.ensures.1
+    (back_refused c.args.geometry old mid new c.args.at c.of-next.result _ c.in_ok-more.more c.in_err-put_part-3.field-0.0.code c.in_ok-put_part-2.ensures.ok c.in_ok-put_part-2.ensures.only.protected c.in_ok-put_part-2.ensures.only.counted c.in_ok-more.ensures.ok c.in_ok-more.ensures.has
+    (c.in_err-put_part-3.ensures.refused c.in_ok-more.ensures.has))

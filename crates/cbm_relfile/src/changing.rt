@@ -1,0 +1,69 @@
+// A record is written in place.
+
+ghost use Rattle.std.specs.Prelude.{◌≡◌, ◌≤◌, ◌<◌, ◌^◌, ℕ, List, None, length, IfOk, IfErr, MatchResult};
+ghost use Rattle.cbm_medium.specs.Place.{Place, sector_count};
+ghost use Rattle.cbm_medium.specs.Seen.{OnlyContent};
+ghost use Rattle.cbm_file.specs.Records.{with_bytes};
+ghost use Rattle.cbm_relfile.specs.Records.{AllWhole, IsLaid};
+ghost use Rattle.cbm_relfile.specs.Changing.{IsChangedIfThere, IsChangeStopped};
+
+use crate::reading::{Record, block_at, joined, stretch};
+use crate::relative::Relative;
+use crate::sectors::read_at;
+use crate::writing::rewrite;
+use cbm_medium::{Geometry, Medium, Trouble};
+
+/// What stands behind the bytes of a record.
+const ZEROS: [u8; 254] = [0; 254];
+
+/// A record that keeps what stands before a position, counted from 1; then come these bytes, as far as they fit, and
+/// zeros.
+fn changed(old: &Record, position: u8, bytes: &[u8]) -> Record
+    requires { (1 ≤ position) × (position ≤ length old.now.items) }
+    ensures { result.items ≡ with_bytes (length old.now.items) old.now.items position bytes.now }
+{
+    let before = position as usize - 1;
+    let room = (old.len() - before).min(bytes.len());
+    let front = joined(&old[..before], &bytes[..room]);
+    joined(&front, &ZEROS[..old.len() - front.len()])
+}
+
+/// Writes these bytes into the record of a number, counted from 1, from a position on; what stands before stays, and zeros
+/// come behind. Answers whether some bytes didn't fit, or None where the record isn't there: nothing is written then. An
+/// `Err` is why a sector isn't written; of a record over two blocks the first may be written then.
+pub fn write_record<M: Medium>(
+    medium: &mut M,
+    geometry: Geometry,
+    file: Relative,
+    number: u32,
+    position: u8,
+    bytes: &[u8],
+) -> Result<Option<bool>, Trouble>
+    requires tracks { geometry ≤ (M.seen medium.old).tracks }
+    requires number { (1 ≤ number) × (number < 2 ^ 24) }
+    requires length { (1 ≤ file.width) × (file.width ≤ 254) }
+    requires position { (1 ≤ position) × (position ≤ file.width) }
+    ensures laid { let old = M.seen medium.old in let new = M.seen medium.new in (blocks sides : List Place) →
+        AllWhole old.content → IsLaid geometry old.content file blocks sides → length blocks ≤ sector_count geometry →
+        MatchResult result
+        (IsChangedIfThere old.content new.content blocks file.width number position bytes.now)
+        (λ t. IsChangeStopped geometry old new blocks file.width number position bytes.now t.code) }
+    // None says that nothing has changed, whatever the medium holds.
+    ensures kept { IfOk result (λ o. o ≡ None → (M.seen medium.new).content ≡ (M.seen medium.old).content) }
+    ensures only { OnlyContent result (M.seen medium.old) (M.seen medium.new) }
+{
+    let from = (number - 1) * file.length() as u32;
+    let Some(at) = block_at(medium, geometry, file, from / 254)? else {
+        return Ok(None);
+    };
+    let sector = read_at(medium, geometry, at)?;
+    let place = (from % 254) as usize;
+    let Some(old) = stretch(medium, geometry, &sector, place, file.length())? else {
+        return Ok(None);
+    };
+    let new = changed(&old, position, bytes);
+    if !rewrite(medium, geometry, at, &sector, place, &new)? {
+        return Ok(None);
+    }
+    Ok(Some(old.len() - (position as usize - 1) < bytes.len()))
+}
