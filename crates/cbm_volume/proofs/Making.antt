@@ -80,7 +80,7 @@ making_stays medium c l d uses ch now s bytes byte u whole k some room = record 
 -- ---- a block is claimed for the copy
 
 -- the files keep their owners
-later_own : (owner : Place → Owner) (q : Place) (ch : ℕ) → owner q ≡ Nobody → (p : Place) → is_file (owner p) ≡ true → is_file (own owner q (Writer ch) p) ≡ true
+pub later_own : (owner : Place → Owner) (q : Place) (ch : ℕ) → owner q ≡ Nobody → (p : Place) → is_file (owner p) ≡ true → is_file (own owner q (Writer ch) p) ≡ true
 later_own owner q ch nobody p f = elim (place_decide q p) [
   | inl s ↦ absurd (let z = sym (ap is_file nobody) ∙ ap (λ (x : Place). is_file (owner x)) s ∙ f in (cc))
   | inr ne ↦ ap is_file (own_elsewhere owner q p (Writer ch) ne) ∙ f

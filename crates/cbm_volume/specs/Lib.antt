@@ -6,6 +6,7 @@ pub mod Opens
 pub mod RecordFaults
 pub mod Reaches
 pub mod Copies
+pub mod NewRecords
 pub mod NewDisks
 pub mod Views
 pub mod Sweeps

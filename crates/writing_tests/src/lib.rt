@@ -18,6 +18,10 @@ mod new_files;
 #[cfg(test)]
 mod opens;
 #[cfg(test)]
+mod relative_files;
+#[cfg(test)]
+mod relative_stops;
+#[cfg(test)]
 mod renames;
 #[cfg(test)]
 mod scratches;

@@ -1,0 +1,118 @@
+use Rattle.std.proofs.Common.{◌≡◌, ℕ, Ok, Err, refl, ap, subst, inl, inr}
+use Rattle.std.proofs.lemmas.Result.{err_from_is_err_and}
+use Rattle.cbm_medium.specs.Place.{directory_head}
+use Rattle.cbm_medium.specs.Seen.{Seen}
+use Rattle.cbm_medium.proofs.FaultCodes.{never_26}
+use Rattle.cbm_file.specs.Padding.{before_filler}
+use Rattle.cbm_file.specs.Files.{Disk}
+use Rattle.cbm_file.specs.Records.{with_new_records}
+use Rattle.cbm_bam.specs.Map.{geometry_of}
+use Rattle.cbm_directory.proofs.Codes.{directory_never_26}
+use Rattle.cbm_volume.specs.Copies.{IsCutShort}
+use Rattle.cbm_volume.specs.Opens.{IsHindered}
+use Rattle.cbm_volume.specs.Reaches.{Reached}
+use Rattle.cbm_volume.specs.Writers.{Use, Idle, HoldsNow}
+use Rattle.cbm_volume.proofs.Finishing.{on_err}
+use Rattle.cbm_volume.proofs.Hindered.{handed_on}
+use Rattle.cbm_volume.proofs.OpenedFiles.{stopped_at, untouched_by}
+use Rattle.cbm_volume.proofs.OpenedSlots.{reached_now}
+use Rattle.cbm_volume.proofs.RecordsEnds.{MakesRecords, none_counted, records_room, room_or_none}
+use Rattle.cbm_volume.proofs.Untouched.{files_same}
+use Rattle.cbm_volume.proofs.volume.Volume.make_records.Goals as goal
+use Rattle.cbm_volume.proofs.volume.Volume.make_records.Given.{Over}
+
+pub returns-in_err-room-clause-cause : goal.returns-in_err-room-clause-cause
+returns-in_err-room-clause-cause g c = λ d uses ch h idle.
+    absurd (c.in_err-room.ensures.means d (record { layout = h.layout; stands = h.so.stands }))
+
+pub returns-in_err-room-clause-untouched : goal.returns-in_err-room-clause-untouched
+returns-in_err-room-clause-untouched g c = λ d uses ch h idle.
+    let old : Seen = g.M.Medium.seen c.args.self.now in
+    untouched_by old.tracks old.content old.content d uses h (files_same h.layout old.content old.content refl)
+
+-- neither the map's fault nor what breaks the directory off is told as protection
+pub returns-in_err-room-clause-protection : goal.returns-in_err-room-clause-protection
+returns-in_err-room-clause-protection g c =
+    let p = err_from_is_err_and c.from_residual.result c.from_residual.ensures.1 in
+    let old : Seen = g.M.Medium.seen c.args.self.now in
+    rw (p.1, p.2) (λ is. absurd (elim c.in_err-room.ensures.err [
+      | inl k ↦ never_26 (old.content directory_head) c.in_err-room.field-0.0.code (g.met.M.Medium.codes c.args.self.now directory_head) k.0 is
+      | inr k ↦ directory_never_26 (geometry_of old.tracks old.content) old.content c.in_err-room.field-0.0 (λ q. g.met.M.Medium.codes c.args.self.now q) k is
+    ]))
+
+pub returns-then-not-has_room-clause-made : goal.returns-then-not-has_room-clause-made
+returns-then-not-has_room-clause-made g c = λ d uses ch h idle.
+    let means = c.in_ok-room.ensures.means d (record { layout = h.layout; stands = h.so.stands }) in
+    (none_counted d c.in_ok-room.room.blocks c.in_ok-room.room.slot means.0 means.1 (c.has_room.ensures.none c.if-not-has_room.true), refl)
+
+pub returns-then-not-has_room-clause-untouched : goal.returns-then-not-has_room-clause-untouched
+returns-then-not-has_room-clause-untouched g c = λ d uses ch h idle.
+    let old : Seen = g.M.Medium.seen c.args.self.now in
+    untouched_by old.tracks old.content old.content d uses h (files_same h.layout old.content old.content refl)
+
+pub returns-then-protected-clause-untouched : goal.returns-then-protected-clause-untouched
+returns-then-protected-clause-untouched g c = λ d uses ch h idle.
+    let old : Seen = g.M.Medium.seen c.args.self.now in
+    untouched_by old.tracks old.content old.content d uses h (files_same h.layout old.content old.content refl)
+
+-- ---- the file was begun, as there is room
+
+cut : (g : Over) (c : goal.After-from_residual-in_err-make g) (d : Disk) (uses : ℕ → Use) (ch : ℕ) (h : HoldsNow (g.M.Medium.seen c.args.self.now).tracks (g.M.Medium.seen c.args.self.now).content d uses) → uses ch ≡ Idle
+    → IsCutShort (g.M.Medium.seen c.args.self.now) (g.M.Medium.seen c.make.new.medium) (g.M.Medium.seen c.args.self.now).content h.layout d uses c.in_err-make.field-0.0
+cut g c d uses ch h idle =
+    let seen = ap (λ m. g.M.Medium.seen m) c.self.view_is in
+    let room = records_room d c.in_ok-room.room.blocks c.in_ok-room.room.slot (c.in_ok-room.ensures.means d (record { layout = h.layout; stands = h.so.stands })) (c.has_room.ensures.enough c.if-not-has_room.false) in
+    subst (λ (s : Seen). MakesRecords s (g.M.Medium.seen c.make.new.medium) c.args.name.now c.args.record_length (Err c.in_err-make.field-0.0)) seen c.in_err-make.ensures.made d uses ch h idle room.0 room.1
+
+pub returns-in_err-make-clause-stopped : goal.returns-in_err-make-clause-stopped
+returns-in_err-make-clause-stopped g c = λ d uses ch h idle.
+    let old : Seen = g.M.Medium.seen c.args.self.now in
+    let lost = (cut g c d uses ch h idle).0 in
+    on_err c.from_residual-in_err-make.result (stopped_at old.tracks old.content h.layout (g.M.Medium.seen c.make.new.medium).content d lost.disk _ uses lost.reached lost.slots)
+
+pub returns-in_err-make-clause-cause : goal.returns-in_err-make-clause-cause
+returns-in_err-make-clause-cause g c = λ d uses ch h idle.
+    handed_on c.from_residual-in_err-make.result c.in_err-make.field-0.0 (IsHindered (g.M.Medium.seen c.args.self.now) (g.M.Medium.seen c.make.new.medium)) c.from_residual-in_err-make.ensures.1 (cut g c d uses ch h idle).1
+
+pub returns-in_err-make-clause-untouched : goal.returns-in_err-make-clause-untouched
+returns-in_err-make-clause-untouched g c = λ d uses ch h idle.
+    let old : Seen = g.M.Medium.seen c.args.self.now in
+    untouched_by old.tracks old.content (g.M.Medium.seen c.make.new.medium).content d uses h (cut g c d uses ch h idle).0.reached.files
+
+made : (g : Over) (c : goal.In_ok-make g) (d : Disk) (uses : ℕ → Use) (ch : ℕ) (h : HoldsNow (g.M.Medium.seen c.args.self.now).tracks (g.M.Medium.seen c.args.self.now).content d uses) → uses ch ≡ Idle
+    → Reached (g.M.Medium.seen c.args.self.now).tracks (g.M.Medium.seen c.args.self.now).content h.layout (g.M.Medium.seen c.make.new.medium).content (with_new_records d (before_filler c.args.name.now) c.args.record_length) uses
+made g c d uses ch h idle =
+    let seen = ap (λ m. g.M.Medium.seen m) c.self.view_is in
+    let room = records_room d c.in_ok-room.room.blocks c.in_ok-room.room.slot (c.in_ok-room.ensures.means d (record { layout = h.layout; stands = h.so.stands })) (c.has_room.ensures.enough c.if-not-has_room.false) in
+    subst (λ (s : Seen). MakesRecords s (g.M.Medium.seen c.make.new.medium) c.args.name.now c.args.record_length (Ok c.in_ok-make.field-0)) seen c.in_ok-make.ensures.made d uses ch h idle room.0 room.1
+
+pub returns-clause-made : goal.returns-clause-made
+returns-clause-made g c = λ d uses ch h idle.
+    let old : Seen = g.M.Medium.seen c.args.self.now in
+    reached_now old.tracks old.content h.layout (g.M.Medium.seen c.make.new.medium).content _ uses (made g c d uses ch h idle)
+
+pub returns-clause-untouched : goal.returns-clause-untouched
+returns-clause-untouched g c = λ d uses ch h idle.
+    let old : Seen = g.M.Medium.seen c.args.self.now in
+    untouched_by old.tracks old.content (g.M.Medium.seen c.make.new.medium).content d uses h (made g c d uses ch h idle).files
+
+-- ---- too little room is told first
+
+pub returns-in_err-room-clause-full : goal.returns-in_err-room-clause-full
+returns-in_err-room-clause-full g c = λ d uses h none.
+    absurd (c.in_err-room.ensures.means d (record { layout = h.layout; stands = h.so.stands }))
+
+pub returns-then-protected-clause-full : goal.returns-then-protected-clause-full
+returns-then-protected-clause-full g c = λ d uses h none.
+    let room = records_room d c.in_ok-room.room.blocks c.in_ok-room.room.slot (c.in_ok-room.ensures.means d (record { layout = h.layout; stands = h.so.stands })) (c.has_room.ensures.enough c.if-not-has_room.false) in
+    absurd (room_or_none d room.0 room.1 none)
+
+pub returns-in_err-make-clause-full : goal.returns-in_err-make-clause-full
+returns-in_err-make-clause-full g c = λ d uses h none.
+    let room = records_room d c.in_ok-room.room.blocks c.in_ok-room.room.slot (c.in_ok-room.ensures.means d (record { layout = h.layout; stands = h.so.stands })) (c.has_room.ensures.enough c.if-not-has_room.false) in
+    absurd (room_or_none d room.0 room.1 none)
+
+pub returns-clause-full : goal.returns-clause-full
+returns-clause-full g c = λ d uses h none.
+    let room = records_room d c.in_ok-room.room.blocks c.in_ok-room.room.slot (c.in_ok-room.ensures.means d (record { layout = h.layout; stands = h.so.stands })) (c.has_room.ensures.enough c.if-not-has_room.false) in
+    absurd (room_or_none d room.0 room.1 none)

@@ -1,0 +1,169 @@
+// OPEN of a relative file that isn't there: a block of fresh records, a side sector that lists it, and a closed entry.
+
+ghost use Rattle.std.specs.Prelude.{◌≡◌, ◌≤◌, ◌||◌, ℕ, length, not, nat_lt, true, false, Some, IfOk, IfErr, IsOkAnd, OnErr, MatchBool, MatchResult};
+ghost use Rattle.cbm_medium.specs.Content.{Content};
+ghost use Rattle.cbm_medium.specs.Seen.{OnlyContent};
+ghost use Rattle.cbm_file.specs.Padding.{before_filler};
+ghost use Rattle.cbm_file.specs.Files.{Disk, empty_from};
+ghost use Rattle.cbm_file.specs.Changes.{grown, has_slot};
+ghost use Rattle.cbm_file.specs.Records.{with_new_records};
+ghost use Rattle.cbm_bam.specs.Map.{geometry_of};
+ghost use Rattle.cbm_volume.specs.Copies.{IsCutShort};
+ghost use Rattle.cbm_volume.specs.Layouts.{Layout, Untouched};
+ghost use Rattle.cbm_volume.specs.NewRecords.{HasNoRoomForRecords, HasTwo, HoldsNew};
+ghost use Rattle.cbm_volume.specs.Opens.{IsHindered};
+ghost use Rattle.cbm_volume.specs.Reaches.{Reached};
+ghost use Rattle.cbm_volume.specs.Writers.{Use, Idle, HoldsNow, Stopped};
+
+use crate::room::Room;
+use crate::volume::Volume;
+use cbm_directory::{Entry, empty_slot, put_slot};
+use cbm_file::FileType;
+use cbm_medium::codes::{ENDLESS_CHAIN, WRITE_PROTECT_ON};
+use cbm_medium::{Address, Link, Medium, Trouble};
+use cbm_relfile::{claim_two, write_new};
+
+/// A new relative file has a data block and a side sector.
+const NEW_BLOCKS: u16 = 2;
+
+impl<M: Medium> Volume<M> {
+    /// OPEN of a relative file that isn't there, with a record length: one data block full of fresh records ($FF, then
+    /// zeros), one side sector that lists it, and a closed entry. False where fewer than two blocks are free, or there is
+    /// no place for a name: nothing has changed then. The two sectors are claimed and written first, and last the entry, in
+    /// one write; so an `Err` leaves each slot as it was, with blocks that are nobody's until VALIDATE. On a sound disk it
+    /// says that the medium is protected (26), with nothing changed, or failed by itself.
+    pub fn make_records(&mut self, name: &[u8], record_length: u8) -> Result<bool, Trouble>
+        requires name { length name.now ≤ 16 }
+        requires width { (1 ≤ record_length) × (record_length ≤ 254) }
+        ensures made { let old = M.seen self.old in let new = M.seen self.new in
+            (d : Disk) (uses : ℕ → Use) (ch : ℕ) → HoldsNow old.tracks old.content d uses → uses ch ≡ Idle →
+            IfOk result (λ done. MatchBool done (HoldsNow old.tracks new.content
+            (with_new_records d (before_filler name.now) record_length) uses)
+            (HasNoRoomForRecords d × (new.content ≡ old.content))) }
+        // Too little room is told first, also on a protected medium.
+        ensures full { let old = M.seen self.old in
+            (d : Disk) (uses : ℕ → Use) → HoldsNow old.tracks old.content d uses →
+            HasNoRoomForRecords d → IsOkAnd result (λ done. done ≡ false) }
+        ensures stopped { let old = M.seen self.old in
+            (d : Disk) (uses : ℕ → Use) (ch : ℕ) → HoldsNow old.tracks old.content d uses → uses ch ≡ Idle →
+            OnErr result (Stopped old.tracks (M.seen self.new).content d
+            (with_new_records d (before_filler name.now) record_length) uses) }
+        ensures cause { let old = M.seen self.old in
+            (d : Disk) (uses : ℕ → Use) (ch : ℕ) → HoldsNow old.tracks old.content d uses → uses ch ≡ Idle →
+            IfErr result (IsHindered old (M.seen self.new)) }
+        ensures untouched { let old = M.seen self.old in
+            (d : Disk) (uses : ℕ → Use) (ch : ℕ) → HoldsNow old.tracks old.content d uses → uses ch ≡ Idle →
+            Untouched (geometry_of old.tracks old.content) old.content (M.seen self.new).content (λ m. false) }
+        // False says that nothing has changed, whatever the medium holds.
+        ensures kept { IfOk result
+            (λ done. done ≡ false → (M.seen self.new).content ≡ (M.seen self.old).content) }
+        // A protected medium stays as it is.
+        ensures guarded { (M.seen self.old).protected ≡ true →
+            (M.seen self.new).content ≡ (M.seen self.old).content }
+        // The code 26 says that the medium is protected, whatever it holds.
+        ensures protection { IfErr result (λ t. t.code ≡ 26 → (M.seen self.old).protected ≡ true) }
+        ensures only { OnlyContent result (M.seen self.old) (M.seen self.new) }
+    {
+        let room = self.room()?;
+        if !has_room(room) {
+            return Ok(false);
+        }
+        if self.medium.protected() {
+            return Err(Trouble {
+                code: WRITE_PROTECT_ON,
+                track: 0,
+                sector: 0,
+            });
+        }
+        make(&mut self.medium, name, record_length)?;
+        Ok(true)
+    }
+}
+
+/// Whether there is room for a new relative file, and for its name.
+fn has_room(room: Room) -> bool
+    ensures enough { result ≡ true → (2 ≤ room.blocks) × (room.slot ≡ true) }
+    ensures none { result ≡ false → (nat_lt room.blocks 2 || not room.slot) ≡ true }
+{
+    room.slot && room.blocks >= NEW_BLOCKS
+}
+
+/// The map says less than it counted before.
+fn miscounted() -> Trouble
+    ensures { result ≡ (record { code = 71; track = 18; sector = 0 }) }
+{
+    Trouble {
+        code: ENDLESS_CHAIN,
+        track: 18,
+        sector: 0,
+    }
+}
+
+/// Makes the file, for which there is room: its slot is found, its two sectors are written, its entry is written.
+fn make<M: Medium>(medium: &mut M, name: &[u8], record_length: u8) -> Result<(), Trouble>
+    requires name { length name.now ≤ 16 }
+    requires width { (1 ≤ record_length) × (record_length ≤ 254) }
+    ensures made { let old = M.seen medium.old in let new = M.seen medium.new in
+        (d : Disk) (uses : ℕ → Use) (ch : ℕ) (h : HoldsNow old.tracks old.content d uses) → uses ch ≡ Idle →
+        has_slot d ≡ true → 2 ≤ d.free →
+        MatchResult result (λ x. Reached old.tracks old.content h.layout new.content
+        (with_new_records d (before_filler name.now) record_length) uses)
+        (IsCutShort old new old.content h.layout d uses) }
+    ensures protection { IfErr result (λ t. t.code ≡ 26 → (M.seen medium.old).protected ≡ true) }
+    ensures only { OnlyContent result (M.seen medium.old) (M.seen medium.new) }
+{
+    let (number, (block, side)) = begin(medium)?;
+    write_new(medium, block, side, record_length)?;
+    enter(medium, block, side, name, record_length, number)
+}
+
+/// Finds an empty slot, for which the directory may grow, and claims a block and a side sector.
+fn begin<M: Medium>(medium: &mut M) -> Result<(u8, (Address, Address)), Trouble>
+    ensures begun { let old = M.seen medium.old in let new = M.seen medium.new in
+        (d : Disk) (uses : ℕ → Use) (ch : ℕ) (h : HoldsNow old.tracks old.content d uses) → uses ch ≡ Idle →
+        has_slot d ≡ true → 2 ≤ d.free →
+        MatchResult result (λ r. (empty_from 0 (grown d).slots ≡ Some r.0) ×
+        HasTwo old.tracks old.content h.layout d uses ch new.content r.1.0 r.1.1)
+        (IsCutShort old new old.content h.layout d uses) }
+    ensures tracks { IfOk result (λ r. (r.1.0.track ≤ (M.seen medium.old).tracks) ×
+        (r.1.1.track ≤ (M.seen medium.old).tracks)) }
+    ensures protection { IfErr result (λ t. t.code ≡ 26 → (M.seen medium.old).protected ≡ true) }
+    ensures only { OnlyContent result (M.seen medium.old) (M.seen medium.new) }
+{
+    let geometry = cbm_bam::geometry(medium);
+    let Some(number) = empty_slot(medium, geometry)? else {
+        return Err(miscounted());
+    };
+    let Some(sectors) = claim_two(medium, geometry)? else {
+        return Err(miscounted());
+    };
+    Ok((number, sectors))
+}
+
+/// Writes the closed entry of the file that lies in these two sectors.
+fn enter<M: Medium>(
+    medium: &mut M,
+    block: Address,
+    side: Address,
+    name: &[u8],
+    record_length: u8,
+    number: u8,
+) -> Result<(), Trouble>
+    requires name { length name.now ≤ 16 }
+    requires width { (1 ≤ record_length) × (record_length ≤ 254) }
+    ensures entered { let old = M.seen medium.old in let new = M.seen medium.new in
+        (c : Content) (l : Layout) (d : Disk) (uses : ℕ → Use) (ch : ℕ) →
+        HasTwo old.tracks c l d uses ch old.content block side → HoldsNew old.content block side record_length →
+        empty_from 0 (grown d).slots ≡ Some number →
+        MatchResult result (λ x. Reached old.tracks c l new.content
+        (with_new_records d (before_filler name.now) record_length) uses) (IsCutShort old new c l d uses) }
+    ensures protection { IfErr result (λ t. t.code ≡ 26 → (M.seen medium.old).protected ≡ true) }
+    ensures only { OnlyContent result (M.seen medium.old) (M.seen medium.new) }
+{
+    let geometry = cbm_bam::geometry(medium);
+    let first = Link::from(block);
+    let fresh = Entry::fresh(FileType::Rel, name, first);
+    let closed = fresh.closed(first, NEW_BLOCKS);
+    let entry = closed.relative(Link::from(side), record_length);
+    put_slot(medium, geometry, number, &entry)
+}
