@@ -5,7 +5,7 @@ use Rattle.cbm_medium.specs.Content.{Content}
 use Rattle.cbm_medium.specs.Links.{link}
 use Rattle.cbm_medium.specs.Seen.{Seen, write_refusal, HasFailed}
 use Rattle.cbm_file.specs.Records.{with_bytes}
-use Rattle.cbm_chain.specs.Data.{chain_bytes}
+use Rattle.cbm_chain.specs.Data.{data_of, chain_bytes}
 use Rattle.cbm_relfile.specs.Records.{record_in, front_written, IsRewritten}
 
 -- the bytes of record k, which counts from 1
@@ -42,11 +42,16 @@ HasNext tracks c sector = ((link sector).track ≢ 0) → Has tracks (link secto
 abbrev pub IsWriteRefused : ℕ → Seen → Seen → ℕ → Type 0
 IsWriteRefused tracks old new code = ((p : Place) × Has tracks p × (write_refusal old p ≡ Some code)) ⊎ HasFailed old new
 
+-- of a stretch over two blocks the first is written
+abbrev pub IsHalfRewritten : Content → Content → Place → List ℕ → ℕ → List ℕ → Type 0
+IsHalfRewritten c c' p sector place bytes =
+    (more : List ℕ) × (length (data_of sector) < place + length bytes) × (c (link sector) ≡ Ok more) × (place + length bytes ≤ 254 + length (data_of more)) × (c' ≡ front_written c p sector place bytes)
+
 -- A WRITE OF A RECORD WAS REFUSED: nothing has changed, or of the record's two blocks the first is written.
 pub record IsChangeStopped (tracks : ℕ) (old new : Seen) (blocks : List Place) (w k p : ℕ) (bytes : List ℕ) (code : ℕ) : Type 0 where
   pub at : Place
   pub sector : List ℕ
   pub place : ℕ
   pub lies : LiesFrom old.content blocks w k at sector place
-  pub so_far : (new.content ≡ old.content) ⊎ (new.content ≡ front_written old.content at sector place (with_bytes w (record_bytes w (chain_bytes old.content blocks) k) p bytes))
+  pub so_far : (new.content ≡ old.content) ⊎ IsHalfRewritten old.content new.content at sector place (with_bytes w (record_bytes w (chain_bytes old.content blocks) k) p bytes)
   pub cause : IsWriteRefused tracks old new code

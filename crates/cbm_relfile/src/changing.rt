@@ -1,6 +1,6 @@
 // A record is written in place.
 
-ghost use Rattle.std.specs.Prelude.{◌≡◌, ◌≤◌, ◌<◌, ◌^◌, ℕ, List, None, length, IfOk, IfErr, MatchResult};
+ghost use Rattle.std.specs.Prelude.{◌≡◌, ◌≤◌, ◌<◌, ◌^◌, ℕ, List, true, None, length, IfOk, IfErr, MatchResult};
 ghost use Rattle.cbm_medium.specs.Place.{Place, sector_count};
 ghost use Rattle.cbm_medium.specs.Seen.{OnlyContent};
 ghost use Rattle.cbm_file.specs.Records.{with_bytes};
@@ -11,6 +11,7 @@ use crate::reading::{Record, block_at, joined, stretch};
 use crate::relative::Relative;
 use crate::sectors::read_at;
 use crate::writing::rewrite;
+use cbm_medium::codes::WRITE_PROTECT_ON;
 use cbm_medium::{Geometry, Medium, Trouble};
 
 /// What stands behind the bytes of a record.
@@ -50,6 +51,10 @@ pub fn write_record<M: Medium>(
         (λ t. IsChangeStopped geometry old new blocks file.width number position bytes.now t.code) }
     // None says that nothing has changed, whatever the medium holds.
     ensures kept { IfOk result (λ o. o ≡ None → (M.seen medium.new).content ≡ (M.seen medium.old).content) }
+    // A protected medium stays as it is, and the code 26 says that it is protected, whatever it holds.
+    ensures guarded { (M.seen medium.old).protected ≡ true →
+        (M.seen medium.new).content ≡ (M.seen medium.old).content }
+    ensures protection { IfErr result (λ t. t.code ≡ 26 → (M.seen medium.old).protected ≡ true) }
     ensures only { OnlyContent result (M.seen medium.old) (M.seen medium.new) }
 {
     let from = (number - 1) * file.length() as u32;
@@ -61,6 +66,13 @@ pub fn write_record<M: Medium>(
     let Some(old) = stretch(medium, geometry, &sector, place, file.length())? else {
         return Ok(None);
     };
+    if medium.protected() {
+        return Err(Trouble {
+            code: WRITE_PROTECT_ON,
+            track: 0,
+            sector: 0,
+        });
+    }
     let new = changed(&old, position, bytes);
     if !rewrite(medium, geometry, at, &sector, place, &new)? {
         return Ok(None);

@@ -4,6 +4,7 @@ pub mod Writers
 pub mod Holding
 pub mod Opens
 pub mod RecordFaults
+pub mod RecordWrites
 pub mod Reaches
 pub mod Copies
 pub mod NewRecords

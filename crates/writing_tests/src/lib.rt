@@ -18,6 +18,8 @@ mod new_files;
 #[cfg(test)]
 mod opens;
 #[cfg(test)]
+mod record_writes;
+#[cfg(test)]
 mod relative_files;
 #[cfg(test)]
 mod relative_stops;

@@ -63,6 +63,8 @@ pub record Crossed (tracks : ℕ) (c m c' : Content) (l : Layout) (d : Disk) (n 
   pub between : Stands tracks m (with_file l n (l.files n) l.owner) (with_slot d n (slot_of m (entry_at c l.directory n) (l.files n)))
   pub bytes_between : chain_bytes m (l.files n).data_blocks ≡ put (chain_bytes c (l.files n).data_blocks) (254 * i + place) ys
   pub layout : Layout
+  pub same_owner : layout.owner ≡ l.owner
+  pub same_count : slot_count layout ≡ slot_count l
   pub stands : Stands tracks c' layout (with_slot d n (Some (with_records f w (set rs k (ys ++ zs)) (l.files n))))
 
 pub stands_crossed : (tracks : ℕ) (c m c' : Content) (l : Layout) (d : Disk) (n i place k : ℕ) (sector more ys zs : List ℕ) (f : File) (w b s : ℕ) (rs : List (List ℕ)) → Stands tracks c l d → n < slot_count l
@@ -127,5 +129,7 @@ stands_crossed tracks c m c' l d n i place k sector more ys zs f w b s rs st roo
       between = done1.stands;
       bytes_between = bytes1;
       layout = with_file l1 n (l1.files n) l1.owner;
+      same_owner = refl;
+      same_count = refl;
       stands = subst (λ (y : Disk). Stands tracks c' (with_file l1 n (l1.files n) l1.owner) y) disk done2.stands;
     }

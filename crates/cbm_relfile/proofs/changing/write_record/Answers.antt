@@ -1,10 +1,11 @@
-use Rattle.std.proofs.Common.{◌≡◌, ◌⊎◌, ℕ, length, ◌+◌, ◌-◌, ◌*◌, ◌/◌, ◌%◌, List, ◌∷◌, refl, sym, ap, ◌∙◌, subst, arith}
+use Rattle.std.proofs.Common.{◌≡◌, ◌⊎◌, ℕ, length, ◌+◌, ◌-◌, ◌*◌, ◌/◌, ◌%◌, List, ◌∷◌, refl, sym, ap, ◌∙◌, subst, arith, inl}
 use Rattle.std.specs.Prelude.{option_map, nat_lt, Bool, MatchBool}
 use Rattle.cbm_file.specs.Records.{with_bytes}
+use Rattle.cbm_medium.specs.Content.{refusal}
 use Rattle.cbm_medium.specs.Seen.{Seen}
 use Rattle.cbm_chain.specs.Data.{chain_bytes}
-use Rattle.cbm_relfile.specs.Records.{stretch_in, front_written, IsRewritten, EndsBefore}
-use Rattle.cbm_relfile.specs.Changing.{record_bytes, IsChangedIfThere, IsChangeStopped}
+use Rattle.cbm_relfile.specs.Records.{stretch_in, IsRewritten, EndsBefore}
+use Rattle.cbm_relfile.specs.Changing.{record_bytes, IsChangedIfThere, IsHalfRewritten, IsChangeStopped}
 use Rattle.cbm_relfile.proofs.Changed.{refused_by, read_from, no_stretch, with_bytes_length}
 use Rattle.cbm_relfile.proofs.Stretches.{no_block, block_found}
 use Rattle.cbm_relfile.proofs.changing.write_record.Goals as goal
@@ -46,6 +47,21 @@ returns-in_default-2-clause-laid g c = λ blocks sides w laid short. (
 pub changed-new-requires : goal.changed-new-requires
 changed-new-requires g c = let size = rw c.in-Some-2.is at c.in_ok-old.ensures.size in (c.requires.position.0, omega (arith, c.requires.position.1, size, c.length-2.ensures))
 
+-- the block is one of a protected disk
+pub returns-then-protected-clause-laid : goal.returns-then-protected-clause-laid
+returns-then-protected-clause-laid g c = λ blocks sides w laid short.
+    let from = read_from c.args.geometry (g.M.Medium.seen c.args.medium.now).content c.args.file.first blocks c.args.number c.args.file.width ((c.args.number - 1) * c.length.result) c.in-Some.at c.in_ok-sector.sector c.in-Some-2.old.items w laid.chain c.requires.number.0 c.requires.length.0 c.requires.length.1
+    (ap (λ (m : ℕ). (c.args.number - 1) * m) c.length.ensures) (sym c.in-Some.is ∙ c.in_ok-at.ensures.laid blocks sides laid short) c.in_ok-sector.ensures.ok
+    (λ x xs v h k. ap (option_map (λ r. r.items)) (sym c.in-Some-2.is) ∙ c.in_ok-old.ensures.chain x xs v h k ∙ ap (λ (n : ℕ). stretch_in (chain_bytes (g.M.Medium.seen c.args.medium.now).content (x ∷ xs)) (((c.args.number - 1) * c.length.result) % 254) n) c.length-2.ensures) in
+    record {
+      at = c.in-Some.at;
+      sector = c.in_ok-sector.sector;
+      place = ((c.args.number - 1) * c.length.result) % 254;
+      lies = from.lies;
+      so_far = inl refl;
+      cause = inl (c.in-Some.at, from.has, ap (λ (b : Bool). refusal b ((g.M.Medium.seen c.args.medium.now).content c.in-Some.at)) (sym c.if-protected.ensures));
+    }
+
 pub returns-in_err-rewrite-clause-laid : goal.returns-in_err-rewrite-clause-laid
 returns-in_err-rewrite-clause-laid g c = λ blocks sides w laid short.
     let from = read_from c.args.geometry (g.M.Medium.seen c.args.medium.now).content c.args.file.first blocks c.args.number c.args.file.width ((c.args.number - 1) * c.length.result) c.in-Some.at c.in_ok-sector.sector c.in-Some-2.old.items w laid.chain c.requires.number.0 c.requires.length.0 c.requires.length.1
@@ -63,7 +79,7 @@ returns-in_err-rewrite-clause-laid g c = λ blocks sides w laid short.
       sector = c.in_ok-sector.sector;
       place = ((c.args.number - 1) * c.length.result) % 254;
       lies = from.lies;
-      so_far = subst (λ (ys : List ℕ). (now.content ≡ old.content) ⊎ (now.content ≡ front_written old.content c.in-Some.at c.in_ok-sector.sector (((c.args.number - 1) * c.length.result) % 254) ys)) new c.in_err-rewrite.ensures.err;
+      so_far = subst (λ (ys : List ℕ). (now.content ≡ old.content) ⊎ IsHalfRewritten old.content now.content c.in-Some.at c.in_ok-sector.sector (((c.args.number - 1) * c.length.result) % 254) ys) new c.in_err-rewrite.ensures.err;
       cause = c.in_err-rewrite.ensures.refused from.has from.next;
     })
 

@@ -1,0 +1,41 @@
+-- A record of a relative file is written.
+use Rattle.std.specs.Prelude.{ℕ, ◌+◌, ◌-◌, ◌≡◌, nat_lt, Bool, true, List, [], ◌++◌, length, take, drop, slice_index_or, slice_set, Option, Some, None, is_some}
+use Rattle.cbm_medium.specs.Content.{Content}
+use Rattle.cbm_medium.specs.Seen.{Seen}
+use Rattle.cbm_medium.specs.declared.fault.Trouble.{Trouble}
+use Rattle.cbm_file.specs.Files.{Disk, File, Records, file_at}
+use Rattle.cbm_file.specs.Records.{with_bytes, with_body, record_at}
+use Rattle.cbm_volume.specs.Writers.{Use, Relates, HoldsNow}
+use Rattle.cbm_volume.specs.Opens.{IsHindered}
+
+-- A CHANNEL HAS THE RECORDS OF A SLOT OPEN: the medium holds the disk, and the slot's file has these records of this length, in so many
+-- blocks with so many side sectors.
+pub record HasRecordsOpen (medium : ℕ) (c : Content) (d : Disk) (uses : ℕ → Use) (n w b s : ℕ) (rs : List (List ℕ)) : Type 0 where
+  pub holds : HoldsNow medium c d uses
+  pub channel : ℕ
+  pub relates : uses channel ≡ Relates n
+  pub file : File
+  pub in_slot : file_at d n ≡ Some file
+  pub body : file.body ≡ Records w rs b s
+
+-- record k, which counts from 1, with these bytes from position p on
+abbrev pub new_record : ℕ → List (List ℕ) → ℕ → ℕ → List ℕ → List ℕ
+new_record w rs k p bytes = with_bytes w (slice_index_or rs (k - 1) []) p bytes
+
+-- the disk whose slot has these bytes as its record k
+abbrev pub with_record : Disk → ℕ → ℕ → List (List ℕ) → ℕ → ℕ → ℕ → List ℕ → Disk
+with_record d n w rs b s k bytes = with_body d n (Records w (slice_set rs (k - 1) bytes) b s)
+
+-- THE RECORD IS WRITTEN where it is there, and `cut` says that some bytes didn't fit; else nothing has changed.
+abbrev pub IsRecordPut : ℕ → Content → Content → Disk → (ℕ → Use) → ℕ → ℕ → ℕ → ℕ → List (List ℕ) → ℕ → ℕ → List ℕ → Option Bool → Type 0
+IsRecordPut medium c c' d uses n w b s rs k p bytes None = (record_at (Records w rs b s) k ≡ None) × (c' ≡ c)
+IsRecordPut medium c c' d uses n w b s rs k p bytes (Some cut) =
+    (is_some (record_at (Records w rs b s) k) ≡ true) × (cut ≡ nat_lt (w + 1 - p) (length bytes))
+    × HoldsNow medium c' (with_record d n w rs b s k (new_record w rs k p bytes)) uses
+
+-- A WRITE OF A RECORD WAS REFUSED: it has a beginning of its new bytes, or none; all else is as it was.
+pub record IsRecordCut (old new : Seen) (d : Disk) (uses : ℕ → Use) (n w b s : ℕ) (rs : List (List ℕ)) (k p : ℕ) (bytes : List ℕ) (t : Trouble) : Type 0 where
+  pub there : is_some (record_at (Records w rs b s) k) ≡ true
+  pub so_far : ℕ
+  pub holds : HoldsNow old.tracks new.content (with_record d n w rs b s k (take so_far (new_record w rs k p bytes) ++ drop so_far (slice_index_or rs (k - 1) []))) uses
+  pub cause : IsHindered old new t
