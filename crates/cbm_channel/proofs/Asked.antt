@@ -1,21 +1,27 @@
 -- What the machine's calls do, by what the code keeps of a channel.
-use Rattle.std.proofs.Common.{◌≡◌, ℕ, ◌<◌, ◌≤◌, Bool, true, false, List, [], ◌∷◌, length, refl, ap, sym, ◌∙◌, arith}
-use Rattle.std.specs.Prelude.{◌==◌, if◌then◌else◌, Some, None, Err}
+use Rattle.std.proofs.Common.{◌≡◌, ℕ, ◌<◌, ◌≤◌, Bool, true, false, List, [], ◌∷◌, length, refl, ap, sym, subst, ◌∙◌, arith, ◌⊎◌, inl, inr}
+use Rattle.std.specs.Prelude.{◌==◌, if◌then◌else◌, MatchBool, Option, Some, None, is_some, Err}
 use Rattle.std.proofs.lemmas.Bool.{ne_eqb}
 use Rattle.cbm_file.specs.Files.{Disk}
-use Rattle.cbm_machine.specs.declared.code.Code.TheVariants.{FileNotOpen, NoChannel, WrongType}
+use Rattle.cbm_machine.specs.declared.code.Code.TheVariants.{FileNotOpen, NoChannel, NoRecord}
 use Rattle.cbm_command.specs.declared.command.Command.TheVariants.{Position}
 use Rattle.cbm_machine.specs.Machines.{Machine, Closed, Relative, channel, with_channel, say, answered}
 use Rattle.cbm_machine.specs.Machines as machine
 use Rattle.cbm_machine.specs.Closing.{put_on, without_text}
 use Rattle.cbm_machine.specs.Talking.{peek, peek_on, taken, taken_on, talk, talk_refusal, listen, listen_refusal, only_refused}
 use Rattle.cbm_machine.specs.Records.{write_record}
-use Rattle.cbm_machine.specs.Calls.{put, command, store_text, is_relative_channel}
+use Rattle.cbm_machine.specs.Calls.{put, gather, command, store_text, text_for, is_relative_channel}
 use Rattle.cbm_machine.specs.Running.{place, run}
 use Rattle.cbm_channel.specs.declared.channel.Channel.{Channel}
 use Rattle.cbm_channel.specs.declared.channel.Channel.TheVariants as code
-use Rattle.cbm_channel.specs.Standing.{ChannelStands}
-use Rattle.cbm_channel.specs.Shown.{is_closed, is_read, is_written}
+use Rattle.cbm_channel.specs.Standing.{ChannelStands, WaitsFor}
+use Rattle.cbm_channel.specs.declared.on_record.Waiting.{Waiting}
+use Rattle.cbm_channel.specs.declared.on_record.Waiting.TheVariants as waits
+use Rattle.cbm_channel.specs.Placed.{record_of, is_broken, is_absent}
+use Rattle.cbm_channel.proofs.OnRecords.{record_on}
+use Rattle.cbm_machine.specs.CarriedOut.{IsEndCarriedOut}
+use Rattle.cbm_machine.specs.declared.code.Code.{Code}
+use Rattle.cbm_channel.specs.Shown.{talk_refused, is_written, has_records}
 
 pub below_15 : (ch : ℕ) → ch < 15 → (ch == 15) ≡ false
 below_15 ch lt = ne_eqb ch 15 (λ e. absurd (omega (arith, e, lt)))
@@ -28,37 +34,37 @@ listen_of (code.Listing l) y h = ap listen_refusal h
 listen_of (code.File s r) y h = ap listen_refusal h.1
 listen_of (code.Writing w full) y h = ap listen_refusal h.2
 listen_of (code.Stopped s) y h = ap listen_refusal h
+listen_of (code.Records r) y h = ap listen_refusal h
 
-talk_of : (d : Disk) (x : Channel) (y : machine.Channel) → ChannelStands x y → talk_refusal d y ≡ (if is_read x then None else Some FileNotOpen)
-talk_of d code.Closed y h = ap (talk_refusal d) h
-talk_of d (code.Listing l) y h = ap (talk_refusal d) h
-talk_of d (code.File s r) y h = ap (talk_refusal d) h.1
-talk_of d (code.Writing w full) y h = ap (talk_refusal d) h.2
-talk_of d (code.Stopped s) y h = ap (talk_refusal d) h
+missing_as : (w : Waiting) → is_broken w ≡ false → (if is_some (record_of w) then None else Some NoRecord) ≡ (if is_absent w then Some NoRecord else None)
+missing_as (waits.Record r) h = refl
+missing_as waits.Absent h = refl
+missing_as waits.Broken h = absurd (cc)
 
-place_of : (ch k p : ℕ) (m : Machine) (x : Channel) (y : machine.Channel) → ChannelStands x y → place ch k p y m ≡ Err (if is_closed x then NoChannel else WrongType)
-place_of ch k p m code.Closed y h = ap (λ z. place ch k p z m) h
-place_of ch k p m (code.Listing l) y h = ap (λ z. place ch k p z m) h
-place_of ch k p m (code.File s r) y h = ap (λ z. place ch k p z m) h.1
-place_of ch k p m (code.Writing w full) y h = ap (λ z. place ch k p z m) h.2
-place_of ch k p m (code.Stopped s) y h = ap (λ z. place ch k p z m) h
+talk_of : (d : Disk) (x : Channel) (y : machine.Channel) → ChannelStands x y → WaitsFor d x → talk_refusal d y ≡ talk_refused x
+talk_of d code.Closed y h w = ap (talk_refusal d) h
+talk_of d (code.Listing l) y h w = ap (talk_refusal d) h
+talk_of d (code.File s r) y h w = ap (talk_refusal d) h.1
+talk_of d (code.Writing v full) y h w = ap (talk_refusal d) h.2
+talk_of d (code.Stopped s) y h w = ap (talk_refusal d) h
+talk_of d (code.Records r) y h w =
+    ap (talk_refusal d) h ∙ ap (λ (o : Option (List ℕ)). if is_some o then None else Some NoRecord) (record_on d r w) ∙ missing_as r.waiting w.waits.whole
 
-plain_of : (x : Channel) (y : machine.Channel) → ChannelStands x y → is_relative_channel y ≡ false
-plain_of code.Closed y h = ap is_relative_channel h
-plain_of (code.Listing l) y h = ap is_relative_channel h
-plain_of (code.File s r) y h = ap is_relative_channel h.1
-plain_of (code.Writing w full) y h = ap is_relative_channel h.2
-plain_of (code.Stopped s) y h = ap is_relative_channel h
+relative_of : (x : Channel) (y : machine.Channel) → ChannelStands x y → is_relative_channel y ≡ has_records x
+relative_of code.Closed y h = ap is_relative_channel h
+relative_of (code.Listing l) y h = ap is_relative_channel h
+relative_of (code.File s r) y h = ap is_relative_channel h.1
+relative_of (code.Writing w full) y h = ap is_relative_channel h.2
+relative_of (code.Stopped s) y h = ap is_relative_channel h
+relative_of (code.Records r) y h = ap is_relative_channel h
 
-pub never_relative : (x : Channel) (y : machine.Channel) → ChannelStands x y → (s k p : ℕ) → y ≡ Relative s k p → ⊥
-never_relative x y h s k p e = let z = sym (plain_of x y h) ∙ ap is_relative_channel e in absurd (cc)
-
-record_of : (ch : ℕ) (text : List ℕ) (m : Machine) (x : Channel) (y : machine.Channel) → ChannelStands x y → write_record ch y text m ≡ m
-record_of ch text m code.Closed y h = ap (λ z. write_record ch z text m) h
-record_of ch text m (code.Listing l) y h = ap (λ z. write_record ch z text m) h
-record_of ch text m (code.File s r) y h = ap (λ z. write_record ch z text m) h.1
-record_of ch text m (code.Writing w full) y h = ap (λ z. write_record ch z text m) h.2
-record_of ch text m (code.Stopped s) y h = ap (λ z. write_record ch z text m) h
+-- a text changes nothing of a channel that has no records
+record_of_none : (ch : ℕ) (text : List ℕ) (m : Machine) (y : machine.Channel) → is_relative_channel y ≡ false → write_record ch y text m ≡ m
+record_of_none ch text m Closed e = refl
+record_of_none ch text m (machine.Reading s left) e = refl
+record_of_none ch text m (machine.Writing s bytes blocks full replaces) e = refl
+record_of_none ch text m (machine.Stopped s) e = refl
+record_of_none ch text m (Relative s k p) e = absurd (cc)
 
 -- ---- the calls on channels 0 to 14
 
@@ -72,17 +78,20 @@ module _ (ch : ℕ) (m : Machine) (x : Channel) (other : (ch == 15) ≡ false) (
   pub listen_other : is_written x ≡ false → listen ch m ≡ say FileNotOpen m
   listen_other e = listen_is false e
 
-  talk_is : (b : Bool) → is_read x ≡ b → talk ch m ≡ only_refused (if b then None else Some FileNotOpen) m
-  talk_is b e = rw other (ap (λ r. only_refused r m) (talk_of m.disk x (channel m ch) stands ∙ ap (λ (t : Bool). if t then None else Some FileNotOpen) e))
+  talk_is : (w : WaitsFor m.disk x) (o : Option Code) → talk_refused x ≡ o → talk ch m ≡ only_refused o m
+  talk_is w o e = rw other (ap (λ r. only_refused r m) (talk_of m.disk x (channel m ch) stands w ∙ e))
 
-  pub talk_read : is_read x ≡ true → talk ch m ≡ m
-  talk_read e = talk_is true e
+  pub talk_fine : WaitsFor m.disk x → talk_refused x ≡ None → talk ch m ≡ m
+  talk_fine w e = talk_is w None e
 
-  pub talk_other : is_read x ≡ false → talk ch m ≡ say FileNotOpen m
-  talk_other e = talk_is false e
+  pub talk_said : (code : Code) → WaitsFor m.disk x → talk_refused x ≡ Some code → talk ch m ≡ say code m
+  talk_said code w e = talk_is w (Some code) e
 
-  pub put_other : (b : ℕ) → put ch b m ≡ put_on ch b (channel m ch) m
-  put_other b = let plain = plain_of x (channel m ch) stands in rw (other, plain)
+  pub put_other : (b : ℕ) → has_records x ≡ false → put ch b m ≡ put_on ch b (channel m ch) m
+  put_other b e = let plain = relative_of x (channel m ch) stands ∙ e in rw (other, plain)
+
+  pub put_records : (b : ℕ) → has_records x ≡ true → put ch b m ≡ gather ch b m
+  put_records b e = let relative = relative_of x (channel m ch) stands ∙ e in rw (other, relative)
 
   pub peek_other : peek ch m ≡ peek_on m.disk (channel m ch)
   peek_other = rw other
@@ -90,23 +99,33 @@ module _ (ch : ℕ) (m : Machine) (x : Channel) (other : (ch == 15) ≡ false) (
   pub taken_other : taken ch m ≡ with_channel ch (taken_on m.disk (channel m ch)) m
   taken_other = rw other
 
-  place_is : (k p : ℕ) (b : Bool) → is_closed x ≡ b → answered m (run (Position ch k p) m) ≡ say (if b then NoChannel else WrongType) m
-  place_is k p b e = rw other (ap (answered m) (place_of ch k p m x (channel m ch) stands ∙ ap (λ (t : Bool). Err (if t then NoChannel else WrongType)) e))
+  -- the end of what was put, where it is carried out
+  pub plain_end : IsEndCarriedOut ch m → 1 ≤ length (text_for ch m.text) → is_relative_channel (channel m ch) ≡ false
+  plain_end carried some = plain_by (subst (λ (b : Bool). MatchBool b (Unit {0}) ((is_relative_channel (channel m ch) ≡ false) ⊎ (text_for ch m.text ≡ []))) other carried)
+    where
+      plain_by : (is_relative_channel (channel m ch) ≡ false) ⊎ (text_for ch m.text ≡ []) → is_relative_channel (channel m ch) ≡ false
+      plain_by (inl e) = e
+      plain_by (inr none) = absurd (omega (arith, some, ap length none))
 
-  pub place_closed : (k p : ℕ) → is_closed x ≡ true → answered m (run (Position ch k p) m) ≡ say NoChannel m
-  place_closed k p e = place_is k p true e
+  pub records_end : IsEndCarriedOut ch m → 1 ≤ length (text_for ch m.text) → has_records x ≡ true → ⊥
+  records_end carried some e = let z = sym (plain_end carried some) ∙ relative_of x (channel m ch) stands ∙ e in absurd (cc)
 
-  pub place_open : (k p : ℕ) → is_closed x ≡ false → answered m (run (Position ch k p) m) ≡ say WrongType m
-  place_open k p e = place_is k p false e
+  pub store_other : IsEndCarriedOut ch m → 1 ≤ length (text_for ch m.text) → (w : List ℕ) → 1 ≤ length w → store_text ch w m ≡ without_text ch m
+  store_other carried more [] some = absurd (omega (arith, some))
+  store_other carried more (c ∷ w) some = rw other (record_of_none ch (c ∷ w) (without_text ch m) (channel m ch) (plain_end carried more))
 
-  pub store_other : (w : List ℕ) → 1 ≤ length w → store_text ch w m ≡ without_text ch m
-  store_other [] some = absurd (omega (arith, some))
-  store_other (c ∷ w) some = rw other (record_of ch (c ∷ w) (without_text ch m) x (channel m ch) stands)
+-- what isn't there is none
+pub none_of : {A : Type 0} (o : Option A) → ((x : A) → o ≡ Some x → ⊥) → o ≡ None
+none_of None none = refl
+none_of (Some x) none = absurd (none x refl)
 
 -- ---- channel 15, and past it
 
 pub listen_15 : (ch : ℕ) (m : Machine) → ch ≡ 15 → listen ch m ≡ m
 listen_15 ch m e = rw e refl
+
+pub put_15 : (ch b : ℕ) (m : Machine) → ch ≡ 15 → put ch b m ≡ gather ch b m
+put_15 ch b m e = rw e refl
 
 pub talk_15 : (ch : ℕ) (m : Machine) → ch ≡ 15 → talk ch m ≡ m
 talk_15 ch m e = rw e refl

@@ -19,7 +19,6 @@ use Rattle.cbm_machine.specs.Statuses.{plain}
 use Rattle.cbm_machine.specs.Machines.{Machine, in_writing, too_many}
 use Rattle.cbm_machine.specs.Finding.{found, body_at}
 use Rattle.cbm_machine.specs.Plans.{Plan, ReadFile, OpenRecords, plan, plan_read, plan_append, plan_writing, meets_records}
-use Rattle.cbm_machine.specs.CarriedOut.{MeetsNoRecords}
 use Rattle.cbm_channel.specs.declared.finding.Found.{Found}
 use Rattle.cbm_channel.specs.declared.plan.Plan as code
 use Rattle.cbm_channel.specs.declared.plan.Plan.TheVariants as planned
@@ -62,10 +61,12 @@ module _ (t : ℕ) (c : Content) (m : Machine) where
   -- ---- a file that was found
 
   module _ (w : Wanted) (s : ℕ) (f : File) (kept : is_same_type Del f.kind ≡ false) (closed : f.closed ≡ true) (unwritten : in_writing m s ≡ false) where
-    -- one with records is a relative file's, which isn't met
-    pub records_met : is_same_type Rel f.kind ≡ true → w.has_at ≡ false → MeetsNoRecords (plan_read w m (s, f)) → ⊥
-    records_met relative at none =
-        let so : plan_read w m (s, f) ≡ Ok (OpenRecords s) = rw (kept, relative, at, closed, unwritten) refl in subst MeetsNoRecords so none
+    -- a relative one has its records opened
+    pub relatable_planned : (file : Found) → IsFound t c m.disk s f file → is_same_type Rel f.kind ≡ true → w.has_at ≡ false → PlannedAs t c m (plan_read w m (s, f)) (Ok (planned.OpenRecords file))
+    relatable_planned file is relative at =
+        let so : plan_read w m (s, f) ≡ Ok (OpenRecords s) = rw (kept, relative, at, closed, unwritten) refl in
+        subst (λ r. PlannedAs t c m r (Ok (planned.OpenRecords file))) (sym so)
+        (record { number = is.number; stands = is.stands; file = f; in_slot = is.in_slot; closed = closed; relative = relative; width = is.says.record_length closed relative; unwritten = unwritten })
 
     pub readable_planned : (file : Found) → IsFound t c m.disk s f file → is_same_type Rel f.kind ≡ false → PlannedAs t c m (plan_read w m (s, f)) (Ok (planned.ReadFile file))
     readable_planned file is bytes =
@@ -101,19 +102,18 @@ module _ (t : ℕ) (c : Content) (m : Machine) where
           → PlannedAs t c m (plan ch (opening.File w) m) (Err status)
       refused_planned cost status same few h = subst (λ r. PlannedAs t c m r (Err status)) (sym (plan_is cost false same few)) (refused_by status (met w m) (plan_read w m) h)
 
-      read_by : (file : Found) (result : Result code.Plan Status) (r : Result (ℕ × File) Code) → FoundAs t c m.disk r (Ok file) → MeetsNoRecords (r >>= plan_read w m)
-          → ((s : ℕ) (f : File) → IsFound t c m.disk s f file → MeetsNoRecords (plan_read w m (s, f)) → PlannedAs t c m (plan_read w m (s, f)) result)
+      read_by : (file : Found) (result : Result code.Plan Status) (r : Result (ℕ × File) Code) → FoundAs t c m.disk r (Ok file)
+          → ((s : ℕ) (f : File) → IsFound t c m.disk s f file → PlannedAs t c m (plan_read w m (s, f)) result)
           → PlannedAs t c m (r >>= plan_read w m) result
-      read_by file result (Ok p) h none more = more p.0 p.1 h none
-      read_by file result (Err e) h none more = absurd h
+      read_by file result (Ok p) h more = more p.0 p.1 h
+      read_by file result (Err e) h more = absurd h
 
       pub read_planned : (cost : ℕ) (file : Found) (result : Result code.Plan Status) → cost ≡ met_cost w m → too_many cost m ≡ false → FoundAs t c m.disk (met w m) (Ok file)
-          → MeetsNoRecords (plan ch (opening.File w) m)
-          → ((s : ℕ) (f : File) → IsFound t c m.disk s f file → MeetsNoRecords (plan_read w m (s, f)) → PlannedAs t c m (plan_read w m (s, f)) result)
+          → ((s : ℕ) (f : File) → IsFound t c m.disk s f file → PlannedAs t c m (plan_read w m (s, f)) result)
           → PlannedAs t c m (plan ch (opening.File w) m) result
-      read_planned cost file result same few h none more =
+      read_planned cost file result same few h more =
           subst (λ r. PlannedAs t c m r result) (sym (plan_is cost false same few))
-          (read_by file result (met w m) h (subst MeetsNoRecords (plan_is cost false same few) none) more)
+          (read_by file result (met w m) h more)
 
     -- ---- appending
 

@@ -28,6 +28,7 @@ not_written byte d (code.Listing l) x none h = rw h (record { kept = refl; chann
 not_written byte d (code.File slot r) x none h = rw h.1 (record { kept = refl; channel = refl; disk = refl })
 not_written byte d (code.Writing w full) x none h = absurd (none w full refl)
 not_written byte d (code.Stopped slot) x none h = rw h (record { kept = refl; channel = refl; disk = refl })
+not_written byte d (code.Records r) x none h = rw h (record { kept = refl; channel = refl; disk = refl })
 
 full_is : (byte : ℕ) (d : Disk) (slot blocks : ℕ) (bytes : List ℕ) (full replaces : Bool) → full ≡ true → IsDropped byte d (machine.Writing slot bytes blocks full replaces)
 full_is byte d slot blocks bytes full replaces f = rw f (record { kept = refl; channel = refl; disk = refl })

@@ -40,6 +40,7 @@ idle_use (code.Listing l) y h e = refl
 idle_use (code.File slot r) y h e = absurd (let z = sym e ∙ ap is_open h.1 in (cc))
 idle_use (code.Writing w full) y h e = absurd (let z = sym e ∙ ap is_open h.2 in (cc))
 idle_use (code.Stopped slot) y h e = refl
+idle_use (code.Records r) y h e = absurd (let z = sym e ∙ ap is_open h in (cc))
 
 -- where nothing is open, no channel uses the disk
 pub all_idle : (xs : List kept.Channel) (ys : List Channel) → AllZip ChannelStands xs ys → list_any is_open ys ≡ false → (k : ℕ) → uses_of xs ys k ≡ usage.Idle

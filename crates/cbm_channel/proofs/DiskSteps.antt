@@ -13,7 +13,10 @@ use Rattle.cbm_machine.specs.Orderly.{IsReadFrom, IsPlace, IsOrderly, channel_in
 use Rattle.cbm_machine.specs.Told.{Told}
 use Rattle.cbm_channel.specs.declared.channel.Channel as kept
 use Rattle.cbm_channel.specs.Standing.{AreFit, StandsBy, uses_of}
+use Rattle.cbm_channel.specs.declared.channel.Channel.TheVariants as code
 use Rattle.cbm_channel.proofs.Orders.{known_is}
+use Rattle.cbm_channel.proofs.Stands.{waits_on, zip_at}
+use Rattle.std.specs.Prelude.{slice_index_or}
 
 -- what a closed file holds that a channel has open stays
 abbrev pub KeepsOpen : Disk → Disk → List Channel → Type 0
@@ -53,6 +56,7 @@ with_other_disk t c c' p chs told text m d' st holds keeps = record {
   same_tracks = st.same_tracks;
   same_protection = st.same_protection;
   each = st.each;
+  waits = λ k. waits_on m.disk d' (slice_index_or chs k code.Closed) (channel_in m.channels k) (zip_at chs m.channels k st.each) (λ slot f u at shut. keeps k slot f u at shut) (st.waits k);
   same_told = st.same_told;
   same_text = st.same_text;
 }

@@ -28,6 +28,7 @@ unbegun_none (code.Listing l) x none h = ap is_unbegun h
 unbegun_none (code.File slot r) x none h = ap is_unbegun h.1
 unbegun_none (code.Writing w full) x none h = absurd (none w full refl)
 unbegun_none (code.Stopped slot) x none h = ap is_unbegun h
+unbegun_none (code.Records r) x none h = ap is_unbegun h
 
 pub closed_none : (d : Disk) (k : Channel) (x : machine.Channel) → IsNotWritten k → ChannelStands k x → disk_closed d x ≡ d
 closed_none d code.Closed x none h = ap (disk_closed d) h
@@ -35,6 +36,7 @@ closed_none d (code.Listing l) x none h = ap (disk_closed d) h
 closed_none d (code.File slot r) x none h = ap (disk_closed d) h.1
 closed_none d (code.Writing w full) x none h = absurd (none w full refl)
 closed_none d (code.Stopped slot) x none h = ap (disk_closed d) h
+closed_none d (code.Records r) x none h = ap (disk_closed d) h
 
 pub let_go_none : (t : ℕ) (c : Content) (d : Disk) (uses : ℕ → Use) (ch : ℕ) (k : Channel) (x : machine.Channel) → IsNotWritten k → ChannelStands k x → HoldsNow t c d uses → HoldsNow t c (disk_closed d x) (with_use uses ch Idle)
 let_go_none t c d uses ch k x none stands h = subst (λ y. HoldsNow t c y (with_use uses ch Idle)) (sym (closed_none d k x none stands)) (let_go_now t c d uses ch h)

@@ -1,6 +1,7 @@
 pub mod Kept
 pub mod Asked
 pub mod Orders
+pub mod OnRecords
 pub mod Uses
 pub mod Changed
 pub mod Troubles
@@ -14,6 +15,7 @@ pub mod Found
 pub mod Named
 pub mod Asking
 pub mod WritePlans
+pub mod RelativePlans
 pub mod Closes
 pub mod ListedLines
 pub mod Planning
@@ -22,5 +24,7 @@ pub mod DiskSteps
 pub mod Finished
 pub mod Takes
 pub mod Stores
+pub mod Places
+pub mod Placings
 pub mod Goings
 pub mod Opens

@@ -1,6 +1,6 @@
 -- What a text can ask for: a name ends before its first filler, and OPEN means no deleted file.
-use Rattle.std.proofs.Common.{◌≡◌, ℕ, zero, suc, Bool, true, false, List, [], ◌∷◌, take, refl, ap, subst}
-use Rattle.std.specs.Prelude.{◌==◌, nat_lt, ◌&&◌, ◌||◌, not, length, is_some, if◌then◌else◌, Option, Some, None, Result, Ok, Err, IfOk}
+use Rattle.std.proofs.Common.{◌≡◌, ℕ, zero, suc, ◌+◌, ◌*◌, ◌≤◌, arith, Bool, true, false, List, [], ◌∷◌, take, refl, ap, subst}
+use Rattle.std.specs.Prelude.{◌==◌, nat_lt, max, slice_index_or, ◌&&◌, ◌||◌, not, length, is_some, if◌then◌else◌, Option, Some, None, Result, Ok, Err, IfOk}
 use Rattle.cbm_file.specs.declared.file_type.FileType.{FileType}
 use Rattle.cbm_file.specs.declared.file_type.FileType.TheVariants.{Del, Seq, Prg}
 use Rattle.cbm_file.specs.Types.{is_same_type}
@@ -148,7 +148,7 @@ module _ (ch : ℕ) (text : List ℕ) (w : Wanted) (is : opening_of ch text ≡ 
 
 -- ---- the text of a command
 
--- the new name of R or C ends before its first filler
+-- the new name of R or C ends before its first filler, and P names a record and a byte from 1 on
 abbrev IsCutName : Command → Type 0
 IsCutName (Rename new old) = before_filler new ≡ new
 IsCutName (New name id) = Unit {0}
@@ -156,7 +156,7 @@ IsCutName (Scratch ps) = Unit {0}
 IsCutName (Copy new olds) = before_filler new ≡ new
 IsCutName Validate = Unit {0}
 IsCutName Initialize = Unit {0}
-IsCutName (Position ch k p) = Unit {0}
+IsCutName (Position ch k p) = (1 ≤ k) × (1 ≤ p)
 
 abbrev Cuts : Result Command Refusal → Type 0
 Cuts r = IfOk r IsCutName
@@ -187,11 +187,14 @@ copy_cuts text =
     (λ olds x. chosen Cuts (not (has equals text) || is_empty new || list_any is_empty olds) _ _ tt
     (chosen Cuts (is_wild new || list_any is_wild olds) _ _ tt (chosen Cuts (nat_lt 4 (length olds)) (Err Syntax) (Ok (Copy new olds)) tt (cut 16 (before equals text)))))
 
+some_max : (n : ℕ) → 1 ≤ max 1 n
+some_max n = omega arith
+
 position_cuts : (text : List ℕ) → Cuts (position_asked text)
 position_cuts [] = tt
 position_cuts (a ∷ []) = tt
 position_cuts (a ∷ b ∷ []) = tt
-position_cuts (a ∷ b ∷ c ∷ text) = tt
+position_cuts (a ∷ b ∷ c ∷ text) = (some_max (b + 256 * c), some_max (slice_index_or text 0 0))
 
 headed_cuts : (text : List ℕ) (f : List ℕ → Result Command Refusal) → ((rest : List ℕ) → Cuts (f rest)) → Cuts (behind_head text >>= f)
 headed_cuts text f h = bound (λ x. Unit {0}) IsCutName (behind_head text) f (always (behind_head text)) (λ rest x. h rest)
@@ -218,3 +221,7 @@ new_name_cut text new old is = subst Cuts is (chosen Cuts (nat_lt 58 (length tex
 
 pub copy_name_cut : (text new : List ℕ) (olds : List (List ℕ)) → command_of text ≡ Ok (Copy new olds) → before_filler new ≡ new
 copy_name_cut text new olds is = subst Cuts is (chosen Cuts (nat_lt 58 (length text)) (Err LongText) (command_in text) tt (command_cuts text))
+
+-- P names a record and a byte from 1 on
+pub place_some : (text : List ℕ) (ch k p : ℕ) → command_of text ≡ Ok (Position ch k p) → (1 ≤ k) × (1 ≤ p)
+place_some text ch k p is = subst Cuts is (chosen Cuts (nat_lt 58 (length text)) (Err LongText) (command_in text) tt (command_cuts text))

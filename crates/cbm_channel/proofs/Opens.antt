@@ -19,7 +19,7 @@ use Rattle.cbm_volume.proofs.Writers.{use_here, use_other}
 use Rattle.cbm_volume.proofs.Closing.{other_slot}
 use Rattle.cbm_machine.specs.Machines as machine
 use Rattle.cbm_machine.specs.Machines.{Machine, Channel, Closed, Reading, Writing, Stopped, Relative, with_channel, with_disk, in_use, say, tell}
-use Rattle.cbm_machine.specs.Orderly.{channel_in, still_uses, still_writes}
+use Rattle.cbm_machine.specs.Orderly.{IsPlace, channel_in, still_uses, still_writes}
 use Rattle.cbm_machine.specs.Plans.{Plan, ReadListing, ReadFile, WriteFile, AppendFile, ReplaceFile, OpenRecords, MakeRecords, act, append_slot}
 use Rattle.cbm_machine.specs.Told.{Told}
 use Rattle.cbm_machine.specs.declared.code.Code.TheVariants.{Fine}
@@ -32,10 +32,14 @@ use Rattle.cbm_channel.specs.declared.channel.Channel.TheVariants as code
 use Rattle.cbm_channel.specs.declared.plan.Plan as plan
 use Rattle.cbm_channel.specs.declared.plan.Plan.TheVariants as planned
 use Rattle.cbm_channel.specs.Standing.{ChannelStands, use_of, uses_of, StandsBy}
-use Rattle.cbm_channel.specs.Planned.{PlannedAs, IsOpened, opened_by, disk_opened, appended_to, reopened_at}
+use Rattle.cbm_channel.specs.Planned.{PlannedAs, IsOpened, IsRelatable, opened_by, disk_opened, appended_to, reopened_at}
 use Rattle.cbm_channel.proofs.Orders.{FitsIn, writes_uses, closed_fits, reads_file}
 use Rattle.cbm_channel.proofs.Planning.{none_passes}
-use Rattle.cbm_channel.proofs.Stands.{zip_at, zip_length, moved, with_step_at, let_go_now}
+use Rattle.cbm_channel.proofs.Places.{relative_unused}
+use Rattle.cbm_volume.proofs.RecordUses.{of_records, relates_now}
+use Rattle.cbm_channel.specs.declared.finding.Found.{Found}
+use Rattle.cbm_channel.specs.Placed.{Placed, IsOnRecord}
+use Rattle.cbm_channel.proofs.Stands.{zip_at, zip_length, means_of, moved, with_step_at, let_go_now}
 
 -- ---- what the channels still use
 
@@ -45,6 +49,7 @@ uses_alike n (code.Listing l) y h = ap (still_uses n) h
 uses_alike n (code.File slot r) y h = ap (still_uses n) h.1
 uses_alike n (code.Writing w full) y h = ap (still_uses n) h.2
 uses_alike n (code.Stopped slot) y h = ap (still_uses n) h
+uses_alike n (code.Records r) y h = ap (still_uses n) h
 
 uses_still : (n : ℕ) (y : Channel) → machine.uses n y ≡ false → still_uses n y ≡ false
 uses_still n Closed h = refl
@@ -135,19 +140,34 @@ act_is t c ch m (AppendFile a) (planned.ReadFile q) h = absurd h
 act_is t c ch m (AppendFile a) (planned.WriteFile k n) h = absurd h
 act_is t c ch m (AppendFile a) (planned.AppendFile q) h = appended_is (file_at m.disk a) h.file a ch m h.in_slot
 act_is t c ch m (AppendFile a) (planned.ReplaceFile q) h = absurd h
+act_is t c ch m (AppendFile a) (planned.OpenRecords q) h = absurd h
 act_is t c ch m (ReplaceFile a) x h = refl
 act_is t c ch m (OpenRecords a) (planned.ReadListing q) h = absurd h
 act_is t c ch m (OpenRecords a) (planned.ReadFile q) h = absurd h
 act_is t c ch m (OpenRecords a) (planned.WriteFile k n) h = absurd h
 act_is t c ch m (OpenRecords a) (planned.AppendFile q) h = absurd h
 act_is t c ch m (OpenRecords a) (planned.ReplaceFile q) h = absurd h
+act_is t c ch m (OpenRecords a) (planned.OpenRecords q) h = refl
 act_is t c ch m (MakeRecords a b) (planned.ReadListing q) h = absurd h
 act_is t c ch m (MakeRecords a b) (planned.ReadFile q) h = absurd h
 act_is t c ch m (MakeRecords a b) (planned.WriteFile k n) h = absurd h
 act_is t c ch m (MakeRecords a b) (planned.AppendFile q) h = absurd h
 act_is t c ch m (MakeRecords a b) (planned.ReplaceFile q) h = absurd h
+act_is t c ch m (MakeRecords a b) (planned.OpenRecords q) h = absurd h
 
 -- ---- what a plan opens fits among the channels
+
+abbrev place_slot : Channel → ℕ
+place_slot (Relative s k p) = s
+place_slot _ = 0
+
+abbrev place_number : Channel → ℕ
+place_number (Relative s k p) = k
+place_number _ = 0
+
+abbrev place_position : Channel → ℕ
+place_position (Relative s k p) = p
+place_position _ = 0
 
 abbrev slot_in : Channel → ℕ
 slot_in (Writing s bytes blocks full replaces) = s
@@ -164,6 +184,7 @@ module _ (t : ℕ) (c : Content) (d d' : Disk) (protected : Bool) (chs : List ke
   writing_fits slot bytes blocks replaces (code.Writing w full) h holds free stays =
       begun_fits t c d d' protected chs ys each ch w bytes blocks holds slot replaces (sym (ap slot_in h.2)) free stays
   writing_fits slot bytes blocks replaces (code.Stopped s) h holds free stays = absurd (cc)
+  writing_fits slot bytes blocks replaces (code.Records r) h holds free stays = absurd (cc)
 
 other_of : (n k : ℕ) → n ≢ k → (n == k) ≡ false
 other_of n k ne = not_so (n == k) (λ e. ne (eqb-true n k e))
@@ -190,13 +211,15 @@ opened_fits t c c' p chs told text m ch (ReadFile s) (planned.ReadFile q) k st h
 opened_fits t c c' p chs told text m ch (ReadFile s) (planned.WriteFile a b) k st h is = absurd h
 opened_fits t c c' p chs told text m ch (ReadFile s) (planned.AppendFile q) k st h is = absurd h
 opened_fits t c c' p chs told text m ch (ReadFile s) (planned.ReplaceFile q) k st h is = absurd h
+opened_fits t c c' p chs told text m ch (ReadFile s) (planned.OpenRecords q) k st h is = absurd h
 opened_fits t c c' p chs told text m ch (WriteFile kind name) (planned.ReadListing q) k st h is = absurd h
 opened_fits t c c' p chs told text m ch (WriteFile kind name) (planned.ReadFile q) k st h is = absurd h
 opened_fits t c c' p chs told text m ch (WriteFile kind name) (planned.WriteFile a b) k st h is =
-    writing_fits t c' m.disk (with_file m.disk (unclosed kind name) 1) m.protected chs m.channels st.each ch (new_slot m.disk) [] 1 false k is.0 is.1 h.2.unprotected
+    writing_fits t c' m.disk (with_file m.disk (unclosed kind name) 1) m.protected chs m.channels st.each ch (new_slot m.disk) [] 1 false k is.0 is.2 h.2.unprotected
     (λ n ne. ap known (new_else m.disk (unclosed kind name) 1 n ne))
 opened_fits t c c' p chs told text m ch (WriteFile kind name) (planned.AppendFile q) k st h is = absurd h
 opened_fits t c c' p chs told text m ch (WriteFile kind name) (planned.ReplaceFile q) k st h is = absurd h
+opened_fits t c c' p chs told text m ch (WriteFile kind name) (planned.OpenRecords q) k st h is = absurd h
 opened_fits t c c' p chs told text m ch (AppendFile s) (planned.ReadListing q) k st h is = absurd h
 opened_fits t c c' p chs told text m ch (AppendFile s) (planned.ReadFile q) k st h is = absurd h
 opened_fits t c c' p chs told text m ch (AppendFile s) (planned.WriteFile a b) k st h is = absurd h
@@ -207,36 +230,80 @@ opened_fits t c c' p chs told text m ch (AppendFile s) (planned.AppendFile q) k 
     let disk : disk_opened m.disk (AppendFile s) ≡ d' = ap (λ (o : Option File). reopened_at o m.disk s) h.in_slot in
     let holds : HoldsNow t c' d' (with_use (uses_of chs m.channels) ch (use_of k y)) =
     subst (λ (z : Disk). HoldsNow t c' z (with_use (uses_of chs m.channels) ch (use_of k y))) disk
-    (subst (λ (z : Channel). HoldsNow t c' (disk_opened m.disk (AppendFile s)) (with_use (uses_of chs m.channels) ch (use_of k z))) channel is.1) in
+    (subst (λ (z : Channel). HoldsNow t c' (disk_opened m.disk (AppendFile s)) (with_use (uses_of chs m.channels) ch (use_of k z))) channel is.2) in
     subst (λ (z : Channel). FitsIn m.disk (disk_opened m.disk (AppendFile s)) m.protected m.channels ch z) (sym channel)
     (subst (λ (z : Disk). FitsIn m.disk z m.protected m.channels ch y) (sym disk)
     (writing_fits t c' m.disk d' m.protected chs m.channels st.each ch s (bytes_in h.file.body) h.file.held false k (subst (ChannelStands k) channel is.0) holds h.unprotected
     (λ n ne. ap known (other_slot m.disk s n (Some (reopened h.file)) (other_of n s ne)))))
 opened_fits t c c' p chs told text m ch (AppendFile s) (planned.ReplaceFile q) k st h is = absurd h
+opened_fits t c c' p chs told text m ch (AppendFile s) (planned.OpenRecords q) k st h is = absurd h
 opened_fits t c c' p chs told text m ch (ReplaceFile s) (planned.ReadListing q) k st h is = absurd h
 opened_fits t c c' p chs told text m ch (ReplaceFile s) (planned.ReadFile q) k st h is = absurd h
 opened_fits t c c' p chs told text m ch (ReplaceFile s) (planned.WriteFile a b) k st h is = absurd h
 opened_fits t c c' p chs told text m ch (ReplaceFile s) (planned.AppendFile q) k st h is = absurd h
 opened_fits t c c' p chs told text m ch (ReplaceFile s) (planned.ReplaceFile q) k st h is =
-    writing_fits t c' m.disk (disk_opened m.disk (ReplaceFile s)) m.protected chs m.channels st.each ch s [] 1 true k is.0 is.1 h.unprotected (λ n ne. refl)
+    writing_fits t c' m.disk (disk_opened m.disk (ReplaceFile s)) m.protected chs m.channels st.each ch s [] 1 true k is.0 is.2 h.unprotected (λ n ne. refl)
+opened_fits t c c' p chs told text m ch (ReplaceFile s) (planned.OpenRecords q) k st h is = absurd h
 opened_fits t c c' p chs told text m ch (OpenRecords s) (planned.ReadListing q) k st h is = absurd h
 opened_fits t c c' p chs told text m ch (OpenRecords s) (planned.ReadFile q) k st h is = absurd h
 opened_fits t c c' p chs told text m ch (OpenRecords s) (planned.WriteFile a b) k st h is = absurd h
 opened_fits t c c' p chs told text m ch (OpenRecords s) (planned.AppendFile q) k st h is = absurd h
 opened_fits t c c' p chs told text m ch (OpenRecords s) (planned.ReplaceFile q) k st h is = absurd h
+opened_fits t c c' p chs told text m ch (OpenRecords s) (planned.OpenRecords q) k st h is =
+    let file = of_records t c m.disk s h.file (means_of c t p chs told text m st) h.in_slot h.closed h.relative in
+    let unused = relative_unused m.disk m.protected m.channels s file.width file.blocks file.sides file.records h.file st.orderly h.in_slot file.body h.unwritten in
+    let now : IsPlace m.disk s 1 1 = record {
+      file = h.file;
+      in_slot = h.in_slot;
+      closed = h.closed;
+      record_length = file.width;
+      records = file.records;
+      blocks = file.blocks;
+      sides = file.sides;
+      body = file.body;
+      number = omega arith;
+      inside = (omega arith, file.some);
+    } in
+    record {
+      reads = λ slot left e. absurd (cc);
+      stays = λ k slot ne u. refl;
+      alone = λ k slot ne w. ap (λ (n : ℕ). still_uses n (channel_in m.channels k)) (sym (eqb-true s slot w)) ∙ unused k;
+      unwritten = λ k slot ne u. not_so (still_writes slot (channel_in m.channels k)) (λ w. (let z = sym (unused k) ∙ ap (λ (n : ℕ). still_uses n (channel_in m.channels k)) (eqb-true s slot u) ∙ writes_uses (channel_in m.channels k) slot w in absurd (cc)));
+      place = λ slot k p e. subst (λ (x : ℕ). IsPlace m.disk x k p) (ap place_slot e) (subst (λ (y : ℕ). IsPlace m.disk s y p) (ap place_number e) (subst (λ (z : ℕ). IsPlace m.disk s 1 z) (ap place_position e) now));
+      writable = λ slot bytes blocks full replaces e. absurd (cc);
+    }
 opened_fits t c c' p chs told text m ch (MakeRecords name len) (planned.ReadListing q) k st h is = absurd h
 opened_fits t c c' p chs told text m ch (MakeRecords name len) (planned.ReadFile q) k st h is = absurd h
 opened_fits t c c' p chs told text m ch (MakeRecords name len) (planned.WriteFile a b) k st h is = absurd h
 opened_fits t c c' p chs told text m ch (MakeRecords name len) (planned.AppendFile q) k st h is = absurd h
 opened_fits t c c' p chs told text m ch (MakeRecords name len) (planned.ReplaceFile q) k st h is = absurd h
+opened_fits t c c' p chs told text m ch (MakeRecords name len) (planned.OpenRecords q) k st h is = absurd h
 
 -- ---- the ends of `opened`
+
+-- a relative file
+pub relates_opened : (t : ℕ) (c : Content) (p : Bool) (chs : List kept.Channel) (told : Told) (text : Option (ℕ × List ℕ)) (m : Machine) (ch : ℕ) (q : Plan) (s : ℕ) (found : Found) (r : Placed) → StandsBy c t p chs told text m → q ≡ OpenRecords s → IsRelatable t c m s found
+    → r.slot ≡ found.slot → r.number ≡ 1 → r.position ≡ 1 → IsOnRecord m.disk r → IsOpened t c m ch q (uses_of chs m.channels) (Some (code.Records r))
+relates_opened t c p chs told text m ch q s found r st e h slot number position on =
+    let file = of_records t c m.disk s h.file (means_of c t p chs told text m st) h.in_slot h.closed h.relative in
+    let unused : IsUnused (uses_of chs m.channels) s = λ k.
+    sym (uses_alike s (slice_index_or chs k code.Closed) (channel_in m.channels k) (zip_at chs m.channels k st.each))
+    ∙ relative_unused m.disk m.protected m.channels s file.width file.blocks file.sides file.records h.file st.orderly h.in_slot file.body h.unwritten k in
+    let at : s ≡ r.slot = h.number ∙ sym slot in
+    let disk : disk_opened m.disk q ≡ m.disk = ap (disk_opened m.disk) e in (
+      ap (opened_by m.disk) e ∙ (λ i. Relative (at i) (sym number i) (sym position i)),
+      subst (λ (d : Disk). IsOnRecord d r) (sym disk) on,
+      subst (λ (d : Disk). HoldsNow t c d (with_use (uses_of chs m.channels) ch (usage.Relates r.slot))) (sym disk)
+          (subst (λ (n : ℕ). HoldsNow t c m.disk (with_use (uses_of chs m.channels) ch (usage.Relates n))) at
+          (relates_now t c m.disk (uses_of chs m.channels) ch s h.file st.holds unused h.in_slot h.closed h.relative)),
+    )
 
 -- a writer that begins
 pub begins_as : (t : ℕ) (c : Content) (m : Machine) (q : Plan) (d : Disk) (uses : ℕ → Use) (ch slot : ℕ) (replaces : Bool) (bytes : List ℕ) (blocks : ℕ) (w : Filling) → opened_by m.disk q ≡ Writing slot bytes blocks false replaces
     → disk_opened m.disk q ≡ d → Begins t c d uses ch slot replaces bytes blocks w → IsOpened t c m ch q uses (Some (code.Writing w false))
 begins_as t c m q d uses ch slot replaces bytes blocks w is same b = (
   (bytes, blocks, is ∙ (λ i. Writing (sym b.same_slot i) bytes blocks false (sym b.same_way i))),
+  tt,
   subst (λ (y : Channel). HoldsNow t c (disk_opened m.disk q) (with_use uses ch (use_of (code.Writing w false) y))) (sym is)
       (subst (λ (x : Disk). HoldsNow t c x (with_use uses ch (Writes w bytes blocks))) (sym same) b.holds),
 )
@@ -332,6 +399,7 @@ opened_stays t c m (AppendFile s) (planned.AppendFile q) h k slot u = by_test (s
         let z = sym none ∙ ap (λ (n : ℕ). still_uses n (channel_in m.channels k)) (sym (eqb-true slot s e)) ∙ u in absurd (cc)
     by_test false e = ap known (ap (λ (o : Option File). file_at (reopened_at o m.disk s) slot) h.in_slot ∙ other_slot m.disk s slot (Some (reopened h.file)) e)
 opened_stays t c m (AppendFile s) (planned.ReplaceFile q) h k slot u = absurd h
+opened_stays t c m (AppendFile s) (planned.OpenRecords q) h k slot u = absurd h
 opened_stays t c m (ReplaceFile s) x h k slot u = refl
 opened_stays t c m (OpenRecords s) x h k slot u = refl
 opened_stays t c m (MakeRecords name len) x h k slot u = refl
@@ -346,7 +414,7 @@ module _ (t : ℕ) (c c' : Content) (p : Bool) (chs : List kept.Channel) (told :
     (h : PlannedAs t c m (Ok q) (Ok x)) where
   pub opened_stands : (k : kept.Channel) → IsOpened t c' m ch q (uses_of chs m.channels) (Some k) → StandsBy c' t p (slice_set chs ch k) told text (act ch q m)
   opened_stands k is = moved _ _ _ _ _ _ _ _ (act_is t c ch m q x h)
-      (with_step_at c t p chs told text m c' (disk_opened m.disk q) ch k (opened_by m.disk q) more is.0 is.1 (opened_fits t c c' p chs told text m ch q x k st h is) st)
+      (with_step_at c t p chs told text m c' (disk_opened m.disk q) ch k (opened_by m.disk q) more is.0 is.1 is.2 (opened_fits t c c' p chs told text m ch q x k st h is) st)
 
   pub opened_cut : slice_index_or chs ch code.Closed ≡ code.Closed → usage.Stopped t c' m.disk (disk_opened m.disk q) (uses_of chs m.channels)
       → (n : Machine) × ((trouble : Trouble) (status : Status) → status ≡ trouble_status trouble → IsStopped ch m (say Fine (act ch q m)) (tell status n)) × StandsBy c' t p chs told text n
@@ -364,7 +432,7 @@ module _ (t : ℕ) (c c' : Content) (p : Bool) (chs : List kept.Channel) (told :
           fault = (trouble, e);
         }),
         subst (λ (xs : List kept.Channel). StandsBy c' t p xs told text n) (ap (slice_set chs ch) (sym shut) ∙ set_same chs ch code.Closed more)
-            (with_step_at c t p chs told text m c' stop.disk ch code.Closed Closed more refl (let_go_now t c' stop.disk (uses_of chs m.channels) ch stop.holds)
+            (with_step_at c t p chs told text m c' stop.disk ch code.Closed Closed more refl tt (let_go_now t c' stop.disk (uses_of chs m.channels) ch stop.holds)
             (closed_fits m.disk stop.disk m.protected m.channels ch st.orderly (λ k slot ne u. either_stays m.disk (disk_opened m.disk q) stop.disk slot (stop.either slot) (opened_stays t c m q x h k slot u))) st),
       )
 

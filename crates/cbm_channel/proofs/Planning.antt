@@ -25,7 +25,7 @@ use Rattle.cbm_machine.specs.Machines.{Machine, answered, say, tell}
 use Rattle.cbm_machine.specs.Machines as machine
 use Rattle.cbm_machine.specs.Finding.{body_at}
 use Rattle.cbm_machine.specs.Plans.{Plan, ReadListing, ReadFile, WriteFile, AppendFile, ReplaceFile, OpenRecords, MakeRecords, plan, act, asked, open_text}
-use Rattle.cbm_channel.specs.Planned.{PlannedAs, IsReadable, IsWritable, IsAppendable, IsReplaceable, opened_by, begun_by, is_for_writing, text_writes}
+use Rattle.cbm_channel.specs.Planned.{PlannedAs, IsReadable, IsWritable, IsAppendable, IsReplaceable, IsRelatable, opened_by, begun_by, is_for_writing, text_writes}
 use Rattle.cbm_machine.specs.CarriedOut.{IsOpenCarriedOut, IsAskedCarriedOut}
 use Rattle.cbm_machine.specs.Codes.{code_number, code_of_refusal}
 use Rattle.cbm_channel.specs.Grounds.{is_fault_number}
@@ -110,6 +110,19 @@ replaceable t c m p x slot h e = by_plan p (subst (λ y. PlannedAs t c m (Ok p) 
     by_plan (AppendFile a) g = absurd g
     by_plan (ReplaceFile a) g = (ap ReplaceFile g.number, subst (λ (s : ℕ). IsReplaceable m s slot) g.number g)
     by_plan (OpenRecords a) g = absurd g
+    by_plan (MakeRecords a b) g = absurd g
+
+-- a relative file that is opened
+pub relatable : (t : ℕ) (c : Content) (d : Machine) (p : Plan) (x : code.Plan) (file : Found) → PlannedAs t c d (Ok p) (Ok x) → x ≡ planned.OpenRecords file → (s : ℕ) × (p ≡ OpenRecords s) × IsRelatable t c d s file
+relatable t c d p x file h e = by_plan p (subst (λ y. PlannedAs t c d (Ok p) (Ok y)) e h)
+  where
+    by_plan : (q : Plan) → PlannedAs t c d (Ok q) (Ok (planned.OpenRecords file)) → (s : ℕ) × (q ≡ OpenRecords s) × IsRelatable t c d s file
+    by_plan (ReadListing a) g = absurd g
+    by_plan (ReadFile a) g = absurd g
+    by_plan (WriteFile a b) g = absurd g
+    by_plan (AppendFile a) g = absurd g
+    by_plan (ReplaceFile a) g = absurd g
+    by_plan (OpenRecords a) g = (a, refl, g)
     by_plan (MakeRecords a b) g = absurd g
 
 -- a test that no channel passes

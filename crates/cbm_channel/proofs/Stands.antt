@@ -11,30 +11,34 @@ use Rattle.cbm_medium.specs.Seen.{Seen}
 use Rattle.cbm_volume.specs.Content.{Content}
 use Rattle.cbm_volume.specs.Reading.{Reading, Rest, rest_of, held_from, held_in, IsSettled}
 use Rattle.cbm_file.specs.Waiting.{shown}
-use Rattle.cbm_file.specs.Files.{Disk}
+use Rattle.cbm_file.specs.Files.{File, Disk, file_at}
 use Rattle.cbm_volume.specs.Holding.{HoldsDisk}
 use Rattle.cbm_volume.specs.Map.{geometry_of}
-use Rattle.cbm_volume.specs.Writers.{Use, IsUsed, HoldsNow, with_use, writes_slot}
+use Rattle.cbm_volume.specs.Writers.{Use, IsUsed, HoldsNow, with_use, writes_slot, known}
 use Rattle.cbm_volume.specs.Writers as usage
 use Rattle.cbm_listing.specs.Listed as listed
 use Rattle.std.proofs.lemmas.List.{drop-drop}
-use Rattle.std.proofs.lemmas.Bool.Decides.{nat_tests}
-use Rattle.std.proofs.lemmas.List.{get_or-replicate, get_or_past, length-replicate}
+use Rattle.std.proofs.lemmas.Bool.Decides.{nat_tests, eqb_tells}
+use Rattle.std.proofs.lemmas.List.{get_or-replicate, get_or_past, get_or-set_same, get_or-set_other, length-replicate}
 use Rattle.cbm_channel.specs.declared.channel.Channel.{Channel}
 use Rattle.cbm_channel.specs.declared.channel.Channel.TheVariants as code
 use Rattle.cbm_machine.specs.declared.status.Status.{Status}
 use Rattle.cbm_machine.specs.declared.code.Code.TheVariants.{Fine}
 use Rattle.cbm_machine.specs.Machines as machine
-use Rattle.cbm_machine.specs.Orderly.{channel_in}
+use Rattle.cbm_machine.specs.Orderly.{channel_in, still_uses}
 use Rattle.cbm_machine.specs.Closing.{forget_text, without_text}
-use Rattle.cbm_machine.specs.Talking.{peek_on, taken, taken_on}
-use Rattle.cbm_machine.specs.Calls.{text_for}
+use Rattle.cbm_machine.specs.Talking.{peek_on, taken, taken_on, next_of_record}
+use Rattle.cbm_machine.specs.Calls.{text_for, is_relative_channel}
 use Rattle.cbm_machine.specs.Told.{Told, told_by, behind_next}
-use Rattle.cbm_channel.specs.Standing.{Kept, Fits, AreFit, ChannelStands, use_of, uses_of, kept_text, StandsBy, Stands, HasText, HasNoText}
+use Rattle.cbm_channel.specs.Standing.{Kept, Fits, AreFit, ChannelStands, WaitsFor, use_of, uses_of, kept_text, StandsBy, Stands, HasText, HasNoText}
 use Rattle.cbm_channel.specs.Shown.{shown_on, cost_on, writes_on}
 use Rattle.cbm_volume.proofs.Storing.{let_go}
 use Rattle.cbm_volume.proofs.ReadingUses.{read_whole}
-use Rattle.cbm_channel.proofs.Orders.{FitsIn, orderly_set, first_orderly}
+use Rattle.cbm_channel.specs.declared.on_record.Waiting.{Waiting}
+use Rattle.cbm_channel.specs.declared.on_record.Waiting.TheVariants as waits
+use Rattle.cbm_channel.specs.Placed.{record_of, is_broken, shown_at}
+use Rattle.cbm_channel.proofs.OnRecords.{record_on}
+use Rattle.cbm_channel.proofs.Orders.{FitsIn, known_is, orderly_set, first_orderly}
 use Rattle.cbm_channel.proofs.Uses.{uses_set}
 use Rattle.cbm_channel.proofs.Kept.{take_more, same_pair}
 
@@ -92,6 +96,7 @@ cost_same (code.Listing l) y h = ap machine.cost h
 cost_same (code.File slot r) y h = ap machine.cost h.1
 cost_same (code.Writing w full) y h = ap machine.cost h.2
 cost_same (code.Stopped slot) y h = ap machine.cost h
+cost_same (code.Records r) y h = ap machine.cost h
 
 pub costs_same : (xs : List Channel) (ys : List machine.Channel) → AllZip ChannelStands xs ys → sum_by machine.cost ys ≡ sum_by cost_on xs
 costs_same [] [] h = refl
@@ -110,14 +115,20 @@ rest_shown : (c : Content) (r : Reading) → IsSettled r → shown (rest_of c r)
 unfolding rest_of held_from
 rest_shown c r settled = more_shown r.bytes (held_in c (follow r.tracks c r.left r.next)).bytes (λ few. ap (λ f. (held_in c f).bytes) (follow_end r.tracks c r.left r.next (settled few)))
 
+shown_as : (w : Waiting) (p : ℕ) → is_broken w ≡ false → next_of_record (record_of w) p ≡ shown_at w p
+shown_as (waits.Record r) p h = refl
+shown_as waits.Absent p h = refl
+shown_as waits.Broken p h = absurd (cc)
+
 -- what waits on a channel, where a file's reader gives what the machine has left
-pub shows : (t : ℕ) (c : Content) (d : Disk) (uses : ℕ → Use) (ch : ℕ) (x : Channel) (y : machine.Channel) → Fits t x → ChannelStands x y → HoldsNow t c d uses → uses ch ≡ use_of x y → peek_on d y ≡ shown_on x
-shows t c d uses ch code.Closed y f h k e = ap (peek_on d) h
-shows t c d uses ch (code.Listing l) y f h k e = ap (peek_on d) h
-shows t c d uses ch (code.File slot r) y f h k e =
+pub shows : (t : ℕ) (c : Content) (d : Disk) (uses : ℕ → Use) (ch : ℕ) (x : Channel) (y : machine.Channel) → Fits t x → ChannelStands x y → WaitsFor d x → HoldsNow t c d uses → uses ch ≡ use_of x y → peek_on d y ≡ shown_on x
+shows t c d uses ch code.Closed y f h w k e = ap (peek_on d) h
+shows t c d uses ch (code.Listing l) y f h w k e = ap (peek_on d) h
+shows t c d uses ch (code.File slot r) y f h w k e =
     ap (peek_on d) h.1 ∙ sym (ap (λ (x : Rest). shown x.bytes) (read_whole t c d uses ch slot h.0 r k (e ∙ ap (use_of (code.File slot r)) h.1))) ∙ rest_shown c r f.1
-shows t c d uses ch (code.Writing w full) y f h k e = ap (peek_on d) h.2
-shows t c d uses ch (code.Stopped slot) y f h k e = ap (peek_on d) h
+shows t c d uses ch (code.Writing x full) y f h w k e = ap (peek_on d) h.2
+shows t c d uses ch (code.Stopped slot) y f h w k e = ap (peek_on d) h
+shows t c d uses ch (code.Records r) y f h w k e = ap (peek_on d) h ∙ ap (λ (o : Option (List ℕ)). next_of_record o r.position) (record_on d r w) ∙ shown_as r.waiting r.position w.waits.whole
 
 -- a byte of the listing is taken
 drop_on : (n : ℕ) (xs : List ℕ) → drop 1 (drop n xs) ≡ drop (n + 1) xs
@@ -152,6 +163,39 @@ kept_forgotten ch (Some t) = test_pushed (t.0 == ch) t
 pub let_go_now : (t : ℕ) (c : Content) (d : Disk) (uses : ℕ → Use) (ch : ℕ) → HoldsNow t c d uses → HoldsNow t c d (with_use uses ch usage.Idle)
 let_go_now t c d uses ch h = record { layout = h.layout; so = let_go (geometry_of t c) c h.layout d uses ch h.so }
 
+-- ---- what waits
+
+-- what waits on a channel stays where the file does that it has open
+pub waits_on : (d d' : Disk) (x : Channel) (y : machine.Channel) → ChannelStands x y
+    → ((slot : ℕ) (f : File) → still_uses slot y ≡ true → file_at d slot ≡ Some f → f.closed ≡ true → (g : File) × (file_at d' slot ≡ Some g) × (g.closed ≡ f.closed) × (g.body ≡ f.body)) → WaitsFor d x → WaitsFor d' x
+waits_on d d' code.Closed y h keeps w = tt
+waits_on d d' (code.Listing l) y h keeps w = tt
+waits_on d d' (code.File slot r) y h keeps w = tt
+waits_on d d' (code.Writing x full) y h keeps w = tt
+waits_on d d' (code.Stopped slot) y h keeps w = tt
+waits_on d d' (code.Records r) y h keeps w =
+    let kept = keeps r.slot w.file (ap (still_uses r.slot) h ∙ eq-eqb r.slot r.slot refl) w.in_slot w.closed in
+    record { file = kept.0; in_slot = kept.1; closed = kept.2 ∙ w.closed; records = w.records; blocks = w.blocks; sides = w.sides; body = kept.3 ∙ w.body; waits = w.waits }
+
+-- where it counts as the same file
+pub waits_known : (d d' : Disk) (x : Channel) (y : machine.Channel) → ChannelStands x y → ((slot : ℕ) → still_uses slot y ≡ true → known (file_at d' slot) ≡ known (file_at d slot)) → WaitsFor d x → WaitsFor d' x
+waits_known d d' x y h same w = waits_on d d' x y h (λ slot f u at shut. (f, known_is (file_at d slot) (file_at d' slot) f (same slot u) at shut, refl, refl)) w
+
+-- on a channel without records nothing waits for the disk
+pub plain_waits : (d : Disk) (x : Channel) (y : machine.Channel) → ChannelStands x y → is_relative_channel y ≡ false → WaitsFor d x
+plain_waits d code.Closed y h e = tt
+plain_waits d (code.Listing l) y h e = tt
+plain_waits d (code.File slot r) y h e = tt
+plain_waits d (code.Writing w full) y h e = tt
+plain_waits d (code.Stopped slot) y h e = tt
+plain_waits d (code.Records r) y h e = absurd (let z = sym (ap is_relative_channel h) ∙ e in (cc))
+
+waits_set : (d : Disk) (chs : List Channel) (ch : ℕ) (x : Channel) → ch < length chs → WaitsFor d x → ((k : ℕ) → k ≢ ch → WaitsFor d (slice_index_or chs k code.Closed)) → (k : ℕ) → WaitsFor d (slice_index_or (slice_set chs ch x) k code.Closed)
+waits_set d chs ch x more w others k = elim (eqb_tells k ch) [
+  | inl same ↦ subst (WaitsFor d) (sym (ap (λ (j : ℕ). slice_index_or (slice_set chs ch x) j code.Closed) same.1 ∙ get_or-set_same chs ch x code.Closed more)) w
+  | inr other ↦ subst (WaitsFor d) (sym (get_or-set_other chs ch k x code.Closed other.1)) (others k other.1)
+]
+
 -- ---- the parts of a drive
 
 module _ (c : Content) (t : ℕ) (p : Bool) (chs : List Channel) (told : Told) (text : Option (ℕ × List ℕ)) (m : machine.Machine) where
@@ -162,6 +206,7 @@ module _ (c : Content) (t : ℕ) (p : Bool) (chs : List Channel) (told : Told) (
     same_tracks = st.same_tracks;
     same_protection = st.same_protection;
     each = st.each;
+    waits = st.waits;
     same_told = sym is;
     same_text = st.same_text;
   }
@@ -175,10 +220,10 @@ module _ (c : Content) (t : ℕ) (p : Bool) (chs : List Channel) (told : Told) (
   let_go_at ch st = let_go_now t c m.disk (uses_of chs m.channels) ch st.holds
 
   -- one channel is another, and so are the content and the disk
-  pub with_step_at : (c' : Content) (d' : Disk) (ch : ℕ) (x : Channel) (y : machine.Channel) → ch < length chs → ChannelStands x y
+  pub with_step_at : (c' : Content) (d' : Disk) (ch : ℕ) (x : Channel) (y : machine.Channel) → ch < length chs → ChannelStands x y → WaitsFor d' x
       → HoldsNow t c' d' (with_use (uses_of chs m.channels) ch (use_of x y)) → FitsIn m.disk d' m.protected m.channels ch y → StandsBy c t p chs told text m
       → StandsBy c' t p (slice_set chs ch x) told text (machine.with_channel ch y (machine.with_disk d' m))
-  with_step_at c' d' ch x y more h uses well st =
+  with_step_at c' d' ch x y more h w uses well st =
       let also : ch < length m.channels = omega (arith, more, zip_length chs m.channels st.each) in
       record {
         holds = subst (HoldsNow t c' d') (sym (uses_set chs m.channels ch x y more also)) uses;
@@ -186,20 +231,21 @@ module _ (c : Content) (t : ℕ) (p : Bool) (chs : List Channel) (told : Told) (
         same_tracks = st.same_tracks;
         same_protection = st.same_protection;
         each = zip_set ChannelStands chs m.channels ch x y st.each h;
+        waits = waits_set d' chs ch x more w (λ k ne. waits_known m.disk d' (slice_index_or chs k code.Closed) (channel_in m.channels k) (zip_at chs m.channels k st.each) (λ slot u. well.stays k slot ne u) (st.waits k));
         same_told = st.same_told;
         same_text = st.same_text;
       }
 
-  pub with_step : (c' : Content) (d' : Disk) (ch : ℕ) (x : Channel) (y : machine.Channel) → ch < 15 → AreFit t chs → ChannelStands x y
+  pub with_step : (c' : Content) (d' : Disk) (ch : ℕ) (x : Channel) (y : machine.Channel) → ch < 15 → AreFit t chs → ChannelStands x y → WaitsFor d' x
       → HoldsNow t c' d' (with_use (uses_of chs m.channels) ch (use_of x y)) → FitsIn m.disk d' m.protected m.channels ch y → StandsBy c t p chs told text m
       → StandsBy c' t p (slice_set chs ch x) told text (machine.with_channel ch y (machine.with_disk d' m))
-  with_step c' d' ch x y lt fit h uses well st = with_step_at c' d' ch x y (omega (arith, lt, fit.count)) h uses well st
+  with_step c' d' ch x y lt fit h w uses well st = with_step_at c' d' ch x y (omega (arith, lt, fit.count)) h w uses well st
 
   -- on the same disk
-  pub with_one : (ch : ℕ) (x : Channel) (y : machine.Channel) → ch < 15 → AreFit t chs → ChannelStands x y
+  pub with_one : (ch : ℕ) (x : Channel) (y : machine.Channel) → ch < 15 → AreFit t chs → ChannelStands x y → WaitsFor m.disk x
       → HoldsNow t c m.disk (with_use (uses_of chs m.channels) ch (use_of x y)) → FitsIn m.disk m.disk m.protected m.channels ch y → StandsBy c t p chs told text m
       → StandsBy c t p (slice_set chs ch x) told text (machine.with_channel ch y m)
-  with_one ch x y lt fit h uses well st = with_step c m.disk ch x y lt fit h uses well st
+  with_one ch x y lt fit h w uses well st = with_step c m.disk ch x y lt fit h w uses well st
 
   pub forgotten : (ch : ℕ) (new : Option (ℕ × List ℕ)) → new ≡ forget_text ch text → StandsBy c t p chs told text m → StandsBy c t p chs told new (without_text ch m)
   forgotten ch new is st = record {
@@ -208,6 +254,7 @@ module _ (c : Content) (t : ℕ) (p : Bool) (chs : List Channel) (told : Told) (
     same_tracks = st.same_tracks;
     same_protection = st.same_protection;
     each = st.each;
+    waits = st.waits;
     same_told = st.same_told;
     same_text = kept_forgotten ch m.text ∙ ap (forget_text ch) st.same_text ∙ sym is;
   }
@@ -221,6 +268,7 @@ module _ (c : Content) (t : ℕ) (p : Bool) (chs : List Channel) (told : Told) (
     same_tracks = st.same_tracks;
     same_protection = st.same_protection;
     each = st.each;
+    waits = st.waits;
     same_told = st.same_told;
     same_text = e;
   }
@@ -242,6 +290,7 @@ module _ (c : Content) (t : ℕ) (p : Bool) (chs : List Channel) (told : Told) (
         same_tracks = st.same_tracks;
         same_protection = st.same_protection;
         each = st.each;
+        waits = st.waits;
         same_told = stepped e ∙ ap behind_next st.same_told ∙ sym is;
         same_text = st.same_text;
       })
@@ -251,6 +300,7 @@ module _ (c : Content) (t : ℕ) (p : Bool) (chs : List Channel) (told : Told) (
         same_tracks = st.same_tracks;
         same_protection = st.same_protection;
         each = st.each;
+        waits = st.waits;
         same_told = ended e ∙ ap behind_next st.same_told ∙ sym is;
         same_text = st.same_text;
       })
@@ -259,6 +309,10 @@ module _ (c : Content) (t : ℕ) (p : Bool) (chs : List Channel) (told : Told) (
   pub stands_at : (ch : ℕ) (d : Channel) → ch < 15 → AreFit t chs → StandsBy c t p chs told text m → ChannelStands (slice_index_or chs ch d) (machine.channel m ch)
   stands_at ch d lt fit st =
       subst (λ x. ChannelStands x (machine.channel m ch)) (any_default chs ch code.Closed d (omega (arith, lt, fit.count))) (zip_at chs m.channels ch st.each)
+
+  -- and what waits on it
+  pub waits_at : (ch : ℕ) (d : Channel) → ch < 15 → AreFit t chs → StandsBy c t p chs told text m → WaitsFor m.disk (slice_index_or chs ch d)
+  waits_at ch d lt fit st = subst (WaitsFor m.disk) (any_default chs ch code.Closed d (omega (arith, lt, fit.count))) (st.waits ch)
 
   -- past the end the machine's channel is closed too
   pub closed_past : (ch : ℕ) → 15 ≤ ch → AreFit t chs → StandsBy c t p chs told text m → machine.channel m ch ≡ machine.Closed
@@ -296,6 +350,7 @@ powered_up c t p d h = record {
   same_tracks = refl;
   same_protection = refl;
   each = zip_same ChannelStands 15 code.Closed machine.Closed refl;
+  waits = λ k. subst (WaitsFor d) (sym (any_of 15 code.Closed k)) tt;
   same_told = refl;
   same_text = refl;
 }
@@ -386,6 +441,7 @@ writes_same n (code.Listing l) y h = ap (machine.writes n) h
 writes_same n (code.File slot r) y h = ap (machine.writes n) h.1
 writes_same n (code.Writing w full) y h = ap (machine.writes n) h.2
 writes_same n (code.Stopped slot) y h = ap (machine.writes n) h
+writes_same n (code.Records r) y h = ap (machine.writes n) h
 
 pub any_same : (n : ℕ) (xs : List Channel) (ys : List machine.Channel) → AllZip ChannelStands xs ys → list_any (machine.writes n) ys ≡ list_any (writes_on n) xs
 any_same n [] [] h = refl
@@ -399,6 +455,7 @@ use_writes n (code.Listing l) y h e = refl
 use_writes n (code.File slot r) y h e = refl
 use_writes n (code.Writing w full) y h e = sym (ap (machine.writes n) h.2) ∙ e
 use_writes n (code.Stopped slot) y h e = refl
+use_writes n (code.Records r) y h e = sym (ap (machine.writes n) h) ∙ e
 
 -- a slot that no channel writes is in no channel's use for writing
 pub unwritten_at : (n : ℕ) (xs : List Channel) (ys : List machine.Channel) (k : ℕ) → AllZip ChannelStands xs ys → ((j : ℕ) → machine.writes n (channel_in ys j) ≡ false) → writes_slot n (uses_of xs ys k) ≡ false

@@ -19,15 +19,17 @@ use Rattle.cbm_machine.specs.Orderly.{IsOrderly, channel_in, still_uses, still_w
 use Rattle.cbm_machine.specs.Closing.{put_on, with_some_byte, finish_channel}
 use Rattle.cbm_machine.specs.Statuses.{return}
 use Rattle.cbm_machine.specs.Told.{Told}
+use Rattle.cbm_machine.specs.Calls.{is_relative_channel}
+use Rattle.cbm_channel.specs.Shown.{is_writing}
 use Rattle.cbm_channel.specs.declared.channel.Channel.TheVariants as code
 use Rattle.cbm_channel.specs.declared.channel.Channel as kept
-use Rattle.cbm_channel.specs.Standing.{AreFit, uses_of, StandsBy}
+use Rattle.cbm_channel.specs.Standing.{AreFit, ChannelStands, WaitsFor, uses_of, StandsBy}
 use Rattle.cbm_channel.specs.Going.{IsStopped, put_written}
 use Rattle.cbm_channel.specs.Written.{finds_none, is_lost, channel_put, disk_put, IsCutOff, is_unbegun, disk_closed}
 use Rattle.cbm_channel.proofs.BytesPut.{IsPut}
 use Rattle.cbm_channel.proofs.Finished.{put_else, stop_else, closed_else, finish_law}
 use Rattle.cbm_channel.proofs.Orders.{FitsIn, less_fits, closed_fits, same_less}
-use Rattle.cbm_channel.proofs.Stands.{with_step, zip_length}
+use Rattle.cbm_channel.proofs.Stands.{with_step, zip_length, plain_waits}
 
 -- ---- the machine's own rule
 
@@ -36,7 +38,7 @@ set_same [] i d lt = absurd (omega (arith, lt))
 set_same (x ∷ xs) zero d lt = refl
 set_same (x ∷ xs) (suc i) d lt = ap (λ ys. x ∷ ys) (set_same xs i d (omega (arith, lt)))
 
-same_machine : (ch : ℕ) (m : Machine) (x : Channel) → ch < length m.channels → machine.channel m ch ≡ x → m ≡ with_channel ch x m
+pub same_machine : (ch : ℕ) (m : Machine) (x : Channel) → ch < length m.channels → machine.channel m ch ≡ x → m ≡ with_channel ch x m
 same_machine ch m x lt e = λ i. record m { channels = (sym (set_same m.channels ch Closed lt) ∙ ap (slice_set m.channels ch) e) i }
 
 abbrev next_of : ℕ → ℕ → Channel → Machine → Machine
@@ -72,9 +74,9 @@ put_lost ch byte m (Writing s bytes blocks false replaces) k = by_need (needs_bl
 
 -- ---- the channel fits in
 
-same_fits : (d : Disk) (protected : Bool) (channels : List Channel) (ch : ℕ) (y : Channel) → channel_in channels ch ≡ y → ((s k p : ℕ) → y ≡ Relative s k p → ⊥) → IsOrderly d protected channels → FitsIn d d protected channels ch y
-same_fits d protected channels ch y e plain old =
-    less_fits d d protected channels ch y old (same_less y _ (sym e)) (λ slot left h. old.reading ch slot left (e ∙ h)) (λ k slot ne h. refl) (λ slot k p h. absurd (plain slot k p h))
+pub same_fits : (d : Disk) (protected : Bool) (channels : List Channel) (ch : ℕ) (y : Channel) → channel_in channels ch ≡ y → IsOrderly d protected channels → FitsIn d d protected channels ch y
+same_fits d protected channels ch y e old =
+    less_fits d d protected channels ch y old (same_less y _ (sym e)) (λ slot left h. old.reading ch slot left (e ∙ h)) (λ k slot ne h. refl) (λ slot k p h. old.relative ch slot k p (e ∙ h))
     (λ slot bytes blocks full replaces h. old.writable ch slot bytes blocks full replaces (e ∙ h))
 
 written_fits : (d d' : Disk) (protected : Bool) (channels : List Channel) (ch s blocks blocks' : ℕ) (bytes bytes' : List ℕ) (full full' replaces : Bool) → channel_in channels ch ≡ Writing s bytes blocks full replaces
@@ -83,14 +85,14 @@ written_fits d d' protected channels ch s blocks blocks' bytes bytes' full full'
     less_fits d d' protected channels ch (Writing s bytes' blocks' full' replaces) old (record { has = λ slot h. ap (still_uses slot) e ∙ h; wrote = λ slot h. ap (still_writes slot) e ∙ h }) (λ slot left h. absurd (cc))
     (λ k slot ne h. ap known (same slot)) (λ slot k p h. absurd (cc)) (λ slot xs n f r h. old.writable ch s bytes blocks full replaces e)
 
-put_fits : (byte : ℕ) (d : Disk) (protected : Bool) (channels : List Channel) (ch : ℕ) (x : Channel) → channel_in channels ch ≡ x → ((s k p : ℕ) → x ≡ Relative s k p → ⊥) → IsOrderly d protected channels
+put_fits : (byte : ℕ) (d : Disk) (protected : Bool) (channels : List Channel) (ch : ℕ) (x : Channel) → channel_in channels ch ≡ x → IsOrderly d protected channels
     → FitsIn d (disk_put d x) protected channels ch (channel_put byte d x)
-put_fits byte d protected channels ch Closed e plain old = same_fits d protected channels ch Closed e plain old
-put_fits byte d protected channels ch (Reading s left) e plain old = same_fits d protected channels ch (Reading s left) e plain old
-put_fits byte d protected channels ch (Stopped s) e plain old = same_fits d protected channels ch (Stopped s) e plain old
-put_fits byte d protected channels ch (Relative s k p) e plain old = absurd (plain s k p refl)
-put_fits byte d protected channels ch (Writing s bytes blocks true replaces) e plain old = same_fits d protected channels ch (Writing s bytes blocks true replaces) e plain old
-put_fits byte d protected channels ch (Writing s bytes blocks false replaces) e plain old = by_none (finds_none d (Writing s bytes blocks false replaces)) refl
+put_fits byte d protected channels ch Closed e old = same_fits d protected channels ch Closed e old
+put_fits byte d protected channels ch (Reading s left) e old = same_fits d protected channels ch (Reading s left) e old
+put_fits byte d protected channels ch (Stopped s) e old = same_fits d protected channels ch (Stopped s) e old
+put_fits byte d protected channels ch (Relative s k p) e old = same_fits d protected channels ch (Relative s k p) e old
+put_fits byte d protected channels ch (Writing s bytes blocks true replaces) e old = same_fits d protected channels ch (Writing s bytes blocks true replaces) e old
+put_fits byte d protected channels ch (Writing s bytes blocks false replaces) e old = by_none (finds_none d (Writing s bytes blocks false replaces)) refl
   where
     x : Channel
     x = Writing s bytes blocks false replaces
@@ -107,6 +109,26 @@ cut_fits d d' protected channels ch s same old =
     less_fits d d' protected channels ch (Stopped s) old (record { has = λ slot h. absurd (cc); wrote = λ slot h. absurd (cc) })
     (λ slot left h. absurd (cc)) (λ k slot ne h. same slot) (λ slot k p h. absurd (cc)) (λ slot xs n f r h. absurd (cc))
 
+-- ---- what waits
+
+put_plain : (byte : ℕ) (d : Disk) (s : ℕ) (bytes : List ℕ) (blocks : ℕ) (full replaces : Bool) → is_relative_channel (channel_put byte d (Writing s bytes blocks full replaces)) ≡ false
+put_plain byte d s bytes blocks true replaces = refl
+put_plain byte d s bytes blocks false replaces = by_none (finds_none d (Writing s bytes blocks false replaces)) refl
+  where
+    by_none : (b : Bool) → finds_none d (Writing s bytes blocks false replaces) ≡ b → is_relative_channel (channel_put byte d (Writing s bytes blocks false replaces)) ≡ false
+    by_none true e = rw e refl
+    by_none false e = rw e refl
+
+-- behind a byte nothing else waits
+pub put_waits : (byte : ℕ) (d : Disk) (k k' : kept.Channel) (x : Channel) → ChannelStands k x → ChannelStands k' (channel_put byte d x) → (is_writing k ≡ false → k' ≡ k) → WaitsFor d k → WaitsFor (disk_put d x) k'
+put_waits byte d code.Closed k' x h h' quiet w = subst (WaitsFor (disk_put d x)) (sym (quiet refl)) tt
+put_waits byte d (code.Listing l) k' x h h' quiet w = subst (WaitsFor (disk_put d x)) (sym (quiet refl)) tt
+put_waits byte d (code.File slot r) k' x h h' quiet w = subst (WaitsFor (disk_put d x)) (sym (quiet refl)) tt
+put_waits byte d (code.Writing v full) k' x h h' quiet w = plain_waits (disk_put d x) k' (channel_put byte d x) h' (ap (λ (y : Channel). is_relative_channel (channel_put byte d y)) h.2 ∙ put_plain byte d v.slot h.0 h.1 full v.replaces)
+put_waits byte d (code.Stopped slot) k' x h h' quiet w = subst (WaitsFor (disk_put d x)) (sym (quiet refl)) tt
+put_waits byte d (code.Records r) k' x h h' quiet w =
+    subst (WaitsFor (disk_put d x)) (sym (quiet refl)) (subst (λ (y : Channel). WaitsFor (disk_put d y) (code.Records r)) (sym h) w)
+
 -- ---- the drive
 
 not_lost : (b : Bool) → true ≡ not b → b ≡ false
@@ -117,24 +139,23 @@ was_lost : (b : Bool) → false ≡ not b → b ≡ true
 was_lost true h = refl
 was_lost false h = absurd (cc)
 
-module _ (c : Content) (t : ℕ) (p : Bool) (chs : List kept.Channel) (told : Told) (text : Option (ℕ × List ℕ)) (m : Machine) (ch : ℕ) (lt : ch < 15) (fit : AreFit t chs) (st : StandsBy c t p chs told text m)
-    (plain : (s k p : ℕ) → machine.channel m ch ≡ Relative s k p → ⊥) where
+module _ (c : Content) (t : ℕ) (p : Bool) (chs : List kept.Channel) (told : Told) (text : Option (ℕ × List ℕ)) (m : Machine) (ch : ℕ) (lt : ch < 15) (fit : AreFit t chs) (st : StandsBy c t p chs told text m) where
   also : ch < length m.channels
   also = omega (arith, lt, fit.count, zip_length chs m.channels st.each)
 
   -- the byte, and what the machine does with it but for what it tells
   put_kept : (c' : Content) (byte : ℕ) (k : kept.Channel) (done : Bool) → IsPut t c' m.disk (uses_of chs m.channels) ch k (machine.channel m ch) byte done
-      → StandsBy c' t p (slice_set chs ch k) told text (next_of ch byte (machine.channel m ch) m)
-  put_kept c' byte k done h = with_step c t p chs told text m c' (disk_put m.disk (machine.channel m ch)) ch k (channel_put byte m.disk (machine.channel m ch)) lt fit h.1 h.2
-      (put_fits byte m.disk m.protected m.channels ch (machine.channel m ch) refl plain st.orderly) st
+      → WaitsFor (disk_put m.disk (machine.channel m ch)) k → StandsBy c' t p (slice_set chs ch k) told text (next_of ch byte (machine.channel m ch) m)
+  put_kept c' byte k done h w = with_step c t p chs told text m c' (disk_put m.disk (machine.channel m ch)) ch k (channel_put byte m.disk (machine.channel m ch)) lt fit h.1 w h.2
+      (put_fits byte m.disk m.protected m.channels ch (machine.channel m ch) refl st.orderly) st
 
   pub put_stored : (c' : Content) (byte : ℕ) (k : kept.Channel) → IsPut t c' m.disk (uses_of chs m.channels) ch k (machine.channel m ch) byte true
-      → StandsBy c' t p (slice_set chs ch k) told text (put_written ch byte m)
-  put_stored c' byte k h = subst (StandsBy c' t p (slice_set chs ch k) told text) (sym (put_free ch byte m (machine.channel m ch) also refl (not_lost _ h.0))) (put_kept c' byte k true h)
+      → WaitsFor (disk_put m.disk (machine.channel m ch)) k → StandsBy c' t p (slice_set chs ch k) told text (put_written ch byte m)
+  put_stored c' byte k h w = subst (StandsBy c' t p (slice_set chs ch k) told text) (sym (put_free ch byte m (machine.channel m ch) also refl (not_lost _ h.0))) (put_kept c' byte k true h w)
 
   pub put_refused : (c' : Content) (byte : ℕ) (k : kept.Channel) → IsPut t c' m.disk (uses_of chs m.channels) ch k (machine.channel m ch) byte false
-      → (n : Machine) × (put_written ch byte m ≡ say DiskFull n) × StandsBy c' t p (slice_set chs ch k) told text n
-  put_refused c' byte k h = (next_of ch byte (machine.channel m ch) m, put_lost ch byte m (machine.channel m ch) (was_lost _ h.0), put_kept c' byte k false h)
+      → WaitsFor (disk_put m.disk (machine.channel m ch)) k → (n : Machine) × (put_written ch byte m ≡ say DiskFull n) × StandsBy c' t p (slice_set chs ch k) told text n
+  put_refused c' byte k h w = (next_of ch byte (machine.channel m ch) m, put_lost ch byte m (machine.channel m ch) (was_lost _ h.0), put_kept c' byte k false h w)
 
   -- a write was refused
   abbrev cut_at : ℕ → Disk → Machine
@@ -155,7 +176,7 @@ module _ (c : Content) (t : ℕ) (p : Bool) (chs : List kept.Channel) (told : To
           fault = (trouble, e);
         }),
         subst (λ y. StandsBy c' t p (slice_set chs ch y) told text n) (sym cut.stopped)
-            (with_step c t p chs told text m c' stop.disk ch (code.Stopped cut.slot) (Stopped cut.slot) lt fit refl stop.holds (cut_fits m.disk stop.disk m.protected m.channels ch cut.slot same st.orderly) st),
+            (with_step c t p chs told text m c' stop.disk ch (code.Stopped cut.slot) (Stopped cut.slot) lt fit refl tt stop.holds (cut_fits m.disk stop.disk m.protected m.channels ch cut.slot same st.orderly) st),
       )
 
 -- a file that is written: its medium isn't protected, so it failed
@@ -190,7 +211,7 @@ fills_none ch (Writing s (b ∷ bytes) blocks full replaces) m e = refl
 module _ (c : Content) (t : ℕ) (p : Bool) (chs : List kept.Channel) (told : Told) (text : Option (ℕ × List ℕ)) (m : Machine) (ch : ℕ) (lt : ch < 15) (fit : AreFit t chs) (st : StandsBy c t p chs told text m) where
   pub finish_done : (c' : Content) → HoldsNow t c' (disk_closed m.disk (machine.channel m ch)) (with_use (uses_of chs m.channels) ch usage.Idle) → StandsBy c' t p (slice_set chs ch code.Closed) told text (finish_channel ch m)
   finish_done c' h = subst (StandsBy c' t p (slice_set chs ch code.Closed) told text) (sym (finish_law ch m (machine.channel m ch) refl))
-      (with_step c t p chs told text m c' (disk_closed m.disk (machine.channel m ch)) ch code.Closed Closed lt fit refl h
+      (with_step c t p chs told text m c' (disk_closed m.disk (machine.channel m ch)) ch code.Closed Closed lt fit refl tt h
       (closed_fits m.disk (disk_closed m.disk (machine.channel m ch)) m.protected m.channels ch st.orderly (λ k slot ne u. ap known (closed_else m.disk m.protected m.channels ch (machine.channel m ch) st.orderly refl k slot ne u))) st)
 
   pub finish_cut : (c' : Content) → usage.Stopped t c' m.disk (disk_closed m.disk (machine.channel m ch)) (with_use (uses_of chs m.channels) ch usage.Idle)
@@ -209,6 +230,6 @@ module _ (c : Content) (t : ℕ) (p : Bool) (chs : List kept.Channel) (told : To
           others = λ i ne. get_or-set_other m.channels ch i Closed Closed ne;
           fault = (trouble, e);
         })),
-        with_step c t p chs told text m c' stop.disk ch code.Closed Closed lt fit refl stop.holds
+        with_step c t p chs told text m c' stop.disk ch code.Closed Closed lt fit refl tt stop.holds
             (closed_fits m.disk stop.disk m.protected m.channels ch st.orderly (λ k slot ne u. stop_else m.disk (disk_closed m.disk x) stop.disk slot (stop.either slot) (closed_else m.disk m.protected m.channels ch x st.orderly refl k slot ne u))) st,
       )

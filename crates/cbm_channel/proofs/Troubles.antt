@@ -1,11 +1,13 @@
 -- Where the faults that are told come from.
-use Rattle.std.proofs.Common.{◌≡◌, ℕ, suc, ◌+◌, Bool, true, false, List, [], ◌∷◌, refl, sym, ap, ◌∙◌, subst, arith, inl, inr}
+use Rattle.std.proofs.Common.{◌≡◌, ◌⊎◌, ℕ, suc, ◌+◌, Bool, true, false, List, [], ◌∷◌, refl, sym, ap, ◌∙◌, subst, arith, inl, inr}
 use Rattle.std.specs.Prelude.{if◌then◌else◌, Option, Some, None, Result, Ok, Err, IfErr, IsErrAnd}
 use Rattle.std.specs.List.{Contains}
 use Rattle.cbm_medium.specs.declared.fault.Trouble.{Trouble}
 use Rattle.cbm_medium.specs.Place.{Place, sector_count}
 use Rattle.cbm_medium.specs.Links.{follow}
 use Rattle.cbm_medium.specs.Seen.{Seen, HasFailed}
+use Rattle.cbm_medium.specs.Met.{IsMet}
+use Rattle.cbm_volume.specs.RecordFaults.{IsMislisted}
 use Rattle.cbm_volume.specs.Content.{Content}
 use Rattle.cbm_volume.specs.Reading.{Rest, held_from}
 use Rattle.cbm_volume.specs.Map.{geometry_of}
@@ -13,7 +15,7 @@ use Rattle.cbm_volume.specs.Entries.{first_block}
 use Rattle.cbm_volume.specs.Slots.{first_from, directory_of}
 use Rattle.cbm_channel.specs.declared.finding.Found.{Found}
 use Rattle.cbm_channel.specs.declared.plan.Plan.{Plan}
-use Rattle.cbm_channel.specs.declared.plan.Plan.TheVariants.{ReadFile}
+use Rattle.cbm_channel.specs.declared.plan.Plan.TheVariants.{ReadFile, OpenRecords}
 use Rattle.cbm_channel.specs.Standing.{Kept}
 use Rattle.cbm_channel.specs.Grounds.{ShowsTrouble, IsFromDirectory, HasGround, IsToldFor}
 
@@ -40,12 +42,27 @@ broken_at_once tracks c left at t e = ap (λ (r : Rest). r.trouble) e
 -- the chain of one of the directory's entries breaks off at once
 pub entry_broken : (tracks : ℕ) (c : Content) (entry : List ℕ) (t : Trouble) → Contains (directory_of tracks c).entries entry
     → held_from tracks c (sector_count tracks) (first_block entry) ≡ record { bytes = []; trouble = Some t } → ShowsTrouble tracks c t
-entry_broken tracks c entry t there e = inr (inr (entry, there, broken_at_once tracks c (sector_count tracks) (first_block entry) t e))
+entry_broken tracks c entry t there e = inr (inr (inl (entry, there, broken_at_once tracks c (sector_count tracks) (first_block entry) t e)))
+
+-- why a record can't be read
+pub record_broken : (tracks : ℕ) (c : Content) (t : Trouble) → ((directory_of tracks c).trouble ≡ Some t) ⊎ IsMet tracks c t → ShowsTrouble tracks c t
+record_broken tracks c t (inl e) = inr (inl e)
+record_broken tracks c t (inr m) = inr (inr (inr (inr m)))
+
+-- why the records of one of the directory's entries can't be opened
+pub records_broken : (tracks : ℕ) (c : Content) (entry : List ℕ) (t : Trouble) → Contains (directory_of tracks c).entries entry → IsMet tracks c t ⊎ IsMislisted tracks c entry t → ShowsTrouble tracks c t
+records_broken tracks c entry t there (inl m) = inr (inr (inr (inr m)))
+records_broken tracks c entry t there (inr h) = inr (inr (inr (inl (entry, there, h))))
 
 -- the file that is read is one of the directory's
 pub read_from : {M : Type 0} (seen : M → Seen) (m : M) (p : Plan) (found : Found) → p ≡ ReadFile found → IsFromDirectory seen m p
     → Contains (directory_of (geometry_of (seen m).tracks (seen m).content) (seen m).content).entries found.entry
 read_from seen m p found e from = subst (IsFromDirectory seen m) e from
+
+-- so is the one whose records are opened
+pub relates_from : {M : Type 0} (seen : M → Seen) (m : M) (p : Plan) (found : Found) → p ≡ OpenRecords found → IsFromDirectory seen m p
+    → Contains (directory_of (geometry_of (seen m).tracks (seen m).content) (seen m).content).entries found.entry
+relates_from seen m p found e from = subst (IsFromDirectory seen m) e from
 
 -- what an error is passed on as
 pub passed_on : {A E : Type 0} (r : Result A E) (x : E) (P : E → Type 0) → IsErrAnd r (λ e. e ≡ x) → P x → IfErr r P

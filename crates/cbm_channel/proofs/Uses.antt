@@ -48,6 +48,7 @@ uses_same n (code.Listing l) y h = ap (machine.uses n) h
 uses_same n (code.File slot r) y h = ap (machine.uses n) h.1
 uses_same n (code.Writing w full) y h = ap (machine.uses n) h.2
 uses_same n (code.Stopped slot) y h = ap (machine.uses n) h
+uses_same n (code.Records r) y h = ap (machine.uses n) h
 
 pub any_uses_same : (n : ℕ) (xs : List Channel) (ys : List machine.Channel) → AllZip ChannelStands xs ys → list_any (machine.uses n) ys ≡ list_any (uses_on n) xs
 any_uses_same n [] [] h = refl
@@ -63,6 +64,7 @@ open_same (code.Listing l) y h = ap machine.is_open h
 open_same (code.File slot r) y h = ap machine.is_open h.1
 open_same (code.Writing w full) y h = ap machine.is_open h.2
 open_same (code.Stopped slot) y h = ap machine.is_open h
+open_same (code.Records r) y h = ap machine.is_open h
 
 pub any_open_same : (xs : List Channel) (ys : List machine.Channel) → AllZip ChannelStands xs ys → list_any machine.is_open ys ≡ list_any is_open xs
 any_open_same [] [] h = refl

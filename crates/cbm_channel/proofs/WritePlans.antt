@@ -108,7 +108,7 @@ module _ (kind : Option FileType) (e : Code) (p : ℕ × File) where
       by_test true t more = ap (λ (q : ℕ × File). of_kind kind q.1) (sym (ap (value_or x) (is_now true t))) ∙ t
       by_test false t more = more (is_now false t)
 
-found_kind : (d : Disk) (name : List ℕ) (kind : FileType) (s : ℕ) (f : File) → found d name (Some kind) ≡ Ok (s, f) → is_same_type kind f.kind ≡ true
+pub found_kind : (d : Disk) (name : List ℕ) (kind : FileType) (s : ℕ) (f : File) → found d name (Some kind) ≡ Ok (s, f) → is_same_type kind f.kind ≡ true
 found_kind d name kind s f h = first_kind (Some kind) (if is_there d name then WrongType else FileNotFound) (s, f) (named d name) h
 
 -- and has no records where the type has none

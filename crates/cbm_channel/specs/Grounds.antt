@@ -5,7 +5,9 @@ use Rattle.cbm_medium.specs.Place.{sector_count}
 use Rattle.cbm_medium.specs.Links.{follow}
 use Rattle.cbm_medium.specs.declared.fault.Trouble.{Trouble}
 use Rattle.cbm_medium.specs.Seen.{Seen, HasFailed}
+use Rattle.cbm_medium.specs.Met.{IsMet}
 use Rattle.cbm_volume.specs.Content.{Content}
+use Rattle.cbm_volume.specs.RecordFaults.{IsMislisted}
 use Rattle.cbm_volume.specs.Map.{geometry_of}
 use Rattle.cbm_volume.specs.Entries.{first_block}
 use Rattle.cbm_volume.specs.Slots.{directory_of}
@@ -22,12 +24,15 @@ use Rattle.cbm_channel.specs.declared.plan.Plan.TheVariants as planned
 abbrev pub is_fault_number : ℕ → Bool
 is_fault_number n = (nat_lt 19 n && nat_lt n 30) || ((n == 66) || (n == 71))
 
--- A sector doesn't read and this is its fault; or the directory breaks off so; or the chain of one of its entries does.
+-- A sector doesn't read and this is its fault; or the directory breaks off so; or the chain of one of its entries does; or the side
+-- sectors of one of its entries aren't right; or a link names no sector of the disk.
 abbrev pub ShowsTrouble : ℕ → Content → Trouble → Type 0
 ShowsTrouble tracks c t =
     (c (record { track = t.track; sector = t.sector }) ≡ Err t.code)
     ⊎ (((directory_of tracks c).trouble ≡ Some t)
-    ⊎ ((entry : List ℕ) × Contains (directory_of tracks c).entries entry × ((follow tracks c (sector_count tracks) (first_block entry)).trouble ≡ Some t)))
+    ⊎ (((entry : List ℕ) × Contains (directory_of tracks c).entries entry × ((follow tracks c (sector_count tracks) (first_block entry)).trouble ≡ Some t))
+    ⊎ (((entry : List ℕ) × Contains (directory_of tracks c).entries entry × IsMislisted tracks c entry t)
+    ⊎ IsMet tracks c t)))
 
 -- A STATUS HAS ITS GROUND: it is no fault of a disk; or the disk is protected; or the content shows the fault.
 abbrev pub HasGround : {M : Type 0} → (M → Seen) → M → Status → Type 0
@@ -47,7 +52,7 @@ IsToldFor seen old new =
     ⊎ (HasTold seen old new
     ⊎ ((t : Trouble) × (new.told.status ≡ trouble_status t) × HasFailed (seen old.medium) (seen new.medium)))
 
--- the file that a plan reads or appends to was found in the directory
+-- the file that a plan reads, appends to or opens was found in the directory
 abbrev pub IsFromDirectory : {M : Type 0} → (M → Seen) → M → Plan → Type 0
 IsFromDirectory seen medium (planned.ReadListing pattern) = Unit {0}
 IsFromDirectory seen medium (planned.ReadFile found) =
@@ -56,6 +61,8 @@ IsFromDirectory seen medium (planned.WriteFile kind name) = Unit {0}
 IsFromDirectory seen medium (planned.AppendFile found) =
     Contains (directory_of (geometry_of (seen medium).tracks (seen medium).content) (seen medium).content).entries found.entry
 IsFromDirectory seen medium (planned.ReplaceFile slot) = Unit {0}
+IsFromDirectory seen medium (planned.OpenRecords found) =
+    Contains (directory_of (geometry_of (seen medium).tracks (seen medium).content) (seen medium).content).entries found.entry
 
 -- A request is refused with this code: for protection (26), its text (30 to 34), a record (50, 51), the files and the channels
 -- (60 to 64, 70), for want of room (72) or of a disk (74).

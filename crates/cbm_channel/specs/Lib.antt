@@ -1,9 +1,11 @@
+pub mod Placed
 pub mod Standing
 pub mod Going
 pub mod Written
 pub mod Grounds
 pub mod Shown
 pub mod Taken
+pub mod Moved
 pub mod Commanded
 pub mod Joined
 pub mod Planned

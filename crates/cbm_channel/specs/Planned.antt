@@ -4,13 +4,14 @@ use Rattle.cbm_file.specs.declared.file_type.FileType.{FileType}
 use Rattle.cbm_file.specs.declared.file_type.FileType.TheVariants.{Del, Rel}
 use Rattle.cbm_file.specs.Types.{is_same_type}
 use Rattle.cbm_file.specs.Padding.{before_filler}
-use Rattle.cbm_file.specs.Files.{Disk, File, file_at, bytes_in, with_slot}
+use Rattle.cbm_file.specs.Files.{Disk, File, file_at, bytes_in, record_length_in, with_slot}
 use Rattle.cbm_file.specs.Changes.{has_slot, new_slot, with_file, unclosed, reopened}
 use Rattle.cbm_volume.specs.Content.{Content}
 use Rattle.cbm_volume.specs.Holding.{StandsAt, HasBytes, Says}
 use Rattle.cbm_volume.specs.Writers.{Use, HoldsNow, with_use}
 use Rattle.cbm_channel.specs.declared.channel.Channel as kept
-use Rattle.cbm_channel.specs.Standing.{ChannelStands, use_of}
+use Rattle.cbm_channel.specs.Standing.{ChannelStands, WaitsFor, use_of}
+use Rattle.cbm_volume.specs.Entries.{width_of}
 use Rattle.cbm_channel.specs.Commanded.{commands_change}
 use Rattle.cbm_machine.specs.declared.code.Code.{Code}
 use Rattle.cbm_machine.specs.declared.status.Status.{Status}
@@ -25,7 +26,7 @@ use Rattle.cbm_command.specs.declared.opening.Mode.TheVariants.{Read}
 use Rattle.cbm_command.specs.Openings.{opening_of}
 use Rattle.cbm_command.specs.Refusals.{◌>>=◌}
 use Rattle.cbm_machine.specs.Listings.{listing}
-use Rattle.cbm_machine.specs.Machines.{Channel, Closed, Reading, Writing, Machine, answered, say, in_writing, in_use}
+use Rattle.cbm_machine.specs.Machines.{Channel, Closed, Reading, Writing, Relative, Machine, answered, say, in_writing, in_use}
 use Rattle.cbm_machine.specs.Finding.{body_at}
 use Rattle.cbm_machine.specs.Plans.{Plan, ReadListing, ReadFile, WriteFile, AppendFile, ReplaceFile, OpenRecords, MakeRecords, plan, act}
 
@@ -83,6 +84,18 @@ pub record IsReplaceable (m : Machine) (s slot : ℕ) : Type 0 where
   pub block : (m.disk.free == 0) ≡ false
   pub unprotected : m.protected ≡ false
 
+-- The records of a file can be opened: it is closed and relative, no channel writes it, and its entry stands in the directory at
+-- the slot's number.
+pub record IsRelatable (tracks : ℕ) (c : Content) (m : Machine) (s : ℕ) (found : Found) : Type 0 where
+  pub number : s ≡ found.slot
+  pub stands : StandsAt tracks c s found.entry
+  pub file : File
+  pub in_slot : file_at m.disk s ≡ Some file
+  pub closed : file.closed ≡ true
+  pub relative : is_same_type Rel file.kind ≡ true
+  pub width : record_length_in file.body ≡ width_of found.entry
+  pub unwritten : in_writing m s ≡ false
+
 -- the code's plan is the machine's, and can be done
 abbrev pub IsPlannedBy : ℕ → Content → Machine → Plan → code.Plan → Type 0
 IsPlannedBy tracks c m (ReadListing p) (planned.ReadListing q) = p ≡ q
@@ -90,6 +103,7 @@ IsPlannedBy tracks c m (ReadFile s) (planned.ReadFile found) = IsReadable tracks
 IsPlannedBy tracks c m (WriteFile kind name) (planned.WriteFile k n) = (kind ≡ k) × (name ≡ n) × IsWritable m kind name
 IsPlannedBy tracks c m (AppendFile s) (planned.AppendFile found) = IsAppendable tracks c m s found
 IsPlannedBy tracks c m (ReplaceFile s) (planned.ReplaceFile slot) = IsReplaceable m s slot
+IsPlannedBy tracks c m (OpenRecords s) (planned.OpenRecords found) = IsRelatable tracks c m s found
 IsPlannedBy tracks c m p x = ⊥
 
 -- the code plans what the machine plans, or refuses by the same code
@@ -108,14 +122,14 @@ abbrev pub reopened_at : Option File → Disk → ℕ → Disk
 reopened_at None d s = d
 reopened_at (Some f) d s = with_slot d s (Some (reopened f))
 
--- The channel that a plan opens, and the disk then. Records are not carried out yet, and open none.
+-- The channel that a plan opens, and the disk then. A new relative file isn't carried out yet, and opens none.
 abbrev pub opened_by : Disk → Plan → Channel
 opened_by d (ReadListing p) = Reading None (listing d p)
 opened_by d (ReadFile s) = Reading (Some s) (bytes_in (body_at d s))
 opened_by d (WriteFile kind name) = Writing (new_slot d) [] 1 false false
 opened_by d (AppendFile s) = appended_to (file_at d s) s
 opened_by d (ReplaceFile s) = Writing s [] 1 false true
-opened_by d (OpenRecords s) = Closed
+opened_by d (OpenRecords s) = Relative s 1 1
 opened_by d (MakeRecords name len) = Closed
 
 abbrev pub disk_opened : Disk → Plan → Disk
@@ -127,12 +141,12 @@ disk_opened d (ReplaceFile s) = record d { free = d.free - 1 }
 disk_opened d (OpenRecords s) = d
 disk_opened d (MakeRecords name len) = d
 
--- The channel was opened by the plan: it stands for the machine's, and the medium holds the disk that the plan leaves. A disk
+-- The channel was opened by the plan: it stands for the machine's, what waits on it is there, and the medium holds the disk that the plan leaves. A disk
 -- without a place is none that was planned for.
 abbrev pub IsOpened : ℕ → Content → Machine → ℕ → Plan → (ℕ → Use) → Option kept.Channel → Type 0
 IsOpened tracks c m ch p uses None = ⊥
 IsOpened tracks c m ch p uses (Some x) =
-    ChannelStands x (opened_by m.disk p) × HoldsNow tracks c (disk_opened m.disk p) (with_use uses ch (use_of x (opened_by m.disk p)))
+    ChannelStands x (opened_by m.disk p) × (WaitsFor (disk_opened m.disk p) x) × HoldsNow tracks c (disk_opened m.disk p) (with_use uses ch (use_of x (opened_by m.disk p)))
 
 -- what an OPEN asks for came from a text
 abbrev pub IsOfText : Opening → Type 0
@@ -154,6 +168,7 @@ plan_writes (planned.ReadFile found) = false
 plan_writes (planned.WriteFile kind name) = true
 plan_writes (planned.AppendFile found) = true
 plan_writes (planned.ReplaceFile slot) = true
+plan_writes (planned.OpenRecords found) = false
 
 -- an OPEN that was read is planned and done
 abbrev pub begun_by : ℕ → Opening → Machine → Machine

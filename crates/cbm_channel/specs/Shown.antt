@@ -1,9 +1,12 @@
 -- What a channel of the code shows, on any disk.
-use Rattle.std.specs.Prelude.{ℕ, ◌≡◌, ◌==◌, Bool, true, false, not, drop, slice_index_or, if◌then◌else◌, Option, None}
+use Rattle.std.specs.Prelude.{ℕ, ◌≡◌, ◌==◌, Bool, true, false, not, drop, slice_index_or, if◌then◌else◌, Option, Some, None}
 use Rattle.cbm_file.specs.Waiting.{shown}
 use Rattle.cbm_channel.specs.declared.channel.Channel.{Channel}
 use Rattle.cbm_channel.specs.declared.channel.Channel.TheVariants as code
+use Rattle.cbm_channel.specs.Placed.{is_absent, shown_at}
 use Rattle.cbm_channel.specs.Standing.{Kept}
+use Rattle.cbm_machine.specs.declared.code.Code.{Code}
+use Rattle.cbm_machine.specs.declared.code.Code.TheVariants.{NoRecord, FileNotOpen}
 use Rattle.cbm_machine.specs.Told.{next_told}
 
 -- nothing is open
@@ -13,18 +16,20 @@ is_closed (code.Listing l) = false
 is_closed (code.File slot r) = false
 is_closed (code.Writing w full) = false
 is_closed (code.Stopped slot) = false
+is_closed (code.Records r) = false
 
 -- something is open
 abbrev pub is_open : Channel → Bool
 is_open x = not (is_closed x)
 
--- it is open for reading
-abbrev pub is_read : Channel → Bool
-is_read code.Closed = false
-is_read (code.Listing l) = true
-is_read (code.File slot r) = true
-is_read (code.Writing w full) = false
-is_read (code.Stopped slot) = false
+-- what the channel refuses where it is asked to talk: it isn't open for reading, or the record of its place isn't there
+abbrev pub talk_refused : Channel → Option Code
+talk_refused code.Closed = Some FileNotOpen
+talk_refused (code.Listing l) = None
+talk_refused (code.File slot r) = None
+talk_refused (code.Writing w full) = Some FileNotOpen
+talk_refused (code.Stopped slot) = Some FileNotOpen
+talk_refused (code.Records r) = if is_absent r.waiting then Some NoRecord else None
 
 -- it is open for writing
 abbrev pub is_written : Channel → Bool
@@ -33,6 +38,7 @@ is_written (code.Listing l) = false
 is_written (code.File slot r) = false
 is_written (code.Writing w full) = true
 is_written (code.Stopped slot) = true
+is_written (code.Records r) = true
 
 -- a file is being written on it: bytes go to the disk
 abbrev pub is_writing : Channel → Bool
@@ -41,6 +47,16 @@ is_writing (code.Listing l) = false
 is_writing (code.File slot r) = false
 is_writing (code.Writing w full) = true
 is_writing (code.Stopped slot) = false
+is_writing (code.Records r) = false
+
+-- it has records open
+abbrev pub has_records : Channel → Bool
+has_records code.Closed = false
+has_records (code.Listing l) = false
+has_records (code.File slot r) = false
+has_records (code.Writing w full) = false
+has_records (code.Stopped slot) = false
+has_records (code.Records r) = true
 
 -- the channel of this number of what the drive keeps
 abbrev pub is_writing_on : {M : Type 0} → ℕ → Kept M → Bool
@@ -57,6 +73,7 @@ writes_on n (code.Listing l) = false
 writes_on n (code.File slot r) = false
 writes_on n (code.Writing w full) = w.slot == n
 writes_on n (code.Stopped slot) = slot == n
+writes_on n (code.Records r) = r.slot == n
 
 -- it has the slot open
 abbrev pub uses_on : ℕ → Channel → Bool
@@ -65,6 +82,7 @@ uses_on n (code.Listing l) = false
 uses_on n (code.File slot r) = slot == n
 uses_on n (code.Writing w full) = w.slot == n
 uses_on n (code.Stopped slot) = slot == n
+uses_on n (code.Records r) = r.slot == n
 
 -- what a channel costs of the three that may be open
 abbrev pub cost_on : Channel → ℕ
@@ -73,6 +91,7 @@ cost_on (code.Listing l) = 1
 cost_on (code.File slot r) = 1
 cost_on (code.Writing w full) = 1
 cost_on (code.Stopped slot) = 1
+cost_on (code.Records r) = 2
 
 -- the byte that waits on a channel from 0 to 14, and whether it is the last
 abbrev pub shown_on : Channel → Option (ℕ × Bool)
@@ -81,6 +100,7 @@ shown_on (code.Listing l) = shown (drop l.taken l.bytes)
 shown_on (code.File slot r) = shown r.bytes
 shown_on (code.Writing w full) = None
 shown_on (code.Stopped slot) = None
+shown_on (code.Records r) = shown_at r.waiting r.position
 
 -- the byte that waits on a channel
 abbrev pub shown_by : {M : Type 0} → ℕ → Kept M → Option (ℕ × Bool)

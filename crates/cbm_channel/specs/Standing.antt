@@ -1,12 +1,14 @@
 -- The drive's code, over the content of its medium, stands for a machine.
-use Rattle.std.specs.Prelude.{ℕ, ◌≤◌, ◌≡◌, ◌≢◌, Bool, List, [], length, take, drop, slice_index_or, Option, Some, None, option_map}
+use Rattle.std.specs.Prelude.{ℕ, ◌≤◌, ◌≡◌, ◌≢◌, ◌⊎◌, Bool, List, [], length, take, drop, slice_index_or, Option, Some, None, option_map}
 use Rattle.std.specs.List.{All, AllZip}
 use Rattle.cbm_medium.specs.Seen.{Seen}
 use Rattle.cbm_volume.specs.Content.{Content}
 use Rattle.cbm_volume.specs.Reading.{IsSettled}
-use Rattle.cbm_volume.specs.Writers.{Use, Idle, Reads, Writes, HoldsNow}
+use Rattle.cbm_volume.specs.Writers.{Use, Idle, Reads, Relates, Writes, HoldsNow}
+use Rattle.cbm_file.specs.Files.{Disk}
 use Rattle.cbm_channel.specs.declared.channel.Channel.{Channel}
 use Rattle.cbm_channel.specs.declared.channel.Channel.TheVariants as code
+use Rattle.cbm_channel.specs.Placed.{Placed, IsOnRecord}
 use Rattle.cbm_machine.specs.Machines as machine
 use Rattle.cbm_machine.specs.Orderly.{IsOrderly}
 use Rattle.cbm_machine.specs.Closing.{forget_text}
@@ -27,6 +29,7 @@ Fits tracks (code.Listing l) = Unit {0}
 Fits tracks (code.File slot r) = (r.tracks ≤ tracks) × IsSettled r
 Fits tracks (code.Writing w full) = w.chain.tracks ≤ tracks
 Fits tracks (code.Stopped slot) = Unit {0}
+Fits tracks (code.Records r) = Unit {0}
 
 -- there are fifteen channels, and each fits the medium
 pub record AreFit (tracks : ℕ) (channels : List Channel) : Type 0 where
@@ -40,6 +43,16 @@ ChannelStands (code.Listing l) channel = channel ≡ machine.Reading None (drop 
 ChannelStands (code.File slot r) channel = (left : List ℕ) × (channel ≡ machine.Reading (Some slot) left)
 ChannelStands (code.Writing w full) channel = (bytes : List ℕ) × (blocks : ℕ) × (channel ≡ machine.Writing w.slot bytes blocks full w.replaces)
 ChannelStands (code.Stopped slot) channel = channel ≡ machine.Stopped slot
+ChannelStands (code.Records r) channel = channel ≡ machine.Relative r.slot r.number r.position
+
+-- What waits on a channel that has records open is what its place has on the disk.
+abbrev pub WaitsFor : Disk → Channel → Type 0
+WaitsFor d code.Closed = Unit {0}
+WaitsFor d (code.Listing l) = Unit {0}
+WaitsFor d (code.File slot r) = Unit {0}
+WaitsFor d (code.Writing w full) = Unit {0}
+WaitsFor d (code.Stopped slot) = Unit {0}
+WaitsFor d (code.Records r) = IsOnRecord d r
 
 -- what is left to be read on a channel of the machine, or was written on it so far: bytes, and blocks
 abbrev pub bytes_on : machine.Channel → List ℕ
@@ -63,6 +76,7 @@ use_of (code.Listing l) channel = Idle
 use_of (code.File slot r) channel = Reads slot r (bytes_on channel)
 use_of (code.Writing w full) channel = Writes w (bytes_on channel) (blocks_on channel)
 use_of (code.Stopped slot) channel = Idle
+use_of (code.Records r) channel = Relates r.slot
 
 -- the uses of all channels, by their numbers
 abbrev pub uses_of : List Channel → List machine.Channel → ℕ → Use
@@ -76,6 +90,14 @@ SameBut ch old new = (k : ℕ) → k ≢ ch → slice_index_or new k code.Closed
 abbrev pub kept_text : Option (ℕ × List ℕ) → Option (ℕ × List ℕ)
 kept_text text = option_map (λ (t : ℕ × List ℕ). (t.0, take 256 t.1)) text
 
+-- a channel is as it was, but that the place in its records may be another
+abbrev pub IsSameFile : Channel → Channel → Type 0
+IsSameFile old new = (new ≡ old) ⊎ ((r : Placed) × (s : Placed) × (old ≡ code.Records r) × (new ≡ code.Records s) × (s.slot ≡ r.slot) × (s.width ≡ r.width))
+
+-- so are all channels
+abbrev pub HaveSameFiles : List Channel → List Channel → Type 0
+HaveSameFiles old new = (k : ℕ) → IsSameFile (slice_index_or old k code.Closed) (slice_index_or new k code.Closed)
+
 -- no text is gathered for the channel
 pub record HasNoText (ch : ℕ) (m : machine.Machine) : Type 0 where
   pub none : text_for ch m.text ≡ []
@@ -88,13 +110,14 @@ pub record HasText (ch : ℕ) (m : machine.Machine) (text : ℕ × List ℕ) : T
   pub some : 1 ≤ length text.1
 
 -- The parts of a drive, over a content, stand for a machine: the content holds the machine's disk, which all channels use in one
--- layout, and each channel, what is told and what is gathered stand for the machine's.
+-- layout, and each channel, what waits on it, what is told and what is gathered stand for the machine's.
 pub record StandsBy (c : Content) (tracks : ℕ) (protected : Bool) (channels : List Channel) (told : Told) (text : Option (ℕ × List ℕ)) (m : machine.Machine) : Type 0 where
   pub holds : HoldsNow tracks c m.disk (uses_of channels m.channels)
   pub orderly : IsOrderly m.disk m.protected m.channels
   pub same_tracks : m.tracks ≡ tracks
   pub same_protection : m.protected ≡ protected
   pub each : AllZip ChannelStands channels m.channels
+  pub waits : (k : ℕ) → WaitsFor m.disk (slice_index_or channels k code.Closed)
   pub same_told : told_by m ≡ told
   pub same_text : kept_text m.text ≡ text
 

@@ -6,11 +6,12 @@ use Rattle.cbm_volume.specs.Reading.{Reading, rest_of, one_less}
 use Rattle.cbm_listing.specs.Listed.{behind_next}
 use Rattle.cbm_channel.specs.declared.channel.Channel.{Channel}
 use Rattle.cbm_channel.specs.declared.channel.Channel.TheVariants as code
+use Rattle.cbm_channel.specs.Placed.{Placed, IsMoved}
 use Rattle.cbm_machine.specs.Statuses.{trouble_status}
 use Rattle.cbm_machine.specs.Told.{Told}
 
 -- A byte was taken of a channel. Of a file one byte less is left; or its chain breaks off behind the byte that waits next,
--- which is the last then, and the trouble is told.
+-- which is the last then, and the trouble is told. Of records the place goes on.
 abbrev pub IsTakenBy : Content → Channel → Channel → Result (Unit {0}) Trouble → Type 0
 IsTakenBy c (code.File slot r) new (Ok _) = (s : Reading) × (new ≡ code.File slot s) × (rest_of c s ≡ one_less (rest_of c r))
 IsTakenBy c (code.File slot r) new (Err t) = (s : Reading) × (new ≡ code.File slot s) × ((rest_of c r).trouble ≡ Some t) × (s.bytes ≡ drop 1 (rest_of c r).bytes)
@@ -18,7 +19,11 @@ IsTakenBy c (code.Listing l) new (Ok _) = new ≡ code.Listing (behind_next l)
 IsTakenBy c code.Closed new (Ok _) = new ≡ code.Closed
 IsTakenBy c (code.Writing w full) new (Ok _) = new ≡ code.Writing w full
 IsTakenBy c (code.Stopped slot) new (Ok _) = new ≡ code.Stopped slot
-IsTakenBy c old new (Err t) = ⊥
+IsTakenBy c (code.Records r) new result = (s : Placed) × (new ≡ code.Records s) × IsMoved r.waiting r s result
+IsTakenBy c (code.Listing l) new (Err t) = ⊥
+IsTakenBy c code.Closed new (Err t) = ⊥
+IsTakenBy c (code.Writing w full) new (Err t) = ⊥
+IsTakenBy c (code.Stopped slot) new (Err t) = ⊥
 
 -- a trouble is the status, told from its beginning
 abbrev pub told_after : Result (Unit {0}) Trouble → Told → Told

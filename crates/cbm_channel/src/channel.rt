@@ -1,10 +1,12 @@
-ghost use Rattle.std.specs.Prelude.{◌≡◌, ◌≤◌, length, sum_by};
+ghost use Rattle.std.specs.Prelude.{◌≡◌, ◌≤◌, ◌*◌, length, sum_by};
 ghost use Rattle.std.specs.List.{list_any};
 ghost use Rattle.cbm_channel.specs.Shown.{is_open, cost_on, writes_on, uses_on};
 ghost use Rattle.cbm_file.specs.Waiting.{shown};
 ghost use Rattle.cbm_channel.specs.declared.channel.Channel.TheVariants.{Closed};
 
+use crate::on_record::OnRecord;
 use cbm_listing::Listing;
+use cbm_machine::Code;
 use cbm_volume::{ChainReader, FileWriter, Medium, Trouble, Volume};
 
 /// A channel from 0 to 14.
@@ -20,6 +22,8 @@ pub enum Channel {
     Writing(FileWriter, bool),
     /// A file whose writing the medium refused: the number of its slot.
     Stopped(u8),
+    /// A relative file whose records are open.
+    Records(OnRecord),
 }
 
 /// The first of these bytes, and whether it is the last.
@@ -30,15 +34,14 @@ fn first_of(bytes: &[u8]) -> Option<(u8, bool)>
     Some((*byte, rest.is_empty()))
 }
 
-/// How many channels are open.
+/// What the channels cost that are open: two where records are, else one.
 pub(crate) fn open_count(channels: &[Channel]) -> usize
     ensures value { result ≡ sum_by cost_on channels.now }
-    ensures few { result ≤ length channels.now }
+    ensures few { result ≤ 2 * length channels.now }
 {
     match channels.split_first() {
         None => 0,
-        Some((first, rest)) if first.is_closed() => open_count(rest),
-        Some((_, rest)) => 1 + open_count(rest),
+        Some((first, rest)) => first.cost() + open_count(rest),
     }
 }
 
@@ -70,7 +73,7 @@ pub(crate) fn any_open(channels: &[Channel]) -> bool
 }
 
 impl Channel {
-    ghost use Rattle.std.specs.Prelude.{◌≡◌, ℕ, true, false, not, Ok, IsOk, IfOk, IfErr, OnOk, OnErr, replicate};
+    ghost use Rattle.std.specs.Prelude.{◌≡◌, ◌≤◌, ◌<◌, ◌^◌, ◌⊎◌, ℕ, true, false, not, Some, Ok, IsOk, IsOkAnd, IfOk, IfErr, OnOk, OnErr, replicate};
     ghost use Rattle.cbm_medium.specs.Seen.{OnlyContent};
     ghost use Rattle.cbm_volume.specs.Writers.{Use, Idle, HoldsNow, with_use, Stopped};
     ghost use Rattle.cbm_volume.specs.Opens.{IsHindered};
@@ -78,8 +81,14 @@ impl Channel {
     ghost use Rattle.cbm_file.specs.Files.{Disk};
     ghost use Rattle.cbm_machine.specs.Machines as machine;
     ghost use Rattle.cbm_machine.specs.Talking.{taken_on};
-    ghost use Rattle.cbm_channel.specs.Standing.{Fits, ChannelStands, use_of};
-    ghost use Rattle.cbm_channel.specs.Shown.{is_closed, is_read, is_written, is_writing, writes_on, uses_on, shown_on};
+    ghost use Rattle.cbm_medium.specs.Met.{IsMet};
+    ghost use Rattle.cbm_volume.specs.Map.{geometry_of};
+    ghost use Rattle.cbm_volume.specs.Slots.{directory_of};
+    ghost use Rattle.cbm_machine.specs.Codes.{code_number};
+    ghost use Rattle.cbm_channel.specs.Grounds.{is_fault_number};
+    ghost use Rattle.cbm_channel.specs.Moved.{code_placed, placed_on};
+    ghost use Rattle.cbm_channel.specs.Standing.{Fits, ChannelStands, WaitsFor, IsSameFile, use_of};
+    ghost use Rattle.cbm_channel.specs.Shown.{is_closed, talk_refused, is_written, is_writing, has_records, writes_on, uses_on, cost_on, shown_on};
     ghost use Rattle.cbm_channel.specs.Written.{is_lost, channel_put, disk_put, IsCutOff, is_unbegun, disk_closed, IsBeingWritten};
     ghost use Rattle.cbm_channel.specs.Taken.{IsTakenBy};
 
@@ -101,18 +110,48 @@ impl Channel {
         matches!(self, Channel::Closed)
     }
 
-    /// Whether it is open for reading.
-    pub(crate) fn is_read(&self) -> bool
-        ensures { result ≡ is_read self.now }
+    /// What it costs of the three that may be open.
+    fn cost(&self) -> usize
+        ensures value { result ≡ cost_on self.now }
+        ensures few { result ≤ 2 }
     {
-        matches!(self, Channel::Listing(_) | Channel::File(_, _))
+        match self {
+            Channel::Closed => 0,
+            Channel::Records(_) => 2,
+            _ => 1,
+        }
+    }
+
+    /// What it refuses where it is asked to talk: 61 where it isn't open for reading, 50 where its record isn't there.
+    pub(crate) fn talk_refused(&self) -> Option<Code>
+        ensures { result ≡ talk_refused self.now }
+    {
+        match self {
+            Channel::Listing(_) | Channel::File(_, _) => None,
+            Channel::Closed | Channel::Writing(_, _) | Channel::Stopped(_) => {
+                Some(Code::FileNotOpen)
+            }
+            Channel::Records(on) => {
+                if on.is_absent() { Some(Code::NoRecord) } else { None }
+            }
+        }
+    }
+
+    /// Whether it has records open.
+    pub(crate) fn has_records(&self) -> bool
+        ensures { result ≡ has_records self.now }
+    {
+        matches!(self, Channel::Records(_))
     }
 
     /// Whether it is open for writing.
     pub(crate) fn is_written(&self) -> bool
         ensures { result ≡ is_written self.now }
     {
-        matches!(self, Channel::Writing(_, _) | Channel::Stopped(_))
+        matches!(
+            self,
+            Channel::Writing(_, _) | Channel::Stopped(_) | Channel::Records(_)
+        )
     }
 
     /// Whether it has this slot open for writing.
@@ -123,6 +162,7 @@ impl Channel {
             Channel::Closed | Channel::Listing(_) | Channel::File(_, _) => false,
             Channel::Writing(writer, _) => writer.slot() == slot,
             Channel::Stopped(at) => *at == slot,
+            Channel::Records(on) => on.slot() == slot,
         }
     }
 
@@ -134,6 +174,7 @@ impl Channel {
             Channel::Closed | Channel::Listing(_) => false,
             Channel::Writing(writer, _) => writer.slot() == slot,
             Channel::File(at, _) | Channel::Stopped(at) => *at == slot,
+            Channel::Records(on) => on.slot() == slot,
         }
     }
 
@@ -145,17 +186,20 @@ impl Channel {
             Channel::Closed | Channel::Writing(_, _) | Channel::Stopped(_) => None,
             Channel::Listing(listing) => first_of(listing.left()),
             Channel::File(_, reader) => reader.peek(),
+            Channel::Records(on) => on.peek(),
         }
     }
 
-    /// Goes to the next byte. Errors: why the chain cannot be followed past that byte, which thereby becomes its last.
+    /// Goes to the next byte. Errors: why the chain cannot be followed past that byte, which thereby becomes its last;
+    /// or why the next record can't be read, of which nothing waits then.
     pub(crate) fn taken<M: Medium>(&mut self, volume: &Volume<M>) -> Result<(), Trouble>
         requires { Fits (M.seen volume.now).tracks self.old }
         ensures fits { Fits (M.seen volume.now).tracks self.new }
         ensures taken { IsTakenBy (M.seen volume.now).content self.old self.new result }
         ensures well { let now = M.seen volume.now in (d : Disk) (uses : ℕ → Use) (ch : ℕ) (x : machine.Channel) →
             HoldsNow now.tracks now.content d uses → uses ch ≡ use_of self.old x → ChannelStands self.old x →
-            IsOk result × ChannelStands self.new (taken_on d x) ×
+            WaitsFor d self.old →
+            IsOk result × ChannelStands self.new (taken_on d x) × WaitsFor d self.new ×
             HoldsNow now.tracks now.content d (with_use uses ch (use_of self.new (taken_on d x))) }
     {
         match self {
@@ -163,9 +207,45 @@ impl Channel {
                 listing.next_byte();
             }
             Channel::File(_, reader) => volume.read_on(reader)?,
+            Channel::Records(on) => on.taken(volume)?,
             _ => {}
         }
         Ok(())
+    }
+
+    /// P: a channel with records goes to a place, and answers the status: 70 nothing is open, 64 it has no records, 51
+    /// the place lies behind the record's end, 50 the record isn't there, else 00. Errors: why the record can't be read.
+    pub(crate) fn place<M: Medium>(
+        &mut self,
+        volume: &Volume<M>,
+        number: u32,
+        position: u8,
+    ) -> Result<Code, Trouble>
+        requires fits { Fits (M.seen volume.now).tracks self.old }
+        requires number { number < 2 ^ 24 }
+        ensures fits { Fits (M.seen volume.now).tracks self.new }
+        ensures same { IsSameFile self.old self.new }
+        ensures own { IfOk result (λ code. is_fault_number (code_number code) ≡ false) }
+        ensures well { let now = M.seen volume.now in (d : Disk) (uses : ℕ → Use) (ch : ℕ) (x : machine.Channel) →
+            HoldsNow now.tracks now.content d uses → uses ch ≡ use_of self.old x → ChannelStands self.old x →
+            WaitsFor d self.old →
+            IsOkAnd result (λ code. code ≡ code_placed number position d x) ×
+            ChannelStands self.new (placed_on number position d x) × WaitsFor d self.new ×
+            HoldsNow now.tracks now.content d (with_use uses ch (use_of self.new (placed_on number position d x))) }
+        ensures cause { let now = M.seen volume.now in let tracks = geometry_of now.tracks now.content in
+            IfErr result (λ t. ((directory_of tracks now.content).trouble ≡ Some t) ⊎ IsMet tracks now.content t) }
+    {
+        match self {
+            Channel::Closed => Ok(Code::NoChannel),
+            Channel::Records(on) => {
+                if position > on.length() {
+                    return Ok(Code::RecordOverflow);
+                }
+                on.go(volume, number, position)?;
+                Ok(if on.is_absent() { Code::NoRecord } else { Code::Fine })
+            }
+            _ => Ok(Code::WrongType),
+        }
     }
 
     /// Adds a byte to a file that is written; false where it is the first for which no block is free, and from then on

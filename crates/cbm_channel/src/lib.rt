@@ -6,6 +6,7 @@ mod dos;
 mod finding;
 mod gathered;
 mod listing;
+mod on_record;
 mod plan;
 mod sought;
 

@@ -15,4 +15,6 @@ pub enum Plan {
     AppendFile(Found),
     /// The file in the slot of this number is replaced.
     ReplaceFile(u8),
+    /// The records of a file are opened.
+    OpenRecords(Found),
 }

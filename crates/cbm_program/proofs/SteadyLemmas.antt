@@ -6,7 +6,7 @@ use Rattle.cbm_channel.specs.Machines.{Machine}
 use Rattle.cbm_channel.specs.Closing.{close_one, close_all, close, channel_numbers, without_text}
 use Rattle.cbm_channel.specs.Plans.{open_text}
 use Rattle.cbm_channel.specs.Calls.{put, end_put, command, after_open}
-use Rattle.cbm_channel.specs.CarriedOut.{IsOpenCarriedOut, IsCarriedOut}
+use Rattle.cbm_channel.specs.CarriedOut.{IsOpenCarriedOut, IsCarriedOut, IsEndCarriedOut}
 use Rattle.cbm_channel.specs.Standing.{Kept, Stands, Leads}
 use Rattle.cbm_channel.specs.Commanded.{FormatsUnfailing, open_formats, end_formats}
 use Rattle.cbm_channel.specs.Going.{Passes, PassesAll, closings, closing, opening_parts, AfterClose, GoesFrom, Goes}
@@ -61,9 +61,9 @@ module _ {M : Type 0} (seen : M → Seen) (steady : (k : M) → (seen k).failure
   steady_put ch b goes m s = goes_done ((ch, put ch b) ∷ []) m (goes m s)
 
   -- the end of what was put
-  pub steady_end : (ch : ℕ) → ((m : Machine) → Stands seen old m → FormatsUnfailing (end_formats ch old.text) (HasFailed (seen old.medium) (seen new.medium)) → GoesFrom seen old new ((ch, end_put ch) ∷ []) m)
-      → Leads seen old new (end_put ch)
-  steady_end ch goes m s = goes_done ((ch, end_put ch) ∷ []) m (goes m s (λ e. never))
+  pub steady_end : (ch : ℕ) → ((m : Machine) → Stands seen old m → IsEndCarriedOut ch m → FormatsUnfailing (end_formats ch old.text) (HasFailed (seen old.medium) (seen new.medium)) → GoesFrom seen old new ((ch, end_put ch) ∷ []) m)
+      → (m : Machine) → IsEndCarriedOut ch m → Stands seen old m → Stands seen new (end_put ch m)
+  steady_end ch goes m carried s = goes_done ((ch, end_put ch) ∷ []) m (goes m s carried (λ e. never))
 
   pub steady_close : (ch : ℕ) → Goes seen old new (closing ch) → Leads seen old new (close ch)
   steady_close ch goes m s = subst (λ x. Stands seen new x) (closed_by (ch == 15) ch m) (goes_done (closing ch) m (goes m s))

@@ -1,8 +1,9 @@
 -- A script as a list of requests, and what a run of it says.
-use Rattle.std.specs.Prelude.{ℕ, ◌+◌, ◌≡◌, ◌<◌, ◌≤◌, List, [], ◌∷◌, length, Bool, true, false, nat_lt, if◌then◌else◌, Option, Some, None, Result, Ok, Err}
+use Rattle.std.specs.Prelude.{ℕ, ◌+◌, ◌≡◌, ◌<◌, ◌≤◌, List, [], ◌∷◌, length, replicate, Bool, true, false, nat_lt, if◌then◌else◌, Option, Some, None, Result, Ok, Err}
 use Rattle.std.specs.Io.KnownBytes.{IsAtEnd}
 use Rattle.cbm_channel.specs.Machines.{Machine}
-use Rattle.cbm_channel.specs.CarriedOut.{IsCarriedOut}
+use Rattle.cbm_channel.specs.CarriedOut.{IsCarriedOut, IsEndCarriedOut}
+use Rattle.cbm_channel.specs.Talking.{listen}
 use Rattle.cbm_program.specs.declared.request.Request.{Request}
 use Rattle.cbm_program.specs.declared.request.Request.TheVariants.{Open, Put, Fill, Get, Close, Status}
 use Rattle.cbm_program.specs.declared.line.Line.{Line}
@@ -11,7 +12,7 @@ use Rattle.cbm_program.specs.declared.fault.RunFault.{RunFault}
 use Rattle.cbm_program.specs.declared.fault.RunFault.TheVariants.{Script, Image, Memory, Reading, Writing}
 use Rattle.cbm_program.specs.Lines.{lines_of}
 use Rattle.cbm_program.specs.Requests.{line_of}
-use Rattle.cbm_program.specs.Scripts.{printed_by}
+use Rattle.cbm_program.specs.Scripts.{puts, printed_by}
 
 -- ---- the requests that are carried out
 
@@ -32,8 +33,8 @@ LineHasChannel (Asks request) = HasChannel request
 -- the drive carries the request out where the machine stands so
 abbrev pub IsRequestCarriedOut : Request → Machine → Type 0
 IsRequestCarriedOut (Open ch text) m = IsCarriedOut ch text.items m
-IsRequestCarriedOut (Put ch text) m = Unit {0}
-IsRequestCarriedOut (Fill ch n b) m = Unit {0}
+IsRequestCarriedOut (Put ch text) m = IsEndCarriedOut ch (puts ch text.items (listen ch m))
+IsRequestCarriedOut (Fill ch n b) m = IsEndCarriedOut ch (puts ch (replicate n b) (listen ch m))
 IsRequestCarriedOut (Get ch most) m = Unit {0}
 IsRequestCarriedOut (Close ch) m = Unit {0}
 IsRequestCarriedOut Status m = Unit {0}

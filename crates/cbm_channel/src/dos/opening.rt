@@ -3,6 +3,7 @@
 use crate::channel::Channel;
 use crate::dos::Dos;
 use crate::listing::list;
+use crate::on_record::OnRecord;
 use crate::plan::Plan;
 use cbm_command::{Opening, parse_open};
 use cbm_machine::{Code, Status};
@@ -19,7 +20,7 @@ impl<M: Medium> Dos<M> {
     ghost use Rattle.cbm_machine.specs.CarriedOut.{IsOpenCarriedOut, IsAskedCarriedOut};
     ghost use Rattle.cbm_channel.specs.declared.channel.Channel.TheVariants.{Closed};
     ghost use Rattle.cbm_channel.specs.Grounds.{ShowsTrouble, HasTold, IsToldFor, IsFromDirectory, KeepsIfRefused};
-    ghost use Rattle.cbm_channel.specs.Standing.{Stands, SameBut, Fits, uses_of};
+    ghost use Rattle.cbm_channel.specs.Standing.{Stands, SameBut, HaveSameFiles, Fits, uses_of};
     ghost use Rattle.cbm_channel.specs.Going.{GoesFrom, WentFrom, AfterClose, opening_parts, KeepsMedium};
     ghost use Rattle.cbm_channel.specs.Shown.{is_writing_on};
     ghost use Rattle.cbm_channel.specs.Commanded.{FormatsUnfailing, open_formats};
@@ -35,7 +36,8 @@ impl<M: Medium> Dos<M> {
             (HasFailed (M.seen self.old.medium) (M.seen self.new.medium)) →
             GoesFrom M.seen self.old self.new (opening_parts channel text.now) m }
         // On any disk:
-        ensures others { SameBut channel self.old.channels self.new.channels }
+        ensures others { channel < 15 → SameBut channel self.old.channels self.new.channels }
+        ensures channels { channel ≡ 15 → HaveSameFiles self.old.channels self.new.channels }
         ensures refused { channel < 15 → (self.new.told.status.code ≡ Fine) ⊎
             (slice_index_or self.new.channels channel Closed ≡ Closed) }
         // What isn't for writing, on a channel that isn't written, leaves the medium as it is.
@@ -71,7 +73,7 @@ impl<M: Medium> Dos<M> {
         ensures spared { KeepsIfRefused M.seen self.old self.new }
         ensures medium { KeepsMedium (M.seen self.old.medium) (M.seen self.new.medium) }
     {
-        match self.plan(opening) {
+        match self.plan(channel, opening) {
             Ok(plan) => self.act(channel, plan),
             Err(status) => self.set(status),
         }
@@ -103,7 +105,8 @@ impl<M: Medium> Dos<M> {
     }
 
     /// The channel that a plan opens; None where the disk has no place for what it writes. Errors: the fault of 18/0,
-    /// of the directory or of the file's first block; or why a write was refused.
+    /// of the directory or of the file's first block, what is wrong with the side sectors of a relative file or why its
+    /// first record can't be read; or why a write was refused.
     fn opened(&mut self, plan: Plan) -> Result<Option<Channel>, Trouble>
         ensures fits { IfOk result (λ o. IfSome o (Fits (M.seen self.new.medium).tracks)) }
         ensures opened { let old = M.seen self.old.medium in let new = M.seen self.new.medium in
@@ -151,6 +154,12 @@ impl<M: Medium> Dos<M> {
                     return Ok(None);
                 };
                 Ok(Some(Channel::Writing(writer, false)))
+            }
+            Plan::OpenRecords(found) => {
+                let length = found.entry.record_length();
+                self.volume.open_records(&found.entry)?;
+                let on = OnRecord::begin(&self.volume, found.slot, length)?;
+                Ok(Some(Channel::Records(on)))
             }
         }
     }

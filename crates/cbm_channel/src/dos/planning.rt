@@ -3,13 +3,15 @@
 ghost use Rattle.cbm_machine.specs.Codes.{code_number};
 ghost use Rattle.cbm_channel.specs.Grounds.{is_fault_number};
 ghost use Rattle.cbm_channel.specs.declared.plan.Plan.TheVariants as planned;
-ghost use Rattle.std.specs.Prelude.{◌≡◌, ◌≤◌, ℕ, Bool, false, Result, Ok, Err, IfOk, IfErr, if◌then◌else◌, not, ◌&&◌};
+ghost use Rattle.std.specs.Prelude.{◌≡◌, ◌≤◌, ◌⊎◌, ℕ, Bool, true, false, Result, Ok, Err, IfOk, IfErr, if◌then◌else◌, not, ◌&&◌};
 ghost use Rattle.cbm_file.specs.Files.{Disk, File};
+ghost use Rattle.cbm_file.specs.declared.file_type.FileType.TheVariants.{Rel};
+ghost use Rattle.cbm_file.specs.Types.{is_same_type};
 ghost use Rattle.cbm_volume.specs.Content.{Content};
 ghost use Rattle.cbm_machine.specs.Machines.{Machine, in_writing};
 ghost use Rattle.cbm_machine.specs.Plans as plans;
 ghost use Rattle.cbm_channel.specs.Planned.{FoundAs, PlannedAs, IsFound};
-ghost use Rattle.cbm_machine.specs.CarriedOut.{MeetsNoRecords};
+ghost use Rattle.cbm_machine.specs.CarriedOut.{MakesNoRecords};
 ghost use Rattle.cbm_machine.specs.declared.code.Code as code;
 
 use crate::channel::{any_uses, any_writes, open_count};
@@ -35,13 +37,13 @@ fn cost_of(wanted: &Wanted, found: &Result<Found, Status>) -> usize
     }
 }
 
-/// What reading a file will do that was found, and may be open for writing. A relative one is answered 64 so far.
+/// What reading a file will do that was found, and may be open for writing: the records of a relative one are opened.
+/// Errors: 64 it can't be read, or `@` asks for a relative one; 60 it isn't closed, or a channel writes it.
 fn plan_read(wanted: &Wanted, found: Found, written: bool) -> Result<Plan, Status>
     ensures own { IfErr result (λ s. is_fault_number (code_number s.code) ≡ false) }
-    ensures same { IfOk result (λ p. p ≡ planned.ReadFile found) }
+    ensures same { IfOk result (λ p. (p ≡ planned.ReadFile found) ⊎ (p ≡ planned.OpenRecords found)) }
     ensures planned { (tracks : ℕ) (c : Content) (m : Machine) (s : ℕ) (f : File) → in_writing m s ≡ written →
-        IsFound tracks c m.disk s f found
-        → MeetsNoRecords (plans.plan_read wanted.now m (s, f)) →
+        IsFound tracks c m.disk s f found →
         PlannedAs tracks c m (plans.plan_read wanted.now m (s, f)) result }
 {
     let kind = found.entry.kind();
@@ -55,9 +57,27 @@ fn plan_read(wanted: &Wanted, found: Found, written: bool) -> Result<Plan, Statu
         return Err(Status::plain(Code::WriteFileOpen));
     }
     if kind == Some(FileType::Rel) {
-        return Err(Status::plain(Code::WrongType));
+        return Ok(Plan::OpenRecords(found));
     }
     Ok(Plan::ReadFile(found))
+}
+
+/// What an OPEN by type L of a file will do that was found, and may be open for writing. Errors: 60 it isn't closed, or
+/// a channel writes it; 50 another record length is asked for.
+fn plan_there(wanted: &Wanted, found: Found, written: bool) -> Result<Plan, Status>
+    ensures own { IfErr result (λ s. is_fault_number (code_number s.code) ≡ false) }
+    ensures same { IfOk result (λ p. p ≡ planned.OpenRecords found) }
+    ensures planned { (tracks : ℕ) (c : Content) (m : Machine) (s : ℕ) (f : File) → in_writing m s ≡ written →
+        IsFound tracks c m.disk s f found → is_same_type Rel f.kind ≡ true →
+        PlannedAs tracks c m (plans.plan_there wanted.now m (s, f)) result }
+{
+    if !found.entry.is_closed() || written {
+        return Err(Status::plain(Code::WriteFileOpen));
+    }
+    if wanted.record_length != 0 && wanted.record_length != found.entry.record_length() {
+        return Err(Status::plain(Code::NoRecord));
+    }
+    Ok(Plan::OpenRecords(found))
 }
 
 impl<M: Medium> Dos<M> {
@@ -71,21 +91,21 @@ impl<M: Medium> Dos<M> {
     ghost use Rattle.cbm_machine.specs.Machines.{Machine, too_many, in_writing, in_use};
     ghost use Rattle.cbm_machine.specs.Finding.{is_there};
     ghost use Rattle.cbm_machine.specs.Plans as plans;
-    ghost use Rattle.cbm_machine.specs.CarriedOut.{IsAskedCarriedOut, MeetsNoRecords};
+    ghost use Rattle.cbm_machine.specs.CarriedOut.{IsAskedCarriedOut};
     ghost use Rattle.cbm_channel.specs.Grounds.{HasGround, IsFromDirectory};
     ghost use Rattle.cbm_channel.specs.Standing.{Stands};
     ghost use Rattle.cbm_channel.specs.Planned.{PlannedAs, IsOfText, IsFound, is_for_writing, plan_writes};
 
     /// What an OPEN will do. Errors: its refusal, or the fault of the directory.
-    pub(super) fn plan(&self, opening: Opening) -> Result<Plan, Status>
+    pub(super) fn plan(&self, channel: u8, opening: Opening) -> Result<Plan, Status>
         ensures ground { IfErr result (HasGround M.seen self.now.medium) }
         ensures from { IfOk result (IsFromDirectory M.seen self.now.medium) }
         ensures reads { is_for_writing opening ≡ false → IfOk result (λ p. plan_writes p ≡ false) }
         ensures allowed { IfOk result (λ p. plan_writes p ≡ true → (M.seen self.now.medium).protected ≡ false) }
-        ensures planned { (m : Machine) (ch : ℕ) → IsOfText opening → IsAskedCarriedOut ch m (Ok opening) →
+        ensures planned { (m : Machine) → IsOfText opening → IsAskedCarriedOut channel m (Ok opening) →
             Stands M.seen self.now m →
             PlannedAs (M.seen self.now.medium).tracks (M.seen self.now.medium).content m
-            (plans.plan ch opening m) result }
+            (plans.plan channel opening m) result }
     {
         match opening {
             Opening::Listing(pattern) => {
@@ -94,24 +114,26 @@ impl<M: Medium> Dos<M> {
                 }
                 Ok(Plan::ReadListing(pattern))
             }
-            Opening::File(wanted) => self.plan_file(wanted),
+            Opening::File(wanted) => {
+                if wanted.kind == Some(FileType::Rel) {
+                    return self.plan_relative(channel, &wanted);
+                }
+                self.plan_file(wanted)
+            }
         }
     }
 
-    /// What an OPEN of a file will do. One of type L, whose records aren't carried out so far, is answered 64.
+    /// What an OPEN of a file by its mode will do, which isn't asked for by type L.
     fn plan_file(&self, wanted: Wanted) -> Result<Plan, Status>
         ensures ground { IfErr result (HasGround M.seen self.now.medium) }
         ensures from { IfOk result (IsFromDirectory M.seen self.now.medium) }
         ensures reads { wanted.mode ≡ Read → IfOk result (λ p. plan_writes p ≡ false) }
         ensures allowed { IfOk result (λ p. plan_writes p ≡ true → (M.seen self.now.medium).protected ≡ false) }
         ensures planned { (m : Machine) (ch : ℕ) → IsOfText (opening.File wanted) → is_relative wanted ≡ false →
-            MeetsNoRecords (plans.plan ch (opening.File wanted) m) → Stands M.seen self.now m →
+            Stands M.seen self.now m →
             PlannedAs (M.seen self.now.medium).tracks (M.seen self.now.medium).content m (plans.plan ch
             (opening.File wanted) m) result }
     {
-        if wanted.kind == Some(FileType::Rel) {
-            return Err(Status::plain(Code::WrongType));
-        }
         if wanted.mode == Mode::Read {
             return self.plan_reading(&wanted);
         }
@@ -125,13 +147,67 @@ impl<M: Medium> Dos<M> {
         self.plan_writing(wanted)
     }
 
-    /// What reading will do. A relative file that is met is answered 64 so far.
+    /// What an OPEN by type L will do. Errors: 70 too many channels; 64 with `@`, on the channels 0 and 1, or where the
+    /// name has another type; else what is met at the file that is there, or where it is not.
+    fn plan_relative(&self, channel: u8, wanted: &Wanted) -> Result<Plan, Status>
+        ensures ground { IfErr result (HasGround M.seen self.now.medium) }
+        ensures from { IfOk result (IsFromDirectory M.seen self.now.medium) }
+        ensures reads { IfOk result (λ p. plan_writes p ≡ false) }
+        ensures planned { (m : Machine) → is_relative wanted.now ≡ true →
+            MakesNoRecords (plans.plan channel (opening.File wanted.now) m) → Stands M.seen self.now m →
+            PlannedAs (M.seen self.now.medium).tracks (M.seen self.now.medium).content m (plans.plan channel
+            (opening.File wanted.now) m) result }
+    {
+        if self.is_too_many(2) {
+            return Err(Status::plain(Code::NoChannel));
+        }
+        if wanted.has_at || channel < 2 {
+            return Err(Status::plain(Code::WrongType));
+        }
+        if !self.is_there(&wanted.name)? {
+            return Err(self.missing(wanted));
+        }
+        let found = self.found(&wanted.name, Some(FileType::Rel))?;
+        let written = self.in_writing(found.slot);
+        plan_there(wanted, found, written)
+    }
+
+    /// Why a relative file isn't made: 62 no record length is given, 50 it is 255, 72 two blocks or a place for a name
+    /// are lacking, 26 the disk is protected; or a fault of the map or of the directory. Where it could be made it is
+    /// answered 64 so far.
+    fn missing(&self, wanted: &Wanted) -> Status
+        ensures ground { HasGround M.seen self.now.medium result }
+        ensures planned { (m : Machine) → MakesNoRecords (plans.plan_missing wanted.now m) → Stands M.seen self.now m →
+            PlannedAs (M.seen self.now.medium).tracks (M.seen self.now.medium).content m
+            (plans.plan_missing wanted.now m) (Err result) }
+    {
+        if wanted.record_length == 0 {
+            return Status::plain(Code::FileNotFound);
+        }
+        if wanted.record_length == 255 {
+            return Status::plain(Code::NoRecord);
+        }
+        match self.volume().room() {
+            Ok(room) => {
+                if room.blocks < 2 || !room.slot {
+                    return Status::plain(Code::DiskFull);
+                }
+            }
+            Err(trouble) => return Status::from(trouble),
+        }
+        if self.volume().is_protected() {
+            return Status::plain(Code::WriteProtected);
+        }
+        Status::plain(Code::WrongType)
+    }
+
+    /// What reading will do.
     fn plan_reading(&self, wanted: &Wanted) -> Result<Plan, Status>
         ensures ground { IfErr result (HasGround M.seen self.now.medium) }
         ensures from { IfOk result (IsFromDirectory M.seen self.now.medium) }
         ensures reads { IfOk result (λ p. plan_writes p ≡ false) }
         ensures planned { (m : Machine) (ch : ℕ) → wanted.now.mode ≡ Read → is_relative wanted.now ≡ false →
-            MeetsNoRecords (plans.plan ch (opening.File wanted.now) m) → Stands M.seen self.now m →
+            Stands M.seen self.now m →
             PlannedAs (M.seen self.now.medium).tracks (M.seen self.now.medium).content m (plans.plan ch
             (opening.File wanted.now) m) result }
     {

@@ -26,13 +26,14 @@ impl<M: Medium> Dos<M> {
     ghost use Rattle.cbm_machine.specs.Running.{run};
     ghost use Rattle.cbm_command.specs.declared.command.Command.TheVariants.{Position};
     ghost use Rattle.cbm_channel.specs.Grounds.{HasTold, IsToldFor, KeepsIfRefused};
-    ghost use Rattle.cbm_channel.specs.Standing.{Stands, SameBut, Leads, HasNoText, HasText};
+    ghost use Rattle.cbm_channel.specs.Standing.{Stands, SameBut, HaveSameFiles, Leads, HasNoText, HasText};
+    ghost use Rattle.cbm_machine.specs.CarriedOut.{IsEndCarriedOut};
     ghost use Rattle.cbm_channel.specs.Shown.{is_writing_on, IsQuiet};
     ghost use Rattle.cbm_channel.specs.Going.{Goes, GoesFrom, Went, WentFrom, put_written, KeepsMedium};
     ghost use Rattle.cbm_channel.specs.Commanded.{IsOfCommandText, changes_disk, commands_change, ends_command, FormatsUnfailing, formats, text_formats, end_formats};
 
-    /// A byte that the host sends to a channel: on 15 it is gathered for a command, and on a channel that is open for
-    /// writing it goes to its file; on others it is dropped. The first byte for which no block is free sets the status
+    /// A byte that the host sends to a channel: on 15 it is gathered for a command, on a channel that has records open
+    /// for one of these, and on one that writes a file it goes to the file; on others it is dropped. The first byte for which no block is free sets the status
     /// 72, and it and all later ones are dropped; where the medium refuses a write, its fault becomes the status.
     pub fn put(&mut self, channel: u8, byte: u8)
         requires { channel ≤ 15 }
@@ -43,7 +44,9 @@ impl<M: Medium> Dos<M> {
         ensures medium { KeepsMedium (M.seen self.old.medium) (M.seen self.new.medium) }
     {
         if channel == 15 {
-            self.gather(byte);
+            self.gather(channel, byte);
+        } else if self.channels[channel as usize].has_records() {
+            self.gather(channel, byte);
         } else {
             self.store(channel, byte);
         }
@@ -64,19 +67,19 @@ impl<M: Medium> Dos<M> {
         }
     }
 
-    /// A byte goes to the text that is gathered for channel 15.
-    fn gather(&mut self, byte: u8)
-        ensures leads { Leads M.seen self.old self.new (gather 15 byte) }
+    /// A byte goes to the text that is gathered for a channel.
+    fn gather(&mut self, channel: u8, byte: u8)
+        ensures leads { Leads M.seen self.old self.new (gather channel byte) }
         ensures channels { self.new.channels ≡ self.old.channels }
         ensures told { self.new.told ≡ self.old.told }
         ensures medium { self.new.medium ≡ self.old.medium }
     {
-        match self.take_text(15) {
+        match self.take_text(channel) {
             Some(mut text) => {
                 text.add(byte);
                 self.text = Some(text);
             }
-            None => self.text = Some(Gathered::begin(15, byte)),
+            None => self.text = Some(Gathered::begin(channel, byte)),
         }
     }
 
@@ -98,15 +101,16 @@ impl<M: Medium> Dos<M> {
         None
     }
 
-    /// The host sends no more (UNLISTEN): the text that was gathered for channel 15 is carried out as a command.
+    /// The host sends no more (UNLISTEN): the text that was gathered for channel 15 is carried out as a command. One for
+    /// a channel that has records open is dropped so far, and answered 64.
     pub fn end_put(&mut self, channel: u8)
         requires { channel ≤ 15 }
-        ensures goes { (m : Machine) → Stands M.seen self.old m →
+        ensures goes { (m : Machine) → Stands M.seen self.old m → IsEndCarriedOut channel m →
             FormatsUnfailing (end_formats channel self.old.text)
             (HasFailed (M.seen self.old.medium) (M.seen self.new.medium)) →
             GoesFrom M.seen self.old self.new ((channel, end_put channel) ∷ []) m }
         // On any disk:
-        ensures others { SameBut channel self.old.channels self.new.channels }
+        ensures channels { HaveSameFiles self.old.channels self.new.channels }
         // What is no command that changes the disk leaves the medium as it is.
         ensures quiet { ends_command channel self.old.text ≡ false →
             IsToldFor M.seen self.old self.new × (self.new.medium ≡ self.old.medium) }
@@ -117,6 +121,8 @@ impl<M: Medium> Dos<M> {
         if let Some(text) = self.take_text(channel) {
             if channel == 15 {
                 self.command(text.bytes());
+            } else if self.channels[channel as usize].has_records() {
+                self.say(Code::WrongType);
             }
         }
     }
@@ -126,7 +132,7 @@ impl<M: Medium> Dos<M> {
         ensures goes { (m : Machine) → Stands M.seen self.old m →
             FormatsUnfailing (text_formats text.now) (HasFailed (M.seen self.old.medium) (M.seen self.new.medium)) →
             WentFrom M.seen self.old self.new 15 (command text.now) m }
-        ensures channels { self.new.channels ≡ self.old.channels }
+        ensures channels { HaveSameFiles self.old.channels self.new.channels }
         ensures quiet { commands_change text.now ≡ false →
             IsToldFor M.seen self.old self.new × (self.new.medium ≡ self.old.medium) }
         ensures spared { KeepsIfRefused M.seen self.old self.new }
@@ -147,7 +153,7 @@ impl<M: Medium> Dos<M> {
         ensures goes { (m : Machine) → IsOfCommandText command.now → Stands M.seen self.old m →
             FormatsUnfailing (formats command.now) (HasFailed (M.seen self.old.medium) (M.seen self.new.medium)) →
             WentFrom M.seen self.old self.new 15 (λ n. answered n (run command.now n)) m }
-        ensures channels { self.new.channels ≡ self.old.channels }
+        ensures channels { HaveSameFiles self.old.channels self.new.channels }
         ensures quiet { changes_disk command.now ≡ false →
             HasTold M.seen self.old self.new × (self.new.medium ≡ self.old.medium) }
         ensures spared { KeepsIfRefused M.seen self.old self.new }
@@ -160,24 +166,30 @@ impl<M: Medium> Dos<M> {
             Command::Copy(new, olds) => self.copy(new, olds),
             Command::Validate => self.validate(),
             Command::Initialize => self.say(Code::Fine),
-            Command::Position(channel, _, _) => self.place(*channel),
+            Command::Position(channel, number, position) => {
+                self.place(*channel, *number, *position);
+            }
         }
     }
 
-    /// Answers a place on a channel, as no relative file is open: 70 where nothing is open, else 64.
-    fn place(&mut self, channel: u8)
-        ensures leads { (k p : ℕ) → Leads M.seen self.old self.new (λ m. answered m (run (Position channel k p) m)) }
-        ensures channels { self.new.channels ≡ self.old.channels }
+    /// P: a channel that has records open goes to a place. What becomes of it is the status: 70 nothing is open, 64 it
+    /// has no records, 51 the place lies behind the record's end, 50 the record isn't there, a fault of the medium, or
+    /// 00.
+    fn place(&mut self, channel: u8, number: u16, position: u8)
+        ensures leads { 1 ≤ number → 1 ≤ position →
+            Leads M.seen self.old self.new (λ m. answered m (run (Position channel number position) m)) }
+        ensures channels { HaveSameFiles self.old.channels self.new.channels }
         ensures told { HasTold M.seen self.old self.new }
         ensures medium { self.new.medium ≡ self.old.medium }
     {
         let channels = self.channels.as_slice();
         if channel as usize >= channels.len() {
             self.say(Code::NoChannel);
-        } else if channels[channel as usize].is_closed() {
-            self.say(Code::NoChannel);
-        } else {
-            self.say(Code::WrongType);
+            return;
+        }
+        match self.channels[channel as usize].place(&self.volume, number as u32, position) {
+            Ok(code) => self.say(code),
+            Err(trouble) => self.set(Status::from(trouble)),
         }
     }
 }

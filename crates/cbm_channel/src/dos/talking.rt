@@ -16,7 +16,8 @@ impl<M: Medium> Dos<M> {
     ghost use Rattle.cbm_channel.specs.Taken.{IsTaken};
     ghost use Rattle.cbm_channel.specs.declared.channel.Channel.TheVariants.{Closed};
 
-    /// TALK: asks a channel to send; the status becomes 61 where it isn't open for reading.
+    /// TALK: asks a channel to send; the status becomes 61 where it isn't open for reading, and 50 where the
+    /// record of its place isn't there.
     pub fn talk(&mut self, channel: u8)
         requires { channel ≤ 15 }
         ensures leads { Leads M.seen self.old self.new (talk channel) }
@@ -28,8 +29,8 @@ impl<M: Medium> Dos<M> {
         if channel == 15 {
             return;
         }
-        if !self.channels[channel as usize].is_read() {
-            self.say(Code::FileNotOpen);
+        if let Some(code) = self.channels[channel as usize].talk_refused() {
+            self.say(code);
         }
     }
 
@@ -63,8 +64,8 @@ impl<M: Medium> Dos<M> {
         }
     }
 
-    /// The byte that `peek` shows was sent; nothing happens where it shows none. Where the file's next sector doesn't
-    /// read, its fault becomes the status.
+    /// The byte that `peek` shows was sent; nothing happens where it shows none. Where the file's next sector or
+    /// record doesn't read, its fault becomes the status.
     pub fn taken(&mut self, channel: u8)
         requires { channel ≤ 15 }
         ensures leads { Leads M.seen self.old self.new (taken channel) }

@@ -1,4 +1,4 @@
-use Rattle.std.proofs.Common.{◌≡◌, ◌≤◌, ℕ, List, length, take, refl, sym, ap, subst, ◌∙◌, arith, inl}
+use Rattle.std.proofs.Common.{◌≡◌, ◌≤◌, ◌<◌, ℕ, List, length, take, refl, sym, ap, subst, ◌∙◌, arith, inl}
 use Rattle.std.specs.Prelude.{◌==◌, ◌&&◌, true, false}
 use Rattle.std.proofs.lemmas.Bool.{eq-eqb}
 use Rattle.cbm_medium.specs.Seen.{HasFailed}
@@ -7,16 +7,16 @@ use Rattle.cbm_machine.specs.Closing.{without_text}
 use Rattle.cbm_machine.specs.Calls.{text_for, command}
 use Rattle.cbm_channel.specs.Commanded.{commands_change, ends_command, text_formats, end_formats}
 use Rattle.cbm_channel.specs.Going.{Passes}
-use Rattle.cbm_channel.proofs.Asked.{below_15, store_command, store_other}
+use Rattle.cbm_channel.proofs.Asked.{below_15, store_command, store_other, records_end}
 use Rattle.cbm_channel.proofs.Goings.{text_passes}
-use Rattle.cbm_channel.proofs.Stands.{zip_at}
+use Rattle.cbm_channel.proofs.Stands.{zip_at, stood, stands_at}
 use Rattle.cbm_channel.proofs.Texts.{some_kept, command_kept}
 use Rattle.cbm_channel.proofs.Troubles.{told_for}
 use Rattle.cbm_channel.proofs.dos.Dos.end_put.Goals as goal
 
 -- a command
 pub returns-then-channel-eq15-clause-goes : goal.returns-then-channel-eq15-clause-goes
-returns-then-channel-eq15-clause-goes g c = λ m s unfailed.
+returns-then-channel-eq15-clause-goes g c = λ m s carried unfailed.
     let has = c.in-Some.ensures.text m s in
     let whole : List ℕ = text_for c.args.channel m.text in
     let some : 1 ≤ length whole = some_kept whole (subst (λ x. 1 ≤ length x) has.kept has.some) in
@@ -50,14 +50,24 @@ returns-then-channel-eq15-clause-quiet g c = λ quiet.
     let said = c.command.ensures.quiet (ap commands_change c.bytes.ensures ∙ none) in
     (told_for g.M.Medium.seen c.args.self.now c.take_text.new.self c.command.new.self c.in-Some.ensures.medium c.in-Some.ensures.told said.0, said.1 ∙ c.in-Some.ensures.medium)
 
+-- a text for records isn't carried out
+pub returns-then-has_records-clause-goes : goal.returns-then-has_records-clause-goes
+returns-then-has_records-clause-goes g c = λ m s carried unfailed.
+    let has = c.in-Some.ensures.text m s in
+    let some : 1 ≤ length (text_for c.args.channel m.text) = some_kept (text_for c.args.channel m.text) (subst (λ x. 1 ≤ length x) has.kept has.some) in
+    let lt : c.args.channel < 15 = omega (arith, c.requires, c.if-channel-eq15.false) in
+    let st = stood g.M.Medium.seen _ _ (without_text c.args.channel m) c.self.view_is (c.in-Some.ensures.leads m s) in
+    let at = stands_at _ _ _ _ _ _ (without_text c.args.channel m) c.args.channel c.index-self-channel.result lt c.self.invariant st in
+    absurd (records_end c.args.channel m _ (below_15 c.args.channel lt) at carried some (sym c.has_records.ensures ∙ c.if-has_records.true))
+
 -- no channel has records
-pub returns-else-channel-eq15-clause-goes : goal.returns-else-channel-eq15-clause-goes
-returns-else-channel-eq15-clause-goes g c = λ m s unfailed.
+pub returns-else-has_records-clause-goes : goal.returns-else-has_records-clause-goes
+returns-else-has_records-clause-goes g c = λ m s carried unfailed.
     let has = c.in-Some.ensures.text m s in
     let whole : List ℕ = text_for c.args.channel m.text in
     let some : 1 ≤ length whole = some_kept whole (subst (λ x. 1 ≤ length x) has.kept has.some) in
     let other = below_15 c.args.channel (omega (arith, c.requires, c.if-channel-eq15.false)) in
-    let law = store_other c.args.channel m _ other (zip_at c.args.self.now.channels m.channels c.args.channel s.each) whole some in
+    let law = store_other c.args.channel m _ other (zip_at c.args.self.now.channels m.channels c.args.channel s.each) carried some whole some in
     (without_text c.args.channel m, (without_text c.args.channel m, inl (sym law), refl), c.in-Some.ensures.leads m s)
 
 -- ---- what is refused

@@ -2,7 +2,7 @@ use Rattle.std.proofs.Common.{◌≡◌, [], refl, sym, ap, ◌∙◌, subst}
 use Rattle.std.specs.Prelude.{Some, false, true, Ok}
 use Rattle.cbm_medium.specs.Place.{sector_count}
 use Rattle.cbm_medium.specs.Seen.{HasFailed}
-use Rattle.cbm_file.specs.Files.{bytes_in}
+use Rattle.cbm_file.specs.Files.{Records, bytes_in, record_length_in, file_at}
 use Rattle.cbm_file.specs.Padding.{before_filler}
 use Rattle.cbm_file.specs.Changes.{new_slot, with_file, unclosed}
 use Rattle.cbm_volume.specs.Map.{geometry_of}
@@ -18,9 +18,10 @@ use Rattle.cbm_channel.specs.Standing.{use_of, uses_of}
 use Rattle.cbm_channel.specs.Planned.{PlannedAs, IsOpened, opened_by, disk_opened, appended_to, reopened_at, plan_writes}
 use Rattle.cbm_channel.proofs.Troubles.{read_from, entry_broken, passed_on}
 use Rattle.cbm_channel.proofs.Stands.{stood, means_of, unwritten_at}
-use Rattle.cbm_channel.proofs.Planning.{readable, writable, appendable, replaceable, file_opens, reads_as, none_passes}
+use Rattle.cbm_channel.proofs.Planning.{readable, relatable, writable, appendable, replaceable, file_opens, reads_as, none_passes}
 use Rattle.cbm_machine.specs.Machines as machine
-use Rattle.cbm_channel.proofs.Opens.{begins_as, nothing_begun, failed_by, not_del, match_some, match_none, has_place, no_block, can_be, on_err}
+use Rattle.cbm_channel.proofs.Opens.{relates_opened, begins_as, nothing_begun, failed_by, not_del, match_some, match_none, has_place, no_block, can_be, on_err}
+use Rattle.cbm_volume.proofs.RecordUses.{of_records}
 use Rattle.cbm_channel.proofs.dos.Dos.opened.Goals as goal
 
 -- a listing
@@ -49,6 +50,7 @@ returns-in_ok-reader-in-ReadFile-clause-opened g c = λ m p ch h s idle.
     let st = stood g.M.Medium.seen _ _ m c.self.view_is s in
     let disk = ap (disk_opened m.disk) x.1 in (
       (bytes_in (body_at m.disk x.0), file_opens m.disk p x.0 c.in-ReadFile.found.slot x.1 x.2.number),
+      tt,
       subst (λ d. HoldsNow (g.M.Medium.seen c.args.self.now.medium).tracks (g.M.Medium.seen c.args.self.now.medium).content d (with_use (uses_of c.args.self.now.channels m.channels) ch (use_of (File c.in-ReadFile.found.slot c.in_ok-reader-in-ReadFile.reader) (opened_by m.disk p)))) (sym disk)
           (subst (λ k. HoldsNow (g.M.Medium.seen k.medium).tracks (g.M.Medium.seen k.medium).content m.disk (with_use (uses_of k.channels m.channels) ch (use_of (File c.in-ReadFile.found.slot c.in_ok-reader-in-ReadFile.reader) (opened_by m.disk p)))) c.self.view_is
           (reads_as (g.M.Medium.seen c.self.inside.volume).tracks (g.M.Medium.seen c.self.inside.volume).content m.disk p x.0 c.in-ReadFile.found.slot c.in_ok-reader-in-ReadFile.reader (uses_of c.self.inside.channels m.channels) ch x.1 x.2.number
@@ -125,6 +127,37 @@ returns-in-Some-2-clause-opened g c = λ m p ch h s idle.
     let begun = match_some _ _ _ _ c.in-Some-2.is (c.in_ok-writer-in-ReplaceFile.ensures.begun m.disk (uses_of c.self.inside.channels m.channels) ch x.1.file st.holds (subst (λ k. uses_of k.channels m.channels ch ≡ Idle) (sym c.self.view_is) idle) can) in
     subst (λ k. IsOpened (g.M.Medium.seen k.medium).tracks (g.M.Medium.seen c.begin_replace.new.self).content m ch p (uses_of k.channels m.channels) (Some (code.Writing c.in-Some-2.writer false))) c.self.view_is
     (begins_as _ _ m p _ (uses_of c.self.inside.channels m.channels) ch c.in-ReplaceFile.slot true [] 1 c.in-Some-2.writer (ap (opened_by m.disk) x.0) (ap (disk_opened m.disk) x.0) begun)
+
+-- a relative file
+
+pub returns-in_err-open_records-in-OpenRecords-clause-stopped : goal.returns-in_err-open_records-in-OpenRecords-clause-stopped
+returns-in_err-open_records-in-OpenRecords-clause-stopped g c = λ m p h s.
+    let x = relatable _ _ m p c.args.plan c.in-OpenRecords.found (subst (λ k. PlannedAs (g.M.Medium.seen k.medium).tracks (g.M.Medium.seen k.medium).content m (Ok p) (Ok c.args.plan)) (sym c.self.view_is) h) c.in-OpenRecords.is in
+    let means = means_of _ _ _ _ _ _ m (stood g.M.Medium.seen _ _ m c.self.view_is s) in
+    let file = of_records _ _ m.disk x.0 x.2.file means x.2.in_slot x.2.closed x.2.relative in
+    absurd (let bad = c.in_err-open_records-in-OpenRecords.ensures.means m.disk x.0 x.2.file file.width file.blocks file.sides file.records means x.2.stands x.2.in_slot file.body in (cc))
+
+pub returns-in_err-on-in-OpenRecords-clause-stopped : goal.returns-in_err-on-in-OpenRecords-clause-stopped
+returns-in_err-on-in-OpenRecords-clause-stopped g c = λ m p h s.
+    let x = relatable _ _ m p c.args.plan c.in-OpenRecords.found (subst (λ k. PlannedAs (g.M.Medium.seen k.medium).tracks (g.M.Medium.seen k.medium).content m (Ok p) (Ok c.args.plan)) (sym c.self.view_is) h) c.in-OpenRecords.is in
+    let means = means_of _ _ _ _ _ _ m (stood g.M.Medium.seen _ _ m c.self.view_is s) in
+    let file = of_records _ _ m.disk x.0 x.2.file means x.2.in_slot x.2.closed x.2.relative in
+    let width = sym (ap record_length_in file.body) ∙ x.2.width ∙ sym c.record_length-length.ensures in
+    absurd (c.in_err-on-in-OpenRecords.ensures.means m.disk x.2.file file.blocks file.sides file.records means (ap (file_at m.disk) (sym x.2.number) ∙ x.2.in_slot) x.2.closed
+    (file.body ∙ ap (λ w. Records w file.records file.blocks file.sides) width))
+
+pub returns-in_ok-on-in-OpenRecords-clause-opened : goal.returns-in_ok-on-in-OpenRecords-clause-opened
+returns-in_ok-on-in-OpenRecords-clause-opened g c = λ m p ch h s idle.
+    let x = relatable _ _ m p c.args.plan c.in-OpenRecords.found (subst (λ k. PlannedAs (g.M.Medium.seen k.medium).tracks (g.M.Medium.seen k.medium).content m (Ok p) (Ok c.args.plan)) (sym c.self.view_is) h) c.in-OpenRecords.is in
+    let st = stood g.M.Medium.seen _ _ m c.self.view_is s in
+    let means = means_of _ _ _ _ _ _ m st in
+    let file = of_records _ _ m.disk x.0 x.2.file means x.2.in_slot x.2.closed x.2.relative in
+    let width = sym (ap record_length_in file.body) ∙ x.2.width ∙ sym c.record_length-length.ensures in
+    let on = c.in_ok-on-in-OpenRecords.ensures.means m.disk x.2.file file.blocks file.sides file.records means (ap (file_at m.disk) (sym x.2.number) ∙ x.2.in_slot) x.2.closed
+    (file.body ∙ ap (λ w. Records w file.records file.blocks file.sides) width) in
+    let place = c.in_ok-on-in-OpenRecords.ensures.place in
+    subst (λ k. IsOpened (g.M.Medium.seen k.medium).tracks (g.M.Medium.seen k.medium).content m ch p (uses_of k.channels m.channels) (Some (code.Records c.in_ok-on-in-OpenRecords.on))) c.self.view_is
+    (relates_opened _ _ _ _ _ _ m ch p x.0 c.in-OpenRecords.found c.in_ok-on-in-OpenRecords.on st x.1 x.2 place.0 place.1.1.0 place.1.1.1 on)
 
 -- ---- nothing has changed
 

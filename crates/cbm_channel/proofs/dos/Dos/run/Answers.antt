@@ -5,7 +5,7 @@ use Rattle.cbm_machine.specs.Machines.{answered}
 use Rattle.cbm_machine.specs.Running.{run, rename, scratch, copy}
 use Rattle.cbm_channel.specs.Commanded.{formats}
 use Rattle.cbm_channel.proofs.Goings.{part_same}
-use Rattle.cbm_channel.proofs.Named.{new_name_cut, copy_name_cut}
+use Rattle.cbm_channel.proofs.Named.{new_name_cut, copy_name_cut, place_some}
 use Rattle.cbm_channel.proofs.dos.Dos.run.Goals as goal
 
 pub returns-in-New-clause-goes : goal.returns-in-New-clause-goes
@@ -38,4 +38,6 @@ pub returns-in-Initialize-clause-goes : goal.returns-in-Initialize-clause-goes
 returns-in-Initialize-clause-goes g c = λ m of s whole. (_, inl (sym (ap (λ x. answered m (run x m)) c.in-Initialize.is)), c.say.ensures.leads m s)
 
 pub returns-in-Position-clause-goes : goal.returns-in-Position-clause-goes
-returns-in-Position-clause-goes g c = λ m of s whole. (_, inl (sym (ap (λ x. answered m (run x m)) c.in-Position.is)), c.place.ensures.leads _ _ m s)
+returns-in-Position-clause-goes g c = λ m of s whole.
+    let some = place_some of.0 _ _ _ (of.1 ∙ ap (λ x. Ok x) c.in-Position.is) in
+    (_, inl (sym (ap (λ x. answered m (run x m)) c.in-Position.is)), c.place.ensures.leads some.0 some.1 m s)

@@ -4,10 +4,9 @@ use Rattle.cbm_medium.specs.Seen.{HasFailed}
 use Rattle.cbm_machine.specs.Machines.{channel}
 use Rattle.cbm_channel.specs.Standing.{uses_of}
 use Rattle.cbm_channel.specs.Going.{put_written}
-use Rattle.cbm_channel.proofs.Asked.{never_relative}
 use Rattle.cbm_channel.proofs.BytesPut.{IsPut}
-use Rattle.cbm_channel.proofs.Stands.{stood, stands_at, use_at}
-use Rattle.cbm_channel.proofs.Stores.{put_stored, put_refused, put_cut, has_failed, renamed}
+use Rattle.cbm_channel.proofs.Stands.{stood, stands_at, waits_at, use_at}
+use Rattle.cbm_channel.proofs.Stores.{put_waits, put_stored, put_refused, put_cut, has_failed, renamed}
 use Rattle.cbm_channel.proofs.dos.Dos.store.Goals as goal
 
 -- the byte is stored, or dropped
@@ -17,10 +16,11 @@ returns-in-Ok-true-clause-goes g c = λ m s.
     let at = stands_at _ _ _ _ _ _ m c.args.channel c.index-self-channel.result c.requires c.self.invariant st in
     let same = use_at (slice_index_or c.self.inside.channels c.args.channel c.index-self-channel.result) _ m.channels c.args.channel _ (omega (arith, c.requires, c.self.invariant.count)) refl in
     let put = c.in-Ok-true.ensures.put m.disk (uses_of c.self.inside.channels m.channels) c.args.channel (channel m c.args.channel) st.holds same at in
-    let done = subst (λ b. IsPut (g.M.Medium.seen c.self.inside.volume).tracks (g.M.Medium.seen c.put.new.volume).content m.disk (uses_of c.self.inside.channels m.channels) c.args.channel c.put.new.self (channel m c.args.channel) c.args.byte b) c.in-Ok-true.field-0-test put in (
+    let done = subst (λ b. IsPut (g.M.Medium.seen c.self.inside.volume).tracks (g.M.Medium.seen c.put.new.volume).content m.disk (uses_of c.self.inside.channels m.channels) c.args.channel c.put.new.self (channel m c.args.channel) c.args.byte b) c.in-Ok-true.field-0-test put in
+    let waits = put_waits c.args.byte m.disk (slice_index_or c.self.inside.channels c.args.channel c.index-self-channel.result) c.put.new.self (channel m c.args.channel) at done.1 (λ e. (c.in-Ok-true.ensures.quiet e).1) (waits_at _ _ _ _ _ _ m c.args.channel c.index-self-channel.result c.requires c.self.invariant st) in (
       put_written c.args.channel c.args.byte m,
       inl refl,
-      renamed _ _ _ _ _ _ _ _ _ c.put.ensures.only.tracks c.put.ensures.only.protected (put_stored _ _ _ _ _ _ m c.args.channel c.requires c.self.invariant st (never_relative _ _ at) _ c.args.byte _ done),
+      renamed _ _ _ _ _ _ _ _ _ c.put.ensures.only.tracks c.put.ensures.only.protected (put_stored _ _ _ _ _ _ m c.args.channel c.requires c.self.invariant st _ c.args.byte _ done waits),
     )
 
 -- no block is free for it
@@ -31,7 +31,8 @@ returns-in-Ok-false-clause-goes g c = λ m s.
     let same = use_at (slice_index_or c.self.inside.channels c.args.channel c.index-self-channel.result) _ m.channels c.args.channel _ (omega (arith, c.requires, c.self.invariant.count)) refl in
     let put = c.in-Ok-false.ensures.put m.disk (uses_of c.self.inside.channels m.channels) c.args.channel (channel m c.args.channel) st.holds same at in
     let done = subst (λ b. IsPut (g.M.Medium.seen c.self.inside.volume).tracks (g.M.Medium.seen c.put.new.volume).content m.disk (uses_of c.self.inside.channels m.channels) c.args.channel c.put.new.self (channel m c.args.channel) c.args.byte b) c.in-Ok-false.field-0-test put in
-    let next = put_refused _ _ _ _ _ _ m c.args.channel c.requires c.self.invariant st (never_relative _ _ at) _ c.args.byte _ done in (
+    let waits = put_waits c.args.byte m.disk (slice_index_or c.self.inside.channels c.args.channel c.index-self-channel.result) c.put.new.self (channel m c.args.channel) at done.1 (λ e. (c.in-Ok-false.ensures.quiet e).1) (waits_at _ _ _ _ _ _ m c.args.channel c.index-self-channel.result c.requires c.self.invariant st) in
+    let next = put_refused _ _ _ _ _ _ m c.args.channel c.requires c.self.invariant st _ c.args.byte _ done waits in (
       _,
       inl (sym next.1),
       c.say.ensures.leads next.0 (renamed _ _ _ _ _ _ _ _ _ c.put.ensures.only.tracks c.put.ensures.only.protected next.2),
@@ -44,7 +45,7 @@ returns-in-Err-clause-goes g c = λ m s.
     let at = stands_at _ _ _ _ _ _ m c.args.channel c.index-self-channel.result c.requires c.self.invariant st in
     let same = use_at (slice_index_or c.self.inside.channels c.args.channel c.index-self-channel.result) _ m.channels c.args.channel _ (omega (arith, c.requires, c.self.invariant.count)) refl in
     let cut = c.in-Err.ensures.stopped m.disk (uses_of c.self.inside.channels m.channels) c.args.channel (channel m c.args.channel) st.holds same at in
-    let next = put_cut _ _ _ _ _ _ m c.args.channel c.requires c.self.invariant st (never_relative _ _ at) _ _ cut.0 cut.1 in
+    let next = put_cut _ _ _ _ _ _ m c.args.channel c.requires c.self.invariant st _ _ cut.0 cut.1 in
     let failed = has_failed _ _ _ c.args.channel cut.0.slot (g.M.Medium.seen c.self.inside.volume) (g.M.Medium.seen c.put.new.volume) c.in-Err.trouble st.orderly st.same_protection cut.0.bytes cut.0.blocks cut.0.full cut.0.replaces cut.0.wrote
     (c.in-Err.ensures.cause m.disk (uses_of c.self.inside.channels m.channels) c.args.channel (channel m c.args.channel) st.holds same at) in
     let moved = subst (λ k. HasFailed (g.M.Medium.seen k.medium) (g.M.Medium.seen c.set.new.self.medium)) c.self.view_is (subst (λ v. HasFailed (g.M.Medium.seen c.self.inside.volume) (g.M.Medium.seen v)) (sym c.set.ensures.medium) failed) in (

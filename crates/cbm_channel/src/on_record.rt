@@ -1,0 +1,204 @@
+ghost use Rattle.std.specs.Prelude.{◌≡◌, ◌≤◌, ◌<◌, ◌-◌, ◌^◌, ◌⊎◌, ◌==◌, ℕ, true, false, List, length, drop, is_some, slice_index_or, IfOk, IfErr, IsOkAnd};
+ghost use Rattle.std.specs.List.{list_all};
+ghost use Rattle.cbm_medium.specs.Met.{IsMet};
+ghost use Rattle.cbm_file.specs.Files.{Disk, File, Records, file_at};
+ghost use Rattle.cbm_machine.specs.Records.{record_at};
+ghost use Rattle.cbm_volume.specs.Holding.{HoldsDisk};
+ghost use Rattle.cbm_volume.specs.Map.{geometry_of};
+ghost use Rattle.cbm_volume.specs.Slots.{directory_of};
+ghost use Rattle.cbm_channel.specs.Placed.{Waits, is_last, is_broken, record_of};
+
+use cbm_volume::{Medium, Record, Trouble, Volume};
+use std::marker::Model;
+
+/// What waits on a channel that has the records of a relative file open.
+#[derive(Drop)]
+pub enum Waiting {
+    /// The record of its place.
+    Record(Record),
+    /// That record isn't there.
+    Absent,
+    /// The medium didn't read it.
+    Broken,
+}
+
+/// A relative file that is open: its slot, the length of its records, and the place, which is a record and a byte of
+/// it, both counted from 1. What the place has is read as soon as it is reached.
+#[derive(Drop)]
+pub struct OnRecord {
+    slot: u8,
+    length: u8,
+    number: u32,
+    position: u8,
+    waiting: Waiting,
+}
+
+impl Model for OnRecord {
+    ghost use Rattle.std.specs.Prelude.{◌≡◌, ◌≤◌, ◌<◌, ◌^◌, true, is_some};
+    ghost use Rattle.cbm_channel.specs.Placed.{Placed, record_of};
+
+    ghost Value = { Placed };
+
+    ghost view = { λ r. record { slot = r.slot; width = r.length; number = r.number; position = r.position; waiting = r.waiting } };
+
+    ghost invariant = { λ r. is_some (record_of r.waiting) ≡ true → r.number ≤ 195072 };
+}
+
+/// Whether these are only zeros.
+fn are_zeros(bytes: &[u8]) -> bool
+    ensures { result ≡ list_all (λ c. c == 0) bytes.now }
+{
+    bytes.iter().all(|byte| *byte == 0)
+}
+
+/// Whether only zeros stand behind a position.
+fn is_last(bytes: &[u8], position: u8) -> bool
+    ensures value { result ≡ is_last bytes.now position }
+    ensures more { result ≡ false → position < length bytes.now }
+{
+    let place = position as usize;
+    if place >= bytes.len() {
+        return true;
+    }
+    are_zeros(&bytes[place..])
+}
+
+/// The byte at a position, counted from 1, and 0 past the end.
+fn byte_at(bytes: &[u8], position: u8) -> u8
+    ensures { result ≡ slice_index_or bytes.now (position - 1) 0 }
+{
+    let place = position.saturating_sub(1) as usize;
+    if place < bytes.len() { bytes[place] } else { 0 }
+}
+
+/// What waits at a record of the file in a slot. Errors: why it can't be read.
+fn waiting_at<M: Medium>(
+    volume: &Volume<M>,
+    slot: u8,
+    number: u32,
+) -> Result<Waiting, Trouble>
+    requires { number < 2 ^ 24 }
+    ensures means { let now = M.seen volume.now in (d : Disk) (f : File) (w b s : ℕ) (rs : List (List ℕ)) →
+        HoldsDisk now.tracks now.content d → file_at d slot ≡ Some f → f.body ≡ Records w rs b s →
+        IsOkAnd result (Waits (record_at (Records w rs b s) number)) }
+    ensures whole { IfOk result (λ x. is_broken x ≡ false) }
+    ensures few { IfOk result (λ x. is_some (record_of x) ≡ true → number ≤ 195072) }
+    ensures cause { let now = M.seen volume.now in let tracks = geometry_of now.tracks now.content in
+        IfErr result (λ t. ((directory_of tracks now.content).trouble ≡ Some t) ⊎ IsMet tracks now.content t) }
+{
+    if number == 0 {
+        return Ok(Waiting::Absent);
+    }
+    match volume.read_record(slot, number)? {
+        Some(record) => Ok(Waiting::Record(record)),
+        None => Ok(Waiting::Absent),
+    }
+}
+
+impl OnRecord {
+    ghost use Rattle.std.specs.Prelude.{◌≡◌, ◌≤◌, ◌<◌, ◌^◌, ◌⊎◌, ℕ, true, List, Some, IfOk, IfErr, OnOk, OnErr, IsOk, IsOkAnd};
+    ghost use Rattle.cbm_machine.specs.Machines.{Relative};
+    ghost use Rattle.cbm_machine.specs.Talking.{taken_on};
+    ghost use Rattle.cbm_channel.specs.declared.on_record.Waiting.TheVariants.{Broken};
+    ghost use Rattle.cbm_channel.specs.Placed.{IsOnRecord, IsPlacedAt, IsMoved, shown_at, is_absent, is_broken};
+
+    /// The first byte of the first record of the file in a slot, whose records have this length. Errors: why that
+    /// record can't be read.
+    pub(crate) fn begin<M: Medium>(volume: &Volume<M>, slot: u8, length: u8) -> Result<OnRecord, Trouble>
+        ensures place { IfOk result
+            (λ r. (r.slot ≡ slot) × ((r.width ≡ length) × ((r.number ≡ 1) × (r.position ≡ 1)))) }
+        ensures means { let now = M.seen volume.now in (d : Disk) (f : File) (b s : ℕ) (rs : List (List ℕ)) →
+            HoldsDisk now.tracks now.content d → file_at d slot ≡ Some f → f.closed ≡ true →
+            f.body ≡ Records length rs b s → IsOkAnd result (IsOnRecord d) }
+        ensures cause { let now = M.seen volume.now in let tracks = geometry_of now.tracks now.content in
+            IfErr result (λ t. ((directory_of tracks now.content).trouble ≡ Some t) ⊎ IsMet tracks now.content t) }
+    {
+        let waiting = waiting_at(volume, slot, 1)?;
+        Ok(OnRecord {
+            slot,
+            length,
+            number: 1,
+            position: 1,
+            waiting,
+        })
+    }
+
+    /// The number of the file's slot.
+    pub(crate) fn slot(&self) -> u8
+        ensures { result ≡ self.now.slot }
+    {
+        self.slot
+    }
+
+    /// The length of the file's records.
+    pub(crate) fn length(&self) -> u8
+        ensures { result ≡ self.now.width }
+    {
+        self.length
+    }
+
+    /// Whether the record of the place isn't there.
+    pub(crate) fn is_absent(&self) -> bool
+        ensures { result ≡ is_absent self.now.waiting }
+    {
+        matches!(self.waiting, Waiting::Absent)
+    }
+
+    /// The byte that waits, and whether it is the last: only zeros follow it in its record. A record that isn't there
+    /// shows a return, and one that doesn't read nothing.
+    pub(crate) fn peek(&self) -> Option<(u8, bool)>
+        ensures { result ≡ shown_at self.now.waiting self.now.position }
+    {
+        match &self.waiting {
+            Waiting::Record(record) => {
+                let bytes = record.as_slice();
+                Some((byte_at(bytes, self.position), is_last(bytes, self.position)))
+            }
+            Waiting::Absent => Some((b'\r', true)),
+            Waiting::Broken => None,
+        }
+    }
+
+    /// Goes to another place. Errors: why its record can't be read, of which nothing waits then.
+    pub(crate) fn go<M: Medium>(
+        &mut self,
+        volume: &Volume<M>,
+        number: u32,
+        position: u8,
+    ) -> Result<(), Trouble>
+        requires { number < 2 ^ 24 }
+        ensures place { IsPlacedAt self.old self.new number position }
+        ensures well { let now = M.seen volume.now in (d : Disk) → HoldsDisk now.tracks now.content d →
+            IsOnRecord d self.old → IsOk result × IsOnRecord d self.new }
+        ensures whole { OnOk result (is_broken self.new.waiting ≡ false) }
+        ensures broken { OnErr result (self.new.waiting ≡ Broken) }
+        ensures cause { let now = M.seen volume.now in let tracks = geometry_of now.tracks now.content in
+            IfErr result (λ t. ((directory_of tracks now.content).trouble ≡ Some t) ⊎ IsMet tracks now.content t) }
+    {
+        self.number = number;
+        self.position = position;
+        self.waiting = Waiting::Broken;
+        self.waiting = waiting_at(volume, self.slot, number)?;
+        Ok(())
+    }
+
+    /// The byte that waits was taken: the next one of the record waits, or the next record's first one. Where no record
+    /// waits nothing happens. Errors: why the next record can't be read, of which nothing waits then.
+    pub(crate) fn taken<M: Medium>(&mut self, volume: &Volume<M>) -> Result<(), Trouble>
+        ensures moved { IsMoved self.old.waiting self.old self.new result }
+        ensures slot { self.new.slot ≡ self.old.slot }
+        ensures well { let now = M.seen volume.now in (d : Disk) → HoldsDisk now.tracks now.content d →
+            IsOnRecord d self.old → IsOk result × (IsOnRecord d self.new ×
+            (Relative self.new.slot self.new.number self.new.position ≡
+            taken_on d (Relative self.old.slot self.old.number self.old.position))) }
+    {
+        let Waiting::Record(record) = &self.waiting else {
+            return Ok(());
+        };
+        if is_last(record.as_slice(), self.position) {
+            return self.go(volume, self.number + 1, 1);
+        }
+        self.position += 1;
+        Ok(())
+    }
+}
