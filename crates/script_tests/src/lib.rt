@@ -16,6 +16,8 @@ mod faults;
 #[cfg(test)]
 mod formats;
 #[cfg(test)]
+mod records;
+#[cfg(test)]
 mod relative_scratches;
 #[cfg(test)]
 mod rows;

@@ -11,7 +11,7 @@ use test_images::{empty_image, place, put, stands};
 
 /// A disk with the relative file R of five records of 100 bytes: the blocks 17/0 and 17/20, and the side sectors 17/10
 /// and 17/11, the second of which lists no block.
-fn relative_image(alloc: Global) -> Result<Vec<u8>, AllocError> {
+pub fn relative_image(alloc: Global) -> Result<Vec<u8>, AllocError> {
     let mut image = empty_image(alloc)?;
     let entry = place(18, 1);
     put(&mut image, entry.wrapping_add(2), b"\x84\x11\0R");
