@@ -1,14 +1,14 @@
 -- The place in records goes on: the channel fits in among the others.
 use Rattle.std.proofs.Common.{◌≡◌, ℕ, zero, suc, ◌+◌, ◌-◌, ◌<◌, ◌≤◌, Bool, true, false, List, [], ◌∷◌, drop, length, refl, sym, ap, ◌∙◌, subst, arith}
-use Rattle.std.specs.Prelude.{◌==◌, nat_lt, if◌then◌else◌, is_some, Option, Some, None, Ok, slice_get}
+use Rattle.std.specs.Prelude.{◌==◌, nat_lt, if◌then◌else◌, Option, Some, None, slice_get}
 use Rattle.std.specs.List.{list_all, list_any}
 use Rattle.std.proofs.lemmas.Bool.{eqb-true}
 use Rattle.std.proofs.lemmas.Bool.Decides.{nat_tests}
-use Rattle.cbm_file.specs.Files.{Body, Bytes, Records, File, Disk, file_at, record_length_in}
+use Rattle.cbm_file.specs.Files.{Body, Records, File, Disk, file_at, record_length_in}
 use Rattle.cbm_volume.specs.Content.{Content}
 use Rattle.cbm_volume.specs.Holding.{HoldsDisk}
 use Rattle.cbm_volume.proofs.RecordUses.{records_width}
-use Rattle.cbm_machine.specs.declared.code.Code.TheVariants.{Fine, NoRecord, RecordOverflow}
+use Rattle.cbm_machine.specs.declared.code.Code.TheVariants.{RecordOverflow}
 use Rattle.cbm_machine.specs.Machines as machine
 use Rattle.cbm_machine.specs.Machines.{Machine, Channel, Closed, Reading, Writing, Stopped, Relative, with_channel, say, answered}
 use Rattle.cbm_machine.specs.Finding.{body_at}
@@ -18,7 +18,7 @@ use Rattle.cbm_machine.specs.Running.{place, run}
 use Rattle.cbm_command.specs.declared.command.Command.TheVariants.{Position}
 use Rattle.cbm_machine.specs.Talking.{taken_on}
 use Rattle.cbm_channel.specs.Moved.{code_placed, placed_on}
-use Rattle.cbm_channel.proofs.OnRecords.{body_there, goes_on, taken_as}
+use Rattle.cbm_channel.proofs.OnRecords.{body_there, taken_as}
 use Rattle.cbm_channel.proofs.Orders.{FitsIn, less_fits, taken_fits}
 use Rattle.cbm_channel.proofs.Planning.{none_passes}
 use Rattle.cbm_channel.proofs.Stores.{same_fits, same_machine}

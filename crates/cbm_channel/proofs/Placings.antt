@@ -1,8 +1,7 @@
 -- P on a channel of the code, beside the machine's.
 use Rattle.std.proofs.Common.{◌≡◌, ℕ, ◌<◌, ◌≤◌, Bool, true, false, List, Option, refl, sym, ap, ◌∙◌, subst}
-use Rattle.std.specs.Prelude.{nat_lt, if◌then◌else◌, is_some, IsOkAnd, Result, Ok}
+use Rattle.std.specs.Prelude.{nat_lt, if◌then◌else◌, is_some}
 use Rattle.std.proofs.lemmas.Bool.{lt-ltb, le-ltb}
-use Rattle.cbm_medium.specs.declared.fault.Trouble.{Trouble}
 use Rattle.cbm_file.specs.Files.{Disk, record_length_in}
 use Rattle.cbm_volume.specs.Content.{Content}
 use Rattle.cbm_volume.specs.Writers.{Use, Relates, HoldsNow, with_use}
@@ -87,7 +86,7 @@ place_reached t c d uses ch k p x old r s b is near at now there h used stands w
     let next : placed_on k p d x ≡ machine.Relative s.slot s.number s.position =
     ap (placed_on k p d) was ∙ ap (λ (y : Bool). if y then machine.Relative r.slot r.number r.position else machine.Relative r.slot k p) within ∙ (λ i. machine.Relative (sym at.same_slot i) (sym at.at_number i) (sym at.at_position i)) in (
       said_there s.waiting b now.waits.whole there
-      ∙ sym (ap (code_placed k p d) was ∙ ap (λ (y : Bool). if y then RecordOverflow else if is_some (record_at (body_at d r.slot) k) then Fine else NoRecord) within ∙ ap (λ (o : Option (List ℕ)). if is_some o then Fine else NoRecord) same),
+          ∙ sym (ap (code_placed k p d) was ∙ ap (λ (y : Bool). if y then RecordOverflow else if is_some (record_at (body_at d r.slot) k) then Fine else NoRecord) within ∙ ap (λ (o : Option (List ℕ)). if is_some o then Fine else NoRecord) same),
       next,
       now,
       (let now_used : uses ch ≡ Relates s.slot = used ∙ ap (λ (y : Channel). use_of y x) is ∙ ap Relates (sym at.same_slot) in subst (HoldsNow t c d) (sym (with_same uses ch (Relates s.slot) now_used)) h),

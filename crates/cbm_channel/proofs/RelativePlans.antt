@@ -1,7 +1,7 @@
 -- What an OPEN by type L will do, or why it is refused, from the tests that the code makes.
-use Rattle.std.proofs.Common.{◌≡◌, ℕ, Bool, true, false, refl, sym, ap, ◌∙◌, subst}
+use Rattle.std.proofs.Common.{◌≡◌, ℕ, Bool, true, false, refl, sym, ◌∙◌, subst}
 use Rattle.std.specs.Option.{option_eq}
-use Rattle.std.specs.Prelude.{◌||◌, nat_lt, not, if◌then◌else◌, Option, Some, None, Result, Ok, Err}
+use Rattle.std.specs.Prelude.{nat_lt, Option, Some, None, Result, Ok, Err}
 use Rattle.cbm_file.specs.contracts.file_type.FileTypePartialEq.TheImpl.{eq-value}
 use Rattle.cbm_file.specs.declared.file_type.FileType.{FileType}
 use Rattle.cbm_file.specs.declared.file_type.FileType.TheVariants.{Rel}
@@ -12,7 +12,6 @@ use Rattle.cbm_command.specs.declared.opening.Opening.TheVariants as opening
 use Rattle.cbm_command.specs.Openings.{is_relative}
 use Rattle.cbm_command.specs.Refusals.{◌>>=◌}
 use Rattle.cbm_volume.specs.Content.{Content}
-use Rattle.cbm_machine.specs.declared.code.Code.{Code}
 use Rattle.cbm_machine.specs.declared.status.Status.{Status}
 use Rattle.cbm_machine.specs.Machines.{Machine, too_many}
 use Rattle.cbm_machine.specs.Finding.{is_there, found}

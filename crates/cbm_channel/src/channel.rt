@@ -132,7 +132,11 @@ impl Channel {
                 Some(Code::FileNotOpen)
             }
             Channel::Records(on) => {
-                if on.is_absent() { Some(Code::NoRecord) } else { None }
+                if on.is_absent() {
+                    Some(Code::NoRecord)
+                } else {
+                    None
+                }
             }
         }
     }
@@ -242,7 +246,11 @@ impl Channel {
                     return Ok(Code::RecordOverflow);
                 }
                 on.go(volume, number, position)?;
-                Ok(if on.is_absent() { Code::NoRecord } else { Code::Fine })
+                Ok(if on.is_absent() {
+                    Code::NoRecord
+                } else {
+                    Code::Fine
+                })
             }
             _ => Ok(Code::WrongType),
         }

@@ -72,11 +72,7 @@ fn byte_at(bytes: &[u8], position: u8) -> u8
 }
 
 /// What waits at a record of the file in a slot. Errors: why it can't be read.
-fn waiting_at<M: Medium>(
-    volume: &Volume<M>,
-    slot: u8,
-    number: u32,
-) -> Result<Waiting, Trouble>
+fn waiting_at<M: Medium>(volume: &Volume<M>, slot: u8, number: u32) -> Result<Waiting, Trouble>
     requires { number < 2 ^ 24 }
     ensures means { let now = M.seen volume.now in (d : Disk) (f : File) (w b s : ℕ) (rs : List (List ℕ)) →
         HoldsDisk now.tracks now.content d → file_at d slot ≡ Some f → f.body ≡ Records w rs b s →
@@ -104,7 +100,11 @@ impl OnRecord {
 
     /// The first byte of the first record of the file in a slot, whose records have this length. Errors: why that
     /// record can't be read.
-    pub(crate) fn begin<M: Medium>(volume: &Volume<M>, slot: u8, length: u8) -> Result<OnRecord, Trouble>
+    pub(crate) fn begin<M: Medium>(
+        volume: &Volume<M>,
+        slot: u8,
+        length: u8,
+    ) -> Result<OnRecord, Trouble>
         ensures place { IfOk result
             (λ r. (r.slot ≡ slot) × ((r.width ≡ length) × ((r.number ≡ 1) × (r.position ≡ 1)))) }
         ensures means { let now = M.seen volume.now in (d : Disk) (f : File) (b s : ℕ) (rs : List (List ℕ)) →

@@ -37,4 +37,3 @@ IsCarriedOut ch text m = IsOpenCarriedOut ch text (if ch == 15 then m else close
 -- THE END OF WHAT IS PUT IS CARRIED OUT: no text waits for a channel that has records
 abbrev pub IsEndCarriedOut : ℕ → Machine → Type 0
 IsEndCarriedOut ch m = MatchBool (ch == 15) (Unit {0}) ((is_relative_channel (channel m ch) ≡ false) ⊎ (text_for ch m.text ≡ []))
-

@@ -53,12 +53,24 @@ fn a_place_is_reached(rt: HostRuntime) -> Result<(), Fail> {
     let image = records_image(alloc)?;
     let rows = [
         // A record, and the byte in its second block; 0 counts as 1.
-        ("put 15 P\\02\\05\\00\\01\nstatus\nget 2 9\n", "status 00, OK,00,00\nget 2 46495645 eoi\n"),
-        ("put 15 P\\62\\03\\00\\37\nget 2 9\nget 2 9\n", "get 2 58 eoi\nget 2 ff eoi\n"),
-        ("put 15 P\\02\\02\\00\\00\nget 2 1\nput 15 P\\02\\00\nget 2 9\n", "get 2 54\nget 2 574f eoi\n"),
+        (
+            "put 15 P\\02\\05\\00\\01\nstatus\nget 2 9\n",
+            "status 00, OK,00,00\nget 2 46495645 eoi\n",
+        ),
+        (
+            "put 15 P\\62\\03\\00\\37\nget 2 9\nget 2 9\n",
+            "get 2 58 eoi\nget 2 ff eoi\n",
+        ),
+        (
+            "put 15 P\\02\\02\\00\\00\nget 2 1\nput 15 P\\02\\00\nget 2 9\n",
+            "get 2 54\nget 2 574f eoi\n",
+        ),
         ("put 15 P\\02\\00\\00\nget 2 9\n", "get 2 4f4e45 eoi\n"),
         // The last byte of a record, and one of zeros: at least a byte is sent.
-        ("put 15 P\\02\\01\\00\\64\nget 2 9\nget 2 9\n", "get 2 00 eoi\nget 2 54574f eoi\n"),
+        (
+            "put 15 P\\02\\01\\00\\64\nget 2 9\nget 2 9\n",
+            "get 2 00 eoi\nget 2 54574f eoi\n",
+        ),
         // A place behind the record leaves the one before.
         (
             "put 15 P\\02\\02\\00\\02\nput 15 P\\02\\01\\00\\65\nstatus\nget 2 9\n",
@@ -69,11 +81,23 @@ fn a_place_is_reached(rt: HostRuntime) -> Result<(), Fail> {
             "put 15 P\\02\\06\\00\\02\nstatus\nget 2 9\nstatus\nput 15 P\\02\\05\\00\\04\nget 2 9\n",
             "status 50,RECORD NOT PRESENT,00,00\nget 2 0d eoi\nstatus 50,RECORD NOT PRESENT,00,00\nget 2 45 eoi\n",
         ),
-        ("put 15 P\\02\\ff\\ff\\01\nstatus\n", "status 50,RECORD NOT PRESENT,00,00\n"),
+        (
+            "put 15 P\\02\\ff\\ff\\01\nstatus\n",
+            "status 50,RECORD NOT PRESENT,00,00\n",
+        ),
         // Channels without records.
-        ("put 15 P\\03\\01\\00\\01\nstatus\n", "status 70,NO CHANNEL,00,00\n"),
-        ("put 15 P\\0f\\01\\00\\01\nstatus\n", "status 70,NO CHANNEL,00,00\n"),
-        ("open 0 $\nput 15 P\\00\\01\\00\\01\nstatus\n", "status 64,FILE TYPE MISMATCH,00,00\n"),
+        (
+            "put 15 P\\03\\01\\00\\01\nstatus\n",
+            "status 70,NO CHANNEL,00,00\n",
+        ),
+        (
+            "put 15 P\\0f\\01\\00\\01\nstatus\n",
+            "status 70,NO CHANNEL,00,00\n",
+        ),
+        (
+            "open 0 $\nput 15 P\\00\\01\\00\\01\nstatus\n",
+            "status 64,FILE TYPE MISMATCH,00,00\n",
+        ),
     ];
     for (script, text) in rows {
         let mut whole = String::new(alloc);
@@ -90,17 +114,41 @@ fn opens_by_type_and_length(rt: HostRuntime) -> Result<(), Fail> {
     let image = records_image(alloc)?;
     let rows = [
         // `d` is 100, the length of the records.
-        ("open 2 R,L\nstatus\nget 2 9\n", "status 00, OK,00,00\nget 2 4f4e45 eoi\n"),
-        ("open 2 R,L,d\nstatus\nget 2 9\n", "status 00, OK,00,00\nget 2 4f4e45 eoi\n"),
-        ("open 2 R,L,e\nstatus\nget 2 9\n", "status 50,RECORD NOT PRESENT,00,00\nget 2 none\n"),
-        ("open 0 R,L\nstatus\n", "status 64,FILE TYPE MISMATCH,00,00\n"),
-        ("open 2 @:R,L\nstatus\n", "status 64,FILE TYPE MISMATCH,00,00\n"),
-        ("open 2 @:R\nstatus\n", "status 64,FILE TYPE MISMATCH,00,00\n"),
-        ("open 2 R,A\nstatus\n", "status 64,FILE TYPE MISMATCH,00,00\n"),
+        (
+            "open 2 R,L\nstatus\nget 2 9\n",
+            "status 00, OK,00,00\nget 2 4f4e45 eoi\n",
+        ),
+        (
+            "open 2 R,L,d\nstatus\nget 2 9\n",
+            "status 00, OK,00,00\nget 2 4f4e45 eoi\n",
+        ),
+        (
+            "open 2 R,L,e\nstatus\nget 2 9\n",
+            "status 50,RECORD NOT PRESENT,00,00\nget 2 none\n",
+        ),
+        (
+            "open 0 R,L\nstatus\n",
+            "status 64,FILE TYPE MISMATCH,00,00\n",
+        ),
+        (
+            "open 2 @:R,L\nstatus\n",
+            "status 64,FILE TYPE MISMATCH,00,00\n",
+        ),
+        (
+            "open 2 @:R\nstatus\n",
+            "status 64,FILE TYPE MISMATCH,00,00\n",
+        ),
+        (
+            "open 2 R,A\nstatus\n",
+            "status 64,FILE TYPE MISMATCH,00,00\n",
+        ),
         ("open 2 N,L\nstatus\n", "status 62,FILE NOT FOUND,00,00\n"),
         // Channel 0 reads programs.
         ("open 0 R\nstatus\n", "status 64,FILE TYPE MISMATCH,00,00\n"),
-        ("open 2 R\nopen 2 R\nstatus\nopen 0 $\nget 2 9\n", "status 00, OK,00,00\nget 2 4f4e45 eoi\n"),
+        (
+            "open 2 R\nopen 2 R\nstatus\nopen 0 $\nget 2 9\n",
+            "status 00, OK,00,00\nget 2 4f4e45 eoi\n",
+        ),
     ];
     keep(&rt, alloc, image.as_slice(), &rows)
 }
@@ -119,7 +167,10 @@ fn records_cost_two_channels(rt: HostRuntime) -> Result<(), Fail> {
             "open 2 R\nopen 0 $\nopen 3 X\nstatus\nget 2 9\n",
             "status 70,NO CHANNEL,00,00\nget 2 4f4e45 eoi\n",
         ),
-        ("open 2 R\nclose 15\nopen 3 R\nget 3 9\n", "get 3 4f4e45 eoi\n"),
+        (
+            "open 2 R\nclose 15\nopen 3 R\nget 3 9\n",
+            "get 3 4f4e45 eoi\n",
+        ),
     ];
     keep(&rt, alloc, image.as_slice(), &rows)
 }
@@ -137,7 +188,12 @@ fn an_open_file_stays(rt: HostRuntime) -> Result<(), Fail> {
     ] {
         let script = format!(in alloc; "open 2 R\nput 15 {command}\nstatus\nget 2 9\n")?;
         let text = format!(in alloc; "{text}get 2 4f4e45 eoi\n")?;
-        keep(&rt, alloc, image.as_slice(), &[(script.as_str(), text.as_str())])?;
+        keep(
+            &rt,
+            alloc,
+            image.as_slice(),
+            &[(script.as_str(), text.as_str())],
+        )?;
     }
     Ok(())
 }
@@ -167,7 +223,10 @@ fn what_is_not_carried_out_so_far(rt: HostRuntime) -> Result<(), Fail> {
     let alloc = rt.alloc();
     let image = records_image(alloc)?;
     let rows = [
-        ("open 2 N,L,d\nstatus\n", "status 64,FILE TYPE MISMATCH,00,00\n"),
+        (
+            "open 2 N,L,d\nstatus\n",
+            "status 64,FILE TYPE MISMATCH,00,00\n",
+        ),
         (
             "open 2 R\nput 2 X\nstatus\nget 2 9\n",
             "status 64,FILE TYPE MISMATCH,00,00\nget 2 4f4e45 eoi\n",

@@ -1,4 +1,4 @@
-use Rattle.std.proofs.Common.{refl, sym, ap, subst, ◌∙◌, arith, ◌≤◌, ◌<◌}
+use Rattle.std.proofs.Common.{refl, sym, subst, ◌∙◌, arith}
 use Rattle.cbm_channel.specs.Standing.{WaitsFor}
 use Rattle.cbm_channel.proofs.Placings.{place_closed, place_plain, place_beyond, place_reached}
 use Rattle.cbm_channel.proofs.channel.Channel.place.Goals as goal
