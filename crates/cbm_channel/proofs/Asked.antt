@@ -1,5 +1,5 @@
 -- What the machine's calls do, by what the code keeps of a channel.
-use Rattle.std.proofs.Common.{◌≡◌, ℕ, ◌<◌, ◌≤◌, Bool, true, false, List, [], ◌∷◌, length, refl, ap, sym, subst, ◌∙◌, arith, ◌⊎◌, inl, inr}
+use Rattle.std.proofs.Common.{◌≡◌, ℕ, ◌<◌, ◌≤◌, Bool, true, false, List, [], ◌∷◌, length, refl, ap, subst, ◌∙◌, arith, ◌⊎◌, inl, inr}
 use Rattle.std.specs.Prelude.{◌==◌, if◌then◌else◌, MatchBool, Option, Some, None, is_some, Err}
 use Rattle.std.proofs.lemmas.Bool.{ne_eqb}
 use Rattle.cbm_file.specs.Files.{Disk}
@@ -19,7 +19,6 @@ use Rattle.cbm_channel.specs.declared.on_record.Waiting.{Waiting}
 use Rattle.cbm_channel.specs.declared.on_record.Waiting.TheVariants as waits
 use Rattle.cbm_channel.specs.Placed.{record_of, is_broken, is_absent}
 use Rattle.cbm_channel.proofs.OnRecords.{record_on}
-use Rattle.cbm_machine.specs.CarriedOut.{IsEndCarriedOut}
 use Rattle.cbm_machine.specs.declared.code.Code.{Code}
 use Rattle.cbm_channel.specs.Shown.{talk_refused, is_written, has_records}
 
@@ -50,7 +49,7 @@ talk_of d (code.Stopped s) y h w = ap (talk_refusal d) h
 talk_of d (code.Records r) y h w =
     ap (talk_refusal d) h ∙ ap (λ (o : Option (List ℕ)). if is_some o then None else Some NoRecord) (record_on d r w) ∙ missing_as r.waiting w.waits.whole
 
-relative_of : (x : Channel) (y : machine.Channel) → ChannelStands x y → is_relative_channel y ≡ has_records x
+pub relative_of : (x : Channel) (y : machine.Channel) → ChannelStands x y → is_relative_channel y ≡ has_records x
 relative_of code.Closed y h = ap is_relative_channel h
 relative_of (code.Listing l) y h = ap is_relative_channel h
 relative_of (code.File s r) y h = ap is_relative_channel h.1
@@ -59,7 +58,7 @@ relative_of (code.Stopped s) y h = ap is_relative_channel h
 relative_of (code.Records r) y h = ap is_relative_channel h
 
 -- a text changes nothing of a channel that has no records
-record_of_none : (ch : ℕ) (text : List ℕ) (m : Machine) (y : machine.Channel) → is_relative_channel y ≡ false → write_record ch y text m ≡ m
+pub record_of_none : (ch : ℕ) (text : List ℕ) (m : Machine) (y : machine.Channel) → is_relative_channel y ≡ false → write_record ch y text m ≡ m
 record_of_none ch text m Closed e = refl
 record_of_none ch text m (machine.Reading s left) e = refl
 record_of_none ch text m (machine.Writing s bytes blocks full replaces) e = refl
@@ -99,21 +98,6 @@ module _ (ch : ℕ) (m : Machine) (x : Channel) (other : (ch == 15) ≡ false) (
   pub taken_other : taken ch m ≡ with_channel ch (taken_on m.disk (channel m ch)) m
   taken_other = rw other
 
-  -- the end of what was put, where it is carried out
-  pub plain_end : IsEndCarriedOut ch m → 1 ≤ length (text_for ch m.text) → is_relative_channel (channel m ch) ≡ false
-  plain_end carried some = plain_by (subst (λ (b : Bool). MatchBool b (Unit {0}) ((is_relative_channel (channel m ch) ≡ false) ⊎ (text_for ch m.text ≡ []))) other carried)
-    where
-      plain_by : (is_relative_channel (channel m ch) ≡ false) ⊎ (text_for ch m.text ≡ []) → is_relative_channel (channel m ch) ≡ false
-      plain_by (inl e) = e
-      plain_by (inr none) = absurd (omega (arith, some, ap length none))
-
-  pub records_end : IsEndCarriedOut ch m → 1 ≤ length (text_for ch m.text) → has_records x ≡ true → ⊥
-  records_end carried some e = let z = sym (plain_end carried some) ∙ relative_of x (channel m ch) stands ∙ e in absurd (cc)
-
-  pub store_other : IsEndCarriedOut ch m → 1 ≤ length (text_for ch m.text) → (w : List ℕ) → 1 ≤ length w → store_text ch w m ≡ without_text ch m
-  store_other carried more [] some = absurd (omega (arith, some))
-  store_other carried more (c ∷ w) some = rw other (record_of_none ch (c ∷ w) (without_text ch m) (channel m ch) (plain_end carried more))
-
 -- what isn't there is none
 pub none_of : {A : Type 0} (o : Option A) → ((x : A) → o ≡ Some x → ⊥) → o ≡ None
 none_of None none = refl
@@ -142,6 +126,10 @@ place_none ch k p m far e = by_test (ch == 15)
 pub store_command : (ch : ℕ) (w : List ℕ) (m : Machine) → 1 ≤ length w → (ch == 15) ≡ true → store_text ch w m ≡ command w (without_text ch m)
 store_command ch [] m some e = absurd (omega (arith, some))
 store_command ch (c ∷ w) m some e = rw e refl
+
+pub store_records : (ch : ℕ) (w : List ℕ) (m : Machine) → 1 ≤ length w → (ch == 15) ≡ false → store_text ch w m ≡ write_record ch (channel m ch) w (without_text ch m)
+store_records ch [] m some e = absurd (omega (arith, some))
+store_records ch (c ∷ w) m some e = rw e refl
 
 pub store_nothing : (ch : ℕ) (w : List ℕ) (m : Machine) → w ≡ [] → store_text ch w m ≡ m
 store_nothing ch w m e = ap (λ v. store_text ch v m) e

@@ -1,9 +1,10 @@
 -- Parts of a call one after another.
 use Rattle.std.proofs.Common.{◌≡◌, ◌≢◌, ◌⊎◌, ℕ, ◌*◌, ◌<◌, ◌≤◌, Bool, true, false, List, [], ◌∷◌, ◌++◌, length, refl, sym, ap, ◌∙◌, subst, arith, inl, inr}
 use Rattle.cbm_medium.specs.Seen.{Seen, HasFailed}
-use Rattle.std.specs.Prelude.{◌==◌, MatchBool, slice_set, slice_index_or}
+use Rattle.std.specs.Prelude.{◌==◌, slice_set, slice_index_or}
 use Rattle.cbm_machine.specs.Plans.{open_text}
-use Rattle.cbm_machine.specs.Calls.{command}
+use Rattle.cbm_machine.specs.Calls.{command, end_put, text_for}
+use Rattle.cbm_machine.specs.Records.{write_record}
 use Rattle.std.proofs.lemmas.List.{get_or-set_same, get_or-set_other}
 use Rattle.cbm_file.specs.Files.{Disk, file_at}
 use Rattle.cbm_volume.specs.Writers.{known}
@@ -16,7 +17,7 @@ use Rattle.cbm_channel.specs.Written.{disk_closed}
 use Rattle.cbm_channel.proofs.Finished.{finish_law}
 use Rattle.cbm_channel.proofs.Stands.{zip_at}
 use Rattle.cbm_channel.specs.Standing.{Kept, ChannelStands, Stands}
-use Rattle.cbm_channel.specs.Going.{IsStopped, Passes, PassesAll, WentFrom, Went, Goes, GoesFrom, AfterClose, opening_parts, KeepsMedium, some_byte_put}
+use Rattle.cbm_channel.specs.Going.{Ends, IsRecordStopped, IsStopped, Passes, PassesAll, WentFrom, Went, Goes, GoesFrom, opening_parts, KeepsMedium, some_byte_put}
 
 -- a part by another name, from this machine
 pub part_same : (failed : Type 0) (ch : ℕ) (part part' : Machine → Machine) (m n : Machine) → part' m ≡ part m → Passes failed ch part m n → Passes failed ch part' m n
@@ -198,9 +199,6 @@ parts_other ch text e = rw e refl
 pub parts_command : (ch : ℕ) (text : List ℕ) → (ch == 15) ≡ true → opening_parts ch text ≡ (15, command text) ∷ []
 parts_command ch text e = rw e refl
 
-pub after_close : {M : Type 0} (seen : M → Seen) (old new : Kept M) (ch : ℕ) (m n : Machine) → (ch == 15) ≡ false → Passes (HasFailed (seen old.medium) (seen new.medium)) ch (close_one ch) m n → AfterClose seen old new ch m n
-after_close seen old new ch m n e h = subst (λ (b : Bool). MatchBool b (n ≡ m) (Passes (HasFailed (seen old.medium) (seen new.medium)) ch (close_one ch) m n)) (sym e) h
-
 -- ---- a text that was gathered
 
 stopped_from : (ch number : ℕ) (m after now : Machine) → IsStopped ch (without_text number m) after now → IsStopped ch m after now
@@ -210,3 +208,27 @@ stopped_from ch number m after now s = record { either = s.either; same_tracks =
 pub text_passes : (failed : Type 0) (ch number : ℕ) (part whole : Machine → Machine) (m n : Machine) → whole m ≡ part (without_text number m) → Passes failed ch part (without_text number m) n → Passes failed ch whole m n
 text_passes failed ch number part whole m n e (inl x) = inl (x ∙ sym e)
 text_passes failed ch number part whole m n e (inr x) = inr (x.0, subst (λ y. IsStopped ch m y n) (sym e) (stopped_from ch number m (part (without_text number m)) n x.1))
+
+stopped_record : (ch number : ℕ) (whole : List ℕ) (m now : Machine) → IsRecordStopped ch whole (without_text number m) now → IsRecordStopped ch whole m now
+stopped_record ch number whole m now s = record {
+  slot = s.slot;
+  record_number = s.record_number;
+  position = s.position;
+  place = s.place;
+  width = s.width;
+  records = s.records;
+  blocks = s.blocks;
+  sides = s.sides;
+  body = s.body;
+  disk = s.disk;
+  same_channels = s.same_channels;
+  same_tracks = s.same_tracks;
+  same_protection = s.same_protection;
+  fault = s.fault;
+}
+
+-- the text is dropped, and is then one write of a record
+pub record_ends : (failed failed' : Type 0) (ch : ℕ) (m now : Machine) → (failed → failed') → end_put ch m ≡ write_record ch (channel m ch) (text_for ch m.text) (without_text ch m)
+    → (now ≡ write_record ch (channel m ch) (text_for ch m.text) (without_text ch m)) ⊎ (failed × IsRecordStopped ch (text_for ch m.text) (without_text ch m) now) → Ends failed' ch m now
+record_ends failed failed' ch m now f law (inl e) = inl (inl (e ∙ sym law))
+record_ends failed failed' ch m now f law (inr s) = inr (f s.0, stopped_record ch ch (text_for ch m.text) m now s.1)

@@ -25,6 +25,8 @@ pub mod Finished
 pub mod Takes
 pub mod Stores
 pub mod Places
+pub mod RecordPuts
+pub mod RecordEnds
 pub mod Placings
 pub mod Goings
 pub mod Opens

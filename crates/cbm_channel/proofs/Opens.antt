@@ -1,19 +1,23 @@
 -- What an OPEN leaves: the channel that it opened, and the disk.
 use Rattle.std.proofs.Common.{◌≡◌, ◌≢◌, ℕ, zero, suc, ◌+◌, ◌<◌, Bool, true, false, List, [], ◌∷◌, ◌++◌, length, refl, sym, ap, ◌∙◌, subst, arith, inl, inr}
-use Rattle.std.specs.Prelude.{◌==◌, Option, Some, None, is_none, replicate, Result, Ok, Err, OnErr, MatchOption, slice_index_or, slice_set}
+use Rattle.std.specs.Prelude.{◌==◌, ◌||◌, not, nat_lt, unwrap_or, Option, Some, None, is_none, replicate, Result, Ok, Err, OnErr, MatchOption, slice_index_or, slice_set}
 use Rattle.std.specs.List.{AllZip}
 use Rattle.std.proofs.lemmas.Bool.{eq-eqb, eqb-true, eqb-false}
-use Rattle.std.proofs.lemmas.List.{get_or-set_same, get_or-set_other}
+use Rattle.std.proofs.lemmas.List.{get_or_past, get_or-set_same, get_or-set_other, length-append}
 use Rattle.cbm_medium.specs.Seen.{Seen, HasFailed}
 use Rattle.cbm_medium.specs.declared.fault.Trouble.{Trouble}
 use Rattle.cbm_file.specs.declared.file_type.FileType.{FileType}
 use Rattle.cbm_file.specs.declared.file_type.FileType.TheVariants.{Del, Rel}
 use Rattle.cbm_file.specs.Types.{is_same_type}
 use Rattle.cbm_file.specs.Files.{File, Disk, file_at, with_slot, bytes_in, empty_from}
-use Rattle.cbm_file.specs.Changes.{grown, has_slot, new_slot, with_file, unclosed, reopened}
+use Rattle.cbm_file.specs.Changes.{grown, has_slot, new_slot, with_file, unclosed, closed_file, reopened}
+use Rattle.cbm_file.specs.Records.{fresh_record, record_count, new_records, with_new_records}
+use Rattle.cbm_volume.specs.Layouts.{Layout}
+use Rattle.cbm_volume.specs.Map.{geometry_of}
+use Rattle.cbm_volume.specs.NewRecords.{HasNoRoomForRecords}
 use Rattle.cbm_volume.specs.Content.{Content}
 use Rattle.cbm_volume.specs.Opens.{Begins, CanBeWritten, IsUnused, HasNoPlace, IsHindered}
-use Rattle.cbm_volume.specs.Writers.{Filling, Use, Writes, HoldsNow, with_use, known, IsEither}
+use Rattle.cbm_volume.specs.Writers.{Filling, Use, IsUsed, Writes, HoldsNow, with_use, known, IsEither}
 use Rattle.cbm_volume.specs.Writers as usage
 use Rattle.cbm_volume.proofs.Writers.{use_here, use_other}
 use Rattle.cbm_volume.proofs.Closing.{other_slot}
@@ -32,7 +36,7 @@ use Rattle.cbm_channel.specs.declared.channel.Channel.TheVariants as code
 use Rattle.cbm_channel.specs.declared.plan.Plan as plan
 use Rattle.cbm_channel.specs.declared.plan.Plan.TheVariants as planned
 use Rattle.cbm_channel.specs.Standing.{ChannelStands, use_of, uses_of, StandsBy}
-use Rattle.cbm_channel.specs.Planned.{PlannedAs, IsOpened, IsRelatable, opened_by, disk_opened, appended_to, reopened_at}
+use Rattle.cbm_channel.specs.Planned.{PlannedAs, IsOpened, IsMakeable, IsRelatable, opened_by, disk_opened, appended_to, reopened_at}
 use Rattle.cbm_channel.proofs.Orders.{FitsIn, writes_uses, closed_fits, reads_file}
 use Rattle.cbm_channel.proofs.Planning.{none_passes}
 use Rattle.cbm_channel.proofs.Places.{relative_unused}
@@ -125,6 +129,78 @@ grown_at d n = by_none (is_none (empty_from 0 d.slots)) refl
 pub new_else : (d : Disk) (f : File) (k n : ℕ) → n ≢ new_slot d → file_at (with_file d f k) n ≡ file_at d n
 new_else d f k n ne = get_or-set_other (grown d).slots (new_slot d) n (Some f) None ne ∙ grown_at d n
 
+-- the first empty slot is empty
+empty_at : (k n : ℕ) (xs : List (Option File)) → empty_from k xs ≡ Some n → (i : ℕ) × (n ≡ k + i) × (slice_index_or xs i None ≡ None)
+empty_at k n [] h = absurd (cc)
+empty_at k n (None ∷ xs) h = (0, (let e : k ≡ n = cc in omega (arith, e)), refl)
+empty_at k n (Some f ∷ xs) h = let r = empty_at (k + 1) n xs h in (suc r.0, omega (arith, r.1), r.2)
+
+-- where none is, it comes behind them
+comes_next : (k : ℕ) (xs ys : List (Option File)) → empty_from k xs ≡ None → empty_from k (xs ++ None ∷ ys) ≡ Some (k + length xs)
+comes_next k [] ys h = ap Some (omega arith)
+comes_next k (None ∷ xs) ys h = absurd (cc)
+comes_next k (Some f ∷ xs) ys h = comes_next (k + 1) xs ys h ∙ ap Some (omega arith)
+
+past_end : {A : Type 0} (xs : List (Option A)) → slice_index_or xs (length xs) None ≡ None
+past_end [] = refl
+past_end (x ∷ xs) = past_end xs
+
+pub new_empty : (d : Disk) → file_at d (new_slot d) ≡ None
+new_empty d = by_slot (empty_from 0 d.slots) refl
+  where
+    by_slot : (o : Option ℕ) → empty_from 0 d.slots ≡ o → file_at d (new_slot d) ≡ None
+    by_slot (Some n) e =
+        let r = empty_at 0 n d.slots e in
+        let at : new_slot d ≡ r.0 = rw (e, e) (omega (arith, r.1)) in
+        ap (file_at d) at ∙ r.2
+    by_slot None e =
+        let at : new_slot d ≡ length d.slots = rw (e, comes_next 0 d.slots (replicate 7 None) e) (omega arith) in
+        ap (file_at d) at ∙ past_end d.slots
+
+-- and it is one of the disk's
+empty_below : (k n : ℕ) (xs : List (Option File)) → empty_from k xs ≡ Some n → n < k + length xs
+empty_below k n [] h = absurd (cc)
+empty_below k n (None ∷ xs) h = (let e : k ≡ n = cc in omega (arith, e))
+empty_below k n (Some f ∷ xs) h = let r = empty_below (k + 1) n xs h in omega (arith, r)
+
+pub new_below : (d : Disk) → has_slot d ≡ true → new_slot d < length (grown d).slots
+new_below d has = by_slot (empty_from 0 d.slots) refl
+  where
+    by_slot : (o : Option ℕ) → empty_from 0 d.slots ≡ o → new_slot d < length (grown d).slots
+    by_slot (Some n) e = rw (e, e) (omega (arith, empty_below 0 n d.slots e))
+    by_slot None e =
+        let next : empty_from 0 (d.slots ++ replicate 8 None) ≡ Some (0 + length d.slots) = comes_next 0 d.slots (replicate 7 None) e in
+        rw (e, next) (omega (arith, length-append d.slots (replicate {A = Option File} 8 None)))
+
+-- a new file is there
+pub new_there : (d : Disk) (f : File) (n : ℕ) → new_slot d < length (grown d).slots → file_at (with_file d f n) (new_slot d) ≡ Some f
+new_there d f n below = get_or-set_same (grown d).slots (new_slot d) (Some f) None below
+
+abbrev pub made_file : List ℕ → ℕ → File
+made_file name len = closed_file Rel name 2 (new_records len)
+
+second : (a b : Bool) → (a || not b) ≡ false → b ≡ true
+second true b h = absurd (cc)
+second false true h = refl
+second false false h = absurd (cc)
+
+pub has_place_of : (d : Disk) → (nat_lt d.free 2 || not (has_slot d)) ≡ false → has_slot d ≡ true
+has_place_of d h = second (nat_lt d.free 2) (has_slot d) h
+
+-- a slot that a channel still uses has a file
+used_file : (tracks : ℕ) (c : Content) (l : Layout) (d : Disk) (n : ℕ) (u : Use) (slot : ℕ) → IsUsed tracks c l d n u → usage.has_slot slot u ≡ true → (f : File) × (file_at d slot ≡ Some f)
+used_file tracks c l d n usage.Idle slot h e = absurd (cc)
+used_file tracks c l d n (usage.Reads s r left) slot h e = (h.file, ap (file_at d) (sym (eqb-true s slot e)) ∙ h.in_slot)
+used_file tracks c l d n (usage.Relates s) slot h e = (h.file, ap (file_at d) (sym (eqb-true s slot e)) ∙ h.in_slot)
+used_file tracks c l d n (usage.Writes w bytes blocks) slot h e = (h.file, ap (file_at d) (sym (eqb-true w.slot slot e)) ∙ h.in_slot)
+
+-- and so isn't where a new one comes
+pub used_else : (t : ℕ) (c : Content) (p : Bool) (chs : List kept.Channel) (told : Told) (text : Option (ℕ × List ℕ)) (m : Machine) → StandsBy c t p chs told text m → (k slot : ℕ) → still_uses slot (channel_in m.channels k) ≡ true → slot ≢ new_slot m.disk
+used_else t c p chs told text m st k slot u e =
+    let has = sym (uses_alike slot (slice_index_or chs k code.Closed) (channel_in m.channels k) (zip_at chs m.channels k st.each)) ∙ u in
+    let file = used_file (geometry_of t c) c st.holds.layout m.disk k (uses_of chs m.channels k) slot (st.holds.so.each k) has in
+    let z = sym file.1 ∙ ap (file_at m.disk) e ∙ new_empty m.disk in absurd (cc)
+
 -- ---- what the machine does
 
 appended_is : (o : Option File) (f : File) (s ch : ℕ) (m : Machine) → o ≡ Some f → append_slot o s ch m ≡ with_channel ch (appended_to o s) (with_disk (reopened_at o m.disk s) m)
@@ -141,6 +217,7 @@ act_is t c ch m (AppendFile a) (planned.WriteFile k n) h = absurd h
 act_is t c ch m (AppendFile a) (planned.AppendFile q) h = appended_is (file_at m.disk a) h.file a ch m h.in_slot
 act_is t c ch m (AppendFile a) (planned.ReplaceFile q) h = absurd h
 act_is t c ch m (AppendFile a) (planned.OpenRecords q) h = absurd h
+act_is t c ch m (AppendFile a) (planned.MakeRecords n l) h = absurd h
 act_is t c ch m (ReplaceFile a) x h = refl
 act_is t c ch m (OpenRecords a) (planned.ReadListing q) h = absurd h
 act_is t c ch m (OpenRecords a) (planned.ReadFile q) h = absurd h
@@ -148,12 +225,8 @@ act_is t c ch m (OpenRecords a) (planned.WriteFile k n) h = absurd h
 act_is t c ch m (OpenRecords a) (planned.AppendFile q) h = absurd h
 act_is t c ch m (OpenRecords a) (planned.ReplaceFile q) h = absurd h
 act_is t c ch m (OpenRecords a) (planned.OpenRecords q) h = refl
-act_is t c ch m (MakeRecords a b) (planned.ReadListing q) h = absurd h
-act_is t c ch m (MakeRecords a b) (planned.ReadFile q) h = absurd h
-act_is t c ch m (MakeRecords a b) (planned.WriteFile k n) h = absurd h
-act_is t c ch m (MakeRecords a b) (planned.AppendFile q) h = absurd h
-act_is t c ch m (MakeRecords a b) (planned.ReplaceFile q) h = absurd h
-act_is t c ch m (MakeRecords a b) (planned.OpenRecords q) h = absurd h
+act_is t c ch m (OpenRecords a) (planned.MakeRecords n l) h = absurd h
+act_is t c ch m (MakeRecords a b) x h = refl
 
 -- ---- what a plan opens fits among the channels
 
@@ -212,6 +285,7 @@ opened_fits t c c' p chs told text m ch (ReadFile s) (planned.WriteFile a b) k s
 opened_fits t c c' p chs told text m ch (ReadFile s) (planned.AppendFile q) k st h is = absurd h
 opened_fits t c c' p chs told text m ch (ReadFile s) (planned.ReplaceFile q) k st h is = absurd h
 opened_fits t c c' p chs told text m ch (ReadFile s) (planned.OpenRecords q) k st h is = absurd h
+opened_fits t c c' p chs told text m ch (ReadFile s) (planned.MakeRecords n l) k st h is = absurd h
 opened_fits t c c' p chs told text m ch (WriteFile kind name) (planned.ReadListing q) k st h is = absurd h
 opened_fits t c c' p chs told text m ch (WriteFile kind name) (planned.ReadFile q) k st h is = absurd h
 opened_fits t c c' p chs told text m ch (WriteFile kind name) (planned.WriteFile a b) k st h is =
@@ -220,6 +294,7 @@ opened_fits t c c' p chs told text m ch (WriteFile kind name) (planned.WriteFile
 opened_fits t c c' p chs told text m ch (WriteFile kind name) (planned.AppendFile q) k st h is = absurd h
 opened_fits t c c' p chs told text m ch (WriteFile kind name) (planned.ReplaceFile q) k st h is = absurd h
 opened_fits t c c' p chs told text m ch (WriteFile kind name) (planned.OpenRecords q) k st h is = absurd h
+opened_fits t c c' p chs told text m ch (WriteFile kind name) (planned.MakeRecords n l) k st h is = absurd h
 opened_fits t c c' p chs told text m ch (AppendFile s) (planned.ReadListing q) k st h is = absurd h
 opened_fits t c c' p chs told text m ch (AppendFile s) (planned.ReadFile q) k st h is = absurd h
 opened_fits t c c' p chs told text m ch (AppendFile s) (planned.WriteFile a b) k st h is = absurd h
@@ -237,6 +312,7 @@ opened_fits t c c' p chs told text m ch (AppendFile s) (planned.AppendFile q) k 
     (λ n ne. ap known (other_slot m.disk s n (Some (reopened h.file)) (other_of n s ne)))))
 opened_fits t c c' p chs told text m ch (AppendFile s) (planned.ReplaceFile q) k st h is = absurd h
 opened_fits t c c' p chs told text m ch (AppendFile s) (planned.OpenRecords q) k st h is = absurd h
+opened_fits t c c' p chs told text m ch (AppendFile s) (planned.MakeRecords n l) k st h is = absurd h
 opened_fits t c c' p chs told text m ch (ReplaceFile s) (planned.ReadListing q) k st h is = absurd h
 opened_fits t c c' p chs told text m ch (ReplaceFile s) (planned.ReadFile q) k st h is = absurd h
 opened_fits t c c' p chs told text m ch (ReplaceFile s) (planned.WriteFile a b) k st h is = absurd h
@@ -244,6 +320,7 @@ opened_fits t c c' p chs told text m ch (ReplaceFile s) (planned.AppendFile q) k
 opened_fits t c c' p chs told text m ch (ReplaceFile s) (planned.ReplaceFile q) k st h is =
     writing_fits t c' m.disk (disk_opened m.disk (ReplaceFile s)) m.protected chs m.channels st.each ch s [] 1 true k is.0 is.2 h.unprotected (λ n ne. refl)
 opened_fits t c c' p chs told text m ch (ReplaceFile s) (planned.OpenRecords q) k st h is = absurd h
+opened_fits t c c' p chs told text m ch (ReplaceFile s) (planned.MakeRecords n l) k st h is = absurd h
 opened_fits t c c' p chs told text m ch (OpenRecords s) (planned.ReadListing q) k st h is = absurd h
 opened_fits t c c' p chs told text m ch (OpenRecords s) (planned.ReadFile q) k st h is = absurd h
 opened_fits t c c' p chs told text m ch (OpenRecords s) (planned.WriteFile a b) k st h is = absurd h
@@ -272,12 +349,38 @@ opened_fits t c c' p chs told text m ch (OpenRecords s) (planned.OpenRecords q) 
       place = λ slot k p e. subst (λ (x : ℕ). IsPlace m.disk x k p) (ap place_slot e) (subst (λ (y : ℕ). IsPlace m.disk s y p) (ap place_number e) (subst (λ (z : ℕ). IsPlace m.disk s 1 z) (ap place_position e) now));
       writable = λ slot bytes blocks full replaces e. absurd (cc);
     }
+opened_fits t c c' p chs told text m ch (OpenRecords s) (planned.MakeRecords n l) k st h is = absurd h
 opened_fits t c c' p chs told text m ch (MakeRecords name len) (planned.ReadListing q) k st h is = absurd h
 opened_fits t c c' p chs told text m ch (MakeRecords name len) (planned.ReadFile q) k st h is = absurd h
 opened_fits t c c' p chs told text m ch (MakeRecords name len) (planned.WriteFile a b) k st h is = absurd h
 opened_fits t c c' p chs told text m ch (MakeRecords name len) (planned.AppendFile q) k st h is = absurd h
 opened_fits t c c' p chs told text m ch (MakeRecords name len) (planned.ReplaceFile q) k st h is = absurd h
 opened_fits t c c' p chs told text m ch (MakeRecords name len) (planned.OpenRecords q) k st h is = absurd h
+opened_fits t c c' p chs told text m ch (MakeRecords name len) (planned.MakeRecords n l) k st h is = record {
+  reads = λ slot left e. absurd (cc);
+  stays = λ k slot ne u. ap known (new_else m.disk (made_file name len) 2 slot (used_else t c p chs told text m st k slot u));
+  alone = λ k slot ne w. new_unused slot w k;
+  unwritten = λ k slot ne u. not_so (still_writes slot (channel_in m.channels k)) (λ w. (let z = sym (new_unused slot u k) ∙ writes_uses (channel_in m.channels k) slot w in absurd (cc)));
+  place = λ slot k p e. subst (λ (x : ℕ). IsPlace (with_new_records m.disk name len) x k p) (ap place_slot e) (subst (λ (y : ℕ). IsPlace (with_new_records m.disk name len) (new_slot m.disk) y p) (ap place_number e) (subst (λ (z : ℕ). IsPlace (with_new_records m.disk name len) (new_slot m.disk) 1 z) (ap place_position e) now));
+  writable = λ slot bytes blocks full replaces e. absurd (cc);
+}
+  where
+    new_unused : (slot : ℕ) → (new_slot m.disk == slot) ≡ true → (k : ℕ) → still_uses slot (channel_in m.channels k) ≡ false
+    new_unused slot e k = not_so (still_uses slot (channel_in m.channels k)) (λ u. used_else t c p chs told text m st k slot u (sym (eqb-true (new_slot m.disk) slot e)))
+
+    now : IsPlace (with_new_records m.disk name len) (new_slot m.disk) 1 1
+    now = record {
+      file = made_file name len;
+      in_slot = new_there m.disk (made_file name len) 2 (new_below m.disk (has_place_of m.disk h.2.room));
+      closed = refl;
+      record_length = len;
+      records = replicate (record_count len 1) (fresh_record len);
+      blocks = 1;
+      sides = 1;
+      body = refl;
+      number = omega arith;
+      inside = (omega arith, h.2.some);
+    }
 
 -- ---- the ends of `opened`
 
@@ -297,6 +400,34 @@ relates_opened t c p chs told text m ch q s found r st e h slot number position 
           (subst (λ (n : ℕ). HoldsNow t c m.disk (with_use (uses_of chs m.channels) ch (usage.Relates n))) at
           (relates_now t c m.disk (uses_of chs m.channels) ch s h.file st.holds unused h.in_slot h.closed h.relative)),
     )
+
+-- a relative file that is made
+pub makes_opened : (t : ℕ) (c c' : Content) (p : Bool) (chs : List kept.Channel) (told : Told) (text : Option (ℕ × List ℕ)) (m : Machine) (ch : ℕ) (q : Plan) (name : List ℕ) (len slot : ℕ) (r : Placed) → StandsBy c t p chs told text m → q ≡ MakeRecords name len → IsMakeable m name len
+    → empty_from 0 (grown m.disk).slots ≡ Some slot → HoldsNow t c' (with_new_records m.disk name len) (uses_of chs m.channels) → r.slot ≡ slot → r.number ≡ 1 → r.position ≡ 1 → IsOnRecord (with_new_records m.disk name len) r
+    → IsOpened t c' m ch q (uses_of chs m.channels) (Some (code.Records r))
+makes_opened t c c' p chs told text m ch q name len slot r st e h empty holds at number position on =
+    let new : new_slot m.disk ≡ slot = ap (λ (o : Option ℕ). unwrap_or o 0) empty in
+    let same : r.slot ≡ new_slot m.disk = at ∙ sym new in
+    let disk : disk_opened m.disk q ≡ with_new_records m.disk name len = ap (disk_opened m.disk) e in
+    let unused : IsUnused (uses_of chs m.channels) (new_slot m.disk) = λ k.
+    sym (uses_alike (new_slot m.disk) (slice_index_or chs k code.Closed) (channel_in m.channels k) (zip_at chs m.channels k st.each))
+    ∙ not_so (still_uses (new_slot m.disk) (channel_in m.channels k)) (λ u. used_else t c p chs told text m st k (new_slot m.disk) u refl) in
+    let there = new_there m.disk (made_file name len) 2 (new_below m.disk (has_place_of m.disk h.room)) in (
+      ap (opened_by m.disk) e ∙ (λ i. Relative (sym same i) (sym number i) (sym position i)),
+      subst (λ (d : Disk). IsOnRecord d r) (sym disk) on,
+      subst (λ (d : Disk). HoldsNow t c' d (with_use (uses_of chs m.channels) ch (usage.Relates r.slot))) (sym disk)
+          (subst (λ (n : ℕ). HoldsNow t c' (with_new_records m.disk name len) (with_use (uses_of chs m.channels) ch (usage.Relates n))) (sym same)
+          (relates_now t c' (with_new_records m.disk name len) (uses_of chs m.channels) ch (new_slot m.disk) (made_file name len) holds unused there refl refl)),
+    )
+
+-- what waits there
+pub made_there : (m : Machine) (name : List ℕ) (len slot : ℕ) → IsMakeable m name len → empty_from 0 (grown m.disk).slots ≡ Some slot → file_at (with_new_records m.disk name len) slot ≡ Some (made_file name len)
+made_there m name len slot h empty =
+    ap (file_at (with_new_records m.disk name len)) (sym (ap (λ (o : Option ℕ). unwrap_or o 0) empty)) ∙ new_there m.disk (made_file name len) 2 (new_below m.disk (has_place_of m.disk h.room))
+
+-- there is room for it
+pub has_room_of : (m : Machine) (name : List ℕ) (len : ℕ) → IsMakeable m name len → HasNoRoomForRecords m.disk → ⊥
+has_room_of m name len h none = let z = sym h.room ∙ none in absurd (cc)
 
 -- a writer that begins
 pub begins_as : (t : ℕ) (c : Content) (m : Machine) (q : Plan) (d : Disk) (uses : ℕ → Use) (ch slot : ℕ) (replaces : Bool) (bytes : List ℕ) (blocks : ℕ) (w : Filling) → opened_by m.disk q ≡ Writing slot bytes blocks false replaces
@@ -340,34 +471,6 @@ no_block d block e = let z = sym (eq-eqb d.free 0 e) ∙ block in absurd (cc)
 
 -- ---- an OPEN that was stopped
 
--- the first empty slot is empty
-empty_at : (k n : ℕ) (xs : List (Option File)) → empty_from k xs ≡ Some n → (i : ℕ) × (n ≡ k + i) × (slice_index_or xs i None ≡ None)
-empty_at k n [] h = absurd (cc)
-empty_at k n (None ∷ xs) h = (0, (let e : k ≡ n = cc in omega (arith, e)), refl)
-empty_at k n (Some f ∷ xs) h = let r = empty_at (k + 1) n xs h in (suc r.0, omega (arith, r.1), r.2)
-
--- where none is, it comes behind them
-comes_next : (k : ℕ) (xs ys : List (Option File)) → empty_from k xs ≡ None → empty_from k (xs ++ None ∷ ys) ≡ Some (k + length xs)
-comes_next k [] ys h = ap Some (omega arith)
-comes_next k (None ∷ xs) ys h = absurd (cc)
-comes_next k (Some f ∷ xs) ys h = comes_next (k + 1) xs ys h ∙ ap Some (omega arith)
-
-past_end : {A : Type 0} (xs : List (Option A)) → slice_index_or xs (length xs) None ≡ None
-past_end [] = refl
-past_end (x ∷ xs) = past_end xs
-
-pub new_empty : (d : Disk) → file_at d (new_slot d) ≡ None
-new_empty d = by_slot (empty_from 0 d.slots) refl
-  where
-    by_slot : (o : Option ℕ) → empty_from 0 d.slots ≡ o → file_at d (new_slot d) ≡ None
-    by_slot (Some n) e =
-        let r = empty_at 0 n d.slots e in
-        let at : new_slot d ≡ r.0 = rw (e, e) (omega (arith, r.1)) in
-        ap (file_at d) at ∙ r.2
-    by_slot None e =
-        let at : new_slot d ≡ length d.slots = rw (e, comes_next 0 d.slots (replicate 7 None) e) (omega arith) in
-        ap (file_at d) at ∙ past_end d.slots
-
 -- a name that is written there counts as none
 set_known : (xs : List (Option File)) (n : ℕ) (f : File) → f.closed ≡ false → known (slice_index_or (slice_set xs n (Some f)) n None) ≡ None
 set_known [] n f e = refl
@@ -384,25 +487,26 @@ new_stays d f slot open_yet = by_test (slot == new_slot d) refl
         let same : slot ≡ new_slot d = eqb-true slot (new_slot d) e in
         ap (λ (n : ℕ). known (file_at (with_file d f 1) n)) same ∙ set_known (grown d).slots (new_slot d) f open_yet ∙ sym (ap known (ap (file_at d) same ∙ new_empty d))
 
-opened_stays : (t : ℕ) (c : Content) (m : Machine) (q : Plan) (x : plan.Plan) → PlannedAs t c m (Ok q) (Ok x) → (k slot : ℕ) → still_uses slot (channel_in m.channels k) ≡ true → known (file_at (disk_opened m.disk q) slot) ≡ known (file_at m.disk slot)
-opened_stays t c m (ReadListing a) x h k slot u = refl
-opened_stays t c m (ReadFile s) x h k slot u = refl
-opened_stays t c m (WriteFile kind name) x h k slot u = new_stays m.disk (unclosed kind name) slot refl
-opened_stays t c m (AppendFile s) (planned.ReadListing q) h k slot u = absurd h
-opened_stays t c m (AppendFile s) (planned.ReadFile q) h k slot u = absurd h
-opened_stays t c m (AppendFile s) (planned.WriteFile a b) h k slot u = absurd h
-opened_stays t c m (AppendFile s) (planned.AppendFile q) h k slot u = by_test (slot == s) refl
+opened_stays : (t : ℕ) (c : Content) (m : Machine) (q : Plan) (x : plan.Plan) → PlannedAs t c m (Ok q) (Ok x) → ((k slot : ℕ) → still_uses slot (channel_in m.channels k) ≡ true → slot ≢ new_slot m.disk) → (k slot : ℕ) → still_uses slot (channel_in m.channels k) ≡ true → known (file_at (disk_opened m.disk q) slot) ≡ known (file_at m.disk slot)
+opened_stays t c m (ReadListing a) x h apart k slot u = refl
+opened_stays t c m (ReadFile s) x h apart k slot u = refl
+opened_stays t c m (WriteFile kind name) x h apart k slot u = new_stays m.disk (unclosed kind name) slot refl
+opened_stays t c m (AppendFile s) (planned.ReadListing q) h apart k slot u = absurd h
+opened_stays t c m (AppendFile s) (planned.ReadFile q) h apart k slot u = absurd h
+opened_stays t c m (AppendFile s) (planned.WriteFile a b) h apart k slot u = absurd h
+opened_stays t c m (AppendFile s) (planned.AppendFile q) h apart k slot u = by_test (slot == s) refl
   where
     by_test : (b : Bool) → (slot == s) ≡ b → known (file_at (disk_opened m.disk (AppendFile s)) slot) ≡ known (file_at m.disk slot)
     by_test true e =
         let none : still_uses s (channel_in m.channels k) ≡ false = uses_still s (channel_in m.channels k) (none_passes (machine.uses s) refl m.channels k h.unused) in
         let z = sym none ∙ ap (λ (n : ℕ). still_uses n (channel_in m.channels k)) (sym (eqb-true slot s e)) ∙ u in absurd (cc)
     by_test false e = ap known (ap (λ (o : Option File). file_at (reopened_at o m.disk s) slot) h.in_slot ∙ other_slot m.disk s slot (Some (reopened h.file)) e)
-opened_stays t c m (AppendFile s) (planned.ReplaceFile q) h k slot u = absurd h
-opened_stays t c m (AppendFile s) (planned.OpenRecords q) h k slot u = absurd h
-opened_stays t c m (ReplaceFile s) x h k slot u = refl
-opened_stays t c m (OpenRecords s) x h k slot u = refl
-opened_stays t c m (MakeRecords name len) x h k slot u = refl
+opened_stays t c m (AppendFile s) (planned.ReplaceFile q) h apart k slot u = absurd h
+opened_stays t c m (AppendFile s) (planned.OpenRecords q) h apart k slot u = absurd h
+opened_stays t c m (AppendFile s) (planned.MakeRecords n l) h apart k slot u = absurd h
+opened_stays t c m (ReplaceFile s) x h apart k slot u = refl
+opened_stays t c m (OpenRecords s) x h apart k slot u = refl
+opened_stays t c m (MakeRecords name len) x h apart k slot u = ap known (new_else m.disk (made_file name len) 2 slot (apart k slot u))
 
 pub either_stays : (before after now : Disk) (slot : ℕ) → IsEither before after now slot → known (file_at after slot) ≡ known (file_at before slot) → known (file_at now slot) ≡ known (file_at before slot)
 either_stays before after now slot (inl e) h = e
@@ -433,8 +537,12 @@ module _ (t : ℕ) (c c' : Content) (p : Bool) (chs : List kept.Channel) (told :
         }),
         subst (λ (xs : List kept.Channel). StandsBy c' t p xs told text n) (ap (slice_set chs ch) (sym shut) ∙ set_same chs ch code.Closed more)
             (with_step_at c t p chs told text m c' stop.disk ch code.Closed Closed more refl tt (let_go_now t c' stop.disk (uses_of chs m.channels) ch stop.holds)
-            (closed_fits m.disk stop.disk m.protected m.channels ch st.orderly (λ k slot ne u. either_stays m.disk (disk_opened m.disk q) stop.disk slot (stop.either slot) (opened_stays t c m q x h k slot u))) st),
+            (closed_fits m.disk stop.disk m.protected m.channels ch st.orderly (λ k slot ne u. either_stays m.disk (disk_opened m.disk q) stop.disk slot (stop.either slot) (opened_stays t c m q x h (used_else t c p chs told text m st) k slot u))) st),
       )
+
+-- past the fifteen channels there is none
+pub idle_past : (chs : List kept.Channel) (ys : List Channel) → length chs ≡ 15 → uses_of chs ys 15 ≡ usage.Idle
+idle_past chs ys count = ap (λ (x : kept.Channel). use_of x (slice_index_or ys 15 Closed)) (get_or_past chs 15 code.Closed (omega (arith, count)))
 
 -- what a channel that is closed does with the disk
 pub idle_at : (chs : List kept.Channel) (ys : List Channel) (ch : ℕ) → slice_index_or chs ch code.Closed ≡ code.Closed → uses_of chs ys ch ≡ usage.Idle

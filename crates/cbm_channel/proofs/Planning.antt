@@ -1,13 +1,17 @@
 -- What was planned for an OPEN, and what it leads to.
 use Rattle.std.proofs.Common.{◌≡◌, ℕ, zero, suc, Bool, true, false, List, [], ◌∷◌, refl, sym, ap, ◌∙◌, subst}
-use Rattle.std.specs.Prelude.{◌==◌, ◌||◌, MatchBool, Some, Result, Ok, Err}
+use Rattle.std.specs.Prelude.{◌==◌, ◌||◌, if◌then◌else◌, Some, Result, Ok, Err}
 use Rattle.std.specs.List.{list_any}
 use Rattle.cbm_file.specs.declared.file_type.FileType.{FileType}
 use Rattle.cbm_file.specs.Files.{Disk, bytes_in}
 use Rattle.cbm_command.specs.declared.opening.Opening.{Opening}
+use Rattle.cbm_command.specs.declared.opening.Opening.TheVariants as opening
+use Rattle.cbm_command.specs.declared.opening.Mode.{Mode}
+use Rattle.cbm_command.specs.declared.opening.Mode.TheVariants.{Read, Write, Append}
+use Rattle.cbm_command.specs.declared.opening.Wanted.{Wanted}
 use Rattle.cbm_command.specs.declared.refusal.Refusal.{Refusal}
 use Rattle.cbm_command.specs.declared.refusal.Refusal.TheVariants as refusal
-use Rattle.cbm_command.specs.Openings.{opening_of}
+use Rattle.cbm_command.specs.Openings.{is_relative, opening_of}
 use Rattle.cbm_command.specs.Refusals.{◌>>=◌}
 use Rattle.cbm_volume.specs.Content.{Content}
 use Rattle.cbm_volume.specs.Reading.{Reading}
@@ -25,8 +29,7 @@ use Rattle.cbm_machine.specs.Machines.{Machine, answered, say, tell}
 use Rattle.cbm_machine.specs.Machines as machine
 use Rattle.cbm_machine.specs.Finding.{body_at}
 use Rattle.cbm_machine.specs.Plans.{Plan, ReadListing, ReadFile, WriteFile, AppendFile, ReplaceFile, OpenRecords, MakeRecords, plan, act, asked, open_text}
-use Rattle.cbm_channel.specs.Planned.{PlannedAs, IsReadable, IsWritable, IsAppendable, IsReplaceable, IsRelatable, opened_by, begun_by, is_for_writing, text_writes}
-use Rattle.cbm_machine.specs.CarriedOut.{IsOpenCarriedOut, IsAskedCarriedOut}
+use Rattle.cbm_channel.specs.Planned.{PlannedAs, IsReadable, IsWritable, IsAppendable, IsReplaceable, IsRelatable, IsMakeable, opened_by, begun_by, is_for_writing, text_writes}
 use Rattle.cbm_machine.specs.Codes.{code_number, code_of_refusal}
 use Rattle.cbm_channel.specs.Grounds.{is_fault_number}
 use Rattle.cbm_machine.specs.Orderly.{channel_in}
@@ -125,6 +128,19 @@ relatable t c d p x file h e = by_plan p (subst (λ y. PlannedAs t c d (Ok p) (O
     by_plan (OpenRecords a) g = (a, refl, g)
     by_plan (MakeRecords a b) g = absurd g
 
+-- a relative file that is made
+pub makeable : (t : ℕ) (c : Content) (m : Machine) (p : Plan) (x : code.Plan) (name : List ℕ) (length : ℕ) → PlannedAs t c m (Ok p) (Ok x) → x ≡ planned.MakeRecords name length → (p ≡ MakeRecords name length) × IsMakeable m name length
+makeable t c m p x name length h e = by_plan p (subst (λ y. PlannedAs t c m (Ok p) (Ok y)) e h)
+  where
+    by_plan : (q : Plan) → PlannedAs t c m (Ok q) (Ok (planned.MakeRecords name length)) → (q ≡ MakeRecords name length) × IsMakeable m name length
+    by_plan (ReadListing a) g = absurd g
+    by_plan (ReadFile a) g = absurd g
+    by_plan (WriteFile k n) g = absurd g
+    by_plan (AppendFile a) g = absurd g
+    by_plan (ReplaceFile a) g = absurd g
+    by_plan (OpenRecords a) g = absurd g
+    by_plan (MakeRecords n l) g = ((λ i. MakeRecords (g.0 i) (g.1 i)), subst (λ y. IsMakeable m y length) g.0 (subst (IsMakeable m n) g.1 g.2))
+
 -- a test that no channel passes
 pub none_passes : (test : machine.Channel → Bool) → test machine.Closed ≡ false → (channels : List machine.Channel) (k : ℕ) → list_any test channels ≡ false → test (channel_in channels k) ≡ false
 none_passes test shut [] k h = shut
@@ -158,9 +174,18 @@ opened_text ch text o m e = ap (λ (r : Result Opening Refusal). answered m (ask
 pub refused_text : (ch : ℕ) (text : List ℕ) (e : Refusal) (m : Machine) → opening_of ch text ≡ Err e → open_text ch text m ≡ say (code_of_refusal e) m
 refused_text ch text e m is = ap (λ (r : Result Opening Refusal). answered m (asked r >>= λ x. plan ch x m >>= λ p. Ok (say Fine (act ch p m)))) is
 
-pub carried_text : (ch : ℕ) (text : List ℕ) (o : Opening) (m : Machine) → (ch == 15) ≡ false → opening_of ch text ≡ Ok o → IsOpenCarriedOut ch text m → IsAskedCarriedOut ch m (Ok o)
-carried_text ch text o m other e h =
-    subst (IsAskedCarriedOut ch m) e (subst (λ (b : Bool). MatchBool b (Unit {0}) (IsAskedCarriedOut ch m (opening_of ch text))) other h)
+-- what isn't for writing, and isn't relative, reads
+pub reads_mode : (w : Wanted) → is_relative w ≡ false → is_for_writing (opening.File w) ≡ false → w.mode ≡ Read
+reads_mode w plain h = by_mode w.mode refl (sym (ap (λ (b : Bool). if b then true else elim w.mode [ Read ↦ false | _ ↦ true ]) plain) ∙ h)
+  where
+    by_mode : (x : Mode) → w.mode ≡ x → (elim w.mode [ Read ↦ false | _ ↦ true ]) ≡ false → w.mode ≡ Read
+    by_mode Read e g = e
+    by_mode Write e g = absurd (let z = ap (λ (y : Mode). elim y [ Read ↦ false | _ ↦ true ]) (sym e) ∙ g in (cc))
+    by_mode Append e g = absurd (let z = ap (λ (y : Mode). elim y [ Read ↦ false | _ ↦ true ]) (sym e) ∙ g in (cc))
+
+-- a relative file may be made
+pub relative_writes : (o : Opening) (w : Wanted) → o ≡ opening.File w → is_relative w ≡ true → is_for_writing o ≡ false → ⊥
+relative_writes o w e relative h = let z = ap (λ (b : Bool). if b then true else elim w.mode [ Read ↦ false | _ ↦ true ]) (sym relative) ∙ sym (ap is_for_writing e) ∙ h in absurd (cc)
 
 pub writes_text : (ch : ℕ) (text : List ℕ) (o : Opening) → (ch == 15) ≡ false → opening_of ch text ≡ Ok o → text_writes ch text ≡ false → is_for_writing o ≡ false
 writes_text ch text o other e h = sym (rw (other, e) refl) ∙ h

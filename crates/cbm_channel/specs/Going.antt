@@ -1,13 +1,19 @@
 -- Where a call that may write leads: to the machine's next state, or it was stopped at a refused write.
-use Rattle.std.specs.Prelude.{ℕ, ◌≤◌, ◌≡◌, ◌≢◌, ◌⊎◌, ◌==◌, if◌then◌else◌, MatchBool, List, [], ◌∷◌, ◌++◌}
+use Rattle.std.specs.Prelude.{ℕ, ◌+◌, ◌-◌, ◌≤◌, ◌≡◌, ◌≢◌, ◌⊎◌, ◌==◌, if◌then◌else◌, List, [], ◌∷◌, ◌++◌, take, drop, replicate, slice_index_or, Some}
 use Rattle.cbm_medium.specs.declared.fault.Trouble.{Trouble}
 use Rattle.cbm_medium.specs.Seen.{Seen, HasFailed}
 use Rattle.cbm_volume.specs.Writers.{IsEither}
 use Rattle.cbm_machine.specs.Statuses.{trouble_status}
-use Rattle.cbm_machine.specs.Machines.{Machine, Closed, Stopped, channel}
+use Rattle.cbm_file.specs.Files.{File, Disk, Records, file_at, with_slot}
+use Rattle.cbm_file.specs.Records.{fresh_record, blocks_for, sides_for}
+use Rattle.cbm_volume.specs.Growth.{filled_up, with_growth}
+use Rattle.cbm_volume.specs.RecordWrites.{new_record, with_record}
+use Rattle.cbm_machine.specs.Machines.{Machine, Closed, Stopped, Relative, channel}
+use Rattle.cbm_machine.specs.Finding.{body_at}
+use Rattle.cbm_machine.specs.Records.{write_record}
 use Rattle.cbm_machine.specs.Closing.{put_on, with_some_byte, close_one, channel_numbers, without_text}
 use Rattle.cbm_machine.specs.Plans.{open_text}
-use Rattle.cbm_machine.specs.Calls.{command}
+use Rattle.cbm_machine.specs.Calls.{command, text_for, end_put}
 use Rattle.cbm_channel.specs.Standing.{Kept, Stands}
 
 -- A PART OF A CALL WAS STOPPED at a write that the medium refused, on the way from one machine to another. Each slot is as before or
@@ -61,10 +67,6 @@ closing ch = if ch == 15 then closings ++ (15, without_text 15) ∷ [] else (ch,
 abbrev pub opening_parts : ℕ → List ℕ → List (ℕ × (Machine → Machine))
 opening_parts ch text = if ch == 15 then (15, command text) ∷ [] else (ch, close_one ch) ∷ (ch, open_text ch text) ∷ []
 
--- where the CLOSE of the channel may have led, with which an OPEN begins; on 15 there is none
-abbrev pub AfterClose : {M : Type 0} → (M → Seen) → Kept M → Kept M → ℕ → Machine → Machine → Type 0
-AfterClose seen old new ch before now = MatchBool (ch == 15) (now ≡ before) (Passes (HasFailed (seen old.medium) (seen new.medium)) ch (close_one ch) before now)
-
 -- A CALL GOES ON from a machine, part by part, and the drive stands for a machine again.
 abbrev pub GoesFrom : {M : Type 0} → (M → Seen) → Kept M → Kept M → List (ℕ × (Machine → Machine)) → Machine → Type 0
 GoesFrom seen old new parts m = (now : Machine) × PassesAll (HasFailed (seen old.medium) (seen new.medium)) parts m now × Stands seen new now
@@ -79,3 +81,54 @@ pub record KeepsMedium (old new : Seen) : Type 0 where
   pub tracks : new.tracks ≡ old.tracks
   pub protected : new.protected ≡ old.protected
   pub counted : old.failures ≤ new.failures
+
+-- ---- the end of what is put
+
+-- the record has a beginning of its new bytes, or none
+abbrev pub HasBegun : Disk → ℕ → ℕ → ℕ → ℕ → List (List ℕ) → ℕ → ℕ → List ℕ → Disk → Type 0
+HasBegun d slot w b s rs k p bytes now = (so_far : ℕ) × (now ≡ with_record d slot w rs b s k (take so_far (new_record w rs k p bytes) ++ drop so_far (slice_index_or rs (k - 1) [])))
+
+-- The file has perhaps fresh records behind its own; its entry may still tell the old number of blocks, and blocks that were claimed last
+-- may be nobody's.
+pub record HasBegunToGrow (d : Disk) (slot w : ℕ) (rs : List (List ℕ)) (now : Disk) : Type 0 where
+  pub file : File
+  pub in_slot : file_at d slot ≡ Some file
+  pub so_far : ℕ
+  pub blocks : ℕ
+  pub sides : ℕ
+  pub shown : ℕ
+  pub free : ℕ
+  pub disk : now ≡ record (with_slot d slot (Some (record file { shown = shown; held = blocks + sides; body = Records w (rs ++ replicate so_far (fresh_record w)) blocks sides }))) { free = free }
+
+-- A WRITE OF A RECORD WAS STOPPED at a write that the medium refused, within the record, or while the file grew for it. All else of the
+-- disk is as it was, the channels keep their places, and the fault is told.
+pub record IsRecordStopped (ch : ℕ) (bytes : List ℕ) (before now : Machine) : Type 0 where
+  pub slot : ℕ
+  pub record_number : ℕ
+  pub position : ℕ
+  pub place : channel before ch ≡ Relative slot record_number position
+  pub width : ℕ
+  pub records : List (List ℕ)
+  pub blocks : ℕ
+  pub sides : ℕ
+  pub body : body_at before.disk slot ≡ Records width records blocks sides
+  pub disk : HasBegun before.disk slot width blocks sides records record_number position bytes now.disk
+      ⊎ (HasBegunToGrow before.disk slot width records now.disk
+      ⊎ HasBegun (with_growth before.disk slot width blocks sides records record_number) slot width (blocks_for width blocks record_number) (sides_for sides (blocks_for width blocks record_number)) (filled_up width (blocks_for width blocks record_number) records) record_number position bytes now.disk)
+  pub same_channels : now.channels ≡ before.channels
+  pub same_tracks : now.tracks ≡ before.tracks
+  pub same_protection : now.protected ≡ before.protected
+  pub fault : (t : Trouble) × (now.status ≡ trouble_status t)
+
+-- a text for a channel was one write of a record, or it was stopped; and the drive stands for a machine again
+abbrev pub RecordsFrom : {M : Type 0} → (M → Seen) → Kept M → Kept M → ℕ → List ℕ → Machine → Type 0
+RecordsFrom seen old new ch text m =
+    (now : Machine) × ((now ≡ write_record ch (channel m ch) text m) ⊎ (HasFailed (seen old.medium) (seen new.medium) × IsRecordStopped ch text m now)) × Stands seen new now
+
+-- the text that was gathered for a channel was carried out; or the medium failed, and a command or the write of a record was stopped
+abbrev pub Ends : Type 0 → ℕ → Machine → Machine → Type 0
+Ends failed ch before now = Passes failed ch (end_put ch) before now ⊎ (failed × IsRecordStopped ch (text_for ch before.text) before now)
+
+-- THE END OF WHAT IS PUT GOES ON from a machine, and the drive stands for a machine again.
+abbrev pub EndsFrom : {M : Type 0} → (M → Seen) → Kept M → Kept M → ℕ → Machine → Type 0
+EndsFrom seen old new ch m = (now : Machine) × Ends (HasFailed (seen old.medium) (seen new.medium)) ch m now × Stands seen new now

@@ -63,9 +63,10 @@ IsFromDirectory seen medium (planned.AppendFile found) =
 IsFromDirectory seen medium (planned.ReplaceFile slot) = Unit {0}
 IsFromDirectory seen medium (planned.OpenRecords found) =
     Contains (directory_of (geometry_of (seen medium).tracks (seen medium).content) (seen medium).content).entries found.entry
+IsFromDirectory seen medium (planned.MakeRecords name length) = Unit {0}
 
--- A request is refused with this code: for protection (26), its text (30 to 34), a record (50, 51), the files and the channels
--- (60 to 64, 70), for want of room (72) or of a disk (74).
+-- A request is refused with this code: for protection (26), its text (30 to 34), a record (50, 52), the files and the channels (60 to 64, 70),
+-- for want of room (72) or of a disk (74). Where 51 is told of a text for records, the bytes that fit were written.
 abbrev pub is_refusal : Code → Bool
 is_refusal Fine = false
 is_refusal FilesScratched = false
@@ -85,8 +86,8 @@ is_refusal LongText = true
 is_refusal WildName = true
 is_refusal NoName = true
 is_refusal NoRecord = true
-is_refusal RecordOverflow = true
-is_refusal FileTooLarge = false
+is_refusal RecordOverflow = false
+is_refusal FileTooLarge = true
 is_refusal WriteFileOpen = true
 is_refusal FileNotOpen = true
 is_refusal FileNotFound = true

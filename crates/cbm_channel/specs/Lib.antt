@@ -6,6 +6,7 @@ pub mod Grounds
 pub mod Shown
 pub mod Taken
 pub mod Moved
+pub mod Recorded
 pub mod Commanded
 pub mod Joined
 pub mod Planned
@@ -26,4 +27,3 @@ pub use Rattle.cbm_machine.specs.Talking
 pub use Rattle.cbm_machine.specs.Running
 pub use Rattle.cbm_machine.specs.Calls
 pub use Rattle.cbm_machine.specs.Told
-pub use Rattle.cbm_machine.specs.CarriedOut

@@ -1,11 +1,12 @@
 -- What the code found and plans, beside what the machine does.
-use Rattle.std.specs.Prelude.{ℕ, ◌-◌, ◌≡◌, ◌==◌, Bool, true, false, List, [], if◌then◌else◌, Option, Some, None, Result, Ok, Err}
+use Rattle.std.specs.Prelude.{ℕ, ◌-◌, ◌≤◌, ◌≡◌, ◌==◌, ◌||◌, not, nat_lt, Bool, true, false, List, [], if◌then◌else◌, Option, Some, None, Result, Ok, Err}
 use Rattle.cbm_file.specs.declared.file_type.FileType.{FileType}
 use Rattle.cbm_file.specs.declared.file_type.FileType.TheVariants.{Del, Rel}
 use Rattle.cbm_file.specs.Types.{is_same_type}
 use Rattle.cbm_file.specs.Padding.{before_filler}
 use Rattle.cbm_file.specs.Files.{Disk, File, file_at, bytes_in, record_length_in, with_slot}
 use Rattle.cbm_file.specs.Changes.{has_slot, new_slot, with_file, unclosed, reopened}
+use Rattle.cbm_file.specs.Records.{with_new_records}
 use Rattle.cbm_volume.specs.Content.{Content}
 use Rattle.cbm_volume.specs.Holding.{StandsAt, HasBytes, Says}
 use Rattle.cbm_volume.specs.Writers.{Use, HoldsNow, with_use}
@@ -23,7 +24,7 @@ use Rattle.cbm_machine.specs.declared.code.Code.TheVariants.{Fine}
 use Rattle.cbm_command.specs.declared.opening.Opening.{Opening}
 use Rattle.cbm_command.specs.declared.opening.Opening.TheVariants as opening
 use Rattle.cbm_command.specs.declared.opening.Mode.TheVariants.{Read}
-use Rattle.cbm_command.specs.Openings.{opening_of}
+use Rattle.cbm_command.specs.Openings.{is_relative, opening_of}
 use Rattle.cbm_command.specs.Refusals.{◌>>=◌}
 use Rattle.cbm_machine.specs.Listings.{listing}
 use Rattle.cbm_machine.specs.Machines.{Channel, Closed, Reading, Writing, Relative, Machine, answered, say, in_writing, in_use}
@@ -96,6 +97,14 @@ pub record IsRelatable (tracks : ℕ) (c : Content) (m : Machine) (s : ℕ) (fou
   pub width : record_length_in file.body ≡ width_of found.entry
   pub unwritten : in_writing m s ≡ false
 
+-- A new relative file can be made: its name is one that a text gives, its records have a byte, and the disk has two blocks and a place for
+-- it.
+pub record IsMakeable (m : Machine) (name : List ℕ) (length : ℕ) : Type 0 where
+  pub cut : before_filler name ≡ name
+  pub some : 1 ≤ length
+  pub room : (nat_lt m.disk.free 2 || not (has_slot m.disk)) ≡ false
+  pub unprotected : m.protected ≡ false
+
 -- the code's plan is the machine's, and can be done
 abbrev pub IsPlannedBy : ℕ → Content → Machine → Plan → code.Plan → Type 0
 IsPlannedBy tracks c m (ReadListing p) (planned.ReadListing q) = p ≡ q
@@ -104,6 +113,7 @@ IsPlannedBy tracks c m (WriteFile kind name) (planned.WriteFile k n) = (kind ≡
 IsPlannedBy tracks c m (AppendFile s) (planned.AppendFile found) = IsAppendable tracks c m s found
 IsPlannedBy tracks c m (ReplaceFile s) (planned.ReplaceFile slot) = IsReplaceable m s slot
 IsPlannedBy tracks c m (OpenRecords s) (planned.OpenRecords found) = IsRelatable tracks c m s found
+IsPlannedBy tracks c m (MakeRecords name length) (planned.MakeRecords n l) = (name ≡ n) × (length ≡ l) × IsMakeable m name length
 IsPlannedBy tracks c m p x = ⊥
 
 -- the code plans what the machine plans, or refuses by the same code
@@ -122,7 +132,7 @@ abbrev pub reopened_at : Option File → Disk → ℕ → Disk
 reopened_at None d s = d
 reopened_at (Some f) d s = with_slot d s (Some (reopened f))
 
--- The channel that a plan opens, and the disk then. A new relative file isn't carried out yet, and opens none.
+-- The channel that a plan opens, and the disk then.
 abbrev pub opened_by : Disk → Plan → Channel
 opened_by d (ReadListing p) = Reading None (listing d p)
 opened_by d (ReadFile s) = Reading (Some s) (bytes_in (body_at d s))
@@ -130,7 +140,7 @@ opened_by d (WriteFile kind name) = Writing (new_slot d) [] 1 false false
 opened_by d (AppendFile s) = appended_to (file_at d s) s
 opened_by d (ReplaceFile s) = Writing s [] 1 false true
 opened_by d (OpenRecords s) = Relative s 1 1
-opened_by d (MakeRecords name len) = Closed
+opened_by d (MakeRecords name len) = Relative (new_slot d) 1 1
 
 abbrev pub disk_opened : Disk → Plan → Disk
 disk_opened d (ReadListing p) = d
@@ -139,7 +149,7 @@ disk_opened d (WriteFile kind name) = with_file d (unclosed kind name) 1
 disk_opened d (AppendFile s) = reopened_at (file_at d s) d s
 disk_opened d (ReplaceFile s) = record d { free = d.free - 1 }
 disk_opened d (OpenRecords s) = d
-disk_opened d (MakeRecords name len) = d
+disk_opened d (MakeRecords name len) = with_new_records d name len
 
 -- The channel was opened by the plan: it stands for the machine's, what waits on it is there, and the medium holds the disk that the plan leaves. A disk
 -- without a place is none that was planned for.
@@ -152,10 +162,10 @@ IsOpened tracks c m ch p uses (Some x) =
 abbrev pub IsOfText : Opening → Type 0
 IsOfText o = (ch : ℕ) × (text : List ℕ) × (opening_of ch text ≡ Ok o)
 
--- it asks for a file to be written
+-- it asks for a file to be written, or for a relative one, which may be made
 abbrev pub is_for_writing : Opening → Bool
 is_for_writing (opening.Listing pattern) = false
-is_for_writing (opening.File w) = elim w.mode [ Read ↦ false | _ ↦ true ]
+is_for_writing (opening.File w) = if is_relative w then true else elim w.mode [ Read ↦ false | _ ↦ true ]
 
 -- the text of an OPEN does; on 15 it is a command, which may change the disk
 abbrev pub text_writes : ℕ → List ℕ → Bool
@@ -169,6 +179,17 @@ plan_writes (planned.WriteFile kind name) = true
 plan_writes (planned.AppendFile found) = true
 plan_writes (planned.ReplaceFile slot) = true
 plan_writes (planned.OpenRecords found) = false
+plan_writes (planned.MakeRecords name length) = true
+
+-- the records of a new relative file have 1 to 254 bytes
+abbrev pub IsSized : code.Plan → Type 0
+IsSized (planned.ReadListing q) = Unit {0}
+IsSized (planned.ReadFile found) = Unit {0}
+IsSized (planned.WriteFile kind name) = Unit {0}
+IsSized (planned.AppendFile found) = Unit {0}
+IsSized (planned.ReplaceFile slot) = Unit {0}
+IsSized (planned.OpenRecords found) = Unit {0}
+IsSized (planned.MakeRecords name length) = (1 ≤ length) × (length ≤ 254)
 
 -- an OPEN that was read is planned and done
 abbrev pub begun_by : ℕ → Opening → Machine → Machine

@@ -73,7 +73,7 @@ pub(crate) fn any_open(channels: &[Channel]) -> bool
 }
 
 impl Channel {
-    ghost use Rattle.std.specs.Prelude.{◌≡◌, ◌≤◌, ◌<◌, ◌^◌, ◌⊎◌, ℕ, true, false, not, Some, Ok, IsOk, IsOkAnd, IfOk, IfErr, OnOk, OnErr, replicate};
+    ghost use Rattle.std.specs.Prelude.{◌≡◌, ◌≤◌, ◌<◌, ◌^◌, ◌⊎◌, ℕ, List, true, false, not, Some, None, Ok, IsOk, IsOkAnd, IfOk, IfErr, IfSome, OnOk, OnErr, MatchResult, replicate};
     ghost use Rattle.cbm_medium.specs.Seen.{OnlyContent};
     ghost use Rattle.cbm_volume.specs.Writers.{Use, Idle, HoldsNow, with_use, Stopped};
     ghost use Rattle.cbm_volume.specs.Opens.{IsHindered};
@@ -91,6 +91,10 @@ impl Channel {
     ghost use Rattle.cbm_channel.specs.Shown.{is_closed, talk_refused, is_written, is_writing, has_records, writes_on, uses_on, cost_on, shown_on};
     ghost use Rattle.cbm_channel.specs.Written.{is_lost, channel_put, disk_put, IsCutOff, is_unbegun, disk_closed, IsBeingWritten};
     ghost use Rattle.cbm_channel.specs.Taken.{IsTakenBy};
+    ghost use Rattle.cbm_channel.specs.declared.channel.Channel.TheVariants.{Records};
+    ghost use Rattle.cbm_channel.specs.Going.{KeepsMedium};
+    ghost use Rattle.cbm_channel.specs.Placed.{Placed};
+    ghost use Rattle.cbm_channel.specs.Recorded.{CanPut, IsTextEnded, IsTextStopped};
 
     /// Fifteen channels that are closed.
     pub(crate) fn all_closed() -> [Channel; 15]
@@ -299,6 +303,38 @@ impl Channel {
                 *self = Channel::Stopped(writer.slot());
                 Err(trouble)
             }
+        }
+    }
+
+    /// A text for the records that it has open is one write of the record of its place. Answers whether some bytes
+    /// didn't fit, or None where the file would be too large: nothing has changed then. On a channel without records
+    /// nothing becomes of the text. Errors: why a write was refused, or why the next record can't be read.
+    pub(crate) fn put_record<M: Medium>(
+        &mut self,
+        volume: &mut Volume<M>,
+        bytes: &[u8],
+    ) -> Result<Option<bool>, Trouble>
+        requires { Fits (M.seen volume.old).tracks self.old }
+        ensures fits { Fits (M.seen volume.new).tracks self.new }
+        ensures same { IsSameFile self.old self.new }
+        ensures put { let old = M.seen volume.old in let new = M.seen volume.new in
+            (r : Placed) → self.old ≡ Records r → (d : Disk) (uses : ℕ → Use) (b s : ℕ) (rs : List (List ℕ)) →
+            CanPut old.tracks old.content d uses r b s rs → (q : Placed) × (self.new ≡ Records q) ×
+            MatchResult result (IsTextEnded old new d uses r q b s rs bytes.now)
+            (IsTextStopped old new d uses r q b s rs bytes.now) }
+        ensures quiet { has_records self.old ≡ false →
+            (result ≡ Ok (Some false)) × (self.new ≡ self.old) × (volume.new ≡ volume.old) }
+        ensures allowed { has_records self.old ≡ true →
+            IfOk result (λ o. IfSome o (λ cut. (M.seen volume.old).protected ≡ false)) }
+        ensures kept { IfOk result (λ o. o ≡ None → (M.seen volume.new).content ≡ (M.seen volume.old).content) }
+        ensures guarded { (M.seen volume.old).protected ≡ true →
+            (M.seen volume.new).content ≡ (M.seen volume.old).content }
+        ensures protection { IfErr result (λ t. t.code ≡ 26 → (M.seen volume.old).protected ≡ true) }
+        ensures medium { KeepsMedium (M.seen volume.old) (M.seen volume.new) }
+    {
+        match self {
+            Channel::Records(on) => on.put(volume, bytes),
+            _ => Ok(Some(false)),
         }
     }
 

@@ -1,4 +1,4 @@
-ghost use Rattle.std.specs.Prelude.{◌≡◌, ◌≤◌, ◌<◌, ◌-◌, ◌^◌, ◌⊎◌, ◌==◌, ℕ, true, false, List, length, drop, is_some, slice_index_or, IfOk, IfErr, IsOkAnd};
+ghost use Rattle.std.specs.Prelude.{◌≡◌, ◌≢◌, ◌≤◌, ◌<◌, ◌-◌, ◌^◌, ◌⊎◌, ◌==◌, ℕ, true, false, None, List, length, drop, is_some, slice_index_or, IfOk, IfErr, IsOkAnd, MatchBool};
 ghost use Rattle.std.specs.List.{list_all};
 ghost use Rattle.cbm_medium.specs.Met.{IsMet};
 ghost use Rattle.cbm_file.specs.Files.{Disk, File, Records, file_at};
@@ -6,8 +6,13 @@ ghost use Rattle.cbm_machine.specs.Records.{record_at};
 ghost use Rattle.cbm_volume.specs.Holding.{HoldsDisk};
 ghost use Rattle.cbm_volume.specs.Map.{geometry_of};
 ghost use Rattle.cbm_volume.specs.Slots.{directory_of};
+ghost use Rattle.cbm_medium.specs.Seen.{OnlyContent};
+ghost use Rattle.cbm_volume.specs.Growth.{with_growth, IsTooLarge, IsGrowthCut};
+ghost use Rattle.cbm_volume.specs.RecordWrites.{HasRecordsOpen};
+ghost use Rattle.cbm_volume.specs.Writers.{Use, HoldsNow};
 ghost use Rattle.cbm_channel.specs.Placed.{Waits, is_last, is_broken, record_of};
 
+use cbm_medium::codes::ENDLESS_CHAIN;
 use cbm_volume::{Medium, Record, Trouble, Volume};
 use std::marker::Model;
 
@@ -41,7 +46,7 @@ impl Model for OnRecord {
 
     ghost view = { λ r. record { slot = r.slot; width = r.length; number = r.number; position = r.position; waiting = r.waiting } };
 
-    ghost invariant = { λ r. is_some (record_of r.waiting) ≡ true → r.number ≤ 195072 };
+    ghost invariant = { λ r. (is_some (record_of r.waiting) ≡ true → r.number ≤ 195072) × (r.number < 2 ^ 24) };
 }
 
 /// Whether these are only zeros.
@@ -81,6 +86,7 @@ fn waiting_at<M: Medium>(volume: &Volume<M>, slot: u8, number: u32) -> Result<Wa
     ensures few { IfOk result (λ x. is_some (record_of x) ≡ true → number ≤ 195072) }
     ensures cause { let now = M.seen volume.now in let tracks = geometry_of now.tracks now.content in
         IfErr result (λ t. ((directory_of tracks now.content).trouble ≡ Some t) ⊎ IsMet tracks now.content t) }
+    ensures never_26 { IfErr result (λ t. t.code ≢ 26) }
 {
     if number == 0 {
         return Ok(Waiting::Absent);
@@ -91,8 +97,24 @@ fn waiting_at<M: Medium>(volume: &Volume<M>, slot: u8, number: u32) -> Result<Wa
     }
 }
 
+/// A record that was made isn't there, or the medium holds no disk.
+fn lost_again() -> Trouble
+    ensures { result ≡ (record { code = 71; track = 18; sector = 0 }) }
+{
+    Trouble {
+        code: ENDLESS_CHAIN,
+        track: 18,
+        sector: 0,
+    }
+}
+
 impl OnRecord {
-    ghost use Rattle.std.specs.Prelude.{◌≡◌, ◌≤◌, ◌<◌, ◌^◌, ◌⊎◌, ℕ, true, List, Some, IfOk, IfErr, OnOk, OnErr, IsOk, IsOkAnd};
+    ghost use Rattle.std.specs.Prelude.{◌≡◌, ◌≢◌, ◌≤◌, ◌<◌, ◌^◌, ◌⊎◌, ℕ, true, false, List, Some, None, IfOk, IfErr, IfSome, OnOk, OnErr, IsOk, IsOkAnd, MatchBool, MatchResult};
+    ghost use Rattle.cbm_medium.specs.Seen.{OnlyContent};
+    ghost use Rattle.cbm_volume.specs.RecordWrites.{IsRecordPut, IsRecordCut};
+    ghost use Rattle.cbm_volume.specs.Writers.{Use};
+    ghost use Rattle.cbm_channel.specs.Going.{KeepsMedium};
+    ghost use Rattle.cbm_channel.specs.Recorded.{CanPut, CanGrow, disk_grown, IsTextStored, IsTextCut, IsTextEnded, IsTextStopped};
     ghost use Rattle.cbm_machine.specs.Machines.{Relative};
     ghost use Rattle.cbm_machine.specs.Talking.{taken_on};
     ghost use Rattle.cbm_channel.specs.declared.on_record.Waiting.TheVariants.{Broken};
@@ -112,6 +134,7 @@ impl OnRecord {
             f.body ≡ Records length rs b s → IsOkAnd result (IsOnRecord d) }
         ensures cause { let now = M.seen volume.now in let tracks = geometry_of now.tracks now.content in
             IfErr result (λ t. ((directory_of tracks now.content).trouble ≡ Some t) ⊎ IsMet tracks now.content t) }
+        ensures never_26 { IfErr result (λ t. t.code ≢ 26) }
     {
         let waiting = waiting_at(volume, slot, 1)?;
         Ok(OnRecord {
@@ -168,12 +191,14 @@ impl OnRecord {
     ) -> Result<(), Trouble>
         requires { number < 2 ^ 24 }
         ensures place { IsPlacedAt self.old self.new number position }
-        ensures well { let now = M.seen volume.now in (d : Disk) → HoldsDisk now.tracks now.content d →
-            IsOnRecord d self.old → IsOk result × IsOnRecord d self.new }
+        ensures well { let now = M.seen volume.now in (d : Disk) (f : File) (b s : ℕ) (rs : List (List ℕ)) →
+            HoldsDisk now.tracks now.content d → file_at d self.old.slot ≡ Some f → f.closed ≡ true →
+            f.body ≡ Records self.old.width rs b s → IsOk result × IsOnRecord d self.new }
         ensures whole { OnOk result (is_broken self.new.waiting ≡ false) }
         ensures broken { OnErr result (self.new.waiting ≡ Broken) }
         ensures cause { let now = M.seen volume.now in let tracks = geometry_of now.tracks now.content in
             IfErr result (λ t. ((directory_of tracks now.content).trouble ≡ Some t) ⊎ IsMet tracks now.content t) }
+        ensures never_26 { IfErr result (λ t. t.code ≢ 26) }
     {
         self.number = number;
         self.position = position;
@@ -200,5 +225,124 @@ impl OnRecord {
         }
         self.position += 1;
         Ok(())
+    }
+
+    /// Writes these bytes into the record of the place, from its position on. Answers whether some bytes didn't fit, or
+    /// None where the record isn't there: nothing has changed then. Errors: why a write was refused.
+    fn write<M: Medium>(
+        &self,
+        volume: &mut Volume<M>,
+        bytes: &[u8],
+    ) -> Result<Option<bool>, Trouble>
+        ensures put { let old = M.seen volume.old in let new = M.seen volume.new in let r = self.now in
+            (d : Disk) (uses : ℕ → Use) (b s : ℕ) (rs : List (List ℕ)) →
+            CanPut old.tracks old.content d uses r b s rs →
+            MatchResult result
+            (IsRecordPut old.tracks old.content new.content d uses r.slot r.width b s rs r.number r.position bytes.now)
+            (IsRecordCut old new d uses r.slot r.width b s rs r.number r.position bytes.now) }
+        ensures few { IfOk result (λ o. IfSome o (λ cut. self.now.number ≤ 195072)) }
+        ensures allowed { IfOk result (λ o. IfSome o (λ cut. (M.seen volume.old).protected ≡ false)) }
+        ensures kept { IfOk result (λ o. o ≡ None → (M.seen volume.new).content ≡ (M.seen volume.old).content) }
+        ensures guarded { (M.seen volume.old).protected ≡ true →
+            (M.seen volume.new).content ≡ (M.seen volume.old).content }
+        ensures protection { IfErr result (λ t. t.code ≡ 26 → (M.seen volume.old).protected ≡ true) }
+        ensures only { OnlyContent result (M.seen volume.old) (M.seen volume.new) }
+    {
+        // No record has the number 0, and no byte of one.
+        if self.number == 0 || self.position == 0 {
+            return Ok(None);
+        }
+        volume.put_record(self.slot, self.number, self.position, bytes)
+    }
+
+    /// The file grows until the record of the place is there. False where it would be too large: nothing has changed
+    /// then. Errors: why a write was refused.
+    fn grow<M: Medium>(&self, volume: &mut Volume<M>) -> Result<bool, Trouble>
+        ensures grown { let old = M.seen volume.old in let new = M.seen volume.new in let r = self.now in
+            (d : Disk) (uses : ℕ → Use) (b s : ℕ) (rs : List (List ℕ)) →
+            CanPut old.tracks old.content d uses r b s rs → record_at (Records r.width rs b s) r.number ≡ None →
+            MatchResult result
+            (λ done. MatchBool done (HoldsNow old.tracks new.content (disk_grown d r b s rs) uses × CanGrow d r b s rs)
+            (IsTooLarge d r.width b s r.number × (new.content ≡ old.content)))
+            (λ t. IsGrowthCut old new d uses r.slot r.width rs t × CanGrow d r b s rs) }
+        ensures kept { IfOk result (λ done. done ≡ false →
+            (M.seen volume.new).content ≡ (M.seen volume.old).content) }
+        ensures guarded { (M.seen volume.old).protected ≡ true →
+            (M.seen volume.new).content ≡ (M.seen volume.old).content }
+        ensures protection { IfErr result (λ t. t.code ≡ 26 → (M.seen volume.old).protected ≡ true) }
+        ensures only { OnlyContent result (M.seen volume.old) (M.seen volume.new) }
+    {
+        if self.number == 0 {
+            return Ok(false);
+        }
+        volume.grow_records(self.slot, self.number)
+    }
+
+    /// As `write`, where a record that isn't there is made: None says that the file would be too large, and nothing has
+    /// changed then.
+    fn store<M: Medium>(
+        &self,
+        volume: &mut Volume<M>,
+        bytes: &[u8],
+    ) -> Result<Option<bool>, Trouble>
+        ensures put { let old = M.seen volume.old in let new = M.seen volume.new in
+            (d : Disk) (uses : ℕ → Use) (b s : ℕ) (rs : List (List ℕ)) →
+            CanPut old.tracks old.content d uses self.now b s rs →
+            MatchResult result
+            (IsTextStored old.tracks old.content new.content d uses self.now b s rs bytes.now)
+            (IsTextCut old new d uses self.now b s rs bytes.now) }
+        ensures few { IfOk result (λ o. IfSome o (λ cut. self.now.number ≤ 195072)) }
+        ensures allowed { IfOk result (λ o. IfSome o (λ cut. (M.seen volume.old).protected ≡ false)) }
+        ensures kept { IfOk result (λ o. o ≡ None → (M.seen volume.new).content ≡ (M.seen volume.old).content) }
+        ensures guarded { (M.seen volume.old).protected ≡ true →
+            (M.seen volume.new).content ≡ (M.seen volume.old).content }
+        ensures protection { IfErr result (λ t. t.code ≡ 26 → (M.seen volume.old).protected ≡ true) }
+        ensures medium { KeepsMedium (M.seen volume.old) (M.seen volume.new) }
+    {
+        if let Some(cut) = self.write(volume, bytes)? {
+            return Ok(Some(cut));
+        }
+        if !self.grow(volume)? {
+            return Ok(None);
+        }
+        match self.write(volume, bytes)? {
+            Some(cut) => Ok(Some(cut)),
+            None => Err(lost_again()),
+        }
+    }
+
+    /// A text is one write of the record of the place, which is made where it isn't there; behind it the place is the
+    /// next record's first byte. Answers whether some bytes didn't fit, or None where the file would be too large: nothing
+    /// has changed then. Errors: why a write was refused, of which the record may have a beginning; the place stays, and
+    /// is read anew. Or why the next record can't be read, of which nothing waits then.
+    pub(crate) fn put<M: Medium>(
+        &mut self,
+        volume: &mut Volume<M>,
+        bytes: &[u8],
+    ) -> Result<Option<bool>, Trouble>
+        ensures put { let old = M.seen volume.old in let new = M.seen volume.new in
+            (d : Disk) (uses : ℕ → Use) (b s : ℕ) (rs : List (List ℕ)) →
+            CanPut old.tracks old.content d uses self.old b s rs →
+            MatchResult result (IsTextEnded old new d uses self.old self.new b s rs bytes.now)
+            (IsTextStopped old new d uses self.old self.new b s rs bytes.now) }
+        ensures file { (self.new.slot ≡ self.old.slot) × (self.new.width ≡ self.old.width) }
+        ensures allowed { IfOk result (λ o. IfSome o (λ cut. (M.seen volume.old).protected ≡ false)) }
+        ensures kept { IfOk result (λ o. o ≡ None → (M.seen volume.new).content ≡ (M.seen volume.old).content) }
+        ensures guarded { (M.seen volume.old).protected ≡ true →
+            (M.seen volume.new).content ≡ (M.seen volume.old).content }
+        ensures protection { IfErr result (λ t. t.code ≡ 26 → (M.seen volume.old).protected ≡ true) }
+        ensures medium { KeepsMedium (M.seen volume.old) (M.seen volume.new) }
+    {
+        match self.store(volume, bytes) {
+            Ok(Some(cut)) => {
+                self.go(volume, self.number + 1, 1)?;
+                Ok(Some(cut))
+            }
+            Ok(None) => Ok(None),
+            Err(trouble) => {
+                let _ = self.go(volume, self.number, self.position);
+                Err(trouble)
+            }
+        }
     }
 }

@@ -17,4 +17,6 @@ pub enum Plan {
     ReplaceFile(u8),
     /// The records of a file are opened.
     OpenRecords(Found),
+    /// A new relative file is made, of this name and with records of this length.
+    MakeRecords(Name, u8),
 }

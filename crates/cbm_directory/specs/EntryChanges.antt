@@ -61,6 +61,15 @@ pub record IsRenamedAs (old new name : List ℕ) : Type 0 where
   pub before : (i : ℕ) → i < 3 → slice_index new i ≡ slice_index old i
   pub behind : (i : ℕ) → 19 ≤ i → slice_index new i ≡ slice_index old i
 
+-- The entry tells another number of blocks; what else it says of the file stays.
+pub record IsCountedAs (old new : List ℕ) (blocks : ℕ) : Type 0 where
+  pub typed : type_byte new ≡ type_byte old
+  pub begins : first_block new ≡ first_block old
+  pub named : slice_range new 3 19 ≡ slice_range old 3 19
+  pub lists : first_side new ≡ first_side old
+  pub long : width_of new ≡ width_of old
+  pub shown : slice_index new 28 + 256 * slice_index new 29 ≡ blocks
+
 -- The entry names the first side sector and the length of its file's records; what else it says of the file stays.
 pub record IsRelativeAs (old new : List ℕ) (side : Place) (width : ℕ) : Type 0 where
   pub typed : type_byte new ≡ type_byte old

@@ -1,0 +1,10 @@
+pub mod Told
+pub mod Firsts
+pub mod Heard
+pub mod Reacted
+pub mod Cables
+pub mod Later
+pub mod Nearer
+pub mod Left
+pub mod Played
+pub mod Ordered

@@ -11,6 +11,5 @@ pub mod Running
 pub mod Calls
 pub mod Told
 pub mod Orderly
-pub mod CarriedOut
 pub use Rattle.cbm_file.specs.Types
 pub use Rattle.cbm_file.specs.Files

@@ -1,5 +1,5 @@
 -- The records of a relative file: what one holds, how a file grows, and what a write of one does.
-use Rattle.std.specs.Prelude.{ℕ, ◌+◌, ◌-◌, ◌*◌, nat_lt, ◌||◌, List, [], ◌∷◌, ◌++◌, length, replicate, slice_index_or, slice_set, if◌then◌else◌, is_some, Ok, Result}
+use Rattle.std.specs.Prelude.{ℕ, ◌+◌, ◌-◌, nat_lt, ◌||◌, List, [], ◌∷◌, ◌++◌, length, replicate, slice_index_or, slice_set, if◌then◌else◌, is_some, Ok, Result}
 use Rattle.cbm_file.specs.Files.{Bytes, Records}
 use Rattle.cbm_command.specs.Refusals.{◌>>=◌, unless}
 use Rattle.cbm_machine.specs.declared.code.Code.{Code}

@@ -8,32 +8,32 @@ use Rattle.cbm_program.specs.declared.line.Line.{Line}
 use Rattle.cbm_program.specs.declared.line.Line.TheVariants.{Asks}
 use Rattle.cbm_program.specs.Scripts.{printed, printed_by}
 use Rattle.cbm_program.specs.Output.{Prints, PrintsPart}
-use Rattle.cbm_program.specs.Running.{IsRequestCarriedOut, AreCarriedOut, requests_in}
+use Rattle.cbm_program.specs.Running.{requests_in}
 use Rattle.cbm_program.proofs.OutputLemmas.{appends-kept, part_before, whole_part}
 
 one-prints : (a b c : Option (List ℕ)) (stood now : Machine → Type 0) (request : Request)
-    → Prints a b (λ m. IsRequestCarriedOut request m × stood m) now (printed_by request) → Keeps b c
-    → Prints a c (λ m. AreCarriedOut (request ∷ []) m × stood m) now (printed (request ∷ []))
+    → Prints a b stood now (printed_by request) → Keeps b c
+    → Prints a c stood now (printed (request ∷ []))
 one-prints a b c stood now request p k m s =
-    let r = p m (s.0.0, s.1) in
+    let r = p m s in
     (subst (λ t. Appends a c t) (sym (append-nil (printed_by request m).text)) (appends-kept a b c (printed_by request m).text r.0 k), r.1)
 
 -- what a request prints, and then nothing more
 pub asks-prints : (a b c : Option (List ℕ)) (stood now : Machine → Type 0) (line : Line) (request : Request) → line ≡ Asks request
-    → Prints a b (λ m. IsRequestCarriedOut request m × stood m) now (printed_by request) → Keeps b c
-    → Prints a c (λ m. AreCarriedOut (requests_in line) m × stood m) now (printed (requests_in line))
+    → Prints a b stood now (printed_by request) → Keeps b c
+    → Prints a c stood now (printed (requests_in line))
 asks-prints a b c stood now line request e p k = rw e (one-prints a b c stood now request p k)
 
 pub asks-part : (a b c : Option (List ℕ)) (stood now : Machine → Type 0) (line : Line) (request : Request) → line ≡ Asks request
-    → Prints a b (λ m. IsRequestCarriedOut request m × stood m) now (printed_by request) → Keeps b c
-    → PrintsPart a c (λ m. AreCarriedOut (requests_in line) m × stood m) (printed (requests_in line))
+    → Prints a b stood now (printed_by request) → Keeps b c
+    → PrintsPart a c stood (printed (requests_in line))
 asks-part a b c stood now line request e p k =
     rw e (λ m s. whole_part a c (printed (request ∷ []) m).text (one-prints a b c stood now request p k m s).0)
 
 -- a request that broke off
 pub asks-broken : (a b : Option (List ℕ)) (stood : Machine → Type 0) (line : Line) (request : Request) → line ≡ Asks request
-    → PrintsPart a b (λ m. IsRequestCarriedOut request m × stood m) (printed_by request) → PrintsPart a b (λ m. AreCarriedOut (requests_in line) m × stood m) (printed (requests_in line))
-asks-broken a b stood line request e p = rw e (λ m s. part_before a b (printed_by request m).text [] (p m (s.0.0, s.1)))
+    → PrintsPart a b stood (printed_by request) → PrintsPart a b stood (printed (requests_in line))
+asks-broken a b stood line request e p = rw e (λ m s. part_before a b (printed_by request m).text [] (p m s))
 
 pub if_ok : {A E P : Type 0} (r : Result A E) → P → OnOk r P
 if_ok (Ok a) p = p

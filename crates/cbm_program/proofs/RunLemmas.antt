@@ -11,7 +11,7 @@ use Rattle.cbm_program.specs.declared.fault.RunFault.TheVariants.{Script, Image,
 use Rattle.cbm_program.specs.Lines.{lines_of}
 use Rattle.cbm_program.specs.Scripts.{printed, printed_by}
 use Rattle.cbm_program.specs.Output.{AppendsPart, Prints, PrintsPart}
-use Rattle.cbm_program.specs.Running.{AreCarriedOut, requests_in, meaning, Asked, refused_at, with_line, asked_from, script_of, ReadsLine, ComesBad, LineRead, EndsAs, IsOfWriting}
+use Rattle.cbm_program.specs.Running.{requests_in, meaning, Asked, refused_at, with_line, asked_from, script_of, ReadsLine, ComesBad, LineRead, EndsAs, IsOfWriting}
 use Rattle.cbm_program.proofs.OutputLemmas.{appends-nothing, appends-more, part_behind, part_before, whole_part}
 
 -- ---- requests behind requests
@@ -25,10 +25,6 @@ text-append (r ∷ xs) ys m =
 machine-append : (xs ys : List Request) (m : Machine) → (printed (xs ++ ys) m).machine ≡ (printed ys (printed xs m).machine).machine
 machine-append [] ys m = refl
 machine-append (r ∷ xs) ys m = machine-append xs ys (printed_by r m).machine
-
-carried-append : (xs ys : List Request) (m : Machine) → AreCarriedOut (xs ++ ys) m → AreCarriedOut xs m × AreCarriedOut ys (printed xs m).machine
-carried-append [] ys m h = (tt, h)
-carried-append (r ∷ xs) ys m h = let k = carried-append xs ys (printed_by r m).machine h.1 in ((h.0, k.0), k.1)
 
 -- requests in front of what is asked
 abbrev pub behind : List Request → Asked → Asked
@@ -66,7 +62,7 @@ Follows (Some xs) (Some ys) n done = script_of xs ≡ behind done (asked_from n 
 pub record Running (a b input left : Option (List ℕ)) (stood now : Machine → Type 0) (n : ℕ) : Type 0 where
   pub done : List Request
   pub follows : Follows input left n done
-  pub prints : Prints a b (λ m. AreCarriedOut done m × stood m) now (printed done)
+  pub prints : Prints a b stood now (printed done)
 
 follows-start : (x : Option (List ℕ)) → Follows x x 1 []
 follows-start None = tt
@@ -76,7 +72,7 @@ pub run-start : (a x l : Option (List ℕ)) (stood : Machine → Type 0) → l �
 run-start a x l stood e = record {
   done = [];
   follows = subst (λ o. Follows x o 1 []) (sym e) (follows-start x);
-  prints = λ m s. (appends-nothing a, s.1);
+  prints = λ m s. (appends-nothing a, s);
 }
 
 follows-line : (x l k : Option (List ℕ)) (n : ℕ) (done : List Request) (line : Line) → Follows x l n done → ReadsLine l k n line
@@ -90,20 +86,19 @@ follows-line (Some xs) (Some ys) (Some zs) n done line f (bytes, e, means) =
 
 -- one line more is done
 prints-line : (a b c : Option (List ℕ)) (stood now next : Machine → Type 0) (done requests : List Request)
-    → Prints a b (λ m. AreCarriedOut done m × stood m) now (printed done)
-    → Prints b c (λ m. AreCarriedOut requests m × now m) next (printed requests)
-    → Prints a c (λ m. AreCarriedOut (done ++ requests) m × stood m) next (printed (done ++ requests))
+    → Prints a b stood now (printed done)
+    → Prints b c now next (printed requests)
+    → Prints a c stood next (printed (done ++ requests))
 prints-line a b c stood now next done requests p q m s =
-    let carried = carried-append done requests m s.0 in
-    let first = p m (carried.0, s.1) in
-    let second = q (printed done m).machine (carried.1, first.1) in (
+    let first = p m s in
+    let second = q (printed done m).machine first.1 in (
       subst (λ t. Appends a c t) (sym (text-append done requests m))
           (appends-more a b c (printed done m).text (printed requests (printed done m).machine).text first.0 second.0),
       subst (λ x. next x) (sym (machine-append done requests m)) second.1,
     )
 
 pub run-line : (a b c x l k : Option (List ℕ)) (stood now next : Machine → Type 0) (n : ℕ) (line : Line) → Running a b x l stood now n → ReadsLine l k n line
-    → Prints b c (λ m. AreCarriedOut (requests_in line) m × now m) next (printed (requests_in line)) → Running a c x k stood next (n + 1)
+    → Prints b c now next (printed (requests_in line)) → Running a c x k stood next (n + 1)
 run-line a b c x l k stood now next n line r t p = record {
   done = r.done ++ requests_in line;
   follows = follows-line x l k n r.done line r.follows t;
@@ -114,17 +109,16 @@ run-line a b c x l k stood now next n line r t p = record {
 
 -- a beginning of what all the input prints
 abbrev pub Begun : Option (List ℕ) → Option (List ℕ) → Option (List ℕ) → (Machine → Type 0) → Type 0
-Begun a b x stood = IfSome x (λ input. PrintsPart a b (λ m. AreCarriedOut (script_of input).requests m × stood m) (printed (script_of input).requests))
+Begun a b x stood = IfSome x (λ input. PrintsPart a b stood (printed (script_of input).requests))
 
 begun : (a b : Option (List ℕ)) (stood : Machine → Type 0) (done : List Request) (asked rest : Asked) → asked ≡ behind done rest
-    → PrintsPart a b (λ m. AreCarriedOut done m × stood m) (printed done)
-    → PrintsPart a b (λ m. AreCarriedOut asked.requests m × stood m) (printed asked.requests)
+    → PrintsPart a b stood (printed done)
+    → PrintsPart a b stood (printed asked.requests)
 begun a b stood done asked rest e p m s =
     let same : asked.requests ≡ done ++ rest.requests = ap (λ (o : Asked). o.requests) e in
-    let carried = carried-append done rest.requests m (subst (λ rs. AreCarriedOut rs m) same s.0) in
     subst (λ rs. AppendsPart a b (printed rs m).text) (sym same)
     (subst (λ t. AppendsPart a b t) (sym (text-append done rest.requests m))
-    (part_before a b (printed done m).text (printed rest.requests (printed done m).machine).text (p m (carried.0, s.1))))
+    (part_before a b (printed done m).text (printed rest.requests (printed done m).machine).text (p m s)))
 
 whole : (a b : Option (List ℕ)) (stood now : Machine → Type 0) (requests : List Request) → Prints a b stood now (printed requests) → PrintsPart a b stood (printed requests)
 whole a b stood now requests p m s = whole_part a b (printed requests m).text (p m s).0
@@ -133,21 +127,20 @@ pub run-part : (a b x l : Option (List ℕ)) (stood now : Machine → Type 0) (n
 run-part a b None l stood now n r = tt
 run-part a b (Some xs) None stood now n r = absurd r.follows
 run-part a b (Some xs) (Some ys) stood now n r =
-    begun a b stood r.done (script_of xs) (asked_from n (lines_of ys)) r.follows (whole a b (λ m. AreCarriedOut r.done m × stood m) now r.done r.prints)
+    begun a b stood r.done (script_of xs) (asked_from n (lines_of ys)) r.follows (whole a b stood now r.done r.prints)
 
 part-line : (a b c : Option (List ℕ)) (stood now : Machine → Type 0) (done requests : List Request)
-    → Prints a b (λ m. AreCarriedOut done m × stood m) now (printed done)
-    → PrintsPart b c (λ m. AreCarriedOut requests m × now m) (printed requests)
-    → PrintsPart a c (λ m. AreCarriedOut (done ++ requests) m × stood m) (printed (done ++ requests))
+    → Prints a b stood now (printed done)
+    → PrintsPart b c now (printed requests)
+    → PrintsPart a c stood (printed (done ++ requests))
 part-line a b c stood now done requests p q m s =
-    let carried = carried-append done requests m s.0 in
-    let first = p m (carried.0, s.1) in
+    let first = p m s in
     subst (λ t. AppendsPart a c t) (sym (text-append done requests m))
-    (part_behind a b c (printed done m).text (printed requests (printed done m).machine).text first.0 (q (printed done m).machine (carried.1, first.1)))
+    (part_behind a b c (printed done m).text (printed requests (printed done m).machine).text first.0 (q (printed done m).machine first.1))
 
 -- the same where a line's own text broke off
 pub run-broken : (a b c x l k : Option (List ℕ)) (stood now : Machine → Type 0) (n : ℕ) (line : Line) → Running a b x l stood now n → ReadsLine l k n line
-    → PrintsPart b c (λ m. AreCarriedOut (requests_in line) m × now m) (printed (requests_in line)) → Begun a c x stood
+    → PrintsPart b c now (printed (requests_in line)) → Begun a c x stood
 run-broken a b c None l k stood now n line r t p = tt
 run-broken a b c (Some xs) None k stood now n line r t p = absurd r.follows
 run-broken a b c (Some xs) (Some ys) None stood now n line r t p = absurd t
@@ -159,13 +152,13 @@ run-broken a b c (Some xs) (Some ys) (Some zs) stood now n line r t p =
 
 abbrev pub Ended : Option (List ℕ) → Option (List ℕ) → Option (List ℕ) → (Machine → Type 0) → (Machine → Type 0) → Option ℕ → Type 0
 Ended a b x stood now bad = IfSome x (λ input. ((script_of input).bad ≡ bad)
-    × Prints a b (λ m. AreCarriedOut (script_of input).requests m × stood m) now (printed (script_of input).requests))
+    × Prints a b stood now (printed (script_of input).requests))
 
 ended : (a b : Option (List ℕ)) (xs : List ℕ) (stood now : Machine → Type 0) (done : List Request) (bad : Option ℕ) → script_of xs ≡ behind done (refused_at bad)
-    → Prints a b (λ m. AreCarriedOut done m × stood m) now (printed done) → Ended a b (Some xs) stood now bad
+    → Prints a b stood now (printed done) → Ended a b (Some xs) stood now bad
 ended a b xs stood now done bad e p = (
   ap (λ (o : Asked). o.bad) e,
-  subst (λ rs. Prints a b (λ m. AreCarriedOut rs m × stood m) now (printed rs)) (sym (ap (λ (o : Asked). o.requests) e ∙ append-nil done)) p,
+  subst (λ rs. Prints a b stood now (printed rs)) (sym (ap (λ (o : Asked). o.requests) e ∙ append-nil done)) p,
 )
 
 pub run-end : (a b x l : Option (List ℕ)) (stood now : Machine → Type 0) (n : ℕ) → Running a b x l stood now n → IsAtEnd l → Ended a b x stood now None

@@ -11,7 +11,7 @@ use Rattle.cbm_program.specs.declared.fault.RunFault.TheVariants.{Script, Image,
 use Rattle.cbm_program.specs.Scripts.{printed}
 use Rattle.std.specs.Io.KnownBytes.{Appends}
 use Rattle.cbm_program.specs.Output.{AppendsPart, Grows, Prints, PrintsPart}
-use Rattle.cbm_program.specs.Running.{script_of, AreCarriedOut, EndsAs, EndsBy}
+use Rattle.cbm_program.specs.Running.{script_of, EndsAs, EndsBy}
 use Rattle.cbm_program.specs.declared.kind.Kind.{Kind}
 use Rattle.cbm_program.specs.Images.{StartsOn, tracks_of, content_of, ImageHolds, IsOf}
 use Rattle.cbm_program.proofs.OutputLemmas.{appends-nothing, appends-more, part_behind, part_before, whole_part}
@@ -28,8 +28,8 @@ pub among-stands : (tracks : ℕ) (content : Content) (protected : Bool) (stands
 among-stands tracks content protected stands h m (d, holds, e) = subst (λ x. stands x) (sym e) (h d holds)
 
 prints-among : (a b : Option (List ℕ)) (some all now next : Machine → Type 0) (script : List Request) → AreAmong some all → AreAmong now next
-    → Prints a b (λ m. AreCarriedOut script m × all m) now (printed script) → Prints a b (λ m. AreCarriedOut script m × some m) next (printed script)
-prints-among a b some all now next script is then p m s = let r = p m (s.0, is m s.1) in (r.0, then (printed script m).machine r.1)
+    → Prints a b all now (printed script) → Prints a b some next (printed script)
+prints-among a b some all now next script is then p m s = let r = p m (is m s) in (r.0, then (printed script m).machine r.1)
 
 pub ended-among : (a b x : Option (List ℕ)) (some all now next : Machine → Type 0) (bad : Option ℕ) → AreAmong some all → AreAmong now next
     → Ended a b x all now bad → Ended a b x some next bad
@@ -38,7 +38,7 @@ ended-among a b (Some xs) some all now next bad is then e = (e.0, prints-among a
 
 -- what a run from such a machine prints, and where it stands then
 abbrev pub Printed : Option (List ℕ) → Option (List ℕ) → Option (List ℕ) → (Machine → Type 0) → (Machine → Type 0) → Type 0
-Printed a b x stood now = IfSome x (λ input. Prints a b (λ m. AreCarriedOut (script_of input).requests m × stood m) now (printed (script_of input).requests))
+Printed a b x stood now = IfSome x (λ input. Prints a b stood now (printed (script_of input).requests))
 
 pub printed-among : (a b x : Option (List ℕ)) (some all now next : Machine → Type 0) → AreAmong some all → AreAmong now next
     → Printed a b x all now → Printed a b x some next
@@ -52,7 +52,7 @@ printed-ended a b (Some xs) some all now next bad is then e = prints-among a b s
 
 pub begun-among : (a b x : Option (List ℕ)) (some all : Machine → Type 0) → AreAmong some all → Begun a b x all → Begun a b x some
 begun-among a b None some all is e = tt
-begun-among a b (Some xs) some all is e = λ m s. e m (s.0, is m s.1)
+begun-among a b (Some xs) some all is e = λ m s. e m (is m s)
 
 ends-err : (f : RunFault) (P Q : Option ℕ → Type 0) → EndsBy f P → ((bad : Option ℕ) → P bad → Q bad) → EndsBy f Q
 ends-err (Script line) P Q h w = w (Some line) h
@@ -79,21 +79,21 @@ ends-any (Err Writing) P h = tt
 
 abbrev pub EndedBehind : Bool → Option (List ℕ) → Option (List ℕ) → Option (List ℕ) → (Machine → Type 0) → (Machine → Type 0) → Option ℕ → Type 0
 EndedBehind checks a b x stood now bad = IfSome x (λ input. ((script_of input).bad ≡ bad)
-    × Prints a b (λ m. AreCarriedOut (script_of input).requests m × stood m) now (printed_behind checks (script_of input).requests))
+    × Prints a b stood now (printed_behind checks (script_of input).requests))
 
 abbrev pub PrintedBehind : Bool → Option (List ℕ) → Option (List ℕ) → Option (List ℕ) → (Machine → Type 0) → (Machine → Type 0) → Type 0
-PrintedBehind checks a b x stood now = IfSome x (λ input. Prints a b (λ m. AreCarriedOut (script_of input).requests m × stood m) now (printed_behind checks (script_of input).requests))
+PrintedBehind checks a b x stood now = IfSome x (λ input. Prints a b stood now (printed_behind checks (script_of input).requests))
 
 abbrev pub BegunBehind : Bool → Option (List ℕ) → Option (List ℕ) → Option (List ℕ) → (Machine → Type 0) → Type 0
-BegunBehind checks a b x stood = IfSome x (λ input. PrintsPart a b (λ m. AreCarriedOut (script_of input).requests m × stood m) (printed_behind checks (script_of input).requests))
+BegunBehind checks a b x stood = IfSome x (λ input. PrintsPart a b stood (printed_behind checks (script_of input).requests))
 
 -- for each machine that stood, the check's line was printed
 abbrev pub Said : Bool → Option (List ℕ) → Option (List ℕ) → (Machine → Type 0) → Type 0
 Said checks a b stood = (m : Machine) → stood m → Appends a b (checked_text checks)
 
 prints-behind : (checks : Bool) (a b c : Option (List ℕ)) (stood now : Machine → Type 0) (script : List Request) → Said checks a b stood
-    → Prints b c (λ m. AreCarriedOut script m × stood m) now (printed script) → Prints a c (λ m. AreCarriedOut script m × stood m) now (printed_behind checks script)
-prints-behind checks a b c stood now script said p m s = let r = p m s in (appends-more a b c (checked_text checks) (printed script m).text (said m s.1) r.0, r.1)
+    → Prints b c stood now (printed script) → Prints a c stood now (printed_behind checks script)
+prints-behind checks a b c stood now script said p m s = let r = p m s in (appends-more a b c (checked_text checks) (printed script m).text (said m s) r.0, r.1)
 
 pub ended-behind : (checks : Bool) (a b c x : Option (List ℕ)) (stood now : Machine → Type 0) (bad : Option ℕ) → Said checks a b stood → Ended b c x stood now bad → EndedBehind checks a c x stood now bad
 ended-behind checks a b c None stood now bad said e = tt
@@ -105,7 +105,7 @@ printed-behind checks a b c (Some xs) stood now said e = prints-behind checks a 
 
 pub begun-behind : (checks : Bool) (a b c x : Option (List ℕ)) (stood : Machine → Type 0) → Said checks a b stood → Begun b c x stood → BegunBehind checks a c x stood
 begun-behind checks a b c None stood said e = tt
-begun-behind checks a b c (Some xs) stood said e = λ m s. part_behind a b c (checked_text checks) (printed (script_of xs).requests m).text (said m s.1) (e m s)
+begun-behind checks a b c (Some xs) stood said e = λ m s. part_behind a b c (checked_text checks) (printed (script_of xs).requests m).text (said m s) (e m s)
 
 -- a check of the disk that a machine at power up has
 pub said-start : (tracks : ℕ) (content : Content) (protected checks : Bool) (a b : Option (List ℕ)) → ((d : Disk) → HoldsDisk tracks content d → Appends a b (checked_text checks))
@@ -115,7 +115,7 @@ said-start tracks content protected checks a b h m (d, holds, e) = h d holds
 -- the check's own line broke off
 pub begun-cut : (checks : Bool) (a b x : Option (List ℕ)) (stood : Machine → Type 0) → ((m : Machine) → stood m → AppendsPart a b (checked_text checks)) → BegunBehind checks a b x stood
 begun-cut checks a b None stood h = tt
-begun-cut checks a b (Some xs) stood h = λ m s. part_before a b (checked_text checks) (printed (script_of xs).requests m).text (h m s.1)
+begun-cut checks a b (Some xs) stood h = λ m s. part_before a b (checked_text checks) (printed (script_of xs).requests m).text (h m s)
 
 pub cut-start : (tracks : ℕ) (content : Content) (protected checks : Bool) (a b x : Option (List ℕ)) → ((d : Disk) → HoldsDisk tracks content d → AppendsPart a b (checked_text checks))
     → BegunBehind checks a b x (StartsOn tracks content protected)
@@ -125,11 +125,11 @@ cut-start tracks content protected checks a b x h = begun-cut checks a b x (Star
 pub behind-among : (checks : Bool) (a b x : Option (List ℕ)) (some all now next : Machine → Type 0) → AreAmong some all → AreAmong now next
     → PrintedBehind checks a b x all now → PrintedBehind checks a b x some next
 behind-among checks a b None some all now next is then e = tt
-behind-among checks a b (Some xs) some all now next is then e = λ m s. let r = e m (s.0, is m s.1) in (r.0, then (printed (script_of xs).requests m).machine r.1)
+behind-among checks a b (Some xs) some all now next is then e = λ m s. let r = e m (is m s) in (r.0, then (printed (script_of xs).requests m).machine r.1)
 
 pub begun-behind-among : (checks : Bool) (a b x : Option (List ℕ)) (some all : Machine → Type 0) → AreAmong some all → BegunBehind checks a b x all → BegunBehind checks a b x some
 begun-behind-among checks a b None some all is e = tt
-begun-behind-among checks a b (Some xs) some all is e = λ m s. e m (s.0, is m s.1)
+begun-behind-among checks a b (Some xs) some all is e = λ m s. e m (is m s)
 
 -- ---- the same of an image
 

@@ -14,7 +14,6 @@ use Rattle.cbm_program.specs.declared.kind.Kind.{Kind}
 use Rattle.cbm_program.specs.declared.kind.Kind.TheVariants.{D64, G64}
 use Rattle.cbm_program.specs.declared.fault.RunFault.{RunFault}
 use Rattle.cbm_program.specs.declared.fault.RunFault.TheVariants.{Script, Image, Memory, Reading, Writing}
-use Rattle.cbm_program.specs.Running.{AreCarriedOut}
 
 -- An image that begins with `GCR-1541` is a G64, any other a D64.
 abbrev pub kind_of : List ℕ → Kind
@@ -47,9 +46,9 @@ ImageHolds kind image d = HoldsDisk (tracks_of kind image) (content_of kind imag
 abbrev pub StartsOn : ℕ → Content → Bool → Machine → Type 0
 StartsOn tracks content protected m = (d : Disk) × HoldsDisk tracks content d × (m ≡ start d protected tracks)
 
--- the same of an image's disk, on which the requests are carried out
-abbrev pub Begins : List ℕ → Bool → List Request → Machine → Type 0
-Begins image protected script m = AreCarriedOut script m × StartsOn (tracks_of (kind_of image) image) (content_of (kind_of image) image) protected m
+-- the same of an image's disk
+abbrev pub Begins : List ℕ → Bool → Machine → Type 0
+Begins image protected m = StartsOn (tracks_of (kind_of image) image) (content_of (kind_of image) image) protected m
 
 -- a medium of so many tracks and of this content is what an image is
 pub record IsOf (kind : Kind) (image : List ℕ) (tracks : ℕ) (content : Content) : Type 0 where

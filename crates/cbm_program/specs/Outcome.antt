@@ -14,13 +14,13 @@ pub record IsOutcome {A : Type 0} (result : Result A RunFault) (items : A → Li
     (input old new : Option (List ℕ)) : Type 0 where
   -- What was written is what the script prints on the image's disk up to its end or its first bad line.
   pub ended : EndsAs result (λ bad. IfSome input (λ bytes. ((script_of bytes).bad ≡ bad)
-      × Prints old new (Begins image protected (script_of bytes).requests) (λ _. Unit {0}) (printed_behind checks (script_of bytes).requests)))
+      × Prints old new (Begins image protected) (λ _. Unit {0}) (printed_behind checks (script_of bytes).requests)))
   -- The image that is given back holds the disk behind the script, with all that the script wrote.
-  pub disk : IfOk result (λ saved. IfSome input (λ bytes. Prints old new (Begins image protected (script_of bytes).requests)
+  pub disk : IfOk result (λ saved. IfSome input (λ bytes. Prints old new (Begins image protected)
       (λ m. ImageHolds (kind_of image) (items saved) m.disk) (printed_behind checks (script_of bytes).requests)))
   -- At a fault a beginning of that was written.
   pub fault : OnErr result (IfSome input (λ bytes.
-      PrintsPart old new (Begins image protected (script_of bytes).requests) (printed_behind checks (script_of bytes).requests)))
+      PrintsPart old new (Begins image protected) (printed_behind checks (script_of bytes).requests)))
   -- Of any image the line of the check is printed first, where one is asked for.
   pub checked : checks ≡ true → EndsAs result (λ bad. IsCheckedFirst (tracks_of (kind_of image) image) (content_of (kind_of image) image) old new)
   -- All that is printed is added to what was written.

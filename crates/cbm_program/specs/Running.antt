@@ -2,7 +2,6 @@
 use Rattle.std.specs.Prelude.{ℕ, ◌+◌, ◌≡◌, ◌<◌, ◌≤◌, List, [], ◌∷◌, length, replicate, Bool, true, false, nat_lt, if◌then◌else◌, Option, Some, None, Result, Ok, Err}
 use Rattle.std.specs.Io.KnownBytes.{IsAtEnd}
 use Rattle.cbm_channel.specs.Machines.{Machine}
-use Rattle.cbm_channel.specs.CarriedOut.{IsCarriedOut, IsEndCarriedOut}
 use Rattle.cbm_channel.specs.Talking.{listen}
 use Rattle.cbm_program.specs.declared.request.Request.{Request}
 use Rattle.cbm_program.specs.declared.request.Request.TheVariants.{Open, Put, Fill, Get, Close, Status}
@@ -14,7 +13,7 @@ use Rattle.cbm_program.specs.Lines.{lines_of}
 use Rattle.cbm_program.specs.Requests.{line_of}
 use Rattle.cbm_program.specs.Scripts.{puts, printed_by}
 
--- ---- the requests that are carried out
+-- ---- the channels of requests
 
 -- the channel of a request
 abbrev pub HasChannel : Request → Type 0
@@ -29,20 +28,6 @@ HasChannel Status = Unit {0}
 abbrev pub LineHasChannel : Line → Type 0
 LineHasChannel Skipped = Unit {0}
 LineHasChannel (Asks request) = HasChannel request
-
--- the drive carries the request out where the machine stands so
-abbrev pub IsRequestCarriedOut : Request → Machine → Type 0
-IsRequestCarriedOut (Open ch text) m = IsCarriedOut ch text.items m
-IsRequestCarriedOut (Put ch text) m = IsEndCarriedOut ch (puts ch text.items (listen ch m))
-IsRequestCarriedOut (Fill ch n b) m = IsEndCarriedOut ch (puts ch (replicate n b) (listen ch m))
-IsRequestCarriedOut (Get ch most) m = Unit {0}
-IsRequestCarriedOut (Close ch) m = Unit {0}
-IsRequestCarriedOut Status m = Unit {0}
-
--- each request is carried out where it comes
-abbrev pub AreCarriedOut : List Request → Machine → Type 0
-AreCarriedOut [] m = Unit {0}
-AreCarriedOut (request ∷ script) m = IsRequestCarriedOut request m × AreCarriedOut script (printed_by request m).machine
 
 -- ---- the lines as requests
 

@@ -3,7 +3,7 @@ ghost use Rattle.std.specs.Prelude.{◌≡◌, ◌≢◌, ℕ, true, IfSome, IfO
 ghost use Rattle.cbm_volume.specs.Holding.{HoldsDisk};
 ghost use Rattle.cbm_program.specs.Checking.{printed_behind, IsCheckedFirst};
 ghost use Rattle.cbm_program.specs.Output.{Grows, Prints, PrintsPart};
-ghost use Rattle.cbm_program.specs.Running.{script_of, AreCarriedOut, EndsAs};
+ghost use Rattle.cbm_program.specs.Running.{script_of, EndsAs};
 ghost use Rattle.cbm_program.specs.Images.{kind_of, StartsOn};
 ghost use Rattle.cbm_program.specs.Outcome.{IsOutcome};
 
@@ -44,19 +44,16 @@ fn run_with<M: Steady + Drop, R: Read + Drop, W: Write>(
 ) -> Result<M, RunFault>
     ensures ended { EndsAs result (λ bad. IfSome (R.remaining reader) (λ input.
         ((script_of input).bad ≡ bad) × Prints (W.contents writer.old) (W.contents writer.new)
-        (λ m. AreCarriedOut (script_of input).requests m
-        × StartsOn (M.seen medium).tracks (M.seen medium).content (M.seen medium).protected m)
+        (StartsOn (M.seen medium).tracks (M.seen medium).content (M.seen medium).protected)
         (λ _. Unit {0}) (printed_behind checks (script_of input).requests))) }
     ensures disk { IfOk result (λ after. IfSome (R.remaining reader) (λ input.
         Prints (W.contents writer.old) (W.contents writer.new)
-        (λ m. AreCarriedOut (script_of input).requests m
-        × StartsOn (M.seen medium).tracks (M.seen medium).content (M.seen medium).protected m)
+        (StartsOn (M.seen medium).tracks (M.seen medium).content (M.seen medium).protected)
         (λ m. HoldsDisk (M.seen after).tracks (M.seen after).content m.disk)
         (printed_behind checks (script_of input).requests))) }
     ensures fault { OnErr result (IfSome (R.remaining reader) (λ input.
         PrintsPart (W.contents writer.old) (W.contents writer.new)
-        (λ m. AreCarriedOut (script_of input).requests m
-        × StartsOn (M.seen medium).tracks (M.seen medium).content (M.seen medium).protected m)
+        (StartsOn (M.seen medium).tracks (M.seen medium).content (M.seen medium).protected)
         (printed_behind checks (script_of input).requests))) }
     // Of any medium the line of the check is printed first, where one is asked for.
     ensures checked { checks ≡ true → EndsAs result (λ bad.

@@ -4,7 +4,7 @@ ghost use Rattle.cbm_channel.specs.Standing.{Stands};
 ghost use Rattle.cbm_channel.specs.Going.{KeepsMedium};
 ghost use Rattle.cbm_program.specs.Scripts.{printed, printed_by};
 ghost use Rattle.cbm_program.specs.Output.{Grows, Prints, PrintsPart};
-ghost use Rattle.cbm_program.specs.Running.{HasChannel, LineHasChannel, IsRequestCarriedOut, AreCarriedOut, requests_in, IsOfWriting};
+ghost use Rattle.cbm_program.specs.Running.{HasChannel, LineHasChannel, requests_in, IsOfWriting};
 
 use crate::fault::RunFault;
 use crate::getting::print_get;
@@ -25,10 +25,10 @@ fn perform<M: Steady, W: Write>(
 ) -> Result<(), RunFault>
     requires { HasChannel request.now }
     ensures ok { OnOk result (Prints (W.contents writer.old) (W.contents writer.new)
-        (λ m. IsRequestCarriedOut request.now m × Stands M.seen dos.old m)
+        (Stands M.seen dos.old)
         (Stands M.seen dos.new) (printed_by request.now)) }
     ensures err { OnErr result (PrintsPart (W.contents writer.old) (W.contents writer.new)
-        (λ m. IsRequestCarriedOut request.now m × Stands M.seen dos.old m) (printed_by request.now)) }
+        (Stands M.seen dos.old) (printed_by request.now)) }
     ensures medium { KeepsMedium (M.seen dos.old.medium) (M.seen dos.new.medium) }
     ensures grows { Grows (W.contents writer.old) (W.contents writer.new) }
     ensures fault { IfErr result IsOfWriting }
@@ -63,10 +63,10 @@ pub(crate) fn perform_line<M: Steady, W: Write>(
 ) -> Result<(), RunFault>
     requires { LineHasChannel line.now }
     ensures ok { OnOk result (Prints (W.contents writer.old) (W.contents writer.new)
-        (λ m. AreCarriedOut (requests_in line.now) m × Stands M.seen dos.old m)
+        (Stands M.seen dos.old)
         (Stands M.seen dos.new) (printed (requests_in line.now))) }
     ensures err { OnErr result (PrintsPart (W.contents writer.old) (W.contents writer.new)
-        (λ m. AreCarriedOut (requests_in line.now) m × Stands M.seen dos.old m) (printed (requests_in line.now))) }
+        (Stands M.seen dos.old) (printed (requests_in line.now))) }
     ensures medium { KeepsMedium (M.seen dos.old.medium) (M.seen dos.new.medium) }
     ensures grows { Grows (W.contents writer.old) (W.contents writer.new) }
     ensures fault { IfErr result IsOfWriting }

@@ -1,9 +1,6 @@
 //! Putting bytes to a channel.
 ghost use Rattle.std.specs.Prelude.{◌≤◌, replicate};
-ghost use Rattle.cbm_channel.specs.Machines.{Machine};
-ghost use Rattle.cbm_channel.specs.Talking.{listen};
-ghost use Rattle.cbm_channel.specs.CarriedOut.{IsEndCarriedOut};
-ghost use Rattle.cbm_channel.specs.Standing.{Leads, Stands};
+ghost use Rattle.cbm_channel.specs.Standing.{Leads};
 ghost use Rattle.cbm_channel.specs.Going.{KeepsMedium};
 ghost use Rattle.cbm_program.specs.Scripts.{puts, hear};
 
@@ -35,8 +32,7 @@ fn put_equal<M: Steady>(dos: &mut Dos<M>, channel: u8, count: u32, byte: u8)
 /// Sends the bytes to a channel, between LISTEN and UNLISTEN.
 pub(crate) fn hear<M: Steady>(dos: &mut Dos<M>, channel: u8, bytes: &[u8])
     requires { channel ≤ 15 }
-    ensures leads { (m : Machine) → IsEndCarriedOut channel (puts channel bytes.now (listen channel m)) →
-        Stands M.seen dos.old m → Stands M.seen dos.new (hear channel bytes.now m) }
+    ensures leads { Leads M.seen dos.old dos.new (hear channel bytes.now) }
     ensures medium { KeepsMedium (M.seen dos.old.medium) (M.seen dos.new.medium) }
 {
     dos.listen(channel);
@@ -47,8 +43,7 @@ pub(crate) fn hear<M: Steady>(dos: &mut Dos<M>, channel: u8, bytes: &[u8])
 /// Sends so many equal bytes to a channel, between LISTEN and UNLISTEN.
 pub(crate) fn hear_equal<M: Steady>(dos: &mut Dos<M>, channel: u8, count: u32, byte: u8)
     requires { channel ≤ 15 }
-    ensures leads { (m : Machine) → IsEndCarriedOut channel (puts channel (replicate count byte) (listen channel m)) →
-        Stands M.seen dos.old m → Stands M.seen dos.new (hear channel (replicate count byte) m) }
+    ensures leads { Leads M.seen dos.old dos.new (hear channel (replicate count byte)) }
     ensures medium { KeepsMedium (M.seen dos.old.medium) (M.seen dos.new.medium) }
 {
     dos.listen(channel);

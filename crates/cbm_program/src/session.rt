@@ -6,7 +6,7 @@ ghost use Rattle.cbm_channel.specs.Going.{KeepsMedium};
 ghost use Rattle.cbm_program.specs.Lines.{bytes_left};
 ghost use Rattle.cbm_program.specs.Scripts.{printed};
 ghost use Rattle.cbm_program.specs.Output.{Grows, Prints, PrintsPart};
-ghost use Rattle.cbm_program.specs.Running.{script_of, AreCarriedOut, LineRead, EndsAs};
+ghost use Rattle.cbm_program.specs.Running.{script_of, LineRead, EndsAs};
 
 use crate::fault::RunFault;
 use crate::line::{Line, parse};
@@ -54,13 +54,13 @@ pub(crate) fn run_on<M: Steady, R: Read + Drop, W: Write>(
     // Up to its end or its first bad line the script prints what was written, and the drive is in the state after it.
     ensures ended { EndsAs result (λ bad. IfSome (R.remaining reader) (λ input.
         ((script_of input).bad ≡ bad) × Prints (W.contents writer.old) (W.contents writer.new)
-        (λ m. AreCarriedOut (script_of input).requests m × Stands M.seen dos.old m)
+        (Stands M.seen dos.old)
         (Stands M.seen dos.new) (printed (script_of input).requests))) }
 
     // At a fault a beginning of that was written.
     ensures fault { OnErr result (IfSome (R.remaining reader) (λ input.
         PrintsPart (W.contents writer.old) (W.contents writer.new)
-        (λ m. AreCarriedOut (script_of input).requests m × Stands M.seen dos.old m)
+        (Stands M.seen dos.old)
         (printed (script_of input).requests))) }
     ensures medium { KeepsMedium (M.seen dos.old.medium) (M.seen dos.new.medium) }
     ensures grows { Grows (W.contents writer.old) (W.contents writer.new) }

@@ -1,6 +1,6 @@
 // A record is written in place.
 
-ghost use Rattle.std.specs.Prelude.{◌≡◌, ◌≤◌, ◌<◌, ◌^◌, ℕ, List, true, None, length, IfOk, IfErr, MatchResult};
+ghost use Rattle.std.specs.Prelude.{◌≡◌, ◌≤◌, ◌<◌, ◌^◌, ℕ, List, true, false, None, length, IfOk, IfErr, IfSome, MatchResult};
 ghost use Rattle.cbm_medium.specs.Place.{Place, sector_count};
 ghost use Rattle.cbm_medium.specs.Seen.{OnlyContent};
 ghost use Rattle.cbm_file.specs.Records.{with_bytes};
@@ -51,6 +51,9 @@ pub fn write_record<M: Medium>(
         (λ t. IsChangeStopped geometry old new blocks file.width number position bytes.now t.code) }
     // None says that nothing has changed, whatever the medium holds.
     ensures kept { IfOk result (λ o. o ≡ None → (M.seen medium.new).content ≡ (M.seen medium.old).content) }
+    // So many bytes have 768 blocks at most; and on a protected medium no record is written.
+    ensures few { IfOk result (λ o. IfSome o (λ cut. number ≤ 195072)) }
+    ensures allowed { IfOk result (λ o. IfSome o (λ cut. (M.seen medium.old).protected ≡ false)) }
     // A protected medium stays as it is, and the code 26 says that it is protected, whatever it holds.
     ensures guarded { (M.seen medium.old).protected ≡ true →
         (M.seen medium.new).content ≡ (M.seen medium.old).content }

@@ -1,40 +1,20 @@
 // A new relative file: one block of fresh records, and one side sector that lists it.
 
-ghost use Rattle.std.specs.Prelude.{◌≡◌, ◌≤◌, ◌/◌, true, IfOk, IfErr, IfSome, OnOk, MatchOption};
+ghost use Rattle.std.specs.Prelude.{◌≡◌, ◌≤◌, true, IfOk, IfErr, IfSome, OnOk, MatchOption};
 ghost use Rattle.cbm_medium.specs.Seen.{OnlyContent};
-ghost use Rattle.cbm_relfile.specs.Making.{fresh_byte, one_listed, IsFreshBlock, AreClaimed, LacksBlocks, IsClaimStopped, IsNew, IsNewStopped};
+ghost use Rattle.cbm_relfile.specs.Making.{one_listed, IsFreshBlock, AreClaimed, LacksBlocks, IsClaimStopped, IsNew, IsNewStopped};
 
+use crate::fresh::{fresh_from, full_end};
 use crate::side::{BLOCKS, RECORD_LENGTH, SIDES};
 use cbm_bam::{claim_first, claim_next};
 use cbm_medium::{Address, Geometry, Medium, Trouble};
-
-/// The first byte of a record that was never written.
-const FRESH: u8 = 255;
-
-/// The byte at a place of a block of fresh records: $FF where one begins, else 0.
-fn fresh_byte(length: u8, place: usize) -> u8
-    requires { 1 ≤ length }
-    ensures { result ≡ fresh_byte length (254 / length) place }
-{
-    let length = length as usize;
-    if place < 254 / length * length {
-        if place % length == 0 { FRESH } else { 0 }
-    } else {
-        0
-    }
-}
 
 /// The only block of a file, with as many fresh records as it has room for.
 fn fresh_block(length: u8) -> [u8; 256]
     requires { 1 ≤ length }
     ensures { IsFreshBlock length result }
 {
-    let mut block = [0; 256];
-    block[1] = 255;
-    for place in 0..254usize {
-        block[2 + place] = fresh_byte(length, place);
-    }
-    block
+    fresh_from(&[0; 256], full_end(), 0, length, 1, 0)
 }
 
 /// The only side sector of a file, which lists itself and the file's only block.

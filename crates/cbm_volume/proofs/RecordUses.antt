@@ -17,7 +17,7 @@ use Rattle.cbm_volume.specs.Opens.{IsUnused}
 use Rattle.cbm_volume.specs.Writers.{Use, Idle, Reads, Relates, Writes, IsRelating, IsUsed, has_slot, writes_slot, HoldsAt, HoldsNow, with_use}
 use Rattle.cbm_volume.proofs.Closing.{some_file}
 use Rattle.cbm_volume.proofs.Listing.{closed_of, body_of}
-use Rattle.cbm_volume.proofs.RecordsRead.{IsBody, is_body, lies_so}
+use Rattle.cbm_volume.proofs.RecordsRead.{IsBody, is_body, both, lies_so}
 use Rattle.cbm_volume.proofs.Writers.{use_here, use_other}
 
 -- ---- the body
@@ -107,6 +107,18 @@ records_width t c d n f w b s rs h at is k r there =
     let bytes : List ℕ = chain_bytes c (l.files n).data_blocks in
     let body : IsBody (is_closed e && is_relative e) bytes e w rs = is_body (is_closed e && is_relative e) bytes e (l.files n) w b s rs (sym (body_of bytes e (l.files n)) ∙ ap (λ (y : File). y.body) x.is ∙ is) in
     subst (λ (m : ℕ). length r ≤ m) (sym body.width) (slices_width (length bytes) (width_of e) bytes k r (ap (λ (ys : List (List ℕ)). slice_get ys k) (sym body.records) ∙ there))
+
+-- their length is 254 at most
+pub records_most : (t : ℕ) (c : Content) (d : Disk) (n : ℕ) (f : File) (w b s : ℕ) (rs : List (List ℕ)) → HoldsDisk t c d → file_at d n ≡ Some f → f.body ≡ Records w rs b s → w ≤ 254
+records_most t c d n f w b s rs h at is =
+    let l : Layout = h.layout in
+    let x = entered (geometry_of t c) c l d n f h.stands at in
+    let e : List ℕ = entry_at c l.directory n in
+    let bytes : List ℕ = chain_bytes c (l.files n).data_blocks in
+    let body : IsBody (is_closed e && is_relative e) bytes e w rs = is_body (is_closed e && is_relative e) bytes e (l.files n) w b s rs (sym (body_of bytes e (l.files n)) ∙ ap (λ (y : File). y.body) x.is ∙ is) in
+    let kind = both (is_closed e) (is_relative e) body.relative in
+    let lies = lies_so (is_closed e) (is_relative e) (geometry_of t c) c e (l.files n) kind.0 kind.1 (h.stands.sound.lies n x.there) in
+    subst (λ (m : ℕ). m ≤ 254) (sym body.width) lies.1.width
 
 -- ---- the channel
 

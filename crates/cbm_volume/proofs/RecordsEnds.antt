@@ -28,9 +28,9 @@ use Rattle.cbm_volume.proofs.RecordsMade.{records_over}
 use Rattle.cbm_volume.proofs.Refusals.{sector_hindered, sector_reads}
 
 -- the clause of the part that makes the file, over what the medium shows
-abbrev pub MakesRecords : Seen → Seen → List ℕ → ℕ → Result (Unit {0}) Trouble → Type 0
+abbrev pub MakesRecords : Seen → Seen → List ℕ → ℕ → Result ℕ Trouble → Type 0
 MakesRecords old new name w r = (d : Disk) (uses : ℕ → Use) (ch : ℕ) (h : HoldsNow old.tracks old.content d uses) → uses ch ≡ Idle → has_slot d ≡ true → 2 ≤ d.free
-    → MatchResult r (λ x. Reached old.tracks old.content h.layout new.content (with_new_records d (before_filler name) w) uses) (IsCutShort old new old.content h.layout d uses)
+    → MatchResult r (λ slot. (empty_from 0 (grown d).slots ≡ Some slot) × Reached old.tracks old.content h.layout new.content (with_new_records d (before_filler name) w) uses) (IsCutShort old new old.content h.layout d uses)
 
 -- ---- the room
 

@@ -275,7 +275,7 @@ next_block tracks c a (x ∷ y ∷ rest) (suc i) at sector whole h l is holds lo
     record { there = omega (arith, more.there); is = more.is; full = more.full }
 
 -- a whole sector is written
-whole_written : (c : Content) (p : Place) (bytes : List ℕ) → AllWhole c → length bytes ≡ 256 → AllWhole (written c p bytes)
+pub whole_written : (c : Content) (p : Place) (bytes : List ℕ) → AllWhole c → length bytes ≡ 256 → AllWhole (written c p bytes)
 whole_written c p bytes whole size q = elim (place_decide p q) [
   | inl e ↦ subst (λ (x : Cell). IsWhole x) (sym (ap (written c p bytes) (sym e) ∙ written_there c p bytes)) size
   | inr ne ↦ subst (λ (x : Cell). IsWhole x) (sym (written_elsewhere c p q bytes ne)) (whole q)

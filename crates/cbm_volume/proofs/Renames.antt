@@ -36,40 +36,32 @@ use Rattle.cbm_volume.proofs.Appends.{entry_untouched}
 
 -- ---- the entry under another name
 
--- its file lies where it lay
+-- an entry that names the same first block, first side sector and width has its file where it lay
+pub lies_alike : (x y : Bool) (tracks : ℕ) (c : Content) (old new : List ℕ) (b : Blocks) → first_block old ≡ first_block new → first_side old ≡ first_side new → width_of old ≡ width_of new → LiesAs x y tracks c old b → LiesAs x y tracks c new b
+lies_alike false y tracks c old new b first side width h = h
+lies_alike true false tracks c old new b first side width k = (subst (λ (p : Place). Chain tracks c p b.data_blocks) first k.0, k.1)
+lies_alike true true tracks c old new b first side width k = (
+  subst (λ (p : Place). Chain tracks c p b.data_blocks) first k.0,
+  record {
+    some_block = k.1.some_block;
+    some_width = subst (λ (n : ℕ). 1 ≤ n) width k.1.some_width;
+    width = subst (λ (n : ℕ). n ≤ 254) width k.1.width;
+    first = subst (λ (p : Place). (rest : List Place) × (b.sides ≡ p ∷ rest)) side k.1.first;
+    listed = k.1.listed ∙ ap (λ (p : Place). sides_listed (bytes_at c p)) side;
+    numbered = subst (λ (n : ℕ). Numbered tracks c n 0 b.sides) width k.1.numbered;
+    joined = k.1.joined;
+  },
+)
+
 lies_named : (x y : Bool) (tracks : ℕ) (c : Content) (old new name : List ℕ) (b : Blocks) → IsRenamedAs old new name → LiesAs x y tracks c old b → LiesAs x y tracks c new b
-lies_named false y tracks c old new name b says h = h
-lies_named true y tracks c old new name b says h = by_records y h
-  where
-    first : first_block old ≡ first_block new
-    first = (let t : slice_index old 1 ≡ slice_index new 1 = sym (says.before 1 (omega arith)) in
-        let s : slice_index old 2 ≡ slice_index new 2 = sym (says.before 2 (omega arith)) in
-        λ i. record { track = t i; sector = s i })
+lies_named x y tracks c old new name b says h =
+    let t : slice_index old 1 ≡ slice_index new 1 = sym (says.before 1 (omega arith)) in
+    let s : slice_index old 2 ≡ slice_index new 2 = sym (says.before 2 (omega arith)) in
+    let u : slice_index old 19 ≡ slice_index new 19 = sym (says.behind 19 (omega arith)) in
+    let v : slice_index old 20 ≡ slice_index new 20 = sym (says.behind 20 (omega arith)) in
+    lies_alike x y tracks c old new b (λ i. record { track = t i; sector = s i }) (λ i. record { track = u i; sector = v i }) (sym (says.behind 21 (omega arith))) h
 
-    side : first_side old ≡ first_side new
-    side = (let t : slice_index old 19 ≡ slice_index new 19 = sym (says.behind 19 (omega arith)) in
-        let s : slice_index old 20 ≡ slice_index new 20 = sym (says.behind 20 (omega arith)) in
-        λ i. record { track = t i; sector = s i })
-
-    width : width_of old ≡ width_of new
-    width = sym (says.behind 21 (omega arith))
-
-    by_records : (z : Bool) → LiesAs true z tracks c old b → LiesAs true z tracks c new b
-    by_records false k = (subst (λ (p : Place). Chain tracks c p b.data_blocks) first k.0, k.1)
-    by_records true k = (
-      subst (λ (p : Place). Chain tracks c p b.data_blocks) first k.0,
-      record {
-        some_block = k.1.some_block;
-        some_width = subst (λ (n : ℕ). 1 ≤ n) width k.1.some_width;
-        width = subst (λ (n : ℕ). n ≤ 254) width k.1.width;
-        first = subst (λ (p : Place). (rest : List Place) × (b.sides ≡ p ∷ rest)) side k.1.first;
-        listed = k.1.listed ∙ ap (λ (p : Place). sides_listed (bytes_at c p)) side;
-        numbered = subst (λ (n : ℕ). Numbered tracks c n 0 b.sides) width k.1.numbered;
-        joined = k.1.joined;
-      },
-    )
-
-same_body : (x : Bool) (bytes old new : List ℕ) (b : Blocks) → width_of new ≡ width_of old → body_as x bytes new b ≡ body_as x bytes old b
+pub same_body : (x : Bool) (bytes old new : List ℕ) (b : Blocks) → width_of new ≡ width_of old → body_as x bytes new b ≡ body_as x bytes old b
 same_body true bytes old new b w = ap (λ (n : ℕ). Records n (slices (length bytes) n bytes) (length b.data_blocks) (length b.sides)) w
 same_body false bytes old new b w = refl
 
@@ -100,7 +92,7 @@ still_there d n m f was room e = elim (cases_eq m n) [
 ]
 
 -- a channel that doesn't write the slot goes on, also where it reads it
-used_on : (tracks : ℕ) (c c2 : Content) (l : Layout) (d : Disk) (n ch : ℕ) (f : File) (u : Use) → n < length d.slots → ((o : Owner) → Directory ≢ o → Keeps c c2 l.owner o) → writes_slot n u ≡ false
+pub used_on : (tracks : ℕ) (c c2 : Content) (l : Layout) (d : Disk) (n ch : ℕ) (f : File) (u : Use) → n < length d.slots → ((o : Owner) → Directory ≢ o → Keeps c c2 l.owner o) → writes_slot n u ≡ false
     → IsUsed tracks c l d ch u → IsUsed tracks c2 (with_file l n (l.files n) l.owner) (with_slot d n (Some f)) ch u
 used_on tracks c c2 l d n ch f Idle room keeps spared h = tt
 used_on tracks c c2 l d n ch f (Reads slot r left) room keeps spared h =

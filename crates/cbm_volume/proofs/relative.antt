@@ -1,15 +1,23 @@
 -- Relative files: their records are written in place, and they grow.
 pub mod Added
+pub mod AddedEmpty
+pub mod Begun
 pub mod Copied
 pub mod Crossing
+pub mod FilledUp
 pub mod Fresh
 pub mod Grown
 pub mod GrownFile
 pub mod InPlace
 pub mod Inside
+pub mod LastFilled
+pub mod LastGrown
+pub mod Lengthened
 pub mod Longer
+pub mod Named
 pub mod OneBlock
 pub mod Put
 pub mod Rewritten
 pub mod Scratched
 pub mod Sides
+pub mod SidesAnew

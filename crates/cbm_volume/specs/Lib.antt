@@ -5,6 +5,10 @@ pub mod Holding
 pub mod Opens
 pub mod RecordFaults
 pub mod RecordWrites
+pub mod Growth
+pub mod Growing
+pub mod Relists
+pub mod AddingSides
 pub mod Reaches
 pub mod Copies
 pub mod NewRecords

@@ -1,6 +1,6 @@
 // OPEN of a relative file that isn't there: a block of fresh records, a side sector that lists it, and a closed entry.
 
-ghost use Rattle.std.specs.Prelude.{◌≡◌, ◌≤◌, ◌||◌, ℕ, length, not, nat_lt, true, false, Some, IfOk, IfErr, IsOkAnd, OnErr, MatchBool, MatchResult};
+ghost use Rattle.std.specs.Prelude.{◌≡◌, ◌≤◌, ◌||◌, ℕ, length, not, nat_lt, true, false, Some, None, IfOk, IfErr, IsOkAnd, OnErr, MatchOption, MatchResult};
 ghost use Rattle.cbm_medium.specs.Content.{Content};
 ghost use Rattle.cbm_medium.specs.Seen.{OnlyContent};
 ghost use Rattle.cbm_file.specs.Padding.{before_filler};
@@ -28,22 +28,20 @@ const NEW_BLOCKS: u16 = 2;
 
 impl<M: Medium> Volume<M> {
     /// OPEN of a relative file that isn't there, with a record length: one data block full of fresh records ($FF, then
-    /// zeros), one side sector that lists it, and a closed entry. False where fewer than two blocks are free, or there is
-    /// no place for a name: nothing has changed then. The two sectors are claimed and written first, and last the entry, in
-    /// one write; so an `Err` leaves each slot as it was, with blocks that are nobody's until VALIDATE. On a sound disk it
+    /// XX leaves each slot as it was, with blocks that are nobody's until VALIDATE. On a sound disk it
     /// says that the medium is protected (26), with nothing changed, or failed by itself.
-    pub fn make_records(&mut self, name: &[u8], record_length: u8) -> Result<bool, Trouble>
+    pub fn make_records(&mut self, name: &[u8], record_length: u8) -> Result<Option<u8>, Trouble>
         requires name { length name.now ≤ 16 }
         requires width { (1 ≤ record_length) × (record_length ≤ 254) }
         ensures made { let old = M.seen self.old in let new = M.seen self.new in
             (d : Disk) (uses : ℕ → Use) (ch : ℕ) → HoldsNow old.tracks old.content d uses → uses ch ≡ Idle →
-            IfOk result (λ done. MatchBool done (HoldsNow old.tracks new.content
-            (with_new_records d (before_filler name.now) record_length) uses)
-            (HasNoRoomForRecords d × (new.content ≡ old.content))) }
+            IfOk result (λ o. MatchOption o (HasNoRoomForRecords d × (new.content ≡ old.content))
+            (λ slot. (empty_from 0 (grown d).slots ≡ Some slot) × HoldsNow old.tracks new.content
+            (with_new_records d (before_filler name.now) record_length) uses)) }
         // Too little room is told first, also on a protected medium.
         ensures full { let old = M.seen self.old in
             (d : Disk) (uses : ℕ → Use) → HoldsNow old.tracks old.content d uses →
-            HasNoRoomForRecords d → IsOkAnd result (λ done. done ≡ false) }
+            HasNoRoomForRecords d → IsOkAnd result (λ o. o ≡ None) }
         ensures stopped { let old = M.seen self.old in
             (d : Disk) (uses : ℕ → Use) (ch : ℕ) → HoldsNow old.tracks old.content d uses → uses ch ≡ Idle →
             OnErr result (Stopped old.tracks (M.seen self.new).content d
@@ -54,9 +52,9 @@ impl<M: Medium> Volume<M> {
         ensures untouched { let old = M.seen self.old in
             (d : Disk) (uses : ℕ → Use) (ch : ℕ) → HoldsNow old.tracks old.content d uses → uses ch ≡ Idle →
             Untouched (geometry_of old.tracks old.content) old.content (M.seen self.new).content (λ m. false) }
-        // False says that nothing has changed, whatever the medium holds.
+        // None says that nothing has changed, whatever the medium holds.
         ensures kept { IfOk result
-            (λ done. done ≡ false → (M.seen self.new).content ≡ (M.seen self.old).content) }
+            (λ o. o ≡ None → (M.seen self.new).content ≡ (M.seen self.old).content) }
         // A protected medium stays as it is.
         ensures guarded { (M.seen self.old).protected ≡ true →
             (M.seen self.new).content ≡ (M.seen self.old).content }
@@ -66,7 +64,7 @@ impl<M: Medium> Volume<M> {
     {
         let room = self.room()?;
         if !has_room(room) {
-            return Ok(false);
+            return Ok(None);
         }
         if self.medium.protected() {
             return Err(Trouble {
@@ -75,8 +73,8 @@ impl<M: Medium> Volume<M> {
                 sector: 0,
             });
         }
-        make(&mut self.medium, name, record_length)?;
-        Ok(true)
+        let slot = make(&mut self.medium, name, record_length)?;
+        Ok(Some(slot))
     }
 }
 
@@ -89,7 +87,7 @@ fn has_room(room: Room) -> bool
 }
 
 /// The map says less than it counted before.
-fn miscounted() -> Trouble
+pub fn miscounted() -> Trouble
     ensures { result ≡ (record { code = 71; track = 18; sector = 0 }) }
 {
     Trouble {
@@ -100,13 +98,15 @@ fn miscounted() -> Trouble
 }
 
 /// Makes the file, for which there is room: its slot is found, its two sectors are written, its entry is written.
-fn make<M: Medium>(medium: &mut M, name: &[u8], record_length: u8) -> Result<(), Trouble>
+/// Answers the slot.
+fn make<M: Medium>(medium: &mut M, name: &[u8], record_length: u8) -> Result<u8, Trouble>
     requires name { length name.now ≤ 16 }
     requires width { (1 ≤ record_length) × (record_length ≤ 254) }
     ensures made { let old = M.seen medium.old in let new = M.seen medium.new in
         (d : Disk) (uses : ℕ → Use) (ch : ℕ) (h : HoldsNow old.tracks old.content d uses) → uses ch ≡ Idle →
         has_slot d ≡ true → 2 ≤ d.free →
-        MatchResult result (λ x. Reached old.tracks old.content h.layout new.content
+        MatchResult result (λ slot. (empty_from 0 (grown d).slots ≡ Some slot) ×
+        Reached old.tracks old.content h.layout new.content
         (with_new_records d (before_filler name.now) record_length) uses)
         (IsCutShort old new old.content h.layout d uses) }
     ensures protection { IfErr result (λ t. t.code ≡ 26 → (M.seen medium.old).protected ≡ true) }
@@ -114,7 +114,8 @@ fn make<M: Medium>(medium: &mut M, name: &[u8], record_length: u8) -> Result<(),
 {
     let (number, (block, side)) = begin(medium)?;
     write_new(medium, block, side, record_length)?;
-    enter(medium, block, side, name, record_length, number)
+    enter(medium, block, side, name, record_length, number)?;
+    Ok(number)
 }
 
 /// Finds an empty slot, for which the directory may grow, and claims a block and a side sector.

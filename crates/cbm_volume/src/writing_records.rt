@@ -1,6 +1,6 @@
 // A record of a relative file that is there is written, where it lies.
 
-ghost use Rattle.std.specs.Prelude.{◌≡◌, ◌≤◌, ◌<◌, ◌==◌, ◌^◌, ℕ, List, true, None, IfOk, IfErr, MatchResult};
+ghost use Rattle.std.specs.Prelude.{◌≡◌, ◌≤◌, ◌<◌, ◌==◌, ◌^◌, ℕ, List, true, false, None, IfOk, IfErr, IfSome, MatchResult};
 ghost use Rattle.cbm_medium.specs.Seen.{OnlyContent};
 ghost use Rattle.cbm_file.specs.Files.{Disk};
 ghost use Rattle.cbm_bam.specs.Map.{geometry_of};
@@ -39,6 +39,9 @@ impl<M: Medium> Volume<M> {
             Untouched (geometry_of old.tracks old.content) old.content (M.seen self.new).content (λ m. m == slot) }
         // None says that nothing has changed, whatever the medium holds.
         ensures kept { IfOk result (λ o. o ≡ None → (M.seen self.new).content ≡ (M.seen self.old).content) }
+        // A record that is there has a small number, and the medium isn't protected where one was written.
+        ensures few { IfOk result (λ o. IfSome o (λ cut. number ≤ 195072)) }
+        ensures allowed { IfOk result (λ o. IfSome o (λ cut. (M.seen self.old).protected ≡ false)) }
         // A protected medium stays as it is.
         ensures guarded { (M.seen self.old).protected ≡ true →
             (M.seen self.new).content ≡ (M.seen self.old).content }
@@ -71,6 +74,8 @@ fn put_in_slot<M: Medium>(
         HasRecordsOpen old.tracks old.content d uses slot w b s rs → position ≤ w →
         Untouched (geometry_of old.tracks old.content) old.content (M.seen medium.new).content (λ m. m == slot) }
     ensures kept { IfOk result (λ o. o ≡ None → (M.seen medium.new).content ≡ (M.seen medium.old).content) }
+    ensures few { IfOk result (λ o. IfSome o (λ cut. number ≤ 195072)) }
+    ensures allowed { IfOk result (λ o. IfSome o (λ cut. (M.seen medium.old).protected ≡ false)) }
     ensures guarded { (M.seen medium.old).protected ≡ true →
         (M.seen medium.new).content ≡ (M.seen medium.old).content }
     ensures protection { IfErr result (λ t. t.code ≡ 26 → (M.seen medium.old).protected ≡ true) }

@@ -16,6 +16,10 @@ mod faults;
 #[cfg(test)]
 mod formats;
 #[cfg(test)]
+mod grown_records;
+#[cfg(test)]
+mod new_records;
+#[cfg(test)]
 mod records;
 #[cfg(test)]
 mod relative_scratches;

@@ -1,12 +1,13 @@
 // Scripts that read the records of a relative file, and that are refused there.
 
 use crate::relative_scratches::relative_image;
-use crate::scripts::{got, keep, play_on_both};
+use crate::scripts::{got, got_equal, keep, keep_protected, play, play_on_both};
 use cbm_channel::Dos;
 use cbm_d64::D64Disk;
+use cbm_medium::Failing;
 use std::alloc::Global;
 use std::test::Fail;
-use test_images::{place, put};
+use test_images::{place, put, stands};
 
 /// The disk with the file R of five records of 100 bytes, of which 1, 2 and 5 hold a word, 3 a byte in each of its two
 /// blocks, and 4 was never written; and with the file A of a byte.
@@ -219,18 +220,111 @@ fn wrong_side_sectors_are_told(rt: HostRuntime) -> Result<(), Fail> {
 }
 
 #[test]
-fn what_is_not_carried_out_so_far(rt: HostRuntime) -> Result<(), Fail> {
+fn records_are_written_in_place(rt: HostRuntime) -> Result<(), Fail> {
     let alloc = rt.alloc();
     let image = records_image(alloc)?;
-    let rows = [
-        (
-            "open 2 N,L,d\nstatus\n",
-            "status 64,FILE TYPE MISMATCH,00,00\n",
-        ),
-        (
-            "open 2 R\nput 2 X\nstatus\nget 2 9\n",
-            "status 64,FILE TYPE MISMATCH,00,00\nget 2 4f4e45 eoi\n",
-        ),
-    ];
-    keep(&rt, alloc, image.as_slice(), &rows)
+    // Zeros come behind what is written, and the place is the next record. Position 55 of record 3 is the first byte of
+    // its second block, and 54 the last of its first one.
+    let script = "open 2 R\nput 2 X\nstatus\nget 2 9\nput 15 P\\62\\03\\00\\36\nput 2 YZ\nget 2 9\n\
+put 15 P\\02\\05\\00\\03\nput 2 \\0d\nstatus\nget 2 9\nput 15 P\\02\\01\\00\nget 2 9\nput 15 P\\02\\05\\00\nget 2 9\n";
+    let text =
+        "status 00, OK,00,00\nget 2 54574f eoi\nget 2 ff eoi\nstatus 00, OK,00,00\nget 2 0d eoi\n\
+get 2 58 eoi\nget 2 46490d eoi\n";
+    let after = play_on_both(&rt, alloc, image.as_slice(), script, text)?;
+    let mut wanted = image.clone()?;
+    put(&mut wanted, place(17, 0).wrapping_add(2), b"X\0\0");
+    put(&mut wanted, place(17, 0).wrapping_add(255), b"Y");
+    put(&mut wanted, place(17, 20).wrapping_add(2), b"Z");
+    put(&mut wanted, place(17, 20).wrapping_add(150), b"\r\0");
+    assert!(rt; after.as_slice() == wanted.as_slice());
+    Ok(())
+}
+
+#[test]
+fn bytes_that_do_not_fit_are_told(rt: HostRuntime) -> Result<(), Fail> {
+    let alloc = rt.alloc();
+    let image = records_image(alloc)?;
+    let full = got_equal(alloc, 2, 100, 0x41)?;
+    let told = "status 51,OVERFLOW IN RECORD,00,00\n";
+    for (count, status) in [(99, ""), (100, ""), (101, told), (257, told), (1000, told)] {
+        let script = format!(in alloc;
+            "open 2 R\nput 15 P\\02\\02\\00\nfill 2 {count} 41\nstatus\nget 2 1\nput 15 P\\02\\02\\00\nget 2 200\n"
+        )?;
+        let mut text = String::new(alloc);
+        text.push_str(if status.is_empty() {
+            "status 00, OK,00,00\n"
+        } else {
+            status
+        })?;
+        text.push_str("get 2 33\n")?;
+        let record = if count == 99 {
+            got_equal(alloc, 2, 99, 0x41)?
+        } else {
+            full.clone()?
+        };
+        text.push_str(record.as_str())?;
+        play(&rt, alloc, image.as_slice(), script.as_str(), text.as_str())?;
+    }
+    // From the last position on one byte fits.
+    let script =
+        "open 2 R\nput 15 P\\02\\01\\00\\64\nput 2 BC\nstatus\nput 15 P\\02\\01\\00\\64\nget 2 9\n";
+    play(
+        &rt,
+        alloc,
+        image.as_slice(),
+        script,
+        "status 51,OVERFLOW IN RECORD,00,00\nget 2 42 eoi\n",
+    )?;
+    Ok(())
+}
+
+#[test]
+fn a_protected_record_stays(rt: HostRuntime) -> Result<(), Fail> {
+    let alloc = rt.alloc();
+    let image = records_image(alloc)?;
+    let rows = [(
+        "open 2 R\nput 15 P\\62\\02\\00\\01\nput 2 X\nstatus\nget 2 9\n",
+        "status 26,WRITE PROTECT ON,00,00\nget 2 54574f eoi\n",
+    )];
+    keep_protected(&rt, alloc, image.as_slice(), &rows)
+}
+
+/// The drive on a disk with these records, whose medium lets so many writes pass.
+fn failing(alloc: Global, passes: u32) -> Result<Dos<Failing<D64Disk>>, Fail> {
+    let disk = D64Disk::from_bytes(alloc, records_image(alloc)?.as_slice(), false)?;
+    Ok(Dos::new(Failing::new(disk, passes, true)))
+}
+
+#[test]
+fn a_write_of_a_record_stops(rt: HostRuntime) -> Result<(), Fail> {
+    // Record 3 lies in two blocks. Behind a refused write its place stays, and what it has is read anew.
+    for (passes, code, first) in [(0, 25, b'3'), (1, 25, b'4'), (2, 0, b'4')] {
+        let mut dos = failing(rt.alloc(), passes)?;
+        dos.open(2, b"R");
+        for byte in *b"P\x02\x03\x00\x01" {
+            dos.put(15, byte);
+        }
+        dos.end_put(15);
+        dos.put(2, b'4');
+        dos.end_put(2);
+        assert_eq!(rt; dos.status_code(), code, "{passes}");
+        let next = if code == 0 {
+            (255, true)
+        } else {
+            (first, false)
+        };
+        // With the second block still as it was a byte follows there.
+        assert_eq!(rt; dos.peek(2), Some(next), "{passes}");
+        let image = dos.into_medium().into_inner().to_bytes(rt.alloc())?;
+        let is_there = stands(image.as_slice(), place(17, 0).wrapping_add(202), &[first]);
+        assert!(rt; is_there, "{passes}");
+        play(
+            &rt,
+            rt.alloc(),
+            image.as_slice(),
+            "open 2 R\nget 2 9\n",
+            "get 2 4f4e45 eoi\n",
+        )?;
+    }
+    Ok(())
 }

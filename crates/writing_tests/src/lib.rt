@@ -12,6 +12,8 @@ mod files;
 #[cfg(test)]
 mod formats;
 #[cfg(test)]
+mod growing_files;
+#[cfg(test)]
 mod image;
 #[cfg(test)]
 mod new_files;
@@ -33,5 +35,7 @@ mod stop_cases;
 mod stops;
 #[cfg(test)]
 mod tests;
+#[cfg(test)]
+mod uneven_records;
 #[cfg(test)]
 mod validates;

@@ -43,7 +43,7 @@ pub fn has_fresh<M: Medium>(
 fn each_byte_of_a_new_file(rt: HostRuntime) -> Result<(), Fail> {
     let alloc = rt.alloc();
     let mut volume = empty_volume(alloc)?;
-    assert!(rt; volume.make_records(b"R", 100)?);
+    assert!(rt; volume.make_records(b"R", 100)? == Some(0));
     let mut wanted = empty_image(alloc)?;
     // Two records of 100 bytes in 17/0, and 54 zeros behind them.
     let block = place(17, 0);
@@ -76,7 +76,7 @@ fn is_made<M: Medium + Drop>(
     requires { (1 ≤ length) × (length ≤ 254) }
 {
     Ok(
-        volume.make_records(b"RECORDS", length)?
+        volume.make_records(b"RECORDS", length)? == Some(0)
             && volume.check().is_ok()
             && volume.free()? == free
             && has_fresh(&volume, 0, length, records)?,
@@ -125,7 +125,7 @@ fn refused(
     alloc: Global,
     image: &[u8],
     protected: bool,
-) -> Result<Result<bool, u8>, Fail> {
+) -> Result<Result<Option<u8>, u8>, Fail> {
     let mut volume = Volume::open(D64Disk::from_bytes(alloc, image, protected)?);
     let answer = volume
         .make_records(b"RECORDS", 100)
@@ -141,13 +141,13 @@ fn one_block_is_too_few(rt: HostRuntime) -> Result<(), Fail> {
         let image = image_with(alloc, free)?;
         // That there is no room is told first, on a protected disk too.
         for protected in [false, true] {
-            assert!(rt; refused(&rt, alloc, image.as_slice(), protected)? == Ok(false));
+            assert!(rt; refused(&rt, alloc, image.as_slice(), protected)? == Ok(None));
         }
     }
     let image = image_with(alloc, 2)?;
     assert!(rt; refused(&rt, alloc, image.as_slice(), true)? == Err(26));
     let mut volume = Volume::open(D64Disk::from_bytes(alloc, image.as_slice(), false)?);
-    assert!(rt; volume.make_records(b"RECORDS", 100)?);
+    assert!(rt; volume.make_records(b"RECORDS", 100)? == Some(1));
     assert!(rt; volume.check().is_ok() && has_fresh(&volume, 1, 100, 2)?);
     assert_eq!(rt; volume.free()?, 0);
     Ok(())
@@ -165,12 +165,12 @@ fn no_place_for_a_name(rt: HostRuntime) -> Result<(), Fail> {
             bytes_from(0, 1),
         )?;
     }
-    assert!(rt; volume.make_records(b"LAST", 100)?);
+    assert!(rt; volume.make_records(b"LAST", 100)? == Some(143));
     assert!(rt; volume.check().is_ok() && has_fresh(&volume, 143, 100, 2)?);
     assert_eq!(rt; volume.free()?, 519);
     let image = volume.into_medium().to_bytes(alloc)?;
     for protected in [false, true] {
-        assert!(rt; refused(&rt, alloc, image.as_slice(), protected)? == Ok(false));
+        assert!(rt; refused(&rt, alloc, image.as_slice(), protected)? == Ok(None));
     }
     Ok(())
 }

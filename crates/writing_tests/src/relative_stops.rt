@@ -77,7 +77,7 @@ fn is_stopped<M: Steady + Drop>(
 ) -> Result<bool, Fail> {
     let mut volume = Volume::open(Failing::new(medium, passes, all));
     let is_refused = match volume.make_records(b"RECORDS", 127) {
-        Ok(done) => !done,
+        Ok(slot) => slot.is_none(),
         Err(trouble) => trouble.code == 25,
     };
     let medium = volume.into_medium();

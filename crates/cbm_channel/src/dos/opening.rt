@@ -17,21 +17,19 @@ impl<M: Medium> Dos<M> {
     ghost use Rattle.cbm_machine.specs.declared.code.Code.TheVariants.{Fine};
     ghost use Rattle.cbm_machine.specs.Machines.{Machine, say};
     ghost use Rattle.cbm_machine.specs.Plans as plans;
-    ghost use Rattle.cbm_machine.specs.CarriedOut.{IsOpenCarriedOut, IsAskedCarriedOut};
     ghost use Rattle.cbm_channel.specs.declared.channel.Channel.TheVariants.{Closed};
     ghost use Rattle.cbm_channel.specs.Grounds.{ShowsTrouble, HasTold, IsToldFor, IsFromDirectory, KeepsIfRefused};
     ghost use Rattle.cbm_channel.specs.Standing.{Stands, SameBut, HaveSameFiles, Fits, uses_of};
-    ghost use Rattle.cbm_channel.specs.Going.{GoesFrom, WentFrom, AfterClose, opening_parts, KeepsMedium};
+    ghost use Rattle.cbm_channel.specs.Going.{GoesFrom, WentFrom, opening_parts, KeepsMedium};
     ghost use Rattle.cbm_channel.specs.Shown.{is_writing_on};
     ghost use Rattle.cbm_channel.specs.Commanded.{FormatsUnfailing, open_formats};
-    ghost use Rattle.cbm_channel.specs.Planned.{PlannedAs, IsOfText, IsOpened, is_for_writing, text_writes, plan_writes, disk_opened, begun_by};
+    ghost use Rattle.cbm_channel.specs.Planned.{PlannedAs, IsOfText, IsOpened, IsSized, is_for_writing, text_writes, plan_writes, disk_opened, begun_by};
 
     /// OPEN: on channel 15 the text is a command, on the others it names a file or asks for the listing. A channel that
     /// is open is closed first. A refusal becomes the status and leaves the channel closed.
     pub fn open(&mut self, channel: u8, text: &[u8])
         requires { channel ≤ 15 }
         ensures goes { (m : Machine) → Stands M.seen self.old m →
-            ((n : Machine) → AfterClose M.seen self.old self.new channel m n → IsOpenCarriedOut channel text.now n) →
             FormatsUnfailing (open_formats channel text.now)
             (HasFailed (M.seen self.old.medium) (M.seen self.new.medium)) →
             GoesFrom M.seen self.old self.new (opening_parts channel text.now) m }
@@ -62,7 +60,7 @@ impl<M: Medium> Dos<M> {
     /// Carries out what an OPEN asks for on a closed channel, or sets the status of its refusal.
     fn begin(&mut self, channel: u8, opening: Opening)
         requires { channel < 15 }
-        ensures goes { (m : Machine) → IsOfText opening → IsAskedCarriedOut channel m (Ok opening) →
+        ensures goes { (m : Machine) → IsOfText opening →
             slice_index_or self.old.channels channel Closed ≡ Closed →
             Stands M.seen self.old m → WentFrom M.seen self.old self.new channel (begun_by channel opening) m }
         ensures others { SameBut channel self.old.channels self.new.channels }
@@ -81,7 +79,8 @@ impl<M: Medium> Dos<M> {
 
     /// Does what was planned, on a closed channel.
     fn act(&mut self, channel: u8, plan: Plan)
-        requires { channel < 15 }
+        requires channel { channel < 15 }
+        requires sized { IsSized plan }
         ensures goes { (m : Machine) (p : plans.Plan) →
             PlannedAs (M.seen self.old.medium).tracks (M.seen self.old.medium).content m (Ok p) (Ok plan) →
             slice_index_or self.old.channels channel Closed ≡ Closed → Stands M.seen self.old m →
@@ -108,6 +107,7 @@ impl<M: Medium> Dos<M> {
     /// of the directory or of the file's first block, what is wrong with the side sectors of a relative file or why its
     /// first record can't be read; or why a write was refused.
     fn opened(&mut self, plan: Plan) -> Result<Option<Channel>, Trouble>
+        requires { IsSized plan }
         ensures fits { IfOk result (λ o. IfSome o (Fits (M.seen self.new.medium).tracks)) }
         ensures opened { let old = M.seen self.old.medium in let new = M.seen self.new.medium in
             (m : Machine) (p : plans.Plan) (ch : ℕ) → PlannedAs old.tracks old.content m (Ok p) (Ok plan) →
@@ -159,6 +159,13 @@ impl<M: Medium> Dos<M> {
                 let length = found.entry.record_length();
                 self.volume.open_records(&found.entry)?;
                 let on = OnRecord::begin(&self.volume, found.slot, length)?;
+                Ok(Some(Channel::Records(on)))
+            }
+            Plan::MakeRecords(name, length) => {
+                let Some(slot) = self.volume.make_records(name.bytes(), length)? else {
+                    return Ok(None);
+                };
+                let on = OnRecord::begin(&self.volume, slot, length)?;
                 Ok(Some(Channel::Records(on)))
             }
         }

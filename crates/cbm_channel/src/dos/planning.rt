@@ -11,7 +11,6 @@ ghost use Rattle.cbm_volume.specs.Content.{Content};
 ghost use Rattle.cbm_machine.specs.Machines.{Machine, in_writing};
 ghost use Rattle.cbm_machine.specs.Plans as plans;
 ghost use Rattle.cbm_channel.specs.Planned.{FoundAs, PlannedAs, IsFound};
-ghost use Rattle.cbm_machine.specs.CarriedOut.{MakesNoRecords};
 ghost use Rattle.cbm_machine.specs.declared.code.Code as code;
 
 use crate::channel::{any_uses, any_writes, open_count};
@@ -91,10 +90,9 @@ impl<M: Medium> Dos<M> {
     ghost use Rattle.cbm_machine.specs.Machines.{Machine, too_many, in_writing, in_use};
     ghost use Rattle.cbm_machine.specs.Finding.{is_there};
     ghost use Rattle.cbm_machine.specs.Plans as plans;
-    ghost use Rattle.cbm_machine.specs.CarriedOut.{IsAskedCarriedOut};
     ghost use Rattle.cbm_channel.specs.Grounds.{HasGround, IsFromDirectory};
     ghost use Rattle.cbm_channel.specs.Standing.{Stands};
-    ghost use Rattle.cbm_channel.specs.Planned.{PlannedAs, IsOfText, IsFound, is_for_writing, plan_writes};
+    ghost use Rattle.cbm_channel.specs.Planned.{PlannedAs, IsOfText, IsFound, IsSized, is_for_writing, plan_writes};
 
     /// What an OPEN will do. Errors: its refusal, or the fault of the directory.
     pub(super) fn plan(&self, channel: u8, opening: Opening) -> Result<Plan, Status>
@@ -102,8 +100,8 @@ impl<M: Medium> Dos<M> {
         ensures from { IfOk result (IsFromDirectory M.seen self.now.medium) }
         ensures reads { is_for_writing opening ≡ false → IfOk result (λ p. plan_writes p ≡ false) }
         ensures allowed { IfOk result (λ p. plan_writes p ≡ true → (M.seen self.now.medium).protected ≡ false) }
-        ensures planned { (m : Machine) → IsOfText opening → IsAskedCarriedOut channel m (Ok opening) →
-            Stands M.seen self.now m →
+        ensures sized { IfOk result IsSized }
+        ensures planned { (m : Machine) → IsOfText opening → Stands M.seen self.now m →
             PlannedAs (M.seen self.now.medium).tracks (M.seen self.now.medium).content m
             (plans.plan channel opening m) result }
     {
@@ -116,7 +114,7 @@ impl<M: Medium> Dos<M> {
             }
             Opening::File(wanted) => {
                 if wanted.kind == Some(FileType::Rel) {
-                    return self.plan_relative(channel, &wanted);
+                    return self.plan_relative(channel, wanted);
                 }
                 self.plan_file(wanted)
             }
@@ -129,6 +127,7 @@ impl<M: Medium> Dos<M> {
         ensures from { IfOk result (IsFromDirectory M.seen self.now.medium) }
         ensures reads { wanted.mode ≡ Read → IfOk result (λ p. plan_writes p ≡ false) }
         ensures allowed { IfOk result (λ p. plan_writes p ≡ true → (M.seen self.now.medium).protected ≡ false) }
+        ensures sized { IfOk result IsSized }
         ensures planned { (m : Machine) (ch : ℕ) → IsOfText (opening.File wanted) → is_relative wanted ≡ false →
             Stands M.seen self.now m →
             PlannedAs (M.seen self.now.medium).tracks (M.seen self.now.medium).content m (plans.plan ch
@@ -149,14 +148,15 @@ impl<M: Medium> Dos<M> {
 
     /// What an OPEN by type L will do. Errors: 70 too many channels; 64 with `@`, on the channels 0 and 1, or where the
     /// name has another type; else what is met at the file that is there, or where it is not.
-    fn plan_relative(&self, channel: u8, wanted: &Wanted) -> Result<Plan, Status>
+    fn plan_relative(&self, channel: u8, wanted: Wanted) -> Result<Plan, Status>
         ensures ground { IfErr result (HasGround M.seen self.now.medium) }
         ensures from { IfOk result (IsFromDirectory M.seen self.now.medium) }
-        ensures reads { IfOk result (λ p. plan_writes p ≡ false) }
-        ensures planned { (m : Machine) → is_relative wanted.now ≡ true →
-            MakesNoRecords (plans.plan channel (opening.File wanted.now) m) → Stands M.seen self.now m →
+        ensures allowed { IfOk result (λ p. plan_writes p ≡ true → (M.seen self.now.medium).protected ≡ false) }
+        ensures sized { IfOk result IsSized }
+        ensures planned { (m : Machine) → IsOfText (opening.File wanted) → is_relative wanted ≡ true →
+            Stands M.seen self.now m →
             PlannedAs (M.seen self.now.medium).tracks (M.seen self.now.medium).content m (plans.plan channel
-            (opening.File wanted.now) m) result }
+            (opening.File wanted) m) result }
     {
         if self.is_too_many(2) {
             return Err(Status::plain(Code::NoChannel));
@@ -165,40 +165,38 @@ impl<M: Medium> Dos<M> {
             return Err(Status::plain(Code::WrongType));
         }
         if !self.is_there(&wanted.name)? {
-            return Err(self.missing(wanted));
+            return self.plan_missing(wanted);
         }
         let found = self.found(&wanted.name, Some(FileType::Rel))?;
         let written = self.in_writing(found.slot);
-        plan_there(wanted, found, written)
+        plan_there(&wanted, found, written)
     }
 
-    /// Why a relative file isn't made: 62 no record length is given, 50 it is 255, 72 two blocks or a place for a name
-    /// are lacking, 26 the disk is protected; or a fault of the map or of the directory. Where it could be made it is
-    /// answered 64 so far.
-    fn missing(&self, wanted: &Wanted) -> Status
-        ensures ground { HasGround M.seen self.now.medium result }
-        ensures planned { (m : Machine) → MakesNoRecords (plans.plan_missing wanted.now m) → Stands M.seen self.now m →
+    /// What an OPEN by type L of a name that isn't there will do. Errors: 62 no record length is given, 50 it is 255, 72
+    /// two blocks or a place for a name are lacking, 26 the disk is protected; or a fault of the map or of the directory.
+    fn plan_missing(&self, wanted: Wanted) -> Result<Plan, Status>
+        ensures ground { IfErr result (HasGround M.seen self.now.medium) }
+        ensures same { IfOk result (λ p. p ≡ planned.MakeRecords wanted.name wanted.record_length) }
+        ensures allowed { IfOk result (λ p. plan_writes p ≡ true → (M.seen self.now.medium).protected ≡ false) }
+        ensures sized { IfOk result IsSized }
+        ensures planned { (m : Machine) → before_filler wanted.name ≡ wanted.name → Stands M.seen self.now m →
             PlannedAs (M.seen self.now.medium).tracks (M.seen self.now.medium).content m
-            (plans.plan_missing wanted.now m) (Err result) }
+            (plans.plan_missing wanted m) result }
     {
         if wanted.record_length == 0 {
-            return Status::plain(Code::FileNotFound);
+            return Err(Status::plain(Code::FileNotFound));
         }
         if wanted.record_length == 255 {
-            return Status::plain(Code::NoRecord);
+            return Err(Status::plain(Code::NoRecord));
         }
-        match self.volume().room() {
-            Ok(room) => {
-                if room.blocks < 2 || !room.slot {
-                    return Status::plain(Code::DiskFull);
-                }
-            }
-            Err(trouble) => return Status::from(trouble),
+        let room = self.volume().room()?;
+        if room.blocks < 2 || !room.slot {
+            return Err(Status::plain(Code::DiskFull));
         }
         if self.volume().is_protected() {
-            return Status::plain(Code::WriteProtected);
+            return Err(Status::plain(Code::WriteProtected));
         }
-        Status::plain(Code::WrongType)
+        Ok(Plan::MakeRecords(wanted.name, wanted.record_length))
     }
 
     /// What reading will do.
@@ -206,6 +204,7 @@ impl<M: Medium> Dos<M> {
         ensures ground { IfErr result (HasGround M.seen self.now.medium) }
         ensures from { IfOk result (IsFromDirectory M.seen self.now.medium) }
         ensures reads { IfOk result (λ p. plan_writes p ≡ false) }
+        ensures sized { IfOk result IsSized }
         ensures planned { (m : Machine) (ch : ℕ) → wanted.now.mode ≡ Read → is_relative wanted.now ≡ false →
             Stands M.seen self.now m →
             PlannedAs (M.seen self.now.medium).tracks (M.seen self.now.medium).content m (plans.plan ch
@@ -256,6 +255,7 @@ impl<M: Medium> Dos<M> {
         ensures ground { IfErr result (HasGround M.seen self.now.medium) }
         ensures from { IfOk result (IsFromDirectory M.seen self.now.medium) }
         ensures allowed { IfOk result (λ p. plan_writes p ≡ true → (M.seen self.now.medium).protected ≡ false) }
+        ensures sized { IfOk result IsSized }
         ensures planned { (m : Machine) → IsOfText (opening.File wanted) → is_relative wanted ≡ false →
             Stands M.seen self.now m →
             PlannedAs (M.seen self.now.medium).tracks (M.seen self.now.medium).content m

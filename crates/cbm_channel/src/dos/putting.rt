@@ -18,18 +18,17 @@ fn without_return(text: &[u8]) -> &[u8]
 }
 
 impl<M: Medium> Dos<M> {
-    ghost use Rattle.std.specs.Prelude.{◌≡◌, ◌≤◌, ◌<◌, ℕ, [], ◌∷◌, false, Some, Ok, IfSome, MatchOption};
+    ghost use Rattle.std.specs.Prelude.{◌≡◌, ◌≤◌, ◌<◌, ◌⊎◌, ℕ, List, [], ◌∷◌, false, take, Some, Ok, IfSome, MatchOption};
     ghost use Rattle.cbm_medium.specs.Seen.{HasFailed};
     ghost use Rattle.cbm_machine.specs.Machines.{Machine, answered};
     ghost use Rattle.cbm_machine.specs.Closing.{without_text};
-    ghost use Rattle.cbm_machine.specs.Calls.{put, end_put, gather, command, without_return};
+    ghost use Rattle.cbm_machine.specs.Calls.{put, gather, command, without_return};
     ghost use Rattle.cbm_machine.specs.Running.{run};
     ghost use Rattle.cbm_command.specs.declared.command.Command.TheVariants.{Position};
     ghost use Rattle.cbm_channel.specs.Grounds.{HasTold, IsToldFor, KeepsIfRefused};
     ghost use Rattle.cbm_channel.specs.Standing.{Stands, SameBut, HaveSameFiles, Leads, HasNoText, HasText};
-    ghost use Rattle.cbm_machine.specs.CarriedOut.{IsEndCarriedOut};
-    ghost use Rattle.cbm_channel.specs.Shown.{is_writing_on, IsQuiet};
-    ghost use Rattle.cbm_channel.specs.Going.{Goes, GoesFrom, Went, WentFrom, put_written, KeepsMedium};
+    ghost use Rattle.cbm_channel.specs.Shown.{is_writing_on, has_records_on, IsQuiet};
+    ghost use Rattle.cbm_channel.specs.Going.{Goes, EndsFrom, RecordsFrom, Went, WentFrom, put_written, KeepsMedium};
     ghost use Rattle.cbm_channel.specs.Commanded.{IsOfCommandText, changes_disk, commands_change, ends_command, FormatsUnfailing, formats, text_formats, end_formats};
 
     /// A byte that the host sends to a channel: on 15 it is gathered for a command, on a channel that has records open
@@ -102,28 +101,49 @@ impl<M: Medium> Dos<M> {
     }
 
     /// The host sends no more (UNLISTEN): the text that was gathered for channel 15 is carried out as a command. One for
-    /// a channel that has records open is dropped so far, and answered 64.
+    /// a channel that has records open is one write of a record.
     pub fn end_put(&mut self, channel: u8)
         requires { channel ≤ 15 }
-        ensures goes { (m : Machine) → Stands M.seen self.old m → IsEndCarriedOut channel m →
+        ensures goes { (m : Machine) → Stands M.seen self.old m →
             FormatsUnfailing (end_formats channel self.old.text)
             (HasFailed (M.seen self.old.medium) (M.seen self.new.medium)) →
-            GoesFrom M.seen self.old self.new ((channel, end_put channel) ∷ []) m }
+            EndsFrom M.seen self.old self.new channel m }
         // On any disk:
         ensures channels { HaveSameFiles self.old.channels self.new.channels }
-        // What is no command that changes the disk leaves the medium as it is.
-        ensures quiet { ends_command channel self.old.text ≡ false →
+        // What is no command that changes the disk, nor for records, leaves the medium as it is.
+        ensures quiet { ends_command channel self.old.text ≡ false → has_records_on channel self.old ≡ false →
             IsToldFor M.seen self.old self.new × (self.new.medium ≡ self.old.medium) }
-        // What is refused has changed nothing of the disk.
-        ensures spared { KeepsIfRefused M.seen self.old self.new }
+        // What is refused has changed nothing of the disk. A record that was written leaves what is told.
+        ensures spared { has_records_on channel self.old ≡ false → KeepsIfRefused M.seen self.old self.new }
+        ensures spared_records { (self.new.told ≡ self.old.told) ⊎ KeepsIfRefused M.seen self.old self.new }
         ensures medium { KeepsMedium (M.seen self.old.medium) (M.seen self.new.medium) }
     {
         if let Some(text) = self.take_text(channel) {
             if channel == 15 {
                 self.command(text.bytes());
-            } else if self.channels[channel as usize].has_records() {
-                self.say(Code::WrongType);
+            } else {
+                self.put_record(channel, text.bytes());
             }
+        }
+    }
+
+    /// A text for a channel from 0 to 14 is one write of the record of its place, if it has records open. What becomes
+    /// of it is the status: 51 some bytes didn't fit, 52 the file would be too large, or why a write was refused; else
+    /// the status stays.
+    fn put_record(&mut self, channel: u8, bytes: &[u8])
+        requires { channel < 15 }
+        ensures goes { (m : Machine) (text : List ℕ) → Stands M.seen self.old m → bytes.now ≡ take 256 text →
+            RecordsFrom M.seen self.old self.new channel text m }
+        ensures channels { HaveSameFiles self.old.channels self.new.channels }
+        ensures quiet { has_records_on channel self.old ≡ false → self.new ≡ self.old }
+        ensures spared { (self.new.told ≡ self.old.told) ⊎ KeepsIfRefused M.seen self.old self.new }
+        ensures medium { KeepsMedium (M.seen self.old.medium) (M.seen self.new.medium) }
+    {
+        match self.channels[channel as usize].put_record(&mut self.volume, bytes) {
+            Ok(Some(false)) => {}
+            Ok(Some(true)) => self.say(Code::RecordOverflow),
+            Ok(None) => self.say(Code::FileTooLarge),
+            Err(trouble) => self.set(Status::from(trouble)),
         }
     }
 

@@ -20,7 +20,7 @@ use Rattle.cbm_volume.proofs.relative.Longer.{LiesRelative, lies_open, lies_so}
 use Rattle.cbm_volume.proofs.relative.Sides.{listed_by, IsListed, listed_all, OnlyAt, numbered_written}
 
 -- a sector that is no part of the disk goes to a file, as a side sector
-extends_side : (l : Layout) (p : Place) (n : ℕ) → IsOwned l → is_loose (l.owner p) ≡ true → p.track ≢ 18 → Extends l n (own l.owner p (SideOf n))
+pub extends_side : (l : Layout) (p : Place) (n : ℕ) → IsOwned l → is_loose (l.owner p) ≡ true → p.track ≢ 18 → Extends l n (own l.owner p (SideOf n))
 extends_side l p n w h off = record {
   keeps = λ q o k e. elim (place_decide p q) [
     | inl s ↦ absurd (let z = ap is_loose (sym e ∙ ap l.owner (sym s)) ∙ h in let f = k.part in (cc))
@@ -47,7 +47,7 @@ listed_add c (s ∷ ss) xs q t full is h =
       subst (λ (ys : List Place). IsListed c (ss ++ t ∷ []) ys) (sym (drop-append-le 120 xs (q ∷ []) long)) (listed_add c ss (drop 120 xs) q t (omega (arith, full, length-drop 120 xs)) is h.1),
     )
 
-numbered_add : (tracks : ℕ) (c : Content) (width n : ℕ) (ss : List Place) (t : Place) → Numbered tracks c width n ss → Has tracks t → IsOk (c t) → get_or (bytes_at c t) 2 0 ≡ n + length ss → get_or (bytes_at c t) 3 0 ≡ width → Numbered tracks c width n (ss ++ t ∷ [])
+pub numbered_add : (tracks : ℕ) (c : Content) (width n : ℕ) (ss : List Place) (t : Place) → Numbered tracks c width n ss → Has tracks t → IsOk (c t) → get_or (bytes_at c t) 2 0 ≡ n + length ss → get_or (bytes_at c t) 3 0 ≡ width → Numbered tracks c width n (ss ++ t ∷ [])
 numbered_add tracks c width n [] t h has ok num wid = (has, ok, (let e : get_or (bytes_at c t) 2 0 ≡ n = omega (arith, num) in e), wid, tt)
 numbered_add tracks c width n (s ∷ ss) t h has ok num wid = (h.0, h.1, h.2, h.3, numbered_add tracks c width (n + 1) ss t h.4 has ok (omega (arith, num)) wid)
 

@@ -8,10 +8,10 @@ pub use Rattle.cbm_relfile.specs.Making.{fresh_byte}
 use Rattle.cbm_volume.proofs.Slices.{joined}
 use Rattle.cbm_volume.proofs.relative.Grown.{fresh, fresh_length}
 
-inside : (w j o : ℕ) → o < j * w → fresh_byte w j o ≡ (if o % w == 0 then 255 else 0)
+pub inside : (w j o : ℕ) → o < j * w → fresh_byte w j o ≡ (if o % w == 0 then 255 else 0)
 inside w j o h = ap (λ (b : Bool). if b then (if o % w == 0 then 255 else 0) else 0) (lt-ltb o (j * w) h)
 
-behind : (w j o : ℕ) → j * w ≤ o → fresh_byte w j o ≡ 0
+pub behind : (w j o : ℕ) → j * w ≤ o → fresh_byte w j o ≡ 0
 behind w j o h = ap (λ (b : Bool). if b then (if o % w == 0 then 255 else 0) else 0) (le-ltb o (j * w) h)
 
 zeros_at : (n i : ℕ) → ◌≡◌ {A = ℕ} (get_or (replicate n 0) i 0) 0

@@ -21,7 +21,7 @@ use Rattle.cbm_volume.proofs.relative.Sides.{IsListed, listed_by, Pushed, stands
 use Rattle.cbm_volume.proofs.Finishes.{last_owned}
 
 -- side sectors that stay list what they listed
-listed_kept : (c c' : Content) (owner : Place → Owner) (o : Owner) → Keeps c c' owner o → (ss xs : List Place) → OwnedBy owner o ss → IsListed c ss xs → IsListed c' ss xs
+pub listed_kept : (c c' : Content) (owner : Place → Owner) (o : Owner) → Keeps c c' owner o → (ss xs : List Place) → OwnedBy owner o ss → IsListed c ss xs → IsListed c' ss xs
 listed_kept c c' owner o k [] xs w h = h
 listed_kept c c' owner o k (s ∷ ss) xs w h = (ap (λ (x : Cell). named_in 120 (drop 16 (or_nothing x))) (k s w.0) ∙ h.0, listed_kept c c' owner o k ss (drop 120 xs) w.1 h.1)
 

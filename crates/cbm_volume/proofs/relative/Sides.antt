@@ -11,6 +11,7 @@ use Rattle.cbm_relfile.specs.SideSectors.{named_in, sides_listed, blocks_listed,
 use Rattle.cbm_directory.specs.Entries.{entry_at, first_block, first_side, is_closed, is_relative, width_of}
 use Rattle.cbm_volume.specs.Blocks.{Blocks, Lies, HasRecords, slot_of}
 use Rattle.cbm_volume.specs.Layouts.{DataOf, SideOf, Layout, slot_count, Stands}
+pub use Rattle.cbm_volume.specs.Growing.{listed_by, IsListed}
 use Rattle.cbm_volume.specs.Plain.{IsDistinct}
 use Rattle.cbm_volume.proofs.Frames.{Keeps, owned_nth, write_keeps, chain_kept, slot_kept}
 use Rattle.cbm_volume.proofs.OneSlot.{with_file}
@@ -18,15 +19,6 @@ use Rattle.cbm_volume.proofs.SoundClaimed.{sides_distinct}
 use Rattle.cbm_volume.proofs.Steps.{extends_itself}
 use Rattle.cbm_volume.proofs.relative.Inside.{stands_inside}
 use Rattle.cbm_volume.proofs.relative.Longer.{LiesRelative, lies_open, lies_so}
-
--- the blocks that a side sector lists
-abbrev pub listed_by : Content → Place → List Place
-listed_by c s = named_in 120 (drop 16 (bytes_at c s))
-
--- THE DRIVE'S FORM: each side sector lists the next 120 blocks, the last one what is left
-abbrev pub IsListed : Content → List Place → List Place → Type 0
-IsListed c [] blocks = blocks ≡ []
-IsListed c (s ∷ ss) blocks = (listed_by c s ≡ take 120 blocks) × IsListed c ss (drop 120 blocks)
 
 pub listed_all : (c : Content) (ss xs : List Place) → IsListed c ss xs → blocks_listed c ss ≡ xs
 listed_all c [] xs h = sym h

@@ -1,4 +1,5 @@
 use Rattle.std.proofs.Common.{refl, sym, subst, ◌∙◌, arith}
+use Rattle.cbm_channel.specs.Placed.{IsOnRecord}
 use Rattle.cbm_channel.specs.Standing.{WaitsFor}
 use Rattle.cbm_channel.proofs.Placings.{place_closed, place_plain, place_beyond, place_reached}
 use Rattle.cbm_channel.proofs.channel.Channel.place.Goals as goal
@@ -19,10 +20,18 @@ returns-then-position-length-clause-well g c = λ d uses ch x h e s w.
 -- it is reached
 pub returns-then-is_absent-clause-well : goal.returns-then-is_absent-clause-well
 returns-then-is_absent-clause-well g c = λ d uses ch x h e s w.
-    let next = c.in_ok-go-in-Records.ensures.well d (record { layout = h.layout; stands = h.so.stands }) (subst (WaitsFor d) c.in-Records.is w) in
+    let on : IsOnRecord d c.in-Records.on = subst (WaitsFor d) c.in-Records.is w in
+    let next = c.in_ok-go-in-Records.ensures.well d on.file on.blocks on.sides on.records (record { layout = h.layout; stands = h.so.stands }) on.in_slot on.closed on.body in
     place_reached _ _ d uses ch c.args.number c.args.position x _ c.in-Records.on _ _ c.in-Records.is (omega (arith, c.length.ensures, c.if-position-length.false)) c.in_ok-go-in-Records.ensures.place next.1 (sym c.is_absent.ensures ∙ c.if-is_absent.true) h e s w
 
 pub returns-else-is_absent-clause-well : goal.returns-else-is_absent-clause-well
 returns-else-is_absent-clause-well g c = λ d uses ch x h e s w.
-    let next = c.in_ok-go-in-Records.ensures.well d (record { layout = h.layout; stands = h.so.stands }) (subst (WaitsFor d) c.in-Records.is w) in
+    let on : IsOnRecord d c.in-Records.on = subst (WaitsFor d) c.in-Records.is w in
+    let next = c.in_ok-go-in-Records.ensures.well d on.file on.blocks on.sides on.records (record { layout = h.layout; stands = h.so.stands }) on.in_slot on.closed on.body in
     place_reached _ _ d uses ch c.args.number c.args.position x _ c.in-Records.on _ _ c.in-Records.is (omega (arith, c.length.ensures, c.if-position-length.false)) c.in_ok-go-in-Records.ensures.place next.1 (sym c.is_absent.ensures ∙ c.if-is_absent.false) h e s w
+
+-- on a sound disk each record reads
+pub returns-in_err-go-in-Records-clause-well : goal.returns-in_err-go-in-Records-clause-well
+returns-in_err-go-in-Records-clause-well g c = λ d uses ch x h e s w.
+    let on : IsOnRecord d c.in-Records.on = subst (WaitsFor d) c.in-Records.is w in
+    let bad = (c.in_err-go-in-Records.ensures.well d on.file on.blocks on.sides on.records (record { layout = h.layout; stands = h.so.stands }) on.in_slot on.closed on.body).0 in absurd (cc)

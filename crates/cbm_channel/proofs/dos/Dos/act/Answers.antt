@@ -16,7 +16,7 @@ pub returns-in-Ok-Some-clause-goes : goal.returns-in-Ok-Some-clause-goes
 returns-in-Ok-Some-clause-goes g c = λ m p h shut s.
     let old = c.args.self.now in
     let whole = c.self.view_is ∙ c.opened.ensures.rest in
-    let more : c.args.channel < length old.channels = omega (arith, c.requires, c.opened.ensures.count, ap (λ k. length k.channels) c.opened.ensures.rest) in
+    let more : c.args.channel < length old.channels = omega (arith, c.requires.channel, c.opened.ensures.count, ap (λ k. length k.channels) c.opened.ensures.rest) in
     let is = subst (IsOpened (g.M.Medium.seen old.medium).tracks (g.M.Medium.seen c.opened.new.self.medium).content m c.args.channel p (uses_of old.channels m.channels)) c.in-Ok-Some.field-0-is
     (c.in-Ok-Some.ensures.opened m p c.args.channel h s (idle_at old.channels m.channels c.args.channel shut)) in
     let next = opened_stands _ _ _ _ old.channels old.told old.text m c.args.channel p c.args.plan more s h c.in-Ok-Some.opened is in (
@@ -30,7 +30,7 @@ returns-in-Ok-Some-clause-goes g c = λ m p h shut s.
 pub returns-in-Err-clause-goes : goal.returns-in-Err-clause-goes
 returns-in-Err-clause-goes g c = λ m p h shut s.
     let old = c.args.self.now in
-    let more : c.args.channel < length old.channels = omega (arith, c.requires, c.opened.ensures.count, ap (λ k. length k.channels) c.opened.ensures.rest) in
+    let more : c.args.channel < length old.channels = omega (arith, c.requires.channel, c.opened.ensures.count, ap (λ k. length k.channels) c.opened.ensures.rest) in
     let stop = c.in-Err.ensures.stopped m p h s in
     let next = opened_cut _ _ _ _ old.channels old.told old.text m c.args.channel p c.args.plan more s h shut stop.0 in (
       _,

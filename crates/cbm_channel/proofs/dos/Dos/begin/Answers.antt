@@ -8,14 +8,14 @@ use Rattle.cbm_channel.proofs.Planning.{begun_ok, begun_err, begun_does, begun_r
 use Rattle.cbm_channel.proofs.dos.Dos.begin.Goals as goal
 
 pub returns-in-Ok-clause-goes : goal.returns-in-Ok-clause-goes
-returns-in-Ok-clause-goes g c = λ m text carried shut s.
-    let x = begun_ok _ _ m _ c.in-Ok.plan (c.in-Ok.ensures.planned m text carried s) in
+returns-in-Ok-clause-goes g c = λ m text shut s.
+    let x = begun_ok _ _ m _ c.in-Ok.plan (c.in-Ok.ensures.planned m text s) in
     let next = c.act.ensures.goes m x.0 x.2 shut s in
     (next.0, part_same _ c.args.channel (λ n. say Fine (act c.args.channel x.0 n)) (begun_by c.args.channel c.args.opening) m next.0 (begun_does c.args.channel c.args.opening m x.0 x.1) next.1, next.2)
 
 pub returns-in-Err-clause-goes : goal.returns-in-Err-clause-goes
-returns-in-Err-clause-goes g c = λ m text carried shut s.
-    let x = begun_err _ _ m _ c.in-Err.status (c.in-Err.ensures.planned m text carried s) in
+returns-in-Err-clause-goes g c = λ m text shut s.
+    let x = begun_err _ _ m _ c.in-Err.status (c.in-Err.ensures.planned m text s) in
     (tell c.in-Err.status m, inl (sym (begun_refuses c.args.channel c.args.opening m x.0 c.in-Err.status x.1 x.2)), c.set.ensures.leads m s)
 
 -- what is refused

@@ -1,4 +1,4 @@
-use Rattle.std.proofs.Common.{◌≡◌, ◌≤◌, ◌<◌, ℕ, List, length, take, refl, sym, ap, subst, ◌∙◌, arith, inl}
+use Rattle.std.proofs.Common.{◌≡◌, ◌≤◌, ℕ, List, length, take, sym, ap, subst, ◌∙◌, arith, inl}
 use Rattle.std.specs.Prelude.{◌==◌, ◌&&◌, true, false}
 use Rattle.std.proofs.lemmas.Bool.{eq-eqb}
 use Rattle.cbm_medium.specs.Seen.{HasFailed}
@@ -7,16 +7,15 @@ use Rattle.cbm_machine.specs.Closing.{without_text}
 use Rattle.cbm_machine.specs.Calls.{text_for, command}
 use Rattle.cbm_channel.specs.Commanded.{commands_change, ends_command, text_formats, end_formats}
 use Rattle.cbm_channel.specs.Going.{Passes}
-use Rattle.cbm_channel.proofs.Asked.{below_15, store_command, store_other, records_end}
-use Rattle.cbm_channel.proofs.Goings.{text_passes}
-use Rattle.cbm_channel.proofs.Stands.{zip_at, stood, stands_at}
+use Rattle.cbm_channel.proofs.Asked.{below_15, store_command, store_records}
+use Rattle.cbm_channel.proofs.Goings.{record_ends, text_passes}
 use Rattle.cbm_channel.proofs.Texts.{some_kept, command_kept}
 use Rattle.cbm_channel.proofs.Troubles.{told_for}
 use Rattle.cbm_channel.proofs.dos.Dos.end_put.Goals as goal
 
 -- a command
 pub returns-then-channel-eq15-clause-goes : goal.returns-then-channel-eq15-clause-goes
-returns-then-channel-eq15-clause-goes g c = λ m s carried unfailed.
+returns-then-channel-eq15-clause-goes g c = λ m s unfailed.
     let has = c.in-Some.ensures.text m s in
     let whole : List ℕ = text_for c.args.channel m.text in
     let some : 1 ≤ length whole = some_kept whole (subst (λ x. 1 ≤ length x) has.kept has.some) in
@@ -31,18 +30,14 @@ returns-then-channel-eq15-clause-goes g c = λ m s carried unfailed.
     (subst (λ v. HasFailed (g.M.Medium.seen v) (g.M.Medium.seen c.command.new.self.medium)) c.in-Some.ensures.medium f)) in
     let passes = text_passes _ 15 c.args.channel (command c.bytes.result.now) (end_put c.args.channel) m next.0 law next.1 in (
       next.0,
-      (
-        next.0,
-        subst (λ ch. Passes (HasFailed (g.M.Medium.seen c.args.self.now.medium) (g.M.Medium.seen c.command.new.self.medium)) ch (end_put c.args.channel) m next.0) (sym c.if-channel-eq15.true)
-            (subst (λ v. Passes (HasFailed (g.M.Medium.seen v) (g.M.Medium.seen c.command.new.self.medium)) 15 (end_put c.args.channel) m next.0) c.in-Some.ensures.medium passes),
-        refl,
-      ),
+      inl (subst (λ ch. Passes (HasFailed (g.M.Medium.seen c.args.self.now.medium) (g.M.Medium.seen c.command.new.self.medium)) ch (end_put c.args.channel) m next.0) (sym c.if-channel-eq15.true)
+          (subst (λ v. Passes (HasFailed (g.M.Medium.seen v) (g.M.Medium.seen c.command.new.self.medium)) 15 (end_put c.args.channel) m next.0) c.in-Some.ensures.medium passes)),
       next.2,
     )
 
 -- one that changes nothing of the disk
 pub returns-then-channel-eq15-clause-quiet : goal.returns-then-channel-eq15-clause-quiet
-returns-then-channel-eq15-clause-quiet g c = λ quiet.
+returns-then-channel-eq15-clause-quiet g c = λ quiet none_open.
     let fifteen : (c.args.channel == 15) ≡ true = eq-eqb c.args.channel 15 c.if-channel-eq15.true in
     let number : (c.in-Some.text.0 == 15) ≡ true = eq-eqb c.in-Some.text.0 15 (c.in-Some.ensures.taken.1 ∙ c.if-channel-eq15.true) in
     let none : commands_change c.in-Some.text.1 ≡ false =
@@ -50,27 +45,20 @@ returns-then-channel-eq15-clause-quiet g c = λ quiet.
     let said = c.command.ensures.quiet (ap commands_change c.bytes.ensures ∙ none) in
     (told_for g.M.Medium.seen c.args.self.now c.take_text.new.self c.command.new.self c.in-Some.ensures.medium c.in-Some.ensures.told said.0, said.1 ∙ c.in-Some.ensures.medium)
 
--- a text for records isn't carried out
-pub returns-then-has_records-clause-goes : goal.returns-then-has_records-clause-goes
-returns-then-has_records-clause-goes g c = λ m s carried unfailed.
-    let has = c.in-Some.ensures.text m s in
-    let some : 1 ≤ length (text_for c.args.channel m.text) = some_kept (text_for c.args.channel m.text) (subst (λ x. 1 ≤ length x) has.kept has.some) in
-    let lt : c.args.channel < 15 = omega (arith, c.requires, c.if-channel-eq15.false) in
-    let st = stood g.M.Medium.seen _ _ (without_text c.args.channel m) c.self.view_is (c.in-Some.ensures.leads m s) in
-    let at = stands_at _ _ _ _ _ _ (without_text c.args.channel m) c.args.channel c.index-self-channel.result lt c.self.invariant st in
-    absurd (records_end c.args.channel m _ (below_15 c.args.channel lt) at carried some (sym c.has_records.ensures ∙ c.if-has_records.true))
-
--- no channel has records
-pub returns-else-has_records-clause-goes : goal.returns-else-has_records-clause-goes
-returns-else-has_records-clause-goes g c = λ m s carried unfailed.
+-- a text for records
+pub returns-else-channel-eq15-clause-goes : goal.returns-else-channel-eq15-clause-goes
+returns-else-channel-eq15-clause-goes g c = λ m s unfailed.
     let has = c.in-Some.ensures.text m s in
     let whole : List ℕ = text_for c.args.channel m.text in
     let some : 1 ≤ length whole = some_kept whole (subst (λ x. 1 ≤ length x) has.kept has.some) in
     let other = below_15 c.args.channel (omega (arith, c.requires, c.if-channel-eq15.false)) in
-    let law = store_other c.args.channel m _ other (zip_at c.args.self.now.channels m.channels c.args.channel s.each) carried some whole some in
-    (without_text c.args.channel m, (without_text c.args.channel m, inl (sym law), refl), c.in-Some.ensures.leads m s)
+    let next = c.put_record.ensures.goes (without_text c.args.channel m) whole (c.in-Some.ensures.leads m s) (c.bytes-else-channel-eq15.ensures ∙ has.kept) in (
+      next.0,
+      record_ends _ _ c.args.channel m next.0 (λ f. subst (λ v. HasFailed (g.M.Medium.seen v) (g.M.Medium.seen c.put_record.new.self.medium)) c.in-Some.ensures.medium f) (store_records c.args.channel whole m some other) next.1,
+      next.2,
+    )
 
 -- ---- what is refused
 
 pub returns-then-channel-eq15-clause-spared : goal.returns-then-channel-eq15-clause-spared
-returns-then-channel-eq15-clause-spared g c = λ is. c.command.ensures.spared is ∙ ap (λ v. (g.M.Medium.seen v).content) c.in-Some.ensures.medium
+returns-then-channel-eq15-clause-spared g c = λ none_open is. c.command.ensures.spared is ∙ ap (λ v. (g.M.Medium.seen v).content) c.in-Some.ensures.medium

@@ -11,13 +11,13 @@ use Rattle.cbm_channel.specs.Commanded.{text_formats}
 use Rattle.cbm_channel.specs.Planned.{begun_by}
 use Rattle.cbm_channel.proofs.Asked.{below_15}
 use Rattle.cbm_channel.proofs.Stands.{moved}
-use Rattle.cbm_channel.proofs.Planning.{opened_text, refused_text, carried_text, writes_text, own_refusal}
-use Rattle.cbm_channel.proofs.Goings.{part_same, close_then, close_begin, parts_other, parts_command, after_close}
+use Rattle.cbm_channel.proofs.Planning.{opened_text, refused_text, writes_text, own_refusal}
+use Rattle.cbm_channel.proofs.Goings.{part_same, close_then, close_begin, parts_other, parts_command}
 use Rattle.cbm_channel.proofs.dos.Dos.open.Goals as goal
 
 -- a command
 pub returns-then-channel-eq15-clause-goes : goal.returns-then-channel-eq15-clause-goes
-returns-then-channel-eq15-clause-goes g c = λ m s carried whole.
+returns-then-channel-eq15-clause-goes g c = λ m s whole.
     let fifteen : (c.args.channel == 15) ≡ true = eq-eqb c.args.channel 15 c.if-channel-eq15.true in
     let next = c.command.ensures.goes m s
     (λ e. whole (ap (λ b. b && text_formats c.args.text.now) fifteen ∙ e)) in
@@ -26,18 +26,17 @@ returns-then-channel-eq15-clause-goes g c = λ m s carried whole.
 
 -- CLOSE, and then OPEN
 pub returns-in-Ok-clause-goes : goal.returns-in-Ok-clause-goes
-returns-in-Ok-clause-goes g c = λ m s carried whole.
+returns-in-Ok-clause-goes g c = λ m s whole.
     let other = below_15 c.args.channel (omega (arith, c.requires, c.if-channel-eq15.false)) in
     let is = sym c.parse_open.ensures.value ∙ c.in-Ok.is in
     subst (λ parts. GoesFrom g.M.Medium.seen c.args.self.now c.begin.new.self parts m) (sym (parts_other c.args.channel c.args.text.now other))
     (close_begin g.M.Medium.seen c.args.self.now c.close_one.new.self c.begin.new.self c.args.channel (close_one c.args.channel) (open_text c.args.channel c.args.text.now) m c.close_one.ensures.medium c.begin.ensures.medium c.close_one.ensures.goes s
     (λ n stands passes.
-    let next = c.begin.ensures.goes n (c.args.channel, c.args.text.now, is) (carried_text c.args.channel c.args.text.now c.in-Ok.opening n other is (carried n (after_close g.M.Medium.seen c.args.self.now c.begin.new.self c.args.channel m n other passes)))
-    c.close_one.ensures.closed stands in
+    let next = c.begin.ensures.goes n (c.args.channel, c.args.text.now, is) c.close_one.ensures.closed stands in
     (next.0, part_same _ c.args.channel (begun_by c.args.channel c.in-Ok.opening) (open_text c.args.channel c.args.text.now) n next.0 (opened_text c.args.channel c.args.text.now c.in-Ok.opening n is) next.1, next.2)))
 
 pub returns-in-Err-clause-goes : goal.returns-in-Err-clause-goes
-returns-in-Err-clause-goes g c = λ m s carried whole.
+returns-in-Err-clause-goes g c = λ m s whole.
     let other = below_15 c.args.channel (omega (arith, c.requires, c.if-channel-eq15.false)) in
     let is = sym c.parse_open.ensures.value ∙ c.in-Err.is in
     subst (λ parts. GoesFrom g.M.Medium.seen c.args.self.now c.say.new.self parts m) (sym (parts_other c.args.channel c.args.text.now other))

@@ -1,9 +1,11 @@
 use Rattle.std.proofs.Common.{◌≡◌, [], refl, sym, ap, ◌∙◌, subst}
-use Rattle.std.specs.Prelude.{Some, false, true, Ok}
+use Rattle.std.specs.Prelude.{Some, false, true, Ok, replicate}
 use Rattle.cbm_medium.specs.Place.{sector_count}
 use Rattle.cbm_medium.specs.Seen.{HasFailed}
 use Rattle.cbm_file.specs.Files.{Records, bytes_in, record_length_in, file_at}
 use Rattle.cbm_file.specs.Padding.{before_filler}
+use Rattle.cbm_file.specs.Records.{fresh_record, record_count, with_new_records}
+use Rattle.cbm_volume.specs.Holding.{HoldsDisk}
 use Rattle.cbm_file.specs.Changes.{new_slot, with_file, unclosed}
 use Rattle.cbm_volume.specs.Map.{geometry_of}
 use Rattle.cbm_volume.specs.Entries.{first_block}
@@ -18,9 +20,9 @@ use Rattle.cbm_channel.specs.Standing.{use_of, uses_of}
 use Rattle.cbm_channel.specs.Planned.{PlannedAs, IsOpened, opened_by, disk_opened, appended_to, reopened_at, plan_writes}
 use Rattle.cbm_channel.proofs.Troubles.{read_from, entry_broken, passed_on}
 use Rattle.cbm_channel.proofs.Stands.{stood, means_of, unwritten_at}
-use Rattle.cbm_channel.proofs.Planning.{readable, relatable, writable, appendable, replaceable, file_opens, reads_as, none_passes}
+use Rattle.cbm_channel.proofs.Planning.{readable, relatable, makeable, writable, appendable, replaceable, file_opens, reads_as, none_passes}
 use Rattle.cbm_machine.specs.Machines as machine
-use Rattle.cbm_channel.proofs.Opens.{relates_opened, begins_as, nothing_begun, failed_by, not_del, match_some, match_none, has_place, no_block, can_be, on_err}
+use Rattle.cbm_channel.proofs.Opens.{relates_opened, makes_opened, made_file, made_there, has_room_of, idle_past, begins_as, nothing_begun, failed_by, not_del, match_some, match_none, has_place, no_block, can_be, on_err}
 use Rattle.cbm_volume.proofs.RecordUses.{of_records}
 use Rattle.cbm_channel.proofs.dos.Dos.opened.Goals as goal
 
@@ -175,3 +177,59 @@ returns-in_err-writer-in-WriteFile-clause-guarded g c = λ free.
     passed_on c.from_residual-in_err-writer-in-WriteFile.result c.in_err-writer-in-WriteFile.field-0.0
     (λ t. t.code ≡ 26 → (g.M.Medium.seen c.begin_write.new.self).content ≡ (g.M.Medium.seen c.args.self.now.medium).content) c.from_residual-in_err-writer-in-WriteFile.ensures.1
     (λ is. let z = sym (c.in_err-writer-in-WriteFile.ensures.protection is) ∙ ap (λ k. (g.M.Medium.seen k.medium).protected) c.self.view_is ∙ free (ap plan_writes c.in-WriteFile.is) in absurd (cc))
+
+-- ---- a relative file that is made
+
+pub returns-in_err-slot-in-MakeRecords-clause-stopped : goal.returns-in_err-slot-in-MakeRecords-clause-stopped
+returns-in_err-slot-in-MakeRecords-clause-stopped g c = λ m p h s.
+    let st = stood g.M.Medium.seen _ _ m c.self.view_is s in
+    let uses = uses_of c.self.inside.channels m.channels in
+    let x = makeable _ _ m p c.args.plan c.in-MakeRecords.name c.in-MakeRecords.length h c.in-MakeRecords.is in
+    let name : before_filler c.bytes-in-MakeRecords.result.now ≡ c.in-MakeRecords.name = ap before_filler c.bytes-in-MakeRecords.ensures.value ∙ x.1.cut in
+    let idle : uses 15 ≡ Idle = idle_past c.self.inside.channels m.channels c.self.invariant.count in
+    let disk = ap (λ n. with_new_records m.disk n c.in-MakeRecords.length) name ∙ sym (ap (disk_opened m.disk) x.0) in
+    let failed = failed_by (g.M.Medium.seen c.self.inside.volume) (g.M.Medium.seen c.make_records.new.self) c.in_err-slot-in-MakeRecords.field-0.0 m.protected st.same_protection x.1.unprotected
+    (c.in_err-slot-in-MakeRecords.ensures.cause m.disk uses 15 st.holds idle) in
+    on_err _ _ (subst (λ k. Stopped (g.M.Medium.seen k.medium).tracks (g.M.Medium.seen c.make_records.new.self).content m.disk (disk_opened m.disk p) (uses_of k.channels m.channels) × HasFailed (g.M.Medium.seen k.medium) (g.M.Medium.seen c.make_records.new.self)) c.self.view_is (
+      subst (λ d. Stopped (g.M.Medium.seen c.self.inside.volume).tracks (g.M.Medium.seen c.make_records.new.self).content m.disk d uses) disk (c.in_err-slot-in-MakeRecords.ensures.stopped m.disk uses 15 st.holds idle),
+      failed,
+    ))
+
+pub returns-in_default-3-clause-opened : goal.returns-in_default-3-clause-opened
+returns-in_default-3-clause-opened g c = λ m p ch h s idle.
+    let st = stood g.M.Medium.seen _ _ m c.self.view_is s in
+    let x = makeable _ _ m p c.args.plan c.in-MakeRecords.name c.in-MakeRecords.length h c.in-MakeRecords.is in
+    let none = match_none _ _ _ c.in_default-3.not-Some (c.in_ok-slot-in-MakeRecords.ensures.made m.disk (uses_of c.self.inside.channels m.channels) ch st.holds (subst (λ k. uses_of k.channels m.channels ch ≡ Idle) (sym c.self.view_is) idle)) in
+    absurd (has_room_of m c.in-MakeRecords.name c.in-MakeRecords.length x.1 none.0)
+
+-- its first record reads
+pub returns-in_err-on-in-MakeRecords-clause-stopped : goal.returns-in_err-on-in-MakeRecords-clause-stopped
+returns-in_err-on-in-MakeRecords-clause-stopped g c = λ m p h s.
+    let st = stood g.M.Medium.seen _ _ m c.self.view_is s in
+    let uses = uses_of c.self.inside.channels m.channels in
+    let x = makeable _ _ m p c.args.plan c.in-MakeRecords.name c.in-MakeRecords.length h c.in-MakeRecords.is in
+    let name : before_filler c.bytes-in-MakeRecords.result.now ≡ c.in-MakeRecords.name = ap before_filler c.bytes-in-MakeRecords.ensures.value ∙ x.1.cut in
+    let made = match_some _ _ _ _ c.in-Some-3.is (c.in_ok-slot-in-MakeRecords.ensures.made m.disk uses 15 st.holds (idle_past c.self.inside.channels m.channels c.self.invariant.count)) in
+    let holds = subst (λ n. HoldsNow (g.M.Medium.seen c.self.inside.volume).tracks (g.M.Medium.seen c.make_records.new.self).content (with_new_records m.disk n c.in-MakeRecords.length) uses) name made.1 in
+    let new : HoldsDisk (g.M.Medium.seen c.self.inside.volume).tracks (g.M.Medium.seen c.make_records.new.self).content (with_new_records m.disk c.in-MakeRecords.name c.in-MakeRecords.length) = record { layout = holds.layout; stands = holds.so.stands } in
+    let means = subst (λ t. HoldsDisk t (g.M.Medium.seen c.make_records.new.self).content (with_new_records m.disk c.in-MakeRecords.name c.in-MakeRecords.length)) (sym c.make_records.ensures.only.tracks) new in
+    let there = made_there m c.in-MakeRecords.name c.in-MakeRecords.length c.in-Some-3.slot x.1 made.0 in
+    let rs = replicate (record_count c.in-MakeRecords.length 1) (fresh_record c.in-MakeRecords.length) in
+    absurd (c.in_err-on-in-MakeRecords.ensures.means (with_new_records m.disk c.in-MakeRecords.name c.in-MakeRecords.length) (made_file c.in-MakeRecords.name c.in-MakeRecords.length) 1 1 rs means there refl refl)
+
+pub returns-in_ok-on-in-MakeRecords-clause-opened : goal.returns-in_ok-on-in-MakeRecords-clause-opened
+returns-in_ok-on-in-MakeRecords-clause-opened g c = λ m p ch h s idle.
+    let st = stood g.M.Medium.seen _ _ m c.self.view_is s in
+    let uses = uses_of c.self.inside.channels m.channels in
+    let x = makeable _ _ m p c.args.plan c.in-MakeRecords.name c.in-MakeRecords.length h c.in-MakeRecords.is in
+    let name : before_filler c.bytes-in-MakeRecords.result.now ≡ c.in-MakeRecords.name = ap before_filler c.bytes-in-MakeRecords.ensures.value ∙ x.1.cut in
+    let made = match_some _ _ _ _ c.in-Some-3.is (c.in_ok-slot-in-MakeRecords.ensures.made m.disk uses ch st.holds (subst (λ k. uses_of k.channels m.channels ch ≡ Idle) (sym c.self.view_is) idle)) in
+    let holds = subst (λ n. HoldsNow (g.M.Medium.seen c.self.inside.volume).tracks (g.M.Medium.seen c.make_records.new.self).content (with_new_records m.disk n c.in-MakeRecords.length) uses) name made.1 in
+    let new : HoldsDisk (g.M.Medium.seen c.self.inside.volume).tracks (g.M.Medium.seen c.make_records.new.self).content (with_new_records m.disk c.in-MakeRecords.name c.in-MakeRecords.length) = record { layout = holds.layout; stands = holds.so.stands } in
+    let means = subst (λ t. HoldsDisk t (g.M.Medium.seen c.make_records.new.self).content (with_new_records m.disk c.in-MakeRecords.name c.in-MakeRecords.length)) (sym c.make_records.ensures.only.tracks) new in
+    let there = made_there m c.in-MakeRecords.name c.in-MakeRecords.length c.in-Some-3.slot x.1 made.0 in
+    let rs = replicate (record_count c.in-MakeRecords.length 1) (fresh_record c.in-MakeRecords.length) in
+    let on = c.in_ok-on-in-MakeRecords.ensures.means (with_new_records m.disk c.in-MakeRecords.name c.in-MakeRecords.length) (made_file c.in-MakeRecords.name c.in-MakeRecords.length) 1 1 rs means there refl refl in
+    let place = c.in_ok-on-in-MakeRecords.ensures.place in
+    subst (λ k. IsOpened (g.M.Medium.seen k.medium).tracks (g.M.Medium.seen c.make_records.new.self).content m ch p (uses_of k.channels m.channels) (Some (code.Records c.in_ok-on-in-MakeRecords.on))) c.self.view_is
+    (makes_opened _ _ _ _ _ _ _ m ch p c.in-MakeRecords.name c.in-MakeRecords.length c.in-Some-3.slot c.in_ok-on-in-MakeRecords.on st x.0 x.1 made.0 holds place.0 place.1.1.0 place.1.1.1 on)

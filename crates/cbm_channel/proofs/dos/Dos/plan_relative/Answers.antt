@@ -2,18 +2,24 @@ use Rattle.std.proofs.Common.{sym, ap, ◌∙◌, arith}
 use Rattle.std.proofs.lemmas.Bool.{le-ltb}
 use Rattle.cbm_machine.specs.Machines.{in_writing}
 use Rattle.cbm_channel.proofs.Asking.{passed_refusal}
-use Rattle.cbm_channel.proofs.RelativePlans.{refused_there, there_planned}
+use Rattle.cbm_channel.proofs.RelativePlans.{missing_planned, refused_there, there_planned}
+use Rattle.cbm_channel.proofs.Named.{name_cut}
 use Rattle.cbm_channel.proofs.WritePlans.{flag_in}
 use Rattle.cbm_channel.proofs.dos.Dos.plan_relative.Goals as goal
 
 pub returns-in_err-found-clause-planned : goal.returns-in_err-found-clause-planned
-returns-in_err-found-clause-planned g c = λ m relative none s.
+returns-in_err-found-clause-planned g c = λ m bytes relative s.
     passed_refusal _ _ m _ c.in_err-found.field-0.0 c.from_residual-in_err-found.result c.from_residual-in_err-found.ensures.1
-    (refused_there _ _ m c.args.channel c.args.wanted.now relative (sym (c.is_too_many.ensures m s) ∙ c.if-is_too_many.false) c.if-wanted.false (le-ltb c.args.channel 2 (omega (arith, c.if-channel-lt2.false)))
+    (refused_there _ _ m c.args.channel c.args.wanted relative (sym (c.is_too_many.ensures m s) ∙ c.if-is_too_many.false) c.if-wanted.false (le-ltb c.args.channel 2 (omega (arith, c.if-channel-lt2.false)))
     (sym (ap flag_in (c.in_ok-is_there.ensures.there m s)) ∙ c.if-not-branch.false) c.in_err-found.field-0.0 (c.in_err-found.ensures.found m s))
 
 pub returns-clause-planned : goal.returns-clause-planned
-returns-clause-planned g c = λ m relative none s.
-    there_planned _ _ m c.args.channel c.args.wanted.now relative (sym (c.is_too_many.ensures m s) ∙ c.if-is_too_many.false) c.if-wanted.false (le-ltb c.args.channel 2 (omega (arith, c.if-channel-lt2.false)))
+returns-clause-planned g c = λ m bytes relative s.
+    there_planned _ _ m c.args.channel c.args.wanted relative (sym (c.is_too_many.ensures m s) ∙ c.if-is_too_many.false) c.if-wanted.false (le-ltb c.args.channel 2 (omega (arith, c.if-channel-lt2.false)))
     (sym (ap flag_in (c.in_ok-is_there.ensures.there m s)) ∙ c.if-not-branch.false) c.in_ok-found.found c.plan_there.result (c.in_ok-found.ensures.found m s)
     (λ n f is kind. c.plan_there.ensures.planned _ _ m n f (ap (in_writing m) is.number ∙ sym (c.in_writing-written.ensures m s)) is kind)
+
+pub returns-then-not-branch-clause-planned : goal.returns-then-not-branch-clause-planned
+returns-then-not-branch-clause-planned g c = λ m bytes relative s.
+    missing_planned _ _ m c.args.channel c.args.wanted relative (sym (c.is_too_many.ensures m s) ∙ c.if-is_too_many.false) c.if-wanted.false (le-ltb c.args.channel 2 (omega (arith, c.if-channel-lt2.false)))
+    (sym (ap flag_in (c.in_ok-is_there.ensures.there m s)) ∙ c.if-not-branch.true) c.plan_missing.result (c.plan_missing.ensures.planned m (name_cut bytes.0 bytes.1 c.args.wanted bytes.2) s)

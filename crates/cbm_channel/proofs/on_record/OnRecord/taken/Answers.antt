@@ -6,7 +6,7 @@ use Rattle.cbm_channel.proofs.on_record.OnRecord.taken.Goals as goal
 -- behind the last byte
 pub returns-then-is_last-clause-well : goal.returns-then-is_last-clause-well
 returns-then-is_last-clause-well g c = λ d h on.
-    let next = c.go-then-is_last.ensures.well d h on in
+    let next = c.go-then-is_last.ensures.well d on.file on.blocks on.sides on.records h on.in_slot on.closed on.body in
     let waits = ap (λ (r : Placed). record_of r.waiting) (sym c.self.view_is) ∙ ap record_of c.in-Record.is in
     let bytes = sym c.as_slice.ensures.value in
     let position = ap (λ (r : Placed). r.position) (sym c.self.view_is) in

@@ -1,10 +1,11 @@
-use Rattle.std.proofs.Common.{◌≡◌, ℕ, Ok, Err, refl, ap, subst, inl, inr}
+use Rattle.std.proofs.Common.{◌≡◌, ℕ, Ok, Err, Some, refl, ap, subst, inl, inr}
 use Rattle.std.proofs.lemmas.Result.{err_from_is_err_and}
 use Rattle.cbm_medium.specs.Place.{directory_head}
 use Rattle.cbm_medium.specs.Seen.{Seen}
 use Rattle.cbm_medium.proofs.FaultCodes.{never_26}
 use Rattle.cbm_file.specs.Padding.{before_filler}
-use Rattle.cbm_file.specs.Files.{Disk}
+use Rattle.cbm_file.specs.Files.{Disk, empty_from}
+use Rattle.cbm_file.specs.Changes.{grown}
 use Rattle.cbm_file.specs.Records.{with_new_records}
 use Rattle.cbm_bam.specs.Map.{geometry_of}
 use Rattle.cbm_directory.proofs.Codes.{directory_never_26}
@@ -57,44 +58,45 @@ returns-then-protected-clause-untouched g c = λ d uses ch h idle.
 
 -- ---- the file was begun, as there is room
 
-cut : (g : Over) (c : goal.After-from_residual-in_err-make g) (d : Disk) (uses : ℕ → Use) (ch : ℕ) (h : HoldsNow (g.M.Medium.seen c.args.self.now).tracks (g.M.Medium.seen c.args.self.now).content d uses) → uses ch ≡ Idle
-    → IsCutShort (g.M.Medium.seen c.args.self.now) (g.M.Medium.seen c.make.new.medium) (g.M.Medium.seen c.args.self.now).content h.layout d uses c.in_err-make.field-0.0
+cut : (g : Over) (c : goal.After-from_residual-in_err-slot g) (d : Disk) (uses : ℕ → Use) (ch : ℕ) (h : HoldsNow (g.M.Medium.seen c.args.self.now).tracks (g.M.Medium.seen c.args.self.now).content d uses) → uses ch ≡ Idle
+    → IsCutShort (g.M.Medium.seen c.args.self.now) (g.M.Medium.seen c.make.new.medium) (g.M.Medium.seen c.args.self.now).content h.layout d uses c.in_err-slot.field-0.0
 cut g c d uses ch h idle =
     let seen = ap (λ m. g.M.Medium.seen m) c.self.view_is in
     let room = records_room d c.in_ok-room.room.blocks c.in_ok-room.room.slot (c.in_ok-room.ensures.means d (record { layout = h.layout; stands = h.so.stands })) (c.has_room.ensures.enough c.if-not-has_room.false) in
-    subst (λ (s : Seen). MakesRecords s (g.M.Medium.seen c.make.new.medium) c.args.name.now c.args.record_length (Err c.in_err-make.field-0.0)) seen c.in_err-make.ensures.made d uses ch h idle room.0 room.1
+    subst (λ (s : Seen). MakesRecords s (g.M.Medium.seen c.make.new.medium) c.args.name.now c.args.record_length (Err c.in_err-slot.field-0.0)) seen c.in_err-slot.ensures.made d uses ch h idle room.0 room.1
 
-pub returns-in_err-make-clause-stopped : goal.returns-in_err-make-clause-stopped
-returns-in_err-make-clause-stopped g c = λ d uses ch h idle.
+pub returns-in_err-slot-clause-stopped : goal.returns-in_err-slot-clause-stopped
+returns-in_err-slot-clause-stopped g c = λ d uses ch h idle.
     let old : Seen = g.M.Medium.seen c.args.self.now in
     let lost = (cut g c d uses ch h idle).0 in
-    on_err c.from_residual-in_err-make.result (stopped_at old.tracks old.content h.layout (g.M.Medium.seen c.make.new.medium).content d lost.disk _ uses lost.reached lost.slots)
+    on_err c.from_residual-in_err-slot.result (stopped_at old.tracks old.content h.layout (g.M.Medium.seen c.make.new.medium).content d lost.disk _ uses lost.reached lost.slots)
 
-pub returns-in_err-make-clause-cause : goal.returns-in_err-make-clause-cause
-returns-in_err-make-clause-cause g c = λ d uses ch h idle.
-    handed_on c.from_residual-in_err-make.result c.in_err-make.field-0.0 (IsHindered (g.M.Medium.seen c.args.self.now) (g.M.Medium.seen c.make.new.medium)) c.from_residual-in_err-make.ensures.1 (cut g c d uses ch h idle).1
+pub returns-in_err-slot-clause-cause : goal.returns-in_err-slot-clause-cause
+returns-in_err-slot-clause-cause g c = λ d uses ch h idle.
+    handed_on c.from_residual-in_err-slot.result c.in_err-slot.field-0.0 (IsHindered (g.M.Medium.seen c.args.self.now) (g.M.Medium.seen c.make.new.medium)) c.from_residual-in_err-slot.ensures.1 (cut g c d uses ch h idle).1
 
-pub returns-in_err-make-clause-untouched : goal.returns-in_err-make-clause-untouched
-returns-in_err-make-clause-untouched g c = λ d uses ch h idle.
+pub returns-in_err-slot-clause-untouched : goal.returns-in_err-slot-clause-untouched
+returns-in_err-slot-clause-untouched g c = λ d uses ch h idle.
     let old : Seen = g.M.Medium.seen c.args.self.now in
     untouched_by old.tracks old.content (g.M.Medium.seen c.make.new.medium).content d uses h (cut g c d uses ch h idle).0.reached.files
 
-made : (g : Over) (c : goal.In_ok-make g) (d : Disk) (uses : ℕ → Use) (ch : ℕ) (h : HoldsNow (g.M.Medium.seen c.args.self.now).tracks (g.M.Medium.seen c.args.self.now).content d uses) → uses ch ≡ Idle
-    → Reached (g.M.Medium.seen c.args.self.now).tracks (g.M.Medium.seen c.args.self.now).content h.layout (g.M.Medium.seen c.make.new.medium).content (with_new_records d (before_filler c.args.name.now) c.args.record_length) uses
+made : (g : Over) (c : goal.In_ok-slot g) (d : Disk) (uses : ℕ → Use) (ch : ℕ) (h : HoldsNow (g.M.Medium.seen c.args.self.now).tracks (g.M.Medium.seen c.args.self.now).content d uses) → uses ch ≡ Idle
+    → (empty_from 0 (grown d).slots ≡ Some c.in_ok-slot.slot) × Reached (g.M.Medium.seen c.args.self.now).tracks (g.M.Medium.seen c.args.self.now).content h.layout (g.M.Medium.seen c.make.new.medium).content (with_new_records d (before_filler c.args.name.now) c.args.record_length) uses
 made g c d uses ch h idle =
     let seen = ap (λ m. g.M.Medium.seen m) c.self.view_is in
     let room = records_room d c.in_ok-room.room.blocks c.in_ok-room.room.slot (c.in_ok-room.ensures.means d (record { layout = h.layout; stands = h.so.stands })) (c.has_room.ensures.enough c.if-not-has_room.false) in
-    subst (λ (s : Seen). MakesRecords s (g.M.Medium.seen c.make.new.medium) c.args.name.now c.args.record_length (Ok c.in_ok-make.field-0)) seen c.in_ok-make.ensures.made d uses ch h idle room.0 room.1
+    subst (λ (s : Seen). MakesRecords s (g.M.Medium.seen c.make.new.medium) c.args.name.now c.args.record_length (Ok c.in_ok-slot.slot)) seen c.in_ok-slot.ensures.made d uses ch h idle room.0 room.1
 
 pub returns-clause-made : goal.returns-clause-made
 returns-clause-made g c = λ d uses ch h idle.
     let old : Seen = g.M.Medium.seen c.args.self.now in
-    reached_now old.tracks old.content h.layout (g.M.Medium.seen c.make.new.medium).content _ uses (made g c d uses ch h idle)
+    let is = made g c d uses ch h idle in
+    (is.0, reached_now old.tracks old.content h.layout (g.M.Medium.seen c.make.new.medium).content _ uses is.1)
 
 pub returns-clause-untouched : goal.returns-clause-untouched
 returns-clause-untouched g c = λ d uses ch h idle.
     let old : Seen = g.M.Medium.seen c.args.self.now in
-    untouched_by old.tracks old.content (g.M.Medium.seen c.make.new.medium).content d uses h (made g c d uses ch h idle).files
+    untouched_by old.tracks old.content (g.M.Medium.seen c.make.new.medium).content d uses h (made g c d uses ch h idle).1.files
 
 -- ---- too little room is told first
 
@@ -107,8 +109,8 @@ returns-then-protected-clause-full g c = λ d uses h none.
     let room = records_room d c.in_ok-room.room.blocks c.in_ok-room.room.slot (c.in_ok-room.ensures.means d (record { layout = h.layout; stands = h.so.stands })) (c.has_room.ensures.enough c.if-not-has_room.false) in
     absurd (room_or_none d room.0 room.1 none)
 
-pub returns-in_err-make-clause-full : goal.returns-in_err-make-clause-full
-returns-in_err-make-clause-full g c = λ d uses h none.
+pub returns-in_err-slot-clause-full : goal.returns-in_err-slot-clause-full
+returns-in_err-slot-clause-full g c = λ d uses h none.
     let room = records_room d c.in_ok-room.room.blocks c.in_ok-room.room.slot (c.in_ok-room.ensures.means d (record { layout = h.layout; stands = h.so.stands })) (c.has_room.ensures.enough c.if-not-has_room.false) in
     absurd (room_or_none d room.0 room.1 none)
 

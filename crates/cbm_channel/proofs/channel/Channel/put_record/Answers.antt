@@ -1,0 +1,18 @@
+use Rattle.std.proofs.Common.{◌≡◌, refl, sym, ap, subst, ◌∙◌}
+use Rattle.std.specs.Prelude.{MatchResult}
+use Rattle.cbm_medium.specs.Seen.{Seen}
+use Rattle.cbm_channel.specs.Placed.{Placed}
+use Rattle.cbm_channel.specs.Recorded.{CanPut, IsTextEnded, IsTextStopped}
+use Rattle.cbm_channel.proofs.RecordEnds.{placed_in}
+use Rattle.cbm_channel.proofs.channel.Channel.put_record.Goals as goal
+
+pub returns-in-Records-clause-put : goal.returns-in-Records-clause-put
+returns-in-Records-clause-put g c = λ r e d uses b s rs can.
+    let old : Seen = g.M.Medium.seen c.args.volume.now in
+    let new : Seen = g.M.Medium.seen c.put.new.volume in
+    let same : c.in-Records.on ≡ r = ap (placed_in r) (sym c.in-Records.is ∙ e) in (
+      c.put.new.self,
+      refl,
+      subst (λ (y : Placed). MatchResult c.put.result (IsTextEnded old new d uses y c.put.new.self b s rs c.args.bytes.now) (IsTextStopped old new d uses y c.put.new.self b s rs c.args.bytes.now)) same
+          (c.put.ensures.put d uses b s rs (subst (λ (y : Placed). CanPut old.tracks old.content d uses y b s rs) (sym same) can)),
+    )

@@ -1,0 +1,13 @@
+use Rattle.std.proofs.Common.{subst, inl}
+use Rattle.cbm_channel.proofs.RecordPuts.{Grows, no_place, grows_by}
+use Rattle.cbm_channel.proofs.on_record.OnRecord.grow.Goals as goal
+
+-- a place has no number 0
+pub returns-then-self-eq0-clause-grown : goal.returns-then-self-eq0-clause-grown
+returns-then-self-eq0-clause-grown g c = λ d uses b s rs can none. absurd (no_place _ _ d uses _ c.args.self.now b s rs c.self.view_is can (inl c.if-self-eq0.true))
+
+pub returns-clause-grown : goal.returns-clause-grown
+returns-clause-grown g c =
+    subst (λ r. Grows (g.M.Medium.seen c.args.volume.now) (g.M.Medium.seen c.grow_records.new.self) r c.grow_records.result) c.self.view_is
+    (λ d uses b s rs can none. grows_by (g.M.Medium.seen c.args.volume.now) (g.M.Medium.seen c.grow_records.new.self) d uses _ b s rs c.grow_records.result none
+    (c.grow_records.ensures.grown d uses _ b s rs can.has none) (c.grow_records.ensures.full d uses _ b s rs can.has none) (c.grow_records.ensures.stopped d uses _ b s rs can.has none))

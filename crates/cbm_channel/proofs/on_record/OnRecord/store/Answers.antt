@@ -1,0 +1,70 @@
+use Rattle.std.proofs.Common.{subst, inl, Bool, Option, Ok, Err, Some, None, false}
+use Rattle.cbm_medium.specs.Seen.{Seen}
+use Rattle.cbm_volume.specs.RecordWrites.{IsRecordPut}
+use Rattle.cbm_volume.proofs.CopySteps.{handed}
+use Rattle.cbm_channel.specs.Recorded.{IsTextCut}
+use Rattle.cbm_channel.proofs.Asked.{none_of}
+use Rattle.cbm_channel.proofs.RecordPuts.{Writes, Grows, store_full, store_cut, store_more, store_more_cut, store_there}
+use Rattle.cbm_channel.proofs.on_record.OnRecord.store.Goals as goal
+
+-- the record was there
+pub returns-in-Some-clause-put : goal.returns-in-Some-clause-put
+returns-in-Some-clause-put g c = λ d uses b s rs can.
+    let old : Seen = g.M.Medium.seen c.args.volume.now in
+    let mid : Seen = g.M.Medium.seen c.write.new.volume in
+    inl (subst (λ (o : Option Bool). IsRecordPut old.tracks old.content mid.content d uses c.args.self.now.slot c.args.self.now.width b s rs c.args.self.now.number c.args.self.now.position c.args.bytes.now o) c.in-Some.is (c.in_ok-cut.ensures.put d uses b s rs can))
+
+-- the file would be too large, or its growth was refused
+pub returns-then-not-branch-clause-put : goal.returns-then-not-branch-clause-put
+returns-then-not-branch-clause-put g c = λ d uses b s rs can.
+    let old : Seen = g.M.Medium.seen c.args.volume.now in
+    let mid : Seen = g.M.Medium.seen c.write.new.volume in
+    let none = none_of c.in_ok-cut.field-0 c.in_default.not-Some in
+    let missing = subst (λ (o : Option Bool). IsRecordPut old.tracks old.content mid.content d uses c.args.self.now.slot c.args.self.now.width b s rs c.args.self.now.number c.args.self.now.position c.args.bytes.now o) none (c.in_ok-cut.ensures.put d uses b s rs can) in
+    store_full old mid d uses c.args.self.now b s rs c.args.bytes.now can c.write.ensures.only.tracks c.write.ensures.only.protected c.write.ensures.only.counted missing (g.M.Medium.seen c.grow.new.volume) (subst (λ (x : Bool). Grows mid (g.M.Medium.seen c.grow.new.volume) c.args.self.now (Ok x)) c.if-not-branch.true c.in_ok-grow.ensures.grown)
+
+pub returns-in_err-grow-clause-put : goal.returns-in_err-grow-clause-put
+returns-in_err-grow-clause-put g c = λ d uses b s rs can.
+    let old : Seen = g.M.Medium.seen c.args.volume.now in
+    let mid : Seen = g.M.Medium.seen c.write.new.volume in
+    let none = none_of c.in_ok-cut.field-0 c.in_default.not-Some in
+    let missing = subst (λ (o : Option Bool). IsRecordPut old.tracks old.content mid.content d uses c.args.self.now.slot c.args.self.now.width b s rs c.args.self.now.number c.args.self.now.position c.args.bytes.now o) none (c.in_ok-cut.ensures.put d uses b s rs can) in
+    let new : Seen = g.M.Medium.seen c.grow.new.volume in
+    handed c.from_residual-in_err-grow.result c.in_err-grow.field-0.0 _ (IsTextCut old new d uses c.args.self.now b s rs c.args.bytes.now) c.from_residual-in_err-grow.ensures.1
+    (store_cut old mid d uses c.args.self.now b s rs c.args.bytes.now can c.write.ensures.only.tracks c.write.ensures.only.protected c.write.ensures.only.counted missing new c.in_err-grow.field-0.0 c.in_err-grow.ensures.grown)
+
+-- the record was made
+pub returns-in-Some-2-clause-put : goal.returns-in-Some-2-clause-put
+returns-in-Some-2-clause-put g c = λ d uses b s rs can.
+    let old : Seen = g.M.Medium.seen c.args.volume.now in
+    let mid : Seen = g.M.Medium.seen c.write.new.volume in
+    let none = none_of c.in_ok-cut.field-0 c.in_default.not-Some in
+    let missing = subst (λ (o : Option Bool). IsRecordPut old.tracks old.content mid.content d uses c.args.self.now.slot c.args.self.now.width b s rs c.args.self.now.number c.args.self.now.position c.args.bytes.now o) none (c.in_ok-cut.ensures.put d uses b s rs can) in
+    let more : Seen = g.M.Medium.seen c.grow.new.volume in
+    let grows = subst (λ (x : Bool). Grows mid more c.args.self.now (Ok x)) c.if-not-branch.false c.in_ok-grow.ensures.grown in
+    let new : Seen = g.M.Medium.seen c.write-2.new.volume in
+    store_more old mid d uses c.args.self.now b s rs c.args.bytes.now can c.write.ensures.only.tracks c.write.ensures.only.protected c.write.ensures.only.counted missing more grows c.grow.ensures.only.tracks c.grow.ensures.only.protected c.grow.ensures.only.counted new c.in-Some-2.cut (subst (λ (o : Option Bool). Writes more new c.args.self.now c.args.bytes.now (Ok o)) c.in-Some-2.is c.in_ok-cut-2.ensures.put)
+
+pub returns-in_err-cut-2-clause-put : goal.returns-in_err-cut-2-clause-put
+returns-in_err-cut-2-clause-put g c = λ d uses b s rs can.
+    let old : Seen = g.M.Medium.seen c.args.volume.now in
+    let mid : Seen = g.M.Medium.seen c.write.new.volume in
+    let none = none_of c.in_ok-cut.field-0 c.in_default.not-Some in
+    let missing = subst (λ (o : Option Bool). IsRecordPut old.tracks old.content mid.content d uses c.args.self.now.slot c.args.self.now.width b s rs c.args.self.now.number c.args.self.now.position c.args.bytes.now o) none (c.in_ok-cut.ensures.put d uses b s rs can) in
+    let more : Seen = g.M.Medium.seen c.grow.new.volume in
+    let grows = subst (λ (x : Bool). Grows mid more c.args.self.now (Ok x)) c.if-not-branch.false c.in_ok-grow.ensures.grown in
+    let new : Seen = g.M.Medium.seen c.write-2.new.volume in
+    handed c.from_residual-in_err-cut-2.result c.in_err-cut-2.field-0.0 _ (IsTextCut old new d uses c.args.self.now b s rs c.args.bytes.now) c.from_residual-in_err-cut-2.ensures.1
+    (store_more_cut old mid d uses c.args.self.now b s rs c.args.bytes.now can c.write.ensures.only.tracks c.write.ensures.only.protected c.write.ensures.only.counted missing more grows c.grow.ensures.only.tracks c.grow.ensures.only.protected c.grow.ensures.only.counted new c.in_err-cut-2.field-0.0 c.in_err-cut-2.ensures.put)
+
+-- it is there then
+pub returns-in-None-clause-put : goal.returns-in-None-clause-put
+returns-in-None-clause-put g c = λ d uses b s rs can.
+    let old : Seen = g.M.Medium.seen c.args.volume.now in
+    let mid : Seen = g.M.Medium.seen c.write.new.volume in
+    let none = none_of c.in_ok-cut.field-0 c.in_default.not-Some in
+    let missing = subst (λ (o : Option Bool). IsRecordPut old.tracks old.content mid.content d uses c.args.self.now.slot c.args.self.now.width b s rs c.args.self.now.number c.args.self.now.position c.args.bytes.now o) none (c.in_ok-cut.ensures.put d uses b s rs can) in
+    let more : Seen = g.M.Medium.seen c.grow.new.volume in
+    let grows = subst (λ (x : Bool). Grows mid more c.args.self.now (Ok x)) c.if-not-branch.false c.in_ok-grow.ensures.grown in
+    let new : Seen = g.M.Medium.seen c.write-2.new.volume in
+    absurd (store_there old mid d uses c.args.self.now b s rs c.args.bytes.now can c.write.ensures.only.tracks c.write.ensures.only.protected c.write.ensures.only.counted missing more grows c.grow.ensures.only.tracks c.grow.ensures.only.protected c.grow.ensures.only.counted new (subst (λ (o : Option Bool). Writes more new c.args.self.now c.args.bytes.now (Ok o)) c.in-None.is c.in_ok-cut-2.ensures.put))

@@ -1,0 +1,14 @@
+use Rattle.std.proofs.Common.{subst, inl, inr}
+use Rattle.cbm_channel.proofs.RecordPuts.{Writes, no_place}
+use Rattle.cbm_channel.proofs.on_record.OnRecord.write.Goals.{then-self-eq0-via-then-self-eq0, then-self-eq0-via-else-self-eq0+then-self-eq0-2}
+use Rattle.cbm_channel.proofs.on_record.OnRecord.write.Goals as goal
+
+-- a place has no number 0
+pub returns-then-self-eq0-clause-put : goal.returns-then-self-eq0-clause-put
+returns-then-self-eq0-clause-put g c = λ d uses b s rs can. absurd (no_place _ _ d uses _ c.args.self.now b s rs c.self.view_is can
+    (elim c.then-self-eq0.branch [ then-self-eq0-via-then-self-eq0 w ↦ inl w.if-self-eq0.true | then-self-eq0-via-else-self-eq0+then-self-eq0-2 w ↦ inr w.if-self-eq0-2.true ]))
+
+pub returns-clause-put : goal.returns-clause-put
+returns-clause-put g c =
+    subst (λ r. Writes (g.M.Medium.seen c.args.volume.now) (g.M.Medium.seen c.put_record.new.self) r c.args.bytes.now c.put_record.result) c.self.view_is
+    (λ d uses b s rs can. c.put_record.ensures.put d uses _ b s rs can.has can.inside)

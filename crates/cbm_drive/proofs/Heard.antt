@@ -1,0 +1,145 @@
+-- A drive changes a line, and the drives before and behind it are told.
+use Rattle.std.proofs.Common.{◌≡◌, ℕ, length, zero, suc, ◌+◌, ◌≤◌, Bool, List, [], ◌∷◌, map, Option, refl, sym, ap, subst, ◌∙◌, arith}
+use Rattle.std.specs.Prelude.{not}
+use Rattle.std.specs.List.{AllZip}
+use Rattle.cbm_iec.specs.declared.act.Act.{Act}
+use Rattle.cbm_iec.specs.declared.line.Change.{Change}
+use Rattle.cbm_iec.specs.declared.line.Line.TheVariants.{Atn, Clock, Data}
+use Rattle.cbm_iec.specs.declared.line.Line.{Line}
+use Rattle.cbm_iec.specs.declared.line.Way.TheVariants.{Pull, Free}
+use Rattle.cbm_iec.specs.declared.line.Way.{Way}
+use Rattle.cbm_iec.specs.declared.lines.Held.{Held}
+use Rattle.cbm_session.specs.Among.{Rest, counted, behind_other}
+use Rattle.cbm_session.specs.Playing.{Station, told_lines, hear, hear_all}
+use Rattle.cbm_drive.specs.declared.wires.Wires.{Wires}
+use Rattle.cbm_drive.specs.Seats.{Seated, Meets, IsSeat, IsWithout, bit, total, own_of, clock_of, data_of}
+use Rattle.cbm_drive.specs.Reactions.{AreAt, Toggles, IsToggled, IsAllOf, HaveHeard, behind_change, behind_all, held_after, held_behind, pulls}
+
+-- counts depend on the lines that the drives hold, and on nothing else
+sums : {D : Type 0} (f : Held → ℕ) (xs : List (Seated D)) → total (λ x. f (own_of x)) xs ≡ total f (map own_of xs)
+sums f [] = refl
+sums f (x ∷ xs) = ap (λ n. f (own_of x) + n) (sums f xs)
+
+pub same_sums : {D : Type 0} (f : Held → ℕ) (xs ys : List (Seated D)) → map own_of ys ≡ map own_of xs → total (λ x. f (own_of x)) ys ≡ total (λ x. f (own_of x)) xs
+same_sums f xs ys e = sums f ys ∙ ap (total f) e ∙ sym (sums f xs)
+
+-- one less holds it than so many and one that holds it
+fewer : (n b c : ℕ) → n + b ≡ c → 1 + b ≤ c → counted Free n + b ≡ counted Free c
+fewer zero b c e l = absurd (omega (arith, e, l))
+fewer (suc n) b zero e l = absurd (omega (arith, e))
+fewer (suc n) b (suc c) e l = omega (arith, e)
+
+counts_more : (way : Way) (n b c : ℕ) → n + b ≡ c → (way ≡ Free → 1 + b ≤ c) → counted way n + b ≡ counted way c
+counts_more Pull n b c e l = omega (arith, e)
+counts_more Free n b c e l = fewer n b c e (l refl)
+
+-- where a line is freed, it is held by one more than these
+abbrev HasRoom : Line → Way → Wires → ℕ → ℕ → Type 0
+HasRoom Atn way all n k = ⊥
+HasRoom Clock way all n k = way ≡ Free → 1 + n ≤ all.clocks
+HasRoom Data way all n k = way ≡ Free → 1 + k ≤ all.datas
+
+less_room : (line : Line) (way : Way) (all : Wires) (a b n k : ℕ) → HasRoom line way all (a + n) (b + k) → HasRoom line way all a b × HasRoom line way all n k
+less_room Atn way all a b n k h = absurd h
+less_room Clock way all a b n k h = (λ e. omega (arith, h e), λ e. omega (arith, h e))
+less_room Data way all a b n k h = (λ e. omega (arith, h e), λ e. omega (arith, h e))
+
+without_behind : (line : Line) (way : Way) (all : Wires) (own : Held) (r : Rest) → HasRoom line way all (bit own.clock_low) (bit own.data_low) → IsWithout all own r → IsWithout (behind_change line way all) own (behind_other line way r)
+without_behind Atn way all own r room h = absurd room
+without_behind Clock way all own r room h = record { host = h.host; clocks = counts_more way r.clocks (bit own.clock_low) all.clocks h.clocks room; datas = h.datas }
+without_behind Data way all own r room h = record { host = h.host; clocks = h.clocks; datas = counts_more way r.datas (bit own.data_low) all.datas h.datas room }
+
+-- the toggled line is counted, so there is room
+toggled_room : {D : Type 0} (line : Line) (way : Way) (all : Wires) (own : Held) (front back : List (Seated D)) → IsToggled line way own → IsAllOf all own front back
+    → HasRoom line way all (total clock_of front) (total data_of front) × HasRoom line way all (total clock_of back) (total data_of back)
+toggled_room Atn way all own front back t h = absurd t
+toggled_room {D} Clock way all own front back t h = (λ e. omega (arith, h.clocks, one e), λ e. omega (arith, h.clocks, one e))
+  where
+    one : way ≡ Free → bit own.clock_low ≡ 1
+    one e = ap bit t ∙ ap (λ (w : Way). bit (not (pulls w))) e
+toggled_room {D} Data way all own front back t h = (λ e. omega (arith, h.datas, one e), λ e. omega (arith, h.datas, one e))
+  where
+    one : way ≡ Free → bit own.data_low ≡ 1
+    one e = ap bit t ∙ ap (λ (w : Way). bit (not (pulls w))) e
+
+recount : (way : Way) (low : Bool) (c f b : ℕ) → low ≡ not (pulls way) → c ≡ f + (bit low + b) → counted way c ≡ f + (bit (pulls way) + b)
+recount Pull low c f b t e = (let z : bit low ≡ 0 = ap bit t in omega (arith, e, z))
+recount Free low zero f b t e = (let z : bit low ≡ 1 = ap bit t in absurd (omega (arith, e, z)))
+recount Free low (suc c) f b t e = (let z : bit low ≡ 1 = ap bit t in omega (arith, e, z))
+
+counted_behind : {D : Type 0} (line : Line) (way : Way) (all : Wires) (own : Held) (front back front' back' : List (Seated D)) → IsToggled line way own → IsAllOf all own front back → map own_of front' ≡ map own_of front → map own_of back' ≡ map own_of back
+    → IsAllOf (behind_change line way all) (held_after line way own) front' back'
+counted_behind line way all own front back front' back' t h e f =
+    let cf = same_sums (λ o. bit o.clock_low) front front' e in
+    let df = same_sums (λ o. bit o.data_low) front front' e in
+    let cb = same_sums (λ o. bit o.clock_low) back back' f in
+    let db = same_sums (λ o. bit o.data_low) back back' f in
+    moved line t (record {
+      clocks = h.clocks ∙ (λ i. sym cf i + (bit own.clock_low + sym cb i));
+      datas = h.datas ∙ (λ i. sym df i + (bit own.data_low + sym db i));
+    })
+  where
+    moved : (line : Line) → IsToggled line way own → IsAllOf all own front' back' → IsAllOf (behind_change line way all) (held_after line way own) front' back'
+    moved Atn t k = absurd t
+    moved Clock t k = record { clocks = recount way own.clock_low all.clocks (total clock_of front') (total clock_of back') t k.clocks; datas = k.datas }
+    moved Data t k = record { clocks = k.clocks; datas = recount way own.data_low all.datas (total data_of front') (total data_of back') t k.datas }
+
+pub no_items : {A : Type 0} (xs : List A) → length xs ≡ 0 → xs ≡ []
+no_items [] e = refl
+no_items (x ∷ xs) e = absurd (omega (arith, e))
+
+same_map : {A : Type 0} (xs : List A) → map (λ x. x) xs ≡ xs
+same_map [] = refl
+same_map (x ∷ xs) = ap (λ ys. x ∷ ys) (same_map xs)
+
+map_twice : {A : Type 0} (f g : A → A) (xs : List A) → map g (map f xs) ≡ map (λ x. g (f x)) xs
+map_twice f g [] = refl
+map_twice f g (x ∷ xs) = ap (λ ys. g (f x) ∷ ys) (map_twice f g xs)
+
+module _ (D M : Type 0) (stands : D → M → Type 0) (step : M → Act → M) (says : M → Option (ℕ × Bool)) where
+  -- each that stands for a station meets what it holds behind the change
+  all_meet : (line : Line) (way : Way) (all : Wires) (xs : List (Seated D)) (ss : List (Station M)) → HasRoom line way all (total clock_of xs) (total data_of xs) → AllZip (IsSeat D M stands all) xs ss
+      → AllZip (λ x s. Meets D M stands (behind_change line way all) (behind_other line way s.rest) x s) xs ss
+  all_meet line way all [] [] room h = tt
+  all_meet line way all [] (s ∷ ss) room h = absurd h
+  all_meet line way all (x ∷ xs) [] room h = absurd h
+  all_meet line way all (x ∷ xs) (s ∷ ss) room h =
+      let parts = less_room line way all (clock_of x) (data_of x) (total clock_of xs) (total data_of xs) room in
+      (record { port = h.0.port; machine = h.0.machine; rest = without_behind line way all x.port.own s.rest parts.0 h.0.rest }, all_meet line way all xs ss parts.1 h.1)
+
+  -- nothing was changed
+  pub heard_none : (all : Wires) (own : Held) (front back : List (Seated D)) (bs hs : List (Station M)) → IsAllOf all own front back → AllZip (IsSeat D M stands all) front bs → AllZip (IsSeat D M stands all) back hs
+      → HaveHeard D M stands step says all own [] front back bs hs
+  heard_none all own front back bs hs counts b h = record {
+    counts = counts;
+    before = subst (λ ss. AllZip (IsSeat D M stands all) front ss) (sym (same_map bs)) b;
+    behind = subst (λ ss. AllZip (IsSeat D M stands all) back ss) (sym (same_map hs)) h;
+  }
+
+  -- what tell_each says of drives that are told
+  abbrev pub Told : ℕ → Wires → List (Seated D) → List (Seated D) → Type 0
+  Told moment all xs ys = (f : Rest → Rest) (ss : List (Station M)) → AllZip (λ x s. Meets D M stands all (f s.rest) x s) xs ss → AllZip (IsSeat D M stands all) ys (map (λ s. told_lines M step says moment (f s.rest) s) ss)
+
+  told_heard : (moment : ℕ) (c : Change) (all : Wires) (xs ys : List (Seated D)) (ss : List (Station M)) → c.moment ≡ moment → HasRoom c.line c.way all (total clock_of xs) (total data_of xs) → Told moment (behind_change c.line c.way all) xs ys
+      → AllZip (IsSeat D M stands all) xs ss → AllZip (IsSeat D M stands (behind_change c.line c.way all)) ys (map (λ s. hear M step says c s) ss)
+  told_heard moment c all xs ys ss when room told h =
+      subst (λ (t : ℕ). AllZip (IsSeat D M stands (behind_change c.line c.way all)) ys (map (λ s. told_lines M step says t (behind_other c.line c.way s.rest) s) ss)) (sym when)
+      (told (behind_other c.line c.way) ss (all_meet c.line c.way all xs ss room h))
+
+  -- one change more
+  pub heard_next : (moment : ℕ) (c : Change) (cs : List Change) (all : Wires) (own : Held) (front back front' back' front2 back2 : List (Seated D)) (bs hs : List (Station M))
+      → Told moment (behind_change c.line c.way all) front front' → map own_of front' ≡ map own_of front → Told moment (behind_change c.line c.way all) back back' → map own_of back' ≡ map own_of back
+      → ((o : Held) (us es : List (Station M)) → AreAt moment cs → Toggles o cs → IsAllOf (behind_change c.line c.way all) o front' back' → AllZip (IsSeat D M stands (behind_change c.line c.way all)) front' us
+      → AllZip (IsSeat D M stands (behind_change c.line c.way all)) back' es → HaveHeard D M stands step says (behind_all cs (behind_change c.line c.way all)) (held_behind cs o) cs front2 back2 us es)
+      → AreAt moment (c ∷ cs) → Toggles own (c ∷ cs) → IsAllOf all own front back → AllZip (IsSeat D M stands all) front bs → AllZip (IsSeat D M stands all) back hs
+      → HaveHeard D M stands step says (behind_all (c ∷ cs) all) (held_behind (c ∷ cs) own) (c ∷ cs) front2 back2 bs hs
+  heard_next moment c cs all own front back front' back' front2 back2 bs hs tf of tb ob more when toggles counts b h =
+      let room = toggled_room c.line c.way all own front back toggles.0 counts in
+      let rest = more (held_after c.line c.way own) (map (λ s. hear M step says c s) bs) (map (λ s. hear M step says c s) hs) when.1 toggles.1
+      (counted_behind c.line c.way all own front back front' back' toggles.0 counts of ob)
+      (told_heard moment c all front front' bs when.0 room.0 tf b) (told_heard moment c all back back' hs when.0 room.1 tb h) in
+      record {
+        counts = rest.counts;
+        before = subst (λ ss. AllZip (IsSeat D M stands (behind_all (c ∷ cs) all)) front2 ss) (map_twice (λ s. hear M step says c s) (λ s. hear_all M step says cs s) bs) rest.before;
+        behind = subst (λ ss. AllZip (IsSeat D M stands (behind_all (c ∷ cs) all)) back2 ss) (map_twice (λ s. hear M step says c s) (λ s. hear_all M step says cs s) hs) rest.behind;
+      }

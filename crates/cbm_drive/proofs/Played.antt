@@ -1,0 +1,191 @@
+-- Drives play on: a reaction is one step of the play.
+use Rattle.std.proofs.Common.{◌≡◌, ℕ, suc, ◌<◌, ◌≤◌, Bool, List, [], ◌∷◌, ◌++◌, map, Option, Some, None, refl, sym, ap, subst, ◌∙◌, arith}
+use Rattle.std.proofs.lemmas.List.{append_assoc, append-nil}
+use Rattle.std.specs.Prelude.{Result, Ok, Err, IsErr, MatchResult}
+use Rattle.std.specs.List.{AllZip}
+use Rattle.cbm_iec.specs.declared.act.Act.{Act}
+use Rattle.cbm_iec.specs.declared.event.Event.{Event}
+use Rattle.cbm_iec.specs.declared.event.Who.TheVariants.{Host, Drive}
+use Rattle.cbm_iec.specs.declared.event.Who.{Who}
+use Rattle.cbm_iec.specs.declared.line.Change.{Change}
+use Rattle.cbm_iec.specs.declared.lines.Lines.{Lines}
+use Rattle.cbm_session.specs.Playing.{Station, Plays, stays, change, reaction, tell, host_event, AllBytes, IsByte, reacting, shown, drive_events}
+use Rattle.cbm_session.proofs.headline.Keeping.{plays_then}
+use Rattle.cbm_drive.specs.declared.wires.Wires.{Wires}
+use Rattle.cbm_drive.specs.Played.{HasSettled, IsCutOff, HasPlayed, IsPlayCut, IsBegun}
+use Rattle.cbm_drive.specs.Ordered.{host_changes, with_host}
+use Rattle.cbm_drive.proofs.Reacted.{stations_in_time}
+use Rattle.cbm_drive.specs.Reactions.{HasReacted}
+use Rattle.cbm_drive.specs.Seats.{Seated, IsSeat, IsBusAt, AreInTime, held_by}
+
+pub host_append : (xs ys : List Event) → host_changes (xs ++ ys) ≡ host_changes xs ++ host_changes ys
+host_append [] ys = refl
+host_append (e ∷ es) ys = ap (with_host e.who e.change) (host_append es ys) ∙ joined e.who
+  where
+    joined : (w : Who) → with_host w e.change (host_changes es ++ host_changes ys) ≡ with_host w e.change (host_changes es) ++ host_changes ys
+    joined Host = refl
+    joined (Drive d) = refl
+
+pub drive_none : (d : ℕ) (cs : List Change) → host_changes (drive_events d cs) ≡ []
+drive_none d [] = refl
+drive_none d (c ∷ cs) = drive_none d cs
+
+both_none : (xs : List Event) (d : ℕ) (cs : List Change) → host_changes xs ≡ [] → host_changes (xs ++ drive_events d cs) ≡ []
+both_none xs d cs e = host_append xs (drive_events d cs) ∙ (λ i. e i ++ drive_none d cs i)
+
+module _ (D M : Type 0) (stands : D → M → Type 0) (step : M → Act → M) (says : M → Option (ℕ × Bool)) (byte : (x : D) (m : M) (n : ℕ) (last : Bool) → stands x m → says m ≡ Some (n, last) → n < 256) where
+  one_byte : (x : D) (m : M) (o : Option (ℕ × Bool)) → stands x m → says m ≡ o → IsByte M step says o
+  one_byte x m None h e = tt
+  one_byte x m (Some b) h e = byte x m b.0 b.1 h e
+
+  -- what each has to say is a byte
+  pub bytes_of : (all : Wires) (xs : List (Seated D)) (ss : List (Station M)) → AllZip (IsSeat D M stands all) xs ss → AllBytes M step says ss
+  bytes_of all [] [] h = tt
+  bytes_of all [] (s ∷ ss) h = absurd h
+  bytes_of all (x ∷ xs) [] h = absurd h
+  bytes_of all (x ∷ xs) (s ∷ ss) h = (one_byte x.machine s.machine (says s.machine) h.0.machine refl, bytes_of all xs ss h.1)
+
+  at_bus : (host : Lines) (xs : List (Seated D)) (ss : List (Station M)) → IsBusAt D M stands host xs ss → AllBytes M step says ss
+  at_bus host xs ss h = bytes_of (held_by host xs) xs ss h
+
+  -- nothing has happened yet
+  pub settled_none : (host : Lines) (limit : ℕ) (xs : List (Seated D)) (es : List Event) (n : ℕ) (ss : List (Station M)) → IsBusAt D M stands host xs ss → n ≤ limit → HasSettled D M stands step says host limit xs es es n ss
+  settled_none host limit xs es n ss h l = record {
+    made = [];
+    from = n;
+    stations = ss;
+    added = sym (append-nil es);
+    plays = stays (at_bus host xs ss h) refl refl refl;
+    quiet = refl;
+    before = l;
+    now = h;
+  }
+
+  one_step : (host : Lines) (t n device : ℕ) (xs ys : List (Seated D)) (cs : List Change) (ss : List (Station M)) → IsBusAt D M stands host xs ss → (r : HasReacted D M stands step says host t device ys cs ss)
+      → Plays M step says n ss (drive_events device cs) (suc t) (reacting M step says t r.before r.station r.behind)
+  one_step host t n device xs ys cs ss h r =
+      let made : drive_events device cs ≡ drive_events r.station.port.party.device (shown M step says t r.station) ++ [] =
+      (λ i. drive_events (r.which i) (r.changes i)) ∙ sym (append-nil (drive_events r.station.port.party.device (shown M step says t r.station))) in
+      reaction t r.before r.station r.behind [] (at_bus host xs ss h) r.is r.first made
+      (stays (at_bus host ys (reacting M step says t r.before r.station r.behind) r.now) refl refl refl)
+
+  -- one reaction more
+  pub settled_more : (host : Lines) (limit t device n : ℕ) (xs ys : List (Seated D)) (cs : List Change) (old mid new : List Event) (ss : List (Station M)) → (s : HasSettled D M stands step says host limit xs old mid n ss)
+      → HasReacted D M stands step says host t device ys cs s.stations → t < limit → new ≡ mid ++ drive_events device cs → HasSettled D M stands step says host limit ys old new n ss
+  settled_more host limit t device n xs ys cs old mid new ss s r l e = record {
+    made = s.made ++ drive_events device cs;
+    from = suc t;
+    stations = reacting M step says t r.before r.station r.behind;
+    added = e ∙ ap (λ (v : List Event). v ++ drive_events device cs) s.added ∙ append_assoc old s.made (drive_events device cs);
+    plays = plays_then M step says s.plays (one_step host t s.from device xs ys cs s.stations s.now r);
+    quiet = both_none s.made device cs s.quiet;
+    before = omega (arith, l);
+    now = r.now;
+  }
+
+  -- want of memory behind a reaction
+  pub settled_cut : (host : Lines) (limit t device n : ℕ) (xs ys : List (Seated D)) (cs : List Change) (old mid new : List Event) (ss : List (Station M)) → (s : HasSettled D M stands step says host limit xs old mid n ss)
+      → HasReacted D M stands step says host t device ys cs s.stations → IsBegun mid new (drive_events device cs) → IsCutOff D M stands step says host ys old new n ss
+  settled_cut host limit t device n xs ys cs old mid new ss s r b = record {
+    given = s.made ++ b.given;
+    left = b.left;
+    from = suc t;
+    stations = reacting M step says t r.before r.station r.behind;
+    added = b.added ∙ ap (λ (v : List Event). v ++ b.given) s.added ∙ append_assoc old s.made b.given;
+    plays = subst (λ (v : List Event). Plays M step says n ss v (suc t) (reacting M step says t r.before r.station r.behind)) (ap (λ (v : List Event). s.made ++ v) (sym b.all) ∙ sym (append_assoc s.made b.given b.left))
+        (plays_then M step says s.plays (one_step host t s.from device xs ys cs s.stations s.now r));
+    quiet = ap host_changes (append_assoc s.made b.given b.left ∙ ap (λ (v : List Event). s.made ++ v) b.all) ∙ both_none s.made device cs s.quiet;
+    now = r.now;
+  }
+
+  -- the host changes a line, where no reaction is due before
+  pub one_change : (host now : Lines) (c : Change) (n : ℕ) (xs ys : List (Seated D)) (ss : List (Station M)) → IsBusAt D M stands host xs ss → AreInTime c.moment xs → n ≤ c.moment → IsBusAt D M stands now ys (map (λ s. tell M step says c s) ss)
+      → Plays M step says n ss (host_event c ∷ []) c.moment (map (λ s. tell M step says c s) ss)
+  one_change host now c n xs ys ss h t l k =
+      change c [] (at_bus host xs ss h) l (stations_in_time D M stands step says (held_by host xs) c.moment xs ss h t) refl (stays (at_bus now ys (map (λ s. tell M step says c s) ss) k) refl refl refl)
+
+  -- the reactions before it, and the change
+  pub played_more : (host now : Lines) (c : Change) (before : ℕ) (xs ys zs : List (Seated D)) (old mid new last : List Event) (cs : List Change) (ss : List (Station M)) → (p : HasPlayed D M stands step says host before xs old mid cs ss)
+      → (s : HasSettled D M stands step says host c.moment ys mid new p.from p.stations) → AreInTime c.moment ys → ((us : List (Station M)) → IsBusAt D M stands host ys us → IsBusAt D M stands now zs (map (λ u. tell M step says c u) us))
+      → last ≡ new ++ host_event c ∷ [] → HasPlayed D M stands step says now c.moment zs old last (cs ++ c ∷ []) ss
+  played_more host now c before xs ys zs old mid new last cs ss p s t told e = record {
+    made = p.made ++ (s.made ++ host_event c ∷ []);
+    from = c.moment;
+    stations = map (λ u. tell M step says c u) s.stations;
+    added = e ∙ ap (λ (v : List Event). v ++ host_event c ∷ []) (s.added ∙ ap (λ (v : List Event). v ++ s.made) p.added) ∙ append_assoc (old ++ p.made) s.made (host_event c ∷ []) ∙ append_assoc old p.made (s.made ++ host_event c ∷ []);
+    plays = plays_then M step says p.plays (plays_then M step says s.plays (one_change host now c s.from ys zs s.stations s.now t s.before (told s.stations s.now)));
+    hosts = host_append p.made (s.made ++ host_event c ∷ []) ∙ (λ i. p.hosts i ++ (host_append s.made (host_event c ∷ []) ∙ ap (λ (v : List Change). v ++ c ∷ []) s.quiet) i);
+    before = omega arith;
+    now = told s.stations s.now;
+  }
+
+  -- want of memory among the reactions
+  pub played_cut : (host : Lines) (before : ℕ) (xs ys : List (Seated D)) (old mid new : List Event) (cs rest all : List Change) (ss : List (Station M)) → (p : HasPlayed D M stands step says host before xs old mid cs ss)
+      → IsCutOff D M stands step says host ys mid new p.from p.stations → cs ++ rest ≡ all → IsPlayCut D M stands step says host ys old new all ss
+  played_cut host before xs ys old mid new cs rest all ss p k e = record {
+    given = p.made ++ k.given;
+    left = k.left;
+    from = k.from;
+    stations = k.stations;
+    added = k.added ∙ ap (λ (v : List Event). v ++ k.given) p.added ∙ append_assoc old p.made k.given;
+    plays = subst (λ (v : List Event). Plays M step says 0 ss v k.from k.stations) (sym (append_assoc p.made k.given k.left)) (plays_then M step says p.plays k.plays);
+    rest = rest;
+    hosts = ap (λ (v : List Change). v ++ rest) (ap host_changes (append_assoc p.made k.given k.left) ∙ host_append p.made (k.given ++ k.left) ∙ (λ i. p.hosts i ++ k.quiet i) ∙ append-nil cs) ∙ e;
+    now = k.now;
+  }
+
+  -- want of memory for the change itself, which was told
+  pub played_told : (host now : Lines) (c : Change) (before : ℕ) (xs ys zs : List (Seated D)) (old mid new : List Event) (cs rest all : List Change) (ss : List (Station M)) → (p : HasPlayed D M stands step says host before xs old mid cs ss)
+      → (s : HasSettled D M stands step says host c.moment ys mid new p.from p.stations) → AreInTime c.moment ys → ((us : List (Station M)) → IsBusAt D M stands host ys us → IsBusAt D M stands now zs (map (λ u. tell M step says c u) us))
+      → (cs ++ c ∷ []) ++ rest ≡ all → IsPlayCut D M stands step says now zs old new all ss
+  played_told host now c before xs ys zs old mid new cs rest all ss p s t told e = record {
+    given = p.made ++ s.made;
+    left = host_event c ∷ [];
+    from = c.moment;
+    stations = map (λ u. tell M step says c u) s.stations;
+    added = s.added ∙ ap (λ (v : List Event). v ++ s.made) p.added ∙ append_assoc old p.made s.made;
+    plays = subst (λ (v : List Event). Plays M step says 0 ss v c.moment (map (λ u. tell M step says c u) s.stations)) (sym (append_assoc p.made s.made (host_event c ∷ [])))
+        (plays_then M step says p.plays (plays_then M step says s.plays (one_change host now c s.from ys zs s.stations s.now t s.before (told s.stations s.now))));
+    rest = rest;
+    hosts = ap (λ (v : List Change). v ++ rest) (ap host_changes (append_assoc p.made s.made (host_event c ∷ [])) ∙ host_append p.made (s.made ++ host_event c ∷ []) ∙ (λ i. p.hosts i ++ (host_append s.made (host_event c ∷ []) ∙ ap (λ (v : List Change). v ++ c ∷ []) s.quiet) i)) ∙ e;
+    now = told s.stations s.now;
+  }
+
+  -- the reactions up to the end
+  pub played_end : (host : Lines) (before limit : ℕ) (xs ys : List (Seated D)) (old mid new : List Event) (cs : List Change) (ss : List (Station M)) → (p : HasPlayed D M stands step says host before xs old mid cs ss)
+      → HasSettled D M stands step says host limit ys mid new p.from p.stations → HasPlayed D M stands step says host limit ys old new cs ss
+  played_end host before limit xs ys old mid new cs ss p s = record {
+    made = p.made ++ s.made;
+    from = s.from;
+    stations = s.stations;
+    added = s.added ∙ ap (λ (v : List Event). v ++ s.made) p.added ∙ append_assoc old p.made s.made;
+    plays = plays_then M step says p.plays s.plays;
+    hosts = host_append p.made s.made ∙ (λ i. p.hosts i ++ s.quiet i) ∙ append-nil cs;
+    before = s.before;
+    now = s.now;
+  }
+
+  -- nothing was played yet
+  pub played_none : (host : Lines) (xs : List (Seated D)) (es : List Event) (ss : List (Station M)) → IsBusAt D M stands host xs ss → HasPlayed D M stands step says host 0 xs es es [] ss
+  played_none host xs es ss h = record {
+    made = [];
+    from = 0;
+    stations = ss;
+    added = sym (append-nil es);
+    plays = stays (at_bus host xs ss h) refl refl refl;
+    hosts = refl;
+    before = omega arith;
+    now = h;
+  }
+
+  -- the answer of the last reactions is the answer of the whole
+  pub played_so : {X E : Type 0} (r : Result X E) (host : Lines) (before limit : ℕ) (xs ys : List (Seated D)) (old mid new : List Event) (cs : List Change) (ss : List (Station M)) → (p : HasPlayed D M stands step says host before xs old mid cs ss)
+      → MatchResult r (λ x. HasSettled D M stands step says host limit ys mid new p.from p.stations) (λ e. IsCutOff D M stands step says host ys mid new p.from p.stations)
+      → MatchResult r (λ x. HasPlayed D M stands step says host limit ys old new cs ss) (λ e. IsPlayCut D M stands step says host ys old new cs ss)
+  played_so (Ok x) host before limit xs ys old mid new cs ss p h = played_end host before limit xs ys old mid new cs ss p h
+  played_so (Err e) host before limit xs ys old mid new cs ss p h = played_cut host before xs ys old mid new cs [] cs ss p h (append-nil cs)
+
+-- what is passed on by `?` is an Err
+pub passed_on : {X E : Type 0} (r : Result X E) (P : X → Type 0) (Q : E → Type 0) → IsErr r → ((e : E) → Q e) → MatchResult r P Q
+passed_on (Ok x) P Q h f = absurd (cc)
+passed_on (Err e) P Q h f = f e

@@ -1,0 +1,62 @@
+-- What the drives of a bus made under changes of the host.
+use Rattle.std.specs.Prelude.{ℕ, ◌≡◌, ◌≤◌, Bool, List, [], ◌++◌, Option}
+use Rattle.cbm_iec.specs.declared.act.Act.{Act}
+use Rattle.cbm_iec.specs.declared.event.Event.{Event}
+use Rattle.cbm_iec.specs.declared.line.Change.{Change}
+use Rattle.cbm_iec.specs.declared.lines.Lines.{Lines}
+use Rattle.cbm_session.specs.Playing.{Station, Plays}
+use Rattle.cbm_drive.specs.Ordered.{host_changes}
+use Rattle.cbm_drive.specs.Seats.{Seated, IsBusAt}
+
+-- a beginning of these events was added
+pub record IsBegun (old new es : List Event) : Type 0 where
+  pub given : List Event
+  pub left : List Event
+  pub added : new ≡ old ++ given
+  pub all : given ++ left ≡ es
+
+module _ (D M : Type 0) (stands : D → M → Type 0) (step : M → Act → M) (says : M → Option (ℕ × Bool)) where
+  -- THE DRIVES HAVE PLAYED ON: what they made was added to the events, and a change of the host may come from the limit on.
+  pub record HasSettled (host : Lines) (limit : ℕ) (xs : List (Seated D)) (old new : List Event) (n : ℕ) (ss : List (Station M)) : Type 0 where
+    pub made : List Event
+    pub from : ℕ
+    pub stations : List (Station M)
+    pub added : new ≡ old ++ made
+    pub plays : Plays M step says n ss made from stations
+    pub quiet : host_changes made ≡ []
+    pub before : from ≤ limit
+    pub now : IsBusAt D M stands host xs stations
+
+  -- want of memory: a beginning of what they made was added
+  pub record IsCutOff (host : Lines) (xs : List (Seated D)) (old new : List Event) (n : ℕ) (ss : List (Station M)) : Type 0 where
+    pub given : List Event
+    pub left : List Event
+    pub from : ℕ
+    pub stations : List (Station M)
+    pub added : new ≡ old ++ given
+    pub plays : Plays M step says n ss (given ++ left) from stations
+    pub quiet : host_changes (given ++ left) ≡ []
+    pub now : IsBusAt D M stands host xs stations
+
+  -- THE HOST'S CHANGES WERE PLAYED, and all that the drives made of them was added.
+  pub record HasPlayed (host : Lines) (limit : ℕ) (xs : List (Seated D)) (old new : List Event) (cs : List Change) (ss : List (Station M)) : Type 0 where
+    pub made : List Event
+    pub from : ℕ
+    pub stations : List (Station M)
+    pub added : new ≡ old ++ made
+    pub plays : Plays M step says 0 ss made from stations
+    pub hosts : host_changes made ≡ cs
+    pub before : from ≤ limit
+    pub now : IsBusAt D M stands host xs stations
+
+  -- want of memory: a beginning of what happened was added, under a beginning of the changes
+  pub record IsPlayCut (host : Lines) (xs : List (Seated D)) (old new : List Event) (cs : List Change) (ss : List (Station M)) : Type 0 where
+    pub given : List Event
+    pub left : List Event
+    pub from : ℕ
+    pub stations : List (Station M)
+    pub added : new ≡ old ++ given
+    pub plays : Plays M step says 0 ss (given ++ left) from stations
+    pub rest : List Change
+    pub hosts : host_changes (given ++ left) ++ rest ≡ cs
+    pub now : IsBusAt D M stands host xs stations

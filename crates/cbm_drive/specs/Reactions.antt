@@ -1,0 +1,78 @@
+-- A drive's reaction on a bus: it changes the lines that it holds, and all others are told each change.
+use Rattle.std.specs.Prelude.{ℕ, ◌+◌, ◌≡◌, Bool, true, false, not, List, [], ◌∷◌, ◌++◌, map, Option}
+use Rattle.std.specs.List.{AllZip}
+use Rattle.cbm_iec.specs.Table.{with_clock, with_data}
+use Rattle.cbm_iec.specs.declared.act.Act.{Act}
+use Rattle.cbm_iec.specs.declared.line.Change.{Change}
+use Rattle.cbm_iec.specs.declared.line.Line.TheVariants.{Atn, Clock, Data}
+use Rattle.cbm_iec.specs.declared.line.Line.{Line}
+use Rattle.cbm_iec.specs.declared.line.Way.TheVariants.{Pull, Free}
+use Rattle.cbm_iec.specs.declared.line.Way.{Way}
+use Rattle.cbm_iec.specs.declared.lines.Held.{Held}
+use Rattle.cbm_iec.specs.declared.lines.Lines.{Lines}
+use Rattle.cbm_session.specs.Among.{counted}
+use Rattle.cbm_session.specs.Playing.{Station, hear_all, IsFirst, shown, reacting}
+use Rattle.cbm_drive.specs.declared.wires.Wires.{Wires}
+use Rattle.cbm_drive.specs.Seats.{Seated, IsSeat, IsBusAt, bit, total, clock_of, data_of}
+
+-- all changes come at this moment
+abbrev pub AreAt : ℕ → List Change → Type 0
+AreAt t [] = Unit {0}
+AreAt t (c ∷ cs) = (c.moment ≡ t) × AreAt t cs
+
+-- the line is pulled behind such a change
+abbrev pub pulls : Way → Bool
+pulls Pull = true
+pulls Free = false
+
+-- what all hold behind a drive's change
+abbrev pub behind_change : Line → Way → Wires → Wires
+behind_change Atn way all = all
+behind_change Clock way all = record { host = all.host; clocks = counted way all.clocks; datas = all.datas }
+behind_change Data way all = record { host = all.host; clocks = all.clocks; datas = counted way all.datas }
+
+abbrev pub behind_all : List Change → Wires → Wires
+behind_all [] all = all
+behind_all (c ∷ cs) all = behind_all cs (behind_change c.line c.way all)
+
+-- what the drive itself holds behind its change
+abbrev pub held_after : Line → Way → Held → Held
+held_after Atn way own = own
+held_after Clock way own = with_clock (pulls way) own
+held_after Data way own = with_data (pulls way) own
+
+abbrev pub held_behind : List Change → Held → Held
+held_behind [] own = own
+held_behind (c ∷ cs) own = held_behind cs (held_after c.line c.way own)
+
+-- A line is pulled where it was free, and freed where it was held.
+abbrev pub IsToggled : Line → Way → Held → Type 0
+IsToggled Atn way own = ⊥
+IsToggled Clock way own = own.clock_low ≡ not (pulls way)
+IsToggled Data way own = own.data_low ≡ not (pulls way)
+
+abbrev pub Toggles : Held → List Change → Type 0
+Toggles own [] = Unit {0}
+Toggles own (c ∷ cs) = IsToggled c.line c.way own × Toggles (held_after c.line c.way own) cs
+
+-- These are counted: one drive that holds its own lines, and those before and behind it.
+pub record IsAllOf {D : Type 0} (all : Wires) (own : Held) (front back : List (Seated D)) : Type 0 where
+  pub clocks : all.clocks ≡ total clock_of front + (bit own.clock_low + total clock_of back)
+  pub datas : all.datas ≡ total data_of front + (bit own.data_low + total data_of back)
+
+-- the drives before and behind another one have been told its changes
+pub record HaveHeard (D M : Type 0) (stands : D → M → Type 0) (step : M → Act → M) (says : M → Option (ℕ × Bool)) (all : Wires) (own : Held) (cs : List Change) (front back : List (Seated D)) (bs hs : List (Station M)) : Type 0 where
+  pub counts : IsAllOf all own front back
+  pub before : AllZip (IsSeat D M stands all) front (map (λ s. hear_all M step says cs s) bs)
+  pub behind : AllZip (IsSeat D M stands all) back (map (λ s. hear_all M step says cs s) hs)
+
+-- THE REACTION THAT IS DUE FIRST HAS HAPPENED: the drives stand for the stations behind it.
+pub record HasReacted (D M : Type 0) (stands : D → M → Type 0) (step : M → Act → M) (says : M → Option (ℕ × Bool)) (host : Lines) (t device : ℕ) (xs : List (Seated D)) (cs : List Change) (ss : List (Station M)) : Type 0 where
+  pub before : List (Station M)
+  pub station : Station M
+  pub behind : List (Station M)
+  pub is : ss ≡ before ++ station ∷ behind
+  pub first : IsFirst M step says t before station behind
+  pub which : device ≡ station.port.party.device
+  pub changes : cs ≡ shown M step says t station
+  pub now : IsBusAt D M stands host xs (reacting M step says t before station behind)

@@ -1,0 +1,80 @@
+-- The drives of a bus as the code keeps them, and the stations that they stand for.
+use Rattle.std.specs.Prelude.{ℕ, zero, suc, [], ◌∷◌, Some, None, ◌+◌, ◌≡◌, Bool, true, false, List}
+use Rattle.std.specs.List.{AllZip}
+use Rattle.cbm_iec.specs.Ports.{port_due}
+use Rattle.cbm_session.specs.Following.{IsInTime}
+use Rattle.cbm_iec.specs.declared.lines.Held.{Held}
+use Rattle.cbm_iec.specs.declared.lines.Lines.{Lines}
+use Rattle.cbm_iec.specs.declared.port.Port.{Port}
+use Rattle.cbm_drive.specs.declared.wires.Wires.{Wires}
+use Rattle.cbm_session.specs.Among.{Rest}
+use Rattle.cbm_session.specs.Playing.{Station, IsLaterDue}
+
+-- a drive on the wires: its port, and the machine above it
+pub record Seated (D : Type 0) : Type 0 where
+  pub port : Port
+  pub machine : D
+
+-- one party that holds a line, or none
+abbrev pub bit : Bool → ℕ
+bit true = 1
+bit false = 0
+
+-- how many these are together
+abbrev pub total : {A : Type 0} → (A → ℕ) → List A → ℕ
+total f [] = 0
+total f (x ∷ xs) = f x + total f xs
+
+module _ {D : Type 0} where
+  abbrev pub own_of : Seated D → Held
+  own_of x = x.port.own
+
+  abbrev pub clock_of : Seated D → ℕ
+  clock_of x = bit x.port.own.clock_low
+
+  abbrev pub data_of : Seated D → ℕ
+  data_of x = bit x.port.own.data_low
+
+  -- nothing is due; nothing is due at or before this moment; nothing is due before it
+  abbrev pub AreIdle : List (Seated D) → Type 0
+  AreIdle [] = Unit {0}
+  AreIdle (x ∷ xs) = (port_due x.port ≡ None) × AreIdle xs
+
+  abbrev pub AreLater : ℕ → List (Seated D) → Type 0
+  AreLater t [] = Unit {0}
+  AreLater t (x ∷ xs) = IsLaterDue t (port_due x.port) × AreLater t xs
+
+  abbrev pub AreInTime : ℕ → List (Seated D) → Type 0
+  AreInTime t [] = Unit {0}
+  AreInTime t (x ∷ xs) = IsInTime t (port_due x.port) × AreInTime t xs
+
+  -- The drive at a place is due first: sooner than those listed before it, not later than those behind it.
+  abbrev pub IsFirstDue : List (Seated D) → ℕ × ℕ → Type 0
+  IsFirstDue [] f = ⊥
+  IsFirstDue (x ∷ xs) (zero, t) = (port_due x.port ≡ Some t) × AreInTime t xs
+  IsFirstDue (x ∷ xs) (suc n, t) = IsLaterDue t (port_due x.port) × IsFirstDue xs (n, t)
+
+  -- what the host and these drives hold
+  abbrev pub held_by : Lines → List (Seated D) → Wires
+  held_by host xs = record { host = host; clocks = total clock_of xs; datas = total data_of xs }
+
+-- What all others than a drive hold is what all hold without its own.
+pub record IsWithout (all : Wires) (own : Held) (r : Rest) : Type 0 where
+  pub host : r.host ≡ all.host
+  pub clocks : r.clocks + bit own.clock_low ≡ all.clocks
+  pub datas : r.datas + bit own.data_low ≡ all.datas
+
+module _ (D M : Type 0) (stands : D → M → Type 0) where
+  -- the drive stands for a station, once this is what all others hold
+  pub record Meets (all : Wires) (r : Rest) (x : Seated D) (s : Station M) : Type 0 where
+    pub port : x.port ≡ s.port
+    pub machine : stands x.machine s.machine
+    pub rest : IsWithout all x.port.own r
+
+  -- the drive stands for a station
+  abbrev pub IsSeat : Wires → Seated D → Station M → Type 0
+  IsSeat all x s = Meets all s.rest x s
+
+  -- THE DRIVES STAND FOR THE STATIONS of a bus, one by one, beside a host that holds these lines.
+  abbrev pub IsBusAt : Lines → List (Seated D) → List (Station M) → Type 0
+  IsBusAt host xs ss = AllZip (IsSeat (held_by host xs)) xs ss

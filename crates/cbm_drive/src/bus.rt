@@ -1,0 +1,136 @@
+//! What the drives on a cable do: they are told changes, and one of them reacts.
+
+ghost use Rattle.std.specs.Prelude.{◌≡◌, ◌+◌, ◌<◌, ◌^◌, ℕ, List, length, map, IfSome, IsSome, MatchOption};
+ghost use Rattle.std.specs.List.{AllZip};
+ghost use Rattle.cbm_session.specs.Among.{Rest};
+ghost use Rattle.cbm_session.specs.Following.{lines_after};
+ghost use Rattle.cbm_session.specs.Playing.{Station, tell, told_lines};
+ghost use Rattle.cbm_drive.specs.Seats.{Meets, IsSeat, IsBusAt, own_of, IsFirstDue, AreIdle};
+ghost use Rattle.cbm_drive.specs.Progress.{AreKept, IsNearer};
+ghost use Rattle.cbm_drive.specs.Reactions.{AreAt, Toggles, IsAllOf, HaveHeard, HasReacted, behind_all, held_behind};
+ghost use Rattle.cbm_iec.specs.declared.lines.Held.{Held};
+
+use crate::drive::Drive;
+use crate::wires::{Wires, with_change};
+use arrayvec::ArrayVec;
+use cbm_iec::{Change, Lines, Machine};
+
+/// What a drive did where its reaction was due: at most one change of CLOCK, then one of DATA.
+#[derive(Drop)]
+pub struct Answer {
+    /// Its device number.
+    pub device: u8,
+    /// The lines that it changed, in that order; none where it holds the same as before.
+    pub changes: ArrayVec<Change, 2>,
+}
+
+/// Tells each of these drives that the others changed a line at this moment, and what is held now.
+pub(crate) fn tell_each<D: Machine>(drives: &mut [Drive<D>], moment: u64, wires: Wires)
+    requires { moment < 2 ^ 60 }
+    ensures told { (f : Rest → Rest) (ss : List (Station D.State)) →
+        AllZip (λ x s. Meets _ D.State D.stands wires (f s.rest) x s) drives.old ss →
+        AllZip (IsSeat _ D.State D.stands wires) drives.new
+        (map (λ s. told_lines D.State D.step D.says moment (f s.rest) s) ss) }
+    ensures own { map own_of drives.new ≡ map own_of drives.old }
+    ensures kept { AreKept moment drives.old drives.new }
+{
+    let Some((first, rest)) = drives.split_first_mut() else {
+        return;
+    };
+    let others = wires.without(first.own());
+    first.line(moment, others);
+    tell_each(rest, moment, wires);
+}
+
+/// The drive whose reaction is due first, by its place, and when: of several at one moment the one that is listed first.
+pub(crate) fn first_due<D: Machine>(drives: &[Drive<D>]) -> Option<(usize, u64)>
+    ensures bound { IfSome result (λ f. f.0 < length drives.now) }
+    ensures first { MatchOption result (AreIdle drives.now) (IsFirstDue drives.now) }
+{
+    let (first, rest) = drives.split_first()?;
+    let behind = first_due(rest);
+    match (first.next_due(), behind) {
+        (None, None) => None,
+        (None, Some((place, moment))) => Some((place + 1, moment)),
+        (Some(moment), None) => Some((0, moment)),
+        (Some(moment), Some((place, later))) => {
+            if moment <= later {
+                Some((0, moment))
+            } else {
+                Some((place + 1, later))
+            }
+        }
+    }
+}
+
+/// The drives before and behind one that changed these lines are told each change.
+fn hear_each<D: Machine>(
+    front: &mut [Drive<D>],
+    back: &mut [Drive<D>],
+    wires: Wires,
+    moment: u64,
+    changes: &[Change],
+)
+    requires moment { moment < 2 ^ 60 }
+    requires clocks { wires.clocks + length changes.now < 2 ^ 60 }
+    requires datas { wires.datas + length changes.now < 2 ^ 60 }
+    ensures heard { (own : Held) (bs hs : List (Station D.State)) →
+        AreAt moment changes.now → Toggles own changes.now → IsAllOf wires own front.old back.old →
+        AllZip (IsSeat _ D.State D.stands wires) front.old bs → AllZip (IsSeat _ D.State D.stands wires) back.old hs →
+        HaveHeard _ D.State D.stands D.step D.says (behind_all changes.now wires) (held_behind changes.now own)
+        changes.now front.new back.new bs hs }
+    ensures front { AreKept moment front.old front.new }
+    ensures back { AreKept moment back.old back.new }
+{
+    let Some((change, more)) = changes.split_first() else {
+        return;
+    };
+    let wires = wires.after(change.line, change.way);
+    tell_each(front, moment, wires);
+    tell_each(back, moment, wires);
+    hear_each(front, back, wires, moment, more);
+}
+
+/// The reaction of the drive at a place, which is due at this moment: all others are told each line that it changes, with
+/// what is held then.
+pub(crate) fn react<D: Machine>(
+    drives: &mut [Drive<D>],
+    host: Lines,
+    place: usize,
+    moment: u64,
+) -> Option<Answer>
+    requires place { place < length drives.old }
+    requires few { length drives.old < 2 ^ 16 }
+    requires moment { moment < 2 ^ 60 }
+    ensures reacted { (ss : List (Station D.State)) → IsBusAt _ D.State D.stands host drives.old ss →
+        IsFirstDue drives.old (place, moment) →
+        IfSome result (λ a.
+        HasReacted _ D.State D.stands D.step D.says host moment a.device drives.new a.changes.items ss) }
+    ensures some { IsSome result }
+    ensures nearer { IsFirstDue drives.old (place, moment) → IsNearer moment drives.old drives.new }
+    ensures same { length drives.new ≡ length drives.old }
+{
+    let wires = Wires::of(host, drives);
+    let (front, rest) = drives.split_at_mut(place);
+    let (drive, back) = rest.split_first_mut()?;
+    let device = drive.device();
+    let changes = drive.due(moment);
+    hear_each(front, back, wires, moment, &changes);
+    Some(Answer { device, changes })
+}
+
+/// The host, which holds these lines, changes one of them: each drive is told, with what all others hold then. Answers
+/// what the host holds then.
+pub(crate) fn tell_all<D: Machine>(drives: &mut [Drive<D>], host: Lines, change: Change) -> Lines
+    requires { change.moment < 2 ^ 60 }
+    ensures host { result ≡ lines_after host change.line change.way }
+    ensures told { (ss : List (Station D.State)) → IsBusAt _ D.State D.stands host drives.old ss →
+        IsBusAt _ D.State D.stands result drives.new (map (λ s. tell D.State D.step D.says change s) ss) }
+    ensures kept { AreKept change.moment drives.old drives.new }
+    ensures same { length drives.new ≡ length drives.old }
+{
+    let now = with_change(host, change);
+    let wires = Wires::of(now, drives);
+    tell_each(drives, change.moment, wires);
+    now
+}

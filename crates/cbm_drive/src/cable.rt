@@ -1,0 +1,157 @@
+//! A host and drives on one cable.
+
+use crate::bus::{Answer, first_due, react, tell_all};
+use crate::drive::Drive;
+use crate::fault::{PlayFault, first_fault};
+use crate::playing::{play_on, settle};
+use cbm_iec::{Change, Event, Lines, Machine};
+use std::alloc::AllocError;
+use std::marker::Model;
+
+#[cfg(test)]
+mod tests;
+
+/// Drives on one cable with a host. Of several whose reactions are due at one moment the one that is listed first answers
+/// first.
+#[derive(Drop)]
+pub struct Bus<D: Machine, const N: usize> {
+    drives: [Drive<D>; N],
+    host: Lines,
+}
+
+impl<D: Machine, const N: usize> Model for Bus<D, N> {
+    ghost use Rattle.std.specs.Prelude.{◌≤◌, length};
+    ghost use Rattle.cbm_drive.specs.Cables.{Cabled};
+
+    ghost Value = { Cabled D };
+
+    ghost view = { λ b. record { host = b.host; drives = b.drives } };
+
+    ghost invariant = { λ b. length b.drives ≤ 4 };
+}
+
+impl<D: Machine, const N: usize> Bus<D, N> {
+    ghost use Rattle.std.specs.Prelude.{◌≡◌, ◌+◌, ◌^◌, ◌<◌, ◌≤◌, ℕ, List, length, map, IfSome, Some, None, Err, IfErr, OnOk, MatchOption, MatchResult};
+    ghost use Rattle.cbm_session.specs.Playing.{Station, tell};
+    ghost use Rattle.cbm_drive.specs.Seats.{AreIdle, AreInTime, IsBusAt};
+    ghost use Rattle.cbm_drive.specs.Cables.{all_free, IsDueFirst};
+    ghost use Rattle.cbm_drive.specs.Ordered.{fault_of};
+    ghost use Rattle.cbm_drive.specs.declared.fault.PlayFault.{PlayFault};
+    ghost use Rattle.cbm_drive.specs.declared.fault.PlayFault.TheVariants.{Memory};
+    ghost use Rattle.cbm_drive.specs.Played.{HasSettled, IsCutOff, HasPlayed, IsPlayCut};
+    ghost use Rattle.cbm_drive.specs.Progress.{AreKept, IsNearer};
+    ghost use Rattle.cbm_drive.specs.Reactions.{HasReacted};
+
+    /// Drives on a cable of which the host holds no line, in the order in which they answer at equal moments.
+    pub fn new(drives: [Drive<D>; N]) -> Bus<D, N>
+        requires { length drives ≤ 4 }
+        ensures drives { result.drives ≡ drives }
+        ensures host { result.host ≡ all_free }
+    {
+        Bus {
+            drives,
+            host: Lines {
+                atn_low: false,
+                clock_low: false,
+                data_low: false,
+            },
+        }
+    }
+
+    /// The drives, in that order.
+    pub fn into_drives(self) -> [Drive<D>; N]
+        ensures { result ≡ self.drives }
+    {
+        let Bus { drives, .. } = self;
+        drives
+    }
+
+    /// When the next reaction is due, in microseconds.
+    pub fn next_due(&self) -> Option<u64>
+        ensures { MatchOption result (AreIdle self.now.drives) (IsDueFirst self.now.drives) }
+    {
+        let (_, moment) = first_due(self.drives.as_slice())?;
+        Some(moment)
+    }
+
+    /// The host changes a line: each drive is told, with what all others hold then.
+    pub fn line(&mut self, change: Change)
+        requires { change.moment < 2 ^ 60 }
+        ensures told { (ss : List (Station D.State)) → IsBusAt _ D.State D.stands self.old.host self.old.drives ss →
+            IsBusAt _ D.State D.stands self.new.host self.new.drives (map (λ s. tell D.State D.step D.says change s) ss) }
+        // What was due is still due, or something later, or nothing, whatever the machines stand for.
+        ensures kept { AreKept change.moment self.old.drives self.new.drives }
+    {
+        self.host = tell_all(self.drives.as_mut_slice(), self.host, change);
+    }
+
+    /// The reaction that is due first happens, to be called at the moment that `next_due` answers: all other drives are told
+    /// each line that the drive changes, with what is held then. None where no reaction is due.
+    pub fn due(&mut self, moment: u64) -> Option<Answer>
+        requires { moment < 2 ^ 60 }
+        ensures reacted { (ss : List (Station D.State)) →
+            IsBusAt _ D.State D.stands self.old.host self.old.drives ss → IsDueFirst self.old.drives moment →
+            IfSome result (λ a. HasReacted _ D.State D.stands D.step D.says self.old.host moment a.device
+            self.new.drives a.changes.items ss) }
+        // One reaction less is due at this moment, and none before it, whatever the machines stand for.
+        ensures nearer { IsDueFirst self.old.drives moment → IsNearer moment self.old.drives self.new.drives }
+        ensures none { result ≡ None → AreIdle self.old.drives × (self.new ≡ self.old) }
+        ensures host { self.new.host ≡ self.old.host }
+    {
+        let (place, _) = first_due(self.drives.as_slice())?;
+        react(self.drives.as_mut_slice(), self.host, place, moment)
+    }
+
+    /// The reactions that are due before a limit happen, each in its turn, and their changes go to the events. So a host may
+    /// change a line at the limit or later. An `Err` is want of memory: a beginning of what was made went to the events.
+    pub fn settle(&mut self, limit: u64, events: &mut Vec<Event>) -> Result<(), AllocError>
+        requires { limit < 2 ^ 60 }
+        ensures settled { OnOk result (AreInTime limit self.new.drives) }
+        ensures played { (ss : List (Station D.State)) (n : ℕ) →
+            IsBusAt _ D.State D.stands self.old.host self.old.drives ss → n ≤ limit → MatchResult result
+            (λ x. HasSettled _ D.State D.stands D.step D.says self.old.host limit self.new.drives events.old.items
+            events.new.items n ss)
+            (λ e. IsCutOff _ D.State D.stands D.step D.says self.old.host self.new.drives events.old.items events.new.items
+            n ss) }
+        ensures host { self.new.host ≡ self.old.host }
+    {
+        settle(self.drives.as_mut_slice(), self.host, limit, events)
+    }
+
+    /// Plays these changes of the host up to an end, in microseconds: all events, the host's and the drives', come one after
+    /// the other, the reactions that are due at the end too. Errors: the first change that goes back in time or comes after
+    /// the end, and then nothing was played; or want of memory, and then the events are a beginning of what happened.
+    #[tactic(auto, using(crate::proofs::Ordered::in_order))]
+    pub fn play(
+        &mut self,
+        changes: &[Change],
+        end: u64,
+        events: &mut Vec<Event>,
+    ) -> Result<(), PlayFault>
+        requires { end < 2 ^ 59 }
+        ensures fault { (f : PlayFault) → fault_of 0 0 end changes.now ≡ Some f →
+            (result ≡ Err f) × (self.new ≡ self.old) × (events.new ≡ events.old) }
+        ensures memory { fault_of 0 0 end changes.now ≡ None → IfErr result (λ f. f ≡ Memory) }
+        ensures settled { OnOk result (AreInTime (end + 1) self.new.drives) }
+        ensures played { (ss : List (Station D.State)) → fault_of 0 0 end changes.now ≡ None →
+            IsBusAt _ D.State D.stands self.old.host self.old.drives ss → MatchResult result
+            (λ x. HasPlayed _ D.State D.stands D.step D.says self.new.host (end + 1) self.new.drives events.old.items
+            events.new.items changes.now ss)
+            (λ f. IsPlayCut _ D.State D.stands D.step D.says self.new.host self.new.drives events.old.items
+            events.new.items changes.now ss) }
+    {
+        if let Some(fault) = first_fault(changes, 0, 0, end) {
+            return Err(fault);
+        }
+        match play_on(
+            self.drives.as_mut_slice(),
+            &mut self.host,
+            changes,
+            end,
+            events,
+        ) {
+            Ok(()) => Ok(()),
+            Err(_) => Err(PlayFault::Memory),
+        }
+    }
+}

@@ -1,0 +1,86 @@
+//! Changes of a host are played on a bus: the events come one after the other.
+
+ghost use Rattle.std.specs.Prelude.{◌≡◌, ◌+◌, ◌≤◌, ◌<◌, ◌^◌, ◌++◌, ℕ, List, length, OnOk, OnErr, MatchResult};
+ghost use Rattle.cbm_session.specs.Playing.{Station, drive_events};
+ghost use Rattle.cbm_drive.specs.Ordered.{AreOrdered};
+ghost use Rattle.cbm_drive.specs.Played.{HasSettled, IsCutOff, HasPlayed, IsPlayCut, IsBegun};
+ghost use Rattle.cbm_drive.specs.Seats.{AreInTime, IsBusAt};
+
+use crate::bus::{first_due, react, tell_all};
+use crate::drive::Drive;
+use cbm_iec::{Change, Event, Lines, Machine, Who};
+use std::alloc::AllocError;
+
+/// The changes that a drive made go to the events.
+fn give(events: &mut Vec<Event>, device: u8, changes: &[Change]) -> Result<(), AllocError>
+    ensures given { OnOk result (events.new.items ≡ events.old.items ++ drive_events device changes.now) }
+    ensures begun { OnErr result (IsBegun events.old.items events.new.items (drive_events device changes.now)) }
+{
+    let Some((change, rest)) = changes.split_first() else {
+        return Ok(());
+    };
+    events.push(Event {
+        who: Who::Drive(device),
+        change: *change,
+    })?;
+    give(events, device, rest)
+}
+
+/// The reactions that are due before a limit happen, each in its turn; their changes go to the events. An `Err` is want
+/// of memory: the events are a beginning of what happened.
+pub(crate) fn settle<D: Machine>(
+    drives: &mut [Drive<D>],
+    host: Lines,
+    limit: u64,
+    events: &mut Vec<Event>,
+) -> Result<(), AllocError>
+    requires few { length drives.old ≤ 4 }
+    requires limit { limit < 2 ^ 60 }
+    ensures settled { OnOk result (AreInTime limit drives.new) }
+    ensures same { length drives.new ≡ length drives.old }
+    ensures played { (ss : List (Station D.State)) (n : ℕ) → IsBusAt _ D.State D.stands host drives.old ss → n ≤ limit →
+        MatchResult result
+        (λ x. HasSettled _ D.State D.stands D.step D.says host limit drives.new events.old.items events.new.items n ss)
+        (λ e. IsCutOff _ D.State D.stands D.step D.says host drives.new events.old.items events.new.items n ss) }
+{
+    while let Some((place, moment)) = first_due(drives) {
+        if moment >= limit {
+            return Ok(());
+        }
+        if let Some(answer) = react(drives, host, place, moment) {
+            give(events, answer.device, &answer.changes)?;
+        }
+    }
+    Ok(())
+}
+
+/// The changes of the host and the reactions of the drives come one after the other, up to an end; all go to the events.
+/// An `Err` is want of memory: the events are a beginning of what happened.
+pub(crate) fn play_on<D: Machine>(
+    drives: &mut [Drive<D>],
+    host: &mut Lines,
+    changes: &[Change],
+    end: u64,
+    events: &mut Vec<Event>,
+) -> Result<(), AllocError>
+    requires few { length drives.old ≤ 4 }
+    requires end { end < 2 ^ 59 }
+    requires ordered { AreOrdered 0 end changes.now }
+    ensures settled { OnOk result (AreInTime (end + 1) drives.new) }
+    ensures played { (ss : List (Station D.State)) → IsBusAt _ D.State D.stands host.old drives.old ss →
+        MatchResult result
+        (λ x. HasPlayed _ D.State D.stands D.step D.says host.new (end + 1) drives.new events.old.items events.new.items
+        changes.now ss)
+        (λ e. IsPlayCut _ D.State D.stands D.step D.says host.new drives.new events.old.items events.new.items changes.now
+        ss) }
+{
+    for change in changes {
+        settle(drives, *host, change.moment, events)?;
+        *host = tell_all(drives, *host, *change);
+        events.push(Event {
+            who: Who::Host,
+            change: *change,
+        })?;
+    }
+    settle(drives, *host, end + 1, events)
+}

@@ -1,0 +1,117 @@
+//! Who holds which lines of the cable.
+
+ghost use Rattle.std.specs.Prelude.{◌≡◌, ◌≤◌, ◌<◌, ◌+◌, ◌^◌, length};
+ghost use Rattle.cbm_session.specs.Among.{Rest, wires_of, counted};
+ghost use Rattle.cbm_drive.specs.Seats.{bit, held_by, IsWithout};
+ghost use Rattle.cbm_session.specs.Following.{lines_after};
+ghost use Rattle.cbm_drive.specs.Reactions.{behind_change};
+
+use crate::drive::Drive;
+use cbm_iec::{Change, Held, Line, Lines, Machine, Way};
+
+/// What the host holds, and how many drives hold CLOCK and DATA.
+#[derive(Clone, Copy, Drop)]
+pub(crate) struct Wires {
+    pub(crate) host: Lines,
+    pub(crate) clocks: usize,
+    pub(crate) datas: usize,
+}
+
+/// One party that holds a line, or none.
+fn bit(low: bool) -> usize
+    ensures value { result ≡ bit low }
+    ensures most { result ≤ 1 }
+{
+    if low { 1 } else { 0 }
+}
+
+impl Wires {
+    /// What the host and these drives hold.
+    pub(crate) fn of<D: Machine>(host: Lines, drives: &[Drive<D>]) -> Wires
+        ensures value { result ≡ held_by host drives.now }
+        ensures clocks { result.clocks ≤ length drives.now }
+        ensures datas { result.datas ≤ length drives.now }
+    {
+        match drives.split_first() {
+            None => Wires {
+                host,
+                clocks: 0,
+                datas: 0,
+            },
+            Some((first, rest)) => {
+                let wires = Wires::of(host, rest);
+                let own = first.own();
+                Wires {
+                    host,
+                    clocks: bit(own.clock_low) + wires.clocks,
+                    datas: bit(own.data_low) + wires.datas,
+                }
+            }
+        }
+    }
+
+    /// What all others hold than a drive that holds these lines itself.
+    pub(crate) fn without(self, own: Held) -> Lines
+        ensures { (r : Rest) → IsWithout self own r → result ≡ wires_of r }
+    {
+        Lines {
+            atn_low: self.host.atn_low,
+            clock_low: self.clocks > bit(own.clock_low) || self.host.clock_low,
+            data_low: self.datas > bit(own.data_low) || self.host.data_low,
+        }
+    }
+
+    /// What is held behind a change of a drive.
+    pub(crate) fn after(self, line: Line, way: Way) -> Wires
+        requires clocks { self.clocks < 2 ^ 60 }
+        requires datas { self.datas < 2 ^ 60 }
+        ensures value { result ≡ behind_change line way self }
+        ensures clocks { result.clocks ≤ self.clocks + 1 }
+        ensures datas { result.datas ≤ self.datas + 1 }
+    {
+        match line {
+            Line::Atn => self,
+            Line::Clock => Wires {
+                clocks: counted(way, self.clocks),
+                ..self
+            },
+            Line::Data => Wires {
+                datas: counted(way, self.datas),
+                ..self
+            },
+        }
+    }
+}
+
+/// One more holds a line behind its pull, one less behind its release.
+fn counted(way: Way, count: usize) -> usize
+    requires { count < 2 ^ 60 }
+    ensures value { result ≡ counted way count }
+    ensures most { result ≤ count + 1 }
+{
+    match way {
+        Way::Pull => count + 1,
+        Way::Free => count.saturating_sub(1),
+    }
+}
+
+/// What the host holds behind its change.
+pub(crate) fn with_change(lines: Lines, change: Change) -> Lines
+    ensures { result ≡ lines_after lines change.line change.way }
+{
+    let low = change.way == Way::Pull;
+    match change.line {
+        Line::Atn => Lines {
+            atn_low: low,
+            ..lines
+        },
+        Line::Clock => Lines {
+            clock_low: low,
+            ..lines
+        },
+        Line::Data => Lines {
+            data_low: low,
+            ..lines
+        },
+    }
+}

@@ -1,0 +1,100 @@
+-- A relative file grows by a block: it is claimed, written and linked to, and then a side sector lists it.
+use Rattle.std.specs.Prelude.{ℕ, ◌+◌, ◌-◌, ◌*◌, ◌%◌, ◌<◌, ◌≤◌, ◌≡◌, ◌⊎◌, List, [], length, slice_index, Ok, Err}
+use Rattle.cbm_medium.specs.Place.{Place, directory_head}
+use Rattle.cbm_medium.specs.Content.{Content, written}
+use Rattle.cbm_medium.specs.Seen.{Seen}
+use Rattle.cbm_bam.specs.Map.{Claims}
+use Rattle.cbm_bam.specs.Causes.{HasCause}
+use Rattle.cbm_relfile.specs.Changing.{IsWriteRefused}
+use Rattle.cbm_relfile.specs.Fresh.{IsFilledFrom, full_end}
+
+-- where in the last of so many full data blocks the first fresh record begins: after its last whole record
+abbrev pub fresh_place : ℕ → ℕ → ℕ
+fresh_place w blocks = 254 - 254 * blocks % w
+
+-- A FILE OF b FULL DATA BLOCKS HAS ONE MORE: it is claimed and filled with fresh records, and the last one links to it, with fresh
+-- bytes after its last whole record.
+pub record IsLengthened (tracks : ℕ) (old new : Content) (last : Place) (w b : ℕ) (q : Place) : Type 0 where
+  pub one : Content
+  pub claims : Claims tracks old one q
+  pub fresh : List ℕ
+  pub filled : IsFilledFrom w (b + 1) b 0 [] full_end fresh
+  pub sector : List ℕ
+  pub reads : old last ≡ Ok sector
+  pub linked : List ℕ
+  pub joined : IsFilledFrom w (b + 1) (b - 1) (fresh_place w b) sector q linked
+  pub written : new ≡ written (written one q fresh) last linked
+
+-- no block is claimed so far; or one is, and it may be written
+abbrev pub IsBegun : ℕ → Content → Content → Type 0
+IsBegun tracks old new =
+    (new ≡ old) ⊎ ((q : Place) × (one : Content) × Claims tracks old one q × ((new ≡ one) ⊎ ((bytes : List ℕ) × (new ≡ written one q bytes))))
+
+-- One of the three writes was refused, or the last block doesn't read.
+pub record IsLengthenStopped (tracks : ℕ) (old new : Seen) (last : Place) (code : ℕ) : Type 0 where
+  pub mid : Seen
+  pub before : IsBegun tracks old.content mid.content
+  pub protected : mid.protected ≡ old.protected
+  pub counted : old.failures ≤ mid.failures
+  pub same : new.content ≡ mid.content
+  pub cause : (mid.content last ≡ Err code) ⊎ (HasCause mid new directory_head code ⊎ IsWriteRefused tracks mid new code)
+
+-- A SIDE SECTOR LISTS ONE BLOCK MORE after so many: nothing else in it changes but what stands behind, and its second byte.
+pub record ListsMore (old : List ℕ) (k : ℕ) (q : Place) (new : List ℕ) : Type 0 where
+  pub whole : length new ≡ 256
+  pub front : (i : ℕ) → 2 ≤ i → i < 16 + 2 * k → slice_index new i ≡ slice_index old i
+  pub track : slice_index new (16 + 2 * k) ≡ q.track
+  pub sector : slice_index new (17 + 2 * k) ≡ q.sector
+  pub zeros : (i : ℕ) → 18 + 2 * k ≤ i → slice_index new i ≡ 0
+
+-- the side sector of this number, as the first one lists it
+abbrev pub side_at : List ℕ → ℕ → Place
+side_at head i = record { track = slice_index head (4 + 2 * i); sector = slice_index head (5 + 2 * i) }
+
+-- the side sector at this place lists one block more after so many
+pub record IsBlockListed (old new : Content) (at : Place) (k : ℕ) (q : Place) : Type 0 where
+  pub side : List ℕ
+  pub reads : old at ≡ Ok side
+  pub more : List ℕ
+  pub lists : ListsMore side k q more
+  pub written : new ≡ written old at more
+
+-- the write was refused
+abbrev pub IsListStopped : ℕ → Seen → Seen → ℕ → Type 0
+IsListStopped tracks old new code = (new.content ≡ old.content) × IsWriteRefused tracks old new code
+
+-- A SIDE SECTOR'S LIST OF SIDE SECTORS HAS ONE MORE after so many; its number, the records' length and the blocks that it lists stay.
+pub record ListsSide (old : List ℕ) (k : ℕ) (t : Place) (new : List ℕ) : Type 0 where
+  pub whole : length new ≡ 256
+  pub front : (i : ℕ) → 2 ≤ i → i < 4 + 2 * k → slice_index new i ≡ slice_index old i
+  pub track : slice_index new (4 + 2 * k) ≡ t.track
+  pub sector : slice_index new (5 + 2 * k) ≡ t.sector
+  pub last : k < 5 → slice_index new (6 + 2 * k) ≡ 0
+  pub back : (i : ℕ) → 16 ≤ i → slice_index new i ≡ slice_index old i
+
+-- the side sector at this place lists one side sector more after so many
+pub record IsSideLinked (old new : Content) (at : Place) (k : ℕ) (t : Place) : Type 0 where
+  pub side : List ℕ
+  pub reads : old at ≡ Ok side
+  pub more : List ℕ
+  pub lists : ListsSide side k t more
+  pub written : new ≡ written old at more
+
+-- A new side sector t, the one after so many others: it lists one block.
+pub record IsNewSide (head : List ℕ) (k w : ℕ) (q t : Place) (new : List ℕ) : Type 0 where
+  pub whole : length new ≡ 256
+  pub number : slice_index new 2 ≡ k
+  pub width : slice_index new 3 ≡ w
+  pub others : (i : ℕ) → 4 ≤ i → i < 4 + 2 * k → slice_index new i ≡ slice_index head i
+  pub itself : (slice_index new (4 + 2 * k) ≡ t.track) × (slice_index new (5 + 2 * k) ≡ t.sector)
+  pub track : slice_index new 16 ≡ q.track
+  pub sector : slice_index new 17 ≡ q.sector
+  pub zeros : (i : ℕ) → 18 ≤ i → slice_index new i ≡ 0
+
+-- it is claimed and written
+pub record IsSideBegun (tracks : ℕ) (old new : Content) (head : List ℕ) (k w : ℕ) (q t : Place) : Type 0 where
+  pub one : Content
+  pub claims : Claims tracks old one t
+  pub side : List ℕ
+  pub is_new : IsNewSide head k w q t side
+  pub written : new ≡ written one t side

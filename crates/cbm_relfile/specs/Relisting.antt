@@ -1,0 +1,49 @@
+-- The side sectors of a file are written anew, so that each lists its next 120 blocks.
+use Rattle.std.specs.Prelude.{ℕ, ◌+◌, ◌*◌, ◌<◌, ◌≤◌, ◌≡◌, ◌⊎◌, true, List, length, take, drop, slice_index, slice_index_or, Ok}
+use Rattle.cbm_medium.specs.Place.{Place, directory_head}
+use Rattle.cbm_medium.specs.Content.{Content, written}
+use Rattle.cbm_medium.specs.Links.{bytes_at, place_in, IsApart}
+use Rattle.cbm_medium.specs.Seen.{Seen, HasFailed}
+use Rattle.cbm_relfile.specs.Records.{AllWhole, Relative, IsLaid}
+use Rattle.cbm_relfile.specs.SideSectors.{named_in}
+
+-- A side sector lists these blocks; its number, the records' length and the list of the side sectors stay.
+pub record ListsThese (old : List ℕ) (blocks : List Place) (new : List ℕ) : Type 0 where
+  pub whole : length new ≡ 256
+  pub front : (i : ℕ) → 2 ≤ i → i < 16 → slice_index new i ≡ slice_index old i
+  pub lists : named_in 120 (drop 16 new) ≡ blocks
+
+-- it is written
+pub record IsSideListed (old new : Content) (t : Place) (blocks : List Place) : Type 0 where
+  pub side : List ℕ
+  pub reads : old t ≡ Ok side
+  pub bytes : List ℕ
+  pub these : ListsThese side blocks bytes
+  pub written : new ≡ written old t bytes
+
+-- the side sector of a number lists these blocks
+abbrev pub lists_at : Content → List Place → ℕ → List Place
+lists_at c sides i = named_in 120 (drop 16 (bytes_at c (slice_index_or sides i directory_head)))
+
+-- these are the side sectors that the first one names
+abbrev pub NamesSides : List ℕ → List Place → Type 0
+NamesSides head sides = (i : ℕ) → i < length sides → slice_index_or sides i directory_head ≡ place_in head (4 + 2 * i)
+
+-- Why a side sector that reads isn't written: the medium is protected, which is told by 26, or it failed by itself.
+abbrev pub IsSideRefused : Seen → Seen → ℕ → Type 0
+IsSideRefused old new code = ((old.protected ≡ true) × (code ≡ 26)) ⊎ HasFailed old new
+
+-- THE DRIVE'S FORM: each side sector lists its next 120 blocks.
+abbrev pub AreListed : Content → List Place → List Place → Type 0
+AreListed c sides blocks = (i : ℕ) → i < length sides → lists_at c sides i ≡ take 120 (drop (120 * i) blocks)
+
+-- Each side sector is another, and none is a data block.
+pub record AreApart (blocks sides : List Place) : Type 0 where
+  pub distinct : (i j : ℕ) → i < length sides → j < length sides → slice_index_or sides i directory_head ≡ slice_index_or sides j directory_head → i ≡ j
+  pub apart : (i : ℕ) → i < length sides → IsApart (slice_index_or sides i directory_head) blocks
+
+-- THE FILE LIES WHERE IT LAY, and only its side sectors are others.
+pub record IsRelisted (tracks : ℕ) (old new : Content) (file : Relative) (blocks sides : List Place) : Type 0 where
+  pub laid : IsLaid tracks new file blocks sides
+  pub whole : AllWhole new
+  pub others : (p : Place) → IsApart p sides → new p ≡ old p

@@ -1,0 +1,40 @@
+use Rattle.std.proofs.Common.{ℕ, ◌*◌, ◌≤◌, sym, subst}
+use Rattle.cbm_medium.specs.Seen.{Seen}
+use Rattle.cbm_volume.specs.Growing.{IsGrowthStopped}
+use Rattle.cbm_volume.proofs.CopySteps.{handed}
+use Rattle.cbm_volume.proofs.GrowthBegun.{sides_begin, enough_sides, open_again, grown_since, stopped_since}
+use Rattle.cbm_volume.proofs.beginning_growth.begin_growth.Goals as goal
+
+-- a side sector isn't added
+pub returns-in_err-sides-clause-begun : goal.returns-in_err-sides-clause-begun
+returns-in_err-sides-clause-begun g c = λ d uses n w rs o is room.
+    let old : Seen = g.M.Medium.seen c.args.medium.now in
+    let new : Seen = g.M.Medium.seen c.add_sides.new.medium in
+    handed c.from_residual.result c.in_err-sides.field-0.0 _ (IsGrowthStopped old new old.content o.holds.layout d uses n w rs) c.from_residual.ensures.1
+    (c.in_err-sides.ensures.added old.content d uses n w c.args.blocks c.args.sides rs o c.geometry-geometry.ensures.value (sides_begin old.tracks old.content d uses n w c.args.blocks c.args.sides rs o c.args.file is) room)
+
+-- the rest isn't done
+pub returns-in_err-last-clause-begun : goal.returns-in_err-last-clause-begun
+returns-in_err-last-clause-begun g c = λ d uses n w rs o is room.
+    let old : Seen = g.M.Medium.seen c.args.medium.now in
+    let mid : Seen = g.M.Medium.seen c.add_sides.new.medium in
+    let new : Seen = g.M.Medium.seen c.begin_listed.new.medium in
+    let only = c.in_ok-sides.ensures.only in
+    let k = c.in_ok-sides.ensures.added old.content d uses n w c.args.blocks c.args.sides rs o c.geometry-geometry.ensures.value (sides_begin old.tracks old.content d uses n w c.args.blocks c.args.sides rs o c.args.file is) room in
+    handed c.from_residual-in_err-last.result c.in_err-last.field-0.0 _ (IsGrowthStopped old new old.content o.holds.layout d uses n w rs) c.from_residual-in_err-last.ensures.1
+    (stopped_since old mid new d uses n w c.args.blocks c.args.sides rs o c.args.file c.in_ok-sides.sides k.1 only.tracks c.in_err-last.field-0.0 only.protected only.counted
+    (c.in_err-last.ensures.begun _ uses n w rs (open_again old mid new d uses n w c.args.blocks c.args.sides rs o c.args.file c.in_ok-sides.sides k.1 only.tracks) k.1.file
+    (subst (λ (m : ℕ). c.args.blocks ≤ 120 * m) (sym k.0) (enough_sides c.args.sides c.args.blocks))))
+
+pub returns-clause-begun : goal.returns-clause-begun
+returns-clause-begun g c = λ d uses n w rs o is room.
+    let old : Seen = g.M.Medium.seen c.args.medium.now in
+    let mid : Seen = g.M.Medium.seen c.add_sides.new.medium in
+    let new : Seen = g.M.Medium.seen c.begin_listed.new.medium in
+    let only = c.in_ok-sides.ensures.only in
+    let k = c.in_ok-sides.ensures.added old.content d uses n w c.args.blocks c.args.sides rs o c.geometry-geometry.ensures.value (sides_begin old.tracks old.content d uses n w c.args.blocks c.args.sides rs o c.args.file is) room in (
+      k.0,
+      grown_since old mid new d uses n w c.args.blocks c.args.sides rs o c.args.file c.in_ok-sides.sides k.1 only.tracks c.in_ok-last.last
+          (c.in_ok-last.ensures.begun _ uses n w rs (open_again old mid new d uses n w c.args.blocks c.args.sides rs o c.args.file c.in_ok-sides.sides k.1 only.tracks) k.1.file
+          (subst (λ (m : ℕ). c.args.blocks ≤ 120 * m) (sym k.0) (enough_sides c.args.sides c.args.blocks))),
+    )

@@ -1,0 +1,27 @@
+use Rattle.std.proofs.Common.{◌-◌, arith}
+use Rattle.cbm_medium.specs.Seen.{Seen}
+use Rattle.cbm_volume.specs.Growing.{IsGrowthStopped}
+use Rattle.cbm_volume.proofs.CopySteps.{handed, nothing_yet, nothing_more}
+use Rattle.cbm_volume.proofs.GrowingJoined.{copied_none, copied_more, copied_stop}
+use Rattle.cbm_volume.proofs.growing_blocks.copy_sides.Goals as goal
+
+pub loop-passed-init : goal.loop-passed-init
+loop-passed-init g c = (copied_none (g.M.Medium.seen c.args.medium.now) c.args.file c.args.geometry c.args.sides c.args.side, nothing_yet (g.M.Medium.seen c.args.medium.now), omega arith)
+
+pub returns-in_err-copy_side-clause-copied : goal.returns-in_err-copy_side-clause-copied
+returns-in_err-copy_side-clause-copied g c = λ c0 d uses n w b s b1 rs q o e h.
+    let old : Seen = g.M.Medium.seen c.args.medium.now in
+    let mid : Seen = g.M.Medium.seen c.loop-passed.medium in
+    let new : Seen = g.M.Medium.seen c.copy_side.new.medium in
+    handed c.from_residual.result c.in_err-copy_side.field-0.0 _ (IsGrowthStopped old new c0 o.holds.layout d uses n w rs) c.from_residual.ensures.1
+    (copied_stop _ old mid new c.args.file c.args.geometry c.args.sides (c.args.sides - c.loop-passed.passed) c.args.side c.in_err-copy_side.field-0.0 c.loop-passed.invariant.0 c.loop-passed.invariant.1 (omega (arith, c.loop-passed-test.true)) c.in_err-copy_side.ensures.copied c0 d uses n w b s b1 rs q o e h)
+
+pub loop-passed-preserved : goal.loop-passed-preserved
+loop-passed-preserved g c =
+    let old : Seen = g.M.Medium.seen c.args.medium.now in
+    let mid : Seen = g.M.Medium.seen c.loop-passed.medium in
+    let new : Seen = g.M.Medium.seen c.copy_side.new.medium in (
+      copied_more old mid new c.args.file c.args.geometry c.args.sides (c.args.sides - c.loop-passed.passed) c.args.side c.loop-passed.invariant.0 c.loop-passed.invariant.1.tracks (omega (arith, c.loop-passed-test.true)) c.in_ok-copy_side.ensures.copied,
+      nothing_more c.in_ok-copy_side.field-0 old mid new c.loop-passed.invariant.1 c.in_ok-copy_side.ensures.only,
+      omega (arith, c.loop-passed.invariant.2),
+    )

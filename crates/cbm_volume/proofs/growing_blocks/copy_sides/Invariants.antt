@@ -1,0 +1,10 @@
+use Rattle.std.proofs.Common.{◌≤◌, Ok}
+use Rattle.cbm_medium.specs.Seen.{OnlyContent}
+use Rattle.cbm_medium.specs.declared.fault.Trouble.{Trouble}
+use Rattle.cbm_volume.proofs.GrowingJoined.{HasCopied}
+use Rattle.cbm_volume.proofs.growing_blocks.copy_sides.Given as goal
+
+-- the side sectors so far have the new one in their lists
+abbrev pub invariant-loop-passed : goal.invariant-loop-passed
+invariant-loop-passed g l =
+    HasCopied (g.M.Medium.seen l.initial.medium) (g.M.Medium.seen l.medium) l.file l.geometry l.sides l.side × OnlyContent {A = Unit {0}} {E = Trouble} (Ok tt) (g.M.Medium.seen l.initial.medium) (g.M.Medium.seen l.medium) × (1 ≤ l.passed)

@@ -1,0 +1,157 @@
+// A relative file whose side sectors can't list all its blocks gets more of them, before it grows.
+
+ghost use Rattle.std.specs.Prelude.{◌≡◌, ◌≤◌, ◌<◌, ◌+◌, ◌-◌, ◌*◌, ℕ, List, true, IfErr, IfOk, MatchResult};
+ghost use Rattle.cbm_medium.specs.Content.{Content};
+ghost use Rattle.cbm_medium.specs.Place.{Place};
+ghost use Rattle.cbm_medium.specs.Seen.{OnlyContent};
+ghost use Rattle.cbm_file.specs.Files.{Disk};
+ghost use Rattle.cbm_file.specs.Records.{sides_for};
+ghost use Rattle.cbm_bam.specs.Map.{geometry_of};
+ghost use Rattle.cbm_volume.specs.AddingSides.{HasSides, HasEmptySide};
+ghost use Rattle.cbm_volume.specs.Growing.{IsGrowthStopped};
+ghost use Rattle.cbm_volume.specs.RecordWrites.{HasRecordsOpen};
+ghost use Rattle.cbm_volume.specs.Writers.{Use};
+
+use crate::making_records::miscounted;
+use cbm_medium::{Address, Geometry, Medium, Trouble};
+use cbm_relfile::{Relative, begin_empty_side, link_side};
+
+/// Claims and writes a side sector for a file that has so many: it lists no block, and the file's side sectors don't list
+/// it yet.
+fn open_empty<M: Medium>(
+    medium: &mut M,
+    geometry: Geometry,
+    file: Relative,
+    sides: u8,
+) -> Result<Address, Trouble>
+    requires tracks { geometry ≤ (M.seen medium.old).tracks }
+    requires sides { sides < 6 }
+    ensures opened { let old = M.seen medium.old in let new = M.seen medium.new in
+        (c0 : Content) (d : Disk) (uses : ℕ → Use) (n w b s : ℕ) (rs : List (List ℕ))
+        (o : HasRecordsOpen old.tracks c0 d uses n w b s rs) → geometry ≡ geometry_of old.tracks c0 →
+        HasSides old.tracks c0 d uses n w b s rs o file old.content sides → 0 < d.free - (sides - s) →
+        MatchResult result (λ t. HasEmptySide old.tracks c0 d uses n w b s rs o file new.content sides t)
+        (IsGrowthStopped old new c0 o.holds.layout d uses n w rs) }
+    ensures protection { IfErr result (λ t. t.code ≡ 26 → (M.seen medium.old).protected ≡ true) }
+    ensures only { OnlyContent result (M.seen medium.old) (M.seen medium.new) }
+{
+    let Some(side) = begin_empty_side(medium, geometry, file, sides)? else {
+        return Err(miscounted());
+    };
+    Ok(side)
+}
+
+/// The new side sector is put into the list of the one of a number, counted from 0, of so many. With the first one's list
+/// the file has it.
+fn list_side<M: Medium>(
+    medium: &mut M,
+    geometry: Geometry,
+    file: Relative,
+    sides: u8,
+    number: u8,
+    side: Address,
+) -> Result<(), Trouble>
+    requires tracks { geometry ≤ (M.seen medium.old).tracks }
+    requires number { (number < sides) × (sides < 6) }
+    ensures copied { let old = M.seen medium.old in let new = M.seen medium.new in
+        (c0 : Content) (d : Disk) (uses : ℕ → Use) (n w b s : ℕ) (rs : List (List ℕ))
+        (o : HasRecordsOpen old.tracks c0 d uses n w b s rs) → geometry ≡ geometry_of old.tracks c0 →
+        HasEmptySide old.tracks c0 d uses n w b s rs o file old.content sides side → 0 < number →
+        MatchResult result (λ x. HasEmptySide old.tracks c0 d uses n w b s rs o file new.content sides side)
+        (IsGrowthStopped old new c0 o.holds.layout d uses n w rs) }
+    ensures added { let old = M.seen medium.old in let new = M.seen medium.new in
+        (c0 : Content) (d : Disk) (uses : ℕ → Use) (n w b s : ℕ) (rs : List (List ℕ))
+        (o : HasRecordsOpen old.tracks c0 d uses n w b s rs) → geometry ≡ geometry_of old.tracks c0 →
+        HasEmptySide old.tracks c0 d uses n w b s rs o file old.content sides side → number ≡ 0 →
+        MatchResult result (λ x. HasSides old.tracks c0 d uses n w b s rs o file new.content (sides + 1))
+        (IsGrowthStopped old new c0 o.holds.layout d uses n w rs) }
+    ensures protection { IfErr result (λ t. t.code ≡ 26 → (M.seen medium.old).protected ≡ true) }
+    ensures only { OnlyContent result (M.seen medium.old) (M.seen medium.new) }
+{
+    link_side(medium, geometry, file.side(), sides, number, side)
+}
+
+/// The new side sector is put into the lists of all side sectors but the first, from the last one down.
+fn list_in_others<M: Medium>(
+    medium: &mut M,
+    geometry: Geometry,
+    file: Relative,
+    sides: u8,
+    side: Address,
+) -> Result<(), Trouble>
+    requires tracks { geometry ≤ (M.seen medium.old).tracks }
+    requires sides { sides < 6 }
+    ensures copied { let old = M.seen medium.old in let new = M.seen medium.new in
+        (c0 : Content) (d : Disk) (uses : ℕ → Use) (n w b s : ℕ) (rs : List (List ℕ))
+        (o : HasRecordsOpen old.tracks c0 d uses n w b s rs) → geometry ≡ geometry_of old.tracks c0 →
+        HasEmptySide old.tracks c0 d uses n w b s rs o file old.content sides side →
+        MatchResult result (λ x. HasEmptySide old.tracks c0 d uses n w b s rs o file new.content sides side)
+        (IsGrowthStopped old new c0 o.holds.layout d uses n w rs) }
+    ensures protection { IfErr result (λ t. t.code ≡ 26 → (M.seen medium.old).protected ≡ true) }
+    ensures only { OnlyContent result (M.seen medium.old) (M.seen medium.new) }
+{
+    for passed in 1..sides {
+        list_side(medium, geometry, file, sides, sides - passed, side)?;
+    }
+    Ok(())
+}
+
+/// One side sector more, which lists no block, for a file of so many.
+fn add_empty<M: Medium>(
+    medium: &mut M,
+    geometry: Geometry,
+    file: Relative,
+    sides: u8,
+) -> Result<(), Trouble>
+    requires tracks { geometry ≤ (M.seen medium.old).tracks }
+    requires sides { (1 ≤ sides) × (sides < 6) }
+    ensures added { let old = M.seen medium.old in let new = M.seen medium.new in
+        (c0 : Content) (d : Disk) (uses : ℕ → Use) (n w b s : ℕ) (rs : List (List ℕ))
+        (o : HasRecordsOpen old.tracks c0 d uses n w b s rs) → geometry ≡ geometry_of old.tracks c0 →
+        HasSides old.tracks c0 d uses n w b s rs o file old.content sides → 0 < d.free - (sides - s) →
+        MatchResult result (λ x. HasSides old.tracks c0 d uses n w b s rs o file new.content (sides + 1))
+        (IsGrowthStopped old new c0 o.holds.layout d uses n w rs) }
+    ensures protection { IfErr result (λ t. t.code ≡ 26 → (M.seen medium.old).protected ≡ true) }
+    ensures only { OnlyContent result (M.seen medium.old) (M.seen medium.new) }
+{
+    let side = open_empty(medium, geometry, file, sides)?;
+    list_in_others(medium, geometry, file, sides, side)?;
+    list_side(medium, geometry, file, sides, 0, side)
+}
+
+/// As many side sectors for a file as list all its data blocks, and at least those that it has; answers how many. An
+/// `Err` is why a sector isn't written: the file has its records still.
+pub(crate) fn add_sides<M: Medium>(
+    medium: &mut M,
+    geometry: Geometry,
+    file: Relative,
+    blocks: u16,
+    sides: u8,
+) -> Result<u8, Trouble>
+    requires tracks { geometry ≤ (M.seen medium.old).tracks }
+    requires blocks { blocks ≤ 720 }
+    requires sides { sides ≤ 6 }
+    ensures added { let old = M.seen medium.old in let new = M.seen medium.new in
+        (c0 : Content) (d : Disk) (uses : ℕ → Use) (n w b s : ℕ) (rs : List (List ℕ))
+        (o : HasRecordsOpen old.tracks c0 d uses n w b s rs) → geometry ≡ geometry_of old.tracks c0 →
+        HasSides old.tracks c0 d uses n w b s rs o file old.content sides →
+        sides_for sides blocks - s ≤ d.free → MatchResult result
+        (λ k. (k ≡ sides_for sides blocks) × HasSides old.tracks c0 d uses n w b s rs o file new.content k)
+        (IsGrowthStopped old new c0 o.holds.layout d uses n w rs) }
+    ensures bound { IfOk result (λ k. (sides ≤ k) × (k ≤ 6)) }
+    ensures protection { IfErr result (λ t. t.code ≡ 26 → (M.seen medium.old).protected ≡ true) }
+    ensures only { OnlyContent result (M.seen medium.old) (M.seen medium.new) }
+{
+    // A sound relative file has a side sector.
+    if sides == 0 {
+        return Err(miscounted());
+    }
+    let all = ((blocks + 119) / 120) as u8;
+    if all <= sides {
+        return Ok(sides);
+    }
+    for number in sides..all {
+        add_empty(medium, geometry, file, number)?;
+    }
+    Ok(all)
+}

@@ -1,0 +1,36 @@
+// A relative file that grew: its entry tells how many blocks it has.
+
+ghost use Rattle.std.specs.Prelude.{◌≡◌, ◌≢◌, ℕ, true, Some, IfErr, MatchResult};
+ghost use Rattle.cbm_medium.specs.Place.{Place};
+ghost use Rattle.cbm_medium.specs.Seen.{OnlyContent};
+ghost use Rattle.cbm_file.specs.Files.{Disk, File, file_at, with_slot};
+ghost use Rattle.cbm_volume.specs.Layouts.{Directory};
+ghost use Rattle.cbm_volume.specs.Opens.{IsHindered};
+ghost use Rattle.cbm_volume.specs.Writers.{Use, Relates, HoldsNow};
+
+use cbm_directory::put_slot;
+use cbm_medium::{Medium, Trouble};
+
+/// Writes into the entry of a slot that its file has so many blocks; all else of it stays. An `Err` changes nothing: on a
+/// sound disk it is 26 on a protected medium, or the medium's own failure.
+pub(crate) fn tell_blocks<M: Medium>(medium: &mut M, slot: u8, blocks: u16) -> Result<(), Trouble>
+    ensures told { let old = M.seen medium.old in let new = M.seen medium.new in
+        (d : Disk) (uses : ℕ → Use) (ch : ℕ) (f : File) →
+        HoldsNow old.tracks old.content d uses → uses ch ≡ Relates slot → file_at d slot ≡ Some f →
+        MatchResult result
+        (λ x. HoldsNow old.tracks new.content (with_slot d slot (Some (record f { shown = blocks }))) uses)
+        (λ t. (new.content ≡ old.content) × IsHindered old new t) }
+    // Nothing but the directory is written.
+    ensures elsewhere { let old = M.seen medium.old in let new = M.seen medium.new in
+        (d : Disk) (uses : ℕ → Use) → (h : HoldsNow old.tracks old.content d uses) →
+        (p : Place) → h.layout.owner p ≢ Directory → new.content p ≡ old.content p }
+    ensures protection { IfErr result (λ t. t.code ≡ 26 → (M.seen medium.old).protected ≡ true) }
+    ensures only { OnlyContent result (M.seen medium.old) (M.seen medium.new) }
+{
+    let geometry = cbm_bam::geometry(medium);
+    let Some(entry) = cbm_directory::slot(medium, geometry, slot)? else {
+        return Ok(());
+    };
+    let counted = entry.counted(blocks);
+    put_slot(medium, geometry, slot, &counted)
+}

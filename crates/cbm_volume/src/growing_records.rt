@@ -1,0 +1,227 @@
+// A relative file grows until a record is there.
+
+ghost use Rattle.std.specs.Prelude.{◌≡◌, ◌≢◌, ◌≤◌, ◌<◌, ◌+◌, ◌-◌, ◌==◌, ◌^◌, ℕ, List, true, false, None, Ok, IfErr, IfOk, IfSome, IsOkAnd, MatchBool, MatchOption, MatchResult};
+ghost use Rattle.cbm_medium.specs.Seen.{OnlyContent};
+ghost use Rattle.cbm_file.specs.Files.{Disk, Records};
+ghost use Rattle.cbm_file.specs.Records.{blocks_for, record_at, sides_for};
+ghost use Rattle.cbm_bam.specs.Map.{geometry_of};
+ghost use Rattle.cbm_directory.specs.Entries.{entry_at, first_block, first_side};
+ghost use Rattle.cbm_volume.specs.Growth.{IsGrowthCut, IsTooLarge, with_growth};
+ghost use Rattle.cbm_volume.specs.Growing.{IsGrowthStopped, IsGrownTo, IsPlanned, is_too_large};
+ghost use Rattle.cbm_volume.specs.Layouts.{Untouched};
+ghost use Rattle.cbm_volume.specs.RecordWrites.{HasRecordsOpen};
+ghost use Rattle.cbm_volume.specs.Writers.{Use, HoldsNow};
+
+use crate::beginning_growth::begin_growth;
+use crate::counting_blocks::tell_blocks;
+use crate::growing_blocks::grow_blocks;
+use crate::making_records::miscounted;
+use crate::volume::Volume;
+use cbm_medium::codes::WRITE_PROTECT_ON;
+use cbm_medium::{Medium, Trouble};
+use cbm_relfile::{Extent, Relative, extent_of};
+
+/// The greatest number of a record that a place can have.
+const MOST_NUMBER: u32 = 65535;
+
+/// How many data blocks six side sectors list.
+const MOST_BLOCKS: u32 = 720;
+
+/// How many data blocks a file must have for a record, where its records are so long; None where a place can't have that
+/// number, or six side sectors can't list as many, or fewer blocks are free than the growth takes.
+pub fn needed(extent: Extent, length: u8, number: u32, free: u16) -> Option<u16>
+    requires number { number < 2 ^ 24 }
+    requires sides { extent.sides ≤ 6 }
+    ensures some { IfSome result (λ x. (x ≡ blocks_for length extent.blocks number) ×
+        (is_too_large free length extent.blocks extent.sides number ≡ false)) }
+    ensures none { result ≡ None → is_too_large free length extent.blocks extent.sides number ≡ true }
+    ensures bound { IfSome result (λ x. (extent.blocks ≤ x) × (x ≤ 720)) }
+{
+    if number > MOST_NUMBER {
+        return None;
+    }
+    let blocks = ((number * length as u32 + 253) / 254).max(extent.blocks as u32);
+    if blocks > MOST_BLOCKS {
+        return None;
+    }
+    let blocks = blocks as u16;
+    let sides = ((blocks + 119) / 120).max(extent.sides as u16);
+    if (blocks - extent.blocks) + (sides - extent.sides as u16) > free {
+        return None;
+    }
+    Some(blocks)
+}
+
+/// What a growth needs: where the file lies, how far it reaches, and how many data blocks it is to have.
+#[derive(Clone, Copy)]
+pub struct GrowthPlan {
+    pub file: Relative,
+    pub extent: Extent,
+    pub blocks: u16,
+}
+
+/// What the growth of the file in a slot needs, so that a record is there, where so many blocks are free; None where it
+/// is too large. An `Err` is why a sector doesn't read.
+pub fn plan_growth<M: Medium>(
+    medium: &M,
+    slot: u8,
+    number: u32,
+    free: u16,
+) -> Result<Option<GrowthPlan>, Trouble>
+    requires number { number < 2 ^ 24 }
+    ensures planned { let now = M.seen medium.now in
+        (d : Disk) (uses : ℕ → Use) (w b s : ℕ) (rs : List (List ℕ)) →
+        (o : HasRecordsOpen now.tracks now.content d uses slot w b s rs) → free ≡ d.free → IsOkAnd result
+        (λ x. MatchOption x (IsTooLarge d w b s number)
+        (λ p. IsPlanned now.tracks now.content d uses slot w b s rs o number p.file p.extent.blocks p.extent.sides p.blocks)) }
+    ensures bound { IfOk result (λ x. IfSome x (λ p. (1 ≤ p.file.width) × (p.file.width ≤ 254) ×
+        (1 ≤ p.extent.blocks) × (p.extent.blocks ≤ p.blocks) × (p.blocks ≤ 720) × (p.extent.sides ≤ 6))) }
+    ensures never_26 { IfErr result (λ t. t.code ≢ 26) }
+{
+    let geometry = cbm_bam::geometry(medium);
+    let Some(entry) = cbm_directory::slot(medium, geometry, slot)? else {
+        return Ok(None);
+    };
+    let length = entry.record_length();
+    if length == 0 || length == 255 {
+        return Ok(None);
+    }
+    let file = Relative::new(entry.first_block(), entry.first_side(), length);
+    let extent = extent_of(medium, geometry, file)?;
+    if extent.blocks == 0 {
+        return Ok(None);
+    }
+    let Some(blocks) = needed(extent, length, number, free) else {
+        return Ok(None);
+    };
+    Ok(Some(GrowthPlan {
+        file,
+        extent,
+        blocks,
+    }))
+}
+
+/// Makes the file in a slot, which has so many data blocks and side sectors, one of so many data blocks.
+pub fn grow_to<M: Medium>(
+    medium: &mut M,
+    slot: u8,
+    file: Relative,
+    extent: Extent,
+    blocks: u16,
+) -> Result<(), Trouble>
+    requires length { (1 ≤ file.width) × (file.width ≤ 254) }
+    requires blocks { (1 ≤ extent.blocks) × (extent.blocks ≤ blocks) × (blocks ≤ 720) }
+    requires sides { extent.sides ≤ 6 }
+    ensures grown { let old = M.seen medium.old in let new = M.seen medium.new in
+        (d : Disk) (uses : ℕ → Use) (w : ℕ) (rs : List (List ℕ)) →
+        (o : HasRecordsOpen old.tracks old.content d uses slot w extent.blocks extent.sides rs) →
+        let l = o.holds.layout in let entry = entry_at old.content l.directory slot in
+        file ≡ (record { first = first_block entry; side = first_side entry; width = w }) →
+        blocks + sides_for extent.sides blocks - (extent.blocks + extent.sides) ≤ d.free → MatchResult result
+        (λ x. IsGrownTo old.tracks old.content new.content l d uses slot w rs extent.blocks extent.sides blocks)
+        (IsGrowthStopped old new old.content l d uses slot w rs) }
+    ensures protection { IfErr result (λ t. t.code ≡ 26 → (M.seen medium.old).protected ≡ true) }
+    ensures only { OnlyContent result (M.seen medium.old) (M.seen medium.new) }
+{
+    let from = begin_growth(medium, file, extent.blocks, extent.sides)?;
+    let geometry = cbm_bam::geometry(medium);
+    // On a sound disk the last block is one of its sectors.
+    if from.last.track() > geometry.tracks() {
+        return Err(miscounted());
+    }
+    let reach = grow_blocks(medium, geometry, file, from, blocks - extent.blocks)?;
+    tell_blocks(medium, slot, reach.blocks + reach.sides as u16)
+}
+
+/// Grows the file in a slot, where so many blocks are free, so that a record is there.
+pub fn grow_in_slot<M: Medium>(
+    medium: &mut M,
+    slot: u8,
+    number: u32,
+    free: u16,
+) -> Result<bool, Trouble>
+    requires number { number < 2 ^ 24 }
+    ensures grown { let old = M.seen medium.old in let new = M.seen medium.new in
+        (d : Disk) (uses : ℕ → Use) (w b s : ℕ) (rs : List (List ℕ)) →
+        HasRecordsOpen old.tracks old.content d uses slot w b s rs → free ≡ d.free →
+        IfOk result (λ done. MatchBool done
+        (HoldsNow old.tracks new.content (with_growth d slot w b s rs number) uses)
+        (IsTooLarge d w b s number × (new.content ≡ old.content))) }
+    ensures full { let old = M.seen medium.old in
+        (d : Disk) (uses : ℕ → Use) (w b s : ℕ) (rs : List (List ℕ)) →
+        HasRecordsOpen old.tracks old.content d uses slot w b s rs → free ≡ d.free →
+        IsTooLarge d w b s number → IsOkAnd result (λ done. done ≡ false) }
+    ensures stopped { let old = M.seen medium.old in
+        (d : Disk) (uses : ℕ → Use) (w b s : ℕ) (rs : List (List ℕ)) →
+        HasRecordsOpen old.tracks old.content d uses slot w b s rs → free ≡ d.free →
+        IfErr result (IsGrowthCut old (M.seen medium.new) d uses slot w rs) }
+    ensures untouched { let old = M.seen medium.old in
+        (d : Disk) (uses : ℕ → Use) (w b s : ℕ) (rs : List (List ℕ)) →
+        HasRecordsOpen old.tracks old.content d uses slot w b s rs → free ≡ d.free →
+        Untouched (geometry_of old.tracks old.content) old.content (M.seen medium.new).content (λ m. m == slot) }
+    ensures kept { IfOk result
+        (λ done. done ≡ false → (M.seen medium.new).content ≡ (M.seen medium.old).content) }
+    ensures guarded { (M.seen medium.old).protected ≡ true →
+        (M.seen medium.new).content ≡ (M.seen medium.old).content }
+    ensures protection { IfErr result (λ t. t.code ≡ 26 → (M.seen medium.old).protected ≡ true) }
+    ensures only { OnlyContent result (M.seen medium.old) (M.seen medium.new) }
+{
+    let Some(plan) = plan_growth(medium, slot, number, free)? else {
+        return Ok(false);
+    };
+    if medium.protected() {
+        return Err(Trouble {
+            code: WRITE_PROTECT_ON,
+            track: 0,
+            sector: 0,
+        });
+    }
+    grow_to(medium, slot, plan.file, plan.extent, plan.blocks)?;
+    Ok(true)
+}
+
+impl<M: Medium> Volume<M> {
+    /// Grows the relative file in a slot, whose records a channel has open, until a record is there: data blocks full of
+    /// fresh records ($FF, then zeros) are added one by one, with side sectors that list them, and last the entry tells
+    /// how many blocks the file has. False, with nothing changed, where too few blocks are free, six side sectors can't
+    /// list as many, or a place can't have that number. On a sound disk an `Err` says that the medium is protected (26),
+    /// with nothing changed, or failed by itself: the file has its records then and perhaps fresh ones behind them.
+    pub fn grow_records(&mut self, slot: u8, number: u32) -> Result<bool, Trouble>
+        requires number { (1 ≤ number) × (number < 2 ^ 24) }
+        ensures grown { let old = M.seen self.old in let new = M.seen self.new in
+            (d : Disk) (uses : ℕ → Use) (w b s : ℕ) (rs : List (List ℕ)) →
+            HasRecordsOpen old.tracks old.content d uses slot w b s rs →
+            record_at (Records w rs b s) number ≡ None →
+            IfOk result (λ done. MatchBool done
+            (HoldsNow old.tracks new.content (with_growth d slot w b s rs number) uses)
+            (IsTooLarge d w b s number × (new.content ≡ old.content))) }
+        // Too little room is told first, also on a protected medium.
+        ensures full { let old = M.seen self.old in
+            (d : Disk) (uses : ℕ → Use) (w b s : ℕ) (rs : List (List ℕ)) →
+            HasRecordsOpen old.tracks old.content d uses slot w b s rs →
+            record_at (Records w rs b s) number ≡ None →
+            IsTooLarge d w b s number → IsOkAnd result (λ done. done ≡ false) }
+        ensures stopped { let old = M.seen self.old in
+            (d : Disk) (uses : ℕ → Use) (w b s : ℕ) (rs : List (List ℕ)) →
+            HasRecordsOpen old.tracks old.content d uses slot w b s rs →
+            record_at (Records w rs b s) number ≡ None →
+            IfErr result (IsGrowthCut old (M.seen self.new) d uses slot w rs) }
+        // No sector of another closed file changes.
+        ensures untouched { let old = M.seen self.old in
+            (d : Disk) (uses : ℕ → Use) (w b s : ℕ) (rs : List (List ℕ)) →
+            HasRecordsOpen old.tracks old.content d uses slot w b s rs →
+            Untouched (geometry_of old.tracks old.content) old.content (M.seen self.new).content (λ m. m == slot) }
+        // False says that nothing has changed, whatever the medium holds.
+        ensures kept { IfOk result
+            (λ done. done ≡ false → (M.seen self.new).content ≡ (M.seen self.old).content) }
+        // A protected medium stays as it is.
+        ensures guarded { (M.seen self.old).protected ≡ true →
+            (M.seen self.new).content ≡ (M.seen self.old).content }
+        // The code 26 says that the medium is protected, whatever it holds.
+        ensures protection { IfErr result (λ t. t.code ≡ 26 → (M.seen self.old).protected ≡ true) }
+        ensures only { OnlyContent result (M.seen self.old) (M.seen self.new) }
+    {
+        let room = self.room()?;
+        grow_in_slot(&mut self.medium, slot, number, room.blocks)
+    }
+}
