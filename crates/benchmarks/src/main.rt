@@ -4,6 +4,7 @@
 mod circles;
 mod disks;
 mod drives;
+mod records;
 mod writes;
 
 use std::io;
@@ -17,5 +18,6 @@ fn main(rt: HostRuntime) -> io::Result<()> {
     writes::files(&rt, rt.alloc())?;
     writes::validations(&rt, rt.alloc())?;
     writes::copies(&rt, rt.alloc())?;
+    records::files(&rt, rt.alloc())?;
     circles::images(&rt, rt.alloc())
 }

@@ -53,7 +53,7 @@ fn write<M: Medium + Drop>(rt: &impl Runtime, name: &str, medium: M) -> io::Resu
 }
 
 /// Whether the drive's status is this one.
-fn succeeded<M: Medium>(dos: &Dos<M>, code: u8) -> io::Result<()> {
+pub fn succeeded<M: Medium>(dos: &Dos<M>, code: u8) -> io::Result<()> {
     if dos.status_code() == code {
         Ok(())
     } else {

@@ -8,3 +8,4 @@ pub mod Nearer
 pub mod Left
 pub mod Played
 pub mod Ordered
+pub mod Ahead

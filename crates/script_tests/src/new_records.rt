@@ -1,12 +1,12 @@
 // Scripts that make relative files.
 
-use crate::scripts::{keep, keep_protected, list, play, play_on_both, written};
+use crate::scripts::{checked, keep, keep_protected, list, play, play_on_both, written};
 use cbm_channel::Dos;
 use cbm_d64::D64Disk;
 use cbm_medium::Failing;
 use cbm_volume::Volume;
 use std::test::Fail;
-use test_images::empty_image;
+use test_images::{empty_image, place, put};
 
 #[test]
 fn a_new_file_has_fresh_records(rt: HostRuntime) -> Result<(), Fail> {
@@ -159,4 +159,15 @@ fn making_one_stops(rt: HostRuntime) -> Result<(), Fail> {
         assert_eq!(rt; volume.free()?, free, "{passes}");
     }
     Ok(())
+}
+
+#[test]
+fn a_side_sector_of_another_length(rt: HostRuntime) -> Result<(), Fail> {
+    let alloc = rt.alloc();
+    let script = "open 2 R,L,d\nput 15 P\\62\\03\\00\\01\nput 2 HI\n";
+    let mut image = written(&rt, alloc, script)?;
+    checked(&rt, alloc, image.as_slice(), "check sound\n")?;
+    // Its byte 3 is the length of a record, as in the directory.
+    put(&mut image, place(17, 10).wrapping_add(3), &[65]);
+    checked(&rt, alloc, image.as_slice(), "check 7 17 10\n")
 }

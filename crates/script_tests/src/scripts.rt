@@ -54,9 +54,15 @@ pub fn play(
     text: &str,
 ) -> Result<Vec<u8>, Fail> {
     let after = print_on(rt, alloc, image, &WRITABLE, script, text)?;
-    let same = print_on(rt, alloc, after.as_slice(), &CHECKED, "", "check sound\n")?;
-    assert!(rt; same.as_slice() == after.as_slice(), "{script}");
+    checked(rt, alloc, after.as_slice(), "check sound\n")?;
     Ok(after)
+}
+
+/// Asserts what is printed of an image that is checked, and that it stays.
+pub fn checked(rt: &impl Abort, alloc: Global, image: &[u8], text: &str) -> Result<(), Fail> {
+    let after = print_on(rt, alloc, image, &CHECKED, "", text)?;
+    assert!(rt; after.as_slice() == image);
+    Ok(())
 }
 
 /// The disk that a script leaves of an empty one; the script prints nothing.
