@@ -13,7 +13,7 @@ use Rattle.cbm_medium.specs.declared.fault.Trouble.{Trouble}
 use Rattle.cbm_relfile.specs.Making.{IsNotWritten}
 use Rattle.cbm_relfile.specs.Records.{AllWhole, Relative, IsLaid}
 use Rattle.cbm_relfile.specs.Relisting.{ListsThese, IsSideListed, lists_at, NamesSides, IsSideRefused, AreApart, IsRelisted}
-use Rattle.cbm_relfile.specs.SideSectors.{named_in, sides_listed, blocks_listed, Numbered}
+use Rattle.cbm_relfile.specs.SideSectors.{named_in, sides_listed, blocks_listed, Numbered, IsEnded}
 use Rattle.cbm_relfile.proofs.Listed.{at_bytes, named_none, named_some}
 
 abbrev pub nth : List Place → ℕ → Place
@@ -107,13 +107,19 @@ listing_more tracks c blocks n side at next bytes long room h ne holds is =
     }
 
 -- what a side sector lists then
-lists_so : (tracks : ℕ) (c : Content) (blocks : List Place) (n : ℕ) (old side new : List ℕ) (at : Place) → Listing tracks c blocks n side at → n ≤ 120 → length (take 120 blocks) ≡ n → length new ≡ 256 → ((i : ℕ) → 2 ≤ i → get_or new i 0 ≡ get_or side i 0)
-    → ((i : ℕ) → 2 ≤ i → i < 16 → get_or side i 0 ≡ get_or old i 0) → ((i : ℕ) → 16 + 2 * n ≤ i → get_or side i 0 ≡ 0) → ListsThese old (take 120 blocks) new
-lists_so tracks c blocks n old side new at h few all whole same front zeros =
+lists_so : (tracks : ℕ) (c : Content) (blocks : List Place) (n : ℕ) (old side new : List ℕ) (at : Place) → Listing tracks c blocks n side at → n ≤ 120 → length (take 120 blocks) ≡ n → length new ≡ 256 → IsEnded side n new → ((i : ℕ) → 2 ≤ i → get_or new i 0 ≡ get_or side i 0)
+    → ((i : ℕ) → i < 16 → get_or side i 0 ≡ get_or old i 0) → ((i : ℕ) → 16 + 2 * n ≤ i → get_or side i 0 ≡ 0) → ListsThese old (take 120 blocks) new
+lists_so tracks c blocks n old side new at h few all whole ends same front zeros =
     let inside : (k : ℕ) → k < length (take 120 blocks) → nth (take 120 blocks) k ≡ nth blocks k = λ k l. get_or-take 120 blocks k directory_head (omega (arith, l, all, few)) in
     record {
       whole = whole;
-      front = λ i l m. same i l ∙ front i l m;
+      ended = record {
+        track = ends.track ∙ front 0 (omega arith);
+        last = λ z. ends.last (front 0 (omega arith) ∙ z) ∙ ap (λ (m : ℕ). 15 + 2 * m) (sym all);
+        linked = λ no. ends.linked (λ z. no (sym (front 0 (omega arith)) ∙ z)) ∙ front 1 (omega arith);
+      };
+      front = λ i l m. same i l ∙ front i m;
+      zeros = λ i l. same i (omega (arith, l)) ∙ zeros i (omega (arith, l, all));
       lists = named_these 120 16 new (take 120 blocks) (omega (arith, all, few))
           (λ k l. (let t = same (16 + 2 * k) (omega arith) in let s = same (16 + 2 * k + 1) (omega arith) in (λ i. record { track = t i; sector = s i })) ∙ h.each k (omega (arith, l, all)) ∙ sym (inside k l))
           (λ k l z. h.some k (omega (arith, l, all)) (sym (ap (λ (p : Place). p.track) (inside k l)) ∙ z))
@@ -125,20 +131,20 @@ no_chain tracks c at [] z h = refl
 no_chain tracks c at (x ∷ xs) z h = absurd (let t = ap (λ (p : Place). p.track) h.0 in omega (arith, t, z, h.1.0))
 
 -- the chain ends
-pub listing_ends : (tracks : ℕ) (c : Content) (blocks : List Place) (n : ℕ) (old side new : List ℕ) (at : Place) → Listing tracks c blocks n side at → n < 120 → at.track ≡ 0 → length new ≡ 256 → ((i : ℕ) → 2 ≤ i → get_or new i 0 ≡ get_or side i 0)
-    → ((i : ℕ) → 2 ≤ i → i < 16 → get_or side i 0 ≡ get_or old i 0) → ((i : ℕ) → 16 + 2 * n ≤ i → get_or side i 0 ≡ 0) → ListsThese old (take 120 blocks) new × Chain tracks c at (drop 120 blocks)
-listing_ends tracks c blocks n old side new at h few end whole same front zeros =
+pub listing_ends : (tracks : ℕ) (c : Content) (blocks : List Place) (n : ℕ) (old side new : List ℕ) (at : Place) → Listing tracks c blocks n side at → n < 120 → at.track ≡ 0 → length new ≡ 256 → IsEnded side n new → ((i : ℕ) → 2 ≤ i → get_or new i 0 ≡ get_or side i 0)
+    → ((i : ℕ) → i < 16 → get_or side i 0 ≡ get_or old i 0) → ((i : ℕ) → 16 + 2 * n ≤ i → get_or side i 0 ≡ 0) → ListsThese old (take 120 blocks) new × Chain tracks c at (drop 120 blocks)
+listing_ends tracks c blocks n old side new at h few end whole ends same front zeros =
     let left : length (drop n blocks) ≡ 0 = no_chain tracks c at (drop n blocks) end h.chain in
     let size : length blocks ≡ n = omega (arith, left, length-drop n blocks, h.most) in (
-      lists_so tracks c blocks n old side new at h (omega (arith, few)) (ap length (take_all 120 blocks (omega (arith, size, few))) ∙ size) whole same front zeros,
+      lists_so tracks c blocks n old side new at h (omega (arith, few)) (ap length (take_all 120 blocks (omega (arith, size, few))) ∙ size) whole ends same front zeros,
       subst (λ (xs : List Place). Chain tracks c at xs) (sym (drop_all 120 blocks (omega (arith, size, few)))) end,
     )
 
 -- the side sector is full
-pub listing_full : (tracks : ℕ) (c : Content) (blocks : List Place) (n : ℕ) (old side new : List ℕ) (at : Place) → Listing tracks c blocks n side at → n ≡ 120 → length new ≡ 256 → ((i : ℕ) → 2 ≤ i → get_or new i 0 ≡ get_or side i 0)
-    → ((i : ℕ) → 2 ≤ i → i < 16 → get_or side i 0 ≡ get_or old i 0) → ((i : ℕ) → 16 + 2 * n ≤ i → get_or side i 0 ≡ 0) → ListsThese old (take 120 blocks) new × Chain tracks c at (drop 120 blocks)
-listing_full tracks c blocks n old side new at h all whole same front zeros = (
-  lists_so tracks c blocks n old side new at h (omega (arith, all)) (length-take-le 120 blocks (omega (arith, all, h.most)) ∙ sym all) whole same front zeros,
+pub listing_full : (tracks : ℕ) (c : Content) (blocks : List Place) (n : ℕ) (old side new : List ℕ) (at : Place) → Listing tracks c blocks n side at → n ≡ 120 → length new ≡ 256 → IsEnded side 120 new → ((i : ℕ) → 2 ≤ i → get_or new i 0 ≡ get_or side i 0)
+    → ((i : ℕ) → i < 16 → get_or side i 0 ≡ get_or old i 0) → ((i : ℕ) → 16 + 2 * n ≤ i → get_or side i 0 ≡ 0) → ListsThese old (take 120 blocks) new × Chain tracks c at (drop 120 blocks)
+listing_full tracks c blocks n old side new at h all whole ends same front zeros = (
+  lists_so tracks c blocks n old side new at h (omega (arith, all)) (length-take-le 120 blocks (omega (arith, all, h.most)) ∙ sym all) whole (subst (λ (m : ℕ). IsEnded side m new) (sym all) ends) same front zeros,
   subst (λ (m : ℕ). Chain tracks c at (drop m blocks)) all h.chain,
 )
 

@@ -1,12 +1,14 @@
 -- A relative file grows by a block: it is claimed, written and linked to, and then a side sector lists it.
-use Rattle.std.specs.Prelude.{ℕ, ◌+◌, ◌-◌, ◌*◌, ◌%◌, ◌<◌, ◌≤◌, ◌≡◌, ◌⊎◌, List, [], length, slice_index, Ok, Err}
+use Rattle.std.specs.Prelude.{ℕ, ◌+◌, ◌-◌, ◌*◌, ◌%◌, ◌<◌, ◌≤◌, ◌≡◌, ◌⊎◌, ◌==◌, Bool, if◌then◌else◌, List, [], length, slice_index, Ok, Err}
 use Rattle.cbm_medium.specs.Place.{Place, directory_head}
 use Rattle.cbm_medium.specs.Content.{Content, written}
+use Rattle.cbm_medium.specs.Links.{link}
 use Rattle.cbm_medium.specs.Seen.{Seen}
 use Rattle.cbm_bam.specs.Map.{Claims}
 use Rattle.cbm_bam.specs.Causes.{HasCause}
 use Rattle.cbm_relfile.specs.Changing.{IsWriteRefused}
 use Rattle.cbm_relfile.specs.Fresh.{IsFilledFrom, full_end}
+use Rattle.cbm_relfile.specs.SideSectors.{IsEnded}
 
 -- where in the last of so many full data blocks the first fresh record begins: after its last whole record
 abbrev pub fresh_place : ℕ → ℕ → ℕ
@@ -39,9 +41,10 @@ pub record IsLengthenStopped (tracks : ℕ) (old new : Seen) (last : Place) (cod
   pub same : new.content ≡ mid.content
   pub cause : (mid.content last ≡ Err code) ⊎ (HasCause mid new directory_head code ⊎ IsWriteRefused tracks mid new code)
 
--- A SIDE SECTOR LISTS ONE BLOCK MORE after so many: nothing else in it changes but what stands behind, and its second byte.
+-- A SIDE SECTOR LISTS ONE BLOCK MORE after so many: nothing else in it changes but what stands behind, and in the last one the second byte.
 pub record ListsMore (old : List ℕ) (k : ℕ) (q : Place) (new : List ℕ) : Type 0 where
   pub whole : length new ≡ 256
+  pub ended : IsEnded old (k + 1) new
   pub front : (i : ℕ) → 2 ≤ i → i < 16 + 2 * k → slice_index new i ≡ slice_index old i
   pub track : slice_index new (16 + 2 * k) ≡ q.track
   pub sector : slice_index new (17 + 2 * k) ≡ q.sector
@@ -64,25 +67,28 @@ abbrev pub IsListStopped : ℕ → Seen → Seen → ℕ → Type 0
 IsListStopped tracks old new code = (new.content ≡ old.content) × IsWriteRefused tracks old new code
 
 -- A SIDE SECTOR'S LIST OF SIDE SECTORS HAS ONE MORE after so many; its number, the records' length and the blocks that it lists stay.
-pub record ListsSide (old : List ℕ) (k : ℕ) (t : Place) (new : List ℕ) : Type 0 where
+-- It links to the new one where that follows it, and else where it linked.
+pub record ListsSide (old : List ℕ) (k : ℕ) (t : Place) (follows : Bool) (new : List ℕ) : Type 0 where
   pub whole : length new ≡ 256
+  pub link_is : link new ≡ (if follows then t else link old)
   pub front : (i : ℕ) → 2 ≤ i → i < 4 + 2 * k → slice_index new i ≡ slice_index old i
   pub track : slice_index new (4 + 2 * k) ≡ t.track
   pub sector : slice_index new (5 + 2 * k) ≡ t.sector
   pub last : k < 5 → slice_index new (6 + 2 * k) ≡ 0
   pub back : (i : ℕ) → 16 ≤ i → slice_index new i ≡ slice_index old i
 
--- the side sector at this place lists one side sector more after so many
-pub record IsSideLinked (old new : Content) (at : Place) (k : ℕ) (t : Place) : Type 0 where
+-- The side sector at this place, which is the one of number i, lists one side sector more after so many.
+pub record IsSideLinked (old new : Content) (at : Place) (i k : ℕ) (t : Place) : Type 0 where
   pub side : List ℕ
   pub reads : old at ≡ Ok side
   pub more : List ℕ
-  pub lists : ListsSide side k t more
+  pub lists : ListsSide side k t (i + 1 == k) more
   pub written : new ≡ written old at more
 
--- A new side sector t, the one after so many others: it lists one block.
+-- A new side sector t, the one after so many others: it is the last, and lists one block.
 pub record IsNewSide (head : List ℕ) (k w : ℕ) (q t : Place) (new : List ℕ) : Type 0 where
   pub whole : length new ≡ 256
+  pub ends : (slice_index new 0 ≡ 0) × (slice_index new 1 ≡ 17)
   pub number : slice_index new 2 ≡ k
   pub width : slice_index new 3 ≡ w
   pub others : (i : ℕ) → 4 ≤ i → i < 4 + 2 * k → slice_index new i ≡ slice_index head i

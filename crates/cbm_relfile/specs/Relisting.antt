@@ -5,13 +5,15 @@ use Rattle.cbm_medium.specs.Content.{Content, written}
 use Rattle.cbm_medium.specs.Links.{bytes_at, place_in, IsApart}
 use Rattle.cbm_medium.specs.Seen.{Seen, HasFailed}
 use Rattle.cbm_relfile.specs.Records.{AllWhole, Relative, IsLaid}
-use Rattle.cbm_relfile.specs.SideSectors.{named_in}
+use Rattle.cbm_relfile.specs.SideSectors.{named_in, IsEnded}
 
--- A side sector lists these blocks; its number, the records' length and the list of the side sectors stay.
+-- A side sector lists these blocks, with zeros behind them; its number, the records' length and the list of the side sectors stay.
 pub record ListsThese (old : List ℕ) (blocks : List Place) (new : List ℕ) : Type 0 where
   pub whole : length new ≡ 256
+  pub ended : IsEnded old (length blocks) new
   pub front : (i : ℕ) → 2 ≤ i → i < 16 → slice_index new i ≡ slice_index old i
   pub lists : named_in 120 (drop 16 new) ≡ blocks
+  pub zeros : (i : ℕ) → 16 + 2 * length blocks ≤ i → slice_index new i ≡ 0
 
 -- it is written
 pub record IsSideListed (old new : Content) (t : Place) (blocks : List Place) : Type 0 where

@@ -126,7 +126,7 @@ pub fn list_block<M: Medium>(
 /// that one.
 pub fn with_side(side: &[u8; 256], sides: usize, new_side: Address, follows: bool) -> [u8; 256]
     requires { sides < 6 }
-    ensures { ListsSide side.now sides new_side result }
+    ensures { ListsSide side.now sides new_side follows result }
 {
     let mut new = *side;
     if follows {
@@ -205,7 +205,7 @@ pub fn link_side<M: Medium>(
     ensures linked { let old = M.seen medium.old in let new = M.seen medium.new in
         (head : List ℕ) → Has geometry first → old.content first ≡ Ok head →
         let at = side_at head number in Has geometry at → IsOk (old.content at) →
-        MatchResult result (λ x. IsSideLinked old.content new.content at sides side)
+        MatchResult result (λ x. IsSideLinked old.content new.content at number sides side)
         (λ t. IsListStopped geometry old new t.code) }
     ensures protection { IfErr result (λ t. t.code ≡ 26 → (M.seen medium.old).protected ≡ true) }
     ensures only { OnlyContent result (M.seen medium.old) (M.seen medium.new) }

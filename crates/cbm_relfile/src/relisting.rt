@@ -6,6 +6,7 @@ ghost use Rattle.cbm_medium.specs.Links.{Chain, place_in};
 ghost use Rattle.cbm_medium.specs.Seen.{OnlyContent};
 ghost use Rattle.cbm_relfile.specs.Making.{IsNotWritten};
 ghost use Rattle.cbm_relfile.specs.Records.{AllWhole, Relative, IsLaid};
+ghost use Rattle.cbm_relfile.specs.SideSectors.{IsEnded};
 ghost use Rattle.cbm_relfile.specs.Relisting.{ListsThese, IsSideListed, lists_at, NamesSides, IsSideRefused, AreListed, AreApart, IsRelisted};
 
 use crate::growing::cut_at;
@@ -19,6 +20,7 @@ use cbm_medium::{Geometry, Link, Medium, Trouble};
 fn ended(side: &[u8; 256], count: usize) -> [u8; 256]
     requires { count ≤ 120 }
     ensures whole { length result ≡ 256 }
+    ensures ended { IsEnded side.now count result }
     ensures rest { (i : ℕ) → 2 ≤ i → slice_index result i ≡ slice_index side.now i }
 {
     let mut new = *side;

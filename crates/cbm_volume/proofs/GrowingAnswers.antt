@@ -166,7 +166,7 @@ module _ (old new : Seen) (c0 : Content) (d : Disk) (uses : ℕ → Use) (n w b 
 -- what the call that puts a side sector into the list of another one answers
 abbrev pub AnswersLink : {A : Type 0} → ℕ → Seen → Seen → ℕ → ℕ → Place → Place → Result A Trouble → Type 0
 AnswersLink {A} geometry old new s1 i t p res = (head : List ℕ) → Has geometry p → old.content p ≡ Ok head → Has geometry (side_at head i) → IsOk (old.content (side_at head i))
-    → MatchResult res (λ x. IsSideLinked old.content new.content (side_at head i) s1 t) (λ t. IsListStopped geometry old new t.code)
+    → MatchResult res (λ x. IsSideLinked old.content new.content (side_at head i) i s1 t) (λ t. IsListStopped geometry old new t.code)
 
 -- a new side sector is put into the lists of the others
 module _ (old new : Seen) (c0 : Content) (d : Disk) (uses : ℕ → Use) (n w b s : ℕ) (rs : List (List ℕ)) (o : HasRecordsOpen old.tracks c0 d uses n w b s rs) (r : Relative) (geometry b1 s1 i : ℕ) (q t : Place)
@@ -191,7 +191,7 @@ module _ (old new : Seen) (c0 : Content) (d : Disk) (uses : ℕ → Use) (n w b 
 
   -- what the call answers, of the file's own side sectors
   linked : {A : Type 0} (res : Result A Trouble) (p : Place) → p ≡ r.side → AnswersLink geometry old new s1 i t p res
-      → MatchResult res (λ x. IsSideLinked old.content new.content (side_at first_there-3.reads.bytes i) s1 t) (λ u. IsListStopped geometry old new u.code)
+      → MatchResult res (λ x. IsSideLinked old.content new.content (side_at first_there-3.reads.bytes i) i s1 t) (λ u. IsListStopped geometry old new u.code)
   linked {A} res p is k =
       let h : AnswersLink geometry old new s1 i t r.side res = subst (λ (y : Place). AnswersLink geometry old new s1 i t y res) is k in
       let first = first_there-3 in
@@ -202,7 +202,7 @@ module _ (old new : Seen) (c0 : Content) (d : Disk) (uses : ℕ → Use) (n w b 
       → MatchResult res (λ x. HasSide old.tracks c0 d uses n w b s rs o r new.content b1 s1 q t) (IsGrowthStopped old new c0 o.holds.layout d uses n w rs)
   copy_means {A} res p is k some = by_result res (linked res p is k)
     where
-      by_result : (y : Result A Trouble) → MatchResult y (λ x. IsSideLinked old.content new.content (side_at first_there-3.reads.bytes i) s1 t) (λ u. IsListStopped geometry old new u.code)
+      by_result : (y : Result A Trouble) → MatchResult y (λ x. IsSideLinked old.content new.content (side_at first_there-3.reads.bytes i) i s1 t) (λ u. IsListStopped geometry old new u.code)
           → MatchResult y (λ x. HasSide old.tracks c0 d uses n w b s rs o r new.content b1 s1 q t) (IsGrowthStopped old new c0 o.holds.layout d uses n w rs)
       by_result (Ok x) h = side_copied old.tracks c0 d uses n w b s rs o r old.content new.content b1 s1 i q t first_there-3.reads.bytes g some few first_there-3.reads.is h
       by_result (Err u) h = list_cut old new c0 d uses n w b s rs o g.layout (record_count w (b1 + 1) - length rs) (b1 + 1) s1 free-3 u stage-3 (subst (λ (m : ℕ). IsListStopped m old new u.code) e h)
@@ -211,8 +211,8 @@ module _ (old new : Seen) (c0 : Content) (d : Disk) (uses : ℕ → Use) (n w b 
       → MatchResult res (λ x. HasGrown old.tracks c0 d uses n w b s rs o r new.content (b1 + 1) (s1 + 1) q) (IsGrowthStopped old new c0 o.holds.layout d uses n w rs)
   add_means {A} res p is k zero whole most = by_result res (linked res p is k)
     where
-      by_result : (y : Result A Trouble) → MatchResult y (λ x. IsSideLinked old.content new.content (side_at first_there-3.reads.bytes i) s1 t) (λ u. IsListStopped geometry old new u.code)
+      by_result : (y : Result A Trouble) → MatchResult y (λ x. IsSideLinked old.content new.content (side_at first_there-3.reads.bytes i) i s1 t) (λ u. IsListStopped geometry old new u.code)
           → MatchResult y (λ x. HasGrown old.tracks c0 d uses n w b s rs o r new.content (b1 + 1) (s1 + 1) q) (IsGrowthStopped old new c0 o.holds.layout d uses n w rs)
       by_result (Ok x) h = side_added old.tracks c0 d uses n w b s rs o r old.content new.content b1 s1 q t first_there-3.reads.bytes g whole most first_there-3.reads.is
-          (subst (λ (j : ℕ). IsSideLinked old.content new.content (side_at first_there-3.reads.bytes j) s1 t) zero h)
+          (subst (λ (j : ℕ). IsSideLinked old.content new.content (side_at first_there-3.reads.bytes j) j s1 t) zero h)
       by_result (Err u) h = list_cut old new c0 d uses n w b s rs o g.layout (record_count w (b1 + 1) - length rs) (b1 + 1) s1 free-3 u stage-3 (subst (λ (m : ℕ). IsListStopped m old new u.code) e h)

@@ -1,5 +1,5 @@
 -- A turn with a new side sector: it is claimed and written, put into the list of each of the others, and last into that of the first.
-use Rattle.std.proofs.Common.{◌≡◌, ◌≢◌, ℕ, zero, suc, ◌+◌, ◌-◌, ◌*◌, ◌<◌, List, [], ◌∷◌, ◌++◌, length, drop, get_or, Some, Ok, refl, sym, ap, subst, ◌∙◌, arith}
+use Rattle.std.proofs.Common.{Bool, ◌≡◌, ◌≢◌, ℕ, zero, suc, ◌+◌, ◌-◌, ◌*◌, ◌<◌, List, [], ◌∷◌, ◌++◌, length, drop, get_or, Some, Ok, refl, sym, ap, subst, ◌∙◌, arith}
 use Rattle.std.proofs.lemmas.List.{get_or-drop, get_or_at, length-append}
 use Rattle.cbm_medium.specs.Place.{Place, directory_head}
 use Rattle.cbm_medium.specs.Content.{Cell, Content, written}
@@ -49,14 +49,14 @@ pub record SideLinked (old new : List ℕ) : Type 0 where
   pub width : get_or new 3 0 ≡ get_or old 3 0
   pub blocks : named_in 120 (drop 16 new) ≡ named_in 120 (drop 16 old)
 
-pub side_linked : (old new : List ℕ) (k : ℕ) (t : Place) → ListsSide old k t new → SideLinked old new
+pub side_linked : {follows : Bool} (old new : List ℕ) (k : ℕ) (t : Place) → ListsSide old k t follows new → SideLinked old new
 side_linked old new k t h = record {
   number = h.front 2 (omega arith) (omega arith);
   width = h.front 3 (omega arith) (omega arith);
   blocks = named_same 120 (drop 16 new) (drop 16 old) (λ i l. get_or-drop 16 new i 0 ∙ h.back (16 + i) (omega arith) ∙ sym (get_or-drop 16 old i 0));
 }
 
-pub sides_more : (old new : List ℕ) (k : ℕ) (t : Place) → ListsSide old k t new → k < 6 → t.track ≢ 0 → length (sides_listed old) ≡ k → sides_listed new ≡ sides_listed old ++ t ∷ []
+pub sides_more : {follows : Bool} (old new : List ℕ) (k : ℕ) (t : Place) → ListsSide old k t follows new → k < 6 → t.track ≢ 0 → length (sides_listed old) ≡ k → sides_listed new ≡ sides_listed old ++ t ∷ []
 sides_more old new k t h few some size = named_push 6 k (drop 4 old) (drop 4 new) t size few some
     (λ i l. get_or-drop 4 new i 0 ∙ h.front (4 + i) (omega arith) (omega (arith, l)) ∙ sym (get_or-drop 4 old i 0))
     (get_or-drop 4 new (2 * k) 0 ∙ h.track)
@@ -135,7 +135,7 @@ module _ (medium : ℕ) (c0 : Content) (d : Disk) (uses : ℕ → Use) (n w b s 
       }
 
   -- ---- A SIDE SECTOR BUT THE FIRST GETS IT INTO ITS LIST
-  pub side_copied : (r : Relative) (c c' : Content) (b1 s1 i : ℕ) (q t : Place) (head : List ℕ) → HasSide medium c0 d uses n w b s rs o r c b1 s1 q t → 0 < i → i < s1 → c r.side ≡ Ok head → IsSideLinked c c' (side_at head i) s1 t
+  pub side_copied : (r : Relative) (c c' : Content) (b1 s1 i : ℕ) (q t : Place) (head : List ℕ) → HasSide medium c0 d uses n w b s rs o r c b1 s1 q t → 0 < i → i < s1 → c r.side ≡ Ok head → IsSideLinked c c' (side_at head i) i s1 t
       → HasSide medium c0 d uses n w b s rs o r c' b1 s1 q t
   side_copied r c c' b1 s1 i q t head g some few holds k =
       let l : Layout = g.layout in
@@ -197,7 +197,7 @@ module _ (medium : ℕ) (c0 : Content) (d : Disk) (uses : ℕ → Use) (n w b s 
       }
 
   -- ---- THE FIRST SIDE SECTOR GETS IT INTO ITS LIST: the file has it
-  pub side_added : (r : Relative) (c c' : Content) (b1 s1 : ℕ) (q t : Place) (head : List ℕ) → HasSide medium c0 d uses n w b s rs o r c b1 s1 q t → b1 ≡ 120 * s1 → s1 < 6 → c r.side ≡ Ok head → IsSideLinked c c' (side_at head 0) s1 t
+  pub side_added : (r : Relative) (c c' : Content) (b1 s1 : ℕ) (q t : Place) (head : List ℕ) → HasSide medium c0 d uses n w b s rs o r c b1 s1 q t → b1 ≡ 120 * s1 → s1 < 6 → c r.side ≡ Ok head → IsSideLinked c c' (side_at head 0) 0 s1 t
       → HasGrown medium c0 d uses n w b s rs o r c' (b1 + 1) (s1 + 1) q
   side_added r c c' b1 s1 q t head g whole few holds k =
       let l : Layout = g.layout in

@@ -89,7 +89,7 @@ module _ (medium : ℕ) (c0 : Content) (d : Disk) (uses : ℕ → Use) (n w b s 
       }
 
   -- ---- A SIDE SECTOR BUT THE FIRST GETS IT INTO ITS LIST
-  pub empty_copied : (c c' : Content) (s1 i : ℕ) (t : Place) (head : List ℕ) → HasEmptySide medium c0 d uses n w b s rs o r c s1 t → 0 < i → i < s1 → c r.side ≡ Ok head → IsSideLinked c c' (side_at head i) s1 t
+  pub empty_copied : (c c' : Content) (s1 i : ℕ) (t : Place) (head : List ℕ) → HasEmptySide medium c0 d uses n w b s rs o r c s1 t → 0 < i → i < s1 → c r.side ≡ Ok head → IsSideLinked c c' (side_at head i) i s1 t
       → HasEmptySide medium c0 d uses n w b s rs o r c' s1 t
   empty_copied c c' s1 i t head g some few holds k =
       let l : Layout = g.layout in
@@ -144,7 +144,7 @@ module _ (medium : ℕ) (c0 : Content) (d : Disk) (uses : ℕ → Use) (n w b s 
       }
 
   -- ---- THE FIRST SIDE SECTOR GETS IT INTO ITS LIST: the file has it
-  pub empty_added : (c c' : Content) (s1 : ℕ) (t : Place) (head : List ℕ) → HasEmptySide medium c0 d uses n w b s rs o r c s1 t → s1 < 6 → c r.side ≡ Ok head → IsSideLinked c c' (side_at head 0) s1 t → HasSides medium c0 d uses n w b s rs o r c' (s1 + 1)
+  pub empty_added : (c c' : Content) (s1 : ℕ) (t : Place) (head : List ℕ) → HasEmptySide medium c0 d uses n w b s rs o r c s1 t → s1 < 6 → c r.side ≡ Ok head → IsSideLinked c c' (side_at head 0) 0 s1 t → HasSides medium c0 d uses n w b s rs o r c' (s1 + 1)
   empty_added c c' s1 t head g few holds k =
       let l : Layout = g.layout in
       let x : Blocks = l.files n in

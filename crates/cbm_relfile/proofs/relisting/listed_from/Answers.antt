@@ -6,7 +6,7 @@ use Rattle.cbm_relfile.proofs.relisting.listed_from.Goals as goal
 pub loop-number-init : goal.loop-number-init
 loop-number-init g c = (
   c.cut_at-new.ensures.whole,
-  λ i l m. c.cut_at-new.ensures.front i m,
+  λ i l. c.cut_at-new.ensures.front i l,
   λ i l. c.cut_at-new.ensures.zeros i (omega (arith, l)),
   λ blocks h. listing_begins c.args.geometry (g.M.Medium.seen c.args.medium.now).content blocks c.cut_at-new.result c.args.first h,
 )
@@ -16,7 +16,7 @@ pub returns-then-is_end-clause-chain : goal.returns-then-is_end-clause-chain
 returns-then-is_end-clause-chain g c = λ blocks h.
     let i = c.loop-number.invariant in
     listing_ends c.args.geometry (g.M.Medium.seen c.args.medium.now).content blocks c.loop-number.number c.args.side.now c.loop-number.new c.ended.result c.loop-number.at (i.3 blocks h) c.loop-number-test.true (c.if-is_end.ensures.0 refl)
-    c.ended.ensures.whole c.ended.ensures.rest i.1 i.2
+    c.ended.ensures.whole c.ended.ensures.ended c.ended.ensures.rest i.1 i.2
 
 -- the next block reads
 pub returns-in_err-bytes-clause-chain : goal.returns-in_err-bytes-clause-chain
@@ -33,7 +33,7 @@ loop-number-preserved g c =
     let new : List ℕ = c.loop-number.new in
     let s = one_set new n c.track.result c.sector.result in (
       s.size ∙ i.0,
-      λ j l m. s.before j (omega (arith, m)) ∙ i.1 j l m,
+      λ j l. s.before j (omega (arith, l)) ∙ i.1 j l,
       λ j l. s.behind j l ∙ i.2 j (omega (arith, l)),
       λ blocks h. subst (λ (a : ℕ). Listing c.args.geometry now blocks (n + 1) (set (set new (16 + 2 * n) a) (16 + 2 * n + 1) c.sector.result) c.of-at.result) (sym c.track.ensures)
           (subst (λ (b : ℕ). Listing c.args.geometry now blocks (n + 1) (set (set new (16 + 2 * n) c.loop-number.at.track) (16 + 2 * n + 1) b) c.of-at.result) (sym c.sector.ensures)
@@ -45,4 +45,4 @@ pub returns-clause-chain : goal.returns-clause-chain
 returns-clause-chain g c = λ blocks h.
     let i = c.loop-number.invariant in
     listing_full c.args.geometry (g.M.Medium.seen c.args.medium.now).content blocks c.loop-number.number c.args.side.now c.loop-number.new c.ended-2.result c.loop-number.at (i.3 blocks h) (omega (arith, c.loop-number-test.false, c.loop-number.auto.number-end))
-    c.ended-2.ensures.whole c.ended-2.ensures.rest i.1 i.2
+    c.ended-2.ensures.whole c.ended-2.ensures.ended c.ended-2.ensures.rest i.1 i.2
