@@ -96,6 +96,7 @@ impl<D: Machine, const N: usize> Bus<D, N> {
         // One reaction less is due at this moment, and none before it, whatever the machines stand for.
         ensures nearer { IsDueFirst self.old.drives moment → IsNearer moment self.old.drives self.new.drives }
         ensures none { result ≡ None → AreIdle self.old.drives × (self.new ≡ self.old) }
+        ensures idle { AreIdle self.old.drives → result ≡ None }
         ensures host { self.new.host ≡ self.old.host }
     {
         let (place, _) = first_due(self.drives.as_slice())?;

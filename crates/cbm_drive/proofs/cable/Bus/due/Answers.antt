@@ -3,7 +3,7 @@ use Rattle.std.specs.Prelude.{IfSome}
 use Rattle.cbm_iec.specs.declared.lines.Lines.{Lines}
 use Rattle.cbm_drive.specs.Cables.{Cabled}
 use Rattle.cbm_drive.specs.Reactions.{HasReacted}
-use Rattle.cbm_drive.specs.Seats.{Seated, IsBusAt, IsFirstDue}
+use Rattle.cbm_drive.specs.Seats.{Seated, IsBusAt, IsFirstDue, AreIdle}
 use Rattle.cbm_drive.specs.Progress.{IsNearer}
 use Rattle.cbm_drive.proofs.Firsts.{one_first}
 use Rattle.cbm_drive.proofs.Nearer.{idle_first}
@@ -38,3 +38,9 @@ pub returns-in_err-place-clause-nearer : goal.returns-in_err-place-clause-nearer
 returns-in_err-place-clause-nearer g c = λ first.
     let seen : c.as_slice.result.now ≡ c.args.self.now.drives = c.as_slice.ensures ∙ ap (λ (b : Cabled _). b.drives) c.self.view_is in
     absurd (idle_first first.0 c.args.moment c.as_slice.result.now c.in_err-place.ensures.first (subst (λ (xs : List (Seated _)). IsFirstDue xs (first.0, c.args.moment)) (sym seen) first.1))
+
+-- a drive whose reaction is due first isn't idle
+pub returns-clause-idle : goal.returns-clause-idle
+returns-clause-idle g c = λ idle.
+    let seen : c.as_slice.result.now ≡ c.args.self.now.drives = c.as_slice.ensures ∙ ap (λ (b : Cabled _). b.drives) c.self.view_is in
+    absurd (idle_first c.in_ok-place.place c.in_ok-place.field-0-1 c.as_slice.result.now (subst (λ (xs : List (Seated _)). AreIdle xs) (sym seen) idle) c.in_ok-place.ensures.first)
