@@ -1,5 +1,5 @@
 -- A port with a byte to say foretells what its drive does: a machine that was told an act shows no sooner and no later.
-use Rattle.std.proofs.Common.{◌≡◌, ℕ, ◌+◌, ◌-◌, ◌<◌, length, arith, Bool, true, false, List, [], ◌∷◌, ◌++◌, Option, Some, None, refl, sym, ap, subst, ◌∙◌, inl, inr}
+use Rattle.std.proofs.Common.{◌≡◌, ℕ, ◌+◌, ◌-◌, ◌<◌, ◌≤◌, length, map, arith, Bool, true, false, List, [], ◌∷◌, ◌++◌, Option, Some, None, refl, sym, ap, subst, ◌∙◌, inl, inr}
 use Rattle.std.proofs.lemmas.Bool.{eqb-true}
 use Rattle.std.specs.Prelude.{◌==◌, nat_le, if◌then◌else◌, ◌%◌, ◌||◌, MatchBool}
 use Rattle.cbm_iec.specs.Machines.{acted}
@@ -9,6 +9,7 @@ use Rattle.cbm_iec.specs.Speaking.{mouth_row, after_taken, end_frame_row, set_bi
 use Rattle.cbm_iec.specs.Table.{TableRow}
 use Rattle.cbm_iec.specs.declared.act.Act.{Act}
 use Rattle.cbm_iec.specs.declared.ear.Ear.{Ear}
+use Rattle.cbm_iec.specs.declared.line.Change.{Change}
 use Rattle.cbm_iec.specs.declared.lines.Held.{Held}
 use Rattle.cbm_iec.specs.declared.lines.Lines.{Lines}
 use Rattle.cbm_iec.specs.declared.mouth.Mouth.TheVariants.{Turned, Answering, Led, Offering, EoiOffered, EoiPulsed, Sending, Waiting, Ending, Over}
@@ -20,8 +21,12 @@ use Rattle.cbm_iec.specs.declared.port.Side.TheVariants.{Hearing, Speaking}
 use Rattle.cbm_iec.specs.declared.port.Side.{Side}
 use Rattle.cbm_session.specs.Among.{Rest}
 use Rattle.cbm_session.specs.Following.{IsInTime}
-use Rattle.cbm_session.specs.Playing.{Station, IsLaterDue}
-use Rattle.cbm_drive.proofs.Heard.{no_items}
+use Rattle.cbm_session.specs.Playing.{Station, IsLaterDue, AllInTime, react, shown, hear_all, reacting}
+use Rattle.cbm_drive.proofs.Firsts.{some_same}
+use Rattle.cbm_drive.proofs.Heard.{no_items, same_map}
+use Rattle.cbm_drive.proofs.Reacted.{stations_in_time}
+use Rattle.cbm_drive.specs.Reactions.{HasReacted}
+use Rattle.cbm_drive.specs.Seats.{Seated, IsBusAt, AreInTime, held_by}
 use Rattle.cbm_drive.specs.Silence.{Foreseen, quiet, shows, passes, Foretold, idle, seen, over, AnyShows, AreSilent}
 
 -- how long it is to the limit
@@ -132,3 +137,49 @@ module _ (M : Type 0) (step : M → Act → M) (says : M → Option (ℕ × Bool
   any_more limit s ss true rest h k = inl h
   any_more limit s ss false true h k = inr k
   any_more limit s ss false false h k = (h, k)
+
+  -- no drive shows anything before a limit before which nothing is due
+  none_due : (limit : ℕ) (s : Station M) → IsInTime limit (port_due s.port) → Foreseen M step says limit true s → ⊥
+  none_due limit s l (shows t due before some) = (let at_ : limit ≤ t = subst (IsInTime limit) due l in omega (arith, at_, before))
+  none_due limit s l (passes t due before none more) = (let at_ : limit ≤ t = subst (IsInTime limit) due l in omega (arith, at_, before))
+
+  pub any_due : (limit : ℕ) (ss : List (Station M)) → AllInTime M step says limit ss → AnyShows M step says limit ss → ⊥
+  any_due limit [] l h = h
+  any_due limit (s ∷ ss) l (inl h) = none_due limit s l.0 h
+  any_due limit (s ∷ ss) l (inr h) = any_due limit ss l.1 h
+
+  -- a reaction that shows nothing leaves what is to be shown
+  behind_silence : (limit t : ℕ) (s : Station M) → port_due s.port ≡ Some t → shown M step says t s ≡ [] → Foreseen M step says limit true s → Foreseen M step says limit true (react M step says t s)
+  behind_silence limit t s due none (shows u due_u before some) = (let same : u ≡ t = some_same u t (port_due s.port) due_u due in absurd (some (subst (λ (v : ℕ). shown M step says v s ≡ []) (sym same) none)))
+  behind_silence limit t s due none (passes u due_u before none_u more) = (let same : u ≡ t = some_same u t (port_due s.port) due_u due in subst (λ (v : ℕ). Foreseen M step says limit true (react M step says v s)) same more)
+
+  any_behind : (limit t : ℕ) (before behind : List (Station M)) (s : Station M) → port_due s.port ≡ Some t → shown M step says t s ≡ [] → AnyShows M step says limit (before ++ s ∷ behind)
+      → AnyShows M step says limit (before ++ react M step says t s ∷ behind)
+  any_behind limit t [] behind s due none (inl h) = inl (behind_silence limit t s due none h)
+  any_behind limit t [] behind s due none (inr h) = inr h
+  any_behind limit t (x ∷ before) behind s due none (inl h) = inl h
+  any_behind limit t (x ∷ before) behind s due none (inr h) = inr (any_behind limit t before behind s due none h)
+
+  pub any_reacting : (limit t : ℕ) (before behind : List (Station M)) (s : Station M) → port_due s.port ≡ Some t → shown M step says t s ≡ [] → AnyShows M step says limit (before ++ s ∷ behind)
+      → AnyShows M step says limit (reacting M step says t before s behind)
+  any_reacting limit t before behind s due none h =
+      subst (λ (cs : List Change). AnyShows M step says limit (map (λ x. hear_all M step says cs x) before ++ react M step says t s ∷ map (λ x. hear_all M step says cs x) behind)) (sym none)
+      (subst (λ (xs : List (Station M)). AnyShows M step says limit (xs ++ react M step says t s ∷ map (λ x. x) behind)) (sym (same_map before))
+      (subst (λ (xs : List (Station M)). AnyShows M step says limit (before ++ react M step says t s ∷ xs)) (sym (same_map behind)) (any_behind limit t before behind s due none h)))
+
+module _ (D M : Type 0) (stands : D → M → Type 0) (step : M → Act → M) (says : M → Option (ℕ × Bool)) where
+  -- the drives stand for stations of which one shows a change
+  pub record ShowsStill (host : Lines) (limit : ℕ) (xs : List (Seated D)) : Type 0 where
+    pub stations : List (Station M)
+    pub now : IsBusAt D M stands host xs stations
+    pub any : AnyShows M step says limit stations
+
+  pub shows_on : (host : Lines) (limit t device : ℕ) (xs ys : List (Seated D)) (cs : List Change) → (k : ShowsStill host limit xs) → HasReacted D M stands step says host t device ys cs k.stations → cs ≡ [] → ShowsStill host limit ys
+  shows_on host limit t device xs ys cs k r none = record {
+    stations = reacting M step says t r.before r.station r.behind;
+    now = r.now;
+    any = any_reacting M step says limit t r.before r.behind r.station r.first.due (sym r.changes ∙ none) (subst (AnyShows M step says limit) r.is k.any);
+  }
+
+  pub shows_never : (host : Lines) (limit : ℕ) (xs : List (Seated D)) → AreInTime limit xs → ShowsStill host limit xs → ⊥
+  shows_never host limit xs l k = any_due M step says limit k.stations (stations_in_time D M stands step says (held_by host xs) limit xs k.stations k.now l) k.any

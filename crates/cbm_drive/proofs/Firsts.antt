@@ -43,7 +43,7 @@ not_before t u (suc k) (x ∷ xs) a h = not_before t u k xs a.1 h.1
 apart : (t u : ℕ) (due : Option ℕ) → due ≡ Some t → IsLaterDue u due → t ≤ u → ⊥
 apart t u due e l h = (let later : u < t = subst (IsLaterDue u) e l in omega (arith, later, h))
 
-some_same : (t u : ℕ) (due : Option ℕ) → due ≡ Some t → due ≡ Some u → t ≡ u
+pub some_same : (t u : ℕ) (due : Option ℕ) → due ≡ Some t → due ≡ Some u → t ≡ u
 some_same t u due e f = (let z : Some t ≡ Some u = sym e ∙ f in cc)
 
 -- Only one drive's reaction is due first.

@@ -88,7 +88,7 @@ pub no_items : {A : Type 0} (xs : List A) → length xs ≡ 0 → xs ≡ []
 no_items [] e = refl
 no_items (x ∷ xs) e = absurd (omega (arith, e))
 
-same_map : {A : Type 0} (xs : List A) → map (λ x. x) xs ≡ xs
+pub same_map : {A : Type 0} (xs : List A) → map (λ x. x) xs ≡ xs
 same_map [] = refl
 same_map (x ∷ xs) = ap (λ ys. x ∷ ys) (same_map xs)
 

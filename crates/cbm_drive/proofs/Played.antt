@@ -1,5 +1,5 @@
 -- Drives play on: a reaction is one step of the play.
-use Rattle.std.proofs.Common.{◌≡◌, ℕ, suc, ◌<◌, ◌≤◌, Bool, List, [], ◌∷◌, ◌++◌, map, Option, Some, None, refl, sym, ap, subst, ◌∙◌, arith}
+use Rattle.std.proofs.Common.{◌≡◌, ℕ, suc, ◌+◌, ◌<◌, ◌≤◌, Bool, List, [], ◌∷◌, ◌++◌, map, Option, Some, None, refl, sym, ap, subst, ◌∙◌, arith}
 use Rattle.std.proofs.lemmas.List.{append_assoc, append-nil}
 use Rattle.std.specs.Prelude.{Result, Ok, Err, IsErr, MatchResult}
 use Rattle.std.specs.List.{AllZip}
@@ -80,6 +80,20 @@ module _ (D M : Type 0) (stands : D → M → Type 0) (step : M → Act → M) (
     plays = plays_then M step says s.plays (one_step host t s.from device xs ys cs s.stations s.now r);
     quiet = both_none s.made device cs s.quiet;
     before = omega (arith, l);
+    now = r.now;
+  }
+
+  -- the first reaction that shows something
+  pub settled_to : (host : Lines) (limit t device n : ℕ) (xs ys : List (Seated D)) (cs : List Change) (ss : List (Station M)) → (s : HasSettled D M stands step says host limit xs [] [] n ss)
+      → HasReacted D M stands step says host t device ys cs s.stations → HasSettled D M stands step says host (t + 1) ys [] (drive_events device cs) n ss
+  settled_to host limit t device n xs ys cs ss s r = record {
+    made = s.made ++ drive_events device cs;
+    from = suc t;
+    stations = reacting M step says t r.before r.station r.behind;
+    added = ap (λ (v : List Event). v ++ drive_events device cs) s.added;
+    plays = plays_then M step says s.plays (one_step host t s.from device xs ys cs s.stations s.now r);
+    quiet = both_none s.made device cs s.quiet;
+    before = omega arith;
     now = r.now;
   }
 

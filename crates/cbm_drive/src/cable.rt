@@ -3,6 +3,7 @@
 use crate::bus::{Answer, first_due, react, tell_all};
 use crate::drive::Drive;
 use crate::fault::{PlayFault, first_fault};
+use crate::looking::{any_shows, first_shown};
 use crate::playing::{play_on, settle};
 use cbm_iec::{Change, Event, Lines, Machine};
 use std::alloc::AllocError;
@@ -31,8 +32,9 @@ impl<D: Machine, const N: usize> Model for Bus<D, N> {
 }
 
 impl<D: Machine, const N: usize> Bus<D, N> {
-    ghost use Rattle.std.specs.Prelude.{◌≡◌, ◌+◌, ◌^◌, ◌<◌, ◌≤◌, ℕ, List, length, map, IfSome, Some, None, Err, IfErr, OnOk, MatchOption, MatchResult};
-    ghost use Rattle.cbm_session.specs.Playing.{Station, tell};
+    ghost use Rattle.std.specs.Prelude.{◌≡◌, ◌+◌, ◌^◌, ◌<◌, ◌≤◌, ℕ, List, [], length, map, IfSome, IsSome, Some, None, MatchBool, Err, IfErr, OnOk, MatchOption, MatchResult};
+    ghost use Rattle.cbm_session.specs.Playing.{Station, tell, drive_events};
+    ghost use Rattle.cbm_drive.specs.Silence.{AnyShows, AreSilent};
     ghost use Rattle.cbm_drive.specs.Seats.{AreIdle, AreInTime, IsBusAt};
     ghost use Rattle.cbm_drive.specs.Cables.{all_free, IsDueFirst};
     ghost use Rattle.cbm_drive.specs.Ordered.{fault_of};
@@ -101,6 +103,33 @@ impl<D: Machine, const N: usize> Bus<D, N> {
     {
         let (place, _) = first_due(self.drives.as_slice())?;
         react(self.drives.as_mut_slice(), self.host, place, moment)
+    }
+
+    /// Whether a drive changes a line before a limit, if the host changes none.
+    pub fn shows_before(&self, limit: u64) -> bool
+        requires { limit < 2 ^ 60 }
+        ensures { (ss : List (Station D.State)) → IsBusAt _ D.State D.stands self.now.host self.now.drives ss →
+            MatchBool result (AnyShows D.State D.step D.says limit ss) (AreSilent D.State D.step D.says limit ss) }
+    {
+        any_shows(self.drives.as_slice(), limit)
+    }
+
+    /// The first reaction before a limit that changes a line, and its moment. Those before it, which change none, happen.
+    pub(crate) fn first_shown(&mut self, limit: u64) -> Option<(u64, Answer)>
+        requires { limit < 2 ^ 60 }
+        ensures played { (ss : List (Station D.State)) (n : ℕ) →
+            IsBusAt _ D.State D.stands self.old.host self.old.drives ss → n ≤ limit → MatchOption result
+            (HasSettled _ D.State D.stands D.step D.says self.old.host limit self.new.drives [] [] n ss)
+            (λ r. HasSettled _ D.State D.stands D.step D.says self.old.host (r.0 + 1) self.new.drives []
+            (drive_events r.1.device r.1.changes.items) n ss) }
+        ensures before { IfSome result (λ r. r.0 < limit) }
+        ensures shows { IfSome result (λ r. r.1.changes.items ≡ [] → ⊥) }
+        ensures settled { result ≡ None → AreInTime limit self.new.drives }
+        ensures some { (ss : List (Station D.State)) → IsBusAt _ D.State D.stands self.old.host self.old.drives ss →
+            AnyShows D.State D.step D.says limit ss → IsSome result }
+        ensures host { self.new.host ≡ self.old.host }
+    {
+        first_shown(self.drives.as_mut_slice(), self.host, limit)
     }
 
     /// The reactions that are due before a limit happen, each in its turn, and their changes go to the events. So a host may

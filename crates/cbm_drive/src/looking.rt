@@ -1,14 +1,16 @@
 //! Looking ahead: whether a drive changes a line before a limit.
 
-ghost use Rattle.std.specs.Prelude.{◌≡◌, ◌<◌, ◌≤◌, ◌^◌, ℕ, Bool, Option, List, MatchBool};
+ghost use Rattle.std.specs.Prelude.{◌≡◌, ◌+◌, ◌<◌, ◌≤◌, ◌^◌, ℕ, Bool, Option, List, [], length, None, IfSome, IsSome, MatchBool, MatchOption};
 ghost use Rattle.std.specs.List.{AllZip};
-ghost use Rattle.cbm_session.specs.Playing.{Station};
-ghost use Rattle.cbm_drive.specs.Seats.{IsSeat};
+ghost use Rattle.cbm_session.specs.Playing.{Station, drive_events};
+ghost use Rattle.cbm_drive.specs.Played.{HasSettled};
+ghost use Rattle.cbm_drive.specs.Seats.{IsSeat, IsBusAt, AreInTime};
 ghost use Rattle.cbm_drive.specs.Silence.{AnyShows, AreSilent, Foretold};
 ghost use Rattle.cbm_drive.specs.declared.wires.Wires.{Wires};
 
+use crate::bus::{Answer, first_due, react};
 use crate::drive::Drive;
-use cbm_iec::{Machine, Port};
+use cbm_iec::{Lines, Machine, Port};
 
 /// Whether a port with this byte to say changes a line before a limit. What is due may change none; then it goes on with
 /// what is due after that.
@@ -39,4 +41,35 @@ pub(crate) fn any_shows<D: Machine>(drives: &[Drive<D>], limit: u64) -> bool
         return false;
     };
     first.shows_before(limit) || any_shows(rest, limit)
+}
+
+/// The first reaction before a limit that changes a line, and its moment. Those before it, which change none, happen.
+pub(crate) fn first_shown<D: Machine>(
+    drives: &mut [Drive<D>],
+    host: Lines,
+    limit: u64,
+) -> Option<(u64, Answer)>
+    requires few { length drives.old ≤ 4 }
+    requires limit { limit < 2 ^ 60 }
+    ensures played { (ss : List (Station D.State)) (n : ℕ) → IsBusAt _ D.State D.stands host drives.old ss → n ≤ limit →
+        MatchOption result (HasSettled _ D.State D.stands D.step D.says host limit drives.new [] [] n ss)
+        (λ r. HasSettled _ D.State D.stands D.step D.says host (r.0 + 1) drives.new []
+        (drive_events r.1.device r.1.changes.items) n ss) }
+    ensures before { IfSome result (λ r. r.0 < limit) }
+    ensures shows { IfSome result (λ r. r.1.changes.items ≡ [] → ⊥) }
+    ensures settled { result ≡ None → AreInTime limit drives.new }
+    ensures some { (ss : List (Station D.State)) → IsBusAt _ D.State D.stands host drives.old ss →
+        AnyShows D.State D.step D.says limit ss → IsSome result }
+    ensures same { length drives.new ≡ length drives.old }
+{
+    while let Some((place, moment)) = first_due(drives) {
+        if moment >= limit {
+            return None;
+        }
+        let answer = react(drives, host, place, moment)?;
+        if !answer.changes.is_empty() {
+            return Some((moment, answer));
+        }
+    }
+    None
 }
