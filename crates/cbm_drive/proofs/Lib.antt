@@ -9,3 +9,4 @@ pub mod Left
 pub mod Played
 pub mod Ordered
 pub mod Ahead
+pub mod Players

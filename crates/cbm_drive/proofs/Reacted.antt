@@ -25,7 +25,7 @@ use Rattle.cbm_drive.specs.Reactions.{AreAt, Toggles, IsToggled, IsAllOf, HaveHe
 abbrev two : Bool → Bool → Held
 two clock data_low = record { clock_low = clock; data_low = data_low }
 
-changes_at : (t : ℕ) (a b c d : Bool) → AreAt t (changes_between t (two a c) (two b d))
+pub changes_at : (t : ℕ) (a b c d : Bool) → AreAt t (changes_between t (two a c) (two b d))
 changes_at t false false false false = tt
 changes_at t false false false true = (refl, tt)
 changes_at t false false true false = (refl, tt)

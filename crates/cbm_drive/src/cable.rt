@@ -42,7 +42,7 @@ impl<D: Machine, const N: usize> Bus<D, N> {
     ghost use Rattle.cbm_drive.specs.declared.fault.PlayFault.TheVariants.{Memory};
     ghost use Rattle.cbm_drive.specs.Played.{HasSettled, IsCutOff, HasPlayed, IsPlayCut};
     ghost use Rattle.cbm_drive.specs.Progress.{AreKept, IsNearer};
-    ghost use Rattle.cbm_drive.specs.Reactions.{HasReacted};
+    ghost use Rattle.cbm_drive.specs.Reactions.{AreAt, HasReacted};
 
     /// Drives on a cable of which the host holds no line, in the order in which they answer at equal moments.
     pub fn new(drives: [Drive<D>; N]) -> Bus<D, N>
@@ -117,14 +117,17 @@ impl<D: Machine, const N: usize> Bus<D, N> {
     /// The first reaction before a limit that changes a line, and its moment. Those before it, which change none, happen.
     pub(crate) fn first_shown(&mut self, limit: u64) -> Option<(u64, Answer)>
         requires { limit < 2 ^ 60 }
-        ensures played { (ss : List (Station D.State)) (n : ℕ) →
-            IsBusAt _ D.State D.stands self.old.host self.old.drives ss → n ≤ limit → MatchOption result
-            (HasSettled _ D.State D.stands D.step D.says self.old.host limit self.new.drives [] [] n ss)
+        ensures played { (ss : List (Station D.State)) (n until : ℕ) →
+            IsBusAt _ D.State D.stands self.old.host self.old.drives ss → n ≤ until → limit ≤ until → MatchOption result
+            (HasSettled _ D.State D.stands D.step D.says self.old.host until self.new.drives [] [] n ss)
             (λ r. HasSettled _ D.State D.stands D.step D.says self.old.host (r.0 + 1) self.new.drives []
             (drive_events r.1.device r.1.changes.items) n ss) }
         ensures before { IfSome result (λ r. r.0 < limit) }
         ensures shows { IfSome result (λ r. r.1.changes.items ≡ [] → ⊥) }
         ensures settled { result ≡ None → AreInTime limit self.new.drives }
+        ensures moments { (ss : List (Station D.State)) →
+            IsBusAt _ D.State D.stands self.old.host self.old.drives ss →
+            IfSome result (λ r. AreAt r.0 r.1.changes.items) }
         ensures some { (ss : List (Station D.State)) → IsBusAt _ D.State D.stands self.old.host self.old.drives ss →
             AnyShows D.State D.step D.says limit ss → IsSome result }
         ensures host { self.new.host ≡ self.old.host }

@@ -4,6 +4,7 @@ ghost use Rattle.std.specs.Prelude.{◌≡◌, ◌+◌, ◌<◌, ◌≤◌, ◌^
 ghost use Rattle.std.specs.List.{AllZip};
 ghost use Rattle.cbm_session.specs.Playing.{Station, drive_events};
 ghost use Rattle.cbm_drive.specs.Played.{HasSettled};
+ghost use Rattle.cbm_drive.specs.Reactions.{AreAt};
 ghost use Rattle.cbm_drive.specs.Seats.{IsSeat, IsBusAt, AreInTime};
 ghost use Rattle.cbm_drive.specs.Silence.{AnyShows, AreSilent, Foretold};
 ghost use Rattle.cbm_drive.specs.declared.wires.Wires.{Wires};
@@ -51,13 +52,16 @@ pub(crate) fn first_shown<D: Machine>(
 ) -> Option<(u64, Answer)>
     requires few { length drives.old ≤ 4 }
     requires limit { limit < 2 ^ 60 }
-    ensures played { (ss : List (Station D.State)) (n : ℕ) → IsBusAt _ D.State D.stands host drives.old ss → n ≤ limit →
-        MatchOption result (HasSettled _ D.State D.stands D.step D.says host limit drives.new [] [] n ss)
+    ensures played { (ss : List (Station D.State)) (n until : ℕ) → IsBusAt _ D.State D.stands host drives.old ss → n ≤ until →
+        limit ≤ until → MatchOption result
+        (HasSettled _ D.State D.stands D.step D.says host until drives.new [] [] n ss)
         (λ r. HasSettled _ D.State D.stands D.step D.says host (r.0 + 1) drives.new []
         (drive_events r.1.device r.1.changes.items) n ss) }
     ensures before { IfSome result (λ r. r.0 < limit) }
     ensures shows { IfSome result (λ r. r.1.changes.items ≡ [] → ⊥) }
     ensures settled { result ≡ None → AreInTime limit drives.new }
+    ensures moments { (ss : List (Station D.State)) → IsBusAt _ D.State D.stands host drives.old ss →
+        IfSome result (λ r. AreAt r.0 r.1.changes.items) }
     ensures some { (ss : List (Station D.State)) → IsBusAt _ D.State D.stands host drives.old ss →
         AnyShows D.State D.step D.says limit ss → IsSome result }
     ensures same { length drives.new ≡ length drives.old }

@@ -1,6 +1,6 @@
 use Rattle.std.proofs.Common.{◌≡◌, ℕ, List, [], ◌++◌, refl, sym, ap, subst, ◌∙◌, arith}
 use Rattle.cbm_session.specs.Playing.{drive_events}
-use Rattle.cbm_drive.proofs.Ahead.{none_of, shows_on, shows_never}
+use Rattle.cbm_drive.proofs.Ahead.{none_of, shows_on, shows_never, reacted_at}
 use Rattle.cbm_drive.proofs.Firsts.{first_in_time, idle_in_time}
 use Rattle.cbm_drive.proofs.Left.{less_left}
 use Rattle.cbm_drive.proofs.Played.{settled_none, settled_more, settled_to}
@@ -8,7 +8,7 @@ use Rattle.cbm_drive.proofs.looking.first_shown.Goals as goal
 
 pub loop-place-init : goal.loop-place-init
 loop-place-init g c = (
-  (λ ss n h l. settled_none _ g.D.Machine.State g.D.Machine.stands g.D.Machine.step g.D.Machine.says g.met.D.Machine.byte c.args.host c.args.limit c.args.drives.now [] n ss h l),
+  (λ ss n until h l m. settled_none _ g.D.Machine.State g.D.Machine.stands g.D.Machine.step g.D.Machine.says g.met.D.Machine.byte c.args.host until c.args.drives.now [] n ss h l),
   (λ ss h any. record { stations = ss; now = h; any = any }),
   refl,
 )
@@ -23,9 +23,9 @@ returns-then-moment-limit-clause-some g c = λ ss h any.
     (first_in_time c.args.limit c.in-Some.moment c.in-Some.place c.loop-place.drives c.if-moment-limit.true c.in-Some.ensures.first) (c.loop-place.invariant.1 ss h any))
 
 pub returns-then-not-is_empty-clause-played : goal.returns-then-not-is_empty-clause-played
-returns-then-not-is_empty-clause-played g c = λ ss n h l.
-    let s = c.loop-place.invariant.0 ss n h l in
-    settled_to _ g.D.Machine.State g.D.Machine.stands g.D.Machine.step g.D.Machine.says g.met.D.Machine.byte c.args.host c.args.limit c.in-Some.moment c.in_ok-answer.answer.device n c.loop-place.drives c.react.new.drives
+returns-then-not-is_empty-clause-played g c = λ ss n until h l m.
+    let s = c.loop-place.invariant.0 ss n until h l m in
+    settled_to _ g.D.Machine.State g.D.Machine.stands g.D.Machine.step g.D.Machine.says g.met.D.Machine.byte c.args.host until c.in-Some.moment c.in_ok-answer.answer.device n c.loop-place.drives c.react.new.drives
     c.in_ok-answer.answer.changes.items ss s (c.in_ok-answer.ensures.reacted s.stations s.now c.in-Some.ensures.first)
 
 pub loop-place-smaller : goal.loop-place-smaller
@@ -37,10 +37,10 @@ pub loop-place-preserved : goal.loop-place-preserved
 loop-place-preserved g c =
     let none = none_of c.in_ok-answer.answer.changes.items c.is_empty.result c.is_empty.ensures c.if-not-is_empty.false in
     (
-      (λ ss n h l.
-          (let s = c.loop-place.invariant.0 ss n h l in
-          settled_more _ g.D.Machine.State g.D.Machine.stands g.D.Machine.step g.D.Machine.says g.met.D.Machine.byte c.args.host c.args.limit c.in-Some.moment c.in_ok-answer.answer.device n c.loop-place.drives c.react.new.drives
-          c.in_ok-answer.answer.changes.items [] [] [] ss s (c.in_ok-answer.ensures.reacted s.stations s.now c.in-Some.ensures.first) (omega (arith, c.if-moment-limit.false))
+      (λ ss n until h l m.
+          (let s = c.loop-place.invariant.0 ss n until h l m in
+          settled_more _ g.D.Machine.State g.D.Machine.stands g.D.Machine.step g.D.Machine.says g.met.D.Machine.byte c.args.host until c.in-Some.moment c.in_ok-answer.answer.device n c.loop-place.drives c.react.new.drives
+          c.in_ok-answer.answer.changes.items [] [] [] ss s (c.in_ok-answer.ensures.reacted s.stations s.now c.in-Some.ensures.first) (omega (arith, c.if-moment-limit.false, m))
           (sym (ap (λ cs. drive_events c.in_ok-answer.answer.device cs) none)))),
       (λ ss h any.
           (let k = c.loop-place.invariant.1 ss h any in
@@ -56,3 +56,9 @@ pub returns-clause-some : goal.returns-clause-some
 returns-clause-some g c = λ ss h any.
     absurd (shows_never _ g.D.Machine.State g.D.Machine.stands g.D.Machine.step g.D.Machine.says c.args.host c.args.limit c.loop-place.drives (idle_in_time c.args.limit c.loop-place.drives c.in_default.ensures.first)
     (c.loop-place.invariant.1 ss h any))
+
+pub returns-then-not-is_empty-clause-moments : goal.returns-then-not-is_empty-clause-moments
+returns-then-not-is_empty-clause-moments g c = λ ss h.
+    let s = c.loop-place.invariant.0 ss 0 c.args.limit h (omega arith) (omega arith) in
+    reacted_at _ g.D.Machine.State g.D.Machine.stands g.D.Machine.step g.D.Machine.says c.args.host c.in-Some.moment c.in_ok-answer.answer.device c.react.new.drives c.in_ok-answer.answer.changes.items s.stations
+    (c.in_ok-answer.ensures.reacted s.stations s.now c.in-Some.ensures.first)

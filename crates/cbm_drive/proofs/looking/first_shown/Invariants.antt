@@ -10,8 +10,8 @@ use Rattle.cbm_drive.proofs.looking.first_shown.Given as goal
 -- nothing was shown so far, and what is to be shown still is
 abbrev pub invariant-loop-place : goal.invariant-loop-place
 invariant-loop-place g l =
-    ((ss : List (Station g.D.Machine.State)) (n : ℕ) → IsBusAt _ g.D.Machine.State g.D.Machine.stands l.host l.initial.drives ss → n ≤ l.limit
-    → HasSettled _ g.D.Machine.State g.D.Machine.stands g.D.Machine.step g.D.Machine.says l.host l.limit l.drives [] [] n ss)
+    ((ss : List (Station g.D.Machine.State)) (n until : ℕ) → IsBusAt _ g.D.Machine.State g.D.Machine.stands l.host l.initial.drives ss → n ≤ until → l.limit ≤ until
+    → HasSettled _ g.D.Machine.State g.D.Machine.stands g.D.Machine.step g.D.Machine.says l.host until l.drives [] [] n ss)
     × ((ss : List (Station g.D.Machine.State)) → IsBusAt _ g.D.Machine.State g.D.Machine.stands l.host l.initial.drives ss → AnyShows g.D.Machine.State g.D.Machine.step g.D.Machine.says l.limit ss
     → ShowsStill _ g.D.Machine.State g.D.Machine.stands g.D.Machine.step g.D.Machine.says l.host l.limit l.drives)
     × (length l.drives ≡ length l.initial.drives)

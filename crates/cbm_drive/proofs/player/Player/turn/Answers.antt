@@ -1,0 +1,23 @@
+use Rattle.std.proofs.Common.{◌≡◌, ◌≤◌, ◌+◌, ℕ, None, refl, sym, ap, subst, ◌∙◌, arith}
+use Rattle.cbm_iec.specs.declared.lines.Lines.{Lines}
+use Rattle.cbm_drive.specs.Players.{Turns}
+use Rattle.cbm_drive.specs.Seats.{IsBusAt}
+use Rattle.cbm_drive.proofs.Players.{waits_for, shown_next, given_change}
+use Rattle.cbm_drive.proofs.player.Player.turn.Goals as goal
+
+pub give-requires-clause-waiting : goal.give-requires-clause-waiting
+give-requires-clause-waiting g c = waits_for (c.in-Some.moment + 1) c.args.self.now.waiting c.args.change c.requires.waiting (let l = c.in-Some.ensures.before in omega (arith, l)) c.requires.moment
+
+pub returns-in-Some-clause-given : goal.returns-in-Some-clause-given
+returns-in-Some-clause-given g c = λ n ss es a.
+    shown_next _ g.D.Machine.State g.D.Machine.stands g.D.Machine.step g.D.Machine.says g.met.D.Machine.byte c.args.self.now c.give.new.self c.args.bus.now c.first_shown.new.self c.args.change.moment c.in-Some.moment c.in-Some.answer.device n c.in-Some.answer.changes.items ss es c.give.result
+    c.requires.second a (c.in-Some.ensures.played a.stations a.from (a.from + c.args.change.moment) a.now (omega arith) (omega arith)) c.first_shown.ensures.host c.give.ensures.from (c.in-Some.ensures.moments a.stations a.now)
+    c.in-Some.ensures.shows c.give.ensures.given (let l = c.in-Some.ensures.before in omega (arith, l))
+
+pub returns-clause-given : goal.returns-clause-given
+returns-clause-given g c = λ n ss es a.
+    let second = ap (λ (p : Turns). p.second) c.self.view_is ∙ c.requires.second in
+    let from = a.before in
+    (given_change _ g.D.Machine.State g.D.Machine.stands g.D.Machine.step g.D.Machine.says g.met.D.Machine.byte c.args.self.now (record { waiting = None; second = c.self.inside.second; from = c.args.change.moment; taken = c.self.inside.taken }) c.args.bus.now c.line.new.self c.args.change.moment n c.args.change
+    c.first_shown.new.self.drives ss es c.requires.second second refl (omega arith) a (c.in_default.ensures.played a.stations a.from c.args.change.moment a.now (omega (arith, from, c.requires.from)) (omega arith))
+    (c.in_default.ensures.settled refl) (λ us h. c.line.ensures.told us (subst (λ (l : Lines). IsBusAt _ g.D.Machine.State g.D.Machine.stands l c.first_shown.new.self.drives us) (sym c.first_shown.ensures.host) h)), refl)

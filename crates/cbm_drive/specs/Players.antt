@@ -1,0 +1,68 @@
+-- Changes of a host played one at a time, event by event.
+use Rattle.std.specs.Prelude.{ℕ, ◌+◌, ◌^◌, ◌≡◌, ◌<◌, ◌≤◌, Bool, List, [], ◌∷◌, ◌++◌, Option, Some, None, IfSome}
+use Rattle.cbm_iec.specs.declared.act.Act.{Act}
+use Rattle.cbm_iec.specs.declared.event.Event.{Event}
+use Rattle.cbm_iec.specs.declared.event.Who.TheVariants.{Host, Drive}
+use Rattle.cbm_iec.specs.declared.event.Who.{Who}
+use Rattle.cbm_iec.specs.declared.line.Change.{Change}
+use Rattle.cbm_session.specs.Playing.{Station, Plays}
+use Rattle.cbm_drive.specs.Cables.{Cabled}
+use Rattle.cbm_drive.specs.Seats.{IsBusAt}
+use Rattle.cbm_drive.specs.Silence.{AreSilent}
+
+-- a player: the host's change that waits for its turn, the second change of a reaction that is still to be given, the moment from which on the host may
+-- change a line, and how many of its changes were taken
+pub record Turns : Type 0 where
+  pub waiting : Option Change
+  pub second : Option Event
+  pub from : ℕ
+  pub taken : ℕ
+
+abbrev pub at_start : Turns
+at_start = record { waiting = None; second = None; from = 0; taken = 0 }
+
+-- the event that is still to be given
+abbrev pub pending : Option Event → List Event
+pending None = []
+pending (Some e) = e ∷ []
+
+-- A change that waits gives way to nothing but what comes before it.
+abbrev pub IsWaitingFrom : ℕ → Option Change → Type 0
+IsWaitingFrom from None = Unit {0}
+IsWaitingFrom from (Some c) = (from ≤ c.moment) × (c.moment < 2 ^ 59)
+
+-- what is still to be given is of a drive
+abbrev pub IsDrives : Who → Type 0
+IsDrives Host = ⊥
+IsDrives (Drive d) = Unit {0}
+
+abbrev pub IsOfDrive : Option Event → Type 0
+IsOfDrive None = Unit {0}
+IsOfDrive (Some e) = IsDrives e.who
+
+-- an event of the host is the change that waited; behind one of a drive it still waits
+abbrev pub IsTurnOf : Who → Change → Option Change → Option Change → Type 0
+IsTurnOf Host c was now = (was ≡ Some c) × (now ≡ None)
+IsTurnOf (Drive d) c was now = now ≡ was
+
+module _ (D M : Type 0) (stands : D → M → Type 0) (step : M → Act → M) (says : M → Option (ℕ × Bool)) where
+  -- THESE EVENTS WERE GIVEN: they, and the one that is still to be given, are a play, and the drives stand for the stations behind it.
+  pub record IsAfter (p : Turns) (b : Cabled D) (n : ℕ) (ss : List (Station M)) (es : List Event) : Type 0 where
+    pub from : ℕ
+    pub stations : List (Station M)
+    pub before : from ≤ p.from
+    pub plays : Plays M step says n ss (es ++ pending p.second) from stations
+    pub now : IsBusAt D M stands b.host b.drives stations
+
+  -- THE NEXT EVENT was given, which comes at this moment or before.
+  pub record HasGiven (p : Turns) (b : Cabled D) (upto n : ℕ) (ss : List (Station M)) (es : List Event) (e : Event) : Type 0 where
+    pub after : IsAfter p b n ss (es ++ e ∷ [])
+    pub moment : e.change.moment ≤ upto
+
+  -- NOTHING COMES up to this moment, and all is as it was.
+  pub record IsStill (p q : Turns) (b c : Cabled D) (upto : ℕ) (stations : List (Station M)) : Type 0 where
+    pub same : q ≡ p
+    pub bus : c ≡ b
+    pub second : IfSome p.second (λ e. upto < e.change.moment)
+    pub waiting : p.second ≡ None → IfSome p.waiting (λ w. upto < w.moment)
+    pub silent : p.second ≡ None → AreSilent M step says (upto + 1) stations

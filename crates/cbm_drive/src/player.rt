@@ -1,0 +1,183 @@
+//! Changes of a host played one at a time.
+
+use crate::bus::Answer;
+use crate::cable::Bus;
+use crate::fault::PlayFault;
+use cbm_iec::{Change, Event, Machine, Who};
+use std::marker::Model;
+
+/// Plays a host's changes on a bus one at a time, and gives the events one by one; it takes no memory.
+///
+/// A change is offered, and `next` is asked for events up to a moment: the reactions that are due before the change, the
+/// change itself, and what comes of it.
+#[derive(Drop)]
+pub struct Player {
+    waiting: Option<Change>,
+    second: Option<Event>,
+    from: u64,
+    taken: usize,
+}
+
+impl Model for Player {
+    ghost use Rattle.std.specs.Prelude.{◌≤◌, ◌^◌};
+    ghost use Rattle.cbm_drive.specs.Players.{Turns, IsWaitingFrom, IsOfDrive};
+
+    ghost Value = { Turns };
+
+    ghost view = { λ p. record { waiting = p.waiting; second = p.second; from = p.from; taken = p.taken } };
+
+    ghost invariant = { λ p. IsWaitingFrom p.from p.waiting × (p.from ≤ 2 ^ 59) × IsOfDrive p.second };
+}
+
+impl Player {
+    ghost use Rattle.std.specs.Prelude.{◌≡◌, ◌+◌, ◌-◌, ◌∷◌, ◌++◌, ◌<◌, ◌≤◌, ◌^◌, ℕ, List, [], is_some, false, None, Some, Ok, Err, if◌then◌else◌, nat_lt, min, IfSome, MatchOption, IsSome};
+    ghost use Rattle.cbm_session.specs.Playing.{Station, drive_events};
+    ghost use Rattle.cbm_drive.specs.Players.{at_start, pending, IsWaitingFrom, IsTurnOf, IsAfter, HasGiven, IsStill};
+    ghost use Rattle.cbm_iec.specs.declared.event.Who.TheVariants.{Drive};
+    ghost use Rattle.cbm_drive.specs.declared.fault.PlayFault.TheVariants.{Backwards};
+
+    /// Before the first change.
+    pub fn new() -> Player
+        ensures { result ≡ at_start }
+    {
+        Player {
+            waiting: None,
+            second: None,
+            from: 0,
+            taken: 0,
+        }
+    }
+
+    /// Whether a change waits for its turn.
+    pub fn waits(&self) -> bool
+        ensures { result ≡ is_some self.now.waiting }
+    {
+        self.waiting.is_some()
+    }
+
+    /// Takes the host's next change. Error: it comes before the last one, or not after the last reaction that was given; the
+    /// fault has the number of changes that were taken, and the player is as it was.
+    pub fn offer(&mut self, change: Change) -> Result<(), PlayFault>
+        requires none { self.old.waiting ≡ None }
+        requires moment { change.moment < 2 ^ 59 }
+        ensures fault { change.moment < self.old.from →
+            (result ≡ Err (Backwards self.old.taken)) × (self.new ≡ self.old) }
+        ensures taken { self.old.from ≤ change.moment → (result ≡ Ok tt) × (self.new ≡ record { waiting = Some change;
+            second = self.old.second; from = self.old.from; taken = min (self.old.taken + 1) (2 ^ 64 - 1) }) }
+    {
+        if change.moment < self.from {
+            return Err(PlayFault::Backwards(self.taken));
+        }
+        self.waiting = Some(change);
+        self.taken = self.taken.saturating_add(1);
+        Ok(())
+    }
+
+    /// The next event at a moment or before it. A change that waits comes before reactions of its own moment. None where
+    /// none comes by then, and then the player and the drives are as they were.
+    pub fn next<D: Machine, const N: usize>(
+        &mut self,
+        bus: &mut Bus<D, N>,
+        upto: u64,
+    ) -> Option<Event>
+        requires { upto < 2 ^ 59 - 1 }
+        ensures given { (n : ℕ) (ss : List (Station D.State)) (es : List Event) →
+            (a : IsAfter _ D.State D.stands D.step D.says self.old bus.old n ss es) → MatchOption result
+            (IsStill _ D.State D.stands D.step D.says self.old self.new bus.old bus.new upto a.stations)
+            (HasGiven _ D.State D.stands D.step D.says self.new bus.new upto n ss es) }
+        ensures turn { IfSome result (λ e. IsTurnOf e.who e.change self.old.waiting self.new.waiting) }
+    {
+        if let Some(event) = self.second {
+            if event.change.moment > upto {
+                return None;
+            }
+            self.second = None;
+            return Some(event);
+        }
+        match self.waiting {
+            Some(change) if change.moment <= upto => self.turn(bus, change),
+            _ => self.reaction(bus, upto),
+        }
+    }
+
+    /// The change that waits, or what a drive shows before it.
+    fn turn<D: Machine, const N: usize>(
+        &mut self,
+        bus: &mut Bus<D, N>,
+        change: Change,
+    ) -> Option<Event>
+        requires second { self.old.second ≡ None }
+        requires waiting { self.old.waiting ≡ Some change }
+        requires from { self.old.from ≤ change.moment }
+        requires moment { change.moment < 2 ^ 59 }
+        ensures given { (n : ℕ) (ss : List (Station D.State)) (es : List Event) →
+            IsAfter _ D.State D.stands D.step D.says self.old bus.old n ss es →
+            IfSome result (HasGiven _ D.State D.stands D.step D.says self.new bus.new change.moment n ss es) × IsSome result }
+        ensures turn { IfSome result (λ e. IsTurnOf e.who e.change self.old.waiting self.new.waiting) }
+    {
+        if let Some((moment, answer)) = bus.first_shown(change.moment) {
+            return self.give(moment, &answer);
+        }
+        bus.line(change);
+        self.waiting = None;
+        self.from = change.moment;
+        Some(Event {
+            who: Who::Host,
+            change,
+        })
+    }
+
+    /// What a drive shows at a moment or before it, where no change waits up to there.
+    fn reaction<D: Machine, const N: usize>(
+        &mut self,
+        bus: &mut Bus<D, N>,
+        upto: u64,
+    ) -> Option<Event>
+        requires second { self.old.second ≡ None }
+        requires waiting { IsWaitingFrom (upto + 1) self.old.waiting }
+        requires upto { upto < 2 ^ 59 - 1 }
+        ensures given { (n : ℕ) (ss : List (Station D.State)) (es : List Event) →
+            (a : IsAfter _ D.State D.stands D.step D.says self.old bus.old n ss es) → MatchOption result
+            (IsStill _ D.State D.stands D.step D.says self.old self.new bus.old bus.new upto a.stations)
+            (HasGiven _ D.State D.stands D.step D.says self.new bus.new upto n ss es) }
+        ensures turn { IfSome result (λ e. IsTurnOf e.who e.change self.old.waiting self.new.waiting) }
+    {
+        if !bus.shows_before(upto + 1) {
+            return None;
+        }
+        let (moment, answer) = bus.first_shown(upto + 1)?;
+        self.give(moment, &answer)
+    }
+
+    /// The first change of a reaction; the second one is still to be given.
+    fn give(&mut self, moment: u64, answer: &Answer) -> Option<Event>
+        requires second { self.old.second ≡ None }
+        requires waiting { IsWaitingFrom (moment + 1) self.old.waiting }
+        requires moment { moment < 2 ^ 59 }
+        ensures given { MatchOption result (answer.now.changes.items ≡ [])
+            (λ e. drive_events answer.now.device answer.now.changes.items ≡ e ∷ pending self.new.second) }
+        ensures drive { IfSome result (λ e. e.who ≡ Drive answer.now.device) }
+        ensures from { self.new.from ≡ moment + 1 }
+        ensures waiting { self.new.waiting ≡ self.old.waiting }
+    {
+        let who = Who::Drive(answer.device);
+        self.from = moment + 1;
+        match answer.changes.as_slice() {
+            [] => None,
+            [change] => Some(Event {
+                who,
+                change: *change,
+            }),
+            [change, second, ..] => {
+                self.second = Some(Event {
+                    who,
+                    change: *second,
+                });
+                Some(Event {
+                    who,
+                    change: *change,
+                })
+            }
+        }
+    }
+}
