@@ -101,6 +101,7 @@ module _ (M : Type 0) (step : M → Act → M) (says : M → Option (ℕ × Bool
     where
       row_of : Bool → Bool → TableRow Mouth
       row_of b c = if b then end_frame_row byte last else (if c then set_bit_row byte last left half else show_bit_row byte last left half)
+
       by_half : (b c d : Bool) → (row_of b c).act (record { atn_low = atn; clock_low = clock; data_low = d }) ≡ Some a
           → Foretold limit peek answer (record { party = party; role = role; own = (row_of b c).held own; others = record { atn_low = atn; clock_low = clock; data_low = d }; side = Speaking ((row_of b c).next party.reaction t (record { atn_low = atn; clock_low = clock; data_low = d })) })
           → Foreseen M step says limit answer (with_port rest m (record { party = party; role = role; own = (row_of b c).held own; others = record { atn_low = atn; clock_low = clock; data_low = d }; side = Speaking ((row_of b c).next party.reaction t (record { atn_low = atn; clock_low = clock; data_low = d })) }))

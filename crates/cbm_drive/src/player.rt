@@ -6,6 +6,9 @@ use crate::fault::PlayFault;
 use cbm_iec::{Change, Event, Machine, Who};
 use std::marker::Model;
 
+#[cfg(test)]
+mod tests;
+
 /// Plays a host's changes on a bus one at a time, and gives the events one by one; it takes no memory.
 ///
 /// A change is offered, and `next` is asked for events up to a moment: the reactions that are due before the change, the
@@ -62,8 +65,12 @@ impl Player {
         requires moment { change.moment < 2 ^ 59 }
         ensures fault { change.moment < self.old.from →
             (result ≡ Err (Backwards self.old.taken)) × (self.new ≡ self.old) }
-        ensures taken { self.old.from ≤ change.moment → (result ≡ Ok tt) × (self.new ≡ record { waiting = Some change;
-            second = self.old.second; from = self.old.from; taken = min (self.old.taken + 1) (2 ^ 64 - 1) }) }
+        ensures taken { self.old.from ≤ change.moment → (result ≡ Ok tt) × (self.new ≡ record {
+          waiting = Some change;
+          second = self.old.second;
+          from = self.old.from;
+          taken = min (self.old.taken + 1) (2 ^ 64 - 1);
+        }) }
     {
         if change.moment < self.from {
             return Err(PlayFault::Backwards(self.taken));

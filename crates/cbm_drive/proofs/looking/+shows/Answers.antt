@@ -18,10 +18,10 @@ returns-then-moment-limit t c = idle (subst (IsInTime c.args.limit) c.in-Some.en
 
 pub shows-requires : goal.shows-requires
 shows-requires t c = (
-    (let falls = less_time c.args.limit c.in-Some.moment (port_due c.args.port) (port_due c.due-reaction.new.self) (sym c.in-Some.ensures) c.if-moment-limit.false
-    (subst (λ (p : Port). IsLaterDue c.in-Some.moment (port_due p)) (sym c.due-reaction.ensures.stands) (reacted_later c.in-Some.moment c.args.peek c.args.port c.requires.reaction (sym c.in-Some.ensures))) in
-    omega (arith, falls, c.decreases)),
-    (c.requires.limit, subst (λ (p : Port). (p.party.device < 31) × (1 ≤ p.party.reaction)) (sym c.due-reaction.ensures.stands) (c.requires.device, c.requires.reaction)),
+  (let falls = less_time c.args.limit c.in-Some.moment (port_due c.args.port) (port_due c.due-reaction.new.self) (sym c.in-Some.ensures) c.if-moment-limit.false
+      (subst (λ (p : Port). IsLaterDue c.in-Some.moment (port_due p)) (sym c.due-reaction.ensures.stands) (reacted_later c.in-Some.moment c.args.peek c.args.port c.requires.reaction (sym c.in-Some.ensures))) in
+      omega (arith, falls, c.decreases)),
+  (c.requires.limit, subst (λ (p : Port). (p.party.device < 31) × (1 ≤ p.party.reaction)) (sym c.due-reaction.ensures.stands) (c.requires.device, c.requires.reaction)),
 )
 
 pub returns-then-not-is_empty : goal.returns-then-not-is_empty

@@ -35,8 +35,7 @@ loop-place-smaller g c =
 
 pub loop-place-preserved : goal.loop-place-preserved
 loop-place-preserved g c =
-    let none = none_of c.in_ok-answer.answer.changes.items c.is_empty.result c.is_empty.ensures c.if-not-is_empty.false in
-    (
+    let none = none_of c.in_ok-answer.answer.changes.items c.is_empty.result c.is_empty.ensures c.if-not-is_empty.false in (
       (λ ss n until h l m.
           (let s = c.loop-place.invariant.0 ss n until h l m in
           settled_more _ g.D.Machine.State g.D.Machine.stands g.D.Machine.step g.D.Machine.says g.met.D.Machine.byte c.args.host until c.in-Some.moment c.in_ok-answer.answer.device n c.loop-place.drives c.react.new.drives

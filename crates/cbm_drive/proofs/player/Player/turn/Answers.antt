@@ -17,7 +17,9 @@ returns-in-Some-clause-given g c = λ n ss es a.
 pub returns-clause-given : goal.returns-clause-given
 returns-clause-given g c = λ n ss es a.
     let second = ap (λ (p : Turns). p.second) c.self.view_is ∙ c.requires.second in
-    let from = a.before in
-    (given_change _ g.D.Machine.State g.D.Machine.stands g.D.Machine.step g.D.Machine.says g.met.D.Machine.byte c.args.self.now (record { waiting = None; second = c.self.inside.second; from = c.args.change.moment; taken = c.self.inside.taken }) c.args.bus.now c.line.new.self c.args.change.moment n c.args.change
-    c.first_shown.new.self.drives ss es c.requires.second second refl (omega arith) a (c.in_default.ensures.played a.stations a.from c.args.change.moment a.now (omega (arith, from, c.requires.from)) (omega arith))
-    (c.in_default.ensures.settled refl) (λ us h. c.line.ensures.told us (subst (λ (l : Lines). IsBusAt _ g.D.Machine.State g.D.Machine.stands l c.first_shown.new.self.drives us) (sym c.first_shown.ensures.host) h)), refl)
+    let from = a.before in (
+      given_change _ g.D.Machine.State g.D.Machine.stands g.D.Machine.step g.D.Machine.says g.met.D.Machine.byte c.args.self.now (record { waiting = None; second = c.self.inside.second; from = c.args.change.moment; taken = c.self.inside.taken }) c.args.bus.now c.line.new.self c.args.change.moment n c.args.change
+          c.first_shown.new.self.drives ss es c.requires.second second refl (omega arith) a (c.in_default.ensures.played a.stations a.from c.args.change.moment a.now (omega (arith, from, c.requires.from)) (omega arith))
+          (c.in_default.ensures.settled refl) (λ us h. c.line.ensures.told us (subst (λ (l : Lines). IsBusAt _ g.D.Machine.State g.D.Machine.stands l c.first_shown.new.self.drives us) (sym c.first_shown.ensures.host) h)),
+      refl,
+    )
