@@ -1,6 +1,6 @@
 //! A drive with a machine of a few lines, moment by moment.
 
-ghost use Rattle.std.specs.Prelude.{◌^◌, ◌<◌};
+ghost use Rattle.std.specs.Prelude.{◌≡◌, ◌^◌, ◌<◌};
 
 use crate::drive::Drive;
 use Line::*;
@@ -44,7 +44,9 @@ impl Machine for Parrot {
     ghost more = { λ m n e. ((55, false), refl) };
 }
 
-pub(crate) fn at(moment: u64, line: Line, way: Way) -> Change {
+pub(crate) fn at(moment: u64, line: Line, way: Way) -> Change
+    ensures { result.moment ≡ moment }
+{
     Change { moment, line, way }
 }
 

@@ -1,6 +1,6 @@
 //! A player gives events one by one.
 
-ghost use Rattle.std.specs.Prelude.{◌^◌, ◌<◌, ◌-◌, ◌≤◌};
+ghost use Rattle.std.specs.Prelude.{◌^◌, ◌<◌};
 
 use crate::cable::Bus;
 use crate::drive::Drive;
@@ -44,7 +44,7 @@ fn give(
     bus: &mut Bus<Parrot, 1>,
     change: Change,
 ) -> Result<(), Fail>
-    requires { change.moment < 2 ^ 59 - 1 }
+    requires { change.moment < 2 ^ 58 }
 {
     assert!(rt; !player.waits());
     assert!(rt; player.offer(change).is_ok());
@@ -92,11 +92,14 @@ fn the_host_comes_first(rt: HostRuntime) -> Result<(), Fail> {
     let mut bus = bus();
     let mut player = Player::new();
     give(&rt, &mut player, &mut bus, at(0, Atn, Pull))?;
-    assert!(rt; player.offer(at(20, Clock, Pull)).is_ok() && player.waits());
+    assert!(rt; !player.waits());
+    assert!(rt; player.offer(at(20, Clock, Pull)).is_ok());
+    assert!(rt; player.waits());
     assert!(rt; player.next(&mut bus, 19).is_none() && player.waits());
     assert!(rt; player.next(&mut bus, 20) == host(at(20, Clock, Pull)) && !player.waits());
     assert!(rt; player.next(&mut bus, 20) == drive(at(20, Data, Pull)));
     // A change comes after the last reaction that was given.
+    assert!(rt; !player.waits());
     assert!(rt; player.offer(at(20, Data, Pull)) == Err(PlayFault::Backwards(2)));
     assert!(rt; !player.waits());
     give(&rt, &mut player, &mut bus, at(21, Data, Pull))
