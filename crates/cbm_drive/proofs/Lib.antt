@@ -10,3 +10,5 @@ pub mod Played
 pub mod Ordered
 pub mod Ahead
 pub mod Players
+pub mod Steady
+pub mod Desks

@@ -1,0 +1,84 @@
+-- The named-files machine on the bus: what each act of the bus asks of it, and what it has to say.
+use Rattle.std.specs.Prelude.{ℕ, ◌≡◌, ◌<◌, Bool, true, false, List, Option, Some, None, IfSome}
+use Rattle.cbm_medium.specs.Seen.{Seen}
+use Rattle.cbm_channel.specs.Machines.{Machine}
+use Rattle.cbm_channel.specs.Closing.{close}
+use Rattle.cbm_channel.specs.Talking.{talk, listen, peek, taken}
+use Rattle.cbm_channel.specs.Calls.{put, end_put, after_open}
+use Rattle.cbm_channel.specs.Standing.{Kept, Stands}
+use Rattle.cbm_iec.specs.declared.party.Role.{Role}
+use Rattle.cbm_iec.specs.declared.party.Role.TheVariants.{Absent, Listener, Talker}
+use Rattle.cbm_iec.specs.declared.act.Act.{Act}
+use Rattle.cbm_iec.specs.declared.act.Act.TheVariants.{Pulled, Attention, Released, Heard, Said, Silent}
+use Rattle.cbm_drive.specs.declared.secondary.Secondary.{Secondary}
+use Rattle.cbm_drive.specs.declared.secondary.Secondary.TheVariants.{Data, Close, Open}
+use Rattle.cbm_drive.specs.declared.ended.Ended.{Ended}
+use Rattle.cbm_drive.specs.declared.ended.Ended.TheVariants.{Name, Bytes}
+use Rattle.cbm_drive.specs.Addressing.{Addressed, unaddressed, secondary_of, channel_heard, channel_said, addressed_after, ended}
+
+-- a DOS, or a machine that it stands for, and how its drive is addressed
+pub record Desk (A : Type 0) : Type 0 where
+  pub dos : A
+  pub addressed : Addressed
+
+-- at power up
+abbrev pub at_first : {A : Type 0} → ℕ → A → Desk A
+at_first device dos = record { dos = dos; addressed = unaddressed device }
+
+-- $60 asks a listener's channel to take bytes, or a talker's to send; $E0 closes a listener's, at once. To others they are nothing.
+abbrev pub seconded : Option Secondary → Role → Machine → Machine
+seconded (Some (Data channel)) Listener m = listen channel m
+seconded (Some (Data channel)) Talker m = talk channel m
+seconded (Some (Close channel)) Listener m = close channel m
+seconded secondary role m = m
+
+-- the name is opened, or the bytes have ended
+abbrev pub ending : Option Ended → List ℕ → Machine → Machine
+ending None name m = m
+ending (Some (Name channel)) name m = after_open channel name m
+ending (Some (Bytes channel)) name m = end_put channel m
+
+-- A byte that is no part of a name is put to the channel; before a secondary address it is dropped.
+abbrev pub put_to : Bool → Option ℕ → ℕ → Machine → Machine
+put_to true channel byte m = m
+put_to false None byte m = m
+put_to false (Some channel) byte m = put channel byte m
+
+-- the byte of a channel was taken
+abbrev pub taken_from : Option ℕ → Machine → Machine
+taken_from None m = m
+taken_from (Some channel) m = taken channel m
+
+-- EACH ACT OF THE BUS, for the machine of a drive that is addressed so
+abbrev pub asked : Act → Addressed → Machine → Machine
+asked Pulled a m = ending (ended a) a.name m
+asked (Attention byte) a m = seconded (secondary_of byte) a.role m
+asked Released a m = m
+asked (Heard byte eoi) a m = put_to a.naming (channel_heard a.role a.channel) byte m
+asked (Said byte last) a m = taken_from (channel_said a.role a.channel) m
+asked Silent a m = m
+
+-- the desk after an act
+abbrev pub desk_step : Desk Machine → Act → Desk Machine
+desk_step d act = record { dos = asked act d.addressed d.dos; addressed = addressed_after act d.addressed }
+
+-- what a machine says on a channel, if it is a talker's
+abbrev pub peek_from : Option ℕ → Machine → Option (ℕ × Bool)
+peek_from None m = None
+peek_from (Some channel) m = peek channel m
+
+-- the byte that a talker has to say, and whether it is the last: none before a secondary address
+abbrev pub desk_says : Desk Machine → Option (ℕ × Bool)
+desk_says d = peek_from (channel_said d.addressed.role d.addressed.channel) d.dos
+
+-- The DOS stands for the machine, and both are addressed alike.
+abbrev pub IsAlike : {M : Type 0} → (M → Seen) → Desk (Kept M) → Desk Machine → Type 0
+IsAlike seen x d = Stands seen x.dos d.dos × (d.addressed ≡ x.addressed)
+
+-- A DESK STANDS for another one: alike, and what that has to say is a byte.
+abbrev pub DeskStands : {M : Type 0} → (M → Seen) → Desk (Kept M) → Desk Machine → Type 0
+DeskStands seen x d = IsAlike seen x d × IfSome (desk_says d) (λ s. s.0 < 256)
+
+-- A call leads from each desk that is alike to its next state.
+abbrev pub Turns : {M : Type 0} → (M → Seen) → Desk (Kept M) → Desk (Kept M) → (Desk Machine → Desk Machine) → Type 0
+Turns seen old new next = (d : Desk Machine) → IsAlike seen old d → IsAlike seen new (next d)

@@ -1,0 +1,40 @@
+//! The calls of a DOS that may write, over a medium that never fails by itself: each leads to the machine's next state.
+ghost use Rattle.std.specs.Prelude.{◌≤◌};
+ghost use Rattle.cbm_channel.specs.Closing as closing;
+ghost use Rattle.cbm_channel.specs.Calls as calls;
+ghost use Rattle.cbm_channel.specs.Standing.{Leads};
+
+use cbm_channel::Dos;
+use cbm_medium::Steady;
+
+/// OPEN of a channel with a name, or on 15 a command.
+pub(crate) fn open<M: Steady>(dos: &mut Dos<M>, channel: u8, name: &[u8])
+    requires { channel ≤ 15 }
+    ensures { Leads M.seen dos.old dos.new (calls.after_open channel name.now) }
+{
+    dos.open(channel, name);
+}
+
+/// CLOSE of a channel.
+pub(crate) fn close<M: Steady>(dos: &mut Dos<M>, channel: u8)
+    requires { channel ≤ 15 }
+    ensures { Leads M.seen dos.old dos.new (closing.close channel) }
+{
+    dos.close(channel);
+}
+
+/// A byte for a channel.
+pub(crate) fn put<M: Steady>(dos: &mut Dos<M>, channel: u8, byte: u8)
+    requires { channel ≤ 15 }
+    ensures { Leads M.seen dos.old dos.new (calls.put channel byte) }
+{
+    dos.put(channel, byte);
+}
+
+/// The end of the bytes for a channel.
+pub(crate) fn end_put<M: Steady>(dos: &mut Dos<M>, channel: u8)
+    requires { channel ≤ 15 }
+    ensures { Leads M.seen dos.old dos.new (calls.end_put channel) }
+{
+    dos.end_put(channel);
+}

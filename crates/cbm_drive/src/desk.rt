@@ -1,0 +1,188 @@
+//! The drive's DOS on the bus.
+
+use crate::addressee::Addressee;
+use crate::calls::{close, end_put, open, put};
+use crate::ended::Ended;
+use crate::secondary::Secondary;
+use cbm_channel::Dos;
+use cbm_iec::{Act, Machine, Role};
+use cbm_medium::{Medium, Steady};
+use std::marker::Model;
+
+/// The drive's DOS on the bus: LISTEN, TALK and secondary addresses become its calls.
+///
+/// A DOS whose medium never fails by itself (`Steady`) is a machine above the wires: each act leads it from the named-files
+/// machine that it stands for to that machine's next state.
+#[derive(Drop)]
+pub struct Desk<M: Medium> {
+    dos: Dos<M>,
+    addressee: Addressee,
+}
+
+impl<M: Medium> Model for Desk<M> {
+    ghost use Rattle.cbm_channel.specs.Standing.{Kept};
+    ghost use Rattle.cbm_drive.specs.Desks as desks;
+
+    ghost Value = { desks.Desk (Kept M) };
+
+    ghost view = { λ d. record { dos = d.dos; addressed = d.addressee } };
+}
+
+impl<M: Medium> Desk<M> {
+    ghost use Rattle.std.specs.Prelude.{◌≡◌, ◌<◌};
+    ghost use Rattle.cbm_channel.specs.Machines as files;
+    ghost use Rattle.cbm_channel.specs.Standing.{Stands};
+    ghost use Rattle.cbm_drive.specs.Desks.{at_first, DeskStands};
+
+    /// As the drive is switched on, with a device number below 31.
+    pub fn new(dos: Dos<M>, device: u8) -> Desk<M>
+        requires { device < 31 }
+        ensures value { result ≡ at_first device dos }
+        ensures stands { (m : files.Machine) → Stands M.seen dos m → DeskStands M.seen result (at_first device m) }
+    {
+        Desk {
+            dos,
+            addressee: Addressee::new(device),
+        }
+    }
+
+    /// The DOS.
+    pub fn into_dos(self) -> Dos<M>
+        ensures { result ≡ self.dos }
+    {
+        let Desk { dos, .. } = self;
+        dos
+    }
+}
+
+impl<M: Steady> Desk<M> {
+    ghost use Rattle.std.specs.Prelude.{◌≡◌, ◌<◌, ◌≤◌, IfSome};
+    ghost use Rattle.cbm_channel.specs.Standing.{Leads};
+    ghost use Rattle.cbm_channel.specs.Machines as files;
+    ghost use Rattle.cbm_drive.specs.Addressing.{attended, waiting, heard, released, secondary_of, channel_of, channel_heard, channel_said, ended, addressed_after};
+    ghost use Rattle.cbm_drive.specs.Desks as desks;
+    ghost use Rattle.cbm_drive.specs.Desks.{seconded, ending, put_to, taken_from, asked, desk_says, IsAlike};
+
+    /// ATN was pulled: what a listener was sent ends, and the secondary address goes.
+    fn pulled(&mut self)
+        ensures leads { Leads M.seen self.old.dos self.new.dos (ending (ended self.old.addressed) self.old.addressed.name) }
+        ensures addressed { self.new.addressed ≡ waiting self.old.addressed }
+    {
+        let ended = self.addressee.ended();
+        let name = self.addressee.end();
+        match ended {
+            Some(Ended::Name(channel)) => open(&mut self.dos, channel, name.as_slice()),
+            Some(Ended::Bytes(channel)) => end_put(&mut self.dos, channel),
+            None => {}
+        }
+    }
+
+    /// A byte came in attention: a secondary address asks something of the channel, by the role.
+    fn attended(&mut self, byte: u8)
+        ensures leads { Leads M.seen self.old.dos self.new.dos (seconded (secondary_of byte) self.old.addressed.role) }
+        ensures addressed { self.new.addressed ≡ attended byte self.old.addressed }
+    {
+        self.second(Secondary::of(byte));
+        self.addressee.attend(byte);
+    }
+
+    /// What a secondary address asks of the DOS.
+    fn second(&mut self, secondary: Option<Secondary>)
+        requires { IfSome secondary (λ s. channel_of s ≤ 15) }
+        ensures leads { Leads M.seen self.old.dos self.new.dos (seconded secondary self.old.addressed.role) }
+        ensures addressed { self.new.addressed ≡ self.old.addressed }
+    {
+        match (secondary, self.addressee.role()) {
+            (Some(Secondary::Data(channel)), Role::Listener) => self.dos.listen(channel),
+            (Some(Secondary::Data(channel)), Role::Talker) => self.dos.talk(channel),
+            (Some(Secondary::Close(channel)), Role::Listener) => close(&mut self.dos, channel),
+            _ => {}
+        }
+    }
+
+    /// A byte came to the listener, for a name or for its channel.
+    fn heard(&mut self, byte: u8)
+        ensures leads { let a = self.old.addressed in
+            Leads M.seen self.old.dos self.new.dos (put_to a.naming (channel_heard a.role a.channel) byte) }
+        ensures addressed { self.new.addressed ≡ heard byte self.old.addressed }
+    {
+        if self.addressee.is_naming() {
+            self.addressee.hear(byte);
+            return;
+        }
+        if let Some(channel) = self.addressee.channel_heard() {
+            put(&mut self.dos, channel, byte);
+        }
+    }
+
+    /// ATN was freed.
+    fn released(&mut self)
+        ensures dos { self.new.dos ≡ self.old.dos }
+        ensures addressed { self.new.addressed ≡ released self.old.addressed }
+    {
+        self.addressee.release();
+    }
+
+    /// The talker's byte was taken.
+    fn said(&mut self)
+        ensures leads { let a = self.old.addressed in
+            Leads M.seen self.old.dos self.new.dos (taken_from (channel_said a.role a.channel)) }
+        ensures addressed { self.new.addressed ≡ self.old.addressed }
+    {
+        if let Some(channel) = self.addressee.channel_said() {
+            self.dos.taken(channel);
+        }
+    }
+
+    /// Does what an act asks.
+    fn obey(&mut self, act: Act)
+        ensures leads { Leads M.seen self.old.dos self.new.dos (asked act self.old.addressed) }
+        ensures addressed { self.new.addressed ≡ addressed_after act self.old.addressed }
+    {
+        match act {
+            Act::Pulled => self.pulled(),
+            Act::Attention(byte) => self.attended(byte),
+            Act::Released => self.released(),
+            Act::Heard(byte, _) => self.heard(byte),
+            Act::Said(..) => self.said(),
+            Act::Silent => {}
+        }
+    }
+
+    /// The byte that there is to say, and whether it is the last.
+    fn shown(&self) -> Option<(u8, bool)>
+        ensures value { (d : desks.Desk files.Machine) → IsAlike M.seen self.now d → result ≡ desk_says d }
+        ensures byte { IfSome result (λ s. s.0 < 256) }
+    {
+        let channel = self.addressee.channel_said()?;
+        self.dos.peek(channel)
+    }
+}
+
+impl<M: Steady> Machine for Desk<M> {
+    ghost use Rattle.cbm_channel.specs.Machines as files;
+    ghost use Rattle.cbm_drive.specs.Desks as desks;
+    ghost use Rattle.cbm_drive.specs.Desks.{desk_step, desk_says, DeskStands};
+    ghost use Rattle.cbm_drive.specs.NextSaid.{is_byte, more_said};
+
+    ghost State = { desks.Desk files.Machine };
+
+    ghost step = { desk_step };
+
+    ghost says = { desk_says };
+
+    ghost stands = { λ x d. DeskStands M.seen x d };
+
+    fn act(&mut self, act: Act) {
+        self.obey(act);
+        let _byte = self.shown();
+    }
+
+    fn peek(&self) -> Option<(u8, bool)> {
+        self.shown()
+    }
+
+    ghost byte = { λ x d n last s e. is_byte (desk_says d) n last s.1 e };
+
+    ghost more = { more_said };
+}
