@@ -9,9 +9,6 @@ use cbm_iec::{Act, Machine, Role};
 use cbm_medium::{Medium, Steady};
 use std::marker::Model;
 
-#[cfg(test)]
-mod tests;
-
 /// The drive's DOS on the bus: LISTEN, TALK and secondary addresses become its calls.
 ///
 /// A DOS whose medium never fails by itself (`Steady`) is a machine above the wires: each act leads it from the named-files

@@ -1,9 +1,8 @@
-//! A drive's DOS on the bus, act by act: drive 8, whose disk has nothing but what NEW makes.
+// A drive's DOS on the bus, act by act: drive 8, whose disk has nothing but what NEW makes.
 
-use crate::desk::Desk;
 use cbm_channel::Dos;
 use cbm_d64::D64Disk;
-use cbm_iec::{Act, Machine};
+use cbm_drive::{Act, Desk, Machine};
 use std::alloc::Global;
 use std::process::Abort;
 use std::test::Fail;

@@ -1,0 +1,7 @@
+//! Drives with disks, on the bus.
+#![tactic(auto)]
+
+#[cfg(test)]
+mod desks;
+#[cfg(test)]
+mod wires;
