@@ -20,3 +20,5 @@ pub mod PullSettled
 pub mod PullBus
 pub mod PullPlayed
 pub mod Keeping
+pub mod Premises
+pub mod PieceBus

@@ -174,7 +174,13 @@ none_hold line d (b ∷ bs) = go (nat_eq d b.device) (none_hold line d bs)
     go true e = e
     go false e = let k = free line in omega (arith, k, e)
 
-at_rest : (bs : List Party) (c : Party) → StandsAmong (rest bs) (seat_of c) (resting c)
+-- so the others of each hold nothing
+pub rest_free : (bs : List Party) (c : Party) → rest_at c.device (rest bs) ≡ record { host = record { atn_low = false; clock_low = false; data_low = false }; clocks = zero; datas = zero }
+rest_free bs c =
+    ap (λ (n : ℕ). record { host = record { atn_low = false; clock_low = false; data_low = false }; clocks = n; datas = holding Data c.device (rest bs).seats }) (none_hold Clock c.device bs)
+    ∙ ap (λ (n : ℕ). record { host = record { atn_low = false; clock_low = false; data_low = false }; clocks = zero; datas = n }) (none_hold Data c.device bs)
+
+pub at_rest : (bs : List Party) (c : Party) → StandsAmong (rest bs) (seat_of c) (resting c)
 at_rest bs c =
     let seats = map (λ b. seat_of b) bs in
     record {

@@ -37,7 +37,7 @@ next_seats p (Talk at f) = refl
 
 module _ (M : Type 0) (step : M → Act → M) (peek : M → Option (ℕ × Bool)) (says : ℕ → Option (ℕ × Bool)) (place : ℕ → ℕ) where
   -- Where each station is what its seat's drive goes to, all stand at the point behind.
-  stand_so : (p : Point) (ss : List Seat) (es : List (Rest × Port)) (xs : List (Station M)) → AllEnd M step peek says place p ss es → AllOf M step peek says place 0 (λ x e. (x.rest ≡ e.0) × (x.port ≡ e.1)) xs es → AllStand M step peek says place p ss xs
+  pub stand_so : (p : Point) (ss : List Seat) (es : List (Rest × Port)) (xs : List (Station M)) → AllEnd M step peek says place p ss es → AllOf M step peek says place 0 (λ x e. (x.rest ≡ e.0) × (x.port ≡ e.1)) xs es → AllStand M step peek says place p ss xs
   stand_so p [] [] [] a h = tt
   stand_so p [] [] (x ∷ xs) a h = elim h [ ]
   stand_so p [] (e ∷ es) xs a h = elim a [ ]

@@ -27,7 +27,7 @@ noatn_front : (xs ys : List Step) → NoAtn (xs ++ ys) → NoAtn xs
 noatn_front [] ys h = tt
 noatn_front (x ∷ xs) ys h = (h.0, noatn_front xs ys h.1)
 
-last_front : (xs ys : List Step) → LastSaid (xs ++ ys) → LastSaid xs
+pub last_front : (xs ys : List Step) → LastSaid (xs ++ ys) → LastSaid xs
 last_front [] ys h = tt
 last_front (x ∷ []) ys h = tt
 last_front (x ∷ x2 ∷ xs) ys h = (h.0, last_front (x2 ∷ xs) ys h.1)
@@ -36,7 +36,7 @@ after_front : (w : Who) (m : ℕ) (xs ys : List Step) → AllAfter w m (xs ++ ys
 after_front w m [] ys h = tt
 after_front w m (x ∷ xs) ys h = (h.0, after_front w m xs ys h.1)
 
-goes_front : (xs ys : List Step) → GoesOn (xs ++ ys) → GoesOn xs
+pub goes_front : (xs ys : List Step) → GoesOn (xs ++ ys) → GoesOn xs
 goes_front [] ys h = tt
 goes_front (x ∷ xs) ys h = (after_front x.event.who (moment_of x) xs ys h.0, goes_front xs ys h.1)
 
@@ -44,7 +44,7 @@ none_front : (m : ℕ) (xs ys : List Step) → NoneBefore m (xs ++ ys) → NoneB
 none_front m [] ys h = tt
 none_front m (x ∷ xs) ys h = (h.0, none_front m xs ys h.1)
 
-order_front : (xs ys : List Step) → InOrder (xs ++ ys) → InOrder xs
+pub order_front : (xs ys : List Step) → InOrder (xs ++ ys) → InOrder xs
 order_front [] ys h = tt
 order_front (x ∷ xs) ys h = (none_front (moment_of x) xs ys h.0, order_front xs ys h.1)
 
@@ -57,7 +57,7 @@ comes_longer d t [] ys c = elim c [ ]
 comes_longer d t (x ∷ xs) ys (here w e) = here w e
 comes_longer d t (x ∷ xs) ys (there c) = there (comes_longer d t xs ys c)
 
-tied_front : (place : ℕ → ℕ) (xs ys : List Step) → Tied place (xs ++ ys) → Tied place xs
+pub tied_front : (place : ℕ → ℕ) (xs ys : List Step) → Tied place (xs ++ ys) → Tied place xs
 tied_front place [] ys h = tt
 tied_front place (x ∷ xs) ys h = (λ d w e c. h.0 d w e (comes_longer e (moment_of x) xs ys c), tied_front place xs ys h.1)
 
@@ -130,7 +130,7 @@ goes_up_to says c {r} {r2} {q} {q2} {ss} (reacts t more d e sh l f) o last = go 
     ]
 
 module _ (M : Type 0) (step : M → Act → M) (peek : M → Option (ℕ × Bool)) (says : ℕ → Option (ℕ × Bool)) (place : ℕ → ℕ) where
-  owned_front : (ds : List ℕ) (xs ys : List Step) → OwnedIn M step peek says place ds (xs ++ ys) → OwnedIn M step peek says place ds xs
+  pub owned_front : (ds : List ℕ) (xs ys : List Step) → OwnedIn M step peek says place ds (xs ++ ys) → OwnedIn M step peek says place ds xs
   owned_front ds [] ys h = tt
   owned_front ds (x ∷ xs) ys h = (h.0, owned_front ds xs ys h.1)
 
