@@ -23,7 +23,7 @@ use Rattle.cbm_session.specs.Playing.{Station, Plays}
 use Rattle.cbm_session.specs.Steps.{Step, moment_of, events_of}
 
 -- the front of a list has what the list has
-noatn_front : (xs ys : List Step) → NoAtn (xs ++ ys) → NoAtn xs
+pub noatn_front : (xs ys : List Step) → NoAtn (xs ++ ys) → NoAtn xs
 noatn_front [] ys h = tt
 noatn_front (x ∷ xs) ys h = (h.0, noatn_front xs ys h.1)
 

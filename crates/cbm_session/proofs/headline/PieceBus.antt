@@ -1,11 +1,13 @@
 -- A piece of a session, whole or cut, on a bus: how each drive follows it and stands behind it, and what a play that keeps to it comes to.
-use Rattle.std.proofs.Common.{◌≡◌, ℕ, ◌⊎◌, inl, inr, Bool, List, [], ◌∷◌, ◌++◌, map, Option, Some, None, ap, sym, ◌∙◌, subst, refl}
+use Rattle.std.proofs.Common.{◌≡◌, ℕ, suc, ◌≤◌, ◌⊎◌, inl, inr, Bool, List, [], ◌∷◌, ◌++◌, map, Option, Some, None, ap, sym, ◌∙◌, subst, arith, refl}
+use Rattle.std.proofs.lemmas.Bool.Decides.{leb_tells}
 use Rattle.cbm_iec.specs.declared.act.Act.{Act}
 use Rattle.cbm_iec.specs.declared.event.Event.{Event}
 use Rattle.cbm_iec.specs.declared.party.Party.{Party}
 use Rattle.cbm_iec.specs.declared.party.Role.TheVariants.{Absent, Listener, Talker}
 use Rattle.cbm_iec.specs.declared.party.Role.{Role}
 use Rattle.cbm_iec.specs.declared.port.Port.{Port}
+use Rattle.cbm_session.proofs.among.Calm.{Every}
 use Rattle.cbm_session.proofs.among.Fronts.{steps_order, cut_among, follows_drive, follows_wires}
 use Rattle.cbm_session.proofs.among.Points.{next_party, whole_sound, cut_sound}
 use Rattle.cbm_session.proofs.among.Sessions.{piece_among, left_is}
@@ -21,7 +23,7 @@ use Rattle.cbm_session.proofs.headline.Meeting.{LastSaid, last_behind}
 use Rattle.cbm_session.proofs.headline.Premises.{mute, Rises, rises_placed, Stood, restand, stood}
 use Rattle.cbm_session.proofs.headline.PullPlayed.{AllShow}
 use Rattle.cbm_session.proofs.headline.Ties.{Placed, tied_all}
-use Rattle.cbm_session.proofs.joining.Merging.{InOrder, cut_front}
+use Rattle.cbm_session.proofs.joining.Merging.{InOrder, AllBefore, before_yes, before_no, cut_front}
 use Rattle.cbm_session.proofs.joining.Orders.{host_order}
 use Rattle.cbm_session.proofs.joining.Owning.{part_owned, part_order}
 use Rattle.cbm_session.proofs.reading.OneReading.{NoAtn}
@@ -33,11 +35,16 @@ use Rattle.cbm_session.specs.Laws.{GoesOn}
 use Rattle.cbm_session.specs.Pieces.{Whole, Piece, Point, host_part, own_part, steps_of, before, piece_steps, Fits, PieceFits, held_by, seat_with, whole_point, point_after, Full, Cut}
 use Rattle.cbm_session.specs.Playing.{Station, Plays}
 use Rattle.cbm_session.specs.Seats.{Seat, device}
-use Rattle.cbm_session.specs.Steps.{Step, events_of}
+use Rattle.cbm_session.specs.Steps.{Step, moment_of, events_of}
 
 abbrev pub whole_of : Piece → Whole
 whole_of (Full w) = w
 whole_of (Cut w c) = w
+
+-- a piece to its end, or to a cut
+abbrev pub upto : Option ℕ → Whole → Piece
+upto None w = Full w
+upto (Some c) w = Cut w c
 
 -- a seat behind a piece
 abbrev pub seat_behind : Point → Piece → Seat → Seat
@@ -134,6 +141,21 @@ pub steps_last : (p : Point) (k : Piece) → PieceFits p k → LastSaid (steps_o
 steps_last p (Full w) f l = l
 steps_last p (Cut w c) f l = let k = cut_front c (steps_of p w) (steps_order p w f.0) in last_front (before c (steps_of p w)) k.0 (subst LastSaid k.1 l)
 
+pub every_before : (P : Step → Type 0) (c : ℕ) (ys : List Step) → Every P ys → Every P (before c ys)
+every_before P c [] a = tt
+every_before P c (y ∷ ys) a = elim (leb_tells (suc (moment_of y)) c) [
+  | inl x ↦ (let l = x.1 in subst (Every P) (sym (before_yes c y ys (omega (arith, l)))) (a.0, every_before P c ys a.1))
+  | inr x ↦ (let l = x.1 in subst (Every P) (sym (before_no c y ys (omega (arith, l)))) (every_before P c ys a.1))
+]
+
+pub all_sooner : (c t : ℕ) (ys : List Step) → c ≤ t → AllBefore c ys → AllBefore t ys
+all_sooner c t [] l a = tt
+all_sooner c t (y ∷ ys) l a = let b = a.0 in (omega (arith, b, l), all_sooner c t ys l a.1)
+
+pub upto_fits : (p : Point) (o : Option ℕ) (w : Whole) → PieceFits p (upto o w) → Fits p w
+upto_fits p None w f = f
+upto_fits p (Some c) w f = f.0
+
 -- who goes with steps stays who it is
 goes_party : (says : Option (ℕ × Bool)) {r r2 : Rest} {q q2 : Port} {ss : List Step} → Goes says r q ss r2 q2 → q2.party ≡ q.party
 goes_party says (bus.ends a b) = ap (λ (x : Port). x.party) b
@@ -150,7 +172,7 @@ module _ (M : Type 0) (step : M → Act → M) (peek : M → Option (ℕ × Bool
     pub tied : Tied place ys
     pub owned : OwnedIn M step peek mute place ds ys
 
-  steps_sit : (p : Point) (k : Piece) → PieceFits p k → OwnedIn M step peek mute place (map (λ s. device s) p.seats) (piece_steps p k)
+  pub steps_sit : (p : Point) (k : Piece) → PieceFits p k → OwnedIn M step peek mute place (map (λ s. device s) p.seats) (piece_steps p k)
   steps_sit p (Full w) f = steps_owned M step peek mute place p w
   steps_sit p (Cut w c) f =
       let k = cut_front c (steps_of p w) (steps_order p w f.0) in

@@ -1,5 +1,6 @@
 -- A frame of the talker on a bus: under way it is the frame of the byte that the talker's machine has to say; played to its end it says that byte, and all stand behind it.
-use Rattle.std.proofs.Common.{◌≡◌, ℕ, ◌+◌, ◌≤◌, ◌<◌, ◌⊎◌, inl, inr, Bool, true, false, List, [], ◌∷◌, ◌++◌, map, append_assoc, Option, Some, None, ap, sym, ◌∙◌, subst, arith, refl, eq-eqb}
+use Rattle.std.proofs.Common.{◌≡◌, ℕ, suc, ◌+◌, ◌≤◌, ◌<◌, ◌⊎◌, inl, inr, Bool, true, false, List, [], ◌∷◌, ◌++◌, map, append_assoc, Option, Some, None, ap, sym, ◌∙◌, subst, arith, refl, eq-eqb}
+use Rattle.std.proofs.lemmas.Bool.Decides.{leb_tells}
 use Rattle.std.specs.Prelude.{if◌then◌else◌}
 use Rattle.cbm_iec.specs.Ports.{side_due, port_due}
 use Rattle.cbm_iec.specs.declared.act.Act.TheVariants.{Said}
@@ -11,6 +12,7 @@ use Rattle.cbm_iec.specs.declared.event.Who.{Who}
 use Rattle.cbm_iec.specs.declared.line.Line.TheVariants.{Clock, Data}
 use Rattle.cbm_iec.specs.declared.line.Way.TheVariants.{Pull, Free}
 use Rattle.cbm_iec.specs.declared.lines.Held.{Held}
+use Rattle.cbm_iec.specs.declared.mouth.Mouth.TheVariants.{Led}
 use Rattle.cbm_iec.specs.declared.party.Party.{Party}
 use Rattle.cbm_iec.specs.declared.party.Role.TheVariants.{Absent, Listener, Talker}
 use Rattle.cbm_iec.specs.declared.party.Role.{Role}
@@ -23,28 +25,28 @@ use Rattle.cbm_session.proofs.among.Fronts.{steps_order}
 use Rattle.cbm_session.proofs.among.Points.{leading_alone}
 use Rattle.cbm_session.proofs.among.Standing.{IsSound}
 use Rattle.cbm_session.proofs.headline.AlongBus.{GoesSo, RisingIn, IsPlain, WithinAll, PassedAll, along_bus}
-use Rattle.cbm_session.proofs.headline.FrameBus.{ear_asks, AllStand, AllEnd, AllWith, Turns, SaidSo, all_go, devs_are, steps_owned}
+use Rattle.cbm_session.proofs.headline.FrameBus.{ear_asks, StandsSo, AllStand, AllEnd, AllWith, devs_are}
+use Rattle.cbm_session.proofs.headline.CutBus.{noatn_front}
 use Rattle.cbm_session.proofs.headline.GoesOf.{OthersData, goes_of, goes_idle, idle}
 use Rattle.cbm_session.proofs.headline.Meeting.{Compat, LastSaid, AsksFor}
+use Rattle.cbm_session.proofs.headline.PieceBus.{whole_of, upto, seat_behind, all_sooner, upto_fits, piece_tidy, tidy_plain, all_go_with}
 use Rattle.cbm_session.proofs.headline.SideStates.{SideHolds}
 use Rattle.cbm_session.proofs.headline.TalkParts.{told_last, told_noatn}
-use Rattle.cbm_session.proofs.headline.TalkSwap.{Twin, twin_compat, twin_same, swapped}
-use Rattle.cbm_session.proofs.headline.Ties.{Placed, tied_all}
-use Rattle.cbm_session.proofs.joining.Merging.{AllBefore}
+use Rattle.cbm_session.proofs.headline.Ties.{Placed}
+use Rattle.cbm_session.proofs.joining.Merging.{AllBefore, before_yes, before_no, front_before, cut_front}
 use Rattle.cbm_session.proofs.joining.OneDrive.{one_told, told_is}
-use Rattle.cbm_session.proofs.joining.Orders.{host_order}
-use Rattle.cbm_session.proofs.joining.Owning.{part_owned, part_order}
 use Rattle.cbm_session.proofs.joining.Talkers.{talker_is}
 use Rattle.cbm_session.proofs.reading.OneReading.{NoAtn}
 use Rattle.cbm_session.proofs.reading.PieceReadings.{next_seat}
-use Rattle.cbm_session.proofs.timing.SessionOrder.{part_host, piece_goes, steps_done, Done, DoneBy}
-use Rattle.cbm_session.specs.Among.{Rest, wires_of}
+use Rattle.cbm_session.proofs.timing.SessionOrder.{steps_done, Done, DoneBy}
+use Rattle.cbm_session.specs.Among.{Rest, wires_of, FollowsAmong}
 use Rattle.cbm_session.specs.Bits.{number_of}
-use Rattle.cbm_session.specs.Buses.{SaysAs, SideAmong, OwnAt}
+use Rattle.cbm_session.specs.Buses.{SaysAs, SideAmong, OwnAt, StandsAmong}
+use Rattle.cbm_session.specs.Following.{IsInTime}
 use Rattle.cbm_session.specs.Frames.{Told, is_last, signal_steps, first_bit, bit_steps, ToldFits}
-use Rattle.cbm_session.specs.Pieces.{Place, Point, own_part, host_part, steps_of, Fits, told_since, whole_point, Talk, Full, Open, Leading}
+use Rattle.cbm_session.specs.Pieces.{Whole, Place, Point, steps_of, before, piece_steps, Fits, PieceFits, told_since, whole_point, point_after, Talk, Cut, Open, Leading}
 use Rattle.cbm_session.specs.Playing.{Station, Plays}
-use Rattle.cbm_session.specs.Seats.{Seat, device, is_talker, talker_of}
+use Rattle.cbm_session.specs.Seats.{lines, Seat, device, is_talker, talker_of}
 use Rattle.cbm_session.specs.Steps.{Step, moment_of, events_of, host, drive, for_one}
 
 -- a frame's drive is the talker
@@ -79,6 +81,13 @@ told_data b at f = (
   ),
 )
 
+data_before : (d c : ℕ) (ys : List Step) → OthersData d ys → OthersData d (before c ys)
+data_before d c [] a = tt
+data_before d c (y ∷ ys) a = elim (leb_tells (suc (moment_of y)) c) [
+  | inl x ↦ (let l = x.1 in subst (OthersData d) (sym (before_yes c y ys (omega (arith, l)))) (a.0, data_before d c ys a.1))
+  | inr x ↦ (let l = x.1 in subst (OthersData d) (sym (before_no c y ys (omega (arith, l)))) (data_before d c ys a.1))
+]
+
 -- all steps done by a moment are before a later one
 pub done_before : (m t : ℕ) (ss : List Step) → m < t → Every (DoneBy m) ss → AllBefore t ss
 done_before m t [] l a = tt
@@ -108,124 +117,111 @@ module _ (M : Type 0) (step : M → Act → M) (peek : M → Option (ℕ × Bool
     frame_steps : (f : Told) → Fits p (Talk at f) → steps_of p (Talk at f) ≡ one_told s.party at f
     frame_steps f h = leading_alone p s at f sound talks ∙ told_is s.party at f (subst (λ (b : Party). ToldFits b at f) the_talker h.1)
 
-    talk_turns : (f : Told) → Fits p (Talk at f) → Turns M step peek says place p (Talk at f) Telling
-    talk_turns f fits x z h tells r2 q2 g there = by x.role refl
+    asks_led : (zs : List Step) (A : Type 0) → A → AsksFor zs (Speaking (Led at)) A
+    asks_led [] A k = tt
+    asks_led (y ∷ zs) A k = k
+
+    -- Of its frame a drive goes with what it follows, whole or cut.
+    talk_goes : (zs : List Step) → NoAtn zs → OthersData s.party.device zs → p.place ≡ Leading at → (x : Seat) (z : Station M) → StandsSo M step peek says place p x z → Telling x z → (r2 : Rest) (q2 : Port) → FollowsAmong (says z.port.party.device) z.rest z.port zs r2 q2
+        → ((t : ℕ) → port_due q2 ≡ Some t → AllBefore t zs) → GoesSo M step peek says place z zs (r2, q2)
+    talk_goes zs noatn mild leading x z h tells r2 q2 g end = by x.role refl
       where
-        steps : steps_of p (Talk at f) ≡ one_told s.party at f
-        steps = frame_steps f fits
-
-        noatn : NoAtn (steps_of p (Talk at f))
-        noatn = subst NoAtn (sym steps) (told_noatn s.party at f (subst (λ (b : Party). ToldFits b at f) the_talker fits.1))
-
         seen : z.port.others ≡ wires_of z.rest
         seen = h.stands.others ∙ ap (λ (r : Rest). wires_of r) (sym h.rest)
 
         side_at : SideAmong (Leading at) x.role z.port.side
-        side_at = subst (λ (v : Place). SideAmong v x.role z.port.side) fits.0 h.stands.side
+        side_at = subst (λ (v : Place). SideAmong v x.role z.port.side) leading h.stands.side
 
         own_at : OwnAt (Leading at) x.role x.own
-        own_at = subst (λ (v : Place). OwnAt v x.role x.own) fits.0 (each_sits (λ y. OwnAt p.place y.role y.own) (device x) p.seats x h.sound.own h.sound.seated.sits)
+        own_at = subst (λ (v : Place). OwnAt v x.role x.own) leading (each_sits (λ y. OwnAt p.place y.role y.own) (device x) p.seats x h.sound.own h.sound.seated.sits)
 
-        done : Every (DoneBy (told_since (talker_of p.seats) f)) (steps_of p (Talk at f))
-        done = steps_done p s (Talk at f) sound fits
-
-        by_end : (v : Bool) → is_last f ≡ v → (r : Role) → SideAmong (if v then Open else Leading (f.accept + 100)) r q2.side → (t : ℕ) → port_due q2 ≡ Some t → AllBefore t (steps_of p (Talk at f))
-        by_end true l r st t e = let k : Some t ≡ None = sym e ∙ st in absurd cc
-        by_end false l Absent st t e = let k : Some t ≡ None = sym e ∙ ap (λ (v : Side). side_due v) st in absurd cc
-        by_end false l Listener st t e = elim st [ ]
-        by_end false l Talker st t e =
-            let k : Some t ≡ Some (f.accept + 100) = sym e ∙ ap (λ (v : Side). side_due v) st in
-            let late : t ≡ f.accept + 100 = cc in
-            let soon = since_accept (talker_of p.seats) f false l refl in
-            done_before (told_since (talker_of p.seats) f) t (steps_of p (Talk at f)) (omega (arith, late, soon)) done
-
-        end : (t : ℕ) → port_due q2 ≡ Some t → AllBefore t (steps_of p (Talk at f))
-        end t e = by_end (is_last f) refl (next_seat (Talk at f) x).role there.side t e
-
-        by : (r : Role) → x.role ≡ r → GoesSo M step peek says place z (steps_of p (Talk at f)) (r2, q2)
+        by : (r : Role) → x.role ≡ r → GoesSo M step peek says place z zs (r2, q2)
         by Absent k =
             let side : z.port.side ≡ Hearing Idle = subst (λ (r : Role). SideAmong (Leading at) r z.port.side) k side_at in
             let holds : SideHolds z.port.side z.port.own = subst (λ (v : Side). SideHolds v z.port.own) (sym side) tt in
             record {
               goes = goes_idle (says z.port.party.device) g (idle side) holds seen noatn;
-              asks = subst (λ (v : Side). AsksFor (steps_of p (Talk at f)) v (peek z.machine ≡ says z.port.party.device)) (sym side) (ear_asks (peek z.machine ≡ says z.port.party.device) Idle (steps_of p (Talk at f)));
+              asks = subst (λ (v : Side). AsksFor zs v (peek z.machine ≡ says z.port.party.device)) (sym side) (ear_asks (peek z.machine ≡ says z.port.party.device) Idle zs);
               holds = holds;
               seen = seen;
               end = end;
             }
         by Listener k = absurd (subst (λ (r : Role). SideAmong (Leading at) r z.port.side) k side_at)
         by Talker k =
-            let side : z.port.side ≡ Speaking (Rattle.cbm_iec.specs.declared.mouth.Mouth.TheVariants.Led at) = subst (λ (r : Role). SideAmong (Leading at) r z.port.side) k side_at in
-            let own : x.own ≡ Rattle.cbm_session.specs.Seats.lines true false = subst (λ (r : Role). OwnAt (Leading at) r x.own) k own_at in
+            let side : z.port.side ≡ Speaking (Led at) = subst (λ (r : Role). SideAmong (Leading at) r z.port.side) k side_at in
+            let own : x.own ≡ lines true false = subst (λ (r : Role). OwnAt (Leading at) r x.own) k own_at in
             let holds : SideHolds z.port.side z.port.own = subst (λ (v : Side). SideHolds v z.port.own) (sym side) (ap (λ (v : Held). v.clock_low) (h.stands.own ∙ own)) in
             let d : z.port.party.device ≡ s.party.device = ap (λ (b : Party). b.device) (h.stands.party ∙ only_one x h.sound k) in
-            let own_data : OthersData z.port.party.device (steps_of p (Talk at f)) = subst (λ (v : ℕ). OthersData v (steps_of p (Talk at f))) (sym d) (subst (λ (v : List Step). OthersData s.party.device v) (sym steps) (told_data s.party at f)) in
             record {
-              goes = goes_of (says z.port.party.device) g holds seen noatn own_data;
-              asks = subst (λ (v : List Step). AsksFor v z.port.side (peek z.machine ≡ says z.port.party.device)) (sym steps) (subst (λ (v : Side). Rattle.cbm_session.proofs.headline.SideStates.SideAsks v (peek z.machine ≡ says z.port.party.device)) (sym side) (tells k));
+              goes = goes_of (says z.port.party.device) g holds seen noatn (subst (λ (v : ℕ). OthersData v zs) (sym d) mild);
+              asks = subst (λ (v : Side). AsksFor zs v (peek z.machine ≡ says z.port.party.device)) (sym side) (asks_led zs (peek z.machine ≡ says z.port.party.device) (tells k));
               holds = holds;
               seen = seen;
               end = end;
             }
 
-    -- Where the play is in the frame, or behind it.
-    pub record TalkOnBus (t : ℕ) (f : Told) (n : ℕ) (last : Bool) (from : List (Station M)) (es rest more : List Event) (n2 : ℕ) (ss2 : List (Station M)) : Type 0 where
-      pub frame : Told
-      pub fits : Fits p (Talk at frame)
-      pub number : number_of frame.bits ≡ n
-      pub kind : is_last frame ≡ last
-      pub twin : Twin t (steps_of p (Talk at frame)) (steps_of p (Talk at f))
-      pub fin : List (Rest × Port)
-      pub all_end : AllEnd M step peek says place (whole_point p (Talk at frame)) (map (λ x. next_seat (Talk at frame) x) p.seats) fin
-      pub so : WithinAll M step peek says place from (steps_of p (Talk at frame)) fin es rest ss2 ⊎ ((frame ≡ f) × PassedAll M step peek says place from (steps_of p (Talk at frame)) fin es n2 ss2)
-
-    pub talk_on_bus : (t : ℕ) (f : Told) → Fits p (Talk at f) → (n : ℕ) (last : Bool) → says (device s) ≡ Some (n, last) → n < 256 → 1 ≤ s.party.reaction → s.party.reaction ≤ 60
-        → Placed place p.seats → RisingIn M step peek says place (map (λ x. device x) p.seats) → (xs : List (Station M)) → AllStand M step peek says place p p.seats xs → AllWith M step peek says place Telling p.seats xs
-        → {n1 n2 : ℕ} {ss2 : List (Station M)} {es : List Event} → Plays M step peek n1 xs es n2 ss2 → (rest more : List Event) → es ++ rest ≡ events_of (steps_of p (Talk at f)) ++ more → TalkOnBus t f n last xs es rest more n2 ss2
-    talk_on_bus t f fits n last said byte some prompt placed rising xs stand tells {n1} {n2} {ss2} {es} plays rest more e =
-        let told = subst (λ (b : Party). ToldFits b at f) the_talker fits.1 in
-        let sw = swapped t s.party at f n last some prompt byte told in
-        let g = sw.frame in
-        let fits2 : Fits p (Talk at g) = (fits.0, subst (λ (b : Party). ToldFits b at g) (sym the_talker) sw.fits) in
-        let is_g = frame_steps g fits2 in
-        let is_f = frame_steps f fits in
-        let says_g : says (device s) ≡ Some (number_of g.bits, is_last g) = said ∙ ap (λ (v : ℕ). Some (v, last)) (sym sw.number) ∙ ap (λ (v : Bool). Some (number_of g.bits, v)) (sym sw.kind) in
-        let said_so : SaidSo M step peek says place p (Talk at g) = λ x h. by_role g says_g x h x.role refl in
-        let all = all_go M step peek says place p (Talk at g) Telling fits2 (talk_turns g fits2) said_so p.seats xs stand tells in
-        let ds = devs_are M step peek says place p p.seats xs stand in
-        let plain : IsPlain M step peek says place (map (λ x. device x) p.seats) (steps_of p (Talk at g)) = record {
-          noatn = subst NoAtn (sym is_g) (told_noatn s.party at g sw.fits);
-          last = subst LastSaid (sym is_g) (told_last s.party at g);
-          goes_on = piece_goes p (Talk at g) fits2;
-          order = steps_order p (Talk at g) fits2;
-          tied = tied_all place (λ (x : Seat). own_part p (Talk at g) x) (part_owned p (Talk at g)) (part_order p (Talk at g) fits2) (host_part p (Talk at g)) p.seats (part_host p (Talk at g)) (host_order p (Talk at g) fits2) placed;
-          owned = steps_owned M step peek says place p (Talk at g);
-        } in
-        let e2 : es ++ rest ≡ events_of (one_told s.party at f) ++ more = e ∙ ap (λ (v : List Step). events_of v ++ more) is_f in
-        let meets : Compat (steps_of p (Talk at g)) (es ++ rest) = subst (λ (v : List Step). Compat v (es ++ rest)) (sym is_g) (subst (λ (v : List Event). Compat (one_told s.party at g) v) (sym e2) (twin_compat t (one_told s.party at g) (one_told s.party at f) more sw.twin)) in
-        let out = along_bus M step peek says place plays (steps_of p (Talk at g)) all.0 all.1.0 (subst (λ (v : List ℕ). RisingIn M step peek says place v) (sym ds) rising) (subst (λ (v : List ℕ). IsPlain M step peek says place v (steps_of p (Talk at g))) (sym ds) plain) rest meets in
-        record {
-          frame = g;
-          fits = fits2;
-          number = sw.number;
-          kind = sw.kind;
-          twin = subst (λ (v : List Step). Twin t v (steps_of p (Talk at f))) (sym is_g) (subst (λ (v : List Step). Twin t (one_told s.party at g) v) (sym is_f) sw.twin);
-          fin = all.0;
-          all_end = all.1.1;
-          so = elim out [
-            | inl w ↦ inl w
-            | inr w ↦ inr (
-              (
-                  let both : events_of (one_told s.party at g) ++ (w.more ++ rest) ≡ events_of (one_told s.party at f) ++ more =
-                  sym (append_assoc (events_of (one_told s.party at g)) w.more rest) ∙ ap (λ (v : List Event). v ++ rest) (ap (λ (v : List Step). events_of v ++ w.more) (sym is_g) ∙ sym w.shown_so) ∙ e2 in
-                  sw.same (twin_same t (one_told s.party at g) (one_told s.party at f) (w.more ++ rest) more sw.twin both).0
-                  ),
-              w,
-            )
-          ];
-        }
+    -- behind a frame nothing is due before its last step, and behind a cut nothing before it
+    whole_end : (f : Told) (fits : Fits p (Talk at f)) (x : Seat) (q2 : Port) → StandsAmong (whole_point p (Talk at f)) (next_seat (Talk at f) x) q2 → (t : ℕ) → port_due q2 ≡ Some t → AllBefore t (steps_of p (Talk at f))
+    whole_end f fits x q2 there t e = go (is_last f) refl (next_seat (Talk at f) x).role there.side
       where
-        by_role : (g : Told) → says (device s) ≡ Some (number_of g.bits, is_last g) → (x : Seat) → IsSound p x → (r : Role) → x.role ≡ r → SaysAs x.role (Full (Talk at g)) (says (device x))
-        by_role g k x h Absent e = subst (λ (r : Role). SaysAs r (Full (Talk at g)) (says (device x))) (sym e) tt
-        by_role g k x h Listener e = subst (λ (r : Role). SaysAs r (Full (Talk at g)) (says (device x))) (sym e) tt
-        by_role g k x h Talker e = subst (λ (r : Role). SaysAs r (Full (Talk at g)) (says (device x))) (sym e) (ap (λ (b : Party). says b.device) (only_one x h e) ∙ k)
+        done : Every (DoneBy (told_since (talker_of p.seats) f)) (steps_of p (Talk at f))
+        done = steps_done p s (Talk at f) sound fits
+
+        go : (v : Bool) → is_last f ≡ v → (r : Role) → SideAmong (if v then Open else Leading (f.accept + 100)) r q2.side → AllBefore t (steps_of p (Talk at f))
+        go true l r st = let k : Some t ≡ None = sym e ∙ st in absurd cc
+        go false l Absent st = let k : Some t ≡ None = sym e ∙ ap (λ (v : Side). side_due v) st in absurd cc
+        go false l Listener st = elim st [ ]
+        go false l Talker st =
+            let k : Some t ≡ Some (f.accept + 100) = sym e ∙ ap (λ (v : Side). side_due v) st in
+            let late : t ≡ f.accept + 100 = cc in
+            let soon = since_accept (talker_of p.seats) f false l refl in
+            done_before (told_since (talker_of p.seats) f) t (steps_of p (Talk at f)) (omega (arith, late, soon)) done
+
+    frame_end : (f : Told) (o : Option ℕ) (fits : PieceFits p (upto o (Talk at f))) (x : Seat) (q2 : Port) → StandsAmong (point_after p (upto o (Talk at f))) (seat_behind p (upto o (Talk at f)) x) q2 → (t : ℕ) → port_due q2 ≡ Some t → AllBefore t (piece_steps p (upto o (Talk at f)))
+    frame_end f None fits x q2 there t e = whole_end f fits x q2 there t e
+    frame_end f (Some c) fits x q2 there t e = let late : c ≤ t = subst (λ (v : Option ℕ). IsInTime c v) e there.side in all_sooner c t (before c (steps_of p (Talk at f))) late (front_before c (steps_of p (Talk at f)))
+
+    upto_noatn : (o : Option ℕ) (w : Whole) → PieceFits p (upto o w) → NoAtn (steps_of p w) → NoAtn (piece_steps p (upto o w))
+    upto_noatn None w fits n = n
+    upto_noatn (Some c) w fits n = let k = cut_front c (steps_of p w) (steps_order p w fits.0) in noatn_front (before c (steps_of p w)) k.0 (subst NoAtn k.1 n)
+
+    upto_data : (o : Option ℕ) (w : Whole) (d : ℕ) → OthersData d (steps_of p w) → OthersData d (piece_steps p (upto o w))
+    upto_data None w d h = h
+    upto_data (Some c) w d h = data_before d c (steps_of p w) h
+
+    upto_last : (o : Option ℕ) (w : Whole) → LastSaid (steps_of p w) → LastSaid (steps_of p (whole_of (upto o w)))
+    upto_last None w l = l
+    upto_last (Some c) w l = l
+
+    upto_says : (f : Told) (o : Option ℕ) → says (device s) ≡ Some (number_of f.bits, is_last f) → (x : Seat) → IsSound p x → SaysAs x.role (upto o (Talk at f)) (says (device x))
+    upto_says f o k x h = go o x.role refl
+      where
+        same : x.role ≡ Talker → says (device x) ≡ Some (number_of f.bits, is_last f)
+        same e = ap (λ (b : Party). says b.device) (only_one x h e) ∙ k
+
+        go : (o : Option ℕ) (r : Role) → x.role ≡ r → SaysAs r (upto o (Talk at f)) (says (device x))
+        go None Absent e = tt
+        go None Listener e = tt
+        go None Talker e = same e
+        go (Some c) Absent e = tt
+        go (Some c) Listener e = tt
+        go (Some c) Talker e = same e
+
+    -- A frame that says the machine's byte, whole or cut, on a bus, as far as the host does the same.
+    pub talk_on_bus : (f : Told) (o : Option ℕ) → PieceFits p (upto o (Talk at f)) → says (device s) ≡ Some (number_of f.bits, is_last f) → Placed place p.seats → RisingIn M step peek says place (map (λ x. device x) p.seats) → (xs : List (Station M)) → AllStand M step peek says place p p.seats xs
+        → AllWith M step peek says place Telling p.seats xs → {n1 n2 : ℕ} {ss2 : List (Station M)} {es : List Event} → Plays M step peek n1 xs es n2 ss2 → (rest : List Event) → Compat (piece_steps p (upto o (Talk at f))) (es ++ rest)
+        → (fin : List (Rest × Port)) × (AllEnd M step peek says place (point_after p (upto o (Talk at f))) (map (λ x. seat_behind p (upto o (Talk at f)) x) p.seats) fin
+        × (WithinAll M step peek says place xs (piece_steps p (upto o (Talk at f))) fin es rest ss2 ⊎ PassedAll M step peek says place xs (piece_steps p (upto o (Talk at f))) fin es n2 ss2))
+    talk_on_bus f o fits said placed rising xs stand tells plays rest meets =
+        let w = Talk at f in
+        let k = upto o w in
+        let whole : Fits p (Talk at f) = upto_fits p o w fits in
+        let is = frame_steps f whole in
+        let told = subst (λ (b : Party). ToldFits b at f) the_talker whole.1 in
+        let noatn = upto_noatn o w fits (subst NoAtn (sym is) (told_noatn s.party at f told)) in
+        let mild = upto_data o w s.party.device (subst (λ (v : List Step). OthersData s.party.device v) (sym is) (told_data s.party at f)) in
+        let all = all_go_with M step peek place says p k Telling fits (λ x z h t r2 q2 g there. talk_goes (piece_steps p k) noatn mild whole.0 x z h t r2 q2 g (frame_end f o fits x q2 there)) (λ x h. upto_says f o said x h) p.seats xs stand tells in
+        let ds = devs_are M step peek says place p p.seats xs stand in
+        let tidy = piece_tidy M step peek place p k fits placed (upto_last o w (subst LastSaid (sym is) (told_last s.party at f))) in
+        let plain = tidy_plain M step peek place says (map (λ x. device x) p.seats) (piece_steps p k) tidy noatn in
+        (all.0, (all.1.1, along_bus M step peek says place plays (piece_steps p k) all.0 all.1.0 (subst (λ (v : List ℕ). RisingIn M step peek says place v) (sym ds) rising) (subst (λ (v : List ℕ). IsPlain M step peek says place v (piece_steps p k)) (sym ds) plain) rest meets))

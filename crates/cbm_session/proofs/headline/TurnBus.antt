@@ -1,5 +1,5 @@
 -- The turnaround on a bus, by the answer of the talker's machine: the host pulls DATA, frees ATN, then CLOCK; the drives without a role let go, the talker leads or is silent.
-use Rattle.std.proofs.Common.{◌≡◌, ℕ, zero, ◌+◌, ◌<◌, ◌⊎◌, inl, inr, Bool, true, false, List, [], ◌∷◌, ◌++◌, map, append_assoc, Option, Some, None, ap, sym, ◌∙◌, subst, arith, refl}
+use Rattle.std.proofs.Common.{◌≡◌, ℕ, zero, ◌+◌, ◌≤◌, ◌<◌, ◌⊎◌, inl, inr, Bool, true, false, List, [], ◌∷◌, ◌++◌, map, append_assoc, Option, Some, None, ap, sym, ◌∙◌, subst, arith, refl}
 use Rattle.std.specs.Prelude.{if◌then◌else◌, nat_eq, max}
 use Rattle.cbm_iec.specs.Hearing.{is_same}
 use Rattle.cbm_iec.specs.Machines.{acted}
@@ -31,31 +31,29 @@ use Rattle.cbm_session.proofs.among.Sessions.{piece_among, left_is}
 use Rattle.cbm_session.proofs.among.Standing.{IsSound}
 use Rattle.cbm_session.proofs.among.Turns.{commanding_port}
 use Rattle.cbm_session.proofs.frames.Phases.{each}
-use Rattle.cbm_session.proofs.headline.AlongBus.{GoesSo, AllGo, devs, devs_tell, RisingIn, IsPlain, WithinAll, PassedAll, along_bus, host_atn}
+use Rattle.cbm_session.proofs.headline.AlongBus.{GoesSo, AllGo, devs, devs_tell, RisingIn, OwnedIn, IsPlain, WithinAll, PassedAll, along_bus, host_atn}
 use Rattle.cbm_session.proofs.headline.BusStep as bus
 use Rattle.cbm_session.proofs.headline.BusStep.{Tied}
-use Rattle.cbm_session.proofs.headline.FrameBus.{ear_asks, StandsSo, AllStand, AllEnd, AllWith, devs_are, steps_owned, twin_self}
+use Rattle.cbm_session.proofs.headline.FrameBus.{ear_asks, StandsSo, AllStand, AllEnd, AllWith, devs_are}
 use Rattle.cbm_session.proofs.headline.GoesOf.{DataOf, OthersData, goes_of, goes_idle, leaving}
 use Rattle.cbm_session.proofs.headline.Meeting.{Compat, AsksFor, LastSaid, SaysOpen}
+use Rattle.cbm_session.proofs.headline.PieceBus.{upto, seat_behind, follow, piece_order, steps_go, steps_tied, steps_sit, every_before, all_sooner, upto_fits}
 use Rattle.cbm_session.proofs.headline.PullSettled.{holding_told, among_told}
 use Rattle.cbm_session.proofs.headline.ReleaseBus.{AllQuiet, peel}
 use Rattle.cbm_session.proofs.headline.SideStates.{SideHolds, SideAsks}
 use Rattle.cbm_session.proofs.headline.TalkBus.{done_before}
-use Rattle.cbm_session.proofs.headline.TalkSwap.{Twin, twin_compat, twin_skip}
-use Rattle.cbm_session.proofs.headline.Ties.{Placed, tied_all}
-use Rattle.cbm_session.proofs.headline.TurnTwin.{twin_parts, parts_differ, turn_begins, leads, mutes, lead_steps, mute_steps, lead_mute, mute_lead}
-use Rattle.cbm_session.proofs.joining.Merging.{AllBefore, InOrder}
-use Rattle.cbm_session.proofs.joining.Orders.{host_order}
-use Rattle.cbm_session.proofs.joining.Owning.{part_owned, part_order}
+use Rattle.cbm_session.proofs.headline.Ties.{Placed}
+use Rattle.cbm_session.proofs.headline.TurnTwin.{turn_begins, leads, mutes, lead_steps, mute_steps}
+use Rattle.cbm_session.proofs.joining.Merging.{AllBefore, InOrder, before_yes, front_before}
 use Rattle.cbm_session.proofs.joining.Talkers.{talker_is}
 use Rattle.cbm_session.proofs.reading.OneReading.{is_atn, NoAtn}
 use Rattle.cbm_session.proofs.reading.PieceReadings.{next_seat}
-use Rattle.cbm_session.proofs.timing.SessionOrder.{part_host, piece_goes, steps_done, end_by}
+use Rattle.cbm_session.proofs.timing.SessionOrder.{steps_done, end_by}
 use Rattle.cbm_session.specs.Among.{Rest, wires_of, behind_host, FollowsAmong}
 use Rattle.cbm_session.specs.Buses.{rest_at, SaysAs, SideAmong, StandsAmong}
 use Rattle.cbm_session.specs.Following.{IsInTime, Says}
 use Rattle.cbm_session.specs.Laws.{SeatsReact, GoesOn}
-use Rattle.cbm_session.specs.Pieces.{Whole, Point, host_part, own_part, steps_of, let_go, freed_steps, behind_all, FreedFits, Fits, whole_point, Full, ToTalker, Nothing, Commanding, Leading}
+use Rattle.cbm_session.specs.Pieces.{Whole, Piece, Point, own_part, steps_of, before, piece_steps, let_go, freed_steps, behind_all, Fits, CutFits, PieceFits, whole_point, point_after, Full, Cut, ToTalker, Nothing, Commanding, Leading}
 use Rattle.cbm_session.specs.Playing.{Station, tell, Plays}
 use Rattle.cbm_session.specs.Seats.{lines, Seat, device, is_listener, is_talker, has_listener, talker_of}
 use Rattle.cbm_session.specs.Steps.{Step, events_of, host, drive, for_each, for_one}
@@ -130,15 +128,21 @@ freed_told t r r2 q seen low free =
           ∙ ap (λ (v : Bool). if v then lined_act q.others now q.side else Some (if v then Pulled else Released)) free,
     )
 
+-- a cut behind ATN's release
+turn_cut : (at c : ℕ) (ys : List Step) → at + 1 ≤ c → before c (turn_begins at ys) ≡ turn_begins at (before c ys)
+turn_cut at c ys l =
+    before_yes c (host at Data Pull) (for_each Released (host at Atn Free) ∷ ys) (omega (arith, l))
+    ∙ ap (λ (zs : List Step). host at Data Pull ∷ zs) (before_yes c (for_each Released (host at Atn Free)) ys (omega (arith, l)))
+
 module _ (M : Type 0) (step : M → Act → M) (peek : M → Option (ℕ × Bool)) (says : ℕ → Option (ℕ × Bool)) (place : ℕ → ℕ) where
   -- what the machine of the talker has to say behind ATN's release
   abbrev pub Answers : Seat → Station M → Type 0
   Answers x z = x.role ≡ Talker → peek (step z.machine Released) ≡ says z.port.party.device
 
   -- A turnaround that fits, with what comes behind ATN's release.
-  module _ (p : Point) (w : Whole) (at : ℕ) (ys : List Step) (s : Seat) (sound : IsSound p s) (talks : s.role ≡ Talker) (fits : Fits p w) (attention : p.place ≡ Commanding true) (deaf : has_listener p.seats ≡ false) (steps : steps_of p w ≡ turn_begins at ys)
-      (kind : Every (OfTurn (device s)) ys) (later : (x : Seat) (q : Port) → StandsAmong (whole_point p w) (next_seat w x) q → (t : ℕ) → port_due q ≡ Some t → AllBefore t (turn_begins at ys))
-      (said : (x : Seat) → IsSound p x → (d : ℕ) → device x ≡ d → SaysAs x.role (Full w) (says d)) where
+  module _ (p : Point) (piece : Piece) (at : ℕ) (ys : List Step) (s : Seat) (sound : IsSound p s) (talks : s.role ≡ Talker) (fits : PieceFits p piece) (attention : p.place ≡ Commanding true) (deaf : has_listener p.seats ≡ false) (steps : piece_steps p piece ≡ turn_begins at ys)
+      (kind : Every (OfTurn (device s)) ys) (later : (x : Seat) (q : Port) → StandsAmong (point_after p piece) (seat_behind p piece x) q → (t : ℕ) → port_due q ≡ Some t → AllBefore t (turn_begins at ys))
+      (said : (x : Seat) → IsSound p x → (d : ℕ) → device x ≡ d → SaysAs x.role piece (says d)) where
     abbrev pulled : Change
     pulled = (host at Data Pull).event.change
 
@@ -164,8 +168,8 @@ module _ (M : Type 0) (step : M → Act → M) (peek : M → Option (ℕ × Bool
       pub quiet : port_due x.port ≡ None
       pub still : port_due (once x).port ≡ None
 
-    one_turned : (x : Seat) (z : Station M) → StandsSo M step peek says place p x z → (x.role ≡ Talker → peek (step z.machine Released) ≡ says z.port.party.device) → (r2 : Rest) (q2 : Port) → FollowsAmong (says z.port.party.device) z.rest z.port (steps_of p w) r2 q2
-        → StandsAmong (whole_point p w) (next_seat w x) q2 → Turned3 z (r2, q2)
+    one_turned : (x : Seat) (z : Station M) → StandsSo M step peek says place p x z → (x.role ≡ Talker → peek (step z.machine Released) ≡ says z.port.party.device) → (r2 : Rest) (q2 : Port) → FollowsAmong (says z.port.party.device) z.rest z.port (piece_steps p piece) r2 q2
+        → StandsAmong (point_after p piece) (seat_behind p piece x) q2 → Turned3 z (r2, q2)
     one_turned x z h answer r2 q2 f there =
         let q = z.port in
         let d = q.party.device in
@@ -248,7 +252,7 @@ module _ (M : Type 0) (step : M → Act → M) (peek : M → Option (ℕ × Bool
     all_turned : (ss : List Seat) (xs : List (Station M)) → AllStand M step peek says place p ss xs → AllWith M step peek says place Answers ss xs
         → (es : List (Rest × Port)) × (AllGo M step peek says place xs (turn_begins at ys) es × AllGo M step peek says place (map (λ x. once x) xs) (for_each Released (host at Atn Free) ∷ ys) es
         × AllGo M step peek says place (map (λ x. tell M step peek freed x) (map (λ x. once x) xs)) ys es
-        × AllEnd M step peek says place (whole_point p w) (map (λ x. next_seat w x) ss) es × AllQuiet M step peek says place xs × AllQuiet M step peek says place (map (λ x. once x) xs))
+        × AllEnd M step peek says place (point_after p piece) (map (λ x. seat_behind p piece x) ss) es × AllQuiet M step peek says place xs × AllQuiet M step peek says place (map (λ x. once x) xs))
     all_turned [] [] h a = ([], (tt, tt, tt, tt, tt, tt))
     all_turned [] (z ∷ xs) h a = elim h [ ]
     all_turned (x ∷ ss) [] h a = elim h [ ]
@@ -257,28 +261,18 @@ module _ (M : Type 0) (step : M → Act → M) (peek : M → Option (ℕ × Bool
         let q = z.port in
         let d = q.party.device in
         let dev : device x ≡ d = sym (ap (λ (b : Party). b.device) st.party) in
-        let v = piece_among w p x q (says d) h.0.sound st fits (said x h.0.sound d dev) in
-        let p2 = whole_point p w in
-        let same = next_party w x in
-        let left = left_is p x q v.port (Full w) v.rest (says d) h.0.sound st fits v.follows in
-        let there : StandsAmong p2 (next_seat w x) v.port = record {
-          party = follows_drive (says d) v.follows ∙ st.party ∙ sym same;
-          role = v.role;
-          own = v.own;
-          others = follows_wires (says d) v.follows st.others ∙ ap (λ (r : Rest). wires_of r) left ∙ ap (λ (b : Party). wires_of (rest_at b.device p2)) (sym same);
-          side = v.side;
-        } in
-        let f : FollowsAmong (says d) z.rest q (steps_of p w) v.rest v.port = subst (λ (r : Rest). FollowsAmong (says d) r q (steps_of p w) v.rest v.port) (sym h.0.rest) v.follows in
-        let go = one_turned x z h.0 a.0 v.rest v.port f there in
+        let v = follow p piece x q (says d) h.0.sound st fits (said x h.0.sound d dev) in
+        let f : FollowsAmong (says d) z.rest q (piece_steps p piece) v.rest v.port = subst (λ (r : Rest). FollowsAmong (says d) r q (piece_steps p piece) v.rest v.port) (sym h.0.rest) v.follows in
+        let go = one_turned x z h.0 a.0 v.rest v.port f v.there in
         let more = all_turned ss xs h.1 a.1 in (
           (v.rest, v.port) ∷ more.0,
-          ((go.first, more.1.0), (go.second, more.1.1), (go.third, more.1.2), ((whole_sound p x w h.0.sound fits, there, left ∙ ap (λ (b : Party). rest_at b.device p2) (sym same)), more.1.3), (go.quiet, more.1.4), (go.still, more.1.5)),
+          ((go.first, more.1.0), (go.second, more.1.1), (go.third, more.1.2), ((v.sound, v.there, v.is), more.1.3), (go.quiet, more.1.4), (go.still, more.1.5)),
         )
 
     -- The turnaround as the drives of a bus play it, as far as the host does the same.
     pub turned_on_bus : Placed place p.seats → RisingIn M step peek says place (map (λ x. device x) p.seats) → (xs : List (Station M)) → AllStand M step peek says place p p.seats xs → AllWith M step peek says place Answers p.seats xs → {n n2 : ℕ} {ss2 : List (Station M)} {es : List Event} → Plays M step peek n xs es n2 ss2
         → (rest : List Event) → Compat (turn_begins at ys) (es ++ rest)
-        → (fin : List (Rest × Port)) × (AllEnd M step peek says place (whole_point p w) (map (λ x. next_seat w x) p.seats) fin × (WithinAll M step peek says place xs (steps_of p w) fin es rest ss2 ⊎ PassedAll M step peek says place xs (steps_of p w) fin es n2 ss2))
+        → (fin : List (Rest × Port)) × (AllEnd M step peek says place (point_after p piece) (map (λ x. seat_behind p piece x) p.seats) fin × (WithinAll M step peek says place xs (piece_steps p piece) fin es rest ss2 ⊎ PassedAll M step peek says place xs (piece_steps p piece) fin es n2 ss2))
     turned_on_bus placed rising xs stand answer {n} {n2} {ss2} {es} plays rest meets =
         let all = all_turned p.seats xs stand answer in
         let ds = devs_are M step peek says place p p.seats xs stand in
@@ -289,42 +283,25 @@ module _ (M : Type 0) (step : M → Act → M) (peek : M → Option (ℕ × Bool
         let plain : IsPlain M step peek says place (map (λ x. device x) p.seats) ys = record {
           noatn = turn_noatn (device s) ys kind;
           last = turn_last (device s) ys kind;
-          goes_on = (subst GoesOn steps (piece_goes p w fits)).1.1;
-          order = (subst InOrder steps (steps_order p w fits)).1.1;
-          tied = (subst (Tied place) steps (tied_all place (λ (x : Seat). own_part p w x) (part_owned p w) (part_order p w fits) (host_part p w) p.seats (part_host p w) (host_order p w fits) placed)).1.1;
-          owned = (subst (Rattle.cbm_session.proofs.headline.AlongBus.OwnedIn M step peek says place (map (λ x. device x) p.seats)) steps (steps_owned M step peek says place p w)).1.1;
+          goes_on = (subst GoesOn steps (steps_go p piece fits)).1.1;
+          order = (subst InOrder steps (piece_order p piece fits)).1.1;
+          tied = (subst (Tied place) steps (steps_tied place p piece fits placed)).1.1;
+          owned = (subst (OwnedIn M step peek says place (map (λ x. device x) p.seats)) steps (steps_sit M step peek place p piece fits)).1.1;
         } in
         let out = peel M step peek says place plays all.1.4 (host at Data Pull) (y2 ∷ ys) pulled all.0 refl all.1.0 rest meets
         (λ more p1 c1. peel M step peek says place p1 all.1.5 y2 ys freed all.0 refl all.1.1 rest c1
         (λ more2 p2 c2. along_bus M step peek says place p2 ys all.0 all.1.2 (subst (λ (v : List ℕ). RisingIn M step peek says place v) (sym keep) rising) (subst (λ (v : List ℕ). IsPlain M step peek says place v ys) (sym keep) plain) rest c2)) in
         (all.0, (all.1.3, subst (λ (v : List Step). WithinAll M step peek says place xs v all.0 es rest ss2 ⊎ PassedAll M step peek says place xs v all.0 es n2 ss2) (sym steps) out))
 
-  -- Of each turnaround of a session the one that the talker's machine answers.
-  pub record TurnOnBus (p : Point) (w : Whole) (answer : Option (ℕ × Bool)) (from : List (Station M)) (es rest : List Event) (n2 : ℕ) (ss2 : List (Station M)) : Type 0 where
-    pub piece : Whole
-    pub fits : Fits p piece
-    pub answered : Says piece answer
-    pub twin : (t : ℕ) → Twin t (steps_of p piece) (steps_of p w)
-    pub fin : List (Rest × Port)
-    pub all_end : AllEnd M step peek says place (whole_point p piece) (map (λ x. next_seat piece x) p.seats) fin
-    pub so : WithinAll M step peek says place from (steps_of p piece) fin es rest ss2 ⊎ ((piece ≡ w) × PassedAll M step peek says place from (steps_of p piece) fin es n2 ss2)
-
+  -- A turnaround, whole or cut: the two kinds, by the answer of the talker's machine.
   module _ (p : Point) (s : Seat) (sound : IsSound p s) (talks : s.role ≡ Talker) (at clock : ℕ) where
     talker : talker_of p.seats ≡ s.party
     talker = talker_is (device s) p.seats s sound.seated.one sound.seated.sits (ap is_talker talks)
-
-    same_says : (x : Seat) → IsSound p x → x.role ≡ Talker → (d : ℕ) → device x ≡ d → says d ≡ says (device s)
-    same_says x h r d e =
-        let same : x.party ≡ s.party = sym (talker_is (device x) p.seats x h.seated.one h.seated.sits (ap is_talker r)) ∙ talker in
-        ap says (sym e) ∙ ap (λ (b : Party). says b.device) same
 
     -- behind the answer of a talker that leads all is done before its next frame
     lead_later : Fits p (ToTalker at clock) → (x : Seat) (q : Port) → StandsAmong (whole_point p (ToTalker at clock)) (next_seat (ToTalker at clock) x) q → (t : ℕ) → port_due q ≡ Some t → AllBefore t (turn_begins at (leads p at clock))
     lead_later fits x q st t e = go (next_seat (ToTalker at clock) x).role st.side
       where
-        next : ℕ
-        next = clock + (talker_of p.seats).reaction + 80
-
         go : (r : Role) → SideAmong (Leading (clock + (talker_of p.seats).reaction + 80)) r q.side → AllBefore t (turn_begins at (leads p at clock))
         go Absent h = let k : Some t ≡ None = sym e ∙ ap (λ (v : Side). side_due v) h in absurd cc
         go Listener h = elim h [ ]
@@ -335,102 +312,48 @@ module _ (M : Type 0) (step : M → Act → M) (peek : M → Option (ℕ × Bool
             let below = behind_below at (clock + (talker_of p.seats).reaction + 1) t p.seats sound.react (omega (arith, is)) (omega (arith, is, late)) in
             subst (AllBefore t) (lead_steps p at clock fits.1) (done_before (end_by p (ToTalker at clock)) t (steps_of p (ToTalker at clock)) below (steps_done p s (ToTalker at clock) sound fits))
 
-    mute_later : (freed : Option ℕ) (x : Seat) (q : Port) → StandsAmong (whole_point p (Nothing at clock freed)) (next_seat (Nothing at clock freed) x) q → (t : ℕ) → port_due q ≡ Some t → AllBefore t (turn_begins at (mutes p at clock freed))
-    mute_later freed x q st t e = let k : Some t ≡ None = sym e ∙ st.side in absurd cc
-
-    lead_said : (v : ℕ × Bool) → says (device s) ≡ Some v → (x : Seat) → IsSound p x → (d : ℕ) → device x ≡ d → SaysAs x.role (Full (ToTalker at clock)) (says d)
-    lead_said v k x h d e = go x.role refl
+    -- what it has to say is what the piece has
+    said_so : (w : Whole) (o : Option ℕ) → Says w (says (device s)) → (x : Seat) → IsSound p x → (d : ℕ) → device x ≡ d → SaysAs x.role (upto o w) (says d)
+    said_so w o k x h d e = go o x.role refl
       where
-        go : (r : Role) → x.role ≡ r → SaysAs r (Full (ToTalker at clock)) (says d)
-        go Absent r = tt
-        go Listener r = tt
-        go Talker r = (v, same_says x h r d e ∙ k)
+        same : x.role ≡ Talker → says d ≡ says (device s)
+        same r = ap says (sym e) ∙ ap (λ (b : Party). says b.device) (sym (talker_is (device x) p.seats x h.seated.one h.seated.sits (ap is_talker r)) ∙ talker)
 
-    mute_said : (freed : Option ℕ) → says (device s) ≡ None → (x : Seat) → IsSound p x → (d : ℕ) → device x ≡ d → SaysAs x.role (Full (Nothing at clock freed)) (says d)
-    mute_said freed k x h d e = go x.role refl
-      where
-        go : (r : Role) → x.role ≡ r → SaysAs r (Full (Nothing at clock freed)) (says d)
-        go Absent r = tt
-        go Listener r = tt
-        go Talker r = same_says x h r d e ∙ k
+        go : (o : Option ℕ) (r : Role) → x.role ≡ r → SaysAs r (upto o w) (says d)
+        go None Absent r = tt
+        go None Listener r = tt
+        go None Talker r = subst (Says w) (sym (same r)) k
+        go (Some c) Absent r = tt
+        go (Some c) Listener r = tt
+        go (Some c) Talker r = subst (Says w) (sym (same r)) k
 
     module _ (placed : Placed place p.seats) (rising : RisingIn M step peek says place (map (λ x. device x) p.seats)) (xs : List (Station M)) (stand : AllStand M step peek says place p p.seats xs) (answer : AllWith M step peek says place Answers p.seats xs) where
-      leads_on_bus : Fits p (ToTalker at clock) → (v : ℕ × Bool) → says (device s) ≡ Some v → {n n2 : ℕ} {ss2 : List (Station M)} {es : List Event} → Plays M step peek n xs es n2 ss2 → (rest : List Event) → Compat (turn_begins at (leads p at clock)) (es ++ rest)
-          → (fin : List (Rest × Port)) × (AllEnd M step peek says place (whole_point p (ToTalker at clock)) (map (λ x. next_seat (ToTalker at clock) x) p.seats) fin
-          × (WithinAll M step peek says place xs (steps_of p (ToTalker at clock)) fin es rest ss2 ⊎ PassedAll M step peek says place xs (steps_of p (ToTalker at clock)) fin es n2 ss2))
-      leads_on_bus fits v k plays rest meets =
-          turned_on_bus p (ToTalker at clock) at (leads p at clock) s sound talks fits fits.0.commanding fits.0.listener (lead_steps p at clock fits.1) (lead_turn p s sound talks at clock) (lead_later fits) (lead_said v k) placed rising xs stand answer plays rest meets
+      -- of a cut nothing is due before it
+      cut_later : (w : Whole) (c : ℕ) (ys : List Step) → before c (steps_of p w) ≡ turn_begins at ys → (x : Seat) (q : Port) → StandsAmong (point_after p (Cut w c)) (seat_behind p (Cut w c) x) q → (t : ℕ) → port_due q ≡ Some t → AllBefore t (turn_begins at ys)
+      cut_later w c ys e x q st t d = let late : c ≤ t = subst (λ (o : Option ℕ). IsInTime c o) d st.side in all_sooner c t (turn_begins at ys) late (subst (AllBefore c) e (front_before c (steps_of p w)))
 
-      mutes_on_bus : (freed : Option ℕ) → Fits p (Nothing at clock freed) → says (device s) ≡ None → {n n2 : ℕ} {ss2 : List (Station M)} {es : List Event} → Plays M step peek n xs es n2 ss2 → (rest : List Event) → Compat (turn_begins at (mutes p at clock freed)) (es ++ rest)
-          → (fin : List (Rest × Port)) × (AllEnd M step peek says place (whole_point p (Nothing at clock freed)) (map (λ x. next_seat (Nothing at clock freed) x) p.seats) fin
-          × (WithinAll M step peek says place xs (steps_of p (Nothing at clock freed)) fin es rest ss2 ⊎ PassedAll M step peek says place xs (steps_of p (Nothing at clock freed)) fin es n2 ss2))
-      mutes_on_bus freed fits k plays rest meets =
-          turned_on_bus p (Nothing at clock freed) at (mutes p at clock freed) s sound talks fits fits.0.commanding fits.0.listener (mute_steps p at clock freed fits.1) (mute_turn p s sound talks at clock freed) (mute_later freed) (mute_said freed k) placed rising xs stand answer plays rest meets
+      turn_on_bus : (w : Whole) (o : Option ℕ) (ys : List Step) → PieceFits p (upto o w) → p.place ≡ Commanding true → has_listener p.seats ≡ false → steps_of p w ≡ turn_begins at ys → ((c : ℕ) → CutFits p w c → at + 1 ≤ c) → Every (OfTurn (device s)) ys
+          → ((x : Seat) (q : Port) → StandsAmong (whole_point p w) (next_seat w x) q → (t : ℕ) → port_due q ≡ Some t → AllBefore t (turn_begins at ys)) → Says w (says (device s))
+          → {n n2 : ℕ} {ss2 : List (Station M)} {es : List Event} → Plays M step peek n xs es n2 ss2 → (rest : List Event) → Compat (piece_steps p (upto o w)) (es ++ rest)
+          → (fin : List (Rest × Port)) × (AllEnd M step peek says place (point_after p (upto o w)) (map (λ x. seat_behind p (upto o w) x) p.seats) fin
+          × (WithinAll M step peek says place xs (piece_steps p (upto o w)) fin es rest ss2 ⊎ PassedAll M step peek says place xs (piece_steps p (upto o w)) fin es n2 ss2))
+      turn_on_bus w None ys fits attention deaf steps cut kind later k {es = es} plays rest meets =
+          turned_on_bus p (Full w) at ys s sound talks fits attention deaf steps kind later (said_so w None k) placed rising xs stand answer plays rest (subst (λ (l : List Step). Compat l (es ++ rest)) steps meets)
+      turn_on_bus w (Some c) ys fits attention deaf steps cut kind later k {es = es} plays rest meets =
+          let is = ap (λ (l : List Step). before c l) steps ∙ turn_cut at c ys (cut c fits.1) in
+          turned_on_bus p (Cut w c) at (before c ys) s sound talks fits attention deaf is (every_before (OfTurn (device s)) c ys kind) (cut_later w c (before c ys) is) (said_so w (Some c) k) placed rising xs stand answer plays rest (subst (λ (l : List Step). Compat l (es ++ rest)) is meets)
 
-      -- the other kind was not played to its end
-      not_passed : (m : ℕ) (ys zs : List Step) (w w2 : Whole) (fin : List (Rest × Port)) {n2 : ℕ} {ss2 : List (Station M)} {es : List Event} (rest more : List Event) → Rattle.cbm_session.proofs.headline.TurnTwin.Parts m ys zs → steps_of p w2 ≡ turn_begins at ys → steps_of p w ≡ turn_begins at zs
-          → es ++ rest ≡ events_of (steps_of p w) ++ more → PassedAll M step peek says place xs (steps_of p w2) fin es n2 ss2 → ⊥
-      not_passed m ys zs w w2 fin {es = es} rest more parts is is2 e q =
-          let a : events_of (turn_begins at ys) ++ (q.more ++ rest) ≡ events_of (turn_begins at zs) ++ more =
-          sym (append_assoc (events_of (turn_begins at ys)) q.more rest) ∙ ap (λ (v : List Event). v ++ rest) (ap (λ (v : List Step). events_of v ++ q.more) (sym is) ∙ sym q.shown_so) ∙ e ∙ ap (λ (v : List Step). events_of v ++ more) is2 in
-          parts_differ m ys zs (q.more ++ rest) more parts cc
+      pub to_talker_on_bus : (o : Option ℕ) → PieceFits p (upto o (ToTalker at clock)) → Says (ToTalker at clock) (says (device s)) → {n n2 : ℕ} {ss2 : List (Station M)} {es : List Event} → Plays M step peek n xs es n2 ss2 → (rest : List Event) → Compat (piece_steps p (upto o (ToTalker at clock))) (es ++ rest)
+          → (fin : List (Rest × Port)) × (AllEnd M step peek says place (point_after p (upto o (ToTalker at clock))) (map (λ x. seat_behind p (upto o (ToTalker at clock)) x) p.seats) fin
+          × (WithinAll M step peek says place xs (piece_steps p (upto o (ToTalker at clock))) fin es rest ss2 ⊎ PassedAll M step peek says place xs (piece_steps p (upto o (ToTalker at clock))) fin es n2 ss2))
+      to_talker_on_bus o fits k plays rest meets =
+          let whole : Fits p (ToTalker at clock) = upto_fits p o (ToTalker at clock) fits in
+          turn_on_bus (ToTalker at clock) o (leads p at clock) fits whole.0.commanding whole.0.listener (lead_steps p at clock whole.1) (λ c f. f) (lead_turn p s sound talks at clock) (lead_later whole) k plays rest meets
 
-      pub to_talker_on_bus : Fits p (ToTalker at clock) → {n n2 : ℕ} {ss2 : List (Station M)} {es : List Event} → Plays M step peek n xs es n2 ss2 → (rest more : List Event) → es ++ rest ≡ events_of (steps_of p (ToTalker at clock)) ++ more → TurnOnBus p (ToTalker at clock) (says (device s)) xs es rest n2 ss2
-      to_talker_on_bus fits {n} {n2} {ss2} {es} plays rest more e = go (says (device s)) refl
-        where
-          e2 : es ++ rest ≡ events_of (turn_begins at (leads p at clock)) ++ more
-          e2 = e ∙ ap (λ (v : List Step). events_of v ++ more) (lead_steps p at clock fits.1)
-
-          go : (v : Option (ℕ × Bool)) → says (device s) ≡ v → TurnOnBus p (ToTalker at clock) (says (device s)) xs es rest n2 ss2
-          go (Some v) k =
-              let out = leads_on_bus fits v k plays rest (subst (λ (l : List Event). Compat (turn_begins at (leads p at clock)) l) (sym e2) (twin_compat zero (turn_begins at (leads p at clock)) (turn_begins at (leads p at clock)) more (twin_self zero (turn_begins at (leads p at clock))))) in
-              record { piece = ToTalker at clock; fits = fits; answered = (v, k); twin = λ t. twin_self t (steps_of p (ToTalker at clock)); fin = out.0; all_end = out.1.0; so = elim out.1.1 [ inl x ↦ inl x | inr x ↦ inr (refl, x) ] }
-          go None k =
-              let fits2 : Fits p (Nothing at clock None) = (fits.0, fits.1, tt) in
-              let parts = mute_lead p s sound talks at clock in
-              let twin : (t : ℕ) → Twin t (turn_begins at (mutes p at clock None)) (turn_begins at (leads p at clock)) = λ t. twin_skip t (host at Data Pull ∷ for_each Released (host at Atn Free) ∷ []) (mutes p at clock None) (leads p at clock) (twin_parts t (clock + s.party.reaction) (mutes p at clock None) (leads p at clock) parts) in
-              let out = mutes_on_bus None fits2 k plays rest (subst (λ (l : List Event). Compat (turn_begins at (mutes p at clock None)) l) (sym e2) (twin_compat zero (turn_begins at (mutes p at clock None)) (turn_begins at (leads p at clock)) more (twin zero))) in
-              record {
-                piece = Nothing at clock None;
-                fits = fits2;
-                answered = k;
-                twin = λ t. subst (λ (v : List Step). Twin t v (steps_of p (ToTalker at clock))) (sym (mute_steps p at clock None fits.1)) (subst (λ (v : List Step). Twin t (turn_begins at (mutes p at clock None)) v) (sym (lead_steps p at clock fits.1)) (twin t));
-                fin = out.0;
-                all_end = out.1.0;
-                so = elim out.1.1 [
-                  | inl x ↦ inl x
-                  | inr x ↦ absurd (not_passed (clock + s.party.reaction) (mutes p at clock None) (leads p at clock) (ToTalker at clock) (Nothing at clock None) out.0 rest more parts (mute_steps p at clock None fits.1) (lead_steps p at clock fits.1) e x)
-                ];
-              }
-
-      pub nothing_on_bus : (freed : Option ℕ) → Fits p (Nothing at clock freed) → {n n2 : ℕ} {ss2 : List (Station M)} {es : List Event} → Plays M step peek n xs es n2 ss2 → (rest more : List Event) → es ++ rest ≡ events_of (steps_of p (Nothing at clock freed)) ++ more
-          → TurnOnBus p (Nothing at clock freed) (says (device s)) xs es rest n2 ss2
-      nothing_on_bus freed fits {n} {n2} {ss2} {es} plays rest more e = go (says (device s)) refl
-        where
-          e2 : es ++ rest ≡ events_of (turn_begins at (mutes p at clock freed)) ++ more
-          e2 = e ∙ ap (λ (v : List Step). events_of v ++ more) (mute_steps p at clock freed fits.1)
-
-          later : FreedFits (clock + s.party.reaction) freed
-          later = subst (λ (b : Party). FreedFits (clock + b.reaction) freed) talker fits.2
-
-          go : (v : Option (ℕ × Bool)) → says (device s) ≡ v → TurnOnBus p (Nothing at clock freed) (says (device s)) xs es rest n2 ss2
-          go None k =
-              let out = mutes_on_bus freed fits k plays rest (subst (λ (l : List Event). Compat (turn_begins at (mutes p at clock freed)) l) (sym e2) (twin_compat zero (turn_begins at (mutes p at clock freed)) (turn_begins at (mutes p at clock freed)) more (twin_self zero (turn_begins at (mutes p at clock freed))))) in
-              record { piece = Nothing at clock freed; fits = fits; answered = k; twin = λ t. twin_self t (steps_of p (Nothing at clock freed)); fin = out.0; all_end = out.1.0; so = elim out.1.1 [ inl x ↦ inl x | inr x ↦ inr (refl, x) ] }
-          go (Some v) k =
-              let fits2 : Fits p (ToTalker at clock) = (fits.0, fits.1) in
-              let parts = lead_mute p s sound talks at clock freed later in
-              let twin : (t : ℕ) → Twin t (turn_begins at (leads p at clock)) (turn_begins at (mutes p at clock freed)) = λ t. twin_skip t (host at Data Pull ∷ for_each Released (host at Atn Free) ∷ []) (leads p at clock) (mutes p at clock freed) (twin_parts t (clock + s.party.reaction) (leads p at clock) (mutes p at clock freed) parts) in
-              let out = leads_on_bus fits2 v k plays rest (subst (λ (l : List Event). Compat (turn_begins at (leads p at clock)) l) (sym e2) (twin_compat zero (turn_begins at (leads p at clock)) (turn_begins at (mutes p at clock freed)) more (twin zero))) in
-              record {
-                piece = ToTalker at clock;
-                fits = fits2;
-                answered = (v, k);
-                twin = λ t. subst (λ (v : List Step). Twin t v (steps_of p (Nothing at clock freed))) (sym (lead_steps p at clock fits.1)) (subst (λ (v : List Step). Twin t (turn_begins at (leads p at clock)) v) (sym (mute_steps p at clock freed fits.1)) (twin t));
-                fin = out.0;
-                all_end = out.1.0;
-                so = elim out.1.1 [
-                  | inl x ↦ inl x
-                  | inr x ↦ absurd (not_passed (clock + s.party.reaction) (leads p at clock) (mutes p at clock freed) (Nothing at clock freed) (ToTalker at clock) out.0 rest more parts (lead_steps p at clock fits.1) (mute_steps p at clock freed fits.1) e x)
-                ];
-              }
+      pub nothing_on_bus : (freed : Option ℕ) (o : Option ℕ) → PieceFits p (upto o (Nothing at clock freed)) → Says (Nothing at clock freed) (says (device s)) → {n n2 : ℕ} {ss2 : List (Station M)} {es : List Event} → Plays M step peek n xs es n2 ss2 → (rest : List Event) → Compat (piece_steps p (upto o (Nothing at clock freed))) (es ++ rest)
+          → (fin : List (Rest × Port)) × (AllEnd M step peek says place (point_after p (upto o (Nothing at clock freed))) (map (λ x. seat_behind p (upto o (Nothing at clock freed)) x) p.seats) fin
+          × (WithinAll M step peek says place xs (piece_steps p (upto o (Nothing at clock freed))) fin es rest ss2 ⊎ PassedAll M step peek says place xs (piece_steps p (upto o (Nothing at clock freed))) fin es n2 ss2))
+      nothing_on_bus freed o fits k plays rest meets =
+          let whole : Fits p (Nothing at clock freed) = upto_fits p o (Nothing at clock freed) fits in
+          turn_on_bus (Nothing at clock freed) o (mutes p at clock freed) fits whole.0.commanding whole.0.listener (mute_steps p at clock freed whole.1) (λ c f. f) (mute_turn p s sound talks at clock freed)
+          (λ x q st t e. let c : Some t ≡ None = sym e ∙ st.side in absurd cc) k plays rest meets
