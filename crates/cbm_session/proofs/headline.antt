@@ -22,3 +22,5 @@ pub mod PullPlayed
 pub mod Keeping
 pub mod Premises
 pub mod PieceBus
+pub mod Unasked
+pub mod Here

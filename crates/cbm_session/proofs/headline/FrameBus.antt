@@ -86,10 +86,10 @@ pub each_seat : (P : Seat → Type 0) (ss : List Seat) → ((x : Seat) → P x) 
 each_seat P [] f = tt
 each_seat P (x ∷ xs) f = (f x, each_seat P xs f)
 
-command_frame : (p : Point) (f : Sent) → Every OfFrame (steps_of p (Command f))
+pub command_frame : (p : Point) (f : Sent) → Every OfFrame (steps_of p (Command f))
 command_frame p f = every_each OfFrame (λ (x : Seat). own_part p (Command f) x) (sending f) p.seats (sending_frame f) (each_seat (λ x. Every OfFrame (own_part p (Command f) x)) p.seats (λ (x : Seat). hearing_frame (wire p.seats f) false (Attention (byte_of f.cells)) f x tt))
 
-byte_frame : (p : Point) (eoi : Bool) (f : Sent) → Every OfFrame (steps_of p (Byte eoi f))
+pub byte_frame : (p : Point) (eoi : Bool) (f : Sent) → Every OfFrame (steps_of p (Byte eoi f))
 byte_frame p eoi f = every_each OfFrame (λ (x : Seat). own_part p (Byte eoi f) x) (sending f) p.seats (sending_frame f) (each_seat (λ x. Every OfFrame (own_part p (Byte eoi f) x)) p.seats (λ (x : Seat). go x (is_listener x.role)))
   where
     go : (x : Seat) (v : Bool) → Every OfFrame (if v then hearing (wire (listeners p.seats) f) eoi (Heard (byte_of f.cells) eoi) f x else [])

@@ -225,10 +225,10 @@ module _ (M : Type 0) (step : M → Act → M) (peek : M → Option (ℕ × Bool
           go Talker = tt
 
   -- to nobody: the host frees CLOCK then
-  abbrev nobody_rest : Point → ℕ → ℕ → List Step
+  abbrev pub nobody_rest : Point → ℕ → ℕ → List Step
   nobody_rest p at clock = merge (host clock Clock Free ∷ []) (drives_of p (ToNobody at clock))
 
-  nobody_steps : (p : Point) (at clock : ℕ) → steps_of p (ToNobody at clock) ≡ for_each Released (host at Atn Free) ∷ nobody_rest p at clock
+  pub nobody_steps : (p : Point) (at clock : ℕ) → steps_of p (ToNobody at clock) ≡ for_each Released (host at Atn Free) ∷ nobody_rest p at clock
   nobody_steps p at clock =
       merge_drives (λ x. own_part p (ToNobody at clock) x) (for_each Released (host at Atn Free) ∷ host clock Clock Free ∷ []) p.seats
       ∙ merge_first (for_each Released (host at Atn Free)) (host clock Clock Free ∷ []) (drives_of p (ToNobody at clock)) (late_drives at (λ x. own_part p (ToNobody at clock) x) p.seats (λ (x : Seat). (omega arith, tt)))

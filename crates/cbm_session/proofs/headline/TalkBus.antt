@@ -114,7 +114,7 @@ module _ (M : Type 0) (step : M → Act → M) (peek : M → Option (ℕ × Bool
     only_one : (x : Seat) → IsSound p x → x.role ≡ Talker → x.party ≡ s.party
     only_one x h r = sym (talker_is (device x) p.seats x h.seated.one h.seated.sits (ap is_talker r)) ∙ the_talker
 
-    frame_steps : (f : Told) → Fits p (Talk at f) → steps_of p (Talk at f) ≡ one_told s.party at f
+    pub frame_steps : (f : Told) → Fits p (Talk at f) → steps_of p (Talk at f) ≡ one_told s.party at f
     frame_steps f h = leading_alone p s at f sound talks ∙ told_is s.party at f (subst (λ (b : Party). ToldFits b at f) the_talker h.1)
 
     asks_led : (zs : List Step) (A : Type 0) → A → AsksFor zs (Speaking (Led at)) A

@@ -66,7 +66,7 @@ turn_noatn : (d : ℕ) (ss : List Step) → Every (OfTurn d) ss → NoAtn ss
 turn_noatn d [] a = tt
 turn_noatn d (s ∷ ss) a = (a.0.0, turn_noatn d ss a.1)
 
-turn_last : (d : ℕ) (ss : List Step) → Every (OfTurn d) ss → LastSaid ss
+pub turn_last : (d : ℕ) (ss : List Step) → Every (OfTurn d) ss → LastSaid ss
 turn_last d [] a = tt
 turn_last d (s ∷ []) a = tt
 turn_last d (s ∷ t ∷ ss) a = (a.0.1, turn_last d (t ∷ ss) a.1)
