@@ -24,3 +24,4 @@ pub mod Premises
 pub mod PieceBus
 pub mod Unasked
 pub mod Here
+pub mod Onward

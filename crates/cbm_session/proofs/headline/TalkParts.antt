@@ -47,16 +47,16 @@ signal_plain None = tt
 signal_plain (Some (pull, free)) = (refl, (refl, tt))
 
 -- a frame is plain up to its accept
-abbrev told_front : Party → ℕ → Told → List Step
+abbrev pub told_front : Party → ℕ → Told → List Step
 told_front b at f = drive b.device at Clock Free ∷ host f.free Data Free ∷ (signal_steps f.signal ++ bit_steps b (first_bit b f) false f.bits)
 
-abbrev told_back : Party → Told → ℕ → Bool → List Step
+abbrev pub told_back : Party → Told → ℕ → Bool → List Step
 told_back b f n v = for_one b.device (Said n v) (host f.accept Data Pull) ∷ (if v then drive b.device (f.accept + b.reaction) Clock Free ∷ [] else [])
 
-front_back : (b : Party) (at : ℕ) (f : Told) → told_front b at f ++ told_back b f (number_of f.bits) (is_last f) ≡ one_told b at f
+pub front_back : (b : Party) (at : ℕ) (f : Told) → told_front b at f ++ told_back b f (number_of f.bits) (is_last f) ≡ one_told b at f
 front_back b at f = ap (λ (zs : List Step). drive b.device at Clock Free ∷ host f.free Data Free ∷ zs) (append_assoc (signal_steps f.signal) (bit_steps b (first_bit b f) false f.bits) (told_back b f (number_of f.bits) (is_last f)))
 
-front_plain : (b : Party) (at : ℕ) (f : Told) → AllPlain (told_front b at f)
+pub front_plain : (b : Party) (at : ℕ) (f : Told) → AllPlain (told_front b at f)
 front_plain b at f = (refl, (refl, plain_append (signal_steps f.signal) (bit_steps b (first_bit b f) false f.bits) (signal_plain f.signal) (bits_plain b (first_bit b f) false f.bits)))
 
 back_last : (b : Party) (f : Told) (n : ℕ) (v : Bool) → LastSaid (told_back b f n v)

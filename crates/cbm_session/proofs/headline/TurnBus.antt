@@ -107,7 +107,7 @@ module _ (p : Point) (s : Seat) (sound : IsSound p s) (talks : s.role ≡ Talker
       (each (λ x. nat_eq (device s) (device x) ≡ false → is_talker x.role ≡ false) (λ x. Every (OfTurn (device s)) (own_part p (Nothing at clock freed) x)) p.seats (λ x k. mute_own freed x k) (only_talker (device s) p.seats s sound.seated.one sound.seated.sits (ap is_talker talks)))
 
 -- what stands behind all releases is before the talker's next frame
-behind_below : (at m k : ℕ) (seats : List Seat) → SeatsReact seats → m < k → at + 61 < k → behind_all at m seats < k
+pub behind_below : (at m k : ℕ) (seats : List Seat) → SeatsReact seats → m < k → at + 61 < k → behind_all at m seats < k
 behind_below at m k [] r l h = l
 behind_below at m k (x ∷ xs) r l h = go x.role (behind_below at m k xs r.2 l h)
   where
