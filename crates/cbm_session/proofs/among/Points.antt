@@ -155,7 +155,7 @@ react_map f (x ∷ xs) k h = (
   react_map f xs k h.2,
 )
 
-whole_react : (p : Point) (w : Whole) → SeatsReact p.seats → SeatsReact (whole_point p w).seats
+pub whole_react : (p : Point) (w : Whole) → SeatsReact p.seats → SeatsReact (whole_point p w).seats
 whole_react p (PullPiece at) h = react_map (λ x. seat_with x.role (lines false true) x) p.seats (λ (x : Seat). refl) h
 whole_react p (Command f) h = react_map (λ x. obeying (byte_of f.cells) x) p.seats (λ (x : Seat). refl) h
 whole_react p (Byte eoi f) h = react_map (λ x. standing (lines false false) x) p.seats (standing_drives (lines false false)) h

@@ -17,7 +17,7 @@ use Rattle.cbm_session.proofs.headline.BusActs.{AllRan}
 use Rattle.cbm_session.proofs.headline.FrameBus as frames
 use Rattle.cbm_session.proofs.headline.FrameBus.{AllStand, AllWith, command_on_bus, byte_on_bus}
 use Rattle.cbm_session.proofs.headline.Meeting.{Compat, LastSaid}
-use Rattle.cbm_session.proofs.headline.PieceBus.{whole_of, upto, upto_fits, seats_behind, devices_behind, piece_tidy, Inside, Behind, come_to}
+use Rattle.cbm_session.proofs.headline.PieceBus.{whole_of, upto, upto_fits, seats_behind, devices_behind, piece_tidy, Inside, Behind, bytes_last, come_to}
 use Rattle.cbm_session.proofs.headline.Premises.{mute, Rises, rises_placed, Stood, restand, stood}
 use Rattle.cbm_session.proofs.headline.PullBus.{NextHost, PullWithin, PullPassed}
 use Rattle.cbm_session.proofs.headline.PullPlayed.{AllShow, pull_on_bus}
@@ -111,22 +111,22 @@ module _ (M : Type 0) (step : M → Act → M) (peek : M → Option (ℕ × Bool
     hosts_out (Command f) a fits {n2 = n2} {ss2 = ss2} {es = es} plays rest more e =
         let placed = rises_placed M step peek place p.seats here.rises in
         let k = command_on_bus M step peek mute place p f fits placed here.rises xs here.stand plays rest more e in
-        come_to M step peek place mute p (Full (Command f)) xs k.fin es rest n2 ss2 k.ends here.rises (piece_tidy M step peek place p (Full (Command f)) fits placed (unasked_last (steps_of p (Command f)) (steps_unasked p (Command f) tt))) k.so
+        come_to M step peek place (bytes_last M step peek place plays) mute p (Full (Command f)) xs k.fin es rest n2 k.ends here.rises (piece_tidy M step peek place p (Full (Command f)) fits placed (unasked_last (steps_of p (Command f)) (steps_unasked p (Command f) tt))) k.so
     hosts_out (Byte eoi f) a fits {n2 = n2} {ss2 = ss2} {es = es} plays rest more e =
         let placed = rises_placed M step peek place p.seats here.rises in
         let k = byte_on_bus M step peek mute place p eoi f fits placed here.rises xs here.stand plays rest more e in
-        come_to M step peek place mute p (Full (Byte eoi f)) xs k.fin es rest n2 ss2 k.ends here.rises (piece_tidy M step peek place p (Full (Byte eoi f)) fits placed (unasked_last (steps_of p (Byte eoi f)) (steps_unasked p (Byte eoi f) tt))) k.so
+        come_to M step peek place (bytes_last M step peek place plays) mute p (Full (Byte eoi f)) xs k.fin es rest n2 k.ends here.rises (piece_tidy M step peek place p (Full (Byte eoi f)) fits placed (unasked_last (steps_of p (Byte eoi f)) (steps_unasked p (Byte eoi f) tt))) k.so
     hosts_out (ToListener at) a fits {n2 = n2} {ss2 = ss2} {es = es} plays rest more e =
         let placed = rises_placed M step peek place p.seats here.rises in
         let w = ToListener at in
         let k = to_listener_on_bus M step peek mute place p at fits placed here.rises xs here.stand plays rest more e in
-        come_to M step peek place mute p (Full w) xs k.0 es rest n2 ss2 k.1.0 here.rises (piece_tidy M step peek place p (Full w) fits placed (unasked_last (steps_of p w) (steps_unasked p w tt)))
+        come_to M step peek place (bytes_last M step peek place plays) mute p (Full w) xs k.0 es rest n2 k.1.0 here.rises (piece_tidy M step peek place p (Full w) fits placed (unasked_last (steps_of p w) (steps_unasked p w tt)))
         (subst (λ (v : List Step). Rattle.cbm_session.proofs.headline.AlongBus.WithinAll M step peek mute place xs v k.0 es rest ss2 ⊎ Rattle.cbm_session.proofs.headline.AlongBus.PassedAll M step peek mute place xs v k.0 es n2 ss2) (sym (listener_steps p at)) k.1.1)
     hosts_out (ToNobody at clock) a fits {n2 = n2} {ss2 = ss2} {es = es} plays rest more e =
         let placed = rises_placed M step peek place p.seats here.rises in
         let w = ToNobody at clock in
         let k = to_nobody_on_bus M step peek mute place p at clock fits placed here.rises xs here.stand plays rest more e in
-        come_to M step peek place mute p (Full w) xs k.0 es rest n2 ss2 k.1.0 here.rises (piece_tidy M step peek place p (Full w) fits placed (unasked_last (steps_of p w) (steps_unasked p w tt)))
+        come_to M step peek place (bytes_last M step peek place plays) mute p (Full w) xs k.0 es rest n2 k.1.0 here.rises (piece_tidy M step peek place p (Full w) fits placed (unasked_last (steps_of p w) (steps_unasked p w tt)))
         (subst (λ (v : List Step). Rattle.cbm_session.proofs.headline.AlongBus.WithinAll M step peek mute place xs v k.0 es rest ss2 ⊎ Rattle.cbm_session.proofs.headline.AlongBus.PassedAll M step peek mute place xs v k.0 es n2 ss2) (sym (nobody_steps M step peek mute place p at clock)) k.1.1)
     hosts_out (ToTalker at clock) a fits plays rest more e = elim a [ ]
     hosts_out (Nothing at clock freed) a fits plays rest more e = elim a [ ]
@@ -152,7 +152,7 @@ module _ (M : Type 0) (step : M → Act → M) (peek : M → Option (ℕ × Bool
         let t = the_seat place p p.seats xs here.stand whole.0.talker in
         let answered = all_with place ms (turns.Answers M step peek says place) (λ s x e r. ap (λ (m : M). peek (step m Released)) e) p p.seats xs here.stand here.ran in
         let k = to_talker_on_bus M step peek says place p t.0 t.1.0 t.1.1 at clock placed here.rises xs (restand M step peek says place p p.seats xs here.stand) answered o fits (answer.0, ap (λ (b : Party). says b.device) (sym t.1.2) ∙ answer.1) plays rest meets in
-        come_to M step peek place says p (upto o w) xs k.0 es rest n2 ss2 k.1.0 here.rises (piece_tidy M step peek place p (upto o w) fits placed (whole_last o w (unasked_last (steps_of p w) (steps_unasked p w tt)))) k.1.1
+        come_to M step peek place (bytes_last M step peek place plays) says p (upto o w) xs k.0 es rest n2 k.1.0 here.rises (piece_tidy M step peek place p (upto o w) fits placed (whole_last o w (unasked_last (steps_of p w) (steps_unasked p w tt)))) k.1.1
     talkers_out (Nothing at clock freed) o a fits answer {n2 = n2} {ss2 = ss2} {es = es} plays rest meets =
         let w = Nothing at clock freed in
         let whole = upto_fits p o w fits in
@@ -162,7 +162,7 @@ module _ (M : Type 0) (step : M → Act → M) (peek : M → Option (ℕ × Bool
         let answered = all_with place ms (turns.Answers M step peek says place) (λ s x e r. ap (λ (m : M). peek (step m Released)) e) p p.seats xs here.stand here.ran in
         let last : LastSaid (turn_begins at (mutes p at clock freed)) = begins_last at (mutes p at clock freed) (turn_last (device t.0) (mutes p at clock freed) (mute_turn p t.0 t.1.0 t.1.1 at clock freed)) in
         let k = nothing_on_bus M step peek says place p t.0 t.1.0 t.1.1 at clock placed here.rises xs (restand M step peek says place p p.seats xs here.stand) answered freed o fits (ap (λ (b : Party). says b.device) (sym t.1.2) ∙ answer) plays rest meets in
-        come_to M step peek place says p (upto o w) xs k.0 es rest n2 ss2 k.1.0 here.rises (piece_tidy M step peek place p (upto o w) fits placed (whole_last o w (subst LastSaid (sym (mute_steps p at clock freed whole.1)) last))) k.1.1
+        come_to M step peek place (bytes_last M step peek place plays) says p (upto o w) xs k.0 es rest n2 k.1.0 here.rises (piece_tidy M step peek place p (upto o w) fits placed (whole_last o w (subst LastSaid (sym (mute_steps p at clock freed whole.1)) last))) k.1.1
       where
         begins_last : (at : ℕ) (ys : List Step) → LastSaid ys → LastSaid (turn_begins at ys)
         begins_last at [] l = (tt, tt)
@@ -176,7 +176,7 @@ module _ (M : Type 0) (step : M → Act → M) (peek : M → Option (ℕ × Bool
         let telling = all_with place ms (Telling M step peek says place) (λ s x e r. ap peek e) p p.seats xs here.stand here.ran in
         let is = frame_steps M step peek says place p at t.0 t.1.0 t.1.1 f whole in
         let k = talk_on_bus M step peek says place p at t.0 t.1.0 t.1.1 f o fits (ap (λ (b : Party). says b.device) (sym t.1.2) ∙ answer) placed here.rises xs (restand M step peek says place p p.seats xs here.stand) telling plays rest meets in
-        come_to M step peek place says p (upto o w) xs k.0 es rest n2 ss2 k.1.0 here.rises (piece_tidy M step peek place p (upto o w) fits placed (whole_last o w (subst LastSaid (sym is) (told_last t.0.party at f)))) k.1.1
+        come_to M step peek place (bytes_last M step peek place plays) says p (upto o w) xs k.0 es rest n2 k.1.0 here.rises (piece_tidy M step peek place p (upto o w) fits placed (whole_last o w (subst LastSaid (sym is) (told_last t.0.party at f)))) k.1.1
 
     -- ATN's pull: the host's next change is at its moment, or all have still to answer; or all are behind it.
     pub record PullInside (at : ℕ) (es : List Event) (ss2 : List (Station M)) : Type 0 where

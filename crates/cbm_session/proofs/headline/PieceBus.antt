@@ -1,5 +1,5 @@
 -- A piece of a session, whole or cut, on a bus: how each drive follows it and stands behind it, and what a play that keeps to it comes to.
-use Rattle.std.proofs.Common.{◌≡◌, ℕ, suc, ◌≤◌, ◌⊎◌, inl, inr, Bool, List, [], ◌∷◌, ◌++◌, map, Option, Some, None, ap, sym, ◌∙◌, subst, arith, refl}
+use Rattle.std.proofs.Common.{◌≡◌, ℕ, suc, ◌≤◌, ◌⊎◌, inl, inr, Bool, List, [], ◌∷◌, ◌++◌, map, append-nil, Option, Some, None, ap, sym, ◌∙◌, subst, arith, refl}
 use Rattle.std.proofs.lemmas.Bool.Decides.{leb_tells}
 use Rattle.cbm_iec.specs.declared.act.Act.{Act}
 use Rattle.cbm_iec.specs.declared.event.Event.{Event}
@@ -33,7 +33,7 @@ use Rattle.cbm_session.specs.Among.{Rest, wires_of, FollowsAmong}
 use Rattle.cbm_session.specs.Buses.{rest_at, SaysAs, StandsAmong}
 use Rattle.cbm_session.specs.Laws.{GoesOn}
 use Rattle.cbm_session.specs.Pieces.{Whole, Piece, Point, host_part, own_part, steps_of, before, piece_steps, Fits, PieceFits, held_by, seat_with, whole_point, point_after, Full, Cut}
-use Rattle.cbm_session.specs.Playing.{Station, Plays}
+use Rattle.cbm_session.specs.Playing.{Station, AllBytes, Plays, stays, change, reaction}
 use Rattle.cbm_session.specs.Seats.{Seat, device}
 use Rattle.cbm_session.specs.Steps.{Step, moment_of, events_of}
 
@@ -214,10 +214,11 @@ module _ (M : Type 0) (step : M → Act → M) (peek : M → Option (ℕ × Bool
   -- What came of a piece: the play is in it, or behind it with all as the session has them.
   pub record Inside (from : List (Station M)) (ys : List Step) (es : List Event) (ss : List (Station M)) : Type 0 where
     pub front : List Step
-    pub back : List Step
-    pub parts : ys ≡ front ++ back
+    pub next : Step
+    pub others : List Step
+    pub parts : ys ≡ front ++ next ∷ others
     pub shown_so : events_of front ≡ es
-    pub going : Going back ss
+    pub going : Going (next ∷ others) ss
     pub ran : RanOn M step peek from front ss
 
   pub record Behind (p : Point) (from : List (Station M)) (ys : List Step) (es : List Event) (n2 : ℕ) (ss2 : List (Station M)) : Type 0 where
@@ -241,26 +242,18 @@ module _ (M : Type 0) (step : M → Act → M) (peek : M → Option (ℕ × Bool
       let is : x.port.party.device ≡ device s = ap (λ (b : Party). b.device) (sym (goes_party (says x.port.party.device) g.0.goes) ∙ a.0.1.party) in
       ap (λ (v : ℕ). v ∷ devs M step peek mute place xs) is ∙ ap (λ (v : List ℕ). device s ∷ v) (same_devs says p ss es xs ys a.1 g.1)
 
-  -- So what along_bus gives is one of the two.
-  pub come_to : (says : ℕ → Option (ℕ × Bool)) (p : Point) (k : Piece) (from : List (Station M)) (fin : List (Rest × Port)) (es rest : List Event) (n2 : ℕ) (ss2 : List (Station M))
-      → AllEnd M step peek says place (point_after p k) (map (λ s. seat_behind p k s) p.seats) fin → Rises M step peek place (map (λ s. device s) p.seats) → IsTidy (map (λ s. device s) p.seats) (piece_steps p k)
-      → WithinAll M step peek says place from (piece_steps p k) fin es rest ss2 ⊎ PassedAll M step peek says place from (piece_steps p k) fin es n2 ss2
-      → Inside from (piece_steps p k) es ss2 ⊎ Behind (point_after p k) from (piece_steps p k) es n2 ss2
-  come_to says p k from fin es rest n2 ss2 ends rises tidy (inl w) =
-      let same = same_devs says (point_after p k) (map (λ s. seat_behind p k s) p.seats) fin ss2 w.back ends w.goes ∙ ap (λ (l : List Seat). map (λ s. device s) l) (sym (seats_behind p k)) ∙ devices_behind p k in
-      let left = tidy_behind (map (λ s. device s) p.seats) w.front w.back (subst (IsTidy (map (λ s. device s) p.seats)) w.parts tidy) in
-      inl (record {
-        front = w.front;
-        back = w.back;
-        parts = w.parts;
-        shown_so = w.shown_so;
-        going = record { says = says; fin = fin; goes = w.goes; tidy = subst (λ (l : List ℕ). IsTidy l w.back) (sym same) left; rises = subst (λ (l : List ℕ). Rises M step peek place l) (sym same) rises };
-        ran = w.ran;
-      })
-  come_to says p k from fin es rest n2 ss2 ends rises tidy (inr w) =
+  -- what all have to say at a play's end are bytes
+  pub bytes_last : {n n2 : ℕ} {ss ss2 : List (Station M)} {es : List Event} → Plays M step peek n ss es n2 ss2 → AllBytes M step peek ss2
+  bytes_last (stays y e k f) = subst (λ (v : List (Station M)). AllBytes M step peek v) (sym f) y
+  bytes_last (change c more y l i e f) = bytes_last f
+  bytes_last (reaction t b o h more y e i k f) = bytes_last f
+
+  behind_with : (says : ℕ → Option (ℕ × Bool)) (p : Point) (k : Piece) (from : List (Station M)) (fin : List (Rest × Port)) (es : List Event) (n2 : ℕ) (ss2 : List (Station M)) → AllEnd M step peek says place (point_after p k) (map (λ s. seat_behind p k s) p.seats) fin
+      → PassedAll M step peek says place from (piece_steps p k) fin es n2 ss2 → Behind (point_after p k) from (piece_steps p k) es n2 ss2
+  behind_with says p k from fin es n2 ss2 ends w =
       let p2 = point_after p k in
       let there = stand_so M step peek says place p2 (map (λ s. seat_behind p k s) p.seats) fin w.there ends (all_there M step peek says place w.there fin w.goes) in
-      inr (record {
+      record {
         more = w.more;
         now = w.now;
         there = w.there;
@@ -269,7 +262,43 @@ module _ (M : Type 0) (step : M → Act → M) (peek : M → Option (ℕ × Bool
         stand = stood M step peek says place p2 p2.seats w.there (subst (λ (l : List Seat). AllStand M step peek says place p2 l w.there) (sym (seats_behind p k)) there);
         show = all_show M step peek says place w.there [] fin w.goes;
         ran = w.ran;
-      })
+      }
+
+  -- So what along_bus gives is one of the two.
+  pub come_to : {ss2 : List (Station M)} → AllBytes M step peek ss2 → (says : ℕ → Option (ℕ × Bool)) (p : Point) (k : Piece) (from : List (Station M)) (fin : List (Rest × Port)) (es rest : List Event) (n2 : ℕ)
+      → AllEnd M step peek says place (point_after p k) (map (λ s. seat_behind p k s) p.seats) fin → Rises M step peek place (map (λ s. device s) p.seats) → IsTidy (map (λ s. device s) p.seats) (piece_steps p k)
+      → WithinAll M step peek says place from (piece_steps p k) fin es rest ss2 ⊎ PassedAll M step peek says place from (piece_steps p k) fin es n2 ss2
+      → Inside from (piece_steps p k) es ss2 ⊎ Behind (point_after p k) from (piece_steps p k) es n2 ss2
+  come_to {ss2} bytes says p k from fin es rest n2 ends rises tidy (inl w) = go w.back w.parts w.goes
+    where
+      ds : List ℕ
+      ds = map (λ s. device s) p.seats
+
+      go : (back : List Step) → piece_steps p k ≡ w.front ++ back → AllGo M step peek says place ss2 back fin → Inside from (piece_steps p k) es ss2 ⊎ Behind (point_after p k) from (piece_steps p k) es n2 ss2
+      go [] e g =
+          let all : piece_steps p k ≡ w.front = e ∙ append-nil w.front in
+          inr (behind_with says p k from fin es n2 ss2 ends (record {
+            more = [];
+            now = n2;
+            there = ss2;
+            shown_so = sym (append-nil (events_of (piece_steps p k)) ∙ ap (λ (l : List Step). events_of l) all ∙ w.shown_so);
+            plays = stays bytes refl refl refl;
+            goes = g;
+            ran = subst (λ (l : List Step). RanOn M step peek from l ss2) (sym all) w.ran;
+          }))
+      go (y ∷ ys) e g =
+          let same = same_devs says (point_after p k) (map (λ s. seat_behind p k s) p.seats) fin ss2 (y ∷ ys) ends g ∙ ap (λ (l : List Seat). map (λ s. device s) l) (sym (seats_behind p k)) ∙ devices_behind p k in
+          let left = tidy_behind (map (λ s. device s) p.seats) w.front (y ∷ ys) (subst (IsTidy (map (λ s. device s) p.seats)) e tidy) in
+          inl (record {
+            front = w.front;
+            next = y;
+            others = ys;
+            parts = e;
+            shown_so = w.shown_so;
+            going = record { says = says; fin = fin; goes = g; tidy = subst (λ (l : List ℕ). IsTidy l (y ∷ ys)) (sym same) left; rises = subst (λ (l : List ℕ). Rises M step peek place l) (sym same) rises };
+            ran = w.ran;
+          })
+  come_to {ss2} bytes says p k from fin es rest n2 ends rises tidy (inr w) = inr (behind_with says p k from fin es n2 ss2 ends w)
 
   -- How each drive goes with a piece, from how it follows it.
   module _ (says : ℕ → Option (ℕ × Bool)) where
