@@ -25,3 +25,4 @@ pub mod PieceBus
 pub mod Unasked
 pub mod Here
 pub mod Onward
+pub mod Walk

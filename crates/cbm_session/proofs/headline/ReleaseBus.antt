@@ -67,7 +67,7 @@ module _ (M : Type 0) (step : M → Act → M) (peek : M → Option (ℕ × Bool
   AllQuiet [] = Unit {0}
   AllQuiet (x ∷ xs) = (port_due x.port ≡ None) × AllQuiet xs
 
-  quiet_first : (t : ℕ) (before : List (Station M)) (o : Station M) (behind : List (Station M)) → AllQuiet (before ++ o ∷ behind) → port_due o.port ≡ Some t → ⊥
+  pub quiet_first : (t : ℕ) (before : List (Station M)) (o : Station M) (behind : List (Station M)) → AllQuiet (before ++ o ∷ behind) → port_due o.port ≡ Some t → ⊥
   quiet_first t [] o behind h e = let k : Some t ≡ None = sym e ∙ h.0 in cc
   quiet_first t (b ∷ before) o behind h e = quiet_first t before o behind h.1 e
 
