@@ -26,3 +26,4 @@ pub mod Unasked
 pub mod Here
 pub mod Onward
 pub mod Walk
+pub mod Lawful

@@ -153,7 +153,7 @@ module _ (M : Type 0) (step : M → Act → M) (peek : M → Option (ℕ × Bool
   OwnedIn ds (y ∷ ys) = ((d : ℕ) → y.event.who ≡ Drive d → SitsIn d ds) × OwnedIn ds ys
 
   -- the drive of the first step has its reaction due then
-  sitting_due : (d : ℕ) (ss : List (Station M)) (y : Step) (ys : List Step) (es : List (Rest × Port)) → AllGo ss (y ∷ ys) es → y.event.who ≡ Drive d → SitsAmong d ss → (t : ℕ) → AllInTime M step peek t ss → t ≤ moment_of y
+  pub sitting_due : (d : ℕ) (ss : List (Station M)) (y : Step) (ys : List Step) (es : List (Rest × Port)) → AllGo ss (y ∷ ys) es → y.event.who ≡ Drive d → SitsAmong d ss → (t : ℕ) → AllInTime M step peek t ss → t ≤ moment_of y
   sitting_due d [] y ys [] g w i t k = elim i [ ]
   sitting_due d [] y ys (e ∷ es) g w i t k = elim g [ ]
   sitting_due d (s ∷ ss) y ys [] g w i t k = elim g [ ]

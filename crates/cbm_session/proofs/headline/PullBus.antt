@@ -191,7 +191,7 @@ module _ (M : Type 0) (step : M → Act → M) (peek : M → Option (ℕ × Bool
       no_end (x ∷ l) = ap (λ (v : List Step). x ∷ v) (no_end l)
 
   -- an answer that shows
-  some_shown : (t u : ℕ) (says : Option (ℕ × Bool)) (q : Port) → q.side ≡ Hearing (Starting u) → (q.own ≡ lines false true → ⊥) → reaction_changes t says q ≡ [] → ⊥
+  pub some_shown : (t u : ℕ) (says : Option (ℕ × Bool)) (q : Port) → q.side ≡ Hearing (Starting u) → (q.own ≡ lines false true → ⊥) → reaction_changes t says q ≡ [] → ⊥
   some_shown t u says q side other e = other (no_change t q.own (sym (start_changes t u says q side) ∙ e))
 
   -- Another drive's step is heard, and nothing is told by it.
