@@ -27,3 +27,4 @@ pub mod Here
 pub mod Onward
 pub mod Walk
 pub mod Lawful
+pub mod PullNow

@@ -165,7 +165,7 @@ module _ (M : Type 0) (step : M → Act → M) (peek : M → Option (ℕ × Bool
   sitting_due d (s ∷ ss) y ys (e ∷ es) g w (inr i) t k = sitting_due d ss y ys es g.1 w i t k.1
 
   -- of a drive before the one that is due first it comes later
-  sitting_later : (d : ℕ) (ss : List (Station M)) (y : Step) (ys : List Step) (es : List (Rest × Port)) → AllGo ss (y ∷ ys) es → y.event.who ≡ Drive d → SitsAmong d ss → (t : ℕ) → AllLater M step peek t ss → t < moment_of y
+  pub sitting_later : (d : ℕ) (ss : List (Station M)) (y : Step) (ys : List Step) (es : List (Rest × Port)) → AllGo ss (y ∷ ys) es → y.event.who ≡ Drive d → SitsAmong d ss → (t : ℕ) → AllLater M step peek t ss → t < moment_of y
   sitting_later d [] y ys [] g w i t k = elim i [ ]
   sitting_later d [] y ys (e ∷ es) g w i t k = elim g [ ]
   sitting_later d (s ∷ ss) y ys [] g w i t k = elim g [ ]
@@ -176,7 +176,7 @@ module _ (M : Type 0) (step : M → Act → M) (peek : M → Option (ℕ × Bool
       later (Some u) a b = let h : u ≡ moment_of y = cc in omega (arith, a, h)
   sitting_later d (s ∷ ss) y ys (e ∷ es) g w (inr i) t k = sitting_later d ss y ys es g.1 w i t k.1
 
-  sits_split : (d : ℕ) (before : List (Station M)) (o : Station M) (behind : List (Station M)) → SitsAmong d (before ++ o ∷ behind) → SitsAmong d before ⊎ ((dev o ≡ d) ⊎ SitsAmong d behind)
+  pub sits_split : (d : ℕ) (before : List (Station M)) (o : Station M) (behind : List (Station M)) → SitsAmong d (before ++ o ∷ behind) → SitsAmong d before ⊎ ((dev o ≡ d) ⊎ SitsAmong d behind)
   sits_split d [] o behind (inl i) = inr (inl i)
   sits_split d [] o behind (inr i) = inr (inr i)
   sits_split d (b ∷ before) o behind (inl i) = inl (inl i)
@@ -226,7 +226,7 @@ module _ (M : Type 0) (step : M → Act → M) (peek : M → Option (ℕ × Bool
   others_behind d [] h = tt
   others_behind d (s ∷ ss) h = (h.0.2, others_behind d ss h.1)
 
-  sits_behind : (d e : ℕ) (ss : List (Station M)) → AllBehind d ss → SitsAmong e ss → place d < place e
+  pub sits_behind : (d e : ℕ) (ss : List (Station M)) → AllBehind d ss → SitsAmong e ss → place d < place e
   sits_behind d e [] h i = elim i [ ]
   sits_behind d e (s ∷ ss) h (inl i) = subst (λ (v : ℕ). place d < place v) i h.0.0
   sits_behind d e (s ∷ ss) h (inr i) = sits_behind d e ss h.1 i
@@ -373,7 +373,7 @@ module _ (M : Type 0) (step : M → Act → M) (peek : M → Option (ℕ × Bool
       ∙ ap (λ (v : List ℕ). devs before ++ dev o ∷ v) (devs_hear cs behind)
       ∙ sym (devs_append before (o ∷ behind))
 
-  all_in_time : (t : ℕ) (before : List (Station M)) (o : Station M) (behind : List (Station M)) → IsFirst M step peek t before o behind → AllInTime M step peek t (before ++ o ∷ behind)
+  pub all_in_time : (t : ℕ) (before : List (Station M)) (o : Station M) (behind : List (Station M)) → IsFirst M step peek t before o behind → AllInTime M step peek t (before ++ o ∷ behind)
   all_in_time t [] o behind f = (due (port_due o.port) f.due, f.in_time)
     where
       due : (x : Option ℕ) → x ≡ Some t → IsInTime t x
@@ -618,8 +618,8 @@ module _ (M : Type 0) (step : M → Act → M) (peek : M → Option (ℕ × Bool
 
   -- Inside a piece whose host changes nothing up to t, the reaction that is due first at t comes next.
   pub next_inside : (t : ℕ) (before : List (Station M)) (o : Station M) (behind : List (Station M)) (y : Step) (ys : List Step) (fin : List (Rest × Port)) → AllGo (before ++ o ∷ behind) (y ∷ ys) fin → IsFirst M step peek t before o behind
-      → HostFrom (suc t) (y ∷ ys) → Rising (before ++ o ∷ behind) → IsPlain (devs (before ++ o ∷ behind)) (y ∷ ys) → Reacted t before o behind (y ∷ ys) fin
-  next_inside t before o behind y ys fin g f h rising plain = by_who y.event.who refl
+      → HostFrom (suc t) (y ∷ ys) → Rising (before ++ o ∷ behind) → LastSaid (y ∷ ys) → GoesOn (y ∷ ys) → InOrder (y ∷ ys) → Tied place (y ∷ ys) → OwnedIn (devs (before ++ o ∷ behind)) (y ∷ ys) → Reacted t before o behind (y ∷ ys) fin
+  next_inside t before o behind y ys fin g f h rising last goes_on order tied owned = by_who y.event.who refl
     where
       by_who : (w : Who) → y.event.who ≡ w → Reacted t before o behind (y ∷ ys) fin
       by_who Host w =
@@ -627,7 +627,7 @@ module _ (M : Type 0) (step : M → Act → M) (peek : M → Option (ℕ × Bool
           let soon = in_time_at (moment_of y) t (port_due o.port) (host_in_time k.go w) f.due in
           let late = h.0 (ap (λ (v : Who). Rattle.cbm_session.specs.Timing.is_host v) w) in
           absurd (omega (arith, soon, late))
-      by_who (Drive d) w = reaction_goes t before o behind y ys fin d g f w rising plain.last plain.goes_on plain.order plain.tied plain.owned
+      by_who (Drive d) w = reaction_goes t before o behind y ys fin d g f w rising last goes_on order tied owned
 
   -- and no drive's change comes before what is due
   pub soon_inside : (d t : ℕ) (ss : List (Station M)) (y : Step) (ys : List Step) (fin : List (Rest × Port)) → AllGo ss (y ∷ ys) fin → AllInTime M step peek t ss → IsPlain (devs ss) (y ∷ ys) → y.event.who ≡ Drive d → t ≤ moment_of y

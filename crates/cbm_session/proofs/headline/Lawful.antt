@@ -11,7 +11,7 @@ use Rattle.cbm_session.proofs.headline.Here.{Here}
 use Rattle.cbm_session.proofs.headline.PieceBus.{devices_behind}
 use Rattle.cbm_session.proofs.headline.Premises.{mute, place_in, devices, bus_rises, bus_stands, bus_ran, rest_devices, Rises}
 use Rattle.cbm_session.proofs.headline.Unasked.{Runs, runs_then, runs_front}
-use Rattle.cbm_session.proofs.headline.Walk.{At, Now, walk}
+use Rattle.cbm_session.proofs.headline.Walk.{At, Now, devs_play, walk}
 use Rattle.cbm_session.specs.Answers.{Allowed, Run, run, run_each, RunEach}
 use Rattle.cbm_session.specs.Pieces.{Piece, Point, piece_steps, point_after}
 use Rattle.cbm_session.specs.Playing as playing
@@ -24,12 +24,6 @@ abbrev anywhere : ℕ → ℕ
 anywhere d = 0
 
 module _ (M : Type 0) (step : M → Act → M) (peek : M → Option (ℕ × Bool)) where
-  -- the drives stay who they are
-  pub devs_play : (place : ℕ → ℕ) {n n2 : ℕ} {ss ss2 : List (Station M)} {es : List Event} → Plays M step peek n ss es n2 ss2 → devs M step peek mute place ss2 ≡ devs M step peek mute place ss
-  devs_play place (stays b e k f) = ap (λ (v : List (Station M)). devs M step peek mute place v) f
-  devs_play place {ss = ss} (change c more b l i e p) = devs_play place p ∙ devs_tell M step peek mute place c ss
-  devs_play place (reaction t before o behind more b u f e p) = devs_play place p ∙ devs_react M step peek mute place t before o behind ∙ ap (λ (v : List (Station M)). devs M step peek mute place v) (sym u)
-
   rest_devs : (place : ℕ → ℕ) (ms : ℕ → M) (bs : List Party) → devs M step peek mute place (playing.at_rest M step peek ms bs) ≡ devices bs
   rest_devs place ms [] = refl
   rest_devs place ms (b ∷ bs) = ap (λ (l : List ℕ). b.device ∷ l) (rest_devs place ms bs)
@@ -74,7 +68,7 @@ module _ (M : Type 0) (step : M → Act → M) (peek : M → Option (ℕ × Bool
     ran_law {ss = ss} plays ks done more sp e al =
         let place = place_in bs in
         let a = at_now plays ks done more sp e al in
-        let ds = devs_play place plays ∙ rest_devs place ms bs ∙ sym (rest_devices M step peek bs) in
+        let ds = devs_play M step peek place plays ∙ rest_devs place ms bs ∙ sym (rest_devices M step peek bs) in
         ran_each ms done (map (λ s. device s) (rest bs).seats) ss
         (λ d i. runs_front M step peek (ms d) (acts_for d done) (acts_for d more) (subst (λ (l : List Act). Runs M step peek (ms d) l) (ap (λ (l : List Step). acts_for d l) sp.steps ∙ acts_append d done more) (allowed_runs ks (rest bs) ms d al i)))
         (λ d i. subst (λ (l : List ℕ). SitsIn M step peek mute place d l) ds i) a.ran

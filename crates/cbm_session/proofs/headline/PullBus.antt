@@ -75,7 +75,7 @@ own_next says {r} {r2} {q} {q2} {s} {ss} (reacts u more e x sh l f) w t d =
     subst (λ (v : ℕ). OwnNext says v r q (s ∷ ss) r2 q2) same (record { more = more; steps = x; follows = f })
 
 -- nothing follows but the end
-ended : (says : Option (ℕ × Bool)) {r r2 : Rest} {q q2 : Port} → FollowsAmong says r q [] r2 q2 → ((u : ℕ) → port_due q ≡ Some u → reaction_steps u says q ≡ [] → ⊥) → (r2 ≡ r) × (q2 ≡ q)
+pub ended : (says : Option (ℕ × Bool)) {r r2 : Rest} {q q2 : Port} → FollowsAmong says r q [] r2 q2 → ((u : ℕ) → port_due q ≡ Some u → reaction_steps u says q ≡ [] → ⊥) → (r2 ≡ r) × (q2 ≡ q)
 ended says (ends i j) some = (i, j)
 ended says {q = q} (reacts u more d e sh l f) some = absurd (some u d (front_none (reaction_steps u says q) more e))
   where
@@ -139,7 +139,7 @@ module _ (M : Type 0) (step : M → Act → M) (peek : M → Option (ℕ × Bool
     pub one : P o own
     pub all_last : AllOf P behind last
 
-  parts_of : (P : Station M → Rest × Port → Type 0) (before : List (Station M)) (o : Station M) (behind : List (Station M)) (es : List (Rest × Port)) → AllOf P (before ++ o ∷ behind) es → PartsOf P before o behind es
+  pub parts_of : (P : Station M → Rest × Port → Type 0) (before : List (Station M)) (o : Station M) (behind : List (Station M)) (es : List (Rest × Port)) → AllOf P (before ++ o ∷ behind) es → PartsOf P before o behind es
   parts_of P [] o behind [] h = elim h [ ]
   parts_of P [] o behind (e ∷ es) h = record { first = []; own = e; last = es; is = refl; all_first = tt; one = h.0; all_last = h.1 }
   parts_of P (b ∷ before) o behind [] h = elim h [ ]
@@ -319,7 +319,7 @@ module _ (M : Type 0) (step : M → Act → M) (peek : M → Option (ℕ × Bool
               absurd (omega (arith, late, soon, l))
 
   -- the answer of a drive
-  answered : (t : ℕ) (x : Station M) (ys : List Step) (e : Rest × Port) → Pulled x ys e → Rests x ys e → port_due x.port ≡ Some t → (shown M step peek t x ≡ []) × (reaction_act (peek x.machine) x.port ≡ None) × Pulled (react M step peek t x) ys e
+  pub answered : (t : ℕ) (x : Station M) (ys : List Step) (e : Rest × Port) → Pulled x ys e → Rests x ys e → port_due x.port ≡ Some t → (shown M step peek t x ≡ []) × (reaction_act (peek x.machine) x.port ≡ None) × Pulled (react M step peek t x) ys e
   answered t x ys e h k d = by k.side
     where
       by : (x.port.side ≡ Hearing Holding) ⊎ ((u : ℕ) × Starts x u) → (shown M step peek t x ≡ []) × (reaction_act (peek x.machine) x.port ≡ None) × Pulled (react M step peek t x) ys e
@@ -351,7 +351,7 @@ module _ (M : Type 0) (step : M → Act → M) (peek : M → Option (ℕ × Bool
     pub silent : reaction_act (peek x.machine) x.port ≡ None
     pub there : Pulled (react M step peek t x) more e
 
-  shows_next : (t : ℕ) (x : Station M) (y : Step) (ys : List Step) (e : Rest × Port) → Pulled x (y ∷ ys) e → Shows x (y ∷ ys) e → port_due x.port ≡ Some t → y.event.who ≡ Drive (device_of x) → Answers t x (y ∷ ys) e
+  pub shows_next : (t : ℕ) (x : Station M) (y : Step) (ys : List Step) (e : Rest × Port) → Pulled x (y ∷ ys) e → Shows x (y ∷ ys) e → port_due x.port ≡ Some t → y.event.who ≡ Drive (device_of x) → Answers t x (y ∷ ys) e
   shows_next t x y ys e h k d w =
       let side = k.starts.side in
       let p = says (device_of x) in

@@ -10,11 +10,12 @@ use Rattle.cbm_iec.specs.declared.party.Role.{Role}
 use Rattle.cbm_iec.specs.declared.port.Side.{Side}
 use Rattle.cbm_session.proofs.among.Points.{whole_react}
 use Rattle.cbm_session.proofs.frames.Phases.{commands_go_in_parts}
+use Rattle.cbm_session.proofs.headline.AlongBus.{devs, devs_tell, devs_react}
 use Rattle.cbm_session.proofs.headline.BusActs.{HasRun, AllRan, acts_append, run_append}
 use Rattle.cbm_session.proofs.headline.Here.{IsHosts, IsTalkers, Here, Out, hosts_out, talkers_out, PullInside, pull_out}
 use Rattle.cbm_session.proofs.headline.Keeping.{events_append}
 use Rattle.cbm_session.proofs.headline.Meeting.{Compat}
-use Rattle.cbm_session.proofs.headline.FrameBus.{twin_self}
+use Rattle.cbm_session.proofs.headline.FrameBus.{twin_self, devs_are}
 use Rattle.cbm_session.proofs.headline.Onward.{here_behind}
 use Rattle.cbm_session.proofs.headline.PieceBus.{upto, Going, Inside, Behind}
 use Rattle.cbm_session.proofs.headline.Premises.{mute, Stood}
@@ -27,7 +28,7 @@ use Rattle.cbm_session.specs.Buses.{SideAmong}
 use Rattle.cbm_session.specs.Laws.{SeatsReact, frame_in_parts}
 use Rattle.cbm_session.specs.Pieces.{Whole, Piece, Place, Point, steps_of, piece_steps, Fits, PieceFits, whole_point, point_after, Full, Cut, PullPiece, Command, Byte, ToListener, ToNobody, ToTalker, Nothing, Talk, Open, Commanding, Listening, Leading, Cutting}
 use Rattle.cbm_session.specs.Playing.{Station, Plays, stays, change, reaction}
-use Rattle.cbm_session.specs.Seats.{Seat}
+use Rattle.cbm_session.specs.Seats.{Seat, device}
 use Rattle.cbm_session.specs.Sessions.{MayEnd, Linked, session_steps}
 use Rattle.cbm_session.specs.Steps.{Step, moment_of, events_of, acts_for}
 
@@ -68,12 +69,18 @@ module _ (M : Type 0) (step : M → Act → M) (peek : M → Option (ℕ × Bool
   -- Where the play is: in a piece that all go on with, in a pull of ATN, or at the session's end.
   pub data Now (more : List Step) (ss : List (Station M)) : Type 0 where
     going : (y : Step) (ys tail : List Step) → more ≡ (y ∷ ys) ++ tail → Going M step peek place (y ∷ ys) ss → Now more ss
-    pulling : (p : Point) (ms : ℕ → M) (xs : List (Station M)) (here : Here M step peek place p ms xs) (at : ℕ) (es : List Event) (tail : List Step) (i : PullInside M step peek place p ms xs here at es ss) → Fits p (PullPiece at) → more ≡ i.so.back ++ tail → Now more ss
+    pulling : (p : Point) (ms : ℕ → M) (xs : List (Station M)) (here : Here M step peek place p ms xs) (at : ℕ) (es : List Event) (tail : List Step) (i : PullInside M step peek place p ms xs here at es ss) → Fits p (PullPiece at) → more ≡ i.so.back ++ tail → NextHost (at + 60) (events_of tail) → devs M step peek mute place ss ≡ map (λ s. device s) p.seats → Now more ss
     over : more ≡ [] → AllQuiet M step peek mute place ss → Now more ss
 
   pub record At (done more : List Step) (ms : ℕ → M) (ss : List (Station M)) : Type 0 where
     pub ran : AllRan M step peek ms done ss
     pub now : Now more ss
+
+  -- the drives stay who they are
+  pub devs_play : {n n2 : ℕ} {ss ss2 : List (Station M)} {es : List Event} → Plays M step peek n ss es n2 ss2 → devs M step peek mute place ss2 ≡ devs M step peek mute place ss
+  devs_play (stays b e k f) = ap (λ (v : List (Station M)). devs M step peek mute place v) f
+  devs_play {ss = ss} (change c more b l i e p) = devs_play p ∙ devs_tell M step peek mute place c ss
+  devs_play (reaction t before o behind more b u f e p) = devs_play p ∙ devs_react M step peek mute place t before o behind ∙ ap (λ (v : List (Station M)). devs M step peek mute place v) (sym u)
 
   -- where nothing is due nothing is played that doesn't show
   pub quiet_stays : {n n2 : ℕ} {xs ss2 : List (Station M)} {es : List Event} → Plays M step peek n xs es n2 ss2 → AllQuiet M step peek mute place xs → es ≡ [] → ss2 ≡ xs
@@ -149,15 +156,15 @@ module _ (M : Type 0) (step : M → Act → M) (peek : M → Option (ℕ × Bool
       let a = next b left.behind left.left left.shown in
       record { ran = subst (λ (l : List Step). AllRan M step peek ms l ss2) (sym left.front) (ran_from ms (piece_steps p k) left.behind ss2 a.ran); now = a.now }
 
-  pull_on : (p : Point) (ms : ℕ → M) (xs : List (Station M)) (here : Here M step peek place p ms xs) (at : ℕ) (s done more : List Step) (es : List Event) (n2 : ℕ) (ss2 : List (Station M)) → Fits p (PullPiece at) → steps_of p (PullPiece at) ++ s ≡ done ++ more → events_of done ≡ es
+  pull_on : (p : Point) (ms : ℕ → M) (xs : List (Station M)) (here : Here M step peek place p ms xs) (at : ℕ) (s done more : List Step) (es : List Event) (n2 : ℕ) (ss2 : List (Station M)) → devs M step peek mute place ss2 ≡ map (λ s. device s) p.seats → NextHost (at + 60) (events_of s) → Fits p (PullPiece at) → steps_of p (PullPiece at) ++ s ≡ done ++ more → events_of done ≡ es
       → PullInside M step peek place p ms xs here at es ss2 ⊎ Behind M step peek place (whole_point p (PullPiece at)) xs (steps_of p (PullPiece at)) es n2 ss2
       → ((b : Behind M step peek place (whole_point p (PullPiece at)) xs (steps_of p (PullPiece at)) es n2 ss2) (d2 : List Step) → s ≡ d2 ++ more → events_of d2 ≡ b.more → At d2 more (run_each M step peek ms (steps_of p (PullPiece at))) ss2) → At done more ms ss2
-  pull_on p ms xs here at s done more es n2 ss2 fits e h (inl i) next =
+  pull_on p ms xs here at s done more es n2 ss2 ds host fits e h (inl i) next =
       let w = i.so in
       let whole : w.front ++ (w.back ++ s) ≡ done ++ more = sym (append_assoc w.front w.back s) ∙ ap (λ (l : List Step). l ++ s) (sym w.parts) ∙ e in
       let same = same_front w.front (w.back ++ s) done more whole (w.shown_so ∙ sym h) in
-      record { ran = subst (λ (l : List Step). AllRan M step peek ms l ss2) same.0 (w.ran.runs ms [] here.ran); now = pulling p ms xs here at es s i fits (sym same.1) }
-  pull_on p ms xs here at s done more es n2 ss2 fits e h (inr b) next = come_on p ms xs here (Full (PullPiece at)) s done more es n2 ss2 e h (inr b) next
+      record { ran = subst (λ (l : List Step). AllRan M step peek ms l ss2) same.0 (w.ran.runs ms [] here.ran); now = pulling p ms xs here at es s i fits (sym same.1) host ds }
+  pull_on p ms xs here at s done more es n2 ss2 ds host fits e h (inr b) next = come_on p ms xs here (Full (PullPiece at)) s done more es n2 ss2 e h (inr b) next
 
   module _ (machine : Rattle.cbm_session.specs.Playing.IsMachine M step peek) where
     self_compat : (ys : List Step) (more es rest : List Event) → es ++ rest ≡ events_of ys ++ more → Compat ys (es ++ rest)
@@ -176,7 +183,7 @@ module _ (M : Type 0) (step : M → Act → M) (peek : M → Option (ℕ × Bool
         let s = session_steps (whole_point p (PullPiece at)) ks in
         let next = pull_next p at (react_of p p.seats xs refl here.stand) ks l.1 in
         let out = pull_out M step peek place p ms xs here at l.0 plays (events_of more) (events_of s) (first_events (steps_of p (PullPiece at)) s done more es e h) next in
-        pull_on p ms xs here at s done more es n2 ss2 l.0 e h out (λ b d2 f g. walk ks (whole_point p (PullPiece at)) (run_each M step peek ms (steps_of p (PullPiece at))) b.there (here_behind M step peek place machine p ms xs here (Full (PullPiece at)) l.0 al.0 b) l.1 al.2 b.plays d2 more f g)
+        pull_on p ms xs here at s done more es n2 ss2 (devs_play plays ∙ devs_are M step peek mute place p p.seats xs here.stand) next l.0 e h out (λ b d2 f g. walk ks (whole_point p (PullPiece at)) (run_each M step peek ms (steps_of p (PullPiece at))) b.there (here_behind M step peek place machine p ms xs here (Full (PullPiece at)) l.0 al.0 b) l.1 al.2 b.plays d2 more f g)
     walk (Full (Command f) ∷ ks) p ms xs here l al {n2 = n2} {ss2 = ss2} {es = es} plays done more e h =
         let w = Command f in
         let s = session_steps (whole_point p (Command f)) ks in
