@@ -1,5 +1,5 @@
 -- The stations of a bus at a point of a session that they have played so far, and the next piece: the play is in it, or behind it at the next point.
-use Rattle.std.proofs.Common.{◌≡◌, ℕ, ◌+◌, ◌≤◌, ◌<◌, ◌⊎◌, inl, inr, Bool, true, false, List, [], ◌∷◌, ◌++◌, map, Option, Some, None, ap, sym, ◌∙◌, subst, arith, refl}
+use Rattle.std.proofs.Common.{◌≡◌, ℕ, ◌+◌, ◌≤◌, ◌⊎◌, inl, inr, Bool, true, List, [], ◌∷◌, ◌++◌, map, Option, Some, None, ap, sym, ◌∙◌, subst, refl}
 use Rattle.std.specs.Prelude.{if◌then◌else◌}
 use Rattle.cbm_iec.specs.Ports.{side_due, port_due}
 use Rattle.cbm_iec.specs.declared.act.Act.TheVariants.{Released}
@@ -9,17 +9,15 @@ use Rattle.cbm_iec.specs.declared.party.Party.{Party}
 use Rattle.cbm_iec.specs.declared.party.Role.TheVariants.{Absent, Listener, Talker}
 use Rattle.cbm_iec.specs.declared.party.Role.{Role}
 use Rattle.cbm_iec.specs.declared.port.Side.{Side}
-use Rattle.cbm_session.proofs.among.Points.{commanding_rest}
 use Rattle.cbm_session.proofs.among.Standing.{IsSound}
 use Rattle.cbm_session.proofs.headline.AlongBus.{RisingIn}
-use Rattle.cbm_session.proofs.headline.BehindBus.{next_seats, stand_so}
+use Rattle.cbm_session.proofs.headline.BehindBus.{stand_so}
 use Rattle.cbm_session.proofs.headline.BusActs.{AllRan}
-use Rattle.cbm_session.proofs.headline.FrameBus as frames
-use Rattle.cbm_session.proofs.headline.FrameBus.{AllStand, AllWith, command_on_bus, byte_on_bus}
+use Rattle.cbm_session.proofs.headline.FrameBus.{AllWith, command_on_bus, byte_on_bus}
 use Rattle.cbm_session.proofs.headline.Meeting.{Compat, LastSaid}
-use Rattle.cbm_session.proofs.headline.PieceBus.{whole_of, upto, upto_fits, seats_behind, devices_behind, piece_tidy, Inside, Behind, bytes_last, come_to}
-use Rattle.cbm_session.proofs.headline.Premises.{mute, Rises, rises_placed, Stood, restand, stood}
-use Rattle.cbm_session.proofs.headline.PullBus.{NextHost, PullWithin, PullPassed}
+use Rattle.cbm_session.proofs.headline.PieceBus.{whole_of, upto, upto_fits, piece_tidy, Inside, Behind, bytes_last, come_to}
+use Rattle.cbm_session.proofs.headline.Premises.{mute, Rises, rises_placed, Stood, restand}
+use Rattle.cbm_session.proofs.headline.PullBus.{NextHost, PullWithin}
 use Rattle.cbm_session.proofs.headline.PullPlayed.{AllShow, pull_on_bus}
 use Rattle.cbm_session.proofs.headline.ReleaseBus.{to_listener_on_bus, to_nobody_on_bus, nobody_steps}
 use Rattle.cbm_session.proofs.headline.TalkBus.{Telling, talk_on_bus, frame_steps}
@@ -27,17 +25,15 @@ use Rattle.cbm_session.proofs.headline.TalkParts.{told_last}
 use Rattle.cbm_session.proofs.headline.TurnBus as turns
 use Rattle.cbm_session.proofs.headline.TurnBus.{to_talker_on_bus, nothing_on_bus, mute_turn, turn_last}
 use Rattle.cbm_session.proofs.headline.TurnTwin.{turn_begins, mutes, mute_steps}
-use Rattle.cbm_session.proofs.headline.Unasked.{AsksNothing, steps_unasked, unasked_last}
-use Rattle.cbm_session.proofs.joining.OneDrive.{one_told}
+use Rattle.cbm_session.proofs.headline.Unasked.{steps_unasked, unasked_last}
 use Rattle.cbm_session.proofs.joining.Talkers.{talker_is}
 use Rattle.cbm_session.proofs.among.Turns.{listener_steps}
-use Rattle.cbm_session.specs.Answers.{IsAnswer, run, run_each}
+use Rattle.cbm_session.specs.Answers.{IsAnswer, run_each}
 use Rattle.cbm_session.specs.Buses.{SideAmong}
-use Rattle.cbm_session.specs.Frames.{Told, is_last}
 use Rattle.cbm_session.specs.Pieces.{Whole, Piece, Place, Point, steps_of, piece_steps, Fits, PieceFits, whole_point, point_after, Full, Cut, PullPiece, Command, Byte, ToListener, ToNobody, ToTalker, Nothing, Talk, Open, Commanding, Listening, Leading, Cutting}
 use Rattle.cbm_session.specs.Playing.{Station, Plays}
 use Rattle.cbm_session.specs.Seats.{Seat, device, is_talker, has_talker, talker_of}
-use Rattle.cbm_session.specs.Steps.{Step, events_of, acts_for, for_each}
+use Rattle.cbm_session.specs.Steps.{Step, events_of}
 
 -- the pieces in which no drive talks, but for ATN's pull
 abbrev pub IsHosts : Whole → Type 0

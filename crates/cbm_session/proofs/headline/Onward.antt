@@ -1,6 +1,6 @@
 -- Behind a piece that was played the stations stand at the next point of the session.
-use Rattle.std.proofs.Common.{◌≡◌, ℕ, ◌+◌, ◌≤◌, Bool, true, false, not, List, [], ◌∷◌, ◌++◌, map, Option, Some, None, ap, sym, ◌∙◌, subst, arith, refl, eq-eqb}
-use Rattle.std.specs.Prelude.{if◌then◌else◌, nat_eq}
+use Rattle.std.proofs.Common.{◌≡◌, ℕ, ◌+◌, ◌≤◌, Bool, true, false, not, List, [], ◌∷◌, ◌++◌, map, Option, Some, ap, sym, ◌∙◌, subst, arith, refl, eq-eqb}
+use Rattle.std.specs.Prelude.{if◌then◌else◌}
 use Rattle.cbm_iec.specs.declared.act.Act.TheVariants.{Released, Said}
 use Rattle.cbm_iec.specs.declared.act.Act.{Act}
 use Rattle.cbm_iec.specs.declared.event.Event.{Event}
@@ -19,13 +19,13 @@ use Rattle.cbm_session.proofs.headline.Premises.{mute, Rises}
 use Rattle.cbm_session.proofs.headline.TalkBus.{frame_steps}
 use Rattle.cbm_session.proofs.headline.TalkParts.{AllPlain, told_front, told_back, front_plain, front_back}
 use Rattle.cbm_session.proofs.headline.TurnBus.{behind_below}
-use Rattle.cbm_session.proofs.headline.TurnTwin.{turn_begins, leads, lead_steps}
+use Rattle.cbm_session.proofs.headline.TurnTwin.{leads, lead_steps}
 use Rattle.cbm_session.proofs.joining.OneDrive.{one_told}
 use Rattle.cbm_session.proofs.joining.Talkers.{KeepsDrives, KeepsRoles, standing_drives, standing_roles}
-use Rattle.cbm_session.specs.Answers.{IsAnswer, PieceAnswers, run, run_each}
+use Rattle.cbm_session.specs.Answers.{PieceAnswers, run, run_each}
 use Rattle.cbm_session.specs.Bits.{number_of}
 use Rattle.cbm_session.specs.Frames.{Told, is_last}
-use Rattle.cbm_session.specs.Pieces.{Whole, Piece, Place, Point, own_part, steps_of, piece_steps, let_go, Fits, PieceFits, standing, told_since, point_after, Full, Cut, PullPiece, Command, Byte, ToListener, ToNobody, ToTalker, Nothing, Talk, Open, Leading, Cutting}
+use Rattle.cbm_session.specs.Pieces.{Piece, Point, own_part, steps_of, piece_steps, let_go, PieceFits, standing, told_since, point_after, Full, Cut, PullPiece, Command, Byte, ToListener, ToNobody, ToTalker, Nothing, Talk, Open, Leading}
 use Rattle.cbm_session.specs.Playing.{Station, IsMachine}
 use Rattle.cbm_session.specs.Seats.{lines, Seat, device, reaction, is_talker, has_talker, talker_of}
 use Rattle.cbm_session.specs.Steps.{Step, Plain, acts_for, with_mark, host, drive}

@@ -12,15 +12,15 @@ use Rattle.cbm_session.proofs.among.Fronts.{steps_order, cut_among, follows_driv
 use Rattle.cbm_session.proofs.among.Points.{next_party, whole_sound, cut_sound}
 use Rattle.cbm_session.proofs.among.Sessions.{piece_among, left_is}
 use Rattle.cbm_session.proofs.among.Standing.{IsSound}
-use Rattle.cbm_session.proofs.headline.AlongBus.{GoesSo, AllGo, devs, OwnedIn, RisingIn, IsPlain, WithinAll, PassedAll}
+use Rattle.cbm_session.proofs.headline.AlongBus.{GoesSo, AllGo, devs, OwnedIn, IsPlain, WithinAll, PassedAll}
 use Rattle.cbm_session.proofs.headline.BehindBus.{next_seats, stand_so, all_there, all_show}
 use Rattle.cbm_session.proofs.headline.BusActs.{RanOn}
 use Rattle.cbm_session.proofs.headline.BusStep as bus
 use Rattle.cbm_session.proofs.headline.BusStep.{Goes, Tied}
 use Rattle.cbm_session.proofs.headline.CutBus.{last_front, goes_front, order_front, tied_front, owned_front}
-use Rattle.cbm_session.proofs.headline.FrameBus.{StandsSo, AllStand, AllEnd, AllWith, devs_are, steps_owned}
+use Rattle.cbm_session.proofs.headline.FrameBus.{StandsSo, AllStand, AllEnd, AllWith, steps_owned}
 use Rattle.cbm_session.proofs.headline.Meeting.{LastSaid, last_behind}
-use Rattle.cbm_session.proofs.headline.Premises.{mute, Rises, rises_placed, Stood, restand, stood}
+use Rattle.cbm_session.proofs.headline.Premises.{mute, Rises, Stood, stood}
 use Rattle.cbm_session.proofs.headline.PullPlayed.{AllShow}
 use Rattle.cbm_session.proofs.headline.Ties.{Placed, tied_all}
 use Rattle.cbm_session.proofs.joining.Merging.{InOrder, AllBefore, before_yes, before_no, cut_front}
@@ -181,7 +181,7 @@ module _ (M : Type 0) (step : M → Act → M) (peek : M → Option (ℕ × Bool
   pub piece_tidy : (p : Point) (k : Piece) → PieceFits p k → Placed place p.seats → LastSaid (steps_of p (whole_of k)) → IsTidy (map (λ s. device s) p.seats) (piece_steps p k)
   piece_tidy p k f placed last = record { last = steps_last p k f last; goes_on = steps_go p k f; order = piece_order p k f; tied = steps_tied place p k f placed; owned = steps_sit p k f }
 
-  tied_behind : (xs ys : List Step) → Tied place (xs ++ ys) → Tied place ys
+  pub tied_behind : (xs ys : List Step) → Tied place (xs ++ ys) → Tied place ys
   tied_behind [] ys h = h
   tied_behind (x ∷ xs) ys h = tied_behind xs ys h.1
 
@@ -193,7 +193,7 @@ module _ (M : Type 0) (step : M → Act → M) (peek : M → Option (ℕ × Bool
   goes_behind [] ys h = h
   goes_behind (x ∷ xs) ys h = goes_behind xs ys h.1
 
-  owned_behind : (ds : List ℕ) (xs ys : List Step) → OwnedIn M step peek mute place ds (xs ++ ys) → OwnedIn M step peek mute place ds ys
+  pub owned_behind : (ds : List ℕ) (xs ys : List Step) → OwnedIn M step peek mute place ds (xs ++ ys) → OwnedIn M step peek mute place ds ys
   owned_behind ds [] ys h = h
   owned_behind ds (x ∷ xs) ys h = owned_behind ds xs ys h.1
 

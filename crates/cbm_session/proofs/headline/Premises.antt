@@ -1,16 +1,14 @@
 -- What the pieces ask of a bus: its drives' places in the order of ties, and how they stand at rest.
-use Rattle.std.proofs.Common.{◌≡◌, ℕ, zero, suc, ◌≤◌, ◌<◌, Bool, true, false, List, [], ◌∷◌, ◌++◌, map, Option, Some, None, ap, sym, ◌∙◌, subst, arith, refl, eq-eqb}
+use Rattle.std.proofs.Common.{◌≡◌, ℕ, zero, suc, Bool, false, List, [], ◌∷◌, map, Option, None, ap, sym, arith, refl, eq-eqb}
 use Rattle.std.proofs.lemmas.Bool.{ne_eqb}
 use Rattle.std.specs.Prelude.{if◌then◌else◌, nat_eq}
-use Rattle.cbm_iec.specs.Ports.{port_due, resting}
 use Rattle.cbm_iec.specs.declared.act.Act.{Act}
 use Rattle.cbm_iec.specs.declared.party.Party.{Party}
 use Rattle.cbm_session.proofs.among.Points.{AllSound, rest_sound}
 use Rattle.cbm_session.proofs.among.Sessions.{at_rest}
 use Rattle.cbm_session.proofs.headline.AlongBus.{AllBehindIn, RisingIn}
 use Rattle.cbm_session.proofs.headline.BusActs.{AllRan}
-use Rattle.cbm_session.proofs.headline.FrameBus.{StandsSo, AllStand}
-use Rattle.cbm_session.proofs.headline.PullPlayed.{AllShow}
+use Rattle.cbm_session.proofs.headline.FrameBus.{AllStand}
 use Rattle.cbm_session.proofs.headline.Ties.{PlacedFrom, Placed}
 use Rattle.cbm_session.proofs.reading.OneReading.{seat_of}
 use Rattle.cbm_session.specs.Buses.{rest_at}

@@ -1,23 +1,21 @@
 -- In a pull of ATN: the drives' answers come in the order of ties, each when it is due.
-use Rattle.std.proofs.Common.{◌≡◌, ℕ, suc, ◌≤◌, ◌<◌, ◌⊎◌, inl, inr, Bool, true, false, List, [], ◌∷◌, ◌++◌, Option, Some, None, ap, sym, ◌∙◌, subst, arith, refl, eq-eqb}
+use Rattle.std.proofs.Common.{◌≡◌, ℕ, suc, ◌≤◌, ◌<◌, ◌⊎◌, inl, inr, Bool, true, false, List, [], ◌∷◌, ◌++◌, Option, Some, None, ap, sym, ◌∙◌, subst, arith, refl}
 use Rattle.std.proofs.lemmas.Bool.Decides.{eqb_tells}
-use Rattle.std.specs.Prelude.{nat_eq}
 use Rattle.cbm_iec.specs.Ports.{port_due, reaction_changes, told}
 use Rattle.cbm_iec.specs.declared.act.Act.{Act}
 use Rattle.cbm_iec.specs.declared.ear.Ear.TheVariants.{Starting, Holding}
-use Rattle.cbm_iec.specs.declared.event.Event.{Event}
 use Rattle.cbm_iec.specs.declared.event.Who.TheVariants.{Host, Drive}
 use Rattle.cbm_iec.specs.declared.event.Who.{Who}
 use Rattle.cbm_iec.specs.declared.port.Port.{Port}
 use Rattle.cbm_iec.specs.declared.port.Side.TheVariants.{Hearing}
 use Rattle.cbm_iec.specs.declared.port.Side.{Side}
-use Rattle.cbm_session.proofs.headline.AlongBus.{devs, SitsIn, OwnedIn, RisingIn, AllBehindIn, other_atn, sits_split, sits_behind, rising_first, all_in_time}
+use Rattle.cbm_session.proofs.headline.AlongBus.{devs, SitsIn, OwnedIn, RisingIn, other_atn, sits_split, sits_behind, rising_first, all_in_time}
 use Rattle.cbm_session.proofs.headline.BusStep.{Comes, here, there, Tied, own_first, not_mine, another, host_drive}
 use Rattle.cbm_session.proofs.headline.Keeping.{HostFrom}
 use Rattle.cbm_session.proofs.headline.Meeting.{FirstIs, in_time_at, no_steps}
-use Rattle.cbm_session.proofs.headline.PullBus.{some_shown, ended, Starts, Shows, Rests, Pulled, AllOf, PartsOf, parts_of, answered, Answers, shows_next}
+use Rattle.cbm_session.proofs.headline.PullBus.{some_shown, ended, Shows, Rests, Pulled, AllOf, PartsOf, parts_of, answered, shows_next}
 use Rattle.cbm_session.proofs.headline.PullSettled.{starting_told}
-use Rattle.cbm_session.specs.Among.{Rest, wires_of, behind_other, behind_host, FollowsAmong, ends, tells, hears, reacts}
+use Rattle.cbm_session.specs.Among.{Rest, wires_of, behind_other, FollowsAmong, ends, tells, hears, reacts}
 use Rattle.cbm_session.specs.Following.{IsInTime, reaction_steps}
 use Rattle.cbm_session.specs.Playing.{IsLaterDue, Station, drive_events, shown, AllInTime, AllLater, IsFirst}
 use Rattle.cbm_session.specs.Seats.{lines}

@@ -1,5 +1,5 @@
 -- A frame of the talker on a bus: under way it is the frame of the byte that the talker's machine has to say; played to its end it says that byte, and all stand behind it.
-use Rattle.std.proofs.Common.{◌≡◌, ℕ, suc, ◌+◌, ◌≤◌, ◌<◌, ◌⊎◌, inl, inr, Bool, true, false, List, [], ◌∷◌, ◌++◌, map, append_assoc, Option, Some, None, ap, sym, ◌∙◌, subst, arith, refl, eq-eqb}
+use Rattle.std.proofs.Common.{◌≡◌, ℕ, suc, ◌+◌, ◌≤◌, ◌<◌, ◌⊎◌, inl, inr, Bool, true, false, List, [], ◌∷◌, ◌++◌, map, Option, Some, None, ap, sym, ◌∙◌, subst, arith, refl, eq-eqb}
 use Rattle.std.proofs.lemmas.Bool.Decides.{leb_tells}
 use Rattle.std.specs.Prelude.{if◌then◌else◌}
 use Rattle.cbm_iec.specs.Ports.{side_due, port_due}
@@ -44,10 +44,10 @@ use Rattle.cbm_session.specs.Bits.{number_of}
 use Rattle.cbm_session.specs.Buses.{SaysAs, SideAmong, OwnAt, StandsAmong}
 use Rattle.cbm_session.specs.Following.{IsInTime}
 use Rattle.cbm_session.specs.Frames.{Told, is_last, signal_steps, first_bit, bit_steps, ToldFits}
-use Rattle.cbm_session.specs.Pieces.{Whole, Place, Point, steps_of, before, piece_steps, Fits, PieceFits, told_since, whole_point, point_after, Talk, Cut, Open, Leading}
+use Rattle.cbm_session.specs.Pieces.{Whole, Place, Point, steps_of, before, piece_steps, Fits, PieceFits, told_since, whole_point, point_after, Talk, Open, Leading}
 use Rattle.cbm_session.specs.Playing.{Station, Plays}
 use Rattle.cbm_session.specs.Seats.{lines, Seat, device, is_talker, talker_of}
-use Rattle.cbm_session.specs.Steps.{Step, moment_of, events_of, host, drive, for_one}
+use Rattle.cbm_session.specs.Steps.{Step, moment_of, host, drive, for_one}
 
 -- a frame's drive is the talker
 others_append : (d : ℕ) (xs ys : List Step) → OthersData d xs → OthersData d ys → OthersData d (xs ++ ys)

@@ -1,5 +1,5 @@
 -- The turnaround on a bus, by the answer of the talker's machine: the host pulls DATA, frees ATN, then CLOCK; the drives without a role let go, the talker leads or is silent.
-use Rattle.std.proofs.Common.{◌≡◌, ℕ, zero, ◌+◌, ◌≤◌, ◌<◌, ◌⊎◌, inl, inr, Bool, true, false, List, [], ◌∷◌, ◌++◌, map, append_assoc, Option, Some, None, ap, sym, ◌∙◌, subst, arith, refl}
+use Rattle.std.proofs.Common.{◌≡◌, ℕ, ◌+◌, ◌≤◌, ◌<◌, ◌⊎◌, Bool, true, false, List, [], ◌∷◌, ◌++◌, map, Option, Some, None, ap, sym, ◌∙◌, subst, arith, refl}
 use Rattle.std.specs.Prelude.{if◌then◌else◌, nat_eq, max}
 use Rattle.cbm_iec.specs.Hearing.{is_same}
 use Rattle.cbm_iec.specs.Machines.{acted}
@@ -24,10 +24,8 @@ use Rattle.cbm_session.proofs.among.Around.{every_each}
 use Rattle.cbm_session.proofs.among.Calm.{Every}
 use Rattle.cbm_session.proofs.among.Frames.{each_sits}
 use Rattle.cbm_session.proofs.among.Frames.{in_hold}
-use Rattle.cbm_session.proofs.among.Fronts.{steps_order, follows_drive, follows_wires}
-use Rattle.cbm_session.proofs.among.Points.{next_party, whole_sound, commanding_rest, only_talker, none_listen}
+use Rattle.cbm_session.proofs.among.Points.{commanding_rest, only_talker, none_listen}
 use Rattle.cbm_session.proofs.among.Pulls.{clock_held}
-use Rattle.cbm_session.proofs.among.Sessions.{piece_among, left_is}
 use Rattle.cbm_session.proofs.among.Standing.{IsSound}
 use Rattle.cbm_session.proofs.among.Turns.{commanding_port}
 use Rattle.cbm_session.proofs.frames.Phases.{each}
@@ -50,13 +48,13 @@ use Rattle.cbm_session.proofs.reading.OneReading.{is_atn, NoAtn}
 use Rattle.cbm_session.proofs.reading.PieceReadings.{next_seat}
 use Rattle.cbm_session.proofs.timing.SessionOrder.{steps_done, end_by}
 use Rattle.cbm_session.specs.Among.{Rest, wires_of, behind_host, FollowsAmong}
-use Rattle.cbm_session.specs.Buses.{rest_at, SaysAs, SideAmong, StandsAmong}
+use Rattle.cbm_session.specs.Buses.{SaysAs, SideAmong, StandsAmong}
 use Rattle.cbm_session.specs.Following.{IsInTime, Says}
 use Rattle.cbm_session.specs.Laws.{SeatsReact, GoesOn}
 use Rattle.cbm_session.specs.Pieces.{Whole, Piece, Point, own_part, steps_of, before, piece_steps, let_go, freed_steps, behind_all, Fits, CutFits, PieceFits, whole_point, point_after, Full, Cut, ToTalker, Nothing, Commanding, Leading}
 use Rattle.cbm_session.specs.Playing.{Station, tell, Plays}
 use Rattle.cbm_session.specs.Seats.{lines, Seat, device, is_listener, is_talker, has_listener, talker_of}
-use Rattle.cbm_session.specs.Steps.{Step, events_of, host, drive, for_each, for_one}
+use Rattle.cbm_session.specs.Steps.{Step, host, drive, for_each, for_one}
 
 -- a step behind ATN's release: no change of ATN, no byte said, and of the drives only the talker changes CLOCK
 abbrev pub OfTurn : ℕ → Step → Type 0

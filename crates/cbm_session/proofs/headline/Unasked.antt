@@ -1,19 +1,18 @@
 -- Steps that ask nothing of a machine: all but a byte said and a silence. Machines run them whatever they have to say.
-use Rattle.std.proofs.Common.{◌≡◌, ℕ, ◌+◌, Bool, true, false, not, List, [], ◌∷◌, ◌++◌, map, Option, Some, None, ap, sym, ◌∙◌, subst, refl}
+use Rattle.std.proofs.Common.{ℕ, ◌+◌, Bool, true, false, not, List, [], ◌∷◌, ◌++◌, Option, Some, refl}
 use Rattle.std.specs.Prelude.{if◌then◌else◌, nat_eq}
 use Rattle.cbm_iec.specs.declared.act.Act.TheVariants.{Pulled, Attention, Released, Heard, Said, Silent}
 use Rattle.cbm_iec.specs.declared.act.Act.{Act}
-use Rattle.cbm_iec.specs.declared.line.Line.TheVariants.{Atn, Clock, Data}
+use Rattle.cbm_iec.specs.declared.line.Line.TheVariants.{Clock, Data}
 use Rattle.cbm_iec.specs.declared.line.Way.TheVariants.{Pull, Free}
 use Rattle.cbm_iec.specs.declared.party.Role.TheVariants.{Absent, Listener, Talker}
 use Rattle.cbm_iec.specs.declared.party.Role.{Role}
 use Rattle.cbm_session.proofs.among.Around.{every_append, every_each}
 use Rattle.cbm_session.proofs.among.Calm.{Every}
-use Rattle.cbm_session.proofs.headline.BusActs.{acts_append, run_append}
 use Rattle.cbm_session.proofs.headline.FrameBus.{each_seat}
 use Rattle.cbm_session.proofs.headline.Meeting.{SaysOpen, LastSaid}
 use Rattle.cbm_session.proofs.headline.TalkStates.{NoneSaid}
-use Rattle.cbm_session.specs.Answers.{Answers, Run, run, run_each, RunEach}
+use Rattle.cbm_session.specs.Answers.{Answers, Run, run, RunEach}
 use Rattle.cbm_session.specs.Bits.{where_held, where_free, Cell, cell_steps, cells_steps, held_after, byte_of}
 use Rattle.cbm_session.specs.Frames.{Sent, wire, end_of, hearing, sending}
 use Rattle.cbm_session.specs.Pieces.{Whole, Point, host_part, own_part, steps_of, let_go, PullPiece, Command, Byte, ToListener, ToNobody, ToTalker, Nothing, Talk}

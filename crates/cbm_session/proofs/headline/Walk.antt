@@ -1,36 +1,33 @@
 -- An allowed session that begins as a play did: where in it the play is, and what the machines ran.
-use Rattle.std.proofs.Common.{◌≡◌, ℕ, suc, ◌+◌, ◌≤◌, ◌<◌, ◌⊎◌, inl, inr, Bool, true, false, List, [], ◌∷◌, ◌++◌, map, append_assoc, append-nil, Option, Some, None, ap, sym, ◌∙◌, subst, arith, refl}
-use Rattle.cbm_iec.specs.Ports.{side_due, port_due}
-use Rattle.cbm_iec.specs.declared.act.Act.TheVariants.{Attention}
+use Rattle.std.proofs.Common.{◌≡◌, ℕ, ◌+◌, ◌⊎◌, inl, inr, Bool, List, [], ◌∷◌, ◌++◌, map, append_assoc, Option, Some, None, ap, sym, ◌∙◌, subst, arith, refl}
+use Rattle.cbm_iec.specs.Ports.{side_due}
 use Rattle.cbm_iec.specs.declared.act.Act.{Act}
 use Rattle.cbm_iec.specs.declared.event.Event.{Event}
-use Rattle.cbm_iec.specs.declared.event.Who.TheVariants.{Host, Drive}
 use Rattle.cbm_iec.specs.declared.party.Role.TheVariants.{Absent, Listener, Talker}
 use Rattle.cbm_iec.specs.declared.party.Role.{Role}
 use Rattle.cbm_iec.specs.declared.port.Side.{Side}
 use Rattle.cbm_session.proofs.among.Points.{whole_react}
 use Rattle.cbm_session.proofs.frames.Phases.{commands_go_in_parts}
 use Rattle.cbm_session.proofs.headline.AlongBus.{devs, devs_tell, devs_react}
-use Rattle.cbm_session.proofs.headline.BusActs.{HasRun, AllRan, acts_append, run_append}
-use Rattle.cbm_session.proofs.headline.Here.{IsHosts, IsTalkers, Here, Out, hosts_out, talkers_out, PullInside, pull_out}
+use Rattle.cbm_session.proofs.headline.BusActs.{AllRan, acts_append, run_append}
+use Rattle.cbm_session.proofs.headline.Here.{IsTalkers, Here, Out, hosts_out, talkers_out, PullInside, pull_out}
 use Rattle.cbm_session.proofs.headline.Keeping.{events_append}
 use Rattle.cbm_session.proofs.headline.Meeting.{Compat}
 use Rattle.cbm_session.proofs.headline.FrameBus.{twin_self, devs_are}
 use Rattle.cbm_session.proofs.headline.Onward.{here_behind}
-use Rattle.cbm_session.proofs.headline.PieceBus.{upto, Going, Inside, Behind}
+use Rattle.cbm_session.proofs.headline.PieceBus.{Going, Behind}
 use Rattle.cbm_session.proofs.headline.Premises.{mute, Stood}
-use Rattle.cbm_session.proofs.headline.PullBus.{NextHost, PullWithin}
+use Rattle.cbm_session.proofs.headline.PullBus.{NextHost}
 use Rattle.cbm_session.proofs.headline.ReleaseBus.{AllQuiet, quiet_first}
 use Rattle.cbm_session.proofs.headline.TalkSwap.{twin_compat}
-use Rattle.cbm_session.specs.Answers.{Allowed, PieceAnswers, run, run_each}
-use Rattle.cbm_session.specs.Bits.{byte_of}
+use Rattle.cbm_session.specs.Answers.{Allowed, run, run_each}
 use Rattle.cbm_session.specs.Buses.{SideAmong}
-use Rattle.cbm_session.specs.Laws.{SeatsReact, frame_in_parts}
+use Rattle.cbm_session.specs.Laws.{SeatsReact}
 use Rattle.cbm_session.specs.Pieces.{Whole, Piece, Place, Point, steps_of, piece_steps, Fits, PieceFits, whole_point, point_after, Full, Cut, PullPiece, Command, Byte, ToListener, ToNobody, ToTalker, Nothing, Talk, Open, Commanding, Listening, Leading, Cutting}
 use Rattle.cbm_session.specs.Playing.{Station, Plays, stays, change, reaction}
 use Rattle.cbm_session.specs.Seats.{Seat, device}
 use Rattle.cbm_session.specs.Sessions.{MayEnd, Linked, session_steps}
-use Rattle.cbm_session.specs.Steps.{Step, moment_of, events_of, acts_for}
+use Rattle.cbm_session.specs.Steps.{Step, events_of, acts_for}
 
 -- what is left of a list of steps behind a piece
 pub record LeftOf (xs s done more : List Step) (es : List Event) : Type 0 where
