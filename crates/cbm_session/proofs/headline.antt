@@ -28,3 +28,4 @@ pub mod Onward
 pub mod Walk
 pub mod Lawful
 pub mod PullNow
+pub mod Answering

@@ -40,7 +40,7 @@ use Rattle.cbm_session.specs.Playing.{Station, host_event, drive_events, tell, s
 use Rattle.cbm_session.specs.Seats.{Seat, device}
 use Rattle.cbm_session.specs.Steps.{Step, events_of, host, for_each, merge_all}
 
-sits_react : (d : ℕ) (seats : List Seat) (s : Seat) → Sits d seats s → SeatsReact seats → (1 ≤ s.party.reaction) × (s.party.reaction ≤ 60)
+pub sits_react : (d : ℕ) (seats : List Seat) (s : Seat) → Sits d seats s → SeatsReact seats → (1 ≤ s.party.reaction) × (s.party.reaction ≤ 60)
 sits_react d [] s h r = elim h [ ]
 sits_react d (x ∷ xs) s (inl h) r = (subst (λ (v : Seat). 1 ≤ v.party.reaction) h.0 r.0, subst (λ (v : Seat). v.party.reaction ≤ 60) h.0 r.1)
 sits_react d (x ∷ xs) s (inr h) r = sits_react d xs s h.1 r.2
