@@ -29,3 +29,4 @@ pub mod Walk
 pub mod Lawful
 pub mod PullNow
 pub mod Answering
+pub mod Ending
