@@ -30,3 +30,4 @@ pub mod Lawful
 pub mod PullNow
 pub mod Answering
 pub mod Ending
+pub mod AnswersRun
