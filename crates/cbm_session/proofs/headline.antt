@@ -31,3 +31,4 @@ pub mod PullNow
 pub mod Answering
 pub mod Ending
 pub mod AnswersRun
+pub mod EndingTalk

@@ -36,7 +36,7 @@ talker_stays f [] k = refl
 talker_stays f (s ∷ ss) k =
     ap (λ (r : Role). if is_talker r then true else has_talker (map f ss)) (k s) ∙ ap (λ (v : Bool). if is_talker s.role then true else v) (talker_stays f ss k)
 
-talker_same : (f : Seat → Seat) (ss : List Seat) → KeepsRoles f → KeepsDrives f → talker_of (map f ss) ≡ talker_of ss
+pub talker_same : (f : Seat → Seat) (ss : List Seat) → KeepsRoles f → KeepsDrives f → talker_of (map f ss) ≡ talker_of ss
 talker_same f [] k h = refl
 talker_same f (s ∷ ss) k h =
     ap (λ (r : Role). if is_talker r then (f s).party else talker_of (map f ss)) (k s)

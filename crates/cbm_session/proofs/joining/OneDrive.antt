@@ -163,7 +163,7 @@ one_told b at f =
     ++ (bit_steps b (first_bit b f) false f.bits
     ++ for_one b.device (Said (number_of f.bits) (is_last f)) (host f.accept Data Pull) ∷ (if is_last f then drive b.device (f.accept + b.reaction) Clock Free ∷ [] else [])))
 
-bits_before : (b : Party) (at m : ℕ) (held : Bool) (bits : List Bool) → at + 120 * length bits < m → AllBefore m (bit_steps b at held bits)
+pub bits_before : (b : Party) (at m : ℕ) (held : Bool) (bits : List Bool) → at + 120 * length bits < m → AllBefore m (bit_steps b at held bits)
 bits_before b at m true [] h = (omega (arith, h), (omega (arith, h), tt))
 bits_before b at m false [] h = (omega (arith, h), tt)
 bits_before b at m true (true ∷ bits) h = (omega (arith, h), (omega (arith, h), (omega (arith, h), bits_before b (at + 120) m false bits (omega (arith, h)))))
