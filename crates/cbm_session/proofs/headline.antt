@@ -32,3 +32,4 @@ pub mod Answering
 pub mod Ending
 pub mod AnswersRun
 pub mod EndingTalk
+pub mod EndingTurn

@@ -206,7 +206,7 @@ module _ (own : Seat → List Step) (owned : (x : Seat) → AllOwned (device x) 
       ∙ ap own h.0
   mine_parts d l (x ∷ xs) s a (inr h) = mine_behind d l (merge_all (own x) (map own xs)) a ∙ mine_parts d (own x) xs s (none_of_other d (device x) (own x) h.0 (owned x)) h.1
 
-  all_in_order : ((x : Seat) → InOrder (own x)) → (l : List Step) (xs : List Seat) → InOrder l → InOrder (merge_all l (map own xs))
+  pub all_in_order : ((x : Seat) → InOrder (own x)) → (l : List Step) (xs : List Seat) → InOrder l → InOrder (merge_all l (map own xs))
   all_in_order f l [] o = o
   all_in_order f l (x ∷ xs) o = order_merge l (merge_all (own x) (map own xs)) o (all_in_order f (own x) xs (f x))
 

@@ -61,7 +61,7 @@ plain_unasked : (ss : List Step) → AllPlain ss → Every IsUnasked ss
 plain_unasked [] a = tt
 plain_unasked (s ∷ ss) a = (subst Rattle.cbm_session.proofs.headline.Unasked.UnaskedMark (sym a.0) tt, plain_unasked ss a.1)
 
-order_rest : (xs ys : List Step) → InOrder (xs ++ ys) → InOrder ys
+pub order_rest : (xs ys : List Step) → InOrder (xs ++ ys) → InOrder ys
 order_rest [] ys o = o
 order_rest (x ∷ xs) ys o = order_rest xs ys o.1
 
@@ -85,7 +85,7 @@ front_early b at f h =
 
 module _ (M : Type 0) (step : M → Act → M) (peek : M → Option (ℕ × Bool)) (place : ℕ → ℕ) (machine : IsMachine M step peek) where
   -- where a session may end it does
-  ends_there : (p : Point) (ms : ℕ → M) (t : ℕ) → MayEnd p.place → Continues M step peek p ms [] t
+  pub ends_there : (p : Point) (ms : ℕ → M) (t : ℕ) → MayEnd p.place → Continues M step peek p ms [] t
   ends_there p ms t m = record { pieces = []; done = []; more = []; linked = m; steps = refl; events = refl; allowed = tt; host = tt }
 
   pub end_talk : (p : Point) (ms : ℕ → M) (xs zs : List (Station M)) → Here M step peek place p ms xs → (s : Seat) → IsSound p s → s.role ≡ Talker → (at : ℕ) (g : Told) (fits : Fits p (Talk at g)) → IsAnswer M step peek (ms (talker_of p.seats).device) (Talk at g) → (t : ℕ) (front beyond : List Step)

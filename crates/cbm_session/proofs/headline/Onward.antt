@@ -52,7 +52,7 @@ every_plain : (ss : List Step) → Every (λ s. s.mark ≡ Plain) ss → AllPlai
 every_plain [] a = tt
 every_plain (s ∷ ss) a = (a.0, every_plain ss a.1)
 
-leads_plain : (p : Point) (at clock : ℕ) → AllPlain (leads p at clock)
+pub leads_plain : (p : Point) (at clock : ℕ) → AllPlain (leads p at clock)
 leads_plain p at clock =
     every_plain (leads p at clock) (every_each (λ s. s.mark ≡ Plain) (λ (x : Seat). own_part p (ToTalker at clock) x) (host clock Clock Free ∷ []) p.seats (refl, tt) (each_seat (λ x. Every (λ s. s.mark ≡ Plain) (own_part p (ToTalker at clock) x)) p.seats (λ (x : Seat). go x x.role)))
   where
