@@ -33,3 +33,4 @@ pub mod Ending
 pub mod AnswersRun
 pub mod EndingTalk
 pub mod EndingTurn
+pub mod EndingLead
