@@ -34,3 +34,4 @@ pub mod AnswersRun
 pub mod EndingTalk
 pub mod EndingTurn
 pub mod EndingLead
+pub mod CutPoint

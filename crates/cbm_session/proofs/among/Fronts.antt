@@ -70,11 +70,11 @@ module _ (peek : Option (ℕ × Bool)) where
       ∙ reaction_role q.party.device t peek q.role q.others (reaction_changes t peek q) q.side sh (no_left (reaction_steps t peek q) more all)
 
 -- the steps of one drive
-abbrev is_own : ℕ → Who → Bool
+abbrev pub is_own : ℕ → Who → Bool
 is_own d Host = false
 is_own d (Drive o) = nat_eq d o
 
-abbrev mine_of : ℕ → List Step → List Step
+abbrev pub mine_of : ℕ → List Step → List Step
 mine_of d [] = []
 mine_of d (s ∷ ss) = if is_own d s.event.who then s ∷ mine_of d ss else mine_of d ss
 
@@ -123,7 +123,7 @@ module _ (peek : Option (ℕ × Bool)) where
       ∙ ap (λ (zs : List Step). held_by q.own (mine_of q.party.device zs)) (sym e)
 
 -- of a cut
-mine_before : (d c : ℕ) (ss : List Step) → mine_of d (before c ss) ≡ before c (mine_of d ss)
+pub mine_before : (d c : ℕ) (ss : List Step) → mine_of d (before c ss) ≡ before c (mine_of d ss)
 mine_before d c [] = refl
 mine_before d c (s ∷ ss) = elim (leb_tells (suc (moment_of s)) c) [
   | inl x ↦ ap (λ (zs : List Step). mine_of d zs) (before_yes c s ss (omega (arith, x.1))) ∙ yes (is_own d s.event.who) (omega (arith, x.1)) (mine_before d c ss)
@@ -296,7 +296,7 @@ steps_silent p w s c k =
     no_all (λ x. own_part p w x) (part_owned p w) (λ x. (no_parts (host_part p w) (own_part p w x) (cut_silent p w x c k)).1) (host_part p w) p.seats
     (no_parts (host_part p w) (own_part p w s) (cut_silent p w s c k)).0
 
-steps_mine : (p : Point) (w : Whole) (s : Seat) (c : ℕ) → CutFits p w c → Sits (device s) p.seats s → mine_of (device s) (steps_of p w) ≡ own_part p w s
+pub steps_mine : (p : Point) (w : Whole) (s : Seat) (c : ℕ) → CutFits p w c → Sits (device s) p.seats s → mine_of (device s) (steps_of p w) ≡ own_part p w s
 steps_mine p w s c k h = mine_parts (λ x. own_part p w x) (part_owned p w) (device s) (host_part p w) p.seats s (none_of_host (device s) (host_part p w) (cut_host p w c k)) h
 
 pub cut_among : (p : Point) (s : Seat) (w : Whole) (c : ℕ) (q : Port) (peek : Option (ℕ × Bool)) → IsSound p s → StandsAmong p s q → PieceFits p (Cut w c) → Result p s w q peek → CutResult p s w c q peek
