@@ -35,3 +35,4 @@ pub mod EndingTalk
 pub mod EndingTurn
 pub mod EndingLead
 pub mod CutPoint
+pub mod CutHost
