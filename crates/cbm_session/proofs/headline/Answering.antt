@@ -1,5 +1,5 @@
 -- For each piece of a talking drive in any session there is the one that the drive's machine answers, which goes with it as far as it can.
-use Rattle.std.proofs.Common.{◌≡◌, ℕ, ◌+◌, ◌≤◌, ◌<◌, ◌⊎◌, inl, inr, Bool, true, false, List, [], ◌∷◌, ◌++◌, Option, Some, None, ap, sym, ◌∙◌, subst, refl}
+use Rattle.std.proofs.Common.{◌≡◌, ℕ, ◌+◌, ◌<◌, Bool, true, List, [], ◌∷◌, ◌++◌, Option, Some, None, ap, sym, ◌∙◌, subst, refl}
 use Rattle.std.specs.Prelude.{if◌then◌else◌}
 use Rattle.cbm_iec.specs.declared.act.Act.TheVariants.{Released}
 use Rattle.cbm_iec.specs.declared.act.Act.{Act}
@@ -13,7 +13,7 @@ use Rattle.cbm_session.proofs.among.Standing.{IsSound}
 use Rattle.cbm_session.proofs.headline.AlongBus.{devs}
 use Rattle.cbm_session.proofs.headline.BusActs.{AllRan}
 use Rattle.cbm_session.proofs.headline.FrameBus.{twin_self}
-use Rattle.cbm_session.proofs.headline.Here.{IsTalkers, Here, the_seat}
+use Rattle.cbm_session.proofs.headline.Here.{IsTalkers}
 use Rattle.cbm_session.proofs.headline.Premises.{mute, Stood}
 use Rattle.cbm_session.proofs.headline.PullPlayed.{sits_react}
 use Rattle.cbm_session.proofs.headline.TalkBus.{frame_steps}
@@ -23,7 +23,7 @@ use Rattle.cbm_session.proofs.joining.OneDrive.{one_told}
 use Rattle.cbm_session.proofs.joining.Talkers.{talker_is}
 use Rattle.cbm_session.specs.Answers.{IsAnswer, run}
 use Rattle.cbm_session.specs.Bits.{number_of}
-use Rattle.cbm_session.specs.Frames.{Told, is_last, ToldFits}
+use Rattle.cbm_session.specs.Frames.{Told, ToldFits}
 use Rattle.cbm_session.specs.Pieces.{Whole, Point, steps_of, FreedFits, Fits, CutFits, ToTalker, Nothing, Talk}
 use Rattle.cbm_session.specs.Playing.{Station, IsByte, AllBytes}
 use Rattle.cbm_session.specs.Seats.{Seat, device, is_talker, has_talker, talker_of}

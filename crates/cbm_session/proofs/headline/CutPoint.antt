@@ -1,18 +1,14 @@
 -- Two cuts whose events are the same leave the same point.
-use Rattle.std.proofs.Common.{◌≡◌, ℕ, suc, ◌≤◌, ◌<◌, inl, inr, Bool, true, false, List, [], ◌∷◌, ◌++◌, map, ap, sym, ◌∙◌, subst, arith, refl}
-use Rattle.std.proofs.lemmas.Bool.Decides.{leb_tells}
+use Rattle.std.proofs.Common.{◌≡◌, ℕ, Bool, true, false, List, [], ◌∷◌, ap, sym, ◌∙◌, refl}
 use Rattle.std.specs.Prelude.{if◌then◌else◌}
 use Rattle.cbm_iec.specs.declared.event.Event.{Event}
-use Rattle.cbm_iec.specs.declared.event.Who.TheVariants.{Host, Drive}
-use Rattle.cbm_iec.specs.declared.event.Who.{Who}
 use Rattle.cbm_iec.specs.declared.line.Line.TheVariants.{Atn, Clock, Data}
 use Rattle.cbm_iec.specs.declared.lines.Held.{Held}
 use Rattle.cbm_session.proofs.among.Fronts.{is_own, mine_of, mine_before, steps_mine}
-use Rattle.cbm_session.proofs.joining.Merging.{before_yes, before_no}
 use Rattle.cbm_session.proofs.joining.Seating.{Sits}
 use Rattle.cbm_session.specs.Pieces.{Whole, Point, own_part, steps_of, before, CutFits, is_pull, held_by}
 use Rattle.cbm_session.specs.Seats.{Seat, device}
-use Rattle.cbm_session.specs.Steps.{Step, moment_of, events_of}
+use Rattle.cbm_session.specs.Steps.{Step, events_of}
 
 -- the lines that a drive holds behind events
 abbrev pub held_next : Held → Event → Held

@@ -1,5 +1,5 @@
 -- How an allowed session ends behind a play: with a piece whole, with a cut of it and a pull of ATN, or, where a drive leads, with the beginning of a frame and a pull.
-use Rattle.std.proofs.Common.{◌≡◌, ℕ, zero, suc, ◌+◌, ◌≤◌, ◌<◌, ◌⊎◌, inl, inr, Bool, true, false, List, [], ◌∷◌, ◌++◌, map, append_assoc, append-nil, Option, Some, None, ap, sym, ◌∙◌, subst, arith, refl}
+use Rattle.std.proofs.Common.{◌≡◌, ℕ, zero, ◌+◌, ◌≤◌, ◌<◌, Bool, true, false, List, [], ◌∷◌, ◌++◌, append_assoc, append-nil, Option, Some, None, ap, sym, ◌∙◌, subst, arith, refl}
 use Rattle.std.proofs.lemmas.Bool.{le-leb}
 use Rattle.std.specs.Prelude.{if◌then◌else◌}
 use Rattle.cbm_iec.specs.declared.act.Act.TheVariants.{Said}
@@ -14,14 +14,12 @@ use Rattle.cbm_session.proofs.among.Fronts.{steps_order}
 use Rattle.cbm_session.proofs.among.Pulls.{pull_steps}
 use Rattle.cbm_session.proofs.among.Standing.{IsSound}
 use Rattle.cbm_session.proofs.headline.Keeping.{HostFrom}
-use Rattle.cbm_session.proofs.headline.PullPlayed.{sits_react}
 use Rattle.cbm_session.proofs.headline.Premises.{mute}
 use Rattle.cbm_session.proofs.headline.TalkBus.{frame_steps}
 use Rattle.cbm_session.proofs.headline.TalkParts.{all_host_from}
 use Rattle.cbm_session.proofs.headline.TalkSwap.{bits_for, bits_number, bits_length, ended_frame, open_frame, none_cut}
 use Rattle.cbm_session.proofs.headline.Unasked.{IsUnasked, each_runs, runs_unasked, steps_unasked}
-use Rattle.cbm_session.proofs.joining.Merging.{NoneBefore, InOrder, none_sooner, before_yes}
-use Rattle.cbm_session.proofs.joining.OneDrive.{one_told}
+use Rattle.cbm_session.proofs.joining.Merging.{InOrder, none_sooner, before_yes}
 use Rattle.cbm_session.proofs.joining.Talkers.{talker_is}
 use Rattle.cbm_session.specs.Answers.{IsAnswer, RunEach, run_each, Allowed}
 use Rattle.cbm_session.specs.Bits.{number_of}
@@ -29,7 +27,7 @@ use Rattle.cbm_session.specs.Frames.{Told, is_last, signal_steps, first_bit, bit
 use Rattle.cbm_session.specs.Pieces.{Whole, Piece, Point, steps_of, before, Fits, CutFits, PieceFits, some_from, whole_point, point_after, Full, Cut, PullPiece, Talk, Leading}
 use Rattle.cbm_session.specs.Seats.{Seat, device, is_talker, talker_of}
 use Rattle.cbm_session.specs.Sessions.{Linked, session_steps}
-use Rattle.cbm_session.specs.Steps.{Step, moment_of, events_of, host, drive, for_one, acts_for}
+use Rattle.cbm_session.specs.Steps.{Step, moment_of, events_of, host, drive, for_one}
 
 pub host_append : (t : ℕ) (xs ys : List Step) → HostFrom t xs → HostFrom t ys → HostFrom t (xs ++ ys)
 host_append t [] ys a b = b

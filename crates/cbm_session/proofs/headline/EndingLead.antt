@@ -1,5 +1,5 @@
 -- Any turnaround under way: how an allowed session ends with it.
-use Rattle.std.proofs.Common.{◌≡◌, ℕ, ◌+◌, ◌≤◌, ◌<◌, ◌⊎◌, inl, inr, Bool, true, false, List, [], ◌∷◌, ◌++◌, append-nil, Option, Some, None, ap, sym, ◌∙◌, subst, arith, refl}
+use Rattle.std.proofs.Common.{◌≡◌, ℕ, ◌+◌, ◌≤◌, ◌<◌, inl, inr, Bool, true, false, List, [], ◌∷◌, ◌++◌, append-nil, Option, Some, ap, sym, ◌∙◌, subst, refl}
 use Rattle.cbm_iec.specs.declared.act.Act.{Act}
 use Rattle.cbm_iec.specs.declared.line.Line.TheVariants.{Clock}
 use Rattle.cbm_iec.specs.declared.line.Way.TheVariants.{Free}
@@ -12,7 +12,7 @@ use Rattle.cbm_session.proofs.headline.Answering.{talker_byte}
 use Rattle.cbm_session.proofs.headline.AnswersRun.{nothing_runs}
 use Rattle.cbm_session.proofs.headline.BusActs.{AllRan, acts_append}
 use Rattle.cbm_session.proofs.headline.Ending.{Continues, whole_then, tail}
-use Rattle.cbm_session.proofs.headline.EndingTalk.{before_or_has, HasIt, ends_there}
+use Rattle.cbm_session.proofs.headline.EndingTalk.{before_or_has, ends_there}
 use Rattle.cbm_session.proofs.headline.EndingTurn.{turn_drives, lead_around, mute_around, cut_lead, cut_mute}
 use Rattle.cbm_session.proofs.headline.Here.{Here}
 use Rattle.cbm_session.proofs.headline.Keeping.{HostFrom}

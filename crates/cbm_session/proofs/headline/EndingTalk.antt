@@ -1,5 +1,5 @@
 -- A frame of the talker under way: an allowed session ends with a cut of it at its accept, or, where that was played, with the frame and what a drive that leads does next.
-use Rattle.std.proofs.Common.{◌≡◌, ℕ, ◌+◌, ◌*◌, ◌≤◌, ◌<◌, ◌⊎◌, inl, inr, Bool, true, false, List, [], ◌∷◌, ◌++◌, append-nil, length, Option, Some, None, ap, sym, ◌∙◌, subst, arith, refl}
+use Rattle.std.proofs.Common.{◌≡◌, ℕ, ◌+◌, ◌≤◌, ◌<◌, ◌⊎◌, inl, inr, Bool, true, false, List, [], ◌∷◌, ◌++◌, append-nil, Option, Some, None, ap, sym, ◌∙◌, subst, arith, refl}
 use Rattle.std.specs.Prelude.{if◌then◌else◌}
 use Rattle.cbm_iec.specs.declared.act.Act.TheVariants.{Said}
 use Rattle.cbm_iec.specs.declared.act.Act.{Act}
@@ -23,7 +23,7 @@ use Rattle.cbm_session.proofs.headline.Premises.{mute}
 use Rattle.cbm_session.proofs.headline.TalkBus.{frame_steps}
 use Rattle.cbm_session.proofs.headline.TalkParts.{AllPlain, told_front, told_back, front_plain, front_back}
 use Rattle.cbm_session.proofs.headline.Unasked.{IsUnasked}
-use Rattle.cbm_session.proofs.joining.Merging.{AllBefore, NoneBefore, InOrder, cut_is}
+use Rattle.cbm_session.proofs.joining.Merging.{AllBefore, InOrder, cut_is}
 use Rattle.cbm_session.proofs.joining.OneDrive.{one_told, bits_before}
 use Rattle.cbm_session.proofs.joining.Talkers.{talker_is, standing_drives, standing_roles}
 use Rattle.cbm_session.proofs.reading.PieceReadings.{next_seat}

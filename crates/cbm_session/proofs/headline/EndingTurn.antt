@@ -1,11 +1,10 @@
 -- A turnaround under way: an allowed session ends with a cut of it at CLOCK's release, or, where that was played, with the turnaround and what a drive that leads does next.
 use Rattle.std.proofs.Common.{◌≡◌, ℕ, ◌+◌, ◌≤◌, ◌<◌, ◌⊎◌, inl, inr, Bool, true, false, List, [], ◌∷◌, ◌++◌, map, append-nil, Option, Some, None, ap, sym, ◌∙◌, subst, arith, refl}
 use Rattle.std.proofs.lemmas.Bool.Decides.{leb_tells}
-use Rattle.cbm_iec.specs.declared.act.Act.TheVariants.{Released, Silent}
+use Rattle.cbm_iec.specs.declared.act.Act.TheVariants.{Silent}
 use Rattle.cbm_iec.specs.declared.act.Act.{Act}
-use Rattle.cbm_iec.specs.declared.line.Line.TheVariants.{Atn, Clock, Data}
+use Rattle.cbm_iec.specs.declared.line.Line.TheVariants.{Clock, Data}
 use Rattle.cbm_iec.specs.declared.line.Way.TheVariants.{Pull, Free}
-use Rattle.cbm_iec.specs.declared.party.Party.{Party}
 use Rattle.cbm_iec.specs.declared.party.Role.TheVariants.{Absent, Listener, Talker}
 use Rattle.cbm_iec.specs.declared.party.Role.{Role}
 use Rattle.cbm_session.proofs.among.Around.{every_each, merge_drives}
@@ -17,7 +16,7 @@ use Rattle.cbm_session.proofs.headline.FrameBus.{each_seat}
 use Rattle.cbm_session.proofs.headline.Keeping.{HostFrom, host_behind}
 use Rattle.cbm_session.proofs.headline.TurnTwin.{turn_begins, leads, mutes, lead_steps, mute_steps}
 use Rattle.cbm_session.proofs.headline.Unasked.{IsUnasked}
-use Rattle.cbm_session.proofs.joining.Merging.{AllBefore, NoneBefore, InOrder, before_yes, before_no, cut_front, front_before, cut_is}
+use Rattle.cbm_session.proofs.joining.Merging.{NoneBefore, InOrder, before_yes, before_no, cut_front, front_before, cut_is}
 use Rattle.cbm_session.proofs.joining.OneDrive.{merge_behind}
 use Rattle.cbm_session.proofs.joining.Owning.{part_owned, part_order}
 use Rattle.cbm_session.proofs.joining.Showing.{merge_first}
@@ -25,7 +24,7 @@ use Rattle.cbm_session.specs.Answers.{IsAnswer}
 use Rattle.cbm_session.specs.Joins.{NotBefore}
 use Rattle.cbm_session.specs.Pieces.{Whole, Point, own_part, steps_of, before, let_go, freed_steps, Fits, CutFits, some_from, ToTalker, Nothing}
 use Rattle.cbm_session.specs.Seats.{Seat, device, reaction, talker_of}
-use Rattle.cbm_session.specs.Steps.{Step, moment_of, events_of, host, drive, for_each, for_one, merge, merge_all}
+use Rattle.cbm_session.specs.Steps.{Step, moment_of, events_of, host, drive, for_one, merge, merge_all}
 
 -- what the drives do in a turnaround, and the turnaround around CLOCK's release
 abbrev pub turn_drives : Point → Whole → List Step
