@@ -36,3 +36,5 @@ pub mod EndingTurn
 pub mod EndingLead
 pub mod CutPoint
 pub mod CutHost
+pub mod LeftOver
+pub mod LawsMet
