@@ -106,7 +106,7 @@ fn said(alloc: Global, events: &[Event]) -> Result<Vec<u8>, AllocError> {
             (Who::Drive(8), Data, way) => low = way == Pull,
             (Who::Drive(8), Clock, Free) => {
                 byte = byte / 2 | if low { 0 } else { 128 };
-                count = (count + 1) % 9;
+                count = count.wrapping_add(1) % 9;
                 if count == 0 {
                     bytes.push(byte)?;
                 }
