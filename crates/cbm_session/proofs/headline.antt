@@ -37,4 +37,5 @@ pub mod EndingLead
 pub mod CutPoint
 pub mod CutHost
 pub mod LeftOver
+pub mod CutTwin
 pub mod LawsMet

@@ -14,7 +14,7 @@ HostSafe t [] bs = Unit {0}
 HostSafe t (y ∷ ys) [] = is_host y.event.who ≡ true → t ≤ moment_of y
 HostSafe t (y ∷ ys) (b ∷ bs) = ((y.event ≡ b) ⊎ (is_host y.event.who ≡ true → t ≤ moment_of y)) × (y.event ≡ b → HostSafe t ys bs)
 
-apart_late : (t : ℕ) (u : Who) (m : ℕ) (v : Who) (n : ℕ) → Apart t u m v n → is_host u ≡ true → t ≤ m
+pub apart_late : (t : ℕ) (u : Who) (m : ℕ) (v : Who) (n : ℕ) → Apart t u m v n → is_host u ≡ true → t ≤ m
 apart_late t Host m Host n a k = elim a [ ]
 apart_late t Host m (Drive o) n a k = a.1
 apart_late t (Drive o) m v n a k = absurd cc
