@@ -38,4 +38,5 @@ pub mod CutPoint
 pub mod CutHost
 pub mod LeftOver
 pub mod CutTwin
+pub mod AdoptParts
 pub mod LawsMet

@@ -101,9 +101,9 @@ module _ (M : Type 0) (step : M → Act → M) (peek : M → Option (ℕ × Bool
       }
 
   -- a cut of a piece of a talking drive, and a pull of ATN
-  pub cut_then : (p : Point) (ms : ℕ → M) (w : Whole) (c t : ℕ) (front left : List Step) → PieceFits p (Cut w c) → IsAnswer M step peek (ms (talker_of p.seats).device) w → Every IsUnasked (before c (steps_of p w)) → before c (steps_of p w) ≡ front ++ left → HostFrom t left → t ≤ c
+  pub cut_runs : (p : Point) (ms : ℕ → M) (w : Whole) (c t : ℕ) (front left : List Step) → PieceFits p (Cut w c) → IsAnswer M step peek (ms (talker_of p.seats).device) w → RunEach M step peek p.seats ms (before c (steps_of p w)) → before c (steps_of p w) ≡ front ++ left → HostFrom t left → t ≤ c
       → Continues p ms (events_of front) t
-  cut_then p ms w c t front left fits answer quiet parts late l =
+  cut_runs p ms w c t front left fits answer runs parts late l =
       let p2 = point_after p (Cut w c) in
       let pull = steps_of p2 (PullPiece c) in
       let ms2 = run_each M step peek ms (before c (steps_of p w)) in
@@ -116,11 +116,16 @@ module _ (M : Type 0) (step : M → Act → M) (peek : M → Option (ℕ × Bool
         events = refl;
         allowed = (
           answer,
-          each_runs M step peek p.seats ms (before c (steps_of p w)) (λ d. runs_unasked M step peek d (ms d) (before c (steps_of p w)) quiet),
+          runs,
           (tt, each_runs M step peek p2.seats ms2 pull (λ d. runs_unasked M step peek d (ms2 d) pull (steps_unasked p2 (PullPiece c) tt)), tt),
         );
         host = host_append t left (pull ++ []) late (subst (HostFrom t) (sym (append-nil pull)) (pull_host_from t c p2 refl l));
       }
+
+  pub cut_then : (p : Point) (ms : ℕ → M) (w : Whole) (c t : ℕ) (front left : List Step) → PieceFits p (Cut w c) → IsAnswer M step peek (ms (talker_of p.seats).device) w → Every IsUnasked (before c (steps_of p w)) → before c (steps_of p w) ≡ front ++ left → HostFrom t left → t ≤ c
+      → Continues p ms (events_of front) t
+  cut_then p ms w c t front left fits answer quiet parts late l =
+      cut_runs p ms w c t front left fits answer (each_runs M step peek p.seats ms (before c (steps_of p w)) (λ d. runs_unasked M step peek d (ms d) (before c (steps_of p w)) quiet)) parts late l
 
   -- Where a drive leads: the frame of its byte begins, and a pull of ATN cuts it when the host would answer.
   pub tail : (p : Point) (ms : ℕ → M) (s : Seat) → IsSound p s → s.role ≡ Talker → (at : ℕ) → p.place ≡ Leading at → p.since ≤ at → (n : ℕ) (last : Bool) → peek (ms (talker_of p.seats).device) ≡ Some (n, last) → n < 256 → (t : ℕ) → Continues p ms [] t

@@ -62,8 +62,8 @@ one_at d t line true false = (refl, tt)
 one_at d t line false true = (refl, tt)
 one_at d t line false false = tt
 
-both : (d t : ℕ) (c c2 e e2 : Bool) → AllAtMoment t (drive_events d (changed t Clock c c2 ++ changed t Data e e2))
-both d t c c2 e e2 = at_append d t (changed t Clock c c2) (changed t Data e e2) (one_at d t Clock c c2) (one_at d t Data e e2)
+pub changes_at : (d t : ℕ) (c c2 e e2 : Bool) → AllAtMoment t (drive_events d (changed t Clock c c2 ++ changed t Data e e2))
+changes_at d t c c2 e e2 = at_append d t (changed t Clock c c2) (changed t Data e e2) (one_at d t Clock c c2) (one_at d t Data e e2)
 
 module _ (M : Type 0) (step : M → Act → M) (peek : M → Option (ℕ × Bool)) where
   -- one play behind another
@@ -261,7 +261,7 @@ module _ (M : Type 0) (step : M → Act → M) (peek : M → Option (ℕ × Bool
 
       -- the changes of a reaction have its moment
       change_at_all : (d t : ℕ) (s : Station M) → AllAtMoment t (drive_events d (shown M step peek t s))
-      change_at_all d t s = both d t s.port.own.clock_low (next_held (peek s.machine) s.port).clock_low s.port.own.data_low (next_held (peek s.machine) s.port).data_low
+      change_at_all d t s = changes_at d t s.port.own.clock_low (next_held (peek s.machine) s.port).clock_low s.port.own.data_low (next_held (peek s.machine) s.port).data_low
 
       begins_here : (es : List Event) (ks : List Piece) (done more : List Step) → Splits bs ks done more → events_of done ≡ es → IsBeginning bs es
       begins_here es ks done more sp e = (acts_of bs done, (ks, (done, (more, (sp, e, refl)))))

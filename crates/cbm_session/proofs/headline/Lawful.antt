@@ -58,11 +58,11 @@ module _ (M : Type 0) (step : M → Act → M) (peek : M → Option (ℕ × Bool
       let d = s.port.party.device in
       (subst (λ (m : M). Run M step peek (ms d) (acts_for d done) m) (sym r.0) (f d (g d (inl refl))), ran_each ms done ds ss f (λ e i. g e (inr i)) r.1)
 
-  host_front : (t : ℕ) (xs ys : List Step) → HostFrom t (xs ++ ys) → HostFrom t xs
+  pub host_front : (t : ℕ) (xs ys : List Step) → HostFrom t (xs ++ ys) → HostFrom t xs
   host_front t [] ys h = tt
   host_front t (x ∷ xs) ys h = (h.0, host_front t xs ys h.1)
 
-  among_time : (t : ℕ) (before : List (Station M)) (o : Station M) (behind : List (Station M)) → AllInTime M step peek t (before ++ o ∷ behind) → IsInTime t (port_due o.port)
+  pub among_time : (t : ℕ) (before : List (Station M)) (o : Station M) (behind : List (Station M)) → AllInTime M step peek t (before ++ o ∷ behind) → IsInTime t (port_due o.port)
   among_time t [] o behind h = h.0
   among_time t (b ∷ before) o behind h = among_time t before o behind h.1
 

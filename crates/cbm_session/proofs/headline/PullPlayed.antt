@@ -51,7 +51,7 @@ module _ (M : Type 0) (step : M → Act → M) (peek : M → Option (ℕ × Bool
   AllShow [] = Unit {0}
   AllShow (x ∷ xs) = ((t : ℕ) → port_due x.port ≡ Some t → shown M step peek t x ≡ [] → ⊥) × AllShow xs
 
-  show_among : (before : List (Station M)) (o : Station M) (behind : List (Station M)) → AllShow (before ++ o ∷ behind) → (t : ℕ) → port_due o.port ≡ Some t → shown M step peek t o ≡ [] → ⊥
+  pub show_among : (before : List (Station M)) (o : Station M) (behind : List (Station M)) → AllShow (before ++ o ∷ behind) → (t : ℕ) → port_due o.port ≡ Some t → shown M step peek t o ≡ [] → ⊥
   show_among [] o behind h = h.0
   show_among (b ∷ before) o behind h = show_among before o behind h.1
 

@@ -23,7 +23,7 @@ use Rattle.cbm_session.proofs.headline.TalkSwap.{twin_compat}
 use Rattle.cbm_session.specs.Answers.{Allowed, run, run_each}
 use Rattle.cbm_session.specs.Buses.{SideAmong}
 use Rattle.cbm_session.specs.Laws.{SeatsReact}
-use Rattle.cbm_session.specs.Pieces.{Whole, Piece, Place, Point, steps_of, piece_steps, Fits, PieceFits, whole_point, point_after, Full, Cut, PullPiece, Command, Byte, ToListener, ToNobody, ToTalker, Nothing, Talk, Open, Commanding, Listening, Leading, Cutting}
+use Rattle.cbm_session.specs.Pieces.{Whole, Piece, Place, Point, steps_of, piece_steps, Fits, CutFits, PieceFits, whole_point, point_after, Full, Cut, PullPiece, Command, Byte, ToListener, ToNobody, ToTalker, Nothing, Talk, Open, Commanding, Listening, Leading, Cutting}
 use Rattle.cbm_session.specs.Playing.{Station, Plays, stays, change, reaction}
 use Rattle.cbm_session.specs.Seats.{Seat, device}
 use Rattle.cbm_session.specs.Sessions.{MayEnd, Linked, session_steps}
@@ -61,6 +61,17 @@ same_front (x ∷ front) b (d ∷ done) more e h =
 -- the events of a session that begins with a piece, as far as they were played and behind
 pub first_events : (xs s done more : List Step) (es : List Event) → xs ++ s ≡ done ++ more → events_of done ≡ es → es ++ events_of more ≡ events_of xs ++ events_of s
 first_events xs s done more es e h = ap (λ (l : List Event). l ++ events_of more) (sym h) ∙ sym (events_append done more) ∙ ap (λ (l : List Step). events_of l) (sym e) ∙ events_append xs s
+
+-- a cut is of a piece of a talking drive
+pub cut_talks : (p : Point) (c : ℕ) (w : Whole) → CutFits p w c → IsTalkers w
+cut_talks p c (PullPiece at) f = f
+cut_talks p c (Command g) f = f
+cut_talks p c (Byte eoi g) f = f
+cut_talks p c (ToListener at) f = f
+cut_talks p c (ToNobody at clock) f = f
+cut_talks p c (ToTalker at clock) f = tt
+cut_talks p c (Nothing at clock freed) f = tt
+cut_talks p c (Talk at g) f = tt
 
 module _ (M : Type 0) (step : M → Act → M) (peek : M → Option (ℕ × Bool)) (place : ℕ → ℕ) where
   -- Where the play is: in a piece that all go on with, in a pull of ATN, or at the session's end.
@@ -219,15 +230,5 @@ module _ (M : Type 0) (step : M → Act → M) (peek : M → Option (ℕ × Bool
     walk (Cut w c ∷ ks) p ms xs here l al {n2 = n2} {ss2 = ss2} {es = es} plays done more e h =
         let q = Cut w c in
         let s = session_steps (point_after p (Cut w c)) ks in
-        let out = talkers_out M step peek place p ms xs here w (Some c) (cut_talks w l.0.1) l.0 al.0 plays (events_of more) (self_compat (piece_steps p q) (events_of s) es (events_of more) (first_events (piece_steps p q) s done more es e h)) in
+        let out = talkers_out M step peek place p ms xs here w (Some c) (cut_talks p c w l.0.1) l.0 al.0 plays (events_of more) (self_compat (piece_steps p q) (events_of s) es (events_of more) (first_events (piece_steps p q) s done more es e h)) in
         come_on p ms xs here q s done more es n2 ss2 e h out (λ b d2 g k. walk ks (point_after p q) (run_each M step peek ms (piece_steps p q)) b.there (here_behind M step peek place machine p ms xs here q l.0 al.0 b) l.1 al.2 b.plays d2 more g k)
-      where
-        cut_talks : (w : Whole) → Rattle.cbm_session.specs.Pieces.CutFits p w c → IsTalkers w
-        cut_talks (PullPiece at) f = f
-        cut_talks (Command g) f = f
-        cut_talks (Byte eoi g) f = f
-        cut_talks (ToListener at) f = f
-        cut_talks (ToNobody at clock) f = f
-        cut_talks (ToTalker at clock) f = tt
-        cut_talks (Nothing at clock freed) f = tt
-        cut_talks (Talk at g) f = tt
