@@ -39,4 +39,5 @@ pub mod CutHost
 pub mod LeftOver
 pub mod CutTwin
 pub mod AdoptParts
+pub mod Adopting
 pub mod LawsMet

@@ -123,7 +123,7 @@ module _ (M : Type 0) (step : M → Act → M) (peek : M → Option (ℕ × Bool
       (h.0 ∙ sym (run_append M step peek (ms d) (acts_for d ys) (acts_for d zs)) ∙ ap (λ l. run M step peek (ms d) l) (sym (acts_append d ys zs)), ran_from ms ys zs ss h.1)
 
   -- the drives of a point react in time
-  react_of : (p : Point) (ss : List Seat) (xs : List (Station M)) → p.seats ≡ ss → Stood M step peek place p ss xs → SeatsReact p.seats
+  pub react_of : (p : Point) (ss : List Seat) (xs : List (Station M)) → p.seats ≡ ss → Stood M step peek place p ss xs → SeatsReact p.seats
   react_of p [] xs e h = subst SeatsReact (sym e) tt
   react_of p (s ∷ ss) [] e h = elim h [ ]
   react_of p (s ∷ ss) (x ∷ xs) e h = h.0.sound.react
