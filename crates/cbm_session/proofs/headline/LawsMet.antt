@@ -1,15 +1,17 @@
--- Four of the laws that the main induction asks for, in its words: what comes next, what is due, what the machines ran, and the order.
+-- Five of the laws that the main induction asks for, in its words: what comes next, what is due, what the machines ran, the order, and that any session can be made an allowed one.
 use Rattle.std.proofs.Common.{◌≡◌, ℕ, suc, ◌≤◌, Bool, false, List, ◌∷◌, ◌++◌, Option, subst}
 use Rattle.cbm_iec.specs.declared.act.Act.{Act}
 use Rattle.cbm_iec.specs.declared.event.Event.{Event}
 use Rattle.cbm_iec.specs.declared.party.Party.{Party}
+use Rattle.cbm_session.proofs.headline.Adopting.{adopt}
 use Rattle.cbm_session.proofs.headline.Keeping.{HostFrom, Played, Adopted}
-use Rattle.cbm_session.proofs.headline.Lawful.{ran_law, soon_law, next_law}
+use Rattle.cbm_session.proofs.headline.Lawful.{rest_here, ran_law, soon_law, next_law}
+use Rattle.cbm_session.proofs.headline.Premises.{place_in}
 use Rattle.cbm_session.proofs.timing.SessionOrder.{goes_on}
 use Rattle.cbm_session.specs.Answers.{Allowed}
 use Rattle.cbm_session.specs.Laws.{GoesOn}
 use Rattle.cbm_session.specs.Pieces.{Piece}
-use Rattle.cbm_session.specs.Playing.{Station, drive_events, shown, AllInTime, IsFirst, RanEach, IsMachine}
+use Rattle.cbm_session.specs.Playing.{Station, drive_events, shown, AllInTime, IsFirst, at_rest, RanEach, IsMachine}
 use Rattle.cbm_session.specs.Sessions.{rest, Splits, IsBus}
 use Rattle.cbm_session.specs.Steps.{Step, moment_of, events_of}
 use Rattle.cbm_session.specs.Timing.{is_host}
@@ -28,3 +30,8 @@ module _ (M : Type 0) (step : M → Act → M) (peek : M → Option (ℕ × Bool
 
   pub order_met : (ks : List Piece) (done more : List Step) → Splits bs ks done more → GoesOn (done ++ more)
   order_met ks done more sp = subst GoesOn sp.steps (goes_on bs ks is_bus sp.linked)
+
+  pub adopts_met : (es : List Event) (ss : List (Station M)) (t : ℕ) (ks : List Piece) (done more : List Step) → Played M step peek bs ms es ss → AllInTime M step peek t ss → Splits bs ks done more → events_of done ≡ es → HostFrom t more → Adopted M step peek bs ms es t
+  adopts_met es ss t ks done more g i sp e h =
+      let a = adopt M step peek (place_in bs) machine ks (rest bs) ms (at_rest M step peek ms bs) (rest_here M step peek bs ms is_bus machine) sp.linked g.1 done more sp.steps e t i h in
+      record { pieces = a.pieces; done = a.done; more = a.more; splits = record { linked = a.linked; steps = a.steps }; events = a.events; allowed = a.allowed; host = a.host }
