@@ -3,8 +3,6 @@ use Rattle.std.proofs.Common.{◌≡◌, ℕ, ◌+◌, ◌≤◌, ◌⊎◌, inl
 use Rattle.cbm_iec.specs.declared.act.Act.{Act}
 use Rattle.cbm_iec.specs.declared.event.Event.{Event}
 use Rattle.cbm_iec.specs.declared.event.Who.TheVariants.{Host}
-use Rattle.cbm_iec.specs.declared.line.Line.TheVariants.{Atn}
-use Rattle.cbm_iec.specs.declared.line.Way.TheVariants.{Pull}
 use Rattle.cbm_session.proofs.among.Fronts.{steps_order}
 use Rattle.cbm_session.proofs.among.Pulls.{pull_steps}
 use Rattle.cbm_session.proofs.headline.AdoptParts.{host_events, cut_due, first_late, all_sit, runs_before, rest_late, answer_runs, answered, ended, stops_behind}
@@ -20,13 +18,12 @@ use Rattle.cbm_session.proofs.headline.LeftOver.{HostSafe, twin_safe}
 use Rattle.cbm_session.proofs.headline.Meeting.{Compat}
 use Rattle.cbm_session.proofs.headline.Onward.{here_behind}
 use Rattle.cbm_session.proofs.headline.PieceBus.{Inside, Behind, bytes_last}
-use Rattle.cbm_session.proofs.headline.Premises.{mute}
 use Rattle.cbm_session.proofs.headline.TalkSwap.{HostNext, twin_compat, twin_cut}
 use Rattle.cbm_session.proofs.headline.Unasked.{AsksNothing, each_runs, runs_unasked, steps_unasked}
 use Rattle.cbm_session.proofs.headline.Walk.{left_of, same_front, first_events, cut_talks, devs_play, react_of, pull_next}
-use Rattle.cbm_session.proofs.joining.Merging.{AllBefore, cut_front, front_before, cut_is}
+use Rattle.cbm_session.proofs.joining.Merging.{InOrder, AllBefore, cut_front, front_before, cut_is}
 use Rattle.cbm_session.specs.Answers.{IsAnswer, RunEach, run_each}
-use Rattle.cbm_session.specs.Pieces.{Whole, Piece, Point, steps_of, before, piece_steps, Fits, CutFits, PieceFits, some_from, whole_point, point_after, Full, Cut, PullPiece, Command, Byte, ToListener, ToNobody, ToTalker, Nothing, Talk}
+use Rattle.cbm_session.specs.Pieces.{Whole, Piece, Point, steps_of, before, Fits, PieceFits, some_from, whole_point, point_after, Full, Cut, PullPiece, Command, Byte, ToListener, ToNobody, ToTalker, Nothing, Talk}
 use Rattle.cbm_session.specs.Playing.{Station, Plays, AllInTime, IsMachine}
 use Rattle.cbm_session.specs.Seats.{talker_of}
 use Rattle.cbm_session.specs.Sessions.{MayEnd, Linked, session_steps}
@@ -145,10 +142,10 @@ module _ (M : Type 0) (step : M → Act → M) (peek : M → Option (ℕ × Bool
       abbrev mine : List Step
       mine = steps_of p own.piece
 
-      mine_order : Rattle.cbm_session.proofs.joining.Merging.InOrder mine
+      mine_order : InOrder mine
       mine_order = steps_order p own.piece own.fits
 
-      its_order : Rattle.cbm_session.proofs.joining.Merging.InOrder (steps_of p w)
+      its_order : InOrder (steps_of p w)
       its_order = steps_order p w fits.0
 
       pull : PullsAt c (after_cut w)
