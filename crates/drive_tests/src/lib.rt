@@ -4,4 +4,6 @@
 #[cfg(test)]
 mod desks;
 #[cfg(test)]
+mod host;
+#[cfg(test)]
 mod wires;

@@ -1,10 +1,12 @@
 // The status line over the wires: a host that keeps the timing, and a drive with a disk.
 
+use crate::host::Host;
 use cbm_channel::Dos;
 use cbm_d64::D64Disk;
 use cbm_drive::Line::*;
 use cbm_drive::Way::*;
-use cbm_drive::{Bus, Change, Desk, Drive, Event, Line, Party, Way, Who};
+use cbm_drive::{Bus, Desk, Drive, Event, Party, Who};
+use cbm_volume::Volume;
 use std::alloc::{AllocError, Global};
 use std::process::Abort;
 use std::test::Fail;
@@ -12,87 +14,6 @@ use test_images::empty_image;
 
 /// The status after power up.
 const POWER_UP: &[u8] = b"73,CBM DOS V2.6 1541,00,00\r";
-
-/// What a host changes, one after the other.
-#[derive(Drop)]
-struct Host {
-    changes: Vec<Change>,
-    now: u64,
-}
-
-impl Host {
-    fn new(alloc: Global) -> Host {
-        let changes = Vec::new(alloc);
-        Host { changes, now: 0 }
-    }
-
-    // So many microseconds later a line is changed.
-    fn after(&mut self, wait: u64, line: Line, way: Way) -> Result<(), AllocError> {
-        self.now = self.now.wrapping_add(wait);
-        let moment = self.now;
-        self.changes.push(Change { moment, line, way })?;
-        Ok(())
-    }
-
-    // ATN is pulled, and bytes are sent, 20 for half a bit.
-    fn attention(&mut self, wait: u64, bytes: &[u8]) -> Result<(), AllocError> {
-        self.after(wait, Atn, Pull)?;
-        self.after(0, Clock, Pull)?;
-        for byte in bytes {
-            self.after(200, Clock, Free)?;
-            self.after(40, Clock, Pull)?;
-            self.bits(*byte)?;
-        }
-        Ok(())
-    }
-
-    fn bits(&mut self, byte: u8) -> Result<(), AllocError> {
-        let mut left = byte;
-        let mut low = false;
-        for _ in 0..8u8 {
-            let is_low = left % 2 == 0;
-            if is_low != low {
-                self.after(0, Data, if is_low { Pull } else { Free })?;
-            }
-            low = is_low;
-            left /= 2;
-            self.after(20, Clock, Free)?;
-            self.after(20, Clock, Pull)?;
-        }
-        if low {
-            self.after(0, Data, Free)?;
-        }
-        Ok(())
-    }
-
-    // TALK to drive 8 on channel 15, and the turnaround.
-    fn talk(&mut self, wait: u64) -> Result<(), AllocError> {
-        self.attention(wait, &[0x48, 0x6f])?;
-        self.after(100, Data, Pull)?;
-        self.after(0, Atn, Free)?;
-        self.after(20, Clock, Free)
-    }
-
-    // So many bytes are taken, the last of them with EOI.
-    fn take(&mut self, bytes: usize) -> Result<(), AllocError> {
-        for place in 1..=bytes {
-            self.after(120, Data, Free)?;
-            if place == bytes {
-                self.after(200, Data, Pull)?;
-                self.after(60, Data, Free)?;
-            }
-            self.after(1030, Data, Pull)?;
-        }
-        Ok(())
-    }
-
-    // UNTALK: nobody talks, and all lines are free.
-    fn untalk(&mut self) -> Result<(), AllocError> {
-        self.attention(200, &[0x5f])?;
-        self.after(100, Atn, Free)?;
-        self.after(0, Clock, Free)
-    }
-}
 
 // The bytes that the drive said: behind its release of CLOCK come eight bits, each to be read when CLOCK is freed.
 fn said(alloc: Global, events: &[Event]) -> Result<Vec<u8>, AllocError> {
@@ -159,4 +80,69 @@ fn an_interrupted_byte_comes_again(rt: HostRuntime) -> Result<(), Fail> {
     host.talk(480)?;
     host.take(27)?;
     says(&rt, rt.alloc(), &host, POWER_UP)
+}
+
+// The disk of drive 8 under a host: it begins empty.
+fn disk_after(rt: &impl Abort, alloc: Global, host: &Host) -> Result<D64Disk, Fail> {
+    let image = empty_image(alloc)?;
+    let disk = D64Disk::from_bytes(alloc, image.as_slice(), false)?;
+    let party = Party {
+        device: 8,
+        reaction: 20,
+    };
+    let mut bus = Bus::new([Drive::new(Desk::new(Dos::new(disk), 8), party)]);
+    let mut events = Vec::new(alloc);
+    assert!(rt;
+        bus.play(host.changes.as_slice(), 1_000_000, &mut events)
+            .is_ok()
+    );
+    let [drive] = bus.into_drives();
+    Ok(drive.into_machine().into_dos().into_medium())
+}
+
+// A file is written, another one begun, and the first one scratched.
+fn work(host: &mut Host) -> Result<(), AllocError> {
+    host.send(0xf2, b"A,S,W")?;
+    host.send(0x62, b"HELLO")?;
+    host.send(0xe2, b"")?;
+    host.send(0xf3, b"B,S,W")?;
+    host.send(0x63, b"WORLD")?;
+    host.send(0x6f, b"S0:A")
+}
+
+#[test]
+fn files_are_written_and_scratched(rt: HostRuntime) -> Result<(), Fail> {
+    let mut host = Host::new(rt.alloc());
+    work(&mut host)?;
+    host.send(0xe3, b"")?;
+    let mut dos = Dos::new(disk_after(&rt, rt.alloc(), &host)?);
+    dos.open(2, b"A");
+    assert!(rt; dos.status_code() == 62);
+    dos.open(2, b"B");
+    assert!(rt; dos.status_code() == 0);
+    dos.talk(2);
+    for byte in b"WORLD" {
+        assert!(rt; dos.peek(2).is_some_and(|(shown, _)| shown == *byte));
+        dos.taken(2);
+    }
+    assert!(rt; dos.peek(2).is_none());
+    Ok(())
+}
+
+// Whatever the host does, the disk is sound afterwards.
+#[test]
+fn hosts_out_of_step_leave_a_sound_disk(rt: HostRuntime) -> Result<(), Fail> {
+    let mut changed = 0u32;
+    for seed in 0..100u32 {
+        let mut host = Host::out_of_step(rt.alloc(), seed);
+        work(&mut host)?;
+        let volume = Volume::open(disk_after(&rt, rt.alloc(), &host)?);
+        assert!(rt; volume.check().is_ok(), "{seed}");
+        if volume.free() != Ok(664) {
+            changed = changed.wrapping_add(1);
+        }
+    }
+    // In some of them blocks were claimed.
+    assert!(rt; changed > 20, "{changed}");
+    Ok(())
 }
