@@ -40,4 +40,7 @@ pub mod LeftOver
 pub mod CutTwin
 pub mod AdoptParts
 pub mod Adopting
+pub mod SomeDue
+pub mod LaterCells
+pub mod FrameStarts
 pub mod LawsMet

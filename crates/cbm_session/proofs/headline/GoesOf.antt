@@ -31,7 +31,7 @@ same_same true = refl
 same_same false = refl
 
 -- a change of DATA alone leaves a side with something due
-data_steady : (r m t : ℕ) (was now : Lines) (side : Side) → is_same was.clock_low now.clock_low ≡ true → side_due side ≡ Some t → lined_side r m was now side ≡ side
+pub data_steady : (r m t : ℕ) (was now : Lines) (side : Side) → is_same was.clock_low now.clock_low ≡ true → side_due side ≡ Some t → lined_side r m was now side ≡ side
 data_steady r m t was now (Hearing ear) c e =
     let one : after_clocked r m was now ear ≡ ear = ap (λ (v : Bool). if v then ear else after_clock r m now.clock_low now.data_low ear) c in
     ap (λ (x : Ear). Hearing x) (ap (λ (x : Ear). if is_same was.data_low now.data_low then x else after_data r m now.data_low x) one ∙ go (is_same was.data_low now.data_low))
