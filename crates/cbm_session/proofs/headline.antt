@@ -43,4 +43,5 @@ pub mod Adopting
 pub mod SomeDue
 pub mod LaterCells
 pub mod FrameStarts
+pub mod FrameLater
 pub mod LawsMet

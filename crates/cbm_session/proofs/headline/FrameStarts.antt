@@ -108,7 +108,7 @@ no_back [] (y ∷ front) back e h = absurd cc
 no_back (x ∷ xs) [] back e h = absurd cc
 no_back (x ∷ xs) (y ∷ front) back e h = (let tail : xs ≡ front ++ back = cc in let shown : events_of front ≡ events_of xs = cc in no_back xs front back tail shown)
 
-no_more : (l more : List Event) → l ≡ l ++ more → more ≡ []
+pub no_more : (l more : List Event) → l ≡ l ++ more → more ≡ []
 no_more [] more e = sym e
 no_more (x ∷ l) more e = (let tail : l ≡ l ++ more = cc in no_more l more tail)
 
