@@ -44,4 +44,5 @@ pub mod SomeDue
 pub mod LaterCells
 pub mod FrameStarts
 pub mod FrameLater
+pub mod TalkLater
 pub mod LawsMet
