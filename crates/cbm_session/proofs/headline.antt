@@ -45,4 +45,5 @@ pub mod LaterCells
 pub mod FrameStarts
 pub mod FrameLater
 pub mod TalkLater
+pub mod TurnLater
 pub mod LawsMet

@@ -225,7 +225,7 @@ pub order_all : (own : Seat → List Step) → ((x : Seat) → InOrder (own x)) 
 order_all own f l [] o = o
 order_all own f l (x ∷ xs) o = order_merge l (merge_all (own x) (map own xs)) o (order_all own f (own x) xs (f x))
 
-cut_all : (c : ℕ) (own : Seat → List Step) → ((x : Seat) → InOrder (own x)) → (l : List Step) (xs : List Seat) → InOrder l → before c (merge_all l (map own xs)) ≡ merge_all (before c l) (map (λ x. before c (own x)) xs)
+pub cut_all : (c : ℕ) (own : Seat → List Step) → ((x : Seat) → InOrder (own x)) → (l : List Step) (xs : List Seat) → InOrder l → before c (merge_all l (map own xs)) ≡ merge_all (before c l) (map (λ x. before c (own x)) xs)
 cut_all c own f l [] o = refl
 cut_all c own f l (x ∷ xs) o =
     cut_merge c l (merge_all (own x) (map own xs)) o (order_all own f (own x) xs (f x))

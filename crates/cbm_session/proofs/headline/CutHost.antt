@@ -76,7 +76,7 @@ owned_no_host : (o : ℕ) (ss : List Step) → AllOwned o ss → Every NoHost ss
 owned_no_host o [] a = tt
 owned_no_host o (s ∷ ss) a = (ap is_host a.0, owned_no_host o ss a.2)
 
-hosts_part : (p : Point) (w : Whole) → hosts_of (steps_of p w) ≡ host_part p w
+pub hosts_part : (p : Point) (w : Whole) → hosts_of (steps_of p w) ≡ host_part p w
 hosts_part p w =
     ap (λ (l : List Step). hosts_of l) (merge_drives (λ x. own_part p w x) (host_part p w) p.seats)
     ∙ hosts_ahead (host_part p w) (merge_all [] (map (λ x. own_part p w x) p.seats)) (every_drives NoHost (λ (x : Seat). own_part p w x) p.seats (each_seat (λ x. Every NoHost (own_part p w x)) p.seats (λ (x : Seat). owned_no_host (device x) (own_part p w x) (part_owned p w x))))
