@@ -10,6 +10,7 @@ use Rattle.cbm_iec.specs.declared.event.Event.{Event}
 use Rattle.cbm_iec.specs.declared.event.Who.TheVariants.{Host, Drive}
 use Rattle.cbm_iec.specs.declared.event.Who.{Who}
 use Rattle.cbm_iec.specs.declared.line.Change.{Change}
+use Rattle.cbm_iec.specs.declared.line.Line.TheVariants.{Atn}
 use Rattle.cbm_iec.specs.declared.line.Line.{Line}
 use Rattle.cbm_iec.specs.declared.line.Way.{Way}
 use Rattle.cbm_iec.specs.declared.lines.Held.{Held}
@@ -31,7 +32,7 @@ use Rattle.cbm_session.proofs.reading.OneReading.{is_atn}
 use Rattle.cbm_session.specs.Among.{Rest, wires_of, behind_other, behind_host, CountsFor, FollowsAmong, ends, tells, hears, reacts}
 use Rattle.cbm_session.specs.Answers.{run}
 use Rattle.cbm_session.specs.Following.{IsInTime, own_steps, reaction_steps}
-use Rattle.cbm_session.specs.Playing.{Station, host_event, drive_events, tell, hear, hear_all, react, shown, AllInTime, reacting, Plays, stays, change, reaction}
+use Rattle.cbm_session.specs.Playing.{IsLaterDue, Station, host_event, drive_events, tell, hear, hear_all, react, shown, AllInTime, AllLater, reacting, Plays, stays, change, reaction}
 use Rattle.cbm_session.specs.Seats.{lines}
 use Rattle.cbm_session.specs.Steps.{Mark, Step, moment_of, events_of, event_of, acts_for, Plain}
 
@@ -274,6 +275,8 @@ module _ (M : Type 0) (step : M → Act → M) (peek : M → Option (ℕ × Bool
     pub who : next.event.who ≡ Host
     pub moment : moment_of next ≡ at
     pub in_time : AllInTime M step peek at ss
+    -- it is ATN's, or all answers come later
+    pub begun : (next.event.change.line ≡ Atn) ⊎ AllLater M step peek at ss
 
   pub record PullWithin (from : List (Station M)) (ys : List Step) (fin : List (Rest × Port)) (es : List Event) (ss : List (Station M)) : Type 0 where
     pub front : List Step
@@ -529,6 +532,18 @@ module _ (M : Type 0) (step : M → Act → M) (peek : M → Option (ℕ × Bool
       one (inr (inl k)) = subst (λ (v : Side). IsInTime at (side_due v)) (sym k) tt
       one (inr (inr k)) = due_at k.0 (ap (λ (v : Side). side_due v) k.1.0) k.1.1
 
+  reached_later : (xs : List (Station M)) → AllReached xs → AllLater M step peek at xs
+  reached_later [] h = tt
+  reached_later (x ∷ xs) h = (one h.0, reached_later xs h.1)
+    where
+      due_at : (u : ℕ) → port_due x.port ≡ Some u → at < u → IsLaterDue at (port_due x.port)
+      due_at u e l = subst (λ (o : Option ℕ). IsLaterDue at o) (sym e) l
+
+      one : Reached x → IsLaterDue at (port_due x.port)
+      one (inl k) = due_at k.0 (ap (λ (v : Side). side_due v) k.1.0) k.1.1
+      one (inr (inl k)) = subst (λ (v : Side). IsLaterDue at (side_due v)) (sym k) tt
+      one (inr (inr k)) = due_at k.0 (ap (λ (v : Side). side_due v) k.1.0) k.1.1
+
   freeing_shows : (t : ℕ) (own : Held) → own.data_low ≡ true → changes_between t own (lines own.clock_low false) ≡ [] → ⊥
   freeing_shows t own h k = go own.clock_low own.data_low h k
     where
@@ -695,7 +710,7 @@ module _ (M : Type 0) (step : M → Act → M) (peek : M → Option (ℕ × Bool
         back = y ∷ (hs ++ ds);
         parts = refl;
         shown_so = sym e;
-        state = inl (record { next = y; others = hs ++ ds; is = refl; who = h.0.0; moment = h.0.1; in_time = subst (λ (v : List (Station M)). AllInTime M step peek at v) (sym f) (reached_time ss (waits_reached (y ∷ (hs ++ ds)) ss fin g)) });
+        state = inl (record { next = y; others = hs ++ ds; is = refl; who = h.0.0; moment = h.0.1; in_time = subst (λ (v : List (Station M)). AllInTime M step peek at v) (sym f) (reached_time ss (waits_reached (y ∷ (hs ++ ds)) ss fin g)); begun = inr (subst (λ (v : List (Station M)). AllLater M step peek at v) (sym f) (reached_later ss (waits_reached (y ∷ (hs ++ ds)) ss fin g))) });
         ran = ran_stays M step peek f;
       })
   along_host {n = k} {n2 = n2} {ss = ss} {ss2 = ss2} {es = es} (change c moreE b l i e p) (y ∷ hs) ds fin g h n r rest more j next =
@@ -718,7 +733,7 @@ module _ (M : Type 0) (step : M → Act → M) (peek : M → Option (ℕ × Bool
         back = y ∷ (hs ++ ds);
         parts = refl;
         shown_so = sym x.0;
-        state = inl (record { next = y; others = hs ++ ds; is = refl; who = h.0.0; moment = h.0.1; in_time = reached_time ss2 x.1 });
+        state = inl (record { next = y; others = hs ++ ds; is = refl; who = h.0.0; moment = h.0.1; in_time = reached_time ss2 x.1; begun = inr (reached_later ss2 x.1) });
         ran = x.2;
       })
     where

@@ -165,7 +165,7 @@ module _ (M : Type 0) (step : M → Act → M) (peek : M → Option (ℕ × Bool
               back = first ∷ (hosts ++ drives);
               parts = refl;
               shown_so = sym k;
-              state = inl (record { next = first; others = hosts ++ drives; is = refl; who = refl; moment = refl; in_time = subst (λ (v : List (Station M)). AllInTime M step peek at v) (sym f) i });
+              state = inl (record { next = first; others = hosts ++ drives; is = refl; who = refl; moment = refl; in_time = subst (λ (v : List (Station M)). AllInTime M step peek at v) (sym f) i; begun = inl refl });
               ran = ran_stays M step peek f;
             })
         by_play (change x moreE b l i k q) fin w c t r s j =

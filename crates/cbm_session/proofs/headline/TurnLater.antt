@@ -175,9 +175,6 @@ mute_later p at clock freed t fits l = elim (leb_tells (suc clock) t) [
   | inr k ↦ (let late = k.1 in put_off freed fits (omega (arith, late)))
 ]
   where
-    begin : List Step → List Step
-    begin zs = host at Data Pull ∷ for_each Released (host at Atn Free) ∷ zs
-
     by_freed : (freed : Option ℕ) → Fits p (Nothing at clock freed) → clock < t → MuteLater p at clock freed t
     by_freed None fits early = record { clock2 = clock; freed2 = None; fits = fits; later = moved p (Nothing at clock None) (Nothing at clock None) t fits fits refl (λ x. refl) (λ w. inl l, (λ w. inl l, (λ w. inl early, tt))) }
     by_freed (Some g) fits early = elim (leb_tells (suc g) t) [
