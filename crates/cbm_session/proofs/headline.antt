@@ -46,4 +46,5 @@ pub mod FrameStarts
 pub mod FrameLater
 pub mod TalkLater
 pub mod TurnLater
+pub mod PutOff
 pub mod LawsMet
