@@ -47,4 +47,5 @@ pub mod FrameLater
 pub mod TalkLater
 pub mod TurnLater
 pub mod PutOff
+pub mod Postponing
 pub mod LawsMet

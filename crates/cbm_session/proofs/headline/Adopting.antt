@@ -31,14 +31,14 @@ use Rattle.cbm_session.specs.Steps.{Step, moment_of, events_of}
 use Rattle.cbm_session.specs.Timing.{is_host}
 
 -- behind a cut a session pulls ATN at once
-record PullsAt (c : ℕ) (s : List Step) : Type 0 where
+pub record PullsAt (c : ℕ) (s : List Step) : Type 0 where
   pub first : Step
   pub behind : List Step
   pub is : s ≡ first ∷ behind
   pub who : first.event.who ≡ Host
   pub moment : moment_of first ≡ c
 
-pulls_at : (p : Point) (w : Whole) (c : ℕ) (ks : List Piece) → Linked (point_after p (Cut w c)) ks → PullsAt c (session_steps (point_after p (Cut w c)) ks)
+pub pulls_at : (p : Point) (w : Whole) (c : ℕ) (ks : List Piece) → Linked (point_after p (Cut w c)) ks → PullsAt c (session_steps (point_after p (Cut w c)) ks)
 pulls_at p w c [] l = elim l [ ]
 pulls_at p w c (Full (PullPiece at) ∷ ks) l =
     let p2 = point_after p (Cut w c) in

@@ -138,7 +138,7 @@ too_long : (front : List Step) (y : Step) (ys : List Step) (more : List Event) �
 too_long [] y ys more e = cc
 too_long (x ∷ front) y ys more e = let tail : events_of front ≡ events_of (front ++ y ∷ ys) ++ more = cc in too_long front y ys more tail
 
-every_at : (P : Step → Type 0) (front : List Step) (s : Step) (others : List Step) → Every P (front ++ s ∷ others) → P s
+pub every_at : (P : Step → Type 0) (front : List Step) (s : Step) (others : List Step) → Every P (front ++ s ∷ others) → P s
 every_at P [] s others a = a.0
 every_at P (x ∷ front) s others a = every_at P front s others a.1
 

@@ -51,7 +51,7 @@ use Rattle.cbm_session.specs.Steps.{Step, moment_of, events_of, host, for_each}
 use Rattle.cbm_session.specs.Timing.{is_host}
 
 -- a front without the host's first change is empty
-first_only : (a : Step) (rest front : List Step) (s : Step) (others : List Step) → a.event.who ≡ Host → a ∷ rest ≡ front ++ s ∷ others → hosts_of front ≡ [] → front ≡ []
+pub first_only : (a : Step) (rest front : List Step) (s : Step) (others : List Step) → a.event.who ≡ Host → a ∷ rest ≡ front ++ s ∷ others → hosts_of front ≡ [] → front ≡ []
 first_only a rest [] s others w e h = refl
 first_only a rest (x ∷ front) s others w e h =
     let same : a ≡ x = cc in

@@ -175,7 +175,7 @@ module _ (M : Type 0) (step : M → Act → M) (peek : M → Option (ℕ × Bool
   pull_on p ms xs here at s done more es n2 ss2 ds host fits e h (inr b) next = come_on p ms xs here (Full (PullPiece at)) s done more es n2 ss2 e h (inr b) next
 
   module _ (machine : Rattle.cbm_session.specs.Playing.IsMachine M step peek) where
-    self_compat : (ys : List Step) (more es rest : List Event) → es ++ rest ≡ events_of ys ++ more → Compat ys (es ++ rest)
+    pub self_compat : (ys : List Step) (more es rest : List Event) → es ++ rest ≡ events_of ys ++ more → Compat ys (es ++ rest)
     self_compat ys more es rest e = subst (λ (l : List Event). Compat ys l) (sym e) (twin_compat 0 ys ys more (twin_self 0 ys))
 
     -- The way along an allowed session, from a point on.
