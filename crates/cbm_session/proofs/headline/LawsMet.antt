@@ -1,12 +1,17 @@
--- Five of the laws that the main induction asks for, in its words: what comes next, what is due, what the machines ran, the order, and that any session can be made an allowed one.
-use Rattle.std.proofs.Common.{◌≡◌, ℕ, suc, ◌≤◌, Bool, false, List, ◌∷◌, ◌++◌, Option, subst}
+-- The laws that the main induction asks for, in its words: what comes next, what is due, what the machines ran, the order, that any session can be made an allowed one, and that the host's changes can be put off.
+use Rattle.std.proofs.Common.{◌≡◌, ℕ, suc, ◌≤◌, Bool, false, inl, inr, List, [], ◌∷◌, ◌++◌, Option, ap, sym, ◌∙◌, subst, refl}
 use Rattle.cbm_iec.specs.declared.act.Act.{Act}
 use Rattle.cbm_iec.specs.declared.event.Event.{Event}
+use Rattle.cbm_iec.specs.declared.event.Who.TheVariants.{Host}
 use Rattle.cbm_iec.specs.declared.party.Party.{Party}
 use Rattle.cbm_session.proofs.headline.Adopting.{adopt}
+use Rattle.cbm_session.proofs.headline.AlongBus.{all_in_time}
 use Rattle.cbm_session.proofs.headline.Keeping.{HostFrom, Played, Adopted}
 use Rattle.cbm_session.proofs.headline.Lawful.{rest_here, ran_law, soon_law, next_law}
-use Rattle.cbm_session.proofs.headline.Premises.{place_in}
+use Rattle.cbm_session.proofs.headline.Postponing.{postpone}
+use Rattle.cbm_session.proofs.headline.Premises.{mute, place_in}
+use Rattle.cbm_session.proofs.headline.PutOff.{host_now, goes_rest}
+use Rattle.cbm_session.proofs.headline.SomeDue.{due_among}
 use Rattle.cbm_session.proofs.timing.SessionOrder.{goes_on}
 use Rattle.cbm_session.specs.Answers.{Allowed}
 use Rattle.cbm_session.specs.Laws.{GoesOn}
@@ -35,3 +40,28 @@ module _ (M : Type 0) (step : M → Act → M) (peek : M → Option (ℕ × Bool
   adopts_met es ss t ks done more g i sp e h =
       let a = adopt M step peek (place_in bs) machine ks (rest bs) ms (at_rest M step peek ms bs) (rest_here M step peek bs ms is_bus machine) sp.linked g.1 done more sp.steps e t i h in
       record { pieces = a.pieces; done = a.done; more = a.more; splits = record { linked = a.linked; steps = a.steps }; events = a.events; allowed = a.allowed; host = a.host }
+
+  -- Where a reaction is due at t, the host's changes of that moment can be put off: the session serves as it is where its next step isn't one of them.
+  pub postpones_met : (es : List Event) (t : ℕ) (before : List (Station M)) (o : Station M) (behind : List (Station M)) → Adopted M step peek bs ms es t → Played M step peek bs ms es (before ++ o ∷ behind) → IsFirst M step peek t before o behind → Adopted M step peek bs ms es (suc t)
+  postpones_met es t before o behind a g f = by_more a.more refl
+    where
+      later : HostFrom (suc t) a.more → Adopted M step peek bs ms es (suc t)
+      later h = record { pieces = a.pieces; done = a.done; more = a.more; splits = a.splits; events = a.events; allowed = a.allowed; host = h }
+
+      put_off : (s : Step) (more : List Step) → a.more ≡ s ∷ more → s.event.who ≡ Host → moment_of s ≡ t → Adopted M step peek bs ms es (suc t)
+      put_off s more e who now =
+          let k = postpone M step peek (place_in bs) machine a.pieces (rest bs) ms (at_rest M step peek ms bs) (rest_here M step peek bs ms is_bus machine) a.splits.linked a.allowed g.1 a.done s more (a.splits.steps ∙ ap (λ (l : List Step). a.done ++ l) e) a.events who t now
+          (due_among M step peek t before o behind f.due) (λ c h. absurd cc) in
+          record { pieces = k.pieces; done = k.done; more = k.more; splits = record { linked = k.linked; steps = k.steps }; events = k.events; allowed = k.allowed; host = k.host }
+
+      by_more : (l : List Step) → a.more ≡ l → Adopted M step peek bs ms es (suc t)
+      by_more [] e = later (subst (HostFrom (suc t)) (sym e) tt)
+      by_more (s ∷ more) e =
+          let order = subst GoesOn (ap (λ (l : List Step). a.done ++ l) e) (order_met a.pieces a.done a.more a.splits) in
+          let from = subst (HostFrom t) e a.host in
+          let late : is_host s.event.who ≡ false → t ≤ moment_of s = λ n. soon_law M step peek bs ms is_bus machine g.1 t a.pieces a.done more s (all_in_time M step peek mute (place_in bs) t before o behind f)
+          (record { linked = a.splits.linked; steps = a.splits.steps ∙ ap (λ (l : List Step). a.done ++ l) e }) a.events a.allowed n in
+          elim (host_now t s more (goes_rest a.done (s ∷ more) order) from late) [
+            | inl h ↦ later (subst (HostFrom (suc t)) (sym e) h)
+            | inr k ↦ put_off s more e k.0 k.1
+          ]

@@ -247,15 +247,66 @@ module _ (M : Type 0) (step : M → Act → M) (peek : M → Option (ℕ × Bool
               let left = left_of (before c (steps_of p w)) (session_steps (point_after p (Cut w c)) ks) done (s ∷ more) b.more e (shown ∙ b.shown_so) in
               pull_next_off answer b m left.behind left.left (left.shown ∙ m)
           by_more (y ∷ ys) m =
-              passed p ms xs here plays t due (session_steps (point_after p (Cut w c)) ks) done s more shown who now (Cut w c) fits answer runs e b
-              (λ b2 d2 f g. next_for b2 d2 f g)
-            where
-              next_for : (b2 : Behind M step peek place (point_after p (Cut w c)) xs (before c (steps_of p w)) es n2 ss2) (d2 : List Step) → session_steps (point_after p (Cut w c)) ks ≡ d2 ++ s ∷ more → events_of d2 ≡ b2.more → Continues M step peek (point_after p (Cut w c)) (run_each M step peek ms (before c (steps_of p w))) b2.more (suc t)
-              next_for b2 d2 f g = next b2 (λ v h none. some_more b2 none) d2 f g
-                where
-                  some_more : (b2 : Behind M step peek place (point_after p (Cut w c)) xs (before c (steps_of p w)) es n2 ss2) → b2.more ≡ [] → ⊥
-                  some_more b2 none = both (events_of (before c (steps_of p w))) (sym b.shown_so ∙ b2.shown_so) m none
-                    where
-                      both : (l : List Event) → l ++ b.more ≡ l ++ b2.more → b.more ≡ y ∷ ys → b2.more ≡ [] → ⊥
-                      both [] e h k = let z : y ∷ ys ≡ [] = sym h ∙ e ∙ k in cc
-                      both (x ∷ l) e h k = let tail : l ++ b.more ≡ l ++ b2.more = cc in both l tail h k
+              let left = left_of (before c (steps_of p w)) (session_steps (point_after p (Cut w c)) ks) done (s ∷ more) b.more e (shown ∙ b.shown_so) in
+              subst (λ (l : List Event). Continues M step peek p ms l (suc t)) (sym b.shown_so)
+              (piece_then M step peek p ms (Cut w c) (suc t) b.more fits answer runs (next b (λ v h none. (let k : y ∷ ys ≡ [] = sym m ∙ none in cc)) left.behind left.left left.shown))
+
+    -- From a point on: an allowed session that begins as the play did, and has the host's next change later.
+    pub postpone : (ks : List Piece) (p : Point) (ms : ℕ → M) (xs : List (Station M)) → Here M step peek place p ms xs → Linked p ks → Allowed M step peek p ms ks → {n n2 : ℕ} {ss2 : List (Station M)} {es : List Event} → Plays M step peek n xs es n2 ss2 → (done : List Step) (s : Step) (more : List Step)
+        → session_steps p ks ≡ done ++ s ∷ more → events_of done ≡ es → s.event.who ≡ Host → (t : ℕ) → moment_of s ≡ t → SomeDue M step peek t ss2 → NotCut p es → Continues M step peek p ms es (suc t)
+    postpone [] p ms xs here l al plays [] s more e h who t now due cut = absurd cc
+    postpone [] p ms xs here l al plays (d ∷ done) s more e h who t now due cut = absurd cc
+    postpone (Full (PullPiece at) ∷ ks) p ms xs here l al {n2 = n2} {ss2 = ss2} {es = es} plays done s more e h who t now due cut =
+        let w = PullPiece at in
+        let tail = session_steps (whole_point p (PullPiece at)) ks in
+        let host = pull_next M step peek place p at (react_of M step peek place p p.seats xs refl here.stand) ks l.1 in
+        let out = pull_out M step peek place p ms xs here at l.0 plays (events_of (s ∷ more)) (events_of tail) (first_events (steps_of p w) tail done (s ∷ more) es e h) host in
+        pull_on p ms xs here plays t due tail done s more h who now at l.0 al.1 cut host e out
+        (λ b d2 f g. postpone ks (whole_point p w) (run_each M step peek ms (steps_of p w)) b.there (here_behind M step peek place machine p ms xs here (Full w) l.0 tt b) l.1 al.2 b.plays d2 s more f g who t now due (whole_not_cut p w b.more))
+    postpone (Full (Command f) ∷ ks) p ms xs here l al {n2 = n2} {ss2 = ss2} {es = es} plays done s more e h who t now due cut =
+        let w = Command f in
+        let tail = session_steps (whole_point p (Command f)) ks in
+        let out = hosts_out M step peek place p ms xs here w tt l.0 plays (events_of (s ∷ more)) (events_of tail) (first_events (steps_of p w) tail done (s ∷ more) es e h) in
+        host_on p ms xs here plays t due tail done s more h who now w l.0 tt al.1 e (λ front others is shown. absurd (command_never M step peek place p ms xs here plays t due f l.0 front s others is shown who now)) out
+        (λ b d2 f2 g. postpone ks (whole_point p w) (run_each M step peek ms (steps_of p w)) b.there (here_behind M step peek place machine p ms xs here (Full w) l.0 tt b) l.1 al.2 b.plays d2 s more f2 g who t now due (whole_not_cut p w b.more))
+    postpone (Full (Byte eoi f) ∷ ks) p ms xs here l al {n2 = n2} {ss2 = ss2} {es = es} plays done s more e h who t now due cut =
+        let w = Byte eoi f in
+        let tail = session_steps (whole_point p (Byte eoi f)) ks in
+        let out = hosts_out M step peek place p ms xs here w tt l.0 plays (events_of (s ∷ more)) (events_of tail) (first_events (steps_of p w) tail done (s ∷ more) es e h) in
+        host_on p ms xs here plays t due tail done s more h who now w l.0 tt al.1 e (λ front others is shown. absurd (byte_never M step peek place p ms xs here plays t due eoi f l.0 front s others is shown who now)) out
+        (λ b d2 f2 g. postpone ks (whole_point p w) (run_each M step peek ms (steps_of p w)) b.there (here_behind M step peek place machine p ms xs here (Full w) l.0 tt b) l.1 al.2 b.plays d2 s more f2 g who t now due (whole_not_cut p w b.more))
+    postpone (Full (ToListener at) ∷ ks) p ms xs here l al {n2 = n2} {ss2 = ss2} {es = es} plays done s more e h who t now due cut =
+        let w = ToListener at in
+        let tail = session_steps (whole_point p (ToListener at)) ks in
+        let out = hosts_out M step peek place p ms xs here w tt l.0 plays (events_of (s ∷ more)) (events_of tail) (first_events (steps_of p w) tail done (s ∷ more) es e h) in
+        host_on p ms xs here plays t due tail done s more h who now w l.0 tt al.1 e (λ front others is shown. absurd (listener_never M step peek place machine p ms xs here plays t due at l.0 front s others is shown who)) out
+        (λ b d2 f2 g. postpone ks (whole_point p w) (run_each M step peek ms (steps_of p w)) b.there (here_behind M step peek place machine p ms xs here (Full w) l.0 tt b) l.1 al.2 b.plays d2 s more f2 g who t now due (whole_not_cut p w b.more))
+    postpone (Full (ToNobody at clock) ∷ ks) p ms xs here l al {n2 = n2} {ss2 = ss2} {es = es} plays done s more e h who t now due cut =
+        let w = ToNobody at clock in
+        let tail = session_steps (whole_point p (ToNobody at clock)) ks in
+        let out = hosts_out M step peek place p ms xs here w tt l.0 plays (events_of (s ∷ more)) (events_of tail) (first_events (steps_of p w) tail done (s ∷ more) es e h) in
+        host_on p ms xs here plays t due tail done s more h who now w l.0 tt al.1 e (λ front others is shown. nobody_off M step peek place machine p ms xs here plays t due at clock l.0 front s others is shown who now) out
+        (λ b d2 f2 g. postpone ks (whole_point p w) (run_each M step peek ms (steps_of p w)) b.there (here_behind M step peek place machine p ms xs here (Full w) l.0 tt b) l.1 al.2 b.plays d2 s more f2 g who t now due (whole_not_cut p w b.more))
+    postpone (Full (ToTalker at clock) ∷ ks) p ms xs here l al {n2 = n2} {ss2 = ss2} {es = es} plays done s more e h who t now due cut =
+        let w = ToTalker at clock in
+        let tail = session_steps (whole_point p (ToTalker at clock)) ks in
+        let out = talkers_out M step peek place p ms xs here w None tt l.0 al.0 plays (events_of (s ∷ more)) (self_compat M step peek place machine (steps_of p w) (events_of tail) es (events_of (s ∷ more)) (first_events (steps_of p w) tail done (s ∷ more) es e h)) in
+        talk_on p ms xs here plays t due tail done s more h who now w tt l.0 al.0 al.1 e out
+        (λ b d2 f2 g. postpone ks (whole_point p w) (run_each M step peek ms (steps_of p w)) b.there (here_behind M step peek place machine p ms xs here (Full w) l.0 al.0 b) l.1 al.2 b.plays d2 s more f2 g who t now due (whole_not_cut p w b.more))
+    postpone (Full (Nothing at clock freed) ∷ ks) p ms xs here l al {n2 = n2} {ss2 = ss2} {es = es} plays done s more e h who t now due cut =
+        let w = Nothing at clock freed in
+        let tail = session_steps (whole_point p (Nothing at clock freed)) ks in
+        let out = talkers_out M step peek place p ms xs here w None tt l.0 al.0 plays (events_of (s ∷ more)) (self_compat M step peek place machine (steps_of p w) (events_of tail) es (events_of (s ∷ more)) (first_events (steps_of p w) tail done (s ∷ more) es e h)) in
+        talk_on p ms xs here plays t due tail done s more h who now w tt l.0 al.0 al.1 e out
+        (λ b d2 f2 g. postpone ks (whole_point p w) (run_each M step peek ms (steps_of p w)) b.there (here_behind M step peek place machine p ms xs here (Full w) l.0 al.0 b) l.1 al.2 b.plays d2 s more f2 g who t now due (whole_not_cut p w b.more))
+    postpone (Full (Talk at f) ∷ ks) p ms xs here l al {n2 = n2} {ss2 = ss2} {es = es} plays done s more e h who t now due cut =
+        let w = Talk at f in
+        let tail = session_steps (whole_point p (Talk at f)) ks in
+        let out = talkers_out M step peek place p ms xs here w None tt l.0 al.0 plays (events_of (s ∷ more)) (self_compat M step peek place machine (steps_of p w) (events_of tail) es (events_of (s ∷ more)) (first_events (steps_of p w) tail done (s ∷ more) es e h)) in
+        talk_on p ms xs here plays t due tail done s more h who now w tt l.0 al.0 al.1 e out
+        (λ b d2 f2 g. postpone ks (whole_point p w) (run_each M step peek ms (steps_of p w)) b.there (here_behind M step peek place machine p ms xs here (Full w) l.0 al.0 b) l.1 al.2 b.plays d2 s more f2 g who t now due (whole_not_cut p w b.more))
+    postpone (Cut w c ∷ ks) p ms xs here l al {n2 = n2} {ss2 = ss2} {es = es} plays done s more e h who t now due cut =
+        let tail = session_steps (point_after p (Cut w c)) ks in
+        let out = talkers_out M step peek place p ms xs here w (Some c) (cut_talks p c w l.0.1) l.0 al.0 plays (events_of (s ∷ more)) (self_compat M step peek place machine (before c (steps_of p w)) (events_of tail) es (events_of (s ∷ more)) (first_events (before c (steps_of p w)) tail done (s ∷ more) es e h)) in
+        cut_on p ms xs here plays t due w c ks l.0 l.1 done s more h who now al.0 al.1 e out
+        (λ b fresh d2 f2 g. postpone ks (point_after p (Cut w c)) (run_each M step peek ms (before c (steps_of p w))) b.there (here_behind M step peek place machine p ms xs here (Cut w c) l.0 al.0 b) l.1 al.2 b.plays d2 s more f2 g who t now due fresh)

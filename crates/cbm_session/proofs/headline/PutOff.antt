@@ -92,33 +92,37 @@ in_turn (x ∷ y ∷ l) s ho a b rest e =
     let left : l ++ s ∷ ho ≡ rest = cc in
     inr (inr (l, (ap (λ (v : Step). v ∷ y ∷ l) one ∙ ap (λ (v : Step). a ∷ v ∷ l) two, sym left)))
 
--- the list of steps is later, or begins with the host's change now
-now_or_late : (t : ℕ) (ss : List Step) → GoesOn ss → InOrder ss → NoneBefore t ss → HostFrom (suc t) ss ⊎ ((s : Step) × ((others : List Step) × ((ss ≡ s ∷ others) × ((s.event.who ≡ Host) × (moment_of s ≡ t)))))
-now_or_late t [] g o n = inl tt
-now_or_late t (s ∷ ss) g o n = by_who s.event.who refl
+-- Steps in which the host's next change isn't before t: it is later, or their first is the host's at t.
+pub host_now : (t : ℕ) (s : Step) (ss : List Step) → GoesOn (s ∷ ss) → HostFrom t (s ∷ ss) → (is_host s.event.who ≡ false → t ≤ moment_of s) → HostFrom (suc t) (s ∷ ss) ⊎ ((s.event.who ≡ Host) × (moment_of s ≡ t))
+host_now t s ss g h late = by_who s.event.who refl
   where
-    behind_drive : (d m : ℕ) (ys : List Step) → AllAfter (Drive d) m ys → t ≤ m → HostFrom (suc t) ys
-    behind_drive d m [] a l = tt
-    behind_drive d m (y ∷ ys) a l = (λ k. go y.event.who a.0 k, behind_drive d m ys a.1 l)
+    behind : (w : Who) (m : ℕ) (ys : List Step) → AllAfter w m ys → (w ≡ Host → suc t ≤ m) → t ≤ m → HostFrom (suc t) ys
+    behind w m [] a k l = tt
+    behind w m (y ∷ ys) a k l = (λ e. go w y.event.who a.0 k e, behind w m ys a.1 k l)
       where
-        go : (w : Who) → NotSooner (Drive d) m w (moment_of y) → is_host w ≡ true → suc t ≤ moment_of y
-        go Host b k = omega (arith, b, l)
-        go (Drive e) b k = absurd cc
+        go : (w v : Who) → NotSooner w m v (moment_of y) → (w ≡ Host → suc t ≤ m) → is_host v ≡ true → suc t ≤ moment_of y
+        go Host v b k e = let c = k refl in omega (arith, b, c)
+        go (Drive d) Host b k e = omega (arith, b, l)
+        go (Drive d) (Drive o) b k e = absurd cc
 
-    by_who : (w : Who) → s.event.who ≡ w → HostFrom (suc t) (s ∷ ss) ⊎ ((y : Step) × ((others : List Step) × ((s ∷ ss ≡ y ∷ others) × ((y.event.who ≡ Host) × (moment_of y ≡ t)))))
+    by_who : (w : Who) → s.event.who ≡ w → HostFrom (suc t) (s ∷ ss) ⊎ ((s.event.who ≡ Host) × (moment_of s ≡ t))
     by_who Host e = elim (leb_tells (suc t) (moment_of s)) [
-      | inl k ↦ (let l = k.1 in inl (λ w. omega (arith, l), all_host_from (suc t) ss (none_sooner (suc t) (moment_of s) ss (omega (arith, l)) o.0)))
-      | inr k ↦ (let l = k.1 in let a = n.0 in inr (s, (ss, (refl, (e, omega (arith, l, a))))))
+      | inl k ↦ (let l = k.1 in inl (λ w. omega (arith, l), behind Host (moment_of s) ss (subst (λ (v : Who). AllAfter v (moment_of s) ss) e g.0) (λ w. omega (arith, l)) (omega (arith, l))))
+      | inr k ↦ (let l = k.1 in let a = h.0 (ap is_host e) in inr (e, omega (arith, l, a)))
     ]
-    by_who (Drive d) e = inl (λ w. (let k : is_host (Drive d) ≡ true = subst (λ (v : Who). is_host v ≡ true) e w in absurd cc), behind_drive d (moment_of s) ss (subst (λ (v : Who). AllAfter v (moment_of s) ss) e g.0) n.0)
+    by_who (Drive d) e =
+        inl (λ w. (let k : is_host (Drive d) ≡ true = subst (λ (v : Who). is_host v ≡ true) e w in absurd cc), behind (Drive d) (moment_of s) ss (subst (λ (v : Who). AllAfter v (moment_of s) ss) e g.0) (λ w. absurd cc) (late (ap is_host e)))
 
-goes_rest : (xs ys : List Step) → GoesOn (xs ++ ys) → GoesOn ys
+now_or_late : (t : ℕ) (ss : List Step) → GoesOn ss → NoneBefore t ss → HostFrom (suc t) ss ⊎ ((s : Step) × ((others : List Step) × ((ss ≡ s ∷ others) × ((s.event.who ≡ Host) × (moment_of s ≡ t)))))
+now_or_late t [] g n = inl tt
+now_or_late t (s ∷ ss) g n = elim (host_now t s ss g (all_host_from t (s ∷ ss) n) (λ e. n.0)) [
+  | inl h ↦ inl h
+  | inr h ↦ inr (s, (ss, (refl, h)))
+]
+
+pub goes_rest : (xs ys : List Step) → GoesOn (xs ++ ys) → GoesOn ys
 goes_rest [] ys g = g
 goes_rest (x ∷ xs) ys g = goes_rest xs ys g.1
-
-order_rest : (xs ys : List Step) → InOrder (xs ++ ys) → InOrder ys
-order_rest [] ys g = g
-order_rest (x ∷ xs) ys g = order_rest xs ys g.1
 
 module _ (M : Type 0) (step : M → Act → M) (peek : M → Option (ℕ × Bool)) (place : ℕ → ℕ) where
   -- the host's pull of DATA before ATN's release leaves nothing due
@@ -262,8 +266,7 @@ module _ (M : Type 0) (step : M → Act → M) (peek : M → Option (ℕ × Bool
         let w = Talk at f in
         let k = cut_front t (steps_of p w) (steps_order p w fits) in
         let goes = goes_rest (before t (steps_of p w)) k.0 (subst GoesOn k.1 (steps_go p (Full w) fits)) in
-        let order = order_rest (before t (steps_of p w)) k.0 (subst InOrder k.1 (steps_order p w fits)) in
-        elim (now_or_late t k.0 goes order k.2) [
+        elim (now_or_late t k.0 goes k.2) [
           | inl late ↦ subst (λ (l : List Event). Continues M step peek p ms l (suc t)) shown (ended M step peek place machine p ms xs here zs w tt fits answer (suc t) (before t (steps_of p w)) k.0 k.1 late same ran bytes)
           | inr h ↦ absurd (talk_never M step peek place p ms xs here plays t due at f fits answer (before t (steps_of p w)) h.0 h.1.0 (k.1 ∙ ap (λ (l : List Step). before t (steps_of p w) ++ l) h.1.1.0) shown h.1.1.1.0 h.1.1.1.1)
         ]
