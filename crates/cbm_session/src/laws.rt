@@ -4,7 +4,10 @@ ghost use Rattle.cbm_session.specs.Joins.{JoinsItsParts, IsOnlyJoin};
 ghost use Rattle.cbm_session.specs.Buses.{FollowsBuses};
 ghost use Rattle.cbm_session.specs.Following.{FollowsPieces, FollowsFronts, FollowsSessions};
 ghost use Rattle.cbm_session.specs.Laws.{OnePulse, PulseEnds, ListenersAccepted, DrivesAccepted, CommandsGoInParts, BytesGoInParts, SessionsGoOn, OneReading, FrontsKeep, FrontsInTime};
+ghost use Rattle.cbm_session.specs.Playing.{KeepsSessions};
 ghost use Rattle.cbm_session.specs.Rows.{ListenOwn, ListenOther, TalkCut, TalkCutEarly, TwoListeners, Ties98, Ties89, BesideAListener, SilentBeside};
+
+use cbm_iec::Machine;
 
 /// The events of a piece are the only join of its parts.
 pub fn is_joined()
@@ -84,4 +87,12 @@ pub fn follows_sessions()
 /// role, the lines and the next reaction that the session gives it.
 pub fn follows_buses()
     ensures { FollowsBuses }
+{}
+
+/// From rest one to four unlike drives on a bus, whatever machine stands above each, whatever their reactions are (1 to
+/// 60 microseconds) and in any order of ties, keep to a session under every host that keeps the bus's timing: the trace
+/// is a beginning of one in which each byte talked is the machine's answer to the bytes sent, each machine ran exactly
+/// the acts that count in it, and no reaction is late.
+pub fn keeps_sessions<D: Machine>()
+    ensures { KeepsSessions D.State D.step D.says }
 {}

@@ -1,5 +1,5 @@
 -- From a point of any session on, a piece of it that was played or is under way: its part of an allowed session.
-use Rattle.std.proofs.Common.{◌≡◌, ℕ, ◌+◌, ◌≤◌, ◌<◌, inl, inr, Bool, List, [], ◌∷◌, ◌++◌, Option, ap, sym, subst, arith, refl}
+use Rattle.std.proofs.Common.{◌≡◌, ℕ, ◌≤◌, ◌<◌, inl, inr, Bool, List, [], ◌∷◌, ◌++◌, Option, ap, sym, subst, arith, refl}
 use Rattle.cbm_iec.specs.Ports.{port_due, next_held}
 use Rattle.cbm_iec.specs.declared.act.Act.{Act}
 use Rattle.cbm_iec.specs.declared.event.Event.{Event}

@@ -1,30 +1,25 @@
 -- A frame of the host under way: where one of its changes is the host's next, no reaction is due at that very moment.
-use Rattle.std.proofs.Common.{◌≡◌, ℕ, suc, ◌+◌, ◌≤◌, ◌<◌, ◌⊎◌, inl, inr, Bool, true, false, List, [], ◌∷◌, ◌++◌, map, append_assoc, append-nil, length, Option, ap, sym, ◌∙◌, subst, arith, refl}
-use Rattle.std.specs.Prelude.{if◌then◌else◌}
+use Rattle.std.proofs.Common.{◌≡◌, ℕ, suc, ◌+◌, ◌≤◌, inl, inr, Bool, true, false, List, [], ◌∷◌, ◌++◌, append_assoc, append-nil, Option, ap, sym, ◌∙◌, subst, arith, refl}
 use Rattle.cbm_iec.specs.declared.act.Act.TheVariants.{Attention, Heard}
 use Rattle.cbm_iec.specs.declared.act.Act.{Act}
 use Rattle.cbm_iec.specs.declared.event.Event.{Event}
 use Rattle.cbm_iec.specs.declared.event.Who.TheVariants.{Host, Drive}
-use Rattle.cbm_iec.specs.declared.event.Who.{Who}
 use Rattle.cbm_iec.specs.declared.line.Line.TheVariants.{Atn, Clock, Data}
 use Rattle.cbm_iec.specs.declared.line.Line.{Line}
 use Rattle.cbm_iec.specs.declared.line.Way.TheVariants.{Pull, Free}
 use Rattle.cbm_session.proofs.among.Around.{every_drives}
 use Rattle.cbm_session.proofs.among.Calm.{Every}
-use Rattle.cbm_session.proofs.among.Fronts.{steps_order}
 use Rattle.cbm_session.proofs.frames.Accepted.{listen_react}
-use Rattle.cbm_session.proofs.frames.Phases.{Each, each, ReactsBy, react_by, commands_go_in_parts, bytes_go_in_parts, none_joined, starts}
-use Rattle.cbm_session.proofs.headline.EndingTalk.{order_rest}
+use Rattle.cbm_session.proofs.frames.Phases.{each, ReactsBy, react_by, commands_go_in_parts, bytes_go_in_parts, none_joined}
 use Rattle.cbm_session.proofs.headline.FrameBus.{OfFrame, command_frame, byte_frame, each_seat}
-use Rattle.cbm_session.proofs.headline.FrameStarts.{offer, offer_due, no_more}
+use Rattle.cbm_session.proofs.headline.FrameStarts.{offer, offer_due}
 use Rattle.cbm_session.proofs.headline.Here.{IsHosts, Here, hosts_out}
 use Rattle.cbm_session.proofs.headline.Keeping.{events_append}
-use Rattle.cbm_session.proofs.headline.LaterCells.{fresh, fresh_length, fresh_fits, cells_whole, cells_from, later_cells, behind_data}
-use Rattle.cbm_session.proofs.headline.PieceBus.{Inside}
+use Rattle.cbm_session.proofs.headline.LaterCells.{fresh, fresh_length, fresh_fits, cells_whole, later_cells, behind_data}
 use Rattle.cbm_session.proofs.headline.SomeDue.{SomeDue, quiet_due, goes_first, data_first}
 use Rattle.cbm_session.proofs.headline.Walk.{same_front, react_of, quiet_stays, end_quiet}
-use Rattle.cbm_session.proofs.joining.Merging.{NoneBefore, InOrder, none_sooner}
-use Rattle.cbm_session.proofs.joining.OneDrive.{AllUpTo, cells_upto, last_after}
+use Rattle.cbm_session.proofs.joining.Merging.{NoneBefore}
+use Rattle.cbm_session.proofs.joining.OneDrive.{AllUpTo, cells_upto}
 use Rattle.cbm_session.proofs.reading.OneReading.{is_atn}
 use Rattle.cbm_session.proofs.reading.PieceReadings.{is_commanding}
 use Rattle.cbm_session.specs.Bits.{Cell, CellsFit, where_held, cells_steps, held_after, last_pull, byte_of}

@@ -1,14 +1,13 @@
 -- Behind DATA's release by all drives, in attention, the next reaction is due 200 later at the earliest: none is due where the host may still begin its bits.
-use Rattle.std.proofs.Common.{◌≡◌, ℕ, zero, suc, ◌+◌, ◌≤◌, ◌<◌, ◌⊎◌, inl, inr, Bool, true, false, List, [], ◌∷◌, ◌++◌, map, append-nil, length, Option, Some, None, ap, sym, ◌∙◌, subst, arith, refl}
+use Rattle.std.proofs.Common.{◌≡◌, ℕ, zero, suc, ◌+◌, ◌≤◌, ◌<◌, inl, inr, Bool, true, false, List, [], ◌∷◌, ◌++◌, map, append-nil, length, Option, Some, ap, sym, ◌∙◌, subst, arith, refl}
 use Rattle.cbm_iec.specs.Ports.{port_due}
 use Rattle.cbm_iec.specs.declared.act.Act.{Act}
 use Rattle.cbm_iec.specs.declared.ear.Ear.TheVariants.{Holding}
 use Rattle.cbm_iec.specs.declared.event.Event.{Event}
 use Rattle.cbm_iec.specs.declared.line.Change.{Change}
 use Rattle.cbm_iec.specs.declared.line.Line.TheVariants.{Clock, Data}
-use Rattle.cbm_iec.specs.declared.line.Way.TheVariants.{Pull, Free}
+use Rattle.cbm_iec.specs.declared.line.Way.TheVariants.{Free}
 use Rattle.cbm_iec.specs.declared.lines.Held.{Held}
-use Rattle.cbm_iec.specs.declared.party.Party.{Party}
 use Rattle.cbm_iec.specs.declared.port.Port.{Port}
 use Rattle.cbm_iec.specs.declared.port.Side.TheVariants.{Hearing}
 use Rattle.cbm_iec.specs.declared.port.Side.{Side}
@@ -20,10 +19,10 @@ use Rattle.cbm_session.proofs.among.Points.{commanding_rest}
 use Rattle.cbm_session.proofs.among.Releases.{freeing_follows, holding, timed}
 use Rattle.cbm_session.proofs.among.Turns.{commanding_port}
 use Rattle.cbm_session.proofs.alone.Frames.{stands}
-use Rattle.cbm_session.proofs.frames.Phases.{Each, each, ReactsBy, react_by, commands_go_in_parts, none_joined}
+use Rattle.cbm_session.proofs.frames.Phases.{each, ReactsBy, react_by, commands_go_in_parts, none_joined}
 use Rattle.cbm_session.proofs.headline.AlongBus.{GoesSo, AllGo, devs, IsPlain, WithinAll, PassedAll, along_bus}
-use Rattle.cbm_session.proofs.headline.CutBus.{last_front, goes_front, order_front, tied_front, owned_front}
-use Rattle.cbm_session.proofs.headline.FrameBus.{OfFrame, command_frame, frame_noatn, frame_last, frame_others, twin_self, ear_asks, devs_are, StandsSo}
+use Rattle.cbm_session.proofs.headline.CutBus.{goes_front, order_front, tied_front, owned_front}
+use Rattle.cbm_session.proofs.headline.FrameBus.{OfFrame, command_frame, frame_noatn, frame_last, frame_others, twin_self, ear_asks, devs_are}
 use Rattle.cbm_session.proofs.headline.GoesOf.{goes_of}
 use Rattle.cbm_session.proofs.headline.Meeting.{Compat, AsksFor}
 use Rattle.cbm_session.proofs.headline.PieceBus.{steps_sit, steps_tied, steps_go}
@@ -38,7 +37,7 @@ use Rattle.cbm_session.proofs.among.Fronts.{steps_order}
 use Rattle.cbm_session.specs.Among.{Rest, wires_of, FollowsAmong, ends}
 use Rattle.cbm_session.specs.Frames.{Sent, wire}
 use Rattle.cbm_session.specs.Laws.{SeatsReact, releases, from_start, accepts, frame_in_parts}
-use Rattle.cbm_session.specs.Pieces.{Point, Command, Full, steps_of, Fits, Commanding}
+use Rattle.cbm_session.specs.Pieces.{Point, Command, Full, steps_of, Fits}
 use Rattle.cbm_session.specs.Playing.{Station, Plays, stays, change, reaction, drive_events, shown}
 use Rattle.cbm_session.specs.Seats.{Seat, lines, device, reaction as reacts_in, slowest}
 use Rattle.cbm_session.specs.Steps.{Step, Plain, moment_of, events_of, host, drive}
@@ -63,7 +62,7 @@ offer_early : (hs : List Seat) (f : Sent) → SeatsReact hs → AllBefore (wire 
 offer_early hs f r = (
   omega arith,
   every_early (wire hs f + 1) (releases hs f) (every_drives (λ s. moment_of s < wire hs f + 1) (λ (s : Seat). drive (device s) (f.ready + reacts_in s) Data Free ∷ []) hs
-  (each (ReactsBy (slowest hs)) (λ x. Every (λ s. moment_of s < wire hs f + 1) (drive (device x) (f.ready + reacts_in x) Data Free ∷ [])) hs (λ x k. (let l = k.2 in omega (arith, l), tt)) (react_by (slowest hs) hs r (omega arith)))),
+      (each (ReactsBy (slowest hs)) (λ x. Every (λ s. moment_of s < wire hs f + 1) (drive (device x) (f.ready + reacts_in x) Data Free ∷ [])) hs (λ x k. (let l = k.2 in omega (arith, l), tt)) (react_by (slowest hs) hs r (omega arith)))),
 )
 
 -- a drive in hold that hears the offer waits for the time of EOI

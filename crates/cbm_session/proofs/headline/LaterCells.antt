@@ -1,13 +1,10 @@
 -- The bits of a frame of the host put off: from one of CLOCK's changes on all may come later; and behind a change of DATA nothing comes at its moment.
-use Rattle.std.proofs.Common.{◌≡◌, ℕ, zero, suc, ◌+◌, ◌≤◌, ◌<◌, ◌⊎◌, inl, inr, Bool, true, false, not, List, [], ◌∷◌, ◌++◌, length, ap, sym, ◌∙◌, subst, append_assoc, arith, refl}
-use Rattle.std.specs.Prelude.{if◌then◌else◌}
-use Rattle.cbm_iec.specs.declared.event.Who.TheVariants.{Host}
-use Rattle.cbm_iec.specs.declared.line.Line.TheVariants.{Atn, Clock, Data}
-use Rattle.cbm_iec.specs.declared.line.Line.{Line}
+use Rattle.std.proofs.Common.{◌≡◌, ℕ, zero, suc, ◌+◌, ◌≤◌, ◌⊎◌, inl, inr, Bool, true, false, not, List, [], ◌∷◌, ◌++◌, length, ap, sym, ◌∙◌, subst, append_assoc, arith, refl}
+use Rattle.cbm_iec.specs.declared.line.Line.TheVariants.{Clock, Data}
 use Rattle.cbm_iec.specs.declared.line.Way.TheVariants.{Pull, Free}
 use Rattle.cbm_session.proofs.among.Calm.{Every}
-use Rattle.cbm_session.proofs.joining.Merging.{NoneBefore, none_sooner}
-use Rattle.cbm_session.specs.Bits.{where_held, Cell, CellFits, CellsFit, SetFits, data_for, cell_steps, cells_steps, held_after, last_pull}
+use Rattle.cbm_session.proofs.joining.Merging.{NoneBefore}
+use Rattle.cbm_session.specs.Bits.{where_held, Cell, CellsFit, SetFits, data_for, cell_steps, cells_steps, held_after, last_pull}
 use Rattle.cbm_session.specs.Steps.{Step, moment_of, host}
 
 -- so many bits behind a pull of CLOCK, DATA left as it is

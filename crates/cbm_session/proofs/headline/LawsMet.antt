@@ -6,7 +6,7 @@ use Rattle.cbm_iec.specs.declared.event.Who.TheVariants.{Host}
 use Rattle.cbm_iec.specs.declared.party.Party.{Party}
 use Rattle.cbm_session.proofs.headline.Adopting.{adopt}
 use Rattle.cbm_session.proofs.headline.AlongBus.{all_in_time}
-use Rattle.cbm_session.proofs.headline.Keeping.{HostFrom, Played, Adopted}
+use Rattle.cbm_session.proofs.headline.Keeping.{HostFrom, Played, Adopted, keeps_from}
 use Rattle.cbm_session.proofs.headline.Lawful.{rest_here, ran_law, soon_law, next_law}
 use Rattle.cbm_session.proofs.headline.Postponing.{postpone}
 use Rattle.cbm_session.proofs.headline.Premises.{mute, place_in}
@@ -16,7 +16,7 @@ use Rattle.cbm_session.proofs.timing.SessionOrder.{goes_on}
 use Rattle.cbm_session.specs.Answers.{Allowed}
 use Rattle.cbm_session.specs.Laws.{GoesOn}
 use Rattle.cbm_session.specs.Pieces.{Piece}
-use Rattle.cbm_session.specs.Playing.{Station, drive_events, shown, AllInTime, IsFirst, at_rest, RanEach, IsMachine}
+use Rattle.cbm_session.specs.Playing.{Station, drive_events, shown, AllInTime, IsFirst, at_rest, RanEach, IsMachine, KeepsSessions}
 use Rattle.cbm_session.specs.Sessions.{rest, Splits, IsBus}
 use Rattle.cbm_session.specs.Steps.{Step, moment_of, events_of}
 use Rattle.cbm_session.specs.Timing.{is_host}
@@ -65,3 +65,15 @@ module _ (M : Type 0) (step : M → Act → M) (peek : M → Option (ℕ × Bool
             | inl h ↦ later (subst (HostFrom (suc t)) (sym e) h)
             | inr k ↦ put_off s more e k.0 k.1
           ]
+
+-- So a bus that plays under a host that keeps the timing keeps to a session.
+pub keeps : (M : Type 0) (step : M → Act → M) (peek : M → Option (ℕ × Bool)) → KeepsSessions M step peek
+keeps M step peek bs ms n end trace ss is_bus machine plays over timing =
+    keeps_from M step peek bs ms (record {
+      adopts = adopts_met M step peek bs ms is_bus machine;
+      postpones = λ es t before o behind a g f shows. postpones_met M step peek bs ms is_bus machine es t before o behind a g f;
+      next = next_met M step peek bs ms is_bus machine;
+      soon = soon_met M step peek bs ms is_bus machine;
+      ran = ran_met M step peek bs ms is_bus machine;
+      order = order_met M step peek bs ms is_bus machine;
+    }) n end trace ss plays over timing

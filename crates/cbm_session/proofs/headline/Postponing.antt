@@ -1,22 +1,19 @@
 -- Where a reaction that shows is due at t, the host's changes of that moment can be put off: along an allowed session to where the play is.
 use Rattle.std.proofs.Common.{◌≡◌, ℕ, suc, ◌+◌, ◌≤◌, ◌<◌, ◌⊎◌, inl, inr, Bool, true, false, List, [], ◌∷◌, ◌++◌, map, append_assoc, append-nil, Option, Some, None, ap, sym, ◌∙◌, subst, arith, refl}
 use Rattle.std.specs.Prelude.{if◌then◌else◌}
-use Rattle.std.proofs.lemmas.Bool.Decides.{leb_tells}
 use Rattle.cbm_iec.specs.Ports.{side_due, port_due}
 use Rattle.cbm_iec.specs.declared.act.Act.TheVariants.{Pulled as PulledAct}
 use Rattle.cbm_iec.specs.declared.act.Act.{Act}
 use Rattle.cbm_iec.specs.declared.event.Event.{Event}
-use Rattle.cbm_iec.specs.declared.event.Who.TheVariants.{Host, Drive}
-use Rattle.cbm_iec.specs.declared.event.Who.{Who}
-use Rattle.cbm_iec.specs.declared.line.Line.TheVariants.{Atn, Clock, Data}
-use Rattle.cbm_iec.specs.declared.line.Way.TheVariants.{Pull, Free}
+use Rattle.cbm_iec.specs.declared.event.Who.TheVariants.{Host}
+use Rattle.cbm_iec.specs.declared.line.Line.TheVariants.{Atn}
+use Rattle.cbm_iec.specs.declared.line.Way.TheVariants.{Pull}
 use Rattle.cbm_iec.specs.declared.port.Port.{Port}
 use Rattle.cbm_iec.specs.declared.port.Side.{Side}
 use Rattle.cbm_session.proofs.among.Calm.{Every}
 use Rattle.cbm_session.proofs.among.Fronts.{steps_order}
 use Rattle.cbm_session.proofs.among.Pulls.{pull_host, pull_steps}
 use Rattle.cbm_session.proofs.headline.Adopting.{PullsAt, pulls_at}
-use Rattle.cbm_session.proofs.headline.AlongBus.{devs}
 use Rattle.cbm_session.proofs.headline.BusActs.{AllRan}
 use Rattle.cbm_session.proofs.headline.CutHost.{hosts_of}
 use Rattle.cbm_session.proofs.headline.Ending.{Continues, piece_then}
@@ -24,8 +21,8 @@ use Rattle.cbm_session.proofs.headline.FrameBus.{devs_are}
 use Rattle.cbm_session.proofs.headline.FrameLater.{every_at, quiet_never, command_never, byte_never}
 use Rattle.cbm_session.proofs.headline.Here.{IsTalkers, Here, Out, hosts_out, talkers_out, PullInside, pull_out}
 use Rattle.cbm_session.proofs.headline.Onward.{here_behind}
-use Rattle.cbm_session.proofs.headline.PieceBus.{Inside, Behind, bytes_last, devices_behind, whole_of, piece_order}
-use Rattle.cbm_session.proofs.headline.Premises.{mute, Stood}
+use Rattle.cbm_session.proofs.headline.PieceBus.{Inside, Behind, bytes_last, devices_behind}
+use Rattle.cbm_session.proofs.headline.Premises.{mute}
 use Rattle.cbm_session.proofs.headline.PullBus.{NextHost, HostNext, Pulled, Starts, Shows, Rests, AllOf}
 use Rattle.cbm_session.proofs.headline.PutOff.{first_only, listener_never, nobody_off, before_off, inside_off}
 use Rattle.cbm_session.proofs.headline.SomeDue.{SomeDue, later_due}
@@ -34,11 +31,10 @@ use Rattle.cbm_session.proofs.headline.Walk.{left_of, same_front, first_events, 
 use Rattle.cbm_session.proofs.joining.Merging.{cut_front}
 use Rattle.cbm_session.specs.Among.{Rest}
 use Rattle.cbm_session.specs.Answers.{Allowed, PieceAnswers, IsAnswer, RunEach, run_each}
-use Rattle.cbm_session.specs.Bits.{where_held, where_free}
 use Rattle.cbm_session.specs.Frames.{is_last}
 use Rattle.cbm_session.specs.Pieces.{Whole, Piece, Place, Point, host_part, own_part, steps_of, before, piece_steps, Fits, PieceFits, whole_point, point_after, Full, Cut, PullPiece, Command, Byte, ToListener, ToNobody, ToTalker, Nothing, Talk, Open, Commanding, Listening, Leading, Cutting}
 use Rattle.cbm_session.specs.Playing.{Station, Plays, stays, change, reaction, AllBytes, IsMachine}
-use Rattle.cbm_session.specs.Seats.{Seat, device, talker_of}
+use Rattle.cbm_session.specs.Seats.{Seat, talker_of}
 use Rattle.cbm_session.specs.Sessions.{Linked, session_steps}
 use Rattle.cbm_session.specs.Steps.{Step, moment_of, events_of, host, for_each, merge_all}
 

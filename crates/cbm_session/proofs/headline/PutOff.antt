@@ -1,8 +1,8 @@
 -- A piece under way whose next change of the host falls on the moment of a reaction: an allowed session begins the same and has that change later, or there is no such reaction.
-use Rattle.std.proofs.Common.{◌≡◌, ℕ, suc, ◌+◌, ◌≤◌, ◌<◌, ◌⊎◌, inl, inr, Bool, true, false, List, [], ◌∷◌, ◌++◌, map, append_assoc, append-nil, Option, Some, None, ap, sym, ◌∙◌, subst, arith, refl}
+use Rattle.std.proofs.Common.{◌≡◌, ℕ, suc, ◌+◌, ◌≤◌, ◌<◌, ◌⊎◌, inl, inr, Bool, true, false, List, [], ◌∷◌, ◌++◌, map, Option, Some, None, ap, sym, ◌∙◌, subst, arith, refl}
 use Rattle.std.specs.Prelude.{if◌then◌else◌}
 use Rattle.std.proofs.lemmas.Bool.Decides.{leb_tells}
-use Rattle.cbm_iec.specs.Ports.{side_due, port_due}
+use Rattle.cbm_iec.specs.Ports.{side_due}
 use Rattle.cbm_iec.specs.declared.act.Act.TheVariants.{Released}
 use Rattle.cbm_iec.specs.declared.act.Act.{Act}
 use Rattle.cbm_iec.specs.declared.event.Event.{Event}
@@ -11,14 +11,10 @@ use Rattle.cbm_iec.specs.declared.event.Who.{Who}
 use Rattle.cbm_iec.specs.declared.line.Change.{Change}
 use Rattle.cbm_iec.specs.declared.line.Line.TheVariants.{Atn, Clock, Data}
 use Rattle.cbm_iec.specs.declared.line.Way.TheVariants.{Pull, Free}
-use Rattle.cbm_iec.specs.declared.ear.Ear.TheVariants.{Holding}
 use Rattle.cbm_iec.specs.declared.port.Port.{Port}
-use Rattle.cbm_iec.specs.declared.port.Side.TheVariants.{Hearing}
 use Rattle.cbm_iec.specs.declared.port.Side.{Side}
-use Rattle.cbm_session.proofs.among.Calm.{Every}
 use Rattle.cbm_session.proofs.among.Fronts.{steps_order}
 use Rattle.cbm_session.proofs.among.Points.{commanding_rest}
-use Rattle.cbm_session.proofs.among.Pulls.{pull_steps}
 use Rattle.cbm_session.proofs.among.Turns.{commanding_port, listener_steps}
 use Rattle.cbm_session.proofs.headline.AdoptParts.{ended, stops_behind}
 use Rattle.cbm_session.proofs.headline.AlongBus.{devs}
@@ -39,7 +35,7 @@ use Rattle.cbm_session.proofs.headline.TurnLater.{Later, lead_later, mute_later,
 use Rattle.cbm_session.proofs.headline.TurnTwin.{turn_begins, leads, mutes, lead_steps, mute_steps}
 use Rattle.cbm_session.proofs.headline.Unasked.{each_runs, runs_unasked, steps_unasked}
 use Rattle.cbm_session.proofs.headline.Walk.{quiet_stays, end_quiet}
-use Rattle.cbm_session.proofs.joining.Merging.{NoneBefore, InOrder, AllBefore, none_sooner, cut_front}
+use Rattle.cbm_session.proofs.joining.Merging.{NoneBefore, InOrder, AllBefore, cut_front}
 use Rattle.cbm_session.specs.Among.{Rest, wires_of, behind_host}
 use Rattle.cbm_session.specs.Answers.{IsAnswer}
 use Rattle.cbm_session.specs.Laws.{NotSooner, AllAfter, GoesOn}

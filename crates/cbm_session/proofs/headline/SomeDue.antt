@@ -1,10 +1,9 @@
 -- A drive of a bus has its reaction due at a moment: what that leaves for the next step of a piece that all go with.
-use Rattle.std.proofs.Common.{◌≡◌, ℕ, suc, ◌+◌, ◌≤◌, ◌<◌, ◌⊎◌, inl, inr, Bool, true, false, List, [], ◌∷◌, ◌++◌, Option, Some, None, ap, sym, ◌∙◌, subst, arith, refl}
+use Rattle.std.proofs.Common.{◌≡◌, ℕ, suc, ◌≤◌, ◌<◌, ◌⊎◌, inl, inr, Bool, true, false, List, [], ◌∷◌, ◌++◌, Option, Some, None, ap, sym, ◌∙◌, subst, arith, refl}
 use Rattle.cbm_iec.specs.Hearing.{is_same}
-use Rattle.cbm_iec.specs.Ports.{side_due, port_due, told, next_held}
+use Rattle.cbm_iec.specs.Ports.{side_due, port_due, told}
 use Rattle.cbm_iec.specs.declared.act.Act.{Act}
-use Rattle.cbm_iec.specs.declared.event.Event.{Event}
-use Rattle.cbm_iec.specs.declared.event.Who.TheVariants.{Host, Drive}
+use Rattle.cbm_iec.specs.declared.event.Who.TheVariants.{Host}
 use Rattle.cbm_iec.specs.declared.line.Line.TheVariants.{Data}
 use Rattle.cbm_iec.specs.declared.line.Line.{Line}
 use Rattle.cbm_iec.specs.declared.line.Way.{Way}

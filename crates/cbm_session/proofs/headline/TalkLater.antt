@@ -1,5 +1,5 @@
 -- A frame of the talker under way: where one of the host's changes is next, no reaction is due at that very moment.
-use Rattle.std.proofs.Common.{◌≡◌, ℕ, suc, ◌+◌, ◌≤◌, ◌⊎◌, inl, inr, Bool, true, false, List, [], ◌∷◌, ◌++◌, append-nil, Option, Some, None, ap, sym, ◌∙◌, subst, arith, refl}
+use Rattle.std.proofs.Common.{◌≡◌, ℕ, suc, ◌+◌, ◌≤◌, inl, inr, Bool, true, false, List, [], ◌∷◌, ◌++◌, append-nil, Option, Some, None, ap, sym, ◌∙◌, subst, arith, refl}
 use Rattle.std.specs.Prelude.{if◌then◌else◌}
 use Rattle.cbm_iec.specs.declared.act.Act.{Act}
 use Rattle.cbm_iec.specs.declared.act.Act.TheVariants.{Said}
@@ -25,7 +25,7 @@ use Rattle.cbm_session.proofs.joining.Merging.{NoneBefore, InOrder, none_sooner}
 use Rattle.cbm_session.proofs.joining.OneDrive.{one_told}
 use Rattle.cbm_session.proofs.among.Calm.{Every}
 use Rattle.cbm_session.specs.Answers.{IsAnswer}
-use Rattle.cbm_session.specs.Bits.{number_of, where_held}
+use Rattle.cbm_session.specs.Bits.{number_of}
 use Rattle.cbm_session.specs.Frames.{Told, is_last, signal_steps, first_bit, bit_steps, SignalFits, ToldFits}
 use Rattle.cbm_session.specs.Pieces.{Point, steps_of, Fits, Full, Talk}
 use Rattle.cbm_session.specs.Playing.{Station, Plays}
@@ -100,9 +100,10 @@ told_strict b at f h some order = (λ w. absurd (no_host b.device w), by_signal 
         let late : NoneBefore (suc again) tail = bits_from b (first_bit b f) (suc again) f.bits (for_one b.device (Said (number_of f.bits) (is_last f)) (host f.accept Data Pull) ∷ (if is_last f then drive b.device (f.accept + b.reaction) Clock Free ∷ [] else [])) o2 (omega (arith, first, some)) in
         let a = g.0 in
         let c = g.1 in
-        subst (λ (x : Option (ℕ × ℕ)). Strict (host f.free Data Free ∷ (signal_steps x ++ tail))) (sym e)
-        (λ w. (refl, (omega (arith, a), (omega (arith, a, c), none_sooner (suc f.free) (suc again) tail (omega (arith, a, c)) late))),
-        (λ w. (refl, (omega (arith, c), none_sooner (suc pull) (suc again) tail (omega (arith, c)) late)), (λ w. (refl, late), bits (first_bit b f))))
+        subst (λ (x : Option (ℕ × ℕ)). Strict (host f.free Data Free ∷ (signal_steps x ++ tail))) (sym e) (
+          λ w. (refl, (omega (arith, a), (omega (arith, a, c), none_sooner (suc f.free) (suc again) tail (omega (arith, a, c)) late))),
+          (λ w. (refl, (omega (arith, c), none_sooner (suc pull) (suc again) tail (omega (arith, c)) late)), (λ w. (refl, late), bits (first_bit b f))),
+        )
 
 module _ (M : Type 0) (step : M → Act → M) (peek : M → Option (ℕ × Bool)) (place : ℕ → ℕ) (p : Point) (ms : ℕ → M) (xs : List (Station M)) (here : Here M step peek place p ms xs) {n n2 : ℕ} {ss2 : List (Station M)} {es : List Event} (plays : Plays M step peek n xs es n2 ss2) (t : ℕ) (due : SomeDue M step peek t ss2) where
   too_long : (front : List Step) (y : Step) (ys : List Step) (more : List Event) → events_of front ≡ events_of (front ++ y ∷ ys) ++ more → ⊥

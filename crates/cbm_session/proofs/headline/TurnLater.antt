@@ -1,11 +1,8 @@
 -- A release of ATN under way whose next change of the host is put off: the piece that begins the same and goes on later.
 use Rattle.std.proofs.Common.{◌≡◌, ℕ, suc, ◌+◌, ◌≤◌, ◌<◌, ◌⊎◌, inl, inr, Bool, true, false, List, [], ◌∷◌, ◌++◌, map, Option, Some, None, ap, sym, ◌∙◌, subst, arith, refl}
-use Rattle.std.specs.Prelude.{if◌then◌else◌, nat_lt}
+use Rattle.std.specs.Prelude.{if◌then◌else◌}
 use Rattle.std.proofs.lemmas.Bool.Decides.{leb_tells}
-use Rattle.std.proofs.lemmas.Bool.{le-leb, lt-leb}
 use Rattle.cbm_iec.specs.declared.act.Act.TheVariants.{Released, Silent}
-use Rattle.cbm_iec.specs.declared.act.Act.{Act}
-use Rattle.cbm_iec.specs.declared.event.Event.{Event}
 use Rattle.cbm_iec.specs.declared.event.Who.TheVariants.{Host, Drive}
 use Rattle.cbm_iec.specs.declared.event.Who.{Who}
 use Rattle.cbm_iec.specs.declared.line.Line.TheVariants.{Atn, Clock, Data}
@@ -16,10 +13,8 @@ use Rattle.cbm_session.proofs.among.Around.{every_each}
 use Rattle.cbm_session.proofs.among.Calm.{Every}
 use Rattle.cbm_session.proofs.among.Counted.{cut_all}
 use Rattle.cbm_session.proofs.among.Fronts.{steps_order}
-use Rattle.cbm_session.proofs.frames.Phases.{Each}
 use Rattle.cbm_session.proofs.headline.CutHost.{hosts_of, hosts_part}
 use Rattle.cbm_session.proofs.headline.FrameBus.{each_seat}
-use Rattle.cbm_session.proofs.headline.FrameLater.{OfDrive}
 use Rattle.cbm_session.proofs.headline.Keeping.{HostFrom}
 use Rattle.cbm_session.proofs.headline.PieceBus.{steps_go}
 use Rattle.cbm_session.proofs.joining.Merging.{NoneBefore, InOrder, AllBefore, cut_front, cut_is, before_yes, before_no}

@@ -23,7 +23,7 @@ use Rattle.cbm_session.proofs.headline.TalkSwap.{twin_compat}
 use Rattle.cbm_session.specs.Answers.{Allowed, run, run_each}
 use Rattle.cbm_session.specs.Buses.{SideAmong}
 use Rattle.cbm_session.specs.Laws.{SeatsReact}
-use Rattle.cbm_session.specs.Pieces.{Whole, Piece, Place, Point, steps_of, piece_steps, Fits, CutFits, PieceFits, whole_point, point_after, Full, Cut, PullPiece, Command, Byte, ToListener, ToNobody, ToTalker, Nothing, Talk, Open, Commanding, Listening, Leading, Cutting}
+use Rattle.cbm_session.specs.Pieces.{Whole, Piece, Place, Point, steps_of, piece_steps, Fits, CutFits, whole_point, point_after, Full, Cut, PullPiece, Command, Byte, ToListener, ToNobody, ToTalker, Nothing, Talk, Open, Commanding, Listening, Leading, Cutting}
 use Rattle.cbm_session.specs.Playing.{Station, Plays, stays, change, reaction}
 use Rattle.cbm_session.specs.Seats.{Seat, device}
 use Rattle.cbm_session.specs.Sessions.{MayEnd, Linked, session_steps}
