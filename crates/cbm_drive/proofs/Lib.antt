@@ -7,6 +7,7 @@ pub mod Later
 pub mod Nearer
 pub mod Left
 pub mod Played
+pub mod Kept
 pub mod Ordered
 pub mod Ahead
 pub mod Players

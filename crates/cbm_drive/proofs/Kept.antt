@@ -1,0 +1,32 @@
+-- Behind a play from rest, under a host that keeps the timing, the drives have kept to a session.
+use Rattle.std.proofs.Common.{◌≡◌, ℕ, zero, ◌+◌, ◌≤◌, Bool, false, List, [], ◌∷◌, Option, Some, None, arith}
+use Rattle.cbm_iec.specs.Ports.{port_due}
+use Rattle.cbm_iec.specs.declared.act.Act.TheVariants.{Said}
+use Rattle.cbm_iec.specs.declared.act.Act.{Act}
+use Rattle.cbm_iec.specs.declared.event.Event.{Event}
+use Rattle.cbm_iec.specs.declared.line.Change.{Change}
+use Rattle.cbm_iec.specs.declared.lines.Lines.{Lines}
+use Rattle.cbm_iec.specs.declared.party.Party.{Party}
+use Rattle.cbm_session.proofs.headline.LawsMet.{keeps}
+use Rattle.cbm_session.specs.Following.{IsInTime}
+use Rattle.cbm_session.specs.Playing.{IsLaterDue, Station, AllInTime, AllLater, at_rest}
+use Rattle.cbm_session.specs.Sessions.{IsBus}
+use Rattle.cbm_drive.proofs.Reacted.{stations_in_time}
+use Rattle.cbm_drive.specs.Kept.{HasKept}
+use Rattle.cbm_drive.specs.Played.{HasPlayed}
+use Rattle.cbm_drive.specs.Seats.{Seated, AreInTime, held_by}
+
+module _ (D M : Type 0) (stands : D → M → Type 0) (step : M → Act → M) (says : M → Option (ℕ × Bool)) where
+  later_than : (end : ℕ) (ss : List (Station M)) → AllInTime M step says (end + 1) ss → AllLater M step says end ss
+  later_than end [] h = tt
+  later_than end (s ∷ ss) h = (one (port_due s.port) h.0, later_than end ss h.1)
+    where
+      one : (o : Option ℕ) → IsInTime (end + 1) o → IsLaterDue end o
+      one None k = tt
+      one (Some t) k = omega (arith, k)
+
+  pub kept_from : ((m : M) (n : ℕ) → says m ≡ Some (n, false) → (x : ℕ × Bool) × (says (step m (Said n false)) ≡ Some x)) → (bs : List Party) (ms : ℕ → M) (host : Lines) (end : ℕ) (xs : List (Seated D)) (old new : List Event) (cs : List Change)
+      → HasPlayed D M stands step says host (end + 1) xs old new cs (at_rest M step says ms bs) → AreInTime (end + 1) xs → IsBus bs → HasKept D M stands step says bs ms host end xs old new
+  kept_from more bs ms host end xs old new cs p time is_bus =
+      let later = later_than end p.stations (stations_in_time D M stands step says (held_by host xs) (end + 1) xs p.stations p.now time) in
+      record { made = p.made; stations = p.stations; added = p.added; now = p.now; kept = λ timing. keeps M step says bs ms p.from end p.made p.stations is_bus (record { more = more }) p.plays later timing }
