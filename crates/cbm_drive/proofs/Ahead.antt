@@ -1,9 +1,9 @@
 -- A port with a byte to say foretells what its drive does: a machine that was told an act shows no sooner and no later.
-use Rattle.std.proofs.Common.{◌≡◌, ℕ, ◌+◌, ◌-◌, ◌<◌, ◌≤◌, length, map, arith, Bool, true, false, List, [], ◌∷◌, ◌++◌, Option, Some, None, refl, sym, ap, subst, ◌∙◌, inl, inr}
+use Rattle.std.proofs.Common.{◌≡◌, ℕ, ◌-◌, ◌<◌, ◌≤◌, length, map, arith, Bool, true, false, List, [], ◌∷◌, ◌++◌, Option, Some, None, refl, sym, subst, ◌∙◌, inl, inr}
 use Rattle.std.proofs.lemmas.Bool.{eqb-true}
 use Rattle.std.specs.Prelude.{◌==◌, nat_le, if◌then◌else◌, ◌%◌, ◌||◌, MatchBool}
 use Rattle.cbm_iec.specs.Machines.{acted}
-use Rattle.cbm_iec.specs.Ports.{port_due, reacted, reaction_act, reaction_changes, next_role, next_held, next_side}
+use Rattle.cbm_iec.specs.Ports.{port_due, reacted, reaction_act, next_role, next_held, next_side}
 use Rattle.cbm_iec.specs.Hearing.{ear_row}
 use Rattle.cbm_iec.specs.Speaking.{mouth_row, after_taken, end_frame_row, set_bit_row, show_bit_row}
 use Rattle.cbm_iec.specs.Table.{TableRow}

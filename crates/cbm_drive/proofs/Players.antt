@@ -4,15 +4,14 @@ use Rattle.std.proofs.lemmas.List.{append_assoc, append-nil}
 use Rattle.cbm_iec.specs.declared.act.Act.{Act}
 use Rattle.std.specs.Prelude.{◌^◌, IfSome, IsSome, MatchOption}
 use Rattle.cbm_iec.specs.declared.event.Event.{Event}
-use Rattle.cbm_iec.specs.declared.event.Who.TheVariants.{Host, Drive}
-use Rattle.cbm_iec.specs.declared.event.Who.{Who}
+use Rattle.cbm_iec.specs.declared.event.Who.TheVariants.{Drive}
 use Rattle.cbm_iec.specs.declared.line.Change.{Change}
 use Rattle.cbm_iec.specs.declared.lines.Lines.{Lines}
 use Rattle.cbm_session.specs.Playing.{Station, Plays, tell, host_event, drive_events}
 use Rattle.cbm_session.proofs.headline.Keeping.{plays_then}
 use Rattle.cbm_drive.specs.Cables.{Cabled}
 use Rattle.cbm_drive.specs.Played.{HasSettled}
-use Rattle.cbm_drive.specs.Players.{Turns, pending, IsWaitingFrom, IsDrives, IsTurnOf, IsAfter, HasGiven}
+use Rattle.cbm_drive.specs.Players.{Turns, pending, IsWaitingFrom, IsAfter, HasGiven}
 use Rattle.cbm_drive.specs.Reactions.{AreAt}
 use Rattle.cbm_drive.specs.Seats.{Seated, IsBusAt, AreInTime}
 use Rattle.cbm_drive.proofs.Played.{one_change}

@@ -148,7 +148,7 @@ first_parts (suc n) t (y ∷ xs) x ys e h =
     record { due = p.due; later = (h.0, p.later); in_time = p.in_time }
 
 module _ (D M : Type 0) (stands : D → M → Type 0) (step : M → Act → M) (says : M → Option (ℕ × Bool)) where
-  stations_later : (all : Wires) (t : ℕ) (xs : List (Seated D)) (ss : List (Station M)) → AllZip (IsSeat D M stands all) xs ss → AreLater t xs → AllLater M step says t ss
+  pub stations_later : (all : Wires) (t : ℕ) (xs : List (Seated D)) (ss : List (Station M)) → AllZip (IsSeat D M stands all) xs ss → AreLater t xs → AllLater M step says t ss
   stations_later all t [] [] z h = tt
   stations_later all t [] (s ∷ ss) z h = absurd z
   stations_later all t (x ∷ xs) [] z h = absurd z

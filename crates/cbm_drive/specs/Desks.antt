@@ -7,11 +7,11 @@ use Rattle.cbm_channel.specs.Talking.{talk, listen, peek, taken}
 use Rattle.cbm_channel.specs.Calls.{put, end_put, after_open}
 use Rattle.cbm_channel.specs.Standing.{Kept, Stands}
 use Rattle.cbm_iec.specs.declared.party.Role.{Role}
-use Rattle.cbm_iec.specs.declared.party.Role.TheVariants.{Absent, Listener, Talker}
+use Rattle.cbm_iec.specs.declared.party.Role.TheVariants.{Listener, Talker}
 use Rattle.cbm_iec.specs.declared.act.Act.{Act}
 use Rattle.cbm_iec.specs.declared.act.Act.TheVariants.{Pulled, Attention, Released, Heard, Said, Silent}
 use Rattle.cbm_drive.specs.declared.secondary.Secondary.{Secondary}
-use Rattle.cbm_drive.specs.declared.secondary.Secondary.TheVariants.{Data, Close, Open}
+use Rattle.cbm_drive.specs.declared.secondary.Secondary.TheVariants.{Data, Close}
 use Rattle.cbm_drive.specs.declared.ended.Ended.{Ended}
 use Rattle.cbm_drive.specs.declared.ended.Ended.TheVariants.{Name, Bytes}
 use Rattle.cbm_drive.specs.Addressing.{Addressed, unaddressed, secondary_of, channel_heard, channel_said, addressed_after, ended}

@@ -34,7 +34,11 @@ impl Model for Player {
 
 impl Player {
     ghost use Rattle.std.specs.Prelude.{◌≡◌, ◌+◌, ◌-◌, ◌∷◌, ◌++◌, ◌<◌, ◌≤◌, ◌^◌, ℕ, List, [], is_some, false, None, Some, Ok, Err, if◌then◌else◌, nat_lt, min, IfSome, MatchOption, IsSome};
-    ghost use Rattle.cbm_session.specs.Playing.{Station, drive_events};
+    ghost use Rattle.cbm_session.specs.Playing.{Station, drive_events, at_rest, IsKept};
+    ghost use Rattle.cbm_session.specs.Sessions.{IsBus};
+    ghost use Rattle.cbm_session.specs.Timing.{HostKeeps};
+    ghost use Rattle.cbm_iec.specs.declared.party.Party.{Party};
+    ghost use Rattle.cbm_drive.specs.Seats.{AreLater};
     ghost use Rattle.cbm_drive.specs.Players.{at_start, pending, IsWaitingFrom, IsTurnOf, IsAfter, HasGiven, IsStill};
     ghost use Rattle.cbm_iec.specs.declared.event.Who.TheVariants.{Drive};
     ghost use Rattle.cbm_drive.specs.declared.fault.PlayFault.TheVariants.{Backwards};
@@ -106,6 +110,15 @@ impl Player {
             _ => self.reaction(bus, upto),
         }
     }
+
+    /// A law, and nothing is done: where the drives were at rest and the host keeps the bus's timing, the events that were
+    /// given are, up to any moment before the next reaction is due, a beginning of a session in which each byte talked is
+    /// the machine's answer, and no reaction is late.
+    pub fn keeps<D: Machine, const N: usize>(&self, bus: &Bus<D, N>)
+        ensures { (bs : List Party) (ms : ℕ → D.State) (es : List Event) (end : ℕ) → IsBus bs → self.now.second ≡ None →
+            (a : IsAfter _ D.State D.stands D.step D.says self.now bus.now 0 (at_rest D.State D.step D.says ms bs) es) →
+            AreLater end bus.now.drives → HostKeeps bs es end → IsKept D.State D.step D.says bs ms es end a.stations }
+    {}
 
     /// The change that waits, or what a drive shows before it.
     fn turn<D: Machine, const N: usize>(

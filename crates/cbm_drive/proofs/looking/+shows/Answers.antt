@@ -1,7 +1,6 @@
-use Rattle.std.proofs.Common.{◌≡◌, ◌∙◌, sym, subst, ap, refl, arith, ℕ, ◌<◌, ◌≤◌, Bool, true, false, List, [], ◌∷◌, length, Option, Some, None}
+use Rattle.std.proofs.Common.{◌∙◌, sym, subst, arith, ◌<◌, ◌≤◌, Bool}
 use Rattle.std.specs.Prelude.{not}
-use Rattle.cbm_iec.specs.Ports.{port_due, reacted}
-use Rattle.cbm_iec.specs.declared.line.Change.{Change}
+use Rattle.cbm_iec.specs.Ports.{port_due}
 use Rattle.cbm_iec.specs.declared.port.Port.{Port}
 use Rattle.cbm_session.specs.Following.{IsInTime}
 use Rattle.cbm_session.specs.Playing.{IsLaterDue}

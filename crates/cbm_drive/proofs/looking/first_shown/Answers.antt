@@ -1,4 +1,4 @@
-use Rattle.std.proofs.Common.{◌≡◌, ℕ, List, [], ◌++◌, refl, sym, ap, subst, ◌∙◌, arith}
+use Rattle.std.proofs.Common.{[], refl, sym, ap, ◌∙◌, arith}
 use Rattle.cbm_session.specs.Playing.{drive_events}
 use Rattle.cbm_drive.proofs.Ahead.{none_of, shows_on, shows_never, reacted_at}
 use Rattle.cbm_drive.proofs.Firsts.{first_in_time, idle_in_time}

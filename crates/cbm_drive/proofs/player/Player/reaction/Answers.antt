@@ -1,5 +1,5 @@
-use Rattle.std.proofs.Common.{◌≡◌, ◌≤◌, ◌+◌, ℕ, refl, sym, ap, subst, ◌∙◌, arith}
-use Rattle.cbm_drive.proofs.Players.{waits_behind, waits_past, some_match, shown_next}
+use Rattle.std.proofs.Common.{◌+◌, arith}
+use Rattle.cbm_drive.proofs.Players.{waits_behind, some_match, shown_next}
 use Rattle.cbm_drive.proofs.player.Player.reaction.Goals as goal
 
 pub give-requires-clause-waiting : goal.give-requires-clause-waiting

@@ -1,4 +1,4 @@
-use Rattle.std.proofs.Common.{◌≡◌, ◌≤◌, ◌+◌, ℕ, None, refl, sym, ap, subst, ◌∙◌, arith}
+use Rattle.std.proofs.Common.{◌+◌, None, refl, sym, ap, subst, ◌∙◌, arith}
 use Rattle.cbm_iec.specs.declared.lines.Lines.{Lines}
 use Rattle.cbm_drive.specs.Players.{Turns}
 use Rattle.cbm_drive.specs.Seats.{IsBusAt}
