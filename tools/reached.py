@@ -13,21 +13,25 @@ START = re.compile(r"^(?:abbrev |unfoldable )?(?:pub )?(?:record |data )?([A-Za-
 
 
 def definitions(path):
-    """The definitions of a file: each name with its text, without comments."""
-    found, name, blank = {}, None, True
+    """The definitions of a file: each name with its text, without comments. Those of a `module _ .. where` stand deeper."""
+    found, name, depths = {}, None, [0]
     for line in open(path, encoding="utf-8"):
         text = line.rstrip()
         if not text or text.lstrip().startswith("--"):
-            blank = True
             continue
-        start = START.match(text)
-        if not text.startswith(" ") and not text.startswith("use ") and start:
+        depth = len(text) - len(text.lstrip())
+        while depth < depths[-1]:
+            depths.pop()
+        if text.lstrip().startswith("module _"):
+            depths.append(depth + 2)
+            continue
+        start = START.match(text.lstrip())
+        if depth == depths[-1] and not text.startswith("use ") and start:
             name = start.group(1)
-            if re.match(r"^(abbrev|unfoldable|pub|record|data)\b", text):
+            if re.match(r"^(abbrev|unfoldable|pub|record|data)\b", text.lstrip()):
                 found.setdefault(name, [])
         if name in found and not text.startswith("use "):
             found[name].append(text)
-        blank = False
     return found
 
 
