@@ -1,0 +1,9 @@
+use Rattle.cbm_relfile.specs.SideSectors.{sides_listed, Numbered}
+use Rattle.cbm_relfile.proofs.Listed.{Nearing}
+use Rattle.cbm_relfile.proofs.listing.nearest_listed.Given as goal
+
+-- what is passed, and what of it is nearest
+abbrev pub invariant-loop-n : goal.invariant-loop-n
+invariant-loop-n g l =
+    Numbered l.fn.geometry (g.M.Medium.seen l.medium).content l.fn.file.width 0 (sides_listed l.head)
+    → Nearing l.fn.geometry (g.M.Medium.seen l.medium).content l.fn.file.width l.fn.file.first l.head l.n l.left l.fn.number l.near.at l.near.left
