@@ -1,6 +1,6 @@
 -- What the machine's calls do, by what the code keeps of a channel.
-use Rattle.std.proofs.Common.{◌≡◌, ℕ, ◌<◌, ◌≤◌, Bool, true, false, List, [], ◌∷◌, length, refl, ap, subst, ◌∙◌, arith, ◌⊎◌, inl, inr}
-use Rattle.std.specs.Prelude.{◌==◌, if◌then◌else◌, MatchBool, Option, Some, None, is_some, Err}
+use Rattle.std.proofs.Common.{◌≡◌, ℕ, ◌<◌, ◌≤◌, Bool, true, false, List, [], ◌∷◌, length, refl, ap, ◌∙◌, arith}
+use Rattle.std.specs.Prelude.{◌==◌, if◌then◌else◌, Option, Some, None, is_some, Err}
 use Rattle.std.proofs.lemmas.Bool.{ne_eqb}
 use Rattle.cbm_file.specs.Files.{Disk}
 use Rattle.cbm_machine.specs.declared.code.Code.TheVariants.{FileNotOpen, NoChannel, NoRecord}
@@ -10,7 +10,7 @@ use Rattle.cbm_machine.specs.Machines as machine
 use Rattle.cbm_machine.specs.Closing.{put_on, without_text}
 use Rattle.cbm_machine.specs.Talking.{peek, peek_on, taken, taken_on, talk, talk_refusal, listen, listen_refusal, only_refused}
 use Rattle.cbm_machine.specs.Records.{write_record}
-use Rattle.cbm_machine.specs.Calls.{put, gather, command, store_text, text_for, is_relative_channel}
+use Rattle.cbm_machine.specs.Calls.{put, gather, command, store_text, is_relative_channel}
 use Rattle.cbm_machine.specs.Running.{place, run}
 use Rattle.cbm_channel.specs.declared.channel.Channel.{Channel}
 use Rattle.cbm_channel.specs.declared.channel.Channel.TheVariants as code

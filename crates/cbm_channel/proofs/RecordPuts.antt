@@ -1,6 +1,6 @@
 -- A text for records: the record is written, which is made where it isn't there, and the place goes on.
-use Rattle.std.proofs.Common.{◌≡◌, ◌≢◌, ℕ, ◌+◌, ◌-◌, ◌*◌, ◌/◌, ◌%◌, ◌<◌, ◌≤◌, Bool, true, false, List, [], ◌++◌, length, take, drop, refl, sym, ap, ◌∙◌, subst, arith, inl, inr, ◌⊎◌, Option, Some, None, Result, Ok, Err, IsOk}
-use Rattle.std.specs.Prelude.{if◌then◌else◌, replicate, slice_get, slice_index_or, slice_set, is_some, max, IfErr, IfOk, IsOkAnd, MatchBool, MatchResult}
+use Rattle.std.proofs.Common.{◌≡◌, ◌≢◌, ℕ, ◌+◌, ◌-◌, ◌*◌, ◌<◌, ◌≤◌, Bool, true, false, List, [], ◌++◌, length, take, drop, refl, sym, ap, ◌∙◌, subst, arith, inl, inr, ◌⊎◌, Option, Some, None, Result, Ok, Err, IsOk}
+use Rattle.std.specs.Prelude.{if◌then◌else◌, replicate, slice_get, slice_index_or, slice_set, is_some, IfErr, IfOk, IsOkAnd, MatchBool, MatchResult}
 use Rattle.std.proofs.lemmas.Bool.{cases_lt, ne_eqb}
 use Rattle.std.proofs.lemmas.List.{get_or_past, get_or-set_same, get_or-set_other, length-append, length-replicate}
 use Rattle.std.proofs.lemmas.Nat.{div-add-mod', le-div, mod_below}

@@ -40,7 +40,7 @@ use Rattle.cbm_channel.specs.Placed.{record_of, is_broken, shown_at}
 use Rattle.cbm_channel.proofs.OnRecords.{record_on}
 use Rattle.cbm_channel.proofs.Orders.{FitsIn, known_is, orderly_set, first_orderly}
 use Rattle.cbm_channel.proofs.Uses.{uses_set}
-use Rattle.cbm_channel.proofs.Kept.{take_more, same_pair}
+use Rattle.cbm_channel.proofs.Kept.{take_more}
 
 -- ---- two lists, place by place
 
@@ -417,16 +417,22 @@ this_there ch m text e same some = by_text m.text refl e
         let here = eq-eqb w.0 ch (number ∙ same) in
         record { number = same; kept = sym bytes ∙ sym (ap (λ x. take 256 (text_for ch x)) is ∙ rw here refl); some = some }
 
--- a byte behind the text that is there, or the first one
-pub gathered : (ch b : ℕ) (m : machine.Machine) (text new : ℕ × List ℕ) → HasText ch m text → new ≡ (text.0, take 256 (text.1 ++ b ∷ []))
-    → kept_text (Some (ch, text_for ch m.text ++ b ∷ [])) ≡ Some new
-gathered ch b m text new has e =
-    let bytes : take 256 (text_for ch m.text ++ b ∷ []) ≡ take 256 (text.1 ++ b ∷ []) =
-    sym (take_more 256 (text_for ch m.text) (b ∷ [])) ∙ ap (λ x. take 256 (x ++ b ∷ [])) (sym has.kept) in
-    ap (λ (t : ℕ × List ℕ). Some t) (same_pair (sym has.number) bytes ∙ sym e)
+-- of a channel's text the first 256 bytes are kept
+text_kept : (ch : ℕ) (text : Option (ℕ × List ℕ)) → text_for ch (kept_text text) ≡ take 256 (text_for ch text)
+text_kept ch None = refl
+text_kept ch (Some t) = by_channel (t.0 == ch)
+  where
+    by_channel : (b : Bool) → (if b then take 256 t.1 else []) ≡ take 256 (if b then t.1 else [])
+    by_channel true = refl
+    by_channel false = refl
 
-pub begun : (ch b : ℕ) (m : machine.Machine) (new : ℕ × List ℕ) → HasNoText ch m → new ≡ (ch, b ∷ []) → kept_text (Some (ch, text_for ch m.text ++ b ∷ [])) ≡ Some new
-begun ch b m new has e = ap (λ x. kept_text (Some (ch, x ++ b ∷ []))) has.none ∙ ap (λ (t : ℕ × List ℕ). Some t) (sym e)
+-- a byte behind the text of a channel
+pub gathered : (ch b : ℕ) (m : machine.Machine) (old new : Option (ℕ × List ℕ)) → kept_text m.text ≡ old → new ≡ Some (ch, take 256 (text_for ch old ++ b ∷ []))
+    → kept_text (Some (ch, text_for ch m.text ++ b ∷ [])) ≡ new
+gathered ch b m old new is e =
+    ap (λ (bytes : List ℕ). Some (ch, bytes)) (sym (take_more 256 (text_for ch m.text) (b ∷ [])))
+    ∙ ap (λ (bytes : List ℕ). Some (ch, take 256 (bytes ++ b ∷ []))) (sym (text_kept ch m.text) ∙ ap (text_for ch) is)
+    ∙ sym e
 
 -- a drive that is known by its parts
 pub stood : {M : Type 0} (seen : M → Seen) (k k' : Kept M) (m : machine.Machine) → k' ≡ k

@@ -1,4 +1,5 @@
-ghost use Rattle.std.specs.Prelude.{◌≡◌, ◌≤◌, ◌++◌, ◌∷◌, [], length, take};
+ghost use Rattle.std.specs.Prelude.{◌≡◌, ◌≤◌, ◌++◌, ◌∷◌, [], length, take, Some};
+ghost use Rattle.cbm_machine.specs.Calls.{text_for};
 
 use arrayvec::ArrayVec;
 use std::marker::Model;
@@ -57,4 +58,17 @@ impl Gathered {
             self.bytes.push(byte);
         }
     }
+}
+
+/// Adds a byte to the text for a channel; what was gathered for another one is dropped.
+pub fn gather(text: &mut Option<Gathered>, channel: u8, byte: u8)
+    ensures { text.new ≡ Some (channel, take 256 (text_for channel text.old ++ byte ∷ [])) }
+{
+    if let Some(gathered) = text {
+        if gathered.channel() == channel {
+            gathered.add(byte);
+            return;
+        }
+    }
+    *text = Some(Gathered::begin(channel, byte));
 }

@@ -2,7 +2,7 @@ ghost use Rattle.std.specs.Prelude.{◌≡◌};
 ghost use Rattle.cbm_machine.specs.Calls.{without_return};
 
 use crate::dos::Dos;
-use crate::gathered::Gathered;
+use crate::gathered::{Gathered, gather};
 use cbm_command::{Command, parse_command};
 use cbm_machine::{Code, Status};
 use cbm_volume::Medium;
@@ -73,13 +73,7 @@ impl<M: Medium> Dos<M> {
         ensures told { self.new.told ≡ self.old.told }
         ensures medium { self.new.medium ≡ self.old.medium }
     {
-        match self.take_text(channel) {
-            Some(mut text) => {
-                text.add(byte);
-                self.text = Some(text);
-            }
-            None => self.text = Some(Gathered::begin(channel, byte)),
-        }
+        gather(&mut self.text, channel, byte);
     }
 
     /// Takes the text that is gathered for a channel.

@@ -1,4 +1,4 @@
-use Rattle.std.proofs.Common.{refl, subst, ◌+◌, Bool, Option, Ok, Err, Some, None}
+use Rattle.std.proofs.Common.{refl, subst, ◌+◌, Bool, Option, Ok, Err}
 use Rattle.cbm_medium.specs.Seen.{Seen}
 use Rattle.cbm_channel.specs.Placed.{Placed, IsPlacedAt}
 use Rattle.cbm_channel.specs.Recorded.{IsTextStored}

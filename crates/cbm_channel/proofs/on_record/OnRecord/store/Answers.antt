@@ -1,4 +1,4 @@
-use Rattle.std.proofs.Common.{subst, inl, Bool, Option, Ok, Err, Some, None, false}
+use Rattle.std.proofs.Common.{subst, inl, Bool, Option, Ok}
 use Rattle.cbm_medium.specs.Seen.{Seen}
 use Rattle.cbm_volume.specs.RecordWrites.{IsRecordPut}
 use Rattle.cbm_volume.proofs.CopySteps.{handed}
