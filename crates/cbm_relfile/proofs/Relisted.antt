@@ -1,7 +1,7 @@
 -- Side sectors that are written anew: what each of them lists, and that the file lies where it lay.
-use Rattle.std.proofs.Common.{◌≡◌, ◌≢◌, ℕ, zero, suc, ◌+◌, ◌*◌, ◌<◌, ◌≤◌, List, [], ◌∷◌, ◌++◌, length, take, drop, set, get_or, Bool, true, false, Some, Result, Ok, Err, IsOk, refl, sym, ap, subst, ◌∙◌, arith, inl, inr}
+use Rattle.std.proofs.Common.{◌≡◌, ◌≢◌, ℕ, zero, suc, ◌+◌, ◌-◌, ◌*◌, ◌/◌, ◌⊎◌, ◌<◌, ◌≤◌, List, [], ◌∷◌, ◌++◌, length, take, drop, set, get_or, Bool, true, false, Some, Result, Ok, Err, IsOk, refl, sym, ap, subst, ◌∙◌, arith, inl, inr}
 use Rattle.std.specs.Prelude.{MatchResult}
-use Rattle.std.proofs.lemmas.Bool.{cases_eq}
+use Rattle.std.proofs.lemmas.Bool.{cases_eq, cases_lt}
 use Rattle.std.proofs.lemmas.List.{length-drop, length-take-le, length-set, get_or-take, get_or-set_same, get_or-set_other, take_all, drop_all, drop-drop, append_assoc, take-append-drop}
 use Rattle.cbm_medium.specs.Place.{Place, Has, directory_head}
 use Rattle.cbm_medium.specs.Content.{Cell, Content, IsWhole}
@@ -12,7 +12,7 @@ use Rattle.cbm_medium.specs.Seen.{Seen, OnlyContent}
 use Rattle.cbm_medium.specs.declared.fault.Trouble.{Trouble}
 use Rattle.cbm_relfile.specs.Making.{IsNotWritten}
 use Rattle.cbm_relfile.specs.Records.{AllWhole, Relative, IsLaid}
-use Rattle.cbm_relfile.specs.Relisting.{ListsThese, IsSideListed, lists_at, NamesSides, IsSideRefused, AreApart, IsRelisted}
+use Rattle.cbm_relfile.specs.Relisting.{ListsThese, IsSideListed, lists_at, NamesSides, IsSideRefused, AreApart, IsSideKept, IsRelisted}
 use Rattle.cbm_relfile.specs.SideSectors.{named_in, sides_listed, blocks_listed, Numbered, IsEnded}
 use Rattle.cbm_relfile.proofs.Listed.{at_bytes, named_none, named_some}
 
@@ -277,6 +277,33 @@ side_done tracks m c' xs ss i list apart l w =
       others = λ j k ne. ap (λ (x : Cell). named_in 120 (drop 16 (or_nothing x))) (only (nth ss j) (λ z. ne (sym (apart.distinct i j l k z))));
     }
 
+-- of two writes of a side sector the second one tells what it lists
+lists_then : (old mid new : List ℕ) (ys zs : List Place) → ListsThese old ys mid → ListsThese mid zs new → ListsThese old zs new
+lists_then old mid new ys zs a b = record {
+  whole = b.whole;
+  ended = record {
+    track = b.ended.track ∙ a.ended.track;
+    last = λ z. b.ended.last (a.ended.track ∙ z);
+    linked = λ no. b.ended.linked (λ z. no (sym a.ended.track ∙ z)) ∙ a.ended.linked no;
+  };
+  front = λ i l m. b.front i l m ∙ a.front i l m;
+  lists = b.lists;
+  zeros = b.zeros;
+}
+
+kept_then : (old mid new : Content) (ss : List Place) (i : ℕ) → IsSideKept old mid ss i → IsSideKept mid new ss i → IsSideKept old new ss i
+kept_then old mid new ss i (inl a) (inl b) = inl (b ∙ a)
+kept_then old mid new ss i (inl a) (inr b) = inr (subst (λ (x : Cell). ListsThese (or_nothing x) (lists_at new ss i) (bytes_at new (nth ss i))) a b)
+kept_then old mid new ss i (inr a) (inl b) = inr (subst (λ (x : Cell). ListsThese (bytes_at old (nth ss i)) (named_in 120 (drop 16 (or_nothing x))) (or_nothing x)) (sym b) a)
+kept_then old mid new ss i (inr a) (inr b) = inr (lists_then (bytes_at old (nth ss i)) (bytes_at mid (nth ss i)) (bytes_at new (nth ss i)) (lists_at mid ss i) (lists_at new ss i) a b)
+
+-- the side sector that is written
+kept_here : (m c' : Content) (ss : List Place) (i : ℕ) (list : List Place) → IsSideListed m c' (nth ss i) list → IsSideKept m c' ss i
+kept_here m c' ss i list w =
+    let there : c' (nth ss i) ≡ Ok w.bytes = ap (λ (y : Content). y (nth ss i)) w.written ∙ written_there m (nth ss i) w.bytes in
+    inr (subst (λ (x : Cell). ListsThese (bytes_at m (nth ss i)) (named_in 120 (drop 16 (or_nothing x))) (or_nothing x)) (sym there)
+    (subst (λ (x : Cell). ListsThese (or_nothing x) (named_in 120 (drop 16 w.bytes)) w.bytes) (sym w.reads) (subst (λ (ys : List Place). ListsThese w.side ys w.bytes) (sym w.these.lists) w.these)))
+
 -- THE FILE STILL LIES WHERE IT LAY, where the lists are a beginning of its chain
 pub relisted_step : (tracks : ℕ) (old m c' : Content) (file : Relative) (xs ss : List Place) (i : ℕ) (list : List Place) → AreApart xs ss → IsRelisted tracks old m file xs ss → i < length ss → IsSideListed m c' (nth ss i) list
     → (rest : List Place) × (blocks_listed c' ss ++ rest ≡ xs) → IsRelisted tracks old c' file xs ss
@@ -301,6 +328,10 @@ relisted_step tracks old m c' file xs ss i list apart h l w joined =
         | inl e ↦ subst (λ (x : Cell). IsWhole x) (sym (ap c' (sym e) ∙ there)) w.these.whole
         | inr ne ↦ subst (λ (x : Cell). IsWhole x) (sym (only p ne)) (h.whole p)
       ];
+      kept = λ j k. kept_then old m c' ss j (h.kept j k) (elim (cases_eq j i) [
+        | inl e ↦ subst (λ (n : ℕ). IsSideKept m c' ss n) (sym e) (kept_here m c' ss i list w)
+        | inr ne ↦ inl (only (nth ss j) (λ z. ne (sym (apart.distinct i j l k z))))
+      ]);
       others = λ p a. only p (λ z. apart_nth p ss i a l (sym z)) ∙ h.others p a;
     }
 
@@ -313,7 +344,7 @@ pub record Unlisting (tracks : ℕ) (old m : Content) (file : Relative) (xs ss :
 
 pub unlisting_begins : (tracks : ℕ) (old : Content) (file : Relative) (xs ss : List Place) (left : ℕ) → AllWhole old → IsLaid tracks old file xs ss → length ss ≤ left → Unlisting tracks old old file xs ss left
 unlisting_begins tracks old file xs ss left whole laid all = record {
-  relisted = record { laid = laid; whole = whole; others = λ p a. refl };
+  relisted = record { laid = laid; whole = whole; kept = λ i l. inl refl; others = λ p a. refl };
   before = λ i l k. refl;
   behind = λ i l k. absurd (omega (arith, l, k, all));
 }
@@ -345,7 +376,7 @@ pub record Relisting (tracks : ℕ) (old m : Content) (file : Relative) (xs ss :
 
 pub relisting_begins : (tracks : ℕ) (old : Content) (file : Relative) (xs ss : List Place) (at : Place) → AllWhole old → IsLaid tracks old file xs ss → at ≡ file.first → ((i : ℕ) → i < length ss → lists_at old ss i ≡ []) → Relisting tracks old old file xs ss 0 at
 relisting_begins tracks old file xs ss at whole laid e none = record {
-  relisted = record { laid = laid; whole = whole; others = λ p a. refl };
+  relisted = record { laid = laid; whole = whole; kept = λ i l. inl refl; others = λ p a. refl };
   before = λ i l k. absurd (omega (arith, l));
   behind = λ i l k. none i k;
   chain = (let z : 0 ≡ 120 * 0 = omega arith in subst (λ (m : ℕ). Chain tracks old at (drop m xs)) z (subst (λ (p : Place). Chain tracks old p xs) (sym e) laid.chain));
@@ -370,7 +401,7 @@ relisting_more tracks old m c' file xs ss n at next apart h l w chain =
 
 -- one after the other
 pub relisted_then : (tracks : ℕ) (old m new : Content) (file : Relative) (xs ss : List Place) → IsRelisted tracks old m file xs ss → IsRelisted tracks m new file xs ss → IsRelisted tracks old new file xs ss
-relisted_then tracks old m new file xs ss a b = record { laid = b.laid; whole = b.whole; others = λ p h. b.others p h ∙ a.others p h }
+relisted_then tracks old m new file xs ss a b = record { laid = b.laid; whole = b.whole; kept = λ i l. kept_then old m new ss i (a.kept i l) (b.kept i l); others = λ p h. b.others p h ∙ a.others p h }
 
 -- a side sector that reads is refused by protection alone
 pub side_refused : (old mid new : Seen) (q : Place) (code : ℕ) → IsOk (mid.content q) → mid.protected ≡ old.protected → old.failures ≤ mid.failures → IsNotWritten mid new q code → IsSideRefused old new code
@@ -433,6 +464,28 @@ pub listed_one : (c : Content) (ss xs : List Place) (n : ℕ) (t : Place) (side 
     → lists_at c ss n ≡ take 120 (drop (120 * n) xs)
 listed_one c ss xs n t side new is reads same these =
     ap (λ (p : Place). named_in 120 (drop 16 (bytes_at c p))) is ∙ ap (λ (x : Cell). named_in 120 (drop 16 (or_nothing x))) reads ∙ sym (named_same 120 16 new side (λ i l k. same i l (omega (arith, k)))) ∙ these.lists
+
+-- the same list with zeros behind it is the same bytes
+pub same_bytes : (a b : List ℕ) (ys : List Place) → named_in 120 (drop 16 a) ≡ ys → named_in 120 (drop 16 b) ≡ ys → ((i : ℕ) → 16 + 2 * length ys ≤ i → get_or a i 0 ≡ 0) → ((i : ℕ) → 16 + 2 * length ys ≤ i → get_or b i 0 ≡ 0)
+    → (i : ℕ) → 16 ≤ i → get_or a i 0 ≡ get_or b i 0
+same_bytes a b ys ea eb za zb i low = by_place (cases_lt i (16 + 2 * length ys))
+  where
+    place : (k : ℕ) → k < length ys → at_bytes a (16 + 2 * k) ≡ at_bytes b (16 + 2 * k)
+    place k l = sym (named_nth 120 16 k a (omega (arith, l, ap length ea))) ∙ ap (λ (zs : List Place). nth zs k) (ea ∙ sym eb) ∙ named_nth 120 16 k b (omega (arith, l, ap length eb))
+
+    by_byte : (k : ℕ) → k < length ys → (i ≡ 16 + 2 * k) ⊎ (i ≡ 16 + 2 * k + 1) → get_or a i 0 ≡ get_or b i 0
+    by_byte k l (inl e) = ap (λ (m : ℕ). get_or a m 0) e ∙ ap (λ (p : Place). p.track) (place k l) ∙ ap (λ (m : ℕ). get_or b m 0) (sym e)
+    by_byte k l (inr e) = ap (λ (m : ℕ). get_or a m 0) e ∙ ap (λ (p : Place). p.sector) (place k l) ∙ ap (λ (m : ℕ). get_or b m 0) (sym e)
+
+    odd_or_even : (k : ℕ) → k ≡ (i - 16) / 2 → (i ≡ 16 + 2 * k) ⊎ (i ≡ 16 + 2 * k + 1)
+    odd_or_even k e = elim (cases_eq i (16 + 2 * k)) [
+      | inl even ↦ inl even
+      | inr odd ↦ inr (omega (arith, e, odd, low))
+    ]
+
+    by_place : (i < 16 + 2 * length ys) ⊎ (16 + 2 * length ys ≤ i) → get_or a i 0 ≡ get_or b i 0
+    by_place (inl l) = by_byte ((i - 16) / 2) (omega (arith, l, low)) (odd_or_even ((i - 16) / 2) refl)
+    by_place (inr behind) = za i behind ∙ sym (zb i behind)
 
 -- the first side sector was read
 pub head_names : (tracks : ℕ) (c : Content) (file : Relative) (xs ss : List Place) (t : Place) (head : List ℕ) → IsLaid tracks c file xs ss → t ≡ file.side → c t ≡ Ok head → NamesSides head ss

@@ -39,6 +39,18 @@ IsSideRefused old new code = ((old.protected ≡ true) × (code ≡ 26)) ⊎ Has
 abbrev pub AreListed : Content → List Place → List Place → Type 0
 AreListed c sides blocks = (i : ℕ) → i < length sides → lists_at c sides i ≡ take 120 (drop (120 * i) blocks)
 
+-- AS THE DRIVE LEAVES THEM: each side sector lists its next 120 blocks, and zeros stand behind them.
+pub record AreInForm (c : Content) (sides blocks : List Place) : Type 0 where
+  pub listed : AreListed c sides blocks
+  pub zeros : (i : ℕ) → i < length sides → (j : ℕ) → 16 + 2 * length (take 120 (drop (120 * i) blocks)) ≤ j → slice_index (bytes_at c (slice_index_or sides i directory_head)) j ≡ 0
+
+-- A side sector is as it was; or it was written anew: it ends behind what it lists, or links where it linked, zeros stand behind the
+-- list, and its number, the records' length and the list of the side sectors are as they were.
+abbrev pub IsSideKept : Content → Content → List Place → ℕ → Type 0
+IsSideKept old new sides i =
+    let p = slice_index_or sides i directory_head in
+    (new p ≡ old p) ⊎ ListsThese (bytes_at old p) (lists_at new sides i) (bytes_at new p)
+
 -- Each side sector is another, and none is a data block.
 pub record AreApart (blocks sides : List Place) : Type 0 where
   pub distinct : (i j : ℕ) → i < length sides → j < length sides → slice_index_or sides i directory_head ≡ slice_index_or sides j directory_head → i ≡ j
@@ -48,4 +60,5 @@ pub record AreApart (blocks sides : List Place) : Type 0 where
 pub record IsRelisted (tracks : ℕ) (old new : Content) (file : Relative) (blocks sides : List Place) : Type 0 where
   pub laid : IsLaid tracks new file blocks sides
   pub whole : AllWhole new
+  pub kept : (i : ℕ) → i < length sides → IsSideKept old new sides i
   pub others : (p : Place) → IsApart p sides → new p ≡ old p

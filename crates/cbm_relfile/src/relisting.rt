@@ -7,7 +7,7 @@ ghost use Rattle.cbm_medium.specs.Seen.{OnlyContent};
 ghost use Rattle.cbm_relfile.specs.Making.{IsNotWritten};
 ghost use Rattle.cbm_relfile.specs.Records.{AllWhole, Relative, IsLaid};
 ghost use Rattle.cbm_relfile.specs.SideSectors.{IsEnded};
-ghost use Rattle.cbm_relfile.specs.Relisting.{ListsThese, IsSideListed, lists_at, NamesSides, IsSideRefused, AreListed, AreApart, IsRelisted};
+ghost use Rattle.cbm_relfile.specs.Relisting.{ListsThese, IsSideListed, lists_at, NamesSides, IsSideRefused, AreListed, AreInForm, AreApart, IsRelisted};
 
 use crate::growing::cut_at;
 use crate::relative::Relative;
@@ -94,7 +94,8 @@ fn side_named(head: &[u8; 256], number: u8) -> Link
 
 /// Whether two side sectors have the same bytes in the list of data blocks.
 fn is_same_list(one: &[u8; 256], other: &[u8; 256]) -> bool
-    ensures { result ≡ true → (i : ℕ) → 16 ≤ i → i < 256 → slice_index one.now i ≡ slice_index other.now i }
+    ensures tells { result ≡ true → (i : ℕ) → 16 ≤ i → i < 256 → slice_index one.now i ≡ slice_index other.now i }
+    ensures same { ((i : ℕ) → 16 ≤ i → i < 256 → slice_index one.now i ≡ slice_index other.now i) → result ≡ true }
 {
     for place in BLOCKS..256 {
         if one[place] != other[place] {
@@ -118,6 +119,9 @@ fn are_listed<M: Medium>(
         IsLaid geometry now.content file xs ss → first ≡ file.first →
         NamesSides head.now ss → length ss ≡ sides →
         IsOkAnd result (λ yes. yes ≡ true → AreListed now.content ss xs) }
+    ensures form { let now = M.seen medium.now in (file : Relative) (xs ss : List Place) →
+        IsLaid geometry now.content file xs ss → first ≡ file.first →
+        NamesSides head.now ss → length ss ≡ sides → AreInForm now.content ss xs → result ≡ Ok true }
     ensures never_26 { IfErr result (λ t. t.code ≢ 26) }
 {
     let mut at = first;
@@ -201,6 +205,9 @@ pub fn list_anew<M: Medium>(
         AllWhole old.content → IsLaid geometry old.content file xs ss → AreApart xs ss → length ss ≡ sides →
         IsRelisted geometry old.content new.content file xs ss ×
         MatchResult result (λ x. AreListed new.content ss xs) (λ t. IsSideRefused old new t.code) }
+    ensures form { let old = M.seen medium.old in (xs ss : List Place) →
+        IsLaid geometry old.content file xs ss → length ss ≡ sides → AreInForm old.content ss xs →
+        IsOk result × ((M.seen medium.new).content ≡ old.content) }
     ensures protection { IfErr result (λ t. t.code ≡ 26 → (M.seen medium.old).protected ≡ true) }
     ensures only { OnlyContent result (M.seen medium.old) (M.seen medium.new) }
 {
