@@ -1,9 +1,10 @@
 // The last data block of a file is filled up with fresh records.
 
-ghost use Rattle.std.specs.Prelude.{◌≡◌, ◌≢◌, ◌≤◌, ◌<◌, ◌*◌, ◌-◌, ℕ, List, length, slice_index_or, Ok, Some, true, IfOk, IfErr, IsOkAnd, OnOk, OnErr, MatchResult};
+ghost use Rattle.std.specs.Prelude.{◌≡◌, ◌≢◌, ◌≤◌, ◌<◌, ◌*◌, ◌-◌, ℕ, List, length, slice_index_or, Ok, Some, true, IsOk, IfOk, IfErr, IsOkAnd, OnOk, OnErr, MatchResult};
 ghost use Rattle.cbm_medium.specs.Place.{Place, Has, directory_head, sector_count};
 ghost use Rattle.cbm_medium.specs.Links.{link, Chain};
 ghost use Rattle.cbm_medium.specs.Seen.{OnlyContent};
+ghost use Rattle.cbm_chain.specs.Data.{chain_bytes};
 ghost use Rattle.cbm_relfile.specs.Records.{AllWhole, IsLaid};
 ghost use Rattle.cbm_relfile.specs.Filling.{IsTailFilled, IsFilledUp, IsFillStopped};
 ghost use Rattle.cbm_relfile.specs.Changing.{IsWriteRefused};
@@ -91,6 +92,10 @@ pub fn fill_up<M: Medium>(
         (λ at. (at ≡ slice_index_or xs (blocks - 1) directory_head) ×
         IsFilledUp old.content new.content xs file.width)
         (λ t. IsFillStopped geometry old new xs file.width t.code) }
+    ensures full { let old = M.seen medium.old in (xs sides : List Place) →
+        AllWhole old.content → IsLaid geometry old.content file xs sides → length xs ≤ sector_count geometry →
+        length xs ≡ blocks → length (chain_bytes old.content xs) ≡ 254 * blocks →
+        IsOk result × ((M.seen medium.new).content ≡ old.content) }
     ensures bound { IfOk result (λ at. Has geometry at) }
     ensures protection { IfErr result (λ t. t.code ≡ 26 → (M.seen medium.old).protected ≡ true) }
     ensures only { OnlyContent result (M.seen medium.old) (M.seen medium.new) }

@@ -66,3 +66,35 @@ returns-clause-laid g c = λ xs sides w laid short l.
         },
       ),
     )
+
+-- the last block reads
+pub returns-in_err-at-clause-full : goal.returns-in_err-at-clause-full
+returns-in_err-at-clause-full g c = λ xs sides w laid short l all.
+    let now : Content = (g.M.Medium.seen c.args.medium.now).content in
+    let chain : Chain c.args.geometry now c.first.result xs = subst (λ (p : Place). Chain c.args.geometry now p xs) (sym c.first.ensures) laid.chain in
+    absurd (c.in_err-at.ensures.there xs chain short (omega (arith, l, c.requires.some)))
+
+-- it isn't filled up where it is full
+pub returns-in_err-fill_tail-clause-full : goal.returns-in_err-fill_tail-clause-full
+returns-in_err-fill_tail-clause-full g c = λ xs sides w laid short l all.
+    let now : Content = (g.M.Medium.seen c.args.medium.now).content in
+    let chain : Chain c.args.geometry now c.first.result xs = subst (λ (p : Place). Chain c.args.geometry now p xs) (sym c.first.ensures) laid.chain in
+    let is : c.in_ok-at.at ≡ get_or xs (c.args.blocks - 1) directory_head = c.in_ok-at.ensures.there xs chain short (omega (arith, l, c.requires.some)) in
+    let long = ends_with c.args.geometry now c.args.file.first xs c.args.blocks c.in_ok-at.at c.in_ok-at.sector w laid.chain l c.requires.some is c.in_ok-at.ensures.reads in
+    absurd (omega (arith, long, all, ap length c.bytes_of.ensures.value, c.if-used-eq254.false, c.requires.some))
+
+pub returns-in_err-write-clause-full : goal.returns-in_err-write-clause-full
+returns-in_err-write-clause-full g c = λ xs sides w laid short l all.
+    let now : Content = (g.M.Medium.seen c.args.medium.now).content in
+    let chain : Chain c.args.geometry now c.first.result xs = subst (λ (p : Place). Chain c.args.geometry now p xs) (sym c.first.ensures) laid.chain in
+    let is : c.in_ok-at.at ≡ get_or xs (c.args.blocks - 1) directory_head = c.in_ok-at.ensures.there xs chain short (omega (arith, l, c.requires.some)) in
+    let long = ends_with c.args.geometry now c.args.file.first xs c.args.blocks c.in_ok-at.at c.in_ok-at.sector w laid.chain l c.requires.some is c.in_ok-at.ensures.reads in
+    absurd (omega (arith, long, all, ap length c.bytes_of.ensures.value, c.if-used-eq254.false, c.requires.some))
+
+pub returns-clause-full : goal.returns-clause-full
+returns-clause-full g c = λ xs sides w laid short l all.
+    let now : Content = (g.M.Medium.seen c.args.medium.now).content in
+    let chain : Chain c.args.geometry now c.first.result xs = subst (λ (p : Place). Chain c.args.geometry now p xs) (sym c.first.ensures) laid.chain in
+    let is : c.in_ok-at.at ≡ get_or xs (c.args.blocks - 1) directory_head = c.in_ok-at.ensures.there xs chain short (omega (arith, l, c.requires.some)) in
+    let long = ends_with c.args.geometry now c.args.file.first xs c.args.blocks c.in_ok-at.at c.in_ok-at.sector w laid.chain l c.requires.some is c.in_ok-at.ensures.reads in
+    absurd (omega (arith, long, all, ap length c.bytes_of.ensures.value, c.if-used-eq254.false, c.requires.some))
