@@ -10,6 +10,7 @@ use Rattle.cbm_file.specs.Records.{blocks_for, sides_for, with_sized_body}
 use Rattle.cbm_bam.specs.Map.{geometry_of, is_free_in, map_of}
 use Rattle.cbm_chain.specs.Data.{chain_bytes}
 use Rattle.cbm_relfile.specs.Records.{Relative}
+use Rattle.cbm_relfile.specs.Relisting.{AreInForm}
 use Rattle.cbm_relfile.specs.SideSectors.{named_in}
 use Rattle.cbm_directory.specs.Entries.{entry_at, first_block, first_side}
 use Rattle.cbm_volume.specs.Layouts.{Owner, Nobody, TheMap, DataOf, SideOf, Layout, slot_count}
@@ -25,6 +26,11 @@ listed_by c s = named_in 120 (drop 16 (bytes_at c s))
 abbrev pub IsListed : Content → List Place → List Place → Type 0
 IsListed c [] blocks = blocks ≡ []
 IsListed c (s ∷ ss) blocks = (listed_by c s ≡ take 120 blocks) × IsListed c ss (drop 120 blocks)
+
+-- THE FILE GROWS AS IT LIES: its side sectors are as the drive leaves them, and its b data blocks are full.
+pub record IsReadyToGrow (c : Content) (sides blocks : List Place) (b : ℕ) : Type 0 where
+  pub form : AreInForm c sides blocks
+  pub full : length (chain_bytes c blocks) ≡ 254 * b
 
 -- the disk whose slot has this file, with these records in b data blocks and s side sectors, and so many free blocks
 abbrev pub disk_with : Disk → ℕ → File → ℕ → List (List ℕ) → ℕ → ℕ → ℕ → Disk

@@ -1,6 +1,6 @@
 // A relative file whose side sectors can't list all its blocks gets more of them, before it grows.
 
-ghost use Rattle.std.specs.Prelude.{◌≡◌, ◌≤◌, ◌<◌, ◌+◌, ◌-◌, ◌*◌, ℕ, List, true, IfErr, IfOk, MatchResult};
+ghost use Rattle.std.specs.Prelude.{◌≡◌, ◌≤◌, ◌<◌, ◌+◌, ◌-◌, ◌*◌, ℕ, List, true, Ok, IfErr, IfOk, MatchResult};
 ghost use Rattle.cbm_medium.specs.Content.{Content};
 ghost use Rattle.cbm_medium.specs.Place.{Place};
 ghost use Rattle.cbm_medium.specs.Seen.{OnlyContent};
@@ -138,6 +138,8 @@ pub(crate) fn add_sides<M: Medium>(
         sides_for sides blocks - s ≤ d.free → MatchResult result
         (λ k. (k ≡ sides_for sides blocks) × HasSides old.tracks c0 d uses n w b s rs o file new.content k)
         (IsGrowthStopped old new c0 o.holds.layout d uses n w rs) }
+    ensures enough { 1 ≤ sides → blocks ≤ 120 * sides →
+        (result ≡ Ok sides) × ((M.seen medium.new).content ≡ (M.seen medium.old).content) }
     ensures bound { IfOk result (λ k. (sides ≤ k) × (k ≤ 6)) }
     ensures protection { IfErr result (λ t. t.code ≡ 26 → (M.seen medium.old).protected ≡ true) }
     ensures only { OnlyContent result (M.seen medium.old) (M.seen medium.new) }

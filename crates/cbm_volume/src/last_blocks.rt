@@ -1,9 +1,10 @@
 // A relative file that grows: its last data block is filled up with fresh records.
 
-ghost use Rattle.std.specs.Prelude.{◌≡◌, ◌≤◌, ℕ, List, true, IfOk, IfErr, MatchResult};
+ghost use Rattle.std.specs.Prelude.{◌≡◌, ◌≤◌, ◌*◌, ℕ, List, true, length, IsOk, IfOk, IfErr, MatchResult};
 ghost use Rattle.cbm_medium.specs.Place.{Has};
 ghost use Rattle.cbm_medium.specs.Seen.{OnlyContent};
 ghost use Rattle.cbm_bam.specs.Map.{geometry_of};
+ghost use Rattle.cbm_chain.specs.Data.{chain_bytes};
 ghost use Rattle.cbm_file.specs.Files.{Disk};
 ghost use Rattle.cbm_directory.specs.Entries.{entry_at, first_block, first_side};
 ghost use Rattle.cbm_volume.specs.Growth.{IsGrowthCut};
@@ -32,6 +33,13 @@ pub(crate) fn fill_last<M: Medium>(
         IsListed old.content (l.files n).sides (l.files n).data_blocks →
         MatchResult result (λ at. HasGrown old.tracks old.content d uses n w blocks s rs o file new.content blocks s at)
         (IsGrowthCut old new d uses n w rs) }
+    ensures full { let old = M.seen medium.old in
+        (d : Disk) (uses : ℕ → Use) (n w s : ℕ) (rs : List (List ℕ)) →
+        (o : HasRecordsOpen old.tracks old.content d uses n w blocks s rs) →
+        let l = o.holds.layout in let entry = entry_at old.content l.directory n in
+        file ≡ (record { first = first_block entry; side = first_side entry; width = w }) →
+        length (chain_bytes old.content (l.files n).data_blocks) ≡ 254 * blocks →
+        IsOk result × ((M.seen medium.new).content ≡ old.content) }
     // All but the file is as it was.
     ensures aside { let old = M.seen medium.old in let new = M.seen medium.new in
         (d : Disk) (uses : ℕ → Use) (n w s : ℕ) (rs : List (List ℕ)) →

@@ -33,6 +33,10 @@ reopened medium now c0 m d uses n w b s rs o e h = record {
   body = o.body;
 }
 
+-- what holds of a medium holds of the same content on as many tracks
+pub same_medium : (old mid : Seen) (Q : ℕ → Content → Type 0) → mid.tracks ≡ old.tracks → mid.content ≡ old.content → Q mid.tracks mid.content → Q old.tracks old.content
+same_medium old mid Q tracks content q = subst (λ (t : ℕ). Q t old.content) tracks (subst (λ (c : Content). Q mid.tracks c) content q)
+
 -- what a stop left is the same since the growth began
 cut_since : (old mid new : Seen) (d : Disk) (uses : ℕ → Use) (n w : ℕ) (rs : List (List ℕ)) (t : Trouble) → mid.tracks ≡ old.tracks → mid.protected ≡ old.protected → old.failures ≤ mid.failures → IsGrowthCut mid new d uses n w rs t → IsGrowthCut old new d uses n w rs t
 cut_since old mid new d uses n w rs t tracks protected counted g = record {

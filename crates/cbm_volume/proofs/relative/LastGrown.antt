@@ -1,5 +1,5 @@
 -- The last data block of a file with open records is filled up: the medium holds the disk on which the file has grown so far.
-use Rattle.std.proofs.Common.{◌≡◌, ◌≢◌, ◌⊎◌, ℕ, ◌+◌, ◌-◌, ◌*◌, ◌/◌, ◌<◌, ◌≤◌, List, ◌++◌, length, set, Bool, true, false, Some, None, Ok, Err, Result, refl, sym, ap, subst, ◌∙◌, arith, inl, inr}
+use Rattle.std.proofs.Common.{◌≡◌, ◌≢◌, ◌⊎◌, ℕ, ◌+◌, ◌-◌, ◌*◌, ◌/◌, ◌<◌, ◌≤◌, List, ◌++◌, length, set, Bool, true, false, Some, None, Ok, Err, Result, refl, sym, ap, subst, ◌∙◌, arith, inl, inr, IsOk}
 use Rattle.std.specs.Prelude.{◌&&◌, ◌==◌, MatchResult, replicate, if◌then◌else◌}
 use Rattle.std.proofs.lemmas.Bool.{cases_eq}
 use Rattle.std.proofs.lemmas.List.{append-nil, set-get_or, set-set}
@@ -300,16 +300,13 @@ module _ (old new : Seen) (d : Disk) (uses : ℕ → Use) (n w b s : ℕ) (rs : 
   fills_aside (Err t) h = (so_far t.code h).stage.aside
 
   -- the file lies where the call looks for it
-  pub fills_laid : (geometry : ℕ) (file : Relative) (r : Result Place Trouble) → geometry ≡ geometry_of old.tracks old.content
+  pub slot_laid : (geometry : ℕ) (file : Relative) → geometry ≡ geometry_of old.tracks old.content
       → file ≡ record { first = first_block (entry_at old.content o.holds.layout.directory n); side = first_side (entry_at old.content o.holds.layout.directory n); width = w }
-      → ((xs ss : List Place) → AllWhole old.content → IsLaid geometry old.content file xs ss → length xs ≤ sector_count geometry → length xs ≡ b
-      → MatchResult r (λ at. (at ≡ nth xs (b - 1)) × IsFilledUp old.content new.content xs file.width) (λ t. IsFillStopped geometry old new xs file.width t.code))
-      → Fills r
-  fills_laid geometry file r same is laid =
+      → IsLaid geometry old.content file blocks (o.holds.layout.files n).sides × (length blocks ≤ sector_count geometry) × (length blocks ≡ b)
+  slot_laid geometry file same is =
       let tracks : ℕ = geometry_of old.tracks old.content in
       let l : Layout = o.holds.layout in
       let here = lies old.tracks old.content d uses n w b s rs o in
-      let width : file.width ≡ w = ap (λ (y : Relative). y.width) is in
       let file_is : file ≡ relative_of (entry_at old.content l.directory n) = is ∙ (λ i. record { first = first_block (entry_at old.content l.directory n); side = first_side (entry_at old.content l.directory n); width = here.width i }) in
       let so : IsLaid tracks old.content (relative_of (entry_at old.content l.directory n)) blocks (l.files n).sides = record {
         chain = here.chain;
@@ -322,9 +319,28 @@ module _ (old new : Seen) (d : Disk) (uses : ℕ → Use) (n w b s : ℕ) (rs : 
         joined = here.has.joined;
       } in
       let there : n < slot_count l = (let room = slot_there old.tracks old.content d uses n w b s rs o in omega (arith, room, o.holds.so.stands.describes.size)) in
-      let short : length blocks ≤ sector_count tracks = file_length tracks old.content l n (first_block (entry_at old.content l.directory n)) blocks (geometry_size old.tracks old.content) o.holds.so.stands.sound here.chain (o.holds.so.stands.sound.owned.blocks n there) in
-      let h = laid blocks (l.files n).sides whole
-      (subst (λ (t : ℕ). IsLaid t old.content file blocks (l.files n).sides) (sym same) (subst (λ (y : Relative). IsLaid tracks old.content y blocks (l.files n).sides) (sym file_is) so))
-      (subst (λ (t : ℕ). length blocks ≤ sector_count t) (sym same) short) (sym here.blocks.blocks) in
-      subst (λ (m : ℕ). MatchResult r (λ at. (at ≡ nth blocks (b - 1)) × IsFilledUp old.content new.content blocks m) (λ t. IsFillStopped tracks old new blocks m t.code)) width
+      let short : length blocks ≤ sector_count tracks = file_length tracks old.content l n (first_block (entry_at old.content l.directory n)) blocks (geometry_size old.tracks old.content) o.holds.so.stands.sound here.chain (o.holds.so.stands.sound.owned.blocks n there) in (
+        subst (λ (t : ℕ). IsLaid t old.content file blocks (l.files n).sides) (sym same) (subst (λ (y : Relative). IsLaid tracks old.content y blocks (l.files n).sides) (sym file_is) so),
+        subst (λ (t : ℕ). length blocks ≤ sector_count t) (sym same) short,
+        sym here.blocks.blocks,
+      )
+
+  -- its clauses, of that file
+  pub fills_laid : (geometry : ℕ) (file : Relative) (r : Result Place Trouble) → geometry ≡ geometry_of old.tracks old.content
+      → file ≡ record { first = first_block (entry_at old.content o.holds.layout.directory n); side = first_side (entry_at old.content o.holds.layout.directory n); width = w }
+      → ((xs ss : List Place) → AllWhole old.content → IsLaid geometry old.content file xs ss → length xs ≤ sector_count geometry → length xs ≡ b
+      → MatchResult r (λ at. (at ≡ nth xs (b - 1)) × IsFilledUp old.content new.content xs file.width) (λ t. IsFillStopped geometry old new xs file.width t.code))
+      → Fills r
+  fills_laid geometry file r same is laid =
+      let f = slot_laid geometry file same is in
+      let h = laid blocks (o.holds.layout.files n).sides whole f.0 f.1 f.2 in
+      subst (λ (m : ℕ). MatchResult r (λ at. (at ≡ nth blocks (b - 1)) × IsFilledUp old.content new.content blocks m) (λ t. IsFillStopped (geometry_of old.tracks old.content) old new blocks m t.code)) (ap (λ (y : Relative). y.width) is)
       (subst (λ (u : ℕ). MatchResult r (λ at. (at ≡ nth blocks (b - 1)) × IsFilledUp old.content new.content blocks file.width) (λ t. IsFillStopped u old new blocks file.width t.code)) same h)
+
+  pub fills_none : (geometry : ℕ) (file : Relative) (r : Result Place Trouble) → geometry ≡ geometry_of old.tracks old.content
+      → file ≡ record { first = first_block (entry_at old.content o.holds.layout.directory n); side = first_side (entry_at old.content o.holds.layout.directory n); width = w }
+      → ((xs ss : List Place) → AllWhole old.content → IsLaid geometry old.content file xs ss → length xs ≤ sector_count geometry → length xs ≡ b → length (chain_bytes old.content xs) ≡ 254 * b → IsOk r × (new.content ≡ old.content))
+      → length (chain_bytes old.content blocks) ≡ 254 * b → IsOk r × (new.content ≡ old.content)
+  fills_none geometry file r same is full all =
+      let f = slot_laid geometry file same is in
+      full blocks (o.holds.layout.files n).sides whole f.0 f.1 f.2 all

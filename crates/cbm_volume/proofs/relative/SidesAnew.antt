@@ -13,7 +13,7 @@ use Rattle.cbm_file.specs.Files.{Disk}
 use Rattle.cbm_bam.specs.Map.{geometry_of, is_free_in, IsCounted, map_of}
 use Rattle.cbm_directory.specs.Entries.{type_byte, entry_at, first_directory, first_block, first_side, is_closed, is_relative}
 use Rattle.cbm_relfile.specs.Records.{AllWhole, IsLaid, Relative}
-use Rattle.cbm_relfile.specs.Relisting.{IsSideRefused, AreListed, AreApart, IsRelisted}
+use Rattle.cbm_relfile.specs.Relisting.{IsSideRefused, AreListed, AreInForm, AreApart, IsRelisted}
 use Rattle.cbm_relfile.specs.SideSectors.{Numbered}
 use Rattle.cbm_relfile.proofs.Relisted.{nth, numbered_nth}
 use Rattle.cbm_volume.specs.Blocks.{Lies, slot_of}
@@ -27,7 +27,7 @@ use Rattle.cbm_volume.proofs.Frames.{Keeps, sector_kept, chain_kept, lies_kept, 
 use Rattle.cbm_volume.proofs.GrowingSteps.{holds_aside, file_closed, file_relative}
 use Rattle.cbm_volume.proofs.Loose.{entry_kept}
 use Rattle.cbm_volume.proofs.Storing.{geometry_elsewhere}
-use Rattle.cbm_volume.proofs.relative.LastGrown.{LiesInSlot, lies, in_layout}
+use Rattle.cbm_volume.proofs.relative.LastGrown.{LiesInSlot, lies, in_layout, slot_laid}
 use Rattle.cbm_volume.proofs.relative.Longer as longer
 
 -- ---- other sectors
@@ -145,16 +145,7 @@ module _ (old new : Seen) (d : Disk) (uses : ℕ → Use) (n w b s : ℕ) (rs : 
   sound = o.holds.so.stands.sound
 
   pub file_laid : IsLaid geometry old.content file_is xs ss
-  file_laid = record {
-    chain = here.chain;
-    some_block = here.has.some_block;
-    some_width = subst (λ (m : ℕ). 1 ≤ m) (sym here.width) here.has.some_width;
-    most_width = subst (λ (m : ℕ). m ≤ 254) (sym here.width) here.has.width;
-    first_side = here.has.first;
-    listed = here.has.listed;
-    numbered = subst (λ (m : ℕ). Numbered geometry old.content m 0 ss) (sym here.width) here.has.numbered;
-    joined = here.has.joined;
-  }
+  file_laid = (slot_laid old new d uses n w b s rs o whole geometry file_is refl refl).0
 
   pub sides_apart : AreApart xs ss
   sides_apart = record {
@@ -213,3 +204,8 @@ module _ (old new : Seen) (d : Disk) (uses : ℕ → Use) (n w b s : ℕ) (rs : 
       by_result : (r : Result (Unit {0}) Trouble) → MatchResult r (λ x. AreListed new.content ss xs) (λ t. IsSideRefused old new t.code) → MatchResult r (λ x. b ≤ 120 * s → IsListed new.content ss xs) (IsHindered old new)
       by_result (Ok x) h = λ few. listed_of new.content ss xs h (omega (arith, few, here.blocks.blocks, side_count))
       by_result (Err t) h = h
+
+  -- what is in the drive's form isn't written
+  pub form_means : (tracks : ℕ) (file : Relative) (r : Result (Unit {0}) Trouble) → tracks ≡ geometry → file ≡ file_is
+      → ((ys ts : List Place) → IsLaid tracks old.content file ys ts → length ts ≡ s → AreInForm old.content ts ys → IsOk r × (new.content ≡ old.content)) → AreInForm old.content ss xs → IsOk r × (new.content ≡ old.content)
+  form_means tracks file r same is form h = form xs ss (subst (λ (t : ℕ). IsLaid t old.content file xs ss) (sym same) (subst (λ (f : Relative). IsLaid geometry old.content f xs ss) (sym is) file_laid)) side_count h

@@ -1,7 +1,13 @@
-use Rattle.std.proofs.Common.{ℕ, ◌*◌, ◌≤◌, sym, subst}
+use Rattle.std.proofs.Common.{◌≡◌, ℕ, ◌*◌, ◌≤◌, sym, subst, IsOk, Result, Ok, Err, arith}
+use Rattle.cbm_medium.specs.Place.{Place}
+use Rattle.cbm_medium.specs.Content.{Content}
+use Rattle.cbm_medium.specs.declared.fault.Trouble.{Trouble}
+use Rattle.cbm_directory.specs.Entries.{entry_at, first_block, first_side}
 use Rattle.cbm_medium.specs.Seen.{Seen}
-use Rattle.cbm_volume.specs.Growing.{IsGrowthStopped}
+use Rattle.cbm_volume.specs.Growing.{IsGrowthStopped, IsReadyToGrow}
+use Rattle.cbm_volume.specs.RecordWrites.{HasRecordsOpen}
 use Rattle.cbm_volume.proofs.CopySteps.{handed}
+use Rattle.cbm_volume.proofs.relative.Begun.{same_medium}
 use Rattle.cbm_volume.proofs.GrowthBegun.{sides_begin, enough_sides, open_again, grown_since, stopped_since}
 use Rattle.cbm_volume.proofs.beginning_growth.begin_growth.Goals as goal
 
@@ -38,3 +44,34 @@ returns-clause-begun g c = λ d uses n w rs o is room.
           (c.in_ok-last.ensures.begun _ uses n w rs (open_again old mid new d uses n w c.args.blocks c.args.sides rs o c.args.file c.in_ok-sides.sides k.1 only.tracks) k.1.file
           (subst (λ (m : ℕ). c.args.blocks ≤ 120 * m) (sym k.0) (enough_sides c.args.sides c.args.blocks))),
     )
+
+-- nothing is written to a file that the drive wrote
+pub returns-in_err-last-clause-ready : goal.returns-in_err-last-clause-ready
+returns-in_err-last-clause-ready g c = λ d uses n w rs o is all ready.
+    let r : Result Place Trouble = Err c.in_err-last.field-0.0 in
+    let old : Seen = g.M.Medium.seen c.args.medium.now in
+    let mid : Seen = g.M.Medium.seen c.add_sides.new.medium in
+    let new : Seen = g.M.Medium.seen c.begin_listed.new.medium in
+    let kept = c.in_ok-sides.ensures.enough (omega (arith, all, c.requires.blocks.0)) all in
+    let same : c.in_ok-sides.sides ≡ c.args.sides = (let e = kept.0 in cc) in
+    absurd (let no = (same_medium old mid
+    (λ (t : ℕ) (x : Content). (o1 : HasRecordsOpen t x d uses n w c.args.blocks c.args.sides rs) → c.args.file ≡ record { first = first_block (entry_at x o1.holds.layout.directory n); side = first_side (entry_at x o1.holds.layout.directory n); width = w }
+    → IsReadyToGrow x (o1.holds.layout.files n).sides (o1.holds.layout.files n).data_blocks c.args.blocks → IsOk r × (new.content ≡ x))
+    c.in_ok-sides.ensures.only.tracks kept.1
+    (subst (λ (k : ℕ). (o1 : HasRecordsOpen mid.tracks mid.content d uses n w c.args.blocks k rs) → c.args.file ≡ record { first = first_block (entry_at mid.content o1.holds.layout.directory n); side = first_side (entry_at mid.content o1.holds.layout.directory n); width = w }
+    → IsReadyToGrow mid.content (o1.holds.layout.files n).sides (o1.holds.layout.files n).data_blocks c.args.blocks → IsOk r × (new.content ≡ mid.content)) same (c.in_err-last.ensures.ready d uses n w rs)) o is ready).0 in cc)
+
+pub returns-clause-ready : goal.returns-clause-ready
+returns-clause-ready g c = λ d uses n w rs o is all ready.
+    let r : Result Place Trouble = Ok c.in_ok-last.last in
+    let old : Seen = g.M.Medium.seen c.args.medium.now in
+    let mid : Seen = g.M.Medium.seen c.add_sides.new.medium in
+    let new : Seen = g.M.Medium.seen c.begin_listed.new.medium in
+    let kept = c.in_ok-sides.ensures.enough (omega (arith, all, c.requires.blocks.0)) all in
+    let same : c.in_ok-sides.sides ≡ c.args.sides = (let e = kept.0 in cc) in
+    same_medium old mid
+    (λ (t : ℕ) (x : Content). (o1 : HasRecordsOpen t x d uses n w c.args.blocks c.args.sides rs) → c.args.file ≡ record { first = first_block (entry_at x o1.holds.layout.directory n); side = first_side (entry_at x o1.holds.layout.directory n); width = w }
+    → IsReadyToGrow x (o1.holds.layout.files n).sides (o1.holds.layout.files n).data_blocks c.args.blocks → IsOk r × (new.content ≡ x))
+    c.in_ok-sides.ensures.only.tracks kept.1
+    (subst (λ (k : ℕ). (o1 : HasRecordsOpen mid.tracks mid.content d uses n w c.args.blocks k rs) → c.args.file ≡ record { first = first_block (entry_at mid.content o1.holds.layout.directory n); side = first_side (entry_at mid.content o1.holds.layout.directory n); width = w }
+    → IsReadyToGrow mid.content (o1.holds.layout.files n).sides (o1.holds.layout.files n).data_blocks c.args.blocks → IsOk r × (new.content ≡ mid.content)) same (c.in_ok-last.ensures.ready d uses n w rs)) o is ready

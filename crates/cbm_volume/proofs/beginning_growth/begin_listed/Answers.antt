@@ -1,7 +1,12 @@
+use Rattle.std.proofs.Common.{◌≡◌, ℕ, ◌*◌, length, IsOk}
+use Rattle.cbm_medium.specs.Content.{Content}
 use Rattle.cbm_medium.specs.Seen.{Seen}
+use Rattle.cbm_chain.specs.Data.{chain_bytes}
+use Rattle.cbm_directory.specs.Entries.{entry_at, first_block, first_side}
+use Rattle.cbm_volume.specs.RecordWrites.{HasRecordsOpen}
 use Rattle.cbm_volume.specs.Growing.{IsGrowthStopped}
 use Rattle.cbm_relfile.proofs.Changed.{refused_by}
-use Rattle.cbm_volume.proofs.relative.Begun.{reopened, names_same, stopped_first, begun_means}
+use Rattle.cbm_volume.proofs.relative.Begun.{reopened, names_same, same_medium, stopped_first, begun_means}
 use Rattle.cbm_volume.proofs.beginning_growth.begin_listed.Goals as goal
 
 -- a side sector isn't written
@@ -24,3 +29,18 @@ returns-clause-begun g c = λ d uses n w rs o is few.
     let is2 = names_same old mid new d uses n w c.args.blocks c.args.sides rs o c.args.file r.0 is in
     begun_means old mid new d uses n w c.args.blocks c.args.sides rs o r.0 c.args.file c.fill_last.result c.in_ok-list_anew.ensures.only.tracks c.in_ok-list_anew.ensures.only.protected c.in_ok-list_anew.ensures.only.counted
     (c.fill_last.ensures.aside d uses n w c.args.sides rs o2 is2) (c.fill_last.ensures.filled d uses n w c.args.sides rs o2 is2 (r.1 few))
+
+-- a file that is in the drive's form and full isn't written
+pub returns-in_err-list_anew-clause-ready : goal.returns-in_err-list_anew-clause-ready
+returns-in_err-list_anew-clause-ready g c = λ d uses n w rs o is ready.
+    absurd (let no = (c.in_err-list_anew.ensures.form d uses n w c.args.blocks rs o is ready.form).0 in cc)
+
+pub returns-clause-ready : goal.returns-clause-ready
+returns-clause-ready g c = λ d uses n w rs o is ready.
+    let old : Seen = g.M.Medium.seen c.args.medium.now in
+    let mid : Seen = g.M.Medium.seen c.list_anew.new.medium in
+    let new : Seen = g.M.Medium.seen c.fill_last.new.medium in
+    same_medium old mid
+    (λ (t : ℕ) (x : Content). (o1 : HasRecordsOpen t x d uses n w c.args.blocks c.args.sides rs) → c.args.file ≡ record { first = first_block (entry_at x o1.holds.layout.directory n); side = first_side (entry_at x o1.holds.layout.directory n); width = w }
+    → length (chain_bytes x (o1.holds.layout.files n).data_blocks) ≡ 254 * c.args.blocks → IsOk c.fill_last.result × (new.content ≡ x))
+    c.in_ok-list_anew.ensures.only.tracks (c.in_ok-list_anew.ensures.form d uses n w c.args.blocks rs o is ready.form).1 (c.fill_last.ensures.full d uses n w c.args.sides rs) o is ready.full
