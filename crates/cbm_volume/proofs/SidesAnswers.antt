@@ -18,7 +18,7 @@ use Rattle.cbm_volume.specs.RecordWrites.{HasRecordsOpen}
 use Rattle.cbm_volume.specs.Writers.{Use}
 use Rattle.cbm_volume.proofs.GrowingAnswers.{AnswersLink, FirstSide, first_reads}
 use Rattle.cbm_volume.proofs.GrowingLists.{side_is, begun_cut, list_cut, stop_later}
-use Rattle.cbm_volume.proofs.GrowingSides.{side_is_no_map}
+use Rattle.cbm_volume.proofs.SideTurns.{side_is_no_map}
 use Rattle.cbm_volume.proofs.GrowingSteps.{Stage}
 use Rattle.cbm_volume.proofs.GrowingTurns.{FileLies, lies_at, slot_in, is_not}
 use Rattle.cbm_volume.proofs.SidesAdded.{sides_stage, empty_stage, empty_begun, empty_copied, empty_added}
