@@ -5,3 +5,4 @@ pub mod alone
 pub mod among
 pub mod timing
 pub mod headline
+pub mod handed

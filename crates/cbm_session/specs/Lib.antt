@@ -11,5 +11,6 @@ pub mod Following
 pub mod Among
 pub mod Buses
 pub mod Playing
+pub mod Handed
 pub mod Rows
 pub mod Laws
