@@ -3,3 +3,4 @@ pub mod Later
 pub mod Knowing
 pub mod OneHearing
 pub mod Hearers
+pub mod Handing
