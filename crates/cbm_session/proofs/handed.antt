@@ -4,3 +4,4 @@ pub mod Knowing
 pub mod OneHearing
 pub mod Hearers
 pub mod Handing
+pub mod Handed

@@ -5,6 +5,7 @@ ghost use Rattle.cbm_session.specs.Buses.{FollowsBuses};
 ghost use Rattle.cbm_session.specs.Following.{FollowsPieces, FollowsFronts, FollowsSessions};
 ghost use Rattle.cbm_session.specs.Laws.{OnePulse, PulseEnds, ListenersAccepted, DrivesAccepted, CommandsGoInParts, BytesGoInParts, SessionsGoOn, OneReading, FrontsKeep, FrontsInTime};
 ghost use Rattle.cbm_session.specs.Playing.{KeepsSessions};
+ghost use Rattle.cbm_session.specs.Handed.{HearsOne, HandsEach};
 ghost use Rattle.cbm_session.specs.Rows.{ListenOwn, ListenOther, TalkCut, TalkCutEarly, TwoListeners, Ties98, Ties89, BesideAListener, SilentBeside};
 
 use cbm_iec::Machine;
@@ -87,6 +88,17 @@ pub fn follows_sessions()
 /// role, the lines and the next reaction that the session gives it.
 pub fn follows_buses()
     ensures { FollowsBuses }
+{}
+
+/// What a drive hears is a function of what the host and the other drives do on the wires: no machine has a part in it.
+pub fn hears_one()
+    ensures { HearsOne }
+{}
+
+/// Under any changes of the host, timing kept or not, the machine of each drive on a bus has run exactly the acts that
+/// the wires handed to it, and each byte that it said was the one that it had to say at that time.
+pub fn hands_each<D: Machine>()
+    ensures { HandsEach D.State D.step D.says }
 {}
 
 /// From rest one to four unlike drives on a bus, whatever machine stands above each, whatever their reactions are (1 to

@@ -1,12 +1,12 @@
 -- Under any host each drive's machine runs what the wires hand it: the induction over what is played.
-use Rattle.std.proofs.Common.{◌≡◌, ℕ, zero, suc, ◌+◌, ◌≤◌, ◌<◌, ◌⊎◌, inl, inr, Bool, true, false, List, [], ◌∷◌, ◌++◌, map, append_assoc, Option, Some, None, ap, sym, ◌∙◌, subst, refl, arith, eq-eqb}
-use Rattle.std.proofs.lemmas.Bool.{le-leb, lt-leb, lt-ltb, ne_eqb}
+use Rattle.std.proofs.Common.{◌≡◌, ℕ, suc, ◌≤◌, ◌<◌, inl, inr, Bool, true, false, List, [], ◌∷◌, ◌++◌, map, append_assoc, Option, Some, None, ap, sym, ◌∙◌, subst, refl, arith, eq-eqb}
+use Rattle.std.proofs.lemmas.Bool.{le-leb, lt-leb, ne_eqb}
 use Rattle.std.proofs.lemmas.List.{map-append}
 use Rattle.std.specs.Prelude.{if◌then◌else◌, nat_eq, nat_le, nat_lt, ◌||◌}
-use Rattle.cbm_iec.specs.Ports.{port_due, told, reaction_changes, changes_between, changed, next_held}
+use Rattle.cbm_iec.specs.Ports.{port_due, changed, next_held}
 use Rattle.cbm_iec.specs.declared.act.Act.{Act}
 use Rattle.cbm_iec.specs.declared.event.Event.{Event}
-use Rattle.cbm_iec.specs.declared.event.Who.TheVariants.{Host, Drive}
+use Rattle.cbm_iec.specs.declared.event.Who.TheVariants.{Drive}
 use Rattle.cbm_iec.specs.declared.line.Change.{Change}
 use Rattle.cbm_iec.specs.declared.line.Line.TheVariants.{Clock, Data}
 use Rattle.cbm_iec.specs.declared.line.Line.{Line}
@@ -14,12 +14,12 @@ use Rattle.cbm_iec.specs.declared.party.Party.{Party}
 use Rattle.cbm_iec.specs.declared.port.Side.TheVariants.{Hearing, Speaking}
 use Rattle.cbm_iec.specs.declared.port.Side.{Side}
 use Rattle.cbm_iec.specs.Ports.{side_due}
-use Rattle.cbm_session.proofs.handed.Hearers.{ear_of, hearer, IsSettled, told_settled, react_settled, Goes, goes_told, goes_react}
+use Rattle.cbm_session.proofs.handed.Hearers.{ear_of, IsSettled, told_settled, react_settled, Goes, goes_told, goes_react}
 use Rattle.cbm_session.proofs.handed.Later.{told_kept, reacted_later}
 use Rattle.cbm_session.specs.Among.{Rest, behind_host, behind_other}
 use Rattle.cbm_session.specs.Following.{IsInTime}
-use Rattle.cbm_session.specs.Handed.{ear_time, others_of, is_one_of, is_before, comes_next, IsQuiet, Hands, ends, AllReact}
-use Rattle.cbm_session.specs.Playing.{IsLaterDue, Station, host_event, drive_events, told_lines, tell, hear, hear_all, react, shown, AllInTime, AllLater, IsFirst, reacting, Plays, stays, change, reaction}
+use Rattle.cbm_session.specs.Handed.{ear_time, others_of, is_one_of, is_before, comes_next, IsQuiet, ends, AllReact}
+use Rattle.cbm_session.specs.Playing.{IsLaterDue, Station, host_event, drive_events, told_lines, tell, hear, hear_all, react, shown, AllInTime, AllLater, reacting, Plays, stays, change, reaction}
 use Rattle.cbm_session.specs.Sessions.{Unlike, AllUnlike}
 
 -- ---- two places in one list
@@ -56,7 +56,7 @@ Under [] P (y ∷ ys) = P y
 Under (a ∷ as_) P [] = ⊥
 Under (a ∷ as_) P (y ∷ ys) = Under as_ P ys
 
-under_map : {A B : Type 0} (as_ : List A) (P Q : B → Type 0) (ys : List B) → ((y : B) → P y → Q y) → Under as_ P ys → Under as_ Q ys
+pub under_map : {A B : Type 0} (as_ : List A) (P Q : B → Type 0) (ys : List B) → ((y : B) → P y → Q y) → Under as_ P ys → Under as_ Q ys
 under_map [] P Q [] f u = elim u [ ]
 under_map [] P Q (y ∷ ys) f u = f y u
 under_map (a ∷ as_) P Q [] f u = elim u [ ]
@@ -143,17 +143,17 @@ tie_quiet true t m u e h = lt-leb u m (omega (arith, e, h))
 tie_quiet false t m u e h = not_less u m (omega (arith, e, h))
 
 module _ (M : Type 0) (step : M → Act → M) (peek : M → Option (ℕ × Bool)) where
-  abbrev parties : List (Station M) → List Party
+  abbrev pub parties : List (Station M) → List Party
   parties ss = map (λ s. s.port.party) ss
 
   abbrev Due : Station M → Option ℕ
   Due s = port_due s.port
 
-  party_map : (f : Station M → Station M) (ss : List (Station M)) → ((s : Station M) → (f s).port.party ≡ s.port.party) → parties (map f ss) ≡ parties ss
+  pub party_map : (f : Station M → Station M) (ss : List (Station M)) → ((s : Station M) → (f s).port.party ≡ s.port.party) → parties (map f ss) ≡ parties ss
   party_map f [] h = refl
   party_map f (s ∷ ss) h = ap (λ (p : Party). p ∷ parties (map f ss)) (h s) ∙ ap (λ (l : List Party). s.port.party ∷ l) (party_map f ss h)
 
-  party_heard : (cs : List Change) (s : Station M) → (hear_all M step peek cs s).port.party ≡ s.port.party
+  pub party_heard : (cs : List Change) (s : Station M) → (hear_all M step peek cs s).port.party ≡ s.port.party
   party_heard [] s = refl
   party_heard (c ∷ cs) s = party_heard cs (hear M step peek c s)
 
@@ -217,11 +217,11 @@ module _ (M : Type 0) (step : M → Act → M) (peek : M → Option (ℕ × Bool
 
   module _ (end : ℕ) (b : Party) (pa pb : List Party) (unlike : AllUnlike (pa ++ b ∷ pb)) (swift : AllReact (pa ++ b ∷ pb)) where
     -- the drive stands at its place in the list
-    record Stands (as_ : List (Station M)) (x : Station M) (bs ss : List (Station M)) : Type 0 where
-      all : ss ≡ as_ ++ x ∷ bs
-      before : parties as_ ≡ pa
-      own : x.port.party ≡ b
-      behind : parties bs ≡ pb
+    pub record Stands (as_ : List (Station M)) (x : Station M) (bs ss : List (Station M)) : Type 0 where
+      pub all : ss ≡ as_ ++ x ∷ bs
+      pub before : parties as_ ≡ pa
+      pub own : x.port.party ≡ b
+      pub behind : parties bs ≡ pb
 
     abbrev heard_from : ℕ → Station M → Station M → Station M
     heard_from t o s = hear_all M step peek (shown M step peek t o) s
@@ -263,26 +263,26 @@ module _ (M : Type 0) (step : M → Act → M) (peek : M → Option (ℕ × Bool
         → Stands (map (heard_from t o) as_) (heard_from t o x) (map (heard_from t o) mid ++ react M step peek t o ∷ map (heard_from t o) behind) (reacting M step peek t (as_ ++ x ∷ mid) o behind)
     ahead_stands t as_ x mid o behind s = record {
       all = ap (λ (l : List (Station M)). l ++ react M step peek t o ∷ map (heard_from t o) behind) (map-append (heard_from t o) as_ (x ∷ mid))
-        ∙ append_assoc (map (heard_from t o) as_) (heard_from t o x ∷ map (heard_from t o) mid) (react M step peek t o ∷ map (heard_from t o) behind);
+          ∙ append_assoc (map (heard_from t o) as_) (heard_from t o x ∷ map (heard_from t o) mid) (react M step peek t o ∷ map (heard_from t o) behind);
       before = party_map (heard_from t o) as_ (λ z. party_heard (shown M step peek t o) z) ∙ s.before;
       own = party_heard (shown M step peek t o) x ∙ s.own;
       behind = parties_at (map (heard_from t o) mid) (react M step peek t o) (map (heard_from t o) behind)
-        ∙ ap (λ (l : List Party). l ++ o.port.party ∷ parties (map (heard_from t o) behind)) (party_map (heard_from t o) mid (λ z. party_heard (shown M step peek t o) z))
-        ∙ ap (λ (l : List Party). parties mid ++ o.port.party ∷ l) (party_map (heard_from t o) behind (λ z. party_heard (shown M step peek t o) z))
-        ∙ sym (parties_at mid o behind)
-        ∙ s.behind;
+          ∙ ap (λ (l : List Party). l ++ o.port.party ∷ parties (map (heard_from t o) behind)) (party_map (heard_from t o) mid (λ z. party_heard (shown M step peek t o) z))
+          ∙ ap (λ (l : List Party). parties mid ++ o.port.party ∷ l) (party_map (heard_from t o) behind (λ z. party_heard (shown M step peek t o) z))
+          ∙ sym (parties_at mid o behind)
+          ∙ s.behind;
     }
 
     later_stands : (t : ℕ) (before : List (Station M)) (o : Station M) (mid : List (Station M)) (x : Station M) (bs : List (Station M)) {ss : List (Station M)} → Stands (before ++ o ∷ mid) x bs ss
         → Stands (map (heard_from t o) before ++ react M step peek t o ∷ map (heard_from t o) mid) (heard_from t o x) (map (heard_from t o) bs) (reacting M step peek t before o (mid ++ x ∷ bs))
     later_stands t before o mid x bs s = record {
       all = ap (λ (l : List (Station M)). map (heard_from t o) before ++ react M step peek t o ∷ l) (map-append (heard_from t o) mid (x ∷ bs))
-        ∙ sym (append_assoc (map (heard_from t o) before) (react M step peek t o ∷ map (heard_from t o) mid) (heard_from t o x ∷ map (heard_from t o) bs));
+          ∙ sym (append_assoc (map (heard_from t o) before) (react M step peek t o ∷ map (heard_from t o) mid) (heard_from t o x ∷ map (heard_from t o) bs));
       before = parties_at (map (heard_from t o) before) (react M step peek t o) (map (heard_from t o) mid)
-        ∙ ap (λ (l : List Party). l ++ o.port.party ∷ parties (map (heard_from t o) mid)) (party_map (heard_from t o) before (λ z. party_heard (shown M step peek t o) z))
-        ∙ ap (λ (l : List Party). parties before ++ o.port.party ∷ l) (party_map (heard_from t o) mid (λ z. party_heard (shown M step peek t o) z))
-        ∙ sym (parties_at before o mid)
-        ∙ s.before;
+          ∙ ap (λ (l : List Party). l ++ o.port.party ∷ parties (map (heard_from t o) mid)) (party_map (heard_from t o) before (λ z. party_heard (shown M step peek t o) z))
+          ∙ ap (λ (l : List Party). parties before ++ o.port.party ∷ l) (party_map (heard_from t o) mid (λ z. party_heard (shown M step peek t o) z))
+          ∙ sym (parties_at before o mid)
+          ∙ s.before;
       own = party_heard (shown M step peek t o) x ∙ s.own;
       behind = party_map (heard_from t o) bs (λ z. party_heard (shown M step peek t o) z) ∙ s.behind;
     }
@@ -301,7 +301,7 @@ module _ (M : Type 0) (step : M → Act → M) (peek : M → Option (ℕ × Bool
     later_unlike before o mid s =
         let e = sym s.before ∙ parties_at before o mid in
         let k = unlike_in o.port.party.device (parties mid) b pb
-            (unlike_at (parties before) o.port.party (parties mid ++ b ∷ pb) (subst (λ (l : List Party). AllUnlike l) (ap (λ (l : List Party). l ++ b ∷ pb) e ∙ append_assoc (parties before) (o.port.party ∷ parties mid) (b ∷ pb)) unlike)) in
+        (unlike_at (parties before) o.port.party (parties mid ++ b ∷ pb) (subst (λ (l : List Party). AllUnlike l) (ap (λ (l : List Party). l ++ b ∷ pb) e ∙ append_assoc (parties before) (o.port.party ∷ parties mid) (b ∷ pb)) unlike)) in
         (λ f. k.0 (sym f), none_of o.port.party.device pb k.1)
 
     -- ---- nothing of another party comes before the drive's reaction at t
@@ -344,51 +344,51 @@ module _ (M : Type 0) (step : M → Act → M) (peek : M → Option (ℕ × Bool
     comes_first {n} {n2} {t} {ss} {ss2} {es} (reaction u before o behind more y e i k f) as_ x bs s l m p =
         ap (λ (v : List Event). comes_next (devices pb) end t (others_of b.device v)) k ∙ elim (where_is as_ x bs before o behind (sym s.all ∙ e)) [
           | here ea ex eb ↦ (
-            let s2 = restand ea ex eb s in
-            let p2 = repast t ea ex eb p in
-            let w = swift_of s2 in
-            let l2 = due_after t u (Due o) i.due p2.own in
-            let own = ap (λ (q : Party). q.device) s2.own in
-            ap (λ (d : ℕ). comes_next (devices pb) end t (others_of b.device (drive_events d (shown M step peek u o) ++ more))) own
-            ∙ ap (λ (v : List Event). comes_next (devices pb) end t v) (own_removed b.device (shown M step peek u o) more)
-            ∙ comes_first f (map (heard_from u o) before) (react M step peek u o) (map (heard_from u o) behind) (here_stands u before o behind s2) (omega (arith, l2)) m (record {
-              before = all_later_heard u t (shown M step peek u o) before (shown_at u o) w.0 (omega (arith, l2)) p2.before;
-              own = react_later u t o w.1 (omega (arith, l2)) i.due;
-              behind = all_in_time_heard u t (shown M step peek u o) behind (shown_at u o) w.2 (omega (arith, l2)) p2.behind;
-            })
-          )
+              let s2 = restand ea ex eb s in
+              let p2 = repast t ea ex eb p in
+              let w = swift_of s2 in
+              let l2 = due_after t u (Due o) i.due p2.own in
+              let own = ap (λ (q : Party). q.device) s2.own in
+              ap (λ (d : ℕ). comes_next (devices pb) end t (others_of b.device (drive_events d (shown M step peek u o) ++ more))) own
+              ∙ ap (λ (v : List Event). comes_next (devices pb) end t v) (own_removed b.device (shown M step peek u o) more)
+              ∙ comes_first f (map (heard_from u o) before) (react M step peek u o) (map (heard_from u o) behind) (here_stands u before o behind s2) (omega (arith, l2)) m (record {
+                before = all_later_heard u t (shown M step peek u o) before (shown_at u o) w.0 (omega (arith, l2)) p2.before;
+                own = react_later u t o w.1 (omega (arith, l2)) i.due;
+                behind = all_in_time_heard u t (shown M step peek u o) behind (shown_at u o) w.2 (omega (arith, l2)) p2.behind;
+              })
+              )
           | ahead mid ea eb ↦ (
-            let s2 = restand refl refl eb s in
-            let p2 = repast t refl refl eb p in
-            let w = swift_of s2 in
-            let w2 = swift_at mid o behind w.2 in
-            let q = in_time_at t mid o behind p2.behind in
-            let l2 = due_from t u (Due o) i.due q.1 in
-            let n2 = ahead_unlike mid o behind s2 in
-            let s3 = subst (λ (v : List (Station M)). Stands (map (heard_from u o) as_) (heard_from u o x) (map (heard_from u o) mid ++ react M step peek u o ∷ map (heard_from u o) behind) (reacting M step peek u v o behind)) (sym ea) (ahead_stands u as_ x mid o behind s2) in
-            shows_behind t u o.port.party.device (shown M step peek u o) more n2.0 (shown_at u o) (tie_before (is_one_of o.port.party.device (devices pb)) t u n2.1 l2)
-            (comes_first f (map (heard_from u o) as_) (heard_from u o x) (map (heard_from u o) mid ++ react M step peek u o ∷ map (heard_from u o) behind) s3 (omega (arith, l2)) m (record {
-              before = all_later_heard u t (shown M step peek u o) as_ (shown_at u o) w.0 l2 p2.before;
-              own = later_heard u t (shown M step peek u o) x (shown_at u o) w.1 l2 p2.own;
-              behind = in_time_join t (map (heard_from u o) mid) (react M step peek u o) (map (heard_from u o) behind) (all_in_time_heard u t (shown M step peek u o) mid (shown_at u o) w2.0 l2 q.0) (react_in_time u t o w2.1 l2 i.due) (all_in_time_heard u t (shown M step peek u o) behind (shown_at u o) w2.2 l2 q.2);
-            }))
-          )
+              let s2 = restand refl refl eb s in
+              let p2 = repast t refl refl eb p in
+              let w = swift_of s2 in
+              let w2 = swift_at mid o behind w.2 in
+              let q = in_time_at t mid o behind p2.behind in
+              let l2 = due_from t u (Due o) i.due q.1 in
+              let n2 = ahead_unlike mid o behind s2 in
+              let s3 = subst (λ (v : List (Station M)). Stands (map (heard_from u o) as_) (heard_from u o x) (map (heard_from u o) mid ++ react M step peek u o ∷ map (heard_from u o) behind) (reacting M step peek u v o behind)) (sym ea) (ahead_stands u as_ x mid o behind s2) in
+              shows_behind t u o.port.party.device (shown M step peek u o) more n2.0 (shown_at u o) (tie_before (is_one_of o.port.party.device (devices pb)) t u n2.1 l2)
+              (comes_first f (map (heard_from u o) as_) (heard_from u o x) (map (heard_from u o) mid ++ react M step peek u o ∷ map (heard_from u o) behind) s3 (omega (arith, l2)) m (record {
+                before = all_later_heard u t (shown M step peek u o) as_ (shown_at u o) w.0 l2 p2.before;
+                own = later_heard u t (shown M step peek u o) x (shown_at u o) w.1 l2 p2.own;
+                behind = in_time_join t (map (heard_from u o) mid) (react M step peek u o) (map (heard_from u o) behind) (all_in_time_heard u t (shown M step peek u o) mid (shown_at u o) w2.0 l2 q.0) (react_in_time u t o w2.1 l2 i.due) (all_in_time_heard u t (shown M step peek u o) behind (shown_at u o) w2.2 l2 q.2);
+              }))
+              )
           | later mid ea eb ↦ (
-            let s2 = restand ea refl refl s in
-            let p2 = repast t ea refl refl p in
-            let w = swift_of s2 in
-            let w2 = swift_at before o mid w.0 in
-            let q = later_at t before o mid p2.before in
-            let l2 = due_after t u (Due o) i.due q.1 in
-            let n2 = later_unlike before o mid s2 in
-            let s3 = subst (λ (v : List (Station M)). Stands (map (heard_from u o) before ++ react M step peek u o ∷ map (heard_from u o) mid) (heard_from u o x) (map (heard_from u o) bs) (reacting M step peek u before o v)) (sym eb) (later_stands u before o mid x bs s2) in
-            shows_behind t u o.port.party.device (shown M step peek u o) more n2.0 (shown_at u o) (less_before (is_one_of o.port.party.device (devices pb)) t u l2)
-            (comes_first f (map (heard_from u o) before ++ react M step peek u o ∷ map (heard_from u o) mid) (heard_from u o x) (map (heard_from u o) bs) s3 (omega (arith, l2)) m (record {
-              before = later_join t (map (heard_from u o) before) (react M step peek u o) (map (heard_from u o) mid) (all_later_heard u t (shown M step peek u o) before (shown_at u o) w2.0 (omega (arith, l2)) q.0) (react_later u t o w2.1 (omega (arith, l2)) i.due) (all_later_heard u t (shown M step peek u o) mid (shown_at u o) w2.2 (omega (arith, l2)) q.2);
-              own = later_heard u t (shown M step peek u o) x (shown_at u o) w.1 (omega (arith, l2)) p2.own;
-              behind = all_in_time_heard u t (shown M step peek u o) bs (shown_at u o) w.2 (omega (arith, l2)) p2.behind;
-            }))
-          )
+              let s2 = restand ea refl refl s in
+              let p2 = repast t ea refl refl p in
+              let w = swift_of s2 in
+              let w2 = swift_at before o mid w.0 in
+              let q = later_at t before o mid p2.before in
+              let l2 = due_after t u (Due o) i.due q.1 in
+              let n2 = later_unlike before o mid s2 in
+              let s3 = subst (λ (v : List (Station M)). Stands (map (heard_from u o) before ++ react M step peek u o ∷ map (heard_from u o) mid) (heard_from u o x) (map (heard_from u o) bs) (reacting M step peek u before o v)) (sym eb) (later_stands u before o mid x bs s2) in
+              shows_behind t u o.port.party.device (shown M step peek u o) more n2.0 (shown_at u o) (less_before (is_one_of o.port.party.device (devices pb)) t u l2)
+              (comes_first f (map (heard_from u o) before ++ react M step peek u o ∷ map (heard_from u o) mid) (heard_from u o x) (map (heard_from u o) bs) s3 (omega (arith, l2)) m (record {
+                before = later_join t (map (heard_from u o) before) (react M step peek u o) (map (heard_from u o) mid) (all_later_heard u t (shown M step peek u o) before (shown_at u o) w2.0 (omega (arith, l2)) q.0) (react_later u t o w2.1 (omega (arith, l2)) i.due) (all_later_heard u t (shown M step peek u o) mid (shown_at u o) w2.2 (omega (arith, l2)) q.2);
+                own = later_heard u t (shown M step peek u o) x (shown_at u o) w.1 (omega (arith, l2)) p2.own;
+                behind = all_in_time_heard u t (shown M step peek u o) bs (shown_at u o) w.2 (omega (arith, l2)) p2.behind;
+              }))
+              )
         ]
 
     -- ---- what the drive is handed
@@ -431,7 +431,7 @@ module _ (M : Type 0) (step : M → Act → M) (peek : M → Option (ℕ × Bool
         quiet : (u : ℕ) → Due x ≡ Some u → comes_next (devices pb) end u [] ≡ false
         quiet u f = let k = due_after end u (Due x) f l in lt-leb u end k
 
-    handed : {n n2 : ℕ} {ss ss2 : List (Station M)} {es : List Event} → Plays M step peek n ss es n2 ss2 → (as_ : List (Station M)) (x : Station M) (bs : List (Station M)) → Stands as_ x bs ss
+    pub handed : {n n2 : ℕ} {ss ss2 : List (Station M)} {es : List Event} → Plays M step peek n ss es n2 ss2 → (as_ : List (Station M)) (x : Station M) (bs : List (Station M)) → Stands as_ x bs ss
         → IsSettled M step peek x → n2 ≤ suc end → AllLater M step peek end ss2 → Under pa (λ y. Ends x es y) ss2
     handed {n} {n2} {ss} {ss2} {es} (stays y e k f) as_ x bs s g m z =
         let e2 = f ∙ s.all in
@@ -446,42 +446,42 @@ module _ (M : Type 0) (step : M → Act → M) (peek : M → Option (ℕ × Bool
     handed {n} {n2} {ss} {ss2} {es} (reaction u before o behind more y e i k f) as_ x bs s g m z =
         subst (λ (v : List Event). Under pa (λ w. Ends x v w) ss2) (sym k) (elim (where_is as_ x bs before o behind (sym s.all ∙ e)) [
           | here ea ex eb ↦ (
-            let s2 = restand ea ex eb s in
-            let w = swift_of s2 in
-            let go = subst (λ (v : Station M). IsSettled M step peek v) ex g in
-            let next = comes_first f (map (heard_from u o) before) (react M step peek u o) (map (heard_from u o) behind) (here_stands u before o behind s2) (omega arith) m (record {
-              before = all_later_heard u u (shown M step peek u o) before (shown_at u o) w.0 (omega arith) i.later;
-              own = react_later u u o w.1 (omega arith) i.due;
-              behind = all_in_time_heard u u (shown M step peek u o) behind (shown_at u o) w.2 (omega arith) i.in_time;
-            }) in
-            let own = ap (λ (d : ℕ). others_of b.device (drive_events d (shown M step peek u o) ++ more)) (ap (λ (q : Party). q.device) s2.own) ∙ own_removed b.device (shown M step peek u o) more in
-            subst (λ (v : Station M). Under pa (λ w2. Ends v (drive_events o.port.party.device (shown M step peek u o) ++ more) w2) ss2) (sym ex)
-            (subst (λ (v : List Event). Under pa (λ w2. Goes M step peek (devices pb) end o v w2) ss2) (sym own)
-            (under_map pa (λ w2. Ends (react M step peek u o) more w2) (λ w2. Ends o more w2) ss2 (λ w2 j. goes_react M step peek (devices pb) end u (others_of b.device more) o w2 go i.due next j)
-            (handed f (map (heard_from u o) before) (react M step peek u o) (map (heard_from u o) behind) (here_stands u before o behind s2) (react_settled M step peek u o go) m z)))
-          )
+              let s2 = restand ea ex eb s in
+              let w = swift_of s2 in
+              let go = subst (λ (v : Station M). IsSettled M step peek v) ex g in
+              let next = comes_first f (map (heard_from u o) before) (react M step peek u o) (map (heard_from u o) behind) (here_stands u before o behind s2) (omega arith) m (record {
+                before = all_later_heard u u (shown M step peek u o) before (shown_at u o) w.0 (omega arith) i.later;
+                own = react_later u u o w.1 (omega arith) i.due;
+                behind = all_in_time_heard u u (shown M step peek u o) behind (shown_at u o) w.2 (omega arith) i.in_time;
+              }) in
+              let own = ap (λ (d : ℕ). others_of b.device (drive_events d (shown M step peek u o) ++ more)) (ap (λ (q : Party). q.device) s2.own) ∙ own_removed b.device (shown M step peek u o) more in
+              subst (λ (v : Station M). Under pa (λ w2. Ends v (drive_events o.port.party.device (shown M step peek u o) ++ more) w2) ss2) (sym ex)
+              (subst (λ (v : List Event). Under pa (λ w2. Goes M step peek (devices pb) end o v w2) ss2) (sym own)
+              (under_map pa (λ w2. Ends (react M step peek u o) more w2) (λ w2. Ends o more w2) ss2 (λ w2 j. goes_react M step peek (devices pb) end u (others_of b.device more) o w2 go i.due next j)
+              (handed f (map (heard_from u o) before) (react M step peek u o) (map (heard_from u o) behind) (here_stands u before o behind s2) (react_settled M step peek u o go) m z)))
+              )
           | ahead mid ea eb ↦ (
-            let s2 = restand refl refl eb s in
-            let w = swift_of s2 in
-            let n2 = ahead_unlike mid o behind s2 in
-            let q = later_at u as_ x mid (subst (λ (v : List (Station M)). AllLater M step peek u v) ea i.later) in
-            let tie = subst (λ (v : Bool). IsBehindTie v u (Due x)) (sym n2.1) q.1 in
-            let s3 = subst (λ (v : List (Station M)). Stands (map (heard_from u o) as_) (heard_from u o x) (map (heard_from u o) mid ++ react M step peek u o ∷ map (heard_from u o) behind) (reacting M step peek u v o behind)) (sym ea) (ahead_stands u as_ x mid o behind s2) in
-            subst (λ (v : List Event). Under pa (λ w2. Goes M step peek (devices pb) end x v w2) ss2) (sym (others_stay b.device o.port.party.device (shown M step peek u o) more n2.0))
-            (under_map pa (λ w2. Ends (heard_from u o x) more w2) (λ w2. Goes M step peek (devices pb) end x (drive_events o.port.party.device (shown M step peek u o) ++ others_of b.device more) w2) ss2
-            (λ w2 j. goes_heard o.port.party.device u (shown M step peek u o) (others_of b.device more) x w2 (shown_at u o) g w.1 tie j)
-            (handed f (map (heard_from u o) as_) (heard_from u o x) (map (heard_from u o) mid ++ react M step peek u o ∷ map (heard_from u o) behind) s3 (heard_settled (shown M step peek u o) x g) m z))
-          )
+              let s2 = restand refl refl eb s in
+              let w = swift_of s2 in
+              let n2 = ahead_unlike mid o behind s2 in
+              let q = later_at u as_ x mid (subst (λ (v : List (Station M)). AllLater M step peek u v) ea i.later) in
+              let tie = subst (λ (v : Bool). IsBehindTie v u (Due x)) (sym n2.1) q.1 in
+              let s3 = subst (λ (v : List (Station M)). Stands (map (heard_from u o) as_) (heard_from u o x) (map (heard_from u o) mid ++ react M step peek u o ∷ map (heard_from u o) behind) (reacting M step peek u v o behind)) (sym ea) (ahead_stands u as_ x mid o behind s2) in
+              subst (λ (v : List Event). Under pa (λ w2. Goes M step peek (devices pb) end x v w2) ss2) (sym (others_stay b.device o.port.party.device (shown M step peek u o) more n2.0))
+              (under_map pa (λ w2. Ends (heard_from u o x) more w2) (λ w2. Goes M step peek (devices pb) end x (drive_events o.port.party.device (shown M step peek u o) ++ others_of b.device more) w2) ss2
+              (λ w2 j. goes_heard o.port.party.device u (shown M step peek u o) (others_of b.device more) x w2 (shown_at u o) g w.1 tie j)
+              (handed f (map (heard_from u o) as_) (heard_from u o x) (map (heard_from u o) mid ++ react M step peek u o ∷ map (heard_from u o) behind) s3 (heard_settled (shown M step peek u o) x g) m z))
+              )
           | later mid ea eb ↦ (
-            let s2 = restand ea refl refl s in
-            let w = swift_of s2 in
-            let n2 = later_unlike before o mid s2 in
-            let q = in_time_at u mid x bs (subst (λ (v : List (Station M)). AllInTime M step peek u v) eb i.in_time) in
-            let tie = subst (λ (v : Bool). IsBehindTie v u (Due x)) (sym n2.1) q.1 in
-            let s3 = subst (λ (v : List (Station M)). Stands (map (heard_from u o) before ++ react M step peek u o ∷ map (heard_from u o) mid) (heard_from u o x) (map (heard_from u o) bs) (reacting M step peek u before o v)) (sym eb) (later_stands u before o mid x bs s2) in
-            subst (λ (v : List Event). Under pa (λ w2. Goes M step peek (devices pb) end x v w2) ss2) (sym (others_stay b.device o.port.party.device (shown M step peek u o) more n2.0))
-            (under_map pa (λ w2. Ends (heard_from u o x) more w2) (λ w2. Goes M step peek (devices pb) end x (drive_events o.port.party.device (shown M step peek u o) ++ others_of b.device more) w2) ss2
-            (λ w2 j. goes_heard o.port.party.device u (shown M step peek u o) (others_of b.device more) x w2 (shown_at u o) g w.1 tie j)
-            (handed f (map (heard_from u o) before ++ react M step peek u o ∷ map (heard_from u o) mid) (heard_from u o x) (map (heard_from u o) bs) s3 (heard_settled (shown M step peek u o) x g) m z))
-          )
+              let s2 = restand ea refl refl s in
+              let w = swift_of s2 in
+              let n2 = later_unlike before o mid s2 in
+              let q = in_time_at u mid x bs (subst (λ (v : List (Station M)). AllInTime M step peek u v) eb i.in_time) in
+              let tie = subst (λ (v : Bool). IsBehindTie v u (Due x)) (sym n2.1) q.1 in
+              let s3 = subst (λ (v : List (Station M)). Stands (map (heard_from u o) before ++ react M step peek u o ∷ map (heard_from u o) mid) (heard_from u o x) (map (heard_from u o) bs) (reacting M step peek u before o v)) (sym eb) (later_stands u before o mid x bs s2) in
+              subst (λ (v : List Event). Under pa (λ w2. Goes M step peek (devices pb) end x v w2) ss2) (sym (others_stay b.device o.port.party.device (shown M step peek u o) more n2.0))
+              (under_map pa (λ w2. Ends (heard_from u o x) more w2) (λ w2. Goes M step peek (devices pb) end x (drive_events o.port.party.device (shown M step peek u o) ++ others_of b.device more) w2) ss2
+              (λ w2 j. goes_heard o.port.party.device u (shown M step peek u o) (others_of b.device more) x w2 (shown_at u o) g w.1 tie j)
+              (handed f (map (heard_from u o) before ++ react M step peek u o ∷ map (heard_from u o) mid) (heard_from u o x) (map (heard_from u o) bs) s3 (heard_settled (shown M step peek u o) x g) m z))
+              )
         ])

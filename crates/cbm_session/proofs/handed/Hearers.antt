@@ -1,13 +1,12 @@
 -- A station on a bus as a drive that listens: told a change and at its reaction it goes on as that does, and its acts are what the wires hand it.
-use Rattle.std.proofs.Common.{◌≡◌, ℕ, ◌+◌, ◌≤◌, Bool, true, false, List, [], ◌∷◌, Option, Some, None, ap, sym, ◌∙◌, subst, refl, ◌<◌, arith}
-use Rattle.std.specs.Prelude.{if◌then◌else◌, ◌&&◌, not, nat_le, nat_lt, ◌==◌, ◌%◌}
+use Rattle.std.proofs.Common.{◌≡◌, ℕ, ◌+◌, Bool, true, false, List, ◌∷◌, Option, Some, None, ap, sym, ◌∙◌, subst, refl}
+use Rattle.std.specs.Prelude.{if◌then◌else◌, ◌&&◌, not, nat_le, ◌==◌, ◌%◌}
 use Rattle.cbm_iec.specs.Hearing.{is_same, heard_act, ear_row}
-use Rattle.cbm_iec.specs.Machines.{acted}
-use Rattle.cbm_iec.specs.Ports.{port_due, side_due, side_role, side_after, side_act, lined_side, lined_act, freed_side, told, told_act, turned_side, reacted, reaction_act}
+use Rattle.cbm_iec.specs.Ports.{port_due, side_due, side_role, side_after, side_act, lined_side, lined_act, freed_side, told, told_act, reaction_act}
 use Rattle.cbm_iec.specs.Roles.{role_after, role_with}
-use Rattle.cbm_iec.specs.Speaking.{taken_act, mouth_row, half_row, end_frame_row, set_bit_row, show_bit_row}
+use Rattle.cbm_iec.specs.Speaking.{taken_act, mouth_row, end_frame_row, set_bit_row, show_bit_row}
 use Rattle.cbm_iec.specs.Table.{TableRow}
-use Rattle.cbm_iec.specs.declared.act.Act.TheVariants.{Pulled, Attention, Released, Heard, Said, Silent}
+use Rattle.cbm_iec.specs.declared.act.Act.TheVariants.{Pulled, Released, Said}
 use Rattle.cbm_iec.specs.declared.act.Act.{Act}
 use Rattle.cbm_iec.specs.declared.ear.Ear.TheVariants.{Idle, Starting, Leaving, Returning, Holding, Freeing, Ready, Timed, Pulsing, EoiNoted, Gathering, Accepting}
 use Rattle.cbm_iec.specs.declared.ear.Ear.{Ear}
@@ -15,16 +14,15 @@ use Rattle.cbm_iec.specs.declared.event.Event.{Event}
 use Rattle.cbm_iec.specs.declared.lines.Lines.{Lines}
 use Rattle.cbm_iec.specs.declared.mouth.Mouth.TheVariants.{Turned, Answering, Led, Offering, EoiOffered, EoiPulsed, Sending, Waiting, Ending, Over}
 use Rattle.cbm_iec.specs.declared.mouth.Mouth.{Mouth}
-use Rattle.cbm_iec.specs.declared.party.Party.{Party}
 use Rattle.cbm_iec.specs.declared.party.Role.TheVariants.{Absent, Listener, Talker}
 use Rattle.cbm_iec.specs.declared.party.Role.{Role}
 use Rattle.cbm_iec.specs.declared.port.Port.{Port}
 use Rattle.cbm_iec.specs.declared.port.Side.TheVariants.{Hearing, Speaking}
 use Rattle.cbm_iec.specs.declared.port.Side.{Side}
-use Rattle.cbm_session.proofs.handed.Knowing.{SideKnows, AnswersAny, run_with, told_knows, reacted_knows}
+use Rattle.cbm_session.proofs.handed.Knowing.{SideKnows, run_with, told_knows, reacted_knows}
 use Rattle.cbm_session.specs.Among.{Rest, wires_of}
-use Rattle.cbm_session.specs.Answers.{Answers, Run}
-use Rattle.cbm_session.specs.Handed.{Hearer, ear_time, ear_freed, ear_lined, ear_told, hears, atn_act, ear_moved, ear_act, moves, rest_behind, comes_next, IsQuiet, with_act, is_answer, Hands, ends, tells, reacts, answers}
+use Rattle.cbm_session.specs.Answers.{Run}
+use Rattle.cbm_session.specs.Handed.{Hearer, ear_time, ear_freed, ear_lined, ear_told, hears, moves, rest_behind, comes_next, IsQuiet, with_act, is_answer, Hands, tells, reacts, answers}
 use Rattle.cbm_session.specs.Playing.{Station, told_lines, react}
 
 abbrev pub ear_of : Side → Option Ear

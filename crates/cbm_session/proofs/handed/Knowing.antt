@@ -1,13 +1,13 @@
 -- From its offer on a talker knows the byte that its machine has to say, whatever the host does: no act comes to it but the byte's own, or a pull of ATN, which
 -- ends its talk.
-use Rattle.std.proofs.Common.{◌≡◌, ℕ, ◌+◌, Bool, true, false, List, [], ◌∷◌, Option, Some, None, ap, sym, ◌∙◌, subst, refl}
+use Rattle.std.proofs.Common.{◌≡◌, ℕ, ◌+◌, Bool, true, false, List, Option, Some, None, sym, subst, refl}
 use Rattle.std.specs.Prelude.{if◌then◌else◌, ◌==◌, ◌%◌, ◌&&◌, not, nat_le}
 use Rattle.cbm_iec.specs.Hearing.{is_same, heard_act, ear_row}
 use Rattle.cbm_iec.specs.Machines.{acted}
 use Rattle.cbm_iec.specs.Ports.{side_after, side_act, lined_side, lined_act, freed_side, told, told_act, turned_side, reacted, reaction_act}
 use Rattle.cbm_iec.specs.Speaking.{after_turn, after_free, after_offer, after_taken, after_wait, talk_clock, talk_data, talk_clocked, talk_lines, taken_act, mouth_row, half_row, end_frame_row, set_bit_row, show_bit_row}
 use Rattle.cbm_iec.specs.Table.{TableRow}
-use Rattle.cbm_iec.specs.declared.act.Act.TheVariants.{Pulled, Attention, Released, Heard, Said, Silent}
+use Rattle.cbm_iec.specs.declared.act.Act.TheVariants.{Pulled, Released, Said}
 use Rattle.cbm_iec.specs.declared.act.Act.{Act}
 use Rattle.cbm_iec.specs.declared.ear.Ear.TheVariants.{Idle, Starting, Leaving, Returning, Holding, Freeing, Ready, Timed, Pulsing, EoiNoted, Gathering, Accepting}
 use Rattle.cbm_iec.specs.declared.ear.Ear.{Ear}
