@@ -13,3 +13,4 @@ pub mod Ahead
 pub mod Players
 pub mod Steady
 pub mod Desks
+pub mod Handed

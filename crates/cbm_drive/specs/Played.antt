@@ -4,6 +4,8 @@ use Rattle.cbm_iec.specs.declared.act.Act.{Act}
 use Rattle.cbm_iec.specs.declared.event.Event.{Event}
 use Rattle.cbm_iec.specs.declared.line.Change.{Change}
 use Rattle.cbm_iec.specs.declared.lines.Lines.{Lines}
+use Rattle.cbm_iec.specs.declared.party.Party.{Party}
+use Rattle.cbm_session.specs.Handed.{AllHanded}
 use Rattle.cbm_session.specs.Playing.{Station, Plays}
 use Rattle.cbm_drive.specs.Ordered.{host_changes}
 use Rattle.cbm_drive.specs.Seats.{Seated, IsBusAt}
@@ -59,4 +61,13 @@ module _ (D M : Type 0) (stands : D → M → Type 0) (step : M → Act → M) (
     pub plays : Plays M step says 0 ss (given ++ left) from stations
     pub rest : List Change
     pub hosts : host_changes (given ++ left) ++ rest ≡ cs
+    pub now : IsBusAt D M stands host xs stations
+
+  -- WHATEVER THE HOST DID: all that happened was added, and the machine of each drive ran what the wires handed to it and nothing else.
+  pub record HasHanded (host : Lines) (end : ℕ) (xs : List (Seated D)) (old new : List Event) (cs : List Change) (bs : List Party) (ms : ℕ → M) : Type 0 where
+    pub made : List Event
+    pub stations : List (Station M)
+    pub added : new ≡ old ++ made
+    pub hosts : host_changes made ≡ cs
+    pub handed : AllHanded M step says end ms made bs stations
     pub now : IsBusAt D M stands host xs stations

@@ -33,9 +33,10 @@ impl<D: Machine, const N: usize> Model for Bus<D, N> {
 
 impl<D: Machine, const N: usize> Bus<D, N> {
     ghost use Rattle.std.specs.Prelude.{◌≡◌, ◌+◌, ◌^◌, ◌<◌, ◌≤◌, ℕ, List, [], length, map, IfSome, IsSome, Some, None, MatchBool, Err, IfErr, OnOk, MatchOption, MatchResult};
-    ghost use Rattle.cbm_session.specs.Playing.{Station, tell, drive_events, at_rest};
-    ghost use Rattle.cbm_session.specs.Sessions.{IsBus};
     ghost use Rattle.cbm_iec.specs.declared.party.Party.{Party};
+    ghost use Rattle.cbm_session.specs.Handed.{AllReact};
+    ghost use Rattle.cbm_session.specs.Playing.{Station, tell, drive_events, at_rest};
+    ghost use Rattle.cbm_session.specs.Sessions.{AllUnlike, IsBus};
     ghost use Rattle.cbm_drive.specs.Kept.{HasKept};
     ghost use Rattle.cbm_drive.specs.Silence.{AnyShows, AreSilent};
     ghost use Rattle.cbm_drive.specs.Seats.{AreIdle, AreInTime, IsBusAt};
@@ -43,7 +44,7 @@ impl<D: Machine, const N: usize> Bus<D, N> {
     ghost use Rattle.cbm_drive.specs.Ordered.{fault_of};
     ghost use Rattle.cbm_drive.specs.declared.fault.PlayFault.{PlayFault};
     ghost use Rattle.cbm_drive.specs.declared.fault.PlayFault.TheVariants.{Memory};
-    ghost use Rattle.cbm_drive.specs.Played.{HasSettled, IsCutOff, HasPlayed, IsPlayCut};
+    ghost use Rattle.cbm_drive.specs.Played.{HasSettled, IsCutOff, HasPlayed, IsPlayCut, HasHanded};
     ghost use Rattle.cbm_drive.specs.Progress.{AreKept, IsNearer};
     ghost use Rattle.cbm_drive.specs.Reactions.{AreAt, HasReacted};
 
@@ -175,6 +176,11 @@ impl<D: Machine, const N: usize> Bus<D, N> {
             events.new.items changes.now ss)
             (λ f. IsPlayCut _ D.State D.stands D.step D.says self.new.host self.new.drives events.old.items
             events.new.items changes.now ss) }
+        // Whether or not the host keeps any timing, from rest:
+        ensures handed { (bs : List Party) (ms : ℕ → D.State) → AllUnlike bs → AllReact bs →
+            IsBusAt _ D.State D.stands self.old.host self.old.drives (at_rest D.State D.step D.says ms bs) → OnOk result
+            (HasHanded _ D.State D.stands D.step D.says self.new.host end self.new.drives events.old.items
+            events.new.items changes.now bs ms) }
         // From rest, under a host that keeps the bus's timing: a beginning of a session in which each byte talked is the
         // machine's answer, and no reaction is late.
         ensures kept { (bs : List Party) (ms : ℕ → D.State) → fault_of 0 0 end changes.now ≡ None → IsBus bs →

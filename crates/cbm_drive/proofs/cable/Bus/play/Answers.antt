@@ -1,14 +1,30 @@
-use Rattle.std.proofs.Common.{◌≡◌, ◌+◌, List, sym, ap, subst, ◌∙◌}
-use Rattle.std.specs.Prelude.{OnOk, MatchResult}
-use Rattle.cbm_iec.specs.declared.lines.Lines.{Lines}
-use Rattle.cbm_session.specs.Playing.{at_rest}
+use Rattle.cbm_drive.proofs.Handed.{handed_by}
 use Rattle.cbm_drive.proofs.Kept.{kept_from}
-use Rattle.cbm_drive.proofs.cable.Bus.play.Goals as goal
-use Rattle.cbm_drive.proofs.cable.Bus.play.Goals.{in-Ok, in-Err}
+use Rattle.cbm_drive.proofs.cable.Bus.play.Goals.{in-Err, in-Ok}
 use Rattle.cbm_drive.specs.Cables.{Cabled}
 use Rattle.cbm_drive.specs.Kept.{HasKept}
-use Rattle.cbm_drive.specs.Played.{HasPlayed, IsPlayCut}
-use Rattle.cbm_drive.specs.Seats.{Seated, IsBusAt, AreInTime}
+use Rattle.cbm_drive.specs.Played.{HasHanded, HasPlayed, IsPlayCut}
+use Rattle.cbm_drive.specs.Seats.{AreInTime, IsBusAt, Seated}
+use Rattle.cbm_iec.specs.declared.lines.Lines.{Lines}
+use Rattle.cbm_session.specs.Playing.{at_rest}
+use Rattle.std.proofs.Common.{List, ap, subst, sym, ◌+◌, ◌∙◌, ◌≡◌}
+use Rattle.std.specs.Prelude.{MatchResult, OnOk, Result}
+use Rattle.cbm_drive.proofs.cable.Bus.play.Goals as goal
+
+pub returns-clause-handed : goal.returns-clause-handed
+returns-clause-handed g c = λ bs ms unlike swift h.
+    let host : c.args.self.now.host ≡ c.self.inside.host = sym (ap (λ (b : Cabled _). b.host) c.self.view_is) in
+    let drives : c.args.self.now.drives ≡ c.as_mut_slice.result.now = sym (c.as_mut_slice.ensures.value ∙ ap (λ (b : Cabled _). b.drives) c.self.view_is) in
+    let ss = at_rest g.D.Machine.State g.D.Machine.step g.D.Machine.says ms bs in
+    let rest = subst (λ (l : Lines). IsBusAt _ g.D.Machine.State g.D.Machine.stands l c.as_mut_slice.result.now ss) host (subst (λ (xs : List (Seated _)). IsBusAt _ g.D.Machine.State g.D.Machine.stands c.args.self.now.host xs ss) drives h) in
+    let handed = handed_by _ g.D.Machine.State g.D.Machine.stands g.D.Machine.step g.D.Machine.says c.play_on.result c.play_on.new.host c.args.end c.play_on.new.drives c.args.events.now.items c.play_on.new.events.items c.args.changes.now bs ms unlike swift c.play_on.ensures.settled
+    (c.play_on.ensures.played ss rest)
+    in
+    let what = HasHanded _ g.D.Machine.State g.D.Machine.stands g.D.Machine.step g.D.Machine.says c.play_on.new.host c.args.end c.play_on.new.drives c.args.events.now.items c.play_on.new.events.items c.args.changes.now bs ms in
+    elim c.match-play_on.branch [
+      | in-Ok w ↦ subst (λ (r : Result _ _). OnOk r what) (sym w.result-is) (subst (λ (r : Result _ _). OnOk r what) w.in-Ok.is handed)
+      | in-Err w ↦ subst (λ (r : Result _ _). OnOk r what) (sym w.result-is) tt
+    ]
 
 -- what was played from rest
 pub returns-clause-kept : goal.returns-clause-kept
