@@ -1,5 +1,5 @@
 -- What a drive's machine is handed, whatever the host does with the lines and whenever: also where no timing is kept.
-use Rattle.std.specs.Prelude.{◌≡◌, ◌+◌, ◌≤◌, ◌||◌, ℕ, zero, suc, Bool, true, false, List, [], ◌∷◌, map, nat_eq, nat_le, nat_lt, if◌then◌else◌, Option, Some, None}
+use Rattle.std.specs.Prelude.{◌≡◌, ◌+◌, ◌≤◌, ◌||◌, ℕ, zero, suc, Bool, true, false, not, List, [], ◌∷◌, ◌++◌, map, length, nat_eq, nat_le, nat_lt, if◌then◌else◌, Option, Some, None}
 use Rattle.cbm_iec.specs.Hearing.{ear_due, ear_row, is_same, after_lines, after_release}
 use Rattle.cbm_iec.specs.Roles.{role_with}
 use Rattle.cbm_iec.specs.declared.act.Act.TheVariants.{Pulled, Attention, Released, Heard, Said, Silent}
@@ -9,7 +9,9 @@ use Rattle.cbm_iec.specs.declared.ear.Ear.{Ear}
 use Rattle.cbm_iec.specs.declared.event.Event.{Event}
 use Rattle.cbm_iec.specs.declared.event.Who.TheVariants.{Host, Drive}
 use Rattle.cbm_iec.specs.declared.event.Who.{Who}
+use Rattle.cbm_iec.specs.declared.line.Line.TheVariants.{Atn, Clock, Data}
 use Rattle.cbm_iec.specs.declared.line.Line.{Line}
+use Rattle.cbm_iec.specs.declared.line.Way.TheVariants.{Pull, Free}
 use Rattle.cbm_iec.specs.declared.line.Way.{Way}
 use Rattle.cbm_iec.specs.declared.lines.Lines.{Lines}
 use Rattle.cbm_iec.specs.declared.party.Party.{Party}
@@ -17,6 +19,8 @@ use Rattle.cbm_iec.specs.declared.party.Role.TheVariants.{Absent, Listener, Talk
 use Rattle.cbm_iec.specs.declared.party.Role.{Role}
 use Rattle.cbm_session.specs.Among.{Rest, wires_of, behind_other, behind_host}
 use Rattle.cbm_session.specs.Answers.{Run}
+use Rattle.cbm_session.specs.Bits.{number_of}
+use Rattle.cbm_session.specs.Pieces.{is_pull}
 use Rattle.cbm_session.specs.Playing.{Station, nobody, AllLater, Plays, at_rest}
 use Rattle.cbm_session.specs.Sessions.{AllUnlike}
 
@@ -151,6 +155,59 @@ pub data Hands (later : List ℕ) (end : ℕ) : Hearer → List Event → List A
 abbrev pub HearsOne : Type 0
 HearsOne = (later : List ℕ) (end : ℕ) (h : Hearer) (es : List Event) (xs ys : List Act) → Hands later end h es xs → Hands later end h es ys → heard_of xs ≡ heard_of ys
 
+-- ---- what a drive says
+
+-- WHAT THE WIRES SHOWED OF A DRIVE THAT TALKS: whether ATN is pulled, whether the drive holds DATA, and the bits of the byte under way, none before it offers one.
+pub record Voice : Type 0 where
+  pub atn : Bool
+  pub low : Bool
+  pub bits : Option (List Bool)
+
+abbrev pub quiet : Voice
+quiet = record { atn = false; low = false; bits = None }
+
+-- its CLOCK was freed: it offers a byte, or a bit of it stands on the wire, 1 where it leaves DATA free
+abbrev pub clocked : Bool → Option (List Bool) → Option (List Bool)
+clocked low None = Some []
+clocked low (Some bits) = Some (bits ++ not low ∷ [])
+
+abbrev pub voiced : Line → Way → Voice → Voice
+voiced Atn way v = v
+voiced Clock Pull v = v
+voiced Clock Free v = record { atn = v.atn; low = v.low; bits = clocked v.low v.bits }
+voiced Data Pull v = record { atn = v.atn; low = true; bits = v.bits }
+voiced Data Free v = record { atn = v.atn; low = false; bits = v.bits }
+
+-- a change of ATN cuts the byte
+abbrev pub cut_by : Line → Way → Voice → Voice
+cut_by Atn way v = if is_same v.atn (is_pull way) then v else (record { atn = is_pull way; low = v.low; bits = None })
+cut_by Clock way v = v
+cut_by Data way v = v
+
+abbrev pub voice_by : ℕ → Who → Line → Way → Voice → Voice
+voice_by d Host line way v = cut_by line way v
+voice_by d (Drive o) line way v = if nat_eq d o then voiced line way v else v
+
+abbrev pub is_said : Act → Bool
+is_said Pulled = false
+is_said (Attention byte) = false
+is_said Released = false
+is_said (Heard byte eoi) = false
+is_said (Said byte last) = true
+is_said Silent = false
+
+-- the bytes that were taken
+abbrev pub said_of : List Act → List Act
+said_of [] = []
+said_of (act ∷ acts) = if is_said act then act ∷ said_of acts else said_of acts
+
+-- THE WIRES SHOWED THESE BYTES: each one that was taken is the number of the eight bits that the drive showed since it offered it, and is taken once.
+pub data Says (d : ℕ) : Voice → List Event → List Act → Type 0 where
+  over : {v : Voice} {es : List Event} {acts : List Act} → es ≡ [] → acts ≡ [] → Says d v es acts
+  passes : {v : Voice} {es : List Event} {acts : List Act} (e : Event) (more : List Event) → es ≡ e ∷ more → Says d (voice_by d e.who e.change.line e.change.way v) more acts → Says d v es acts
+  says : {v : Voice} {es : List Event} {acts : List Act} (byte : ℕ) (last : Bool) (bits : List Bool) (rest : List Act) → v.bits ≡ Some bits → length bits ≡ 8 → number_of bits ≡ byte
+      → acts ≡ Said byte last ∷ rest → Says d (record { atn = v.atn; low = v.low; bits = None }) es rest → Says d v es acts
+
 -- ---- any host
 
 abbrev pub AllReact : List Party → Type 0
@@ -158,10 +215,11 @@ AllReact [] = Unit {0}
 AllReact (b ∷ bs) = (1 ≤ b.reaction) × AllReact bs
 
 module _ (M : Type 0) (step : M → Act → M) (peek : M → Option (ℕ × Bool)) where
-  -- THE MACHINE OF A DRIVE RAN WHAT THE WIRES HANDED IT, and each byte that it said was the one that it had to say then.
+  -- THE MACHINE OF A DRIVE RAN WHAT THE WIRES HANDED IT, and each byte that it said, bit by bit, was the one that it had to say then.
   pub record IsHanded (later : List ℕ) (end : ℕ) (b : Party) (m : M) (trace : List Event) (s : Station M) : Type 0 where
     pub acts : List Act
     pub hands : Hands later end (newly b) (others_of b.device trace) acts
+    pub says : Says b.device quiet trace (said_of acts)
     pub ran : Run M step peek m acts s.machine
 
   abbrev pub AllHanded : ℕ → (ℕ → M) → List Event → List Party → List (Station M) → Type 0

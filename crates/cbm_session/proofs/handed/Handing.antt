@@ -6,7 +6,7 @@ use Rattle.std.specs.Prelude.{if◌then◌else◌, nat_eq, nat_le, nat_lt, ◌||
 use Rattle.cbm_iec.specs.Ports.{port_due, changed, next_held}
 use Rattle.cbm_iec.specs.declared.act.Act.{Act}
 use Rattle.cbm_iec.specs.declared.event.Event.{Event}
-use Rattle.cbm_iec.specs.declared.event.Who.TheVariants.{Drive}
+use Rattle.cbm_iec.specs.declared.event.Who.TheVariants.{Host, Drive}
 use Rattle.cbm_iec.specs.declared.line.Change.{Change}
 use Rattle.cbm_iec.specs.declared.line.Line.TheVariants.{Clock, Data}
 use Rattle.cbm_iec.specs.declared.line.Line.{Line}
@@ -14,12 +14,12 @@ use Rattle.cbm_iec.specs.declared.party.Party.{Party}
 use Rattle.cbm_iec.specs.declared.port.Side.TheVariants.{Hearing, Speaking}
 use Rattle.cbm_iec.specs.declared.port.Side.{Side}
 use Rattle.cbm_iec.specs.Ports.{side_due}
-use Rattle.cbm_session.proofs.handed.Hearers.{ear_of, IsSettled, told_settled, react_settled, Goes, goes_told, goes_react}
+use Rattle.cbm_session.proofs.handed.Hearers.{ear_of, IsSettled, told_settled, react_settled, IsVoiced, told_voice, told_voiced, own_voice, own_voiced, Goes, goes_told, goes_react}
 use Rattle.cbm_session.proofs.handed.Later.{told_kept, reacted_later}
 use Rattle.cbm_session.specs.Among.{Rest, behind_host, behind_other}
 use Rattle.cbm_session.specs.Following.{IsInTime}
-use Rattle.cbm_session.specs.Handed.{ear_time, others_of, is_one_of, is_before, comes_next, IsQuiet, ends, AllReact}
-use Rattle.cbm_session.specs.Playing.{IsLaterDue, Station, host_event, drive_events, told_lines, tell, hear, hear_all, react, shown, AllInTime, AllLater, reacting, Plays, stays, change, reaction}
+use Rattle.cbm_session.specs.Handed.{Voice, over, ear_time, others_of, is_one_of, is_before, comes_next, IsQuiet, ends, AllReact}
+use Rattle.cbm_session.specs.Playing.{IsByte, AllBytes, IsLaterDue, Station, host_event, drive_events, told_lines, tell, hear, hear_all, react, shown, AllInTime, AllLater, reacting, Plays, stays, change, reaction}
 use Rattle.cbm_session.specs.Sessions.{Unlike, AllUnlike}
 
 -- ---- two places in one list
@@ -408,12 +408,22 @@ module _ (M : Type 0) (step : M → Act → M) (peek : M → Option (ℕ × Bool
         go None k = tt
         go (Some u) k = k u refl
 
-    goes_heard : (o t : ℕ) (cs : List Change) (es : List Event) (s s2 : Station M) → AllAt t cs → IsSettled M step peek s → 1 ≤ s.port.party.reaction → IsBehindTie (is_one_of o (devices pb)) t (Due s)
-        → Goes M step peek (devices pb) end (hear_all M step peek cs s) es s2 → Goes M step peek (devices pb) end s (drive_events o cs ++ es) s2
-    goes_heard o t [] es s s2 a g w h f = f
-    goes_heard o t (c ∷ cs) es s s2 a g w h f =
-        goes_told M step peek (devices pb) end (record { who = Drive o; change = c }) (drive_events o cs ++ es) s s2 g (side_quiet s.port.side (record { who = Drive o; change = c } ∷ (drive_events o cs ++ es)) quiet)
-        (goes_heard o t cs es (hear M step peek c s) s2 a.1 (told_settled M step peek c.moment (behind_other c.line c.way s.rest) s g) w (tied (is_one_of o (devices pb)) h) f)
+    -- what its lines have shown, behind another drive's changes
+    abbrev voice_all : ℕ → List Change → Station M → Voice → Voice
+    voice_all o [] s v = v
+    voice_all o (c ∷ cs) s v = voice_all o cs (hear M step peek c s) (told_voice M step peek (Drive o) c.line c.way s v)
+
+    voiced_all : (o : ℕ) (cs : List Change) (s : Station M) (v : Voice) → IsSettled M step peek s → IsVoiced M step peek s v → (s.port.party.device ≡ o → ⊥) → IsVoiced M step peek (hear_all M step peek cs s) (voice_all o cs s v)
+    voiced_all o [] s v g h n = h
+    voiced_all o (c ∷ cs) s v g h n =
+        voiced_all o cs (hear M step peek c s) (told_voice M step peek (Drive o) c.line c.way s v) (told_settled M step peek c.moment (behind_other c.line c.way s.rest) s g) (told_voiced M step peek (Drive o) c.moment c.line c.way s v g h n) n
+
+    goes_heard : (o t : ℕ) (cs : List Change) (es full : List Event) (s s2 : Station M) (v : Voice) → AllAt t cs → IsSettled M step peek s → IsVoiced M step peek s v → (s.port.party.device ≡ o → ⊥) → 1 ≤ s.port.party.reaction
+        → IsBehindTie (is_one_of o (devices pb)) t (Due s) → Goes M step peek (devices pb) end (hear_all M step peek cs s) (voice_all o cs s v) es full s2 → Goes M step peek (devices pb) end s v (drive_events o cs ++ es) (drive_events o cs ++ full) s2
+    goes_heard o t [] es full s s2 v a g i n w h f = f
+    goes_heard o t (c ∷ cs) es full s s2 v a g i n w h f =
+        goes_told M step peek (devices pb) end (record { who = Drive o; change = c }) (drive_events o cs ++ es) (drive_events o cs ++ full) s s2 v g i n (side_quiet s.port.side (record { who = Drive o; change = c } ∷ (drive_events o cs ++ es)) quiet)
+        (goes_heard o t cs es full (hear M step peek c s) s2 (told_voice M step peek (Drive o) c.line c.way s v) a.1 (told_settled M step peek c.moment (behind_other c.line c.way s.rest) s g) (told_voiced M step peek (Drive o) c.moment c.line c.way s v g i n) n w (tied (is_one_of o (devices pb)) h) f)
       where
         quiet : (u : ℕ) → Due s ≡ Some u → comes_next (devices pb) end u (record { who = Drive o; change = c } ∷ (drive_events o cs ++ es)) ≡ false
         quiet u e = tie_quiet (is_one_of o (devices pb)) t c.moment u a.0 (subst (λ (x : Option ℕ). IsBehindTie (is_one_of o (devices pb)) t x) e h)
@@ -422,66 +432,82 @@ module _ (M : Type 0) (step : M → Act → M) (peek : M → Option (ℕ × Bool
         tied true k = let e = a.0 in later_told c.moment t (behind_other c.line c.way s.rest) s w (omega (arith, e)) k
         tied false k = let e = a.0 in in_time_told c.moment t (behind_other c.line c.way s.rest) s w (omega (arith, e)) k
 
-    abbrev Ends : Station M → List Event → Station M → Type 0
-    Ends x es y = Goes M step peek (devices pb) end x (others_of b.device es) y
+    abbrev Ends : Station M → Voice → List Event → Station M → Type 0
+    Ends x v es y = Goes M step peek (devices pb) end x v (others_of b.device es) es y
 
-    goes_nothing : (x : Station M) (es : List Event) → es ≡ [] → IsLaterDue end (Due x) → Ends x es x
-    goes_nothing x es e l = subst (λ (v : List Event). Ends x v x) (sym e) (record { acts = []; hands = ends refl refl (side_quiet x.port.side [] quiet); ran = refl })
+    goes_nothing : (x : Station M) (v : Voice) (es : List Event) → es ≡ [] → IsLaterDue end (Due x) → Ends x v es x
+    goes_nothing x v es e l = subst (λ (l : List Event). Ends x v l x) (sym e) (record { acts = []; hands = ends refl refl (side_quiet x.port.side [] quiet); says = over refl refl; ran = refl })
       where
         quiet : (u : ℕ) → Due x ≡ Some u → comes_next (devices pb) end u [] ≡ false
         quiet u f = let k = due_after end u (Due x) f l in lt-leb u end k
 
-    pub handed : {n n2 : ℕ} {ss ss2 : List (Station M)} {es : List Event} → Plays M step peek n ss es n2 ss2 → (as_ : List (Station M)) (x : Station M) (bs : List (Station M)) → Stands as_ x bs ss
-        → IsSettled M step peek x → n2 ≤ suc end → AllLater M step peek end ss2 → Under pa (λ y. Ends x es y) ss2
-    handed {n} {n2} {ss} {ss2} {es} (stays y e k f) as_ x bs s g m z =
+    not_own : (x o : Station M) → x.port.party ≡ b → (b.device ≡ o.port.party.device → ⊥) → x.port.party.device ≡ o.port.party.device → ⊥
+    not_own x o e n k = n (sym (ap (λ (q : Party). q.device) e) ∙ k)
+
+    bytes_at : (xs : List (Station M)) (x : Station M) (ys : List (Station M)) → AllBytes M step peek (xs ++ x ∷ ys) → IsByte M step peek (peek x.machine)
+    bytes_at [] x ys h = h.0
+    bytes_at (y ∷ xs) x ys h = bytes_at xs x ys h.1
+
+    pub handed : {n n2 : ℕ} {ss ss2 : List (Station M)} {es : List Event} → Plays M step peek n ss es n2 ss2 → (as_ : List (Station M)) (x : Station M) (bs : List (Station M)) (voice : Voice) → Stands as_ x bs ss
+        → IsSettled M step peek x → IsVoiced M step peek x voice → n2 ≤ suc end → AllLater M step peek end ss2 → Under pa (λ y. Ends x voice es y) ss2
+    handed {n} {n2} {ss} {ss2} {es} (stays y e k f) as_ x bs voice s g iv m z =
         let e2 = f ∙ s.all in
         let q = later_at end as_ x bs (subst (λ (v : List (Station M)). AllLater M step peek end v) e2 z) in
-        subst (λ (v : List (Station M)). Under pa (λ w. Ends x es w) v) (sym e2) (under_here (λ w. Ends x es w) as_ x bs pa s.before (goes_nothing x es e q.1))
-    handed {n} {n2} {ss} {ss2} {es} (change c more y l i e f) as_ x bs s g m z =
+        subst (λ (v : List (Station M)). Under pa (λ w. Ends x voice es w) v) (sym e2) (under_here (λ w. Ends x voice es w) as_ x bs pa s.before (goes_nothing x voice es e q.1))
+    handed {n} {n2} {ss} {ss2} {es} (change c more y l i e f) as_ x bs voice s g iv m z =
         let q = in_time_at c.moment as_ x bs (subst (λ (v : List (Station M)). AllInTime M step peek c.moment v) s.all i) in
-        let quiet = side_quiet x.port.side (host_event c ∷ others_of b.device more) (λ u d. not_less u c.moment (due_from c.moment u (Due x) d q.1)) in
-        subst (λ (v : List Event). Under pa (λ w. Ends x v w) ss2) (sym e)
-        (under_map pa (λ w. Ends (tell M step peek c x) more w) (λ w. Ends x (host_event c ∷ more) w) ss2 (λ w k. goes_told M step peek (devices pb) end (host_event c) (others_of b.device more) x w g quiet k)
-        (handed f (map (λ v. tell M step peek c v) as_) (tell M step peek c x) (map (λ v. tell M step peek c v) bs) (told_stands c s) (told_settled M step peek c.moment (behind_host c.line c.way x.rest) x g) m z))
-    handed {n} {n2} {ss} {ss2} {es} (reaction u before o behind more y e i k f) as_ x bs s g m z =
-        subst (λ (v : List Event). Under pa (λ w. Ends x v w) ss2) (sym k) (elim (where_is as_ x bs before o behind (sym s.all ∙ e)) [
+        let still = side_quiet x.port.side (host_event c ∷ others_of b.device more) (λ u d. not_less u c.moment (due_from c.moment u (Due x) d q.1)) in
+        let told = told_voice M step peek Host c.line c.way x voice in
+        subst (λ (v : List Event). Under pa (λ w. Ends x voice v w) ss2) (sym e)
+        (under_map pa (λ w. Ends (tell M step peek c x) told more w) (λ w. Ends x voice (host_event c ∷ more) w) ss2 (λ w k. goes_told M step peek (devices pb) end (host_event c) (others_of b.device more) more x w voice g iv tt still k)
+        (handed f (map (λ v. tell M step peek c v) as_) (tell M step peek c x) (map (λ v. tell M step peek c v) bs) told (told_stands c s) (told_settled M step peek c.moment (behind_host c.line c.way x.rest) x g) (told_voiced M step peek Host c.moment c.line c.way x voice g iv tt) m z))
+    handed {n} {n2} {ss} {ss2} {es} (reaction u before o behind more y e i k f) as_ x bs voice s g iv m z =
+        subst (λ (v : List Event). Under pa (λ w. Ends x voice v w) ss2) (sym k) (elim (where_is as_ x bs before o behind (sym s.all ∙ e)) [
           | here ea ex eb ↦ (
               let s2 = restand ea ex eb s in
               let w = swift_of s2 in
               let go = subst (λ (v : Station M). IsSettled M step peek v) ex g in
+              let io = subst (λ (v : Station M). IsVoiced M step peek v voice) ex iv in
+              let byte = bytes_at before o behind (subst (λ (v : List (Station M)). AllBytes M step peek v) e y) in
               let next = comes_first f (map (heard_from u o) before) (react M step peek u o) (map (heard_from u o) behind) (here_stands u before o behind s2) (omega arith) m (record {
                 before = all_later_heard u u (shown M step peek u o) before (shown_at u o) w.0 (omega arith) i.later;
                 own = react_later u u o w.1 (omega arith) i.due;
                 behind = all_in_time_heard u u (shown M step peek u o) behind (shown_at u o) w.2 (omega arith) i.in_time;
               }) in
               let own = ap (λ (d : ℕ). others_of b.device (drive_events d (shown M step peek u o) ++ more)) (ap (λ (q : Party). q.device) s2.own) ∙ own_removed b.device (shown M step peek u o) more in
-              subst (λ (v : Station M). Under pa (λ w2. Ends v (drive_events o.port.party.device (shown M step peek u o) ++ more) w2) ss2) (sym ex)
-              (subst (λ (v : List Event). Under pa (λ w2. Goes M step peek (devices pb) end o v w2) ss2) (sym own)
-              (under_map pa (λ w2. Ends (react M step peek u o) more w2) (λ w2. Ends o more w2) ss2 (λ w2 j. goes_react M step peek (devices pb) end u (others_of b.device more) o w2 go i.due next j)
-              (handed f (map (heard_from u o) before) (react M step peek u o) (map (heard_from u o) behind) (here_stands u before o behind s2) (react_settled M step peek u o go) m z)))
+              let full = drive_events o.port.party.device (shown M step peek u o) ++ more in
+              subst (λ (v : Station M). Under pa (λ w2. Ends v voice (drive_events o.port.party.device (shown M step peek u o) ++ more) w2) ss2) (sym ex)
+              (subst (λ (v : List Event). Under pa (λ w2. Goes M step peek (devices pb) end o voice v (drive_events o.port.party.device (shown M step peek u o) ++ more) w2) ss2) (sym own)
+              (under_map pa (λ w2. Ends (react M step peek u o) (own_voice M step peek o voice) more w2) (λ w2. Goes M step peek (devices pb) end o voice (others_of b.device more) (drive_events o.port.party.device (shown M step peek u o) ++ more) w2) ss2
+              (λ w2 j. goes_react M step peek (devices pb) end u (others_of b.device more) more o w2 voice go io byte i.due next j)
+              (handed f (map (heard_from u o) before) (react M step peek u o) (map (heard_from u o) behind) (own_voice M step peek o voice) (here_stands u before o behind s2) (react_settled M step peek u o go) (own_voiced M step peek u o voice go io byte i.due) m z)))
               )
           | ahead mid ea eb ↦ (
               let s2 = restand refl refl eb s in
               let w = swift_of s2 in
               let n2 = ahead_unlike mid o behind s2 in
+              let apart = not_own x o s.own n2.0 in
               let q = later_at u as_ x mid (subst (λ (v : List (Station M)). AllLater M step peek u v) ea i.later) in
               let tie = subst (λ (v : Bool). IsBehindTie v u (Due x)) (sym n2.1) q.1 in
               let s3 = subst (λ (v : List (Station M)). Stands (map (heard_from u o) as_) (heard_from u o x) (map (heard_from u o) mid ++ react M step peek u o ∷ map (heard_from u o) behind) (reacting M step peek u v o behind)) (sym ea) (ahead_stands u as_ x mid o behind s2) in
-              subst (λ (v : List Event). Under pa (λ w2. Goes M step peek (devices pb) end x v w2) ss2) (sym (others_stay b.device o.port.party.device (shown M step peek u o) more n2.0))
-              (under_map pa (λ w2. Ends (heard_from u o x) more w2) (λ w2. Goes M step peek (devices pb) end x (drive_events o.port.party.device (shown M step peek u o) ++ others_of b.device more) w2) ss2
-              (λ w2 j. goes_heard o.port.party.device u (shown M step peek u o) (others_of b.device more) x w2 (shown_at u o) g w.1 tie j)
-              (handed f (map (heard_from u o) as_) (heard_from u o x) (map (heard_from u o) mid ++ react M step peek u o ∷ map (heard_from u o) behind) s3 (heard_settled (shown M step peek u o) x g) m z))
+              let told = voice_all o.port.party.device (shown M step peek u o) x voice in
+              subst (λ (v : List Event). Under pa (λ w2. Goes M step peek (devices pb) end x voice v (drive_events o.port.party.device (shown M step peek u o) ++ more) w2) ss2) (sym (others_stay b.device o.port.party.device (shown M step peek u o) more n2.0))
+              (under_map pa (λ w2. Ends (heard_from u o x) told more w2) (λ w2. Goes M step peek (devices pb) end x voice (drive_events o.port.party.device (shown M step peek u o) ++ others_of b.device more) (drive_events o.port.party.device (shown M step peek u o) ++ more) w2) ss2
+              (λ w2 j. goes_heard o.port.party.device u (shown M step peek u o) (others_of b.device more) more x w2 voice (shown_at u o) g iv apart w.1 tie j)
+              (handed f (map (heard_from u o) as_) (heard_from u o x) (map (heard_from u o) mid ++ react M step peek u o ∷ map (heard_from u o) behind) told s3 (heard_settled (shown M step peek u o) x g) (voiced_all o.port.party.device (shown M step peek u o) x voice g iv apart) m z))
               )
           | later mid ea eb ↦ (
               let s2 = restand ea refl refl s in
               let w = swift_of s2 in
               let n2 = later_unlike before o mid s2 in
+              let apart = not_own x o s.own n2.0 in
               let q = in_time_at u mid x bs (subst (λ (v : List (Station M)). AllInTime M step peek u v) eb i.in_time) in
               let tie = subst (λ (v : Bool). IsBehindTie v u (Due x)) (sym n2.1) q.1 in
               let s3 = subst (λ (v : List (Station M)). Stands (map (heard_from u o) before ++ react M step peek u o ∷ map (heard_from u o) mid) (heard_from u o x) (map (heard_from u o) bs) (reacting M step peek u before o v)) (sym eb) (later_stands u before o mid x bs s2) in
-              subst (λ (v : List Event). Under pa (λ w2. Goes M step peek (devices pb) end x v w2) ss2) (sym (others_stay b.device o.port.party.device (shown M step peek u o) more n2.0))
-              (under_map pa (λ w2. Ends (heard_from u o x) more w2) (λ w2. Goes M step peek (devices pb) end x (drive_events o.port.party.device (shown M step peek u o) ++ others_of b.device more) w2) ss2
-              (λ w2 j. goes_heard o.port.party.device u (shown M step peek u o) (others_of b.device more) x w2 (shown_at u o) g w.1 tie j)
-              (handed f (map (heard_from u o) before ++ react M step peek u o ∷ map (heard_from u o) mid) (heard_from u o x) (map (heard_from u o) bs) s3 (heard_settled (shown M step peek u o) x g) m z))
+              let told = voice_all o.port.party.device (shown M step peek u o) x voice in
+              subst (λ (v : List Event). Under pa (λ w2. Goes M step peek (devices pb) end x voice v (drive_events o.port.party.device (shown M step peek u o) ++ more) w2) ss2) (sym (others_stay b.device o.port.party.device (shown M step peek u o) more n2.0))
+              (under_map pa (λ w2. Ends (heard_from u o x) told more w2) (λ w2. Goes M step peek (devices pb) end x voice (drive_events o.port.party.device (shown M step peek u o) ++ others_of b.device more) (drive_events o.port.party.device (shown M step peek u o) ++ more) w2) ss2
+              (λ w2 j. goes_heard o.port.party.device u (shown M step peek u o) (others_of b.device more) more x w2 voice (shown_at u o) g iv apart w.1 tie j)
+              (handed f (map (heard_from u o) before ++ react M step peek u o ∷ map (heard_from u o) mid) (heard_from u o x) (map (heard_from u o) bs) told s3 (heard_settled (shown M step peek u o) x g) (voiced_all o.port.party.device (shown M step peek u o) x voice g iv apart) m z))
               )
         ])

@@ -1,5 +1,0 @@
-use Rattle.std.proofs.Common.{length}
-use Rattle.cbm_drive.proofs.fault.+first_fault.Given as goal
-
-abbrev pub decreases-first_fault : goal.decreases-first_fault
-decreases-first_fault l = length l.changes.now
