@@ -31,12 +31,19 @@ pub(crate) fn first_fault(
     requires { number + length changes.now < 2 ^ 64 }
     ensures { result ≡ fault_of number before end changes.now }
 {
-    let (change, more) = changes.split_first()?;
-    if change.moment < before {
-        return Some(PlayFault::Backwards(number));
+    let mut rest = changes;
+    let mut number = number;
+    let mut before = before;
+    while let Some((change, more)) = rest.split_first() {
+        if change.moment < before {
+            return Some(PlayFault::Backwards(number));
+        }
+        if end < change.moment {
+            return Some(PlayFault::PastEnd(number));
+        }
+        rest = more;
+        number += 1;
+        before = change.moment;
     }
-    if end < change.moment {
-        return Some(PlayFault::PastEnd(number));
-    }
-    first_fault(more, number + 1, change.moment, end)
+    None
 }
