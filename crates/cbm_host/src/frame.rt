@@ -1,0 +1,148 @@
+//! A byte of the host on the wires.
+
+use crate::waits::{ANSWER, PHASE};
+use cbm_iec::{Change, Line, Way};
+
+/// The bits of a byte that are still to be sent.
+#[derive(Clone, Copy, Debug, PartialEq, Eq, Drop)]
+pub(crate) struct Bits {
+    /// These bits, the next one lowest.
+    pub(crate) left: u8,
+    /// How many they are.
+    pub(crate) count: u8,
+    /// Whether the host holds DATA.
+    pub(crate) low: bool,
+}
+
+/// What the host does next in a frame, or waits for.
+#[derive(Clone, Copy, Debug, PartialEq, Eq, Drop)]
+pub(crate) enum Frame {
+    /// CLOCK is freed then: the host is ready to send a byte, with EOI or without.
+    Readying { at: u64, byte: u8, eoi: bool },
+    /// Who hears is to free DATA.
+    Ready { byte: u8, eoi: bool },
+    /// EOI: who hears is to pull DATA.
+    Marking(u8),
+    /// EOI: who hears is to free DATA again.
+    Marked(u8),
+    /// CLOCK is pulled then, and the bits begin.
+    Starting { at: u64, byte: u8 },
+    /// DATA is changed then, for the next bit.
+    Setting { at: u64, bits: Bits },
+    /// CLOCK is freed then, and the bit counts.
+    Showing { at: u64, bits: Bits },
+    /// CLOCK is pulled then, and the bit is over.
+    Hiding { at: u64, bits: Bits },
+    /// DATA is freed then, after the eighth bit.
+    Leaving(u64),
+    /// Who hears is to pull DATA: the accept.
+    Sent,
+}
+
+impl Frame {
+    /// The change of the host that comes next, if it waits for nobody.
+    pub(crate) fn change(self) -> Option<Change> {
+        let (moment, line, way) = match self {
+            Frame::Readying { at, .. } | Frame::Showing { at, .. } => (at, Line::Clock, Way::Free),
+            Frame::Starting { at, .. } | Frame::Hiding { at, .. } => (at, Line::Clock, Way::Pull),
+            Frame::Setting { at, bits } => (at, Line::Data, bits.toggle()),
+            Frame::Leaving(at) => (at, Line::Data, Way::Free),
+            Frame::Ready { .. } | Frame::Marking(_) | Frame::Marked(_) | Frame::Sent => return None,
+        };
+        Some(Change { moment, line, way })
+    }
+
+    /// Behind that change.
+    pub(crate) fn made(self, moment: u64) -> Frame {
+        match self {
+            Frame::Readying { byte, eoi, .. } => Frame::Ready { byte, eoi },
+            Frame::Starting { byte, .. } => Bits::of(byte).next(moment),
+            Frame::Setting { bits, .. } => Frame::Showing {
+                at: moment + PHASE,
+                bits: bits.toggled(),
+            },
+            Frame::Showing { bits, .. } => Frame::Hiding {
+                at: moment + PHASE,
+                bits,
+            },
+            Frame::Hiding { bits, .. } => bits.behind().next(moment),
+            Frame::Leaving(_) => Frame::Sent,
+            waiting => waiting,
+        }
+    }
+
+    /// Behind a change of who hears. The accept is the caller's.
+    pub(crate) fn seen(self, change: Change) -> Frame {
+        match (self, change.line, change.way) {
+            (Frame::Ready { byte, eoi: true }, Line::Data, Way::Free) => Frame::Marking(byte),
+            (Frame::Marking(byte), Line::Data, Way::Pull) => Frame::Marked(byte),
+            (Frame::Ready { byte, eoi: false } | Frame::Marked(byte), Line::Data, Way::Free) => {
+                Frame::Starting {
+                    at: change.moment + ANSWER,
+                    byte,
+                }
+            }
+            (other, _, _) => other,
+        }
+    }
+}
+
+impl Bits {
+    /// The bits of a byte, DATA free before them.
+    fn of(byte: u8) -> Bits {
+        Bits {
+            left: byte,
+            count: 8,
+            low: false,
+        }
+    }
+
+    /// Whether DATA is held for the next bit: 1 is DATA free.
+    fn is_low(self) -> bool {
+        self.left % 2 == 0
+    }
+
+    /// The change of DATA where the next bit wants one.
+    fn toggle(self) -> Way {
+        if self.low { Way::Free } else { Way::Pull }
+    }
+
+    /// DATA changed.
+    fn toggled(self) -> Bits {
+        Bits {
+            low: !self.low,
+            ..self
+        }
+    }
+
+    /// The bits behind the next one.
+    fn behind(self) -> Bits {
+        Bits {
+            left: self.left / 2,
+            count: self.count.saturating_sub(1),
+            low: self.low,
+        }
+    }
+
+    /// What comes behind a pull of CLOCK: the next bit, or the end of the frame.
+    fn next(self, moment: u64) -> Frame {
+        if self.count == 0 {
+            return if self.low {
+                Frame::Leaving(moment)
+            } else {
+                Frame::Sent
+            };
+        }
+        if self.low == self.is_low() {
+            Frame::Showing {
+                at: moment + PHASE,
+                bits: self,
+            }
+        } else {
+            Frame::Setting {
+                at: moment,
+                bits: self,
+            }
+        }
+    }
+}

@@ -1,0 +1,87 @@
+//! A request played on the bus, event by event.
+
+use crate::due::Due;
+use crate::engine::Engine;
+use crate::request::Request;
+use cbm_drive::{Bus, Change, Event, Machine, Player, Who};
+
+/// How long a request takes at most, in microseconds.
+const LONGEST: u64 = 250_000_000;
+
+/// Plays a request of the host on a bus with one drive, and gives the events one by one; it takes no memory.
+#[derive(Drop)]
+pub struct Performer<'a> {
+    player: Player,
+    engine: Engine<'a>,
+    byte: Option<(u8, bool)>,
+    limit: u64,
+}
+
+impl<'a> Performer<'a> {
+    /// Before the first event of a request to the drive with this device number; its first change comes at the start.
+    pub fn new(start: u64, device: u8, request: Request<'a>) -> Performer<'a> {
+        Performer {
+            player: Player::new(),
+            engine: Engine::new(start, device, request),
+            byte: None,
+            limit: start + LONGEST,
+        }
+    }
+
+    /// The next event, the host's or the drive's. None where the request is over.
+    pub fn next<D: Machine>(&mut self, bus: &mut Bus<D, 1>) -> Option<Event> {
+        let event = self.event(bus)?;
+        if event.change.moment > self.limit {
+            return None;
+        }
+        self.byte = None;
+        match event.who {
+            Who::Host => {
+                self.byte = self.engine.taken();
+                self.engine.made(event.change.moment);
+            }
+            Who::Drive(_) => self.engine.seen(event.change),
+        }
+        Some(event)
+    }
+
+    /// The byte of the drive that the last event accepted, and whether it is the last one (EOI).
+    pub fn byte(&self) -> Option<(u8, bool)> {
+        self.byte
+    }
+
+    /// When the request was over, in microseconds; None before.
+    pub fn end(&self) -> Option<u64> {
+        self.engine.end()
+    }
+
+    /// The event that comes next.
+    fn event<D: Machine>(&mut self, bus: &mut Bus<D, 1>) -> Option<Event> {
+        match self.engine.due() {
+            Due::Change(change) if change.moment <= self.limit => self.play(bus, change),
+            Due::Silence(until) if until <= self.limit => self.wait(bus, until),
+            Due::Drive => self.player.next(bus, self.limit),
+            _ => None,
+        }
+    }
+
+    /// The host's change that is due, or what the drive does before it.
+    fn play<D: Machine>(&mut self, bus: &mut Bus<D, 1>, change: Change) -> Option<Event> {
+        if !self.player.waits() && self.player.offer(change).is_err() {
+            return None;
+        }
+        self.player.next(bus, change.moment)
+    }
+
+    /// What the drive does up to a moment, or what the host does where it does nothing.
+    fn wait<D: Machine>(&mut self, bus: &mut Bus<D, 1>, until: u64) -> Option<Event> {
+        if let Some(event) = self.player.next(bus, until) {
+            return Some(event);
+        }
+        self.engine.passed();
+        match self.engine.due() {
+            Due::Change(change) => self.play(bus, change),
+            _ => None,
+        }
+    }
+}

@@ -1,0 +1,38 @@
+//! A request carried out on the bus.
+
+use crate::done::Done;
+use crate::performer::Performer;
+use crate::request::Request;
+use cbm_drive::{Bus, Event, Machine, PlayFault};
+use std::alloc::Global;
+
+/// Carries out a request on a bus with one drive, at rest: from its first change, at the start, to the moment when it is
+/// over. The events go to `events`. Error: want of memory, and then they are a beginning of what happened.
+pub fn perform<D: Machine>(
+    alloc: Global,
+    bus: &mut Bus<D, 1>,
+    start: u64,
+    device: u8,
+    request: Request,
+    events: &mut Vec<Event>,
+) -> Result<Done, PlayFault> {
+    let mut performer = Performer::new(start, device, request);
+    let mut bytes = Vec::new(alloc);
+    let mut last = false;
+    for _ in 0..u64::MAX {
+        let Some(event) = performer.next(bus) else {
+            break;
+        };
+        if events.push(event).is_err() {
+            return Err(PlayFault::Memory);
+        }
+        if let Some((byte, is_last)) = performer.byte() {
+            if bytes.push(byte).is_err() {
+                return Err(PlayFault::Memory);
+            }
+            last = is_last;
+        }
+    }
+    let end = performer.end().unwrap_or(start);
+    Ok(Done { bytes, last, end })
+}

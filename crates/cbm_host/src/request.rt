@@ -1,0 +1,35 @@
+//! What a host asks of a drive.
+
+/// A request, on a channel from 0 to 15.
+#[derive(Clone, Copy, Debug, Drop)]
+pub enum Request<'a> {
+    /// OPEN with this text, or on 15 a command: LISTEN, $F0 + channel, the text, UNLISTEN.
+    Open(u8, &'a [u8]),
+    /// These bytes for the channel: LISTEN, $60 + channel, the bytes, UNLISTEN.
+    Put(u8, &'a [u8]),
+    /// At most so many bytes of the channel, up to the one with EOI: TALK, $60 + channel, the bytes, UNTALK.
+    Get(u8, u32),
+    /// CLOSE: LISTEN, $E0 + channel, UNLISTEN.
+    Close(u8),
+    /// The status line: channel 15 to its end.
+    Status,
+}
+
+impl<'a> Request<'a> {
+    /// The bytes that are sent to the channel.
+    pub(crate) fn bytes(self) -> &'a [u8] {
+        match self {
+            Request::Open(_, bytes) | Request::Put(_, bytes) => bytes,
+            Request::Get(..) | Request::Close(_) | Request::Status => &[],
+        }
+    }
+
+    /// The most bytes that are taken from it.
+    pub(crate) fn most(self) -> u32 {
+        match self {
+            Request::Get(_, most) => most,
+            Request::Status => u32::MAX,
+            Request::Open(..) | Request::Put(..) | Request::Close(_) => 0,
+        }
+    }
+}

@@ -1,0 +1,119 @@
+//! A byte of the talker on the wires.
+
+use crate::waits::{ANSWER, EOI_PULSE, EOI_WAIT};
+use cbm_iec::{Change, Line, Way};
+
+/// The bits of a byte that came so far.
+#[derive(Clone, Copy, Debug, PartialEq, Eq, Drop)]
+pub(crate) struct Came {
+    /// How many.
+    pub(crate) count: u8,
+    /// The byte with them at its top.
+    pub(crate) byte: u8,
+    /// Whether the talker holds DATA.
+    pub(crate) low: bool,
+    /// Whether EOI came before them.
+    pub(crate) last: bool,
+}
+
+/// What the host does next for a byte of the talker, or waits for.
+#[derive(Clone, Copy, Debug, PartialEq, Eq, Drop)]
+pub(crate) enum Take {
+    /// The talker is to free CLOCK: it offers a byte.
+    Waiting,
+    /// DATA is freed then.
+    Readying(u64),
+    /// The talker is to pull CLOCK for its first bit; where it hasn't by then the byte is the last.
+    Listening(u64),
+    /// EOI: DATA is pulled then.
+    Marking(u64),
+    /// EOI: DATA is freed again then.
+    Marked(u64),
+    /// Bits come.
+    Gathering(Came),
+    /// DATA is pulled then: the byte is accepted, with whether it is the last.
+    Accepting { at: u64, byte: u8, last: bool },
+}
+
+impl Came {
+    /// Before the first bit.
+    fn nothing(last: bool) -> Came {
+        Came {
+            count: 0,
+            byte: 0,
+            low: false,
+            last,
+        }
+    }
+
+    /// CLOCK was freed: a bit counts, 1 is DATA free.
+    fn bit(self) -> Came
+        requires { self.count < 8 }
+    {
+        Came {
+            count: self.count + 1,
+            byte: self.byte / 2 + if self.low { 0 } else { 128 },
+            ..self
+        }
+    }
+}
+
+impl Take {
+    /// The change of the host that comes next, if it waits for nobody.
+    pub(crate) fn change(self) -> Option<Change> {
+        let (moment, way) = match self {
+            Take::Readying(at) | Take::Marked(at) => (at, Way::Free),
+            Take::Marking(at) | Take::Accepting { at, .. } => (at, Way::Pull),
+            Take::Waiting | Take::Listening(_) | Take::Gathering(_) => return None,
+        };
+        Some(Change {
+            moment,
+            line: Line::Data,
+            way,
+        })
+    }
+
+    /// Behind that change. What comes of the accept is the caller's.
+    pub(crate) fn made(self, moment: u64) -> Take {
+        match self {
+            Take::Readying(_) => Take::Listening(moment + EOI_WAIT),
+            Take::Marking(_) => Take::Marked(moment + EOI_PULSE),
+            Take::Marked(_) => Take::Gathering(Came::nothing(true)),
+            other => other,
+        }
+    }
+
+    /// Behind a change of the talker.
+    pub(crate) fn seen(self, change: Change) -> Take {
+        match (self, change.line, change.way) {
+            (Take::Waiting, Line::Clock, Way::Free) => Take::Readying(change.moment + ANSWER),
+            (Take::Listening(_), Line::Clock, Way::Pull) => Take::Gathering(Came::nothing(false)),
+            (Take::Gathering(came), Line::Data, way) => Take::Gathering(Came {
+                low: way == Way::Pull,
+                ..came
+            }),
+            (Take::Gathering(came), Line::Clock, Way::Free) if came.count < 8 => {
+                Take::Gathering(came.bit())
+            }
+            (
+                Take::Gathering(
+                    Came {
+                        count: 8,
+                        byte,
+                        last,
+                        ..
+                    },
+                ),
+                Line::Clock,
+                Way::Pull,
+            ) => {
+                Take::Accepting {
+                    at: change.moment + ANSWER,
+                    byte,
+                    last,
+                }
+            }
+            (other, _, _) => other,
+        }
+    }
+}

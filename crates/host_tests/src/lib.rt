@@ -1,0 +1,5 @@
+//! Requests over the wires, to a drive with a disk.
+#![tactic(auto)]
+
+#[cfg(test)]
+mod requests;
