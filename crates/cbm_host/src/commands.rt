@@ -1,5 +1,8 @@
 //! The bytes of an attention.
 
+ghost use Rattle.std.specs.Prelude.{◌≡◌};
+ghost use Rattle.cbm_host.specs.Attentions.{first_of, rest_of};
+
 /// LISTEN, to be joined with a device number.
 pub(crate) const LISTEN: u8 = 0x20;
 /// UNLISTEN: no drive listens any more.
@@ -16,7 +19,7 @@ pub(crate) const CLOSE: u8 = 0xe0;
 pub(crate) const OPEN: u8 = 0xf0;
 
 /// The bytes of an attention that are still to be sent: at least one.
-#[derive(Clone, Copy, Debug, PartialEq, Eq, Drop)]
+#[derive(Clone, Copy, Drop)]
 pub(crate) enum Commands {
     One(u8),
     Two(u8, u8),
@@ -25,14 +28,18 @@ pub(crate) enum Commands {
 
 impl Commands {
     /// The next byte.
-    pub(crate) fn first(self) -> u8 {
+    pub(crate) fn first(self) -> u8
+        ensures { result ≡ first_of self }
+    {
         match self {
             Commands::One(byte) | Commands::Two(byte, _) | Commands::Three(byte, _, _) => byte,
         }
     }
 
     /// The bytes behind the next one.
-    pub(crate) fn rest(self) -> Option<Commands> {
+    pub(crate) fn rest(self) -> Option<Commands>
+        ensures { result ≡ rest_of self }
+    {
         match self {
             Commands::One(_) => None,
             Commands::Two(_, second) => Some(Commands::One(second)),

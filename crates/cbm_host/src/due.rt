@@ -1,26 +1,31 @@
 //! What comes next on the wires, as the host sees it.
 
+ghost use Rattle.std.specs.Prelude.{◌≡◌};
+ghost use Rattle.cbm_host.specs.Stages.{due_of};
+
 use cbm_iec::Change;
 
 /// What the host does next.
-#[derive(Clone, Copy, Debug, PartialEq, Eq, Drop)]
+#[derive(Clone, Copy, Drop)]
 pub(crate) enum Due {
     /// It changes a line, whatever the drive does before.
-    Change(Change),
+    Makes(Change),
     /// It waits for the drive, but no longer than to this moment.
-    Silence(u64),
+    Waits(u64),
     /// It waits for the drive.
-    Drive,
+    Hears,
     /// Nothing: the request was over at this moment.
     Over(u64),
 }
 
 impl Due {
     /// A change, or a wait for the drive.
-    pub(crate) fn of(change: Option<Change>) -> Due {
+    pub(crate) fn of(change: Option<Change>) -> Due
+        ensures { result ≡ due_of change }
+    {
         match change {
-            Some(change) => Due::Change(change),
-            None => Due::Drive,
+            Some(change) => Due::Makes(change),
+            None => Due::Hears,
         }
     }
 }

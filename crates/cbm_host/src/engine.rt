@@ -4,10 +4,11 @@ use crate::commands::{CLOSE, Commands, DATA, LISTEN, OPEN, TALK, UNLISTEN, UNTAL
 use crate::due::Due;
 use crate::frame::Frame;
 use crate::request::Request;
-use crate::stage::{Attention, Behind, Errand, Pull, Stage};
+use crate::stage::{Attention, Behind, Errand, Pulls, Stage};
 use crate::take::Take;
 use crate::waits::{ANSWER, READY, TURN};
 use cbm_iec::{Change, Line, Way};
+use std::marker::Model;
 
 /// A request under way: what the host is at, the bytes that it still has to send, and how many it still takes.
 #[derive(Drop)]
@@ -17,11 +18,26 @@ pub(crate) struct Engine<'a> {
     most: u32,
 }
 
+impl<'a> Model for Engine<'a> {
+    ghost use Rattle.cbm_host.specs.Engines.{Engined};
+
+    ghost Value = { Engined };
+
+    ghost view = { λ e. record { stage = e.stage; left = e.left.now; most = e.most } };
+}
+
 impl<'a> Engine<'a> {
+    ghost use Rattle.std.specs.Prelude.{◌≡◌, ◌^◌, ◌<◌, ◌≤◌};
+    ghost use Rattle.cbm_host.specs.Engines.{engine_at, engine_due, stage_taken, stage_end, engine_made, engine_seen, engine_passed, accepted, sending_on, taking_on, channel_of};
+
     /// A request to the drive with a device number, before its first change, which comes at this moment.
-    pub(crate) fn new(start: u64, device: u8, request: Request<'a>) -> Engine<'a> {
+    pub(crate) fn new(start: u64, device: u8, request: Request<'a>) -> Engine<'a>
+        requires device { device < 31 }
+        requires channel { channel_of request ≤ 15 }
+        ensures { result ≡ engine_at start device request.entry }
+    {
         let attention = Attention::of(device, request);
-        let pull = Pull::Atn {
+        let pull = Pulls::PullAtn {
             clock_low: false,
             data_low: false,
         };
@@ -37,12 +53,16 @@ impl<'a> Engine<'a> {
     }
 
     /// What the host does next.
-    pub(crate) fn due(&self) -> Due {
+    pub(crate) fn due(&self) -> Due
+        ensures { result ≡ engine_due self.now }
+    {
         self.stage.due()
     }
 
     /// The byte of the talker that the host's next change accepts, and whether it is the last.
-    pub(crate) fn taken(&self) -> Option<(u8, bool)> {
+    pub(crate) fn taken(&self) -> Option<(u8, bool)>
+        ensures { result ≡ stage_taken self.now.stage }
+    {
         match self.stage {
             Stage::Taking(Take::Accepting { byte, last, .. }) => Some((byte, last)),
             _ => None,
@@ -50,7 +70,9 @@ impl<'a> Engine<'a> {
     }
 
     /// When the request was over, in microseconds.
-    pub(crate) fn end(&self) -> Option<u64> {
+    pub(crate) fn end(&self) -> Option<u64>
+        ensures { result ≡ stage_end self.now.stage }
+    {
         match self.stage {
             Stage::Done(at) => Some(at),
             _ => None,
@@ -58,17 +80,23 @@ impl<'a> Engine<'a> {
     }
 
     /// The host's change that was due was made, at this moment.
-    pub(crate) fn made(&mut self, moment: u64) {
-        self.stage = match self.stage {
+    pub(crate) fn made(&mut self, moment: u64)
+        requires { moment < 2 ^ 60 }
+        ensures { self.new ≡ engine_made moment self.old }
+    {
+        match self.stage {
             Stage::Calling(_) => self.send(moment, READY),
             Stage::Taking(Take::Accepting { last, .. }) => self.take(moment, last),
-            stage => stage.made(moment),
-        };
+            stage => self.stage = stage.made(moment),
+        }
     }
 
     /// The drive changed a line.
-    pub(crate) fn seen(&mut self, change: Change) {
-        self.stage = match (self.stage, change.line, change.way) {
+    pub(crate) fn seen(&mut self, change: Change)
+        requires { change.moment < 2 ^ 60 }
+        ensures { self.new ≡ engine_seen change self.old }
+    {
+        match (self.stage, change.line, change.way) {
             (
                 Stage::Framing {
                     frame: Frame::Sent,
@@ -77,66 +105,87 @@ impl<'a> Engine<'a> {
                 Line::Data,
                 Way::Pull,
             ) => self.accepted(change.moment, behind),
-            (stage, _, _) => stage.seen(change),
-        };
+            (stage, _, _) => self.stage = stage.seen(change),
+        }
     }
 
     /// The drive changed nothing for as long as the host waits.
-    pub(crate) fn passed(&mut self) {
+    pub(crate) fn passed(&mut self)
+        ensures { self.new ≡ engine_passed self.old }
+    {
         self.stage = self.stage.passed();
     }
 
     /// A byte of the host was accepted.
-    fn accepted(&mut self, moment: u64, behind: Behind) -> Stage {
+    fn accepted(&mut self, moment: u64, behind: Behind)
+        requires { moment < 2 ^ 60 }
+        ensures { self.new ≡ accepted moment behind self.old }
+    {
         match behind {
-            Behind::Attention(Some(commands), errand) => {
-                Stage::command(moment, Attention { commands, errand })
+            Behind::Commanded(Some(commands), errand) => {
+                self.stage = Stage::command(moment, Attention { commands, errand });
             }
-            Behind::Attention(None, errand) => Stage::release(moment, errand),
-            Behind::Data => self.send(moment, TURN),
+            Behind::Commanded(None, errand) => self.stage = Stage::release(moment, errand),
+            Behind::Listened => self.send(moment, TURN),
         }
     }
 
     /// The next byte to the listener; where none is left UNLISTEN comes after a wait.
-    fn send(&mut self, moment: u64, wait: u64) -> Stage {
+    fn send(&mut self, moment: u64, wait: u64)
+        requires moment { moment < 2 ^ 60 }
+        requires wait { wait ≤ 100 }
+        ensures { self.new ≡ sending_on moment wait self.old.most self.old.left }
+    {
         let Some((byte, rest)) = self.left.split_first() else {
-            return Stage::leave(moment + wait, Commands::One(UNLISTEN), true, false);
+            self.stage = Stage::leave(moment + wait, UNLISTEN, true, false);
+            return;
         };
         self.left = rest;
-        Stage::Framing {
+        self.stage = Stage::Framing {
             frame: Frame::Readying {
                 at: moment + READY,
                 byte: *byte,
                 eoi: rest.is_empty(),
             },
-            behind: Behind::Data,
-        }
+            behind: Behind::Listened,
+        };
     }
 
     /// A byte of the talker was accepted: the next one is awaited, or UNTALK comes.
-    fn take(&mut self, moment: u64, last: bool) -> Stage {
+    fn take(&mut self, moment: u64, last: bool)
+        requires { moment < 2 ^ 60 }
+        ensures { self.new ≡ taking_on moment last self.old }
+    {
         if last || self.most <= 1 {
-            return Stage::leave(moment + ANSWER, Commands::One(UNTALK), false, true);
+            self.stage = Stage::leave(moment + ANSWER, UNTALK, false, true);
+            return;
         }
         self.most -= 1;
-        Stage::Taking(Take::Waiting)
+        self.stage = Stage::Taking(Take::Awaiting);
     }
 }
 
 impl Attention {
+    ghost use Rattle.std.specs.Prelude.{◌≡◌, ◌<◌, ◌≤◌};
+    ghost use Rattle.cbm_host.specs.Engines.{attention_of, channel_of};
+
     /// The first attention of a request to a device, and what follows it.
-    fn of(device: u8, request: Request) -> Attention {
+    fn of(device: u8, request: Request) -> Attention
+        requires device { device < 31 }
+        requires channel { channel_of request ≤ 15 }
+        ensures { result ≡ attention_of device request.entry }
+    {
         let listen = LISTEN + device;
         let talk = TALK + device;
         let (commands, errand) = match request {
-            Request::Open(channel, _) => (Commands::Two(listen, OPEN + channel), Errand::Send),
-            Request::Put(channel, _) => (Commands::Two(listen, DATA + channel), Errand::Send),
-            Request::Get(channel, _) => (Commands::Two(talk, DATA + channel), Errand::Take),
+            Request::Open(channel, _) => (Commands::Two(listen, OPEN + channel), Errand::Sends),
+            Request::Put(channel, _) => (Commands::Two(listen, DATA + channel), Errand::Sends),
+            Request::Get(channel, _) => (Commands::Two(talk, DATA + channel), Errand::Takes),
             Request::Close(channel) => {
                 let commands = Commands::Three(listen, CLOSE + channel, UNLISTEN);
-                (commands, Errand::Leave)
+                (commands, Errand::Leaves)
             }
-            Request::Status => (Commands::Two(talk, DATA + 15), Errand::Take),
+            Request::Status => (Commands::Two(talk, DATA + 15), Errand::Takes),
         };
         Attention { commands, errand }
     }

@@ -1,10 +1,13 @@
 //! A byte of the host on the wires.
 
+ghost use Rattle.std.specs.Prelude.{◌≡◌, ◌^◌, ◌<◌};
+ghost use Rattle.cbm_host.specs.Sending.{frame_change, frame_made, frame_seen, bits_of, is_low, toggle, toggled, behind_bit, next_bit};
+
 use crate::waits::{ANSWER, PHASE};
 use cbm_iec::{Change, Line, Way};
 
 /// The bits of a byte that are still to be sent.
-#[derive(Clone, Copy, Debug, PartialEq, Eq, Drop)]
+#[derive(Clone, Copy, Drop)]
 pub(crate) struct Bits {
     /// These bits, the next one lowest.
     pub(crate) left: u8,
@@ -15,16 +18,16 @@ pub(crate) struct Bits {
 }
 
 /// What the host does next in a frame, or waits for.
-#[derive(Clone, Copy, Debug, PartialEq, Eq, Drop)]
+#[derive(Clone, Copy, Drop)]
 pub(crate) enum Frame {
     /// CLOCK is freed then: the host is ready to send a byte, with EOI or without.
     Readying { at: u64, byte: u8, eoi: bool },
     /// Who hears is to free DATA.
     Ready { byte: u8, eoi: bool },
     /// EOI: who hears is to pull DATA.
-    Marking(u8),
+    EoiSent(u8),
     /// EOI: who hears is to free DATA again.
-    Marked(u8),
+    EoiHeard(u8),
     /// CLOCK is pulled then, and the bits begin.
     Starting { at: u64, byte: u8 },
     /// DATA is changed then, for the next bit.
@@ -34,26 +37,31 @@ pub(crate) enum Frame {
     /// CLOCK is pulled then, and the bit is over.
     Hiding { at: u64, bits: Bits },
     /// DATA is freed then, after the eighth bit.
-    Leaving(u64),
+    Clearing(u64),
     /// Who hears is to pull DATA: the accept.
     Sent,
 }
 
 impl Frame {
     /// The change of the host that comes next, if it waits for nobody.
-    pub(crate) fn change(self) -> Option<Change> {
+    pub(crate) fn change(self) -> Option<Change>
+        ensures { result ≡ frame_change self }
+    {
         let (moment, line, way) = match self {
             Frame::Readying { at, .. } | Frame::Showing { at, .. } => (at, Line::Clock, Way::Free),
             Frame::Starting { at, .. } | Frame::Hiding { at, .. } => (at, Line::Clock, Way::Pull),
             Frame::Setting { at, bits } => (at, Line::Data, bits.toggle()),
-            Frame::Leaving(at) => (at, Line::Data, Way::Free),
-            Frame::Ready { .. } | Frame::Marking(_) | Frame::Marked(_) | Frame::Sent => return None,
+            Frame::Clearing(at) => (at, Line::Data, Way::Free),
+            Frame::Ready { .. } | Frame::EoiSent(_) | Frame::EoiHeard(_) | Frame::Sent => return None,
         };
         Some(Change { moment, line, way })
     }
 
     /// Behind that change.
-    pub(crate) fn made(self, moment: u64) -> Frame {
+    pub(crate) fn made(self, moment: u64) -> Frame
+        requires { moment < 2 ^ 60 }
+        ensures { result ≡ frame_made moment self }
+    {
         match self {
             Frame::Readying { byte, eoi, .. } => Frame::Ready { byte, eoi },
             Frame::Starting { byte, .. } => Bits::of(byte).next(moment),
@@ -66,17 +74,20 @@ impl Frame {
                 bits,
             },
             Frame::Hiding { bits, .. } => bits.behind().next(moment),
-            Frame::Leaving(_) => Frame::Sent,
+            Frame::Clearing(_) => Frame::Sent,
             waiting => waiting,
         }
     }
 
     /// Behind a change of who hears. The accept is the caller's.
-    pub(crate) fn seen(self, change: Change) -> Frame {
+    pub(crate) fn seen(self, change: Change) -> Frame
+        requires { change.moment < 2 ^ 60 }
+        ensures { result ≡ frame_seen change self }
+    {
         match (self, change.line, change.way) {
-            (Frame::Ready { byte, eoi: true }, Line::Data, Way::Free) => Frame::Marking(byte),
-            (Frame::Marking(byte), Line::Data, Way::Pull) => Frame::Marked(byte),
-            (Frame::Ready { byte, eoi: false } | Frame::Marked(byte), Line::Data, Way::Free) => {
+            (Frame::Ready { byte, eoi: true }, Line::Data, Way::Free) => Frame::EoiSent(byte),
+            (Frame::EoiSent(byte), Line::Data, Way::Pull) => Frame::EoiHeard(byte),
+            (Frame::Ready { byte, eoi: false } | Frame::EoiHeard(byte), Line::Data, Way::Free) => {
                 Frame::Starting {
                     at: change.moment + ANSWER,
                     byte,
@@ -89,7 +100,9 @@ impl Frame {
 
 impl Bits {
     /// The bits of a byte, DATA free before them.
-    fn of(byte: u8) -> Bits {
+    fn of(byte: u8) -> Bits
+        ensures { result ≡ bits_of byte }
+    {
         Bits {
             left: byte,
             count: 8,
@@ -98,17 +111,23 @@ impl Bits {
     }
 
     /// Whether DATA is held for the next bit: 1 is DATA free.
-    fn is_low(self) -> bool {
+    fn is_low(self) -> bool
+        ensures { result ≡ is_low self.left }
+    {
         self.left % 2 == 0
     }
 
     /// The change of DATA where the next bit wants one.
-    fn toggle(self) -> Way {
+    fn toggle(self) -> Way
+        ensures { result ≡ toggle self }
+    {
         if self.low { Way::Free } else { Way::Pull }
     }
 
     /// DATA changed.
-    fn toggled(self) -> Bits {
+    fn toggled(self) -> Bits
+        ensures { result ≡ toggled self }
+    {
         Bits {
             low: !self.low,
             ..self
@@ -116,7 +135,9 @@ impl Bits {
     }
 
     /// The bits behind the next one.
-    fn behind(self) -> Bits {
+    fn behind(self) -> Bits
+        ensures { result ≡ behind_bit self }
+    {
         Bits {
             left: self.left / 2,
             count: self.count.saturating_sub(1),
@@ -125,10 +146,13 @@ impl Bits {
     }
 
     /// What comes behind a pull of CLOCK: the next bit, or the end of the frame.
-    fn next(self, moment: u64) -> Frame {
+    fn next(self, moment: u64) -> Frame
+        requires { moment < 2 ^ 60 }
+        ensures { result ≡ next_bit moment self }
+    {
         if self.count == 0 {
             return if self.low {
-                Frame::Leaving(moment)
+                Frame::Clearing(moment)
             } else {
                 Frame::Sent
             };

@@ -4,6 +4,7 @@ use crate::due::Due;
 use crate::engine::Engine;
 use crate::request::Request;
 use cbm_drive::{Bus, Change, Event, Machine, Player, Who};
+use std::marker::Model;
 
 /// How long a request takes at most, in microseconds.
 const LONGEST: u64 = 250_000_000;
@@ -17,9 +18,27 @@ pub struct Performer<'a> {
     limit: u64,
 }
 
+impl<'a> Model for Performer<'a> {
+    ghost use Rattle.std.specs.Prelude.{◌-◌, ◌^◌, ◌<◌};
+    ghost use Rattle.cbm_host.specs.Performers.{Performing};
+
+    ghost Value = { Performing };
+
+    ghost view = { λ p. record { player = p.player; engine = p.engine; byte = p.byte; limit = p.limit } };
+
+    ghost invariant = { λ p. p.limit < 2 ^ 59 - 1 };
+}
+
 impl<'a> Performer<'a> {
+    ghost use Rattle.std.specs.Prelude.{◌≡◌, ◌+◌, ◌^◌, ◌<◌, ◌≤◌};
+    ghost use Rattle.cbm_host.specs.Engines.{channel_of};
+
     /// Before the first event of a request to the drive with this device number; its first change comes at the start.
-    pub fn new(start: u64, device: u8, request: Request<'a>) -> Performer<'a> {
+    pub fn new(start: u64, device: u8, request: Request<'a>) -> Performer<'a>
+        requires start { start < 2 ^ 58 }
+        requires device { device < 31 }
+        requires channel { channel_of request ≤ 15 }
+    {
         Performer {
             player: Player::new(),
             engine: Engine::new(start, device, request),
@@ -29,7 +48,9 @@ impl<'a> Performer<'a> {
     }
 
     /// The next event, the host's or the drive's. None where the request is over.
-    pub fn next<D: Machine>(&mut self, bus: &mut Bus<D, 1>) -> Option<Event> {
+    pub fn next<D: Machine, const N: usize>(&mut self, bus: &mut Bus<D, N>) -> Option<Event>
+        requires one { N ≡ 1 }
+    {
         let event = self.event(bus)?;
         if event.change.moment > self.limit {
             return None;
@@ -56,17 +77,19 @@ impl<'a> Performer<'a> {
     }
 
     /// The event that comes next.
-    fn event<D: Machine>(&mut self, bus: &mut Bus<D, 1>) -> Option<Event> {
+    fn event<D: Machine, const N: usize>(&mut self, bus: &mut Bus<D, N>) -> Option<Event> {
         match self.engine.due() {
-            Due::Change(change) if change.moment <= self.limit => self.play(bus, change),
-            Due::Silence(until) if until <= self.limit => self.wait(bus, until),
-            Due::Drive => self.player.next(bus, self.limit),
+            Due::Makes(change) if change.moment <= self.limit => self.play(bus, change),
+            Due::Waits(until) if until <= self.limit => self.wait(bus, until),
+            Due::Hears => self.player.next(bus, self.limit),
             _ => None,
         }
     }
 
     /// The host's change that is due, or what the drive does before it.
-    fn play<D: Machine>(&mut self, bus: &mut Bus<D, 1>, change: Change) -> Option<Event> {
+    fn play<D: Machine, const N: usize>(&mut self, bus: &mut Bus<D, N>, change: Change) -> Option<Event>
+        requires { change.moment ≤ self.old.limit }
+    {
         if !self.player.waits() && self.player.offer(change).is_err() {
             return None;
         }
@@ -74,13 +97,15 @@ impl<'a> Performer<'a> {
     }
 
     /// What the drive does up to a moment, or what the host does where it does nothing.
-    fn wait<D: Machine>(&mut self, bus: &mut Bus<D, 1>, until: u64) -> Option<Event> {
+    fn wait<D: Machine, const N: usize>(&mut self, bus: &mut Bus<D, N>, until: u64) -> Option<Event>
+        requires { until ≤ self.old.limit }
+    {
         if let Some(event) = self.player.next(bus, until) {
             return Some(event);
         }
         self.engine.passed();
         match self.engine.due() {
-            Due::Change(change) => self.play(bus, change),
+            Due::Makes(change) if change.moment <= self.limit => self.play(bus, change),
             _ => None,
         }
     }

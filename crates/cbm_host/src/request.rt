@@ -1,7 +1,7 @@
 //! What a host asks of a drive.
 
 /// A request, on a channel from 0 to 15.
-#[derive(Clone, Copy, Debug, Drop)]
+#[derive(Clone, Copy, Drop)]
 pub enum Request<'a> {
     /// OPEN with this text, or on 15 a command: LISTEN, $F0 + channel, the text, UNLISTEN.
     Open(u8, &'a [u8]),
@@ -16,8 +16,13 @@ pub enum Request<'a> {
 }
 
 impl<'a> Request<'a> {
+    ghost use Rattle.std.specs.Prelude.{◌≡◌};
+    ghost use Rattle.cbm_host.specs.Engines.{sent_by, most_of};
+
     /// The bytes that are sent to the channel.
-    pub(crate) fn bytes(self) -> &'a [u8] {
+    pub(crate) fn bytes(self) -> &'a [u8]
+        ensures { result.now ≡ sent_by self.entry }
+    {
         match self {
             Request::Open(_, bytes) | Request::Put(_, bytes) => bytes,
             Request::Get(..) | Request::Close(_) | Request::Status => &[],
@@ -25,7 +30,9 @@ impl<'a> Request<'a> {
     }
 
     /// The most bytes that are taken from it.
-    pub(crate) fn most(self) -> u32 {
+    pub(crate) fn most(self) -> u32
+        ensures { result ≡ most_of self.entry }
+    {
         match self {
             Request::Get(_, most) => most,
             Request::Status => u32::MAX,

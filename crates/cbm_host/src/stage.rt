@@ -1,5 +1,8 @@
 //! What the host is at on the wires.
 
+ghost use Rattle.std.specs.Prelude.{◌≡◌, ◌^◌, ◌<◌};
+ghost use Rattle.cbm_host.specs.Stages.{commanding, releasing, leaving, pull_change, behind_pull, release_change, released, stage_due, stage_made, stage_seen, stage_passed};
+
 use crate::commands::{Commands, UNTALK};
 use crate::due::Due;
 use crate::frame::Frame;
@@ -8,67 +11,67 @@ use crate::waits::{ANSWER, PHASE, READY, SILENCE, TURN};
 use cbm_iec::{Change, Line, Way};
 
 /// What follows an attention.
-#[derive(Clone, Copy, Debug, PartialEq, Eq, Drop)]
+#[derive(Clone, Copy, Drop)]
 pub(crate) enum Errand {
     /// The drive listens: bytes are sent to it.
-    Send,
+    Sends,
     /// The drive talks: bytes are taken from it.
-    Take,
+    Takes,
     /// Nobody listens or talks: the request is over.
-    Leave,
+    Leaves,
 }
 
 /// The bytes of an attention that are still to be sent, and what follows it.
-#[derive(Clone, Copy, Debug, PartialEq, Eq, Drop)]
+#[derive(Clone, Copy, Drop)]
 pub(crate) struct Attention {
     pub(crate) commands: Commands,
     pub(crate) errand: Errand,
 }
 
 /// What follows a byte.
-#[derive(Clone, Copy, Debug, PartialEq, Eq, Drop)]
+#[derive(Clone, Copy, Drop)]
 pub(crate) enum Behind {
     /// The bytes of an attention, if any, and what follows it.
-    Attention(Option<Commands>, Errand),
+    Commanded(Option<Commands>, Errand),
     /// Bytes for the listener.
-    Data,
+    Listened,
 }
 
 /// ATN's pull, and what goes with it.
-#[derive(Clone, Copy, Debug, PartialEq, Eq, Drop)]
-pub(crate) enum Pull {
+#[derive(Clone, Copy, Drop)]
+pub(crate) enum Pulls {
     /// ATN is pulled; whether the host holds CLOCK and DATA.
-    Atn { clock_low: bool, data_low: bool },
+    PullAtn { clock_low: bool, data_low: bool },
     /// CLOCK is pulled; whether the host holds DATA.
-    Clock { data_low: bool },
+    PullClock { data_low: bool },
     /// DATA is freed.
-    Data,
+    FreeData,
 }
 
 /// ATN's release, and what goes with it.
-#[derive(Clone, Copy, Debug, PartialEq, Eq, Drop)]
+#[derive(Clone, Copy, Drop)]
 pub(crate) enum Release {
     /// To nobody: ATN is freed.
-    Nobody,
+    AtnToNobody,
     /// To nobody: CLOCK is freed behind it.
-    NobodyClock,
+    ClockToNobody,
     /// To a talker: DATA is pulled.
-    Talker,
+    DataToTalker,
     /// To a talker: ATN is freed behind it.
-    TalkerAtn,
+    AtnToTalker,
     /// To a talker: CLOCK is freed behind that.
-    TalkerClock,
+    ClockToTalker,
     /// The talker had nothing to say: DATA is freed.
-    TalkerData,
+    DataToSilent,
 }
 
 /// What the host is at, and the moment of its next change, in microseconds.
-#[derive(Clone, Copy, Debug, PartialEq, Eq, Drop)]
+#[derive(Clone, Copy, Drop)]
 pub(crate) enum Stage {
     /// ATN is pulled.
     Attending {
         at: u64,
-        pull: Pull,
+        pull: Pulls,
         attention: Attention,
     },
     /// A byte is sent.
@@ -93,60 +96,71 @@ pub(crate) enum Stage {
     Done(u64),
 }
 
-impl Pull {
-    /// The line and the way of the change that comes next.
-    fn change(self) -> (Line, Way) {
-        match self {
-            Pull::Atn { .. } => (Line::Atn, Way::Pull),
-            Pull::Clock { .. } => (Line::Clock, Way::Pull),
-            Pull::Data => (Line::Data, Way::Free),
-        }
+impl Pulls {
+    /// The change that comes next, at a moment.
+    fn change(self, moment: u64) -> Change
+        ensures { result ≡ pull_change moment self }
+    {
+        let (line, way) = match self {
+            Pulls::PullAtn { .. } => (Line::Atn, Way::Pull),
+            Pulls::PullClock { .. } => (Line::Clock, Way::Pull),
+            Pulls::FreeData => (Line::Data, Way::Free),
+        };
+        Change { moment, line, way }
     }
 
     /// What is still to be changed behind it: only what isn't so already.
-    fn behind(self) -> Option<Pull> {
+    fn behind(self) -> Option<Pulls>
+        ensures { result ≡ behind_pull self }
+    {
         match self {
-            Pull::Atn {
+            Pulls::PullAtn {
                 clock_low: false,
                 data_low,
-            } => Some(Pull::Clock { data_low }),
-            Pull::Atn { data_low: true, .. } | Pull::Clock { data_low: true } => Some(Pull::Data),
-            Pull::Atn { .. } | Pull::Clock { .. } | Pull::Data => None,
+            } => Some(Pulls::PullClock { data_low }),
+            Pulls::PullAtn { data_low: true, .. } | Pulls::PullClock { data_low: true } => Some(Pulls::FreeData),
+            Pulls::PullAtn { .. } | Pulls::PullClock { .. } | Pulls::FreeData => None,
         }
     }
 }
 
 impl Release {
-    /// The line and the way of the change that comes next.
-    fn change(self) -> (Line, Way) {
-        match self {
-            Release::Nobody | Release::TalkerAtn => (Line::Atn, Way::Free),
-            Release::NobodyClock | Release::TalkerClock => (Line::Clock, Way::Free),
-            Release::Talker => (Line::Data, Way::Pull),
-            Release::TalkerData => (Line::Data, Way::Free),
-        }
+    /// The change that comes next, at a moment.
+    fn change(self, moment: u64) -> Change
+        ensures { result ≡ release_change moment self }
+    {
+        let (line, way) = match self {
+            Release::AtnToNobody | Release::AtnToTalker => (Line::Atn, Way::Free),
+            Release::ClockToNobody | Release::ClockToTalker => (Line::Clock, Way::Free),
+            Release::DataToTalker => (Line::Data, Way::Pull),
+            Release::DataToSilent => (Line::Data, Way::Free),
+        };
+        Change { moment, line, way }
     }
 
     /// What comes behind it.
-    fn made(self, moment: u64) -> Stage {
+    fn made(self, moment: u64) -> Stage
+        requires { moment < 2 ^ 60 }
+        ensures { result ≡ released moment self }
+    {
         let at = moment;
         match self {
-            Release::Nobody => Stage::Releasing {
+            Release::AtnToNobody => Stage::Releasing {
                 at,
-                release: Release::NobodyClock,
+                release: Release::ClockToNobody,
             },
-            Release::NobodyClock => Stage::Ending(moment + READY),
-            Release::Talker => Stage::Releasing {
+            Release::ClockToNobody => Stage::Ending(moment + READY),
+            Release::DataToTalker => Stage::Releasing {
                 at,
-                release: Release::TalkerAtn,
+                release: Release::AtnToTalker,
             },
-            Release::TalkerAtn => Stage::Releasing {
+            Release::AtnToTalker => Stage::Releasing {
                 at: moment + PHASE,
-                release: Release::TalkerClock,
+                release: Release::ClockToTalker,
             },
-            Release::TalkerClock => Stage::Turning(moment + SILENCE),
-            Release::TalkerData => {
-                Stage::leave(moment + ANSWER, Commands::One(UNTALK), false, false)
+            Release::ClockToTalker => Stage::Turning(moment + SILENCE),
+            Release::DataToSilent => {
+                Stage::leave(moment + ANSWER, UNTALK, false, false)
             }
         }
     }
@@ -154,61 +168,77 @@ impl Release {
 
 impl Stage {
     /// The next byte of an attention, behind ATN's pull or an accept.
-    pub(crate) fn command(moment: u64, attention: Attention) -> Stage {
+    pub(crate) fn command(moment: u64, attention: Attention) -> Stage
+        requires { moment < 2 ^ 60 }
+        ensures { result ≡ commanding moment attention }
+    {
         Stage::Framing {
             frame: Frame::Readying {
                 at: moment + READY,
                 byte: attention.commands.first(),
                 eoi: false,
             },
-            behind: Behind::Attention(attention.commands.rest(), attention.errand),
+            behind: Behind::Commanded(attention.commands.rest(), attention.errand),
         }
     }
 
     /// ATN's release behind the last accept of an attention.
-    pub(crate) fn release(moment: u64, errand: Errand) -> Stage {
+    pub(crate) fn release(moment: u64, errand: Errand) -> Stage
+        requires { moment < 2 ^ 60 }
+        ensures { result ≡ releasing moment errand }
+    {
         let at = moment + TURN;
         let release = match errand {
-            Errand::Send => return Stage::Calling(at),
-            Errand::Take => Release::Talker,
-            Errand::Leave => Release::Nobody,
+            Errand::Sends => return Stage::Calling(at),
+            Errand::Takes => Release::DataToTalker,
+            Errand::Leaves => Release::AtnToNobody,
         };
         Stage::Releasing { at, release }
     }
 
     /// The last attention of a request; whether the host holds CLOCK and DATA before it.
-    pub(crate) fn leave(at: u64, commands: Commands, clock_low: bool, data_low: bool) -> Stage {
+    pub(crate) fn leave(at: u64, byte: u8, clock_low: bool, data_low: bool) -> Stage
+        ensures { result ≡ leaving at byte clock_low data_low }
+    {
         Stage::Attending {
             at,
-            pull: Pull::Atn {
+            pull: Pulls::PullAtn {
                 clock_low,
                 data_low,
             },
             attention: Attention {
-                commands,
-                errand: Errand::Leave,
+                commands: Commands::One(byte),
+                errand: Errand::Leaves,
             },
         }
     }
 
     /// What the host does next.
-    pub(crate) fn due(self) -> Due {
-        let (moment, (line, way)) = match self {
-            Stage::Attending { at, pull, .. } => (at, pull.change()),
-            Stage::Calling(at) => (at, (Line::Atn, Way::Free)),
-            Stage::Releasing { at, release } => (at, release.change()),
-            Stage::Framing { frame, .. } => return Due::of(frame.change()),
-            Stage::Taking(Take::Listening(until)) => return Due::Silence(until),
-            Stage::Taking(take) => return Due::of(take.change()),
-            Stage::Turning(until) | Stage::Ending(until) => return Due::Silence(until),
-            Stage::Done(at) => return Due::Over(at),
-        };
-        Due::Change(Change { moment, line, way })
+    pub(crate) fn due(self) -> Due
+        ensures { result ≡ stage_due self }
+    {
+        match self {
+            Stage::Attending { at, pull, .. } => Due::Makes(pull.change(at)),
+            Stage::Calling(moment) => Due::Makes(Change {
+                moment,
+                line: Line::Atn,
+                way: Way::Free,
+            }),
+            Stage::Releasing { at, release } => Due::Makes(release.change(at)),
+            Stage::Framing { frame, .. } => Due::of(frame.change()),
+            Stage::Taking(Take::Listening(until)) => Due::Waits(until),
+            Stage::Taking(take) => Due::of(take.change()),
+            Stage::Turning(until) | Stage::Ending(until) => Due::Waits(until),
+            Stage::Done(at) => Due::Over(at),
+        }
     }
 
     /// Behind the host's change that was due. What comes of a release to a listener, and of
     /// an accept, is the caller's.
-    pub(crate) fn made(self, moment: u64) -> Stage {
+    pub(crate) fn made(self, moment: u64) -> Stage
+        requires { moment < 2 ^ 60 }
+        ensures { result ≡ stage_made moment self }
+    {
         match self {
             Stage::Attending {
                 pull,
@@ -235,24 +265,29 @@ impl Stage {
     }
 
     /// Behind a change of the drive. What comes of its accept is the caller's.
-    pub(crate) fn seen(self, change: Change) -> Stage {
+    pub(crate) fn seen(self, change: Change) -> Stage
+        requires { change.moment < 2 ^ 60 }
+        ensures { result ≡ stage_seen change self }
+    {
         match (self, change.line, change.way) {
             (Stage::Framing { frame, behind }, _, _) => Stage::Framing {
                 frame: frame.seen(change),
                 behind,
             },
-            (Stage::Turning(_), Line::Clock, Way::Pull) => Stage::Taking(Take::Waiting),
+            (Stage::Turning(_), Line::Clock, Way::Pull) => Stage::Taking(Take::Awaiting),
             (Stage::Taking(take), _, _) => Stage::Taking(take.seen(change)),
             (other, _, _) => other,
         }
     }
 
     /// The drive changed nothing for as long as the host waits.
-    pub(crate) fn passed(self) -> Stage {
+    pub(crate) fn passed(self) -> Stage
+        ensures { result ≡ stage_passed self }
+    {
         match self {
             Stage::Turning(at) => Stage::Releasing {
                 at,
-                release: Release::TalkerData,
+                release: Release::DataToSilent,
             },
             Stage::Taking(Take::Listening(at)) => Stage::Taking(Take::Marking(at)),
             Stage::Ending(at) => Stage::Done(at),

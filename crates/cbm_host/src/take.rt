@@ -1,10 +1,13 @@
 //! A byte of the talker on the wires.
 
+ghost use Rattle.std.specs.Prelude.{◌≡◌, ◌^◌, ◌<◌};
+ghost use Rattle.cbm_host.specs.Taking.{nothing_came, came_bit, take_change, take_made, take_seen};
+
 use crate::waits::{ANSWER, EOI_PULSE, EOI_WAIT};
 use cbm_iec::{Change, Line, Way};
 
 /// The bits of a byte that came so far.
-#[derive(Clone, Copy, Debug, PartialEq, Eq, Drop)]
+#[derive(Clone, Copy, Drop)]
 pub(crate) struct Came {
     /// How many.
     pub(crate) count: u8,
@@ -17,18 +20,18 @@ pub(crate) struct Came {
 }
 
 /// What the host does next for a byte of the talker, or waits for.
-#[derive(Clone, Copy, Debug, PartialEq, Eq, Drop)]
+#[derive(Clone, Copy, Drop)]
 pub(crate) enum Take {
     /// The talker is to free CLOCK: it offers a byte.
-    Waiting,
+    Awaiting,
     /// DATA is freed then.
-    Readying(u64),
+    Freeing(u64),
     /// The talker is to pull CLOCK for its first bit; where it hasn't by then the byte is the last.
     Listening(u64),
     /// EOI: DATA is pulled then.
     Marking(u64),
     /// EOI: DATA is freed again then.
-    Marked(u64),
+    Unmarking(u64),
     /// Bits come.
     Gathering(Came),
     /// DATA is pulled then: the byte is accepted, with whether it is the last.
@@ -37,7 +40,9 @@ pub(crate) enum Take {
 
 impl Came {
     /// Before the first bit.
-    fn nothing(last: bool) -> Came {
+    fn nothing(last: bool) -> Came
+        ensures { result ≡ nothing_came last }
+    {
         Came {
             count: 0,
             byte: 0,
@@ -49,6 +54,7 @@ impl Came {
     /// CLOCK was freed: a bit counts, 1 is DATA free.
     fn bit(self) -> Came
         requires { self.count < 8 }
+        ensures { result ≡ came_bit self }
     {
         Came {
             count: self.count + 1,
@@ -60,11 +66,13 @@ impl Came {
 
 impl Take {
     /// The change of the host that comes next, if it waits for nobody.
-    pub(crate) fn change(self) -> Option<Change> {
+    pub(crate) fn change(self) -> Option<Change>
+        ensures { result ≡ take_change self }
+    {
         let (moment, way) = match self {
-            Take::Readying(at) | Take::Marked(at) => (at, Way::Free),
+            Take::Freeing(at) | Take::Unmarking(at) => (at, Way::Free),
             Take::Marking(at) | Take::Accepting { at, .. } => (at, Way::Pull),
-            Take::Waiting | Take::Listening(_) | Take::Gathering(_) => return None,
+            Take::Awaiting | Take::Listening(_) | Take::Gathering(_) => return None,
         };
         Some(Change {
             moment,
@@ -74,19 +82,25 @@ impl Take {
     }
 
     /// Behind that change. What comes of the accept is the caller's.
-    pub(crate) fn made(self, moment: u64) -> Take {
+    pub(crate) fn made(self, moment: u64) -> Take
+        requires { moment < 2 ^ 60 }
+        ensures { result ≡ take_made moment self }
+    {
         match self {
-            Take::Readying(_) => Take::Listening(moment + EOI_WAIT),
-            Take::Marking(_) => Take::Marked(moment + EOI_PULSE),
-            Take::Marked(_) => Take::Gathering(Came::nothing(true)),
+            Take::Freeing(_) => Take::Listening(moment + EOI_WAIT),
+            Take::Marking(_) => Take::Unmarking(moment + EOI_PULSE),
+            Take::Unmarking(_) => Take::Gathering(Came::nothing(true)),
             other => other,
         }
     }
 
     /// Behind a change of the talker.
-    pub(crate) fn seen(self, change: Change) -> Take {
+    pub(crate) fn seen(self, change: Change) -> Take
+        requires { change.moment < 2 ^ 60 }
+        ensures { result ≡ take_seen change self }
+    {
         match (self, change.line, change.way) {
-            (Take::Waiting, Line::Clock, Way::Free) => Take::Readying(change.moment + ANSWER),
+            (Take::Awaiting, Line::Clock, Way::Free) => Take::Freeing(change.moment + ANSWER),
             (Take::Listening(_), Line::Clock, Way::Pull) => Take::Gathering(Came::nothing(false)),
             (Take::Gathering(came), Line::Data, way) => Take::Gathering(Came {
                 low: way == Way::Pull,

@@ -1,0 +1,147 @@
+-- A request under way: what the host is at, the bytes that are left, and what becomes of it behind each change.
+use Rattle.std.specs.Prelude.{ℕ, ◌+◌, ◌-◌, ◌^◌, Bool, true, false, List, [], ◌∷◌, Option, Some, None, nat_le, ◌||◌, if◌then◌else◌}
+use Rattle.cbm_iec.specs.declared.line.Change.{Change}
+use Rattle.cbm_iec.specs.declared.line.Line.{Line}
+use Rattle.cbm_iec.specs.declared.line.Line.TheVariants.{Atn, Clock, Data}
+use Rattle.cbm_iec.specs.declared.line.Way.{Way}
+use Rattle.cbm_iec.specs.declared.line.Way.TheVariants.{Pull, Free}
+use Rattle.cbm_host.specs.Attentions.{listen, unlisten, talk, untalk, data_on, close_on, open_on}
+use Rattle.cbm_host.specs.Stages.{commanding, releasing, leaving, stage_due, stage_made, stage_seen, stage_passed}
+use Rattle.cbm_host.specs.Sending.{frame_seen}
+use Rattle.cbm_host.specs.Taking.{take_made}
+use Rattle.cbm_host.specs.Waits.{ready_wait, answer_wait, turn_wait}
+use Rattle.cbm_host.specs.declared.commands.Commands.{Commands}
+use Rattle.cbm_host.specs.declared.commands.Commands.TheVariants.{Two, Three}
+use Rattle.cbm_host.specs.declared.due.Due.{Due}
+use Rattle.cbm_host.specs.declared.frame.Frame.{Frame}
+use Rattle.cbm_host.specs.declared.frame.Frame.TheVariants.{Readying, Sent}
+use Rattle.cbm_host.specs.declared.request.Request.{Request}
+use Rattle.cbm_host.specs.declared.request.Request.TheVariants.{Open, Put, Get, Close, Status}
+use Rattle.cbm_host.specs.declared.stage.Attention.{Attention}
+use Rattle.cbm_host.specs.declared.stage.Behind.{Behind}
+use Rattle.cbm_host.specs.declared.stage.Behind.TheVariants.{Commanded, Listened}
+use Rattle.cbm_host.specs.declared.stage.Errand.{Errand}
+use Rattle.cbm_host.specs.declared.stage.Errand.TheVariants.{Sends, Takes, Leaves}
+use Rattle.cbm_host.specs.declared.stage.Pulls.TheVariants.{PullAtn}
+use Rattle.cbm_host.specs.declared.stage.Stage.{Stage}
+use Rattle.cbm_host.specs.declared.stage.Stage.TheVariants.{Attending, Framing, Calling, Taking, Done}
+use Rattle.cbm_host.specs.declared.take.Take.{Take}
+use Rattle.cbm_host.specs.declared.take.Take.TheVariants.{Awaiting, Accepting}
+
+-- what the host is at, the bytes that are still to be sent, and how many are still to be taken at most
+pub record Engined : Type 0 where
+  pub stage : Stage
+  pub left : List ℕ
+  pub most : ℕ
+
+-- ---- before the first change
+
+-- the first attention of a request, and what follows it
+abbrev pub attention_of : ℕ → Request → Attention
+attention_of d (Open channel text) = record { commands = Two (listen + d) (open_on + channel); errand = Sends }
+attention_of d (Put channel bytes) = record { commands = Two (listen + d) (data_on + channel); errand = Sends }
+attention_of d (Get channel most) = record { commands = Two (talk + d) (data_on + channel); errand = Takes }
+attention_of d (Close channel) = record { commands = Three (listen + d) (close_on + channel) unlisten; errand = Leaves }
+attention_of d Status = record { commands = Two (talk + d) (data_on + 15); errand = Takes }
+
+-- the channel of a request
+abbrev pub channel_of : Request → ℕ
+channel_of (Open channel text) = channel
+channel_of (Put channel bytes) = channel
+channel_of (Get channel most) = channel
+channel_of (Close channel) = channel
+channel_of Status = 15
+
+-- the bytes that it sends, and how many it takes at most
+abbrev pub sent_by : Request → List ℕ
+sent_by (Open channel text) = text.now
+sent_by (Put channel bytes) = bytes.now
+sent_by request = []
+
+abbrev pub most_of : Request → ℕ
+most_of (Get channel most) = most
+most_of Status = 2 ^ 32 - 1
+most_of request = 0
+
+abbrev pub engine_at : ℕ → ℕ → Request → Engined
+engine_at start d request = record { stage = Attending start (PullAtn false false) (attention_of d request); left = sent_by request; most = most_of request }
+
+-- ---- what it does next
+
+abbrev pub engine_due : Engined → Due
+engine_due e = stage_due e.stage
+
+-- the byte that the host's next change accepts, and whether it is the last
+abbrev pub taken_in : Take → Option (ℕ × Bool)
+taken_in (Accepting at byte last) = Some (byte, last)
+taken_in take = None
+
+abbrev pub stage_taken : Stage → Option (ℕ × Bool)
+stage_taken (Taking take) = taken_in take
+stage_taken stage = None
+
+-- when it was over
+abbrev pub stage_end : Stage → Option ℕ
+stage_end (Done at) = Some at
+stage_end stage = None
+
+-- ---- what becomes of it
+
+abbrev pub at_stage : Stage → Engined → Engined
+at_stage stage e = record { stage = stage; left = e.left; most = e.most }
+
+-- no byte is left
+abbrev pub is_last : List ℕ → Bool
+is_last [] = true
+is_last (byte ∷ left) = false
+
+-- The next byte to the listener, behind ATN's release or the accept of the byte before it; where none is left UNLISTEN comes after a wait.
+abbrev pub sending_on : ℕ → ℕ → ℕ → List ℕ → Engined
+sending_on t wait most [] = record { stage = leaving (t + wait) unlisten true false; left = []; most = most }
+sending_on t wait most (byte ∷ left) = record { stage = Framing (Readying (t + ready_wait) byte (is_last left)) Listened; left = left; most = most }
+
+-- A byte of the talker was accepted: the next one is awaited; behind the last, or where no more are wanted, UNTALK comes.
+abbrev pub taking_on : ℕ → Bool → Engined → Engined
+taking_on t last e =
+    if last || nat_le e.most 1
+    then at_stage (leaving (t + answer_wait) untalk false true) e
+    else record { stage = Taking Awaiting; left = e.left; most = e.most - 1 }
+
+-- the byte of the host was accepted
+abbrev pub accepted : ℕ → Behind → Engined → Engined
+accepted t (Commanded (Some commands) errand) e = at_stage (commanding t (record { commands = commands; errand = errand })) e
+accepted t (Commanded None errand) e = at_stage (releasing t errand) e
+accepted t Listened e = sending_on t turn_wait e.most e.left
+
+-- behind the host's change that was due, made at t
+abbrev pub took : ℕ → Take → Engined → Engined
+took t (Accepting at byte last) e = taking_on t last e
+took t take e = at_stage (Taking (take_made t take)) e
+
+abbrev pub made_at : ℕ → Stage → Engined → Engined
+made_at t (Calling at) e = sending_on t ready_wait e.most e.left
+made_at t (Taking take) e = took t take e
+made_at t stage e = at_stage (stage_made t stage) e
+
+abbrev pub engine_made : ℕ → Engined → Engined
+engine_made t e = made_at t e.stage e
+
+-- behind a change of the drive: a frame that was sent waits for DATA to be pulled
+abbrev pub heard_data : Change → Way → Frame → Behind → Engined → Engined
+heard_data c Pull Sent behind e = accepted c.moment behind e
+heard_data c way frame behind e = at_stage (Framing (frame_seen c frame) behind) e
+
+abbrev pub heard : Change → Line → Frame → Behind → Engined → Engined
+heard c Data frame behind e = heard_data c c.way frame behind e
+heard c line frame behind e = at_stage (Framing (frame_seen c frame) behind) e
+
+abbrev pub seen_at : Change → Stage → Engined → Engined
+seen_at c (Framing frame behind) e = heard c c.line frame behind e
+seen_at c stage e = at_stage (stage_seen c stage) e
+
+abbrev pub engine_seen : Change → Engined → Engined
+engine_seen c e = seen_at c e.stage e
+
+-- the drive changed nothing for as long as the host waits
+abbrev pub engine_passed : Engined → Engined
+engine_passed e = at_stage (stage_passed e.stage) e

@@ -1,0 +1,78 @@
+-- A byte of the host on the wires: what it changes next, and what becomes of it behind its own changes and those of who hears.
+use Rattle.std.specs.Prelude.{ℕ, ◌+◌, ◌-◌, ◌/◌, ◌%◌, ◌==◌, Bool, true, false, not, Option, Some, None, if◌then◌else◌}
+use Rattle.cbm_iec.specs.Hearing.{is_same}
+use Rattle.cbm_iec.specs.Ports.{change_at}
+use Rattle.cbm_iec.specs.declared.line.Change.{Change}
+use Rattle.cbm_iec.specs.declared.line.Line.{Line}
+use Rattle.cbm_iec.specs.declared.line.Line.TheVariants.{Atn, Clock, Data}
+use Rattle.cbm_iec.specs.declared.line.Way.{Way}
+use Rattle.cbm_iec.specs.declared.line.Way.TheVariants.{Pull, Free}
+use Rattle.cbm_host.specs.Waits.{answer_wait, phase}
+use Rattle.cbm_host.specs.declared.frame.Bits.{Bits}
+use Rattle.cbm_host.specs.declared.frame.Frame.{Frame}
+use Rattle.cbm_host.specs.declared.frame.Frame.TheVariants.{Readying, Ready, EoiSent, EoiHeard, Starting, Setting, Showing, Hiding, Clearing, Sent}
+
+-- eight bits, DATA free before them
+abbrev pub bits_of : ℕ → Bits
+bits_of byte = record { left = byte; count = 8; low = false }
+
+-- whether DATA is held for the next bit: 1 is DATA free
+abbrev pub is_low : ℕ → Bool
+is_low left = (left % 2) == 0
+
+abbrev pub toggled : Bits → Bits
+toggled b = record { left = b.left; count = b.count; low = not b.low }
+
+abbrev pub toggle : Bits → Way
+toggle b = if b.low then Free else Pull
+
+abbrev pub behind_bit : Bits → Bits
+behind_bit b = record { left = b.left / 2; count = b.count - 1; low = b.low }
+
+-- CLOCK was pulled: DATA is set where the next bit changes it; behind the eighth it is freed where it is held
+abbrev pub next_bit : ℕ → Bits → Frame
+next_bit t b =
+    if b.count == 0
+    then (if b.low then Clearing t else Sent)
+    else (if is_same b.low (is_low b.left) then Showing (t + phase) b else Setting t b)
+
+-- the host's next change, None where it waits for who hears
+abbrev pub frame_change : Frame → Option Change
+frame_change (Readying at byte eoi) = Some (change_at at Clock Free)
+frame_change (Starting at byte) = Some (change_at at Clock Pull)
+frame_change (Setting at b) = Some (change_at at Data (toggle b))
+frame_change (Showing at b) = Some (change_at at Clock Free)
+frame_change (Hiding at b) = Some (change_at at Clock Pull)
+frame_change (Clearing at) = Some (change_at at Data Free)
+frame_change frame = None
+
+-- behind that change, made at t
+abbrev pub frame_made : ℕ → Frame → Frame
+frame_made t (Readying at byte eoi) = Ready byte eoi
+frame_made t (Starting at byte) = next_bit t (bits_of byte)
+frame_made t (Setting at b) = Showing (t + phase) (toggled b)
+frame_made t (Showing at b) = Hiding (t + phase) b
+frame_made t (Hiding at b) = next_bit t (behind_bit b)
+frame_made t (Clearing at) = Sent
+frame_made t frame = frame
+
+-- who hears freed DATA: T, or the end of the EOI pulse
+abbrev pub frame_freed : ℕ → Frame → Frame
+frame_freed t (Ready byte eoi) = if eoi then EoiSent byte else Starting (t + answer_wait) byte
+frame_freed t (EoiHeard byte) = Starting (t + answer_wait) byte
+frame_freed t frame = frame
+
+-- who hears pulled DATA: the EOI pulse
+abbrev pub frame_pulled : Frame → Frame
+frame_pulled (EoiSent byte) = EoiHeard byte
+frame_pulled frame = frame
+
+abbrev pub frame_lined : ℕ → Line → Way → Frame → Frame
+frame_lined t Atn way frame = frame
+frame_lined t Clock way frame = frame
+frame_lined t Data Pull frame = frame_pulled frame
+frame_lined t Data Free frame = frame_freed t frame
+
+-- behind a change of who hears
+abbrev pub frame_seen : Change → Frame → Frame
+frame_seen c frame = frame_lined c.moment c.line c.way frame

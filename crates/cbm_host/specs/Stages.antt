@@ -1,0 +1,132 @@
+-- What the host is at on the wires, and what becomes of it behind each change.
+use Rattle.std.specs.Prelude.{ℕ, ◌+◌, Bool, true, false, Option, Some, None}
+use Rattle.cbm_iec.specs.Ports.{change_at}
+use Rattle.cbm_iec.specs.declared.line.Change.{Change}
+use Rattle.cbm_iec.specs.declared.line.Line.{Line}
+use Rattle.cbm_iec.specs.declared.line.Line.TheVariants.{Atn, Clock, Data}
+use Rattle.cbm_iec.specs.declared.line.Way.{Way}
+use Rattle.cbm_iec.specs.declared.line.Way.TheVariants.{Pull, Free}
+use Rattle.cbm_host.specs.Attentions.{first_of, rest_of, untalk}
+use Rattle.cbm_host.specs.Sending.{frame_change, frame_made, frame_seen}
+use Rattle.cbm_host.specs.Taking.{take_change, take_made, take_seen}
+use Rattle.cbm_host.specs.Waits.{ready_wait, answer_wait, phase, turn_wait, silence}
+use Rattle.cbm_host.specs.declared.commands.Commands.{Commands}
+use Rattle.cbm_host.specs.declared.commands.Commands.TheVariants.{One}
+use Rattle.cbm_host.specs.declared.due.Due.{Due}
+use Rattle.cbm_host.specs.declared.due.Due.TheVariants.{Makes, Waits, Hears, Over}
+use Rattle.cbm_host.specs.declared.frame.Frame.TheVariants.{Readying}
+use Rattle.cbm_host.specs.declared.stage.Attention.{Attention}
+use Rattle.cbm_host.specs.declared.stage.Behind.TheVariants.{Commanded}
+use Rattle.cbm_host.specs.declared.stage.Errand.{Errand}
+use Rattle.cbm_host.specs.declared.stage.Errand.TheVariants.{Sends, Takes, Leaves}
+use Rattle.cbm_host.specs.declared.stage.Pulls.{Pulls}
+use Rattle.cbm_host.specs.declared.stage.Pulls.TheVariants.{PullAtn, PullClock, FreeData}
+use Rattle.cbm_host.specs.declared.stage.Release.{Release}
+use Rattle.cbm_host.specs.declared.stage.Release.TheVariants.{AtnToNobody, ClockToNobody, DataToTalker, AtnToTalker, ClockToTalker, DataToSilent}
+use Rattle.cbm_host.specs.declared.stage.Stage.{Stage}
+use Rattle.cbm_host.specs.declared.stage.Stage.TheVariants.{Attending, Framing, Calling, Releasing, Turning, Taking, Ending, Done}
+use Rattle.cbm_host.specs.declared.take.Take.{Take}
+use Rattle.cbm_host.specs.declared.take.Take.TheVariants.{Awaiting, Listening, Marking}
+
+-- the next byte of an attention, behind ATN's pull or an accept at t
+abbrev pub commanding : ℕ → Attention → Stage
+commanding t a = Framing (Readying (t + ready_wait) (first_of a.commands) false) (Commanded (rest_of a.commands) a.errand)
+
+-- ATN's release behind the last accept of an attention, at t
+abbrev pub releasing : ℕ → Errand → Stage
+releasing t Sends = Calling (t + turn_wait)
+releasing t Takes = Releasing (t + turn_wait) DataToTalker
+releasing t Leaves = Releasing (t + turn_wait) AtnToNobody
+
+-- the last attention of a request, by whether the host holds CLOCK and DATA before it
+abbrev pub leaving : ℕ → ℕ → Bool → Bool → Stage
+leaving at byte clock_low data_low = Attending at (PullAtn clock_low data_low) (record { commands = One byte; errand = Leaves })
+
+-- ATN's pull: CLOCK is pulled and DATA freed with it where they aren't so already
+abbrev pub pull_change : ℕ → Pulls → Change
+pull_change at (PullAtn clock_low data_low) = change_at at Atn Pull
+pull_change at (PullClock data_low) = change_at at Clock Pull
+pull_change at FreeData = change_at at Data Free
+
+abbrev pub behind_pull : Pulls → Option Pulls
+behind_pull (PullAtn false data_low) = Some (PullClock data_low)
+behind_pull (PullAtn true true) = Some FreeData
+behind_pull (PullAtn true false) = None
+behind_pull (PullClock true) = Some FreeData
+behind_pull (PullClock false) = None
+behind_pull FreeData = None
+
+abbrev pub attended : ℕ → Attention → Option Pulls → Stage
+attended t a None = commanding t a
+attended t a (Some p) = Attending t p a
+
+-- ATN's release, and what goes with it
+abbrev pub release_change : ℕ → Release → Change
+release_change at AtnToNobody = change_at at Atn Free
+release_change at ClockToNobody = change_at at Clock Free
+release_change at DataToTalker = change_at at Data Pull
+release_change at AtnToTalker = change_at at Atn Free
+release_change at ClockToTalker = change_at at Clock Free
+release_change at DataToSilent = change_at at Data Free
+
+abbrev pub released : ℕ → Release → Stage
+released t AtnToNobody = Releasing t ClockToNobody
+released t ClockToNobody = Ending (t + ready_wait)
+released t DataToTalker = Releasing t AtnToTalker
+released t AtnToTalker = Releasing (t + phase) ClockToTalker
+released t ClockToTalker = Turning (t + silence)
+released t DataToSilent = leaving (t + answer_wait) untalk false false
+
+-- ---- what the host does next
+
+abbrev pub due_of : Option Change → Due
+due_of None = Hears
+due_of (Some c) = Makes c
+
+abbrev pub take_due : Take → Due
+take_due (Listening until) = Waits until
+take_due take = due_of (take_change take)
+
+abbrev pub stage_due : Stage → Due
+stage_due (Attending at p a) = Makes (pull_change at p)
+stage_due (Framing frame behind) = due_of (frame_change frame)
+stage_due (Calling at) = Makes (change_at at Atn Free)
+stage_due (Releasing at r) = Makes (release_change at r)
+stage_due (Turning until) = Waits until
+stage_due (Taking take) = take_due take
+stage_due (Ending until) = Waits until
+stage_due (Done at) = Over at
+
+-- ---- behind its own change, made at t; what comes of a release to a listener, and of an accept, is the engine's
+
+abbrev pub stage_made : ℕ → Stage → Stage
+stage_made t (Attending at p a) = attended t a (behind_pull p)
+stage_made t (Framing frame behind) = Framing (frame_made t frame) behind
+stage_made t (Releasing at r) = released t r
+stage_made t (Taking take) = Taking (take_made t take)
+stage_made t stage = stage
+
+-- ---- behind a change of the drive; what comes of its accept is the engine's
+
+-- the turnaround: the talker pulls CLOCK
+abbrev pub turned : Line → Way → ℕ → Stage
+turned Clock Pull until = Taking Awaiting
+turned line way until = Turning until
+
+abbrev pub stage_seen : Change → Stage → Stage
+stage_seen c (Framing frame behind) = Framing (frame_seen c frame) behind
+stage_seen c (Turning until) = turned c.line c.way until
+stage_seen c (Taking take) = Taking (take_seen c take)
+stage_seen c stage = stage
+
+-- ---- the drive changed nothing for as long as the host waits
+
+abbrev pub take_passed : Take → Take
+take_passed (Listening until) = Marking until
+take_passed take = take
+
+abbrev pub stage_passed : Stage → Stage
+stage_passed (Turning until) = Releasing until DataToSilent
+stage_passed (Taking take) = Taking (take_passed take)
+stage_passed (Ending until) = Done until
+stage_passed stage = stage
