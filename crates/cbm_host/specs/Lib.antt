@@ -5,3 +5,5 @@ pub mod Taking
 pub mod Stages
 pub mod Engines
 pub mod Performers
+pub mod Performing
+pub mod Framed

@@ -1,0 +1,81 @@
+-- The host performs its frames: a byte in attention or to a listener, with EOI or without.
+use Rattle.std.proofs.Common.{◌≡◌, ℕ, zero, suc, ◌+◌, ◌-◌, ◌*◌, ◌/◌, ◌≤◌, Bool, true, false, not, List, [], ◌∷◌, ◌++◌, ap, sym, ◌∙◌, subst, arith, refl}
+use Rattle.std.proofs.lemmas.List.{append_assoc}
+use Rattle.std.proofs.lemmas.Bool.{ne_eqb}
+use Rattle.std.specs.Prelude.{if◌then◌else◌, ◌==◌}
+use Rattle.cbm_iec.specs.Hearing.{is_same}
+use Rattle.cbm_iec.specs.declared.act.Act.{Act}
+use Rattle.cbm_iec.specs.declared.line.Line.TheVariants.{Clock, Data}
+use Rattle.cbm_iec.specs.declared.line.Way.TheVariants.{Pull, Free}
+use Rattle.cbm_session.proofs.joining.OneDrive.{one_frame}
+use Rattle.cbm_session.specs.Bits.{where_held, Cell, cell_steps, cells_steps, held_after, last_pull}
+use Rattle.cbm_session.specs.Frames.{end_of}
+use Rattle.cbm_session.specs.Seats.{Seat, device, reaction}
+use Rattle.cbm_session.specs.Steps.{Step, host, drive, for_one}
+use Rattle.cbm_host.proofs.Composing.{performs_then}
+use Rattle.cbm_host.specs.Engines.{Engined, accepted}
+use Rattle.cbm_host.specs.Framed.{cells_for, start_for, frame_for}
+use Rattle.cbm_host.specs.Performing.{Performs, ends, makes, sees, passes}
+use Rattle.cbm_host.specs.Sending.{is_low, bits_of, next_bit}
+use Rattle.cbm_host.specs.Waits.{phase}
+use Rattle.cbm_host.specs.declared.frame.Bits.{Bits}
+use Rattle.cbm_host.specs.declared.frame.Frame.{Frame}
+use Rattle.cbm_host.specs.declared.frame.Frame.TheVariants.{Readying, Ready, EoiSent, EoiHeard, Starting, Setting, Showing, Hiding, Clearing, Sent}
+use Rattle.cbm_host.specs.declared.stage.Behind.{Behind}
+use Rattle.cbm_host.specs.declared.stage.Stage.TheVariants.{Framing}
+
+abbrev pub bits : ℕ → ℕ → Bool → Bits
+bits left count low = record { left = left; count = count; low = low }
+
+module _ (behind : Behind) (left : List ℕ) (most : ℕ) where
+  -- in a frame
+  abbrev pub framing : Frame → Engined
+  framing f = record { stage = Framing f behind; left = left; most = most }
+
+  -- the next bit, by whether DATA is held for it
+  abbrev bit_frame : Bool → ℕ → Bits → Frame
+  bit_frame low t b = if is_same b.low low then Showing (t + phase) b else Setting t b
+
+  abbrev cell : Bool → ℕ → Cell
+  cell low t = record { bit = not low; set = t; free = t + phase; pull = t + phase + phase }
+
+  -- one bit
+  cell_performs : (held low : Bool) (t n l : ℕ) (more : List Step) (e2 : Engined) → Performs (framing (next_bit (t + phase + phase) (bits (l / 2) (suc n - 1) low))) more e2
+      → Performs (framing (bit_frame low t (bits l (suc n) held))) (cell_steps held (cell low t) ++ more) e2
+  cell_performs true true t n l more e2 k = makes refl (makes refl k)
+  cell_performs false false t n l more e2 k = makes refl (makes refl k)
+  cell_performs true false t n l more e2 k = makes refl (makes refl (makes refl k))
+  cell_performs false true t n l more e2 k = makes refl (makes refl (makes refl k))
+
+  not_not : (v : Bool) → not (not v) ≡ v
+  not_not true = refl
+  not_not false = refl
+
+  -- so many bits, and DATA's release behind them
+  abbrev bit_steps : Bool → ℕ → ℕ → ℕ → List Step
+  bit_steps held n l t = cells_steps held (cells_for n l t) ++ where_held (held_after held (cells_for n l t)) (host (last_pull t (cells_for n l t)) Data Free)
+
+  bits_perform : (n : ℕ) (held : Bool) (t l : ℕ) → Performs (framing (next_bit t (bits l n held))) (bit_steps held n l t) (framing Sent)
+  bits_perform zero true t l = makes refl (ends refl)
+  bits_perform zero false t l = ends refl
+  bits_perform (suc n) held t l =
+      let rest = bits_perform n (is_low l) (t + phase + phase) (l / 2) in
+      let less : suc n - 1 ≡ n = omega arith in
+      let next = subst (λ (m : ℕ). Performs (framing (next_bit (t + phase + phase) (bits (l / 2) m (is_low l)))) (bit_steps (is_low l) n (l / 2) (t + phase + phase)) (framing Sent)) (sym less) rest in
+      let all = cell_performs held (is_low l) t n l (bit_steps (is_low l) n (l / 2) (t + phase + phase)) (framing Sent) next in
+      let again = subst (λ (v : Bool). Performs (framing (bit_frame (is_low l) t (bits l (suc n) held))) (cell_steps held (cell (is_low l) t) ++ bit_steps v n (l / 2) (t + phase + phase)) (framing Sent)) (sym (not_not (is_low l))) all in
+      let some : (suc n == 0) ≡ false = ne_eqb (suc n) 0 (λ (x : suc n ≡ 0). omega (arith, x)) in
+      subst (λ (v : Bool). Performs (framing (if v then (if held then Clearing t else Sent) else bit_frame (is_low l) t (bits l (suc n) held))) (bit_steps held (suc n) l t) (framing Sent)) (sym some)
+      (subst (λ (zs : List Step). Performs (framing (bit_frame (is_low l) t (bits l (suc n) held))) zs (framing Sent))
+      (sym (append_assoc (cell_steps held (cell (is_low l) t)) (cells_steps (not (not (is_low l))) (cells_for n (l / 2) (t + phase + phase))) (where_held (held_after (not (not (is_low l))) (cells_for n (l / 2) (t + phase + phase))) (host (last_pull (t + phase + phase) (cells_for n (l / 2) (t + phase + phase))) Data Free))))
+      again)
+
+  -- a whole frame, up to the accept
+  pub frame_performs : (s : Seat) (act : Act) (eoi : Bool) (byte ready : ℕ) → let f = frame_for (reaction s) eoi byte ready in
+      Performs (framing (Readying ready byte eoi)) (one_frame (ready + reaction s) s eoi act f) (accepted (end_of f + reaction s) behind (framing Sent))
+  frame_performs s act false byte ready =
+      let f = frame_for (reaction s) false byte ready in
+      makes refl (sees tt (makes refl (performs_then (bits_perform 8 false f.start byte) (sees tt (ends refl)))))
+  frame_performs s act true byte ready =
+      let f = frame_for (reaction s) true byte ready in
+      makes refl (sees tt (sees tt (sees tt (makes refl (performs_then (bits_perform 8 false f.start byte) (sees tt (ends refl)))))))

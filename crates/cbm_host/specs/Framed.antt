@@ -1,0 +1,42 @@
+-- The frames of a request with the host's waits: every moment follows from where the frame begins and from the drive's reaction.
+use Rattle.std.specs.Prelude.{ℕ, zero, suc, ◌+◌, ◌*◌, ◌/◌, ◌%◌, ◌==◌, Bool, true, false, not, List, [], ◌∷◌, Option, Some, None, if◌then◌else◌}
+use Rattle.cbm_iec.specs.Profile.{eoi_end, bit_time}
+use Rattle.cbm_session.specs.Bits.{Cell}
+use Rattle.cbm_session.specs.Frames.{Sent, Told}
+use Rattle.cbm_host.specs.Sending.{is_low}
+use Rattle.cbm_host.specs.Waits.{answer_wait, phase, last_wait, last_pulse}
+
+-- so many bits of a byte, the lowest first, from a pull of CLOCK on: DATA is set at the pull, CLOCK is freed a phase later and pulled another one later
+abbrev pub cells_for : ℕ → ℕ → ℕ → List Cell
+cells_for zero left at = []
+cells_for (suc n) left at = record { bit = not (is_low left); set = at; free = at + phase; pull = at + phase + phase } ∷ cells_for n (left / 2) (at + phase + phase)
+
+-- The first bit begins a wait behind T, when the drive has freed DATA; with EOI behind the drive's pulse.
+abbrev pub start_for : ℕ → Bool → ℕ → ℕ
+start_for r eoi ready = (if eoi then ready + r + eoi_end + r else ready + r) + answer_wait
+
+-- a byte of the host to a drive that reacts in r
+abbrev pub frame_for : ℕ → Bool → ℕ → ℕ → Sent
+frame_for r eoi byte ready = record { ready = ready; start = start_for r eoi ready; cells = cells_for 8 byte (start_for r eoi ready) }
+
+-- so many bits of a byte, the lowest first
+abbrev pub bits_for : ℕ → ℕ → List Bool
+bits_for zero left = []
+bits_for (suc n) left = not (is_low left) ∷ bits_for n (left / 2)
+
+-- the host's answer to a last byte, where it freed DATA then
+abbrev pub signal_for : Bool → ℕ → Option (ℕ × ℕ)
+signal_for last free = if last then Some (free + last_wait, free + last_wait + last_pulse) else None
+
+-- the talker's first bit begins its reaction behind the host's last release of DATA
+abbrev pub told_from : ℕ → Bool → ℕ → ℕ
+told_from r last free = (if last then free + last_wait + last_pulse else free) + r
+
+-- a byte of the talker, which frees CLOCK for it then
+abbrev pub told_for : ℕ → Bool → ℕ → ℕ → Told
+told_for r last byte at = record {
+  bits = bits_for 8 byte;
+  free = at + answer_wait;
+  signal = signal_for last (at + answer_wait);
+  accept = told_from r last (at + answer_wait) + 8 * bit_time + answer_wait;
+}
