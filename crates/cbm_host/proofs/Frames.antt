@@ -1,5 +1,5 @@
--- The host performs its frames: a byte in attention or to a listener, with EOI or without.
-use Rattle.std.proofs.Common.{◌≡◌, ℕ, zero, suc, ◌+◌, ◌-◌, ◌*◌, ◌/◌, ◌≤◌, Bool, true, false, not, List, [], ◌∷◌, ◌++◌, ap, sym, ◌∙◌, subst, arith, refl}
+-- The host performs its frames: a byte in attention or to a listener, with true or without.
+use Rattle.std.proofs.Common.{◌≡◌, ℕ, zero, suc, ◌+◌, ◌-◌, ◌*◌, ◌/◌, ◌≤◌, Bool, true, false, not, List, [], ◌∷◌, ◌++◌, length, ap, sym, ◌∙◌, subst, arith, refl}
 use Rattle.std.proofs.lemmas.List.{append_assoc}
 use Rattle.std.proofs.lemmas.Bool.{ne_eqb}
 use Rattle.std.specs.Prelude.{if◌then◌else◌, ◌==◌}
@@ -8,8 +8,8 @@ use Rattle.cbm_iec.specs.declared.act.Act.{Act}
 use Rattle.cbm_iec.specs.declared.line.Line.TheVariants.{Clock, Data}
 use Rattle.cbm_iec.specs.declared.line.Way.TheVariants.{Pull, Free}
 use Rattle.cbm_session.proofs.joining.OneDrive.{one_frame}
-use Rattle.cbm_session.specs.Bits.{where_held, Cell, cell_steps, cells_steps, held_after, last_pull}
-use Rattle.cbm_session.specs.Frames.{end_of}
+use Rattle.cbm_session.specs.Bits.{where_held, Cell, cell_steps, cells_steps, held_after, last_pull, SetFits, CellsFit}
+use Rattle.cbm_session.specs.Frames.{end_of, SentFits}
 use Rattle.cbm_session.specs.Seats.{Seat, device, reaction}
 use Rattle.cbm_session.specs.Steps.{Step, host, drive, for_one}
 use Rattle.cbm_host.proofs.Composing.{performs_then}
@@ -27,6 +27,29 @@ use Rattle.cbm_host.specs.declared.stage.Stage.TheVariants.{Framing}
 abbrev pub bits : ℕ → ℕ → Bool → Bits
 bits left count low = record { left = left; count = count; low = low }
 
+-- the bits keep the bounds of a frame
+set_fits : (held low : Bool) (t : ℕ) → SetFits held (not low) t t
+set_fits true true t = refl
+set_fits true false t = omega arith
+set_fits false true t = omega arith
+set_fits false false t = refl
+
+pub cells_fit : (held : Bool) (n l t : ℕ) → CellsFit held t (cells_for n l t)
+cells_fit held zero l t = tt
+cells_fit held (suc n) l t = (record { set = set_fits held (is_low l) t; free = omega arith; settled = omega arith; pulled = omega arith }, cells_fit (not (not (is_low l))) n (l / 2) (t + phase + phase))
+
+pub cells_end : (n l t : ℕ) → last_pull t (cells_for n l t) ≡ t + 40 * n
+cells_end zero l t = omega arith
+cells_end (suc n) l t = let k = cells_end n (l / 2) (t + phase + phase) in k ∙ omega arith
+
+pub cells_count : (n l t : ℕ) → length (cells_for n l t) ≡ n
+cells_count zero l t = refl
+cells_count (suc n) l t = ap suc (cells_count n (l / 2) (t + phase + phase))
+
+pub frame_fits : (s : Seat) (eoi : Bool) (byte ready : ℕ) → SentFits (s ∷ []) eoi (frame_for (reaction s) eoi byte ready)
+frame_fits s true byte ready = record { start = omega arith; eight = cells_count 8 byte (start_for (reaction s) true ready); cells = cells_fit false 8 byte (start_for (reaction s) true ready) }
+frame_fits s false byte ready = record { start = (omega arith, omega arith); eight = cells_count 8 byte (start_for (reaction s) false ready); cells = cells_fit false 8 byte (start_for (reaction s) false ready) }
+
 module _ (behind : Behind) (left : List ℕ) (most : ℕ) where
   -- in a frame
   abbrev pub framing : Frame → Engined
@@ -42,10 +65,10 @@ module _ (behind : Behind) (left : List ℕ) (most : ℕ) where
   -- one bit
   cell_performs : (held low : Bool) (t n l : ℕ) (more : List Step) (e2 : Engined) → Performs (framing (next_bit (t + phase + phase) (bits (l / 2) (suc n - 1) low))) more e2
       → Performs (framing (bit_frame low t (bits l (suc n) held))) (cell_steps held (cell low t) ++ more) e2
-  cell_performs true true t n l more e2 k = makes refl (makes refl k)
-  cell_performs false false t n l more e2 k = makes refl (makes refl k)
-  cell_performs true false t n l more e2 k = makes refl (makes refl (makes refl k))
-  cell_performs false true t n l more e2 k = makes refl (makes refl (makes refl k))
+  cell_performs true true t n l more e2 k = makes refl refl (makes refl refl k)
+  cell_performs false false t n l more e2 k = makes refl refl (makes refl refl k)
+  cell_performs true false t n l more e2 k = makes refl refl (makes refl refl (makes refl refl k))
+  cell_performs false true t n l more e2 k = makes refl refl (makes refl refl (makes refl refl k))
 
   not_not : (v : Bool) → not (not v) ≡ v
   not_not true = refl
@@ -56,7 +79,7 @@ module _ (behind : Behind) (left : List ℕ) (most : ℕ) where
   bit_steps held n l t = cells_steps held (cells_for n l t) ++ where_held (held_after held (cells_for n l t)) (host (last_pull t (cells_for n l t)) Data Free)
 
   bits_perform : (n : ℕ) (held : Bool) (t l : ℕ) → Performs (framing (next_bit t (bits l n held))) (bit_steps held n l t) (framing Sent)
-  bits_perform zero true t l = makes refl (ends refl)
+  bits_perform zero true t l = makes refl refl (ends refl)
   bits_perform zero false t l = ends refl
   bits_perform (suc n) held t l =
       let rest = bits_perform n (is_low l) (t + phase + phase) (l / 2) in
@@ -75,7 +98,7 @@ module _ (behind : Behind) (left : List ℕ) (most : ℕ) where
       Performs (framing (Readying ready byte eoi)) (one_frame (ready + reaction s) s eoi act f) (accepted (end_of f + reaction s) behind (framing Sent))
   frame_performs s act false byte ready =
       let f = frame_for (reaction s) false byte ready in
-      makes refl (sees tt (makes refl (performs_then (bits_perform 8 false f.start byte) (sees tt (ends refl)))))
+      makes refl refl (sees tt (makes refl refl (performs_then (bits_perform 8 false f.start byte) (sees tt (ends refl)))))
   frame_performs s act true byte ready =
       let f = frame_for (reaction s) true byte ready in
-      makes refl (sees tt (sees tt (sees tt (makes refl (performs_then (bits_perform 8 false f.start byte) (sees tt (ends refl)))))))
+      makes refl refl (sees tt (sees tt (sees tt (makes refl refl (performs_then (bits_perform 8 false f.start byte) (sees tt (ends refl)))))))

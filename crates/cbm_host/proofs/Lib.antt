@@ -1,2 +1,4 @@
 pub mod Composing
 pub mod Frames
+pub mod Talks
+pub mod Pieces

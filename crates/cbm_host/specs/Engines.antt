@@ -17,7 +17,7 @@ use Rattle.cbm_host.specs.declared.frame.Frame.{Frame}
 use Rattle.cbm_host.specs.declared.frame.Frame.TheVariants.{Readying, Sent}
 use Rattle.cbm_host.specs.declared.request.Request.{Request}
 use Rattle.cbm_host.specs.declared.request.Request.TheVariants.{Open, Put, Get, Close, Status}
-use Rattle.cbm_host.specs.declared.stage.Attention.{Attention}
+use Rattle.cbm_host.specs.declared.stage.Sequence.{Sequence}
 use Rattle.cbm_host.specs.declared.stage.Behind.{Behind}
 use Rattle.cbm_host.specs.declared.stage.Behind.TheVariants.{Commanded, Listened}
 use Rattle.cbm_host.specs.declared.stage.Errand.{Errand}
@@ -37,7 +37,7 @@ pub record Engined : Type 0 where
 -- ---- before the first change
 
 -- the first attention of a request, and what follows it
-abbrev pub attention_of : ℕ → Request → Attention
+abbrev pub attention_of : ℕ → Request → Sequence
 attention_of d (Open channel text) = record { commands = Two (listen + d) (open_on + channel); errand = Sends }
 attention_of d (Put channel bytes) = record { commands = Two (listen + d) (data_on + channel); errand = Sends }
 attention_of d (Get channel most) = record { commands = Two (talk + d) (data_on + channel); errand = Takes }

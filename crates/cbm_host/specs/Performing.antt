@@ -1,12 +1,13 @@
 -- The host among the drive's changes: it makes its own when they come, sees the drive's, and waits no longer than it should.
-use Rattle.std.specs.Prelude.{◌≡◌, ◌≤◌, ◌<◌, ℕ, List, [], ◌∷◌}
+use Rattle.std.specs.Prelude.{◌≡◌, ◌≤◌, ◌<◌, ℕ, Bool, List, [], ◌∷◌, Option, Some, None}
 use Rattle.cbm_iec.specs.Ports.{change_at}
+use Rattle.cbm_iec.specs.declared.act.Act.TheVariants.{Said}
 use Rattle.cbm_iec.specs.declared.event.Who.TheVariants.{Host, Drive}
 use Rattle.cbm_iec.specs.declared.event.Who.{Who}
 use Rattle.cbm_iec.specs.declared.line.Line.{Line}
 use Rattle.cbm_iec.specs.declared.line.Way.{Way}
-use Rattle.cbm_session.specs.Steps.{Mark, Step, event_of, moment_of}
-use Rattle.cbm_host.specs.Engines.{Engined, engine_due, engine_made, engine_seen, engine_passed}
+use Rattle.cbm_session.specs.Steps.{Mark, Step, event_of, moment_of, Plain, ForEach, For}
+use Rattle.cbm_host.specs.Engines.{Engined, stage_taken, engine_due, engine_made, engine_seen, engine_passed}
 use Rattle.cbm_host.specs.declared.due.Due.{Due}
 use Rattle.cbm_host.specs.declared.due.Due.TheVariants.{Makes, Waits, Hears, Over}
 
@@ -26,10 +27,15 @@ abbrev pub IsSilent : ℕ → List Step → Type 0
 IsSilent until [] = ⊥
 IsSilent until (s ∷ ss) = IsSilentBy until s.event.who (moment_of s)
 
+-- the byte that the host takes with its change is the one that counts there as said
+abbrev pub IsTakenAs : Mark → Option (ℕ × Bool) → Type 0
+IsTakenAs (For d (Said byte last)) taken = taken ≡ Some (byte, last)
+IsTakenAs mark taken = taken ≡ None
+
 -- THE HOST PERFORMS THESE STEPS: the host's among them are what it does, each when it is due, where the drive does its own.
 pub data Performs : Engined → List Step → Engined → Type 0 where
   ends : {e e2 : Engined} → e2 ≡ e → Performs e [] e2
-  makes : {e e2 : Engined} {t : ℕ} {line : Line} {way : Way} {mark : Mark} {ss : List Step} → engine_due e ≡ Makes (change_at t line way) → Performs (engine_made t e) ss e2
+  makes : {e e2 : Engined} {t : ℕ} {line : Line} {way : Way} {mark : Mark} {ss : List Step} → engine_due e ≡ Makes (change_at t line way) → IsTakenAs mark (stage_taken e.stage) → Performs (engine_made t e) ss e2
       → Performs e (record { event = event_of Host t line way; mark = mark } ∷ ss) e2
   sees : {e e2 : Engined} {o t : ℕ} {line : Line} {way : Way} {mark : Mark} {ss : List Step} → IsBefore t (engine_due e) → Performs (engine_seen (change_at t line way) e) ss e2
       → Performs e (record { event = event_of (Drive o) t line way; mark = mark } ∷ ss) e2

@@ -15,7 +15,7 @@ use Rattle.cbm_host.specs.declared.commands.Commands.TheVariants.{One}
 use Rattle.cbm_host.specs.declared.due.Due.{Due}
 use Rattle.cbm_host.specs.declared.due.Due.TheVariants.{Makes, Waits, Hears, Over}
 use Rattle.cbm_host.specs.declared.frame.Frame.TheVariants.{Readying}
-use Rattle.cbm_host.specs.declared.stage.Attention.{Attention}
+use Rattle.cbm_host.specs.declared.stage.Sequence.{Sequence}
 use Rattle.cbm_host.specs.declared.stage.Behind.TheVariants.{Commanded}
 use Rattle.cbm_host.specs.declared.stage.Errand.{Errand}
 use Rattle.cbm_host.specs.declared.stage.Errand.TheVariants.{Sends, Takes, Leaves}
@@ -29,7 +29,7 @@ use Rattle.cbm_host.specs.declared.take.Take.{Take}
 use Rattle.cbm_host.specs.declared.take.Take.TheVariants.{Awaiting, Listening, Marking}
 
 -- the next byte of an attention, behind ATN's pull or an accept at t
-abbrev pub commanding : ℕ → Attention → Stage
+abbrev pub commanding : ℕ → Sequence → Stage
 commanding t a = Framing (Readying (t + ready_wait) (first_of a.commands) false) (Commanded (rest_of a.commands) a.errand)
 
 -- ATN's release behind the last accept of an attention, at t
@@ -56,7 +56,7 @@ behind_pull (PullClock true) = Some FreeData
 behind_pull (PullClock false) = None
 behind_pull FreeData = None
 
-abbrev pub attended : ℕ → Attention → Option Pulls → Stage
+abbrev pub attended : ℕ → Sequence → Option Pulls → Stage
 attended t a None = commanding t a
 attended t a (Some p) = Attending t p a
 

@@ -4,7 +4,7 @@ use crate::commands::{CLOSE, Commands, DATA, LISTEN, OPEN, TALK, UNLISTEN, UNTAL
 use crate::due::Due;
 use crate::frame::Frame;
 use crate::request::Request;
-use crate::stage::{Attention, Behind, Errand, Pulls, Stage};
+use crate::stage::{Behind, Errand, Pulls, Sequence, Stage};
 use crate::take::Take;
 use crate::waits::{ANSWER, READY, TURN};
 use cbm_iec::{Change, Line, Way};
@@ -36,7 +36,7 @@ impl<'a> Engine<'a> {
         requires channel { channel_of request ≤ 15 }
         ensures { result ≡ engine_at start device request.entry }
     {
-        let attention = Attention::of(device, request);
+        let attention = Sequence::of(device, request);
         let pull = Pulls::PullAtn {
             clock_low: false,
             data_low: false,
@@ -123,7 +123,7 @@ impl<'a> Engine<'a> {
     {
         match behind {
             Behind::Commanded(Some(commands), errand) => {
-                self.stage = Stage::command(moment, Attention { commands, errand });
+                self.stage = Stage::command(moment, Sequence { commands, errand });
             }
             Behind::Commanded(None, errand) => self.stage = Stage::release(moment, errand),
             Behind::Listened => self.send(moment, TURN),
@@ -165,12 +165,12 @@ impl<'a> Engine<'a> {
     }
 }
 
-impl Attention {
+impl Sequence {
     ghost use Rattle.std.specs.Prelude.{◌≡◌, ◌<◌, ◌≤◌};
     ghost use Rattle.cbm_host.specs.Engines.{attention_of, channel_of};
 
     /// The first attention of a request to a device, and what follows it.
-    fn of(device: u8, request: Request) -> Attention
+    fn of(device: u8, request: Request) -> Sequence
         requires device { device < 31 }
         requires channel { channel_of request ≤ 15 }
         ensures { result ≡ attention_of device request.entry }
@@ -187,6 +187,6 @@ impl Attention {
             }
             Request::Status => (Commands::Two(talk, DATA + 15), Errand::Takes),
         };
-        Attention { commands, errand }
+        Sequence { commands, errand }
     }
 }

@@ -23,7 +23,7 @@ pub(crate) enum Errand {
 
 /// The bytes of an attention that are still to be sent, and what follows it.
 #[derive(Clone, Copy, Drop)]
-pub(crate) struct Attention {
+pub(crate) struct Sequence {
     pub(crate) commands: Commands,
     pub(crate) errand: Errand,
 }
@@ -72,7 +72,7 @@ pub(crate) enum Stage {
     Attending {
         at: u64,
         pull: Pulls,
-        attention: Attention,
+        attention: Sequence,
     },
     /// A byte is sent.
     Framing {
@@ -168,7 +168,7 @@ impl Release {
 
 impl Stage {
     /// The next byte of an attention, behind ATN's pull or an accept.
-    pub(crate) fn command(moment: u64, attention: Attention) -> Stage
+    pub(crate) fn command(moment: u64, attention: Sequence) -> Stage
         requires { moment < 2 ^ 60 }
         ensures { result ≡ commanding moment attention }
     {
@@ -206,7 +206,7 @@ impl Stage {
                 clock_low,
                 data_low,
             },
-            attention: Attention {
+            attention: Sequence {
                 commands: Commands::One(byte),
                 errand: Errand::Leaves,
             },

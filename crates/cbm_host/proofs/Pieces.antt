@@ -1,0 +1,123 @@
+-- The host performs each piece of a request.
+use Rattle.std.proofs.Common.{◌≡◌, ℕ, zero, suc, ◌+◌, ◌*◌, ◌≤◌, ◌<◌, Bool, true, false, not, List, [], ◌∷◌, ◌++◌, Option, Some, None, ap, sym, ◌∙◌, subst, arith, refl}
+use Rattle.cbm_iec.specs.declared.act.Act.TheVariants.{Pulled, Attention, Released, Heard, Silent}
+use Rattle.cbm_iec.specs.declared.act.Act.{Act}
+use Rattle.cbm_iec.specs.declared.line.Line.TheVariants.{Atn, Clock, Data}
+use Rattle.cbm_iec.specs.declared.line.Way.TheVariants.{Pull, Free}
+use Rattle.cbm_iec.specs.declared.lines.Held.{Held}
+use Rattle.cbm_iec.specs.declared.party.Party.{Party}
+use Rattle.cbm_iec.specs.declared.party.Role.TheVariants.{Absent, Listener, Talker}
+use Rattle.cbm_session.proofs.joining.Merging.{merge_here, merge_there}
+use Rattle.cbm_session.proofs.joining.OneDrive.{one_frame, pull_is, frame_is}
+use Rattle.cbm_session.proofs.reading.PieceReadings.{seat, turn_first}
+use Rattle.cbm_session.specs.Bits.{where_held, where_free, byte_of}
+use Rattle.cbm_session.specs.Following.{alone}
+use Rattle.cbm_session.specs.Frames.{end_of}
+use Rattle.cbm_session.specs.Pieces.{Point, host_part, own_part, steps_of, PullPiece, Command, Byte, ToListener, ToNobody, ToTalker, Nothing, Talk}
+use Rattle.cbm_session.specs.Seats.{Seat, device, reaction}
+use Rattle.cbm_session.specs.Steps.{Step, host, drive, for_each, for_one}
+use Rattle.cbm_host.proofs.Composing.{performs_then}
+use Rattle.cbm_host.proofs.Frames.{framing, frame_performs, cells_fit}
+use Rattle.cbm_host.specs.Engines.{Engined, accepted, sending_on}
+use Rattle.cbm_host.specs.Framed.{frame_for}
+use Rattle.cbm_host.specs.Performing.{Performs, ends, makes, sees, passes}
+use Rattle.cbm_host.specs.Stages.{commanding, leaving}
+use Rattle.cbm_host.specs.Attentions.{untalk}
+use Rattle.cbm_host.specs.Waits.{ready_wait, answer_wait, phase, silence}
+use Rattle.cbm_host.specs.declared.frame.Frame.TheVariants.{Readying, Sent}
+use Rattle.cbm_host.specs.declared.stage.Behind.{Behind}
+use Rattle.cbm_host.specs.declared.stage.Sequence.{Sequence}
+use Rattle.cbm_host.specs.declared.stage.Pulls.TheVariants.{PullAtn}
+use Rattle.cbm_host.specs.declared.stage.Release.TheVariants.{AtnToNobody, DataToTalker}
+use Rattle.cbm_host.specs.declared.stage.Stage.{Stage}
+use Rattle.cbm_host.specs.declared.stage.Stage.TheVariants.{Attending, Calling, Releasing, Taking, Ending}
+use Rattle.cbm_host.specs.declared.take.Take.TheVariants.{Awaiting}
+
+-- a host at a stage of a request
+abbrev pub at_stage : List ℕ → ℕ → Stage → Engined
+at_stage left most stage = record { stage = stage; left = left; most = most }
+
+module _ (s : Seat) (some : 1 ≤ reaction s) (prompt : reaction s ≤ 60) (left : List ℕ) (most : ℕ) where
+  abbrev is_at : Stage → Engined
+  is_at stage = at_stage left most stage
+
+  -- ATN's pull
+  host_pulls : (c d : Bool) (at : ℕ) (a : Sequence) → Performs (is_at (Attending at (PullAtn c d) a)) (for_each Pulled (host at Atn Pull) ∷ (where_free c (host at Clock Pull) ++ where_held d (host at Data Free))) (is_at (commanding at a))
+  host_pulls true true at a = makes refl refl (makes refl refl (ends refl))
+  host_pulls true false at a = makes refl refl (ends refl)
+  host_pulls false true at a = makes refl refl (makes refl refl (makes refl refl (ends refl)))
+  host_pulls false false at a = makes refl refl (makes refl refl (ends refl))
+
+  drive_pulled : (oc od : Bool) (at : ℕ) (a : Sequence) → Performs (is_at (commanding at a)) (where_held oc (drive (device s) (at + reaction s) Clock Free) ++ where_free od (drive (device s) (at + reaction s) Data Pull)) (is_at (commanding at a))
+  drive_pulled true true at a = sees (omega (arith, prompt)) (ends refl)
+  drive_pulled true false at a = sees (omega (arith, prompt)) (sees (omega (arith, prompt)) (ends refl))
+  drive_pulled false true at a = ends refl
+  drive_pulled false false at a = sees (omega (arith, prompt)) (ends refl)
+
+  pub pull_performed : (p : Point) (at : ℕ) (a : Sequence) → Performs (is_at (Attending at (PullAtn p.host.clock_low p.host.data_low) a)) (steps_of (alone p s) (PullPiece at)) (is_at (commanding at a))
+  pull_performed p at a =
+      subst (λ (zs : List Step). Performs (is_at (Attending at (PullAtn p.host.clock_low p.host.data_low) a)) zs (is_at (commanding at a))) (sym (pull_is (alone p s) s at))
+      (performs_then (host_pulls p.host.clock_low p.host.data_low at a) (drive_pulled s.own.clock_low s.own.data_low at a))
+
+  -- a byte in attention, and one to a listener
+  pub command_performed : (p : Point) (byte ready : ℕ) (behind : Behind) → let f = frame_for (reaction s) false byte ready in
+      Performs (framing behind left most (Readying ready byte false)) (steps_of (alone p s) (Command f)) (accepted (end_of f + reaction s) behind (framing behind left most Sent))
+  command_performed p byte ready behind =
+      let f = frame_for (reaction s) false byte ready in
+      let e = framing behind left most (Readying ready byte false) in
+      let e2 = accepted (end_of f + reaction s) behind (framing behind left most Sent) in
+      subst (λ (zs : List Step). Performs e zs e2) (sym (frame_is (ready + reaction s) s (Attention (byte_of f.cells)) f false (omega arith) (cells_fit false 8 byte f.start)))
+      (frame_performs behind left most s (Attention (byte_of f.cells)) false byte ready)
+
+  -- ATN's release
+  pub listener_performed : (p : Point) (o : Held) (at : ℕ) → let t = seat s.party Listener o in
+      Performs (is_at (Calling at)) (steps_of (alone p t) (ToListener at)) (sending_on at ready_wait most left)
+  listener_performed p o at = makes refl refl (ends refl)
+
+  pub nobody_performed : (p : Point) (o : Held) (at : ℕ) → let t = seat s.party Absent o in
+      Performs (is_at (Releasing at AtnToNobody)) (steps_of (alone p t) (ToNobody at at)) (is_at (Ending (at + ready_wait)))
+  nobody_performed p o at =
+      let freed = drive (device s) (at + reaction s) Data Free in
+      let steps = merge_here (for_each Released (host at Atn Free)) (host at Clock Free ∷ []) freed [] (omega arith) ∙ ap (λ (zs : List Step). for_each Released (host at Atn Free) ∷ zs) (merge_here (host at Clock Free) [] freed [] (omega arith)) in
+      subst (λ (zs : List Step). Performs (is_at (Releasing at AtnToNobody)) zs (is_at (Ending (at + ready_wait)))) (sym steps)
+      (makes refl refl (makes refl refl (sees (omega (arith, prompt)) (ends refl))))
+
+  -- the turnaround
+  pub talker_performed : (p : Point) (o : Held) (at : ℕ) → let t = seat s.party Talker o in
+      Performs (is_at (Releasing at DataToTalker)) (steps_of (alone p t) (ToTalker at (at + phase))) (is_at (Taking Awaiting))
+  talker_performed p o at =
+      let clock = at + phase in
+      let answer = drive (device s) (clock + reaction s) Clock Pull ∷ drive (device s) (clock + reaction s) Data Free ∷ [] in
+      let steps =
+      turn_first at (host clock Clock Free ∷ []) answer (omega arith)
+      ∙ ap (λ (zs : List Step). host at Data Pull ∷ for_each Released (host at Atn Free) ∷ zs) (merge_here (host clock Clock Free) [] (drive (device s) (clock + reaction s) Clock Pull) (drive (device s) (clock + reaction s) Data Free ∷ []) (omega arith)) in
+      subst (λ (zs : List Step). Performs (is_at (Releasing at DataToTalker)) zs (is_at (Taking Awaiting))) (sym steps)
+      (makes refl refl (makes refl refl (makes refl refl (sees (omega (arith, prompt)) (sees tt (ends refl))))))
+
+  -- nothing to say
+  pub nothing_performed : (p : Point) (o : Held) (at : ℕ) → let t = seat s.party Talker o in
+      Performs (is_at (Releasing at DataToTalker)) (steps_of (alone p t) (Nothing at (at + phase) (Some (at + phase + silence)))) (is_at (leaving (at + phase + silence + answer_wait) untalk false false))
+  nothing_performed p o at =
+      let clock = at + phase in
+      let freed = host (clock + silence) Data Free in
+      let silent = for_one (device s) Silent (drive (device s) (clock + reaction s) Data Free) in
+      let steps =
+      turn_first at (host clock Clock Free ∷ freed ∷ []) (silent ∷ []) (omega arith)
+      ∙ ap (λ (zs : List Step). host at Data Pull ∷ for_each Released (host at Atn Free) ∷ zs)
+      (merge_here (host clock Clock Free) (freed ∷ []) silent [] (omega arith) ∙ ap (λ (zs : List Step). host clock Clock Free ∷ zs) (merge_there freed [] silent [] (omega (arith, prompt)))) in
+      subst (λ (zs : List Step). Performs (is_at (Releasing at DataToTalker)) zs (is_at (leaving (clock + silence + answer_wait) untalk false false))) (sym steps)
+      (makes refl refl (makes refl refl (makes refl refl (sees (omega (arith, prompt)) (passes (clock + silence) refl tt (makes refl refl (ends refl)))))))
+
+-- a byte to a listener
+pub byte_performed : (b : Party) (o : Held) (left : List ℕ) (most : ℕ) (p : Point) (eoi : Bool) (byte ready : ℕ) (behind : Behind) → let s = seat b Listener o in let f = frame_for b.reaction eoi byte ready in
+    Performs (framing behind left most (Readying ready byte eoi)) (steps_of (alone p s) (Byte eoi f)) (accepted (end_of f + b.reaction) behind (framing behind left most Sent))
+byte_performed b o left most p false byte ready behind =
+    let s = seat b Listener o in
+    let f = frame_for b.reaction false byte ready in
+    subst (λ (zs : List Step). Performs (framing behind left most (Readying ready byte false)) zs (accepted (end_of f + b.reaction) behind (framing behind left most Sent)))
+    (sym (frame_is (ready + b.reaction) s (Heard (byte_of f.cells) false) f false (omega arith) (cells_fit false 8 byte f.start))) (frame_performs behind left most s (Heard (byte_of f.cells) false) false byte ready)
+byte_performed b o left most p true byte ready behind =
+    let s = seat b Listener o in
+    let f = frame_for b.reaction true byte ready in
+    subst (λ (zs : List Step). Performs (framing behind left most (Readying ready byte true)) zs (accepted (end_of f + b.reaction) behind (framing behind left most Sent)))
+    (sym (frame_is (ready + b.reaction) s (Heard (byte_of f.cells) true) f true (omega arith, omega arith) (cells_fit false 8 byte f.start))) (frame_performs behind left most s (Heard (byte_of f.cells) true) true byte ready)
