@@ -2,3 +2,4 @@ pub mod Composing
 pub mod Frames
 pub mod Talks
 pub mod Pieces
+pub mod Playing

@@ -7,3 +7,4 @@ pub mod Engines
 pub mod Performers
 pub mod Performing
 pub mod Framed
+pub mod Requests

@@ -1,0 +1,148 @@
+-- A request goes on piece by piece: each fits the point behind the one before, and the host performs its part of it.
+use Rattle.std.proofs.Common.{◌≡◌, ℕ, zero, suc, ◌+◌, ◌*◌, ◌/◌, ◌%◌, ◌≤◌, ◌<◌, Bool, true, false, not, List, [], ◌∷◌, ◌++◌, length, Option, Some, None, ap, sym, ◌∙◌, subst, arith, refl}
+use Rattle.std.proofs.lemmas.Bool.{ne_eqb, le-leb, lt-leb, eq-eqb, eqb-true, eqb-false}
+use Rattle.std.specs.Prelude.{if◌then◌else◌, ◌==◌}
+use Rattle.cbm_iec.specs.Roles.{role_after}
+use Rattle.cbm_iec.specs.declared.lines.Held.{Held}
+use Rattle.cbm_iec.specs.declared.party.Party.{Party}
+use Rattle.cbm_iec.specs.declared.party.Role.TheVariants.{Absent, Listener, Talker}
+use Rattle.cbm_iec.specs.declared.party.Role.{Role}
+use Rattle.cbm_session.proofs.reading.PieceReadings.{seat}
+use Rattle.cbm_session.specs.Bits.{number_of, bits_of, byte_of}
+use Rattle.cbm_session.specs.Following.{alone}
+use Rattle.cbm_session.specs.Pieces.{Piece, Place, Point, PullFits, PieceFits, piece_steps, point_after, whole_point, PullPiece, Command, Byte, ToListener, ToNobody, ToTalker, Nothing, Talk, Full, Cut, Open, Commanding, Listening, Leading, Cutting, commanding}
+use Rattle.cbm_session.specs.Seats.{lines, Seat, device, reaction}
+use Rattle.cbm_session.specs.Sessions.{MayEnd, Linked, session_steps, IsDrive}
+use Rattle.cbm_session.specs.Steps.{Step}
+use Rattle.cbm_host.proofs.Composing.{performs_then}
+use Rattle.cbm_host.proofs.Frames.{framing, frame_fits, cells_end}
+use Rattle.cbm_host.proofs.Pieces.{at_stage, pull_performed, command_performed, nobody_performed}
+use Rattle.cbm_host.specs.Attentions.{unlisten, untalk}
+use Rattle.cbm_host.specs.Engines.{Engined, accepted}
+use Rattle.cbm_host.specs.Framed.{cells_for, start_for, frame_for}
+use Rattle.cbm_host.specs.Performing.{Performs, ends}
+use Rattle.cbm_host.specs.Requests.{accept_for, leave, IsPlayed}
+use Rattle.cbm_host.specs.Sending.{is_low}
+use Rattle.cbm_host.specs.Stages as stages
+use Rattle.cbm_host.specs.Waits.{ready_wait, turn_wait, phase}
+use Rattle.cbm_host.specs.declared.commands.Commands.TheVariants.{One}
+use Rattle.cbm_host.specs.declared.frame.Frame.TheVariants.{Readying, Sent}
+use Rattle.cbm_host.specs.declared.stage.Behind.{Behind}
+use Rattle.cbm_host.specs.declared.stage.Behind.TheVariants.{Commanded}
+use Rattle.cbm_host.specs.declared.stage.Errand.TheVariants.{Leaves}
+use Rattle.cbm_host.specs.declared.stage.Pulls.TheVariants.{PullAtn}
+use Rattle.cbm_host.specs.declared.stage.Sequence.{Sequence}
+use Rattle.cbm_host.specs.declared.stage.Stage.TheVariants.{Attending, Ending}
+
+-- ---- the byte that the bits make
+
+low_one : (l : ℕ) (v : Bool) → ((l % 2) == 0) ≡ v → (if not v then 1 else 0) + 2 * (l / 2) ≡ l
+low_one l true e = let even = eqb-true (l % 2) 0 e in omega (arith, even)
+low_one l false e = let odd = eqb-false (l % 2) 0 e in omega (arith, odd)
+
+abbrev power : ℕ → ℕ
+power zero = 1
+power (suc n) = 2 * power n
+
+cells_number : (n l t : ℕ) → l < power n → byte_of (cells_for n l t) ≡ l
+cells_number zero l t h = omega (arith, h)
+cells_number (suc n) l t h =
+    let rest = cells_number n (l / 2) (t + phase + phase) (omega (arith, h)) in
+    ap (λ (m : ℕ). (if not (is_low l) then 1 else 0) + 2 * m) rest ∙ low_one l (is_low l) refl
+
+pub frame_byte : (r : ℕ) (eoi : Bool) (byte ready : ℕ) → byte < 256 → byte_of (frame_for r eoi byte ready).cells ≡ byte
+frame_byte r eoi byte ready h = cells_number 8 byte (start_for r eoi ready) h
+
+-- ---- the role that it makes
+
+pub listens : (d : ℕ) → role_after d (32 + d) Absent ≡ Listener
+listens d = rw (eq-eqb (32 + d) (32 + d) refl) refl
+
+pub talks : (d : ℕ) → role_after d (64 + d) Absent ≡ Talker
+talks d = rw (ne_eqb (64 + d) (32 + d) (λ (x : 64 + d ≡ 32 + d). omega (arith, x)), eq-eqb (64 + d) (64 + d) refl) refl
+
+pub still_listens : (d byte : ℕ) → d ≤ 11 → 96 ≤ byte → role_after d byte Listener ≡ Listener
+still_listens d byte l h = rw (ne_eqb byte 63 (λ (x : byte ≡ 63). omega (arith, x, h)), ne_eqb byte (64 + d) (λ (x : byte ≡ 64 + d). omega (arith, x, l, h))) refl
+
+pub still_talks : (d byte : ℕ) → d ≤ 11 → 96 ≤ byte → role_after d byte Talker ≡ Talker
+still_talks d byte l h =
+    rw (ne_eqb byte (32 + d) (λ (x : byte ≡ 32 + d). omega (arith, x, l, h)), ne_eqb byte (64 + d) (λ (x : byte ≡ 64 + d). omega (arith, x, l, h)), le-leb 64 byte (omega (arith, h)), lt-leb byte 95 (omega (arith, h))) refl
+
+pub untalked : (d : ℕ) → d ≤ 11 → role_after d 95 Talker ≡ Absent
+untalked d l = rw (ne_eqb 95 (32 + d) (λ (x : 95 ≡ 32 + d). omega (arith, x, l)), ne_eqb 95 (64 + d) (λ (x : 95 ≡ 64 + d). omega (arith, x, l))) refl
+
+-- ---- one piece, and those behind it
+
+pub go_on : {p : Point} {e : Engined} (k : Piece) (ks : List Piece) (limit : ℕ) (e1 : Engined) → PieceFits p k → Performs e (piece_steps p k) e1 → IsPlayed (point_after p k) e1 ks limit → IsPlayed p e (k ∷ ks) limit
+go_on k ks limit e1 fits here more = record {
+  linked = (fits, more.linked);
+  behind = more.behind;
+  until = more.until;
+  ending = more.ending;
+  performs = performs_then here more.performs;
+  soon = more.soon;
+}
+
+-- a drive alone at a point
+abbrev pub point : Party → Role → Held → Place → Held → ℕ → Option ℕ → ℕ → ℕ → Point
+point b role own place host pulled released accepted since = record {
+  place = place;
+  seats = seat b role own ∷ [];
+  host = host;
+  pulled = pulled;
+  released = released;
+  accepted = accepted;
+  since = since;
+}
+
+-- in attention
+abbrev pub attending : Party → Role → Bool → ℕ → ℕ → ℕ → Point
+attending b role some pulled accepted since = point b role (lines false true) (Commanding some) (lines true false) pulled None accepted since
+
+module _ (b : Party) (some : 1 ≤ b.reaction) (prompt : b.reaction ≤ 60) (left : List ℕ) (most : ℕ) where
+  abbrev r : ℕ
+  r = b.reaction
+
+  -- a byte of an attention
+  pub command_then : (role : Role) (first : Bool) (pulled accept since t byte limit : ℕ) (behind : Behind) (ks : List Piece) → byte < 256 → pulled ≤ t → accept ≤ t
+      → IsPlayed (attending b (role_after b.device byte role) true pulled (accept_for r false byte (t + ready_wait)) since) (accepted (accept_for r false byte (t + ready_wait)) behind (framing behind left most Sent)) ks limit
+      → IsPlayed (attending b role first pulled accept since) (framing behind left most (Readying (t + ready_wait) byte false)) (Full (Command (frame_for r false byte (t + ready_wait))) ∷ ks) limit
+  command_then role first pulled accept since t byte limit behind ks small p a more =
+      let s = seat b role (lines false true) in
+      let f = frame_for r false byte (t + ready_wait) in
+      let e1 = accepted (accept_for r false byte (t + ready_wait)) behind (framing behind left most Sent) in
+      go_on (Full (Command f)) ks limit e1 (commanding, omega (arith, p), omega (arith, a), frame_fits s false byte (t + ready_wait))
+      (command_performed s some prompt left most (attending b role first pulled accept since) byte (t + ready_wait) behind)
+      (subst (λ (n : ℕ). IsPlayed (attending b (role_after b.device n role) true pulled (accept_for r false byte (t + ready_wait)) since) e1 ks limit) (sym (frame_byte r false byte (t + ready_wait) small)) more)
+
+  -- ATN's release to nobody, and the end
+  pub nobody_then : (role : Role) (pulled accept since limit : ℕ) → role ≡ Absent → accept + 160 ≤ limit
+      → IsPlayed (attending b role true pulled accept since) (at_stage left most (stages.releasing accept Leaves)) (Full (ToNobody (accept + turn_wait) (accept + turn_wait)) ∷ []) limit
+  nobody_then role pulled accept since limit absent soon =
+      subst (λ (x : Role). IsPlayed (attending b x true pulled accept since) (at_stage left most (stages.releasing accept Leaves)) (Full (ToNobody (accept + turn_wait) (accept + turn_wait)) ∷ []) limit) (sym absent)
+      (go_on (Full (ToNobody (accept + turn_wait) (accept + turn_wait))) [] limit (at_stage left most (Ending (accept + turn_wait + ready_wait)))
+      (record { commanding = refl; listener = refl; talker = refl; gap = omega arith }, omega arith)
+      (nobody_performed (seat b Absent (lines false true)) some prompt left most (attending b Absent true pulled accept since) (lines false true) (accept + turn_wait))
+      (record { linked = tt; behind = at_stage left most (Ending (accept + turn_wait + ready_wait)); until = accept + turn_wait + ready_wait; ending = refl; performs = ends refl; soon = omega (arith, soon) }))
+
+  -- ATN's pull
+  pub pull_then : (p : Point) (s : Seat) (a : Sequence) (at limit : ℕ) (ks : List Piece) → s.party ≡ b → PullFits (alone p s) at p.place
+      → IsPlayed (attending b s.role false at p.accepted at) (at_stage left most (stages.commanding at a)) ks limit
+      → IsPlayed (alone p s) (at_stage left most (Attending at (PullAtn p.host.clock_low p.host.data_low) a)) (Full (PullPiece at) ∷ ks) limit
+  pull_then p s a at limit ks same fits more =
+      go_on (Full (PullPiece at)) ks limit (at_stage left most (stages.commanding at a)) fits
+      (pull_performed s (subst (λ (x : Party). 1 ≤ x.reaction) (sym same) some) (subst (λ (x : Party). x.reaction ≤ 60) (sym same) prompt) left most p at a)
+      (subst (λ (x : Party). IsPlayed (attending x s.role false at p.accepted at) (at_stage left most (stages.commanding at a)) ks limit) (sym same) more)
+
+  -- the last attention, of one byte
+  abbrev pub only : ℕ → Sequence
+  only byte = record { commands = One byte; errand = Leaves }
+
+  pub leave_then : (p : Point) (s : Seat) (at byte limit : ℕ) → s.party ≡ b → PullFits (alone p s) at p.place → p.accepted ≤ at → byte < 256 → role_after b.device byte s.role ≡ Absent → at + 720 ≤ limit
+      → IsPlayed (alone p s) (at_stage left most (Attending at (PullAtn p.host.clock_low p.host.data_low) (only byte))) (leave r at (byte ∷ [])) limit
+  leave_then p s at byte limit same fits late small absent soon =
+      let accept = accept_for r false byte (at + ready_wait) in
+      let end = cells_end 8 byte (start_for r false (at + ready_wait)) in
+      pull_then p s (only byte) at limit (Full (Command (frame_for r false byte (at + ready_wait))) ∷ Full (ToNobody (accept + turn_wait) (accept + turn_wait)) ∷ []) same fits
+      (command_then s.role false at p.accepted at at byte limit (Commanded None Leaves) (Full (ToNobody (accept + turn_wait) (accept + turn_wait)) ∷ []) small (omega arith) late
+      (nobody_then (role_after b.device byte s.role) at accept at limit absent (omega (arith, end, prompt, soon))))

@@ -1,0 +1,133 @@
+-- The pieces of a request on the wires, from its first change on, for a drive alone with the host: in the field's words LISTEN or TALK, a secondary
+-- address, the bytes with EOI on the last, and UNLISTEN or UNTALK.
+use Rattle.std.specs.Prelude.{◌≡◌, ◌≤◌, ℕ, ◌+◌, Bool, true, false, List, [], ◌∷◌, ◌++◌, Option, Some, if◌then◌else◌, nat_lt, length}
+use Rattle.cbm_iec.specs.Profile.{next_byte}
+use Rattle.cbm_iec.specs.declared.party.Party.{Party}
+use Rattle.cbm_session.specs.Frames.{Told, end_of}
+use Rattle.cbm_session.specs.Pieces.{Piece, Point, PullPiece, Command, Byte, ToListener, ToNobody, ToTalker, Nothing, Talk, Full, Cut}
+use Rattle.cbm_session.specs.Sessions.{rest, Linked, session_steps, IsDrive}
+use Rattle.cbm_host.specs.Attentions.{listen, unlisten, talk, untalk, data_on, close_on, open_on}
+use Rattle.cbm_host.specs.Engines.{Engined, engine_at, is_last, channel_of, sent_by, most_of}
+use Rattle.cbm_host.specs.Framed.{frame_for, told_for}
+use Rattle.cbm_host.specs.Performing.{Performs}
+use Rattle.cbm_host.specs.Waits.{ready_wait, answer_wait, phase, turn_wait, silence}
+use Rattle.cbm_host.specs.declared.request.Request.{Request}
+use Rattle.cbm_host.specs.declared.request.Request.TheVariants.{Open, Put, Get, Close, Status}
+use Rattle.cbm_host.specs.declared.stage.Stage.TheVariants.{Ending}
+
+-- when the drive accepts a byte of the host for which CLOCK is freed then
+abbrev pub accept_for : ℕ → Bool → ℕ → ℕ → ℕ
+accept_for r eoi byte ready = end_of (frame_for r eoi byte ready) + r
+
+-- the last accept of the bytes of an attention, behind ATN's pull or an accept at t
+abbrev pub commanded : ℕ → ℕ → List ℕ → ℕ
+commanded r t [] = t
+commanded r t (byte ∷ bytes) = commanded r (accept_for r false byte (t + ready_wait)) bytes
+
+abbrev pub commands : ℕ → ℕ → List ℕ → List Piece
+commands r t [] = []
+commands r t (byte ∷ bytes) = Full (Command (frame_for r false byte (t + ready_wait))) ∷ commands r (accept_for r false byte (t + ready_wait)) bytes
+
+-- AN ATTENTION: ATN's pull and these bytes
+abbrev pub attention : ℕ → ℕ → List ℕ → List Piece
+attention r at bytes = Full (PullPiece at) ∷ commands r at bytes
+
+-- when ATN is freed behind it
+abbrev pub released_for : ℕ → ℕ → List ℕ → ℕ
+released_for r at bytes = commanded r at bytes + turn_wait
+
+-- THE LAST ATTENTION of a request: nobody listens or talks behind it, and ATN and CLOCK are freed at one moment
+abbrev pub leave : ℕ → ℕ → List ℕ → List Piece
+leave r at bytes = attention r at bytes ++ Full (ToNobody (released_for r at bytes) (released_for r at bytes)) ∷ []
+
+-- BYTES TO THE LISTENER, behind ATN's release or an accept at t, with EOI on the last, and UNLISTEN. Where none is left ATN is pulled a wait behind t.
+abbrev pub sent : ℕ → ℕ → ℕ → List ℕ → List Piece
+sent r t wait [] = leave r (t + wait) (unlisten ∷ [])
+sent r t wait (byte ∷ left) = Full (Byte (is_last left) (frame_for r (is_last left) byte (t + ready_wait))) ∷ sent r (accept_for r (is_last left) byte (t + ready_wait)) turn_wait left
+
+abbrev pub sending : Party → ℕ → ℕ → List ℕ → List Piece
+sending b start second bytes =
+    let first = (listen + b.device) ∷ second ∷ [] in
+    let at = released_for b.reaction start first in
+    attention b.reaction start first ++ Full (ToListener at) ∷ sent b.reaction at ready_wait bytes
+
+-- What the talker said: nothing; bytes up to the one with EOI; or as many as were wanted, and behind them this byte waits, the last one or not.
+pub data Said : Type 0 where
+  Mute : Said
+  UpToLast : (first : ℕ) → (more : List ℕ) → Said
+  UpToMost : (first : ℕ) → (more : List ℕ) → (next : ℕ) → (last : Bool) → Said
+
+-- The last byte of the talker, which frees CLOCK for it at that moment, and UNTALK. A drive that reacts soon frees CLOCK before ATN is pulled; a slower
+-- one is cut there.
+abbrev pub at_last : ℕ → ℕ → ℕ → List Piece
+at_last r byte at =
+    let f = told_for r true byte at in
+    (if nat_lt r answer_wait then Full (Talk at f) else Cut (Talk at f) (f.accept + answer_wait)) ∷ leave r (f.accept + answer_wait) (untalk ∷ [])
+
+abbrev pub up_to_last : ℕ → ℕ → ℕ → List ℕ → List Piece
+up_to_last r at byte [] = at_last r byte at
+up_to_last r at byte (next ∷ more) = Full (Talk at (told_for r false byte at)) ∷ up_to_last r ((told_for r false byte at).accept + next_byte) next more
+
+-- The last byte that is wanted: the frame of the next one is cut before it begins.
+abbrev pub at_most : ℕ → ℕ → Bool → ℕ → ℕ → List Piece
+at_most r next last byte at =
+    let f = told_for r false byte at in
+    let at2 = f.accept + next_byte in
+    Full (Talk at f) ∷ Cut (Talk at2 (told_for r last next at2)) (f.accept + answer_wait) ∷ leave r (f.accept + answer_wait) (untalk ∷ [])
+
+abbrev pub up_to_most : ℕ → ℕ → Bool → ℕ → ℕ → List ℕ → List Piece
+up_to_most r next last at byte [] = at_most r next last byte at
+up_to_most r next last at byte (byte2 ∷ more) = Full (Talk at (told_for r false byte at)) ∷ up_to_most r next last ((told_for r false byte at).accept + next_byte) byte2 more
+
+-- BYTES OF THE TALKER, behind ATN's release at that moment
+abbrev pub turned : ℕ → ℕ → Said → List Piece
+turned r at Mute = Full (Nothing at (at + phase) (Some (at + phase + silence))) ∷ leave r (at + phase + silence + answer_wait) (untalk ∷ [])
+turned r at (UpToLast first more) = Full (ToTalker at (at + phase)) ∷ up_to_last r (at + phase + r + 80) first more
+turned r at (UpToMost first more next last) = Full (ToTalker at (at + phase)) ∷ up_to_most r next last (at + phase + r + 80) first more
+
+abbrev pub taking : Party → ℕ → ℕ → Said → List Piece
+taking b start channel said =
+    let first = (talk + b.device) ∷ (data_on + channel) ∷ [] in
+    attention b.reaction start first ++ turned b.reaction (released_for b.reaction start first) said
+
+-- THE PIECES OF A REQUEST, by what the talker says
+abbrev pub pieces_of : Party → ℕ → Said → Request → List Piece
+pieces_of b start said (Open channel text) = sending b start (open_on + channel) text.now
+pieces_of b start said (Put channel bytes) = sending b start (data_on + channel) bytes.now
+pieces_of b start said (Get channel most) = taking b start channel said
+pieces_of b start said (Close channel) = leave b.reaction start ((listen + b.device) ∷ (close_on + channel) ∷ unlisten ∷ [])
+pieces_of b start said Status = taking b start 15 said
+
+-- how many bytes were said
+abbrev pub count_of : Said → ℕ
+count_of Mute = 0
+count_of (UpToLast first more) = length more + 1
+count_of (UpToMost first more next last) = length more + 1
+
+-- where so many are wanted at most
+abbrev pub IsSaidFor : ℕ → Said → Type 0
+IsSaidFor most Mute = Unit {0}
+IsSaidFor most (UpToLast first more) = length more + 1 ≤ most
+IsSaidFor most (UpToMost first more next last) = length more + 1 ≡ most
+
+-- the longest request, in bytes, and in microseconds
+abbrev pub most_bytes : ℕ
+most_bytes = 200000
+
+abbrev pub longest : ℕ
+longest = 250000000
+
+-- These pieces go on a session from a point, and the host performs its part of them, from its engine at that point until it only waits for the end, not
+-- later than a limit.
+pub record IsPlayed (p : Point) (e : Engined) (ks : List Piece) (limit : ℕ) : Type 0 where
+  pub linked : Linked p ks
+  pub behind : Engined
+  pub until : ℕ
+  pub ending : behind.stage ≡ Ending until
+  pub performs : Performs e (session_steps p ks) behind
+  pub soon : until ≤ limit
+
+-- EVERY REQUEST is a session of its own, whatever the drive says in it, and the host performs its part of it.
+abbrev pub PlaysRequests : Type 0
+PlaysRequests = (b : Party) (start : ℕ) (said : Said) (request : Request) → IsDrive b → channel_of request ≤ 15 → length (sent_by request) ≤ most_bytes → IsSaidFor (most_of request) said → count_of said ≤ most_bytes
+    → IsPlayed (rest (b ∷ [])) (engine_at start b.device request) (pieces_of b start said request) (start + longest)
