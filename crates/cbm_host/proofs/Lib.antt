@@ -3,3 +3,5 @@ pub mod Frames
 pub mod Talks
 pub mod Pieces
 pub mod Playing
+pub mod Sent
+pub mod Taken
