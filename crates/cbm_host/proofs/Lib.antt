@@ -5,3 +5,4 @@ pub mod Pieces
 pub mod Playing
 pub mod Sent
 pub mod Taken
+pub mod Requests

@@ -176,6 +176,11 @@ module _ (b : Party) (some : 1 ≤ b.reaction) (prompt : b.reaction ≤ 60) wher
       told_then left (length (byte2 ∷ more) + 1) pulled accept since byte at limit e1 (up_to_most r next last (f.accept + next_byte) byte2 more) (wants_more f.accept left (length (byte2 ∷ more) + 1) (length more + 1) (omega arith) (omega arith))
       (up_to_most_then left pulled accept f.accept next (f.accept + next_byte) byte2 limit last more few (omega (arith, late)) (omega (arith, prompt, soon)))
 
+  pub as_many_then : (left : List ℕ) (most pulled accept since next at byte limit : ℕ) (last : Bool) (more : List ℕ) → length more + 1 ≡ most → b.device ≤ 11 → accept ≤ at → at + 2000 + 1200 * length more ≤ limit
+      → IsPlayed (leading b at pulled accept since) (at_stage left most (Taking Awaiting)) (up_to_most r next last at byte more) limit
+  as_many_then left most pulled accept since next at byte limit last more many few late soon =
+      subst (λ (n : ℕ). IsPlayed (leading b at pulled accept since) (at_stage left n (Taking Awaiting)) (up_to_most r next last at byte more) limit) many (up_to_most_then left pulled accept since next at byte limit last more few late soon)
+
   -- the last byte, with EOI: a drive that reacts soon frees CLOCK before ATN is pulled, a slower one is cut there
   last_soon : (left : List ℕ) (most pulled accept since byte at limit : ℕ) → r < 20 → b.device ≤ 11 → accept ≤ at → at + 2300 ≤ limit
       → IsPlayed (leading b at pulled accept since) (at_stage left most (Taking Awaiting)) (Full (Talk at (told_for r true byte at)) ∷ leave r ((told_for r true byte at).accept + answer_wait) (untalk ∷ [])) limit

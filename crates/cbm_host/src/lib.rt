@@ -6,6 +6,7 @@ mod done;
 mod due;
 mod engine;
 mod frame;
+pub mod laws;
 mod performer;
 mod performing;
 mod request;
