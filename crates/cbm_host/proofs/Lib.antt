@@ -1,3 +1,4 @@
+pub mod Handed
 pub mod Composing
 pub mod Frames
 pub mod Talks

@@ -113,7 +113,7 @@ module _ (b : Party) (left : List ℕ) (most : ℕ) where
       (subst (λ (n : ℕ). Performs (taking (Gathering (came 0 0 false last))) (bit_steps b at false (bits_for 8 byte)) (taking (Accepting (n + answer_wait) (came_in 0 (bits_for 8 byte)) last))) long all)
 
   -- the first pull of CLOCK tells that the byte isn't the last
-  listening : (until at : ℕ) (more : List Step) (e2 : Engined) → at ≤ until → Performs (taking (Gathering (came 0 0 false false))) (drive b.device at Clock Pull ∷ more) e2
+  listening : (until at : ℕ) (more : List Step) (e2 : Engined) → at < until → Performs (taking (Gathering (came 0 0 false false))) (drive b.device at Clock Pull ∷ more) e2
       → Performs (taking (Listening until)) (drive b.device at Clock Pull ∷ more) e2
   listening until at more e2 l (sees early k) = sees l k
   listening until at more e2 l (passes u due silent k) = absurd cc

@@ -14,14 +14,14 @@ use Rattle.cbm_host.specs.declared.due.Due.TheVariants.{Makes, Waits, Hears, Ove
 -- a change of the drive at this moment comes before what the host does next; at one moment the host comes first
 abbrev pub IsBefore : ℕ → Due → Type 0
 IsBefore t (Makes c) = t < c.moment
-IsBefore t (Waits until) = t ≤ until
+IsBefore t (Waits until) = t < until
 IsBefore t Hears = Unit {0}
 IsBefore t (Over at) = ⊥
 
--- the next change isn't one of the drive at this moment or before
+-- the next change isn't one of the drive before this moment
 abbrev pub IsSilentBy : ℕ → Who → ℕ → Type 0
 IsSilentBy until Host moment = Unit {0}
-IsSilentBy until (Drive o) moment = until < moment
+IsSilentBy until (Drive o) moment = until ≤ moment
 
 abbrev pub IsSilent : ℕ → List Step → Type 0
 IsSilent until [] = ⊥

@@ -10,7 +10,7 @@ use cbm_iec::Change;
 pub(crate) enum Due {
     /// It changes a line, whatever the drive does before.
     Makes(Change),
-    /// It waits for the drive, but no longer than to this moment.
+    /// It waits for the drive, but no longer than this moment; at it, it goes on by itself.
     Waits(u64),
     /// It waits for the drive.
     Hears,

@@ -96,11 +96,11 @@ impl<'a> Performer<'a> {
         self.player.next(bus, change.moment)
     }
 
-    /// What the drive does up to a moment, or what the host does where it does nothing.
+    /// What the drive does before a moment, or what the host does then where it does nothing.
     fn wait<D: Machine, const N: usize>(&mut self, bus: &mut Bus<D, N>, until: u64) -> Option<Event>
         requires { until ≤ self.old.limit }
     {
-        if let Some(event) = self.player.next(bus, until) {
+        if let Some(event) = self.player.next(bus, until.saturating_sub(1)) {
             return Some(event);
         }
         self.engine.passed();
