@@ -7,3 +7,4 @@ pub mod Playing
 pub mod Sent
 pub mod Taken
 pub mod Requests
+pub mod Going
