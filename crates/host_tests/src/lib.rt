@@ -2,4 +2,8 @@
 #![tactic(auto)]
 
 #[cfg(test)]
+mod moments;
+#[cfg(test)]
 mod requests;
+#[cfg(test)]
+mod wired;

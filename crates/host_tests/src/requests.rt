@@ -1,13 +1,11 @@
 // Requests over the wires: what the drive says, and the disk behind them.
 
+use crate::wired::{Wired, empty_disk};
 use cbm_channel::Dos;
-use cbm_d64::D64Disk;
-use cbm_drive::{Bus, Desk, Drive, Event, Party};
-use cbm_host::{Done, Request, perform};
+use cbm_host::Request;
 use std::alloc::Global;
 use std::process::Abort;
 use std::test::Fail;
-use test_images::empty_image;
 
 /// The status after power up.
 const POWER_UP: &[u8] = b"73,CBM DOS V2.6 1541,00,00\r";
@@ -15,64 +13,155 @@ const POWER_UP: &[u8] = b"73,CBM DOS V2.6 1541,00,00\r";
 /// The status where all is well.
 const OK: &[u8] = b"00, OK,00,00\r";
 
-/// The first two bytes of a file, and its last one.
+/// The status of a channel that isn't open.
+const NOT_OPEN: &[u8] = b"61,FILE NOT OPEN,00,00\r";
+
+/// The program HELLO, the first two of its bytes, and the last.
+const HELLO: &[u8] = b"\x01\x02\x03";
+
 const FIRST: &[u8] = b"\x01\x02";
 
 const LAST: &[u8] = b"\x03";
 
-// Drive 8, switched on with an empty disk.
-fn switched_on(alloc: Global, reaction: u8) -> Result<Bus<Desk<D64Disk>, 1>, Fail> {
-    let image = empty_image(alloc)?;
-    let disk = D64Disk::from_bytes(alloc, image.as_slice(), false)?;
-    let device = 8;
-    let party = Party { device, reaction };
-    Ok(Bus::new([Drive::new(Desk::new(Dos::new(disk), 8), party)]))
-}
-
-#[derive(Drop)]
-struct Session {
-    bus: Bus<Desk<D64Disk>, 1>,
-    now: u64,
-}
-
-impl Session {
-    fn asks(&mut self, alloc: Global, request: Request) -> Result<Done, Fail> {
-        let mut events = Vec::new(alloc);
-        let done = perform(alloc, &mut self.bus, self.now, 8, request, &mut events)?;
-        self.now = done.end;
-        Ok(done)
-    }
-}
-
-#[test]
-fn the_status_is_read_twice(rt: HostRuntime) -> Result<(), Fail> {
-    let bus = switched_on(rt.alloc(), 20)?;
-    let mut session = Session { bus, now: 1000 };
-    for wanted in [POWER_UP, OK] {
-        let done = session.asks(rt.alloc(), Request::Status)?;
-        assert!(rt; done.bytes.as_slice() == wanted);
-        assert!(rt; done.last);
-    }
+// Asserts that a request is answered by these bytes, the last of them with EOI or not.
+fn answers(
+    rt: &impl Abort,
+    alloc: Global,
+    wired: &mut Wired,
+    request: Request,
+    bytes: &[u8],
+    last: bool,
+) -> Result<(), Fail> {
+    let done = wired.asks(alloc, request)?;
+    assert!(rt; done.bytes.as_slice() == bytes);
+    assert!(rt; done.last == last);
     Ok(())
 }
 
 #[test]
-fn a_file_is_written_and_read(rt: HostRuntime) -> Result<(), Fail> {
-    for reaction in [1, 20, 60] {
-        let bus = switched_on(rt.alloc(), reaction)?;
-        let mut session = Session { bus, now: 1000 };
-        session.asks(rt.alloc(), Request::Open(1, b"HELLO"))?;
-        session.asks(rt.alloc(), Request::Put(1, b"\x01\x02\x03"))?;
-        session.asks(rt.alloc(), Request::Close(1))?;
-        session.asks(rt.alloc(), Request::Open(0, b"HELLO"))?;
-        let done = session.asks(rt.alloc(), Request::Get(0, 2))?;
-        assert!(rt; done.bytes.as_slice() == FIRST && !done.last);
-        let done = session.asks(rt.alloc(), Request::Get(0, 100))?;
-        assert!(rt; done.bytes.as_slice() == LAST && done.last);
-        let done = session.asks(rt.alloc(), Request::Get(0, 100))?;
-        assert!(rt; done.bytes.is_empty() && !done.last);
-        let done = session.asks(rt.alloc(), Request::Status)?;
-        assert!(rt; done.bytes.as_slice() == OK);
+fn the_status_is_read_twice(rt: HostRuntime) -> Result<(), Fail> {
+    let mut wired = Wired::new(rt.alloc(), 20)?;
+    answers(&rt, rt.alloc(), &mut wired, Request::Status, POWER_UP, true)?;
+    answers(&rt, rt.alloc(), &mut wired, Request::Status, OK, true)
+}
+
+// A drive that reacts soon frees CLOCK behind its last byte before ATN is pulled; a slower one is cut there.
+#[test]
+fn a_program_is_written_and_read(rt: HostRuntime) -> Result<(), Fail> {
+    for reaction in [1, 19, 20, 21, 60] {
+        let mut wired = Wired::new(rt.alloc(), reaction)?;
+        answers(
+            &rt,
+            rt.alloc(),
+            &mut wired,
+            Request::Open(1, b"HELLO"),
+            &[],
+            false,
+        )?;
+        answers(
+            &rt,
+            rt.alloc(),
+            &mut wired,
+            Request::Put(1, HELLO),
+            &[],
+            false,
+        )?;
+        answers(&rt, rt.alloc(), &mut wired, Request::Close(1), &[], false)?;
+        answers(&rt, rt.alloc(), &mut wired, Request::Status, OK, true)?;
+        answers(
+            &rt,
+            rt.alloc(),
+            &mut wired,
+            Request::Open(0, b"HELLO"),
+            &[],
+            false,
+        )?;
+        answers(
+            &rt,
+            rt.alloc(),
+            &mut wired,
+            Request::Get(0, 100),
+            HELLO,
+            true,
+        )?;
+        answers(&rt, rt.alloc(), &mut wired, Request::Status, OK, true)?;
     }
+    Ok(())
+}
+
+// A byte that wasn't asked for comes with the next request, and a file that was read has nothing more to say.
+#[test]
+fn a_program_is_read_in_pieces(rt: HostRuntime) -> Result<(), Fail> {
+    let mut wired = Wired::new(rt.alloc(), 20)?;
+    answers(&rt, rt.alloc(), &mut wired, Request::Get(0, 3), &[], false)?;
+    answers(&rt, rt.alloc(), &mut wired, Request::Status, NOT_OPEN, true)?;
+    answers(
+        &rt,
+        rt.alloc(),
+        &mut wired,
+        Request::Open(1, b"HELLO"),
+        &[],
+        false,
+    )?;
+    answers(
+        &rt,
+        rt.alloc(),
+        &mut wired,
+        Request::Put(1, HELLO),
+        &[],
+        false,
+    )?;
+    answers(&rt, rt.alloc(), &mut wired, Request::Close(1), &[], false)?;
+    answers(
+        &rt,
+        rt.alloc(),
+        &mut wired,
+        Request::Open(0, b"HELLO"),
+        &[],
+        false,
+    )?;
+    answers(
+        &rt,
+        rt.alloc(),
+        &mut wired,
+        Request::Get(0, 2),
+        FIRST,
+        false,
+    )?;
+    answers(&rt, rt.alloc(), &mut wired, Request::Get(0, 1), LAST, true)?;
+    answers(&rt, rt.alloc(), &mut wired, Request::Get(0, 1), &[], false)
+}
+
+// A file of several blocks: the disk is byte for byte as the DOS's calls leave it.
+#[test]
+fn the_disk_is_as_the_calls_leave_it(rt: HostRuntime) -> Result<(), Fail> {
+    let mut bytes = Vec::new(rt.alloc());
+    for byte in 0..600u16 {
+        bytes.push((byte % 251) as u8)?;
+    }
+    let mut wired = Wired::new(rt.alloc(), 20)?;
+    wired.asks(rt.alloc(), Request::Open(2, b"DATA,S,W"))?;
+    wired.asks(rt.alloc(), Request::Put(2, bytes.as_slice()))?;
+    wired.asks(rt.alloc(), Request::Close(2))?;
+    wired.asks(rt.alloc(), Request::Put(15, b"R0:NEW=DATA"))?;
+    wired.asks(rt.alloc(), Request::Open(2, b"NEW"))?;
+    answers(
+        &rt,
+        rt.alloc(),
+        &mut wired,
+        Request::Get(2, 5000),
+        bytes.as_slice(),
+        true,
+    )?;
+    let mut dos = Dos::new(empty_disk(rt.alloc())?);
+    dos.open(2, b"DATA,S,W");
+    for byte in bytes.as_slice() {
+        dos.put(2, *byte);
+    }
+    dos.close(2);
+    dos.open(15, b"R0:NEW=DATA");
+    let over_wires = wired.into_disk().to_bytes(rt.alloc())?;
+    let by_calls = dos.into_medium().to_bytes(rt.alloc())?;
+    assert!(&rt; over_wires.as_slice() == by_calls.as_slice());
     Ok(())
 }
