@@ -11,7 +11,7 @@ pub struct Host {
     pub changes: Vec<Change>,
     now: u64,
     seed: u32,
-    out_of_step: bool,
+    often: Option<u32>,
 }
 
 impl Host {
@@ -22,23 +22,23 @@ impl Host {
             changes,
             now: 0,
             seed: 0,
-            out_of_step: false,
+            often: None,
         }
     }
 
-    /// One that is out of step.
-    pub fn out_of_step(alloc: Global, seed: u32) -> Host {
+    /// One that is out of step, the oftener the greater the number, which is below 1024.
+    pub fn out_of_step(alloc: Global, seed: u32, often: u32) -> Host {
         let changes = Vec::new(alloc);
         Host {
             changes,
             now: 0,
             seed,
-            out_of_step: true,
+            often: Some(often),
         }
     }
 
-    // A number below 32, by chance.
-    fn chance(&mut self) -> u32 {
+    /// A number below 32, by chance.
+    pub fn chance(&mut self) -> u32 {
         self.seed = self
             .seed
             .wrapping_mul(1_664_525)
@@ -46,10 +46,21 @@ impl Host {
         self.seed / 0x0800_0000
     }
 
+    // Whether it gets out of step, by chance.
+    fn slips(&mut self) -> bool {
+        match self.often {
+            None => false,
+            Some(often) => {
+                let chance = self.chance().wrapping_mul(32);
+                chance.wrapping_add(self.chance()) < often
+            }
+        }
+    }
+
     /// So many microseconds later a line is changed.
     pub fn after(&mut self, wait: u64, line: Line, way: Way) -> Result<(), AllocError> {
         self.now = self.now.wrapping_add(wait);
-        if self.out_of_step && self.chance() == 0 && self.chance() == 0 {
+        if self.slips() {
             match self.chance() {
                 0..16 => return Ok(()),
                 late => self.now = self.now.wrapping_add(late as u64),
@@ -72,7 +83,8 @@ impl Host {
         Ok(())
     }
 
-    fn bits(&mut self, byte: u8) -> Result<(), AllocError> {
+    /// The bits of a byte, where CLOCK is held.
+    pub fn bits(&mut self, byte: u8) -> Result<(), AllocError> {
         let mut left = byte;
         let mut low = false;
         for _ in 0..8u8 {

@@ -6,4 +6,10 @@ mod desks;
 #[cfg(test)]
 mod host;
 #[cfg(test)]
+mod recorder;
+#[cfg(test)]
+mod strays;
+#[cfg(test)]
+mod streams;
+#[cfg(test)]
 mod wires;

@@ -15,8 +15,8 @@ use test_images::empty_image;
 /// The status after power up.
 const POWER_UP: &[u8] = b"73,CBM DOS V2.6 1541,00,00\r";
 
-// The bytes that the drive said: behind its release of CLOCK come eight bits, each to be read when CLOCK is freed.
-fn said(alloc: Global, events: &[Event]) -> Result<Vec<u8>, AllocError> {
+/// The bytes that the drive said: behind its release of CLOCK come eight bits, each to be read when CLOCK is freed.
+pub fn said(alloc: Global, events: &[Event]) -> Result<Vec<u8>, AllocError> {
     let mut bytes = Vec::new(alloc);
     let mut low = false;
     let mut count = 0u8;
@@ -134,7 +134,7 @@ fn files_are_written_and_scratched(rt: HostRuntime) -> Result<(), Fail> {
 fn hosts_out_of_step_leave_a_sound_disk(rt: HostRuntime) -> Result<(), Fail> {
     let mut changed = 0u32;
     for seed in 0..100u32 {
-        let mut host = Host::out_of_step(rt.alloc(), seed);
+        let mut host = Host::out_of_step(rt.alloc(), seed, 1);
         work(&mut host)?;
         let volume = Volume::open(disk_after(&rt, rt.alloc(), &host)?);
         assert!(rt; volume.check().is_ok(), "{seed}");
