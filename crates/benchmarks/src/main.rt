@@ -5,6 +5,7 @@ mod circles;
 mod disks;
 mod drives;
 mod records;
+mod wires;
 mod writes;
 
 use std::io;
@@ -19,5 +20,6 @@ fn main(rt: HostRuntime) -> io::Result<()> {
     writes::validations(&rt, rt.alloc())?;
     writes::copies(&rt, rt.alloc())?;
     records::files(&rt, rt.alloc())?;
+    wires::drives(&rt, rt.alloc())?;
     circles::images(&rt, rt.alloc())
 }
