@@ -66,8 +66,8 @@ pub record IsBlockListed (old new : Content) (at : Place) (k : ℕ) (q : Place) 
 abbrev pub IsListStopped : ℕ → Seen → Seen → ℕ → Type 0
 IsListStopped tracks old new code = (new.content ≡ old.content) × IsWriteRefused tracks old new code
 
--- A SIDE SECTOR'S LIST OF SIDE SECTORS HAS ONE MORE after so many; its number, the records' length and the blocks that it lists stay.
--- It links to the new one where that follows it, and else where it linked.
+-- A SIDE SECTOR'S LIST OF SIDE SECTORS HAS ONE MORE after so many, and ends behind it; its number, the records' length and the blocks
+-- that it lists stay. It links to the new one where that follows it, and else where it linked.
 pub record ListsSide (old : List ℕ) (k : ℕ) (t : Place) (follows : Bool) (new : List ℕ) : Type 0 where
   pub whole : length new ≡ 256
   pub link_is : link new ≡ (if follows then t else link old)
@@ -75,6 +75,8 @@ pub record ListsSide (old : List ℕ) (k : ℕ) (t : Place) (follows : Bool) (ne
   pub track : slice_index new (4 + 2 * k) ≡ t.track
   pub sector : slice_index new (5 + 2 * k) ≡ t.sector
   pub last : k < 5 → slice_index new (6 + 2 * k) ≡ 0
+  pub last_sector : k < 5 → slice_index new (7 + 2 * k) ≡ 0
+  pub behind : (i : ℕ) → 8 + 2 * k ≤ i → i < 16 → slice_index new i ≡ slice_index old i
   pub back : (i : ℕ) → 16 ≤ i → slice_index new i ≡ slice_index old i
 
 -- The side sector at this place, which is the one of number i, lists one side sector more after so many.
@@ -93,6 +95,8 @@ pub record IsNewSide (head : List ℕ) (k w : ℕ) (q t : Place) (new : List ℕ
   pub width : slice_index new 3 ≡ w
   pub others : (i : ℕ) → 4 ≤ i → i < 4 + 2 * k → slice_index new i ≡ slice_index head i
   pub itself : (slice_index new (4 + 2 * k) ≡ t.track) × (slice_index new (5 + 2 * k) ≡ t.sector)
+  pub last : k < 5 → (slice_index new (6 + 2 * k) ≡ 0) × (slice_index new (7 + 2 * k) ≡ 0)
+  pub behind : (i : ℕ) → 8 + 2 * k ≤ i → i < 16 → slice_index new i ≡ slice_index head i
   pub track : slice_index new 16 ≡ q.track
   pub sector : slice_index new 17 ≡ q.sector
   pub zeros : (i : ℕ) → 18 ≤ i → slice_index new i ≡ 0
