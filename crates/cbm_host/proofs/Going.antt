@@ -11,7 +11,7 @@ use Rattle.cbm_drive.specs.Cables.{Cabled}
 use Rattle.cbm_drive.specs.Players.{Turns, pending, IsTurnOf, IsAfter, HasGiven, IsStill}
 use Rattle.cbm_host.proofs.Handed.{handed_on}
 use Rattle.cbm_host.specs.Engines.{Engined, engine_due, engine_passed}
-use Rattle.cbm_host.specs.Performers.{Performing, IsHandedOn, IsDue, GoesOnFrom, engine_behind, byte_with, IsGoing, HasCome, HasNext}
+use Rattle.cbm_host.specs.Performers.{Performing, IsHandedOn, IsDue, GoesOnFrom, engine_behind, byte_with, IsGoing, HasStopped, HasCome, HasNext}
 use Rattle.cbm_host.specs.declared.due.Due.TheVariants.{Makes, Waits}
 
 -- a change of the host is the one that was handed on
@@ -33,7 +33,7 @@ module _ (D M : Type 0) (stands : D → M → Type 0) (step : M → Act → M) (
   pub asked : (old new : Performing) (p : Turns) (b b2 : Cabled D) (upto n : ℕ) (ss : List (Station M)) (es : List Event) (r : Option Event) → p ≡ old.player → new.engine ≡ old.engine → new.limit ≡ old.limit → upto ≤ old.limit
       → ((a : IsAfter D M stands step says p b n ss es) → MatchOption r (IsStill D M stands step says p new.player b b2 upto a.stations) (HasGiven D M stands step says new.player b2 upto n ss es))
       → IfSome r (λ e. IsTurnOf e.who e.change p.waiting new.player.waiting) → IsGoing D M stands step says old b n ss es
-      → MatchOption r (IsGoing D M stands step says new b2 n ss es) (HasCome D M stands step says old new b2 n ss es)
+      → MatchOption r (HasStopped D M stands step says old new b2 n ss es) (HasCome D M stands step says old new b2 n ss es)
   asked old new p b b2 upto n ss es r player engine limit l given turn g =
       by_answer r (given (subst (λ (x : Turns). IsAfter D M stands step says x b n ss es) (sym player) g.after)) turn
     where
@@ -41,10 +41,13 @@ module _ (D M : Type 0) (stands : D → M → Type 0) (step : M → Act → M) (
       handed = subst (λ (x : Engined). IsHandedOn p.waiting x) (sym engine) (subst (λ (x : Turns). IsHandedOn x.waiting old.engine) (sym player) g.handed)
 
       by_answer : (r : Option Event) → MatchOption r (IsStill D M stands step says p new.player b b2 upto (subst (λ (x : Turns). IsAfter D M stands step says x b n ss es) (sym player) g.after).stations) (HasGiven D M stands step says new.player b2 upto n ss es)
-          → IfSome r (λ e. IsTurnOf e.who e.change p.waiting new.player.waiting) → MatchOption r (IsGoing D M stands step says new b2 n ss es) (HasCome D M stands step says old new b2 n ss es)
+          → IfSome r (λ e. IsTurnOf e.who e.change p.waiting new.player.waiting) → MatchOption r (HasStopped D M stands step says old new b2 n ss es) (HasCome D M stands step says old new b2 n ss es)
       by_answer None k t = record {
-        after = subst (λ (x : Turns). IsAfter D M stands step says x b2 n ss es) (sym (k.same ∙ player)) (subst (λ (y : Cabled D). IsAfter D M stands step says old.player y n ss es) (sym k.bus) g.after);
-        handed = subst (λ (x : Turns). IsHandedOn x.waiting new.engine) (sym k.same) handed;
+        going = record {
+          after = subst (λ (x : Turns). IsAfter D M stands step says x b2 n ss es) (sym (k.same ∙ player)) (subst (λ (y : Cabled D). IsAfter D M stands step says old.player y n ss es) (sym k.bus) g.after);
+          handed = subst (λ (x : Turns). IsHandedOn x.waiting new.engine) (sym k.same) handed;
+        };
+        goes_on = inl engine;
       }
       by_answer (Some e) k t = record {
         after = k.after;
@@ -57,8 +60,8 @@ module _ (D M : Type 0) (stands : D → M → Type 0) (step : M → Act → M) (
   -- where a change was handed to the player before
   pub handed_then : (old mid new : Performing) (b b2 : Cabled D) (n : ℕ) (ss : List (Station M)) (es : List Event) (r : Option Event) → mid.player.second ≡ old.player.second → mid.player.from ≡ old.player.from → mid.engine ≡ old.engine
       → (IsHandedOn old.player.waiting old.engine → IsHandedOn mid.player.waiting mid.engine)
-      → (IsGoing D M stands step says mid b n ss es → MatchOption r (IsGoing D M stands step says new b2 n ss es) (HasCome D M stands step says mid new b2 n ss es))
-      → IsGoing D M stands step says old b n ss es → MatchOption r (IsGoing D M stands step says new b2 n ss es) (HasCome D M stands step says old new b2 n ss es)
+      → (IsGoing D M stands step says mid b n ss es → MatchOption r (HasStopped D M stands step says mid new b2 n ss es) (HasCome D M stands step says mid new b2 n ss es))
+      → IsGoing D M stands step says old b n ss es → MatchOption r (HasStopped D M stands step says old new b2 n ss es) (HasCome D M stands step says old new b2 n ss es)
   handed_then old mid new b b2 n ss es r second from engine handed come g = by_answer r (come (going_same second from (handed g.handed)))
     where
       going_same : mid.player.second ≡ old.player.second → mid.player.from ≡ old.player.from → IsHandedOn mid.player.waiting mid.engine → IsGoing D M stands step says mid b n ss es
@@ -73,8 +76,8 @@ module _ (D M : Type 0) (stands : D → M → Type 0) (step : M → Act → M) (
         handed = h;
       }
 
-      by_answer : (r : Option Event) → MatchOption r (IsGoing D M stands step says new b2 n ss es) (HasCome D M stands step says mid new b2 n ss es) → MatchOption r (IsGoing D M stands step says new b2 n ss es) (HasCome D M stands step says old new b2 n ss es)
-      by_answer None k = k
+      by_answer : (r : Option Event) → MatchOption r (HasStopped D M stands step says mid new b2 n ss es) (HasCome D M stands step says mid new b2 n ss es) → MatchOption r (HasStopped D M stands step says old new b2 n ss es) (HasCome D M stands step says old new b2 n ss es)
+      by_answer None k = record { going = k.going; goes_on = subst (λ (x : Engined). GoesOnFrom x new.engine) engine k.goes_on }
       by_answer (Some e) k = record { after = k.after; goes_on = subst (λ (x : Engined). GoesOnFrom x new.engine) engine k.goes_on; due = k.due; handed = k.handed; moment = k.moment }
 
   -- where the player refused it
@@ -93,9 +96,9 @@ module _ (D M : Type 0) (stands : D → M → Type 0) (step : M → Act → M) (
 
   -- The host waited to no avail: its engine goes on.
   pub waited : (old asked_ mid : Performing) (b b2 : Cabled D) (until n : ℕ) (ss : List (Station M)) (es : List Event) → engine_due old.engine ≡ Waits until → mid.player ≡ asked_.player → asked_.engine ≡ old.engine
-      → (IsGoing D M stands step says old b n ss es → IsGoing D M stands step says asked_ b2 n ss es) → IsGoing D M stands step says old b n ss es → IsGoing D M stands step says mid b2 n ss es
+      → (IsGoing D M stands step says old b n ss es → HasStopped D M stands step says old asked_ b2 n ss es) → IsGoing D M stands step says old b n ss es → IsGoing D M stands step says mid b2 n ss es
   waited old asked_ mid b b2 until n ss es due player engine come g =
-      let k = come g in
+      let k = (come g).going in
       record {
         after = subst (λ (x : Turns). IsAfter D M stands step says x b2 n ss es) (sym player) k.after;
         handed = subst (λ (x : Turns). IsHandedOn x.waiting mid.engine) (sym player) (none_waits asked_.player.waiting asked_.engine mid.engine until (ap engine_due engine ∙ due) k.handed);
@@ -103,8 +106,8 @@ module _ (D M : Type 0) (stands : D → M → Type 0) (step : M → Act → M) (
 
   -- and what comes then
   pub waited_then : (old mid new : Performing) (b2 b3 : Cabled D) (until n : ℕ) (ss : List (Station M)) (es : List Event) (r : Option Event) → engine_due old.engine ≡ Waits until → mid.engine ≡ engine_passed old.engine → new.engine ≡ mid.engine
-      → MatchOption r (IsGoing D M stands step says new b3 n ss es) (HasCome D M stands step says mid new b3 n ss es) → MatchOption r (IsGoing D M stands step says new b3 n ss es) (HasCome D M stands step says old new b3 n ss es)
-  waited_then old mid new b2 b3 until n ss es None due passed engine k = k
+      → MatchOption r (HasStopped D M stands step says mid new b3 n ss es) (HasCome D M stands step says mid new b3 n ss es) → MatchOption r (HasStopped D M stands step says old new b3 n ss es) (HasCome D M stands step says old new b3 n ss es)
+  waited_then old mid new b2 b3 until n ss es None due passed engine k = record { going = k.going; goes_on = inr (until, due, engine ∙ passed) }
   waited_then old mid new b2 b3 until n ss es (Some e) due passed engine k = record { after = k.after; goes_on = inr (until, due, engine ∙ passed); due = k.due; handed = k.handed; moment = k.moment }
 
   -- the engine is told the event

@@ -8,3 +8,4 @@ pub mod Sent
 pub mod Taken
 pub mod Requests
 pub mod Going
+pub mod Performed

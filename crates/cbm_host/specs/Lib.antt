@@ -8,3 +8,4 @@ pub mod Performers
 pub mod Performing
 pub mod Framed
 pub mod Requests
+pub mod Performed

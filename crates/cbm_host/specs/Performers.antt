@@ -47,6 +47,11 @@ module _ (D M : Type 0) (stands : D → M → Type 0) (step : M → Act → M) (
     pub after : IsAfter D M stands step says p.player b n ss es
     pub handed : IsHandedOn p.player.waiting p.engine
 
+  -- none came, though the host may have waited to no avail
+  pub record HasStopped (old new : Performing) (b : Cabled D) (n : ℕ) (ss : List (Station M)) (es : List Event) : Type 0 where
+    pub going : IsGoing new b n ss es
+    pub goes_on : GoesOnFrom old.engine new.engine
+
   -- one more came, and the engine is still to be told
   pub record HasCome (old new : Performing) (b : Cabled D) (n : ℕ) (ss : List (Station M)) (es : List Event) (e : Event) : Type 0 where
     pub after : IsAfter D M stands step says new.player b n ss (es ++ e ∷ [])

@@ -34,7 +34,7 @@ impl<'a> Performer<'a> {
     ghost use Rattle.cbm_session.specs.Playing.{Station};
     ghost use Rattle.cbm_drive.specs.Players.{at_start};
     ghost use Rattle.cbm_host.specs.Engines.{channel_of, engine_at, engine_due, stage_end};
-    ghost use Rattle.cbm_host.specs.Performers.{IsHandedOn, IsGoing, HasCome, HasNext, engine_behind, byte_with};
+    ghost use Rattle.cbm_host.specs.Performers.{IsHandedOn, IsGoing, HasStopped, HasCome, HasNext, engine_behind, byte_with};
     ghost use Rattle.cbm_iec.specs.declared.event.Event.{Event};
     ghost use Rattle.cbm_host.specs.declared.due.Due.TheVariants.{Makes, Waits};
 
@@ -60,7 +60,7 @@ impl<'a> Performer<'a> {
         requires one { N ≡ 1 }
         ensures next { (n : ℕ) (ss : List (Station D.State)) (es : List Event) →
             IsGoing _ D.State D.stands D.step D.says self.old bus.old n ss es → MatchOption result
-            (IsGoing _ D.State D.stands D.step D.says self.new bus.new n ss es)
+            (HasStopped _ D.State D.stands D.step D.says self.old self.new bus.new n ss es)
             (HasNext _ D.State D.stands D.step D.says self.old self.new bus.new n ss es) }
     {
         let event = self.event(bus)?;
@@ -108,7 +108,7 @@ impl<'a> Performer<'a> {
     fn event<D: Machine, const N: usize>(&mut self, bus: &mut Bus<D, N>) -> Option<Event>
         ensures come { (n : ℕ) (ss : List (Station D.State)) (es : List Event) →
             IsGoing _ D.State D.stands D.step D.says self.old bus.old n ss es → MatchOption result
-            (IsGoing _ D.State D.stands D.step D.says self.new bus.new n ss es)
+            (HasStopped _ D.State D.stands D.step D.says self.old self.new bus.new n ss es)
             (HasCome _ D.State D.stands D.step D.says self.old self.new bus.new n ss es) }
     {
         match self.engine.due() {
@@ -131,7 +131,7 @@ impl<'a> Performer<'a> {
         requires { upto ≤ self.old.limit }
         ensures come { (n : ℕ) (ss : List (Station D.State)) (es : List Event) →
             IsGoing _ D.State D.stands D.step D.says self.old bus.old n ss es → MatchOption result
-            (IsGoing _ D.State D.stands D.step D.says self.new bus.new n ss es)
+            (HasStopped _ D.State D.stands D.step D.says self.old self.new bus.new n ss es)
             (HasCome _ D.State D.stands D.step D.says self.old self.new bus.new n ss es) }
         ensures engine { self.new.engine ≡ self.old.engine }
         ensures limit { self.new.limit ≡ self.old.limit }
@@ -149,7 +149,7 @@ impl<'a> Performer<'a> {
         requires due { engine_due self.old.engine ≡ Makes change }
         ensures come { (n : ℕ) (ss : List (Station D.State)) (es : List Event) →
             IsGoing _ D.State D.stands D.step D.says self.old bus.old n ss es → MatchOption result
-            (IsGoing _ D.State D.stands D.step D.says self.new bus.new n ss es)
+            (HasStopped _ D.State D.stands D.step D.says self.old self.new bus.new n ss es)
             (HasCome _ D.State D.stands D.step D.says self.old self.new bus.new n ss es) }
         ensures engine { self.new.engine ≡ self.old.engine }
     {
@@ -184,7 +184,7 @@ impl<'a> Performer<'a> {
         requires due { engine_due self.old.engine ≡ Waits until }
         ensures come { (n : ℕ) (ss : List (Station D.State)) (es : List Event) →
             IsGoing _ D.State D.stands D.step D.says self.old bus.old n ss es → MatchOption result
-            (IsGoing _ D.State D.stands D.step D.says self.new bus.new n ss es)
+            (HasStopped _ D.State D.stands D.step D.says self.old self.new bus.new n ss es)
             (HasCome _ D.State D.stands D.step D.says self.old self.new bus.new n ss es) }
     {
         if let Some(event) = self.ask(bus, until.saturating_sub(1)) {

@@ -1,5 +1,17 @@
+use Rattle.std.proofs.Common.{ap, arith}
 use Rattle.cbm_host.proofs.Going.{told_next}
 use Rattle.cbm_host.proofs.performer.Performer.next.Goals as goal
+use Rattle.cbm_host.specs.Performers.{Performing}
+
+-- nothing comes later than the host gives up
+pub returns-then-event-self : goal.returns-then-event-self
+returns-then-event-self g c = record {
+  next = λ n ss es k.
+      let soon = (c.in_ok-event.ensures.come n ss es k).moment in
+      let same = ap (λ (p : Performing). p.limit) c.self.view_is in
+      let late = c.if-event-self.true in
+      absurd (omega (arith, soon, same, late));
+}
 
 pub returns : goal.returns
 returns g c = record {

@@ -1,4 +1,4 @@
-use Rattle.std.proofs.Common.{ap, ◌∙◌}
+use Rattle.std.proofs.Common.{inr, ap, ◌∙◌}
 use Rattle.cbm_host.proofs.Going.{waited, waited_then}
 use Rattle.cbm_host.proofs.performer.Performer.wait.Goals as goal
 use Rattle.cbm_host.specs.Engines.{engine_passed}
@@ -16,7 +16,10 @@ returns-in-Makes g c = record {
 
 pub returns-in_default-due-2 : goal.returns-in_default-due-2
 returns-in_default-due-2 g c = record {
-  come = λ n ss es k.
-      waited _ g.D.Machine.State g.D.Machine.stands g.D.Machine.step g.D.Machine.says c.args.self.now c.ask.new.self _ c.args.bus.now c.ask.new.bus c.args.until n ss es c.requires.due (ap (λ (p : Performing). p.player) c.self.view_is) c.ask.ensures.engine
-      (c.in_default.ensures.come n ss es) k;
+  come = λ n ss es k. record {
+    going =
+        waited _ g.D.Machine.State g.D.Machine.stands g.D.Machine.step g.D.Machine.says c.args.self.now c.ask.new.self _ c.args.bus.now c.ask.new.bus c.args.until n ss es c.requires.due (ap (λ (p : Performing). p.player) c.self.view_is) c.ask.ensures.engine
+        (c.in_default.ensures.come n ss es) k;
+    goes_on = inr (c.args.until, c.requires.due, c.passed.ensures ∙ ap engine_passed (ap (λ (p : Performing). p.engine) c.self.view_is ∙ c.ask.ensures.engine));
+  };
 }
