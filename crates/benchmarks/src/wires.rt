@@ -3,7 +3,7 @@ use cbm_channel::Dos;
 use cbm_d64::D64Disk;
 use cbm_drive::Line::*;
 use cbm_drive::Way::*;
-use cbm_drive::{Bus, Change, Desk, Drive, Event, Line, Party, Player, Way, Who};
+use cbm_drive::{Bus, Change, Desk, Drive, Line, Party, Player, Way};
 use std::alloc::{AllocError, Global};
 use std::io;
 use std::mem::size_of;
@@ -13,9 +13,6 @@ use test_images::empty_image;
 
 /// How many bytes are sent, or taken.
 const BYTES: u32 = 20_000;
-
-/// Room for all events of a play.
-const ROOM: usize = 600_000;
 
 /// A moment behind all that is played.
 const END: u64 = 1_000_000_000_000;
@@ -129,16 +126,7 @@ fn plays<const N: usize>(
     bus: &mut Bus<Desk<D64Disk>, N>,
     host: &Host,
 ) -> io::Result<()> {
-    // The room is touched once before the time counts.
-    let moment = 0;
-    let change = Change {
-        moment,
-        line: Atn,
-        way: Free,
-    };
-    let who = Who::Host;
-    let mut events = vec![in alloc; Event { who, change }; ROOM]?;
-    events.clear();
+    let mut events = Vec::with_capacity(alloc, 2_000_000)?;
     let start = Instant::now(rt)?;
     bus.play(host.changes.as_slice(), END, &mut events)
         .map_err(|_| failed())?;
