@@ -41,6 +41,7 @@ fn listed_from<M: Medium>(
     ensures chain { let now = M.seen medium.now in (blocks : List Place) → Chain geometry now.content first blocks →
         IsOkAnd result (λ r. ListsThese side.now (take 120 blocks) r.0 ×
         Chain geometry now.content r.1 (drop 120 blocks)) }
+    ensures front { IfOk result (λ r. (i : ℕ) → 2 ≤ i → i < 16 → slice_index r.0 i ≡ slice_index side.now i) }
     ensures never_26 { IfErr result (λ t. t.code ≢ 26) }
 {
     let mut new = cut_at(side, BLOCKS);

@@ -46,3 +46,10 @@ returns-clause-chain g c = λ blocks h.
     let i = c.loop-number.invariant in
     listing_full c.args.geometry (g.M.Medium.seen c.args.medium.now).content blocks c.loop-number.number c.args.side.now c.loop-number.new c.ended-2.result c.loop-number.at (i.3 blocks h) (omega (arith, c.loop-number-test.false, c.loop-number.auto.number-end))
     c.ended-2.ensures.whole c.ended-2.ensures.ended c.ended-2.ensures.rest i.1 i.2
+
+-- what stands before the list stays
+pub returns-then-is_end-clause-front : goal.returns-then-is_end-clause-front
+returns-then-is_end-clause-front g c = λ i l m. c.ended.ensures.rest i l ∙ c.loop-number.invariant.1 i m
+
+pub returns-clause-front : goal.returns-clause-front
+returns-clause-front g c = λ i l m. c.ended-2.ensures.rest i l ∙ c.loop-number.invariant.1 i m
