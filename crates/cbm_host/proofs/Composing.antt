@@ -1,5 +1,5 @@
 -- What the host performs one list after another it performs as one.
-use Rattle.std.proofs.Common.{◌≡◌, ℕ, List, [], ◌∷◌, ◌++◌, refl, sym, subst}
+use Rattle.std.proofs.Common.{ℕ, List, [], ◌∷◌, ◌++◌, subst}
 use Rattle.cbm_session.specs.Steps.{Step}
 use Rattle.cbm_host.specs.Engines.{Engined}
 use Rattle.cbm_host.specs.Performing.{Performs, IsSilent, ends, makes, sees, passes}

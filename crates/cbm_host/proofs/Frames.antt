@@ -1,26 +1,26 @@
 -- The host performs its frames: a byte in attention or to a listener, with true or without.
-use Rattle.std.proofs.Common.{◌≡◌, ℕ, zero, suc, ◌+◌, ◌-◌, ◌*◌, ◌/◌, ◌≤◌, Bool, true, false, not, List, [], ◌∷◌, ◌++◌, length, ap, sym, ◌∙◌, subst, arith, refl}
+use Rattle.std.proofs.Common.{◌≡◌, ℕ, zero, suc, ◌+◌, ◌-◌, ◌*◌, ◌/◌, Bool, true, false, not, List, [], ◌∷◌, ◌++◌, length, ap, sym, ◌∙◌, subst, arith, refl}
 use Rattle.std.proofs.lemmas.List.{append_assoc}
 use Rattle.std.proofs.lemmas.Bool.{ne_eqb}
 use Rattle.std.specs.Prelude.{if◌then◌else◌, ◌==◌}
 use Rattle.cbm_iec.specs.Hearing.{is_same}
 use Rattle.cbm_iec.specs.declared.act.Act.{Act}
-use Rattle.cbm_iec.specs.declared.line.Line.TheVariants.{Clock, Data}
-use Rattle.cbm_iec.specs.declared.line.Way.TheVariants.{Pull, Free}
+use Rattle.cbm_iec.specs.declared.line.Line.TheVariants.{Data}
+use Rattle.cbm_iec.specs.declared.line.Way.TheVariants.{Free}
 use Rattle.cbm_session.proofs.joining.OneDrive.{one_frame}
 use Rattle.cbm_session.specs.Bits.{where_held, Cell, cell_steps, cells_steps, held_after, last_pull, SetFits, CellsFit}
 use Rattle.cbm_session.specs.Frames.{end_of, SentFits}
-use Rattle.cbm_session.specs.Seats.{Seat, device, reaction}
-use Rattle.cbm_session.specs.Steps.{Step, host, drive, for_one}
+use Rattle.cbm_session.specs.Seats.{Seat, reaction}
+use Rattle.cbm_session.specs.Steps.{Step, host}
 use Rattle.cbm_host.proofs.Composing.{performs_then}
 use Rattle.cbm_host.specs.Engines.{Engined, accepted}
 use Rattle.cbm_host.specs.Framed.{cells_for, start_for, frame_for}
-use Rattle.cbm_host.specs.Performing.{Performs, ends, makes, sees, passes}
-use Rattle.cbm_host.specs.Sending.{is_low, bits_of, next_bit}
+use Rattle.cbm_host.specs.Performing.{Performs, ends, makes, sees}
+use Rattle.cbm_host.specs.Sending.{is_low, next_bit}
 use Rattle.cbm_host.specs.Waits.{phase}
 use Rattle.cbm_host.specs.declared.frame.Bits.{Bits}
 use Rattle.cbm_host.specs.declared.frame.Frame.{Frame}
-use Rattle.cbm_host.specs.declared.frame.Frame.TheVariants.{Readying, Ready, EoiSent, EoiHeard, Starting, Setting, Showing, Hiding, Clearing, Sent}
+use Rattle.cbm_host.specs.declared.frame.Frame.TheVariants.{Readying, Setting, Showing, Clearing, Sent}
 use Rattle.cbm_host.specs.declared.stage.Behind.{Behind}
 use Rattle.cbm_host.specs.declared.stage.Stage.TheVariants.{Framing}
 

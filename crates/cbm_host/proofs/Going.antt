@@ -1,5 +1,5 @@
 -- What the player gives, with the engine that hands it the host's changes.
-use Rattle.std.proofs.Common.{◌≡◌, ℕ, ◌≤◌, inl, inr, Bool, List, [], ◌∷◌, ◌++◌, Option, Some, None, refl, sym, ap, ◌∙◌, subst, arith}
+use Rattle.std.proofs.Common.{◌≡◌, ℕ, ◌≤◌, inl, inr, Bool, List, [], ◌∷◌, ◌++◌, Option, Some, None, sym, ap, ◌∙◌, subst, arith}
 use Rattle.std.specs.Prelude.{IfSome, MatchOption}
 use Rattle.cbm_iec.specs.declared.act.Act.{Act}
 use Rattle.cbm_iec.specs.declared.event.Event.{Event}
@@ -12,7 +12,7 @@ use Rattle.cbm_drive.specs.Players.{Turns, pending, IsTurnOf, IsAfter, HasGiven,
 use Rattle.cbm_host.proofs.Handed.{handed_on}
 use Rattle.cbm_host.specs.Engines.{Engined, engine_due, engine_passed}
 use Rattle.cbm_host.specs.Performers.{Performing, IsHandedOn, IsDue, GoesOnFrom, engine_behind, byte_with, IsGoing, HasStopped, HasCome, HasNext}
-use Rattle.cbm_host.specs.declared.due.Due.TheVariants.{Makes, Waits}
+use Rattle.cbm_host.specs.declared.due.Due.TheVariants.{Waits}
 
 -- a change of the host is the one that was handed on
 turn_due : (w : Who) (c : Change) (was now : Option Change) (e : Engined) → IsHandedOn was e → IsTurnOf w c was now → IsDue w c e

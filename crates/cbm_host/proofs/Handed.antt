@@ -1,5 +1,5 @@
 -- What the host does next stays so, whatever the drive does before.
-use Rattle.std.proofs.Common.{◌≡◌, ℕ, Bool, true, false, List, Option, Some, None, refl, sym, ap, ◌∙◌, subst}
+use Rattle.std.proofs.Common.{◌≡◌, ℕ, List, Option, Some, None}
 use Rattle.cbm_iec.specs.Ports.{change_at}
 use Rattle.cbm_iec.specs.declared.line.Change.{Change}
 use Rattle.cbm_iec.specs.declared.line.Line.TheVariants.{Atn, Clock, Data}
@@ -10,7 +10,7 @@ use Rattle.cbm_host.specs.Engines.{Engined, engine_due, engine_seen}
 use Rattle.cbm_host.specs.Performers.{IsHandedOn}
 use Rattle.cbm_host.specs.Sending.{frame_change}
 use Rattle.cbm_host.specs.Stages.{due_of, stage_due, take_due}
-use Rattle.cbm_host.specs.declared.due.Due.TheVariants.{Makes, Waits, Hears, Over}
+use Rattle.cbm_host.specs.declared.due.Due.TheVariants.{Makes}
 use Rattle.cbm_host.specs.declared.frame.Frame.{Frame}
 use Rattle.cbm_host.specs.declared.frame.Frame.TheVariants.{Readying, Ready, EoiSent, EoiHeard, Starting, Setting, Showing, Hiding, Clearing, Sent}
 use Rattle.cbm_host.specs.declared.stage.Behind.{Behind}

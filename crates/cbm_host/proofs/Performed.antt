@@ -1,16 +1,15 @@
 -- A request under way goes on by one event.
-use Rattle.std.proofs.Common.{◌≡◌, ℕ, ◌≤◌, ◌<◌, Bool, false, List, [], ◌∷◌, ◌++◌, Option, Some, None, refl, sym, ap, ◌∙◌, subst, arith}
+use Rattle.std.proofs.Common.{◌≡◌, ℕ, ◌<◌, Bool, false, List, [], ◌∷◌, ◌++◌, Option, Some, None, refl, sym, ap, ◌∙◌, subst, arith}
 use Rattle.std.proofs.lemmas.List.{append_assoc, append-nil}
 use Rattle.std.specs.List.{AllZip}
 use Rattle.cbm_drive.specs.Cables.{Cabled}
 use Rattle.cbm_drive.specs.Players.{at_start, IsAfter}
 use Rattle.cbm_drive.specs.Seats.{Seated, IsSeat, IsBusAt, held_by}
 use Rattle.cbm_host.specs.Engines.{Engined}
-use Rattle.cbm_host.specs.Performed.{taken_with, last_with, Runs, begins, waits, goes, IsPerforming}
-use Rattle.cbm_host.specs.Performers.{Performing, byte_with, IsHandedOn, IsGoing, HasStopped, HasNext}
+use Rattle.cbm_host.specs.Performed.{taken_with, last_with, begins, waits, goes, IsPerforming}
+use Rattle.cbm_host.specs.Performers.{Performing, IsHandedOn, HasStopped, HasNext}
 use Rattle.cbm_iec.specs.declared.act.Act.{Act}
 use Rattle.cbm_iec.specs.declared.event.Event.{Event}
-use Rattle.cbm_iec.specs.declared.line.Change.{Change}
 use Rattle.cbm_session.specs.Playing.{Station, stays, IsByte, AllBytes}
 
 module _ (D M : Type 0) (stands : D → M → Type 0) (step : M → Act → M) (says : M → Option (ℕ × Bool)) where

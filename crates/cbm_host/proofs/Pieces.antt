@@ -1,19 +1,18 @@
 -- The host performs each piece of a request.
-use Rattle.std.proofs.Common.{◌≡◌, ℕ, zero, suc, ◌+◌, ◌*◌, ◌≤◌, ◌<◌, Bool, true, false, not, List, [], ◌∷◌, ◌++◌, Option, Some, None, ap, sym, ◌∙◌, subst, arith, refl}
+use Rattle.std.proofs.Common.{ℕ, ◌+◌, ◌≤◌, Bool, true, false, List, [], ◌∷◌, ◌++◌, Some, ap, sym, ◌∙◌, subst, arith, refl}
 use Rattle.cbm_iec.specs.declared.act.Act.TheVariants.{Pulled, Attention, Released, Heard, Silent}
-use Rattle.cbm_iec.specs.declared.act.Act.{Act}
 use Rattle.cbm_iec.specs.declared.line.Line.TheVariants.{Atn, Clock, Data}
 use Rattle.cbm_iec.specs.declared.line.Way.TheVariants.{Pull, Free}
 use Rattle.cbm_iec.specs.declared.lines.Held.{Held}
 use Rattle.cbm_iec.specs.declared.party.Party.{Party}
 use Rattle.cbm_iec.specs.declared.party.Role.TheVariants.{Absent, Listener, Talker}
 use Rattle.cbm_session.proofs.joining.Merging.{merge_here, merge_there}
-use Rattle.cbm_session.proofs.joining.OneDrive.{one_frame, pull_is, frame_is}
+use Rattle.cbm_session.proofs.joining.OneDrive.{pull_is, frame_is}
 use Rattle.cbm_session.proofs.reading.PieceReadings.{seat, turn_first}
 use Rattle.cbm_session.specs.Bits.{where_held, where_free, byte_of}
 use Rattle.cbm_session.specs.Following.{alone}
 use Rattle.cbm_session.specs.Frames.{end_of}
-use Rattle.cbm_session.specs.Pieces.{Point, host_part, own_part, steps_of, PullPiece, Command, Byte, ToListener, ToNobody, ToTalker, Nothing, Talk}
+use Rattle.cbm_session.specs.Pieces.{Point, steps_of, PullPiece, Command, Byte, ToListener, ToNobody, ToTalker, Nothing}
 use Rattle.cbm_session.specs.Seats.{Seat, device, reaction}
 use Rattle.cbm_session.specs.Steps.{Step, host, drive, for_each, for_one}
 use Rattle.cbm_host.proofs.Composing.{performs_then}

@@ -1,5 +1,5 @@
 -- A request goes on piece by piece: each fits the point behind the one before, and the host performs its part of it.
-use Rattle.std.proofs.Common.{◌≡◌, ℕ, zero, suc, ◌+◌, ◌*◌, ◌/◌, ◌%◌, ◌≤◌, ◌<◌, Bool, true, false, not, List, [], ◌∷◌, ◌++◌, length, Option, Some, None, ap, sym, ◌∙◌, subst, arith, refl}
+use Rattle.std.proofs.Common.{◌≡◌, ℕ, zero, suc, ◌+◌, ◌*◌, ◌/◌, ◌%◌, ◌≤◌, ◌<◌, Bool, true, false, not, List, [], ◌∷◌, Option, None, ap, sym, ◌∙◌, subst, arith, refl}
 use Rattle.std.proofs.lemmas.Bool.{ne_eqb, le-leb, lt-leb, eq-eqb, eqb-true, eqb-false}
 use Rattle.std.specs.Prelude.{if◌then◌else◌, ◌==◌}
 use Rattle.cbm_iec.specs.Roles.{role_after}
@@ -8,16 +8,13 @@ use Rattle.cbm_iec.specs.declared.party.Party.{Party}
 use Rattle.cbm_iec.specs.declared.party.Role.TheVariants.{Absent, Listener, Talker}
 use Rattle.cbm_iec.specs.declared.party.Role.{Role}
 use Rattle.cbm_session.proofs.reading.PieceReadings.{seat}
-use Rattle.cbm_session.specs.Bits.{number_of, bits_of, byte_of}
+use Rattle.cbm_session.specs.Bits.{byte_of}
 use Rattle.cbm_session.specs.Following.{alone}
-use Rattle.cbm_session.specs.Pieces.{Piece, Place, Point, PullFits, PieceFits, piece_steps, point_after, whole_point, PullPiece, Command, Byte, ToListener, ToNobody, ToTalker, Nothing, Talk, Full, Cut, Open, Commanding, Listening, Leading, Cutting, commanding}
-use Rattle.cbm_session.specs.Seats.{lines, Seat, device, reaction}
-use Rattle.cbm_session.specs.Sessions.{MayEnd, Linked, session_steps, IsDrive}
-use Rattle.cbm_session.specs.Steps.{Step}
+use Rattle.cbm_session.specs.Pieces.{Piece, Place, Point, PullFits, PieceFits, piece_steps, point_after, PullPiece, Command, ToNobody, Full, Commanding, commanding}
+use Rattle.cbm_session.specs.Seats.{lines, Seat}
 use Rattle.cbm_host.proofs.Composing.{performs_then}
 use Rattle.cbm_host.proofs.Frames.{framing, frame_fits, cells_end}
 use Rattle.cbm_host.proofs.Pieces.{at_stage, pull_performed, command_performed, nobody_performed}
-use Rattle.cbm_host.specs.Attentions.{unlisten, untalk}
 use Rattle.cbm_host.specs.Engines.{Engined, accepted}
 use Rattle.cbm_host.specs.Framed.{cells_for, start_for, frame_for}
 use Rattle.cbm_host.specs.Performing.{Performs, ends}

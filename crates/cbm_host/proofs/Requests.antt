@@ -1,8 +1,8 @@
 -- Every request is a session of its own, and the host performs its part of it.
-use Rattle.std.proofs.Common.{◌≡◌, ℕ, zero, suc, ◌+◌, ◌*◌, ◌≤◌, ◌<◌, ◌-◌, ◌^◌, Bool, true, false, List, [], ◌∷◌, ◌++◌, length, Option, Some, None, ap, sym, ◌∙◌, subst, arith, refl}
+use Rattle.std.proofs.Common.{◌≡◌, ℕ, ◌+◌, ◌*◌, ◌≤◌, ◌<◌, ◌-◌, ◌^◌, true, false, List, [], ◌∷◌, ◌++◌, length, Some, None, ap, ◌∙◌, arith, refl}
 use Rattle.cbm_iec.specs.Roles.{role_after}
 use Rattle.cbm_iec.specs.declared.party.Party.{Party}
-use Rattle.cbm_iec.specs.declared.party.Role.TheVariants.{Absent, Listener, Talker}
+use Rattle.cbm_iec.specs.declared.party.Role.TheVariants.{Absent, Talker}
 use Rattle.cbm_iec.specs.declared.party.Role.{Role}
 use Rattle.cbm_session.proofs.reading.PieceReadings.{seat}
 use Rattle.cbm_session.specs.Pieces.{Piece}
@@ -13,18 +13,15 @@ use Rattle.cbm_host.proofs.Playing.{attending, pull_then, command_then, nobody_t
 use Rattle.cbm_host.proofs.Sent.{accepted_soon, listener_then}
 use Rattle.cbm_host.proofs.Taken.{talker_then, nothing_then, up_to_last_then, as_many_then}
 use Rattle.cbm_host.specs.Attentions.{listen, unlisten, talk, data_on, close_on, open_on}
-use Rattle.cbm_host.specs.Engines.{engine_at, channel_of, sent_by, most_of}
-use Rattle.cbm_host.specs.Requests.{accept_for, attention, sending, Said, Mute, UpToLast, UpToMost, turned, taking, leave, pieces_of, count_of, IsSaidFor, most_bytes, longest, IsPlayed, PlaysRequests}
+use Rattle.cbm_host.specs.Requests.{accept_for, attention, sending, Said, Mute, UpToLast, UpToMost, turned, taking, leave, count_of, IsSaidFor, longest, IsPlayed, PlaysRequests}
 use Rattle.cbm_host.specs.Stages as stages
 use Rattle.cbm_host.specs.Waits.{ready_wait, turn_wait, phase}
 use Rattle.cbm_host.specs.declared.commands.Commands.TheVariants.{One, Two, Three}
-use Rattle.cbm_host.specs.declared.request.Request.{Request}
 use Rattle.cbm_host.specs.declared.request.Request.TheVariants.{Open, Put, Get, Close, Status}
 use Rattle.cbm_host.specs.declared.stage.Behind.TheVariants.{Commanded}
 use Rattle.cbm_host.specs.declared.stage.Errand.{Errand}
 use Rattle.cbm_host.specs.declared.stage.Errand.TheVariants.{Sends, Takes, Leaves}
 use Rattle.cbm_host.specs.declared.stage.Pulls.TheVariants.{PullAtn}
-use Rattle.cbm_host.specs.declared.stage.Sequence.{Sequence}
 use Rattle.cbm_host.specs.declared.stage.Stage.TheVariants.{Attending}
 
 module _ (b : Party) (drive : IsDrive b) (start : ℕ) (left : List ℕ) (most : ℕ) where

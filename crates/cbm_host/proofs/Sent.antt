@@ -1,16 +1,15 @@
 -- Requests to a listener: the bytes with EOI on the last, and UNLISTEN.
-use Rattle.std.proofs.Common.{◌≡◌, ℕ, zero, suc, ◌+◌, ◌*◌, ◌≤◌, ◌<◌, Bool, true, false, List, [], ◌∷◌, ◌++◌, length, Option, Some, None, ap, sym, ◌∙◌, subst, arith, refl}
-use Rattle.cbm_iec.specs.Roles.{role_after}
+use Rattle.std.proofs.Common.{◌≡◌, ℕ, ◌+◌, ◌*◌, ◌≤◌, Bool, true, false, List, [], ◌∷◌, length, Some, sym, subst, arith, refl}
 use Rattle.cbm_iec.specs.declared.party.Party.{Party}
-use Rattle.cbm_iec.specs.declared.party.Role.TheVariants.{Absent, Listener, Talker}
+use Rattle.cbm_iec.specs.declared.party.Role.TheVariants.{Listener}
 use Rattle.cbm_iec.specs.declared.party.Role.{Role}
 use Rattle.cbm_session.proofs.reading.PieceReadings.{seat}
-use Rattle.cbm_session.specs.Pieces.{Piece, Point, Byte, ToListener, Full, Listening}
+use Rattle.cbm_session.specs.Pieces.{Point, Byte, ToListener, Full, Listening}
 use Rattle.cbm_session.specs.Seats.{lines}
 use Rattle.cbm_host.proofs.Frames.{frame_fits, cells_end}
 use Rattle.cbm_host.proofs.Pieces.{at_stage, listener_performed, byte_performed}
 use Rattle.cbm_host.proofs.Playing.{go_on, point, attending, leave_then}
-use Rattle.cbm_host.specs.Engines.{Engined, is_last, sending_on}
+use Rattle.cbm_host.specs.Engines.{is_last, sending_on}
 use Rattle.cbm_host.specs.Framed.{start_for, frame_for}
 use Rattle.cbm_host.specs.Requests.{accept_for, sent, IsPlayed}
 use Rattle.cbm_host.specs.Stages as stages

@@ -1,9 +1,9 @@
 -- Requests to a talker: the turnaround, its bytes, a cut at the end, and UNTALK.
-use Rattle.std.proofs.Common.{◌≡◌, ℕ, zero, suc, ◌+◌, ◌-◌, ◌*◌, ◌≤◌, ◌<◌, inl, inr, Bool, true, false, not, List, [], ◌∷◌, ◌++◌, length, Option, Some, None, ap, sym, ◌∙◌, subst, arith, refl}
+use Rattle.std.proofs.Common.{◌≡◌, ℕ, suc, ◌+◌, ◌-◌, ◌*◌, ◌≤◌, ◌<◌, inl, inr, Bool, true, false, List, [], ◌∷◌, ◌++◌, length, Some, None, ap, sym, ◌∙◌, subst, arith, refl}
 use Rattle.std.proofs.lemmas.Bool.Decides.{leb_tells}
 use Rattle.std.proofs.lemmas.Bool.{le-leb, lt-leb}
 use Rattle.std.proofs.lemmas.List.{append_assoc}
-use Rattle.std.specs.Prelude.{if◌then◌else◌, nat_le, nat_lt, ◌||◌}
+use Rattle.std.specs.Prelude.{if◌then◌else◌, nat_le}
 use Rattle.cbm_iec.specs.Profile.{next_byte}
 use Rattle.cbm_iec.specs.Roles.{role_after}
 use Rattle.cbm_iec.specs.declared.act.Act.TheVariants.{Said}
@@ -11,14 +11,14 @@ use Rattle.cbm_iec.specs.declared.line.Line.TheVariants.{Clock, Data}
 use Rattle.cbm_iec.specs.declared.line.Way.TheVariants.{Pull, Free}
 use Rattle.cbm_iec.specs.declared.lines.Held.{Held}
 use Rattle.cbm_iec.specs.declared.party.Party.{Party}
-use Rattle.cbm_iec.specs.declared.party.Role.TheVariants.{Absent, Listener, Talker}
+use Rattle.cbm_iec.specs.declared.party.Role.TheVariants.{Talker}
 use Rattle.cbm_iec.specs.declared.party.Role.{Role}
 use Rattle.cbm_session.proofs.joining.Merging.{NoneBefore, AllBefore, before_yes, before_no}
 use Rattle.cbm_session.proofs.joining.OneDrive.{one_told, told_is, bits_before}
 use Rattle.cbm_session.proofs.reading.PieceReadings.{seat}
-use Rattle.cbm_session.specs.Bits.{number_of, where_held, data_for}
+use Rattle.cbm_session.specs.Bits.{number_of}
 use Rattle.cbm_session.specs.Following.{alone}
-use Rattle.cbm_session.specs.Frames.{Told, bit_steps, first_bit, signal_steps, telling, taking, ToldFits, is_last}
+use Rattle.cbm_session.specs.Frames.{bit_steps, first_bit, signal_steps, taking, ToldFits, is_last}
 use Rattle.cbm_session.specs.Pieces.{Piece, Place, Point, PullFits, before, some_from, steps_of, held_by, own_part, seat_with, point_after, Talk, ToTalker, Nothing, Full, Cut, Leading, Open, Cutting}
 use Rattle.cbm_session.specs.Seats.{lines, Seat}
 use Rattle.cbm_session.specs.Steps.{Step, host, drive, for_one, moment_of}
@@ -28,11 +28,11 @@ use Rattle.cbm_host.proofs.Playing.{go_on, point, attending, leave_then, untalke
 use Rattle.cbm_host.proofs.Talks.{bits_count, told_performed}
 use Rattle.cbm_host.specs.Attentions.{untalk}
 use Rattle.cbm_host.specs.Engines.{Engined, taking_on}
-use Rattle.cbm_host.specs.Framed.{bits_for, told_for, told_from}
-use Rattle.cbm_host.specs.Performing.{Performs, ends, makes, sees, passes}
+use Rattle.cbm_host.specs.Framed.{bits_for, told_for}
+use Rattle.cbm_host.specs.Performing.{Performs, ends, sees}
 use Rattle.cbm_host.specs.Requests.{leave, at_last, up_to_last, at_most, up_to_most, IsPlayed}
 use Rattle.cbm_host.specs.Stages as stages
-use Rattle.cbm_host.specs.Waits.{ready_wait, answer_wait, turn_wait, phase, silence}
+use Rattle.cbm_host.specs.Waits.{answer_wait, turn_wait, phase, silence}
 use Rattle.cbm_host.specs.declared.stage.Errand.TheVariants.{Takes}
 use Rattle.cbm_host.specs.declared.stage.Stage.TheVariants.{Taking}
 use Rattle.cbm_host.specs.declared.take.Take.TheVariants.{Awaiting}

@@ -1,5 +1,5 @@
 -- The host takes a byte of the talker: its bits, EOI or not, and the accept.
-use Rattle.std.proofs.Common.{◌≡◌, ℕ, zero, suc, ◌+◌, ◌-◌, ◌*◌, ◌/◌, ◌≤◌, ◌<◌, Bool, true, false, not, List, [], ◌∷◌, ◌++◌, length, Option, Some, None, ap, sym, ◌∙◌, subst, arith, refl}
+use Rattle.std.proofs.Common.{◌≡◌, ℕ, zero, suc, ◌+◌, ◌*◌, ◌/◌, ◌≤◌, ◌<◌, Bool, true, false, not, List, [], ◌∷◌, ◌++◌, length, Option, None, ap, sym, ◌∙◌, subst, arith, refl}
 use Rattle.std.proofs.lemmas.Bool.{ne_eqb, le-leb}
 use Rattle.std.specs.Prelude.{if◌then◌else◌, ◌==◌, nat_lt}
 use Rattle.cbm_iec.specs.Hearing.{with_bit}
@@ -9,21 +9,19 @@ use Rattle.cbm_iec.specs.declared.line.Way.TheVariants.{Pull, Free}
 use Rattle.cbm_iec.specs.declared.party.Party.{Party}
 use Rattle.cbm_iec.specs.declared.party.Role.{Role}
 use Rattle.cbm_iec.specs.declared.party.Role.TheVariants.{Absent}
-use Rattle.cbm_session.proofs.joining.OneDrive.{one_told}
-use Rattle.cbm_session.specs.Bits.{where_held, data_for, Cell, number_of, bits_of}
+use Rattle.cbm_session.specs.Bits.{data_for, Cell, number_of, bits_of}
 use Rattle.cbm_session.proofs.alone.Frames.{shifted, shifted_is}
-use Rattle.cbm_session.specs.Frames.{bit_steps, is_last, signal_steps, first_bit}
+use Rattle.cbm_session.specs.Frames.{bit_steps, signal_steps, first_bit}
 use Rattle.cbm_session.specs.Steps.{Step, host, drive, for_one}
 use Rattle.cbm_host.proofs.Composing.{performs_then}
 use Rattle.cbm_host.specs.Engines.{Engined, taking_on}
-use Rattle.cbm_host.specs.Framed.{bits_for, told_for, told_from}
+use Rattle.cbm_host.specs.Framed.{bits_for, told_for}
 use Rattle.cbm_host.specs.Performing.{Performs, ends, makes, sees, passes}
-use Rattle.cbm_host.specs.Sending.{is_low}
 use Rattle.cbm_host.specs.Waits.{answer_wait}
 use Rattle.cbm_host.specs.declared.stage.Stage.TheVariants.{Taking}
 use Rattle.cbm_host.specs.declared.take.Came.{Came}
 use Rattle.cbm_host.specs.declared.take.Take.{Take}
-use Rattle.cbm_host.specs.declared.take.Take.TheVariants.{Awaiting, Freeing, Listening, Marking, Unmarking, Gathering, Accepting}
+use Rattle.cbm_host.specs.declared.take.Take.TheVariants.{Awaiting, Listening, Gathering, Accepting}
 
 abbrev pub came : ℕ → ℕ → Bool → Bool → Came
 came count byte low last = record { count = count; byte = byte; low = low; last = last }

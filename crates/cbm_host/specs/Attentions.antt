@@ -1,5 +1,5 @@
 -- The bytes of an attention, and what follows it.
-use Rattle.std.specs.Prelude.{ℕ, ◌+◌, List, [], ◌∷◌, Option, Some, None, is_some}
+use Rattle.std.specs.Prelude.{ℕ, Option, Some, None}
 use Rattle.cbm_host.specs.declared.commands.Commands.{Commands}
 use Rattle.cbm_host.specs.declared.commands.Commands.TheVariants.{One, Two, Three}
 

@@ -2,15 +2,14 @@
 use Rattle.std.specs.Prelude.{ℕ, ◌+◌, ◌-◌, ◌^◌, Bool, true, false, List, [], ◌∷◌, Option, Some, None, nat_le, ◌||◌, if◌then◌else◌}
 use Rattle.cbm_iec.specs.declared.line.Change.{Change}
 use Rattle.cbm_iec.specs.declared.line.Line.{Line}
-use Rattle.cbm_iec.specs.declared.line.Line.TheVariants.{Atn, Clock, Data}
+use Rattle.cbm_iec.specs.declared.line.Line.TheVariants.{Data}
 use Rattle.cbm_iec.specs.declared.line.Way.{Way}
-use Rattle.cbm_iec.specs.declared.line.Way.TheVariants.{Pull, Free}
+use Rattle.cbm_iec.specs.declared.line.Way.TheVariants.{Pull}
 use Rattle.cbm_host.specs.Attentions.{listen, unlisten, talk, untalk, data_on, close_on, open_on}
 use Rattle.cbm_host.specs.Stages.{commanding, releasing, leaving, stage_due, stage_made, stage_seen, stage_passed}
 use Rattle.cbm_host.specs.Sending.{frame_seen}
 use Rattle.cbm_host.specs.Taking.{take_made}
 use Rattle.cbm_host.specs.Waits.{ready_wait, answer_wait, turn_wait}
-use Rattle.cbm_host.specs.declared.commands.Commands.{Commands}
 use Rattle.cbm_host.specs.declared.commands.Commands.TheVariants.{Two, Three}
 use Rattle.cbm_host.specs.declared.due.Due.{Due}
 use Rattle.cbm_host.specs.declared.frame.Frame.{Frame}
@@ -20,7 +19,6 @@ use Rattle.cbm_host.specs.declared.request.Request.TheVariants.{Open, Put, Get, 
 use Rattle.cbm_host.specs.declared.stage.Sequence.{Sequence}
 use Rattle.cbm_host.specs.declared.stage.Behind.{Behind}
 use Rattle.cbm_host.specs.declared.stage.Behind.TheVariants.{Commanded, Listened}
-use Rattle.cbm_host.specs.declared.stage.Errand.{Errand}
 use Rattle.cbm_host.specs.declared.stage.Errand.TheVariants.{Sends, Takes, Leaves}
 use Rattle.cbm_host.specs.declared.stage.Pulls.TheVariants.{PullAtn}
 use Rattle.cbm_host.specs.declared.stage.Stage.{Stage}

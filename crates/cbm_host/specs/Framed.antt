@@ -1,5 +1,5 @@
 -- The frames of a request with the host's waits: every moment follows from where the frame begins and from the drive's reaction.
-use Rattle.std.specs.Prelude.{ℕ, zero, suc, ◌+◌, ◌*◌, ◌/◌, ◌%◌, ◌==◌, Bool, true, false, not, List, [], ◌∷◌, Option, Some, None, if◌then◌else◌}
+use Rattle.std.specs.Prelude.{ℕ, zero, suc, ◌+◌, ◌*◌, ◌/◌, Bool, not, List, [], ◌∷◌, Option, Some, None, if◌then◌else◌}
 use Rattle.cbm_iec.specs.Profile.{eoi_end, bit_time}
 use Rattle.cbm_session.specs.Bits.{Cell}
 use Rattle.cbm_session.specs.Frames.{Sent, Told}

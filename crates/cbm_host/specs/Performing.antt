@@ -6,7 +6,7 @@ use Rattle.cbm_iec.specs.declared.event.Who.TheVariants.{Host, Drive}
 use Rattle.cbm_iec.specs.declared.event.Who.{Who}
 use Rattle.cbm_iec.specs.declared.line.Line.{Line}
 use Rattle.cbm_iec.specs.declared.line.Way.{Way}
-use Rattle.cbm_session.specs.Steps.{Mark, Step, event_of, moment_of, Plain, ForEach, For}
+use Rattle.cbm_session.specs.Steps.{Mark, Step, event_of, moment_of, For}
 use Rattle.cbm_host.specs.Engines.{Engined, stage_taken, engine_due, engine_made, engine_seen, engine_passed}
 use Rattle.cbm_host.specs.declared.due.Due.{Due}
 use Rattle.cbm_host.specs.declared.due.Due.TheVariants.{Makes, Waits, Hears, Over}

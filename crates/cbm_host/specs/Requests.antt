@@ -1,9 +1,9 @@
 -- The pieces of a request on the wires, from its first change on, for a drive alone with the host: in the field's words LISTEN or TALK, a secondary
 -- address, the bytes with EOI on the last, and UNLISTEN or UNTALK.
-use Rattle.std.specs.Prelude.{◌≡◌, ◌≤◌, ℕ, ◌+◌, Bool, true, false, List, [], ◌∷◌, ◌++◌, Option, Some, if◌then◌else◌, nat_lt, length}
+use Rattle.std.specs.Prelude.{◌≡◌, ◌≤◌, ℕ, ◌+◌, Bool, true, false, List, [], ◌∷◌, ◌++◌, Some, if◌then◌else◌, nat_lt, length}
 use Rattle.cbm_iec.specs.Profile.{next_byte}
 use Rattle.cbm_iec.specs.declared.party.Party.{Party}
-use Rattle.cbm_session.specs.Frames.{Told, end_of}
+use Rattle.cbm_session.specs.Frames.{end_of}
 use Rattle.cbm_session.specs.Pieces.{Piece, Point, PullPiece, Command, Byte, ToListener, ToNobody, ToTalker, Nothing, Talk, Full, Cut}
 use Rattle.cbm_session.specs.Sessions.{rest, Linked, session_steps, IsDrive}
 use Rattle.cbm_host.specs.Attentions.{listen, unlisten, talk, untalk, data_on, close_on, open_on}

@@ -1,5 +1,5 @@
 -- A byte of the host on the wires: what it changes next, and what becomes of it behind its own changes and those of who hears.
-use Rattle.std.specs.Prelude.{ℕ, ◌+◌, ◌-◌, ◌/◌, ◌%◌, ◌==◌, Bool, true, false, not, Option, Some, None, if◌then◌else◌}
+use Rattle.std.specs.Prelude.{ℕ, ◌+◌, ◌-◌, ◌/◌, ◌%◌, ◌==◌, Bool, false, not, Option, Some, None, if◌then◌else◌}
 use Rattle.cbm_iec.specs.Hearing.{is_same}
 use Rattle.cbm_iec.specs.Ports.{change_at}
 use Rattle.cbm_iec.specs.declared.line.Change.{Change}

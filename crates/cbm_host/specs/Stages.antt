@@ -10,7 +10,6 @@ use Rattle.cbm_host.specs.Attentions.{first_of, rest_of, untalk}
 use Rattle.cbm_host.specs.Sending.{frame_change, frame_made, frame_seen}
 use Rattle.cbm_host.specs.Taking.{take_change, take_made, take_seen}
 use Rattle.cbm_host.specs.Waits.{ready_wait, answer_wait, phase, turn_wait, silence}
-use Rattle.cbm_host.specs.declared.commands.Commands.{Commands}
 use Rattle.cbm_host.specs.declared.commands.Commands.TheVariants.{One}
 use Rattle.cbm_host.specs.declared.due.Due.{Due}
 use Rattle.cbm_host.specs.declared.due.Due.TheVariants.{Makes, Waits, Hears, Over}

@@ -1,5 +1,5 @@
 -- A byte of the talker on the wires: what the host changes next, and what becomes of it behind its own changes and the talker's.
-use Rattle.std.specs.Prelude.{ℕ, ◌+◌, ◌/◌, ◌==◌, nat_lt, Bool, true, false, Option, Some, None, if◌then◌else◌}
+use Rattle.std.specs.Prelude.{ℕ, ◌+◌, ◌==◌, nat_lt, Bool, true, false, Option, Some, None, if◌then◌else◌}
 use Rattle.cbm_iec.specs.Hearing.{with_bit}
 use Rattle.cbm_iec.specs.Ports.{change_at}
 use Rattle.cbm_iec.specs.declared.line.Change.{Change}

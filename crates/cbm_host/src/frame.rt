@@ -52,7 +52,8 @@ impl Frame {
             Frame::Starting { at, .. } | Frame::Hiding { at, .. } => (at, Line::Clock, Way::Pull),
             Frame::Setting { at, bits } => (at, Line::Data, bits.toggle()),
             Frame::Clearing(at) => (at, Line::Data, Way::Free),
-            Frame::Ready { .. } | Frame::EoiSent(_) | Frame::EoiHeard(_) | Frame::Sent => return None,
+            Frame::Ready { .. } | Frame::EoiSent(_) | Frame::EoiHeard(_) | Frame::Sent =>
+                return None,
         };
         Some(Change { moment, line, way })
     }

@@ -123,11 +123,7 @@ impl<'a> Performer<'a> {
     }
 
     /// What comes up to a moment, where the host does nothing else than what it has handed on.
-    fn ask<D: Machine, const N: usize>(
-        &mut self,
-        bus: &mut Bus<D, N>,
-        upto: u64,
-    ) -> Option<Event>
+    fn ask<D: Machine, const N: usize>(&mut self, bus: &mut Bus<D, N>, upto: u64) -> Option<Event>
         requires { upto ≤ self.old.limit }
         ensures come { (n : ℕ) (ss : List (Station D.State)) (es : List Event) →
             IsGoing _ D.State D.stands D.step D.says self.old bus.old n ss es → MatchOption result
@@ -175,11 +171,7 @@ impl<'a> Performer<'a> {
     }
 
     /// What the drive does before a moment, or what the host does then where it does nothing.
-    fn wait<D: Machine, const N: usize>(
-        &mut self,
-        bus: &mut Bus<D, N>,
-        until: u64,
-    ) -> Option<Event>
+    fn wait<D: Machine, const N: usize>(&mut self, bus: &mut Bus<D, N>, until: u64) -> Option<Event>
         requires limit { until ≤ self.old.limit }
         requires due { engine_due self.old.engine ≡ Waits until }
         ensures come { (n : ℕ) (ss : List (Station D.State)) (es : List Event) →

@@ -118,7 +118,8 @@ impl Pulls {
                 clock_low: false,
                 data_low,
             } => Some(Pulls::PullClock { data_low }),
-            Pulls::PullAtn { data_low: true, .. } | Pulls::PullClock { data_low: true } => Some(Pulls::FreeData),
+            Pulls::PullAtn { data_low: true, .. } => Some(Pulls::FreeData),
+            Pulls::PullClock { data_low: true } => Some(Pulls::FreeData),
             Pulls::PullAtn { .. } | Pulls::PullClock { .. } | Pulls::FreeData => None,
         }
     }
@@ -159,9 +160,7 @@ impl Release {
                 release: Release::ClockToTalker,
             },
             Release::ClockToTalker => Stage::Turning(moment + SILENCE),
-            Release::DataToSilent => {
-                Stage::leave(moment + ANSWER, UNTALK, false, false)
-            }
+            Release::DataToSilent => { Stage::leave(moment + ANSWER, UNTALK, false, false) }
         }
     }
 }
