@@ -97,6 +97,7 @@ impl Player {
             (IsStill _ D.State D.stands D.step D.says self.old self.new bus.old bus.new upto a.stations)
             (HasGiven _ D.State D.stands D.step D.says self.new bus.new upto n ss es) }
         ensures turn { IfSome result (λ e. IsTurnOf e.who e.change self.old.waiting self.new.waiting) }
+        ensures taken { self.new.taken ≡ self.old.taken }
     {
         if let Some(event) = self.second {
             if event.change.moment > upto {
@@ -134,6 +135,7 @@ impl Player {
             IsAfter _ D.State D.stands D.step D.says self.old bus.old n ss es →
             IfSome result (HasGiven _ D.State D.stands D.step D.says self.new bus.new change.moment n ss es) × IsSome result }
         ensures turn { IfSome result (λ e. IsTurnOf e.who e.change self.old.waiting self.new.waiting) }
+        ensures taken { self.new.taken ≡ self.old.taken }
     {
         if let Some((moment, answer)) = bus.first_shown(change.moment) {
             return self.give(moment, &answer);
@@ -161,6 +163,7 @@ impl Player {
             (IsStill _ D.State D.stands D.step D.says self.old self.new bus.old bus.new upto a.stations)
             (HasGiven _ D.State D.stands D.step D.says self.new bus.new upto n ss es) }
         ensures turn { IfSome result (λ e. IsTurnOf e.who e.change self.old.waiting self.new.waiting) }
+        ensures taken { self.new.taken ≡ self.old.taken }
     {
         if !bus.shows_before(upto + 1) {
             return None;
@@ -179,6 +182,7 @@ impl Player {
         ensures drive { IfSome result (λ e. e.who ≡ Drive answer.now.device) }
         ensures from { self.new.from ≡ moment + 1 }
         ensures waiting { self.new.waiting ≡ self.old.waiting }
+        ensures taken { self.new.taken ≡ self.old.taken }
     {
         let who = Who::Drive(answer.device);
         self.from = moment + 1;
