@@ -61,8 +61,8 @@ const LISTEN: [(Who, u64, Line, Way); 28] = [
 
 #[test]
 fn listen_has_its_moments(rt: HostRuntime) -> Result<(), Fail> {
-    let mut wired = Wired::new(rt.alloc(), 20)?;
-    let done = wired.asks(rt.alloc(), Request::Close(1))?;
+    let mut wired = Wired::new(&rt, rt.alloc(), 20)?;
+    let done = wired.asks(&rt, rt.alloc(), Request::Close(1))?;
     happen(&rt, wired.events.as_slice(), 0, &LISTEN);
     happen(
         &rt,
@@ -121,8 +121,8 @@ fn place_of(events: &[Event], moment: u64) -> usize {
 
 #[test]
 fn talk_has_its_moments(rt: HostRuntime) -> Result<(), Fail> {
-    let mut wired = Wired::new(rt.alloc(), 20)?;
-    wired.asks(rt.alloc(), Request::Status)?;
+    let mut wired = Wired::new(&rt, rt.alloc(), 20)?;
+    wired.asks(&rt, rt.alloc(), Request::Status)?;
     let events = wired.events.as_slice();
     happen(&rt, events, place_of(events, 2020), &TALK);
     happen(
@@ -141,8 +141,8 @@ fn talk_has_its_moments(rt: HostRuntime) -> Result<(), Fail> {
 // A closed channel has nothing to say: the drive only frees DATA.
 #[test]
 fn nothing_to_say_has_its_moments(rt: HostRuntime) -> Result<(), Fail> {
-    let mut wired = Wired::new(rt.alloc(), 20)?;
-    let done = wired.asks(rt.alloc(), Request::Get(0, 1))?;
+    let mut wired = Wired::new(&rt, rt.alloc(), 20)?;
+    let done = wired.asks(&rt, rt.alloc(), Request::Get(0, 1))?;
     let events = wired.events.as_slice();
     happen(
         &rt,
@@ -177,8 +177,8 @@ fn nothing_to_say_has_its_moments(rt: HostRuntime) -> Result<(), Fail> {
 // A byte with EOI to a listener: the drive's pulse is from 200 to 260 and its reaction behind DATA's release.
 #[test]
 fn eoi_has_its_moments(rt: HostRuntime) -> Result<(), Fail> {
-    let mut wired = Wired::new(rt.alloc(), 20)?;
-    wired.asks(rt.alloc(), Request::Put(15, b"I"))?;
+    let mut wired = Wired::new(&rt, rt.alloc(), 20)?;
+    wired.asks(&rt, rt.alloc(), Request::Put(15, b"I"))?;
     let events = wired.events.as_slice();
     happen(
         &rt,

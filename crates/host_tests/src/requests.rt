@@ -1,5 +1,8 @@
 // Requests over the wires: what the drive says, and the disk behind them.
 
+ghost use Rattle.std.specs.Prelude.{◌≤◌};
+ghost use Rattle.cbm_host.specs.Engines.{channel_of};
+
 use crate::wired::{Wired, empty_disk};
 use cbm_channel::Dos;
 use cbm_host::Request;
@@ -31,8 +34,10 @@ fn answers(
     request: Request,
     bytes: &[u8],
     last: bool,
-) -> Result<(), Fail> {
-    let done = wired.asks(alloc, request)?;
+) -> Result<(), Fail>
+    requires { channel_of request ≤ 15 }
+{
+    let done = wired.asks(rt, alloc, request)?;
     assert!(rt; done.bytes.as_slice() == bytes);
     assert!(rt; done.last == last);
     Ok(())
@@ -40,7 +45,7 @@ fn answers(
 
 #[test]
 fn the_status_is_read_twice(rt: HostRuntime) -> Result<(), Fail> {
-    let mut wired = Wired::new(rt.alloc(), 20)?;
+    let mut wired = Wired::new(&rt, rt.alloc(), 20)?;
     answers(&rt, rt.alloc(), &mut wired, Request::Status, POWER_UP, true)?;
     answers(&rt, rt.alloc(), &mut wired, Request::Status, OK, true)
 }
@@ -49,7 +54,7 @@ fn the_status_is_read_twice(rt: HostRuntime) -> Result<(), Fail> {
 #[test]
 fn a_program_is_written_and_read(rt: HostRuntime) -> Result<(), Fail> {
     for reaction in [1, 19, 20, 21, 60] {
-        let mut wired = Wired::new(rt.alloc(), reaction)?;
+        let mut wired = Wired::new(&rt, rt.alloc(), reaction)?;
         answers(
             &rt,
             rt.alloc(),
@@ -92,7 +97,7 @@ fn a_program_is_written_and_read(rt: HostRuntime) -> Result<(), Fail> {
 // A byte that wasn't asked for comes with the next request, and a file that was read has nothing more to say.
 #[test]
 fn a_program_is_read_in_pieces(rt: HostRuntime) -> Result<(), Fail> {
-    let mut wired = Wired::new(rt.alloc(), 20)?;
+    let mut wired = Wired::new(&rt, rt.alloc(), 20)?;
     answers(&rt, rt.alloc(), &mut wired, Request::Get(0, 3), &[], false)?;
     answers(&rt, rt.alloc(), &mut wired, Request::Status, NOT_OPEN, true)?;
     answers(
@@ -139,12 +144,12 @@ fn the_disk_is_as_the_calls_leave_it(rt: HostRuntime) -> Result<(), Fail> {
     for byte in 0..600u16 {
         bytes.push((byte % 251) as u8)?;
     }
-    let mut wired = Wired::new(rt.alloc(), 20)?;
-    wired.asks(rt.alloc(), Request::Open(2, b"DATA,S,W"))?;
-    wired.asks(rt.alloc(), Request::Put(2, bytes.as_slice()))?;
-    wired.asks(rt.alloc(), Request::Close(2))?;
-    wired.asks(rt.alloc(), Request::Put(15, b"R0:NEW=DATA"))?;
-    wired.asks(rt.alloc(), Request::Open(2, b"NEW"))?;
+    let mut wired = Wired::new(&rt, rt.alloc(), 20)?;
+    wired.asks(&rt, rt.alloc(), Request::Open(2, b"DATA,S,W"))?;
+    wired.asks(&rt, rt.alloc(), Request::Put(2, bytes.as_slice()))?;
+    wired.asks(&rt, rt.alloc(), Request::Close(2))?;
+    wired.asks(&rt, rt.alloc(), Request::Put(15, b"R0:NEW=DATA"))?;
+    wired.asks(&rt, rt.alloc(), Request::Open(2, b"NEW"))?;
     answers(
         &rt,
         rt.alloc(),

@@ -5,6 +5,7 @@ use cbm_d64::D64Disk;
 use cbm_drive::{Bus, Desk, Drive, Event, Party};
 use cbm_host::{Done, Request, perform};
 use std::alloc::Global;
+use std::process::Abort;
 use std::test::Fail;
 use test_images::empty_image;
 
@@ -24,8 +25,12 @@ pub struct Wired {
 }
 
 impl Wired {
+    ghost use Rattle.std.specs.Prelude.{◌≤◌};
+    ghost use Rattle.cbm_host.specs.Engines.{channel_of};
+
     /// Switched on, with this reaction; its first request comes at 1000.
-    pub fn new(alloc: Global, reaction: u8) -> Result<Wired, Fail> {
+    pub fn new(rt: &impl Abort, alloc: Global, reaction: u8) -> Result<Wired, Fail> {
+        assert!(rt; reaction > 0);
         let dos = Dos::new(empty_disk(alloc)?);
         let device = 8;
         let party = Party { device, reaction };
@@ -39,7 +44,10 @@ impl Wired {
     }
 
     /// Carries out a request, and goes on where it ends.
-    pub fn asks(&mut self, alloc: Global, request: Request) -> Result<Done, Fail> {
+    pub fn asks(&mut self, rt: &impl Abort, alloc: Global, request: Request) -> Result<Done, Fail>
+        requires { channel_of request ≤ 15 }
+    {
+        assert!(rt; self.now < 1_000_000_000_000);
         let done = perform(alloc, &mut self.bus, self.now, 8, request, &mut self.events)?;
         self.now = done.end;
         Ok(done)
