@@ -51,7 +51,7 @@ first_at c t (x ∷ cs) more rest l a n = let m = a.0 in inr (omega (arith, l, m
 
 module _ (M : Type 0) (step : M → Act → M) (peek : M → Option (ℕ × Bool)) (place : ℕ → ℕ) where
   -- what all have to say at a play's beginning are bytes
-  bytes_first : {n n2 : ℕ} {ss ss2 : List (Station M)} {es : List Event} → Plays M step peek n ss es n2 ss2 → AllBytes M step peek ss
+  pub bytes_first : {n n2 : ℕ} {ss ss2 : List (Station M)} {es : List Event} → Plays M step peek n ss es n2 ss2 → AllBytes M step peek ss
   bytes_first (stays y e k f) = y
   bytes_first (change c more y l i e f) = y
   bytes_first (reaction t b o h more y e i k f) = y

@@ -64,7 +64,7 @@ upto_drives (h ∷ hs) ds (x ∷ front) s others a e w =
     let k = upto_drives hs ds front s others a tail w in
     (k.0, (ap (λ (l : List Step). h ∷ l) k.1.0 ∙ ap (λ (v : Step). v ∷ (front ++ s ∷ k.0)) same, k.1.1))
 
-not_host : (d : ℕ) → Drive d ≡ Host → ⊥
+pub not_host : (d : ℕ) → Drive d ≡ Host → ⊥
 not_host d e = cc
 
 releases_of : (hs : List Seat) (f : Sent) → Every OfDrive (releases hs f)
@@ -129,7 +129,7 @@ whole_upto held pull cs pre s post h e = in_it pre (cells_whole held pull cs) e 
 abbrev pub sent_at : Sent → ℕ → List Cell → Sent
 sent_at f start cells = record { ready = f.ready; start = start; cells = cells }
 
-too_long : (front : List Step) (y : Step) (ys : List Step) (more : List Event) → events_of front ≡ events_of (front ++ y ∷ ys) ++ more → ⊥
+pub too_long : (front : List Step) (y : Step) (ys : List Step) (more : List Event) → events_of front ≡ events_of (front ++ y ∷ ys) ++ more → ⊥
 too_long [] y ys more e = cc
 too_long (x ∷ front) y ys more e = let tail : events_of front ≡ events_of (front ++ y ∷ ys) ++ more = cc in too_long front y ys more tail
 

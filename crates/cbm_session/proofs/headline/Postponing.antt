@@ -13,6 +13,7 @@ use Rattle.cbm_iec.specs.declared.port.Side.{Side}
 use Rattle.cbm_session.proofs.among.Calm.{Every}
 use Rattle.cbm_session.proofs.among.Fronts.{steps_order}
 use Rattle.cbm_session.proofs.among.Pulls.{pull_host, pull_steps}
+use Rattle.cbm_session.proofs.headline.AdoptParts.{bytes_first}
 use Rattle.cbm_session.proofs.headline.Adopting.{PullsAt, pulls_at}
 use Rattle.cbm_session.proofs.headline.BusActs.{AllRan}
 use Rattle.cbm_session.proofs.headline.CutHost.{hosts_of}
@@ -33,7 +34,7 @@ use Rattle.cbm_session.specs.Among.{Rest}
 use Rattle.cbm_session.specs.Answers.{Allowed, PieceAnswers, IsAnswer, RunEach, run_each}
 use Rattle.cbm_session.specs.Frames.{is_last}
 use Rattle.cbm_session.specs.Pieces.{Whole, Piece, Place, Point, host_part, own_part, steps_of, before, piece_steps, Fits, PieceFits, whole_point, point_after, Full, Cut, PullPiece, Command, Byte, ToListener, ToNobody, ToTalker, Nothing, Talk, Open, Commanding, Listening, Leading, Cutting}
-use Rattle.cbm_session.specs.Playing.{Station, Plays, stays, change, reaction, AllBytes, IsMachine}
+use Rattle.cbm_session.specs.Playing.{Station, Plays, IsMachine}
 use Rattle.cbm_session.specs.Seats.{Seat, talker_of}
 use Rattle.cbm_session.specs.Sessions.{Linked, session_steps}
 use Rattle.cbm_session.specs.Steps.{Step, moment_of, events_of, host, for_each, merge_all}
@@ -79,11 +80,6 @@ module _ (M : Type 0) (step : M → Act → M) (peek : M → Option (ℕ × Bool
         | inr u ↦ starts_due at t u.0 s u.1 k
       ]
   pulled_bounds at t ys (s ∷ ss) (e ∷ fin) a (inr d) = pulled_bounds at t ys ss fin a.1 d
-
-  bytes_first : {n n2 : ℕ} {ss ss2 : List (Station M)} {es : List Event} → Plays M step peek n ss es n2 ss2 → AllBytes M step peek ss
-  bytes_first (stays y e k f) = y
-  bytes_first (change c more y l i e f) = y
-  bytes_first (reaction t b o h more y e i k f) = y
 
   -- a pull at this point isn't the one that a cut has at once
   abbrev NotCut : Point → List Event → Type 0
@@ -222,7 +218,7 @@ module _ (M : Type 0) (step : M → Act → M) (peek : M → Option (ℕ × Bool
           let whose = devs_are M step peek mute place (point_after p k) (point_after p k).seats b.there b.stand ∙ devices_behind p k ∙ sym (devs_are M step peek mute place p p.seats xs here.stand) in
           before_off M step peek place machine p ms xs here plays t due w (cut_talks p c w fits.1) fits.0 answer (subst (λ (v : ℕ). Rattle.cbm_session.specs.Pieces.CutFits p w v) at fits.1)
           (ap (λ (v : ℕ). events_of (before v (steps_of p w))) (sym at) ∙ sym (append-nil (events_of (before c (steps_of p w)))) ∙ ap (λ (l : List Event). events_of (before c (steps_of p w)) ++ l) (sym none) ∙ sym b.shown_so)
-          b.there whose (subst (λ (v : ℕ). AllRan M step peek ms (before v (steps_of p w)) b.there) at (b.ran.runs ms [] here.ran)) (bytes_first b.plays)
+          b.there whose (subst (λ (v : ℕ). AllRan M step peek ms (before v (steps_of p w)) b.there) at (b.ran.runs ms [] here.ran)) (bytes_first M step peek place b.plays)
 
       -- under way before the cut
       cut_inside : IsAnswer M step peek (ms (talker_of p.seats).device) w → before c (steps_of p w) ++ session_steps (point_after p (Cut w c)) ks ≡ done ++ s ∷ more → Inside M step peek place xs (before c (steps_of p w)) es ss2 → Continues M step peek p ms es (suc t)

@@ -4,14 +4,14 @@ use Rattle.std.specs.Prelude.{if◌then◌else◌}
 use Rattle.cbm_iec.specs.declared.act.Act.{Act}
 use Rattle.cbm_iec.specs.declared.act.Act.TheVariants.{Said}
 use Rattle.cbm_iec.specs.declared.event.Event.{Event}
-use Rattle.cbm_iec.specs.declared.event.Who.TheVariants.{Host, Drive}
+use Rattle.cbm_iec.specs.declared.event.Who.TheVariants.{Host}
 use Rattle.cbm_iec.specs.declared.line.Line.TheVariants.{Clock, Data}
 use Rattle.cbm_iec.specs.declared.line.Way.TheVariants.{Pull, Free}
 use Rattle.cbm_iec.specs.declared.party.Party.{Party}
 use Rattle.cbm_session.proofs.among.Fronts.{steps_order}
 use Rattle.cbm_session.proofs.headline.EndingTalk.{order_rest}
 use Rattle.cbm_session.proofs.headline.FrameBus.{twin_self}
-use Rattle.cbm_session.proofs.headline.FrameLater.{OfDrive}
+use Rattle.cbm_session.proofs.headline.FrameLater.{OfDrive, too_long, not_host}
 use Rattle.cbm_session.proofs.headline.Here.{Here, Out, talkers_out, the_seat}
 use Rattle.cbm_session.proofs.headline.Keeping.{events_append}
 use Rattle.cbm_session.proofs.headline.Meeting.{Compat}
@@ -48,16 +48,13 @@ strict_behind : (xs ys : List Step) → Every OfDrive xs → Strict ys → Stric
 strict_behind [] ys a s = s
 strict_behind (x ∷ xs) ys a s = (λ w. absurd (a.0 w), strict_behind xs ys a.1 s)
 
-no_host : (d : ℕ) → Drive d ≡ Host → ⊥
-no_host d e = cc
-
 bits_of_drive : (b : Party) (at : ℕ) (held : Bool) (bits : List Bool) → Every OfDrive (bit_steps b at held bits)
-bits_of_drive b at true [] = (no_host b.device, (no_host b.device, tt))
-bits_of_drive b at false [] = (no_host b.device, tt)
-bits_of_drive b at true (true ∷ bits) = (no_host b.device, (no_host b.device, (no_host b.device, bits_of_drive b (at + 120) false bits)))
-bits_of_drive b at false (true ∷ bits) = (no_host b.device, (no_host b.device, bits_of_drive b (at + 120) false bits))
-bits_of_drive b at true (false ∷ bits) = (no_host b.device, (no_host b.device, bits_of_drive b (at + 120) true bits))
-bits_of_drive b at false (false ∷ bits) = (no_host b.device, (no_host b.device, (no_host b.device, bits_of_drive b (at + 120) true bits)))
+bits_of_drive b at true [] = (not_host b.device, (not_host b.device, tt))
+bits_of_drive b at false [] = (not_host b.device, tt)
+bits_of_drive b at true (true ∷ bits) = (not_host b.device, (not_host b.device, (not_host b.device, bits_of_drive b (at + 120) false bits)))
+bits_of_drive b at false (true ∷ bits) = (not_host b.device, (not_host b.device, bits_of_drive b (at + 120) false bits))
+bits_of_drive b at true (false ∷ bits) = (not_host b.device, (not_host b.device, bits_of_drive b (at + 120) true bits))
+bits_of_drive b at false (false ∷ bits) = (not_host b.device, (not_host b.device, (not_host b.device, bits_of_drive b (at + 120) true bits)))
 
 -- the bits begin with the first one's pull of CLOCK
 bits_from : (b : Party) (at m : ℕ) (bits : List Bool) (more : List Step) → InOrder (bit_steps b at false bits ++ more) → m ≤ at → NoneBefore m (bit_steps b at false bits ++ more)
@@ -66,7 +63,7 @@ bits_from b at m (true ∷ bits) more o l = (l, none_sooner m at (drive b.device
 bits_from b at m (false ∷ bits) more o l = (l, none_sooner m at (drive b.device at Data Pull ∷ drive b.device (at + 60) Clock Free ∷ (bit_steps b (at + 120) true bits ++ more)) l o.0)
 
 told_strict : (b : Party) (at : ℕ) (f : Told) → ToldFits b at f → 1 ≤ b.reaction → InOrder (one_told b at f) → Strict (one_told b at f)
-told_strict b at f h some order = (λ w. absurd (no_host b.device w), by_signal f.signal refl h.signal order.1)
+told_strict b at f h some order = (λ w. absurd (not_host b.device w), by_signal f.signal refl h.signal order.1)
   where
     accept : Step
     accept = for_one b.device (Said (number_of f.bits) (is_last f)) (host f.accept Data Pull)
@@ -78,7 +75,7 @@ told_strict b at f h some order = (λ w. absurd (no_host b.device w), by_signal 
     accepted = go (is_last f)
       where
         go : (v : Bool) → Strict (for_one b.device (Said (number_of f.bits) (is_last f)) (host f.accept Data Pull) ∷ (if v then drive b.device (f.accept + b.reaction) Clock Free ∷ [] else []))
-        go true = (λ w. (refl, (omega (arith, some), tt)), (λ w. absurd (no_host b.device w), tt))
+        go true = (λ w. (refl, (omega (arith, some), tt)), (λ w. absurd (not_host b.device w), tt))
         go false = (λ w. (refl, tt), tt)
 
     bits : (first : ℕ) → Strict (bit_steps b first false f.bits ++ for_one b.device (Said (number_of f.bits) (is_last f)) (host f.accept Data Pull) ∷ (if is_last f then drive b.device (f.accept + b.reaction) Clock Free ∷ [] else []))
@@ -106,10 +103,6 @@ told_strict b at f h some order = (λ w. absurd (no_host b.device w), by_signal 
         )
 
 module _ (M : Type 0) (step : M → Act → M) (peek : M → Option (ℕ × Bool)) (place : ℕ → ℕ) (p : Point) (ms : ℕ → M) (xs : List (Station M)) (here : Here M step peek place p ms xs) {n n2 : ℕ} {ss2 : List (Station M)} {es : List Event} (plays : Plays M step peek n xs es n2 ss2) (t : ℕ) (due : SomeDue M step peek t ss2) where
-  too_long : (front : List Step) (y : Step) (ys : List Step) (more : List Event) → events_of front ≡ events_of (front ++ y ∷ ys) ++ more → ⊥
-  too_long [] y ys more e = cc
-  too_long (x ∷ front) y ys more e = let tail : events_of front ≡ events_of (front ++ y ∷ ys) ++ more = cc in too_long front y ys more tail
-
   pub talk_never : (at : ℕ) (f : Told) → Fits p (Talk at f) → IsAnswer M step peek (ms (talker_of p.seats).device) (Talk at f) → (front : List Step) (s : Step) (others : List Step) → steps_of p (Talk at f) ≡ front ++ s ∷ others → events_of front ≡ es → s.event.who ≡ Host → moment_of s ≡ t → ⊥
   talk_never at f fits answer front s others is shown who now = by_out (talkers_out M step peek place p ms xs here (Talk at f) None tt fits answer plays (events_of (s ∷ others)) meets)
     where
