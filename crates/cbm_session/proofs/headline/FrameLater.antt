@@ -13,7 +13,8 @@ use Rattle.cbm_session.proofs.frames.Accepted.{listen_react}
 use Rattle.cbm_session.proofs.frames.Phases.{each, ReactsBy, react_by, commands_go_in_parts, bytes_go_in_parts, none_joined}
 use Rattle.cbm_session.proofs.headline.FrameBus.{OfFrame, command_frame, byte_frame, each_seat}
 use Rattle.cbm_session.proofs.headline.FrameStarts.{offer, offer_due}
-use Rattle.cbm_session.proofs.headline.Here.{IsHosts, Here, hosts_out}
+use Rattle.cbm_session.proofs.headline.AlongBus.{AllGo}
+use Rattle.cbm_session.proofs.headline.Here.{Out, IsHosts, Here, hosts_out}
 use Rattle.cbm_session.proofs.headline.Keeping.{events_append}
 use Rattle.cbm_session.proofs.headline.LaterCells.{fresh, fresh_length, fresh_fits, cells_whole, later_cells, behind_data}
 use Rattle.cbm_session.proofs.headline.SomeDue.{SomeDue, quiet_due, goes_first, data_first}
@@ -22,6 +23,8 @@ use Rattle.cbm_session.proofs.joining.Merging.{NoneBefore}
 use Rattle.cbm_session.proofs.joining.OneDrive.{AllUpTo, cells_upto}
 use Rattle.cbm_session.proofs.reading.OneReading.{is_atn}
 use Rattle.cbm_session.proofs.reading.PieceReadings.{is_commanding}
+use Rattle.cbm_iec.specs.declared.port.Port.{Port}
+use Rattle.cbm_session.specs.Among.{Rest}
 use Rattle.cbm_session.specs.Bits.{Cell, CellsFit, where_held, cells_steps, held_after, last_pull, byte_of}
 use Rattle.cbm_session.specs.Frames.{Sent, wire, quiet, end_of, SentFits, StartFits, pulse}
 use Rattle.cbm_session.specs.Laws.{SeatsReact, releases, pulses, from_start, accepts, frame_in_parts}
@@ -144,35 +147,36 @@ module _ (M : Type 0) (step : M → Act → M) (peek : M → Option (ℕ × Bool
       let quiet = end_quiet M step peek place p m p.seats xs here.stand in
       quiet_due M step peek place t xs quiet (subst (SomeDue M step peek t) (quiet_stays M step peek place plays quiet e) due)
 
-  -- where a frame that begins so goes on later
-  later_never : (w : Whole) → IsHosts w → Fits p w → (front : List Step) (y : Step) (ys : List Step) → steps_of p w ≡ front ++ y ∷ ys → events_of front ≡ es → suc t ≤ moment_of y → ⊥
-  later_never w a fits front y ys is shown late = by_out (hosts_out M step peek place p ms xs here w a fits plays (events_of (y ∷ ys)) [] begins)
+  -- All go on with what is left of a frame that begins so, whichever it is.
+  record GoesNow (y : Step) (ys : List Step) : Type 0 where
+    pub says : ℕ → Option (ℕ × Bool)
+    pub fin : List (Rest × Port)
+    pub goes : AllGo M step peek says place ss2 (y ∷ ys) fin
+
+  goes_now : (w : Whole) → IsHosts w → Fits p w → (front : List Step) (y : Step) (ys : List Step) → steps_of p w ≡ front ++ y ∷ ys → events_of front ≡ es → GoesNow y ys
+  goes_now w a fits front y ys is shown = by_out (hosts_out M step peek place p ms xs here w a fits plays (events_of (y ∷ ys)) [] begins)
     where
       begins : es ++ events_of (y ∷ ys) ≡ events_of (steps_of p w) ++ []
       begins = ap (λ (l : List Event). l ++ events_of (y ∷ ys)) (sym shown) ∙ sym (events_append front (y ∷ ys)) ∙ ap (λ (l : List Step). events_of l) (sym is) ∙ sym (append-nil (events_of (steps_of p w)))
 
-      by_out : Rattle.cbm_session.proofs.headline.Here.Out M step peek place p ms xs here (Full w) es n2 ss2 → ⊥
+      by_out : Out M step peek place p ms xs here (Full w) es n2 ss2 → GoesNow y ys
       by_out (inl i) =
           let same = same_front i.front (i.next ∷ i.others) front (y ∷ ys) (sym i.parts ∙ is) (i.shown_so ∙ sym shown) in
-          let first : i.next ≡ y = (let k = same.1 in cc) in
-          let soon = goes_first M step peek i.going.says place t ss2 i.next i.others i.going.fin i.going.goes due in
-          let at : moment_of i.next ≡ moment_of y = ap (λ (v : Step). moment_of v) first in
-          absurd (omega (arith, soon, late, at))
-      by_out (inr b) = too_long front y ys b.more (shown ∙ b.shown_so ∙ ap (λ (l : List Step). events_of l ++ b.more) is)
+          record { says = i.going.says; fin = i.going.fin; goes = subst (λ (l : List Step). AllGo M step peek i.going.says place ss2 l i.going.fin) same.1 i.going.goes }
+      by_out (inr b) = absurd (too_long front y ys b.more (shown ∙ b.shown_so ∙ ap (λ (l : List Step). events_of l ++ b.more) is))
+
+  -- so none goes on later
+  later_never : (w : Whole) → IsHosts w → Fits p w → (front : List Step) (y : Step) (ys : List Step) → steps_of p w ≡ front ++ y ∷ ys → events_of front ≡ es → suc t ≤ moment_of y → ⊥
+  later_never w a fits front y ys is shown late =
+      let g = goes_now w a fits front y ys is shown in
+      let soon = goes_first M step peek g.says place t ss2 y ys g.fin g.goes due in
+      absurd (omega (arith, soon, late))
 
   -- or with DATA then, and all else later
   data_never : (w : Whole) → IsHosts w → Fits p w → (front : List Step) (s : Step) (others : List Step) → steps_of p w ≡ front ++ s ∷ others → events_of front ≡ es → s.event.who ≡ Host → s.event.change.line ≡ Data → moment_of s ≡ t → NoneBefore (suc t) others → ⊥
-  data_never w a fits front s others is shown who line at late = by_out (hosts_out M step peek place p ms xs here w a fits plays (events_of (s ∷ others)) [] begins)
-    where
-      begins : es ++ events_of (s ∷ others) ≡ events_of (steps_of p w) ++ []
-      begins = ap (λ (l : List Event). l ++ events_of (s ∷ others)) (sym shown) ∙ sym (events_append front (s ∷ others)) ∙ ap (λ (l : List Step). events_of l) (sym is) ∙ sym (append-nil (events_of (steps_of p w)))
-
-      by_out : Rattle.cbm_session.proofs.headline.Here.Out M step peek place p ms xs here (Full w) es n2 ss2 → ⊥
-      by_out (inl i) =
-          let same = same_front i.front (i.next ∷ i.others) front (s ∷ others) (sym i.parts ∙ is) (i.shown_so ∙ sym shown) in
-          let goes = subst (λ (l : List Step). Rattle.cbm_session.proofs.headline.AlongBus.AllGo M step peek i.going.says place ss2 l i.going.fin) same.1 i.going.goes in
-          data_first M step peek i.going.says place t ss2 s others i.going.fin goes who line at late due
-      by_out (inr b) = too_long front s others b.more (shown ∙ b.shown_so ∙ ap (λ (l : List Step). events_of l ++ b.more) is)
+  data_never w a fits front s others is shown who line at late =
+      let g = goes_now w a fits front s others is shown in
+      data_first M step peek g.says place t ss2 s others g.fin g.goes who line at late due
 
   module _ (hs : List Seat) (r : SeatsReact hs) (eoi : Bool) (f : Sent) (sent : SentFits hs eoi f) (w : Sent → Whole) (act : Sent → Act) (hosts : (g : Sent) → IsHosts (w g)) (fits : (start : ℕ) (cells : List Cell) → SentFits hs eoi (sent_at f start cells) → Fits p (w (sent_at f start cells)))
       (parts : (g : Sent) → Fits p (w g) → steps_of p (w g) ≡ frame_in_parts hs eoi (act g) g) (frame : Every OfFrame (steps_of p (w f))) (ends : MayEnd p.place) where
