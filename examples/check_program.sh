@@ -46,6 +46,10 @@ case_of "too few words" 1 "" "$drive" hello.d64
 case_of "help" 1 "" "$drive" --help
 case_of "device 12" 1 "" "$drive" hello.d64 hello.script out.d64 --device 12
 case_of "device 9" 0 "" "$drive" hello.d64 hello.script out.d64 --device 9
+printf 'lines\n0 atn pull\n0 clock pull\nend 30\n' > wires.script
+case_of "a script of line changes" 0 "" "$drive" hello.d64 wires.script out.d64 --device 9
+printf '0 host atn pull\n0 host clock pull\n20 9 data pull\n' > wires.txt
+is "its trace is printed" cmp -s out.txt wires.txt
 case_of "a protected disk" 0 "" "$drive" --read-only hello.d64 hello.script out.d64
 printf 'open 1 SAVED\nput 1 \\01\\08HI\nclose 1\nstatus\n' > save.script
 printf 'open 0 SAVED\nget 0 9\n' > back.script

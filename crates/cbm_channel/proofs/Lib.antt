@@ -30,3 +30,4 @@ pub mod RecordEnds
 pub mod Placings
 pub mod Goings
 pub mod Opens
+pub mod Steady

@@ -1,6 +1,6 @@
 -- A text for records: the record is written, which is made where it isn't there, and the place goes on.
 use Rattle.std.proofs.Common.{◌≡◌, ◌≢◌, ℕ, ◌+◌, ◌-◌, ◌*◌, ◌<◌, ◌≤◌, Bool, true, false, List, [], ◌++◌, length, take, drop, refl, sym, ap, ◌∙◌, subst, arith, inl, inr, ◌⊎◌, Option, Some, None, Result, Ok, Err, IsOk}
-use Rattle.std.specs.Prelude.{if◌then◌else◌, replicate, slice_get, slice_index_or, slice_set, is_some, IfErr, IfOk, IsOkAnd, MatchBool, MatchResult}
+use Rattle.std.specs.Prelude.{if◌then◌else◌, replicate, option_map, slice_get, slice_index_or, slice_set, is_some, IfErr, IfOk, IfSome, IsOkAnd, MatchBool, MatchResult}
 use Rattle.std.proofs.lemmas.Bool.{cases_lt, ne_eqb}
 use Rattle.std.proofs.lemmas.List.{get_or_past, get_or-set_same, get_or-set_other, length-append, length-replicate}
 use Rattle.std.proofs.lemmas.Nat.{div-add-mod', le-div, mod_below}
@@ -14,7 +14,7 @@ use Rattle.cbm_volume.specs.Content.{Content}
 use Rattle.cbm_volume.specs.Growth.{filled_up, with_growth, IsTooLarge, IsGrowthCut}
 use Rattle.cbm_volume.specs.Holding.{HoldsDisk}
 use Rattle.cbm_volume.specs.Opens.{IsHindered}
-use Rattle.cbm_volume.specs.RecordWrites.{new_record, with_record, IsRecordPut, IsRecordCut}
+use Rattle.cbm_volume.specs.RecordWrites.{OfRecords, new_record, with_record, IsRecordPut, IsRecordCut}
 use Rattle.cbm_volume.specs.Writers.{Use, HoldsNow}
 use Rattle.cbm_channel.specs.Placed.{Placed, IsOnRecord, IsPlacedAt}
 use Rattle.cbm_channel.specs.Recorded.{CanPut, CanGrow, disk_grown, blocks_grown, sides_grown, records_grown, IsReadAnew, IsTextStored, IsTextCut}
@@ -116,9 +116,14 @@ grown_there w b s k rs some first =
 -- ---- the place
 
 -- the clause of the write, by the place
-abbrev pub Writes : Seen → Seen → Placed → List ℕ → Result (Option Bool) Trouble → Type 0
-Writes old new r bytes result = (d : Disk) (uses : ℕ → Use) (b s : ℕ) (rs : List (List ℕ)) → CanPut old.tracks old.content d uses r b s rs
-    → MatchResult result (IsRecordPut old.tracks old.content new.content d uses r.slot r.width b s rs r.number r.position bytes) (IsRecordCut old new d uses r.slot r.width b s rs r.number r.position bytes)
+abbrev pub Writes : {A : Type 0} → (A → Bool) → Seen → Seen → Placed → List ℕ → Result (Option A) Trouble → Type 0
+Writes cut old new r bytes result = (d : Disk) (uses : ℕ → Use) (b s : ℕ) (rs : List (List ℕ)) → CanPut old.tracks old.content d uses r b s rs
+    → MatchResult result (λ o. IsRecordPut old.tracks old.content new.content d uses r.slot r.width b s rs r.number r.position bytes (option_map cut o)) (IsRecordCut old new d uses r.slot r.width b s rs r.number r.position bytes)
+
+-- its clause of the record behind
+abbrev pub ReadsOn : {A : Type 0} → (A → Option (List ℕ) → Type 0) → Seen → Seen → Placed → Result (Option A) Trouble → Type 0
+ReadsOn Q old new r result = (d : Disk) (uses : ℕ → Use) (b s : ℕ) (rs : List (List ℕ)) → CanPut old.tracks old.content d uses r b s rs
+    → IfOk result (λ o. IfSome o (λ x. OfRecords new r.slot (λ found. Q x (slice_get found r.number))))
 
 -- the clause of the growth, by the place
 abbrev pub Grows : Seen → Seen → Placed → Result Bool Trouble → Type 0
@@ -242,20 +247,24 @@ module _ (old mid : Seen) (d : Disk) (uses : ℕ → Use) (r : Placed) (b s : �
     can_more = can_then mid more d uses r b s rs can_grow tracks2 grown.0
 
     -- the record that was made is written
-    pub store_more : (new : Seen) (cut : Bool) → Writes more new r bytes (Ok (Some cut)) → IsTextStored old.tracks old.content new.content d uses r b s rs bytes (Some cut)
-    store_more new cut writes =
+    pub store_more : {A : Type 0} (cut : A → Bool) (new : Seen) (x : A) → Writes cut more new r bytes (Ok (Some x)) → IsTextStored old.tracks old.content new.content d uses r b s rs bytes (Some (cut x))
+    store_more cut new x writes =
         let p = writes (disk_grown d r b s rs) uses (blocks_grown r b) (sides_grown r b s) (records_grown r b rs) can_more in
         inr (grown.1, (p.0, p.1, subst (λ (t : ℕ). HoldsNow t new.content (with_record (disk_grown d r b s rs) r.slot r.width (records_grown r b rs) (blocks_grown r b) (sides_grown r b s) r.number (new_record r.width (records_grown r b rs) r.number r.position bytes)) uses) (tracks2 ∙ tracks) p.2))
 
-    pub store_more_cut : (new : Seen) (t : Trouble) → Writes more new r bytes (Err t) → IsTextCut old new d uses r b s rs bytes t
-    store_more_cut new t writes = inr (
+    pub store_more_cut : {A : Type 0} (cut : A → Bool) (new : Seen) (t : Trouble) → Writes cut more new r bytes (Err t) → IsTextCut old new d uses r b s rs bytes t
+    store_more_cut cut new t writes = inr (
       grown.1,
       inr (cut_since old more new (disk_grown d r b s rs) uses r.slot r.width (blocks_grown r b) (sides_grown r b s) r.number r.position (records_grown r b rs) bytes t (tracks2 ∙ tracks) (protected2 ∙ protected) (omega (arith, counted, counted2))
           (writes (disk_grown d r b s rs) uses (blocks_grown r b) (sides_grown r b s) (records_grown r b rs) can_more)),
     )
 
+    -- and the record behind it is read
+    pub store_next : {A : Type 0} (Q : A → Option (List ℕ) → Type 0) (new : Seen) (x : A) → ReadsOn Q more new r (Ok (Some x)) → OfRecords new r.slot (λ found. Q x (slice_get found r.number))
+    store_next Q new x reads = reads (disk_grown d r b s rs) uses (blocks_grown r b) (sides_grown r b s) (records_grown r b rs) can_more
+
     -- it is there
-    pub store_there : (new : Seen) → Writes more new r bytes (Ok None) → ⊥
-    store_there new writes =
+    pub store_there : {A : Type 0} (cut : A → Bool) (new : Seen) → Writes cut more new r bytes (Ok None) → ⊥
+    store_there cut new writes =
         let p = writes (disk_grown d r b s rs) uses (blocks_grown r b) (sides_grown r b s) (records_grown r b rs) can_more in
         let z = sym (grown_there r.width b s r.number rs (omega (arith, can.first, can.inside)) can.number) ∙ ap is_some p.0 in absurd (cc)

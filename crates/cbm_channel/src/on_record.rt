@@ -1,4 +1,4 @@
-ghost use Rattle.std.specs.Prelude.{◌≡◌, ◌≢◌, ◌≤◌, ◌<◌, ◌-◌, ◌^◌, ◌⊎◌, ◌==◌, ℕ, true, false, None, List, length, drop, is_some, slice_index_or, IfOk, IfErr, IsOkAnd, MatchBool};
+ghost use Rattle.std.specs.Prelude.{◌≡◌, ◌≢◌, ◌≤◌, ◌<◌, ◌-◌, ◌^◌, ◌⊎◌, ◌==◌, ℕ, true, false, None, List, length, drop, is_some, option_map, slice_index_or, IfOk, IfErr, IsOkAnd, MatchBool};
 ghost use Rattle.std.specs.List.{list_all};
 ghost use Rattle.cbm_medium.specs.Met.{IsMet};
 ghost use Rattle.cbm_file.specs.Files.{Disk, File, Records, file_at};
@@ -13,7 +13,7 @@ ghost use Rattle.cbm_volume.specs.Writers.{Use, HoldsNow};
 ghost use Rattle.cbm_channel.specs.Placed.{Waits, is_last, is_broken, record_of};
 
 use cbm_medium::codes::ENDLESS_CHAIN;
-use cbm_volume::{Medium, Record, Trouble, Volume};
+use cbm_volume::{Medium, Record, Trouble, Volume, WrittenRecord};
 use std::marker::Model;
 
 /// What waits on a channel that has the records of a relative file open.
@@ -46,7 +46,7 @@ impl Model for OnRecord {
 
     ghost view = { λ r. record { slot = r.slot; width = r.length; number = r.number; position = r.position; waiting = r.waiting } };
 
-    ghost invariant = { λ r. (is_some (record_of r.waiting) ≡ true → r.number ≤ 195072) × (r.number < 2 ^ 24) };
+    ghost invariant = { λ r. (is_some (record_of r.waiting) ≡ true → r.number < 2 ^ 18) × (r.number < 2 ^ 24) };
 }
 
 /// Whether these are only zeros.
@@ -76,6 +76,17 @@ fn byte_at(bytes: &[u8], position: u8) -> u8
     if place < bytes.len() { bytes[place] } else { 0 }
 }
 
+/// What waits where this was read.
+fn waiting_of(read: Option<Record>) -> Waiting
+    ensures same { record_of result ≡ option_map (λ r. r.items) read }
+    ensures whole { is_broken result ≡ false }
+{
+    match read {
+        Some(record) => Waiting::Record(record),
+        None => Waiting::Absent,
+    }
+}
+
 /// What waits at a record of the file in a slot. Errors: why it can't be read.
 fn waiting_at<M: Medium>(volume: &Volume<M>, slot: u8, number: u32) -> Result<Waiting, Trouble>
     requires { number < 2 ^ 24 }
@@ -91,10 +102,7 @@ fn waiting_at<M: Medium>(volume: &Volume<M>, slot: u8, number: u32) -> Result<Wa
     if number == 0 {
         return Ok(Waiting::Absent);
     }
-    match volume.read_record(slot, number)? {
-        Some(record) => Ok(Waiting::Record(record)),
-        None => Ok(Waiting::Absent),
-    }
+    Ok(waiting_of(volume.read_record(slot, number)?))
 }
 
 /// A record that was made isn't there, or the medium holds no disk.
@@ -109,9 +117,9 @@ fn lost_again() -> Trouble
 }
 
 impl OnRecord {
-    ghost use Rattle.std.specs.Prelude.{◌≡◌, ◌≢◌, ◌≤◌, ◌<◌, ◌^◌, ◌⊎◌, ℕ, true, false, List, Some, None, IfOk, IfErr, IfSome, OnOk, OnErr, IsOk, IsOkAnd, MatchBool, MatchResult};
-    ghost use Rattle.cbm_medium.specs.Seen.{OnlyContent};
-    ghost use Rattle.cbm_volume.specs.RecordWrites.{IsRecordPut, IsRecordCut};
+    ghost use Rattle.std.specs.Prelude.{◌≡◌, ◌≢◌, ◌≤◌, ◌<◌, ◌+◌, ◌^◌, ◌⊎◌, ℕ, true, false, List, Some, None, option_map, slice_get, IfOk, IfErr, IfSome, OnOk, OnErr, IsOk, IsOkAnd, MatchBool, MatchResult};
+    ghost use Rattle.cbm_medium.specs.Seen.{Seen, OnlyContent};
+    ghost use Rattle.cbm_volume.specs.RecordWrites.{OfRecords, IsRecordPut, IsRecordCut};
     ghost use Rattle.cbm_volume.specs.Writers.{Use};
     ghost use Rattle.cbm_channel.specs.Going.{KeepsMedium};
     ghost use Rattle.cbm_channel.specs.Recorded.{CanPut, CanGrow, disk_grown, IsTextStored, IsTextCut, IsTextEnded, IsTextStopped};
@@ -207,6 +215,26 @@ impl OnRecord {
         Ok(())
     }
 
+    /// Goes to the next record's first byte, where that record was read already. Errors: why it can't be read; nothing
+    /// waits then.
+    fn go_on(&mut self, next: Result<Option<Record>, Trouble>) -> Result<(), Trouble>
+        requires number { self.old.number ≤ 195072 }
+        requires never_26 { IfErr next (λ t. t.code ≢ 26) }
+        ensures place { IsPlacedAt self.old self.new (self.old.number + 1) 1 }
+        ensures well { (now : Seen) → OfRecords now self.old.slot (λ found.
+            IsOkAnd next (λ x. option_map (λ y. y.items) x ≡ slice_get found self.old.number)) →
+            (d : Disk) (f : File) (b s : ℕ) (rs : List (List ℕ)) → HoldsDisk now.tracks now.content d →
+            file_at d self.old.slot ≡ Some f → f.closed ≡ true → f.body ≡ Records self.old.width rs b s →
+            IsOk result × IsOnRecord d self.new }
+        ensures never_26 { IfErr result (λ t. t.code ≢ 26) }
+    {
+        self.number += 1;
+        self.position = 1;
+        self.waiting = Waiting::Broken;
+        self.waiting = waiting_of(next?);
+        Ok(())
+    }
+
     /// The byte that waits was taken: the next one of the record waits, or the next record's first one. Where no record
     /// waits nothing happens. Errors: why the next record can't be read, of which nothing waits then.
     pub(crate) fn taken<M: Medium>(&mut self, volume: &Volume<M>) -> Result<(), Trouble>
@@ -233,15 +261,22 @@ impl OnRecord {
         &self,
         volume: &mut Volume<M>,
         bytes: &[u8],
-    ) -> Result<Option<bool>, Trouble>
+    ) -> Result<Option<WrittenRecord>, Trouble>
         ensures put { let old = M.seen volume.old in let new = M.seen volume.new in let r = self.now in
             (d : Disk) (uses : ℕ → Use) (b s : ℕ) (rs : List (List ℕ)) →
             CanPut old.tracks old.content d uses r b s rs →
             MatchResult result
-            (IsRecordPut old.tracks old.content new.content d uses r.slot r.width b s rs r.number r.position bytes.now)
+            (λ o. IsRecordPut old.tracks old.content new.content d uses r.slot r.width b s rs r.number r.position bytes.now
+            (option_map (λ x. x.cut) o))
             (IsRecordCut old new d uses r.slot r.width b s rs r.number r.position bytes.now) }
-        ensures few { IfOk result (λ o. IfSome o (λ cut. self.now.number ≤ 195072)) }
-        ensures allowed { IfOk result (λ o. IfSome o (λ cut. (M.seen volume.old).protected ≡ false)) }
+        ensures next { let old = M.seen volume.old in let new = M.seen volume.new in let r = self.now in
+            (d : Disk) (uses : ℕ → Use) (b s : ℕ) (rs : List (List ℕ)) →
+            CanPut old.tracks old.content d uses r b s rs →
+            IfOk result (λ o. IfSome o (λ x. OfRecords new r.slot (λ found.
+            IsOkAnd x.next (λ y. option_map (λ z. z.items) y ≡ slice_get found r.number)))) }
+        ensures next_never_26 { IfOk result (λ o. IfSome o (λ x. IfErr x.next (λ t. t.code ≢ 26))) }
+        ensures few { IfOk result (λ o. IfSome o (λ x. self.now.number ≤ 195072)) }
+        ensures allowed { IfOk result (λ o. IfSome o (λ x. (M.seen volume.old).protected ≡ false)) }
         ensures kept { IfOk result (λ o. o ≡ None → (M.seen volume.new).content ≡ (M.seen volume.old).content) }
         ensures guarded { (M.seen volume.old).protected ≡ true →
             (M.seen volume.new).content ≡ (M.seen volume.old).content }
@@ -284,29 +319,36 @@ impl OnRecord {
         &self,
         volume: &mut Volume<M>,
         bytes: &[u8],
-    ) -> Result<Option<bool>, Trouble>
+    ) -> Result<Option<WrittenRecord>, Trouble>
         ensures put { let old = M.seen volume.old in let new = M.seen volume.new in
             (d : Disk) (uses : ℕ → Use) (b s : ℕ) (rs : List (List ℕ)) →
             CanPut old.tracks old.content d uses self.now b s rs →
             MatchResult result
-            (IsTextStored old.tracks old.content new.content d uses self.now b s rs bytes.now)
+            (λ o. IsTextStored old.tracks old.content new.content d uses self.now b s rs bytes.now
+            (option_map (λ x. x.cut) o))
             (IsTextCut old new d uses self.now b s rs bytes.now) }
-        ensures few { IfOk result (λ o. IfSome o (λ cut. self.now.number ≤ 195072)) }
-        ensures allowed { IfOk result (λ o. IfSome o (λ cut. (M.seen volume.old).protected ≡ false)) }
+        ensures next { let old = M.seen volume.old in let new = M.seen volume.new in let r = self.now in
+            (d : Disk) (uses : ℕ → Use) (b s : ℕ) (rs : List (List ℕ)) →
+            CanPut old.tracks old.content d uses r b s rs →
+            IfOk result (λ o. IfSome o (λ x. OfRecords new r.slot (λ found.
+            IsOkAnd x.next (λ y. option_map (λ z. z.items) y ≡ slice_get found r.number)))) }
+        ensures next_never_26 { IfOk result (λ o. IfSome o (λ x. IfErr x.next (λ t. t.code ≢ 26))) }
+        ensures few { IfOk result (λ o. IfSome o (λ x. self.now.number ≤ 195072)) }
+        ensures allowed { IfOk result (λ o. IfSome o (λ x. (M.seen volume.old).protected ≡ false)) }
         ensures kept { IfOk result (λ o. o ≡ None → (M.seen volume.new).content ≡ (M.seen volume.old).content) }
         ensures guarded { (M.seen volume.old).protected ≡ true →
             (M.seen volume.new).content ≡ (M.seen volume.old).content }
         ensures protection { IfErr result (λ t. t.code ≡ 26 → (M.seen volume.old).protected ≡ true) }
         ensures medium { KeepsMedium (M.seen volume.old) (M.seen volume.new) }
     {
-        if let Some(cut) = self.write(volume, bytes)? {
-            return Ok(Some(cut));
+        if let Some(written) = self.write(volume, bytes)? {
+            return Ok(Some(written));
         }
         if !self.grow(volume)? {
             return Ok(None);
         }
         match self.write(volume, bytes)? {
-            Some(cut) => Ok(Some(cut)),
+            Some(written) => Ok(Some(written)),
             None => Err(lost_again()),
         }
     }
@@ -334,8 +376,9 @@ impl OnRecord {
         ensures medium { KeepsMedium (M.seen volume.old) (M.seen volume.new) }
     {
         match self.store(volume, bytes) {
-            Ok(Some(cut)) => {
-                self.go(volume, self.number + 1, 1)?;
+            Ok(Some(written)) => {
+                let WrittenRecord { cut, next } = written;
+                self.go_on(next)?;
                 Ok(Some(cut))
             }
             Ok(None) => Ok(None),

@@ -24,8 +24,8 @@ use Rattle.cbm_session.specs.Following.{IsInTime}
 use Rattle.cbm_session.specs.Playing.{Station, IsLaterDue, AllInTime, react, shown, hear_all, reacting}
 use Rattle.cbm_drive.proofs.Firsts.{some_same}
 use Rattle.cbm_drive.proofs.Heard.{no_items, same_map}
-use Rattle.cbm_drive.proofs.Reacted.{stations_in_time, changes_at}
-use Rattle.cbm_drive.specs.Reactions.{AreAt, HasReacted}
+use Rattle.cbm_drive.proofs.Reacted.{stations_in_time}
+use Rattle.cbm_drive.specs.Reactions.{HasReacted}
 use Rattle.cbm_drive.specs.Seats.{Seated, IsBusAt, AreInTime, held_by}
 use Rattle.cbm_drive.specs.Silence.{Foreseen, quiet, shows, passes, Foretold, idle, seen, over, AnyShows, AreSilent}
 
@@ -133,11 +133,11 @@ module _ (M : Type 0) (step : M → Act → M) (says : M → Option (ℕ × Bool
       foreseen limit s.rest s.machine answer s.port.party s.port.role s.port.own s.port.others s.port.side (subst (λ (q : Port). Foretold limit (says s.machine) answer q) e (subst (λ (o : Option (ℕ × Bool)). Foretold limit o answer p) f h))
 
   -- one more drive is looked at
-  pub any_more : (limit : ℕ) (s : Station M) (ss : List (Station M)) (one rest : Bool) → Foreseen M step says limit one s → MatchBool rest (AnyShows M step says limit ss) (AreSilent M step says limit ss)
+  pub any_more : (limit : ℕ) (s : Station M) (ss : List (Station M)) (one rest : Bool) → Foretold limit (says s.machine) one s.port → Foreseen M step says limit one s → MatchBool rest (AnyShows M step says limit ss) (AreSilent M step says limit ss)
       → MatchBool (one || rest) (AnyShows M step says limit (s ∷ ss)) (AreSilent M step says limit (s ∷ ss))
-  any_more limit s ss true rest h k = inl h
-  any_more limit s ss false true h k = inr k
-  any_more limit s ss false false h k = (h, k)
+  any_more limit s ss true rest f h k = inl h
+  any_more limit s ss false true f h k = inr k
+  any_more limit s ss false false f h k = (f, h, k)
 
   -- no drive shows anything before a limit before which nothing is due
   none_due : (limit : ℕ) (s : Station M) → IsInTime limit (port_due s.port) → Foreseen M step says limit true s → ⊥
@@ -184,10 +184,3 @@ module _ (D M : Type 0) (stands : D → M → Type 0) (step : M → Act → M) (
 
   pub shows_never : (host : Lines) (limit : ℕ) (xs : List (Seated D)) → AreInTime limit xs → ShowsStill host limit xs → ⊥
   shows_never host limit xs l k = any_due M step says limit k.stations (stations_in_time D M stands step says (held_by host xs) limit xs k.stations k.now l) k.any
-
-  -- all changes of a reaction are of its moment
-  pub reacted_at : (host : Lines) (t device : ℕ) (ys : List (Seated D)) (cs : List Change) (ss : List (Station M)) → HasReacted D M stands step says host t device ys cs ss → AreAt t cs
-  reacted_at host t device ys cs ss r =
-      let was = r.station.port.own in
-      let now = next_held (says r.station.machine) r.station.port in
-      subst (AreAt t) (sym r.changes) (changes_at t was.clock_low now.clock_low was.data_low now.data_low)

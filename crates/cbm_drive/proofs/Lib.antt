@@ -1,5 +1,6 @@
 pub mod Told
 pub mod Firsts
+pub mod Totals
 pub mod Heard
 pub mod Reacted
 pub mod Cables
@@ -11,6 +12,5 @@ pub mod Kept
 pub mod Ordered
 pub mod Ahead
 pub mod Players
-pub mod Steady
 pub mod Desks
 pub mod Handed

@@ -5,13 +5,15 @@ use Rattle.cbm_iec.specs.declared.act.Act.{Act}
 use Rattle.std.specs.Prelude.{◌^◌, IfSome, IsSome, MatchOption}
 use Rattle.cbm_iec.specs.declared.event.Event.{Event}
 use Rattle.cbm_iec.specs.declared.event.Who.TheVariants.{Drive}
+use Rattle.cbm_iec.specs.declared.event.Who.{Who}
 use Rattle.cbm_iec.specs.declared.line.Change.{Change}
 use Rattle.cbm_iec.specs.declared.lines.Lines.{Lines}
 use Rattle.cbm_session.specs.Playing.{Station, Plays, tell, host_event, drive_events}
 use Rattle.cbm_session.proofs.headline.Keeping.{plays_then}
 use Rattle.cbm_drive.specs.Cables.{Cabled}
 use Rattle.cbm_drive.specs.Played.{HasSettled}
-use Rattle.cbm_drive.specs.Players.{Turns, pending, IsWaitingFrom, IsAfter, HasGiven}
+use Rattle.cbm_drive.specs.Players.{Turns, pending, at_most, IsDrives, IsGivenBefore, IsWaitingFrom, from_behind, IsSecond, IsAfter, HasGiven, IsFinished}
+use Rattle.cbm_drive.specs.Progress.{left}
 use Rattle.cbm_drive.specs.Reactions.{AreAt}
 use Rattle.cbm_drive.specs.Seats.{Seated, IsBusAt, AreInTime}
 use Rattle.cbm_drive.proofs.Played.{one_change}
@@ -33,9 +35,32 @@ first_at : (t device : ℕ) (cs : List Change) (e : Event) (more : List Event) �
 first_at t device [] e more h k = absurd (cc)
 first_at t device (c ∷ cs) e more h k = (let same : (record { who = Drive device; change = c }) ≡ e = cc in sym (ap (λ (x : Event). x.change.moment) same) ∙ h.0)
 
+pub after_match : {A : Type 0} (r : Option A) (P R : A → Type 0) (Q : Type 0) → ((x : A) → P x → R x) → IfSome r P × IsSome r → MatchOption r Q R
+after_match None P R Q f h = (let z = h.1 in absurd (cc))
+after_match (Some x) P R Q f h = f x h.0
+
+-- and so is the second
+second_at : (t device : ℕ) (cs : List Change) (e : Event) (o : Option Event) (from : ℕ) → AreAt t cs → from ≡ t + 1 → drive_events device cs ≡ e ∷ pending o → IsSecond from o
+second_at t device cs e None from h f k = tt
+second_at t device [] e (Some x) from h f k = absurd (cc)
+second_at t device (c ∷ []) e (Some x) from h f k = absurd (cc)
+second_at t device (c ∷ d ∷ cs) e (Some x) from h f k =
+    let same : (record { who = Drive device; change = d }) ≡ x = cc in
+    subst (IsSecond from) (ap (λ (y : Event). Some y) same) (tt, (let at_ = h.1.0 in omega (arith, at_, f)))
+
+-- it is a drive's
+first_of_drive : (device : ℕ) (cs : List Change) (e : Event) (more : List Event) → drive_events device cs ≡ e ∷ more → e.who ≡ Drive device
+first_of_drive device [] e more k = absurd (cc)
+first_of_drive device (c ∷ cs) e more k = (let same : (record { who = Drive device; change = c }) ≡ e = cc in sym (ap (λ (x : Event). x.who) same))
+
 pub some_match : {A : Type 0} (r : Option A) (P : A → Type 0) (Q : Type 0) → IfSome r P × IsSome r → MatchOption r Q P
 some_match None P Q h = (let z = h.1 in absurd (cc))
 some_match (Some x) P Q h = h.0
+
+-- less is left behind a reaction that shows
+pub fewer_most : {D : Type 0} (limit : ℕ) (was now : Option Event) (xs ys : List (Seated D)) → left limit ys < left limit xs → at_most limit now ys < at_most limit was xs
+fewer_most limit was None xs ys l = omega (arith, l)
+fewer_most limit was (Some e) xs ys l = omega (arith, l)
 
 module _ (D M : Type 0) (stands : D → M → Type 0) (step : M → Act → M) (says : M → Option (ℕ × Bool)) (byte : (x : D) (m : M) (n : ℕ) (last : Bool) → stands x m → says m ≡ Some (n, last) → n < 256) where
   -- nothing was still to be given
@@ -44,8 +69,8 @@ module _ (D M : Type 0) (stands : D → M → Type 0) (step : M → Act → M) (
 
   -- the first event of what a drive shows, where the second one is kept
   pub given_shown : (p q : Turns) (b c : Cabled D) (upto t device n until : ℕ) (cs : List Change) (ss : List (Station M)) (es : List Event) (e : Event) → p.second ≡ None → (a : IsAfter D M stands step says p b n ss es)
-      → HasSettled D M stands step says b.host until c.drives [] (drive_events device cs) a.from a.stations → c.host ≡ b.host → until ≤ q.from → drive_events device cs ≡ e ∷ pending q.second → e.change.moment ≤ upto → HasGiven D M stands step says q c upto n ss es e
-  given_shown p q b c upto t device n until cs ss es e none a s host from made moment = record {
+      → HasSettled D M stands step says b.host until c.drives [] (drive_events device cs) a.from a.stations → c.host ≡ b.host → until ≤ q.from → q.from ≡ t + 1 → AreAt t cs → drive_events device cs ≡ e ∷ pending q.second → t ≤ upto → HasGiven D M stands step says q c upto n ss es e
+  given_shown p q b c upto t device n until cs ss es e none a s host from behind at_ made moment = record {
     after = record {
       from = s.from;
       stations = s.stations;
@@ -54,8 +79,10 @@ module _ (D M : Type 0) (stands : D → M → Type 0) (step : M → Act → M) (
           ((λ i. none_pending p es none i ++ (sym s.added ∙ made) i) ∙ sym (append_assoc es (e ∷ []) (pending q.second)))
           (plays_then M step says a.plays s.plays);
       now = subst (λ (l : Lines). IsBusAt D M stands l c.drives s.stations) (sym host) s.now;
+      second = second_at t device cs e q.second q.from at_ behind made;
     };
-    moment = moment;
+    moment = (let m = first_at t device cs e (pending q.second) at_ made in omega (arith, m, moment));
+    from = behind ∙ ap (λ (m : ℕ). m + 1) (sym (first_at t device cs e (pending q.second) at_ made)) ∙ ap (λ (w : Who). from_behind w e.change.moment) (sym (first_of_drive device cs e (pending q.second) made));
   }
 
   -- the change that waited
@@ -71,8 +98,10 @@ module _ (D M : Type 0) (stands : D → M → Type 0) (step : M → Act → M) (
           ((λ i. none_pending p es none i ++ (sym s.added i ++ host_event w ∷ [])) ∙ sym (none_pending q (es ++ host_event w ∷ []) none_q))
           (plays_then M step says a.plays (plays_then M step says s.plays (one_change D M stands step says byte b.host c.host w s.from ys c.drives s.stations s.now in_time s.before (told s.stations s.now))));
       now = told s.stations s.now;
+      second = subst (IsSecond q.from) (sym none_q) tt;
     };
     moment = moment;
+    from = from;
   }
 
   pub shown_next : (p q : Turns) (b c : Cabled D) (upto t device n : ℕ) (cs : List Change) (ss : List (Station M)) (es : List Event) (r : Option Event) → p.second ≡ None → (a : IsAfter D M stands step says p b n ss es)
@@ -80,4 +109,21 @@ module _ (D M : Type 0) (stands : D → M → Type 0) (step : M → Act → M) (
       → MatchOption r (cs ≡ []) (λ e. drive_events device cs ≡ e ∷ pending q.second) → t ≤ upto → IfSome r (HasGiven D M stands step says q c upto n ss es) × IsSome r
   shown_next p q b c upto t device n cs ss es None none a s host from at_ shows h l = absurd (shows h)
   shown_next p q b c upto t device n cs ss es (Some e) none a s host from at_ shows h l =
-      (given_shown p q b c upto t device n (t + 1) cs ss es e none a s host (omega (arith, from)) h (let m = first_at t device cs e (pending q.second) at_ h in omega (arith, m, l)), refl)
+      (given_shown p q b c upto t device n (t + 1) cs ss es e none a s host (omega (arith, from)) from at_ h l, refl)
+
+  -- nothing is due any more: all is over
+  pub is_finished : (p q : Turns) (b c : Cabled D) (upto n : ℕ) (ss : List (Station M)) (es : List Event) → p.second ≡ None → q.second ≡ None → q.from ≡ upto + 1 → (a : IsAfter D M stands step says p b n ss es)
+      → HasSettled D M stands step says b.host (upto + 1) c.drives [] [] a.from a.stations → c.host ≡ b.host → AreInTime (upto + 1) c.drives → IsFinished D M stands step says q c upto n ss es
+  is_finished p q b c upto n ss es none none_q from a s host in_time = record {
+    after = record {
+      from = s.from;
+      stations = s.stations;
+      before = (let l = s.before in omega (arith, l, from));
+      plays = subst (λ (v : List Event). Plays M step says n ss v s.from s.stations) ((λ i. none_pending p es none i ++ sym s.added i) ∙ (append-nil es ∙ sym (none_pending q es none_q))) (plays_then M step says a.plays s.plays);
+      now = subst (λ (l : Lines). IsBusAt D M stands l c.drives s.stations) (sym host) s.now;
+      second = subst (IsSecond q.from) (sym none_q) tt;
+    };
+    settled = in_time;
+    second = none_q;
+    from = from;
+  }

@@ -43,6 +43,10 @@ changes_at t true true false true = (refl, tt)
 changes_at t true true true false = (refl, tt)
 changes_at t true true true true = tt
 
+-- all changes of a reaction are of its moment
+pub reaction_at : (t : ℕ) (peek : Option (ℕ × Bool)) (p : Port) → AreAt t (reaction_changes t peek p)
+reaction_at t peek p = changes_at t p.own.clock_low (next_held peek p).clock_low p.own.data_low (next_held peek p).data_low
+
 changes_toggle : (t : ℕ) (a b c d : Bool) → Toggles (two a c) (changes_between t (two a c) (two b d))
 changes_toggle t false false false false = tt
 changes_toggle t false false false true = (refl, tt)

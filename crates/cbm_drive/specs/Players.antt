@@ -1,5 +1,5 @@
 -- Changes of a host played one at a time, event by event.
-use Rattle.std.specs.Prelude.{ℕ, ◌+◌, ◌^◌, ◌≡◌, ◌<◌, ◌≤◌, Bool, List, [], ◌∷◌, ◌++◌, Option, Some, None, IfSome}
+use Rattle.std.specs.Prelude.{ℕ, ◌+◌, ◌*◌, ◌^◌, ◌≡◌, ◌<◌, ◌≤◌, Bool, List, length, [], ◌∷◌, ◌++◌, Option, Some, None, IfSome}
 use Rattle.cbm_iec.specs.declared.act.Act.{Act}
 use Rattle.cbm_iec.specs.declared.event.Event.{Event}
 use Rattle.cbm_iec.specs.declared.event.Who.TheVariants.{Host, Drive}
@@ -7,7 +7,8 @@ use Rattle.cbm_iec.specs.declared.event.Who.{Who}
 use Rattle.cbm_iec.specs.declared.line.Change.{Change}
 use Rattle.cbm_session.specs.Playing.{Station, Plays}
 use Rattle.cbm_drive.specs.Cables.{Cabled}
-use Rattle.cbm_drive.specs.Seats.{IsBusAt}
+use Rattle.cbm_drive.specs.Progress.{left}
+use Rattle.cbm_drive.specs.Seats.{Seated, AreInTime, IsBusAt}
 use Rattle.cbm_drive.specs.Silence.{AreSilent}
 
 -- a player: the host's change that waits for its turn, the second change of a reaction that is still to be given, the moment from which on the host may
@@ -26,38 +27,59 @@ abbrev pub pending : Option Event → List Event
 pending None = []
 pending (Some e) = e ∷ []
 
+-- how many changes of the drives may come before a limit at most, if the host changes nothing more: two of a reaction, and one that is still to be given
+abbrev pub at_most : {D : Type 0} → ℕ → Option Event → List (Seated D) → ℕ
+at_most limit second xs = 2 * left limit xs + length (pending second)
+
 -- A change that waits gives way to nothing but what comes before it.
 abbrev pub IsWaitingFrom : ℕ → Option Change → Type 0
 IsWaitingFrom from None = Unit {0}
 IsWaitingFrom from (Some c) = (from ≤ c.moment) × (c.moment < 2 ^ 59)
 
--- what is still to be given is of a drive
+-- a drive, not the host
 abbrev pub IsDrives : Who → Type 0
 IsDrives Host = ⊥
 IsDrives (Drive d) = Unit {0}
 
-abbrev pub IsOfDrive : Option Event → Type 0
-IsOfDrive None = Unit {0}
-IsOfDrive (Some e) = IsDrives e.who
+-- what is still to be given is a drive's, of a moment before this one
+abbrev pub IsGivenBefore : ℕ → Option Event → Type 0
+IsGivenBefore from second = IfSome second (λ e. IsDrives e.who × (e.change.moment < from))
+
+-- from when on the host may change a line behind an event: its own moment, or behind a drive's the one after it
+abbrev pub from_behind : Who → ℕ → ℕ
+from_behind Host t = t
+from_behind (Drive d) t = t + 1
+
+-- what is still to be given is a drive's change of the reaction that was made last
+abbrev pub IsSecond : ℕ → Option Event → Type 0
+IsSecond from None = Unit {0}
+IsSecond from (Some e) = IsDrives e.who × (e.change.moment + 1 ≡ from)
 
 -- an event of the host is the change that waited; behind one of a drive it still waits
 abbrev pub IsTurnOf : Who → Change → Option Change → Option Change → Type 0
 IsTurnOf Host c was now = (was ≡ Some c) × (now ≡ None)
 IsTurnOf (Drive d) c was now = now ≡ was
 
+-- Behind a change of the host nothing is still to be given, and its next one may come at that very moment.
+abbrev pub IsBehind : Who → Change → Turns → Type 0
+IsBehind Host c p = (p.from ≡ c.moment) × (p.second ≡ None)
+IsBehind (Drive d) c p = Unit {0}
+
 module _ (D M : Type 0) (stands : D → M → Type 0) (step : M → Act → M) (says : M → Option (ℕ × Bool)) where
-  -- THESE EVENTS WERE GIVEN: they, and the one that is still to be given, are a play, and the drives stand for the stations behind it.
+  -- THESE EVENTS WERE GIVEN: they, and the one that is still to be given, which is of the last reaction, are a play, and the drives stand for the stations behind it.
   pub record IsAfter (p : Turns) (b : Cabled D) (n : ℕ) (ss : List (Station M)) (es : List Event) : Type 0 where
     pub from : ℕ
     pub stations : List (Station M)
     pub before : from ≤ p.from
     pub plays : Plays M step says n ss (es ++ pending p.second) from stations
     pub now : IsBusAt D M stands b.host b.drives stations
+    pub second : IsSecond p.from p.second
 
   -- THE NEXT EVENT was given, which comes at this moment or before.
   pub record HasGiven (p : Turns) (b : Cabled D) (upto n : ℕ) (ss : List (Station M)) (es : List Event) (e : Event) : Type 0 where
     pub after : IsAfter p b n ss (es ++ e ∷ [])
     pub moment : e.change.moment ≤ upto
+    pub from : p.from ≡ from_behind e.who e.change.moment
 
   -- NOTHING COMES up to this moment, and all is as it was.
   pub record IsStill (p q : Turns) (b c : Cabled D) (upto : ℕ) (stations : List (Station M)) : Type 0 where
@@ -66,3 +88,10 @@ module _ (D M : Type 0) (stands : D → M → Type 0) (step : M → Act → M) (
     pub second : IfSome p.second (λ e. upto < e.change.moment)
     pub waiting : p.second ≡ None → IfSome p.waiting (λ w. upto < w.moment)
     pub silent : p.second ≡ None → AreSilent M step says (upto + 1) stations
+
+  -- ALL IS OVER up to this moment: nothing is due at it or before, nothing is still to be given, and the host may change a line behind it.
+  pub record IsFinished (p : Turns) (b : Cabled D) (upto n : ℕ) (ss : List (Station M)) (es : List Event) : Type 0 where
+    pub after : IsAfter p b n ss es
+    pub settled : AreInTime (upto + 1) b.drives
+    pub second : p.second ≡ None
+    pub from : p.from ≡ upto + 1

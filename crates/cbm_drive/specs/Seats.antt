@@ -1,5 +1,5 @@
 -- The drives of a bus as the code keeps them, and the stations that they stand for.
-use Rattle.std.specs.Prelude.{ℕ, zero, suc, [], ◌∷◌, Some, None, ◌+◌, ◌≡◌, Bool, true, false, List}
+use Rattle.std.specs.Prelude.{ℕ, zero, suc, [], ◌∷◌, Some, None, ◌+◌, ◌≡◌, Bool, true, false, List, map}
 use Rattle.std.specs.List.{AllZip}
 use Rattle.cbm_iec.specs.Ports.{port_due}
 use Rattle.cbm_session.specs.Following.{IsInTime}
@@ -34,6 +34,10 @@ module _ {D : Type 0} where
 
   abbrev pub data_of : Seated D → ℕ
   data_of x = bit x.port.own.data_low
+
+  -- a number of each drive's machine
+  abbrev pub numbers : (D → ℕ) → List (Seated D) → List ℕ
+  numbers number xs = map (λ x. number x.machine) xs
 
   -- nothing is due; nothing is due at or before this moment; nothing is due before it
   abbrev pub AreIdle : List (Seated D) → Type 0

@@ -1,11 +1,11 @@
 //! What the drives on a cable do: they are told changes, and one of them reacts.
 
-ghost use Rattle.std.specs.Prelude.{◌≡◌, ◌+◌, ◌<◌, ◌^◌, ℕ, List, length, map, IfSome, IsSome, MatchOption};
+ghost use Rattle.std.specs.Prelude.{◌≡◌, ◌+◌, ◌<◌, ◌≤◌, ◌^◌, ℕ, List, [], ◌∷◌, ◌++◌, length, map, IfSome, IsSome, MatchOption};
 ghost use Rattle.std.specs.List.{AllZip};
 ghost use Rattle.cbm_session.specs.Among.{Rest};
 ghost use Rattle.cbm_session.specs.Following.{lines_after};
 ghost use Rattle.cbm_session.specs.Playing.{Station, tell, told_lines};
-ghost use Rattle.cbm_drive.specs.Seats.{Meets, IsSeat, IsBusAt, own_of, IsFirstDue, AreIdle};
+ghost use Rattle.cbm_drive.specs.Seats.{Seated, Meets, IsSeat, IsBusAt, own_of, numbers, IsFirstDue, AreIdle};
 ghost use Rattle.cbm_drive.specs.Progress.{AreKept, IsNearer};
 ghost use Rattle.cbm_drive.specs.Reactions.{AreAt, Toggles, IsAllOf, HaveHeard, HasReacted, behind_all, held_behind};
 ghost use Rattle.cbm_iec.specs.declared.lines.Held.{Held};
@@ -18,21 +18,22 @@ use cbm_iec::{Change, Lines, Machine};
 /// What a drive did where its reaction was due: at most one change of CLOCK, then one of DATA.
 #[derive(Drop)]
 pub struct Answer {
-    /// Its device number.
-    pub device: u8,
     /// The lines that it changed, in that order; none where it holds the same as before.
     pub changes: ArrayVec<Change, 2>,
+    /// Its device number.
+    pub device: u8,
 }
 
 /// Tells each of these drives that the others changed a line at this moment, and what is held now.
-pub(crate) fn tell_each<D: Machine>(drives: &mut [Drive<D>], moment: u64, wires: Wires)
+pub(crate) fn tell_each<D: Machine>(drives: &mut [Drive<D>], moment: u64, wires: &Wires)
     requires { moment < 2 ^ 60 }
     ensures told { (f : Rest → Rest) (ss : List (Station D.State)) →
-        AllZip (λ x s. Meets _ D.State D.stands wires (f s.rest) x s) drives.old ss →
-        AllZip (IsSeat _ D.State D.stands wires) drives.new
+        AllZip (λ x s. Meets _ D.State D.stands wires.now (f s.rest) x s) drives.old ss →
+        AllZip (IsSeat _ D.State D.stands wires.now) drives.new
         (map (λ s. told_lines D.State D.step D.says moment (f s.rest) s) ss) }
     ensures own { map own_of drives.new ≡ map own_of drives.old }
     ensures kept { AreKept moment drives.old drives.new }
+    ensures lasting { numbers D.lasting drives.new ≡ numbers D.lasting drives.old }
 {
     let Some((first, rest)) = drives.split_first_mut() else {
         return;
@@ -42,25 +43,53 @@ pub(crate) fn tell_each<D: Machine>(drives: &mut [Drive<D>], moment: u64, wires:
     tell_each(rest, moment, wires);
 }
 
+/// The reaction that is due first among those before a drive and its own, which comes behind theirs of the same moment.
+fn or_sooner<D: Machine>(
+    first: Option<(usize, u64)>,
+    place: usize,
+    drive: &Drive<D>,
+) -> Option<(usize, u64)>
+    ensures bound { IfSome first (λ f. f.0 < place) → IfSome result (λ f. f.0 ≤ place) }
+    ensures first { (xs : List (Seated D)) → place ≡ length xs → MatchOption first (AreIdle xs) (IsFirstDue xs) →
+        MatchOption result (AreIdle (xs ++ drive.now ∷ [])) (IsFirstDue (xs ++ drive.now ∷ [])) }
+{
+    let Some(moment) = drive.next_due() else {
+        return first;
+    };
+    match first {
+        Some((_, before)) if before <= moment => first,
+        _ => Some((place, moment)),
+    }
+}
+
 /// The drive whose reaction is due first, by its place, and when: of several at one moment the one that is listed first.
 pub(crate) fn first_due<D: Machine>(drives: &[Drive<D>]) -> Option<(usize, u64)>
     ensures bound { IfSome result (λ f. f.0 < length drives.now) }
     ensures first { MatchOption result (AreIdle drives.now) (IsFirstDue drives.now) }
 {
-    let (first, rest) = drives.split_first()?;
-    let behind = first_due(rest);
-    match (first.next_due(), behind) {
-        (None, None) => None,
-        (None, Some((place, moment))) => Some((place + 1, moment)),
-        (Some(moment), None) => Some((0, moment)),
-        (Some(moment), Some((place, later))) => {
-            if moment <= later {
-                Some((0, moment))
-            } else {
-                Some((place + 1, later))
-            }
-        }
+    let mut first = None;
+    for (place, drive) in drives.iter().enumerate() {
+        first = or_sooner(first, place, drive);
     }
+    first
+}
+
+/// As `tell_each`, of drives of which there may be none: a drive alone on the cable has nobody to tell.
+#[inline(always)]
+fn tell_others<D: Machine>(drives: &mut [Drive<D>], moment: u64, wires: &Wires)
+    requires { moment < 2 ^ 60 }
+    ensures told { (f : Rest → Rest) (ss : List (Station D.State)) →
+        AllZip (λ x s. Meets _ D.State D.stands wires.now (f s.rest) x s) drives.old ss →
+        AllZip (IsSeat _ D.State D.stands wires.now) drives.new
+        (map (λ s. told_lines D.State D.step D.says moment (f s.rest) s) ss) }
+    ensures own { map own_of drives.new ≡ map own_of drives.old }
+    ensures kept { AreKept moment drives.old drives.new }
+    ensures lasting { numbers D.lasting drives.new ≡ numbers D.lasting drives.old }
+{
+    if drives.is_empty() {
+        return;
+    }
+    tell_each(drives, moment, wires);
 }
 
 /// The drives before and behind one that changed these lines are told each change.
@@ -81,13 +110,15 @@ fn hear_each<D: Machine>(
         changes.now front.new back.new bs hs }
     ensures front { AreKept moment front.old front.new }
     ensures back { AreKept moment back.old back.new }
+    ensures front_lasting { numbers D.lasting front.new ≡ numbers D.lasting front.old }
+    ensures back_lasting { numbers D.lasting back.new ≡ numbers D.lasting back.old }
 {
     let Some((change, more)) = changes.split_first() else {
         return;
     };
     let wires = wires.after(change.line, change.way);
-    tell_each(front, moment, wires);
-    tell_each(back, moment, wires);
+    tell_others(front, moment, &wires);
+    tell_others(back, moment, &wires);
     hear_each(front, back, wires, moment, more);
 }
 
@@ -106,9 +137,11 @@ pub(crate) fn react<D: Machine>(
         IsFirstDue drives.old (place, moment) →
         IfSome result (λ a.
         HasReacted _ D.State D.stands D.step D.says host moment a.device drives.new a.changes.items ss) }
+    ensures moments { IfSome result (λ a. AreAt moment a.changes.items) }
     ensures some { IsSome result }
     ensures nearer { IsFirstDue drives.old (place, moment) → IsNearer moment drives.old drives.new }
     ensures same { length drives.new ≡ length drives.old }
+    ensures lasting { numbers D.lasting drives.new ≡ numbers D.lasting drives.old }
 {
     let wires = Wires::of(host, drives);
     let (front, rest) = drives.split_at_mut(place);
@@ -128,9 +161,10 @@ pub(crate) fn tell_all<D: Machine>(drives: &mut [Drive<D>], host: Lines, change:
         IsBusAt _ D.State D.stands result drives.new (map (λ s. tell D.State D.step D.says change s) ss) }
     ensures kept { AreKept change.moment drives.old drives.new }
     ensures same { length drives.new ≡ length drives.old }
+    ensures lasting { numbers D.lasting drives.new ≡ numbers D.lasting drives.old }
 {
     let now = with_change(host, change);
     let wires = Wires::of(now, drives);
-    tell_each(drives, change.moment, wires);
+    tell_each(drives, change.moment, &wires);
     now
 }

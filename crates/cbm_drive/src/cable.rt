@@ -39,13 +39,13 @@ impl<D: Machine, const N: usize> Bus<D, N> {
     ghost use Rattle.cbm_session.specs.Sessions.{AllUnlike, IsBus};
     ghost use Rattle.cbm_drive.specs.Kept.{HasKept};
     ghost use Rattle.cbm_drive.specs.Silence.{AnyShows, AreSilent};
-    ghost use Rattle.cbm_drive.specs.Seats.{AreIdle, AreInTime, IsBusAt};
+    ghost use Rattle.cbm_drive.specs.Seats.{AreIdle, AreInTime, IsBusAt, numbers};
     ghost use Rattle.cbm_drive.specs.Cables.{all_free, IsDueFirst};
     ghost use Rattle.cbm_drive.specs.Ordered.{fault_of};
     ghost use Rattle.cbm_drive.specs.declared.fault.PlayFault.{PlayFault};
     ghost use Rattle.cbm_drive.specs.declared.fault.PlayFault.TheVariants.{Memory};
     ghost use Rattle.cbm_drive.specs.Played.{HasSettled, IsCutOff, HasPlayed, IsPlayCut, HasHanded};
-    ghost use Rattle.cbm_drive.specs.Progress.{AreKept, IsNearer};
+    ghost use Rattle.cbm_drive.specs.Progress.{AreKept, IsNearer, left};
     ghost use Rattle.cbm_drive.specs.Reactions.{AreAt, HasReacted};
 
     /// Drives on a cable of which the host holds no line, in the order in which they answer at equal moments.
@@ -87,6 +87,7 @@ impl<D: Machine, const N: usize> Bus<D, N> {
             IsBusAt _ D.State D.stands self.new.host self.new.drives (map (λ s. tell D.State D.step D.says change s) ss) }
         // What was due is still due, or something later, or nothing, whatever the machines stand for.
         ensures kept { AreKept change.moment self.old.drives self.new.drives }
+        ensures lasting { numbers D.lasting self.new.drives ≡ numbers D.lasting self.old.drives }
     {
         self.host = tell_all(self.drives.as_mut_slice(), self.host, change);
     }
@@ -104,6 +105,7 @@ impl<D: Machine, const N: usize> Bus<D, N> {
         ensures none { result ≡ None → AreIdle self.old.drives × (self.new ≡ self.old) }
         ensures idle { AreIdle self.old.drives → result ≡ None }
         ensures host { self.new.host ≡ self.old.host }
+        ensures lasting { numbers D.lasting self.new.drives ≡ numbers D.lasting self.old.drives }
     {
         let (place, _) = first_due(self.drives.as_slice())?;
         react(self.drives.as_mut_slice(), self.host, place, moment)
@@ -129,12 +131,14 @@ impl<D: Machine, const N: usize> Bus<D, N> {
         ensures before { IfSome result (λ r. r.0 < limit) }
         ensures shows { IfSome result (λ r. r.1.changes.items ≡ [] → ⊥) }
         ensures settled { result ≡ None → AreInTime limit self.new.drives }
-        ensures moments { (ss : List (Station D.State)) →
-            IsBusAt _ D.State D.stands self.old.host self.old.drives ss →
-            IfSome result (λ r. AreAt r.0 r.1.changes.items) }
+        // Whatever the machines stand for, before each later limit less is left to happen.
+        ensures fewer { IfSome result (λ r. (until : ℕ) → limit ≤ until →
+            left until self.new.drives < left until self.old.drives) }
+        ensures moments { IfSome result (λ r. AreAt r.0 r.1.changes.items) }
         ensures some { (ss : List (Station D.State)) → IsBusAt _ D.State D.stands self.old.host self.old.drives ss →
             AnyShows D.State D.step D.says limit ss → IsSome result }
         ensures host { self.new.host ≡ self.old.host }
+        ensures lasting { numbers D.lasting self.new.drives ≡ numbers D.lasting self.old.drives }
     {
         first_shown(self.drives.as_mut_slice(), self.host, limit)
     }
@@ -151,6 +155,7 @@ impl<D: Machine, const N: usize> Bus<D, N> {
             (λ e. IsCutOff _ D.State D.stands D.step D.says self.old.host self.new.drives events.old.items events.new.items
             n ss) }
         ensures host { self.new.host ≡ self.old.host }
+        ensures lasting { numbers D.lasting self.new.drives ≡ numbers D.lasting self.old.drives }
     {
         settle(self.drives.as_mut_slice(), self.host, limit, events)
     }
@@ -170,6 +175,7 @@ impl<D: Machine, const N: usize> Bus<D, N> {
             (result ≡ Err f) × (self.new ≡ self.old) × (events.new ≡ events.old) }
         ensures memory { fault_of 0 0 end changes.now ≡ None → IfErr result (λ f. f ≡ Memory) }
         ensures settled { OnOk result (AreInTime (end + 1) self.new.drives) }
+        ensures lasting { numbers D.lasting self.new.drives ≡ numbers D.lasting self.old.drives }
         ensures played { (ss : List (Station D.State)) → fault_of 0 0 end changes.now ≡ None →
             IsBusAt _ D.State D.stands self.old.host self.old.drives ss → MatchResult result
             (λ x. HasPlayed _ D.State D.stands D.step D.says self.new.host (end + 1) self.new.drives events.old.items

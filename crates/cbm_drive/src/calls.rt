@@ -1,5 +1,5 @@
 //! The calls of a DOS that may write, over a medium that never fails by itself: each leads to the machine's next state.
-ghost use Rattle.std.specs.Prelude.{◌≤◌};
+ghost use Rattle.std.specs.Prelude.{◌≡◌, ◌≤◌};
 ghost use Rattle.cbm_channel.specs.Closing as closing;
 ghost use Rattle.cbm_channel.specs.Calls as calls;
 ghost use Rattle.cbm_channel.specs.Standing.{Leads};
@@ -10,7 +10,8 @@ use cbm_medium::Steady;
 /// OPEN of a channel with a name, or on 15 a command.
 pub(crate) fn open<M: Steady>(dos: &mut Dos<M>, channel: u8, name: &[u8])
     requires { channel ≤ 15 }
-    ensures { Leads M.seen dos.old dos.new (calls.after_open channel name.now) }
+    ensures leads { Leads M.seen dos.old dos.new (calls.after_open channel name.now) }
+    ensures tracks { (M.seen dos.new.medium).tracks ≡ (M.seen dos.old.medium).tracks }
 {
     dos.open(channel, name);
 }
@@ -18,7 +19,8 @@ pub(crate) fn open<M: Steady>(dos: &mut Dos<M>, channel: u8, name: &[u8])
 /// CLOSE of a channel.
 pub(crate) fn close<M: Steady>(dos: &mut Dos<M>, channel: u8)
     requires { channel ≤ 15 }
-    ensures { Leads M.seen dos.old dos.new (closing.close channel) }
+    ensures leads { Leads M.seen dos.old dos.new (closing.close channel) }
+    ensures tracks { (M.seen dos.new.medium).tracks ≡ (M.seen dos.old.medium).tracks }
 {
     dos.close(channel);
 }
@@ -26,7 +28,8 @@ pub(crate) fn close<M: Steady>(dos: &mut Dos<M>, channel: u8)
 /// A byte for a channel.
 pub(crate) fn put<M: Steady>(dos: &mut Dos<M>, channel: u8, byte: u8)
     requires { channel ≤ 15 }
-    ensures { Leads M.seen dos.old dos.new (calls.put channel byte) }
+    ensures leads { Leads M.seen dos.old dos.new (calls.put channel byte) }
+    ensures tracks { (M.seen dos.new.medium).tracks ≡ (M.seen dos.old.medium).tracks }
 {
     dos.put(channel, byte);
 }
@@ -34,7 +37,8 @@ pub(crate) fn put<M: Steady>(dos: &mut Dos<M>, channel: u8, byte: u8)
 /// The end of the bytes for a channel.
 pub(crate) fn end_put<M: Steady>(dos: &mut Dos<M>, channel: u8)
     requires { channel ≤ 15 }
-    ensures { Leads M.seen dos.old dos.new (calls.end_put channel) }
+    ensures leads { Leads M.seen dos.old dos.new (calls.end_put channel) }
+    ensures tracks { (M.seen dos.new.medium).tracks ≡ (M.seen dos.old.medium).tracks }
 {
     dos.end_put(channel);
 }

@@ -67,6 +67,7 @@ impl<M: Steady> Desk<M> {
     fn pulled(&mut self)
         ensures leads { Leads M.seen self.old.dos self.new.dos (ending (ended self.old.addressed) self.old.addressed.name) }
         ensures addressed { self.new.addressed ≡ waiting self.old.addressed }
+        ensures tracks { (M.seen self.new.dos.medium).tracks ≡ (M.seen self.old.dos.medium).tracks }
     {
         let ended = self.addressee.ended();
         let name = self.addressee.end();
@@ -81,6 +82,7 @@ impl<M: Steady> Desk<M> {
     fn attended(&mut self, byte: u8)
         ensures leads { Leads M.seen self.old.dos self.new.dos (seconded (secondary_of byte) self.old.addressed.role) }
         ensures addressed { self.new.addressed ≡ attended byte self.old.addressed }
+        ensures tracks { (M.seen self.new.dos.medium).tracks ≡ (M.seen self.old.dos.medium).tracks }
     {
         self.second(Secondary::of(byte));
         self.addressee.attend(byte);
@@ -91,6 +93,7 @@ impl<M: Steady> Desk<M> {
         requires { IfSome secondary (λ s. channel_of s ≤ 15) }
         ensures leads { Leads M.seen self.old.dos self.new.dos (seconded secondary self.old.addressed.role) }
         ensures addressed { self.new.addressed ≡ self.old.addressed }
+        ensures tracks { (M.seen self.new.dos.medium).tracks ≡ (M.seen self.old.dos.medium).tracks }
     {
         match (secondary, self.addressee.role()) {
             (Some(Secondary::Data(channel)), Role::Listener) => self.dos.listen(channel),
@@ -105,6 +108,7 @@ impl<M: Steady> Desk<M> {
         ensures leads { let a = self.old.addressed in
             Leads M.seen self.old.dos self.new.dos (put_to a.naming (channel_heard a.role a.channel) byte) }
         ensures addressed { self.new.addressed ≡ heard byte self.old.addressed }
+        ensures tracks { (M.seen self.new.dos.medium).tracks ≡ (M.seen self.old.dos.medium).tracks }
     {
         if self.addressee.is_naming() {
             self.addressee.hear(byte);
@@ -119,6 +123,7 @@ impl<M: Steady> Desk<M> {
     fn released(&mut self)
         ensures dos { self.new.dos ≡ self.old.dos }
         ensures addressed { self.new.addressed ≡ released self.old.addressed }
+        ensures tracks { (M.seen self.new.dos.medium).tracks ≡ (M.seen self.old.dos.medium).tracks }
     {
         self.addressee.release();
     }
@@ -128,6 +133,7 @@ impl<M: Steady> Desk<M> {
         ensures leads { let a = self.old.addressed in
             Leads M.seen self.old.dos self.new.dos (taken_from (channel_said a.role a.channel)) }
         ensures addressed { self.new.addressed ≡ self.old.addressed }
+        ensures tracks { (M.seen self.new.dos.medium).tracks ≡ (M.seen self.old.dos.medium).tracks }
     {
         if let Some(channel) = self.addressee.channel_said() {
             self.dos.taken(channel);
@@ -138,6 +144,7 @@ impl<M: Steady> Desk<M> {
     fn obey(&mut self, act: Act)
         ensures leads { Leads M.seen self.old.dos self.new.dos (asked act self.old.addressed) }
         ensures addressed { self.new.addressed ≡ addressed_after act self.old.addressed }
+        ensures tracks { (M.seen self.new.dos.medium).tracks ≡ (M.seen self.old.dos.medium).tracks }
     {
         match act {
             Act::Pulled => self.pulled(),
@@ -172,6 +179,8 @@ impl<M: Steady> Machine for Desk<M> {
     ghost says = { desk_says };
 
     ghost stands = { λ x d. DeskStands M.seen x d };
+
+    ghost lasting = { λ x. (M.seen x.dos.medium).tracks };
 
     fn act(&mut self, act: Act) {
         self.obey(act);

@@ -4,8 +4,9 @@ ghost use Rattle.std.specs.Prelude.{◌≡◌, ◌+◌, ◌<◌, ◌≤◌, ◌^
 ghost use Rattle.std.specs.List.{AllZip};
 ghost use Rattle.cbm_session.specs.Playing.{Station, drive_events};
 ghost use Rattle.cbm_drive.specs.Played.{HasSettled};
+ghost use Rattle.cbm_drive.specs.Progress.{left};
 ghost use Rattle.cbm_drive.specs.Reactions.{AreAt};
-ghost use Rattle.cbm_drive.specs.Seats.{IsSeat, IsBusAt, AreInTime};
+ghost use Rattle.cbm_drive.specs.Seats.{IsSeat, IsBusAt, AreInTime, numbers};
 ghost use Rattle.cbm_drive.specs.Silence.{AnyShows, AreSilent, Foretold};
 ghost use Rattle.cbm_drive.specs.declared.wires.Wires.{Wires};
 
@@ -60,11 +61,13 @@ pub(crate) fn first_shown<D: Machine>(
     ensures before { IfSome result (λ r. r.0 < limit) }
     ensures shows { IfSome result (λ r. r.1.changes.items ≡ [] → ⊥) }
     ensures settled { result ≡ None → AreInTime limit drives.new }
-    ensures moments { (ss : List (Station D.State)) → IsBusAt _ D.State D.stands host drives.old ss →
-        IfSome result (λ r. AreAt r.0 r.1.changes.items) }
+    // Whatever the machines stand for, before each later limit less is left to happen.
+    ensures fewer { IfSome result (λ r. (until : ℕ) → limit ≤ until → left until drives.new < left until drives.old) }
+    ensures moments { IfSome result (λ r. AreAt r.0 r.1.changes.items) }
     ensures some { (ss : List (Station D.State)) → IsBusAt _ D.State D.stands host drives.old ss →
         AnyShows D.State D.step D.says limit ss → IsSome result }
     ensures same { length drives.new ≡ length drives.old }
+    ensures lasting { numbers D.lasting drives.new ≡ numbers D.lasting drives.old }
 {
     while let Some((place, moment)) = first_due(drives) {
         if moment >= limit {

@@ -23,13 +23,13 @@ pub struct Player {
 
 impl Model for Player {
     ghost use Rattle.std.specs.Prelude.{◌≤◌, ◌^◌};
-    ghost use Rattle.cbm_drive.specs.Players.{Turns, IsWaitingFrom, IsOfDrive};
+    ghost use Rattle.cbm_drive.specs.Players.{Turns, IsWaitingFrom, IsGivenBefore};
 
     ghost Value = { Turns };
 
     ghost view = { λ p. record { waiting = p.waiting; second = p.second; from = p.from; taken = p.taken } };
 
-    ghost invariant = { λ p. IsWaitingFrom p.from p.waiting × (p.from ≤ 2 ^ 59) × IsOfDrive p.second };
+    ghost invariant = { λ p. IsWaitingFrom p.from p.waiting × (p.from ≤ 2 ^ 59) × IsGivenBefore p.from p.second };
 }
 
 impl Player {
@@ -38,8 +38,9 @@ impl Player {
     ghost use Rattle.cbm_session.specs.Sessions.{IsBus};
     ghost use Rattle.cbm_session.specs.Timing.{HostKeeps};
     ghost use Rattle.cbm_iec.specs.declared.party.Party.{Party};
-    ghost use Rattle.cbm_drive.specs.Seats.{AreLater};
-    ghost use Rattle.cbm_drive.specs.Players.{at_start, pending, IsWaitingFrom, IsTurnOf, IsAfter, HasGiven, IsStill};
+    ghost use Rattle.cbm_drive.specs.Reactions.{AreAt};
+    ghost use Rattle.cbm_drive.specs.Seats.{AreLater, numbers};
+    ghost use Rattle.cbm_drive.specs.Players.{at_start, pending, at_most, IsWaitingFrom, IsTurnOf, IsBehind, IsDrives, IsGivenBefore, IsAfter, HasGiven, IsStill, IsFinished};
     ghost use Rattle.cbm_iec.specs.declared.event.Who.TheVariants.{Drive};
     ghost use Rattle.cbm_drive.specs.declared.fault.PlayFault.TheVariants.{Backwards};
 
@@ -97,7 +98,16 @@ impl Player {
             (IsStill _ D.State D.stands D.step D.says self.old self.new bus.old bus.new upto a.stations)
             (HasGiven _ D.State D.stands D.step D.says self.new bus.new upto n ss es) }
         ensures turn { IfSome result (λ e. IsTurnOf e.who e.change self.old.waiting self.new.waiting) }
+        ensures waiting { IsWaitingFrom self.new.from self.new.waiting }
+        ensures second { IfSome result (λ e. IsGivenBefore (upto + 1) self.new.second) }
+        // A change that waits for that moment or before comes, or a drive's comes before it.
+        ensures comes { IfSome self.old.waiting (λ c. c.moment ≤ upto → IsSome result) }
+        ensures behind { IfSome result (λ e. IsBehind e.who e.change self.new) }
+        // Whatever the machines stand for, less is left to come behind a change of a drive.
+        ensures fewer { IfSome result (λ e. IsDrives e.who → (limit : ℕ) → upto < limit →
+            at_most limit self.new.second bus.new.drives < at_most limit self.old.second bus.old.drives) }
         ensures taken { self.new.taken ≡ self.old.taken }
+        ensures lasting { numbers D.lasting bus.new.drives ≡ numbers D.lasting bus.old.drives }
     {
         if let Some(event) = self.second {
             if event.change.moment > upto {
@@ -109,6 +119,41 @@ impl Player {
         match self.waiting {
             Some(change) if change.moment <= upto => self.turn(bus, change),
             _ => self.reaction(bus, upto),
+        }
+    }
+
+    /// The next event up to a moment, as `next` gives it, at the end: where no other comes by then, the reactions that change no
+    /// line happen too, so that nothing is due any more. The host changes nothing more up to that moment.
+    pub fn finish<D: Machine, const N: usize>(
+        &mut self,
+        bus: &mut Bus<D, N>,
+        upto: u64,
+    ) -> Option<Event>
+        requires none { self.old.waiting ≡ None }
+        requires from { self.old.from ≤ upto + 1 }
+        requires upto { upto < 2 ^ 59 - 1 }
+        ensures given { (n : ℕ) (ss : List (Station D.State)) (es : List Event) →
+            IsAfter _ D.State D.stands D.step D.says self.old bus.old n ss es → MatchOption result
+            (IsFinished _ D.State D.stands D.step D.says self.new bus.new upto n ss es)
+            (λ e. IsAfter _ D.State D.stands D.step D.says self.new bus.new n ss (es ++ e ∷ [])) }
+        ensures drive { IfSome result (λ e. IsDrives e.who) }
+        ensures second { IsGivenBefore (upto + 1) self.new.second }
+        ensures from { self.new.from ≤ upto + 1 }
+        ensures waiting { self.new.waiting ≡ None }
+        ensures fewer { IfSome result (λ e. (limit : ℕ) → upto < limit →
+            at_most limit self.new.second bus.new.drives < at_most limit self.old.second bus.old.drives) }
+        ensures taken { self.new.taken ≡ self.old.taken }
+        ensures lasting { numbers D.lasting bus.new.drives ≡ numbers D.lasting bus.old.drives }
+    {
+        if let Some(event) = self.second.take() {
+            return Some(event);
+        }
+        match bus.first_shown(upto + 1) {
+            Some((moment, answer)) => self.give(moment, &answer),
+            None => {
+                self.from = upto + 1;
+                None
+            }
         }
     }
 
@@ -135,7 +180,15 @@ impl Player {
             IsAfter _ D.State D.stands D.step D.says self.old bus.old n ss es →
             IfSome result (HasGiven _ D.State D.stands D.step D.says self.new bus.new change.moment n ss es) × IsSome result }
         ensures turn { IfSome result (λ e. IsTurnOf e.who e.change self.old.waiting self.new.waiting) }
+        ensures waiting { IsWaitingFrom self.new.from self.new.waiting }
+        ensures comes { IsSome result }
+        ensures second { IsGivenBefore change.moment self.new.second }
+        ensures behind { IfSome result (λ e. IsBehind e.who e.change self.new) }
+        // Whatever the machines stand for, less is left to come behind a change of a drive.
+        ensures fewer { IfSome result (λ e. IsDrives e.who → (limit : ℕ) → change.moment ≤ limit →
+            at_most limit self.new.second bus.new.drives < at_most limit self.old.second bus.old.drives) }
         ensures taken { self.new.taken ≡ self.old.taken }
+        ensures lasting { numbers D.lasting bus.new.drives ≡ numbers D.lasting bus.old.drives }
     {
         if let Some((moment, answer)) = bus.first_shown(change.moment) {
             return self.give(moment, &answer);
@@ -157,13 +210,21 @@ impl Player {
     ) -> Option<Event>
         requires second { self.old.second ≡ None }
         requires waiting { IsWaitingFrom (upto + 1) self.old.waiting }
+        requires from { IsWaitingFrom self.old.from self.old.waiting }
         requires upto { upto < 2 ^ 59 - 1 }
         ensures given { (n : ℕ) (ss : List (Station D.State)) (es : List Event) →
             (a : IsAfter _ D.State D.stands D.step D.says self.old bus.old n ss es) → MatchOption result
             (IsStill _ D.State D.stands D.step D.says self.old self.new bus.old bus.new upto a.stations)
             (HasGiven _ D.State D.stands D.step D.says self.new bus.new upto n ss es) }
+        ensures second { IfSome result (λ e. IsGivenBefore (upto + 1) self.new.second) }
         ensures turn { IfSome result (λ e. IsTurnOf e.who e.change self.old.waiting self.new.waiting) }
+        ensures waiting { IsWaitingFrom self.new.from self.new.waiting }
+        ensures behind { IfSome result (λ e. IsBehind e.who e.change self.new) }
+        // Whatever the machines stand for, less is left to come behind a change of a drive.
+        ensures fewer { IfSome result (λ e. IsDrives e.who → (limit : ℕ) → upto < limit →
+            at_most limit self.new.second bus.new.drives < at_most limit self.old.second bus.old.drives) }
         ensures taken { self.new.taken ≡ self.old.taken }
+        ensures lasting { numbers D.lasting bus.new.drives ≡ numbers D.lasting bus.old.drives }
     {
         if !bus.shows_before(upto + 1) {
             return None;
@@ -177,6 +238,8 @@ impl Player {
         requires second { self.old.second ≡ None }
         requires waiting { IsWaitingFrom (moment + 1) self.old.waiting }
         requires moment { moment < 2 ^ 59 }
+        requires moments { AreAt moment answer.now.changes.items }
+        ensures second { IsGivenBefore (moment + 1) self.new.second }
         ensures given { MatchOption result (answer.now.changes.items ≡ [])
             (λ e. drive_events answer.now.device answer.now.changes.items ≡ e ∷ pending self.new.second) }
         ensures drive { IfSome result (λ e. e.who ≡ Drive answer.now.device) }

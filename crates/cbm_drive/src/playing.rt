@@ -4,7 +4,7 @@ ghost use Rattle.std.specs.Prelude.{◌≡◌, ◌+◌, ◌≤◌, ◌<◌, ◌^
 ghost use Rattle.cbm_session.specs.Playing.{Station, drive_events};
 ghost use Rattle.cbm_drive.specs.Ordered.{AreOrdered};
 ghost use Rattle.cbm_drive.specs.Played.{HasSettled, IsCutOff, HasPlayed, IsPlayCut, IsBegun};
-ghost use Rattle.cbm_drive.specs.Seats.{AreInTime, IsBusAt};
+ghost use Rattle.cbm_drive.specs.Seats.{AreInTime, IsBusAt, numbers};
 
 use crate::bus::{first_due, react, tell_all};
 use crate::drive::Drive;
@@ -38,6 +38,7 @@ pub(crate) fn settle<D: Machine>(
     requires limit { limit < 2 ^ 60 }
     ensures settled { OnOk result (AreInTime limit drives.new) }
     ensures same { length drives.new ≡ length drives.old }
+    ensures lasting { numbers D.lasting drives.new ≡ numbers D.lasting drives.old }
     ensures played { (ss : List (Station D.State)) (n : ℕ) → IsBusAt _ D.State D.stands host drives.old ss → n ≤ limit →
         MatchResult result
         (λ x. HasSettled _ D.State D.stands D.step D.says host limit drives.new events.old.items events.new.items n ss)
@@ -67,6 +68,7 @@ pub(crate) fn play_on<D: Machine>(
     requires end { end < 2 ^ 59 }
     requires ordered { AreOrdered 0 end changes.now }
     ensures settled { OnOk result (AreInTime (end + 1) drives.new) }
+    ensures lasting { numbers D.lasting drives.new ≡ numbers D.lasting drives.old }
     ensures played { (ss : List (Station D.State)) → IsBusAt _ D.State D.stands host.old drives.old ss →
         MatchResult result
         (λ x. HasPlayed _ D.State D.stands D.step D.says host.new (end + 1) drives.new events.old.items events.new.items

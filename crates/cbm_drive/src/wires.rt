@@ -32,27 +32,23 @@ impl Wires {
         ensures clocks { result.clocks ≤ length drives.now }
         ensures datas { result.datas ≤ length drives.now }
     {
-        match drives.split_first() {
-            None => Wires {
-                host,
-                clocks: 0,
-                datas: 0,
-            },
-            Some((first, rest)) => {
-                let wires = Wires::of(host, rest);
-                let own = first.own();
-                Wires {
-                    host,
-                    clocks: bit(own.clock_low) + wires.clocks,
-                    datas: bit(own.data_low) + wires.datas,
-                }
-            }
+        let mut clocks = 0;
+        let mut datas = 0;
+        for drive in drives {
+            let own = drive.own();
+            clocks += bit(own.clock_low);
+            datas += bit(own.data_low);
+        }
+        Wires {
+            host,
+            clocks,
+            datas,
         }
     }
 
     /// What all others hold than a drive that holds these lines itself.
-    pub(crate) fn without(self, own: Held) -> Lines
-        ensures { (r : Rest) → IsWithout self own r → result ≡ wires_of r }
+    pub(crate) fn without(&self, own: Held) -> Lines
+        ensures { (r : Rest) → IsWithout self.now own r → result ≡ wires_of r }
     {
         Lines {
             atn_low: self.host.atn_low,

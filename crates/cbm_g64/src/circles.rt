@@ -6,7 +6,7 @@ ghost use Rattle.cbm_track.specs.Circle.{bits_of};
 
 use crate::numbers::{offset, two_at};
 use cbm_medium::{Address, Fault};
-use cbm_sector::{fill_sector, fresh_track, id_of, read_sector, write_sector};
+use cbm_sector::{IndexedTrack, fresh_track};
 use cbm_track::Track;
 use std::alloc::{AllocError, Global};
 
@@ -42,37 +42,41 @@ fn track_at(file: &[u8], i: usize) -> Track
 
 /// The circles of all tracks.
 #[tactic(auto, using(crate::proofs::Files::tracks_none, crate::proofs::Files::tracks_more))]
-pub(crate) fn tracks_of(alloc: Global, file: &[u8]) -> Result<Vec<Track>, AllocError>
+pub(crate) fn tracks_of(alloc: Global, file: &[u8]) -> Result<Vec<IndexedTrack>, AllocError>
     requires { IsGood file.now }
     ensures { IfOk result (λ v. v.items ≡ tracks_in file.now 35) }
 {
     let mut tracks = Vec::with_capacity(alloc, 35)?;
-    for i in 0..35 {
-        tracks.push(track_at(file, i))?;
+    for i in 0..35u8 {
+        tracks.push(IndexedTrack::new(track_at(file, i as usize), i + 1))?;
     }
     Ok(tracks)
 }
 
 /// The disk's id, by its track 18.
-fn id_on(tracks: &[Track]) -> [u8; 2]
+fn id_on(tracks: &[IndexedTrack]) -> [u8; 2]
     requires { length tracks.now ≡ 35 }
     ensures { result ≡ id_for tracks.now }
 {
-    id_of(&tracks[17]).unwrap_or([0, 0])
+    tracks[17].id().unwrap_or([0, 0])
 }
 
 /// A sector's answer.
-pub(crate) fn read_on(tracks: &[Track], at: Address) -> Result<[u8; 256], Fault>
+pub(crate) fn read_on(tracks: &[IndexedTrack], at: Address) -> Result<[u8; 256], Fault>
     requires count { length tracks.now ≡ 35 }
     requires track { at.track ≤ 35 }
     ensures ok { IfOk result (λ bytes. content_of tracks.now at ≡ Ok bytes) }
     ensures err { IfErr result (λ fault. (content_of tracks.now at ≡ Err fault.code) × (fault.at ≡ at)) }
 {
-    read_sector(&tracks[at.track() as usize - 1], at, id_on(tracks))
+    tracks[at.track() as usize - 1].read_sector(at, id_on(tracks))
 }
 
 /// Writes a sector. An `Err` changes nothing.
-pub(crate) fn write_on(tracks: &mut [Track], at: Address, bytes: &[u8; 256]) -> Result<(), Fault>
+pub(crate) fn write_on(
+    tracks: &mut [IndexedTrack],
+    at: Address,
+    bytes: &[u8; 256],
+) -> Result<(), Fault>
     requires count { length tracks.old ≡ 35 }
     requires track { at.track ≤ 35 }
     ensures ok { OnOk result (content_of tracks.new ≡ written (content_of tracks.old) at bytes.now) }
@@ -86,11 +90,11 @@ pub(crate) fn write_on(tracks: &mut [Track], at: Address, bytes: &[u8; 256]) -> 
 {
     let id = id_on(tracks);
     let track = &mut tracks[at.track() as usize - 1];
-    write_sector(track, at, id, bytes)
+    track.write_sector(at, id, bytes)
 }
 
 /// Writes a sector of a disk whose blocks stand where formatting put them.
-pub(crate) fn fill_on(tracks: &mut [Track], at: Address, id: &[u8; 2], bytes: &[u8; 256])
+pub(crate) fn fill_on(tracks: &mut [IndexedTrack], at: Address, id: &[u8; 2], bytes: &[u8; 256])
     requires count { length tracks.old ≡ 35 }
     requires track { at.track ≤ 35 }
     requires laid { AreLaid tracks.old }
@@ -102,16 +106,16 @@ pub(crate) fn fill_on(tracks: &mut [Track], at: Address, id: &[u8; 2], bytes: &[
     ensures filled { AreFilled id.now tracks.new }
 {
     let track = &mut tracks[at.track() as usize - 1];
-    fill_sector(track, at, id, bytes);
+    track.fill_sector(at, id, bytes);
 }
 
 /// Formats each track under a disk id.
-pub(crate) fn format_on(tracks: &mut [Track], id: &[u8; 2])
+pub(crate) fn format_on(tracks: &mut [IndexedTrack], id: &[u8; 2])
     requires { length tracks.old ≡ 35 }
     ensures fresh { AreFresh id.now tracks.new }
     ensures blank { content_of tracks.new ≡ blank }
 {
     for i in 0..35u8 {
-        tracks[i as usize] = fresh_track(i + 1, *id);
+        tracks[i as usize] = IndexedTrack::new(fresh_track(i + 1, *id), i + 1);
     }
 }

@@ -9,12 +9,11 @@ use crate::circles::fill_on;
 use crate::fault::G64Fault;
 use crate::image::{base, put_tracks};
 use cbm_medium::{Address, Medium, sectors_of};
-use cbm_sector::fresh_track;
-use cbm_track::Track;
+use cbm_sector::{IndexedTrack, fresh_track};
 use std::alloc::{AllocError, Global};
 
 /// The tracks of a formatted disk.
-fn fresh_tracks(alloc: Global, id: &[u8; 2]) -> Result<Vec<Track>, AllocError>
+fn fresh_tracks(alloc: Global, id: &[u8; 2]) -> Result<Vec<IndexedTrack>, AllocError>
     ensures fresh { IfOk result (λ v. AreFresh id.now v.items) }
     ensures count { IfOk result (λ v. length v.items ≡ 35) }
     ensures held { IfOk result (λ v. IsHeld new_file v.items) }
@@ -25,13 +24,13 @@ fn fresh_tracks(alloc: Global, id: &[u8; 2]) -> Result<Vec<Track>, AllocError>
 {
     let mut tracks = Vec::with_capacity(alloc, 35)?;
     for track in 1..36u8 {
-        tracks.push(fresh_track(track, *id))?;
+        tracks.push(IndexedTrack::new(fresh_track(track, *id), track))?;
     }
     Ok(tracks)
 }
 
 /// Copies a sector of a medium to a track where it still holds zeros; one with a fault stays zeros.
-fn copy_sector<M: Medium>(medium: &M, tracks: &mut [Track], at: Address, id: &[u8; 2])
+fn copy_sector<M: Medium>(medium: &M, tracks: &mut [IndexedTrack], at: Address, id: &[u8; 2])
     requires tracks { (M.seen medium.now).tracks ≡ 35 }
     requires held { IsHeld new_file tracks.old }
     requires laid { AreLaid tracks.old }
@@ -53,7 +52,7 @@ fn copy_sector<M: Medium>(medium: &M, tracks: &mut [Track], at: Address, id: &[u
 }
 
 /// Copies the sectors of a track.
-fn copy_track<M: Medium>(medium: &M, tracks: &mut [Track], track: u8, id: &[u8; 2])
+fn copy_track<M: Medium>(medium: &M, tracks: &mut [IndexedTrack], track: u8, id: &[u8; 2])
     requires tracks { (M.seen medium.now).tracks ≡ 35 }
     requires held { IsHeld new_file tracks.old }
     requires laid { AreLaid tracks.old }
@@ -78,7 +77,7 @@ fn copy_track<M: Medium>(medium: &M, tracks: &mut [Track], track: u8, id: &[u8; 
 }
 
 /// Copies the sectors of a medium to the tracks of a formatted disk.
-fn copy_tracks<M: Medium>(medium: &M, tracks: &mut [Track], id: &[u8; 2])
+fn copy_tracks<M: Medium>(medium: &M, tracks: &mut [IndexedTrack], id: &[u8; 2])
     requires tracks { (M.seen medium.now).tracks ≡ 35 }
     requires held { IsHeld new_file tracks.old }
     requires laid { AreLaid tracks.old }

@@ -14,6 +14,7 @@ use crate::fault::G64Fault;
 use crate::image::{base, offset_in, put_tracks};
 use cbm_medium::codes::WRITE_PROTECT_ON;
 use cbm_medium::{Address, Fault, Medium, Steady};
+use cbm_sector::IndexedTrack;
 use cbm_track::Track;
 use std::alloc::Global;
 use std::marker::Model;
@@ -22,7 +23,7 @@ use std::marker::Model;
 /// bytes of the file that they came in.
 #[derive(Drop)]
 pub struct G64Disk {
-    tracks: Vec<Track>,
+    tracks: Vec<IndexedTrack>,
     file: Vec<u8>,
     formatted: bool,
     protected: bool,
@@ -136,7 +137,7 @@ impl G64Disk {
         if offset_in(self.file.as_slice(), self.formatted, i) == 0 {
             return None;
         }
-        Some(&self.tracks[i])
+        Some(self.tracks[i].track())
     }
 }
 

@@ -8,8 +8,7 @@ ghost use Rattle.cbm_g64.specs.Image.{IsHeld, IsImageOf};
 
 use crate::numbers::offset;
 use byteorder::{ByteOrder, LittleEndian};
-use cbm_sector::track_bytes;
-use cbm_track::Track;
+use cbm_sector::{IndexedTrack, track_bytes};
 use std::alloc::{AllocError, Global};
 
 /// The bytes of a new file.
@@ -131,7 +130,7 @@ fn are_bytes(bytes: &[u8])
 {}
 
 /// Puts the circles of a disk into the file that they are for.
-pub(crate) fn put_tracks(file: &[u8], formatted: bool, tracks: &[Track], out: &mut [u8])
+pub(crate) fn put_tracks(file: &[u8], formatted: bool, tracks: &[IndexedTrack], out: &mut [u8])
     requires held { IsHeld (base_of formatted file.now) tracks.now }
     requires base { out.old ≡ base_of formatted file.now }
     ensures image { IsImageOf (base_of formatted file.now) tracks.now out.new }
@@ -141,7 +140,7 @@ pub(crate) fn put_tracks(file: &[u8], formatted: bool, tracks: &[Track], out: &m
     for i in 0..35 {
         let at = offset_in(file, formatted, i);
         if at != 0 {
-            let track = &tracks[i];
+            let track = tracks[i].track();
             let end = at + 2 + track.bits() as usize / 8;
             track.bytes_at(0, &mut out[at + 2..end]);
         }

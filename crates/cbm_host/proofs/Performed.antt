@@ -1,31 +1,89 @@
 -- A request under way goes on by one event.
-use Rattle.std.proofs.Common.{◌≡◌, ℕ, ◌<◌, Bool, false, List, [], ◌∷◌, ◌++◌, Option, Some, None, refl, sym, ap, ◌∙◌, subst, arith}
-use Rattle.std.proofs.lemmas.List.{append_assoc, append-nil}
+use Rattle.std.proofs.Common.{◌≡◌, ℕ, ◌+◌, ◌<◌, Bool, true, false, List, [], ◌∷◌, ◌++◌, Option, Some, None, Result, Ok, Err, IfErr, refl, sym, ap, ◌∙◌, subst, arith}
+use Rattle.std.proofs.lemmas.List.{append_assoc, append-nil, length-append}
 use Rattle.std.specs.List.{AllZip}
+use Rattle.std.specs.Prelude.{MatchBool}
 use Rattle.cbm_drive.specs.Cables.{Cabled}
-use Rattle.cbm_drive.specs.Players.{at_start, IsAfter}
+use Rattle.cbm_drive.specs.Players.{at_start, from_behind, pending, IsAfter}
 use Rattle.cbm_drive.specs.Seats.{Seated, IsSeat, IsBusAt, held_by}
-use Rattle.cbm_host.specs.Engines.{Engined}
-use Rattle.cbm_host.specs.Performed.{taken_with, last_with, begins, waits, goes, IsPerforming}
-use Rattle.cbm_host.specs.Performers.{Performing, IsHandedOn, HasStopped, HasNext}
+use Rattle.cbm_host.specs.Engines.{Engined, engine_due}
+use Rattle.cbm_host.specs.Performed.{taken_with, last_with, from_last, begins, goes, IsPerforming, IsCutShort, HasPerformed}
+use Rattle.cbm_host.specs.Performers.{Performing, IsHandedOn, Stops, HasStopped, HasNext}
 use Rattle.cbm_iec.specs.declared.act.Act.{Act}
 use Rattle.cbm_iec.specs.declared.event.Event.{Event}
-use Rattle.cbm_session.specs.Playing.{Station, stays, IsByte, AllBytes}
+use Rattle.cbm_session.specs.Playing.{Station, Plays, stays, IsByte, AllBytes}
+
+pub if_no : (v : Bool) (P Q : Type 0) → v ≡ false → MatchBool v P Q → Q
+if_no v P Q e h = subst (λ (b : Bool). MatchBool b P Q) e h
+
+pub if_yes : (v : Bool) (P Q : Type 0) → v ≡ true → MatchBool v P Q → P
+if_yes v P Q e h = subst (λ (b : Bool). MatchBool b P Q) e h
+
+-- what holds whatever the error is
+pub if_err : {A E : Type 0} (r : Result A E) (P : E → Type 0) → ((e : E) → P e) → IfErr r P
+if_err (Ok x) P f = tt
+if_err (Err e) P f = f e
+
+last_of : (t : ℕ) (es : List Event) (x : Event) → from_last t (es ++ x ∷ []) ≡ from_behind x.who x.change.moment
+last_of t [] x = refl
+last_of t (e ∷ es) x = last_of (from_behind e.who e.change.moment) es x
 
 module _ (D M : Type 0) (stands : D → M → Type 0) (step : M → Act → M) (says : M → Option (ℕ × Bool)) where
-  pub performing_on : (e : Engined) (old new : Performing) (b b2 : Cabled D) (first es es2 : List Event) (bytes bytes2 : List ℕ) (last last2 : Bool) (ss : List (Station M)) (x : Event) → (p : IsPerforming D M stands step says e old b first es bytes last ss)
-      → HasNext D M stands step says old new b2 0 ss p.made x → es2 ≡ es ++ x ∷ [] → bytes2 ≡ bytes ++ taken_with new.byte → last2 ≡ last_with new.byte last → IsPerforming D M stands step says e new b2 first es2 bytes2 last2 ss
-  performing_on e old new b b2 first es es2 bytes bytes2 last last2 ss x p k added taken over = record {
+  pub performing_on : (e : Engined) (limit count : ℕ) (old new : Performing) (b b2 : Cabled D) (first es es2 : List Event) (bytes bytes2 : List ℕ) (last last2 : Bool) (ss : List (Station M)) (x : Event) → (p : IsPerforming D M stands step says e limit count old b first es bytes last ss)
+      → HasNext D M stands step says old new b2 0 ss p.made x → es2 ≡ es ++ x ∷ [] → bytes2 ≡ bytes ++ taken_with new.byte → last2 ≡ last_with new.byte last → IsPerforming D M stands step says e limit (count + 1) new b2 first es2 bytes2 last2 ss
+  performing_on e limit count old new b b2 first es es2 bytes bytes2 last last2 ss x p k added taken over = record {
     made = p.made ++ x ∷ [];
     added = added ∙ (ap (λ (l : List Event). l ++ x ∷ []) p.added ∙ append_assoc first p.made (x ∷ []));
+    many = length-append p.made (x ∷ []) ∙ ap (λ (n : ℕ). n + 1) p.many;
     going = k.going;
-    runs = goes old.engine k.from x p.made bytes last p.runs k.goes_on k.due k.engine refl (taken ∙ ap (λ (o : Option (ℕ × Bool)). bytes ++ taken_with o) k.byte) (over ∙ ap (λ (o : Option (ℕ × Bool)). last_with o last) k.byte);
+    runs = goes old.engine k.found x p.made bytes last p.runs k.goes_on k.due k.engine refl (taken ∙ ap (λ (o : Option (ℕ × Bool)). bytes ++ taken_with o) k.byte) (over ∙ ap (λ (o : Option (ℕ × Bool)). last_with o last) k.byte);
+    from = k.from ∙ sym (last_of 0 p.made x);
+    until = k.limit ∙ p.until;
   }
 
+  -- where there was no memory for the event, or for the byte that was taken with it
+  pub cut_before : (e : Engined) (limit count : ℕ) (old new : Performing) (b b2 : Cabled D) (first es es2 : List Event) (bytes : List ℕ) (last : Bool) (ss : List (Station M)) (x : Event) → (p : IsPerforming D M stands step says e limit count old b first es bytes last ss)
+      → HasNext D M stands step says old new b2 0 ss p.made x → es2 ≡ es → IsCutShort D M stands step says b2 first es2 ss
+  cut_before e limit count old new b b2 first es es2 bytes last ss x p k same =
+      let a = k.going.after in
+      record {
+        made = p.made;
+        lost = x ∷ pending new.player.second;
+        from = a.from;
+        stations = a.stations;
+        added = same ∙ p.added;
+        plays = subst (λ (l : List Event). Plays M step says 0 ss l a.from a.stations) (append_assoc p.made (x ∷ []) (pending new.player.second)) a.plays;
+        now = a.now;
+      }
+
+  pub cut_behind : (e : Engined) (limit count : ℕ) (old new : Performing) (b b2 : Cabled D) (first es es2 : List Event) (bytes : List ℕ) (last : Bool) (ss : List (Station M)) (x : Event) → (p : IsPerforming D M stands step says e limit count old b first es bytes last ss)
+      → HasNext D M stands step says old new b2 0 ss p.made x → es2 ≡ es ++ x ∷ [] → IsCutShort D M stands step says b2 first es2 ss
+  cut_behind e limit count old new b b2 first es es2 bytes last ss x p k more =
+      let a = k.going.after in
+      record {
+        made = p.made ++ x ∷ [];
+        lost = pending new.player.second;
+        from = a.from;
+        stations = a.stations;
+        added = more ∙ (ap (λ (l : List Event). l ++ x ∷ []) p.added ∙ append_assoc first p.made (x ∷ []));
+        plays = a.plays;
+        now = a.now;
+      }
+
   -- where nothing came
-  pub performing_still : (e : Engined) (old new : Performing) (b b2 : Cabled D) (first es : List Event) (bytes : List ℕ) (last : Bool) (ss : List (Station M)) → (p : IsPerforming D M stands step says e old b first es bytes last ss) → HasStopped D M stands step says old new b2 0 ss p.made
-      → IsPerforming D M stands step says e new b2 first es bytes last ss
-  performing_still e old new b b2 first es bytes last ss p k = record { made = p.made; added = p.added; going = k.going; runs = waits old.engine p.runs k.goes_on }
+  pub performing_still : (e : Engined) (limit count : ℕ) (old new : Performing) (b b2 : Cabled D) (first es : List Event) (bytes : List ℕ) (last : Bool) (ss : List (Station M)) → (p : IsPerforming D M stands step says e limit count old b first es bytes last ss) → HasStopped D M stands step says old new b2 0 ss p.made
+      → HasPerformed D M stands step says e limit new b2 first es bytes last ss
+  performing_still e limit count old new b b2 first es bytes last ss p k = record {
+    made = p.made;
+    added = p.added;
+    going = k.going;
+    behind = old.engine;
+    runs = p.runs;
+    goes_on = k.goes_on;
+    stops = subst (λ (l : ℕ). Stops M step says new.player l 0 ss p.made (engine_due new.engine)) (k.limit ∙ p.until) k.stops;
+    from = k.from ∙ p.from;
+    until = k.limit ∙ p.until;
+  }
 
   -- what is said is a byte
   all_bytes : (R : Seated D → Station M → Type 0) → ((x : Seated D) (s : Station M) → R x s → IsByte M step says (says s.machine)) → (xs : List (Seated D)) (ss : List (Station M)) → AllZip R xs ss → AllBytes M step says ss
@@ -39,11 +97,12 @@ module _ (D M : Type 0) (stands : D → M → Type 0) (step : M → Act → M) (
   one_byte (Some said) f = f said.0 said.1 refl
 
   -- before the first event
-  pub performing_none : (byte : (x : D) (m : M) (n : ℕ) (last : Bool) → stands x m → says m ≡ Some (n, last) → n < 256) (e : Engined) (p : Performing) (b : Cabled D) (first : List Event) (bytes : List ℕ) (last : Bool) (ss : List (Station M)) → IsBusAt D M stands b.host b.drives ss → p.player ≡ at_start
-      → p.engine ≡ e → bytes ≡ [] → last ≡ false → IsPerforming D M stands step says e p b first first bytes last ss
-  performing_none byte e p b first bytes last ss bus player engine none last_is = record {
+  pub performing_none : (byte : (x : D) (m : M) (n : ℕ) (last : Bool) → stands x m → says m ≡ Some (n, last) → n < 256) (e : Engined) (limit : ℕ) (p : Performing) (b : Cabled D) (first : List Event) (bytes : List ℕ) (last : Bool) (ss : List (Station M)) → IsBusAt D M stands b.host b.drives ss → p.player ≡ at_start
+      → p.engine ≡ e → p.limit ≡ limit → bytes ≡ [] → last ≡ false → IsPerforming D M stands step says e limit 0 p b first first bytes last ss
+  performing_none byte e limit p b first bytes last ss bus player engine until none last_is = record {
     made = [];
     added = sym (append-nil first);
+    many = refl;
     going = record {
       after = subst (λ x. IsAfter D M stands step says x b 0 ss []) (sym player) (record {
         from = 0;
@@ -51,8 +110,11 @@ module _ (D M : Type 0) (stands : D → M → Type 0) (step : M → Act → M) (
         before = omega arith;
         plays = stays (all_bytes (IsSeat D M stands (held_by b.host b.drives)) (λ x s h. one_byte (says s.machine) (λ n l said. byte x.machine s.machine n l h.machine said)) b.drives ss bus) refl refl refl;
         now = bus;
+        second = tt;
       });
       handed = subst (λ x. IsHandedOn x.waiting p.engine) (sym player) tt;
     };
     runs = begins engine refl none last_is;
+    from = ap (λ x. x.from) player;
+    until = until;
   }

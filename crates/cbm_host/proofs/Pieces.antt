@@ -1,5 +1,5 @@
 -- The host performs each piece of a request.
-use Rattle.std.proofs.Common.{ℕ, ◌+◌, ◌≤◌, Bool, true, false, List, [], ◌∷◌, ◌++◌, Some, ap, sym, ◌∙◌, subst, arith, refl}
+use Rattle.std.proofs.Common.{◌≡◌, ℕ, ◌+◌, ◌≤◌, Bool, true, false, List, [], ◌∷◌, ◌++◌, Some, ap, sym, ◌∙◌, subst, arith, refl}
 use Rattle.cbm_iec.specs.declared.act.Act.TheVariants.{Pulled, Attention, Released, Heard, Silent}
 use Rattle.cbm_iec.specs.declared.line.Line.TheVariants.{Atn, Clock, Data}
 use Rattle.cbm_iec.specs.declared.line.Way.TheVariants.{Pull, Free}
@@ -73,38 +73,48 @@ module _ (s : Seat) (some : 1 ≤ reaction s) (prompt : reaction s ≤ 60) (left
       Performs (is_at (Calling at)) (steps_of (alone p t) (ToListener at)) (sending_on at ready_wait most left)
   listener_performed p o at = makes refl refl (ends refl)
 
+  pub nobody_steps : (p : Point) (o : Held) (at : ℕ) → steps_of (alone p (seat s.party Absent o)) (ToNobody at at) ≡ for_each Released (host at Atn Free) ∷ host at Clock Free ∷ drive (device s) (at + reaction s) Data Free ∷ []
+  nobody_steps p o at =
+      let freed = drive (device s) (at + reaction s) Data Free in
+      merge_here (for_each Released (host at Atn Free)) (host at Clock Free ∷ []) freed [] (omega arith) ∙ ap (λ (zs : List Step). for_each Released (host at Atn Free) ∷ zs) (merge_here (host at Clock Free) [] freed [] (omega arith))
+
   pub nobody_performed : (p : Point) (o : Held) (at : ℕ) → let t = seat s.party Absent o in
       Performs (is_at (Releasing at AtnToNobody)) (steps_of (alone p t) (ToNobody at at)) (is_at (Ending (at + ready_wait)))
   nobody_performed p o at =
-      let freed = drive (device s) (at + reaction s) Data Free in
-      let steps = merge_here (for_each Released (host at Atn Free)) (host at Clock Free ∷ []) freed [] (omega arith) ∙ ap (λ (zs : List Step). for_each Released (host at Atn Free) ∷ zs) (merge_here (host at Clock Free) [] freed [] (omega arith)) in
-      subst (λ (zs : List Step). Performs (is_at (Releasing at AtnToNobody)) zs (is_at (Ending (at + ready_wait)))) (sym steps)
+      subst (λ (zs : List Step). Performs (is_at (Releasing at AtnToNobody)) zs (is_at (Ending (at + ready_wait)))) (sym (nobody_steps p o at))
       (makes refl refl (makes refl refl (sees (omega (arith, prompt)) (ends refl))))
 
   -- the turnaround
+  pub talker_steps : (p : Point) (o : Held) (at : ℕ) → steps_of (alone p (seat s.party Talker o)) (ToTalker at (at + phase))
+      ≡ host at Data Pull ∷ for_each Released (host at Atn Free) ∷ host (at + phase) Clock Free ∷ drive (device s) (at + phase + reaction s) Clock Pull ∷ drive (device s) (at + phase + reaction s) Data Free ∷ []
+  talker_steps p o at =
+      let clock = at + phase in
+      let answer = drive (device s) (clock + reaction s) Clock Pull ∷ drive (device s) (clock + reaction s) Data Free ∷ [] in
+      turn_first at (host clock Clock Free ∷ []) answer (omega arith)
+      ∙ ap (λ (zs : List Step). host at Data Pull ∷ for_each Released (host at Atn Free) ∷ zs) (merge_here (host clock Clock Free) [] (drive (device s) (clock + reaction s) Clock Pull) (drive (device s) (clock + reaction s) Data Free ∷ []) (omega arith))
+
   pub talker_performed : (p : Point) (o : Held) (at : ℕ) → let t = seat s.party Talker o in
       Performs (is_at (Releasing at DataToTalker)) (steps_of (alone p t) (ToTalker at (at + phase))) (is_at (Taking Awaiting))
   talker_performed p o at =
-      let clock = at + phase in
-      let answer = drive (device s) (clock + reaction s) Clock Pull ∷ drive (device s) (clock + reaction s) Data Free ∷ [] in
-      let steps =
-      turn_first at (host clock Clock Free ∷ []) answer (omega arith)
-      ∙ ap (λ (zs : List Step). host at Data Pull ∷ for_each Released (host at Atn Free) ∷ zs) (merge_here (host clock Clock Free) [] (drive (device s) (clock + reaction s) Clock Pull) (drive (device s) (clock + reaction s) Data Free ∷ []) (omega arith)) in
-      subst (λ (zs : List Step). Performs (is_at (Releasing at DataToTalker)) zs (is_at (Taking Awaiting))) (sym steps)
+      subst (λ (zs : List Step). Performs (is_at (Releasing at DataToTalker)) zs (is_at (Taking Awaiting))) (sym (talker_steps p o at))
       (makes refl refl (makes refl refl (makes refl refl (sees (omega (arith, prompt)) (sees tt (ends refl))))))
 
   -- nothing to say
+  pub nothing_steps : (p : Point) (o : Held) (at : ℕ) → steps_of (alone p (seat s.party Talker o)) (Nothing at (at + phase) (Some (at + phase + silence)))
+      ≡ host at Data Pull ∷ for_each Released (host at Atn Free) ∷ host (at + phase) Clock Free ∷ for_one (device s) Silent (drive (device s) (at + phase + reaction s) Data Free) ∷ host (at + phase + silence) Data Free ∷ []
+  nothing_steps p o at =
+      let clock = at + phase in
+      let freed = host (clock + silence) Data Free in
+      let silent = for_one (device s) Silent (drive (device s) (clock + reaction s) Data Free) in
+      turn_first at (host clock Clock Free ∷ freed ∷ []) (silent ∷ []) (omega arith)
+      ∙ ap (λ (zs : List Step). host at Data Pull ∷ for_each Released (host at Atn Free) ∷ zs)
+      (merge_here (host clock Clock Free) (freed ∷ []) silent [] (omega arith) ∙ ap (λ (zs : List Step). host clock Clock Free ∷ zs) (merge_there freed [] silent [] (omega (arith, prompt))))
+
   pub nothing_performed : (p : Point) (o : Held) (at : ℕ) → let t = seat s.party Talker o in
       Performs (is_at (Releasing at DataToTalker)) (steps_of (alone p t) (Nothing at (at + phase) (Some (at + phase + silence)))) (is_at (leaving (at + phase + silence + answer_wait) untalk false false))
   nothing_performed p o at =
       let clock = at + phase in
-      let freed = host (clock + silence) Data Free in
-      let silent = for_one (device s) Silent (drive (device s) (clock + reaction s) Data Free) in
-      let steps =
-      turn_first at (host clock Clock Free ∷ freed ∷ []) (silent ∷ []) (omega arith)
-      ∙ ap (λ (zs : List Step). host at Data Pull ∷ for_each Released (host at Atn Free) ∷ zs)
-      (merge_here (host clock Clock Free) (freed ∷ []) silent [] (omega arith) ∙ ap (λ (zs : List Step). host clock Clock Free ∷ zs) (merge_there freed [] silent [] (omega (arith, prompt)))) in
-      subst (λ (zs : List Step). Performs (is_at (Releasing at DataToTalker)) zs (is_at (leaving (clock + silence + answer_wait) untalk false false))) (sym steps)
+      subst (λ (zs : List Step). Performs (is_at (Releasing at DataToTalker)) zs (is_at (leaving (clock + silence + answer_wait) untalk false false))) (sym (nothing_steps p o at))
       (makes refl refl (makes refl refl (makes refl refl (sees (omega (arith, prompt)) (passes (clock + silence) refl tt (makes refl refl (ends refl)))))))
 
 -- a byte to a listener

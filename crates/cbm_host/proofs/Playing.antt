@@ -1,5 +1,5 @@
 -- A request goes on piece by piece: each fits the point behind the one before, and the host performs its part of it.
-use Rattle.std.proofs.Common.{◌≡◌, ℕ, zero, suc, ◌+◌, ◌*◌, ◌/◌, ◌%◌, ◌≤◌, ◌<◌, Bool, true, false, not, List, [], ◌∷◌, Option, None, ap, sym, ◌∙◌, subst, arith, refl}
+use Rattle.std.proofs.Common.{◌≡◌, ℕ, zero, suc, ◌+◌, ◌*◌, ◌/◌, ◌%◌, ◌≤◌, ◌<◌, Bool, true, false, not, List, [], ◌∷◌, ◌++◌, append_assoc, append-nil, Option, None, ap, sym, ◌∙◌, subst, arith, refl}
 use Rattle.std.proofs.lemmas.Bool.{ne_eqb, le-leb, lt-leb, eq-eqb, eqb-true, eqb-false}
 use Rattle.std.specs.Prelude.{if◌then◌else◌, ◌==◌}
 use Rattle.cbm_iec.specs.Roles.{role_after}
@@ -12,12 +12,16 @@ use Rattle.cbm_session.specs.Bits.{byte_of}
 use Rattle.cbm_session.specs.Following.{alone}
 use Rattle.cbm_session.specs.Pieces.{Piece, Place, Point, PullFits, PieceFits, piece_steps, point_after, PullPiece, Command, ToNobody, Full, Commanding, commanding}
 use Rattle.cbm_session.specs.Seats.{lines, Seat}
+use Rattle.cbm_session.specs.Steps.{Step, host, drive, for_each}
+use Rattle.cbm_iec.specs.declared.act.Act.TheVariants.{Released}
+use Rattle.cbm_iec.specs.declared.line.Line.TheVariants.{Atn, Clock, Data}
+use Rattle.cbm_iec.specs.declared.line.Way.TheVariants.{Free}
 use Rattle.cbm_host.proofs.Composing.{performs_then}
 use Rattle.cbm_host.proofs.Frames.{framing, frame_fits, cells_end}
-use Rattle.cbm_host.proofs.Pieces.{at_stage, pull_performed, command_performed, nobody_performed}
+use Rattle.cbm_host.proofs.Pieces.{at_stage, pull_performed, command_performed, nobody_steps, nobody_performed}
 use Rattle.cbm_host.specs.Engines.{Engined, accepted}
 use Rattle.cbm_host.specs.Framed.{cells_for, start_for, frame_for}
-use Rattle.cbm_host.specs.Performing.{Performs, ends}
+use Rattle.cbm_host.specs.Performing.{Performs}
 use Rattle.cbm_host.specs.Requests.{accept_for, leave, IsPlayed}
 use Rattle.cbm_host.specs.Sending.{is_low}
 use Rattle.cbm_host.specs.Stages as stages
@@ -70,14 +74,21 @@ untalked d l = rw (ne_eqb 95 (32 + d) (λ (x : 95 ≡ 32 + d). omega (arith, x, 
 
 -- ---- one piece, and those behind it
 
-pub go_on : {p : Point} {e : Engined} (k : Piece) (ks : List Piece) (limit : ℕ) (e1 : Engined) → PieceFits p k → Performs e (piece_steps p k) e1 → IsPlayed (point_after p k) e1 ks limit → IsPlayed p e (k ∷ ks) limit
-go_on k ks limit e1 fits here more = record {
+pub go_on : {b : Party} {p : Point} {e : Engined} (k : Piece) (ks : List Piece) (limit : ℕ) (e1 : Engined) → PieceFits p k → Performs e (piece_steps p k) e1 → IsPlayed b (point_after p k) e1 ks limit → IsPlayed b p e (k ∷ ks) limit
+go_on {p} k ks limit e1 fits here more = record {
   linked = (fits, more.linked);
   behind = more.behind;
   until = more.until;
   ending = more.ending;
   performs = performs_then here more.performs;
   soon = more.soon;
+  front = piece_steps p k ++ more.front;
+  last = more.last;
+  steps = ap (λ (l : List Step). piece_steps p k ++ l) more.steps ∙ sym (append_assoc (piece_steps p k) more.front (more.last ∷ []));
+  over = more.over;
+  at_rest = more.at_rest;
+  free = more.free;
+  alone = more.alone;
 }
 
 -- a drive alone at a point
@@ -102,41 +113,53 @@ module _ (b : Party) (some : 1 ≤ b.reaction) (prompt : b.reaction ≤ 60) (lef
 
   -- a byte of an attention
   pub command_then : (role : Role) (first : Bool) (pulled accept since t byte limit : ℕ) (behind : Behind) (ks : List Piece) → byte < 256 → pulled ≤ t → accept ≤ t
-      → IsPlayed (attending b (role_after b.device byte role) true pulled (accept_for r false byte (t + ready_wait)) since) (accepted (accept_for r false byte (t + ready_wait)) behind (framing behind left most Sent)) ks limit
-      → IsPlayed (attending b role first pulled accept since) (framing behind left most (Readying (t + ready_wait) byte false)) (Full (Command (frame_for r false byte (t + ready_wait))) ∷ ks) limit
+      → IsPlayed b (attending b (role_after b.device byte role) true pulled (accept_for r false byte (t + ready_wait)) since) (accepted (accept_for r false byte (t + ready_wait)) behind (framing behind left most Sent)) ks limit
+      → IsPlayed b (attending b role first pulled accept since) (framing behind left most (Readying (t + ready_wait) byte false)) (Full (Command (frame_for r false byte (t + ready_wait))) ∷ ks) limit
   command_then role first pulled accept since t byte limit behind ks small p a more =
       let s = seat b role (lines false true) in
       let f = frame_for r false byte (t + ready_wait) in
       let e1 = accepted (accept_for r false byte (t + ready_wait)) behind (framing behind left most Sent) in
       go_on (Full (Command f)) ks limit e1 (commanding, omega (arith, p), omega (arith, a), frame_fits s false byte (t + ready_wait))
       (command_performed s some prompt left most (attending b role first pulled accept since) byte (t + ready_wait) behind)
-      (subst (λ (n : ℕ). IsPlayed (attending b (role_after b.device n role) true pulled (accept_for r false byte (t + ready_wait)) since) e1 ks limit) (sym (frame_byte r false byte (t + ready_wait) small)) more)
+      (subst (λ (n : ℕ). IsPlayed b (attending b (role_after b.device n role) true pulled (accept_for r false byte (t + ready_wait)) since) e1 ks limit) (sym (frame_byte r false byte (t + ready_wait) small)) more)
 
   -- ATN's release to nobody, and the end
   pub nobody_then : (role : Role) (pulled accept since limit : ℕ) → role ≡ Absent → accept + 160 ≤ limit
-      → IsPlayed (attending b role true pulled accept since) (at_stage left most (stages.releasing accept Leaves)) (Full (ToNobody (accept + turn_wait) (accept + turn_wait)) ∷ []) limit
+      → IsPlayed b (attending b role true pulled accept since) (at_stage left most (stages.releasing accept Leaves)) (Full (ToNobody (accept + turn_wait) (accept + turn_wait)) ∷ []) limit
   nobody_then role pulled accept since limit absent soon =
-      subst (λ (x : Role). IsPlayed (attending b x true pulled accept since) (at_stage left most (stages.releasing accept Leaves)) (Full (ToNobody (accept + turn_wait) (accept + turn_wait)) ∷ []) limit) (sym absent)
-      (go_on (Full (ToNobody (accept + turn_wait) (accept + turn_wait))) [] limit (at_stage left most (Ending (accept + turn_wait + ready_wait)))
-      (record { commanding = refl; listener = refl; talker = refl; gap = omega arith }, omega arith)
-      (nobody_performed (seat b Absent (lines false true)) some prompt left most (attending b Absent true pulled accept since) (lines false true) (accept + turn_wait))
-      (record { linked = tt; behind = at_stage left most (Ending (accept + turn_wait + ready_wait)); until = accept + turn_wait + ready_wait; ending = refl; performs = ends refl; soon = omega (arith, soon) }))
+      subst (λ (x : Role). IsPlayed b (attending b x true pulled accept since) (at_stage left most (stages.releasing accept Leaves)) (Full (ToNobody (accept + turn_wait) (accept + turn_wait)) ∷ []) limit) (sym absent)
+      (record {
+        linked = ((record { commanding = refl; listener = refl; talker = refl; gap = omega arith }, omega arith), tt);
+        behind = at_stage left most (Ending (accept + turn_wait + ready_wait));
+        until = accept + turn_wait + ready_wait;
+        ending = refl;
+        performs = subst (λ (l : List Step). Performs (at_stage left most (stages.releasing accept Leaves)) l (at_stage left most (Ending (accept + turn_wait + ready_wait)))) (sym (append-nil _))
+            (nobody_performed (seat b Absent (lines false true)) some prompt left most (attending b Absent true pulled accept since) (lines false true) (accept + turn_wait));
+        soon = omega (arith, soon);
+        front = for_each Released (host (accept + turn_wait) Atn Free) ∷ host (accept + turn_wait) Clock Free ∷ [];
+        last = drive b.device (accept + turn_wait + b.reaction) Data Free;
+        steps = append-nil _ ∙ nobody_steps (seat b Absent (lines false true)) some prompt left most (attending b Absent true pulled accept since) (lines false true) (accept + turn_wait);
+        over = omega (arith, prompt);
+        at_rest = refl;
+        free = refl;
+        alone = refl;
+      })
 
   -- ATN's pull
   pub pull_then : (p : Point) (s : Seat) (a : Sequence) (at limit : ℕ) (ks : List Piece) → s.party ≡ b → PullFits (alone p s) at p.place
-      → IsPlayed (attending b s.role false at p.accepted at) (at_stage left most (stages.commanding at a)) ks limit
-      → IsPlayed (alone p s) (at_stage left most (Attending at (PullAtn p.host.clock_low p.host.data_low) a)) (Full (PullPiece at) ∷ ks) limit
+      → IsPlayed b (attending b s.role false at p.accepted at) (at_stage left most (stages.commanding at a)) ks limit
+      → IsPlayed b (alone p s) (at_stage left most (Attending at (PullAtn p.host.clock_low p.host.data_low) a)) (Full (PullPiece at) ∷ ks) limit
   pull_then p s a at limit ks same fits more =
       go_on (Full (PullPiece at)) ks limit (at_stage left most (stages.commanding at a)) fits
       (pull_performed s (subst (λ (x : Party). 1 ≤ x.reaction) (sym same) some) (subst (λ (x : Party). x.reaction ≤ 60) (sym same) prompt) left most p at a)
-      (subst (λ (x : Party). IsPlayed (attending x s.role false at p.accepted at) (at_stage left most (stages.commanding at a)) ks limit) (sym same) more)
+      (subst (λ (x : Party). IsPlayed b (attending x s.role false at p.accepted at) (at_stage left most (stages.commanding at a)) ks limit) (sym same) more)
 
   -- the last attention, of one byte
   abbrev pub only : ℕ → Sequence
   only byte = record { commands = One byte; errand = Leaves }
 
   pub leave_then : (p : Point) (s : Seat) (at byte limit : ℕ) → s.party ≡ b → PullFits (alone p s) at p.place → p.accepted ≤ at → byte < 256 → role_after b.device byte s.role ≡ Absent → at + 720 ≤ limit
-      → IsPlayed (alone p s) (at_stage left most (Attending at (PullAtn p.host.clock_low p.host.data_low) (only byte))) (leave r at (byte ∷ [])) limit
+      → IsPlayed b (alone p s) (at_stage left most (Attending at (PullAtn p.host.clock_low p.host.data_low) (only byte))) (leave r at (byte ∷ [])) limit
   leave_then p s at byte limit same fits late small absent soon =
       let accept = accept_for r false byte (at + ready_wait) in
       let end = cells_end 8 byte (start_for r false (at + ready_wait)) in

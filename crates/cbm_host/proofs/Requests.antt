@@ -1,5 +1,5 @@
 -- Every request is a session of its own, and the host performs its part of it.
-use Rattle.std.proofs.Common.{◌≡◌, ℕ, ◌+◌, ◌*◌, ◌≤◌, ◌<◌, ◌-◌, ◌^◌, true, false, List, [], ◌∷◌, ◌++◌, length, Some, None, ap, ◌∙◌, arith, refl}
+use Rattle.std.proofs.Common.{replicate, ◌≡◌, ℕ, ◌+◌, ◌*◌, ◌≤◌, ◌<◌, ◌-◌, ◌^◌, true, false, List, [], ◌∷◌, ◌++◌, length, Some, None, ap, ◌∙◌, arith, refl}
 use Rattle.cbm_iec.specs.Roles.{role_after}
 use Rattle.cbm_iec.specs.declared.party.Party.{Party}
 use Rattle.cbm_iec.specs.declared.party.Role.TheVariants.{Absent, Talker}
@@ -17,7 +17,7 @@ use Rattle.cbm_host.specs.Requests.{accept_for, attention, sending, Said, Mute, 
 use Rattle.cbm_host.specs.Stages as stages
 use Rattle.cbm_host.specs.Waits.{ready_wait, turn_wait, phase}
 use Rattle.cbm_host.specs.declared.commands.Commands.TheVariants.{One, Two, Three}
-use Rattle.cbm_host.specs.declared.request.Request.TheVariants.{Open, Put, Get, Close, Status}
+use Rattle.cbm_host.specs.declared.request.Request.TheVariants.{Open, Put, Fill, Get, Close, Status}
 use Rattle.cbm_host.specs.declared.stage.Behind.TheVariants.{Commanded}
 use Rattle.cbm_host.specs.declared.stage.Errand.{Errand}
 use Rattle.cbm_host.specs.declared.stage.Errand.TheVariants.{Sends, Takes, Leaves}
@@ -53,8 +53,8 @@ module _ (b : Party) (drive : IsDrive b) (start : ℕ) (left : List ℕ) (most :
 
   -- ATN's pull and two bytes
   two_then : (one two limit : ℕ) (errand : Errand) (ks : List Piece) → one < 256 → two < 256
-      → IsPlayed (attending b (behind_two one two) true start (second_accept one two) start) (at_stage left most (stages.releasing (second_accept one two) errand)) ks limit
-      → IsPlayed (rest (b ∷ [])) (at_stage left most (Attending start (PullAtn false false) (record { commands = Two one two; errand = errand }))) (attention r start (one ∷ two ∷ []) ++ ks) limit
+      → IsPlayed b (attending b (behind_two one two) true start (second_accept one two) start) (at_stage left most (stages.releasing (second_accept one two) errand)) ks limit
+      → IsPlayed b (rest (b ∷ [])) (at_stage left most (Attending start (PullAtn false false) (record { commands = Two one two; errand = errand }))) (attention r start (one ∷ two ∷ []) ++ ks) limit
   two_then one two limit errand ks small small2 more =
       let soon = second_soon one two in
       let early = soon.0 in
@@ -64,7 +64,7 @@ module _ (b : Party) (drive : IsDrive b) (start : ℕ) (left : List ℕ) (most :
 
   -- a request that sends
   pub sends : (second limit : ℕ) → 96 ≤ second → second < 256 → start + 2700 + 900 * length left ≤ limit
-      → IsPlayed (rest (b ∷ [])) (at_stage left most (Attending start (PullAtn false false) (record { commands = Two (listen + d) second; errand = Sends }))) (sending b start second left) limit
+      → IsPlayed b (rest (b ∷ [])) (at_stage left most (Attending start (PullAtn false false) (record { commands = Two (listen + d) second; errand = Sends }))) (sending b start second left) limit
   sends second limit high small soon =
       let few = drive.upto in
       let two = second_soon (listen + d) second in
@@ -74,7 +74,7 @@ module _ (b : Party) (drive : IsDrive b) (start : ℕ) (left : List ℕ) (most :
 
   -- a request that takes
   pub takes : (channel limit : ℕ) (said : Said) → channel ≤ 15 → IsSaidFor most said → start + 5000 + 1200 * count_of said ≤ limit
-      → IsPlayed (rest (b ∷ [])) (at_stage left most (Attending start (PullAtn false false) (record { commands = Two (talk + d) (data_on + channel); errand = Takes }))) (taking b start channel said) limit
+      → IsPlayed b (rest (b ∷ [])) (at_stage left most (Attending start (PullAtn false false) (record { commands = Two (talk + d) (data_on + channel); errand = Takes }))) (taking b start channel said) limit
   takes channel limit said few_channels wanted soon =
       two_then (talk + d) (data_on + channel) limit Takes _ (omega (arith, few)) (omega (arith, few_channels)) (by_said said wanted soon)
     where
@@ -91,7 +91,7 @@ module _ (b : Party) (drive : IsDrive b) (start : ℕ) (left : List ℕ) (most :
       role = ap (λ (x : Role). role_after d (data_on + channel) x) (talks d) ∙ still_talks d (data_on + channel) few (omega arith)
 
       by_said : (said : Said) → IsSaidFor most said → start + 5000 + 1200 * count_of said ≤ limit
-          → IsPlayed (attending b (behind_two (talk + d) (data_on + channel)) true start accept start) (at_stage left most (stages.releasing accept Takes)) (turned r (accept + turn_wait) said) limit
+          → IsPlayed b (attending b (behind_two (talk + d) (data_on + channel)) true start accept start) (at_stage left most (stages.releasing accept Takes)) (turned r (accept + turn_wait) said) limit
       by_said Mute wanted soon = nothing_then b drive.some drive.prompt (behind_two (talk + d) (data_on + channel)) left most start accept start limit role few (let t = two_soon in omega (arith, t, soon))
       by_said (UpToLast first more) wanted soon =
           let t = two_soon in
@@ -106,7 +106,7 @@ module _ (b : Party) (drive : IsDrive b) (start : ℕ) (left : List ℕ) (most :
 
   -- CLOSE
   pub closes : (channel limit : ℕ) → channel ≤ 15 → start + 5000 ≤ limit
-      → IsPlayed (rest (b ∷ [])) (at_stage left most (Attending start (PullAtn false false) (record { commands = Three (listen + d) (close_on + channel) unlisten; errand = Leaves }))) (leave r start ((listen + d) ∷ (close_on + channel) ∷ unlisten ∷ [])) limit
+      → IsPlayed b (rest (b ∷ [])) (at_stage left most (Attending start (PullAtn false false) (record { commands = Three (listen + d) (close_on + channel) unlisten; errand = Leaves }))) (leave r start ((listen + d) ∷ (close_on + channel) ∷ unlisten ∷ [])) limit
   closes channel limit few_channels soon =
       let few = drive.upto in
       let one = listen + d in
@@ -127,6 +127,7 @@ module _ (b : Party) (drive : IsDrive b) (start : ℕ) (left : List ℕ) (most :
 pub plays_requests : PlaysRequests
 plays_requests b start said (Open channel text) drive c n w m = sends b drive start text.now 0 (open_on + channel) (start + longest) (omega arith) (omega (arith, c)) (omega (arith, n))
 plays_requests b start said (Put channel bytes) drive c n w m = sends b drive start bytes.now 0 (data_on + channel) (start + longest) (omega arith) (omega (arith, c)) (omega (arith, n))
+plays_requests b start said (Fill channel count byte) drive c n w m = sends b drive start (replicate count byte) 0 (data_on + channel) (start + longest) (omega arith) (omega (arith, c)) (omega (arith, n))
 plays_requests b start said (Get channel most) drive c n w m = takes b drive start [] most channel (start + longest) said c w (omega (arith, m))
 plays_requests b start said (Close channel) drive c n w m = closes b drive start [] 0 channel (start + longest) c (omega arith)
 plays_requests b start said Status drive c n w m = takes b drive start [] (2 ^ 32 - 1) 15 (start + longest) said (omega arith) w (omega (arith, m))

@@ -28,7 +28,7 @@ accepted_soon r false byte ready h = let end = cells_end 8 byte (start_for r fal
 
 module _ (b : Party) (some : 1 ≤ b.reaction) (prompt : b.reaction ≤ 60) (most : ℕ) where
   pub sent_then : (pulled released accept since t wait limit : ℕ) (bytes : List ℕ) → released ≤ t → accept ≤ t → released + 100 ≤ t + wait → accept + 20 ≤ t + wait → wait ≤ 100 → t + 820 + 900 * length bytes ≤ limit
-      → IsPlayed (listening b pulled released accept since) (sending_on t wait most bytes) (sent b.reaction t wait bytes) limit
+      → IsPlayed b (listening b pulled released accept since) (sending_on t wait most bytes) (sent b.reaction t wait bytes) limit
   sent_then pulled released accept since t wait limit [] a c d e f soon =
       leave_then b some prompt [] most (listening b pulled released accept since) (seat b Listener (lines false true)) (t + wait) 63 limit refl (d, e) (omega (arith, c)) (omega arith) refl (omega (arith, f, soon))
   sent_then pulled released accept since t wait limit (byte ∷ left) a c d e f soon =
@@ -47,10 +47,10 @@ module _ (b : Party) (some : 1 ≤ b.reaction) (prompt : b.reaction ≤ 60) (mos
 
   -- ATN's release to a listener, and the bytes
   pub listener_then : (role : Role) (pulled accept since limit : ℕ) (bytes : List ℕ) → role ≡ Listener → accept + 880 + 900 * length bytes ≤ limit
-      → IsPlayed (attending b role true pulled accept since) (at_stage bytes most (stages.releasing accept Sends)) (Full (ToListener (accept + turn_wait)) ∷ sent b.reaction (accept + turn_wait) ready_wait bytes) limit
+      → IsPlayed b (attending b role true pulled accept since) (at_stage bytes most (stages.releasing accept Sends)) (Full (ToListener (accept + turn_wait)) ∷ sent b.reaction (accept + turn_wait) ready_wait bytes) limit
   listener_then role pulled accept since limit bytes listens soon =
       let at = accept + turn_wait in
-      subst (λ (x : Role). IsPlayed (attending b x true pulled accept since) (at_stage bytes most (stages.releasing accept Sends)) (Full (ToListener at) ∷ sent b.reaction at ready_wait bytes) limit) (sym listens)
+      subst (λ (x : Role). IsPlayed b (attending b x true pulled accept since) (at_stage bytes most (stages.releasing accept Sends)) (Full (ToListener at) ∷ sent b.reaction at ready_wait bytes) limit) (sym listens)
       (go_on (Full (ToListener at)) (sent b.reaction at ready_wait bytes) limit (sending_on at ready_wait most bytes)
       (record { commanding = refl; listener = refl; talker = refl; gap = omega arith })
       (listener_performed (seat b Listener (lines false true)) some prompt bytes most (attending b Listener true pulled accept since) (lines false true) at)

@@ -90,7 +90,7 @@ module _ (b : Party) (some : 1 ≤ b.reaction) (prompt : b.reaction ≤ 60) wher
   told_fits false byte at = record { eight = bits_count b [] 0 8 byte; free = omega arith; signal = tt; accept = omega arith; soon = omega arith }
 
   -- the steps of the frame up to the accept, and CLOCK's release behind a last byte
-  abbrev told_front : Bool → ℕ → ℕ → List Step
+  abbrev pub told_front : Bool → ℕ → ℕ → List Step
   told_front last byte at =
       let f = told_for r last byte at in
       drive b.device at Clock Free ∷ host f.free Data Free ∷ (signal_steps f.signal ++ (bit_steps b (first_bit b f) false f.bits ++ for_one b.device (Said (number_of (bits_for 8 byte)) last) (host f.accept Data Pull) ∷ []))
@@ -110,8 +110,8 @@ module _ (b : Party) (some : 1 ≤ b.reaction) (prompt : b.reaction ≤ 60) wher
 
   -- a byte that isn't the last
   pub told_then : (left : List ℕ) (most pulled accept since byte at limit : ℕ) (e1 : Engined) (ks : List Piece) → taking_on (told_for r false byte at).accept false (record { stage = Taking Awaiting; left = left; most = most }) ≡ e1
-      → IsPlayed (leading b ((told_for r false byte at).accept + next_byte) pulled accept (told_for r false byte at).accept) e1 ks limit
-      → IsPlayed (leading b at pulled accept since) (at_stage left most (Taking Awaiting)) (Full (Talk at (told_for r false byte at)) ∷ ks) limit
+      → IsPlayed b (leading b ((told_for r false byte at).accept + next_byte) pulled accept (told_for r false byte at).accept) e1 ks limit
+      → IsPlayed b (leading b at pulled accept since) (at_stage left most (Taking Awaiting)) (Full (Talk at (told_for r false byte at)) ∷ ks) limit
   told_then left most pulled accept since byte at limit e1 ks same more =
       let p = leading b at pulled accept since in
       let f = told_for r false byte at in
@@ -128,14 +128,30 @@ module _ (b : Party) (some : 1 ≤ b.reaction) (prompt : b.reaction ≤ 60) wher
 
   -- the last attention, behind a talk
   pub untalk_then : (p : Point) (s : Seat) (left : List ℕ) (most at limit : ℕ) → s.party ≡ b → s.role ≡ Talker → p.place ≡ Cutting at → p.accepted ≤ at → p.host ≡ lines false true → b.device ≤ 11 → at + 720 ≤ limit
-      → IsPlayed (alone p s) (at_stage left most (stages.leaving at untalk false true)) (leave r at (untalk ∷ [])) limit
+      → IsPlayed b (alone p s) (at_stage left most (stages.leaving at untalk false true)) (leave r at (untalk ∷ [])) limit
   untalk_then p s left most at limit same talks place late held few soon =
-      subst (λ (h : Held). IsPlayed (alone p s) (at_stage left most (stages.leaving at untalk h.clock_low h.data_low)) (leave r at (untalk ∷ [])) limit) held
+      subst (λ (h : Held). IsPlayed b (alone p s) (at_stage left most (stages.leaving at untalk h.clock_low h.data_low)) (leave r at (untalk ∷ [])) limit) held
       (leave_then b some prompt left most p s at untalk limit same (subst (λ (x : Place). PullFits (alone p s) at x) (sym place) refl) late (omega arith) (ap (λ (x : Role). role_after b.device untalk x) talks ∙ untalked b.device few) soon)
+
+  none_taken : (last : Bool) (next at2 cut : ℕ) → cut ≤ at2 → NoneBefore cut (taking b (told_for r last next at2))
+  none_taken true next at2 cut h = (omega (arith, h), (omega (arith, h), (omega (arith, h), (omega (arith, h), tt))))
+  none_taken false next at2 cut h = (omega (arith, h), (omega (arith, h), tt))
+
+  none_told : (last : Bool) (next at2 cut : ℕ) → cut ≤ at2 → NoneBefore cut (one_told b at2 (told_for r last next at2))
+  none_told true next at2 cut h =
+      let f = told_for r true next at2 in
+      (h, (omega (arith, h), (omega (arith, h), (omega (arith, h), none_append cut (bit_steps b (first_bit b f) false f.bits) _ (bits_none b cut (first_bit b f) false f.bits (omega (arith, h))) (omega (arith, h), (omega (arith, h), tt))))))
+  none_told false next at2 cut h =
+      let f = told_for r false next at2 in
+      (h, (omega (arith, h), none_append cut (bit_steps b (first_bit b f) false f.bits) _ (bits_none b cut (first_bit b f) false f.bits (omega (arith, h))) (omega (arith, h), tt)))
+
+  -- of a frame that is cut before it begins nothing comes
+  pub nothing_cut : (p : Point) (o : Held) (last : Bool) (next at2 cut : ℕ) → cut ≤ at2 → before cut (steps_of (alone p (seat b Talker o)) (Talk at2 (told_for r last next at2))) ≡ []
+  nothing_cut p o last next at2 cut h = ap (λ (zs : List Step). before cut zs) (told_is b at2 (told_for r last next at2) (told_fits last next at2)) ∙ before_none cut (one_told b at2 (told_for r last next at2)) (none_told last next at2 cut h)
 
   -- the last byte that is wanted: the next frame is cut before it begins
   pub most_then : (left : List ℕ) (pulled accept since next byte at limit : ℕ) (last : Bool) → b.device ≤ 11 → accept ≤ at → at + 2000 ≤ limit
-      → IsPlayed (leading b at pulled accept since) (at_stage left 1 (Taking Awaiting)) (at_most r next last byte at) limit
+      → IsPlayed b (leading b at pulled accept since) (at_stage left 1 (Taking Awaiting)) (at_most r next last byte at) limit
   most_then left pulled accept since next byte at limit last few late soon =
       let f = told_for r false byte at in
       let cut = f.accept + answer_wait in
@@ -144,8 +160,7 @@ module _ (b : Party) (some : 1 ≤ b.reaction) (prompt : b.reaction ≤ 60) wher
       let p2 = leading b at2 pulled accept f.accept in
       let fits2 = told_fits last next at2 in
       let steps2 = told_is b at2 f2 fits2 in
-      let none = none_told last next at2 cut (omega arith) in
-      let nothing : before cut (steps_of p2 (Talk at2 f2)) ≡ [] = ap (λ (zs : List Step). before cut zs) steps2 ∙ before_none cut (one_told b at2 f2) none in
+      let nothing = nothing_cut p2 (lines true false) last next at2 cut (omega arith) in
       let e1 = at_stage left 1 (stages.leaving cut untalk false true) in
       told_then left 1 pulled accept since byte at limit e1 (Cut (Talk at2 f2) cut ∷ leave r cut (untalk ∷ [])) refl
       (go_on (Cut (Talk at2 f2) cut) (leave r cut (untalk ∷ [])) limit e1
@@ -153,22 +168,10 @@ module _ (b : Party) (some : 1 ≤ b.reaction) (prompt : b.reaction ≤ 60) wher
       (subst (λ (zs : List Step). Performs e1 zs e1) (sym nothing) (ends refl))
       (untalk_then (point_after p2 (Cut (Talk at2 f2) cut)) (seat_with Talker (held_by (lines true false) (before cut (own_part p2 (Talk at2 f2) (seat b Talker (lines true false))))) (seat b Talker (lines true false))) left 1 cut limit refl refl refl (omega (arith, late))
       (ap (λ (zs : List Step). held_by (lines false true) zs) (before_none cut (taking b f2) (none_taken last next at2 cut (omega arith)))) few (omega (arith, prompt, soon))))
-    where
-      none_taken : (last : Bool) (next at2 cut : ℕ) → cut ≤ at2 → NoneBefore cut (taking b (told_for r last next at2))
-      none_taken true next at2 cut h = (omega (arith, h), (omega (arith, h), (omega (arith, h), (omega (arith, h), tt))))
-      none_taken false next at2 cut h = (omega (arith, h), (omega (arith, h), tt))
-
-      none_told : (last : Bool) (next at2 cut : ℕ) → cut ≤ at2 → NoneBefore cut (one_told b at2 (told_for r last next at2))
-      none_told true next at2 cut h =
-          let f = told_for r true next at2 in
-          (h, (omega (arith, h), (omega (arith, h), (omega (arith, h), none_append cut (bit_steps b (first_bit b f) false f.bits) _ (bits_none b cut (first_bit b f) false f.bits (omega (arith, h))) (omega (arith, h), (omega (arith, h), tt))))))
-      none_told false next at2 cut h =
-          let f = told_for r false next at2 in
-          (h, (omega (arith, h), none_append cut (bit_steps b (first_bit b f) false f.bits) _ (bits_none b cut (first_bit b f) false f.bits (omega (arith, h))) (omega (arith, h), tt)))
 
   -- bytes up to as many as are wanted
   pub up_to_most_then : (left : List ℕ) (pulled accept since next at byte limit : ℕ) (last : Bool) (more : List ℕ) → b.device ≤ 11 → accept ≤ at → at + 2000 + 1200 * length more ≤ limit
-      → IsPlayed (leading b at pulled accept since) (at_stage left (length more + 1) (Taking Awaiting)) (up_to_most r next last at byte more) limit
+      → IsPlayed b (leading b at pulled accept since) (at_stage left (length more + 1) (Taking Awaiting)) (up_to_most r next last at byte more) limit
   up_to_most_then left pulled accept since next at byte limit last [] few late soon = most_then left pulled accept since next byte at limit last few late (omega (arith, soon))
   up_to_most_then left pulled accept since next at byte limit last (byte2 ∷ more) few late soon =
       let f = told_for r false byte at in
@@ -177,13 +180,13 @@ module _ (b : Party) (some : 1 ≤ b.reaction) (prompt : b.reaction ≤ 60) wher
       (up_to_most_then left pulled accept f.accept next (f.accept + next_byte) byte2 limit last more few (omega (arith, late)) (omega (arith, prompt, soon)))
 
   pub as_many_then : (left : List ℕ) (most pulled accept since next at byte limit : ℕ) (last : Bool) (more : List ℕ) → length more + 1 ≡ most → b.device ≤ 11 → accept ≤ at → at + 2000 + 1200 * length more ≤ limit
-      → IsPlayed (leading b at pulled accept since) (at_stage left most (Taking Awaiting)) (up_to_most r next last at byte more) limit
+      → IsPlayed b (leading b at pulled accept since) (at_stage left most (Taking Awaiting)) (up_to_most r next last at byte more) limit
   as_many_then left most pulled accept since next at byte limit last more many few late soon =
-      subst (λ (n : ℕ). IsPlayed (leading b at pulled accept since) (at_stage left n (Taking Awaiting)) (up_to_most r next last at byte more) limit) many (up_to_most_then left pulled accept since next at byte limit last more few late soon)
+      subst (λ (n : ℕ). IsPlayed b (leading b at pulled accept since) (at_stage left n (Taking Awaiting)) (up_to_most r next last at byte more) limit) many (up_to_most_then left pulled accept since next at byte limit last more few late soon)
 
   -- the last byte, with EOI: a drive that reacts soon frees CLOCK before ATN is pulled, a slower one is cut there
   last_soon : (left : List ℕ) (most pulled accept since byte at limit : ℕ) → r < 20 → b.device ≤ 11 → accept ≤ at → at + 2300 ≤ limit
-      → IsPlayed (leading b at pulled accept since) (at_stage left most (Taking Awaiting)) (Full (Talk at (told_for r true byte at)) ∷ leave r ((told_for r true byte at).accept + answer_wait) (untalk ∷ [])) limit
+      → IsPlayed b (leading b at pulled accept since) (at_stage left most (Taking Awaiting)) (Full (Talk at (told_for r true byte at)) ∷ leave r ((told_for r true byte at).accept + answer_wait) (untalk ∷ [])) limit
   last_soon left most pulled accept since byte at limit quick few late soon =
       let p = leading b at pulled accept since in
       let f = told_for r true byte at in
@@ -194,40 +197,45 @@ module _ (b : Party) (some : 1 ≤ b.reaction) (prompt : b.reaction ≤ 60) wher
       (leave_then b some prompt left most (point b Talker (lines false false) Open (lines false true) pulled None accept (f.accept + r + 1)) (seat b Talker (lines false false)) cut untalk limit refl (tt, omega (arith, quick)) (omega (arith, late)) (omega arith) (untalked b.device few)
       (omega (arith, prompt, soon)))
 
+  front_before : (byte at : ℕ) → AllBefore ((told_for r true byte at).accept + answer_wait) (told_front true byte at)
+  front_before byte at =
+      let f = told_for r true byte at in
+      let many = bits_count b [] 0 8 byte in
+      (omega arith, (omega arith, (omega arith, (omega arith, all_append (f.accept + answer_wait) (bit_steps b (first_bit b f) false f.bits) _ (bits_before b (first_bit b f) (f.accept + answer_wait) false f.bits (omega (arith, many))) (omega arith, tt)))))
+
+  -- a slow drive's last frame is cut behind its byte
+  pub cut_last : (p : Point) (o : Held) (byte at : ℕ) → 20 ≤ r → before ((told_for r true byte at).accept + answer_wait) (steps_of (alone p (seat b Talker o)) (Talk at (told_for r true byte at))) ≡ told_front true byte at
+  cut_last p o byte at slow =
+      let cut = (told_for r true byte at).accept + answer_wait in
+      ap (λ (zs : List Step). before cut zs) (last_steps p o byte at) ∙ before_append cut (told_front true byte at) (over byte at ∷ []) (front_before byte at) (omega (arith, slow), tt)
+
   last_late : (left : List ℕ) (most pulled accept since byte at limit : ℕ) → 20 ≤ r → b.device ≤ 11 → accept ≤ at → since ≤ at + 100 → at + 2300 ≤ limit
-      → IsPlayed (leading b at pulled accept since) (at_stage left most (Taking Awaiting)) (Cut (Talk at (told_for r true byte at)) ((told_for r true byte at).accept + answer_wait) ∷ leave r ((told_for r true byte at).accept + answer_wait) (untalk ∷ [])) limit
+      → IsPlayed b (leading b at pulled accept since) (at_stage left most (Taking Awaiting)) (Cut (Talk at (told_for r true byte at)) ((told_for r true byte at).accept + answer_wait) ∷ leave r ((told_for r true byte at).accept + answer_wait) (untalk ∷ [])) limit
   last_late left most pulled accept since byte at limit slow few late early soon =
       let p = leading b at pulled accept since in
       let f = told_for r true byte at in
       let cut = f.accept + answer_wait in
       let e1 = at_stage left most (stages.leaving cut untalk false true) in
       let steps = last_steps p (lines true false) byte at in
-      let cut_there : before cut (steps_of p (Talk at f)) ≡ told_front true byte at =
-      ap (λ (zs : List Step). before cut zs) steps ∙ before_append cut (told_front true byte at) (over byte at ∷ []) (front_before byte at) (omega (arith, slow), tt) in
+      let cut_there = cut_last p (lines true false) byte at slow in
       go_on (Cut (Talk at f) cut) (leave r cut (untalk ∷ [])) limit e1
       ((refl, told_fits true byte at), omega (arith, early), ap (λ (zs : List Step). some_from cut zs) steps ∙ some_last cut (told_front true byte at) (over byte at) (omega (arith, slow)))
       (subst (λ (zs : List Step). Performs (at_stage left most (Taking Awaiting)) zs e1) (sym cut_there) (told_performed b left most true byte at prompt))
       (untalk_then (point_after p (Cut (Talk at f) cut)) (seat_with Talker (held_by (lines true false) (before cut (own_part p (Talk at f) (seat b Talker (lines true false))))) (seat b Talker (lines true false))) left most cut limit refl refl refl (omega (arith, late))
       (ap (λ (zs : List Step). held_by (lines false true) zs) (before_all cut (taking b f) (omega arith, (omega arith, (omega arith, (omega arith, tt)))))) few (omega (arith, prompt, soon)))
-    where
-      front_before : (byte at : ℕ) → AllBefore ((told_for r true byte at).accept + answer_wait) (told_front true byte at)
-      front_before byte at =
-          let f = told_for r true byte at in
-          let many = bits_count b [] 0 8 byte in
-          (omega arith, (omega arith, (omega arith, (omega arith, all_append (f.accept + answer_wait) (bit_steps b (first_bit b f) false f.bits) _ (bits_before b (first_bit b f) (f.accept + answer_wait) false f.bits (omega (arith, many))) (omega arith, tt)))))
 
   last_then : (left : List ℕ) (most pulled accept since byte at limit : ℕ) → b.device ≤ 11 → accept ≤ at → since ≤ at + 100 → at + 2300 ≤ limit
-      → IsPlayed (leading b at pulled accept since) (at_stage left most (Taking Awaiting)) (at_last r byte at) limit
+      → IsPlayed b (leading b at pulled accept since) (at_stage left most (Taking Awaiting)) (at_last r byte at) limit
   last_then left most pulled accept since byte at limit few late early soon = elim (leb_tells (suc r) 20) [
-    | inl h ↦ subst (λ (v : Bool). IsPlayed (leading b at pulled accept since) (at_stage left most (Taking Awaiting)) ((if v then Full (Talk at (told_for r true byte at)) else Cut (Talk at (told_for r true byte at)) ((told_for r true byte at).accept + answer_wait)) ∷ leave r ((told_for r true byte at).accept + answer_wait) (untalk ∷ [])) limit)
+    | inl h ↦ subst (λ (v : Bool). IsPlayed b (leading b at pulled accept since) (at_stage left most (Taking Awaiting)) ((if v then Full (Talk at (told_for r true byte at)) else Cut (Talk at (told_for r true byte at)) ((told_for r true byte at).accept + answer_wait)) ∷ leave r ((told_for r true byte at).accept + answer_wait) (untalk ∷ [])) limit)
         (sym h.0) (last_soon left most pulled accept since byte at limit h.1 few late soon)
-    | inr h ↦ subst (λ (v : Bool). IsPlayed (leading b at pulled accept since) (at_stage left most (Taking Awaiting)) ((if v then Full (Talk at (told_for r true byte at)) else Cut (Talk at (told_for r true byte at)) ((told_for r true byte at).accept + answer_wait)) ∷ leave r ((told_for r true byte at).accept + answer_wait) (untalk ∷ [])) limit)
+    | inr h ↦ subst (λ (v : Bool). IsPlayed b (leading b at pulled accept since) (at_stage left most (Taking Awaiting)) ((if v then Full (Talk at (told_for r true byte at)) else Cut (Talk at (told_for r true byte at)) ((told_for r true byte at).accept + answer_wait)) ∷ leave r ((told_for r true byte at).accept + answer_wait) (untalk ∷ [])) limit)
         (sym h.0) (last_late left most pulled accept since byte at limit (let l = h.1 in omega (arith, l)) few late early soon)
   ]
 
   -- bytes up to the one with EOI
   pub up_to_last_then : (left : List ℕ) (most pulled accept since at byte limit : ℕ) (more : List ℕ) → length more + 1 ≤ most → b.device ≤ 11 → accept ≤ at → since ≤ at + 100 → at + 2300 + 1200 * length more ≤ limit
-      → IsPlayed (leading b at pulled accept since) (at_stage left most (Taking Awaiting)) (up_to_last r at byte more) limit
+      → IsPlayed b (leading b at pulled accept since) (at_stage left most (Taking Awaiting)) (up_to_last r at byte more) limit
   up_to_last_then left most pulled accept since at byte limit [] many few late early soon = last_then left most pulled accept since byte at limit few late early (omega (arith, soon))
   up_to_last_then left most pulled accept since at byte limit (byte2 ∷ more) many few late early soon =
       let f = told_for r false byte at in
@@ -238,22 +246,22 @@ module _ (b : Party) (some : 1 ≤ b.reaction) (prompt : b.reaction ≤ 60) wher
   -- ---- the turnaround
 
   pub talker_then : (role : Role) (left : List ℕ) (most pulled accept since limit : ℕ) (ks : List Piece) → role ≡ Talker
-      → IsPlayed (leading b (accept + turn_wait + phase + r + 80) pulled accept (accept + turn_wait + phase + r + 1)) (at_stage left most (Taking Awaiting)) ks limit
-      → IsPlayed (attending b role true pulled accept since) (at_stage left most (stages.releasing accept Takes)) (Full (ToTalker (accept + turn_wait) (accept + turn_wait + phase)) ∷ ks) limit
+      → IsPlayed b (leading b (accept + turn_wait + phase + r + 80) pulled accept (accept + turn_wait + phase + r + 1)) (at_stage left most (Taking Awaiting)) ks limit
+      → IsPlayed b (attending b role true pulled accept since) (at_stage left most (stages.releasing accept Takes)) (Full (ToTalker (accept + turn_wait) (accept + turn_wait + phase)) ∷ ks) limit
   talker_then role left most pulled accept since limit ks talks more =
       let at = accept + turn_wait in
-      subst (λ (x : Role). IsPlayed (attending b x true pulled accept since) (at_stage left most (stages.releasing accept Takes)) (Full (ToTalker at (at + phase)) ∷ ks) limit) (sym talks)
+      subst (λ (x : Role). IsPlayed b (attending b x true pulled accept since) (at_stage left most (stages.releasing accept Takes)) (Full (ToTalker at (at + phase)) ∷ ks) limit) (sym talks)
       (go_on (Full (ToTalker at (at + phase))) ks limit (at_stage left most (Taking Awaiting)) (record { commanding = refl; listener = refl; talker = refl; gap = omega arith }, omega arith)
       (talker_performed (seat b Talker (lines false true)) some prompt left most (attending b Talker true pulled accept since) (lines false true) at) more)
 
   pub nothing_then : (role : Role) (left : List ℕ) (most pulled accept since limit : ℕ) → role ≡ Talker → b.device ≤ 11 → accept + 2000 ≤ limit
-      → IsPlayed (attending b role true pulled accept since) (at_stage left most (stages.releasing accept Takes))
+      → IsPlayed b (attending b role true pulled accept since) (at_stage left most (stages.releasing accept Takes))
       (Full (Nothing (accept + turn_wait) (accept + turn_wait + phase) (Some (accept + turn_wait + phase + silence))) ∷ leave r (accept + turn_wait + phase + silence + answer_wait) (untalk ∷ [])) limit
   nothing_then role left most pulled accept since limit talks few soon =
       let at = accept + turn_wait in
       let pull = at + phase + silence + answer_wait in
       let w = Nothing at (at + phase) (Some (at + phase + silence)) in
-      subst (λ (x : Role). IsPlayed (attending b x true pulled accept since) (at_stage left most (stages.releasing accept Takes)) (Full w ∷ leave r pull (untalk ∷ [])) limit) (sym talks)
+      subst (λ (x : Role). IsPlayed b (attending b x true pulled accept since) (at_stage left most (stages.releasing accept Takes)) (Full w ∷ leave r pull (untalk ∷ [])) limit) (sym talks)
       (go_on (Full w) (leave r pull (untalk ∷ [])) limit (at_stage left most (stages.leaving pull untalk false false))
       (record { commanding = refl; listener = refl; talker = refl; gap = omega arith }, omega arith, omega (arith, prompt))
       (nothing_performed (seat b Talker (lines false true)) some prompt left most (attending b Talker true pulled accept since) (lines false true) at)

@@ -1,5 +1,5 @@
 -- A request under way: what the host is at, the bytes that are left, and what becomes of it behind each change.
-use Rattle.std.specs.Prelude.{ℕ, ◌+◌, ◌-◌, ◌^◌, Bool, true, false, List, [], ◌∷◌, Option, Some, None, nat_le, ◌||◌, if◌then◌else◌}
+use Rattle.std.specs.Prelude.{ℕ, ◌+◌, ◌-◌, ◌^◌, Bool, true, false, List, [], ◌∷◌, Option, Some, None, nat_le, ◌||◌, replicate, if◌then◌else◌}
 use Rattle.cbm_iec.specs.declared.line.Change.{Change}
 use Rattle.cbm_iec.specs.declared.line.Line.{Line}
 use Rattle.cbm_iec.specs.declared.line.Line.TheVariants.{Data}
@@ -15,7 +15,7 @@ use Rattle.cbm_host.specs.declared.due.Due.{Due}
 use Rattle.cbm_host.specs.declared.frame.Frame.{Frame}
 use Rattle.cbm_host.specs.declared.frame.Frame.TheVariants.{Readying, Sent}
 use Rattle.cbm_host.specs.declared.request.Request.{Request}
-use Rattle.cbm_host.specs.declared.request.Request.TheVariants.{Open, Put, Get, Close, Status}
+use Rattle.cbm_host.specs.declared.request.Request.TheVariants.{Open, Put, Fill, Get, Close, Status}
 use Rattle.cbm_host.specs.declared.stage.Sequence.{Sequence}
 use Rattle.cbm_host.specs.declared.stage.Behind.{Behind}
 use Rattle.cbm_host.specs.declared.stage.Behind.TheVariants.{Commanded, Listened}
@@ -38,6 +38,7 @@ pub record Engined : Type 0 where
 abbrev pub attention_of : ℕ → Request → Sequence
 attention_of d (Open channel text) = record { commands = Two (listen + d) (open_on + channel); errand = Sends }
 attention_of d (Put channel bytes) = record { commands = Two (listen + d) (data_on + channel); errand = Sends }
+attention_of d (Fill channel count byte) = record { commands = Two (listen + d) (data_on + channel); errand = Sends }
 attention_of d (Get channel most) = record { commands = Two (talk + d) (data_on + channel); errand = Takes }
 attention_of d (Close channel) = record { commands = Three (listen + d) (close_on + channel) unlisten; errand = Leaves }
 attention_of d Status = record { commands = Two (talk + d) (data_on + 15); errand = Takes }
@@ -46,6 +47,7 @@ attention_of d Status = record { commands = Two (talk + d) (data_on + 15); erran
 abbrev pub channel_of : Request → ℕ
 channel_of (Open channel text) = channel
 channel_of (Put channel bytes) = channel
+channel_of (Fill channel count byte) = channel
 channel_of (Get channel most) = channel
 channel_of (Close channel) = channel
 channel_of Status = 15
@@ -54,6 +56,7 @@ channel_of Status = 15
 abbrev pub sent_by : Request → List ℕ
 sent_by (Open channel text) = text.now
 sent_by (Put channel bytes) = bytes.now
+sent_by (Fill channel count byte) = replicate count byte
 sent_by request = []
 
 abbrev pub most_of : Request → ℕ

@@ -3,9 +3,15 @@ pub mod Attentions
 pub mod Sending
 pub mod Taking
 pub mod Stages
+pub mod Left
 pub mod Engines
 pub mod Performers
 pub mod Performing
 pub mod Framed
 pub mod Requests
 pub mod Performed
+pub mod CarriedOut
+pub mod Served
+pub mod Progress
+pub mod Begun
+pub mod Hosted

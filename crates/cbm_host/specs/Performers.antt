@@ -1,15 +1,18 @@
 -- A request played on a bus, event by event.
-use Rattle.std.specs.Prelude.{◌≡◌, ◌≤◌, ◌⊎◌, ℕ, Bool, List, [], ◌∷◌, ◌++◌, Option, Some, None}
+use Rattle.std.specs.Prelude.{◌≡◌, ◌≤◌, ◌<◌, ◌⊎◌, ◌+◌, ℕ, min, Bool, List, [], ◌∷◌, ◌++◌, Option, Some, None, IfSome}
 use Rattle.cbm_drive.specs.Cables.{Cabled}
-use Rattle.cbm_drive.specs.Players.{Turns, IsAfter}
+use Rattle.cbm_drive.specs.Players.{Turns, from_behind, pending, IsAfter}
+use Rattle.cbm_drive.specs.Silence.{AreSilent}
 use Rattle.cbm_host.specs.Engines.{Engined, stage_taken, engine_due, engine_made, engine_seen, engine_passed}
-use Rattle.cbm_host.specs.declared.due.Due.TheVariants.{Makes, Waits}
+use Rattle.cbm_host.specs.declared.due.Due.{Due}
+use Rattle.cbm_host.specs.declared.due.Due.TheVariants.{Makes, Waits, Hears, Over}
+use Rattle.cbm_host.specs.Performing.{IsBefore}
 use Rattle.cbm_iec.specs.declared.act.Act.{Act}
 use Rattle.cbm_iec.specs.declared.event.Event.{Event}
 use Rattle.cbm_iec.specs.declared.event.Who.TheVariants.{Host, Drive}
 use Rattle.cbm_iec.specs.declared.event.Who.{Who}
 use Rattle.cbm_iec.specs.declared.line.Change.{Change}
-use Rattle.cbm_session.specs.Playing.{Station}
+use Rattle.cbm_session.specs.Playing.{Station, Plays}
 
 -- a player with the engine that hands it the host's changes, the byte that the last event took, and the moment at which it gives up
 pub record Performing : Type 0 where
@@ -23,10 +26,10 @@ abbrev pub IsHandedOn : Option Change → Engined → Type 0
 IsHandedOn None e = Unit {0}
 IsHandedOn (Some c) e = engine_due e ≡ Makes c
 
--- a change of the host is the one that was due
+-- a change of the host is the one that was due; one of the drive comes before what the host does next
 abbrev pub IsDue : Who → Change → Engined → Type 0
 IsDue Host c e = engine_due e ≡ Makes c
-IsDue (Drive d) c e = Unit {0}
+IsDue (Drive d) c e = IsBefore c.moment (engine_due e)
 
 -- the engine behind an event, and the byte that the host took with it
 abbrev pub engine_behind : Who → Change → Engined → Engined
@@ -37,9 +40,37 @@ abbrev pub byte_with : Who → Engined → Option (ℕ × Bool)
 byte_with Host e = stage_taken e.stage
 byte_with (Drive d) e = None
 
--- an engine that goes on from here: this one, or, where it waits, the one behind the wait
-abbrev pub GoesOnFrom : Engined → Engined → Type 0
-GoesOnFrom old e = (e ≡ old) ⊎ ((until : ℕ) × (engine_due old ≡ Waits until) × (e ≡ engine_passed old))
+-- up to when the player may be asked, by what the host does next: its change waits in the player, or it waits for longer
+abbrev pub IsAsked : ℕ → Option Change → Due → Type 0
+IsAsked upto waiting (Makes c) = (waiting ≡ Some c) × (upto ≤ c.moment)
+IsAsked upto waiting (Waits until) = upto < until
+IsAsked upto waiting Hears = Unit {0}
+IsAsked upto waiting (Over at) = ⊥
+
+-- the host's change that is due comes no more: it is later than the host gives up, or the player refuses it
+abbrev pub IsRefused : Turns → ℕ → Change → Type 0
+IsRefused p limit c = (limit < c.moment) ⊎ (c.moment < p.from)
+
+module _ (M : Type 0) (step : M → Act → M) (says : M → Option (ℕ × Bool)) where
+  -- BEHIND THESE EVENTS NO DRIVE CHANGES A LINE before a moment, if the host changes none.
+  pub record IsQuietUntil (t n : ℕ) (ss : List (Station M)) (es : List Event) : Type 0 where
+    pub second : Option Event
+    pub from : ℕ
+    pub stations : List (Station M)
+    pub plays : Plays M step says n ss (es ++ pending second) from stations
+    pub later : IfSome second (λ e. t ≤ e.change.moment)
+    pub silent : second ≡ None → AreSilent M step says t stations
+
+  -- the engine behind these events: as it was with the last of them, or, where the host waited and nothing came by then, behind the wait
+  abbrev pub GoesOnFrom : ℕ → List (Station M) → List Event → Engined → Engined → Type 0
+  GoesOnFrom n ss es old e = (e ≡ old) ⊎ ((until : ℕ) × (engine_due old ≡ Waits until) × (e ≡ engine_passed old) × IsQuietUntil until n ss es)
+
+  -- WHY NO EVENT COMES: the host's change that is due comes no more; nothing comes up to the limit; or the request is over.
+  abbrev pub Stops : Turns → ℕ → ℕ → List (Station M) → List Event → Due → Type 0
+  Stops p limit n ss es (Makes c) = IsRefused p limit c
+  Stops p limit n ss es (Waits until) = (limit < until) × IsQuietUntil (limit + 1) n ss es
+  Stops p limit n ss es Hears = IsQuietUntil (limit + 1) n ss es
+  Stops p limit n ss es (Over at) = Unit {0}
 
 module _ (D M : Type 0) (stands : D → M → Type 0) (step : M → Act → M) (says : M → Option (ℕ × Bool)) where
   -- THESE EVENTS CAME: they are a play of the bus from these stations, and what waits in the player is what the host does next.
@@ -47,24 +78,43 @@ module _ (D M : Type 0) (stands : D → M → Type 0) (step : M → Act → M) (
     pub after : IsAfter D M stands step says p.player b n ss es
     pub handed : IsHandedOn p.player.waiting p.engine
 
-  -- none came, though the host may have waited to no avail
+  -- the host's change comes no more, and all is as it was
+  pub record IsHeldBack (old new : Performing) (b c : Cabled D) (change : Change) : Type 0 where
+    pub player : new.player ≡ old.player
+    pub bus : c ≡ b
+    pub why : IsRefused old.player old.limit change
+
+  -- no drive changes a line before this moment, nor up to the limit, and all is as it was
+  pub record IsUnmoved (old new : Performing) (b c : Cabled D) (until n : ℕ) (ss : List (Station M)) (es : List Event) : Type 0 where
+    pub player : new.player ≡ old.player
+    pub bus : c ≡ b
+    pub quiet : IsQuietUntil M step says (min until (old.limit + 1)) n ss es
+
+  -- none came
   pub record HasStopped (old new : Performing) (b : Cabled D) (n : ℕ) (ss : List (Station M)) (es : List Event) : Type 0 where
     pub going : IsGoing new b n ss es
-    pub goes_on : GoesOnFrom old.engine new.engine
+    pub goes_on : GoesOnFrom M step says n ss es old.engine new.engine
+    pub stops : Stops M step says new.player new.limit n ss es (engine_due new.engine)
+    pub from : new.player.from ≡ old.player.from
+    pub limit : new.limit ≡ old.limit
 
   -- one more came, and the engine is still to be told
   pub record HasCome (old new : Performing) (b : Cabled D) (n : ℕ) (ss : List (Station M)) (es : List Event) (e : Event) : Type 0 where
     pub after : IsAfter D M stands step says new.player b n ss (es ++ e ∷ [])
-    pub goes_on : GoesOnFrom old.engine new.engine
+    pub goes_on : GoesOnFrom M step says n ss es old.engine new.engine
     pub due : IsDue e.who e.change new.engine
     pub handed : IsHandedOn new.player.waiting (engine_behind e.who e.change new.engine)
     pub moment : e.change.moment ≤ new.limit
+    pub from : new.player.from ≡ from_behind e.who e.change.moment
+    pub limit : new.limit ≡ old.limit
 
-  -- THE NEXT EVENT: the host's change that was due, or what the drive did; and the byte that the host took with it.
+  -- THE NEXT EVENT: the host's change that was due, or what the drive did before; and the byte that the host took with it.
   pub record HasNext (old new : Performing) (b : Cabled D) (n : ℕ) (ss : List (Station M)) (es : List Event) (e : Event) : Type 0 where
     pub going : IsGoing new b n ss (es ++ e ∷ [])
-    pub from : Engined
-    pub goes_on : GoesOnFrom old.engine from
-    pub due : IsDue e.who e.change from
-    pub engine : new.engine ≡ engine_behind e.who e.change from
-    pub byte : new.byte ≡ byte_with e.who from
+    pub found : Engined
+    pub goes_on : GoesOnFrom M step says n ss es old.engine found
+    pub due : IsDue e.who e.change found
+    pub engine : new.engine ≡ engine_behind e.who e.change found
+    pub byte : new.byte ≡ byte_with e.who found
+    pub from : new.player.from ≡ from_behind e.who e.change.moment
+    pub limit : new.limit ≡ old.limit

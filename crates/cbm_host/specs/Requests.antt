@@ -1,18 +1,21 @@
 -- The pieces of a request on the wires, from its first change on, for a drive alone with the host: in the field's words LISTEN or TALK, a secondary
 -- address, the bytes with EOI on the last, and UNLISTEN or UNTALK.
-use Rattle.std.specs.Prelude.{◌≡◌, ◌≤◌, ℕ, ◌+◌, Bool, true, false, List, [], ◌∷◌, ◌++◌, Some, if◌then◌else◌, nat_lt, length}
+use Rattle.std.specs.Prelude.{replicate, ◌≡◌, ◌≤◌, ℕ, ◌+◌, Bool, true, false, List, [], ◌∷◌, ◌++◌, Some, if◌then◌else◌, nat_lt, length}
 use Rattle.cbm_iec.specs.Profile.{next_byte}
 use Rattle.cbm_iec.specs.declared.party.Party.{Party}
 use Rattle.cbm_session.specs.Frames.{end_of}
-use Rattle.cbm_session.specs.Pieces.{Piece, Point, PullPiece, Command, Byte, ToListener, ToNobody, ToTalker, Nothing, Talk, Full, Cut}
+use Rattle.cbm_session.specs.Pieces.{Piece, Point, point_after, Open, PullPiece, Command, Byte, ToListener, ToNobody, ToTalker, Nothing, Talk, Full, Cut}
+use Rattle.cbm_session.specs.Seats.{lines}
 use Rattle.cbm_session.specs.Sessions.{rest, Linked, session_steps, IsDrive}
+use Rattle.cbm_session.specs.Steps.{Step, moment_of}
+use Rattle.cbm_iec.specs.declared.party.Role.TheVariants.{Absent}
 use Rattle.cbm_host.specs.Attentions.{listen, unlisten, talk, untalk, data_on, close_on, open_on}
 use Rattle.cbm_host.specs.Engines.{Engined, engine_at, is_last, channel_of, sent_by, most_of}
 use Rattle.cbm_host.specs.Framed.{frame_for, told_for}
 use Rattle.cbm_host.specs.Performing.{Performs}
 use Rattle.cbm_host.specs.Waits.{ready_wait, answer_wait, phase, turn_wait, silence}
 use Rattle.cbm_host.specs.declared.request.Request.{Request}
-use Rattle.cbm_host.specs.declared.request.Request.TheVariants.{Open, Put, Get, Close, Status}
+use Rattle.cbm_host.specs.declared.request.Request.TheVariants.{Open, Put, Fill, Get, Close, Status}
 use Rattle.cbm_host.specs.declared.stage.Stage.TheVariants.{Ending}
 
 -- when the drive accepts a byte of the host for which CLOCK is freed then
@@ -94,6 +97,7 @@ taking b start channel said =
 abbrev pub pieces_of : Party → ℕ → Said → Request → List Piece
 pieces_of b start said (Open channel text) = sending b start (open_on + channel) text.now
 pieces_of b start said (Put channel bytes) = sending b start (data_on + channel) bytes.now
+pieces_of b start said (Fill channel count byte) = sending b start (data_on + channel) (replicate count byte)
 pieces_of b start said (Get channel most) = taking b start channel said
 pieces_of b start said (Close channel) = leave b.reaction start ((listen + b.device) ∷ (close_on + channel) ∷ unlisten ∷ [])
 pieces_of b start said Status = taking b start 15 said
@@ -117,17 +121,29 @@ most_bytes = 200000
 abbrev pub longest : ℕ
 longest = 250000000
 
--- These pieces go on a session from a point, and the host performs its part of them, from its engine at that point until it only waits for the end, not
--- later than a limit.
-pub record IsPlayed (p : Point) (e : Engined) (ks : List Piece) (limit : ℕ) : Type 0 where
+-- the point of a session behind pieces
+abbrev pub end_point : Point → List Piece → Point
+end_point p [] = p
+end_point p (k ∷ ks) = end_point (point_after p k) ks
+
+-- These pieces go on a session from a point to one where all lines are free and the drive has no role, and the host performs its part of them, from its
+-- engine at that point until it only waits for the end, which is behind the last step and not later than a limit.
+pub record IsPlayed (b : Party) (p : Point) (e : Engined) (ks : List Piece) (limit : ℕ) : Type 0 where
   pub linked : Linked p ks
   pub behind : Engined
   pub until : ℕ
   pub ending : behind.stage ≡ Ending until
   pub performs : Performs e (session_steps p ks) behind
   pub soon : until ≤ limit
+  pub front : List Step
+  pub last : Step
+  pub steps : session_steps p ks ≡ front ++ last ∷ []
+  pub over : moment_of last ≤ until
+  pub at_rest : (end_point p ks).place ≡ Open
+  pub free : (end_point p ks).host ≡ lines false false
+  pub alone : (end_point p ks).seats ≡ (record { party = b; role = Absent; own = lines false false }) ∷ []
 
 -- EVERY REQUEST is a session of its own, whatever the drive says in it, and the host performs its part of it.
 abbrev pub PlaysRequests : Type 0
 PlaysRequests = (b : Party) (start : ℕ) (said : Said) (request : Request) → IsDrive b → channel_of request ≤ 15 → length (sent_by request) ≤ most_bytes → IsSaidFor (most_of request) said → count_of said ≤ most_bytes
-    → IsPlayed (rest (b ∷ [])) (engine_at start b.device request) (pieces_of b start said request) (start + longest)
+    → IsPlayed b (rest (b ∷ [])) (engine_at start b.device request) (pieces_of b start said request) (start + longest)

@@ -3,6 +3,7 @@
 use crate::commands::{CLOSE, Commands, DATA, LISTEN, OPEN, TALK, UNLISTEN, UNTALK};
 use crate::due::Due;
 use crate::frame::Frame;
+use crate::left::Left;
 use crate::request::Request;
 use crate::stage::{Behind, Errand, Pulls, Sequence, Stage};
 use crate::take::Take;
@@ -14,16 +15,17 @@ use std::marker::Model;
 #[derive(Drop)]
 pub(crate) struct Engine<'a> {
     stage: Stage,
-    left: &'a [u8],
+    left: Left<'a>,
     most: u32,
 }
 
 impl<'a> Model for Engine<'a> {
     ghost use Rattle.cbm_host.specs.Engines.{Engined};
+    ghost use Rattle.cbm_host.specs.Left.{bytes_left};
 
     ghost Value = { Engined };
 
-    ghost view = { λ e. record { stage = e.stage; left = e.left.now; most = e.most } };
+    ghost view = { λ e. record { stage = e.stage; left = bytes_left e.left; most = e.most } };
 }
 
 impl<'a> Engine<'a> {
@@ -47,7 +49,7 @@ impl<'a> Engine<'a> {
                 pull,
                 attention,
             },
-            left: request.bytes(),
+            left: request.sends(),
             most: request.most(),
         }
     }
@@ -136,16 +138,15 @@ impl<'a> Engine<'a> {
         requires wait { wait ≤ 100 }
         ensures { self.new ≡ sending_on moment wait self.old.most self.old.left }
     {
-        let Some((byte, rest)) = self.left.split_first() else {
+        let Some(byte) = self.left.next() else {
             self.stage = Stage::leave(moment + wait, UNLISTEN, true, false);
             return;
         };
-        self.left = rest;
         self.stage = Stage::Framing {
             frame: Frame::Readying {
                 at: moment + READY,
-                byte: *byte,
-                eoi: rest.is_empty(),
+                byte,
+                eoi: self.left.is_empty(),
             },
             behind: Behind::Listened,
         };
@@ -179,7 +180,9 @@ impl Sequence {
         let talk = TALK + device;
         let (commands, errand) = match request {
             Request::Open(channel, _) => (Commands::Two(listen, OPEN + channel), Errand::Sends),
-            Request::Put(channel, _) => (Commands::Two(listen, DATA + channel), Errand::Sends),
+            Request::Put(channel, _) | Request::Fill(channel, _, _) => {
+                (Commands::Two(listen, DATA + channel), Errand::Sends)
+            }
             Request::Get(channel, _) => (Commands::Two(talk, DATA + channel), Errand::Takes),
             Request::Close(channel) => {
                 let commands = Commands::Three(listen, CLOSE + channel, UNLISTEN);

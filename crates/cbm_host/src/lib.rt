@@ -6,7 +6,9 @@ mod done;
 mod due;
 mod engine;
 mod frame;
+mod hosted;
 pub mod laws;
+mod left;
 mod performer;
 mod performing;
 mod request;
@@ -15,6 +17,7 @@ mod take;
 mod waits;
 
 pub use done::Done;
+pub use hosted::Hosted;
 pub use performer::Performer;
 pub use performing::perform;
 pub use request::Request;

@@ -30,13 +30,24 @@ impl<'a> Model for Performer<'a> {
 }
 
 impl<'a> Performer<'a> {
-    ghost use Rattle.std.specs.Prelude.{◌≡◌, ◌+◌, ◌^◌, ◌<◌, ◌≤◌, ℕ, List, None, MatchOption};
-    ghost use Rattle.cbm_session.specs.Playing.{Station};
-    ghost use Rattle.cbm_drive.specs.Players.{at_start};
+    ghost use Rattle.std.specs.Prelude.{◌≡◌, ◌+◌, ◌++◌, ◌^◌, ◌<◌, ◌≤◌, ℕ, Bool, List, [], ◌∷◌, None, Some, true, false, IfSome, MatchOption};
+    ghost use Rattle.cbm_session.specs.Playing.{Station, at_rest};
+    ghost use Rattle.cbm_session.specs.Sessions.{IsDrive};
+    ghost use Rattle.cbm_iec.specs.declared.party.Party.{Party};
+    ghost use Rattle.cbm_host.specs.Begun.{IsBegun};
+    ghost use Rattle.cbm_host.specs.CarriedOut.{IsShort, HasCarriedOut};
+    ghost use Rattle.cbm_host.specs.Performed.{IsPerforming, HasPerformed};
+    ghost use Rattle.cbm_host.specs.declared.request.Request.{Request};
+    ghost use Rattle.cbm_drive.specs.Players.{at_start, at_most, IsDrives, IsWaitingFrom, IsStill};
+    ghost use Rattle.cbm_drive.specs.Seats.{numbers};
+    ghost use Rattle.cbm_host.specs.Progress.{left_of, FallsBy};
+    ghost use Rattle.cbm_host.specs.Hosted.{IsTaking, HasTaken};
+    ghost use Rattle.cbm_host.specs.Engines.{Engined};
     ghost use Rattle.cbm_host.specs.Engines.{channel_of, engine_at, engine_due, stage_end};
-    ghost use Rattle.cbm_host.specs.Performers.{IsHandedOn, IsGoing, HasStopped, HasCome, HasNext, engine_behind, byte_with};
+    ghost use Rattle.cbm_host.specs.Performers.{IsHandedOn, IsAsked, IsHeldBack, IsUnmoved, IsGoing, HasStopped, HasCome, HasNext, engine_behind, byte_with};
     ghost use Rattle.cbm_iec.specs.declared.event.Event.{Event};
-    ghost use Rattle.cbm_host.specs.declared.due.Due.TheVariants.{Makes, Waits};
+    ghost use Rattle.cbm_iec.specs.declared.line.Change.{Change};
+    ghost use Rattle.cbm_host.specs.declared.due.Due.TheVariants.{Makes, Waits, Hears};
 
     /// Before the first event of a request to the drive with this device number; its first change comes at the start.
     pub fn new(start: u64, device: u8, request: Request<'a>) -> Performer<'a>
@@ -46,6 +57,7 @@ impl<'a> Performer<'a> {
         ensures player { result.player ≡ at_start }
         ensures engine { result.engine ≡ engine_at start device request.entry }
         ensures byte { result.byte ≡ None }
+        ensures limit { result.limit ≡ start + 250000000 }
     {
         Performer {
             player: Player::new(),
@@ -62,6 +74,10 @@ impl<'a> Performer<'a> {
             IsGoing _ D.State D.stands D.step D.says self.old bus.old n ss es → MatchOption result
             (HasStopped _ D.State D.stands D.step D.says self.old self.new bus.new n ss es)
             (HasNext _ D.State D.stands D.step D.says self.old self.new bus.new n ss es) }
+        // Whatever the machine stands for, less is left to come behind an event.
+        ensures fewer { IfSome result (λ e. left_of self.new bus.new < left_of self.old bus.old) }
+        ensures limit { self.new.limit ≡ self.old.limit }
+        ensures lasting { numbers D.lasting bus.new.drives ≡ numbers D.lasting bus.old.drives }
     {
         let event = self.event(bus)?;
         if event.change.moment > self.limit {
@@ -69,6 +85,29 @@ impl<'a> Performer<'a> {
         }
         self.tell(event);
         Some(event)
+    }
+
+    /// Goes on to the next byte that the host takes, and answers it and whether it carries EOI. None where the request is
+    /// over.
+    pub fn next_byte<D: Machine, const N: usize>(
+        &mut self,
+        bus: &mut Bus<D, N>,
+    ) -> Option<(u8, bool)>
+        requires one { N ≡ 1 }
+        ensures taken { (e : Engined) (limit : ℕ) (bytes : List ℕ) (last : Bool) (ss : List (Station D.State)) →
+            IsTaking _ D.State D.stands D.step D.says e limit self.old bus.old bytes last ss → MatchOption result
+            (HasTaken _ D.State D.stands D.step D.says e limit self.new bus.new bytes last ss)
+            (λ x. IsTaking _ D.State D.stands D.step D.says e limit self.new bus.new (bytes ++ x.0 ∷ []) x.1 ss) }
+        ensures fewer { IfSome result (λ x. left_of self.new bus.new < left_of self.old bus.old) }
+        ensures limit { self.new.limit ≡ self.old.limit }
+        ensures lasting { numbers D.lasting bus.new.drives ≡ numbers D.lasting bus.old.drives }
+    {
+        'events: while let Some(_event) = self.next(bus) {
+            if let Some(said) = self.byte() {
+                return Some(said);
+            }
+        }
+        None
     }
 
     /// The byte of the drive that the last event accepted, and whether it is the last one (EOI).
@@ -85,10 +124,45 @@ impl<'a> Performer<'a> {
         self.engine.end()
     }
 
+    /// When the request was over, in microseconds; where it was given up, the latest moment at which it could have been.
+    pub fn over(&self) -> u64
+        ensures limit { result ≤ self.now.limit }
+        ensures end { (t : ℕ) → stage_end self.now.engine.stage ≡ Some t → t ≤ self.now.limit → result ≡ t }
+    {
+        match self.engine.end() {
+            Some(end) if end <= self.limit => end,
+            _ => self.limit,
+        }
+    }
+
+    /// A law, and nothing is done: where no more events come of a request to a drive at rest, the request was carried out,
+    /// and its end is told.
+    pub fn carries_out<D: Machine, const N: usize>(&self, bus: &Bus<D, N>)
+        ensures { (b : Party) (ms : ℕ → D.State) (start : ℕ) (request : Request) (old new : List Event) (bytes : List ℕ)
+            (last : Bool) → IsDrive b → channel_of request ≤ 15 →
+            IsShort D.State D.step D.says b.device (ms b.device) request →
+            HasPerformed _ D.State D.stands D.step D.says (engine_at start b.device request) (start + 250000000) self.now
+            bus.now old new bytes last (at_rest D.State D.step D.says ms (b ∷ [])) →
+            (end : ℕ) × (stage_end self.now.engine.stage ≡ Some end) ×
+            HasCarriedOut _ D.State D.stands D.step D.says b ms start request bus.now old new bytes last end }
+    {}
+
+    /// A law, and nothing is done: while a request to a drive at rest is under way, the bytes so far are the first of those
+    /// that the drive says in it, and with EOI they are all of them.
+    pub fn begins<D: Machine, const N: usize>(&self, bus: &Bus<D, N>)
+        ensures { (b : Party) (ms : ℕ → D.State) (start count : ℕ) (request : Request) (old new : List Event)
+            (bytes : List ℕ) (last : Bool) → IsDrive b → channel_of request ≤ 15 →
+            IsShort D.State D.step D.says b.device (ms b.device) request →
+            IsPerforming _ D.State D.stands D.step D.says (engine_at start b.device request) (start + 250000000) count
+            self.now bus.now old new bytes last (at_rest D.State D.step D.says ms (b ∷ [])) →
+            IsBegun D.State D.step D.says b.device (ms b.device) request bytes last }
+    {}
+
     /// The engine is told an event.
     fn tell(&mut self, event: Event)
         requires { event.change.moment < 2 ^ 60 }
         ensures player { self.new.player ≡ self.old.player }
+        ensures limit { self.new.limit ≡ self.old.limit }
         ensures engine { self.new.engine ≡ engine_behind event.who event.change self.old.engine }
         ensures byte { self.new.byte ≡ byte_with event.who self.old.engine }
     {
@@ -110,15 +184,15 @@ impl<'a> Performer<'a> {
             IsGoing _ D.State D.stands D.step D.says self.old bus.old n ss es → MatchOption result
             (HasStopped _ D.State D.stands D.step D.says self.old self.new bus.new n ss es)
             (HasCome _ D.State D.stands D.step D.says self.old self.new bus.new n ss es) }
+        ensures fewer { IfSome result (λ e. FallsBy e.who self.old self.new bus.old bus.new) }
+        ensures limit { self.new.limit ≡ self.old.limit }
+        ensures lasting { numbers D.lasting bus.new.drives ≡ numbers D.lasting bus.old.drives }
     {
         match self.engine.due() {
-            Due::Makes(change) if change.moment <= self.limit => self.play(bus, change),
-            Due::Waits(until) if until <= self.limit => self.wait(bus, until),
-            Due::Hears => {
-                let limit = self.limit;
-                self.ask(bus, limit)
-            }
-            _ => None,
+            Due::Makes(change) => self.play(bus, change),
+            Due::Waits(until) => self.wait(bus, until),
+            Due::Hears => self.hear(bus),
+            Due::Over(_) => None,
         }
     }
 
@@ -126,13 +200,57 @@ impl<'a> Performer<'a> {
     fn ask<D: Machine, const N: usize>(&mut self, bus: &mut Bus<D, N>, upto: u64) -> Option<Event>
         requires { upto ≤ self.old.limit }
         ensures come { (n : ℕ) (ss : List (Station D.State)) (es : List Event) →
+            (g : IsGoing _ D.State D.stands D.step D.says self.old bus.old n ss es) →
+            IsAsked upto self.old.player.waiting (engine_due self.old.engine) → MatchOption result
+            (IsStill _ D.State D.stands D.step D.says self.old.player self.new.player bus.old bus.new upto g.after.stations)
+            (HasCome _ D.State D.stands D.step D.says self.old self.new bus.new n ss es) }
+        ensures waiting { IsWaitingFrom self.new.player.from self.new.player.waiting }
+        ensures fewer { IfSome result (λ e. IsDrives e.who → at_most (self.old.limit + 1) self.new.player.second
+            bus.new.drives < at_most (self.old.limit + 1) self.old.player.second bus.old.drives) }
+        ensures engine { self.new.engine ≡ self.old.engine }
+        ensures limit { self.new.limit ≡ self.old.limit }
+        ensures lasting { numbers D.lasting bus.new.drives ≡ numbers D.lasting bus.old.drives }
+    {
+        self.player.next(bus, upto)
+    }
+
+    /// What the drive does up to a moment, where no change of the host is due.
+    fn heed<D: Machine, const N: usize>(&mut self, bus: &mut Bus<D, N>, upto: u64) -> Option<Event>
+        requires upto { upto ≤ self.old.limit }
+        requires none { (change : Change) → engine_due self.old.engine ≡ Makes change → ⊥ }
+        ensures come { (n : ℕ) (ss : List (Station D.State)) (es : List Event) →
+            (g : IsGoing _ D.State D.stands D.step D.says self.old bus.old n ss es) →
+            IsAsked upto self.old.player.waiting (engine_due self.old.engine) → MatchOption result
+            (IsStill _ D.State D.stands D.step D.says self.old.player self.new.player bus.old bus.new upto g.after.stations)
+            (HasCome _ D.State D.stands D.step D.says self.old self.new bus.new n ss es) }
+        ensures waiting { IsWaitingFrom self.new.player.from self.new.player.waiting }
+        ensures drive { IfSome result (λ e. IsDrives e.who) }
+        ensures fewer { IfSome result (λ e. at_most (self.old.limit + 1) self.new.player.second bus.new.drives
+            < at_most (self.old.limit + 1) self.old.player.second bus.old.drives) }
+        ensures engine { self.new.engine ≡ self.old.engine }
+        ensures limit { self.new.limit ≡ self.old.limit }
+        ensures lasting { numbers D.lasting bus.new.drives ≡ numbers D.lasting bus.old.drives }
+    {
+        let event = self.ask(bus, upto)?;
+        match event.who {
+            Who::Drive(_) => Some(event),
+            Who::Host => None,
+        }
+    }
+
+    /// What the drive does, as long as the host doesn't give up.
+    fn hear<D: Machine, const N: usize>(&mut self, bus: &mut Bus<D, N>) -> Option<Event>
+        requires due { engine_due self.old.engine ≡ Hears }
+        ensures come { (n : ℕ) (ss : List (Station D.State)) (es : List Event) →
             IsGoing _ D.State D.stands D.step D.says self.old bus.old n ss es → MatchOption result
             (HasStopped _ D.State D.stands D.step D.says self.old self.new bus.new n ss es)
             (HasCome _ D.State D.stands D.step D.says self.old self.new bus.new n ss es) }
-        ensures engine { self.new.engine ≡ self.old.engine }
+        ensures fewer { IfSome result (λ e. FallsBy e.who self.old self.new bus.old bus.new) }
         ensures limit { self.new.limit ≡ self.old.limit }
+        ensures lasting { numbers D.lasting bus.new.drives ≡ numbers D.lasting bus.old.drives }
     {
-        self.player.next(bus, upto)
+        let limit = self.limit;
+        self.heed(bus, limit)
     }
 
     /// The host's change that is due, or what the drive does before it.
@@ -141,51 +259,79 @@ impl<'a> Performer<'a> {
         bus: &mut Bus<D, N>,
         change: Change,
     ) -> Option<Event>
-        requires limit { change.moment ≤ self.old.limit }
         requires due { engine_due self.old.engine ≡ Makes change }
         ensures come { (n : ℕ) (ss : List (Station D.State)) (es : List Event) →
             IsGoing _ D.State D.stands D.step D.says self.old bus.old n ss es → MatchOption result
-            (HasStopped _ D.State D.stands D.step D.says self.old self.new bus.new n ss es)
+            (IsHeldBack _ D.State D.stands D.step D.says self.old self.new bus.old bus.new change)
             (HasCome _ D.State D.stands D.step D.says self.old self.new bus.new n ss es) }
+        ensures fewer { IfSome result (λ e. FallsBy e.who self.old self.new bus.old bus.new) }
         ensures engine { self.new.engine ≡ self.old.engine }
+        ensures limit { self.new.limit ≡ self.old.limit }
+        ensures lasting { numbers D.lasting bus.new.drives ≡ numbers D.lasting bus.old.drives }
     {
-        if !self.hand_on(change) {
+        if change.moment > self.limit || !self.hand_on(change) {
             return None;
         }
         self.ask(bus, change.moment)
     }
 
     /// Hands the host's change that is due to the player, where it doesn't wait there already. False where the player
-    /// refuses it.
+    /// refuses it, and then nothing has changed.
     fn hand_on(&mut self, change: Change) -> bool
         requires moment { change.moment ≤ self.old.limit }
         requires due { engine_due self.old.engine ≡ Makes change }
+        ensures waits { result ≡ true → IsHandedOn self.old.player.waiting self.old.engine →
+            self.new.player.waiting ≡ Some change }
+        ensures refused { result ≡ false → (change.moment < self.old.player.from) × (self.new.player ≡ self.old.player) }
         ensures second { self.new.player.second ≡ self.old.player.second }
         ensures from { self.new.player.from ≡ self.old.player.from }
         ensures engine { self.new.engine ≡ self.old.engine }
         ensures limit { self.new.limit ≡ self.old.limit }
-        ensures handed { IsHandedOn self.old.player.waiting self.old.engine →
-            IsHandedOn self.new.player.waiting self.new.engine }
     {
         self.player.waits() || self.player.offer(change).is_ok()
     }
 
     /// What the drive does before a moment, or what the host does then where it does nothing.
     fn wait<D: Machine, const N: usize>(&mut self, bus: &mut Bus<D, N>, until: u64) -> Option<Event>
-        requires limit { until ≤ self.old.limit }
         requires due { engine_due self.old.engine ≡ Waits until }
         ensures come { (n : ℕ) (ss : List (Station D.State)) (es : List Event) →
             IsGoing _ D.State D.stands D.step D.says self.old bus.old n ss es → MatchOption result
             (HasStopped _ D.State D.stands D.step D.says self.old self.new bus.new n ss es)
             (HasCome _ D.State D.stands D.step D.says self.old self.new bus.new n ss es) }
+        ensures fewer { IfSome result (λ e. FallsBy e.who self.old self.new bus.old bus.new) }
+        ensures limit { self.new.limit ≡ self.old.limit }
+        ensures lasting { numbers D.lasting bus.new.drives ≡ numbers D.lasting bus.old.drives }
     {
-        if let Some(event) = self.ask(bus, until.saturating_sub(1)) {
+        if let Some(event) = self.before(bus, until) {
             return Some(event);
+        }
+        if until > self.limit {
+            return None;
         }
         self.engine.passed();
         match self.engine.due() {
-            Due::Makes(change) if change.moment <= self.limit => self.play(bus, change),
+            Due::Makes(change) => self.play(bus, change),
             _ => None,
         }
+    }
+
+    /// What the drive does before a moment at which the host goes on by itself.
+    fn before<D: Machine, const N: usize>(
+        &mut self,
+        bus: &mut Bus<D, N>,
+        until: u64,
+    ) -> Option<Event>
+        requires due { engine_due self.old.engine ≡ Waits until }
+        ensures come { (n : ℕ) (ss : List (Station D.State)) (es : List Event) →
+            IsGoing _ D.State D.stands D.step D.says self.old bus.old n ss es → MatchOption result
+            (IsUnmoved _ D.State D.stands D.step D.says self.old self.new bus.old bus.new until n ss es)
+            (HasCome _ D.State D.stands D.step D.says self.old self.new bus.new n ss es) }
+        ensures fewer { IfSome result (λ e. FallsBy e.who self.old self.new bus.old bus.new) }
+        ensures engine { self.new.engine ≡ self.old.engine }
+        ensures limit { self.new.limit ≡ self.old.limit }
+        ensures lasting { numbers D.lasting bus.new.drives ≡ numbers D.lasting bus.old.drives }
+    {
+        let upto = until.min(self.limit + 1).checked_sub(1)?;
+        self.heed(bus, upto)
     }
 }

@@ -1,11 +1,16 @@
 //! A request carried out on the bus.
 
-ghost use Rattle.std.specs.Prelude.{◌≡◌, ◌<◌, ◌≤◌, ◌^◌, ℕ, List, IfOk, OnOk};
+ghost use Rattle.std.specs.Prelude.{◌≡◌, ◌+◌, ◌<◌, ◌≤◌, ◌^◌, ℕ, List, [], ◌∷◌, true, IfOk, IfErr, OnOk, MatchBool};
 ghost use Rattle.cbm_iec.specs.declared.event.Event.{Event};
-ghost use Rattle.cbm_session.specs.Playing.{Station};
+ghost use Rattle.cbm_session.specs.Playing.{Station, at_rest};
+ghost use Rattle.cbm_session.specs.Sessions.{IsDrive};
 ghost use Rattle.cbm_drive.specs.Seats.{IsBusAt};
-ghost use Rattle.cbm_host.specs.Engines.{Engined, channel_of, engine_at};
-ghost use Rattle.cbm_host.specs.Performed.{IsPerforming, HasPerformed};
+ghost use Rattle.cbm_drive.specs.declared.fault.PlayFault.TheVariants.{Memory};
+ghost use Rattle.cbm_host.specs.Engines.{Engined, channel_of};
+ghost use Rattle.cbm_host.specs.CarriedOut.{IsShort, HasCarriedOut};
+ghost use Rattle.cbm_iec.specs.declared.party.Party.{Party};
+ghost use Rattle.cbm_host.specs.Progress.{left_of};
+ghost use Rattle.cbm_host.specs.Performed.{IsPerforming, IsCutShort, HasPerformed};
 
 use crate::done::Done;
 use crate::performer::Performer;
@@ -14,7 +19,8 @@ use cbm_drive::{Bus, Event, Machine, PlayFault};
 use std::alloc::{AllocError, Global};
 
 /// Carries out a request on a bus with one drive, at rest: from its first change, at the start, to the moment when it is
-/// over. The events go to `events`. Error: want of memory, and then they are a beginning of what happened.
+/// over, at most 250,000,000 microseconds later. The events go to `events`. A request of more than 200,000 bytes may be
+/// given up at that moment. Error: want of memory, and then they are a beginning of what happened.
 pub fn perform<D: Machine, const N: usize>(
     alloc: Global,
     bus: &mut Bus<D, N>,
@@ -27,9 +33,15 @@ pub fn perform<D: Machine, const N: usize>(
     requires start { start < 2 ^ 58 }
     requires device { device < 31 }
     requires channel { channel_of request ≤ 15 }
-    ensures performed { (ss : List (Station D.State)) → IsBusAt _ D.State D.stands bus.old.host bus.old.drives ss →
-        IfOk result (λ done. HasPerformed _ D.State D.stands D.step D.says (engine_at start device request.entry) bus.new
-        events.old.items events.new.items done.bytes.items done.last done.end ss) }
+    ensures carried_out { (b : Party) (ms : ℕ → D.State) → IsDrive b → b.device ≡ device →
+        IsShort D.State D.step D.says device (ms device) request.entry →
+        IsBusAt _ D.State D.stands bus.old.host bus.old.drives (at_rest D.State D.step D.says ms (b ∷ [])) →
+        IfOk result (λ done. HasCarriedOut _ D.State D.stands D.step D.says b ms start request.entry bus.new
+        events.old.items events.new.items done.bytes.items done.last done.end) }
+    ensures end { IfOk result (λ done. done.end ≤ start + 250000000) }
+    ensures memory { (ss : List (Station D.State)) → IsBusAt _ D.State D.stands bus.old.host bus.old.drives ss →
+        IfErr result (λ e. (e ≡ Memory) ×
+        IsCutShort _ D.State D.stands D.step D.says bus.new events.old.items events.new.items ss) }
 {
     let mut performer = Performer::new(start, device, request);
     let mut done = Done {
@@ -39,7 +51,7 @@ pub fn perform<D: Machine, const N: usize>(
     };
     match run(&mut performer, bus, events, &mut done) {
         Ok(()) => {
-            done.end = performer.end().unwrap_or(start);
+            done.end = performer.over();
             Ok(done)
         }
         Err(_) => Err(PlayFault::Memory),
@@ -54,17 +66,18 @@ fn run<D: Machine, const N: usize>(
     done: &mut Done,
 ) -> Result<(), AllocError>
     requires one { N ≡ 1 }
-    ensures performing { (e : Engined) (old : List Event) (ss : List (Station D.State)) →
-        IsPerforming _ D.State D.stands D.step D.says e performer.old bus.old old events.old.items done.old.bytes.items
-        done.old.last ss →
-        OnOk result (IsPerforming _ D.State D.stands D.step D.says e performer.new bus.new old events.new.items
+    ensures performed { (e : Engined) (limit : ℕ) (old : List Event) (ss : List (Station D.State)) →
+        IsPerforming _ D.State D.stands D.step D.says e limit 0 performer.old bus.old old events.old.items
+        done.old.bytes.items done.old.last ss →
+        OnOk result (HasPerformed _ D.State D.stands D.step D.says e limit performer.new bus.new old events.new.items
         done.new.bytes.items done.new.last ss) }
+    ensures memory { (e : Engined) (limit : ℕ) (old : List Event) (ss : List (Station D.State)) →
+        IsPerforming _ D.State D.stands D.step D.says e limit 0 performer.old bus.old old events.old.items
+        done.old.bytes.items done.old.last ss →
+        IfErr result (λ x. IsCutShort _ D.State D.stands D.step D.says bus.new old events.new.items ss) }
+    ensures limit { performer.new.limit ≡ performer.old.limit }
 {
-    for _ in 0..u64::MAX {
-        if !step(performer, bus, events, done)? {
-            return Ok(());
-        }
-    }
+    'events: while step(performer, bus, events, done)? {}
     Ok(())
 }
 
@@ -76,11 +89,19 @@ fn step<D: Machine, const N: usize>(
     done: &mut Done,
 ) -> Result<bool, AllocError>
     requires one { N ≡ 1 }
-    ensures performing { (e : Engined) (old : List Event) (ss : List (Station D.State)) →
-        IsPerforming _ D.State D.stands D.step D.says e performer.old bus.old old events.old.items done.old.bytes.items
-        done.old.last ss →
-        OnOk result (IsPerforming _ D.State D.stands D.step D.says e performer.new bus.new old events.new.items
-        done.new.bytes.items done.new.last ss) }
+    ensures performing { (e : Engined) (limit count : ℕ) (old : List Event) (ss : List (Station D.State)) →
+        IsPerforming _ D.State D.stands D.step D.says e limit count performer.old bus.old old events.old.items
+        done.old.bytes.items done.old.last ss → IfOk result (λ more. MatchBool more
+        (IsPerforming _ D.State D.stands D.step D.says e limit (count + 1) performer.new bus.new old events.new.items
+        done.new.bytes.items done.new.last ss)
+        (HasPerformed _ D.State D.stands D.step D.says e limit performer.new bus.new old events.new.items
+        done.new.bytes.items done.new.last ss)) }
+    ensures memory { (e : Engined) (limit count : ℕ) (old : List Event) (ss : List (Station D.State)) →
+        IsPerforming _ D.State D.stands D.step D.says e limit count performer.old bus.old old events.old.items
+        done.old.bytes.items done.old.last ss →
+        IfErr result (λ x. IsCutShort _ D.State D.stands D.step D.says bus.new old events.new.items ss) }
+    ensures fewer { IfOk result (λ more. more ≡ true → left_of performer.new bus.new < left_of performer.old bus.old) }
+    ensures limit { performer.new.limit ≡ performer.old.limit }
 {
     let Some(event) = performer.next(bus) else {
         return Ok(false);

@@ -1,5 +1,7 @@
 //! What a host asks of a drive.
 
+use crate::left::Left;
+
 /// A request, on a channel from 0 to 15.
 #[derive(Clone, Copy, Drop)]
 pub enum Request<'a> {
@@ -7,6 +9,8 @@ pub enum Request<'a> {
     Open(u8, &'a [u8]),
     /// These bytes for the channel: LISTEN, $60 + channel, the bytes, UNLISTEN.
     Put(u8, &'a [u8]),
+    /// So many equal bytes for the channel, sent as `Put` sends them; they take no memory.
+    Fill(u8, u32, u8),
     /// At most so many bytes of the channel, up to the one with EOI: TALK, $60 + channel, the bytes, UNTALK.
     Get(u8, u32),
     /// CLOSE: LISTEN, $E0 + channel, UNLISTEN.
@@ -18,14 +22,16 @@ pub enum Request<'a> {
 impl<'a> Request<'a> {
     ghost use Rattle.std.specs.Prelude.{◌≡◌};
     ghost use Rattle.cbm_host.specs.Engines.{sent_by, most_of};
+    ghost use Rattle.cbm_host.specs.Left.{bytes_left};
 
     /// The bytes that are sent to the channel.
-    pub(crate) fn bytes(self) -> &'a [u8]
-        ensures { result.now ≡ sent_by self.entry }
+    pub(crate) fn sends(self) -> Left<'a>
+        ensures { bytes_left result ≡ sent_by self.entry }
     {
         match self {
-            Request::Open(_, bytes) | Request::Put(_, bytes) => bytes,
-            Request::Get(..) | Request::Close(_) | Request::Status => &[],
+            Request::Open(_, bytes) | Request::Put(_, bytes) => Left::Bytes(bytes),
+            Request::Fill(_, count, byte) => Left::Equal(count, byte),
+            Request::Get(..) | Request::Close(_) | Request::Status => Left::Bytes(&[]),
         }
     }
 
@@ -36,7 +42,7 @@ impl<'a> Request<'a> {
         match self {
             Request::Get(_, most) => most,
             Request::Status => u32::MAX,
-            Request::Open(..) | Request::Put(..) | Request::Close(_) => 0,
+            Request::Open(..) | Request::Put(..) | Request::Fill(..) | Request::Close(_) => 0,
         }
     }
 }

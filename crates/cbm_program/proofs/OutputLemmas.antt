@@ -36,6 +36,9 @@ part_before a b xs ys (part, rest, k, e) = (part, rest ++ ys, k, ap (λ t. t ++ 
 pub whole_part : (a b : Option (List ℕ)) (xs : List ℕ) → Appends a b xs → AppendsPart a b xs
 whole_part a b xs h = (xs, [], h, sym (append-nil xs))
 
+pub grows_kept : (a b c : Option (List ℕ)) → Grows a b → Keeps b c → Grows a c
+grows_kept a b c (xs, h) k = (xs, appends-kept a b c xs h k)
+
 -- a write that took some of what is left
 pub written_on : (a b c : Option (List ℕ)) (bytes rest others : List ℕ) (n : ℕ) → ((part : List ℕ) × Appends a b part × (bytes ≡ part ++ rest))
     → Appends b c (take n rest) → others ≡ drop n rest → (part : List ℕ) × Appends a c part × (bytes ≡ part ++ others)

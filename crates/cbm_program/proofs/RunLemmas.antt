@@ -1,6 +1,6 @@
 -- A script that runs, line by line.
-use Rattle.std.proofs.Common.{◌≡◌, ℕ, ◌+◌, List, [], ◌∷◌, ◌++◌, Option, Some, None, refl, ap, sym, ◌∙◌, append_assoc, append-nil, subst}
-use Rattle.std.specs.Prelude.{IfSome, Result, Err}
+use Rattle.std.proofs.Common.{◌≡◌, ℕ, ◌+◌, ◌<◌, List, [], ◌∷◌, ◌++◌, Option, Some, None, refl, ap, sym, ◌∙◌, append_assoc, append-nil, subst}
+use Rattle.std.specs.Prelude.{IfSome, Result, Ok, Err}
 use Rattle.std.specs.Io.KnownBytes.{Appends, IsAtEnd}
 use Rattle.cbm_channel.specs.Machines.{Machine}
 use Rattle.cbm_program.specs.declared.request.Request.{Request}
@@ -11,7 +11,7 @@ use Rattle.cbm_program.specs.declared.fault.RunFault.TheVariants.{Script, Image,
 use Rattle.cbm_program.specs.Lines.{lines_of}
 use Rattle.cbm_program.specs.Scripts.{printed, printed_by}
 use Rattle.cbm_program.specs.Output.{AppendsPart, Prints, PrintsPart}
-use Rattle.cbm_program.specs.Running.{requests_in, meaning, Asked, refused_at, with_line, asked_from, script_of, ReadsLine, ComesBad, LineRead, EndsAs, IsOfWriting}
+use Rattle.cbm_program.specs.Running.{requests_in, meaning, Asked, refused_at, with_line, asked_from, script_of, ReadsLine, ComesBad, LineRead, LineIsInRange, EndsAs, IsOfWriting}
 use Rattle.cbm_program.proofs.OutputLemmas.{appends-nothing, appends-more, part_behind, part_before, whole_part}
 
 -- ---- requests behind requests
@@ -186,3 +186,48 @@ faulted a b x l k stood now n r Writing run h e = absurd h
 -- a fault of writing says nothing of the end
 pub outside : {A : Type 0} (r : Result A RunFault) (f : RunFault) (P : Option ℕ → Type 0) → r ≡ Err f → IsOfWriting f → EndsAs r P
 outside r f P e h = subst (λ v. EndsAs v P) (sym (e ∙ ap Err h)) tt
+
+-- ---- a run whose next line was read
+
+pub record RunningOn (a b input left : Option (List ℕ)) (stood now : Machine → Type 0) (n : ℕ) (next : Option Line) : Type 0 where
+  pub before : Option (List ℕ)
+  pub running : Running a b input before stood now n
+  pub read : LineRead before left n (Ok next)
+
+pub on-start : (a input left : Option (List ℕ)) (stood : Machine → Type 0) (next : Option Line) → LineRead input left 1 (Ok next) → RunningOn a a input left stood stood 1 next
+on-start a input left stood next r = record { before = input; running = run-start a input input stood refl; read = r }
+
+-- it is carried out, and the one behind it was read
+pub on-line : (a b c input l k : Option (List ℕ)) (stood now next : Machine → Type 0) (n : ℕ) (line : Line) (behind-it : Option Line) → RunningOn a b input l stood now n (Some line) → Prints b c now next (printed (requests_in line))
+    → LineRead l k (n + 1) (Ok behind-it) → RunningOn a c input k stood next (n + 1) behind-it
+on-line a b c input l k stood now next n line behind-it r p read = record { before = l; running = run-line a b c input r.before l stood now next n line r.running r.read.0 p; read = read }
+
+-- it is carried out, and the one behind it can't be had
+pub on-faulted : {A : Type 0} (a b c input l k : Option (List ℕ)) (stood now next : Machine → Type 0) (n : ℕ) (line : Line) (r : Result A RunFault) (f : RunFault) → RunningOn a b input l stood now n (Some line) → Prints b c now next (printed (requests_in line))
+    → LineRead l k (n + 1) (Err f) → r ≡ Err f → EndsAs r (λ bad. Ended a c input stood next bad)
+on-faulted a b c input l k stood now next n line r f o p read e = faulted a c input l k stood next (n + 1) r f (run-line a b c input o.before l stood now next n line o.running o.read.0 p) read e
+
+pub on-part : (a b c input l : Option (List ℕ)) (stood now next : Machine → Type 0) (n : ℕ) (line : Line) → RunningOn a b input l stood now n (Some line) → Prints b c now next (printed (requests_in line)) → Begun a c input stood
+on-part a b c input l stood now next n line o p = run-part a c input l stood next (n + 1) (run-line a b c input o.before l stood now next n line o.running o.read.0 p)
+
+-- its own text broke off
+pub on-broken : (a b c input l : Option (List ℕ)) (stood now : Machine → Type 0) (n : ℕ) (line : Line) → RunningOn a b input l stood now n (Some line) → PrintsPart b c now (printed (requests_in line)) → Begun a c input stood
+on-broken a b c input l stood now n line o p = run-broken a b c input o.before l stood now n line o.running o.read.0 p
+
+-- there is none
+pub on-end : (a b input l : Option (List ℕ)) (stood now : Machine → Type 0) (n : ℕ) → RunningOn a b input l stood now n None → Ended a b input stood now None
+on-end a b input l stood now n o = run-end a b input o.before stood now n o.running o.read
+
+-- ---- what the reading of a line says of it
+
+pub each-some : {A : Type 0} (o : Option A) (P : Type 0) → P → IfSome o (λ x. P)
+each-some None P h = tt
+each-some (Some x) P h = h
+
+pub read-channel : (l k : Option (List ℕ)) (n : ℕ) (line : Option Line) → LineRead l k n (Ok line) → IfSome line LineIsInRange
+read-channel l k n None h = tt
+read-channel l k n (Some line) h = h.2
+
+pub read-few : (l k : Option (List ℕ)) (n : ℕ) (line : Option Line) → LineRead l k n (Ok line) → IfSome line (λ x. n < 1000001)
+read-few l k n None h = tt
+read-few l k n (Some line) h = h.1

@@ -9,7 +9,6 @@ use Rattle.cbm_g64.specs.Numbers.{number_of}
 use Rattle.cbm_g64.specs.Tracks as circles
 use Rattle.cbm_channel.specs.Files.{Disk}
 use Rattle.cbm_channel.specs.Machines.{Machine, start}
-use Rattle.cbm_program.specs.declared.request.Request.{Request}
 use Rattle.cbm_program.specs.declared.kind.Kind.{Kind}
 use Rattle.cbm_program.specs.declared.kind.Kind.TheVariants.{D64, G64}
 use Rattle.cbm_program.specs.declared.fault.RunFault.{RunFault}

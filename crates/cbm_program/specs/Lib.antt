@@ -10,4 +10,10 @@ pub mod Running
 pub mod Spelling
 pub mod Checking
 pub mod Images
+pub mod Timed
+pub mod Timetables
+pub mod Beginnings
+pub mod TimedReading
+pub mod Traces
+pub mod Staging
 pub mod Outcome

@@ -1,8 +1,6 @@
 -- A script as a list of requests, and what a run of it says.
-use Rattle.std.specs.Prelude.{ℕ, ◌+◌, ◌≡◌, ◌<◌, ◌≤◌, List, [], ◌∷◌, length, replicate, Bool, true, false, nat_lt, if◌then◌else◌, Option, Some, None, Result, Ok, Err}
+use Rattle.std.specs.Prelude.{ℕ, ◌+◌, ◌≡◌, ◌<◌, ◌≤◌, List, [], ◌∷◌, length, Bool, true, false, nat_lt, if◌then◌else◌, Option, Some, None, Result, Ok, Err}
 use Rattle.std.specs.Io.KnownBytes.{IsAtEnd}
-use Rattle.cbm_channel.specs.Machines.{Machine}
-use Rattle.cbm_channel.specs.Talking.{listen}
 use Rattle.cbm_program.specs.declared.request.Request.{Request}
 use Rattle.cbm_program.specs.declared.request.Request.TheVariants.{Open, Put, Fill, Get, Close, Status}
 use Rattle.cbm_program.specs.declared.line.Line.{Line}
@@ -11,23 +9,22 @@ use Rattle.cbm_program.specs.declared.fault.RunFault.{RunFault}
 use Rattle.cbm_program.specs.declared.fault.RunFault.TheVariants.{Script, Image, Memory, Reading, Writing}
 use Rattle.cbm_program.specs.Lines.{lines_of}
 use Rattle.cbm_program.specs.Requests.{line_of}
-use Rattle.cbm_program.specs.Scripts.{puts, printed_by}
 
--- ---- the channels of requests
+-- ---- the numbers of requests
 
--- the channel of a request
-abbrev pub HasChannel : Request → Type 0
-HasChannel (Open ch text) = ch ≤ 15
-HasChannel (Put ch text) = ch ≤ 15
-HasChannel (Fill ch n b) = ch ≤ 15
-HasChannel (Get ch most) = ch ≤ 15
-HasChannel (Close ch) = ch ≤ 15
-HasChannel Status = Unit {0}
+-- the channel of a request is 0 to 15, and its count 1 to 200,000
+abbrev pub IsInRange : Request → Type 0
+IsInRange (Open ch text) = ch ≤ 15
+IsInRange (Put ch text) = ch ≤ 15
+IsInRange (Fill ch n b) = (ch ≤ 15) × (n ≤ 200000)
+IsInRange (Get ch most) = (ch ≤ 15) × (1 ≤ most) × (most ≤ 200000)
+IsInRange (Close ch) = ch ≤ 15
+IsInRange Status = Unit {0}
 
 -- the same of a line
-abbrev pub LineHasChannel : Line → Type 0
-LineHasChannel Skipped = Unit {0}
-LineHasChannel (Asks request) = HasChannel request
+abbrev pub LineIsInRange : Line → Type 0
+LineIsInRange Skipped = Unit {0}
+LineIsInRange (Asks request) = IsInRange request
 
 -- ---- the lines as requests
 
@@ -86,7 +83,7 @@ ComesBad (Some xs) n = (bytes : List ℕ) × (lines : List (List ℕ)) × (lines
 
 -- what is behind the reading of line n: the line, the end, or why there is neither
 abbrev pub LineRead : Option (List ℕ) → Option (List ℕ) → ℕ → Result (Option Line) RunFault → Type 0
-LineRead old new n (Ok (Some line)) = ReadsLine old new n line × (n < 1000001) × LineHasChannel line
+LineRead old new n (Ok (Some line)) = ReadsLine old new n line × (n < 1000001) × LineIsInRange line
 LineRead old new n (Ok None) = IsAtEnd old
 LineRead old new n (Err (Script bad)) = (bad ≡ n) × ComesBad old n
 LineRead old new n (Err (Image number)) = ⊥

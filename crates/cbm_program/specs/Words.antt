@@ -38,6 +38,10 @@ channel_of word = number_within 0 15 word
 abbrev pub count_of : List ℕ → Option ℕ
 count_of word = number_within 1 200000 word
 
+-- a moment in microseconds
+abbrev pub moment_of : List ℕ → Option ℕ
+moment_of word = number_within 0 1000000000000000 word
+
 -- two lower case hexadecimal digits
 abbrev pub byte_of : List ℕ → Option ℕ
 byte_of (high ∷ low ∷ []) = if is_hex high && is_hex low then Some (16 * hex_value high + hex_value low) else None

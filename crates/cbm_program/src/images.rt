@@ -1,19 +1,21 @@
 //! Running a script on the disk of an image.
-ghost use Rattle.std.specs.Prelude.{◌≡◌, ◌≢◌, ℕ, true, IfSome, IfOk, IfErr, OnErr};
+ghost use Rattle.std.specs.Prelude.{◌≡◌, ◌≢◌, ◌≤◌, ℕ, [], true, IfSome, IfOk, IfErr, OnErr};
 ghost use Rattle.cbm_volume.specs.Holding.{HoldsDisk};
-ghost use Rattle.cbm_program.specs.Checking.{printed_behind, IsCheckedFirst};
+ghost use Rattle.cbm_program.specs.Checking.{printed_behind, checked_text, IsCheckedFirst};
 ghost use Rattle.cbm_program.specs.Output.{Grows, Prints, PrintsPart};
 ghost use Rattle.cbm_program.specs.Running.{script_of, EndsAs};
+ghost use Rattle.cbm_program.specs.Scripts.{printed};
 ghost use Rattle.cbm_program.specs.Images.{kind_of, StartsOn};
 ghost use Rattle.cbm_program.specs.Outcome.{IsOutcome};
+ghost use Rattle.cbm_program.specs.Timetables.{of_requests, of_changes, timetable_of};
+ghost use Rattle.cbm_program.specs.Traces.{PrintsTrace, PrintsTracePart};
 
 use crate::fault::RunFault;
 use crate::kind::{Kind, kind_of};
-use crate::session::run_on;
-use cbm_channel::Dos;
+use crate::lines::Lines;
+use crate::numbered::{Beginning, read_first};
 use cbm_d64::D64Disk;
 use cbm_g64::G64Disk;
-use cbm_medium::Steady;
 use cbm_volume::Volume;
 use std::alloc::Global;
 use std::io::{Read, Write};
@@ -22,12 +24,12 @@ mod checking;
 mod disk_image;
 
 use checking::print_check;
-use disk_image::DiskImage;
+pub use disk_image::DiskImage;
 
 /// How a run is made.
 #[derive(Clone, Copy, Debug, PartialEq, Eq)]
 pub struct Options {
-    /// The drive's number on the bus, 8 to 11. Nothing that a script prints depends on it yet.
+    /// The drive's number on the bus, 8 to 11. What a script of requests prints doesn't depend on it.
     pub device: u8,
     /// The disk refuses to be written.
     pub protected: bool,
@@ -35,26 +37,92 @@ pub struct Options {
     pub check: bool,
 }
 
-/// Runs a script on a drive at power up with this medium, and gives the medium back with what the script wrote.
-fn run_with<M: Steady + Drop, R: Read + Drop, W: Write>(
+/// Runs a script on a drive at power up with this medium, and gives the medium back with what the script wrote. Its first
+/// line says whether it asks for files or changes lines.
+fn run_script<M: DiskImage + Drop, R: Read + Drop, W: Write>(
     medium: M,
-    checks: bool,
+    device: u8,
     reader: R,
     writer: &mut W,
 ) -> Result<M, RunFault>
-    ensures ended { EndsAs result (λ bad. IfSome (R.remaining reader) (λ input.
+    requires first { 8 ≤ device }
+    requires last { device ≤ 11 }
+    ensures ended { EndsAs result (λ bad. IfSome (of_requests (R.remaining reader)) (λ input.
+        ((script_of input).bad ≡ bad) × Prints (W.contents writer.old) (W.contents writer.new)
+        (StartsOn (M.seen medium).tracks (M.seen medium).content (M.seen medium).protected)
+        (λ _. Unit {0}) (printed (script_of input).requests))) }
+    ensures disk { IfOk result (λ after. IfSome (of_requests (R.remaining reader)) (λ input.
+        Prints (W.contents writer.old) (W.contents writer.new)
+        (StartsOn (M.seen medium).tracks (M.seen medium).content (M.seen medium).protected)
+        (λ m. HoldsDisk (M.seen after).tracks (M.seen after).content m.disk)
+        (printed (script_of input).requests))) }
+    ensures fault { OnErr result (IfSome (of_requests (R.remaining reader)) (λ input.
+        PrintsPart (W.contents writer.old) (W.contents writer.new)
+        (StartsOn (M.seen medium).tracks (M.seen medium).content (M.seen medium).protected)
+        (printed (script_of input).requests))) }
+    // The same of a script of line changes, with its trace.
+    ensures played { EndsAs result (λ bad. IfSome (of_changes (R.remaining reader)) (λ input.
+        ((timetable_of input).bad ≡ bad) × PrintsTrace (W.contents writer.old) (W.contents writer.new)
+        (StartsOn (M.seen medium).tracks (M.seen medium).content (M.seen medium).protected)
+        (λ _. Unit {0}) device [] (timetable_of input))) }
+    ensures left { IfOk result (λ after. IfSome (of_changes (R.remaining reader)) (λ input.
+        PrintsTrace (W.contents writer.old) (W.contents writer.new)
+        (StartsOn (M.seen medium).tracks (M.seen medium).content (M.seen medium).protected)
+        (λ m. HoldsDisk (M.seen after).tracks (M.seen after).content m.disk)
+        device [] (timetable_of input))) }
+    ensures cut { OnErr result (IfSome (of_changes (R.remaining reader)) (λ input.
+        PrintsTracePart (W.contents writer.old) (W.contents writer.new)
+        (StartsOn (M.seen medium).tracks (M.seen medium).content (M.seen medium).protected)
+        device [] (timetable_of input))) }
+    ensures grows { Grows (W.contents writer.old) (W.contents writer.new) }
+    ensures same_tracks { IfOk result (λ after. (M.seen after).tracks ≡ (M.seen medium).tracks) }
+    ensures image { IfErr result (λ fault. (n : ℕ) → fault ≢ RunFault.Image n) }
+{
+    let mut lines = Lines::new(reader);
+    match read_first(&mut lines)? {
+        Beginning::Requests(first) => medium.serve(device, &mut lines, first, writer),
+        Beginning::Changes => medium.play(device, &mut lines, writer),
+    }
+}
+
+/// Runs a script on a drive at power up with this medium, behind the line of its check if one is asked for, and gives the medium
+/// back with what the script wrote.
+fn run_with<M: DiskImage + Drop, R: Read + Drop, W: Write>(
+    medium: M,
+    checks: bool,
+    device: u8,
+    reader: R,
+    writer: &mut W,
+) -> Result<M, RunFault>
+    requires first { 8 ≤ device }
+    requires last { device ≤ 11 }
+    ensures ended { EndsAs result (λ bad. IfSome (of_requests (R.remaining reader)) (λ input.
         ((script_of input).bad ≡ bad) × Prints (W.contents writer.old) (W.contents writer.new)
         (StartsOn (M.seen medium).tracks (M.seen medium).content (M.seen medium).protected)
         (λ _. Unit {0}) (printed_behind checks (script_of input).requests))) }
-    ensures disk { IfOk result (λ after. IfSome (R.remaining reader) (λ input.
+    ensures disk { IfOk result (λ after. IfSome (of_requests (R.remaining reader)) (λ input.
         Prints (W.contents writer.old) (W.contents writer.new)
         (StartsOn (M.seen medium).tracks (M.seen medium).content (M.seen medium).protected)
         (λ m. HoldsDisk (M.seen after).tracks (M.seen after).content m.disk)
         (printed_behind checks (script_of input).requests))) }
-    ensures fault { OnErr result (IfSome (R.remaining reader) (λ input.
+    ensures fault { OnErr result (IfSome (of_requests (R.remaining reader)) (λ input.
         PrintsPart (W.contents writer.old) (W.contents writer.new)
         (StartsOn (M.seen medium).tracks (M.seen medium).content (M.seen medium).protected)
         (printed_behind checks (script_of input).requests))) }
+    // The same of a script of line changes, with its trace.
+    ensures played { EndsAs result (λ bad. IfSome (of_changes (R.remaining reader)) (λ input.
+        ((timetable_of input).bad ≡ bad) × PrintsTrace (W.contents writer.old) (W.contents writer.new)
+        (StartsOn (M.seen medium).tracks (M.seen medium).content (M.seen medium).protected)
+        (λ _. Unit {0}) device (checked_text checks) (timetable_of input))) }
+    ensures left { IfOk result (λ after. IfSome (of_changes (R.remaining reader)) (λ input.
+        PrintsTrace (W.contents writer.old) (W.contents writer.new)
+        (StartsOn (M.seen medium).tracks (M.seen medium).content (M.seen medium).protected)
+        (λ m. HoldsDisk (M.seen after).tracks (M.seen after).content m.disk)
+        device (checked_text checks) (timetable_of input))) }
+    ensures cut { OnErr result (IfSome (of_changes (R.remaining reader)) (λ input.
+        PrintsTracePart (W.contents writer.old) (W.contents writer.new)
+        (StartsOn (M.seen medium).tracks (M.seen medium).content (M.seen medium).protected)
+        device (checked_text checks) (timetable_of input))) }
     // Of any medium the line of the check is printed first, where one is asked for.
     ensures checked { checks ≡ true → EndsAs result (λ bad.
         IsCheckedFirst (M.seen medium).tracks (M.seen medium).content (W.contents writer.old) (W.contents writer.new)) }
@@ -64,9 +132,7 @@ fn run_with<M: Steady + Drop, R: Read + Drop, W: Write>(
 {
     let volume = Volume::open(medium);
     print_check(&volume, checks, writer)?;
-    let mut dos = Dos::new(volume.into_medium());
-    run_on(&mut dos, reader, writer)?;
-    Ok(dos.into_medium())
+    run_script(volume.into_medium(), device, reader, writer)
 }
 
 /// Runs a script on the disk of an image of one format.
@@ -77,12 +143,14 @@ fn run_image<I: DiskImage + Drop, R: Read + Drop, W: Write>(
     image: &[u8],
     options: &Options,
 ) -> Result<Vec<u8>, RunFault>
-    requires { kind_of image.now ≡ I.kind }
-    ensures { IsOutcome result (λ v. v.items) image.now options.now.protected options.now.check
+    requires kind { kind_of image.now ≡ I.kind }
+    requires first { 8 ≤ options.now.device }
+    requires last { options.now.device ≤ 11 }
+    ensures { IsOutcome result (λ v. v.items) image.now options.now.protected options.now.check options.now.device
         (R.remaining reader) (W.contents writer.old) (W.contents writer.new) }
 {
     let disk = I::open(alloc, image, options.protected)?;
-    let disk = run_with(disk, options.check, reader, writer)?;
+    let disk = run_with(disk, options.check, options.device, reader, writer)?;
     disk.save(alloc)
 }
 
@@ -102,7 +170,9 @@ pub fn run<R: Read + Drop, W: Write>(
     image: &[u8],
     options: &Options,
 ) -> Result<Vec<u8>, RunFault>
-    ensures { IsOutcome result (λ v. v.items) image.now options.now.protected options.now.check
+    requires first { 8 ≤ options.now.device }
+    requires last { options.now.device ≤ 11 }
+    ensures { IsOutcome result (λ v. v.items) image.now options.now.protected options.now.check options.now.device
         (R.remaining reader) (W.contents writer.old) (W.contents writer.new) }
 {
     match kind_of(image) {

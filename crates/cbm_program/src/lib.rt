@@ -2,22 +2,21 @@
 #![tactic(auto)]
 
 mod fault;
-mod getting;
 mod images;
 mod kind;
 mod line;
 mod lines;
+mod numbered;
 mod output;
 mod performing;
-mod putting;
 mod request;
 mod session;
-mod status;
 mod text;
+mod wires;
 mod word;
 
 pub use fault::RunFault;
-pub use images::{Options, run};
+pub use images::{DiskImage, Options, run};
 pub use kind::{Kind, kind_of};
 pub use line::{Line, parse};
 pub use lines::{LineFault, Lines};

@@ -2,7 +2,7 @@
 ghost use Rattle.std.specs.Prelude.{◌≡◌, ◌≤◌, length, option_map, IfSome};
 ghost use Rattle.std.specs.Option.{ForSome};
 ghost use Rattle.cbm_program.specs.Requests.{text_behind, fill_of, get_of, asked_of, request_of, line_of};
-ghost use Rattle.cbm_program.specs.Running.{HasChannel, LineHasChannel};
+ghost use Rattle.cbm_program.specs.Running.{IsInRange, LineIsInRange};
 
 use crate::request::{Request, Text};
 use crate::text::decode;
@@ -28,7 +28,7 @@ fn text_behind(rest: Option<&[u8]>) -> Option<Text>
 
 fn fill(channel: u8, rest: Option<&[u8]>) -> Option<Request>
     requires { channel ≤ 15 }
-    ensures channel { IfSome result HasChannel }
+    ensures channel { IfSome result IsInRange }
     ensures value { result ≡ fill_of channel (option_map (λ words. words.now) rest.entry) }
 {
     let (count_word, byte_word) = split_word(rest?);
@@ -37,7 +37,7 @@ fn fill(channel: u8, rest: Option<&[u8]>) -> Option<Request>
 
 fn get(channel: u8, rest: Option<&[u8]>) -> Option<Request>
     requires { channel ≤ 15 }
-    ensures channel { IfSome result HasChannel }
+    ensures channel { IfSome result IsInRange }
     ensures value { result ≡ get_of channel (option_map (λ word. word.now) rest.entry) }
 {
     Some(Request::Get(channel, count(rest?)?))
@@ -46,7 +46,7 @@ fn get(channel: u8, rest: Option<&[u8]>) -> Option<Request>
 fn asked(verb: &[u8], channel: u8, rest: Option<&[u8]>) -> Option<Request>
     requires channel { channel ≤ 15 }
     requires short { ForSome rest (λ text. length text.now ≤ 1000) }
-    ensures channel { IfSome result HasChannel }
+    ensures channel { IfSome result IsInRange }
     ensures value { result ≡ asked_of verb.now channel (option_map (λ text. text.now) rest.entry) }
 {
     if verb == b"open".as_slice() {
@@ -66,7 +66,7 @@ fn asked(verb: &[u8], channel: u8, rest: Option<&[u8]>) -> Option<Request>
 
 fn requested(bytes: &[u8]) -> Option<Request>
     requires { length bytes.now ≤ 1000 }
-    ensures channel { IfSome result HasChannel }
+    ensures channel { IfSome result IsInRange }
     ensures value { result ≡ request_of bytes.now }
 {
     let (verb, rest) = split_word(bytes);
@@ -87,7 +87,7 @@ pub fn parse(line: &[u8]) -> Option<Line>
     ensures value { result ≡ line_of line.now }
 
     // The channel of a request is 0 to 15.
-    ensures channel { IfSome result LineHasChannel }
+    ensures channel { IfSome result LineIsInRange }
 {
     match line.first() {
         None | Some(b';') => Some(Line::Skipped),

@@ -1,6 +1,6 @@
 //! The words of a line, and the numbers in them.
 ghost use Rattle.std.specs.Prelude.{◌≡◌, ◌<◌, ◌≤◌, length, position, option_map, IfSome};
-ghost use Rattle.cbm_program.specs.Words.{is_space, first_word, behind_word, number_of, number_within, channel_of, count_of, byte_of};
+ghost use Rattle.cbm_program.specs.Words.{is_space, first_word, behind_word, number_of, number_within, channel_of, count_of, moment_of, byte_of};
 
 use crate::text::hex_digit;
 
@@ -40,7 +40,8 @@ fn number(word: &[u8]) -> Option<u64>
 }
 
 fn number_within(low: u64, high: u64, word: &[u8]) -> Option<u64>
-    ensures { result ≡ number_within low high word.now }
+    ensures value { result ≡ number_within low high word.now }
+    ensures within { IfSome result (λ n. (low ≤ n) × (n ≤ high)) }
 {
     let value = number(word)?;
     if low <= value && value <= high {
@@ -58,9 +59,18 @@ pub(crate) fn channel(word: &[u8]) -> Option<u8>
 }
 
 pub(crate) fn count(word: &[u8]) -> Option<u32>
-    ensures { result ≡ count_of word.now }
+    ensures value { result ≡ count_of word.now }
+    ensures range { IfSome result (λ count. (1 ≤ count) × (count ≤ 200000)) }
 {
     Some(number_within(1, 200_000, word)? as u32)
+}
+
+/// A moment in microseconds.
+pub(crate) fn moment(word: &[u8]) -> Option<u64>
+    ensures value { result ≡ moment_of word.now }
+    ensures small { IfSome result (λ moment. moment ≤ 1000000000000000) }
+{
+    number_within(0, 1_000_000_000_000_000, word)
 }
 
 pub(crate) fn byte(word: &[u8]) -> Option<u8>

@@ -1,8 +1,8 @@
 -- A relative file grows by a block: it is claimed, written and linked to, and then a side sector lists it.
-use Rattle.std.specs.Prelude.{ℕ, ◌+◌, ◌-◌, ◌*◌, ◌%◌, ◌<◌, ◌≤◌, ◌≡◌, ◌⊎◌, ◌==◌, Bool, if◌then◌else◌, List, [], length, slice_index, Ok, Err}
-use Rattle.cbm_medium.specs.Place.{Place, directory_head}
+use Rattle.std.specs.Prelude.{ℕ, ◌+◌, ◌-◌, ◌*◌, ◌%◌, ◌<◌, ◌≤◌, ◌≡◌, ◌≢◌, ◌⊎◌, ◌==◌, Bool, if◌then◌else◌, List, [], length, slice_index, Ok, Err, IsOk}
+use Rattle.cbm_medium.specs.Place.{Place, Has, directory_head}
 use Rattle.cbm_medium.specs.Content.{Content, written}
-use Rattle.cbm_medium.specs.Links.{link}
+use Rattle.cbm_medium.specs.Links.{bytes_at, link}
 use Rattle.cbm_medium.specs.Seen.{Seen}
 use Rattle.cbm_bam.specs.Map.{Claims}
 use Rattle.cbm_bam.specs.Causes.{HasCause}
@@ -108,3 +108,16 @@ pub record IsSideBegun (tracks : ℕ) (old new : Content) (head : List ℕ) (k w
   pub side : List ℕ
   pub is_new : IsNewSide head k w q t side
   pub written : new ≡ written one t side
+
+-- THE SIDE SECTORS OF A FILE, as the first one names so many: it names itself first, each is a sector of the disk that reads, and no two
+-- are the same.
+pub record AreSides (tracks : ℕ) (c : Content) (first : Place) (head : List ℕ) (k : ℕ) : Type 0 where
+  pub reads : Has tracks first × (c first ≡ Ok head)
+  pub itself : side_at head 0 ≡ first
+  pub there : (i : ℕ) → i < k → Has tracks (side_at head i) × IsOk (c (side_at head i))
+  pub distinct : (i j : ℕ) → i < k → j < k → side_at head i ≡ side_at head j → i ≡ j
+
+-- EACH OF THEM FROM THIS NUMBER ON NAMES A NEW ONE after so many; what else it says stays, and so does each other sector.
+pub record AreSidesLinked (old new : Content) (head : List ℕ) (from k : ℕ) (t : Place) : Type 0 where
+  pub each : (i : ℕ) → from ≤ i → i < k → ListsSide (bytes_at old (side_at head i)) k t (i + 1 == k) (bytes_at new (side_at head i))
+  pub others : (p : Place) → ((i : ℕ) → from ≤ i → i < k → p ≢ side_at head i) → new p ≡ old p

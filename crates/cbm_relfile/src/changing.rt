@@ -1,13 +1,14 @@
 // A record is written in place.
 
-ghost use Rattle.std.specs.Prelude.{◌≡◌, ◌≤◌, ◌<◌, ◌^◌, ℕ, List, true, false, None, length, IfOk, IfErr, IfSome, MatchResult};
+ghost use Rattle.std.specs.Prelude.{◌≡◌, ◌≢◌, ◌≤◌, ◌<◌, ◌+◌, ◌^◌, ℕ, List, true, false, None, length, option_map, IfOk, IfErr, IfSome, IsOkAnd, MatchResult};
 ghost use Rattle.cbm_medium.specs.Place.{Place, sector_count};
 ghost use Rattle.cbm_medium.specs.Seen.{OnlyContent};
 ghost use Rattle.cbm_file.specs.Records.{with_bytes};
-ghost use Rattle.cbm_relfile.specs.Records.{AllWhole, IsLaid};
+ghost use Rattle.cbm_chain.specs.Data.{chain_bytes};
+ghost use Rattle.cbm_relfile.specs.Records.{AllWhole, IsLaid, record_in};
 ghost use Rattle.cbm_relfile.specs.Changing.{IsChangedIfThere, IsChangeStopped};
 
-use crate::reading::{Record, block_at, joined, stretch};
+use crate::reading::{Record, block_at, joined, next_stretch, stretch};
 use crate::relative::Relative;
 use crate::sectors::read_at;
 use crate::writing::rewrite;
@@ -29,9 +30,18 @@ fn changed(old: &Record, position: u8, bytes: &[u8]) -> Record
     joined(&front, &ZEROS[..old.len() - front.len()])
 }
 
+/// A record that was written in place.
+#[derive(Drop)]
+pub struct WrittenRecord {
+    /// Whether some bytes didn't fit.
+    pub cut: bool,
+    /// The next record, None where it isn't there; or why it doesn't read.
+    pub next: Result<Option<Record>, Trouble>,
+}
+
 /// Writes these bytes into the record of a number, counted from 1, from a position on; what stands before stays, and zeros
-/// come behind. Answers whether some bytes didn't fit, or None where the record isn't there: nothing is written then. An
-/// `Err` is why a sector isn't written; of a record over two blocks the first may be written then.
+/// come behind. The next record is read, too, since its block is at hand. None where the record isn't there: nothing is
+/// written then. An `Err` is why a sector isn't written; of a record over two blocks the first may be written then.
 pub fn write_record<M: Medium>(
     medium: &mut M,
     geometry: Geometry,
@@ -39,7 +49,7 @@ pub fn write_record<M: Medium>(
     number: u32,
     position: u8,
     bytes: &[u8],
-) -> Result<Option<bool>, Trouble>
+) -> Result<Option<WrittenRecord>, Trouble>
     requires tracks { geometry ≤ (M.seen medium.old).tracks }
     requires number { (1 ≤ number) × (number < 2 ^ 24) }
     requires length { (1 ≤ file.width) × (file.width ≤ 254) }
@@ -47,13 +57,19 @@ pub fn write_record<M: Medium>(
     ensures laid { let old = M.seen medium.old in let new = M.seen medium.new in (blocks sides : List Place) →
         AllWhole old.content → IsLaid geometry old.content file blocks sides → length blocks ≤ sector_count geometry →
         MatchResult result
-        (IsChangedIfThere old.content new.content blocks file.width number position bytes.now)
+        (λ o. IsChangedIfThere old.content new.content blocks file.width number position bytes.now
+        (option_map (λ r. r.cut) o))
         (λ t. IsChangeStopped geometry old new blocks file.width number position bytes.now t.code) }
+    ensures next { let old = M.seen medium.old in (blocks sides : List Place) →
+        AllWhole old.content → IsLaid geometry old.content file blocks sides → length blocks ≤ sector_count geometry →
+        IfOk result (λ o. IfSome o (λ r. IsOkAnd r.next (λ x. option_map (λ y. y.items) x
+        ≡ record_in file.width (chain_bytes old.content blocks) (number + 1)))) }
+    ensures next_never_26 { IfOk result (λ o. IfSome o (λ r. IfErr r.next (λ t. t.code ≢ 26))) }
     // None says that nothing has changed, whatever the medium holds.
     ensures kept { IfOk result (λ o. o ≡ None → (M.seen medium.new).content ≡ (M.seen medium.old).content) }
     // So many bytes have 768 blocks at most; and on a protected medium no record is written.
-    ensures few { IfOk result (λ o. IfSome o (λ cut. number ≤ 195072)) }
-    ensures allowed { IfOk result (λ o. IfSome o (λ cut. (M.seen medium.old).protected ≡ false)) }
+    ensures few { IfOk result (λ o. IfSome o (λ r. number ≤ 195072)) }
+    ensures allowed { IfOk result (λ o. IfSome o (λ r. (M.seen medium.old).protected ≡ false)) }
     // A protected medium stays as it is, and the code 26 says that it is protected, whatever it holds.
     ensures guarded { (M.seen medium.old).protected ≡ true →
         (M.seen medium.new).content ≡ (M.seen medium.old).content }
@@ -76,9 +92,11 @@ pub fn write_record<M: Medium>(
             sector: 0,
         });
     }
+    let next = next_stretch(medium, geometry, &sector, place, file.length());
     let new = changed(&old, position, bytes);
     if !rewrite(medium, geometry, at, &sector, place, &new)? {
         return Ok(None);
     }
-    Ok(Some(old.len() - (position as usize - 1) < bytes.len()))
+    let cut = old.len() - (position as usize - 1) < bytes.len();
+    Ok(Some(WrittenRecord { cut, next }))
 }

@@ -1,8 +1,9 @@
 // The last data block of a file is filled up with fresh records.
 
-ghost use Rattle.std.specs.Prelude.{◌≡◌, ◌≢◌, ◌≤◌, ◌<◌, ◌*◌, ◌-◌, ℕ, List, length, slice_index_or, Ok, Some, true, IsOk, IfOk, IfErr, IsOkAnd, OnOk, OnErr, MatchResult};
+ghost use Rattle.std.specs.Prelude.{◌≡◌, ◌≢◌, ◌≤◌, ◌<◌, ◌*◌, ◌-◌, ◌⊎◌, ℕ, List, length, slice_index_or, Ok, Some, true, IsOk, IfOk, IfErr, IsOkAnd, OnOk, OnErr, MatchResult};
 ghost use Rattle.cbm_medium.specs.Place.{Place, Has, directory_head, sector_count};
 ghost use Rattle.cbm_medium.specs.Links.{link, Chain};
+ghost use Rattle.cbm_medium.specs.Met.{IsMet, place_of};
 ghost use Rattle.cbm_medium.specs.Seen.{OnlyContent};
 ghost use Rattle.cbm_chain.specs.Data.{chain_bytes};
 ghost use Rattle.cbm_relfile.specs.Records.{AllWhole, IsLaid};
@@ -29,6 +30,9 @@ fn block_there<M: Medium>(
         IsOkAnd result (λ r. r.0 ≡ slice_index_or blocks number directory_head) }
     ensures reads { IfOk result (λ r. (M.seen medium.now).content r.0 ≡ Ok r.1) }
     ensures has { IfOk result (λ r. Has geometry r.0) }
+    // The content shows why, or the chain has no such block.
+    ensures err { IfErr result (λ t. IsMet geometry (M.seen medium.now).content t ⊎
+        ((t.code ≡ 71) × (place_of t ≡ first))) }
     ensures never_26 { IfErr result (λ t. t.code ≢ 26) }
 {
     let Some(at) = nth_block(medium, geometry, first, number)? else {

@@ -8,3 +8,4 @@ pub mod Building
 pub mod Formatted
 pub mod Blank
 pub mod Wholes
+pub mod Headers

@@ -40,7 +40,7 @@ fn is_front(byte: u8) -> bool
 }
 
 /// Whether the byte at a place is the first of a header's code.
-fn may_be_header(track: &Track, place: u32) -> bool
+pub(crate) fn may_be_header(track: &Track, place: u32) -> bool
     requires { place < length track.now }
     ensures { result ≡ false → (v : List ℕ) → coded_at track.now place 8 ≡ Some v → is_header v ≡ false }
 {
@@ -83,7 +83,7 @@ fn is_wanted_at(track: &Track, place: u32, wanted: &Option<Address>) -> bool
 }
 
 /// The first block from a place on that begins before the track's end.
-fn block_after(track: &Track, from: u32) -> Option<u32>
+pub(crate) fn block_after(track: &Track, from: u32) -> Option<u32>
     requires { from < length track.now }
     ensures some { IfSome result (λ p. (from ≤ p) × (p < length track.now) × (begins track.now p ≡ true) ×
         ((q : ℕ) → from ≤ q → q < p → begins track.now q ≡ false)) }

@@ -5,6 +5,7 @@ mod block;
 mod fresh;
 mod group;
 mod header;
+mod indexed;
 mod layout;
 mod sector;
 #[cfg(test)]
@@ -12,4 +13,5 @@ mod tests;
 
 pub use fresh::{fresh_track, track_bytes};
 pub use group::decoding_undoes_code;
+pub use indexed::IndexedTrack;
 pub use sector::{fill_sector, id_of, read_sector, write_sector};

@@ -3,7 +3,7 @@ ghost use Rattle.cbm_gcr.specs.Code.{code};
 ghost use Rattle.cbm_medium.specs.Place.{Place};
 ghost use Rattle.cbm_medium.specs.Content.{header_fault};
 ghost use Rattle.cbm_track.specs.Circle.{next_block};
-ghost use Rattle.cbm_sector.specs.Answer.{shown, block_of, id_shown, data_block, IsOverwritten};
+ghost use Rattle.cbm_sector.specs.Answer.{shown, header_of, block_of, id_shown, data_block, IsOverwritten};
 ghost use Rattle.cbm_sector.specs.Fresh.{block_place};
 
 use crate::block::{coded_block, data_at, data_block};
@@ -24,9 +24,10 @@ fn block_behind(track: &Track, place: u32) -> Option<u32>
     track.next_sync((place + 1) % bits)
 }
 
-/// Where a sector's data block begins, or the fault of its header.
-#[tactic(auto, unfolding(crate::specs::Answer::block_of, crate::specs::Answer::header_of, crate::specs::Answer::is_crowded))]
-fn block_of(track: &Track, at: Address, id: [u8; 2]) -> Result<u32, u8>
+/// Where the data block of a sector begins whose header stands at this place, or the fault of its header.
+#[tactic(auto, unfolding(crate::specs::Answer::block_of, crate::specs::Answer::is_crowded))]
+fn block_of(track: &Track, header: Option<u32>, at: Address, id: [u8; 2]) -> Result<u32, u8>
+    requires { header ≡ header_of track.now at }
     ensures value { result ≡ block_of track.now id at }
     ensures below { IfOk result (λ p. p < length track.now) }
 {
@@ -34,7 +35,7 @@ fn block_of(track: &Track, at: Address, id: [u8; 2]) -> Result<u32, u8>
     if track.next_sync(0).is_none() {
         return Err(NO_SYNC);
     }
-    let Some(place) = find_header(track, &Some(at)) else {
+    let Some(place) = header else {
         return Err(NO_HEADER);
     };
     let Some(header) = header_bytes(track, place) else {
@@ -55,16 +56,39 @@ fn block_of(track: &Track, at: Address, id: [u8; 2]) -> Result<u32, u8>
     Ok(block)
 }
 
+/// The header of a sector: the first one from the track's first bit on.
+#[tactic(auto, unfolding(crate::specs::Answer::header_of))]
+pub(crate) fn header_of(track: &Track, at: Address) -> Option<u32>
+    ensures { result ≡ header_of track.now at }
+{
+    find_header(track, &Some(at))
+}
+
 /// Reads a sector: its 256 bytes. Errors, in the order of the tests (this project's order): 21 no sync mark on the
 /// track; 20 header not found; 27 header checksum; 29 disk id mismatch; 20 no data block after the header; 24 a byte
 /// that isn't group code; 22 not a data block; 23 data checksum.
-#[tactic(auto, unfolding(crate::specs::Answer::shown))]
 pub fn read_sector(track: &Track, at: Address, id: [u8; 2]) -> Result<[u8; 256], Fault>
     requires { at.track ≤ 35 }
     ensures ok { IfOk result (λ bytes. shown track.now id at ≡ Ok bytes) }
     ensures err { IfErr result (λ fault. (shown track.now id at ≡ Err fault.code) × (fault.at ≡ at)) }
 {
-    match block_of(track, at, id) {
+    read_at(track, header_of(track, at), at, id)
+}
+
+/// Reads a sector whose header stands at this place.
+#[tactic(auto, unfolding(crate::specs::Answer::shown))]
+pub(crate) fn read_at(
+    track: &Track,
+    header: Option<u32>,
+    at: Address,
+    id: [u8; 2],
+) -> Result<[u8; 256], Fault>
+    requires track { at.track ≤ 35 }
+    requires header { header ≡ header_of track.now at }
+    ensures ok { IfOk result (λ bytes. shown track.now id at ≡ Ok bytes) }
+    ensures err { IfErr result (λ fault. (shown track.now id at ≡ Err fault.code) × (fault.at ≡ at)) }
+{
+    match block_of(track, header, at, id) {
         Err(code) => Err(Fault { code, at }),
         Ok(place) => match data_at(track, place) {
             Err(code) => Err(Fault { code, at }),
@@ -96,7 +120,37 @@ pub fn write_sector(
         (λ code. result ≡ Err (record { code = code; at = at })) }
     ensures cause { IfErr result (λ fault. (header_fault (shown track.old id at) ≡ Some fault.code) × (fault.at ≡ at)) }
 {
-    match block_of(track, at, id) {
+    let header = header_of(track, at);
+    write_at(track, header, at, id, bytes)
+}
+
+/// Writes a sector's data block anew, whose header stands at this place.
+pub(crate) fn write_at(
+    track: &mut Track,
+    header: Option<u32>,
+    at: Address,
+    id: [u8; 2],
+    bytes: &[u8; 256],
+) -> Result<(), Fault>
+    requires header { header ≡ header_of track.old at }
+    requires track { at.track ≤ 35 }
+    ensures ok { OnOk result (shown track.new id at ≡ Ok bytes.now) }
+    ensures others { OnOk result ((id2 : List ℕ) (other : Place) → at ≢ other →
+        shown track.new id2 other ≡ shown track.old id2 other) }
+    ensures bits { OnOk result ((d : ℕ) → block_of track.old id at ≡ Ok d →
+        IsOverwritten track.old track.new d (code (data_block bytes.now))) }
+    ensures id { id_shown track.new ≡ id_shown track.old }
+    ensures length { length track.new ≡ length track.old }
+    // A data block and its sync mark take 2,610 bits.
+    ensures long { OnOk result (2610 ≤ length track.old) }
+    ensures err { OnErr result (track.new ≡ track.old) }
+    ensures refused { IfSome (header_fault (shown track.old id at))
+        (λ code. result ≡ Err (record { code = code; at = at })) }
+    ensures cause { IfErr result (λ fault. (header_fault (shown track.old id at) ≡ Some fault.code) × (fault.at ≡ at)) }
+    // No header is written over.
+    ensures headers { (other : Place) → header_of track.new other ≡ header_of track.old other }
+{
+    match block_of(track, header, at, id) {
         Err(code) => Err(Fault { code, at }),
         Ok(place) => {
             track.overwrite(place, &coded_block(&data_block(bytes)));
@@ -119,6 +173,7 @@ pub fn fill_sector(track: &mut Track, at: Address, id: &[u8; 2], bytes: &[u8; 25
     ensures others { (id2 : List ℕ) (other : Place) → at ≢ other →
         shown track.new id2 other ≡ shown track.old id2 other }
     ensures blocks { (id2 : List ℕ) (other : Place) → block_of track.new id2 other ≡ block_of track.old id2 other }
+    ensures headers { (other : Place) → header_of track.new other ≡ header_of track.old other }
     ensures bits { (d : ℕ) → block_of track.old id.now at ≡ Ok d →
         IsOverwritten track.old track.new d (code (data_block bytes.now)) }
     ensures id { id_shown track.new ≡ id_shown track.old }

@@ -2,7 +2,7 @@
 use Rattle.std.proofs.Common.{◌≡◌, ◌≢◌, ◌⊎◌, ℕ, zero, suc, ◌+◌, ◌-◌, ◌*◌, ◌/◌, ◌<◌, ◌≤◌, List, [], ◌∷◌, ◌++◌, length, take, drop, set, get_or, Bool, true, false, Option, Some, None, Result, Ok, Err, IsOk, refl, sym, ap, subst, ◌∙◌, arith, inl, inr}
 use Rattle.std.specs.Prelude.{if◌then◌else◌, ◌&&◌, ◌==◌}
 use Rattle.std.proofs.lemmas.Bool.{cases_eq, cases_lt, eq-eqb, ne_eqb}
-use Rattle.std.proofs.lemmas.List.{get_or-set_same, length-append, length-take-le, length-drop, take-append-drop, drop-append-le, drop-drop, append_assoc, set-get_or}
+use Rattle.std.proofs.lemmas.List.{get_or-set_same, get_or-set_other, length-set, length-append, length-take-le, length-drop, take-append-drop, drop-append-le, drop-drop, append_assoc, set-get_or}
 use Rattle.std.proofs.Math.Nat.{suc-mul}
 use Rattle.cbm_medium.specs.Place.{Place, directory_head, sector_count}
 use Rattle.cbm_medium.specs.Content.{Cell, Content, IsWhole, written}
@@ -10,22 +10,23 @@ use Rattle.cbm_medium.proofs.Places.{place_decide, written_there, written_elsewh
 use Rattle.cbm_medium.specs.Links.{AllSame}
 use Rattle.cbm_file.specs.declared.file_type.FileType.TheVariants.{Rel}
 use Rattle.cbm_file.specs.Types.{is_same_type}
-use Rattle.cbm_file.specs.Files.{Disk, File, Records, file_at, with_slot}
+use Rattle.cbm_file.specs.Files.{Body, Disk, File, Records, file_at, with_slot}
 use Rattle.cbm_file.specs.Records.{with_body}
 use Rattle.cbm_bam.specs.Map.{geometry_of}
 use Rattle.cbm_directory.specs.Entries.{is_closed, is_relative, width_of}
 use Rattle.cbm_volume.specs.Blocks.{Blocks, body_as, file_of, slot_with}
 use Rattle.cbm_volume.specs.Layouts.{Owner, TheMap, DataOf, SideOf, Writer, OwnedBy, Layout, slot_count, Sound, Stands, Untouched}
 use Rattle.cbm_volume.specs.Writers.{Use, Relates, IsRelating, IsUsed, has_slot, writes_slot, HoldsAt, Holds, HoldsNow}
-use Rattle.cbm_volume.specs.RecordWrites.{HasRecordsOpen, new_record, with_record, IsRecordPut, IsRecordCut}
+use Rattle.cbm_volume.specs.RecordWrites.{HasRecordsOpen, OfRecords, new_record, with_record, IsRecordPut, IsRecordCut}
+use Rattle.cbm_volume.specs.Holding.{HoldsDisk}
 use Rattle.cbm_volume.specs.Opens.{IsHindered}
 use Rattle.cbm_volume.proofs.Refusals.{write_hindered}
 use Rattle.cbm_volume.proofs.Closing.{some_file, other_slot}
 use Rattle.cbm_volume.proofs.Frames.{Keeps, owned_nth}
-use Rattle.cbm_volume.proofs.Settled.{same_directory, same_files}
+use Rattle.cbm_volume.proofs.Settled.{disk_settled, same_directory, same_files}
 use Rattle.cbm_volume.proofs.Storing.{geometry_elsewhere}
 use Rattle.cbm_volume.proofs.Writers.{Spares, used_kept, written_keeps, keeps_then}
-use Rattle.std.specs.Prelude.{is_some, slice_get, MatchResult}
+use Rattle.std.specs.Prelude.{is_some, option_map, slice_get, IfOk, IfSome, MatchResult}
 use Rattle.cbm_medium.specs.Seen.{Seen}
 use Rattle.cbm_medium.specs.declared.fault.Trouble.{Trouble}
 use Rattle.std.proofs.lemmas.Option.{slice_get-get_or, slice_get_past}
@@ -447,6 +448,13 @@ no_change medium c c' d uses n w b s k rs o e room =
     ∙ sym (ap (λ (x : Option File). elim x [ None ↦ d | Some g ↦ with_slot d n (Some (record g { body = Records w (set rs (k - 1) (get_or rs (k - 1) [])) b s })) ]) o.in_slot) in
     subst (λ (y : Disk). HoldsNow medium c' y uses) same (subst (λ (x : Content). HoldsNow medium x d uses) (sym e) o.holds)
 
+-- an element but the one that is set
+get_elsewhere : (xs : List (List ℕ)) (i j : ℕ) (y : List ℕ) → j ≢ i → slice_get (set xs i y) j ≡ slice_get xs j
+get_elsewhere xs i j y ne = elim (cases_lt j (length xs)) [
+  | inl l ↦ slice_get-get_or (set xs i y) j [] (omega (arith, l, length-set xs i y)) ∙ ap Some (get_or-set_other xs i j y [] ne) ∙ sym (slice_get-get_or xs j [] l)
+  | inr past ↦ slice_get_past (set xs i y) j (omega (arith, past, length-set xs i y)) ∙ sym (slice_get_past xs j past)
+]
+
 -- what the write of a record does, by what it does to the file's chain
 module _ (old new : Seen) (d : Disk) (uses : ℕ → Use) (n w b s k p : ℕ) (rs : List (List ℕ)) (bytes entry : List ℕ) (o : HasRecordsOpen old.tracks old.content d uses n w b s rs)
     (g : IsWrittenAt (geometry_of old.tracks old.content) old.content o.holds.layout d n o.file w b s rs entry) (some : 1 ≤ k) (first : 1 ≤ p) (most : p ≤ w) where
@@ -516,26 +524,69 @@ module _ (old new : Seen) (d : Disk) (uses : ℕ → Use) (n w b s k p : ℕ) (r
       by_so_far (inr half) x ne = half_keeps old.content new.content o.holds.layout.owner n h.at h.sector rec h.place (block_owner tracks old.content o.holds.layout d n o.file w b s k rs entry h.at h.sector h.place g h.lies) half x ne
 
   -- the clauses of the call
-  pub put_means : (r : Result (Option Bool) Trouble) → MatchResult r (IsChangedIfThere old.content new.content blocks w k p bytes) (λ t. IsChangeStopped tracks old new blocks w k p bytes t.code)
-      → MatchResult r (IsRecordPut old.tracks old.content new.content d uses n w b s rs k p bytes) (IsRecordCut old new d uses n w b s rs k p bytes)
-  put_means (Ok q) h = put_ok q h
-  put_means (Err t) h = put_stopped t h
+  pub put_means : {A : Type 0} (cut : A → Bool) (r : Result (Option A) Trouble) → MatchResult r (λ q. IsChangedIfThere old.content new.content blocks w k p bytes (option_map cut q)) (λ t. IsChangeStopped tracks old new blocks w k p bytes t.code)
+      → MatchResult r (λ q. IsRecordPut old.tracks old.content new.content d uses n w b s rs k p bytes (option_map cut q)) (IsRecordCut old new d uses n w b s rs k p bytes)
+  put_means cut (Ok q) h = put_ok (option_map cut q) h
+  put_means cut (Err t) h = put_stopped t h
 
-  pub put_untouched : (r : Result (Option Bool) Trouble) → MatchResult r (IsChangedIfThere old.content new.content blocks w k p bytes) (λ t. IsChangeStopped tracks old new blocks w k p bytes t.code) → Untouched tracks old.content new.content (λ m. m == n)
-  put_untouched (Ok q) h = untouched_but tracks old.content new.content o.holds.layout n g.stands.sound (keeps_ok q h) (λ m. m == n) refl
-  put_untouched (Err t) h = untouched_but tracks old.content new.content o.holds.layout n g.stands.sound (keeps_stopped t.code h) (λ m. m == n) refl
+  pub put_untouched : {A : Type 0} (cut : A → Bool) (r : Result (Option A) Trouble) → MatchResult r (λ q. IsChangedIfThere old.content new.content blocks w k p bytes (option_map cut q)) (λ t. IsChangeStopped tracks old new blocks w k p bytes t.code) → Untouched tracks old.content new.content (λ m. m == n)
+  put_untouched cut (Ok q) h = untouched_but tracks old.content new.content o.holds.layout n g.stands.sound (keeps_ok (option_map cut q) h) (λ m. m == n) refl
+  put_untouched cut (Err t) h = untouched_but tracks old.content new.content o.holds.layout n g.stands.sound (keeps_stopped t.code h) (λ m. m == n) refl
 
-  pub laid_means : (geometry : ℕ) (file : Relative) (r : Result (Option Bool) Trouble) → geometry ≡ tracks → file ≡ relative_of entry
+  -- where the file lies, as the call is told it
+  lies_there : (geometry : ℕ) (file : Relative) → geometry ≡ tracks → file ≡ relative_of entry → IsLaid geometry old.content file blocks (o.holds.layout.files n).sides
+  lies_there geometry file same is =
+      subst (λ (t : ℕ). IsLaid t old.content file blocks (o.holds.layout.files n).sides) (sym same) (subst (λ (y : Relative). IsLaid tracks old.content y blocks (o.holds.layout.files n).sides) (sym is) g.laid)
+
+  width_there : (file : Relative) → file ≡ relative_of entry → file.width ≡ w
+  width_there file is = ap (λ (y : Relative). y.width) is ∙ ap width_of g.entry_is ∙ sym g.width
+
+  pub laid_means : {A : Type 0} (cut : A → Bool) (geometry : ℕ) (file : Relative) (r : Result (Option A) Trouble) → geometry ≡ tracks → file ≡ relative_of entry
       → ((xs ss : List Place) → AllWhole old.content → IsLaid geometry old.content file xs ss → length xs ≤ sector_count geometry
-      → MatchResult r (IsChangedIfThere old.content new.content xs file.width k p bytes) (λ t. IsChangeStopped geometry old new xs file.width k p bytes t.code))
-      → MatchResult r (IsChangedIfThere old.content new.content blocks w k p bytes) (λ t. IsChangeStopped tracks old new blocks w k p bytes t.code)
-  laid_means geometry file r same is laid =
-      let width : file.width ≡ w = ap (λ (y : Relative). y.width) is ∙ ap width_of g.entry_is ∙ sym g.width in
-      let here = laid blocks (o.holds.layout.files n).sides g.whole
-      (subst (λ (t : ℕ). IsLaid t old.content file blocks (o.holds.layout.files n).sides) (sym same) (subst (λ (y : Relative). IsLaid tracks old.content y blocks (o.holds.layout.files n).sides) (sym is) g.laid))
-      (subst (λ (t : ℕ). length blocks ≤ sector_count t) (sym same) g.short) in
-      subst (λ (m : ℕ). MatchResult r (IsChangedIfThere old.content new.content blocks m k p bytes) (λ t. IsChangeStopped tracks old new blocks m k p bytes t.code)) width
-      (subst (λ (u : ℕ). MatchResult r (IsChangedIfThere old.content new.content blocks file.width k p bytes) (λ t. IsChangeStopped u old new blocks file.width k p bytes t.code)) same here)
+      → MatchResult r (λ q. IsChangedIfThere old.content new.content xs file.width k p bytes (option_map cut q)) (λ t. IsChangeStopped geometry old new xs file.width k p bytes t.code))
+      → MatchResult r (λ q. IsChangedIfThere old.content new.content blocks w k p bytes (option_map cut q)) (λ t. IsChangeStopped tracks old new blocks w k p bytes t.code)
+  laid_means cut geometry file r same is laid =
+      let here = laid blocks (o.holds.layout.files n).sides g.whole (lies_there geometry file same is) (subst (λ (t : ℕ). length blocks ≤ sector_count t) (sym same) g.short) in
+      subst (λ (m : ℕ). MatchResult r (λ q. IsChangedIfThere old.content new.content blocks m k p bytes (option_map cut q)) (λ t. IsChangeStopped tracks old new blocks m k p bytes t.code)) (width_there file is)
+      (subst (λ (u : ℕ). MatchResult r (λ q. IsChangedIfThere old.content new.content blocks file.width k p bytes (option_map cut q)) (λ t. IsChangeStopped u old new blocks file.width k p bytes t.code)) same here)
+
+  -- the file's records are those of the disk that was made of it
+  records_put : (cut : Bool) (e : Disk) (f : File) (w2 b2 s2 : ℕ) (rs2 : List (List ℕ)) → new.tracks ≡ old.tracks → IsRecordPut old.tracks old.content new.content d uses n w b s rs k p bytes (Some cut) → HoldsDisk new.tracks new.content e → file_at e n ≡ Some f
+      → f.body ≡ Records w2 rs2 b2 s2 → rs2 ≡ set rs (k - 1) (new_record w rs k p bytes)
+  records_put cut e f w2 b2 s2 rs2 same there holds at is =
+      let body : Body = Records w (set rs (k - 1) (new_record w rs k p bytes)) b s in
+      let file : File = record o.file { body = body } in
+      let was : HoldsDisk old.tracks new.content e = subst (λ (t : ℕ). HoldsDisk t new.content e) same holds in
+      let disk : e ≡ with_body d n body = disk_settled (geometry_of old.tracks new.content) new.content was.layout there.2.layout e (with_body d n body) was.stands there.2.so.stands in
+      let set_in : with_body d n body ≡ with_slot d n (Some file) = ap (λ (x : Option File). elim x [ None ↦ d | Some y ↦ with_slot d n (Some (record y { body = body })) ]) o.in_slot in
+      let here : file_at e n ≡ Some file = ap (λ (x : Disk). file_at x n) (disk ∙ set_in) ∙ get_or-set_same d.slots n (Some file) None (omega (arith, g.there, g.stands.describes.size)) in
+      let same_file : f ≡ file = (let z = sym at ∙ here in (cc)) in
+      let bodies : Records w2 rs2 b2 s2 ≡ body = sym is ∙ ap (λ (y : File). y.body) same_file in
+      cc
+
+  -- THE RECORD BEHIND IT is what it was
+  next_stays : (cut : Bool) (e : Disk) (f : File) (w2 b2 s2 : ℕ) (rs2 : List (List ℕ)) → new.tracks ≡ old.tracks → IsRecordPut old.tracks old.content new.content d uses n w b s rs k p bytes (Some cut) → HoldsDisk new.tracks new.content e → file_at e n ≡ Some f
+      → f.body ≡ Records w2 rs2 b2 s2 → record_in w (chain_bytes old.content blocks) (k + 1) ≡ slice_get rs2 k
+  next_stays cut e f w2 b2 s2 rs2 same there holds at is =
+      record_in_list tracks old.content o.holds.layout d n o.file w b s (k + 1) rs entry g (omega arith)
+      ∙ ap (λ (t : Bool). if t then None else slice_get rs (k + 1 - 1)) (ne_eqb (k + 1) 0 (λ z. omega (arith, z)))
+      ∙ (let m : k + 1 - 1 ≡ k = omega arith in ap (slice_get rs) m)
+      ∙ sym (get_elsewhere rs (k - 1) k (new_record w rs k p bytes) (λ z. omega (arith, z, some)))
+      ∙ ap (λ (ys : List (List ℕ)). slice_get ys k) (sym (records_put cut e f w2 b2 s2 rs2 same there holds at is))
+
+  pub next_means : {A : Type 0} (cut : A → Bool) (Q : A → Option (List ℕ) → Type 0) (geometry : ℕ) (file : Relative) (r : Result (Option A) Trouble) → new.tracks ≡ old.tracks → geometry ≡ tracks → file ≡ relative_of entry
+      → MatchResult r (λ q. IsRecordPut old.tracks old.content new.content d uses n w b s rs k p bytes (option_map cut q)) (IsRecordCut old new d uses n w b s rs k p bytes)
+      → ((xs ss : List Place) → AllWhole old.content → IsLaid geometry old.content file xs ss → length xs ≤ sector_count geometry → IfOk r (λ q. IfSome q (λ y. Q y (record_in file.width (chain_bytes old.content xs) (k + 1)))))
+      → IfOk r (λ q. IfSome q (λ y. OfRecords new n (λ found. Q y (slice_get found k))))
+  next_means {A} cut Q geometry file r tracks_same same is there next =
+      by_answer r there (next blocks (o.holds.layout.files n).sides g.whole (lies_there geometry file same is) (subst (λ (t : ℕ). length blocks ≤ sector_count t) (sym same) g.short))
+    where
+      by_answer : (q : Result (Option A) Trouble) → MatchResult q (λ x. IsRecordPut old.tracks old.content new.content d uses n w b s rs k p bytes (option_map cut x)) (IsRecordCut old new d uses n w b s rs k p bytes)
+          → IfOk q (λ x. IfSome x (λ y. Q y (record_in file.width (chain_bytes old.content blocks) (k + 1)))) → IfOk q (λ x. IfSome x (λ y. OfRecords new n (λ found. Q y (slice_get found k))))
+      by_answer (Err t) put h = tt
+      by_answer (Ok None) put h = tt
+      by_answer (Ok (Some y)) put h = λ e f w2 b2 s2 rs2 holds at body.
+          subst (Q y) (ap (λ (m : ℕ). record_in m (chain_bytes old.content blocks) (k + 1)) (width_there file is) ∙ next_stays (cut y) e f w2 b2 s2 rs2 tracks_same put holds at body) h
 
 -- where the records are that a channel has open
 pub open_at : (medium geometry : ℕ) (c : Content) (d : Disk) (uses : ℕ → Use) (n w b s : ℕ) (rs : List (List ℕ)) (o : HasRecordsOpen medium c d uses n w b s rs) (found : Option (List ℕ)) (entry : List ℕ) → AllWhole c → geometry ≡ geometry_of medium c → found ≡ Some entry

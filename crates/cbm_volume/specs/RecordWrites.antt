@@ -6,6 +6,7 @@ use Rattle.cbm_medium.specs.declared.fault.Trouble.{Trouble}
 use Rattle.cbm_file.specs.Files.{Disk, File, Records, file_at}
 use Rattle.cbm_file.specs.Records.{with_bytes, with_body, record_at}
 use Rattle.cbm_volume.specs.Writers.{Use, Relates, HoldsNow}
+use Rattle.cbm_volume.specs.Holding.{HoldsDisk}
 use Rattle.cbm_volume.specs.Opens.{IsHindered}
 
 -- A CHANNEL HAS THE RECORDS OF A SLOT OPEN: the medium holds the disk, and the slot's file has these records of this length, in so many
@@ -17,6 +18,11 @@ pub record HasRecordsOpen (medium : ℕ) (c : Content) (d : Disk) (uses : ℕ �
   pub file : File
   pub in_slot : file_at d n ≡ Some file
   pub body : file.body ≡ Records w rs b s
+
+-- THIS HOLDS of the records in a slot, on each disk that the medium holds.
+abbrev pub OfRecords : Seen → ℕ → (List (List ℕ) → Type 0) → Type 0
+OfRecords now n P =
+    (d : Disk) (f : File) (w b s : ℕ) (rs : List (List ℕ)) → HoldsDisk now.tracks now.content d → file_at d n ≡ Some f → f.body ≡ Records w rs b s → P rs
 
 -- record k, which counts from 1, with these bytes from position p on
 abbrev pub new_record : ℕ → List (List ℕ) → ℕ → ℕ → List ℕ → List ℕ

@@ -1,12 +1,13 @@
 // A relative file grows block by block: each new block is full of fresh records, and listed by a side sector.
 
-ghost use Rattle.std.specs.Prelude.{◌≡◌, ◌≢◌, ◌≤◌, ◌<◌, ◌+◌, ◌-◌, ◌*◌, ℕ, List, true, IfErr, IfOk, MatchResult};
+ghost use Rattle.std.specs.Prelude.{◌≡◌, ◌≢◌, ◌≤◌, ◌<◌, ◌+◌, ◌-◌, ◌*◌, ℕ, List, true, Ok, IsOk, IfErr, IfOk, MatchResult};
 ghost use Rattle.cbm_medium.specs.Content.{Content};
-ghost use Rattle.cbm_medium.specs.Place.{Place};
+ghost use Rattle.cbm_medium.specs.Place.{Place, Has};
 ghost use Rattle.cbm_medium.specs.Seen.{OnlyContent};
 ghost use Rattle.cbm_file.specs.Files.{Disk};
 ghost use Rattle.cbm_file.specs.Records.{sides_for};
 ghost use Rattle.cbm_bam.specs.Map.{geometry_of};
+ghost use Rattle.cbm_relfile.specs.Growing.{side_at, IsListStopped, IsSideLinked, AreSides, AreSidesLinked};
 ghost use Rattle.cbm_volume.specs.Growing.{HasGrown, HasLonger, HasSide, IsGrowthStopped};
 ghost use Rattle.cbm_volume.specs.RecordWrites.{HasRecordsOpen};
 ghost use Rattle.cbm_volume.specs.Writers.{Use};
@@ -124,6 +125,12 @@ pub fn copy_side<M: Medium>(
         b1 ≡ 120 * sides → MatchResult result
         (λ x. HasGrown old.tracks c0 d uses n w b s rs o file new.content (b1 + 1) (sides + 1) q)
         (IsGrowthStopped old new c0 o.holds.layout d uses n w rs) }
+    // The side sector of that number names the new one, and all else in it stays.
+    ensures linked { let old = M.seen medium.old in let new = M.seen medium.new in
+        (head : List ℕ) → Has geometry file.side → old.content file.side ≡ Ok head →
+        let at = side_at head number in Has geometry at → IsOk (old.content at) →
+        MatchResult result (λ x. IsSideLinked old.content new.content at number sides side)
+        (λ t. IsListStopped geometry old new t.code) }
     ensures protection { IfErr result (λ t. t.code ≡ 26 → (M.seen medium.old).protected ≡ true) }
     ensures only { OnlyContent result (M.seen medium.old) (M.seen medium.new) }
 {
@@ -147,6 +154,10 @@ pub fn copy_sides<M: Medium>(
         MatchResult result
         (λ x. HasSide old.tracks c0 d uses n w b s rs o file new.content b1 sides q side)
         (IsGrowthStopped old new c0 o.holds.layout d uses n w rs) }
+    // Each of them names the new one then, behind those that it named.
+    ensures linked { let old = M.seen medium.old in let new = M.seen medium.new in
+        (head : List ℕ) → AreSides geometry old.content file.side head sides →
+        IfOk result (λ x. AreSidesLinked old.content new.content head 1 sides side) }
     ensures protection { IfErr result (λ t. t.code ≡ 26 → (M.seen medium.old).protected ≡ true) }
     ensures only { OnlyContent result (M.seen medium.old) (M.seen medium.new) }
 {

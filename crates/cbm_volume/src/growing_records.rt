@@ -1,11 +1,13 @@
 // A relative file grows until a record is there.
 
-ghost use Rattle.std.specs.Prelude.{◌≡◌, ◌≢◌, ◌≤◌, ◌<◌, ◌+◌, ◌-◌, ◌==◌, ◌^◌, ℕ, List, true, false, None, Ok, IfErr, IfOk, IfSome, IsOkAnd, MatchBool, MatchOption, MatchResult};
+ghost use Rattle.std.specs.Prelude.{◌≡◌, ◌≢◌, ◌≤◌, ◌<◌, ◌+◌, ◌-◌, ◌==◌, ◌^◌, ◌⊎◌, ℕ, List, true, false, None, Some, Ok, IfErr, IfOk, IfSome, IsOkAnd, MatchBool, MatchOption, MatchResult};
+ghost use Rattle.cbm_medium.specs.Met.{IsMet};
 ghost use Rattle.cbm_medium.specs.Seen.{OnlyContent};
 ghost use Rattle.cbm_file.specs.Files.{Disk, Records};
 ghost use Rattle.cbm_file.specs.Records.{blocks_for, record_at, sides_for};
 ghost use Rattle.cbm_bam.specs.Map.{geometry_of};
 ghost use Rattle.cbm_directory.specs.Entries.{entry_at, first_block, first_side};
+ghost use Rattle.cbm_directory.specs.Slots.{directory_of};
 ghost use Rattle.cbm_volume.specs.Growth.{IsGrowthCut, IsTooLarge, with_growth};
 ghost use Rattle.cbm_volume.specs.Growing.{IsGrowthStopped, IsGrownTo, IsPlanned, is_too_large};
 ghost use Rattle.cbm_volume.specs.Layouts.{Untouched};
@@ -76,6 +78,9 @@ pub fn plan_growth<M: Medium>(
         (λ p. IsPlanned now.tracks now.content d uses slot w b s rs o number p.file p.extent.blocks p.extent.sides p.blocks)) }
     ensures bound { IfOk result (λ x. IfSome x (λ p. (1 ≤ p.file.width) × (p.file.width ≤ 254) ×
         (1 ≤ p.extent.blocks) × (p.extent.blocks ≤ p.blocks) × (p.blocks ≤ 720) × (p.extent.sides ≤ 6))) }
+    // The directory breaks off before the slot, or a link of the file meets the fault.
+    ensures cause { let now = M.seen medium.now in let tracks = geometry_of now.tracks now.content in
+        IfErr result (λ t. ((directory_of tracks now.content).trouble ≡ Some t) ⊎ IsMet tracks now.content t) }
     ensures never_26 { IfErr result (λ t. t.code ≢ 26) }
 {
     let geometry = cbm_bam::geometry(medium);

@@ -61,17 +61,6 @@ fn lines_that_are_refused(rt: HostRuntime) -> Result<(), Fail> {
 }
 
 #[test]
-fn a_script_of_bus_lines_is_refused(rt: HostRuntime) -> Result<(), Fail> {
-    let image = hello(rt.alloc())?;
-    let mut out: Vec<u8> = Vec::new(rt.alloc());
-    let script = b"lines\n0 atn pull\nend 9\n".as_slice();
-    let ended = run(rt.alloc(), script, &mut out, image.as_slice(), &OPEN);
-    assert_eq!(rt; ended.err(), Some(RunFault::Script(1)));
-    assert_eq!(rt; out.len(), 0);
-    Ok(())
-}
-
-#[test]
 fn lines_and_numbers_of_the_greatest_length(rt: HostRuntime) -> Result<(), Fail> {
     let image = hello(rt.alloc())?;
     for (length, fault) in [

@@ -4,7 +4,6 @@
 mod arguments;
 mod failure;
 mod program;
-mod save;
 
 use std::process::ExitCode;
 

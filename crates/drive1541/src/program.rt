@@ -1,8 +1,8 @@
 //! The program: what it reads, what it runs, and what it saves.
 use crate::arguments::{self, Arguments};
 use crate::failure::{Failure, Stream, exit_status};
-use crate::save::save;
 use cbm_program::{Options, run};
+use host_files::save;
 use std::io::{BufWriter, Write};
 use std::process::ExitCode;
 use std::rt::Runtime;
@@ -37,7 +37,10 @@ fn carry_out<R: Runtime + AllocGlobal>(rt: &R, arguments: &Arguments<'_>) -> Res
     let image = fs::read(rt, arguments.image).map_err(|e| Failure::of_file(e, Stream::Image))?;
     let script = fs::open(rt, arguments.script).map_err(|e| Failure::of_file(e, Stream::Script))?;
     let saved = run_script(rt, script, image.as_slice(), arguments)?;
-    save(rt, arguments.out, saved.as_slice()).map_err(|e| Failure::of_file(e, Stream::Out))
+    save(rt, "drive1541", arguments.out, saved.as_slice()).map_err(|e| Failure::of_file(
+        e,
+        Stream::Out,
+    ))
 }
 
 // What was printed before a fault is written too.
@@ -48,7 +51,7 @@ fn run_script<R: Runtime + AllocGlobal, S: io::Read + Drop>(
     arguments: &Arguments<'_>,
 ) -> Result<Vec<u8>, Failure> {
     let options = Options {
-        device: arguments.device,
+        device: arguments.device.clamp(8, 11),
         protected: arguments.is_read_only,
         check: arguments.is_checked,
     };

@@ -170,3 +170,25 @@ fn the_disk_is_as_the_calls_leave_it(rt: HostRuntime) -> Result<(), Fail> {
     assert!(&rt; over_wires.as_slice() == by_calls.as_slice());
     Ok(())
 }
+
+// Equal bytes that take no memory leave the disk as if they had been put, at the same moment.
+#[test]
+fn a_fill_is_a_put(rt: HostRuntime) -> Result<(), Fail> {
+    let mut bytes = Vec::new(rt.alloc());
+    for _ in 0..600u16 {
+        bytes.push(0x41)?;
+    }
+    let mut filled = Wired::new(&rt, rt.alloc(), 20)?;
+    filled.asks(&rt, rt.alloc(), Request::Open(2, b"DATA,S,W"))?;
+    filled.asks(&rt, rt.alloc(), Request::Fill(2, 600, 0x41))?;
+    let fill_end = filled.asks(&rt, rt.alloc(), Request::Close(2))?.end;
+    let mut put = Wired::new(&rt, rt.alloc(), 20)?;
+    put.asks(&rt, rt.alloc(), Request::Open(2, b"DATA,S,W"))?;
+    put.asks(&rt, rt.alloc(), Request::Put(2, bytes.as_slice()))?;
+    let put_end = put.asks(&rt, rt.alloc(), Request::Close(2))?.end;
+    assert!(&rt; fill_end == put_end);
+    let by_fill = filled.into_disk().to_bytes(rt.alloc())?;
+    let by_put = put.into_disk().to_bytes(rt.alloc())?;
+    assert!(&rt; by_fill.as_slice() == by_put.as_slice());
+    Ok(())
+}

@@ -29,3 +29,5 @@ mod rows;
 mod scripts;
 #[cfg(test)]
 mod validates;
+#[cfg(test)]
+mod wires;

@@ -1,5 +1,7 @@
 // Scripts on the disks of images: what they print, and the images that they leave.
 
+ghost use Rattle.std.specs.Prelude.{◌≤◌};
+
 use cbm_d64::D64Disk;
 use cbm_g64::G64Disk;
 use cbm_medium::{Address, Medium, sectors_of};
@@ -10,7 +12,7 @@ use std::test::Fail;
 use test_images::empty_image;
 
 /// A drive whose disk may be written.
-const WRITABLE: Options = Options {
+pub const WRITABLE: Options = Options {
     device: 8,
     protected: false,
     check: false,
@@ -31,14 +33,17 @@ const PROTECTED: Options = Options {
 };
 
 /// Asserts that a script prints this on an image with these options; the image afterwards.
-fn print_on(
+pub fn print_on(
     rt: &impl Abort,
     alloc: Global,
     image: &[u8],
     options: &Options,
     script: &str,
     text: &str,
-) -> Result<Vec<u8>, Fail> {
+) -> Result<Vec<u8>, Fail>
+    requires first { 8 ≤ options.now.device }
+    requires last { options.now.device ≤ 11 }
+{
     let mut printed: Vec<u8> = Vec::new(alloc);
     let after = run(alloc, script.as_bytes(), &mut printed, image, options)?;
     assert_eq!(rt; str::from_utf8(printed.as_slice()), Ok(text), "{script}");

@@ -5,7 +5,7 @@ ghost use Rattle.std.specs.Prelude.{◌≤◌, ◌<◌};
 use cbm_d64::D64Disk;
 use cbm_g64::G64Disk;
 use cbm_medium::{Failing, Medium, Steady, Trouble};
-use cbm_volume::Volume;
+use cbm_volume::{Volume, WrittenRecord};
 use std::alloc::Global;
 use std::process::Abort;
 use std::test::Fail;
@@ -35,6 +35,15 @@ fn five_records(mut image: Vec<u8>) -> Vec<u8> {
     image
 }
 
+/// Whether some bytes didn't fit, or the code of an `Err`.
+fn cut_of(answer: Result<Option<WrittenRecord>, Trouble>) -> Result<Option<bool>, u8> {
+    match answer {
+        Ok(Some(record)) => Ok(Some(record.cut)),
+        Ok(None) => Ok(None),
+        Err(trouble) => Err(trouble.code),
+    }
+}
+
 /// What a write answers, with the code of an `Err`, and the image behind it.
 fn written(
     alloc: Global,
@@ -47,9 +56,7 @@ fn written(
 {
     let image = five_records(empty_image(alloc)?);
     let mut volume = Volume::open(D64Disk::from_bytes(alloc, image.as_slice(), protected)?);
-    let answer = volume
-        .put_record(0, number, position, bytes)
-        .map_err(|trouble| trouble.code);
+    let answer = cut_of(volume.put_record(0, number, position, bytes));
     Ok((answer, volume.into_medium().to_bytes(alloc)?))
 }
 
@@ -139,9 +146,7 @@ fn stops<M: Steady + Drop>(
     border: &[u8; 2],
 ) -> Result<(), Fail> {
     let mut volume = Volume::open(Failing::new(medium, passes, false));
-    let answer = volume
-        .put_record(0, 3, 1, &[0x41; 100])
-        .map_err(|trouble| trouble.code);
+    let answer = cut_of(volume.put_record(0, 3, 1, &[0x41; 100]));
     assert!(rt;
         answer == (if passes < 2 { Err(25) } else { Ok(Some(false)) }),
         "{passes}"
@@ -166,5 +171,39 @@ fn a_write_of_a_record_stops(rt: HostRuntime) -> Result<(), Fail> {
         let wide = D64Disk::from_bytes(alloc, wide.as_slice(), false)?;
         stops(&rt, wide, passes, &border)?;
     }
+    Ok(())
+}
+
+// With a record that was written comes the next one, as it is read then; behind the last one there is none.
+#[test]
+fn the_next_record_comes_with_it(rt: HostRuntime) -> Result<(), Fail> {
+    let alloc = rt.alloc();
+    let image = five_records(empty_image(alloc)?);
+    let mut volume = Volume::open(D64Disk::from_bytes(alloc, image.as_slice(), false)?);
+    for (number, first, second) in [
+        (1u32, 255u8, 0u8),
+        (2, b'H', b'I'),
+        (3, 255, 0),
+        (4, 255, 0),
+    ] {
+        let written = volume
+            .put_record(0, number, 1, b"X")?
+            .expect(&rt, "a record");
+        assert!(rt; !written.cut, "{number}");
+        let next = written.next?.expect(&rt, "a next record");
+        assert!(rt; next.as_slice().len() == 100, "{number}");
+        assert!(rt;
+            next.get(0) == Some(&first) && next.get(1) == Some(&second),
+            "{number}"
+        );
+    }
+    let written = volume.put_record(0, 5, 1, b"X")?.expect(&rt, "a record");
+    assert!(rt; written.next?.is_none());
+    // A record that goes over two blocks is followed by the one behind it in the second block.
+    let written = volume
+        .put_record(0, 3, 1, &[0x41; 100])?
+        .expect(&rt, "a record");
+    let next = written.next?.expect(&rt, "a next record");
+    assert!(rt; next.get(0) == Some(&b'X') && next.get(1) == Some(&0));
     Ok(())
 }

@@ -58,6 +58,34 @@ fn listed(image: &[u8], side: usize) -> u8 {
     count
 }
 
+/// Whether so many bytes of an image are the same at two places.
+fn alike(image: &[u8], one: usize, two: usize, count: usize) -> bool {
+    for i in 0..count {
+        if image.get(one.wrapping_add(i)) != image.get(two.wrapping_add(i)) {
+            return false;
+        }
+    }
+    true
+}
+
+/// Whether each of the so many side sectors of the file in slot 0 has its number, names all of them and no more, and links
+/// to the next one.
+fn name_each_other(image: &[u8], count: u8) -> bool {
+    let (first, _) = sides(image);
+    let list = first.wrapping_add(4);
+    for number in 0..count {
+        let name = list.wrapping_add(number as usize * 2);
+        let side = named(image, name);
+        let is_alike = alike(image, side.wrapping_add(4), list, 12);
+        let is_last = number.wrapping_add(1) == count;
+        let is_linked = is_last || alike(image, side, name.wrapping_add(2), 2);
+        if image.get(side.wrapping_add(2)) != Some(&number) || !is_alike || !is_linked {
+            return false;
+        }
+    }
+    count == 6 || image.get(list.wrapping_add(count as usize * 2)) == Some(&0)
+}
+
 /// Whether the records of the file in slot 0 up to this one are there, and the disk is sound.
 fn reaches<M: Medium>(volume: &Volume<M>, last: u8) -> Result<bool, Trouble> {
     for number in 0..last {
@@ -115,6 +143,7 @@ fn a_side_sector_that_lacks(rt: HostRuntime) -> Result<(), Fail> {
     let (same, third) = sides(new.as_slice());
     assert!(rt; same == first && third != second && third != 0);
     assert!(rt; listed(new.as_slice(), first) == 120 && listed(new.as_slice(), third) == 2);
+    assert!(rt; name_each_other(new.as_slice(), 2));
     // The entry tells 122 data blocks and two side sectors.
     assert!(rt; stands(new.as_slice(), place(18, 1).wrapping_add(30), &[124, 0]));
     Ok(())
@@ -168,5 +197,20 @@ fn six_side_sectors(rt: HostRuntime) -> Result<(), Fail> {
     let mut volume = Volume::open(D64Disk::from_bytes(alloc, image.as_slice(), false)?);
     assert!(rt; !volume.grow_records(0, 721)?);
     assert!(rt; volume.into_medium().to_bytes(alloc)?.as_slice() == image.as_slice());
+    Ok(())
+}
+
+// A side sector more is put into the lists of all that were there.
+#[test]
+fn side_sectors_name_each_other(rt: HostRuntime) -> Result<(), Fail> {
+    let alloc = rt.alloc();
+    let mut volume = wide_volume(alloc)?;
+    assert!(rt; volume.make_records(b"R", 254)? == Some(0));
+    for count in 1..7u8 {
+        assert!(rt; volume.grow_records(0, count as u32 * 120)?);
+        let image = volume.into_medium().to_bytes(alloc)?;
+        assert!(rt; name_each_other(image.as_slice(), count), "{count}");
+        volume = Volume::open(D64Disk::from_bytes(alloc, image.as_slice(), false)?);
+    }
     Ok(())
 }

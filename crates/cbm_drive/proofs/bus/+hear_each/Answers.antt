@@ -25,11 +25,11 @@ returns-clause-heard g t c =
     let changes : c.args.changes.now ≡ first ∷ rest = c.in-Some.ensures.cases.0 in
     λ own bs hs when toggles counts b h.
     subst (λ (cs : List Change). HaveHeard _ g.D.Machine.State g.D.Machine.stands g.D.Machine.step g.D.Machine.says (behind_all cs c.args.wires) (held_behind cs own) cs c.hear_each.new.front c.hear_each.new.back bs hs) (sym changes)
-    (heard_next _ g.D.Machine.State g.D.Machine.stands g.D.Machine.step g.D.Machine.says c.args.moment first rest c.args.wires own c.args.front.now c.args.back.now c.tell_each.new.drives c.tell_each-2.new.drives c.hear_each.new.front c.hear_each.new.back bs hs
-    (subst (λ (w : Wires). Told _ g.D.Machine.State g.D.Machine.stands g.D.Machine.step g.D.Machine.says c.args.moment w c.args.front.now c.tell_each.new.drives) is c.tell_each.ensures.told) c.tell_each.ensures.own
-    (subst (λ (w : Wires). Told _ g.D.Machine.State g.D.Machine.stands g.D.Machine.step g.D.Machine.says c.args.moment w c.args.back.now c.tell_each-2.new.drives) is c.tell_each-2.ensures.told) c.tell_each-2.ensures.own
-    (subst (λ (w : Wires). (o : Held) (us es : List (Station g.D.Machine.State)) → AreAt c.args.moment rest → Toggles o rest → IsAllOf w o c.tell_each.new.drives c.tell_each-2.new.drives
-    → AllZip (IsSeat _ g.D.Machine.State g.D.Machine.stands w) c.tell_each.new.drives us → AllZip (IsSeat _ g.D.Machine.State g.D.Machine.stands w) c.tell_each-2.new.drives es
+    (heard_next _ g.D.Machine.State g.D.Machine.stands g.D.Machine.step g.D.Machine.says c.args.moment first rest c.args.wires own c.args.front.now c.args.back.now c.tell_others.new.drives c.tell_others-2.new.drives c.hear_each.new.front c.hear_each.new.back bs hs
+    (subst (λ (w : Wires). Told _ g.D.Machine.State g.D.Machine.stands g.D.Machine.step g.D.Machine.says c.args.moment w c.args.front.now c.tell_others.new.drives) is c.tell_others.ensures.told) c.tell_others.ensures.own
+    (subst (λ (w : Wires). Told _ g.D.Machine.State g.D.Machine.stands g.D.Machine.step g.D.Machine.says c.args.moment w c.args.back.now c.tell_others-2.new.drives) is c.tell_others-2.ensures.told) c.tell_others-2.ensures.own
+    (subst (λ (w : Wires). (o : Held) (us es : List (Station g.D.Machine.State)) → AreAt c.args.moment rest → Toggles o rest → IsAllOf w o c.tell_others.new.drives c.tell_others-2.new.drives
+    → AllZip (IsSeat _ g.D.Machine.State g.D.Machine.stands w) c.tell_others.new.drives us → AllZip (IsSeat _ g.D.Machine.State g.D.Machine.stands w) c.tell_others-2.new.drives es
     → HaveHeard _ g.D.Machine.State g.D.Machine.stands g.D.Machine.step g.D.Machine.says (behind_all rest w) (held_behind rest o) rest c.hear_each.new.front c.hear_each.new.back us es) is c.hear_each.ensures.heard)
     (subst (AreAt c.args.moment) changes when) (subst (Toggles own) changes toggles) counts b h)
 
@@ -40,7 +40,7 @@ pub returns-in_default-clause-back : goal.returns-in_default-clause-back
 returns-in_default-clause-back g t c = kept_same c.args.moment c.args.back.now
 
 pub returns-clause-front : goal.returns-clause-front
-returns-clause-front g t c = kept_then c.args.moment c.args.front.now c.tell_each.new.drives c.hear_each.new.front c.tell_each.ensures.kept c.hear_each.ensures.front
+returns-clause-front g t c = kept_then c.args.moment c.args.front.now c.tell_others.new.drives c.hear_each.new.front c.tell_others.ensures.kept c.hear_each.ensures.front
 
 pub returns-clause-back : goal.returns-clause-back
-returns-clause-back g t c = kept_then c.args.moment c.args.back.now c.tell_each-2.new.drives c.hear_each.new.back c.tell_each-2.ensures.kept c.hear_each.ensures.back
+returns-clause-back g t c = kept_then c.args.moment c.args.back.now c.tell_others-2.new.drives c.hear_each.new.back c.tell_others-2.ensures.kept c.hear_each.ensures.back

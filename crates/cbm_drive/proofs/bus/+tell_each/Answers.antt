@@ -7,7 +7,7 @@ use Rattle.cbm_drive.proofs.bus.+tell_each.Goals as goal
 
 pub returns-clause-told : goal.returns-clause-told
 returns-clause-told g t c = λ f ss h.
-    told_next _ g.D.Machine.State g.D.Machine.stands g.D.Machine.step g.D.Machine.says c.args.wires c.without-others.result c.args.moment f c.in-Some.first.now c.line.new.self c.in-Some.rest.now c.tell_each.new.drives ss
-    (λ q w. c.without-others.ensures q (subst (λ (o : Held). IsWithout c.args.wires o q) (sym c.own.ensures) w))
+    told_next _ g.D.Machine.State g.D.Machine.stands g.D.Machine.step g.D.Machine.says c.args.wires.now c.without-others.result c.args.moment f c.in-Some.first.now c.line.new.self c.in-Some.rest.now c.tell_each.new.drives ss
+    (λ q w. c.without-others.ensures q (subst (λ (o : Held). IsWithout c.args.wires.now o q) (sym c.own.ensures) w))
     c.line.ensures.port c.line.ensures.machine (λ us k. c.tell_each.ensures.told f us k)
-    (subst (λ (xs : List (Seated _)). AllZip (λ x s. Meets _ g.D.Machine.State g.D.Machine.stands c.args.wires (f s.rest) x s) xs ss) c.in-Some.ensures.cases.0 h)
+    (subst (λ (xs : List (Seated _)). AllZip (λ x s. Meets _ g.D.Machine.State g.D.Machine.stands c.args.wires.now (f s.rest) x s) xs ss) c.in-Some.ensures.cases.0 h)

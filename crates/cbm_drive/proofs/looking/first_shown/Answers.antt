@@ -1,6 +1,6 @@
 use Rattle.std.proofs.Common.{[], refl, sym, ap, ◌∙◌, arith}
 use Rattle.cbm_session.specs.Playing.{drive_events}
-use Rattle.cbm_drive.proofs.Ahead.{none_of, shows_on, shows_never, reacted_at}
+use Rattle.cbm_drive.proofs.Ahead.{none_of, shows_on, shows_never}
 use Rattle.cbm_drive.proofs.Firsts.{first_in_time, idle_in_time}
 use Rattle.cbm_drive.proofs.Left.{less_left}
 use Rattle.cbm_drive.proofs.Played.{settled_none, settled_more, settled_to}
@@ -10,6 +10,8 @@ pub loop-place-init : goal.loop-place-init
 loop-place-init g c = (
   (λ ss n until h l m. settled_none _ g.D.Machine.State g.D.Machine.stands g.D.Machine.step g.D.Machine.says g.met.D.Machine.byte c.args.host until c.args.drives.now [] n ss h l),
   (λ ss h any. record { stations = ss; now = h; any = any }),
+  refl,
+  (λ until l. omega arith),
   refl,
 )
 
@@ -46,6 +48,8 @@ loop-place-preserved g c =
           shows_on _ g.D.Machine.State g.D.Machine.stands g.D.Machine.step g.D.Machine.says c.args.host c.args.limit c.in-Some.moment c.in_ok-answer.answer.device c.loop-place.drives c.react.new.drives c.in_ok-answer.answer.changes.items k
           (c.in_ok-answer.ensures.reacted k.stations k.now c.in-Some.ensures.first) none)),
       c.in_ok-answer.ensures.same ∙ c.loop-place.invariant.2,
+      (λ until l. (let less = less_left c.in-Some.place c.in-Some.moment until c.loop-place.drives c.react.new.drives c.in-Some.ensures.first (omega (arith, c.if-moment-limit.false, l)) (omega (arith, c.requires.few, c.loop-place.invariant.2, c.in_ok-answer.ensures.same)) (c.in_ok-answer.ensures.nearer c.in-Some.ensures.first) in let so_far = c.loop-place.invariant.3 until l in omega (arith, less, so_far))),
+      c.in_ok-answer.ensures.lasting ∙ c.loop-place.invariant.4,
     )
 
 pub returns-clause-settled : goal.returns-clause-settled
@@ -56,8 +60,9 @@ returns-clause-some g c = λ ss h any.
     absurd (shows_never _ g.D.Machine.State g.D.Machine.stands g.D.Machine.step g.D.Machine.says c.args.host c.args.limit c.loop-place.drives (idle_in_time c.args.limit c.loop-place.drives c.in_default.ensures.first)
     (c.loop-place.invariant.1 ss h any))
 
-pub returns-then-not-is_empty-clause-moments : goal.returns-then-not-is_empty-clause-moments
-returns-then-not-is_empty-clause-moments g c = λ ss h.
-    let s = c.loop-place.invariant.0 ss 0 c.args.limit h (omega arith) (omega arith) in
-    reacted_at _ g.D.Machine.State g.D.Machine.stands g.D.Machine.step g.D.Machine.says c.args.host c.in-Some.moment c.in_ok-answer.answer.device c.react.new.drives c.in_ok-answer.answer.changes.items s.stations
-    (c.in_ok-answer.ensures.reacted s.stations s.now c.in-Some.ensures.first)
+-- this reaction is one less
+pub returns-then-not-is_empty-clause-fewer : goal.returns-then-not-is_empty-clause-fewer
+returns-then-not-is_empty-clause-fewer g c = λ until l.
+    let less = less_left c.in-Some.place c.in-Some.moment until c.loop-place.drives c.react.new.drives c.in-Some.ensures.first (omega (arith, c.if-moment-limit.false, l)) (omega (arith, c.requires.few, c.loop-place.invariant.2, c.in_ok-answer.ensures.same)) (c.in_ok-answer.ensures.nearer c.in-Some.ensures.first) in
+    let so_far = c.loop-place.invariant.3 until l in
+    omega (arith, less, so_far)

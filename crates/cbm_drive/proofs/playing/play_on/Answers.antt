@@ -14,6 +14,7 @@ loop-change-init g c = (
   (λ ss h. played_none _ g.D.Machine.State g.D.Machine.stands g.D.Machine.step g.D.Machine.says g.met.D.Machine.byte c.args.host.now c.args.drives.now c.args.events.now.items ss h),
   c.requires.ordered,
   refl,
+  refl,
 )
 
 pub loop-change-preserved : goal.loop-change-preserved
@@ -31,6 +32,7 @@ loop-change-preserved g c =
           c.in_ok-settle.ensures.settled c.tell_all.ensures.told c.in_ok-push.ensures.items)))),
       next.more,
       c.tell_all.ensures.same ∙ c.settle.ensures.same ∙ c.loop-change.invariant.2,
+      c.tell_all.ensures.lasting ∙ c.settle.ensures.lasting ∙ c.loop-change.invariant.3,
     )
 
 pub returns-in_err-settle-clause-played : goal.returns-in_err-settle-clause-played

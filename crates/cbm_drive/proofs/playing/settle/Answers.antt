@@ -11,6 +11,7 @@ pub loop-place-init : goal.loop-place-init
 loop-place-init g c = (
   (λ ss n h l. settled_none _ g.D.Machine.State g.D.Machine.stands g.D.Machine.step g.D.Machine.says g.met.D.Machine.byte c.args.host c.args.limit c.args.drives.now c.args.events.now.items n ss h l),
   refl,
+  refl,
 )
 
 -- what is due first is due at the limit or later
@@ -33,6 +34,7 @@ loop-place-preserved-in-Continue-1 g c = (
       c.args.events.now.items c.loop-place.events.items c.give.new.events.items ss s (c.in-Some-react.ensures.reacted s.stations s.now c.in-Some.ensures.first) (omega (arith, c.if-moment-limit.false))
       (c.in_ok-give.ensures.given ∙ ap (λ (cs : List Change). c.loop-place.events.items ++ drive_events c.in-Some-react.answer.device cs) c.deref.ensures.0))),
   c.in-Some-react.ensures.same ∙ c.loop-place.invariant.1,
+  c.in-Some-react.ensures.lasting ∙ c.loop-place.invariant.2,
 )
 
 pub returns-in_err-give-clause-played : goal.returns-in_err-give-clause-played

@@ -7,4 +7,4 @@ use Rattle.cbm_g64.proofs.circles.id_on.Goals as goal
 
 pub returns : goal.returns
 unfolding id_for
-returns c = c.unwrap_or.ensures ∙ ap (λ (o : Option (List ℕ)). unwrap_or o (0 ∷ 0 ∷ [])) (c.id_of.ensures ∙ ap id_shown (get_or_read c.args.tracks.now 17 c.index-tracks-17.result (omega arith) c.index-tracks-17.is []))
+returns c = c.unwrap_or.ensures ∙ ap (λ (o : Option (List ℕ)). unwrap_or o (0 ∷ 0 ∷ [])) (c.id.ensures ∙ ap id_shown (get_or_read c.args.tracks.now 17 c.index-tracks-17.result (omega arith) c.index-tracks-17.is []))

@@ -13,8 +13,8 @@ pub loop-i-init : goal.loop-i-init
 loop-i-init c = put_none (base_of c.args.formatted c.args.file.now) c.args.tracks.now c.args.out.now c.requires.base
 
 pub slice_bounds-bytes_at-end : goal.slice_bounds-bytes_at-end
-slice_bounds-bytes_at-end c = (track_ends (base_of c.args.formatted c.args.file.now) c.loop-i.out c.args.tracks.now c.index-tracks-i.result c.loop-i.i c.offset_in-at.result c.bits.result c.requires.held c.loop-i-test.true c.loop-i.invariant.same_length
-    c.offset_in-at.ensures.value c.if-at-ne0.true c.bits.ensures.value (get_or_read c.args.tracks.now c.loop-i.i c.index-tracks-i.result (omega (arith, c.requires.held.count)) c.index-tracks-i.is [])).1
+slice_bounds-bytes_at-end c = (track_ends (base_of c.args.formatted c.args.file.now) c.loop-i.out c.args.tracks.now c.track-track.result.now c.loop-i.i c.offset_in-at.result c.bits.result c.requires.held c.loop-i-test.true c.loop-i.invariant.same_length
+    c.offset_in-at.ensures.value c.if-at-ne0.true c.bits.ensures.value (c.track-track.ensures ∙ get_or_read c.args.tracks.now c.loop-i.i c.index-tracks-i.result (omega (arith, c.requires.held.count)) c.index-tracks-i.is [])).1
 
 pub loop-i-preserved : goal.loop-i-preserved
 loop-i-preserved c = elim c.if-at-ne0.branch [
@@ -23,11 +23,11 @@ loop-i-preserved c = elim c.if-at-ne0.branch [
       let image = c.loop-i.out in
       let at = c.offset_in-at.result in
       let k = c.offset_in-at.result + 2 + w.bits.result / 8 - (c.offset_in-at.result + 2) in
-      let g = get_or_read c.args.tracks.now c.loop-i.i w.index-tracks-i.result (omega (arith, c.requires.held.count)) w.index-tracks-i.is [] in
-      let d = track_ends base image c.args.tracks.now w.index-tracks-i.result c.loop-i.i at w.bits.result c.requires.held c.loop-i-test.true c.loop-i.invariant.same_length c.offset_in-at.ensures.value w.if-at-ne0.true w.bits.ensures.value g in
+      let g = w.track-track.ensures ∙ get_or_read c.args.tracks.now c.loop-i.i w.index-tracks-i.result (omega (arith, c.requires.held.count)) w.index-tracks-i.is [] in
+      let d = track_ends base image c.args.tracks.now w.track-track.result.now c.loop-i.i at w.bits.result c.requires.held c.loop-i-test.true c.loop-i.invariant.same_length c.offset_in-at.ensures.value w.if-at-ne0.true w.bits.ensures.value g in
       let d1 = d.1 in
       let m : length (take k (drop (at + 2) image)) ≡ k = length-take-le k (drop (at + 2) image) (omega (arith, length-drop (at + 2) image)) in
-      put_at base image w.bytes_at.new.out c.if-at-ne0.out c.args.tracks.now w.index-tracks-i.result c.loop-i.i at w.bits.result k (length (take k (drop (at + 2) image))) c.requires.held c.loop-i-test.true c.loop-i.invariant
+      put_at base image w.bytes_at.new.out c.if-at-ne0.out c.args.tracks.now w.track-track.result.now c.loop-i.i at w.bits.result k (length (take k (drop (at + 2) image))) c.requires.held c.loop-i-test.true c.loop-i.invariant
       c.offset_in-at.ensures.value w.if-at-ne0.true w.bits.ensures.value g w.out-is (omega arith) w.bytes_at.ensures (omega (arith, m)) w.bytes_at.auto.out)
   | else-at-ne0 w ↦ rw w.out-is (put_skip (base_of c.args.formatted c.args.file.now) c.args.tracks.now c.loop-i.out c.loop-i.i c.loop-i.invariant (sym c.offset_in-at.ensures.value ∙ w.if-at-ne0.false))
 ]

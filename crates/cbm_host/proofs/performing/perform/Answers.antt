@@ -1,16 +1,35 @@
-use Rattle.std.proofs.Common.{rules, false, refl}
+use Rattle.std.proofs.Common.{◌+◌, ℕ, Some, [], ◌∷◌, false, refl, sym, ap, ◌∙◌, subst, arith}
+use Rattle.cbm_session.specs.Playing.{at_rest, IsMachine}
+use Rattle.cbm_host.proofs.CarriedOut.{some_end, carried_soon, carried_out_then}
 use Rattle.cbm_host.proofs.Performed.{performing_none}
 use Rattle.cbm_host.proofs.performing.perform.Goals as goal
+use Rattle.cbm_host.specs.CarriedOut.{IsShort}
 use Rattle.cbm_host.specs.Engines.{engine_at}
+use Rattle.cbm_host.specs.Performed.{HasPerformed}
 
-pub returns-in-Ok : goal.returns-in-Ok
-returns-in-Ok g c = record {
-  performed = λ ss bus. record {
-    behind = c.run.new.performer;
-    performed =
-        c.in-Ok.ensures.performing (engine_at c.args.start c.args.device c.args.request) c.args.events.now.items ss
-        (performing_none _ g.D.Machine.State g.D.Machine.stands g.D.Machine.step g.D.Machine.says g.met.D.Machine.byte (engine_at c.args.start c.args.device c.args.request) c.new-performer.result c.args.bus.now c.args.events.now.items c.new.result.items false ss bus c.new-performer.ensures.player
-        c.new-performer.ensures.engine c.new.ensures.items refl);
-    over = (search rules);
-  };
-}
+pub returns-in-Ok-clause-carried_out : goal.returns-in-Ok-clause-carried_out
+returns-in-Ok-clause-carried_out g c = λ b ms drive device short bus.
+    let engine = engine_at c.args.start c.args.device c.args.request in
+    let limit = c.args.start + 250000000 in
+    let ss = at_rest g.D.Machine.State g.D.Machine.step g.D.Machine.says ms (b ∷ []) in
+    let h = c.in-Ok.ensures.performed engine limit c.args.events.now.items ss
+    (performing_none _ g.D.Machine.State g.D.Machine.stands g.D.Machine.step g.D.Machine.says g.met.D.Machine.byte engine limit c.new-performer.result c.args.bus.now c.args.events.now.items c.new.result.items false ss bus c.new-performer.ensures.player c.new-performer.ensures.engine
+    c.new-performer.ensures.limit c.new.ensures.items refl) in
+    let h2 = subst (λ (n : ℕ). HasPerformed _ g.D.Machine.State g.D.Machine.stands g.D.Machine.step g.D.Machine.says (engine_at c.args.start n c.args.request) limit c.run.new.performer c.run.new.bus c.args.events.now.items c.run.new.events.items c.run.new.done.bytes.items c.run.new.done.last ss) (sym device) h in
+    let short2 = subst (λ (n : ℕ). IsShort g.D.Machine.State g.D.Machine.step g.D.Machine.says n (ms n) c.args.request) (sym device) short in
+    let machine : IsMachine g.D.Machine.State g.D.Machine.step g.D.Machine.says = record { more = g.met.D.Machine.more } in
+    let end = some_end _ g.D.Machine.State g.D.Machine.stands g.D.Machine.step g.D.Machine.says machine b drive ms c.args.start c.args.request c.requires.channel short2 c.run.new.performer c.run.new.bus c.args.events.now.items c.run.new.events.items c.run.new.done.bytes.items c.run.new.done.last h2 in
+    let soon = carried_soon _ g.D.Machine.State g.D.Machine.stands g.D.Machine.step g.D.Machine.says machine b drive ms c.args.start c.args.request c.requires.channel short2 c.run.new.performer c.run.new.bus c.args.events.now.items c.run.new.events.items c.run.new.done.bytes.items c.run.new.done.last h2 end.0 end.1 in
+    let until = h.until in
+    let over = c.over.ensures.end end.0 end.1 (omega (arith, soon, until)) in
+    carried_out_then _ g.D.Machine.State g.D.Machine.stands g.D.Machine.step g.D.Machine.says machine b drive ms c.args.start c.args.request c.requires.channel short2 c.run.new.performer c.run.new.bus c.args.events.now.items c.run.new.events.items c.run.new.done.bytes.items c.run.new.done.last h2
+    c.over.result (end.1 ∙ ap (λ (t : ℕ). Some t) (sym over))
+
+pub returns-in-Err-clause-memory : goal.returns-in-Err-clause-memory
+returns-in-Err-clause-memory g c = λ ss bus.
+    let engine = engine_at c.args.start c.args.device c.args.request in (
+      refl,
+      c.in-Err.ensures.memory engine (c.args.start + 250000000) c.args.events.now.items ss
+          (performing_none _ g.D.Machine.State g.D.Machine.stands g.D.Machine.step g.D.Machine.says g.met.D.Machine.byte engine (c.args.start + 250000000) c.new-performer.result c.args.bus.now c.args.events.now.items c.new.result.items false ss bus c.new-performer.ensures.player
+          c.new-performer.ensures.engine c.new-performer.ensures.limit c.new.ensures.items refl),
+    )

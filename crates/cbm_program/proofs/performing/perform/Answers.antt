@@ -1,19 +1,17 @@
-use Rattle.std.proofs.lemmas.Result.{on_err_weaker}
 use Rattle.cbm_program.proofs.OutputLemmas.{appends-nothing}
-use Rattle.cbm_program.proofs.SteadyLemmas.{steady_close, steady_open}
 use Rattle.cbm_program.proofs.performing.perform.Goals as goal
 
 pub returns-in-Open-clause-ok : goal.returns-in-Open-clause-ok
-returns-in-Open-clause-ok g c = rw (c.in-Open.is, ← c.as_slice.ensures.value) (λ m s. (appends-nothing _, steady_open g.M.Medium.seen g.met.M.Steady.steady c.args.dos.now c.open.new.self c.in-Open.channel c.as_slice.result.now c.open.ensures.goes m s))
+returns-in-Open-clause-ok g c = rw (c.in-Open.is, ← c.as_slice.ensures.value) (λ m s. (appends-nothing _, c.open.ensures.rests m s))
 
 pub returns-in-Put-clause-ok : goal.returns-in-Put-clause-ok
-returns-in-Put-clause-ok g c = rw (c.in-Put.is, ← c.as_slice-in-Put.ensures.value) (λ m s. (appends-nothing _, c.hear.ensures.leads m s))
+returns-in-Put-clause-ok g c = rw (c.in-Put.is, ← c.as_slice-in-Put.ensures.value) (λ m s. (appends-nothing _, c.put.ensures.rests m s))
 
 pub returns-in-Fill-clause-ok : goal.returns-in-Fill-clause-ok
-returns-in-Fill-clause-ok g c = rw c.in-Fill.is (λ m s. (appends-nothing _, c.hear_equal.ensures.leads m s))
+returns-in-Fill-clause-ok g c = rw c.in-Fill.is (λ m s. (appends-nothing _, c.fill.ensures.rests m s))
 
 pub returns-in-Close-clause-ok : goal.returns-in-Close-clause-ok
-returns-in-Close-clause-ok g c = rw c.in-Close.is (λ m s. (appends-nothing _, steady_close g.M.Medium.seen g.met.M.Steady.steady c.args.dos.now c.close.new.self c.in-Close.channel c.close.ensures.goes m s))
+returns-in-Close-clause-ok g c = rw c.in-Close.is (λ m s. (appends-nothing _, c.close.ensures.rests m s))
 
 pub returns-in-Get-clause-err : goal.returns-in-Get-clause-err
 returns-in-Get-clause-err g c = rw c.in-Get.is c.print_get.ensures.err

@@ -1,19 +1,22 @@
-use Rattle.std.proofs.Common.{◌-◌, ◌≤◌}
-use Rattle.cbm_channel.specs.Standing.{Stands}
-use Rattle.cbm_channel.specs.Going.{KeepsMedium}
+use Rattle.std.proofs.Common.{ℕ, ◌≡◌, ◌-◌, ◌*◌, ◌<◌, ◌≤◌, List, Option, Ok}
+use Rattle.std.specs.Prelude.{IfSome}
+use Rattle.cbm_host.specs.Hosted.{Rests, tracks_on}
 use Rattle.cbm_program.specs.Lines.{bytes_left}
 use Rattle.cbm_program.specs.Output.{Grows}
-use Rattle.cbm_program.proofs.RunLemmas.{Running}
+use Rattle.cbm_program.specs.Running.{LineRead, LineIsInRange}
+use Rattle.cbm_program.proofs.RunLemmas.{RunningOn}
 use Rattle.cbm_program.proofs.session.run_on.Given as goal
 
 abbrev pub invariant-lines : goal.invariant-lines
 invariant-lines g l = record {
-  running : Running (g.W.Write.contents l.initial.writer) (g.W.Write.contents l.writer) (g.R.Read.remaining l.fn.reader)
-      (bytes_left g.R.Read.remaining l.lines) (Stands g.M.Medium.seen l.initial.dos)
-      (Stands g.M.Medium.seen l.dos) l.number;
+  running : (input : Option (List ℕ)) → LineRead input (bytes_left g.R.Read.remaining l.initial.lines) 1 (Ok l.fn.first)
+      → RunningOn (g.W.Write.contents l.initial.writer) (g.W.Write.contents l.writer) input (bytes_left g.R.Read.remaining l.lines) (Rests g.M.Medium.seen l.initial.drive) (Rests g.M.Medium.seen l.drive) l.number l.next;
+  range : IfSome l.next LineIsInRange;
   few : l.number ≤ 1000001;
+  fewer : IfSome l.next (λ line. l.number < 1000001);
   grown : Grows (g.W.Write.contents l.initial.writer) (g.W.Write.contents l.writer);
-  medium : KeepsMedium (g.M.Medium.seen l.initial.dos.medium) (g.M.Medium.seen l.dos.medium);
+  soon : l.drive.moment ≤ 250000000 * l.number;
+  tracks : tracks_on g.M.Medium.seen l.drive ≡ tracks_on g.M.Medium.seen l.initial.drive;
 }
 
 abbrev pub decreases-lines : goal.decreases-lines

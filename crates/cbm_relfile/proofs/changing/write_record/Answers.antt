@@ -1,5 +1,5 @@
-use Rattle.std.proofs.Common.{◌≡◌, ◌⊎◌, ℕ, length, ◌+◌, ◌-◌, ◌*◌, ◌/◌, ◌%◌, List, ◌∷◌, refl, sym, ap, ◌∙◌, subst, arith, inl}
-use Rattle.std.specs.Prelude.{option_map, nat_lt, Bool, MatchBool}
+use Rattle.std.proofs.Common.{◌≡◌, ◌⊎◌, ℕ, length, ◌+◌, ◌-◌, ◌*◌, ◌/◌, ◌%◌, List, ◌∷◌, Option, refl, sym, ap, ◌∙◌, subst, arith, inl}
+use Rattle.std.specs.Prelude.{option_map, nat_lt, Bool, IsOkAnd, MatchBool}
 use Rattle.cbm_file.specs.Records.{with_bytes}
 use Rattle.cbm_medium.specs.Content.{refusal}
 use Rattle.cbm_medium.specs.Seen.{Seen}
@@ -7,7 +7,7 @@ use Rattle.cbm_chain.specs.Data.{chain_bytes}
 use Rattle.cbm_relfile.specs.Records.{stretch_in, IsRewritten, EndsBefore}
 use Rattle.cbm_relfile.specs.Changing.{record_bytes, IsChangedIfThere, IsHalfRewritten, IsChangeStopped}
 use Rattle.cbm_relfile.proofs.Changed.{refused_by, read_from, no_stretch, with_bytes_length}
-use Rattle.cbm_relfile.proofs.Stretches.{no_block, block_found}
+use Rattle.cbm_relfile.proofs.Stretches.{no_block, block_found, next_record}
 use Rattle.cbm_relfile.proofs.changing.write_record.Goals as goal
 
 -- the block in which it would begin isn't there
@@ -72,7 +72,7 @@ returns-in_err-rewrite-clause-laid g c = λ blocks sides w laid short.
     c.deref.ensures.0 ∙ c.changed-new.ensures ∙ (λ i. with_bytes (size i) (from.bytes i) c.args.position c.args.bytes.now) in
     let old : Seen = g.M.Medium.seen c.args.medium.now in
     let now : Seen = g.M.Medium.seen c.rewrite.new.medium in
-    refused_by c.from_residual-in_err-rewrite.result c.in_err-rewrite.field-0.0 (IsChangedIfThere old.content now.content blocks c.args.file.width c.args.number c.args.position c.args.bytes.now)
+    refused_by c.from_residual-in_err-rewrite.result c.in_err-rewrite.field-0.0 (λ o. IsChangedIfThere old.content now.content blocks c.args.file.width c.args.number c.args.position c.args.bytes.now (option_map (λ r. r.cut) o))
     (λ t. IsChangeStopped c.args.geometry old now blocks c.args.file.width c.args.number c.args.position c.args.bytes.now t.code) c.from_residual-in_err-rewrite.ensures.1
     (record {
       at = c.in-Some.at;
@@ -110,3 +110,15 @@ returns-clause-laid g c = λ blocks sides w laid short.
       rewritten = subst (λ (ys : List ℕ). IsRewritten (g.M.Medium.seen c.args.medium.now).content (g.M.Medium.seen c.rewrite.new.medium).content c.in-Some.at c.in_ok-sector.sector (((c.args.number - 1) * c.length.result) % 254) ys) new (subst (λ (b : Bool). MatchBool b (IsRewritten (g.M.Medium.seen c.args.medium.now).content (g.M.Medium.seen c.rewrite.new.medium).content c.in-Some.at c.in_ok-sector.sector (((c.args.number - 1) * c.length.result) % 254) c.deref.result.now) ((g.M.Medium.seen c.rewrite.new.medium).content ≡ (g.M.Medium.seen c.args.medium.now).content)) c.if-not-branch.false c.in_ok-rewrite.ensures.done);
       cut_is = (let room : c.len.result - (c.args.position - 1) ≡ c.args.file.width + 1 - c.args.position = omega (arith, c.len.ensures.value, size, c.requires.position.0, c.requires.position.1) in ap (λ (n : ℕ). nat_lt n (length c.args.bytes.now)) room);
     }
+
+-- the record behind it is read where this one lies
+pub returns-clause-next : goal.returns-clause-next
+returns-clause-next g c = λ blocks sides w laid short.
+    let from : ℕ = (c.args.number - 1) * c.length.result in
+    let found = block_found c.args.geometry (g.M.Medium.seen c.args.medium.now).content c.args.file.first blocks (from / 254) c.in-Some.at laid.chain
+    (sym c.in-Some.is ∙ c.in_ok-at.ensures.laid blocks sides laid short) in
+    subst (λ (z : Option (List ℕ)). IsOkAnd c.next_stretch-next.result (λ o. option_map (λ r. r.items) o ≡ z))
+    ((λ i. stretch_in (chain_bytes (g.M.Medium.seen c.args.medium.now).content (sym found.is i)) (from % 254 + c.length-3.ensures i) (c.length-3.ensures i))
+    ∙ next_record c.args.geometry (g.M.Medium.seen c.args.medium.now).content c.args.file.first blocks c.args.number c.args.file.width from (from / 254) w laid.chain c.requires.number.0 c.requires.length.0
+    (ap (λ (m : ℕ). (c.args.number - 1) * m) c.length.ensures) refl found.there)
+    (c.next_stretch-next.ensures.chain c.in-Some.at found.rest w c.in_ok-sector.ensures.ok found.chain)

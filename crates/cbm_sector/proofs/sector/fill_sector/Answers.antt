@@ -4,6 +4,7 @@ use Rattle.cbm_medium.specs.Place.{Place}
 use Rattle.cbm_sector.specs.Answer.{block_of, data_block}
 use Rattle.cbm_sector.proofs.Writing.{IsWritten}
 use Rattle.cbm_sector.proofs.Showing.{code_size, block_below, written, overwritten, own_shown, other_shown, id_kept, block_of_kept, block_fits}
+use Rattle.cbm_sector.proofs.Headers.{header_of_kept}
 use Rattle.cbm_sector.proofs.sector.fill_sector.Goals as goal
 use Rattle.cbm_sector.proofs.sector.fill_sector.Goals.{After-overwrite}
 
@@ -56,3 +57,6 @@ returns-clause-id c = id_kept c.args.track.now c.overwrite.new.self (2896 * c.se
 
 pub returns-clause-bits : goal.returns-clause-bits
 returns-clause-bits c = λ d e. overwritten c.args.track.now c.overwrite.new.self c.args.id.now c.args.at (2896 * c.sector.result + 232) c.args.bytes.now (done c) (at_number c.args.track.now c.args.id.now c.args.at c.sector.result c.sector.ensures.value c.requires.laid) d e
+
+pub returns-clause-headers : goal.returns-clause-headers
+returns-clause-headers c = λ other. header_of_kept c.args.track.now c.overwrite.new.self (2896 * c.sector.result + 232) (data_block c.args.bytes.now) (done c) other

@@ -1,12 +1,13 @@
-use Rattle.std.proofs.Common.{◌-◌, arith}
+use Rattle.std.proofs.Common.{◌+◌, ◌-◌, arith}
 use Rattle.cbm_medium.specs.Seen.{Seen}
+use Rattle.cbm_relfile.proofs.SidesLinked.{linked_none, linked_more, linked_all}
 use Rattle.cbm_volume.specs.Growing.{IsGrowthStopped}
 use Rattle.cbm_volume.proofs.CopySteps.{handed, nothing_yet, nothing_more}
 use Rattle.cbm_volume.proofs.GrowingJoined.{copied_none, copied_more, copied_stop}
 use Rattle.cbm_volume.proofs.growing_blocks.copy_sides.Goals as goal
 
 pub loop-passed-init : goal.loop-passed-init
-loop-passed-init g c = (copied_none (g.M.Medium.seen c.args.medium.now) c.args.file c.args.geometry c.args.sides c.args.side, nothing_yet (g.M.Medium.seen c.args.medium.now), omega arith)
+loop-passed-init g c = (copied_none (g.M.Medium.seen c.args.medium.now) c.args.file c.args.geometry c.args.sides c.args.side, nothing_yet (g.M.Medium.seen c.args.medium.now), omega arith, λ head sides. linked_none (g.M.Medium.seen c.args.medium.now).content head (c.args.sides + 1 - 1) c.args.sides c.args.side (omega arith))
 
 pub returns-in_err-copy_side-clause-copied : goal.returns-in_err-copy_side-clause-copied
 returns-in_err-copy_side-clause-copied g c = λ c0 d uses n w b s b1 rs q o e h.
@@ -24,4 +25,11 @@ loop-passed-preserved g c =
       copied_more old mid new c.args.file c.args.geometry c.args.sides (c.args.sides - c.loop-passed.passed) c.args.side c.loop-passed.invariant.0 c.loop-passed.invariant.1.tracks (omega (arith, c.loop-passed-test.true)) c.in_ok-copy_side.ensures.copied,
       nothing_more c.in_ok-copy_side.field-0 old mid new c.loop-passed.invariant.1 c.in_ok-copy_side.ensures.only,
       omega (arith, c.loop-passed.invariant.2),
+      λ head. linked_more c.args.geometry old.content mid.content new.content c.args.file.side head (c.args.sides - c.loop-passed.passed) (c.args.sides + 1 - c.loop-passed.passed) (c.args.sides + 1 - (c.loop-passed.passed + 1)) c.args.sides c.args.side
+          (omega (arith, c.loop-passed-test.true)) (omega (arith, c.loop-passed-test.true)) (omega (arith, c.loop-passed-test.true)) (omega (arith, c.loop-passed-test.true, c.loop-passed.invariant.2)) c.in_ok-copy_side.ensures.linked (c.loop-passed.invariant.3 head),
     )
+
+pub returns-clause-linked : goal.returns-clause-linked
+returns-clause-linked g c = λ head sides.
+    linked_all (g.M.Medium.seen c.args.medium.now).content (g.M.Medium.seen c.loop-passed.medium).content head (c.args.sides + 1 - c.loop-passed.passed) c.args.sides c.args.side
+    (omega (arith, c.loop-passed-test.false)) (λ some. omega (arith, some, c.loop-passed.auto.passed-end)) (c.loop-passed.invariant.3 head sides)

@@ -1,10 +1,10 @@
-use Rattle.std.proofs.Common.{subst, inl, Bool, Option, Ok}
+use Rattle.std.proofs.Common.{◌≡◌, subst, inl, Bool, Ok}
+use Rattle.std.specs.Prelude.{option_map, IsOkAnd}
 use Rattle.cbm_medium.specs.Seen.{Seen}
-use Rattle.cbm_volume.specs.RecordWrites.{IsRecordPut}
 use Rattle.cbm_volume.proofs.CopySteps.{handed}
 use Rattle.cbm_channel.specs.Recorded.{IsTextCut}
 use Rattle.cbm_channel.proofs.Asked.{none_of}
-use Rattle.cbm_channel.proofs.RecordPuts.{Writes, Grows, store_full, store_cut, store_more, store_more_cut, store_there}
+use Rattle.cbm_channel.proofs.RecordPuts.{Grows, store_full, store_cut, store_more, store_more_cut, store_there, store_next}
 use Rattle.cbm_channel.proofs.on_record.OnRecord.store.Goals as goal
 
 -- the record was there
@@ -12,23 +12,23 @@ pub returns-in-Some-clause-put : goal.returns-in-Some-clause-put
 returns-in-Some-clause-put g c = λ d uses b s rs can.
     let old : Seen = g.M.Medium.seen c.args.volume.now in
     let mid : Seen = g.M.Medium.seen c.write.new.volume in
-    inl (subst (λ (o : Option Bool). IsRecordPut old.tracks old.content mid.content d uses c.args.self.now.slot c.args.self.now.width b s rs c.args.self.now.number c.args.self.now.position c.args.bytes.now o) c.in-Some.is (c.in_ok-cut.ensures.put d uses b s rs can))
+    inl (rw c.in-Some.is at (c.in_ok-written.ensures.put d uses b s rs can))
 
 -- the file would be too large, or its growth was refused
 pub returns-then-not-branch-clause-put : goal.returns-then-not-branch-clause-put
 returns-then-not-branch-clause-put g c = λ d uses b s rs can.
     let old : Seen = g.M.Medium.seen c.args.volume.now in
     let mid : Seen = g.M.Medium.seen c.write.new.volume in
-    let none = none_of c.in_ok-cut.field-0 c.in_default.not-Some in
-    let missing = subst (λ (o : Option Bool). IsRecordPut old.tracks old.content mid.content d uses c.args.self.now.slot c.args.self.now.width b s rs c.args.self.now.number c.args.self.now.position c.args.bytes.now o) none (c.in_ok-cut.ensures.put d uses b s rs can) in
+    let none = none_of c.in_ok-written.field-0 c.in_default.not-Some in
+    let missing = rw none at (c.in_ok-written.ensures.put d uses b s rs can) in
     store_full old mid d uses c.args.self.now b s rs c.args.bytes.now can c.write.ensures.only.tracks c.write.ensures.only.protected c.write.ensures.only.counted missing (g.M.Medium.seen c.grow.new.volume) (subst (λ (x : Bool). Grows mid (g.M.Medium.seen c.grow.new.volume) c.args.self.now (Ok x)) c.if-not-branch.true c.in_ok-grow.ensures.grown)
 
 pub returns-in_err-grow-clause-put : goal.returns-in_err-grow-clause-put
 returns-in_err-grow-clause-put g c = λ d uses b s rs can.
     let old : Seen = g.M.Medium.seen c.args.volume.now in
     let mid : Seen = g.M.Medium.seen c.write.new.volume in
-    let none = none_of c.in_ok-cut.field-0 c.in_default.not-Some in
-    let missing = subst (λ (o : Option Bool). IsRecordPut old.tracks old.content mid.content d uses c.args.self.now.slot c.args.self.now.width b s rs c.args.self.now.number c.args.self.now.position c.args.bytes.now o) none (c.in_ok-cut.ensures.put d uses b s rs can) in
+    let none = none_of c.in_ok-written.field-0 c.in_default.not-Some in
+    let missing = rw none at (c.in_ok-written.ensures.put d uses b s rs can) in
     let new : Seen = g.M.Medium.seen c.grow.new.volume in
     handed c.from_residual-in_err-grow.result c.in_err-grow.field-0.0 _ (IsTextCut old new d uses c.args.self.now b s rs c.args.bytes.now) c.from_residual-in_err-grow.ensures.1
     (store_cut old mid d uses c.args.self.now b s rs c.args.bytes.now can c.write.ensures.only.tracks c.write.ensures.only.protected c.write.ensures.only.counted missing new c.in_err-grow.field-0.0 c.in_err-grow.ensures.grown)
@@ -38,33 +38,49 @@ pub returns-in-Some-2-clause-put : goal.returns-in-Some-2-clause-put
 returns-in-Some-2-clause-put g c = λ d uses b s rs can.
     let old : Seen = g.M.Medium.seen c.args.volume.now in
     let mid : Seen = g.M.Medium.seen c.write.new.volume in
-    let none = none_of c.in_ok-cut.field-0 c.in_default.not-Some in
-    let missing = subst (λ (o : Option Bool). IsRecordPut old.tracks old.content mid.content d uses c.args.self.now.slot c.args.self.now.width b s rs c.args.self.now.number c.args.self.now.position c.args.bytes.now o) none (c.in_ok-cut.ensures.put d uses b s rs can) in
+    let none = none_of c.in_ok-written.field-0 c.in_default.not-Some in
+    let missing = rw none at (c.in_ok-written.ensures.put d uses b s rs can) in
     let more : Seen = g.M.Medium.seen c.grow.new.volume in
     let grows = subst (λ (x : Bool). Grows mid more c.args.self.now (Ok x)) c.if-not-branch.false c.in_ok-grow.ensures.grown in
     let new : Seen = g.M.Medium.seen c.write-2.new.volume in
-    store_more old mid d uses c.args.self.now b s rs c.args.bytes.now can c.write.ensures.only.tracks c.write.ensures.only.protected c.write.ensures.only.counted missing more grows c.grow.ensures.only.tracks c.grow.ensures.only.protected c.grow.ensures.only.counted new c.in-Some-2.cut (subst (λ (o : Option Bool). Writes more new c.args.self.now c.args.bytes.now (Ok o)) c.in-Some-2.is c.in_ok-cut-2.ensures.put)
+    store_more old mid d uses c.args.self.now b s rs c.args.bytes.now can c.write.ensures.only.tracks c.write.ensures.only.protected c.write.ensures.only.counted missing more grows c.grow.ensures.only.tracks c.grow.ensures.only.protected c.grow.ensures.only.counted (λ x. x.cut) new c.in-Some-2.written (λ d2 uses2 b2 s2 rs2 can2. rw c.in-Some-2.is at (c.in_ok-written-2.ensures.put d2 uses2 b2 s2 rs2 can2))
 
-pub returns-in_err-cut-2-clause-put : goal.returns-in_err-cut-2-clause-put
-returns-in_err-cut-2-clause-put g c = λ d uses b s rs can.
+pub returns-in_err-written-2-clause-put : goal.returns-in_err-written-2-clause-put
+returns-in_err-written-2-clause-put g c = λ d uses b s rs can.
     let old : Seen = g.M.Medium.seen c.args.volume.now in
     let mid : Seen = g.M.Medium.seen c.write.new.volume in
-    let none = none_of c.in_ok-cut.field-0 c.in_default.not-Some in
-    let missing = subst (λ (o : Option Bool). IsRecordPut old.tracks old.content mid.content d uses c.args.self.now.slot c.args.self.now.width b s rs c.args.self.now.number c.args.self.now.position c.args.bytes.now o) none (c.in_ok-cut.ensures.put d uses b s rs can) in
+    let none = none_of c.in_ok-written.field-0 c.in_default.not-Some in
+    let missing = rw none at (c.in_ok-written.ensures.put d uses b s rs can) in
     let more : Seen = g.M.Medium.seen c.grow.new.volume in
     let grows = subst (λ (x : Bool). Grows mid more c.args.self.now (Ok x)) c.if-not-branch.false c.in_ok-grow.ensures.grown in
     let new : Seen = g.M.Medium.seen c.write-2.new.volume in
-    handed c.from_residual-in_err-cut-2.result c.in_err-cut-2.field-0.0 _ (IsTextCut old new d uses c.args.self.now b s rs c.args.bytes.now) c.from_residual-in_err-cut-2.ensures.1
-    (store_more_cut old mid d uses c.args.self.now b s rs c.args.bytes.now can c.write.ensures.only.tracks c.write.ensures.only.protected c.write.ensures.only.counted missing more grows c.grow.ensures.only.tracks c.grow.ensures.only.protected c.grow.ensures.only.counted new c.in_err-cut-2.field-0.0 c.in_err-cut-2.ensures.put)
+    handed c.from_residual-in_err-written-2.result c.in_err-written-2.field-0.0 _ (IsTextCut old new d uses c.args.self.now b s rs c.args.bytes.now) c.from_residual-in_err-written-2.ensures.1
+    (store_more_cut old mid d uses c.args.self.now b s rs c.args.bytes.now can c.write.ensures.only.tracks c.write.ensures.only.protected c.write.ensures.only.counted missing more grows c.grow.ensures.only.tracks c.grow.ensures.only.protected c.grow.ensures.only.counted (λ (x : Bool). x) new c.in_err-written-2.field-0.0 c.in_err-written-2.ensures.put)
 
 -- it is there then
 pub returns-in-None-clause-put : goal.returns-in-None-clause-put
 returns-in-None-clause-put g c = λ d uses b s rs can.
     let old : Seen = g.M.Medium.seen c.args.volume.now in
     let mid : Seen = g.M.Medium.seen c.write.new.volume in
-    let none = none_of c.in_ok-cut.field-0 c.in_default.not-Some in
-    let missing = subst (λ (o : Option Bool). IsRecordPut old.tracks old.content mid.content d uses c.args.self.now.slot c.args.self.now.width b s rs c.args.self.now.number c.args.self.now.position c.args.bytes.now o) none (c.in_ok-cut.ensures.put d uses b s rs can) in
+    let none = none_of c.in_ok-written.field-0 c.in_default.not-Some in
+    let missing = rw none at (c.in_ok-written.ensures.put d uses b s rs can) in
     let more : Seen = g.M.Medium.seen c.grow.new.volume in
     let grows = subst (λ (x : Bool). Grows mid more c.args.self.now (Ok x)) c.if-not-branch.false c.in_ok-grow.ensures.grown in
     let new : Seen = g.M.Medium.seen c.write-2.new.volume in
-    absurd (store_there old mid d uses c.args.self.now b s rs c.args.bytes.now can c.write.ensures.only.tracks c.write.ensures.only.protected c.write.ensures.only.counted missing more grows c.grow.ensures.only.tracks c.grow.ensures.only.protected c.grow.ensures.only.counted new (subst (λ (o : Option Bool). Writes more new c.args.self.now c.args.bytes.now (Ok o)) c.in-None.is c.in_ok-cut-2.ensures.put))
+    absurd (store_there old mid d uses c.args.self.now b s rs c.args.bytes.now can c.write.ensures.only.tracks c.write.ensures.only.protected c.write.ensures.only.counted missing more grows c.grow.ensures.only.tracks c.grow.ensures.only.protected c.grow.ensures.only.counted (λ (x : Bool). x) new (λ d2 uses2 b2 s2 rs2 can2. rw c.in-None.is at (c.in_ok-written-2.ensures.put d2 uses2 b2 s2 rs2 can2)))
+
+-- the record behind it was read
+pub returns-in-Some-clause-next : goal.returns-in-Some-clause-next
+returns-in-Some-clause-next g c = λ d uses b s rs can. rw c.in-Some.is at (c.in_ok-written.ensures.next d uses b s rs can)
+
+pub returns-in-Some-2-clause-next : goal.returns-in-Some-2-clause-next
+returns-in-Some-2-clause-next g c = λ d uses b s rs can.
+    let old : Seen = g.M.Medium.seen c.args.volume.now in
+    let mid : Seen = g.M.Medium.seen c.write.new.volume in
+    let none = none_of c.in_ok-written.field-0 c.in_default.not-Some in
+    let missing = rw none at (c.in_ok-written.ensures.put d uses b s rs can) in
+    let more : Seen = g.M.Medium.seen c.grow.new.volume in
+    let grows = subst (λ (x : Bool). Grows mid more c.args.self.now (Ok x)) c.if-not-branch.false c.in_ok-grow.ensures.grown in
+    let new : Seen = g.M.Medium.seen c.write-2.new.volume in
+    store_next old mid d uses c.args.self.now b s rs c.args.bytes.now can c.write.ensures.only.tracks c.write.ensures.only.protected c.write.ensures.only.counted missing more grows c.grow.ensures.only.tracks c.grow.ensures.only.protected c.grow.ensures.only.counted (λ x z. IsOkAnd x.next (λ y. option_map (λ v. v.items) y ≡ z)) new c.in-Some-2.written
+    (λ d2 uses2 b2 s2 rs2 can2. rw c.in-Some-2.is at (c.in_ok-written-2.ensures.next d2 uses2 b2 s2 rs2 can2))

@@ -1,4 +1,4 @@
-use Rattle.std.proofs.Common.{◌≡◌, ℕ, Bool, Option, None, ap, sym, ◌∙◌, subst}
+use Rattle.std.proofs.Common.{◌≡◌, Option, None, ap, sym, ◌∙◌, subst}
 use Rattle.cbm_drive.proofs.drive.Drive.due.Goals as goal
 use Rattle.cbm_iec.specs.Machines.{acted}
 use Rattle.cbm_iec.specs.Ports.{reaction_act}
@@ -9,6 +9,6 @@ use Rattle.cbm_drive.specs.Seats.{Seated}
 pub returns-in_default-clause-machine : goal.returns-in_default-clause-machine
 returns-in_default-clause-machine g c = λ m stood.
     let here = subst (λ (x : g.row.D.Denot). g.D.Machine.stands x m) (ap (λ (x : Seated _). x.machine) (sym c.self.view_is)) stood in
-    let none : reaction_act (g.D.Machine.says m) c.args.self.now.port ≡ None = ap (λ (v : Option (ℕ × Bool)). reaction_act v c.args.self.now.port) (sym (c.peek-peek.ensures m here))
-    ∙ ap (λ (x : Seated _). reaction_act c.peek-peek.result x.port) (sym c.self.view_is) ∙ sym c.due-reaction.ensures.act ∙ c.in_default.is in
+    let alike = c.said-said.ensures m stood in
+    let none : reaction_act (g.D.Machine.says m) c.args.self.now.port ≡ None = sym alike.act ∙ ap (λ (x : Seated _). reaction_act c.said-said.result x.port) (sym c.self.view_is) ∙ sym c.due-reaction.ensures.act ∙ c.in_default.is in
     subst (λ (v : Option Act). g.D.Machine.stands c.self.inside.machine (acted g.D.Machine.State g.D.Machine.step v m)) (sym none) here

@@ -11,7 +11,7 @@ give-requires-clause-waiting g c = waits_for (c.in-Some.moment + 1) c.args.self.
 pub returns-in-Some-clause-given : goal.returns-in-Some-clause-given
 returns-in-Some-clause-given g c = λ n ss es a.
     shown_next _ g.D.Machine.State g.D.Machine.stands g.D.Machine.step g.D.Machine.says g.met.D.Machine.byte c.args.self.now c.give.new.self c.args.bus.now c.first_shown.new.self c.args.change.moment c.in-Some.moment c.in-Some.answer.device n c.in-Some.answer.changes.items ss es c.give.result
-    c.requires.second a (c.in-Some.ensures.played a.stations a.from (a.from + c.args.change.moment) a.now (omega arith) (omega arith)) c.first_shown.ensures.host c.give.ensures.from (c.in-Some.ensures.moments a.stations a.now)
+    c.requires.second a (c.in-Some.ensures.played a.stations a.from (a.from + c.args.change.moment) a.now (omega arith) (omega arith)) c.first_shown.ensures.host c.give.ensures.from c.in-Some.ensures.moments
     c.in-Some.ensures.shows c.give.ensures.given (let l = c.in-Some.ensures.before in omega (arith, l))
 
 pub returns-clause-given : goal.returns-clause-given

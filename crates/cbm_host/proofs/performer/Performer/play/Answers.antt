@@ -1,7 +1,13 @@
-use Rattle.cbm_host.proofs.Going.{handed_then}
+use Rattle.std.proofs.Common.{◌∙◌}
+use Rattle.cbm_host.proofs.Going.{played}
+use Rattle.cbm_host.proofs.Progress.{fall_due}
 use Rattle.cbm_host.proofs.performer.Performer.play.Goals as goal
 
 pub returns-clause-come : goal.returns-clause-come
 returns-clause-come g c = λ n ss es.
-    handed_then _ g.D.Machine.State g.D.Machine.stands g.D.Machine.step g.D.Machine.says c.args.self.now c.hand_on.new.self c.ask.new.self c.args.bus.now c.ask.new.bus n ss es c.ask.result
-    c.hand_on.ensures.second c.hand_on.ensures.from c.hand_on.ensures.engine c.hand_on.ensures.handed (c.ask.ensures.come n ss es)
+    played _ g.D.Machine.State g.D.Machine.stands g.D.Machine.step g.D.Machine.says c.args.self.now c.hand_on.new.self c.ask.new.self c.args.bus.now c.ask.new.bus c.args.change n ss es c.ask.result c.requires.due c.hand_on.ensures.second c.hand_on.ensures.from c.hand_on.ensures.engine
+    c.hand_on.ensures.limit (c.hand_on.ensures.waits c.if-not-hand_on.false) (c.ask.ensures.come n ss es) c.ask.ensures.waiting
+
+pub returns-clause-fewer : goal.returns-clause-fewer
+returns-clause-fewer g c =
+    fall_due c.ask.result c.args.self.now c.hand_on.new.self c.ask.new.self c.args.bus.now c.ask.new.bus c.args.change c.requires.due (c.ask.ensures.engine ∙ c.hand_on.ensures.engine) c.hand_on.ensures.second c.hand_on.ensures.limit c.ask.ensures.fewer

@@ -1,25 +1,47 @@
-use Rattle.std.proofs.Common.{inr, ap, ◌∙◌}
-use Rattle.cbm_host.proofs.Going.{waited, waited_then}
+use Rattle.std.proofs.Common.{ap, sym, ◌∙◌, arith}
+use Rattle.cbm_host.proofs.Going.{gave_up, waited, waited_over, waited_then, made_or_held}
+use Rattle.cbm_host.proofs.Progress.{fall_waited}
+use Rattle.cbm_host.proofs.Waiting.{passed_over}
 use Rattle.cbm_host.proofs.performer.Performer.wait.Goals as goal
-use Rattle.cbm_host.specs.Engines.{engine_passed}
+use Rattle.cbm_host.specs.Engines.{engine_due, engine_passed}
 use Rattle.cbm_host.specs.Performers.{Performing}
+use Rattle.cbm_host.specs.declared.due.Due.TheVariants.{Over}
 
-pub returns-in-Makes : goal.returns-in-Makes
-returns-in-Makes g c = record {
-  come = λ n ss es k.
-      waited_then _ g.D.Machine.State g.D.Machine.stands g.D.Machine.step g.D.Machine.says c.args.self.now _ c.play.new.self c.ask.new.bus c.play.new.bus c.args.until n ss es c.play.result
-      c.requires.due (c.passed.ensures ∙ ap engine_passed (ap (λ (p : Performing). p.engine) c.self.view_is ∙ c.ask.ensures.engine)) c.play.ensures.engine
-      (c.play.ensures.come n ss es
-      (waited _ g.D.Machine.State g.D.Machine.stands g.D.Machine.step g.D.Machine.says c.args.self.now c.ask.new.self _ c.args.bus.now c.ask.new.bus c.args.until n ss es c.requires.due (ap (λ (p : Performing). p.player) c.self.view_is) c.ask.ensures.engine
-      (c.in_default.ensures.come n ss es) k));
-}
+-- the host gives up before
+pub returns-then-until-self-clause-come : goal.returns-then-until-self-clause-come
+returns-then-until-self-clause-come g c = λ n ss es k.
+    let late = c.if-until-self.true in
+    let same = ap (λ (p : Performing). p.limit) c.self.view_is ∙ c.before-2.ensures.limit in
+    gave_up _ g.D.Machine.State g.D.Machine.stands g.D.Machine.step g.D.Machine.says c.args.self.now c.before-2.new.self c.args.bus.now c.before-2.new.bus c.args.until n ss es c.requires.due c.before-2.ensures.engine c.before-2.ensures.limit (omega (arith, late, same)) (c.in_default.ensures.come n ss es k) k
 
-pub returns-in_default-due-2 : goal.returns-in_default-due-2
-returns-in_default-due-2 g c = record {
-  come = λ n ss es k. record {
-    going =
-        waited _ g.D.Machine.State g.D.Machine.stands g.D.Machine.step g.D.Machine.says c.args.self.now c.ask.new.self _ c.args.bus.now c.ask.new.bus c.args.until n ss es c.requires.due (ap (λ (p : Performing). p.player) c.self.view_is) c.ask.ensures.engine
-        (c.in_default.ensures.come n ss es) k;
-    goes_on = inr (c.args.until, c.requires.due, c.passed.ensures ∙ ap engine_passed (ap (λ (p : Performing). p.engine) c.self.view_is ∙ c.ask.ensures.engine));
-  };
-}
+-- it goes on by itself
+pub returns-in-Makes-clause-come : goal.returns-in-Makes-clause-come
+returns-in-Makes-clause-come g c = λ n ss es k.
+    let soon = c.if-until-self.false in
+    let same = ap (λ (p : Performing). p.limit) c.self.view_is ∙ c.before-2.ensures.limit in
+    let player = ap (λ (p : Performing). p.player) c.self.view_is in
+    let passed = c.passed.ensures ∙ ap engine_passed (ap (λ (p : Performing). p.engine) c.self.view_is ∙ c.before-2.ensures.engine) in
+    let unmoved = c.in_default.ensures.come n ss es k in
+    let mid : Performing = record { player = c.self.inside.player; engine = c.passed.new.self; byte = c.self.inside.byte; limit = c.self.inside.limit } in
+    let going = waited _ g.D.Machine.State g.D.Machine.stands g.D.Machine.step g.D.Machine.says c.args.self.now c.before-2.new.self mid c.args.bus.now c.before-2.new.bus c.args.until n ss es c.requires.due (omega (arith, soon, same)) player passed same unmoved k in
+    waited_then _ g.D.Machine.State g.D.Machine.stands g.D.Machine.step g.D.Machine.says c.args.self.now c.before-2.new.self mid c.args.bus.now c.before-2.new.bus c.args.until n ss es c.requires.due (omega (arith, soon, same)) player passed same unmoved k
+    c.play.new.self c.play.new.bus c.play.result c.play.ensures.engine
+    (made_or_held _ g.D.Machine.State g.D.Machine.stands g.D.Machine.step g.D.Machine.says mid c.play.new.self c.before-2.new.bus c.play.new.bus n ss es c.in-Makes.change c.play.result (sym c.in-Makes.ensures) c.play.ensures.engine c.play.ensures.limit (c.play.ensures.come n ss es going) going)
+
+-- or the request is over
+pub returns-in_default-due-clause-come : goal.returns-in_default-due-clause-come
+returns-in_default-due-clause-come g c = λ n ss es k.
+    let soon = c.if-until-self.false in
+    let same = ap (λ (p : Performing). p.limit) c.self.view_is ∙ c.before-2.ensures.limit in
+    let player = ap (λ (p : Performing). p.player) c.self.view_is in
+    let passed = c.passed.ensures ∙ ap engine_passed (ap (λ (p : Performing). p.engine) c.self.view_is ∙ c.before-2.ensures.engine) in
+    let mid : Performing = record { player = c.self.inside.player; engine = c.passed.new.self; byte = c.self.inside.byte; limit = c.self.inside.limit } in
+    let over = passed_over c.args.self.now.engine c.args.until c.requires.due (λ x e. c.in_default-due.not-Makes x (c.due.ensures ∙ ap engine_due passed ∙ e)) in
+    waited_over _ g.D.Machine.State g.D.Machine.stands g.D.Machine.step g.D.Machine.says c.args.self.now c.before-2.new.self mid c.args.bus.now c.before-2.new.bus c.args.until n ss es c.requires.due (omega (arith, soon, same)) player passed same (c.in_default.ensures.come n ss es k) k
+    (Over c.args.until) (ap engine_due passed ∙ over) tt
+
+pub returns-in-Makes-clause-fewer : goal.returns-in-Makes-clause-fewer
+returns-in-Makes-clause-fewer g c =
+    let passed = c.passed.ensures ∙ ap engine_passed (ap (λ (p : Performing). p.engine) c.self.view_is ∙ c.before-2.ensures.engine) in
+    let mid : Performing = record { player = c.self.inside.player; engine = c.passed.new.self; byte = c.self.inside.byte; limit = c.self.inside.limit } in
+    fall_waited c.play.result c.args.self.now mid c.play.new.self c.args.bus.now c.before-2.new.bus c.play.new.bus c.args.until c.in-Makes.change c.requires.due passed (sym c.in-Makes.ensures) c.play.ensures.fewer

@@ -1,0 +1,24 @@
+-- Which reactions look at the byte that there is to say.
+use Rattle.std.specs.Prelude.{ℕ, ◌≡◌, Bool, true, false, Option}
+use Rattle.cbm_iec.specs.Ports.{next_held, next_side, reaction_act}
+use Rattle.cbm_iec.specs.declared.mouth.Mouth.TheVariants.{Answering, Led}
+use Rattle.cbm_iec.specs.declared.mouth.Mouth.{Mouth}
+use Rattle.cbm_iec.specs.declared.port.Port.{Port}
+use Rattle.cbm_iec.specs.declared.port.Side.TheVariants.{Hearing, Speaking}
+use Rattle.cbm_iec.specs.declared.port.Side.{Side}
+
+-- the answer to a turnaround, and the offer of a byte
+abbrev pub mouth_asks : Mouth → Bool
+mouth_asks (Answering at) = true
+mouth_asks (Led at) = true
+mouth_asks mouth = false
+
+abbrev pub side_asks : Side → Bool
+side_asks (Hearing ear) = false
+side_asks (Speaking mouth) = mouth_asks mouth
+
+-- With either byte to say the reaction that is due is the same.
+pub record ReactsAlike (p q : Option (ℕ × Bool)) (port : Port) : Type 0 where
+  pub held : next_held p port ≡ next_held q port
+  pub next : (moment : ℕ) → next_side moment p port ≡ next_side moment q port
+  pub act : reaction_act p port ≡ reaction_act q port

@@ -1,0 +1,13 @@
+use Rattle.std.proofs.Common.{◌+◌, ap, ◌∙◌, subst}
+use Rattle.cbm_host.proofs.Hosting.{asked, OnAsk}
+use Rattle.cbm_host.proofs.hosted.Hosted.ask.Goals as goal
+use Rattle.cbm_host.specs.Hosted.{Hosting}
+
+pub returns-clause-under_way : goal.returns-clause-under_way
+returns-clause-under_way g c =
+    let h : Hosting _ = record { bus = c.self.inside.bus; device = c.self.inside.device; moment = c.self.inside.moment } in
+    subst (λ (h : Hosting _). OnAsk g.M.Medium.seen h c.new.result c.args.request) c.self.view_is
+    (λ m r. asked g.M.Medium.seen h c.new.result m c.args.request r c.new.ensures.player c.new.ensures.engine c.new.ensures.limit)
+
+pub returns-clause-limit : goal.returns-clause-limit
+returns-clause-limit g c = c.new.ensures.limit ∙ ap (λ (h : Hosting _). h.moment + 250000000) c.self.view_is

@@ -1,0 +1,31 @@
+use Rattle.std.proofs.Common.{◌≤◌, [], ◌∷◌, ◌++◌, false, refl, ◌∙◌, arith}
+use Rattle.cbm_host.proofs.hosted.Hosted.carry_out.Goals as goal
+
+pub bytes-init : goal.bytes-init
+bytes-init g c = record { under_way = λ m k r. ([], false, c.ask-performer.ensures.under_way m r); limit = c.ask-performer.ensures.limit; tracks = refl }
+
+pub bytes-preserved : goal.bytes-preserved
+bytes-preserved g c = record {
+  under_way = λ m k r.
+      let u = c.bytes.invariant.under_way m k r in
+      (u.0 ++ c.in-Some._said.0 ∷ [], c.in-Some._said.1, (c.in-Some.ensures.taken m c.args.request u.0 u.1 c.requires.channel k u.2).under_way);
+  limit = c.take.ensures.limit ∙ c.bytes.invariant.limit;
+  tracks = c.take.ensures.tracks ∙ c.bytes.invariant.tracks;
+}
+
+pub bytes-smaller : goal.bytes-smaller
+bytes-smaller g c = c.in-Some.ensures.fewer
+
+pub returns-clause-rests : goal.returns-clause-rests
+returns-clause-rests g c = λ m k r.
+    let u = c.bytes.invariant.under_way m k r in
+    (c.in_default.ensures.taken m c.args.request u.0 u.1 c.requires.channel k u.2).rests
+
+pub returns-clause-soon : goal.returns-clause-soon
+returns-clause-soon g c =
+    let soon : c.take.new.self.moment ≤ c.bytes.performer.limit = c.in_default.ensures.moment in
+    let same = c.bytes.invariant.limit in
+    omega (arith, soon, same)
+
+pub returns-clause-tracks : goal.returns-clause-tracks
+returns-clause-tracks g c = c.take.ensures.tracks ∙ c.bytes.invariant.tracks

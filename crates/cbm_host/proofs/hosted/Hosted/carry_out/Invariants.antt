@@ -1,0 +1,17 @@
+use Rattle.std.proofs.Common.{◌≡◌, ◌+◌, ℕ, Bool, List}
+use Rattle.cbm_channel.specs.Machines.{Machine}
+use Rattle.cbm_host.specs.Hosted.{Rests, IsUnderWay, tracks_on}
+use Rattle.cbm_host.specs.Progress.{left_of}
+use Rattle.cbm_host.specs.Served.{IsModest}
+use Rattle.cbm_host.proofs.hosted.Hosted.carry_out.Given as goal
+
+-- whatever was taken, the request goes on
+abbrev pub invariant-bytes : goal.invariant-bytes
+invariant-bytes g l = record {
+  under_way : (m : Machine) → IsModest l.fn.request → Rests g.M.Medium.seen l.fn.self m → (bytes : List ℕ) × (last : Bool) × IsUnderWay g.M.Medium.seen l.self l.performer m l.fn.request bytes last;
+  limit : l.performer.limit ≡ l.fn.self.moment + 250000000;
+  tracks : tracks_on g.M.Medium.seen l.self ≡ tracks_on g.M.Medium.seen l.fn.self;
+}
+
+abbrev pub decreases-bytes : goal.decreases-bytes
+decreases-bytes g l = left_of l.performer l.self.bus

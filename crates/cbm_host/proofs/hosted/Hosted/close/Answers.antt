@@ -1,0 +1,5 @@
+use Rattle.std.proofs.Common.{arith}
+use Rattle.cbm_host.proofs.hosted.Hosted.close.Goals as goal
+
+pub returns-clause-rests : goal.returns-clause-rests
+returns-clause-rests g c = λ m r. c.carry_out.ensures.rests m (omega arith, tt) r

@@ -1,0 +1,10 @@
+use Rattle.std.proofs.Common.{◌<◌, arith}
+use Rattle.cbm_host.proofs.Hosting.{are_equal, so_many}
+use Rattle.cbm_host.proofs.hosted.Hosted.fill.Goals as goal
+
+pub returns-clause-rests : goal.returns-clause-rests
+returns-clause-rests g c = λ m r.
+    let small : c.args.byte < 256 = (let f = c.ranges.byte in omega arith) in
+    let many = so_many c.args.count c.args.byte in
+    let few = c.requires.short in
+    c.carry_out.ensures.rests m (omega (arith, many, few), are_equal c.args.count c.args.byte small) r

@@ -1,0 +1,6 @@
+use Rattle.std.proofs.Common.{arith}
+use Rattle.cbm_host.proofs.Hosting.{are_bytes}
+use Rattle.cbm_host.proofs.hosted.Hosted.open.Goals as goal
+
+pub returns-clause-rests : goal.returns-clause-rests
+returns-clause-rests g c = λ m r. c.carry_out.ensures.rests m (c.requires.short, are_bytes c.args.text.now (λ i. let f = c.type_inv.text i in omega arith)) r

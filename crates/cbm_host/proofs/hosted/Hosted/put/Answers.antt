@@ -1,0 +1,6 @@
+use Rattle.std.proofs.Common.{arith}
+use Rattle.cbm_host.proofs.Hosting.{are_bytes}
+use Rattle.cbm_host.proofs.hosted.Hosted.put.Goals as goal
+
+pub returns-clause-rests : goal.returns-clause-rests
+returns-clause-rests g c = λ m r. c.carry_out.ensures.rests m (c.requires.short, are_bytes c.args.bytes.now (λ i. let f = c.type_inv.bytes i in omega arith)) r

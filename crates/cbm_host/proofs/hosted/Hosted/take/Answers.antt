@@ -1,0 +1,46 @@
+use Rattle.std.proofs.Common.{◌<◌, refl, ap, ◌∙◌, subst, arith}
+use Rattle.cbm_drive.specs.Cables.{Cabled}
+use Rattle.cbm_drive.specs.Seats.{numbers}
+use Rattle.cbm_host.proofs.Hosting.{taken_on, taken_over, OnByte, OnEnd}
+use Rattle.cbm_host.proofs.Progress.{as_many}
+use Rattle.cbm_host.proofs.hosted.Hosted.take.Goals as goal
+use Rattle.cbm_host.specs.Hosted.{Hosting}
+use Rattle.cbm_host.specs.Progress.{left_of}
+
+pub returns-in-Some-clause-taken : goal.returns-in-Some-clause-taken
+returns-in-Some-clause-taken g c =
+    let seen = g.M.Medium.seen in
+    let old : Hosting _ = record { bus = c.self.inside.bus; device = c.self.inside.device; moment = c.self.inside.moment } in
+    let new : Hosting _ = record { bus = c.next_byte.new.bus; device = c.self.inside.device; moment = c.self.inside.moment } in
+    subst (λ (h : Hosting _). OnByte seen h new c.args.performer.now c.next_byte.new.self c.in-Some.said) c.self.view_is
+    (taken_on seen old new c.args.performer.now c.next_byte.new.self c.in-Some.said refl c.self.invariant.0 c.self.invariant.1 c.in-Some.ensures.taken c.begins.ensures)
+
+pub returns-in-None-clause-taken : goal.returns-in-None-clause-taken
+returns-in-None-clause-taken g c =
+    let seen = g.M.Medium.seen in
+    let old : Hosting _ = record { bus = c.self.inside.bus; device = c.self.inside.device; moment = c.self.inside.moment } in
+    let new : Hosting _ = record { bus = c.next_byte.new.bus; device = c.self.inside.device; moment = c.over-self-inside.result } in
+    subst (λ (h : Hosting _). OnEnd seen h new c.args.performer.now) c.self.view_is
+    (taken_over seen old new c.args.performer.now c.next_byte.new.self refl c.self.invariant.0 c.self.invariant.1 c.in-None.ensures.taken c.carries_out.ensures)
+
+pub returns-in-Some-clause-fewer : goal.returns-in-Some-clause-fewer
+returns-in-Some-clause-fewer g c =
+    subst (λ (b : Cabled _). left_of c.next_byte.new.self c.next_byte.new.bus < left_of c.args.performer.now b) (ap (λ (h : Hosting _). h.bus) c.self.view_is) c.in-Some.ensures.fewer
+
+pub returns-in-Some-clause-tracks : goal.returns-in-Some-clause-tracks
+returns-in-Some-clause-tracks g c = c.next_byte.ensures.lasting ∙ ap (λ (h : Hosting _). numbers (λ x. (g.M.Medium.seen x.dos.medium).tracks) h.bus.drives) c.self.view_is
+
+pub returns-in-None-clause-tracks : goal.returns-in-None-clause-tracks
+returns-in-None-clause-tracks g c = c.next_byte.ensures.lasting ∙ ap (λ (h : Hosting _). numbers (λ x. (g.M.Medium.seen x.dos.medium).tracks) h.bus.drives) c.self.view_is
+
+pub returns-in-None-clause-moment : goal.returns-in-None-clause-moment
+returns-in-None-clause-moment g c = let soon = c.over-self-inside.ensures.limit in let same = c.next_byte.ensures.limit in omega (arith, soon, same)
+
+pub returns-in-Some-clause-moment : goal.returns-in-Some-clause-moment
+returns-in-Some-clause-moment g c = ap (λ (h : Hosting _). h.moment) c.self.view_is
+
+pub invariant_of-self-in-None : goal.invariant_of-self-in-None
+invariant_of-self-in-None g c = (c.self.invariant.0, c.self.invariant.1, as_many (λ x. (g.M.Medium.seen x.dos.medium).tracks) c.self.inside.bus.drives c.next_byte.new.bus.drives c.next_byte.ensures.lasting ∙ c.self.invariant.2)
+
+pub invariant_of-self : goal.invariant_of-self
+invariant_of-self g c = (c.self.invariant.0, c.self.invariant.1, as_many (λ x. (g.M.Medium.seen x.dos.medium).tracks) c.self.inside.bus.drives c.next_byte.new.bus.drives c.next_byte.ensures.lasting ∙ c.self.invariant.2)

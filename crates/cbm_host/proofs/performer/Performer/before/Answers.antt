@@ -1,0 +1,17 @@
+use Rattle.std.proofs.Common.{◌+◌, ap, ◌∙◌, arith, min}
+use Rattle.cbm_host.proofs.Going.{unmoved, unmoved_none}
+use Rattle.cbm_host.proofs.performer.Performer.before.Goals as goal
+use Rattle.cbm_host.specs.Performers.{Performing}
+
+pub returns-in_err-upto-clause-come : goal.returns-in_err-upto-clause-come
+returns-in_err-upto-clause-come g c = λ n ss es.
+    unmoved_none _ g.D.Machine.State g.D.Machine.stands g.D.Machine.step g.D.Machine.says c.args.self.now c.args.bus.now c.min.result c.args.until n ss es c.from_residual.result c.from_residual.ensures c.in_err-upto.ensures
+    (c.min.ensures ∙ ap (λ (p : Performing). min c.args.until (p.limit + 1)) c.self.view_is)
+
+pub returns-clause-come : goal.returns-clause-come
+returns-clause-come g c = λ n ss es.
+    let some = c.in_ok-upto.ensures in
+    let first = some.0 in
+    let less = some.1 in
+    let is = c.min.ensures ∙ ap (λ (p : Performing). min c.args.until (p.limit + 1)) c.self.view_is in
+    unmoved _ g.D.Machine.State g.D.Machine.stands g.D.Machine.step g.D.Machine.says c.args.self.now c.heed.new.self c.args.bus.now c.heed.new.bus c.in_ok-upto.upto c.args.until n ss es c.heed.result c.requires.due (omega (arith, first, less, is)) (c.heed.ensures.come n ss es)

@@ -1,0 +1,13 @@
+use Rattle.std.proofs.Common.{sym, ap, ◌∙◌, subst}
+use Rattle.cbm_host.proofs.performer.Performer.heed.Goals as goal
+use Rattle.cbm_host.specs.Engines.{engine_due}
+use Rattle.cbm_host.specs.Performers.{IsDue}
+use Rattle.cbm_iec.specs.declared.event.Who.TheVariants.{Host}
+use Rattle.cbm_iec.specs.declared.event.Who.{Who}
+
+-- none of the host's is due
+pub returns-in-Host-clause-come : goal.returns-in-Host-clause-come
+returns-in-Host-clause-come g c = λ n ss es k asked.
+    let e = c.in_ok-event.event in
+    let due : IsDue Host e.change c.ask.new.self.engine = subst (λ (w : Who). IsDue w e.change c.ask.new.self.engine) c.in-Host.is (c.in_ok-event.ensures.come n ss es k asked).due in
+    absurd (c.requires.none e.change (sym (ap engine_due c.ask.ensures.engine) ∙ due))

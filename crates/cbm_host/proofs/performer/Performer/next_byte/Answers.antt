@@ -1,0 +1,38 @@
+use Rattle.std.proofs.Common.{◌<◌, refl, sym, ◌∙◌, arith}
+use Rattle.cbm_host.proofs.Hosting.{taking_none, taking_some, taking_over}
+use Rattle.cbm_host.proofs.performer.Performer.next_byte.Goals as goal
+use Rattle.cbm_host.specs.Progress.{left_of}
+
+pub events-init : goal.events-init
+events-init g c = record { taking = λ e limit bytes last ss t. t; fewer = omega arith; limit = refl; lasting = refl }
+
+pub events-preserved : goal.events-preserved
+events-preserved g c =
+    let less : left_of c.next.new.self c.next.new.bus < left_of c.events.self c.events.bus = c.in-Some.ensures.fewer in
+    let least = c.events.invariant.fewer in
+    record {
+      taking = λ e limit bytes last ss t.
+          taking_none _ g.D.Machine.State g.D.Machine.stands g.D.Machine.step g.D.Machine.says e limit c.events.self c.next.new.self c.events.bus c.next.new.bus bytes last ss c.in-Some._event (c.events.invariant.taking e limit bytes last ss t) c.in-Some.ensures.next
+          (sym c.byte.ensures ∙ c.in_default-byte.is);
+      fewer = omega (arith, less, least);
+      limit = c.next.ensures.limit ∙ c.events.invariant.limit;
+      lasting = c.next.ensures.lasting ∙ c.events.invariant.lasting;
+    }
+
+pub events-smaller : goal.events-smaller
+events-smaller g c = c.in-Some.ensures.fewer
+
+pub returns-in-Some-byte-clause-taken : goal.returns-in-Some-byte-clause-taken
+returns-in-Some-byte-clause-taken g c = λ e limit bytes last ss t.
+    taking_some _ g.D.Machine.State g.D.Machine.stands g.D.Machine.step g.D.Machine.says e limit c.events.self c.next.new.self c.events.bus c.next.new.bus bytes last ss c.in-Some._event c.in-Some-byte.said (c.events.invariant.taking e limit bytes last ss t) c.in-Some.ensures.next
+    (sym c.byte.ensures ∙ c.in-Some-byte.is)
+
+pub returns-in-Some-byte-clause-fewer : goal.returns-in-Some-byte-clause-fewer
+returns-in-Some-byte-clause-fewer g c =
+    let less : left_of c.next.new.self c.next.new.bus < left_of c.events.self c.events.bus = c.in-Some.ensures.fewer in
+    let least = c.events.invariant.fewer in
+    omega (arith, less, least)
+
+pub returns-clause-taken : goal.returns-clause-taken
+returns-clause-taken g c = λ e limit bytes last ss t.
+    taking_over _ g.D.Machine.State g.D.Machine.stands g.D.Machine.step g.D.Machine.says e limit c.events.self c.next.new.self c.events.bus c.next.new.bus bytes last ss (c.events.invariant.taking e limit bytes last ss t) c.in_default.ensures.next

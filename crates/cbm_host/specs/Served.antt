@@ -1,0 +1,72 @@
+-- What a request asks of the named-files machine of the drive, and what that says.
+use Rattle.std.specs.Prelude.{◌≡◌, ◌≤◌, ℕ, zero, suc, Bool, true, false, List, [], ◌∷◌, ◌++◌, length, replicate, if◌then◌else◌, Some, None}
+use Rattle.cbm_channel.specs.Statuses.{status_line}
+use Rattle.cbm_channel.specs.Machines.{Machine}
+use Rattle.cbm_channel.specs.Closing.{close}
+use Rattle.cbm_channel.specs.Talking.{peek, taken, talk, listen}
+use Rattle.cbm_channel.specs.Calls.{put, end_put, after_open}
+use Rattle.cbm_drive.specs.Desks.{Desk, at_first}
+use Rattle.cbm_host.specs.CarriedOut.{AreBytes}
+use Rattle.cbm_host.specs.Engines.{sent_by}
+use Rattle.cbm_host.specs.Requests.{most_bytes}
+use Rattle.cbm_host.specs.declared.request.Request.{Request}
+use Rattle.cbm_host.specs.declared.request.Request.TheVariants.{Open, Put, Fill, Get, Close, Status}
+
+-- bytes are put one after another
+abbrev pub puts : ℕ → List ℕ → Machine → Machine
+puts ch [] m = m
+puts ch (b ∷ bytes) m = puts ch bytes (put ch b m)
+
+-- a channel listens, takes the bytes, and their end
+abbrev pub hear : ℕ → List ℕ → Machine → Machine
+hear ch bytes m = end_put ch (puts ch bytes (listen ch m))
+
+-- what a channel said: the bytes, whether the last of them was marked so, and the machine behind them
+pub record Said : Type 0 where
+  pub bytes : List ℕ
+  pub marked : Bool
+  pub machine : Machine
+
+-- Up to so many bytes, behind those so far. The byte that is marked as the last one ends them.
+abbrev pub says : ℕ → ℕ → List ℕ → Machine → Said
+says zero ch so_far m = record { bytes = so_far; marked = false; machine = m }
+says (suc n) ch so_far m = elim (peek ch m) [
+  | None ↦ record { bytes = so_far; marked = false; machine = m }
+  | Some p ↦
+      if p.1 then record { bytes = so_far ++ p.0 ∷ []; marked = true; machine = taken ch m }
+      else says n ch (so_far ++ p.0 ∷ []) (taken ch m)
+]
+
+-- a channel talks: up to so many bytes
+abbrev pub talked : ℕ → ℕ → Machine → Said
+talked ch most m = says most ch [] (talk ch m)
+
+-- the status line to its end
+abbrev pub status_said : Machine → Said
+status_said m = talked 15 (length (status_line m.status)) m
+
+-- nothing is said
+abbrev pub unsaid : Machine → Said
+unsaid m = record { bytes = []; marked = false; machine = m }
+
+-- EACH REQUEST as calls of the machine
+abbrev pub served : Request → Machine → Said
+served (Open channel text) m = unsaid (after_open channel text.now m)
+served (Put channel bytes) m = unsaid (hear channel bytes.now m)
+served (Fill channel count byte) m = unsaid (hear channel (replicate count byte) m)
+served (Get channel most) m = talked channel most m
+served (Close channel) m = unsaid (close channel m)
+served Status m = status_said m
+
+-- A DRIVE WITH THIS DEVICE NUMBER SERVED A REQUEST: behind it its desk is as at power up, with the machine that the request leads to, and these are the bytes
+-- that were said, the last with EOI or not.
+pub record IsServed (d : ℕ) (request : Request) (m : Machine) (bytes : List ℕ) (last : Bool) (desk : Desk Machine) : Type 0 where
+  pub behind : desk ≡ at_first d (served request m).machine
+  pub said : bytes ≡ (served request m).bytes
+  pub marked : last ≡ (served request m).marked
+
+-- A request of at most 200,000 bytes: so many are sent, or one at least and so many at most are wanted. A status line is shorter.
+abbrev pub IsModest : Request → Type 0
+IsModest (Get channel most) = (1 ≤ most) × (most ≤ most_bytes)
+IsModest Status = Unit {0}
+IsModest request = (length (sent_by request) ≤ most_bytes) × AreBytes (sent_by request)

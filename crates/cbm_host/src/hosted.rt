@@ -1,0 +1,191 @@
+//! A drive alone on a cable with a host, and the host's requests to it, byte by byte.
+ghost use Rattle.std.specs.Prelude.{◌≡◌, ◌∷◌, []};
+ghost use Rattle.cbm_channel.specs.Standing.{Kept};
+ghost use Rattle.cbm_drive.specs.Desks as desks;
+ghost use Rattle.cbm_drive.specs.Seats.{Seated};
+
+use crate::performer::Performer;
+use crate::request::Request;
+use cbm_channel::Dos;
+use cbm_drive::{Bus, Desk, Drive, Party};
+use cbm_medium::Steady;
+use std::marker::Model;
+
+/// How long the drive takes to react, in microseconds.
+const REACTION: u8 = 20;
+
+/// When the first request begins, in microseconds.
+const FIRST: u64 = 1000;
+
+/// A drive with its DOS alone on a cable with a host. Between the host's requests it rests; the next one begins when the
+/// last one was over.
+#[derive(Drop)]
+pub struct Hosted<M: Steady> {
+    bus: Bus<Desk<M>, 1>,
+    device: u8,
+    moment: u64,
+}
+
+impl<M: Steady> Model for Hosted<M> {
+    ghost use Rattle.std.specs.Prelude.{◌≡◌, ◌≤◌, length};
+    ghost use Rattle.cbm_channel.specs.Standing.{Kept};
+    ghost use Rattle.cbm_host.specs.Hosted.{Hosting};
+
+    ghost Value = { Hosting (Kept M) };
+
+    ghost view = { λ h. record { bus = h.bus; device = h.device; moment = h.moment } };
+
+    ghost invariant = { λ h. (8 ≤ h.device) × (h.device ≤ 11) × (length h.bus.drives ≡ 1) };
+}
+
+impl<M: Steady> Hosted<M> {
+    ghost use Rattle.std.specs.Prelude.{◌≡◌, ◌+◌, ◌∷◌, ◌++◌, ◌<◌, ◌≤◌, ◌^◌, [], ℕ, List, Bool, false, length, replicate, None, Some, IfSome, MatchOption};
+    ghost use Rattle.cbm_channel.specs.Files.{Disk};
+    ghost use Rattle.cbm_channel.specs.Machines.{Machine, start};
+    ghost use Rattle.cbm_channel.specs.Calls.{after_open};
+    ghost use Rattle.cbm_channel.specs.Closing as closing;
+    ghost use Rattle.cbm_volume.specs.Holding.{HoldsDisk};
+    ghost use Rattle.cbm_host.specs.declared.request.Request.{Request};
+    ghost use Rattle.cbm_host.specs.Engines.{channel_of};
+    ghost use Rattle.cbm_host.specs.Hosted.{Rests, IsUnderWay, IsGoingOn, IsOver, tracks_on};
+    ghost use Rattle.cbm_host.specs.Progress.{left_of};
+    ghost use Rattle.cbm_host.specs.Served.{hear, served, IsModest};
+
+    /// A drive at power up with this medium and a device number from 8 to 11.
+    pub fn new(medium: M, device: u8) -> Hosted<M>
+        requires low { 8 ≤ device }
+        requires high { device ≤ 11 }
+        ensures rests { (d : Disk) → HoldsDisk (M.seen medium).tracks (M.seen medium).content d →
+            Rests M.seen result (start d (M.seen medium).protected (M.seen medium).tracks) }
+        ensures tracks { tracks_on M.seen result ≡ (M.seen medium).tracks ∷ [] }
+        ensures moment { result.moment ≡ 1000 }
+    {
+        let desk = Desk::new(Dos::new(medium), device);
+        let party = Party {
+            device,
+            reaction: REACTION,
+        };
+        Hosted {
+            bus: Bus::new([Drive::new(desk, party)]),
+            device,
+            moment: FIRST,
+        }
+    }
+
+    /// A request to the drive that rests; its first change comes when the last request was over.
+    pub fn ask<'a>(&self, request: Request<'a>) -> Performer<'a>
+        requires moment { self.now.moment < 2 ^ 58 }
+        requires channel { channel_of request ≤ 15 }
+        ensures under_way { (m : Machine) → Rests M.seen self.now m →
+            IsUnderWay M.seen self.now result m request.entry [] false }
+        ensures limit { result.limit ≡ self.now.moment + 250000000 }
+    {
+        Performer::new(self.moment, self.device, request)
+    }
+
+    /// Goes on with a request to the next byte that the host takes, and answers it and whether it carries EOI. None where the
+    /// request is over, and then the drive rests again.
+    pub fn take(&mut self, performer: &mut Performer) -> Option<(u8, bool)>
+        ensures taken { (m : Machine) (request : Request) (bytes : List ℕ) (last : Bool) → channel_of request ≤ 15 →
+            IsModest request → IsUnderWay M.seen self.old performer.old m request bytes last → MatchOption result
+            (IsOver M.seen self.new m request bytes last)
+            (λ x. IsGoingOn M.seen self.new performer.new m request (bytes ++ x.0 ∷ []) x.1) }
+        // Whatever the drive stands for:
+        ensures fewer { IfSome result (λ x. left_of performer.new self.new.bus < left_of performer.old self.old.bus) }
+        ensures limit { performer.new.limit ≡ performer.old.limit }
+        ensures moment { MatchOption result (self.new.moment ≤ performer.old.limit)
+            (λ x. self.new.moment ≡ self.old.moment) }
+        ensures tracks { tracks_on M.seen self.new ≡ tracks_on M.seen self.old }
+    {
+        match performer.next_byte(&mut self.bus) {
+            Some(said) => {
+                performer.begins(&self.bus);
+                Some(said)
+            }
+            None => {
+                performer.carries_out(&self.bus);
+                self.moment = performer.over();
+                None
+            }
+        }
+    }
+
+    /// OPEN of a channel with this text, or on 15 a command.
+    pub fn open(&mut self, channel: u8, text: &[u8])
+        requires channel { channel ≤ 15 }
+        requires short { length text.now ≤ 200000 }
+        requires moment { self.old.moment < 2 ^ 58 }
+        ensures rests { (m : Machine) → Rests M.seen self.old m → Rests M.seen self.new (after_open channel text.now m) }
+        ensures soon { self.new.moment ≤ self.old.moment + 250000000 }
+        ensures tracks { tracks_on M.seen self.new ≡ tracks_on M.seen self.old }
+    {
+        self.carry_out(Request::Open(channel, text));
+    }
+
+    /// Sends these bytes to a channel, between LISTEN and UNLISTEN.
+    pub fn put(&mut self, channel: u8, bytes: &[u8])
+        requires channel { channel ≤ 15 }
+        requires short { length bytes.now ≤ 200000 }
+        requires moment { self.old.moment < 2 ^ 58 }
+        ensures rests { (m : Machine) → Rests M.seen self.old m → Rests M.seen self.new (hear channel bytes.now m) }
+        ensures soon { self.new.moment ≤ self.old.moment + 250000000 }
+        ensures tracks { tracks_on M.seen self.new ≡ tracks_on M.seen self.old }
+    {
+        self.carry_out(Request::Put(channel, bytes));
+    }
+
+    /// Sends so many equal bytes to a channel, between LISTEN and UNLISTEN.
+    pub fn fill(&mut self, channel: u8, count: u32, byte: u8)
+        requires channel { channel ≤ 15 }
+        requires short { count ≤ 200000 }
+        requires moment { self.old.moment < 2 ^ 58 }
+        ensures rests { (m : Machine) → Rests M.seen self.old m →
+            Rests M.seen self.new (hear channel (replicate count byte) m) }
+        ensures soon { self.new.moment ≤ self.old.moment + 250000000 }
+        ensures tracks { tracks_on M.seen self.new ≡ tracks_on M.seen self.old }
+    {
+        self.carry_out(Request::Fill(channel, count, byte));
+    }
+
+    /// CLOSE of a channel.
+    pub fn close(&mut self, channel: u8)
+        requires channel { channel ≤ 15 }
+        requires moment { self.old.moment < 2 ^ 58 }
+        ensures rests { (m : Machine) → Rests M.seen self.old m → Rests M.seen self.new (closing.close channel m) }
+        ensures soon { self.new.moment ≤ self.old.moment + 250000000 }
+        ensures tracks { tracks_on M.seen self.new ≡ tracks_on M.seen self.old }
+    {
+        self.carry_out(Request::Close(channel));
+    }
+
+    /// Carries out a request, and lets go what the drive says in it.
+    fn carry_out(&mut self, request: Request)
+        requires moment { self.old.moment < 2 ^ 58 }
+        requires channel { channel_of request ≤ 15 }
+        ensures rests { (m : Machine) → IsModest request.entry → Rests M.seen self.old m →
+            Rests M.seen self.new (served request.entry m).machine }
+        ensures soon { self.new.moment ≤ self.old.moment + 250000000 }
+        ensures tracks { tracks_on M.seen self.new ≡ tracks_on M.seen self.old }
+    {
+        let mut performer = self.ask(request);
+        'bytes: while let Some(_said) = self.take(&mut performer) {}
+    }
+
+    /// The medium, with all that was written to it.
+    pub fn into_medium(self) -> M
+        ensures disk { (m : Machine) → Rests M.seen self m →
+            HoldsDisk (M.seen result).tracks (M.seen result).content m.disk }
+        ensures tracks { (M.seen result).tracks ∷ [] ≡ tracks_on M.seen self }
+    {
+        let Hosted { bus, .. } = self;
+        medium_of(bus)
+    }
+}
+
+/// The medium of the one drive of a bus.
+fn medium_of<M: Steady>(bus: Bus<Desk<M>, 1>) -> M
+    ensures { (x : Seated (desks.Desk (Kept M))) → bus.drives ≡ x ∷ [] → result ≡ x.machine.dos.medium }
+{
+    let [drive] = bus.into_drives();
+    drive.into_machine().into_dos().into_medium()
+}

@@ -1,0 +1,381 @@
+-- A script of line changes that is played, line by line.
+use Rattle.std.proofs.Common.{◌≡◌, ℕ, ◌+◌, ◌≤◌, List, [], ◌∷◌, ◌++◌, Option, Some, None, refl, sym, ap, subst, ◌∙◌, inl, inr, arith, append_assoc, append-nil, length, drop}
+use Rattle.std.specs.Prelude.{IfSome, Result, Ok, Err, codes}
+use Rattle.std.specs.Io.KnownBytes.{Appends, Keeps}
+use Rattle.cbm_iec.specs.Ports.{port_due}
+use Rattle.cbm_iec.specs.declared.event.Event.{Event}
+use Rattle.cbm_iec.specs.declared.line.Change.{Change}
+use Rattle.cbm_iec.specs.declared.port.Port.{Port}
+use Rattle.cbm_medium.specs.Seen.{Seen}
+use Rattle.cbm_session.specs.Following.{IsInTime}
+use Rattle.cbm_session.specs.Playing.{Station, Plays, IsKept, IsLaterDue}
+use Rattle.cbm_session.specs.Sessions.{IsBus}
+use Rattle.cbm_channel.specs.Machines.{Machine}
+use Rattle.cbm_channel.specs.Standing.{Kept, Stands}
+use Rattle.cbm_drive.specs.Cables.{Cabled}
+use Rattle.cbm_drive.specs.Desks.{Desk, DeskStands, desk_step, desk_says}
+use Rattle.cbm_drive.specs.NextSaid.{more_said}
+use Rattle.cbm_drive.specs.Ordered.{host_changes, latest}
+use Rattle.cbm_drive.specs.Players.{Turns, pending}
+use Rattle.cbm_drive.specs.Seats.{Seated, IsBusAt, AreInTime, AreLater, numbers}
+use Rattle.cbm_drive.proofs.Kept.{kept_after}
+use Rattle.cbm_program.specs.Lines.{lines_of, TakesLine}
+use Rattle.cbm_program.specs.Output.{AppendsPart, Grows}
+use Rattle.cbm_program.specs.Running.{EndsAs}
+use Rattle.cbm_program.specs.Staging.{IsOpen, IsAt, IsBorne, PlaysOn, PlaysPart, Ends, tracks_in}
+use Rattle.cbm_program.specs.TimedReading.{ReadsTimed, LacksTimed, TimedRead, IsBadBehind, BehindRead}
+use Rattle.cbm_program.specs.Timetables.{Timetable, timetable_of, timetable_from, timed_meaning, with_timed, stopped_at, ended_at, latest_if, bad_behind}
+use Rattle.cbm_program.specs.Traces.{PrintsTrace, PrintsTracePart, trace_text, powered, drives_of, machines_of}
+use Rattle.cbm_program.specs.declared.fault.RunFault.{RunFault}
+use Rattle.cbm_program.specs.declared.fault.RunFault.TheVariants.{Script, Image, Memory, Reading, Writing}
+use Rattle.cbm_program.specs.declared.wires.timed.Timed.{Timed}
+use Rattle.cbm_program.specs.declared.wires.timed.Timed.TheVariants.{Skipped, Changes, Ends as EndsAt}
+use Rattle.cbm_program.proofs.OutputLemmas.{appends-more, appends-kept, part_behind, whole_part}
+use Rattle.cbm_program.proofs.Staging.{text_on, hosts_on}
+
+-- ---- the lines of a timetable
+
+-- changes in front of it
+abbrev behind : List Change → Timetable → Timetable
+behind done t = record { changes = done ++ t.changes; end = t.end; bad = t.bad }
+
+changes_in : Timed → List Change
+changes_in Skipped = []
+changes_in (Changes c) = c ∷ []
+changes_in (EndsAt end) = []
+
+at_line : (n from : ℕ) (bytes : List ℕ) (lines : List (List ℕ)) (timed : Option Timed) → timed_meaning n from bytes ≡ timed
+    → timetable_from n from (bytes ∷ lines) ≡ with_timed timed n (bad_behind (n + 1) lines) (timetable_from (n + 1) (latest_if from timed) lines)
+unfolding timetable_from
+at_line n from bytes lines timed e = ap (λ o. with_timed o n (bad_behind (n + 1) lines) (timetable_from (n + 1) (latest_if from o) lines)) e
+
+at_end : (n from : ℕ) → timetable_from n from [] ≡ stopped_at n
+unfolding timetable_from
+at_end n from = refl
+
+-- what the input asks is what is done, and then what is left asks
+abbrev Follows : Option (List ℕ) → Option (List ℕ) → ℕ → ℕ → List Change → Type 0
+Follows None left n from done = Unit {0}
+Follows (Some xs) None n from done = ⊥
+Follows (Some xs) (Some ys) n from done = timetable_of xs ≡ behind done (timetable_from n from (lines_of ys))
+
+follows_start : (x l : Option (List ℕ)) → TakesLine x l (codes "lines") → Follows x l 2 0 []
+follows_start None l t = tt
+follows_start (Some xs) None t = absurd t
+follows_start (Some xs) (Some ys) t = ap (λ (ls : List (List ℕ)). timetable_from 2 0 (drop 1 ls)) t
+
+follows_skipped : (x l k : Option (List ℕ)) (n from : ℕ) (done : List Change) → Follows x l n from done → ReadsTimed l k n from Skipped → Follows x k (n + 1) from done
+follows_skipped None l k n from done f t = tt
+follows_skipped (Some xs) None k n from done f t = absurd f
+follows_skipped (Some xs) (Some ys) None n from done f t = absurd t
+follows_skipped (Some xs) (Some ys) (Some zs) n from done f (bytes, e, means) =
+    f ∙ ap (behind done) (ap (timetable_from n from) e ∙ at_line n from bytes (lines_of zs) (Some Skipped) means)
+
+follows_change : (x l k : Option (List ℕ)) (n from : ℕ) (done : List Change) (c : Change) → Follows x l n from done → ReadsTimed l k n from (Changes c) → Follows x k (n + 1) c.moment (done ++ c ∷ [])
+follows_change None l k n from done c f t = tt
+follows_change (Some xs) None k n from done c f t = absurd f
+follows_change (Some xs) (Some ys) None n from done c f t = absurd t
+follows_change (Some xs) (Some ys) (Some zs) n from done c f (bytes, e, means) =
+    f ∙ (ap (behind done) (ap (timetable_from n from) e ∙ at_line n from bytes (lines_of zs) (Some (Changes c)) means)
+    ∙ ap (λ cs. let r : Timetable = record { changes = cs; end = (timetable_from (n + 1) c.moment (lines_of zs)).end; bad = (timetable_from (n + 1) c.moment (lines_of zs)).bad } in r)
+    (sym (append_assoc done (c ∷ []) (timetable_from (n + 1) c.moment (lines_of zs)).changes)))
+
+-- the end was read
+abbrev EndsBehind : Option (List ℕ) → ℕ → Option ℕ → List Change → Type 0
+EndsBehind None end bad done = Unit {0}
+EndsBehind (Some xs) end bad done = timetable_of xs ≡ behind done (ended_at end bad)
+
+ends_behind : (x l k : Option (List ℕ)) (n from end : ℕ) (bad : Option ℕ) (done : List Change) → Follows x l n from done → ReadsTimed l k n from (EndsAt end) → IsBadBehind k (n + 1) bad → EndsBehind x end bad done
+ends_behind None l k n from end bad done f t b = tt
+ends_behind (Some xs) None k n from end bad done f t b = absurd f
+ends_behind (Some xs) (Some ys) None n from end bad done f t b = absurd t
+ends_behind (Some xs) (Some ys) (Some zs) n from end bad done f (bytes, e, means) b =
+    f ∙ (ap (behind done) (ap (timetable_from n from) e ∙ at_line n from bytes (lines_of zs) (Some (EndsAt end)) means) ∙ ap (λ o. behind done (ended_at end o)) b)
+
+-- a line is refused, or missing
+abbrev StopsAt : Option (List ℕ) → ℕ → List Change → Type 0
+StopsAt None n done = Unit {0}
+StopsAt (Some xs) n done = timetable_of xs ≡ behind done (stopped_at n)
+
+stops_at : (x l : Option (List ℕ)) (n from : ℕ) (done : List Change) → Follows x l n from done → LacksTimed l n from → StopsAt x n done
+stops_at None l n from done f t = tt
+stops_at (Some xs) None n from done f t = absurd f
+stops_at (Some xs) (Some ys) n from done f (inl e) = f ∙ ap (behind done) (ap (λ zs. timetable_from n from (lines_of zs)) e ∙ at_end n from)
+stops_at (Some xs) (Some ys) n from done f (inr (bytes, lines, e, none)) = f ∙ ap (behind done) (ap (timetable_from n from) e ∙ at_line n from bytes lines None none)
+
+latest_last : (t : ℕ) (xs : List Change) (c : Change) → latest t (xs ++ c ∷ []) ≡ c.moment
+latest_last t [] c = refl
+latest_last t (x ∷ xs) c = latest_last x.moment xs c
+
+-- what a turn of a loop leaves, by the parts that it changes
+pub joined : {S W : Type 0} (P : S → W → ℕ → Type 0) (s t : S) (v w : W) (m n : ℕ) → t ≡ s → w ≡ v → n ≡ m → P s v m → P t w n
+joined P s t v w m n a b c h = subst (λ x. P x w n) (sym a) (subst (λ y. P s y n) (sym b) (subst (λ z. P s v z) (sym c) h))
+
+module _ {M : Type 0} (seen : M → Seen) where
+  -- The lines so far were played, and what is left follows them.
+  pub record Timing (a b input left : Option (List ℕ)) (n from : ℕ) (p : Turns) (x : Cabled (Desk (Kept M))) (q : Turns) (y : Cabled (Desk (Kept M))) : Type 0 where
+    pub done : List Change
+    pub follows : Follows input left n from done
+    pub last : latest 0 done ≡ from
+    pub played : PlaysOn seen a b done p x q y
+
+  -- before each line
+  pub record Loops (p : Turns) (x : Cabled (Desk (Kept M))) (a b first left : Option (List ℕ)) (n from : ℕ) (q : Turns) (y : Cabled (Desk (Kept M))) : Type 0 where
+    pub timing : (input : Option (List ℕ)) → TakesLine input first (codes "lines") → Timing a b input left n from p x q y
+    pub opened : IsOpen q from
+    pub small : from ≤ 1000000000000000
+    pub few : n ≤ 1000001
+    pub tracks : tracks_in seen y ≡ tracks_in seen x
+    pub grown : Grows a b
+
+  pub timing_start : (a input left : Option (List ℕ)) (p : Turns) (x : Cabled (Desk (Kept M))) → PlaysOn seen a a [] p x p x → TakesLine input left (codes "lines") → Timing a a input left 2 0 p x p x
+  timing_start a input left p x none t = record { done = []; follows = follows_start input left t; last = refl; played = none }
+
+  pub timing_skipped : (a b input l k : Option (List ℕ)) (n from : ℕ) (p : Turns) (x : Cabled (Desk (Kept M))) (q : Turns) (y : Cabled (Desk (Kept M))) → Timing a b input l n from p x q y → ReadsTimed l k n from Skipped → Timing a b input k (n + 1) from p x q y
+  timing_skipped a b input l k n from p x q y t r = record { done = t.done; follows = follows_skipped input l k n from t.done t.follows r; last = t.last; played = t.played }
+
+  then_on : (a b c : Option (List ℕ)) (cs ds : List Change) (p q r : Turns) (x y z : Cabled (Desk (Kept M))) → PlaysOn seen a b cs p x q y → PlaysOn seen b c ds q y r z → PlaysOn seen a c (cs ++ ds) p x r z
+  then_on a b c cs ds p q r x y z f g ss es h =
+      let first = f ss es h in
+      let second = g ss (es ++ first.made) first.now in
+      record {
+        made = first.made ++ second.made;
+        now = subst (λ (v : List Event). IsAt seen r z ss v) (append_assoc es first.made second.made) second.now;
+        hosts = hosts_on first.made second.made ∙ (λ i. first.hosts i ++ second.hosts i);
+        written = subst (λ t. Appends a c t) (sym (text_on first.made second.made)) (appends-more a b c (trace_text first.made) (trace_text second.made) first.written second.written);
+      }
+
+  on_kept : (a b c : Option (List ℕ)) (cs : List Change) (p q : Turns) (x y : Cabled (Desk (Kept M))) → PlaysOn seen a b cs p x q y → Keeps b c → PlaysOn seen a c cs p x q y
+  on_kept a b c cs p q x y f k ss es h = (let first = f ss es h in record { made = first.made; now = first.now; hosts = first.hosts; written = appends-kept a b c (trace_text first.made) first.written k })
+
+  pub timing_change : (a b c d input l k : Option (List ℕ)) (n from : ℕ) (change : Change) (p q r : Turns) (x y z : Cabled (Desk (Kept M))) → Timing a b input l n from p x q y → ReadsTimed l k n from (Changes change) → PlaysOn seen b c (change ∷ []) q y r z → Keeps c d
+      → Timing a d input k (n + 1) change.moment p x r z
+  timing_change a b c d input l k n from change p q r x y z t reads on kept = record {
+    done = t.done ++ change ∷ [];
+    follows = follows_change input l k n from t.done change t.follows reads;
+    last = latest_last 0 t.done change;
+    played = on_kept a c d (t.done ++ change ∷ []) p r x z (then_on a b c t.done (change ∷ []) p q r x y z t.played on) kept;
+  }
+
+  -- ---- a beginning of what the input asks
+
+  abbrev pub Begun : Option (List ℕ) → Option (List ℕ) → Option (List ℕ) → ℕ → Turns → Cabled (Desk (Kept M)) → Type 0
+  Begun a b input device p x = IfSome input (λ bytes. PrintsTracePart a b (λ m. IsAt seen p x (powered device m) []) device [] (timetable_of bytes))
+
+  -- of the first changes
+  begun : (a b : Option (List ℕ)) (xs : List ℕ) (device : ℕ) (p : Turns) (x : Cabled (Desk (Kept M))) (done : List Change) (t : Timetable) → timetable_of xs ≡ behind done t → PlaysPart seen a b done p x → Begun a b (Some xs) device p x
+  begun a b xs device p x done t e part m at_ =
+      let h = part (powered device m) [] at_ in (
+        h.made,
+        record {
+          from = h.from;
+          stations = h.stations;
+          plays = h.plays;
+          rest = h.rest ++ t.changes;
+          hosts = sym (append_assoc (host_changes h.made) h.rest t.changes) ∙ (ap (λ v. v ++ t.changes) h.hosts ∙ sym (ap (λ (o : Timetable). o.changes) e));
+        },
+        h.written,
+      )
+
+  -- all of the first changes, where nothing is still to be given
+  part_of : (a b : Option (List ℕ)) (cs : List Change) (p q : Turns) (x y : Cabled (Desk (Kept M))) → q.second ≡ None → PlaysOn seen a b cs p x q y → PlaysPart seen a b cs p x
+  part_of a b cs p q x y none on ss es h =
+      let all = on ss es h in
+      let now = all.now in
+      record {
+        made = all.made;
+        rest = [];
+        from = now.from;
+        stations = now.stations;
+        plays = subst (λ (v : List Event). Plays (Desk Machine) desk_step desk_says 0 ss v now.from now.stations) (ap (λ (o : Option Event). (es ++ all.made) ++ pending o) none ∙ append-nil (es ++ all.made)) now.plays;
+        hosts = append-nil (host_changes all.made) ∙ all.hosts;
+        written = whole_part a b (trace_text all.made) all.written;
+      }
+
+  then_part : (a b c : Option (List ℕ)) (cs ds : List Change) (p q : Turns) (x y : Cabled (Desk (Kept M))) → PlaysOn seen a b cs p x q y → PlaysPart seen b c ds q y → PlaysPart seen a c (cs ++ ds) p x
+  then_part a b c cs ds p q x y f g ss es h =
+      let first = f ss es h in
+      let second = g ss (es ++ first.made) first.now in
+      record {
+        made = first.made ++ second.made;
+        rest = second.rest;
+        from = second.from;
+        stations = second.stations;
+        plays = subst (λ (v : List Event). Plays (Desk Machine) desk_step desk_says 0 ss v second.from second.stations) (append_assoc es first.made second.made) second.plays;
+        hosts = ap (λ v. v ++ second.rest) (hosts_on first.made second.made) ∙ (append_assoc (host_changes first.made) (host_changes second.made) second.rest ∙ (λ i. first.hosts i ++ second.hosts i));
+        written = subst (λ t. AppendsPart a c t) (sym (text_on first.made second.made)) (part_behind a b c (trace_text first.made) (trace_text second.made) first.written second.written);
+      }
+
+  -- where the lines so far were played
+  pub timing_begun : (a b input left : Option (List ℕ)) (n from device : ℕ) (p q : Turns) (x y : Cabled (Desk (Kept M))) → Timing a b input left n from p x q y → q.second ≡ None → Begun a b input device p x
+  timing_begun a b None left n from device p q x y t none = tt
+  timing_begun a b (Some xs) None n from device p q x y t none = absurd t.follows
+  timing_begun a b (Some xs) (Some ys) n from device p q x y t none = begun a b xs device p x t.done (timetable_from n from (lines_of ys)) t.follows (part_of a b t.done p q x y none t.played)
+
+  -- where a change broke off, and where the end did
+  pub change_begun : (a b c input l k : Option (List ℕ)) (n from device : ℕ) (change : Change) (p q : Turns) (x y : Cabled (Desk (Kept M))) → Timing a b input l n from p x q y → ReadsTimed l k n from (Changes change) → PlaysPart seen b c (change ∷ []) q y → Begun a c input device p x
+  change_begun a b c None l k n from device change p q x y t reads part = tt
+  change_begun a b c (Some xs) None k n from device change p q x y t reads part = absurd t.follows
+  change_begun a b c (Some xs) (Some ys) None n from device change p q x y t reads part = absurd reads
+  change_begun a b c (Some xs) (Some ys) (Some zs) n from device change p q x y t reads part =
+      begun a c xs device p x (t.done ++ change ∷ []) (timetable_from (n + 1) change.moment (lines_of zs)) (follows_change (Some xs) (Some ys) (Some zs) n from t.done change t.follows reads)
+      (then_part a b c t.done (change ∷ []) p q x y t.played part)
+
+  pub end_begun : (a b c input l : Option (List ℕ)) (n from device : ℕ) (p q : Turns) (x y : Cabled (Desk (Kept M))) → Timing a b input l n from p x q y → PlaysPart seen b c [] q y → Begun a c input device p x
+  end_begun a b c None l n from device p q x y t part = tt
+  end_begun a b c (Some xs) None n from device p q x y t part = absurd t.follows
+  end_begun a b c (Some xs) (Some ys) n from device p q x y t part =
+      begun a c xs device p x t.done (timetable_from n from (lines_of ys)) t.follows (subst (λ cs. PlaysPart seen a c cs p x) (append-nil t.done) (then_part a b c t.done [] p q x y t.played part))
+
+  -- what was played to an end is so too
+  pub ended_part : (b c : Option (List ℕ)) (end : ℕ) (q r : Turns) (y z : Cabled (Desk (Kept M))) → Ends seen b c end q y r z → PlaysPart seen b c [] q y
+  ended_part b c end q r y z ends ss es h =
+      let all = ends ss es h in
+      let now = all.now.after in
+      record {
+        made = all.made;
+        rest = [];
+        from = now.from;
+        stations = now.stations;
+        plays = subst (λ (v : List Event). Plays (Desk Machine) desk_step desk_says 0 ss v now.from now.stations) (ap (λ (o : Option Event). (es ++ all.made) ++ pending o) all.now.second ∙ append-nil (es ++ all.made)) now.plays;
+        hosts = append-nil (host_changes all.made) ∙ all.hosts;
+        written = whole_part b c (trace_text all.made) all.written;
+      }
+
+  pub ends_kept : (b c d : Option (List ℕ)) (end : ℕ) (q r : Turns) (y z : Cabled (Desk (Kept M))) → Ends seen b c end q y r z → Keeps c d → Ends seen b d end q y r z
+  ends_kept b c d end q r y z ends k ss es h = (let all = ends ss es h in record { made = all.made; now = all.now; hosts = all.hosts; written = appends-kept b c d (trace_text all.made) all.written k })
+
+  -- ---- the trace of what the input asks
+
+  -- its one drive
+  one_drive : (f : Desk (Kept M) → ℕ) (xs : List (Seated (Desk (Kept M)))) → length (numbers f xs) ≡ 1 → (x : Seated (Desk (Kept M))) × (xs ≡ x ∷ [])
+  one_drive f [] e = absurd (omega (arith, e))
+  one_drive f (x ∷ []) e = (x, refl)
+  one_drive f (x ∷ y ∷ xs) e = absurd (omega (arith, e))
+
+  -- what it stands for
+  pub record Borne (b : Cabled (Desk (Kept M))) (ss : List (Station (Desk Machine))) : Type 0 where
+    pub drive : Seated (Desk (Kept M))
+    pub station : Station (Desk Machine)
+    pub alone : b.drives ≡ drive ∷ []
+    pub only : ss ≡ station ∷ []
+    pub port : drive.port ≡ station.port
+    pub stands : Stands seen drive.machine.dos station.machine.dos
+
+  borne : (f : Desk (Kept M) → ℕ) (b : Cabled (Desk (Kept M))) (ss : List (Station (Desk Machine))) → length (numbers f b.drives) ≡ 1 → IsBusAt (Desk (Kept M)) (Desk Machine) (DeskStands seen) b.host b.drives ss → Borne b ss
+  borne f b ss e now =
+      let one = one_drive f b.drives e in
+      seated one.0 one.1 ss (subst (λ (xs : List (Seated (Desk (Kept M)))). IsBusAt (Desk (Kept M)) (Desk Machine) (DeskStands seen) b.host xs ss) one.1 now)
+    where
+      seated : (x : Seated (Desk (Kept M))) → b.drives ≡ x ∷ [] → (us : List (Station (Desk Machine))) → IsBusAt (Desk (Kept M)) (Desk Machine) (DeskStands seen) b.host (x ∷ []) us → Borne b us
+      seated x alone [] h = absurd h
+      seated x alone (s ∷ []) h = record { drive = x; station = s; alone = alone; only = refl; port = h.0.port; stands = h.0.machine.0.0 }
+      seated x alone (s ∷ t ∷ us) h = absurd h.1
+
+  is_bus : (device : ℕ) → 8 ≤ device → device ≤ 11 → IsBus (drives_of device)
+  is_bus device low high = record { some = omega arith; few = omega arith; drives = (record { from = low; upto = high; some = omega arith; prompt = omega arith }, tt); unlike = (tt, tt) }
+
+  later_all : (end : ℕ) (xs : List (Seated (Desk (Kept M)))) → AreInTime (end + 1) xs → AreLater end xs
+  later_all end [] h = tt
+  later_all end (x ∷ xs) h = (one (port_due x.port) h.0, later_all end xs h.1)
+    where
+      one : (o : Option ℕ) → IsInTime (end + 1) o → IsLaterDue end o
+      one None k = tt
+      one (Some t) k = omega (arith, k)
+
+  abbrev pub Ended : Option (List ℕ) → Option (List ℕ) → Option (List ℕ) → ℕ → Turns → Cabled (Desk (Kept M)) → Cabled (Desk (Kept M)) → Option ℕ → Type 0
+  Ended a b input device p x y bad = IfSome input (λ bytes. ((timetable_of bytes).bad ≡ bad) × PrintsTrace a b (λ m. IsAt seen p x (powered device m) []) (IsBorne seen y) device [] (timetable_of bytes))
+
+  -- the input, up to its bad line
+  stopped : (a b : Option (List ℕ)) (xs : List ℕ) (n from device : ℕ) (done : List Change) (f : Desk (Kept M) → ℕ) (p q : Turns) (x y : Cabled (Desk (Kept M))) → length (numbers f y.drives) ≡ 1 → timetable_of xs ≡ behind done (stopped_at n) → latest 0 done ≡ from
+      → PlaysOn seen a b done p x q y → IsOpen q from → Ended a b (Some xs) device p x y (Some n)
+  stopped a b xs n from device done f p q x y one e last on is_open = (
+    ap (λ (o : Timetable). o.bad) e,
+    subst (λ (o : Timetable). PrintsTrace a b (λ m. IsAt seen p x (powered device m) []) (IsBorne seen y) device [] o) (sym e) (λ m at_.
+        (let all = on (powered device m) [] at_ in
+        let now = all.now in
+        let whole : all.made ++ pending q.second ≡ all.made = ap (λ (o : Option Event). all.made ++ pending o) is_open.second ∙ append-nil all.made in
+        let own = borne f y now.stations one now.now in (
+          all.made,
+          own.station,
+          record {
+            from = now.from;
+            plays = subst (λ (ss : List (Station (Desk Machine))). Plays (Desk Machine) desk_step desk_says 0 (powered device m) all.made now.from ss) own.only (subst (λ (v : List Event). Plays (Desk Machine) desk_step desk_says 0 (powered device m) v now.from now.stations) whole now.plays);
+            hosts = all.hosts ∙ sym (append-nil done);
+            within = (let u : latest 0 (done ++ []) ≡ from = ap (latest 0) (append-nil done) ∙ last in let before = now.before in let opened = is_open.from in omega (arith, u, before, opened));
+            settled = tt;
+            kept = tt;
+          },
+          all.written,
+          (own.drive, own.alone, own.stands),
+        ))),
+  )
+
+  pub timing_stopped : (a b input left : Option (List ℕ)) (n from device : ℕ) (f : Desk (Kept M) → ℕ) (p q : Turns) (x y : Cabled (Desk (Kept M))) → length (numbers f y.drives) ≡ 1 → Timing a b input left n from p x q y → LacksTimed left n from → IsOpen q from → Ended a b input device p x y (Some n)
+  timing_stopped a b None left n from device f p q x y one t lacks is_open = tt
+  timing_stopped a b (Some xs) left n from device f p q x y one t lacks is_open = stopped a b xs n from device t.done f p q x y one (stops_at (Some xs) left n from t.done t.follows lacks) t.last t.played is_open
+
+  -- the input, whose end was read
+  finished : (a b c : Option (List ℕ)) (xs : List ℕ) (end device : ℕ) (bad : Option ℕ) (done : List Change) (f : Desk (Kept M) → ℕ) (p q r : Turns) (x y z : Cabled (Desk (Kept M))) → 8 ≤ device → device ≤ 11 → length (numbers f z.drives) ≡ 1
+      → timetable_of xs ≡ behind done (ended_at end bad) → PlaysOn seen a b done p x q y → Ends seen b c end q y r z → Ended a c (Some xs) device p x z bad
+  finished a b c xs end device bad done f p q r x y z low high one e on ends = (
+    ap (λ (o : Timetable). o.bad) e,
+    subst (λ (o : Timetable). PrintsTrace a c (λ m. IsAt seen p x (powered device m) []) (IsBorne seen z) device [] o) (sym e) (λ m at_.
+        (let first = on (powered device m) [] at_ in
+        let all = ends (powered device m) first.made first.now in
+        let trace = first.made ++ all.made in
+        let over = all.now in
+        let now = over.after in
+        let whole : trace ++ pending r.second ≡ trace = ap (λ (o : Option Event). trace ++ pending o) over.second ∙ append-nil trace in
+        let own = borne f z now.stations one now.now in
+        let later = later_all end z.drives over.settled in (
+          trace,
+          own.station,
+          record {
+            from = now.from;
+            plays = subst (λ (ss : List (Station (Desk Machine))). Plays (Desk Machine) desk_step desk_says 0 (powered device m) trace now.from ss) own.only (subst (λ (v : List Event). Plays (Desk Machine) desk_step desk_says 0 (powered device m) v now.from now.stations) whole now.plays);
+            hosts = hosts_on first.made all.made ∙ (λ i. first.hosts i ++ all.hosts i);
+            within = (let before = now.before in let from = over.from in omega (arith, before, from));
+            settled = subst (λ (o : Port). IsLaterDue end (port_due o)) own.port (subst (λ (us : List (Seated (Desk (Kept M)))). AreLater end us) own.alone later).0;
+            kept = λ timing. subst (λ (ss : List (Station (Desk Machine))). IsKept (Desk Machine) desk_step desk_says (drives_of device) (machines_of device m) trace end ss) own.only
+                (kept_after (Desk (Kept M)) (Desk Machine) (DeskStands seen) desk_step desk_says more_said r z (drives_of device) (machines_of device m) trace end (is_bus device low high) over.second now later timing);
+          },
+          subst (λ t. Appends a c t) (sym (text_on first.made all.made)) (appends-more a b c (trace_text first.made) (trace_text all.made) first.written all.written),
+          (own.drive, own.alone, own.stands),
+        ))),
+  )
+
+  pub timing_ended : (a b c input l k : Option (List ℕ)) (n from end device : ℕ) (result : Result (Unit {0}) RunFault) (f : Desk (Kept M) → ℕ) (p q r : Turns) (x y z : Cabled (Desk (Kept M))) → 8 ≤ device → device ≤ 11 → length (numbers f z.drives) ≡ 1
+      → Timing a b input l n from p x q y → ReadsTimed l k n from (EndsAt end) → Ends seen b c end q y r z → BehindRead k (n + 1) result → EndsAs result (λ bad. Ended a c input device p x z bad)
+  timing_ended a b c input l k n from end device result f p q r x y z low high one t reads ends read = by result read
+    where
+      over : (o : Option (List ℕ)) (bad : Option ℕ) → EndsBehind o end bad t.done → Ended a c o device p x z bad
+      over None bad h = tt
+      over (Some xs) bad h = finished a b c xs end device bad t.done f p q r x y z low high one h t.played ends
+
+      by : (v : Result (Unit {0}) RunFault) → BehindRead k (n + 1) v → EndsAs v (λ bad. Ended a c input device p x z bad)
+      by (Ok u) h = over input None (ends_behind input l k n from end None t.done t.follows reads h)
+      by (Err (Script bad)) h = over input (Some bad) (ends_behind input l k n from end (Some bad) t.done t.follows reads h)
+      by (Err (Image number)) h = absurd h
+      by (Err Memory) h = absurd h
+      by (Err Reading) h = tt
+      by (Err Writing) h = absurd h
+
+  -- a line that can't be had, or is refused
+  pub read_faulted : {A : Type 0} (a b input l k : Option (List ℕ)) (n from device : ℕ) (result : Result A RunFault) (fault : RunFault) (f : Desk (Kept M) → ℕ) (p q : Turns) (x y : Cabled (Desk (Kept M))) → length (numbers f y.drives) ≡ 1 → Timing a b input l n from p x q y → IsOpen q from
+      → TimedRead l k n from (Err fault) → result ≡ Err fault → EndsAs result (λ bad. Ended a b input device p x y bad)
+  read_faulted a b input l k n from device result (Script bad) f p q x y one t is_open h e =
+      subst (λ v. EndsAs v (λ o. Ended a b input device p x y o)) (sym e) (subst (λ i. Ended a b input device p x y (Some i)) (sym h.0) (timing_stopped a b input l n from device f p q x y one t h.1 is_open))
+  read_faulted a b input l k n from device result (Image number) f p q x y one t is_open h e = absurd h
+  read_faulted a b input l k n from device result Memory f p q x y one t is_open h e = absurd h
+  read_faulted a b input l k n from device result Reading f p q x y one t is_open h e = subst (λ v. EndsAs v (λ o. Ended a b input device p x y o)) (sym e) tt
+  read_faulted a b input l k n from device result Writing f p q x y one t is_open h e = absurd h
+
+-- the one disk has as many tracks
+pub sole_tracks : {M : Type 0} (seen : M → Seen) (b : Cabled (Desk (Kept M))) (k : M) → length (tracks_in seen b) ≡ 1 → ((x : Seated (Desk (Kept M))) → b.drives ≡ x ∷ [] → k ≡ x.machine.dos.medium) → (seen k).tracks ∷ [] ≡ tracks_in seen b
+sole_tracks {M = M} seen b k one is = by b.drives refl one
+  where
+    by : (xs : List (Seated (Desk (Kept M)))) → b.drives ≡ xs → length (numbers (λ y. (seen y.dos.medium).tracks) xs) ≡ 1 → (seen k).tracks ∷ [] ≡ numbers (λ y. (seen y.dos.medium).tracks) xs
+    by [] e h = absurd (omega (arith, h))
+    by (x ∷ []) e h = ap (λ z. (seen z).tracks ∷ []) (is x e)
+    by (x ∷ y ∷ xs) e h = absurd (omega (arith, h))

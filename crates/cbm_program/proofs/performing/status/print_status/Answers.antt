@@ -1,0 +1,12 @@
+use Rattle.std.proofs.Common.{rules, ◌≡◌, ◌++◌, codes}
+use Rattle.std.proofs.lemmas.Result.{on_err_weaker}
+use Rattle.cbm_channel.specs.Calls.{without_return}
+use Rattle.cbm_program.specs.Scripts.{status_said}
+use Rattle.cbm_program.proofs.StatusLemmas.{status_part}
+use Rattle.cbm_program.proofs.performing.status.print_status.Goals as goal
+
+-- the line broke off
+pub returns-clause-err : goal.returns-clause-err
+returns-clause-err g c =
+    let line : c.as_slice-2.result.now ≡ codes "status " ++ without_return c.status_line-told.result.items ++ codes "\n" = search rules in
+    on_err_weaker c.print.result (λ part m r. status_part _ _ (status_said m) c.status_line-told.result.items c.as_slice-2.result.now (c.status_line-told.ensures.told m r).0 line part) c.print.ensures.err

@@ -1,0 +1,30 @@
+use Rattle.std.proofs.Common.{◌+◌, [], arith, ◌∙◌, append-nil}
+use Rattle.cbm_program.proofs.LinePrints.{if_err}
+use Rattle.cbm_program.proofs.OutputLemmas.{grows_on}
+use Rattle.cbm_program.proofs.Staging.{played_event, part_event, of_drive, ended_on}
+use Rattle.cbm_program.proofs.wires.staging.Stage.end.Goals as goal
+
+pub returns-in_err-print_event-clause-err : goal.returns-in_err-print_event-clause-err
+returns-in_err-print_event-clause-err g c =
+    if_err c.from_residual.result (λ ss es h. part_event g.M.Medium.seen _ _ _ [] [] [] (c.args.end + 1) c.events.self.player c.finish.new.self c.events.self.bus c.finish.new.bus ss es c.in-Some.event (c.events.invariant.played ss es h)
+    (λ fs at_. c.in-Some.ensures.given 0 ss fs at_) (append-nil _ ∙ of_drive c.in-Some.event c.in-Some.ensures.drive) c.finish.ensures.second c.in_err-print_event.ensures.err)
+
+pub returns-in_err-print_event-clause-grows : goal.returns-in_err-print_event-clause-grows
+returns-in_err-print_event-clause-grows g c = grows_on _ _ _ c.events.invariant.grown c.in_err-print_event.ensures.grows
+
+pub events-smaller : goal.events-smaller
+events-smaller g c = c.in-Some.ensures.fewer (c.args.end + 1) (omega arith)
+
+pub events-preserved : goal.events-preserved
+events-preserved g c = record {
+  played = λ ss es h. played_event g.M.Medium.seen _ _ _ [] [] c.events.self.player c.finish.new.self c.events.self.bus c.finish.new.bus ss es c.in-Some.event (c.events.invariant.played ss es h)
+      (λ fs at_. c.in-Some.ensures.given 0 ss fs at_) (of_drive c.in-Some.event c.in-Some.ensures.drive) c.in_ok-print_event.ensures.ok;
+  waiting = c.finish.ensures.waiting;
+  second = c.finish.ensures.second;
+  from = c.finish.ensures.from;
+  tracks = c.finish.ensures.lasting ∙ c.events.invariant.tracks;
+  grown = grows_on _ _ _ c.events.invariant.grown c.in_ok-print_event.ensures.grows;
+}
+
+pub returns-clause-ok : goal.returns-clause-ok
+returns-clause-ok g c = ended_on g.M.Medium.seen _ _ c.args.end c.args.self.now.player c.events.self.player c.finish.new.self c.args.self.now.bus c.events.self.bus c.finish.new.bus c.events.invariant.played (λ ss fs at_. c.in_default.ensures.given 0 ss fs at_)

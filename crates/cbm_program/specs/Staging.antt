@@ -1,0 +1,76 @@
+-- A drive under a host whose changes are made one at a time, and printed with what comes of them.
+use Rattle.std.specs.Prelude.{Bool, ◌≡◌, ◌≤◌, ℕ, List, [], ◌∷◌, ◌++◌, Option, None}
+use Rattle.std.specs.Io.KnownBytes.{Appends}
+use Rattle.cbm_iec.specs.declared.event.Event.{Event}
+use Rattle.cbm_iec.specs.declared.line.Change.{Change}
+use Rattle.cbm_medium.specs.Content.{Content}
+use Rattle.cbm_medium.specs.Seen.{Seen}
+use Rattle.cbm_session.specs.Playing.{Station, Plays}
+use Rattle.cbm_channel.specs.Files.{Disk}
+use Rattle.cbm_channel.specs.Machines.{Machine, start}
+use Rattle.cbm_channel.specs.Standing.{Kept, Stands}
+use Rattle.cbm_drive.specs.Cables.{Cabled}
+use Rattle.cbm_drive.specs.Desks.{Desk, DeskStands, desk_step, desk_says}
+use Rattle.cbm_drive.specs.Ordered.{host_changes}
+use Rattle.cbm_drive.specs.Players.{Turns, IsAfter, IsFinished}
+use Rattle.cbm_drive.specs.Seats.{Seated, numbers}
+use Rattle.cbm_volume.specs.Holding.{HoldsDisk}
+use Rattle.cbm_program.specs.Output.{AppendsPart}
+use Rattle.cbm_program.specs.Traces.{trace_text, powered}
+
+-- No change waits, none is still to be given, and the host's next one may come from this moment on.
+pub record IsOpen (p : Turns) (moment : ℕ) : Type 0 where
+  pub waiting : p.waiting ≡ None
+  pub second : p.second ≡ None
+  pub from : p.from ≤ moment
+
+module _ {M : Type 0} (seen : M → Seen) where
+  -- how many tracks the disks of these drives have
+  abbrev pub tracks_in : Cabled (Desk (Kept M)) → List ℕ
+  tracks_in b = numbers (λ x. (seen x.dos.medium).tracks) b.drives
+
+  -- the one drive of this bus stands for a machine
+  abbrev pub IsBorne : Cabled (Desk (Kept M)) → Machine → Type 0
+  IsBorne b m = (x : Seated (Desk (Kept M))) × (b.drives ≡ x ∷ []) × Stands seen x.machine.dos m
+
+  -- from these stations these events were given
+  abbrev pub IsAt : Turns → Cabled (Desk (Kept M)) → List (Station (Desk Machine)) → List Event → Type 0
+  IsAt p b ss es = IsAfter (Desk (Kept M)) (Desk Machine) (DeskStands seen) desk_step desk_says p b 0 ss es
+
+  -- the drive is at power up, with each disk that this content holds
+  abbrev pub StandsOn : ℕ → Content → Bool → ℕ → Turns → Cabled (Desk (Kept M)) → Type 0
+  StandsOn tracks content protected device p b = (d : Disk) → HoldsDisk tracks content d → IsAt p b (powered device (start d protected tracks)) []
+
+  -- These changes of the host were made, and what came of them; all events were written.
+  pub record HasPlayedOn (a b : Option (List ℕ)) (cs : List Change) (p : Turns) (c : Cabled (Desk (Kept M))) (ss : List (Station (Desk Machine))) (es : List Event) : Type 0 where
+    pub made : List Event
+    pub now : IsAt p c ss (es ++ made)
+    pub hosts : host_changes made ≡ cs
+    pub written : Appends a b (trace_text made)
+
+  -- A beginning of these changes was made, and what came of them; a beginning of the events was written.
+  pub record HasPlayedPart (a b : Option (List ℕ)) (cs : List Change) (ss : List (Station (Desk Machine))) (es : List Event) : Type 0 where
+    pub made : List Event
+    pub rest : List Change
+    pub from : ℕ
+    pub stations : List (Station (Desk Machine))
+    pub plays : Plays (Desk Machine) desk_step desk_says 0 ss (es ++ made) from stations
+    pub hosts : host_changes made ++ rest ≡ cs
+    pub written : AppendsPart a b (trace_text made)
+
+  -- The drive was played to an end: nothing is due any more, and all events were written.
+  pub record HasEnded (a b : Option (List ℕ)) (end : ℕ) (p : Turns) (c : Cabled (Desk (Kept M))) (ss : List (Station (Desk Machine))) (es : List Event) : Type 0 where
+    pub made : List Event
+    pub now : IsFinished (Desk (Kept M)) (Desk Machine) (DeskStands seen) desk_step desk_says p c end 0 ss (es ++ made)
+    pub hosts : host_changes made ≡ []
+    pub written : Appends a b (trace_text made)
+
+  -- the same wherever the drive stood before
+  abbrev pub PlaysOn : Option (List ℕ) → Option (List ℕ) → List Change → Turns → Cabled (Desk (Kept M)) → Turns → Cabled (Desk (Kept M)) → Type 0
+  PlaysOn a b cs p x q y = (ss : List (Station (Desk Machine))) (es : List Event) → IsAt p x ss es → HasPlayedOn a b cs q y ss es
+
+  abbrev pub PlaysPart : Option (List ℕ) → Option (List ℕ) → List Change → Turns → Cabled (Desk (Kept M)) → Type 0
+  PlaysPart a b cs p x = (ss : List (Station (Desk Machine))) (es : List Event) → IsAt p x ss es → HasPlayedPart a b cs ss es
+
+  abbrev pub Ends : Option (List ℕ) → Option (List ℕ) → ℕ → Turns → Cabled (Desk (Kept M)) → Turns → Cabled (Desk (Kept M)) → Type 0
+  Ends a b end p x q y = (ss : List (Station (Desk Machine))) (es : List Event) → IsAt p x ss es → HasEnded a b end q y ss es

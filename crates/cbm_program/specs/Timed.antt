@@ -1,0 +1,73 @@
+-- What a line of a script of line changes asks for: `MOMENT LINE WAY`, or `end MOMENT`.
+use Rattle.std.specs.Prelude.{ℕ, ◌≤◌, List, [], ◌∷◌, codes, Bool, true, false, ◌==◌, nat_lt, Option, Some, None, option_map, option_and_then, if◌then◌else◌}
+use Rattle.std.specs.Str.{bytes_eq}
+use Rattle.cbm_iec.specs.declared.line.Line.{Line}
+use Rattle.cbm_iec.specs.declared.line.Line.TheVariants.{Atn, Clock, Data}
+use Rattle.cbm_iec.specs.declared.line.Way.{Way}
+use Rattle.cbm_iec.specs.declared.line.Way.TheVariants.{Pull, Free}
+use Rattle.cbm_program.specs.Words.{first_word, behind_word, moment_of}
+use Rattle.cbm_program.specs.declared.wires.timed.Timed.{Timed}
+use Rattle.cbm_program.specs.declared.wires.timed.Timed.TheVariants.{Skipped, Changes, Ends}
+
+-- the names of the lines, and of the ways
+abbrev pub line_called : List ℕ → Option Line
+line_called word =
+    if bytes_eq word (codes "atn") then Some Atn
+    else if bytes_eq word (codes "clock") then Some Clock
+    else if bytes_eq word (codes "data") then Some Data
+    else None
+
+abbrev pub way_called : List ℕ → Option Way
+way_called word =
+    if bytes_eq word (codes "pull") then Some Pull
+    else if bytes_eq word (codes "free") then Some Free
+    else None
+
+-- a change, where each of its words says something
+abbrev pub change_with : Option ℕ → Option Line → Option Way → Option Timed
+change_with (Some moment) (Some line) (Some way) = Some (Changes (record { moment = moment; line = line; way = way }))
+change_with moment line way = None
+
+-- `LINE WAY` behind a moment
+abbrev pub change_of : List ℕ → Option (List ℕ) → Option Timed
+change_of first None = None
+change_of first (Some words) = change_with (moment_of first) (line_called (first_word words)) (option_and_then way_called (behind_word words))
+
+-- a moment behind `end`
+abbrev pub end_of : Option (List ℕ) → Option Timed
+end_of None = None
+end_of (Some word) = option_map Ends (moment_of word)
+
+abbrev pub asked_of : List ℕ → Option Timed
+asked_of bytes = if bytes_eq (first_word bytes) (codes "end") then end_of (behind_word bytes) else change_of (first_word bytes) (behind_word bytes)
+
+-- what a line is, None where it is refused
+abbrev pub timed_of : List ℕ → Option Timed
+timed_of [] = Some Skipped
+timed_of (b ∷ bytes) = if b == 59 then Some Skipped else asked_of (b ∷ bytes)
+
+-- Nothing comes before what came before it.
+abbrev pub timed_behind : ℕ → Option Timed → Option Timed
+timed_behind from None = None
+timed_behind from (Some Skipped) = Some Skipped
+timed_behind from (Some (Changes change)) = if nat_lt change.moment from then None else Some (Changes change)
+timed_behind from (Some (Ends end)) = if nat_lt end from then None else Some (Ends end)
+
+-- a line that is skipped, as one must be behind the end
+abbrev pub is_skipped : Option Timed → Bool
+is_skipped None = false
+is_skipped (Some Skipped) = true
+is_skipped (Some (Changes change)) = false
+is_skipped (Some (Ends end)) = false
+
+-- a moment of a script
+abbrev pub IsTimed : Timed → Type 0
+IsTimed Skipped = Unit {0}
+IsTimed (Changes change) = change.moment ≤ 1000000000000000
+IsTimed (Ends end) = end ≤ 1000000000000000
+
+-- the moment that a line leaves behind it
+abbrev pub latest : ℕ → Timed → ℕ
+latest from Skipped = from
+latest from (Changes change) = change.moment
+latest from (Ends end) = end

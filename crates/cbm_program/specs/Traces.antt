@@ -1,0 +1,93 @@
+-- What a script of line changes prints: the events of a drive under a host that makes these changes.
+use Rattle.std.specs.Prelude.{◌≡◌, ◌+◌, ◌≤◌, ℕ, List, [], ◌∷◌, ◌++◌, codes, decimal, flat_map, Option, Some, None, IfSome}
+use Rattle.std.specs.Io.KnownBytes.{Appends}
+use Rattle.cbm_iec.specs.Ports.{port_due}
+use Rattle.cbm_iec.specs.declared.event.Event.{Event}
+use Rattle.cbm_iec.specs.declared.event.Who.{Who}
+use Rattle.cbm_iec.specs.declared.event.Who.TheVariants.{Host, Drive}
+use Rattle.cbm_iec.specs.declared.line.Change.{Change}
+use Rattle.cbm_iec.specs.declared.line.Line.{Line}
+use Rattle.cbm_iec.specs.declared.line.Line.TheVariants.{Atn, Clock, Data}
+use Rattle.cbm_iec.specs.declared.line.Way.{Way}
+use Rattle.cbm_iec.specs.declared.line.Way.TheVariants.{Pull, Free}
+use Rattle.cbm_iec.specs.declared.party.Party.{Party}
+use Rattle.cbm_session.specs.Playing.{Station, Plays, IsKept, IsLaterDue, at_rest}
+use Rattle.cbm_session.specs.Timing.{HostKeeps}
+use Rattle.cbm_channel.specs.Machines.{Machine}
+use Rattle.cbm_drive.specs.Desks.{Desk, at_first, desk_step, desk_says}
+use Rattle.cbm_drive.specs.Ordered.{host_changes, latest}
+use Rattle.cbm_program.specs.Output.{AppendsPart}
+use Rattle.cbm_program.specs.Timetables.{Timetable}
+
+-- ---- an event as a line: `MOMENT WHO LINE WAY`
+
+abbrev pub who_text : Who → List ℕ
+who_text Host = codes "host"
+who_text (Drive device) = decimal device
+
+abbrev pub line_text : Line → List ℕ
+line_text Atn = codes "atn"
+line_text Clock = codes "clock"
+line_text Data = codes "data"
+
+abbrev pub way_text : Way → List ℕ
+way_text Pull = codes "pull"
+way_text Free = codes "free"
+
+abbrev pub event_text : Event → List ℕ
+event_text e = decimal e.change.moment ++ codes " " ++ who_text e.who ++ codes " " ++ line_text e.change.line ++ codes " " ++ way_text e.change.way ++ codes "\n"
+
+abbrev pub trace_text : List Event → List ℕ
+trace_text trace = flat_map event_text trace
+
+-- ---- the drive of a script
+
+-- its drive reacts after 20 microseconds
+abbrev pub drives_of : ℕ → List Party
+drives_of device = (record { device = device; reaction = 20 }) ∷ []
+
+abbrev pub machines_of : ℕ → Machine → ℕ → Desk Machine
+machines_of device m d = at_first device m
+
+-- the drive at power up, above it the named-files machine
+abbrev pub powered : ℕ → Machine → List (Station (Desk Machine))
+powered device m = at_rest (Desk Machine) desk_step desk_says (machines_of device m) (drives_of device)
+
+-- From power up these events come, and then the drive stands so.
+abbrev pub IsPlayed : ℕ → Machine → List Event → ℕ → List (Station (Desk Machine)) → Type 0
+IsPlayed device m trace from ss = Plays (Desk Machine) desk_step desk_says 0 (powered device m) trace from ss
+
+-- A script is played up to its end, the reactions of that moment too. Where its end isn't read it is played up to its last change, and the
+-- reactions of that moment wait.
+abbrev pub until : Timetable → ℕ
+until t = elim t.end [ None ↦ latest 0 t.changes | Some end ↦ end + 1 ]
+
+-- THE TRACE OF A SCRIPT: the events of the drive under a host that makes these changes, and no others.
+pub record IsTrace (device : ℕ) (m : Machine) (t : Timetable) (trace : List Event) (s : Station (Desk Machine)) : Type 0 where
+  pub from : ℕ
+  pub plays : IsPlayed device m trace from (s ∷ [])
+  pub hosts : host_changes trace ≡ t.changes
+  pub within : from ≤ until t
+  -- nothing is due at the end or before it
+  pub settled : IfSome t.end (λ end. IsLaterDue end (port_due s.port))
+  -- Where the host keeps the bus's timing this is a beginning of a session: each byte talked is the machine's answer to the bytes sent, and no reaction is late.
+  pub kept : IfSome t.end (λ end. HostKeeps (drives_of device) trace end → IsKept (Desk Machine) desk_step desk_says (drives_of device) (machines_of device m) trace end (s ∷ []))
+
+-- the events of the drive under some of these changes, the first ones
+pub record IsBegun (device : ℕ) (m : Machine) (t : Timetable) (trace : List Event) : Type 0 where
+  pub from : ℕ
+  pub stations : List (Station (Desk Machine))
+  pub plays : IsPlayed device m trace from stations
+  pub rest : List Change
+  pub hosts : host_changes trace ++ rest ≡ t.changes
+
+-- ---- what is written
+
+-- For each machine that stood before, the trace of the script was written behind this text, and the machine above the drive stands now.
+abbrev pub PrintsTrace : Option (List ℕ) → Option (List ℕ) → (Machine → Type 0) → (Machine → Type 0) → ℕ → List ℕ → Timetable → Type 0
+PrintsTrace old new stood stands device text t = (m : Machine) → stood m
+    → (trace : List Event) × (s : Station (Desk Machine)) × IsTrace device m t trace s × Appends old new (text ++ trace_text trace) × stands s.machine.dos
+
+-- for each machine that stood before, a beginning of what the drive does under the first changes was written
+abbrev pub PrintsTracePart : Option (List ℕ) → Option (List ℕ) → (Machine → Type 0) → ℕ → List ℕ → Timetable → Type 0
+PrintsTracePart old new stood device text t = (m : Machine) → stood m → (trace : List Event) × IsBegun device m t trace × AppendsPart old new (text ++ trace_text trace)

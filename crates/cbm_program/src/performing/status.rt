@@ -1,0 +1,76 @@
+//! Printing the status.
+ghost use Rattle.std.specs.Prelude.{◌≡◌, ◌≤◌, ◌<◌, ◌+◌, ◌^◌, ◌++◌, ◌∷◌, [], length, IfErr, OnOk, OnErr};
+ghost use Rattle.cbm_channel.specs.Machines.{Machine};
+ghost use Rattle.cbm_channel.specs.Calls.{without_return};
+ghost use Rattle.cbm_host.specs.Hosted.{Rests, tracks_on};
+ghost use Rattle.cbm_program.specs.declared.request.Request.TheVariants.{Status};
+ghost use Rattle.cbm_program.specs.Scripts.{status_said, printed_by};
+ghost use Rattle.cbm_program.specs.Output.{Grows, Prints, PrintsPart};
+ghost use Rattle.cbm_program.specs.Running.{IsOfWriting};
+
+use crate::fault::RunFault;
+use crate::output::print;
+use arrayvec::ArrayVec;
+use cbm_host::{Hosted, Request};
+use cbm_medium::Steady;
+use std::io::Write;
+
+/// The text without one return at its end.
+fn without_return(text: &[u8]) -> &[u8]
+    ensures value { result.now ≡ without_return text.now }
+    ensures short { length result.now ≤ length text.now }
+{
+    let Some((last, front)) = text.split_last() else {
+        return text;
+    };
+    if *last == b'\r' { front } else { text }
+}
+
+/// Keeps a byte of the line, where there is room for it: a status line has at most 33.
+fn keep(line: &mut ArrayVec<u8, 33>, byte: u8)
+    ensures { length line.old.items < 33 → line.new.items ≡ line.old.items ++ byte ∷ [] }
+{
+    if !line.is_full() {
+        line.push(byte);
+    }
+}
+
+/// The status line as channel 15 sends it, to its end.
+fn status_line<M: Steady>(drive: &mut Hosted<M>) -> ArrayVec<u8, 33>
+    requires { drive.old.moment < 2 ^ 58 }
+    ensures told { (m : Machine) → Rests M.seen drive.old m
+        → ((status_said m).bytes ≡ result.items) × Rests M.seen drive.new (status_said m).machine }
+    ensures soon { drive.new.moment ≤ drive.old.moment + 250000000 }
+    ensures tracks { tracks_on M.seen drive.new ≡ tracks_on M.seen drive.old }
+{
+    let mut line = ArrayVec::new();
+    let mut performer = drive.ask(Request::Status);
+    'bytes: while let Some((byte, _last)) = drive.take(&mut performer) {
+        keep(&mut line, byte);
+    }
+    line
+}
+
+/// Carries out a status: the line is read to its end, and printed.
+pub(crate) fn print_status<M: Steady, W: Write>(
+    drive: &mut Hosted<M>,
+    writer: &mut W,
+) -> Result<(), RunFault>
+    requires { drive.old.moment < 2 ^ 58 }
+    ensures ok { OnOk result (Prints (W.contents writer.old) (W.contents writer.new)
+        (Rests M.seen drive.old) (Rests M.seen drive.new) (printed_by Status)) }
+    ensures err { OnErr result (PrintsPart (W.contents writer.old) (W.contents writer.new)
+        (Rests M.seen drive.old) (printed_by Status)) }
+    ensures soon { drive.new.moment ≤ drive.old.moment + 250000000 }
+    ensures tracks { tracks_on M.seen drive.new ≡ tracks_on M.seen drive.old }
+    ensures grows { Grows (W.contents writer.old) (W.contents writer.new) }
+    ensures fault { IfErr result IsOfWriting }
+{
+    let told = status_line(drive);
+    let mut line = ArrayVec::<u8, 64>::new();
+    line.try_extend_from_slice(b"status ").unwrap();
+    line.try_extend_from_slice(without_return(told.as_slice()))
+        .unwrap();
+    line.push(b'\n');
+    print(writer, line.as_slice())
+}

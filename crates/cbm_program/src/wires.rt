@@ -1,0 +1,9 @@
+//! Scripts of line changes, played on a drive.
+
+mod event;
+mod playing;
+mod staging;
+mod timed;
+
+pub(crate) use playing::run_changes;
+pub(crate) use staging::Stage;

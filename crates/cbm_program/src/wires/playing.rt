@@ -1,0 +1,140 @@
+//! A script of line changes, from its second line to its end or its first bad line.
+ghost use Rattle.std.specs.Prelude.{Bool, ◌≡◌, ◌≢◌, ◌≤◌, ◌<◌, ◌∷◌, [], ℕ, List, Option, codes, length, IfSome, IfOk, IfErr, OnErr};
+ghost use Rattle.cbm_medium.specs.Content.{Content};
+ghost use Rattle.cbm_volume.specs.Holding.{HoldsDisk};
+ghost use Rattle.cbm_program.specs.Images.{StartsOn};
+ghost use Rattle.cbm_program.specs.Lines.{bytes_left, TakesLine};
+ghost use Rattle.cbm_program.specs.Output.{Grows};
+ghost use Rattle.cbm_program.specs.Running.{EndsAs};
+ghost use Rattle.cbm_program.specs.Staging.{IsOpen, IsAt, IsBorne, StandsOn, tracks_in};
+ghost use Rattle.cbm_program.specs.TimedReading.{TimedRead, BehindRead};
+ghost use Rattle.cbm_program.specs.Timetables.{timetable_of};
+ghost use Rattle.cbm_program.specs.Traces.{powered, PrintsTrace, PrintsTracePart};
+
+use super::staging::Stage;
+use super::timed::{Timed, is_skipped, timed_from};
+use crate::fault::RunFault;
+use crate::lines::Lines;
+use crate::numbered::next_line;
+use crate::output::flush;
+use arrayvec::ArrayVec;
+use cbm_medium::Steady;
+use std::io::{Read, Write};
+
+/// Reads line `number`, which stands behind a moment, in microseconds. The end must come before the script's own.
+fn read_timed<R: Read>(
+    lines: &mut Lines<R>,
+    bytes: &mut ArrayVec<u8, 1000>,
+    number: u32,
+    from: u64,
+) -> Result<Timed, RunFault>
+    ensures { TimedRead (bytes_left R.remaining lines.old) (bytes_left R.remaining lines.new) number from result }
+{
+    if !next_line(lines, bytes, number)? {
+        return Err(RunFault::Script(number));
+    }
+    timed_from(bytes.as_slice(), from).ok_or(RunFault::Script(number))
+}
+
+/// Reads the lines behind the end, from line `first` on: all of them are skipped.
+fn read_behind<R: Read>(
+    lines: &mut Lines<R>,
+    bytes: &mut ArrayVec<u8, 1000>,
+    first: u32,
+) -> Result<(), RunFault>
+    requires { first ≤ 1000001 }
+    ensures { BehindRead (bytes_left R.remaining lines.old) first result }
+{
+    let mut number = first;
+    'lines: while next_line(lines, bytes, number)? {
+        if !is_skipped(bytes.as_slice()) {
+            return Err(RunFault::Script(number));
+        }
+        number += 1;
+    }
+    Ok(())
+}
+
+/// Plays a script on a drive at power up, behind its first line: a change is made and printed, with what comes before it,
+/// before the next line is read; what comes of the last one is printed when the end was read.
+fn play_on<M: Steady, R: Read, W: Write>(
+    stage: &mut Stage<M>,
+    device: u8,
+    lines: &mut Lines<R>,
+    writer: &mut W,
+) -> Result<(), RunFault>
+    requires open { IsOpen stage.old.player 0 }
+    requires one { length (tracks_in M.seen stage.old.bus) ≡ 1 }
+    requires low { 8 ≤ device }
+    requires high { device ≤ 11 }
+    // Up to its end or its first bad line the script's trace was written, and the drive is in the state behind it.
+    ensures ended { (input : Option (List ℕ)) → TakesLine input (bytes_left R.remaining lines.old) (codes "lines") →
+        EndsAs result (λ bad. IfSome input (λ bytes. ((timetable_of bytes).bad ≡ bad)
+        × PrintsTrace (W.contents writer.old) (W.contents writer.new)
+        (λ m. IsAt M.seen stage.old.player stage.old.bus (powered device m) []) (IsBorne M.seen stage.new.bus)
+        device [] (timetable_of bytes))) }
+    // At a fault a beginning of that was written.
+    ensures fault { (input : Option (List ℕ)) → TakesLine input (bytes_left R.remaining lines.old) (codes "lines") →
+        OnErr result (IfSome input (λ bytes. PrintsTracePart (W.contents writer.old) (W.contents writer.new)
+        (λ m. IsAt M.seen stage.old.player stage.old.bus (powered device m) []) device [] (timetable_of bytes))) }
+    ensures tracks { tracks_in M.seen stage.new.bus ≡ tracks_in M.seen stage.old.bus }
+    ensures grows { Grows (W.contents writer.old) (W.contents writer.new) }
+    ensures image { IfErr result (λ fault. (n : ℕ) → fault ≢ RunFault.Image n) }
+{
+    let mut bytes = ArrayVec::new();
+    let mut number = 2;
+    let mut from = 0;
+    'lines: loop {
+        match read_timed(lines, &mut bytes, number, from)? {
+            Timed::Skipped => {}
+            Timed::Changes(change) => {
+                stage.change(change, writer)?;
+                flush(writer)?;
+                from = change.moment;
+            }
+            Timed::Ends(end) => {
+                stage.end(end, writer)?;
+                flush(writer)?;
+                return read_behind(lines, &mut bytes, number + 1);
+            }
+        }
+        number += 1;
+    }
+}
+
+/// Plays a script of line changes, behind its first line, on a drive that stands at power up, with a device number from 8 to 11,
+/// and gives its medium back with what came of it.
+pub(crate) fn run_changes<M: Steady + Drop, R: Read, W: Write>(
+    stage: Stage<M>,
+    device: u8,
+    lines: &mut Lines<R>,
+    writer: &mut W,
+) -> Result<M, RunFault>
+    requires open { IsOpen stage.player 0 }
+    requires one { length (tracks_in M.seen stage.bus) ≡ 1 }
+    requires low { 8 ≤ device }
+    requires high { device ≤ 11 }
+    ensures ended { (tracks : ℕ) (content : Content) (protected : Bool) (input : Option (List ℕ)) →
+        StandsOn M.seen tracks content protected device stage.player stage.bus → TakesLine input (bytes_left R.remaining lines.old) (codes "lines") →
+        EndsAs result (λ bad. IfSome input (λ bytes. ((timetable_of bytes).bad ≡ bad)
+        × PrintsTrace (W.contents writer.old) (W.contents writer.new)
+        (StartsOn tracks content protected)
+        (λ _. Unit {0}) device [] (timetable_of bytes))) }
+    ensures disk { (tracks : ℕ) (content : Content) (protected : Bool) (input : Option (List ℕ)) →
+        StandsOn M.seen tracks content protected device stage.player stage.bus → TakesLine input (bytes_left R.remaining lines.old) (codes "lines") →
+        IfOk result (λ after. IfSome input (λ bytes. PrintsTrace (W.contents writer.old) (W.contents writer.new)
+        (StartsOn tracks content protected)
+        (λ m. HoldsDisk (M.seen after).tracks (M.seen after).content m.disk) device [] (timetable_of bytes))) }
+    ensures fault { (tracks : ℕ) (content : Content) (protected : Bool) (input : Option (List ℕ)) →
+        StandsOn M.seen tracks content protected device stage.player stage.bus → TakesLine input (bytes_left R.remaining lines.old) (codes "lines") →
+        OnErr result (IfSome input (λ bytes. PrintsTracePart (W.contents writer.old) (W.contents writer.new)
+        (StartsOn tracks content protected)
+        device [] (timetable_of bytes))) }
+    ensures grows { Grows (W.contents writer.old) (W.contents writer.new) }
+    ensures same_tracks { IfOk result (λ after. (M.seen after).tracks ∷ [] ≡ tracks_in M.seen stage.bus) }
+    ensures image { IfErr result (λ fault. (n : ℕ) → fault ≢ RunFault.Image n) }
+{
+    let mut stage = stage;
+    play_on(&mut stage, device, lines, writer)?;
+    Ok(stage.into_medium())
+}

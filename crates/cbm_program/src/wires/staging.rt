@@ -1,0 +1,100 @@
+//! A drive under a host whose changes are made one at a time, and printed with what comes of them.
+ghost use Rattle.std.specs.Prelude.{◌≡◌, ◌-◌, ◌^◌, ◌<◌, ◌≤◌, ◌∷◌, [], ℕ, IfErr, OnOk, OnErr};
+ghost use Rattle.cbm_channel.specs.Standing.{Kept};
+ghost use Rattle.cbm_drive.specs.Desks as desks;
+ghost use Rattle.cbm_drive.specs.Seats.{Seated};
+ghost use Rattle.cbm_program.specs.Output.{Grows};
+ghost use Rattle.cbm_program.specs.Running.{IsOfWriting};
+ghost use Rattle.cbm_program.specs.Staging.{IsOpen, StandsOn, PlaysOn, PlaysPart, Ends, tracks_in};
+
+use super::event::print_event;
+use crate::fault::RunFault;
+use cbm_channel::Dos;
+use cbm_drive::{Bus, Change, Desk, Drive, Party, Player, Who};
+use cbm_medium::Steady;
+use std::io::Write;
+
+/// How long the drive takes to react, in microseconds.
+const REACTION: u8 = 20;
+
+/// A drive on a cable with a host, and the host's changes, each in its turn.
+#[derive(Drop)]
+pub(crate) struct Stage<M: Steady> {
+    bus: Bus<Desk<M>, 1>,
+    player: Player,
+}
+
+impl<M: Steady> Stage<M> {
+    /// A drive with this medium at power up, with a device number below 31.
+    pub(crate) fn new(medium: M, device: u8) -> Stage<M>
+        requires { device < 31 }
+        ensures open { IsOpen result.player 0 }
+        ensures at { StandsOn M.seen (M.seen medium).tracks (M.seen medium).content (M.seen medium).protected device
+            result.player result.bus }
+        ensures tracks { tracks_in M.seen result.bus ≡ (M.seen medium).tracks ∷ [] }
+    {
+        let desk = Desk::new(Dos::new(medium), device);
+        let party = Party {
+            device,
+            reaction: REACTION,
+        };
+        Stage {
+            bus: Bus::new([Drive::new(desk, party)]),
+            player: Player::new(),
+        }
+    }
+
+    /// The host changes a line: the reactions that are due before come first, and all is printed.
+    pub(crate) fn change<W: Write>(
+        &mut self,
+        change: Change,
+        writer: &mut W,
+    ) -> Result<(), RunFault>
+        requires open { IsOpen self.old.player change.moment }
+        requires moment { change.moment < 2 ^ 59 - 1 }
+        ensures ok { OnOk result (PlaysOn M.seen (W.contents writer.old) (W.contents writer.new) (change ∷ [])
+            self.old.player self.old.bus self.new.player self.new.bus) }
+        ensures open { OnOk result (IsOpen self.new.player change.moment) }
+        ensures err { OnErr result (PlaysPart M.seen (W.contents writer.old) (W.contents writer.new) (change ∷ [])
+            self.old.player self.old.bus) }
+        ensures tracks { tracks_in M.seen self.new.bus ≡ tracks_in M.seen self.old.bus }
+        ensures grows { Grows (W.contents writer.old) (W.contents writer.new) }
+        ensures fault { IfErr result IsOfWriting }
+    {
+        self.player.offer(change).unwrap();
+        'events: while let Some(event) = self.player.next(&mut self.bus, change.moment) {
+            print_event(writer, event)?;
+            if let Who::Host = event.who {
+                return Ok(());
+            }
+        }
+        Ok(())
+    }
+
+    /// The reactions that are due up to an end, in microseconds, happen and are printed.
+    pub(crate) fn end<W: Write>(&mut self, end: u64, writer: &mut W) -> Result<(), RunFault>
+        requires open { IsOpen self.old.player end }
+        requires moment { end < 2 ^ 59 - 1 }
+        ensures ok { OnOk result (Ends M.seen (W.contents writer.old) (W.contents writer.new) end
+            self.old.player self.old.bus self.new.player self.new.bus) }
+        ensures err { OnErr result (PlaysPart M.seen (W.contents writer.old) (W.contents writer.new) []
+            self.old.player self.old.bus) }
+        ensures tracks { tracks_in M.seen self.new.bus ≡ tracks_in M.seen self.old.bus }
+        ensures grows { Grows (W.contents writer.old) (W.contents writer.new) }
+        ensures fault { IfErr result IsOfWriting }
+    {
+        'events: while let Some(event) = self.player.finish(&mut self.bus, end) {
+            print_event(writer, event)?;
+        }
+        Ok(())
+    }
+
+    /// The medium, with all that was written to it.
+    pub(crate) fn into_medium(self) -> M
+        ensures { (x : Seated (desks.Desk (Kept M))) → self.bus.drives ≡ x ∷ [] → result ≡ x.machine.dos.medium }
+    {
+        let Stage { bus, .. } = self;
+        let [drive] = bus.into_drives();
+        drive.into_machine().into_dos().into_medium()
+    }
+}

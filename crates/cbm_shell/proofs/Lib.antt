@@ -1,0 +1,9 @@
+pub mod ReadableLemmas
+pub mod ReadingLemmas
+pub mod PutLemmas
+pub mod SayingLemmas
+pub mod GetLemmas
+pub mod ChangeLemmas
+pub mod ImageLemmas
+pub mod ConvertLemmas
+pub mod SectorLemmas

@@ -1,0 +1,16 @@
+use Rattle.std.proofs.Common.{subst}
+use Rattle.std.specs.Prelude.{MatchResult}
+use Rattle.cbm_channel.specs.Machines.{start}
+use Rattle.cbm_shell.specs.Listing.{IsSent, IsUnlisted}
+use Rattle.cbm_shell.specs.Images.{IsHidden}
+use Rattle.cbm_shell.proofs.ImageLemmas.{opened_holds, same_start, or_open_fault}
+use Rattle.cbm_shell.proofs.images.raw_directory_in.Goals as goal
+
+pub returns : goal.returns
+returns g c = λ d h.
+    let seen = g.I.Medium.seen c.in_ok-opened.field-0 in
+    let opened = c.in_ok-opened.ensures.ok in
+    let m = start d seen.protected seen.tracks in
+    let stands = c.new-dos.ensures.stands d (opened_holds c.args.image.now seen d opened h) in
+    subst (λ m. MatchResult c.raw_list.result (λ v. IsSent c.args.pattern.now m v.items) (IsHidden c.args.pattern.now m)) (same_start c.args.image.now seen d opened)
+    (or_open_fault c.raw_list.result (λ v. IsSent c.args.pattern.now m v.items) (IsUnlisted c.args.pattern.now m) (c.raw_list.ensures m stands))

@@ -1,0 +1,14 @@
+use Rattle.std.proofs.Common.{◌≡◌, ◌≤◌}
+use Rattle.cbm_volume.specs.Slots.{behind, directory_of, left_of, most_left}
+use Rattle.cbm_volume.specs.Map.{geometry_of}
+use Rattle.cbm_shell.proofs.looking.slots.entries_of.Given as goal
+
+abbrev pub invariant-slots : goal.invariant-slots
+invariant-slots g l = record {
+  tracks : l.slots.tracks ≤ (g.M.Medium.seen l.volume).tracks;
+  same : behind l.entries.items (left_of (g.M.Medium.seen l.volume).content l.slots)
+      ≡ directory_of (geometry_of (g.M.Medium.seen l.volume).tracks (g.M.Medium.seen l.volume).content) (g.M.Medium.seen l.volume).content;
+}
+
+abbrev pub decreases-slots : goal.decreases-slots
+decreases-slots g l = most_left l.slots

@@ -1,0 +1,54 @@
+-- Changes of a disk, as the drive makes them.
+use Rattle.std.specs.Prelude.{ℕ, ◌≡◌, ◌≤◌, ◌<◌, ◌⊎◌}
+use Rattle.cbm_medium.specs.Content.{Content}
+use Rattle.cbm_volume.specs.Map.{geometry_of}
+use Rattle.cbm_volume.specs.check.WholeDisk.{DiskFault}
+use Rattle.cbm_channel.specs.declared.Status.{Status}
+use Rattle.cbm_channel.specs.Codes.{code_number}
+use Rattle.cbm_channel.specs.Machines.{Machine}
+use Rattle.cbm_channel.specs.Closing.{close}
+use Rattle.cbm_channel.specs.Calls.{after_open}
+use Rattle.cbm_program.specs.Scripts.{hear}
+use Rattle.cbm_shell.specs.declared.changing.Change.{Change}
+use Rattle.cbm_shell.specs.declared.changing.Change.TheVariants.{Command, File}
+use Rattle.cbm_shell.specs.declared.fault.ShellFault.{ShellFault}
+use Rattle.cbm_shell.specs.declared.fault.ShellFault.TheVariants as fault
+
+-- the machine behind the OPEN that a change begins with
+abbrev pub begun : Change → Machine → Machine
+begun (Command text) m = after_open 15 text.now m
+begun (File text bytes) m = after_open 2 text.now m
+
+-- THE MACHINE BEHIND A CHANGE: a command is done by its OPEN; a file is opened, given its bytes, and closed.
+abbrev pub after_change : Change → Machine → Machine
+after_change (Command text) m = begun (Command text) m
+after_change (File text bytes) m = close 2 (hear 2 bytes.now (begun (File text bytes) m))
+
+-- a status below 20 tells no error
+abbrev pub IsFine : Status → Type 0
+IsFine s = code_number s.code < 20
+
+-- The drive refused a change: this is its status behind the OPEN or at the end, and it tells an error.
+pub record IsRefusedBy (change : Change) (m : Machine) (s : Status) : Type 0 where
+  pub told : (s ≡ (begun change m).status) ⊎ (s ≡ (after_change change m).status)
+  pub error : 20 ≤ code_number s.code
+
+-- Why a machine's change wasn't made.
+abbrev pub IsUndone : Change → Machine → ShellFault → Type 0
+IsUndone change m (fault.Refused s) = IsRefusedBy change m s
+IsUndone change m fault.Memory = ⊥
+IsUndone change m (fault.Image n) = ⊥
+IsUndone change m (fault.Unsound u) = ⊥
+IsUndone change m (fault.Trouble t) = ⊥
+IsUndone change m fault.NotFound = ⊥
+IsUndone change m fault.NotClosed = ⊥
+IsUndone change m fault.Mistaken = ⊥
+
+-- the fault is that the disk isn't sound, or the machine's
+abbrev pub IsFaultOf : ℕ → Content → ShellFault → Type 0
+IsFaultOf tracks content (fault.Unsound u) = DiskFault (geometry_of tracks content) content u
+IsFaultOf tracks content f = Unit {0}
+
+-- the drive refused it
+abbrev pub IsRefusal : ShellFault → Type 0
+IsRefusal f = (s : Status) × (f ≡ fault.Refused s)

@@ -1,0 +1,68 @@
+-- An image of the other format, and what it doesn't hold of the one that it was made from.
+use Rattle.std.specs.Prelude.{ℕ, ◌≡◌, ◌⊎◌, ◌+◌, ◌*◌, ◌%◌, ◌==◌, ◌&&◌, ◌||◌, nat_lt, not, Bool, false, List, [], ◌∷◌, length, slice_index, slice_range, Ok, Err}
+use Rattle.cbm_medium.specs.Place.{Place, Has, directory_head}
+use Rattle.cbm_medium.specs.Content.{Cell, Content}
+use Rattle.cbm_medium.specs.declared.fault.Fault.{Fault}
+use Rattle.cbm_track.specs.Circle.{each_below}
+use Rattle.cbm_g64.specs.Tracks.{or_zeros}
+use Rattle.cbm_program.specs.declared.kind.Kind.{Kind}
+use Rattle.cbm_program.specs.declared.kind.Kind.TheVariants.{D64, G64}
+use Rattle.cbm_program.specs.Images.{kind_of, content_of}
+use Rattle.cbm_shell.specs.declared.fault.ShellFault.{ShellFault}
+use Rattle.cbm_shell.specs.declared.fault.ShellFault.TheVariants as fault
+use Rattle.cbm_shell.specs.Images.{IsOpenFault}
+use Rattle.cbm_shell.specs.Sectors.{faults_in}
+
+-- the other format
+abbrev pub other : Kind → Kind
+other D64 = G64
+other G64 = D64
+
+-- the id that 18/0 tells; zeros where it doesn't read
+abbrev pub id_in : Cell → List ℕ
+id_in (Ok bytes) = slice_range bytes 162 164
+id_in (Err code) = 0 ∷ 0 ∷ []
+
+abbrev pub told_id : Content → List ℕ
+told_id content = id_in (content directory_head)
+
+-- what the sectors of an image hold
+abbrev pub held_by : List ℕ → Content
+held_by image = content_of (kind_of image) image
+
+-- THE NEW IMAGE is of the other format. Each of the 683 sectors that reads in the old image is in the new one byte for byte, and those that don't are zeros.
+pub record IsConverted (old new : List ℕ) : Type 0 where
+  pub opens : kind_of new ≡ other (kind_of old)
+  pub kept : (p : Place) → Has 35 p → held_by new p ≡ or_zeros (held_by old p)
+
+-- ---- what is lost
+
+-- an entry of a G64's table is that of one of the tracks 1 to 35, or has no track
+abbrev pub is_zero_at : List ℕ → ℕ → Bool
+is_zero_at file i = (slice_index file i == 0) && ((slice_index file (i + 1) == 0) && ((slice_index file (i + 2) == 0) && (slice_index file (i + 3) == 0)))
+
+unfoldable pub is_plain : List ℕ → ℕ → Bool
+is_plain file i = ((i % 2 == 0) && nat_lt i 70) || is_zero_at file (12 + 4 * i)
+
+-- an image has tracks 36 to 40; a G64, half tracks or tracks beyond 35
+abbrev pub has_more_tracks : Kind → List ℕ → Bool
+has_more_tracks D64 image = length image == 196608
+has_more_tracks G64 image = not (each_below (is_plain image) (slice_index image 9))
+
+-- an image has error bytes, and one of them isn't 1
+unfoldable pub is_good : List ℕ → ℕ → Bool
+is_good image i = slice_index image (174848 + i) == 1
+
+abbrev pub has_error_bytes : Kind → List ℕ → Bool
+has_error_bytes D64 image = (length image == 175531) && not (each_below (is_good image) 683)
+has_error_bytes G64 image = false
+
+-- WHAT THE NEW IMAGE LACKS is told: the sectors that don't read, more tracks, error bytes.
+pub record AreLosses (image : List ℕ) (unreadable : List Fault) (more_tracks error_bytes : Bool) : Type 0 where
+  pub faults : unreadable ≡ faults_in (held_by image) 35
+  pub tracks : more_tracks ≡ has_more_tracks (kind_of image) image
+  pub errors : error_bytes ≡ has_error_bytes (kind_of image) image
+
+-- why an image isn't converted: its own fault or want of memory, or the new one would be taken for one of the old format
+abbrev pub IsConvertFault : List ℕ → ShellFault → Type 0
+IsConvertFault image f = IsOpenFault image f ⊎ (f ≡ fault.Mistaken)

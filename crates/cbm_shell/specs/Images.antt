@@ -1,0 +1,73 @@
+-- What is done with the bytes of an image.
+use Rattle.std.specs.Prelude.{ℕ, ◌≡◌, List, false, Some, Result, Ok, Err}
+use Rattle.cbm_medium.specs.Content.{Content}
+use Rattle.cbm_medium.specs.Seen.{Seen}
+use Rattle.cbm_file.specs.Files.{Disk}
+use Rattle.cbm_file.specs.Changes.{validated}
+use Rattle.cbm_volume.specs.Map.{geometry_of}
+use Rattle.cbm_volume.specs.Layouts.{Layout, Sound}
+use Rattle.cbm_volume.specs.check.WholeDisk.{DiskFault}
+use Rattle.cbm_volume.specs.declared.Unsound.{Unsound}
+use Rattle.cbm_channel.specs.Machines.{Machine}
+use Rattle.cbm_program.specs.declared.kind.Kind.{Kind}
+use Rattle.cbm_program.specs.Images.{kind_of, image_fault, tracks_of, content_of, ImageHolds}
+use Rattle.cbm_shell.specs.declared.changing.Change.{Change}
+use Rattle.cbm_shell.specs.declared.fault.ShellFault.{ShellFault}
+use Rattle.cbm_shell.specs.declared.fault.ShellFault.TheVariants as fault
+use Rattle.cbm_shell.specs.Reading.{IsGetFault}
+use Rattle.cbm_shell.specs.Listing.{IsUnlisted}
+use Rattle.cbm_shell.specs.Changing.{IsUndone}
+
+-- the disk of an image: it shows what the image is, and can be written
+pub record IsOpened (image : List ℕ) (seen : Seen) : Type 0 where
+  pub same_tracks : seen.tracks ≡ tracks_of (kind_of image) image
+  pub same_content : seen.content ≡ content_of (kind_of image) image
+  pub free : seen.protected ≡ false
+
+-- an image of this format is what the disk shows
+pub record IsSaved (kind : Kind) (image : List ℕ) (seen : Seen) : Type 0 where
+  pub same_tracks : seen.tracks ≡ tracks_of kind image
+  pub same_content : seen.content ≡ content_of kind image
+
+-- why an image isn't opened: its own fault, or want of memory
+abbrev pub IsOpenFault : List ℕ → ShellFault → Type 0
+IsOpenFault image fault.Memory = Unit {0}
+IsOpenFault image (fault.Image n) = image_fault (kind_of image) image ≡ Some n
+IsOpenFault image (fault.Unsound u) = ⊥
+IsOpenFault image (fault.Refused s) = ⊥
+IsOpenFault image (fault.Trouble t) = ⊥
+IsOpenFault image fault.NotFound = ⊥
+IsOpenFault image fault.NotClosed = ⊥
+IsOpenFault image fault.Mistaken = ⊥
+
+-- an image is refused or memory runs out, or else it is this fault
+abbrev pub OrOpenFault : (ShellFault → Type 0) → ShellFault → Type 0
+OrOpenFault P fault.Memory = Unit {0}
+OrOpenFault P (fault.Image n) = Unit {0}
+OrOpenFault P (fault.Unsound u) = P (fault.Unsound u)
+OrOpenFault P (fault.Refused s) = P (fault.Refused s)
+OrOpenFault P (fault.Trouble t) = P (fault.Trouble t)
+OrOpenFault P fault.NotFound = P fault.NotFound
+OrOpenFault P fault.NotClosed = P fault.NotClosed
+OrOpenFault P fault.Mistaken = P fault.Mistaken
+
+-- why a change gives no image, a file isn't got, or a directory isn't listed
+abbrev pub IsFailed : Change → Machine → ShellFault → Type 0
+IsFailed change m = OrOpenFault (IsUndone change m)
+
+abbrev pub IsLost : Disk → List ℕ → ShellFault → Type 0
+IsLost d pattern = OrOpenFault (IsGetFault d pattern)
+
+abbrev pub IsHidden : List ℕ → Machine → ShellFault → Type 0
+IsHidden pattern m = OrOpenFault (IsUnlisted pattern m)
+
+-- the disk is sound, or this is its first fault
+abbrev pub IsChecked : ℕ → Content → Result (Unit {0}) Unsound → Type 0
+IsChecked tracks content (Ok _) = (l : Layout) × Sound (geometry_of tracks content) content l
+IsChecked tracks content (Err u) = DiskFault (geometry_of tracks content) content u
+
+-- the image holds a disk that VALIDATE leaves as it is: each file is closed, and each block is free or a file's
+pub record IsInOrder (kind : Kind) (image : List ℕ) : Type 0 where
+  pub disk : Disk
+  pub holds : ImageHolds kind image disk
+  pub still : disk ≡ validated disk

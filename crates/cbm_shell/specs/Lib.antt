@@ -1,0 +1,10 @@
+pub mod Readable
+pub mod Reading
+pub mod Listing
+pub mod Checking
+pub mod Changing
+pub mod Images
+pub mod Making
+pub mod Sectors
+pub mod Converting
+pub mod Mapping

@@ -1,0 +1,43 @@
+-- The directory as readable text.
+use Rattle.std.specs.Prelude.{ℕ, ◌≡◌, ◌≢◌, List, [], ◌∷◌, ◌++◌, codes}
+use Rattle.cbm_channel.specs.Machines.{Machine}
+use Rattle.cbm_channel.specs.Codes.{code_number}
+use Rattle.cbm_channel.specs.Calls.{after_open}
+use Rattle.cbm_program.specs.Scripts.{talked}
+use Rattle.cbm_shell.specs.declared.fault.ShellFault.{ShellFault}
+use Rattle.cbm_shell.specs.declared.fault.ShellFault.TheVariants as fault
+use Rattle.cbm_shell.specs.Readable.{readable}
+
+-- what an OPEN of the directory says; without a pattern all files are meant
+abbrev pub list_text : List ℕ → List ℕ
+list_text [] = codes "$"
+list_text (c ∷ pattern) = codes "$0:" ++ (c ∷ pattern)
+
+-- the machine behind that OPEN
+abbrev pub opened : List ℕ → Machine → Machine
+opened pattern m = after_open 0 (list_text pattern) m
+
+-- what the machine then sends: a listing has at most 4,672 bytes
+unfoldable pub sent : Machine → List ℕ
+sent m = (talked 0 5000 m).bytes
+
+-- The OPEN isn't refused, and these are the bytes that the machine sends.
+pub record IsSent (pattern : List ℕ) (m : Machine) (bytes : List ℕ) : Type 0 where
+  pub fine : code_number (opened pattern m).status.code ≡ 0
+  pub same : bytes ≡ sent (opened pattern m)
+
+-- The OPEN isn't refused, and these are the lines that the machine sends, made readable.
+pub record IsListed (pattern : List ℕ) (m : Machine) (lines : List ℕ) : Type 0 where
+  pub fine : code_number (opened pattern m).status.code ≡ 0
+  pub same : lines ≡ readable (sent (opened pattern m))
+
+-- The machine refused the OPEN with this status, or memory ran out.
+abbrev pub IsUnlisted : List ℕ → Machine → ShellFault → Type 0
+IsUnlisted pattern m (fault.Refused s) = (s ≡ (opened pattern m).status) × (code_number s.code ≢ 0)
+IsUnlisted pattern m fault.Memory = Unit {0}
+IsUnlisted pattern m (fault.Image n) = ⊥
+IsUnlisted pattern m (fault.Unsound u) = ⊥
+IsUnlisted pattern m (fault.Trouble t) = ⊥
+IsUnlisted pattern m fault.NotFound = ⊥
+IsUnlisted pattern m fault.NotClosed = ⊥
+IsUnlisted pattern m fault.Mistaken = ⊥

@@ -1,0 +1,36 @@
+-- New images of empty disks.
+use Rattle.std.specs.Prelude.{ℕ, ◌≡◌, List, [], ◌∷◌, ◌++◌, replicate, None}
+use Rattle.cbm_file.specs.Files.{Disk, blocks_on}
+use Rattle.cbm_file.specs.Padding.{padded}
+use Rattle.cbm_program.specs.declared.kind.Kind.{Kind}
+use Rattle.cbm_program.specs.declared.kind.Kind.TheVariants as kind
+use Rattle.cbm_program.specs.Images.{kind_of, ImageHolds}
+use Rattle.cbm_shell.specs.declared.making.Form.{Form}
+use Rattle.cbm_shell.specs.declared.making.Form.TheVariants as form
+
+-- AN EMPTY DISK of so many tracks, with a title and an id: eight empty slots, and all blocks for files are free
+abbrev pub empty_disk : ℕ → List ℕ → List ℕ → Disk
+empty_disk tracks title id = record {
+  title = padded title;
+  mark = id ++ 160 ∷ 50 ∷ 65 ∷ [];
+  slots = replicate 8 None;
+  room = 17;
+  free = blocks_on tracks;
+  total = blocks_on tracks;
+}
+
+-- the format of a new image, and how many tracks it has
+abbrev pub kind_in : Form → Kind
+kind_in form.D64 = kind.D64
+kind_in form.LongD64 = kind.D64
+kind_in form.G64 = kind.G64
+
+abbrev pub tracks_on : Form → ℕ
+tracks_on form.D64 = 35
+tracks_on form.LongD64 = 40
+tracks_on form.G64 = 35
+
+-- the image is one of its format, is sound, and holds the empty disk
+pub record IsNew (form : Form) (title id image : List ℕ) : Type 0 where
+  pub opens : kind_of image ≡ kind_in form
+  pub holds : ImageHolds (kind_in form) image (empty_disk (tracks_on form) title id)

@@ -1,0 +1,47 @@
+-- Taking a file out of a disk.
+use Rattle.std.specs.Prelude.{ℕ, ◌≡◌, ◌⊎◌, List, true, false, Option, Some, None, Ok, Err}
+use Rattle.cbm_medium.specs.declared.fault.Trouble.{Trouble}
+use Rattle.cbm_file.specs.declared.file_type.FileType.TheVariants.{Rel}
+use Rattle.cbm_file.specs.Types.{is_same_type}
+use Rattle.cbm_file.specs.Files.{File, Disk, bytes_in}
+use Rattle.cbm_channel.specs.declared.Code.TheVariants.{FileNotFound}
+use Rattle.cbm_channel.specs.Finding.{found}
+use Rattle.cbm_shell.specs.declared.fault.ShellFault.{ShellFault}
+use Rattle.cbm_shell.specs.declared.fault.ShellFault.TheVariants as fault
+
+-- Reading a chain failed: memory ran out, or this is the trouble that cuts the chain off.
+abbrev pub IsReadFault : Option Trouble → ShellFault → Type 0
+IsReadFault why f = (f ≡ fault.Memory) ⊎ ((t : Trouble) × (f ≡ fault.Trouble t) × (why ≡ Some t))
+
+-- These are the bytes of the first file that matches, which is closed. What is said of its bytes is said of a file without records.
+pub record Gets (d : Disk) (pattern bytes : List ℕ) : Type 0 where
+  pub slot : ℕ
+  pub file : File
+  pub first : found d pattern None ≡ Ok (slot, file)
+  pub closed : file.closed ≡ true
+  pub body : is_same_type Rel file.kind ≡ false → bytes_in file.body ≡ bytes
+
+-- The first file that matches isn't closed.
+pub record IsUnclosed (d : Disk) (pattern : List ℕ) : Type 0 where
+  pub slot : ℕ
+  pub file : File
+  pub first : found d pattern None ≡ Ok (slot, file)
+  pub closed : file.closed ≡ false
+
+-- The first file that matches has records.
+pub record HasRecords (d : Disk) (pattern : List ℕ) : Type 0 where
+  pub slot : ℕ
+  pub file : File
+  pub first : found d pattern None ≡ Ok (slot, file)
+  pub relative : is_same_type Rel file.kind ≡ true
+
+-- Why a file isn't got from a disk. A sector that doesn't read isn't met in a file without records.
+abbrev pub IsGetFault : Disk → List ℕ → ShellFault → Type 0
+IsGetFault d pattern fault.Memory = Unit {0}
+IsGetFault d pattern fault.NotFound = found d pattern None ≡ Err FileNotFound
+IsGetFault d pattern fault.NotClosed = IsUnclosed d pattern
+IsGetFault d pattern (fault.Trouble t) = HasRecords d pattern
+IsGetFault d pattern (fault.Image n) = ⊥
+IsGetFault d pattern (fault.Unsound u) = ⊥
+IsGetFault d pattern (fault.Refused s) = ⊥
+IsGetFault d pattern fault.Mistaken = ⊥

@@ -1,0 +1,104 @@
+//! Changes of a disk, as the drive makes them.
+ghost use Rattle.std.specs.Prelude.{◌≡◌, ◌≤◌, MatchResult, IfErr, IfOk, IsOk, OnOk};
+ghost use Rattle.cbm_channel.specs.Codes.{code_number};
+ghost use Rattle.cbm_channel.specs.Machines.{Machine};
+ghost use Rattle.cbm_channel.specs.Standing.{Stands};
+ghost use Rattle.cbm_channel.specs.Going.{KeepsMedium};
+ghost use Rattle.cbm_channel.specs.Machines.{start};
+ghost use Rattle.cbm_file.specs.Files.{Disk};
+ghost use Rattle.cbm_volume.specs.Map.{geometry_of};
+ghost use Rattle.cbm_volume.specs.Layouts.{Layout, Sound};
+ghost use Rattle.cbm_volume.specs.Holding.{HoldsDisk};
+ghost use Rattle.cbm_shell.specs.Changing.{after_change, IsFine, IsUndone, IsRefusal, IsFaultOf};
+
+use crate::fault::ShellFault;
+use crate::hearing::hear;
+use cbm_channel::{Dos, Status};
+use cbm_medium::{Medium, Steady};
+use cbm_volume::Volume;
+
+/// The channel of commands.
+const COMMANDS: u8 = 15;
+
+/// The channel on which a file is written.
+const WRITING: u8 = 2;
+
+/// The first code of a status that tells an error.
+const ERRORS: u8 = 20;
+
+/// A change of a disk.
+#[derive(Clone, Copy)]
+pub enum Change<'a> {
+    /// A command for the drive, such as `R0:NEW=OLD`.
+    Command(&'a [u8]),
+    /// The text of an OPEN that writes a file, such as `0:NAME,P,W`, and the file's bytes.
+    File(&'a [u8], &'a [u8]),
+}
+
+/// The status if it tells no error, else the refusal.
+fn told(status: Status) -> Result<(), ShellFault>
+    ensures { MatchResult result (λ _. IsFine status) (λ fault. (fault ≡ ShellFault.Refused status) × (20 ≤ code_number status.code)) }
+{
+    if status.code.number() < ERRORS {
+        Ok(())
+    } else {
+        Err(ShellFault::Refused(status))
+    }
+}
+
+/// Makes a change on a drive.
+fn apply<M: Steady>(dos: &mut Dos<M>, change: &Change<'_>) -> Result<(), ShellFault>
+    ensures made { (m : Machine) → Stands M.seen dos.old m → MatchResult result
+        (λ _. IsFine (after_change change.now m).status × Stands M.seen dos.new (after_change change.now m))
+        (IsUndone change.now m) }
+    ensures refused { IfErr result IsRefusal }
+    ensures medium { KeepsMedium (M.seen dos.old.medium) (M.seen dos.new.medium) }
+{
+    match change {
+        Change::Command(text) => {
+            dos.open(COMMANDS, text);
+            told(dos.status())
+        }
+        Change::File(text, bytes) => {
+            dos.open(WRITING, text);
+            told(dos.status())?;
+            hear(dos, WRITING, bytes);
+            dos.close(WRITING);
+            told(dos.status())
+        }
+    }
+}
+
+/// Refuses a disk that isn't sound.
+fn require_sound<M: Medium>(volume: &Volume<M>) -> Result<(), ShellFault>
+    ensures sound { let now = M.seen volume.now in
+        OnOk result ((l : Layout) × Sound (geometry_of now.tracks now.content) now.content l) }
+    ensures exact { let now = M.seen volume.now in (d : Disk) → HoldsDisk now.tracks now.content d → IsOk result }
+    ensures fault { let now = M.seen volume.now in IfErr result (IsFaultOf now.tracks now.content) }
+{
+    match volume.check() {
+        Ok(()) => Ok(()),
+        Err(unsound) => Err(ShellFault::Unsound(unsound)),
+    }
+}
+
+/// Makes a change on a disk, if it is sound. Errors: `Unsound`, and then nothing was changed; `Refused` with the drive's
+/// status.
+pub(crate) fn changed<M: Steady + Drop>(medium: M, change: &Change<'_>) -> Result<M, ShellFault>
+    ensures made { let old = M.seen medium in (d : Disk) → HoldsDisk old.tracks old.content d →
+        let m = start d old.protected old.tracks in MatchResult result
+        (λ after. IsFine (after_change change.now m).status
+        × HoldsDisk (M.seen after).tracks (M.seen after).content (after_change change.now m).disk)
+        (IsUndone change.now m) }
+    // Of any disk:
+    ensures sound { let old = M.seen medium in
+        OnOk result ((l : Layout) × Sound (geometry_of old.tracks old.content) old.content l) }
+    ensures fault { let old = M.seen medium in IfErr result (IsFaultOf old.tracks old.content) }
+    ensures same_tracks { IfOk result (λ after. (M.seen after).tracks ≡ (M.seen medium).tracks) }
+{
+    let volume = Volume::open(medium);
+    require_sound(&volume)?;
+    let mut dos = Dos::new(volume.into_medium());
+    apply(&mut dos, change)?;
+    Ok(dos.into_medium())
+}

@@ -1,0 +1,210 @@
+//! What is done with the bytes of an image.
+ghost use Rattle.std.specs.Prelude.{◌≡◌, false, IfErr, IfOk, OnOk, MatchResult};
+ghost use Rattle.cbm_file.specs.Files.{Disk};
+ghost use Rattle.cbm_channel.specs.Machines.{start};
+ghost use Rattle.cbm_volume.specs.Map.{geometry_of};
+ghost use Rattle.cbm_volume.specs.Layouts.{Layout, Sound};
+ghost use Rattle.cbm_program.specs.Images.{kind_of, tracks_of, content_of, ImageHolds};
+ghost use Rattle.cbm_shell.specs.Reading.{Gets};
+ghost use Rattle.cbm_shell.specs.Listing.{IsListed, IsSent};
+ghost use Rattle.cbm_shell.specs.Changing.{after_change, IsFine};
+ghost use Rattle.cbm_shell.specs.Images.{IsOpened, IsSaved, IsOpenFault, IsFailed, IsLost, IsHidden, IsChecked, IsInOrder};
+
+use crate::changing::{Change, changed};
+use crate::fault::ShellFault;
+use crate::listing::{list, raw_list};
+use crate::reading::get;
+use cbm_channel::Dos;
+use cbm_d64::D64Disk;
+use cbm_g64::G64Disk;
+use cbm_program::{DiskImage, Kind, RunFault, kind_of};
+use cbm_volume::{Unsound, Volume};
+use std::alloc::Global;
+
+/// The disk of an image. Errors: `Image` with the number of the format's first fault, `Memory`.
+pub(crate) fn opened<I: DiskImage>(alloc: Global, image: &[u8]) -> Result<I, ShellFault>
+    requires { kind_of image.now ≡ I.kind }
+    ensures ok { IfOk result (λ disk. IsOpened image.now (I.seen disk)) }
+    ensures err { IfErr result (IsOpenFault image.now) }
+{
+    match I::open(alloc, image, false) {
+        Ok(disk) => Ok(disk),
+        Err(RunFault::Image(number)) => Err(ShellFault::Image(number)),
+        Err(_) => Err(ShellFault::Memory),
+    }
+}
+
+/// The image of a disk. The one error is `Memory`.
+pub(crate) fn saved<I: DiskImage>(alloc: Global, disk: &I) -> Result<Vec<u8>, ShellFault>
+    ensures ok { IfOk result (λ v. IsSaved I.kind v.items (I.seen disk.now)) }
+    ensures err { IfErr result (λ fault. fault ≡ ShellFault.Memory) }
+{
+    disk.save(alloc).map_err(|_| ShellFault::Memory)
+}
+
+/// Makes a change on the disk of an image of one format.
+fn change_in<I: DiskImage + Drop>(
+    alloc: Global,
+    image: &[u8],
+    change: &Change<'_>,
+) -> Result<Vec<u8>, ShellFault>
+    requires { kind_of image.now ≡ I.kind }
+    ensures made { let kind = kind_of image.now in (d : Disk) → ImageHolds kind image.now d →
+        let m = start d false (tracks_of kind image.now) in MatchResult result
+        (λ v. IsFine (after_change change.now m).status × ImageHolds kind v.items (after_change change.now m).disk)
+        (IsFailed change.now m) }
+    ensures sound { let kind = kind_of image.now in
+        let tracks = geometry_of (tracks_of kind image.now) (content_of kind image.now) in
+        OnOk result ((l : Layout) × Sound tracks (content_of kind image.now) l) }
+{
+    let disk = opened::<I>(alloc, image)?;
+    let disk = changed(disk, change)?;
+    saved(alloc, &disk)
+}
+
+/// Makes a change on the disk of an image, and gives the image as it is then. Errors: `Image`; `Unsound`, with what is
+/// wrong first; `Refused`, with the drive's status; `Memory`.
+pub fn change(alloc: Global, image: &[u8], change: &Change<'_>) -> Result<Vec<u8>, ShellFault>
+    ensures made { let kind = kind_of image.now in (d : Disk) → ImageHolds kind image.now d →
+        let m = start d false (tracks_of kind image.now) in MatchResult result
+        (λ v. IsFine (after_change change.now m).status × ImageHolds kind v.items (after_change change.now m).disk)
+        (IsFailed change.now m) }
+    // An image that isn't sound gives no new one.
+    ensures sound { let kind = kind_of image.now in
+        let tracks = geometry_of (tracks_of kind image.now) (content_of kind image.now) in
+        OnOk result ((l : Layout) × Sound tracks (content_of kind image.now) l) }
+{
+    match kind_of(image) {
+        Kind::D64 => change_in::<D64Disk>(alloc, image, change),
+        Kind::G64 => change_in::<G64Disk>(alloc, image, change),
+    }
+}
+
+/// The first file that matches in an image of one format.
+fn file_in<I: DiskImage + Drop>(
+    alloc: Global,
+    image: &[u8],
+    pattern: &[u8],
+) -> Result<Vec<u8>, ShellFault>
+    requires { kind_of image.now ≡ I.kind }
+    ensures { (d : Disk) → ImageHolds (kind_of image.now) image.now d →
+        MatchResult result (λ v. Gets d pattern.now v.items) (IsLost d pattern.now) }
+{
+    let volume = Volume::open(opened::<I>(alloc, image)?);
+    get(alloc, &volume, pattern)
+}
+
+/// Takes the first file that matches a pattern out of an image. Errors: `Image`, `NotFound`, `NotClosed`, `Trouble`,
+/// `Memory`.
+pub fn file(alloc: Global, image: &[u8], pattern: &[u8]) -> Result<Vec<u8>, ShellFault>
+    ensures { (d : Disk) → ImageHolds (kind_of image.now) image.now d →
+        MatchResult result (λ v. Gets d pattern.now v.items) (IsLost d pattern.now) }
+{
+    match kind_of(image) {
+        Kind::D64 => file_in::<D64Disk>(alloc, image, pattern),
+        Kind::G64 => file_in::<G64Disk>(alloc, image, pattern),
+    }
+}
+
+/// The directory of an image of one format.
+fn directory_in<I: DiskImage + Drop>(
+    alloc: Global,
+    image: &[u8],
+    pattern: &[u8],
+) -> Result<Vec<u8>, ShellFault>
+    requires { kind_of image.now ≡ I.kind }
+    ensures { let kind = kind_of image.now in (d : Disk) → ImageHolds kind image.now d →
+        let m = start d false (tracks_of kind image.now) in
+        MatchResult result (λ v. IsListed pattern.now m v.items) (IsHidden pattern.now m) }
+{
+    let mut dos = Dos::new(opened::<I>(alloc, image)?);
+    list(alloc, &mut dos, pattern)
+}
+
+/// The directory of an image as readable text, with the files that match a pattern; an empty pattern asks for all.
+/// Errors: `Image`; `Refused`, with the drive's status; `Memory`.
+pub fn directory(alloc: Global, image: &[u8], pattern: &[u8]) -> Result<Vec<u8>, ShellFault>
+    ensures { let kind = kind_of image.now in (d : Disk) → ImageHolds kind image.now d →
+        let m = start d false (tracks_of kind image.now) in
+        MatchResult result (λ v. IsListed pattern.now m v.items) (IsHidden pattern.now m) }
+{
+    match kind_of(image) {
+        Kind::D64 => directory_in::<D64Disk>(alloc, image, pattern),
+        Kind::G64 => directory_in::<G64Disk>(alloc, image, pattern),
+    }
+}
+
+/// The directory of an image of one format, as the drive sends it.
+fn raw_directory_in<I: DiskImage + Drop>(
+    alloc: Global,
+    image: &[u8],
+    pattern: &[u8],
+) -> Result<Vec<u8>, ShellFault>
+    requires { kind_of image.now ≡ I.kind }
+    ensures { let kind = kind_of image.now in (d : Disk) → ImageHolds kind image.now d →
+        let m = start d false (tracks_of kind image.now) in
+        MatchResult result (λ v. IsSent pattern.now m v.items) (IsHidden pattern.now m) }
+{
+    let mut dos = Dos::new(opened::<I>(alloc, image)?);
+    raw_list(alloc, &mut dos, pattern)
+}
+
+/// The directory of an image as the drive sends it, a BASIC program, with the files that match a pattern; an empty pattern
+/// asks for all. Errors: `Image`; `Refused`, with the drive's status; `Memory`.
+pub fn raw_directory(alloc: Global, image: &[u8], pattern: &[u8]) -> Result<Vec<u8>, ShellFault>
+    ensures { let kind = kind_of image.now in (d : Disk) → ImageHolds kind image.now d →
+        let m = start d false (tracks_of kind image.now) in
+        MatchResult result (λ v. IsSent pattern.now m v.items) (IsHidden pattern.now m) }
+{
+    match kind_of(image) {
+        Kind::D64 => raw_directory_in::<D64Disk>(alloc, image, pattern),
+        Kind::G64 => raw_directory_in::<G64Disk>(alloc, image, pattern),
+    }
+}
+
+/// What a check says of an image of one format.
+fn check_in<I: DiskImage + Drop>(
+    alloc: Global,
+    image: &[u8],
+) -> Result<Result<(), Unsound>, ShellFault>
+    requires { kind_of image.now ≡ I.kind }
+    ensures { let kind = kind_of image.now in
+        IfOk result (IsChecked (tracks_of kind image.now) (content_of kind image.now)) }
+{
+    let volume = Volume::open(opened::<I>(alloc, image)?);
+    Ok(volume.check())
+}
+
+/// Whether the disk of an image is sound, or what is wrong with it first. Errors: `Image`, `Memory`.
+pub fn check(alloc: Global, image: &[u8]) -> Result<Result<(), Unsound>, ShellFault>
+    ensures { let kind = kind_of image.now in
+        IfOk result (IsChecked (tracks_of kind image.now) (content_of kind image.now)) }
+{
+    match kind_of(image) {
+        Kind::D64 => check_in::<D64Disk>(alloc, image),
+        Kind::G64 => check_in::<G64Disk>(alloc, image),
+    }
+}
+
+/// Puts the disk of an image of one format in order.
+fn validate_in<I: DiskImage + Drop>(alloc: Global, image: &[u8]) -> Result<Vec<u8>, ShellFault>
+    requires { kind_of image.now ≡ I.kind }
+    ensures { IfOk result (λ v. IsInOrder (kind_of image.now) v.items) }
+{
+    let mut volume = Volume::open(opened::<I>(alloc, image)?);
+    volume.validate()?;
+    let disk = volume.into_medium();
+    saved(alloc, &disk)
+}
+
+/// Puts the disk of an image in order, also one that isn't sound: slots of files that were never closed become empty, and
+/// each block is free or a file's. Errors: `Image`; `Trouble`, with what can't be mended first; `Memory`.
+pub fn validate(alloc: Global, image: &[u8]) -> Result<Vec<u8>, ShellFault>
+    // The new image is sound, and putting it in order again changes nothing.
+    ensures { IfOk result (λ v. IsInOrder (kind_of image.now) v.items) }
+{
+    match kind_of(image) {
+        Kind::D64 => validate_in::<D64Disk>(alloc, image),
+        Kind::G64 => validate_in::<G64Disk>(alloc, image),
+    }
+}

@@ -1,0 +1,120 @@
+//! Looking into the bytes of an image.
+ghost use Rattle.std.specs.Prelude.{◌≡◌, ℕ, List, None, Some, IfOk, MatchResult};
+ghost use Rattle.cbm_file.specs.Files.{Disk};
+ghost use Rattle.cbm_volume.specs.Slots.{directory_of};
+ghost use Rattle.cbm_volume.specs.Map.{geometry_of};
+ghost use Rattle.cbm_volume.specs.Holding.{HasBytes, StandsAt};
+ghost use Rattle.cbm_program.specs.Images.{kind_of, tracks_of, ImageHolds};
+ghost use Rattle.cbm_shell.specs.Converting.{held_by};
+ghost use Rattle.cbm_shell.specs.Images.{IsChecked, OrOpenFault};
+ghost use Rattle.cbm_shell.specs.Sectors.{faults_in};
+
+mod facts;
+mod mapping;
+pub(crate) mod sectors;
+mod slots;
+
+use crate::fault::ShellFault;
+use crate::images::opened;
+use crate::reading::read_file;
+use cbm_d64::D64Disk;
+use cbm_g64::G64Disk;
+use cbm_program::{DiskImage, Kind, kind_of};
+use cbm_volume::{Entry, Volume};
+pub use facts::{Info, info_of};
+pub use mapping::{Mark, picture_of};
+pub use slots::entries_of;
+use std::alloc::Global;
+
+/// The entries in an image of one format.
+fn entries_in<I: DiskImage + Drop>(alloc: Global, image: &[u8]) -> Result<Vec<Entry>, ShellFault>
+    requires { kind_of image.now ≡ I.kind }
+    ensures { let content = held_by image.now in
+        IfOk result (λ v. directory_of (geometry_of (tracks_of (kind_of image.now) image.now) content) content
+        ≡ (record { entries = v.items; trouble = None })) }
+{
+    let volume = Volume::open(opened::<I>(alloc, image)?);
+    entries_of(alloc, &volume)
+}
+
+/// The entries of an image's directory in order, those of empty slots too. Errors: `Image`; `Trouble` where the directory
+/// can't be followed to its end; `Memory`.
+pub fn entries(alloc: Global, image: &[u8]) -> Result<Vec<Entry>, ShellFault>
+    ensures { let content = held_by image.now in
+        IfOk result (λ v. directory_of (geometry_of (tracks_of (kind_of image.now) image.now) content) content
+        ≡ (record { entries = v.items; trouble = None })) }
+{
+    match kind_of(image) {
+        Kind::D64 => entries_in::<D64Disk>(alloc, image),
+        Kind::G64 => entries_in::<G64Disk>(alloc, image),
+    }
+}
+
+/// The file of an entry in an image of one format.
+fn file_of_in<I: DiskImage + Drop>(
+    alloc: Global,
+    image: &[u8],
+    entry: &Entry,
+) -> Result<Vec<u8>, ShellFault>
+    requires { kind_of image.now ≡ I.kind }
+    ensures { let kind = kind_of image.now in (d : Disk) (n : ℕ) (bytes : List ℕ) → ImageHolds kind image.now d →
+        StandsAt (tracks_of kind image.now) (held_by image.now) n entry.now → HasBytes d n bytes →
+        MatchResult result (λ v. v.items ≡ bytes) (OrOpenFault (λ fault. fault ≡ ShellFault.Memory)) }
+{
+    let volume = Volume::open(opened::<I>(alloc, image)?);
+    read_file(alloc, &volume, entry)
+}
+
+/// The bytes of the file of an entry that stands in an image's directory; of a relative file all records. Errors: `Image`;
+/// `Trouble`, where its chain can't be followed to its end; `Memory`.
+pub fn file_of(alloc: Global, image: &[u8], entry: &Entry) -> Result<Vec<u8>, ShellFault>
+    // A closed file without records on a sound disk is got byte for byte.
+    ensures { let kind = kind_of image.now in (d : Disk) (n : ℕ) (bytes : List ℕ) → ImageHolds kind image.now d →
+        StandsAt (tracks_of kind image.now) (held_by image.now) n entry.now → HasBytes d n bytes →
+        MatchResult result (λ v. v.items ≡ bytes) (OrOpenFault (λ fault. fault ≡ ShellFault.Memory)) }
+{
+    match kind_of(image) {
+        Kind::D64 => file_of_in::<D64Disk>(alloc, image, entry),
+        Kind::G64 => file_of_in::<G64Disk>(alloc, image, entry),
+    }
+}
+
+/// What the disk of an image of one format is.
+fn info_in<I: DiskImage + Drop>(alloc: Global, image: &[u8]) -> Result<Info, ShellFault>
+    requires { kind_of image.now ≡ I.kind }
+    ensures faults { IfOk result (λ info. info.unreadable.items
+        ≡ faults_in (held_by image.now) (tracks_of (kind_of image.now) image.now)) }
+    ensures check { IfOk result (λ info.
+        IsChecked (tracks_of (kind_of image.now) image.now) (held_by image.now) info.check) }
+    ensures means { (d : Disk) → ImageHolds (kind_of image.now) image.now d →
+        IfOk result (λ info. (info.label ≡ Some (record { title = d.title; mark = d.mark })) × (info.free ≡ Some d.free)) }
+{
+    let disk = opened::<I>(alloc, image)?;
+    let info = info_of(alloc, disk)?;
+    Ok(info)
+}
+
+/// What the disk of an image is. Errors: `Image`, `Memory`.
+pub fn info(alloc: Global, image: &[u8]) -> Result<Info, ShellFault>
+    // The sectors that don't read, in order.
+    ensures faults { IfOk result (λ info. info.unreadable.items
+        ≡ faults_in (held_by image.now) (tracks_of (kind_of image.now) image.now)) }
+    ensures check { IfOk result (λ info.
+        IsChecked (tracks_of (kind_of image.now) image.now) (held_by image.now) info.check) }
+    // Of a sound disk the title, the id, and how many blocks are free.
+    ensures means { (d : Disk) → ImageHolds (kind_of image.now) image.now d →
+        IfOk result (λ info. (info.label ≡ Some (record { title = d.title; mark = d.mark })) × (info.free ≡ Some d.free)) }
+{
+    match kind_of(image) {
+        Kind::D64 => info_in::<D64Disk>(alloc, image),
+        Kind::G64 => info_in::<G64Disk>(alloc, image),
+    }
+}
+
+/// A picture of an image's sectors, as lines: a sign for each sector, and what the signs mean. Errors: `Image`, `Memory`.
+pub fn picture(alloc: Global, image: &[u8]) -> Result<Vec<u8>, ShellFault> {
+    match kind_of(image) {
+        Kind::D64 => picture_of(alloc, opened::<D64Disk>(alloc, image)?),
+        Kind::G64 => picture_of(alloc, opened::<G64Disk>(alloc, image)?),
+    }
+}

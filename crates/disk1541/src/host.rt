@@ -1,0 +1,87 @@
+//! Files of the host, standard input and standard output.
+use crate::failure::Failure;
+use std::alloc::Global;
+use std::fs;
+use std::io::{self, Read, Write};
+use std::path::Path;
+use std::rt::Runtime;
+
+/// The program's name, which its files beside have.
+const PROGRAM: &str = "disk1541";
+
+/// The word that means standard input or output.
+const STANDARD: &str = "-";
+
+/// Reads standard input to its end.
+fn read_input<'a, R: Runtime + AllocGlobal>(rt: &R) -> Result<Vec<u8>, Failure<'a>> {
+    let mut bytes = Vec::new(rt.alloc());
+    let mut input = rt.reader();
+    match input.read_to_end(&mut bytes) {
+        Ok(_) => Ok(bytes),
+        Err(error) => Err(Failure::of_reading(error, "standard input")),
+    }
+}
+
+/// Reads a file of the host, or standard input.
+pub fn read<'a, R: Runtime + AllocGlobal>(rt: &R, name: &'a str) -> Result<Vec<u8>, Failure<'a>> {
+    if name == STANDARD {
+        return read_input(rt);
+    }
+    fs::read(rt, name).map_err(|error| Failure::of_reading(error, name))
+}
+
+/// Prints bytes on standard output.
+pub fn print<'a, R: Runtime + AllocGlobal>(rt: &R, bytes: &[u8]) -> Result<(), Failure<'a>> {
+    let mut output = io::writer(rt);
+    output
+        .write_all(bytes)
+        .map_err(|error| Failure::of_writing(error, "standard output"))
+}
+
+/// Writes a file of the host whole or not at all, or standard output.
+pub fn write<'a, R: Runtime + AllocGlobal>(
+    rt: &R,
+    name: &'a str,
+    bytes: &[u8],
+) -> Result<(), Failure<'a>> {
+    if name == STANDARD {
+        return print(rt, bytes);
+    }
+    save(rt, name, bytes).map_err(|error| Failure::of_writing(error, name))
+}
+
+/// Writes a file of the host whole or not at all.
+pub fn save<R: Runtime + AllocGlobal>(rt: &R, path: &str, bytes: &[u8]) -> io::Result<()> {
+    host_files::save(rt, PROGRAM, path, bytes)
+}
+
+/// Whether a name is that of standard input or output.
+pub fn is_standard(name: &str) -> bool {
+    name == STANDARD
+}
+
+/// Refuses to write where a file is already, unless it is to be replaced.
+pub fn require_new<'a, R: Runtime + AllocGlobal>(
+    rt: &R,
+    name: &'a str,
+    replaces: bool,
+) -> Result<(), Failure<'a>> {
+    if !replaces && !is_standard(name) && exists(rt, name) {
+        return Err(Failure::Exists(name));
+    }
+    Ok(())
+}
+
+/// Whether something of that name is there.
+pub fn exists<R: Runtime + AllocGlobal>(rt: &R, name: &str) -> bool {
+    Path::new(name).exists(rt)
+}
+
+/// A text of parts, each after the one before.
+pub fn joined<'a>(alloc: Global, parts: &[&[u8]]) -> Result<Vec<u8>, Failure<'a>> {
+    let mut text = Vec::new(alloc);
+    for part in parts {
+        text.extend_from_slice(part).map_err(|_| Failure::NoMemory)?;
+    }
+    Ok(text)
+}

@@ -1,0 +1,87 @@
+//! Names on a disk and names of the host's files.
+use crate::failure::Failure;
+use crate::host::is_standard;
+use cbm_shell::{char_of, code_of};
+use std::alloc::{AllocError, Global};
+use std::path::Path;
+
+/// The most bytes of a name on a disk.
+const LONGEST: usize = 16;
+
+/// A name as PETSCII: small letters are the letters of a C64 at power up.
+pub fn petscii<'a>(alloc: Global, name: &'a str) -> Result<Vec<u8>, Failure<'a>> {
+    let mut codes = Vec::new(alloc);
+    for shown in name.chars() {
+        let Some(code) = code_of(shown.to_ascii_uppercase()) else {
+            return Err(Failure::Name(name));
+        };
+        codes.push(code).map_err(|_| Failure::NoMemory)?;
+    }
+    Ok(codes)
+}
+
+/// Whether a code divides the words of the drive's commands.
+fn divides(code: u8) -> bool {
+    matches!(code, b',' | b'=' | b':' | b'"')
+}
+
+/// The name of one file as PETSCII.
+pub fn file_name<'a>(alloc: Global, name: &'a str) -> Result<Vec<u8>, Failure<'a>> {
+    let codes = petscii(alloc, name)?;
+    if codes.as_slice().iter().any(|code| divides(*code)) {
+        return Err(Failure::Divided(name));
+    }
+    Ok(codes)
+}
+
+/// The name that a file of the host gets on a disk: without its folder and its ending, at most sixteen characters.
+pub fn name_of_file<'a>(alloc: Global, file: &'a str) -> Result<Vec<u8>, Failure<'a>> {
+    if is_standard(file) {
+        return Err(Failure::NoName);
+    }
+    let stem = Path::new(file).file_stem().unwrap_or(file);
+    let mut name = file_name(alloc, stem)?;
+    name.truncate(LONGEST);
+    Ok(name)
+}
+
+/// Codes as text.
+pub fn shown(alloc: Global, codes: &[u8]) -> Result<String, AllocError> {
+    let mut text = String::new(alloc);
+    for code in codes {
+        text.push(char_of(*code))?;
+    }
+    Ok(text)
+}
+
+/// Whether a code stands for itself in the name of a host's file: what `put` makes the same code of, but for `/`, `%`
+/// and the codes that control a screen.
+fn is_plain(code: u8) -> bool {
+    matches!(code, 32..=127 | 161..=191) && code != b'/' && code != b'%'
+}
+
+/// A digit of a number to the base 16.
+fn digit(value: u8) -> char {
+    match value % 16 {
+        low @ 0..=9 => char::from(b'0' + low),
+        high => char::from(b'A' + (high - 10)),
+    }
+}
+
+/// The name of a host's file for a name on a disk, without an ending: codes that a host can't have are `%XX`.
+pub fn host_name(alloc: Global, name: &[u8]) -> Result<String, AllocError> {
+    let mut text = String::new(alloc);
+    for (place, code) in name.iter().enumerate() {
+        if is_plain(*code) && !(place == 0 && *code == b'.') {
+            text.push(char_of(*code))?;
+        } else {
+            text.push('%')?;
+            text.push(digit(*code / 16))?;
+            text.push(digit(*code))?;
+        }
+    }
+    if name.is_empty() {
+        text.push_str("%A0")?;
+    }
+    Ok(text)
+}

@@ -1,0 +1,178 @@
+//! Commands that take files out.
+use crate::failure::Failure;
+use crate::host::{exists, read, save, write};
+use crate::names::{host_name, petscii, shown};
+use cbm_shell::ShellFault;
+use cbm_volume::Entry;
+use std::alloc::{AllocError, Global};
+use std::path::{Path, PathBuf};
+use std::rt::Runtime;
+use std::{fs, io};
+
+/// Takes a file out.
+pub fn get<'a, R: Runtime + AllocGlobal>(
+    rt: &R,
+    image: &'a str,
+    name: &'a str,
+    output: &'a str,
+) -> Result<(), Failure<'a>> {
+    let bytes = read(rt, image)?;
+    let pattern = petscii(rt.alloc(), name)?;
+    let file = cbm_shell::file(rt.alloc(), bytes.as_slice(), pattern.as_slice()).map_err(
+        |fault| Failure::Disk(name, fault),
+    )?;
+    write(rt, output, file.as_slice())
+}
+
+/// The ending of a file's name by its type.
+fn ending(entry: &Entry) -> &'static str {
+    match entry.kind().map(|kind| kind.number()) {
+        Some(1) => "seq",
+        Some(2) => "prg",
+        Some(3) => "usr",
+        Some(4) => "rel",
+        _ => "del",
+    }
+}
+
+/// The name of a host's file for an entry; from the second of one name on with its number.
+fn file_name(alloc: Global, entry: &Entry, number: usize) -> Result<String, AllocError> {
+    let name = host_name(alloc, entry.name())?;
+    let end = ending(entry);
+    if number == 0 {
+        return format!(in alloc; "{name}.{end}");
+    }
+    format!(in alloc; "{name}~{number}.{end}")
+}
+
+/// How many entries of the same name and type stand before one.
+fn number_of(entries: &[Entry], entry: &Entry) -> usize {
+    entries
+        .iter()
+        .filter(|other| !other.is_empty()
+            && other.name() == entry.name()
+            && ending(other) == ending(entry))
+        .count()
+}
+
+/// Tells of a file that isn't taken out.
+fn tell_left(rt: &impl Eprint, name: &str, fault: ShellFault) -> io::Result<()> {
+    match fault {
+        ShellFault::Trouble(trouble) => {
+            let code = trouble.code;
+            let track = trouble.track;
+            let sector = trouble.sector;
+            eprintln!(rt;
+                "disk1541: \"{name}\" isn't taken out: track {track}, sector {sector} can't be read (error {code})"
+            )
+        }
+        _ => eprintln!(rt; "disk1541: \"{name}\" isn't taken out: {fault}"),
+    }
+}
+
+/// The bytes of an entry's file, if it was closed.
+fn bytes_of(alloc: Global, image: &[u8], entry: &Entry) -> Result<Vec<u8>, ShellFault> {
+    if !entry.is_closed() {
+        return Err(ShellFault::NotClosed);
+    }
+    cbm_shell::file_of(alloc, image, entry)
+}
+
+/// Saves a file under a name, and tells the name where it isn't that of the disk. Answers whether it was saved.
+fn save_as<R: Runtime + AllocGlobal>(
+    rt: &R,
+    path: Path<'_>,
+    name: &str,
+    bytes: &[u8],
+    replaces: bool,
+) -> bool {
+    let place = path.as_str();
+    if !replaces && exists(rt, place) {
+        let _ = eprintln!(rt; "disk1541: {place} is there already: --replace replaces it");
+        return false;
+    }
+    if let Err(error) = save(rt, place, bytes) {
+        let kind = error.kind();
+        let _ = eprintln!(rt; "disk1541: can't write {place}: {kind}");
+        return false;
+    }
+    let file = path.file_stem().unwrap_or(place);
+    if file != name {
+        let _ = eprintln!(rt; "disk1541: \"{name}\" is written as {place}");
+    }
+    true
+}
+
+/// Takes the file of an entry out. Answers whether it was saved.
+fn take<R: Runtime + AllocGlobal>(
+    rt: &R,
+    image: &[u8],
+    entry: &Entry,
+    path: &PathBuf,
+    replaces: bool,
+) -> Result<bool, AllocError> {
+    let name = shown(rt.alloc(), entry.name())?;
+    match bytes_of(rt.alloc(), image, entry) {
+        Ok(bytes) => Ok(save_as(
+            rt,
+            path.as_path(),
+            name.as_str(),
+            bytes.as_slice(),
+            replaces,
+        )),
+        Err(fault) => {
+            let _ = tell_left(rt, name.as_str(), fault);
+            Ok(false)
+        }
+    }
+}
+
+/// Takes the files of all entries out, and answers whether all were saved.
+fn take_all<R: Runtime + AllocGlobal>(
+    rt: &R,
+    image: &[u8],
+    entries: &[Entry],
+    folder: &str,
+    replaces: bool,
+) -> Result<bool, AllocError> {
+    let mut are_saved = true;
+    for (place, entry) in entries.iter().enumerate() {
+        if entry.is_empty() {
+            continue;
+        }
+        let number = number_of(&entries[..place], entry);
+        let name = file_name(rt.alloc(), entry, number)?;
+        let path = Path::new(folder).join(rt.alloc(), name.as_str())?;
+        let is_saved = take(rt, image, entry, &path, replaces)?;
+        are_saved = are_saved && is_saved;
+    }
+    Ok(are_saved)
+}
+
+/// Makes the folder, if it isn't there.
+fn make_folder<'a, R: Runtime + AllocGlobal>(rt: &R, folder: &'a str) -> Result<(), Failure<'a>> {
+    match fs::create_dir(rt, folder) {
+        Ok(()) => Ok(()),
+        Err(_) if Path::new(folder).is_dir(rt) => Ok(()),
+        Err(error) => Err(Failure::of_writing(error, folder)),
+    }
+}
+
+/// Takes all files out, into a folder.
+pub fn get_all<'a, R: Runtime + AllocGlobal>(
+    rt: &R,
+    image: &'a str,
+    folder: &'a str,
+    replaces: bool,
+) -> Result<(), Failure<'a>> {
+    let bytes = read(rt, image)?;
+    let entries = cbm_shell::entries(rt.alloc(), bytes.as_slice()).map_err(|fault| Failure::Disk(
+        image, fault,
+    ))?;
+    make_folder(rt, folder)?;
+    match take_all(rt, bytes.as_slice(), entries.as_slice(), folder, replaces) {
+        Ok(true) => Ok(()),
+        Ok(false) => Err(Failure::Told),
+        Err(_) => Err(Failure::NoMemory),
+    }
+}

@@ -1,0 +1,6 @@
+//! Saving files of the host.
+#![tactic(auto)]
+
+mod beside;
+
+pub use beside::save;

@@ -1,0 +1,275 @@
+#!/bin/sh
+# Runs disk1541 as docs/DISK1541.md says, and on what the gate can't: files, exit statuses, sentences, how images are saved.
+# Usage: sh check_disk1541.sh DISK1541 [DISKS] (the path of the built program, and how many disks are generated, 100 if none is
+# said). Prints one line a case; ends with 1 if one is wrong. As root it also tries a full disk and a folder without leave.
+set -u
+disk=$(realpath "$1")
+disks=${2:-100}
+here=$(dirname "$(realpath "$0")")
+work=$(mktemp -d)
+trap 'rm -rf "$work"' EXIT
+cd "$work" || exit 1
+cp "$here/hello.d64" .
+wrong=0
+
+# name, wanted status, wanted standard output, wanted standard error, then the command
+case_of() {
+    name=$1 want=$2 out=$3 text=$4
+    shift 4
+    "$@" > out.txt 2> err.txt
+    got=$?
+    printf '%s' "$out" > want.txt
+    if [ "$got" = "$want" ] && { [ "$out" = any ] || [ "$(cat out.txt)" = "$out" ]; } && { [ "$text" = any ] || [ "$(cat err.txt)" = "$text" ]; }; then
+        echo "ok    $name"
+    else
+        echo "WRONG $name: status $got, $(cat out.txt err.txt)"
+        wrong=1
+    fi
+}
+is() {
+    name=$1
+    shift
+    if "$@"; then echo "ok    $name"; else echo "WRONG $name"; wrong=1; fi
+}
+
+hello='0 "TEST            " AB 2A
+1    "HELLO"            PRG  
+663 BLOCKS FREE.             '
+none='0 "TEST            " AB 2A
+663 BLOCKS FREE.             '
+
+# the how-tos
+case_of "list" 0 "$hello" "" "$disk" list hello.d64
+case_of "list with a pattern" 0 "$none" "" "$disk" list hello.d64 'X*'
+printf '\001\002\003' > three.bin
+case_of "get" 0 "" "" "$disk" get hello.d64 HELLO -o hello.prg
+is "the file's bytes" cmp -s hello.prg three.bin
+case_of "get to standard output" 0 any "" "$disk" get hello.d64 hello
+is "the same bytes" cmp -s out.txt three.bin
+printf '\001\010game' > game.prg
+case_of "put" 0 "" "" "$disk" put hello.d64 game.prg
+case_of "what was put is there" 0 any "" "$disk" get hello.d64 GAME -o back.prg
+is "byte for byte" cmp -s game.prg back.prg
+case_of "put again is refused" 1 "" "disk1541: hello.d64: a file of that name is there: take another name, or --replace (status 63)" "$disk" put hello.d64 game.prg
+case_of "put with --replace" 0 "" "" "$disk" put hello.d64 three.bin --name GAME --replace
+case_of "the new bytes" 0 any "" "$disk" get hello.d64 GAME -o back.prg
+is "are those" cmp -s three.bin back.prg
+case_of "copy" 0 "" "" "$disk" copy hello.d64 HELLO SECOND
+case_of "rename" 0 "" "" "$disk" rename hello.d64 SECOND OTHER
+case_of "the copy under its new name" 0 any "" "$disk" get hello.d64 OTHER -o back.prg
+is "has the bytes" cmp -s three.bin back.prg
+case_of "delete" 0 "" "" "$disk" delete hello.d64 'O*'
+case_of "it is gone" 1 "" "disk1541: OTHER: no such file" "$disk" get hello.d64 OTHER
+case_of "check" 0 "sound" "" "$disk" check hello.d64
+case_of "validate" 0 "" "" "$disk" validate hello.d64
+case_of "put a sequential file" 0 "" "" "$disk" put hello.d64 game.prg --name NOTES --type seq
+case_of "which the directory shows" 0 any "" "$disk" list hello.d64 'N*'
+is "as SEQ" grep -q '"NOTES"            SEQ' out.txt
+
+# new images
+blank='0 "NEW DISK        " 64 2A
+664 BLOCKS FREE.             '
+case_of "new" 0 "" "" "$disk" new empty.d64 --title "New disk" --id 64
+case_of "which is empty" 0 "$blank" "" "$disk" list empty.d64
+case_of "and sound" 0 "sound" "" "$disk" check empty.d64
+case_of "and not made twice" 1 "" "disk1541: empty.d64 is there already: take another name, or --replace" "$disk" new empty.d64 --title x --id 64
+case_of "without --replace" 0 "" "" "$disk" new empty.d64 --title "New disk" --id 64 --replace
+case_of "new, as a G64" 0 "" "" "$disk" new empty.g64 --title "New disk" --id 64
+case_of "which is as empty" 0 "$blank" "" "$disk" list empty.g64
+case_of "and as sound" 0 "sound" "" "$disk" check empty.g64
+case_of "new, of 40 tracks" 0 "" "" "$disk" new long.d64 --title "New disk" --id 64 --tracks 40
+is "has 196608 bytes" test "$(wc -c < long.d64)" = 196608
+case_of "and is sound" 0 "sound" "" "$disk" check long.d64
+case_of "no G64 of 40 tracks" 1 "" "disk1541: a G64 has 35 tracks here, not 40" "$disk" new long.g64 --title x --id 64 --tracks 40
+case_of "no disk of 36 tracks" 1 "" "disk1541: a disk has 35 or 40 tracks, not 36" "$disk" new x.d64 --title x --id 64 --tracks 36
+case_of "a title that is too long" 1 "" "disk1541: a title has at most 16 characters: ABCDEFGHIJKLMNOPQ" "$disk" new x.d64 --title ABCDEFGHIJKLMNOPQ --id 64
+case_of "an id that is too short" 1 "" "disk1541: an id has two characters: 6" "$disk" new x.d64 --title x --id 6
+case_of "no format" 1 "" "disk1541: x.img tells no format: say --format d64 or --format g64" "$disk" new x.img --title x --id 64
+case_of "but for --format" 0 "" "" "$disk" new x.img --title x --id 64 --format g64
+is "nothing else was made" test ! -e x.d64 -a ! -e long.g64
+
+# from one format to the other
+cp "$here/hello.d64" there.d64
+case_of "convert" 0 "" "" "$disk" convert there.d64 there.g64
+case_of "the files are there" 0 "$hello" "" "$disk" list there.g64
+case_of "and back" 0 "" "" "$disk" convert there.g64 back.d64
+is "the same image" cmp -s there.d64 back.d64
+case_of "not over another image" 1 "" any "$disk" convert there.g64 back.d64
+case_of "nor to the same format" 1 "" "disk1541: there.g64 has that format already" "$disk" convert there.g64 new.g64
+case_of "a disk of 40 tracks" 1 "" "disk1541: long.g64 can't hold the tracks 36 to 40
+disk1541: long.g64 isn't written; --lossy writes it all the same" "$disk" convert long.d64 long.g64
+is "isn't converted" test ! -e long.g64
+case_of "but by --lossy" 0 "" "disk1541: long.g64 can't hold the tracks 36 to 40" "$disk" convert long.d64 long.g64 --lossy
+# Error bytes, one of which says that 1/3 has a wrong checksum.
+{ cat there.d64; printf '\001\001\001\005'; head -c 679 /dev/zero | tr '\000' '\001'; } > bad.d64
+case_of "a sector that can't be read" 1 "" "disk1541: bad.g64 has zeros for each sector that can't be read: 1, the first at track 1, sector 3 (error 23)
+disk1541: bad.g64 can't hold the error bytes
+disk1541: bad.g64 isn't written; --lossy writes it all the same" "$disk" convert bad.d64 bad.g64
+
+# what a disk is
+facts='format       D64, 35 tracks
+title        TEST
+id           AB
+DOS          2A
+blocks free  663
+files        1
+unreadable   0
+sound        yes'
+case_of "info" 0 "$facts" "" "$disk" info there.d64
+case_of "info of an image with error bytes" 0 any "" "$disk" info bad.d64
+is "tells how many sectors can't be read" grep -q '^unreadable   1$' out.txt
+case_of "map" 0 any "" "$disk" map there.d64
+is "has a line for each track" test "$(wc -l < out.txt)" = 37
+is "and shows what is used" grep -q '^18     ##\.\.\.' out.txt
+case_of "map of an image with error bytes" 0 any "" "$disk" map bad.d64
+is "shows what can't be read" grep -q '^ 1     \.\.\.x\.' out.txt
+case_of "list as JSON" 0 '{"title": "TEST", "id": "AB", "dos": "2A", "free": 663, "files": [
+  {"name": "HELLO", "petscii": "48454c4c4f", "type": "prg", "blocks": 1, "closed": true, "locked": false}]}' "" "$disk" list there.d64 --json
+case_of "list as the drive sends it" 0 any "" "$disk" list there.d64 --raw
+is "begins with its address" test "$(head -c 6 out.txt | od -An -tx1 | tr -d ' ')" = 010401010000
+case_of "list of standard input" 0 "$hello" "" "$disk" list - < there.d64
+"$disk" put - game.prg < there.d64 > piped.d64
+case_of "put into standard input" 0 any "" "$disk" get piped.d64 GAME
+is "goes to standard output" cmp -s out.txt game.prg
+"$disk" put there.d64 - --name INPUT < game.prg
+case_of "standard input as a file" 0 any "" "$disk" get there.d64 INPUT
+is "has its bytes" cmp -s out.txt game.prg
+case_of "which wants a name" 1 "" "disk1541: name the file by --name" "$disk" put there.d64 -
+for bad_name in A,B A=B A:B 'A"B'; do
+    sentence="disk1541: a name can't have \`,\` \`=\` \`:\` or a quotation mark: $bad_name"
+    case_of "put as $bad_name" 1 "" "$sentence" "$disk" put there.d64 game.prg --name "$bad_name"
+    case_of "copy to $bad_name" 1 "" "$sentence" "$disk" copy there.d64 HELLO "$bad_name"
+    case_of "rename to $bad_name" 1 "" "$sentence" "$disk" rename there.d64 HELLO "$bad_name"
+done
+
+# all files
+"$disk" put there.d64 game.prg --name A/B
+"$disk" put there.d64 game.prg --name .. --type seq
+case_of "get-all" 0 "" 'disk1541: "A/B" is written as all/A%2FB.prg
+disk1541: ".." is written as all/%2E..seq' "$disk" get-all there.d64 all
+is "four files" test "$(ls -A all | wc -l)" = 4
+is "with their bytes" cmp -s all/HELLO.prg three.bin
+is "also under another name" cmp -s all/A%2FB.prg game.prg
+case_of "get-all again" 1 "" any "$disk" get-all there.d64 all
+case_of "get-all with --replace" 0 "" any "$disk" get-all there.d64 all --replace
+
+# 144 files in and out, in both formats
+many() {
+    "$disk" new "$1" --title many --id 64
+    k=1
+    while [ $k -le 144 ]; do
+        printf 'file %d' $k > in.bin
+        "$disk" put "$1" in.bin --name "FILE$k" || wrong=1
+        k=$((k + 1))
+    done
+    case_of "a 145th file on $1" 1 "" "disk1541: $1: the disk is full (status 72)" "$disk" put "$1" in.bin --name MORE
+    case_of "144 files are listed" 0 any "" "$disk" list "$1"
+    is "one a line" test "$(wc -l < out.txt)" = 146
+    rm -rf taken
+    case_of "all are taken out" 0 "" "" "$disk" get-all "$1" taken
+    k=1
+    same=0
+    while [ $k -le 144 ]; do
+        printf 'file %d' $k | cmp -s - "taken/FILE$k.prg" && same=$((same + 1))
+        k=$((k + 1))
+    done
+    is "byte for byte" test $same = 144
+    case_of "and the disk is sound" 0 "sound" "" "$disk" check "$1"
+}
+many many.d64
+many many.g64
+
+# Generated disks: files of many lengths, some of them deleted; all that is left goes to a new disk of the other format.
+number=1
+next() {
+    number=$(((number * 1103515245 + 12345) % 2147483648))
+    got=$((number / 65536 % $1))
+}
+head -c 40000 /dev/urandom > noise.bin
+k=0
+bad=0
+while [ $k -lt "$disks" ]; do
+    old=d64
+    new=g64
+    [ $((k % 2)) = 0 ] || { old=g64; new=d64; }
+    rm -rf old.img new.img here there
+    "$disk" new old.img --title "DISK $k" --id 64 --format $old || bad=1
+    next 12
+    files=$got
+    file=0
+    while [ $file -le "$files" ]; do
+        next 5000
+        head -c $((got + 1)) noise.bin > in.bin
+        next 3
+        "$disk" put old.img in.bin --name "F$got$file" || bad=1
+        file=$((file + 1))
+    done
+    next 3
+    "$disk" delete old.img "F$got*"
+    "$disk" list old.img > list.txt || bad=1
+    "$disk" get-all old.img here || bad=1
+    "$disk" new new.img --title "DISK $k" --id 64 --format $new || bad=1
+    for path in here/*; do
+        [ -e "$path" ] && { "$disk" put new.img "$path" || bad=1; }
+    done
+    "$disk" get-all new.img there || bad=1
+    diff -r here there > /dev/null || bad=1
+    [ "$("$disk" check old.img)$("$disk" check new.img)" = soundsound ] || bad=1
+    k=$((k + 1))
+done
+is "$disks generated disks, their files on new ones" test $bad = 0
+
+# what goes wrong
+head -c 174847 hello.d64 > short.d64
+case_of "no image of a disk" 2 "" "disk1541: short.d64 is no image of a disk (fault 1 of its format)" "$disk" list short.d64
+case_of "no image" 3 "" any "$disk" list nothing.d64
+case_of "a folder as image" 3 "" any "$disk" list .
+case_of "no file to put" 3 "" any "$disk" put hello.d64 nothing.prg
+case_of "no such type" 1 "" "disk1541: txt is no type of a file: take prg, seq or usr" "$disk" put hello.d64 game.prg --type txt
+case_of "no command" 1 "" any "$disk"
+case_of "help" 0 any "" "$disk" --help
+case_of "version" 0 "disk1541 0.2.0" "" "$disk" --version
+case_of "a full standard output" 3 any any sh -c "$disk list hello.d64 > /dev/full"
+cp hello.d64 before.d64
+case_of "a limit on the file's size" 3 "" any sh -c "trap '' XFSZ; ulimit -f 100; exec $disk put hello.d64 game.prg --name NEW"
+is "the image is as it was" cmp -s hello.d64 before.d64
+is "and nothing is left beside" test ! -e disk1541.0.new
+# A disk whose sector 17/0 is used and marked free isn't sound: 18/0 stands at 91392, the map's row of track 17 at its byte 68.
+cp "$here/hello.d64" unsound.d64
+printf '\025\377\377\037' | dd of=unsound.d64 bs=1 seek=91460 conv=notrunc 2> /dev/null
+case_of "a disk that isn't sound" 1 "track 17, sector 0: the block is in use, but marked free" "" "$disk" check unsound.d64
+cp unsound.d64 before.d64
+case_of "isn't changed" 1 "" any "$disk" put unsound.d64 game.prg
+is "at all" cmp -s unsound.d64 before.d64
+case_of "until it is put in order" 0 "" "" "$disk" validate unsound.d64
+case_of "and then is sound" 0 "sound" "" "$disk" check unsound.d64
+
+# faults of the host
+cp "$here/hello.d64" host.d64
+cp host.d64 before.d64
+mkdir -p folder
+case_of "a folder as output" 3 "" any "$disk" get host.d64 HELLO -o folder
+case_of "a folder as file" 3 "" any "$disk" put host.d64 folder
+case_of "a folder as new image" 1 "" any "$disk" new folder --title x --id 64 --format d64
+case_of "a file as folder" 3 "" any "$disk" get-all host.d64 three.bin
+case_of "closed standard output" 3 any any sh -c "$disk list host.d64 >&-"
+if [ "$(id -u)" = 0 ]; then
+    chmod 755 "$work"
+    cp "$disk" tool && chmod 755 tool
+    if setpriv --reuid=65534 --regid=65534 --clear-groups "$work/tool" --version > out.txt 2>&1; then
+        chmod 644 host.d64
+        case_of "no leave to write" 3 "" any setpriv --reuid=65534 --regid=65534 --clear-groups "$work/tool" put host.d64 game.prg
+        chmod 600 host.d64
+        case_of "no leave to read" 3 "" any setpriv --reuid=65534 --regid=65534 --clear-groups "$work/tool" list host.d64
+    fi
+    if mount -t tmpfs -o size=300k none folder 2> /dev/null; then
+        cp host.d64 folder/full.d64
+        cat /dev/zero > folder/filler 2> /dev/null
+        case_of "a full disk" 3 "" any "$disk" put folder/full.d64 game.prg
+        is "leaves the image as it was" cmp -s folder/full.d64 before.d64
+        is "and nothing beside" test "$(ls folder | wc -l)" = 2
+        umount folder
+    fi
+fi
+is "the image is whole after all of these" cmp -s host.d64 before.d64
+exit $wrong
