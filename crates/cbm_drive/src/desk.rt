@@ -30,8 +30,11 @@ impl<M: Medium> Model for Desk<M> {
 
 impl<M: Medium> Desk<M> {
     ghost use Rattle.std.specs.Prelude.{◌≡◌, ◌<◌};
+    ghost use Rattle.cbm_channel.specs.Files.{Disk};
     ghost use Rattle.cbm_channel.specs.Machines as files;
     ghost use Rattle.cbm_channel.specs.Standing.{Stands};
+    ghost use Rattle.cbm_volume.specs.Holding.{HoldsDisk};
+    ghost use Rattle.cbm_drive.specs.Addressing.{unaddressed};
     ghost use Rattle.cbm_drive.specs.Desks.{at_first, DeskStands};
 
     /// As the drive is switched on, with a device number below 31.
@@ -46,12 +49,32 @@ impl<M: Medium> Desk<M> {
         }
     }
 
+    /// As the drive is switched on with this medium, and a device number below 31. It reads nothing.
+    pub fn at_power_up(medium: M, device: u8) -> Desk<M>
+        requires { device < 31 }
+        ensures medium { result.dos.medium ≡ medium }
+        ensures addressed { result.addressed ≡ unaddressed device }
+        ensures stands { (d : Disk) → HoldsDisk (M.seen medium).tracks (M.seen medium).content d → DeskStands M.seen
+            result (at_first device (files.start d (M.seen medium).protected (M.seen medium).tracks)) }
+    {
+        Desk::new(Dos::new(medium), device)
+    }
+
     /// The DOS.
     pub fn into_dos(self) -> Dos<M>
         ensures { result ≡ self.dos }
     {
         let Desk { dos, .. } = self;
         dos
+    }
+
+    /// The medium as it is now; channels that are open are dropped.
+    pub fn into_medium(self) -> M
+        ensures medium { result ≡ self.dos.medium }
+        ensures disk { (m : files.Machine) → Stands M.seen self.dos m →
+            HoldsDisk (M.seen result).tracks (M.seen result).content m.disk }
+    {
+        self.into_dos().into_medium()
     }
 }
 
