@@ -16,7 +16,7 @@ use Rattle.cbm_host.proofs.Counted.{marks_of, marks_append, taken_from, last_fro
 use Rattle.cbm_host.proofs.Fronts.{IsFrontSaid, SaysFront, truly, whole, all_runs}
 use Rattle.cbm_host.proofs.Joint.{met}
 use Rattle.cbm_host.specs.Attentions.{listen, unlisten, talk, untalk, data_on, open_on}
-use Rattle.cbm_host.specs.Begun.{IsBegun}
+use Rattle.cbm_host.specs.Begun.{IsRequestBegun}
 use Rattle.cbm_host.specs.CarriedOut.{heard, called, left_by, acts_of, IsTakenBy, IsShort}
 use Rattle.cbm_host.specs.Engines.{engine_at, channel_of, is_last, most_of}
 use Rattle.cbm_host.specs.Performed.{IsPerforming}
@@ -35,7 +35,7 @@ module _ (M : Type 0) (step : M → Act → M) (says : M → Option (ℕ × Bool
     none_more bytes none = sym (append-nil bytes ∙ none)
 
     -- where bytes are sent, none come
-    sent : (request : Request) (second : ℕ) (sent_bytes bytes : List ℕ) (last : Bool) → acts_of d request [] false ≡ called (listen + d) second ++ (heard sent_bytes ++ left_by unlisten) → IsTakenBy request [] false → (bytes ≡ []) × (last ≡ false) → IsBegun M step says d m request bytes last
+    sent : (request : Request) (second : ℕ) (sent_bytes bytes : List ℕ) (last : Bool) → acts_of d request [] false ≡ called (listen + d) second ++ (heard sent_bytes ++ left_by unlisten) → IsTakenBy request [] false → (bytes ≡ []) × (last ≡ false) → IsRequestBegun M step says d m request bytes last
     sent request second sent_bytes bytes last acts taken h =
         let m1 = run M step says m (called (listen + d) second) in
         let m2 = run M step says (run M step says m1 (heard sent_bytes)) (left_by unlisten) in
@@ -47,7 +47,7 @@ module _ (M : Type 0) (step : M → Act → M) (says : M → Option (ℕ × Bool
         IsFrontSaid M step (bytewise M step says false) most m1 bytes last → IsFrontSaid M step (bytewise M step says true) most m1 bytes last → Rattle.cbm_host.proofs.Fronts.Whole M step says machine most m1 bytes last
     taken most second bytes last some h k = whole M step says machine most _ bytes last some (truly M step says _ bytes last h.0 k.0, h.1, h.2)
 
-    begun_of : (request : Request) (bytes : List ℕ) (last : Bool) → IsShort M step says d m request → SaysFront M step (bytewise M step says false) d m request bytes last → SaysFront M step (bytewise M step says true) d m request bytes last → IsBegun M step says d m request bytes last
+    begun_of : (request : Request) (bytes : List ℕ) (last : Bool) → IsShort M step says d m request → SaysFront M step (bytewise M step says false) d m request bytes last → SaysFront M step (bytewise M step says true) d m request bytes last → IsRequestBegun M step says d m request bytes last
     begun_of (Open channel text) bytes last short h k = sent (Open channel text) (open_on + channel) text.now bytes last refl (refl, refl) h
     begun_of (Put channel sent_bytes) bytes last short h k = sent (Put channel sent_bytes) (data_on + channel) sent_bytes.now bytes last refl (refl, refl) h
     begun_of (Fill channel count byte) bytes last short h k = sent (Fill channel count byte) (data_on + channel) (replicate count byte) bytes last refl (refl, refl) h
@@ -66,9 +66,9 @@ module _ (D M : Type 0) (stands : D → M → Type 0) (step : M → Act → M) (
   is_bus = record { some = omega arith; few = omega arith; drives = (drive, tt); unlike = (tt, tt) }
 
   -- WHAT CAME SO FAR, whichever byte stands for what is none
-  front : (v : Bool) (count : ℕ) (p : Performing) (bus : Cabled D) (old new : List Event) (bytes : List ℕ) (last : Bool) → IsPerforming D M stands step says (engine_at start b.device request) (start + longest) count p bus old new bytes last (at_rest M step says ms (b ∷ []))
+  front : (v : Bool) (p : Performing) (bus : Cabled D) (old new : List Event) (bytes : List ℕ) (last : Bool) → IsPerforming D M stands step says (engine_at start b.device request) (start + longest) p bus old new bytes last (at_rest M step says ms (b ∷ []))
       → SaysFront M step (bytewise M step says v) b.device (ms b.device) request bytes last
-  front v count p bus old new bytes last h =
+  front v p bus old new bytes last h =
       let k = plan M step says v machine b drive (ms b.device) start request channel short in
       let allowed : Allowed M step (bytewise M step says v) (rest (b ∷ [])) ms k.pieces = k.counts.allowed ms refl in
       let j = met M step says v b ms is_bus machine k.pieces k.played.linked allowed (engine_at start b.device request) k.played.behind k.played.until k.played.ending k.played.performs h.runs (pending p.player.second) h.going.after.from h.going.after.stations h.going.after.plays in
@@ -79,6 +79,6 @@ module _ (D M : Type 0) (stands : D → M → Type 0) (step : M → Act → M) (
       (subst (λ (w : Bool). SaysFront M step (bytewise M step says v) b.device (ms b.device) request (taken_from (marks_of j.done)) w) (sym last_is) (k.fronts (marks_of j.done) (marks_of j.more) parts))
 
   -- A REQUEST UNDER WAY IS BEGUN
-  pub begun : (count : ℕ) (p : Performing) (bus : Cabled D) (old new : List Event) (bytes : List ℕ) (last : Bool) → IsPerforming D M stands step says (engine_at start b.device request) (start + longest) count p bus old new bytes last (at_rest M step says ms (b ∷ []))
-      → IsBegun M step says b.device (ms b.device) request bytes last
-  begun count p bus old new bytes last h = begun_of M step says machine b.device (ms b.device) request bytes last short (front false count p bus old new bytes last h) (front true count p bus old new bytes last h)
+  pub begun : (p : Performing) (bus : Cabled D) (old new : List Event) (bytes : List ℕ) (last : Bool) → IsPerforming D M stands step says (engine_at start b.device request) (start + longest) p bus old new bytes last (at_rest M step says ms (b ∷ []))
+      → IsRequestBegun M step says b.device (ms b.device) request bytes last
+  begun p bus old new bytes last h = begun_of M step says machine b.device (ms b.device) request bytes last short (front false p bus old new bytes last h) (front true p bus old new bytes last h)

@@ -16,7 +16,7 @@ use Rattle.cbm_volume.specs.Holding.{HoldsDisk}
 use Rattle.cbm_channel.proofs.Stands.{means_of}
 use Rattle.cbm_host.proofs.Performed.{performing_on, performing_still, performing_none}
 use Rattle.cbm_host.proofs.Serving.{serves, is_short}
-use Rattle.cbm_host.specs.Begun.{IsBegun}
+use Rattle.cbm_host.specs.Begun.{IsRequestBegun}
 use Rattle.cbm_host.specs.CarriedOut.{AreBytes, IsShort, HasCarriedOut}
 use Rattle.cbm_host.specs.Engines.{Engined, engine_at, channel_of, stage_end}
 use Rattle.cbm_host.specs.Hosted.{IsTaking, HasTaken, Hosting, party_of, resting_for, Rests, IsUnderWay, IsGoingOn, IsOver, tracks_on}
@@ -54,9 +54,8 @@ module _ (D M : Type 0) (stands : D → M → Type 0) (step : M → Act → M) (
   taking_on e limit p q b c bytes last ss x t next =
       let k = t.performing in
       record {
-        count = t.count + 1;
         made = t.made ++ x ∷ [];
-        performing = performing_on D M stands step says e limit t.count p q b c [] t.made (t.made ++ x ∷ []) bytes (bytes ++ taken_with q.byte) last (last_with q.byte last) ss x k (next 0 ss k.made k.going) refl refl refl;
+        performing = performing_on D M stands step says e limit p q b c [] t.made (t.made ++ x ∷ []) bytes (bytes ++ taken_with q.byte) last (last_with q.byte last) ss x k (next 0 ss k.made k.going) refl refl refl;
       }
 
   pub taking_none : (e : Engined) (limit : ℕ) (p q : Performing) (b c : Cabled D) (bytes : List ℕ) (last : Bool) (ss : List (Station M)) (x : Event) → (t : IsTaking D M stands step says e limit p b bytes last ss)
@@ -77,7 +76,7 @@ module _ (D M : Type 0) (stands : D → M → Type 0) (step : M → Act → M) (
       → HasTaken D M stands step says e limit q c bytes last ss
   taking_over e limit p q b c bytes last ss t stopped =
       let k = t.performing in
-      record { made = t.made; performed = performing_still D M stands step says e limit t.count p q b c [] t.made bytes last ss k (stopped 0 ss k.made k.going) }
+      record { made = t.made; performed = performing_still D M stands step says e limit p q b c [] t.made bytes last ss k (stopped 0 ss k.made k.going) }
 
 -- ---- over the DOS
 
@@ -93,7 +92,6 @@ module _ {M : Type 0} (seen : M → Seen) where
   asked h p m request rests player engine limit = record {
     start = h.moment;
     taking = record {
-      count = 0;
       made = [];
       performing = performing_none (Desk (Kept M)) (Desk Machine) (DeskStands seen) desk_step desk_says (λ x d n last s e. is_byte (desk_says d) n last s.1 e) (engine_at h.moment h.device request) (h.moment + longest) p h.bus [] [] false (resting_for h.device m) rests player engine limit refl refl;
     };
@@ -101,9 +99,9 @@ module _ {M : Type 0} (seen : M → Seen) where
 
   -- what the laws of a request say of it
   abbrev pub Begins : Hosting (Kept M) → Performing → Type 0
-  Begins h p = (b : Party) (ms : ℕ → Desk Machine) (start count : ℕ) (request : Request) (old new : List Event) (bytes : List ℕ) (last : Bool) → IsDrive b → channel_of request ≤ 15 → IsShort (Desk Machine) desk_step desk_says b.device (ms b.device) request
-      → IsPerforming (Desk (Kept M)) (Desk Machine) (DeskStands seen) desk_step desk_says (engine_at start b.device request) (start + longest) count p h.bus old new bytes last (at_rest (Desk Machine) desk_step desk_says ms (b ∷ []))
-      → IsBegun (Desk Machine) desk_step desk_says b.device (ms b.device) request bytes last
+  Begins h p = (b : Party) (ms : ℕ → Desk Machine) (start : ℕ) (request : Request) (old new : List Event) (bytes : List ℕ) (last : Bool) → IsDrive b → channel_of request ≤ 15 → IsShort (Desk Machine) desk_step desk_says b.device (ms b.device) request
+      → IsPerforming (Desk (Kept M)) (Desk Machine) (DeskStands seen) desk_step desk_says (engine_at start b.device request) (start + longest) p h.bus old new bytes last (at_rest (Desk Machine) desk_step desk_says ms (b ∷ []))
+      → IsRequestBegun (Desk Machine) desk_step desk_says b.device (ms b.device) request bytes last
 
   abbrev pub CarriesOut : Hosting (Kept M) → Performing → Type 0
   CarriesOut h p = (b : Party) (ms : ℕ → Desk Machine) (start : ℕ) (request : Request) (old new : List Event) (bytes : List ℕ) (last : Bool) → IsDrive b → channel_of request ≤ 15 → IsShort (Desk Machine) desk_step desk_says b.device (ms b.device) request
@@ -115,7 +113,7 @@ module _ {M : Type 0} (seen : M → Seen) where
       → IsUnderWay seen h p m request bytes last → IsGoingOn seen h p m request bytes last
   going_on h p m request bytes last low high channel modest begins u =
       let t = u.taking in
-      let k = begins (party_of h.device) (λ d. at_first h.device m) u.start t.count request [] t.made bytes last (is_drive h.device low high) channel (is_short h.device request m (omega (arith, high)) channel modest) t.performing in
+      let k = begins (party_of h.device) (λ d. at_first h.device m) u.start request [] t.made bytes last (is_drive h.device low high) channel (is_short h.device request m (omega (arith, high)) channel modest) t.performing in
       let s = serves h.device request m k.whole k.marked k.behind (omega (arith, high)) channel k.taken k.ran in
       record {
         under_way = u;

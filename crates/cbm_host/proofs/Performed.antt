@@ -1,6 +1,6 @@
 -- A request under way goes on by one event.
 use Rattle.std.proofs.Common.{◌≡◌, ℕ, ◌+◌, ◌<◌, Bool, true, false, List, [], ◌∷◌, ◌++◌, Option, Some, None, Result, Ok, Err, IfErr, refl, sym, ap, ◌∙◌, subst, arith}
-use Rattle.std.proofs.lemmas.List.{append_assoc, append-nil, length-append}
+use Rattle.std.proofs.lemmas.List.{append_assoc, append-nil}
 use Rattle.std.specs.List.{AllZip}
 use Rattle.std.specs.Prelude.{MatchBool}
 use Rattle.cbm_drive.specs.Cables.{Cabled}
@@ -29,12 +29,11 @@ last_of t [] x = refl
 last_of t (e ∷ es) x = last_of (from_behind e.who e.change.moment) es x
 
 module _ (D M : Type 0) (stands : D → M → Type 0) (step : M → Act → M) (says : M → Option (ℕ × Bool)) where
-  pub performing_on : (e : Engined) (limit count : ℕ) (old new : Performing) (b b2 : Cabled D) (first es es2 : List Event) (bytes bytes2 : List ℕ) (last last2 : Bool) (ss : List (Station M)) (x : Event) → (p : IsPerforming D M stands step says e limit count old b first es bytes last ss)
-      → HasNext D M stands step says old new b2 0 ss p.made x → es2 ≡ es ++ x ∷ [] → bytes2 ≡ bytes ++ taken_with new.byte → last2 ≡ last_with new.byte last → IsPerforming D M stands step says e limit (count + 1) new b2 first es2 bytes2 last2 ss
-  performing_on e limit count old new b b2 first es es2 bytes bytes2 last last2 ss x p k added taken over = record {
+  pub performing_on : (e : Engined) (limit : ℕ) (old new : Performing) (b b2 : Cabled D) (first es es2 : List Event) (bytes bytes2 : List ℕ) (last last2 : Bool) (ss : List (Station M)) (x : Event) → (p : IsPerforming D M stands step says e limit old b first es bytes last ss)
+      → HasNext D M stands step says old new b2 0 ss p.made x → es2 ≡ es ++ x ∷ [] → bytes2 ≡ bytes ++ taken_with new.byte → last2 ≡ last_with new.byte last → IsPerforming D M stands step says e limit new b2 first es2 bytes2 last2 ss
+  performing_on e limit old new b b2 first es es2 bytes bytes2 last last2 ss x p k added taken over = record {
     made = p.made ++ x ∷ [];
     added = added ∙ (ap (λ (l : List Event). l ++ x ∷ []) p.added ∙ append_assoc first p.made (x ∷ []));
-    many = length-append p.made (x ∷ []) ∙ ap (λ (n : ℕ). n + 1) p.many;
     going = k.going;
     runs = goes old.engine k.found x p.made bytes last p.runs k.goes_on k.due k.engine refl (taken ∙ ap (λ (o : Option (ℕ × Bool)). bytes ++ taken_with o) k.byte) (over ∙ ap (λ (o : Option (ℕ × Bool)). last_with o last) k.byte);
     from = k.from ∙ sym (last_of 0 p.made x);
@@ -42,9 +41,9 @@ module _ (D M : Type 0) (stands : D → M → Type 0) (step : M → Act → M) (
   }
 
   -- where there was no memory for the event, or for the byte that was taken with it
-  pub cut_before : (e : Engined) (limit count : ℕ) (old new : Performing) (b b2 : Cabled D) (first es es2 : List Event) (bytes : List ℕ) (last : Bool) (ss : List (Station M)) (x : Event) → (p : IsPerforming D M stands step says e limit count old b first es bytes last ss)
+  pub cut_before : (e : Engined) (limit : ℕ) (old new : Performing) (b b2 : Cabled D) (first es es2 : List Event) (bytes : List ℕ) (last : Bool) (ss : List (Station M)) (x : Event) → (p : IsPerforming D M stands step says e limit old b first es bytes last ss)
       → HasNext D M stands step says old new b2 0 ss p.made x → es2 ≡ es → IsCutShort D M stands step says b2 first es2 ss
-  cut_before e limit count old new b b2 first es es2 bytes last ss x p k same =
+  cut_before e limit old new b b2 first es es2 bytes last ss x p k same =
       let a = k.going.after in
       record {
         made = p.made;
@@ -56,9 +55,9 @@ module _ (D M : Type 0) (stands : D → M → Type 0) (step : M → Act → M) (
         now = a.now;
       }
 
-  pub cut_behind : (e : Engined) (limit count : ℕ) (old new : Performing) (b b2 : Cabled D) (first es es2 : List Event) (bytes : List ℕ) (last : Bool) (ss : List (Station M)) (x : Event) → (p : IsPerforming D M stands step says e limit count old b first es bytes last ss)
+  pub cut_behind : (e : Engined) (limit : ℕ) (old new : Performing) (b b2 : Cabled D) (first es es2 : List Event) (bytes : List ℕ) (last : Bool) (ss : List (Station M)) (x : Event) → (p : IsPerforming D M stands step says e limit old b first es bytes last ss)
       → HasNext D M stands step says old new b2 0 ss p.made x → es2 ≡ es ++ x ∷ [] → IsCutShort D M stands step says b2 first es2 ss
-  cut_behind e limit count old new b b2 first es es2 bytes last ss x p k more =
+  cut_behind e limit old new b b2 first es es2 bytes last ss x p k more =
       let a = k.going.after in
       record {
         made = p.made ++ x ∷ [];
@@ -71,9 +70,9 @@ module _ (D M : Type 0) (stands : D → M → Type 0) (step : M → Act → M) (
       }
 
   -- where nothing came
-  pub performing_still : (e : Engined) (limit count : ℕ) (old new : Performing) (b b2 : Cabled D) (first es : List Event) (bytes : List ℕ) (last : Bool) (ss : List (Station M)) → (p : IsPerforming D M stands step says e limit count old b first es bytes last ss) → HasStopped D M stands step says old new b2 0 ss p.made
+  pub performing_still : (e : Engined) (limit : ℕ) (old new : Performing) (b b2 : Cabled D) (first es : List Event) (bytes : List ℕ) (last : Bool) (ss : List (Station M)) → (p : IsPerforming D M stands step says e limit old b first es bytes last ss) → HasStopped D M stands step says old new b2 0 ss p.made
       → HasPerformed D M stands step says e limit new b2 first es bytes last ss
-  performing_still e limit count old new b b2 first es bytes last ss p k = record {
+  performing_still e limit old new b b2 first es bytes last ss p k = record {
     made = p.made;
     added = p.added;
     going = k.going;
@@ -98,11 +97,10 @@ module _ (D M : Type 0) (stands : D → M → Type 0) (step : M → Act → M) (
 
   -- before the first event
   pub performing_none : (byte : (x : D) (m : M) (n : ℕ) (last : Bool) → stands x m → says m ≡ Some (n, last) → n < 256) (e : Engined) (limit : ℕ) (p : Performing) (b : Cabled D) (first : List Event) (bytes : List ℕ) (last : Bool) (ss : List (Station M)) → IsBusAt D M stands b.host b.drives ss → p.player ≡ at_start
-      → p.engine ≡ e → p.limit ≡ limit → bytes ≡ [] → last ≡ false → IsPerforming D M stands step says e limit 0 p b first first bytes last ss
+      → p.engine ≡ e → p.limit ≡ limit → bytes ≡ [] → last ≡ false → IsPerforming D M stands step says e limit p b first first bytes last ss
   performing_none byte e limit p b first bytes last ss bus player engine until none last_is = record {
     made = [];
     added = sym (append-nil first);
-    many = refl;
     going = record {
       after = subst (λ x. IsAfter D M stands step says x b 0 ss []) (sym player) (record {
         from = 0;

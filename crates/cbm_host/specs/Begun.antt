@@ -7,7 +7,7 @@ use Rattle.cbm_host.specs.declared.request.Request.{Request}
 
 -- A REQUEST IS BEGUN: the bytes so far are the first of those that the machine says in it, as it runs the acts of the whole request; where the last of them
 -- carried EOI they are all.
-pub record IsBegun (M : Type 0) (step : M → Act → M) (says : M → Option (ℕ × Bool)) (d : ℕ) (m : M) (request : Request) (bytes : List ℕ) (last : Bool) : Type 0 where
+pub record IsRequestBegun (M : Type 0) (step : M → Act → M) (says : M → Option (ℕ × Bool)) (d : ℕ) (m : M) (request : Request) (bytes : List ℕ) (last : Bool) : Type 0 where
   pub whole : List ℕ
   pub marked : Bool
   pub behind : M

@@ -20,9 +20,8 @@ use Rattle.cbm_session.specs.Playing.{Station, at_rest}
 module _ (D M : Type 0) (stands : D → M → Type 0) (step : M → Act → M) (says : M → Option (ℕ × Bool)) where
   -- A request is under way up to a limit, and these bytes were taken, whatever its events were.
   pub record IsTaking (e : Engined) (limit : ℕ) (p : Performing) (b : Cabled D) (bytes : List ℕ) (last : Bool) (ss : List (Station M)) : Type 0 where
-    pub count : ℕ
     pub made : List Event
-    pub performing : IsPerforming D M stands step says e limit count p b [] made bytes last ss
+    pub performing : IsPerforming D M stands step says e limit p b [] made bytes last ss
 
   -- No more events come of it.
   pub record HasTaken (e : Engined) (limit : ℕ) (p : Performing) (b : Cabled D) (bytes : List ℕ) (last : Bool) (ss : List (Station M)) : Type 0 where

@@ -1,5 +1,5 @@
 -- What came of a request: the events, and the bytes that the host took.
-use Rattle.std.specs.Prelude.{◌≡◌, ℕ, Bool, false, List, [], ◌∷◌, ◌++◌, length, Option, Some, None}
+use Rattle.std.specs.Prelude.{◌≡◌, ℕ, Bool, false, List, [], ◌∷◌, ◌++◌, Option, Some, None}
 use Rattle.cbm_drive.specs.Cables.{Cabled}
 use Rattle.cbm_drive.specs.Players.{from_behind}
 use Rattle.cbm_drive.specs.Seats.{IsBusAt}
@@ -32,11 +32,10 @@ module _ (M : Type 0) (step : M → Act → M) (says : M → Option (ℕ × Bool
         → e2 ≡ engine_behind x.who x.change found → es2 ≡ es ++ x ∷ [] → bytes2 ≡ bytes ++ taken_with (byte_with x.who found) → last2 ≡ last_with (byte_with x.who found) last → Runs e es2 bytes2 last2 e2
 
 module _ (D M : Type 0) (stands : D → M → Type 0) (step : M → Act → M) (says : M → Option (ℕ × Bool)) where
-  -- A REQUEST IS UNDER WAY up to a limit: so many events were added, a play of the bus, and the request runs along it.
-  pub record IsPerforming (e : Engined) (limit count : ℕ) (p : Performing) (b : Cabled D) (old new : List Event) (bytes : List ℕ) (last : Bool) (ss : List (Station M)) : Type 0 where
+  -- A REQUEST IS UNDER WAY up to a limit: events were added, a play of the bus, and the request runs along it.
+  pub record IsPerforming (e : Engined) (limit : ℕ) (p : Performing) (b : Cabled D) (old new : List Event) (bytes : List ℕ) (last : Bool) (ss : List (Station M)) : Type 0 where
     pub made : List Event
     pub added : new ≡ old ++ made
-    pub many : length made ≡ count
     pub going : IsGoing D M stands step says p b 0 ss made
     pub runs : Runs M step says ss e made bytes last p.engine
     pub from : p.player.from ≡ from_last 0 made

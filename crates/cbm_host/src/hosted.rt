@@ -6,7 +6,6 @@ ghost use Rattle.cbm_drive.specs.Seats.{Seated};
 
 use crate::performer::Performer;
 use crate::request::Request;
-use cbm_channel::Dos;
 use cbm_drive::{Bus, Desk, Drive, Party};
 use cbm_medium::Steady;
 use std::marker::Model;
@@ -60,7 +59,7 @@ impl<M: Steady> Hosted<M> {
         ensures tracks { tracks_on M.seen result ≡ (M.seen medium).tracks ∷ [] }
         ensures moment { result.moment ≡ 1000 }
     {
-        let desk = Desk::new(Dos::new(medium), device);
+        let desk = Desk::at_power_up(medium, device);
         let party = Party {
             device,
             reaction: REACTION,
@@ -187,5 +186,5 @@ fn medium_of<M: Steady>(bus: Bus<Desk<M>, 1>) -> M
     ensures { (x : Seated (desks.Desk (Kept M))) → bus.drives ≡ x ∷ [] → result ≡ x.machine.dos.medium }
 {
     let [drive] = bus.into_drives();
-    drive.into_machine().into_dos().into_medium()
+    drive.into_machine().into_medium()
 }

@@ -67,12 +67,12 @@ fn run<D: Machine, const N: usize>(
 ) -> Result<(), AllocError>
     requires one { N ≡ 1 }
     ensures performed { (e : Engined) (limit : ℕ) (old : List Event) (ss : List (Station D.State)) →
-        IsPerforming _ D.State D.stands D.step D.says e limit 0 performer.old bus.old old events.old.items
+        IsPerforming _ D.State D.stands D.step D.says e limit performer.old bus.old old events.old.items
         done.old.bytes.items done.old.last ss →
         OnOk result (HasPerformed _ D.State D.stands D.step D.says e limit performer.new bus.new old events.new.items
         done.new.bytes.items done.new.last ss) }
     ensures memory { (e : Engined) (limit : ℕ) (old : List Event) (ss : List (Station D.State)) →
-        IsPerforming _ D.State D.stands D.step D.says e limit 0 performer.old bus.old old events.old.items
+        IsPerforming _ D.State D.stands D.step D.says e limit performer.old bus.old old events.old.items
         done.old.bytes.items done.old.last ss →
         IfErr result (λ x. IsCutShort _ D.State D.stands D.step D.says bus.new old events.new.items ss) }
     ensures limit { performer.new.limit ≡ performer.old.limit }
@@ -89,15 +89,15 @@ fn step<D: Machine, const N: usize>(
     done: &mut Done,
 ) -> Result<bool, AllocError>
     requires one { N ≡ 1 }
-    ensures performing { (e : Engined) (limit count : ℕ) (old : List Event) (ss : List (Station D.State)) →
-        IsPerforming _ D.State D.stands D.step D.says e limit count performer.old bus.old old events.old.items
+    ensures performing { (e : Engined) (limit : ℕ) (old : List Event) (ss : List (Station D.State)) →
+        IsPerforming _ D.State D.stands D.step D.says e limit performer.old bus.old old events.old.items
         done.old.bytes.items done.old.last ss → IfOk result (λ more. MatchBool more
-        (IsPerforming _ D.State D.stands D.step D.says e limit (count + 1) performer.new bus.new old events.new.items
+        (IsPerforming _ D.State D.stands D.step D.says e limit performer.new bus.new old events.new.items
         done.new.bytes.items done.new.last ss)
         (HasPerformed _ D.State D.stands D.step D.says e limit performer.new bus.new old events.new.items
         done.new.bytes.items done.new.last ss)) }
-    ensures memory { (e : Engined) (limit count : ℕ) (old : List Event) (ss : List (Station D.State)) →
-        IsPerforming _ D.State D.stands D.step D.says e limit count performer.old bus.old old events.old.items
+    ensures memory { (e : Engined) (limit : ℕ) (old : List Event) (ss : List (Station D.State)) →
+        IsPerforming _ D.State D.stands D.step D.says e limit performer.old bus.old old events.old.items
         done.old.bytes.items done.old.last ss →
         IfErr result (λ x. IsCutShort _ D.State D.stands D.step D.says bus.new old events.new.items ss) }
     ensures fewer { IfOk result (λ more. more ≡ true → left_of performer.new bus.new < left_of performer.old bus.old) }

@@ -9,8 +9,8 @@ use Rattle.cbm_session.specs.Playing.{Station}
 -- the request is still under way, with the limit that it had
 abbrev pub invariant-events : goal.invariant-events
 invariant-events g l = record {
-  performing : (e : Engined) (limit : ℕ) (old : List Event) (ss : List (Station g.D.Machine.State)) → IsPerforming _ g.D.Machine.State g.D.Machine.stands g.D.Machine.step g.D.Machine.says e limit 0 l.fn.performer l.fn.bus old l.fn.events.items l.fn.done.bytes.items l.fn.done.last ss
-      → (count : ℕ) × IsPerforming _ g.D.Machine.State g.D.Machine.stands g.D.Machine.step g.D.Machine.says e limit count l.performer l.bus old l.events.items l.done.bytes.items l.done.last ss;
+  performing : (e : Engined) (limit : ℕ) (old : List Event) (ss : List (Station g.D.Machine.State)) → IsPerforming _ g.D.Machine.State g.D.Machine.stands g.D.Machine.step g.D.Machine.says e limit l.fn.performer l.fn.bus old l.fn.events.items l.fn.done.bytes.items l.fn.done.last ss
+      → IsPerforming _ g.D.Machine.State g.D.Machine.stands g.D.Machine.step g.D.Machine.says e limit l.performer l.bus old l.events.items l.done.bytes.items l.done.last ss;
   limit : l.performer.limit ≡ l.fn.performer.limit;
 }
 

@@ -9,6 +9,6 @@ pub returns-clause-rests : goal.returns-clause-rests
 returns-clause-rests g c = λ d h.
     let seen = g.M.Medium.seen in
     let m = start d (seen c.args.medium).protected (seen c.args.medium).tracks in
-    let here : Hosting _ = record { bus = c.new-3.result; device = c.args.device; moment = 1000 } in
-    rests_first seen c.args.device m here c.new-2.result refl c.new-3.ensures.host c.new-3.ensures.drives c.new-2.ensures.port
-    (subst (λ x. DeskStands seen x (at_first c.args.device m)) (sym c.new-2.ensures.machine) (c.new-desk.ensures.stands m (c.new.ensures.stands d h)))
+    let here : Hosting _ = record { bus = c.new-2.result; device = c.args.device; moment = 1000 } in
+    rests_first seen c.args.device m here c.new.result refl c.new-2.ensures.host c.new-2.ensures.drives c.new.ensures.port
+    (subst (λ x. DeskStands seen x (at_first c.args.device m)) (sym c.new.ensures.machine) (c.at_power_up-desk.ensures.stands d h))
