@@ -1,13 +1,14 @@
 -- A request under way goes on by one event.
-use Rattle.std.proofs.Common.{◌≡◌, ℕ, ◌+◌, ◌<◌, Bool, true, false, List, [], ◌∷◌, ◌++◌, Option, Some, None, Result, Ok, Err, IfErr, refl, sym, ap, ◌∙◌, subst, arith}
+use Rattle.std.proofs.Common.{◌≡◌, ℕ, zero, suc, ◌+◌, ◌<◌, ◌≤◌, Bool, true, false, List, [], ◌∷◌, ◌++◌, Option, Some, None, Result, Ok, Err, IfErr, refl, sym, ap, ◌∙◌, subst, arith}
 use Rattle.std.proofs.lemmas.List.{append_assoc, append-nil}
+use Rattle.std.proofs.lemmas.List.Elements.{All-append}
 use Rattle.std.specs.List.{AllZip}
-use Rattle.std.specs.Prelude.{MatchBool}
+use Rattle.std.specs.Prelude.{MatchBool, slice_index_or}
 use Rattle.cbm_drive.specs.Cables.{Cabled}
 use Rattle.cbm_drive.specs.Players.{at_start, from_behind, pending, IsAfter}
 use Rattle.cbm_drive.specs.Seats.{Seated, IsSeat, IsBusAt, held_by}
 use Rattle.cbm_host.specs.Engines.{Engined, engine_due}
-use Rattle.cbm_host.specs.Performed.{taken_with, last_with, from_last, begins, goes, IsPerforming, IsCutShort, HasPerformed}
+use Rattle.cbm_host.specs.Performed.{taken_with, last_with, from_last, begins, goes, IsPerforming, IsCutShort, HasAddedUpTo, HasPerformed}
 use Rattle.cbm_host.specs.Performers.{Performing, IsHandedOn, Stops, HasStopped, HasNext}
 use Rattle.cbm_iec.specs.declared.act.Act.{Act}
 use Rattle.cbm_iec.specs.declared.event.Event.{Event}
@@ -23,6 +24,26 @@ if_yes v P Q e h = subst (λ (b : Bool). MatchBool b P Q) e h
 pub if_err : {A E : Type 0} (r : Result A E) (P : E → Type 0) → ((e : E) → P e) → IfErr r P
 if_err (Ok x) P f = tt
 if_err (Err e) P f = f e
+
+-- ---- events up to a limit
+
+-- none was added; one; and more behind them
+pub added_none : (limit : ℕ) (old new : List Event) → new ≡ old → HasAddedUpTo limit old new
+added_none limit old new same = record { made = []; added = same ∙ sym (append-nil old); within = λ k d l. absurd (omega (arith, l)) }
+
+one_within : (P : Event → Type 0) (x : Event) → P x → (k : ℕ) (d : Event) → k < 1 → P (slice_index_or (x ∷ []) k d)
+one_within P x h zero d l = h
+one_within P x h (suc k) d l = absurd (omega (arith, l))
+
+pub added_one : (limit : ℕ) (old new : List Event) (x : Event) → new ≡ old ++ x ∷ [] → x.change.moment ≤ limit → HasAddedUpTo limit old new
+added_one limit old new x added within = record { made = x ∷ []; added = added; within = one_within (λ e. e.change.moment ≤ limit) x within }
+
+pub added_more : (limit : ℕ) (old mid new : List Event) → HasAddedUpTo limit old mid → HasAddedUpTo limit mid new → HasAddedUpTo limit old new
+added_more limit old mid new h k = record {
+  made = h.made ++ k.made;
+  added = k.added ∙ (ap (λ (l : List Event). l ++ k.made) h.added ∙ append_assoc old h.made k.made);
+  within = All-append (λ e. e.change.moment ≤ limit) h.made k.made h.within k.within;
+}
 
 last_of : (t : ℕ) (es : List Event) (x : Event) → from_last t (es ++ x ∷ []) ≡ from_behind x.who x.change.moment
 last_of t [] x = refl

@@ -1,5 +1,6 @@
 -- What came of a request: the events, and the bytes that the host took.
-use Rattle.std.specs.Prelude.{◌≡◌, ℕ, Bool, false, List, [], ◌∷◌, ◌++◌, Option, Some, None}
+use Rattle.std.specs.List.{All}
+use Rattle.std.specs.Prelude.{◌≡◌, ◌≤◌, ℕ, Bool, false, List, [], ◌∷◌, ◌++◌, Option, Some, None}
 use Rattle.cbm_drive.specs.Cables.{Cabled}
 use Rattle.cbm_drive.specs.Players.{from_behind}
 use Rattle.cbm_drive.specs.Seats.{IsBusAt}
@@ -22,6 +23,12 @@ last_with (Some said) last = said.1
 abbrev pub from_last : ℕ → List Event → ℕ
 from_last t [] = t
 from_last t (x ∷ xs) = from_last (from_behind x.who x.change.moment) xs
+
+-- These events were added, and none of them is later than the limit.
+pub record HasAddedUpTo (limit : ℕ) (old new : List Event) : Type 0 where
+  pub made : List Event
+  pub added : new ≡ old ++ made
+  pub within : All (λ (e : Event). e.change.moment ≤ limit) made
 
 module _ (M : Type 0) (step : M → Act → M) (says : M → Option (ℕ × Bool)) (ss : List (Station M)) where
   -- A REQUEST RUNS ALONG THESE EVENTS from drives at work: each of the host is the change that was due, each of a drive comes before what the host does

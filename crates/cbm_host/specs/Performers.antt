@@ -1,7 +1,7 @@
 -- A request played on a bus, event by event.
-use Rattle.std.specs.Prelude.{◌≡◌, ◌≤◌, ◌<◌, ◌⊎◌, ◌+◌, ℕ, min, Bool, List, [], ◌∷◌, ◌++◌, Option, Some, None, IfSome}
+use Rattle.std.specs.Prelude.{◌≡◌, ◌≤◌, ◌<◌, ◌⊎◌, ◌+◌, ℕ, min, Bool, List, [], ◌∷◌, ◌++◌, Option, Some, None, IfSome, MatchOption}
 use Rattle.cbm_drive.specs.Cables.{Cabled}
-use Rattle.cbm_drive.specs.Players.{Turns, from_behind, pending, IsAfter}
+use Rattle.cbm_drive.specs.Players.{Turns, from_behind, pending, IsAfter, IsStill}
 use Rattle.cbm_drive.specs.Silence.{AreSilent}
 use Rattle.cbm_host.specs.Engines.{Engined, stage_taken, engine_due, engine_made, engine_seen, engine_passed}
 use Rattle.cbm_host.specs.declared.due.Due.{Due}
@@ -118,3 +118,12 @@ module _ (D M : Type 0) (stands : D → M → Type 0) (step : M → Act → M) (
     pub byte : new.byte ≡ byte_with e.who found
     pub from : new.player.from ≡ from_behind e.who e.change.moment
     pub limit : new.limit ≡ old.limit
+
+  -- WHERE A REQUEST GOES ON: behind all events that came so far one more comes, or none comes, and why.
+  abbrev pub GoesOn : Performing → Performing → Cabled D → Cabled D → Option Event → Type 0
+  GoesOn old new b c result = (n : ℕ) (ss : List (Station M)) (es : List Event) → IsGoing old b n ss es → MatchOption result (HasStopped old new c n ss es) (HasCome old new c n ss es)
+
+  -- the same up to a moment, where the host does nothing else than what it has handed on
+  abbrev pub GoesUpTo : ℕ → Performing → Performing → Cabled D → Cabled D → Option Event → Type 0
+  GoesUpTo upto old new b c result = (n : ℕ) (ss : List (Station M)) (es : List Event) → (g : IsGoing old b n ss es) → IsAsked upto old.player.waiting (engine_due old.engine) → MatchOption result
+      (IsStill D M stands step says old.player new.player b c upto g.after.stations) (HasCome old new c n ss es)

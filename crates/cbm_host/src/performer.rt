@@ -38,13 +38,13 @@ impl<'a> Performer<'a> {
     ghost use Rattle.cbm_host.specs.CarriedOut.{IsShort, HasCarriedOut};
     ghost use Rattle.cbm_host.specs.Performed.{IsPerforming, HasPerformed};
     ghost use Rattle.cbm_host.specs.declared.request.Request.{Request};
-    ghost use Rattle.cbm_drive.specs.Players.{at_start, at_most, IsDrives, IsWaitingFrom, IsStill};
+    ghost use Rattle.cbm_drive.specs.Players.{at_start, at_most, IsDrives, IsWaitingFrom};
     ghost use Rattle.cbm_drive.specs.Seats.{numbers};
     ghost use Rattle.cbm_host.specs.Progress.{left_of, FallsBy};
     ghost use Rattle.cbm_host.specs.Hosted.{IsTaking, HasTaken};
     ghost use Rattle.cbm_host.specs.Engines.{Engined};
     ghost use Rattle.cbm_host.specs.Engines.{channel_of, engine_at, engine_due, stage_end};
-    ghost use Rattle.cbm_host.specs.Performers.{IsHandedOn, IsAsked, IsHeldBack, IsUnmoved, IsGoing, HasStopped, HasCome, HasNext, engine_behind, byte_with};
+    ghost use Rattle.cbm_host.specs.Performers.{IsHandedOn, IsHeldBack, IsUnmoved, IsGoing, GoesOn, GoesUpTo, HasStopped, HasCome, HasNext, engine_behind, byte_with};
     ghost use Rattle.cbm_iec.specs.declared.event.Event.{Event};
     ghost use Rattle.cbm_iec.specs.declared.line.Change.{Change};
     ghost use Rattle.cbm_host.specs.declared.due.Due.TheVariants.{Makes, Waits, Hears};
@@ -76,6 +76,7 @@ impl<'a> Performer<'a> {
             (HasNext _ D.State D.stands D.step D.says self.old self.new bus.new n ss es) }
         // Whatever the machine stands for, less is left to come behind an event.
         ensures fewer { IfSome result (λ e. left_of self.new bus.new < left_of self.old bus.old) }
+        ensures within { IfSome result (λ e. e.change.moment ≤ self.old.limit) }
         ensures limit { self.new.limit ≡ self.old.limit }
         ensures lasting { numbers D.lasting bus.new.drives ≡ numbers D.lasting bus.old.drives }
     {
@@ -180,10 +181,7 @@ impl<'a> Performer<'a> {
 
     /// The event that comes next.
     fn event<D: Machine, const N: usize>(&mut self, bus: &mut Bus<D, N>) -> Option<Event>
-        ensures come { (n : ℕ) (ss : List (Station D.State)) (es : List Event) →
-            IsGoing _ D.State D.stands D.step D.says self.old bus.old n ss es → MatchOption result
-            (HasStopped _ D.State D.stands D.step D.says self.old self.new bus.new n ss es)
-            (HasCome _ D.State D.stands D.step D.says self.old self.new bus.new n ss es) }
+        ensures come { GoesOn _ D.State D.stands D.step D.says self.old self.new bus.old bus.new result }
         ensures fewer { IfSome result (λ e. FallsBy e.who self.old self.new bus.old bus.new) }
         ensures limit { self.new.limit ≡ self.old.limit }
         ensures lasting { numbers D.lasting bus.new.drives ≡ numbers D.lasting bus.old.drives }
@@ -199,11 +197,7 @@ impl<'a> Performer<'a> {
     /// What comes up to a moment, where the host does nothing else than what it has handed on.
     fn ask<D: Machine, const N: usize>(&mut self, bus: &mut Bus<D, N>, upto: u64) -> Option<Event>
         requires { upto ≤ self.old.limit }
-        ensures come { (n : ℕ) (ss : List (Station D.State)) (es : List Event) →
-            (g : IsGoing _ D.State D.stands D.step D.says self.old bus.old n ss es) →
-            IsAsked upto self.old.player.waiting (engine_due self.old.engine) → MatchOption result
-            (IsStill _ D.State D.stands D.step D.says self.old.player self.new.player bus.old bus.new upto g.after.stations)
-            (HasCome _ D.State D.stands D.step D.says self.old self.new bus.new n ss es) }
+        ensures come { GoesUpTo _ D.State D.stands D.step D.says upto self.old self.new bus.old bus.new result }
         ensures waiting { IsWaitingFrom self.new.player.from self.new.player.waiting }
         ensures fewer { IfSome result (λ e. IsDrives e.who → at_most (self.old.limit + 1) self.new.player.second
             bus.new.drives < at_most (self.old.limit + 1) self.old.player.second bus.old.drives) }
@@ -218,11 +212,7 @@ impl<'a> Performer<'a> {
     fn heed<D: Machine, const N: usize>(&mut self, bus: &mut Bus<D, N>, upto: u64) -> Option<Event>
         requires upto { upto ≤ self.old.limit }
         requires none { (change : Change) → engine_due self.old.engine ≡ Makes change → ⊥ }
-        ensures come { (n : ℕ) (ss : List (Station D.State)) (es : List Event) →
-            (g : IsGoing _ D.State D.stands D.step D.says self.old bus.old n ss es) →
-            IsAsked upto self.old.player.waiting (engine_due self.old.engine) → MatchOption result
-            (IsStill _ D.State D.stands D.step D.says self.old.player self.new.player bus.old bus.new upto g.after.stations)
-            (HasCome _ D.State D.stands D.step D.says self.old self.new bus.new n ss es) }
+        ensures come { GoesUpTo _ D.State D.stands D.step D.says upto self.old self.new bus.old bus.new result }
         ensures waiting { IsWaitingFrom self.new.player.from self.new.player.waiting }
         ensures drive { IfSome result (λ e. IsDrives e.who) }
         ensures fewer { IfSome result (λ e. at_most (self.old.limit + 1) self.new.player.second bus.new.drives
@@ -241,10 +231,7 @@ impl<'a> Performer<'a> {
     /// What the drive does, as long as the host doesn't give up.
     fn hear<D: Machine, const N: usize>(&mut self, bus: &mut Bus<D, N>) -> Option<Event>
         requires due { engine_due self.old.engine ≡ Hears }
-        ensures come { (n : ℕ) (ss : List (Station D.State)) (es : List Event) →
-            IsGoing _ D.State D.stands D.step D.says self.old bus.old n ss es → MatchOption result
-            (HasStopped _ D.State D.stands D.step D.says self.old self.new bus.new n ss es)
-            (HasCome _ D.State D.stands D.step D.says self.old self.new bus.new n ss es) }
+        ensures come { GoesOn _ D.State D.stands D.step D.says self.old self.new bus.old bus.new result }
         ensures fewer { IfSome result (λ e. FallsBy e.who self.old self.new bus.old bus.new) }
         ensures limit { self.new.limit ≡ self.old.limit }
         ensures lasting { numbers D.lasting bus.new.drives ≡ numbers D.lasting bus.old.drives }
@@ -294,10 +281,7 @@ impl<'a> Performer<'a> {
     /// What the drive does before a moment, or what the host does then where it does nothing.
     fn wait<D: Machine, const N: usize>(&mut self, bus: &mut Bus<D, N>, until: u64) -> Option<Event>
         requires due { engine_due self.old.engine ≡ Waits until }
-        ensures come { (n : ℕ) (ss : List (Station D.State)) (es : List Event) →
-            IsGoing _ D.State D.stands D.step D.says self.old bus.old n ss es → MatchOption result
-            (HasStopped _ D.State D.stands D.step D.says self.old self.new bus.new n ss es)
-            (HasCome _ D.State D.stands D.step D.says self.old self.new bus.new n ss es) }
+        ensures come { GoesOn _ D.State D.stands D.step D.says self.old self.new bus.old bus.new result }
         ensures fewer { IfSome result (λ e. FallsBy e.who self.old self.new bus.old bus.new) }
         ensures limit { self.new.limit ≡ self.old.limit }
         ensures lasting { numbers D.lasting bus.new.drives ≡ numbers D.lasting bus.old.drives }

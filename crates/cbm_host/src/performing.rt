@@ -10,7 +10,7 @@ ghost use Rattle.cbm_host.specs.Engines.{Engined, channel_of};
 ghost use Rattle.cbm_host.specs.CarriedOut.{IsShort, HasCarriedOut};
 ghost use Rattle.cbm_iec.specs.declared.party.Party.{Party};
 ghost use Rattle.cbm_host.specs.Progress.{left_of};
-ghost use Rattle.cbm_host.specs.Performed.{IsPerforming, IsCutShort, HasPerformed};
+ghost use Rattle.cbm_host.specs.Performed.{IsPerforming, IsCutShort, HasAddedUpTo, HasPerformed};
 
 use crate::done::Done;
 use crate::performer::Performer;
@@ -39,6 +39,8 @@ pub fn perform<D: Machine, const N: usize>(
         IfOk result (λ done. HasCarriedOut _ D.State D.stands D.step D.says b ms start request.entry bus.new
         events.old.items events.new.items done.bytes.items done.last done.end) }
     ensures end { IfOk result (λ done. done.end ≤ start + 250000000) }
+    // Whatever the machine stands for, nothing happens later than that.
+    ensures within { HasAddedUpTo (start + 250000000) events.old.items events.new.items }
     ensures memory { (ss : List (Station D.State)) → IsBusAt _ D.State D.stands bus.old.host bus.old.drives ss →
         IfErr result (λ e. (e ≡ Memory) ×
         IsCutShort _ D.State D.stands D.step D.says bus.new events.old.items events.new.items ss) }
@@ -75,6 +77,7 @@ fn run<D: Machine, const N: usize>(
         IsPerforming _ D.State D.stands D.step D.says e limit performer.old bus.old old events.old.items
         done.old.bytes.items done.old.last ss →
         IfErr result (λ x. IsCutShort _ D.State D.stands D.step D.says bus.new old events.new.items ss) }
+    ensures within { HasAddedUpTo performer.old.limit events.old.items events.new.items }
     ensures limit { performer.new.limit ≡ performer.old.limit }
 {
     'events: while step(performer, bus, events, done)? {}
@@ -100,6 +103,7 @@ fn step<D: Machine, const N: usize>(
         IsPerforming _ D.State D.stands D.step D.says e limit performer.old bus.old old events.old.items
         done.old.bytes.items done.old.last ss →
         IfErr result (λ x. IsCutShort _ D.State D.stands D.step D.says bus.new old events.new.items ss) }
+    ensures within { HasAddedUpTo performer.old.limit events.old.items events.new.items }
     ensures fewer { IfOk result (λ more. more ≡ true → left_of performer.new bus.new < left_of performer.old bus.old) }
     ensures limit { performer.new.limit ≡ performer.old.limit }
 {

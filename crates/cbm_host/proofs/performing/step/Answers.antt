@@ -1,5 +1,5 @@
-use Rattle.std.proofs.Common.{◌++◌, ap, ◌∙◌}
-use Rattle.cbm_host.proofs.Performed.{if_err, cut_before, cut_behind, performing_on, performing_still}
+use Rattle.std.proofs.Common.{◌++◌, refl, ap, ◌∙◌}
+use Rattle.cbm_host.proofs.Performed.{if_err, added_none, added_one, cut_before, cut_behind, performing_on, performing_still}
 use Rattle.cbm_host.proofs.performing.step.Goals as goal
 use Rattle.cbm_host.specs.Performed.{taken_with, last_with}
 
@@ -22,3 +22,16 @@ pub returns-in_err-take-clause-memory : goal.returns-in_err-take-clause-memory
 returns-in_err-take-clause-memory g c = λ e limit old ss p.
     if_err c.from_residual-in_err-take.result _ (λ x. cut_behind _ g.D.Machine.State g.D.Machine.stands g.D.Machine.step g.D.Machine.says e limit c.args.performer.now c.next.new.self c.args.bus.now c.next.new.bus old c.args.events.now.items c.push.new.self.items c.args.done.now.bytes.items c.args.done.now.last ss
     c.in-Some.event p (c.in-Some.ensures.next 0 ss p.made p.going) c.in_ok-push.ensures.items)
+
+-- the event was added, or none
+pub returns-in_default-clause-within : goal.returns-in_default-clause-within
+returns-in_default-clause-within g c = added_none c.args.performer.now.limit c.args.events.now.items c.args.events.now.items refl
+
+pub returns-clause-within : goal.returns-clause-within
+returns-clause-within g c = added_one c.args.performer.now.limit c.args.events.now.items c.push.new.self.items c.in-Some.event c.in_ok-push.ensures.items c.in-Some.ensures.within
+
+pub returns-in_err-push-clause-within : goal.returns-in_err-push-clause-within
+returns-in_err-push-clause-within g c = added_none c.args.performer.now.limit c.args.events.now.items c.push.new.self.items c.in_err-push.ensures.items
+
+pub returns-in_err-take-clause-within : goal.returns-in_err-take-clause-within
+returns-in_err-take-clause-within g c = added_one c.args.performer.now.limit c.args.events.now.items c.push.new.self.items c.in-Some.event c.in_ok-push.ensures.items c.in-Some.ensures.within
