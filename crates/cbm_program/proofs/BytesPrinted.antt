@@ -3,8 +3,8 @@ use Rattle.std.proofs.Common.{◌≡◌, ℕ, ◌≤◌, List, [], ◌∷◌, �
 use Rattle.std.specs.Prelude.{decimal, flat_map}
 use Rattle.std.specs.Io.KnownBytes.{Appends}
 use Rattle.std.proofs.lemmas.Grind.{flat_map-append}
-use Rattle.cbm_channel.specs.Machines.{Machine}
-use Rattle.cbm_channel.specs.Standing.{Kept}
+use Rattle.cbm_drive.specs.Machines.{Machine}
+use Rattle.cbm_drive.specs.Standing.{Kept}
 use Rattle.cbm_medium.specs.Seen.{Seen}
 use Rattle.cbm_host.specs.Engines.{channel_of}
 use Rattle.cbm_host.specs.Hosted.{Hosting, AreFirst, Rests, IsUnderWay, IsGoingOn, IsOver}

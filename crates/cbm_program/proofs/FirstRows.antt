@@ -1,10 +1,10 @@
 -- Worked rows: reading a program, and the status.
 use Rattle.std.specs.Prelude.{◌≡◌, refl, [], ◌∷◌, ◌++◌, codes, Some}
 use Rattle.std.specs.Fmt.{digits}
-use Rattle.cbm_channel.specs.declared.FileType.TheVariants.{Prg}
-use Rattle.cbm_channel.specs.Files.{Bytes, with_slot}
-use Rattle.cbm_channel.specs.Machines.{Machine}
-use Rattle.cbm_channel.specs.Changes.{closed_file}
+use Rattle.cbm_file.specs.declared.file_type.FileType.TheVariants.{Prg}
+use Rattle.cbm_file.specs.Files.{Bytes, with_slot}
+use Rattle.cbm_drive.specs.Machines.{Machine}
+use Rattle.cbm_file.specs.Changes.{closed_file}
 use Rattle.cbm_program.specs.declared.request.Request.TheVariants.{Get, Close, Status}
 use Rattle.cbm_program.proofs.Words.{open_by, formatted, powered, blank, prints, status_is}
 

@@ -1,9 +1,9 @@
 -- Worked rows: a protected disk.
 use Rattle.std.specs.Prelude.{◌≡◌, refl, [], ◌∷◌, ◌++◌, codes, map, Some}
 use Rattle.std.specs.Fmt.{digits}
-use Rattle.cbm_channel.specs.declared.FileType.TheVariants.{Prg}
-use Rattle.cbm_channel.specs.Files.{with_slot}
-use Rattle.cbm_channel.specs.Machines.{Machine}
+use Rattle.cbm_file.specs.declared.file_type.FileType.TheVariants.{Prg}
+use Rattle.cbm_file.specs.Files.{with_slot}
+use Rattle.cbm_drive.specs.Machines.{Machine}
 use Rattle.cbm_program.specs.declared.request.Request.TheVariants.{Get, Status}
 use Rattle.cbm_program.proofs.Words.{open_by, put_by, formatted, protected, prints, status_is, small_file}
 use Rattle.cbm_program.proofs.NameRows.{code_after}

@@ -3,8 +3,8 @@ use Rattle.std.proofs.Common.{◌≡◌, ℕ, List, [], Bool, Option, Some, None
 use Rattle.std.specs.Prelude.{IfSome, Result, Ok, Err}
 use Rattle.cbm_medium.specs.Content.{Content}
 use Rattle.cbm_volume.specs.Holding.{HoldsDisk}
-use Rattle.cbm_channel.specs.Files.{Disk}
-use Rattle.cbm_channel.specs.Machines.{Machine, start}
+use Rattle.cbm_file.specs.Files.{Disk}
+use Rattle.cbm_drive.specs.Machines.{Machine, start}
 use Rattle.cbm_program.specs.declared.request.Request.{Request}
 use Rattle.cbm_program.specs.declared.fault.RunFault.{RunFault}
 use Rattle.cbm_program.specs.declared.fault.RunFault.TheVariants.{Script, Image, Memory, Reading, Writing}

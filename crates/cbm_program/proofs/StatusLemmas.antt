@@ -1,10 +1,10 @@
 -- The status as it is read to its end.
 use Rattle.std.proofs.Common.{◌≡◌, ◌≢◌, ℕ, zero, suc, ◌+◌, ◌<◌, ◌≤◌, Bool, Option, Some, None, List, [], ◌∷◌, ◌++◌, length, length-append, codes, subst, refl, ap, sym, ◌∙◌, arith, true, false, if◌then◌else◌}
 use Rattle.std.specs.Prelude.{◌==◌}
-use Rattle.cbm_channel.specs.Calls.{without_return}
-use Rattle.cbm_channel.specs.Machines.{Machine}
-use Rattle.cbm_channel.specs.Statuses.{status_line}
-use Rattle.cbm_channel.specs.Talking.{peek, taken, talk}
+use Rattle.cbm_drive.specs.Calls.{without_return}
+use Rattle.cbm_drive.specs.Machines.{Machine}
+use Rattle.cbm_drive.specs.Statuses.{status_line}
+use Rattle.cbm_drive.specs.Talking.{peek, taken, talk}
 use Rattle.cbm_host.proofs.Spoken.{says_from}
 use Rattle.cbm_host.proofs.Statuses.{line_short}
 use Rattle.cbm_host.specs.Hosted.{AreFirst}

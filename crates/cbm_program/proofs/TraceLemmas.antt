@@ -2,7 +2,7 @@
 use Rattle.std.proofs.Common.{◌≡◌, ℕ, List, [], ◌∷◌, ◌++◌, Bool, true, false, Option, Some, None, refl, sym, ap, subst, ◌∙◌, append-nil}
 use Rattle.std.specs.Prelude.{IfSome, IfErr, OnErr, Result, Ok, Err, codes}
 use Rattle.cbm_session.specs.Playing.{stays}
-use Rattle.cbm_channel.specs.Machines.{Machine}
+use Rattle.cbm_drive.specs.Machines.{Machine}
 use Rattle.cbm_program.specs.Beginnings.{NotTimed, FirstRead}
 use Rattle.cbm_program.specs.Checking.{checked_text}
 use Rattle.cbm_program.specs.Lines.{lines_of, TakesLine}
@@ -10,7 +10,7 @@ use Rattle.cbm_program.specs.Output.{AppendsPart, PrintsPart}
 use Rattle.cbm_program.specs.Running.{EndsAs, EndsBy, script_of}
 use Rattle.cbm_program.specs.Scripts.{printed}
 use Rattle.cbm_program.specs.Timetables.{Timetable, of_requests, of_changes, script_if, begins_timed, is_timed, timetable_of}
-use Rattle.cbm_program.specs.Traces.{IsBegun, PrintsTrace, PrintsTracePart, trace_text, powered}
+use Rattle.cbm_program.specs.Traces.{IsTraceBegun, PrintsTrace, PrintsTracePart, trace_text, powered}
 use Rattle.cbm_program.specs.declared.fault.RunFault.{RunFault}
 use Rattle.cbm_program.specs.declared.fault.RunFault.TheVariants.{Script, Image, Memory, Reading, Writing}
 use Rattle.cbm_program.proofs.OutputLemmas.{appends-nothing, appends-more, part_behind, part_before, whole_part}
@@ -79,7 +79,7 @@ cut-left text a b (Some xs) stood now device h = λ m s. (let r = h m s in let t
   whole_part a b (text ++ trace_text r.0) r.3,
 ))
 
-begun-none : (device : ℕ) (m : Machine) (t : Timetable) → IsBegun device m t []
+begun-none : (device : ℕ) (m : Machine) (t : Timetable) → IsTraceBegun device m t []
 begun-none device m t = record { from = 0; stations = powered device m; plays = stays (tt, tt) refl refl refl; rest = t.changes; hosts = refl }
 
 pub cut-text : (text : List ℕ) (a b x : Option (List ℕ)) (stood : Machine → Type 0) (device : ℕ) → ((m : Machine) → stood m → AppendsPart a b text) → Cut text a b x stood device

@@ -1,9 +1,9 @@
 -- Worked rows: files that are written, and full disks.
 use Rattle.std.specs.Prelude.{◌≡◌, refl, ℕ, List, [], ◌∷◌, ◌++◌, codes, replicate, length, Some}
 use Rattle.std.specs.Fmt.{digits}
-use Rattle.cbm_channel.specs.declared.FileType.TheVariants.{Seq}
-use Rattle.cbm_channel.specs.Files.{lost}
-use Rattle.cbm_channel.specs.Machines.{Machine}
+use Rattle.cbm_file.specs.declared.file_type.FileType.TheVariants.{Seq}
+use Rattle.cbm_file.specs.Files.{lost}
+use Rattle.cbm_drive.specs.Machines.{Machine}
 use Rattle.cbm_program.specs.declared.request.Request.{Request}
 use Rattle.cbm_program.specs.declared.request.Request.TheVariants.{Fill, Get, Close, Status}
 use Rattle.cbm_program.proofs.Words.{open_by, put_by, formatted, powered, blank, prints, behind, summary, status_is, small_file}

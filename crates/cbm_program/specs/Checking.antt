@@ -6,7 +6,7 @@ use Rattle.cbm_volume.specs.Map.{geometry_of}
 use Rattle.cbm_volume.specs.Layouts.{Layout, Sound}
 use Rattle.cbm_volume.specs.check.WholeDisk.{DiskFault}
 use Rattle.cbm_volume.specs.declared.Unsound.{Unsound}
-use Rattle.cbm_channel.specs.Machines.{Machine}
+use Rattle.cbm_drive.specs.Machines.{Machine}
 use Rattle.cbm_program.specs.declared.request.Request.{Request}
 use Rattle.cbm_program.specs.Output.{Grows}
 use Rattle.cbm_program.specs.Scripts.{Printed, printed}

@@ -7,8 +7,8 @@ use Rattle.cbm_d64.specs.Image as d64
 use Rattle.cbm_g64.specs.File as g64
 use Rattle.cbm_g64.specs.Numbers.{number_of}
 use Rattle.cbm_g64.specs.Tracks as circles
-use Rattle.cbm_channel.specs.Files.{Disk}
-use Rattle.cbm_channel.specs.Machines.{Machine, start}
+use Rattle.cbm_file.specs.Files.{Disk}
+use Rattle.cbm_drive.specs.Machines.{Machine, start}
 use Rattle.cbm_program.specs.declared.kind.Kind.{Kind}
 use Rattle.cbm_program.specs.declared.kind.Kind.TheVariants.{D64, G64}
 use Rattle.cbm_program.specs.declared.fault.RunFault.{RunFault}

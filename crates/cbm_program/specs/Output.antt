@@ -1,7 +1,7 @@
 -- What is written of what a machine prints.
 use Rattle.std.specs.Prelude.{◌≡◌, List, ℕ, ◌++◌, Option}
 use Rattle.std.specs.Io.KnownBytes.{Appends}
-use Rattle.cbm_channel.specs.Machines.{Machine}
+use Rattle.cbm_drive.specs.Machines.{Machine}
 use Rattle.cbm_program.specs.Scripts.{Printed}
 
 -- the known bytes grew by a beginning of these

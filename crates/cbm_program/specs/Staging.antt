@@ -6,9 +6,9 @@ use Rattle.cbm_iec.specs.declared.line.Change.{Change}
 use Rattle.cbm_medium.specs.Content.{Content}
 use Rattle.cbm_medium.specs.Seen.{Seen}
 use Rattle.cbm_session.specs.Playing.{Station, Plays}
-use Rattle.cbm_channel.specs.Files.{Disk}
-use Rattle.cbm_channel.specs.Machines.{Machine, start}
-use Rattle.cbm_channel.specs.Standing.{Kept, Stands}
+use Rattle.cbm_file.specs.Files.{Disk}
+use Rattle.cbm_drive.specs.Machines.{Machine, start}
+use Rattle.cbm_drive.specs.Standing.{Kept, Stands}
 use Rattle.cbm_drive.specs.Cables.{Cabled}
 use Rattle.cbm_drive.specs.Desks.{Desk, DeskStands, desk_step, desk_says}
 use Rattle.cbm_drive.specs.Ordered.{host_changes}

@@ -13,7 +13,7 @@ use Rattle.cbm_iec.specs.declared.line.Way.TheVariants.{Pull, Free}
 use Rattle.cbm_iec.specs.declared.party.Party.{Party}
 use Rattle.cbm_session.specs.Playing.{Station, Plays, IsKept, IsLaterDue, at_rest}
 use Rattle.cbm_session.specs.Timing.{HostKeeps}
-use Rattle.cbm_channel.specs.Machines.{Machine}
+use Rattle.cbm_drive.specs.Machines.{Machine}
 use Rattle.cbm_drive.specs.Desks.{Desk, at_first, desk_step, desk_says}
 use Rattle.cbm_drive.specs.Ordered.{host_changes, latest}
 use Rattle.cbm_program.specs.Output.{AppendsPart}
@@ -74,7 +74,7 @@ pub record IsTrace (device : ℕ) (m : Machine) (t : Timetable) (trace : List Ev
   pub kept : IfSome t.end (λ end. HostKeeps (drives_of device) trace end → IsKept (Desk Machine) desk_step desk_says (drives_of device) (machines_of device m) trace end (s ∷ []))
 
 -- the events of the drive under some of these changes, the first ones
-pub record IsBegun (device : ℕ) (m : Machine) (t : Timetable) (trace : List Event) : Type 0 where
+pub record IsTraceBegun (device : ℕ) (m : Machine) (t : Timetable) (trace : List Event) : Type 0 where
   pub from : ℕ
   pub stations : List (Station (Desk Machine))
   pub plays : IsPlayed device m trace from stations
@@ -90,4 +90,4 @@ PrintsTrace old new stood stands device text t = (m : Machine) → stood m
 
 -- for each machine that stood before, a beginning of what the drive does under the first changes was written
 abbrev pub PrintsTracePart : Option (List ℕ) → Option (List ℕ) → (Machine → Type 0) → ℕ → List ℕ → Timetable → Type 0
-PrintsTracePart old new stood device text t = (m : Machine) → stood m → (trace : List Event) × IsBegun device m t trace × AppendsPart old new (text ++ trace_text trace)
+PrintsTracePart old new stood device text t = (m : Machine) → stood m → (trace : List Event) × IsTraceBegun device m t trace × AppendsPart old new (text ++ trace_text trace)

@@ -1,8 +1,8 @@
 //! A script of requests, from its first line to its last or its first bad one.
 ghost use Rattle.std.specs.Prelude.{◌≡◌, ◌≢◌, ◌≤◌, ◌∷◌, [], ℕ, Bool, List, Option, Ok, IfSome, IfOk, IfErr, OnErr};
 ghost use Rattle.cbm_host.specs.Hosted.{Rests, tracks_on};
-ghost use Rattle.cbm_channel.specs.Files.{Disk};
-ghost use Rattle.cbm_channel.specs.Machines.{start};
+ghost use Rattle.cbm_file.specs.Files.{Disk};
+ghost use Rattle.cbm_drive.specs.Machines.{start};
 ghost use Rattle.cbm_medium.specs.Content.{Content};
 ghost use Rattle.cbm_volume.specs.Holding.{HoldsDisk};
 ghost use Rattle.cbm_program.specs.Images.{StartsOn};

@@ -1,7 +1,7 @@
 //! Checking a disk before a script runs on it.
 ghost use Rattle.std.specs.Prelude.{◌≡◌, ◌≤◌, true, length, IfErr, OnOk, OnErr};
 ghost use Rattle.std.specs.Io.KnownBytes.{Appends};
-ghost use Rattle.cbm_channel.specs.Files.{Disk};
+ghost use Rattle.cbm_file.specs.Files.{Disk};
 ghost use Rattle.cbm_volume.specs.Holding.{HoldsDisk};
 ghost use Rattle.cbm_program.specs.Checking.{check_line, checked_text, IsCheckPrinted};
 ghost use Rattle.cbm_program.specs.Output.{AppendsPart, Grows};

@@ -1,7 +1,7 @@
 //! Printing what a channel sends.
 ghost use Rattle.std.specs.Prelude.{◌≡◌, ◌<◌, ◌≤◌, ◌+◌, ◌^◌, ℕ, List, Bool, length, Some, IfErr, OnOk, OnErr};
 ghost use Rattle.std.specs.Io.KnownBytes.{Appends};
-ghost use Rattle.cbm_channel.specs.Machines.{Machine};
+ghost use Rattle.cbm_drive.specs.Machines.{Machine};
 ghost use Rattle.cbm_host.specs.Engines.{channel_of};
 ghost use Rattle.cbm_host.specs.Hosted.{Rests, IsGoingOn, tracks_on};
 ghost use Rattle.cbm_host.specs.Served.{served, IsModest};

@@ -1,7 +1,7 @@
 //! Printing the status.
 ghost use Rattle.std.specs.Prelude.{◌≡◌, ◌≤◌, ◌<◌, ◌+◌, ◌^◌, ◌++◌, ◌∷◌, [], length, IfErr, OnOk, OnErr};
-ghost use Rattle.cbm_channel.specs.Machines.{Machine};
-ghost use Rattle.cbm_channel.specs.Calls.{without_return};
+ghost use Rattle.cbm_drive.specs.Machines.{Machine};
+ghost use Rattle.cbm_drive.specs.Calls.{without_return};
 ghost use Rattle.cbm_host.specs.Hosted.{Rests, tracks_on};
 ghost use Rattle.cbm_program.specs.declared.request.Request.TheVariants.{Status};
 ghost use Rattle.cbm_program.specs.Scripts.{status_said, printed_by};

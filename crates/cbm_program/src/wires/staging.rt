@@ -1,15 +1,16 @@
 //! A drive under a host whose changes are made one at a time, and printed with what comes of them.
 ghost use Rattle.std.specs.Prelude.{◌≡◌, ◌-◌, ◌^◌, ◌<◌, ◌≤◌, ◌∷◌, [], ℕ, IfErr, OnOk, OnErr};
-ghost use Rattle.cbm_channel.specs.Standing.{Kept};
+ghost use Rattle.cbm_drive.specs.Machines.{Machine};
+ghost use Rattle.cbm_drive.specs.Standing.{Kept};
 ghost use Rattle.cbm_drive.specs.Desks as desks;
 ghost use Rattle.cbm_drive.specs.Seats.{Seated};
+ghost use Rattle.cbm_volume.specs.Holding.{HoldsDisk};
 ghost use Rattle.cbm_program.specs.Output.{Grows};
 ghost use Rattle.cbm_program.specs.Running.{IsOfWriting};
-ghost use Rattle.cbm_program.specs.Staging.{IsOpen, StandsOn, PlaysOn, PlaysPart, Ends, tracks_in};
+ghost use Rattle.cbm_program.specs.Staging.{IsOpen, IsBorne, StandsOn, PlaysOn, PlaysPart, Ends, tracks_in};
 
 use super::event::print_event;
 use crate::fault::RunFault;
-use cbm_channel::Dos;
 use cbm_drive::{Bus, Change, Desk, Drive, Party, Player, Who};
 use cbm_medium::Steady;
 use std::io::Write;
@@ -33,7 +34,7 @@ impl<M: Steady> Stage<M> {
             result.player result.bus }
         ensures tracks { tracks_in M.seen result.bus ≡ (M.seen medium).tracks ∷ [] }
     {
-        let desk = Desk::new(Dos::new(medium), device);
+        let desk = Desk::at_power_up(medium, device);
         let party = Party {
             device,
             reaction: REACTION,
@@ -91,10 +92,12 @@ impl<M: Steady> Stage<M> {
 
     /// The medium, with all that was written to it.
     pub(crate) fn into_medium(self) -> M
-        ensures { (x : Seated (desks.Desk (Kept M))) → self.bus.drives ≡ x ∷ [] → result ≡ x.machine.dos.medium }
+        ensures medium { (x : Seated (desks.Desk (Kept M))) → self.bus.drives ≡ x ∷ [] → result ≡ x.machine.dos.medium }
+        ensures disk { (m : Machine) → IsBorne M.seen self.bus m →
+            HoldsDisk (M.seen result).tracks (M.seen result).content m.disk }
     {
         let Stage { bus, .. } = self;
         let [drive] = bus.into_drives();
-        drive.into_machine().into_dos().into_medium()
+        drive.into_machine().into_medium()
     }
 }

@@ -2,7 +2,7 @@ use Rattle.std.proofs.Common.{◌∙◌, ◌≡◌, [], true, subst}
 use Rattle.std.proofs.lemmas.Result.{IfOk-weaker}
 use Rattle.std.specs.Io.KnownBytes.{Appends}
 use Rattle.std.specs.Prelude.{IfOk, OnErr}
-use Rattle.cbm_channel.specs.Files.{Disk}
+use Rattle.cbm_file.specs.Files.{Disk}
 use Rattle.cbm_volume.specs.Holding.{HoldsDisk}
 use Rattle.cbm_program.specs.Images.{StartsOn}
 use Rattle.cbm_program.specs.Checking.{checked_text, IsCheckPrinted}

@@ -1,6 +1,5 @@
-use Rattle.std.proofs.Common.{◌∙◌, [], Err, sym, ap, subst, length}
+use Rattle.std.proofs.Common.{◌∙◌, [], Err, ap, length}
 use Rattle.std.proofs.lemmas.Result.{err_from_is_err_and}
-use Rattle.cbm_channel.proofs.Stands.{means_of}
 use Rattle.cbm_volume.specs.Holding.{HoldsDisk}
 use Rattle.cbm_program.specs.Images.{StartsOn}
 use Rattle.cbm_program.specs.Staging.{IsAt, IsBorne}
@@ -36,9 +35,9 @@ returns-clause-disk g c = λ tracks content protected input stands t.
     let seen = g.M.Medium.seen in
     let among = among-stands tracks content protected (λ m. IsAt seen c.args.stage.player c.args.stage.bus (powered c.args.device m) []) stands in
     left-traced [] _ _ input (StartsOn tracks content protected) _ (IsBorne seen c.play_on.new.stage.bus) (λ m. HoldsDisk (seen c.into_medium.result).tracks (seen c.into_medium.result).content m.disk) c.args.device _ among
-    (λ m s. subst (λ k. HoldsDisk (seen k).tracks (seen k).content m.disk) (sym (c.into_medium.ensures s.0 s.1)) (means_of _ _ _ _ _ _ m s.2)) (c.in_ok-play_on.ensures.ended input t)
+    c.into_medium.ensures.disk (c.in_ok-play_on.ensures.ended input t)
 
 pub returns-clause-same_tracks : goal.returns-clause-same_tracks
 returns-clause-same_tracks g c =
     let same = c.in_ok-play_on.ensures.tracks in
-    sole_tracks g.M.Medium.seen c.play_on.new.stage.bus c.into_medium.result (ap length same ∙ c.requires.one) c.into_medium.ensures ∙ same
+    sole_tracks g.M.Medium.seen c.play_on.new.stage.bus c.into_medium.result (ap length same ∙ c.requires.one) c.into_medium.ensures.medium ∙ same
