@@ -1,7 +1,7 @@
 ghost use Rattle.std.specs.Prelude.{◌≡◌, ℕ, ◌<◌, ◌↔◌, Some};
 ghost use Rattle.cbm_gcr.specs.Code.{ten_bits};
 
-use crate::nibble::{code_of, nibble_of};
+use crate::nibble::{code_of, high_of, low_of};
 
 /// The ten bits of a byte, the high nibble's five first.
 pub(crate) fn ten_of(byte: u8) -> u64
@@ -16,7 +16,6 @@ pub(crate) fn byte_of(ten: u64) -> Option<u8>
     requires { ten < 1024 }
     ensures { (b : ℕ) → b < 256 → ((result ≡ Some b) ↔ (ten ≡ ten_bits b)) }
 {
-    let high = nibble_of((ten / 32) as usize)?;
-    let low = nibble_of((ten % 32) as usize)?;
-    Some(16 * high + low)
+    let byte = high_of((ten / 32) as usize) + low_of((ten % 32) as usize);
+    if byte < 256 { Some(byte as u8) } else { None }
 }

@@ -1,4 +1,4 @@
-ghost use Rattle.std.specs.Prelude.{◌≡◌, ℕ, ◌<◌, ◌↔◌, Some, IfSome};
+ghost use Rattle.std.specs.Prelude.{◌≡◌, ℕ, ◌*◌, ◌/◌, ◌<◌};
 ghost use Rattle.cbm_gcr.specs.Code.{nibble_code};
 
 const CODES: [u8; 16] = [
@@ -14,18 +14,37 @@ pub(crate) fn code_of(nibble: u8) -> u8
     CODES[nibble as usize]
 }
 
-/// The nibbles of five bits, 16 where they are the code of none.
-const NIBBLES: [u8; 32] = [
-    16, 16, 16, 16, 16, 16, 16, 16, 16, 8, 0, 1, 16, 12, 4, 5, 16, 16, 2, 3, 16, 15, 6, 7, 16, 9,
-    10, 11, 16, 13, 14, 16,
+/// What stands for no nibble, in both tables: more than any byte.
+const NONE: u16 = 256;
+
+/// The nibbles of five bits, `NONE` where they are the code of none.
+const NIBBLES: [u16; 32] = [
+    NONE, NONE, NONE, NONE, NONE, NONE, NONE, NONE, NONE, 8, 0, 1, NONE, 12, 4, 5, NONE, NONE, 2,
+    3, NONE, 15, 6, 7, NONE, 9, 10, 11, NONE, 13, 14, NONE,
 ];
 
-/// The nibble of five bits, where they are one's code.
-pub(crate) fn nibble_of(five: usize) -> Option<u8>
+/// The same, each as the high nibble of a byte.
+const HIGH_NIBBLES: [u16; 32] = [
+    NONE, NONE, NONE, NONE, NONE, NONE, NONE, NONE, NONE, 128, 0, 16, NONE, 192, 64, 80, NONE,
+    NONE, 32, 48, NONE, 240, 96, 112, NONE, 144, 160, 176, NONE, 208, 224, NONE,
+];
+
+/// The nibble of five bits; 256 where they are the code of none.
+pub(crate) fn low_of(five: usize) -> u16
     requires { five < 32 }
-    ensures value { (n : ℕ) → n < 16 → ((result ≡ Some n) ↔ (five ≡ nibble_code n)) }
-    ensures below { IfSome result (λ n. n < 16) }
+    ensures value { (n : ℕ) → n < 16 → five ≡ nibble_code n → result ≡ n }
+    ensures known { result < 256 → (result < 16) × (five ≡ nibble_code result) }
+    ensures most { result < 257 }
 {
-    let nibble = NIBBLES[five];
-    if nibble < 16 { Some(nibble) } else { None }
+    NIBBLES[five]
+}
+
+/// Sixteen times the nibble of five bits; 256 where they are the code of none.
+pub(crate) fn high_of(five: usize) -> u16
+    requires { five < 32 }
+    ensures value { (n : ℕ) → n < 16 → five ≡ nibble_code n → result ≡ 16 * n }
+    ensures known { result < 256 → (result ≡ 16 * (result / 16)) × (five ≡ nibble_code (result / 16)) }
+    ensures most { result < 257 }
+{
+    HIGH_NIBBLES[five]
 }

@@ -15,6 +15,7 @@ pub fn decoding_undoes_code()
 {}
 
 /// The four bytes whose code stands at a byte of others.
+#[inline(always)]
 fn group_in(coded: &[u8], at: usize) -> Option<[u8; 4]>
     requires inside { at + 5 ≤ length coded.now }
     requires few { length coded.now ≤ 325 }

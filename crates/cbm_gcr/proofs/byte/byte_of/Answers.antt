@@ -1,42 +1,38 @@
-use Rattle.std.proofs.Common.{◌≡◌, ◌+◌, ◌*◌, ◌/◌, ◌%◌, Some, None, arith, ap, sym, refl, ◌∙◌}
-use Rattle.cbm_gcr.specs.Code.{nibble_code}
+use Rattle.std.proofs.Common.{◌≡◌, ℕ, ◌+◌, ◌*◌, ◌/◌, ◌%◌, ◌<◌, Some, arith, ap, sym, ◌∙◌}
+use Rattle.cbm_gcr.specs.Code.{nibble_code, ten_bits}
 use Rattle.cbm_gcr.proofs.Bits.{nibble_below}
 use Rattle.cbm_gcr.proofs.byte.byte_of.Goals as goal
 
-pub returns-in_err-high : goal.returns-in_err-high
-returns-in_err-high c = λ b h. (
-  λ e. absurd (cc),
-  λ e.
-      let high : c.args.ten / 32 ≡ nibble_code (b / 16) = omega (arith, nibble_below (b / 16) (omega arith), nibble_below (b % 16) (omega arith)) in
-      let n : None ≡ Some (b / 16) = (c.in_err-high.ensures.value (b / 16) (omega arith)).1 high in
-      absurd (cc),
-)
+-- the two nibbles of a byte whose code ten bits are
+high_in : (ten b : ℕ) → b < 256 → ten ≡ ten_bits b → ten / 32 ≡ nibble_code (b / 16)
+high_in ten b h e = omega (arith, nibble_below (b / 16) (omega arith), nibble_below (b % 16) (omega arith))
 
-pub returns-in_err-low : goal.returns-in_err-low
-returns-in_err-low c = λ b h. (
-  λ e. absurd (cc),
-  λ e.
-      let low : c.args.ten % 32 ≡ nibble_code (b % 16) = omega (arith, nibble_below (b / 16) (omega arith), nibble_below (b % 16) (omega arith)) in
-      let n : None ≡ Some (b % 16) = (c.in_err-low.ensures.value (b % 16) (omega arith)).1 low in
-      absurd (cc),
-)
+low_in : (ten b : ℕ) → b < 256 → ten ≡ ten_bits b → ten % 32 ≡ nibble_code (b % 16)
+low_in ten b h e = omega (arith, nibble_below (b / 16) (omega arith), nibble_below (b % 16) (omega arith))
 
-pub returns : goal.returns
-returns c =
-    let high : c.args.ten / 32 ≡ nibble_code c.in_ok-high.high = (c.in_ok-high.ensures.value c.in_ok-high.high c.in_ok-high.ensures.below).0 refl in
-    let low : c.args.ten % 32 ≡ nibble_code c.in_ok-low.low = (c.in_ok-low.ensures.value c.in_ok-low.low c.in_ok-low.ensures.below).0 refl in
-    λ b h. (
+pub returns-then-byte-lt256 : goal.returns-then-byte-lt256
+returns-then-byte-lt256 c =
+    let h : ℕ = c.high_of.result in
+    let l : ℕ = c.low_of.result in
+    let low = c.low_of.ensures.known (omega (arith, c.if-byte-lt256.true)) in
+    let high = c.high_of.ensures.known (omega (arith, c.if-byte-lt256.true)) in
+    λ b hb. (
       λ e.
-          let same : 16 * c.in_ok-high.high + c.in_ok-low.low ≡ b = cc in
-          let m : b / 16 ≡ c.in_ok-high.high = omega (arith, c.in_ok-low.ensures.below) in
-          let n : b % 16 ≡ c.in_ok-low.low = omega (arith, c.in_ok-low.ensures.below) in
-          omega (arith, high ∙ ap nibble_code (sym m), low ∙ ap nibble_code (sym n)),
+          let same : h + l ≡ b = cc in
+          let m : b / 16 ≡ h / 16 = omega (arith, high.0, low.0) in
+          let n : b % 16 ≡ l = omega (arith, high.0, low.0) in
+          omega (arith, high.1 ∙ ap nibble_code (sym m), low.1 ∙ ap nibble_code (sym n)),
       λ e.
-          let high' : c.args.ten / 32 ≡ nibble_code (b / 16) = omega (arith, nibble_below (b / 16) (omega arith), nibble_below (b % 16) (omega arith)) in
-          let low' : c.args.ten % 32 ≡ nibble_code (b % 16) = omega (arith, nibble_below (b / 16) (omega arith), nibble_below (b % 16) (omega arith)) in
-          let m : Some c.in_ok-high.high ≡ Some (b / 16) = (c.in_ok-high.ensures.value (b / 16) (omega arith)).1 high' in
-          let n : Some c.in_ok-low.low ≡ Some (b % 16) = (c.in_ok-low.ensures.value (b % 16) (omega arith)).1 low' in
-          let m' : c.in_ok-high.high ≡ b / 16 = cc in
-          let n' : c.in_ok-low.low ≡ b % 16 = cc in
+          let m : h ≡ 16 * (b / 16) = c.high_of.ensures.value (b / 16) (omega arith) (high_in c.args.ten b hb e) in
+          let n : l ≡ b % 16 = c.low_of.ensures.value (b % 16) (omega arith) (low_in c.args.ten b hb e) in
           ap Some (omega arith),
     )
+
+pub returns-else-byte-lt256 : goal.returns-else-byte-lt256
+returns-else-byte-lt256 c = λ b hb. (
+  λ e. absurd (cc),
+  λ e.
+      let m : c.high_of.result ≡ 16 * (b / 16) = c.high_of.ensures.value (b / 16) (omega arith) (high_in c.args.ten b hb e) in
+      let n : c.low_of.result ≡ b % 16 = c.low_of.ensures.value (b % 16) (omega arith) (low_in c.args.ten b hb e) in
+      absurd (omega (arith, c.if-byte-lt256.false)),
+)
