@@ -1,0 +1,14 @@
+use Rattle.std.proofs.Common.{rules}
+use Rattle.cbm_iec.proofs.ear.Ear.clock.Goals as goal
+
+-- CLOCK frees DATA, or cancels that
+pub returns-in-Holding : goal.returns-in-Holding
+returns-in-Holding c = search rules
+
+-- a byte that begins at once has no EOI
+pub returns-in-Ready : goal.returns-in-Ready
+returns-in-Ready c = search rules
+
+-- a bit is read with CLOCK's release
+pub returns-after-data_low : goal.returns-after-data_low
+returns-after-data_low c = search rules
