@@ -5,6 +5,7 @@ mod circles;
 mod disks;
 mod drives;
 mod records;
+mod scripts;
 mod wires;
 mod writes;
 
@@ -21,5 +22,6 @@ fn main(rt: HostRuntime) -> io::Result<()> {
     writes::copies(&rt, rt.alloc())?;
     records::files(&rt, rt.alloc())?;
     wires::drives(&rt, rt.alloc())?;
+    scripts::requests(&rt, rt.alloc())?;
     circles::images(&rt, rt.alloc())
 }

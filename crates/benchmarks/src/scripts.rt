@@ -1,0 +1,109 @@
+use crate::disks::{failed, report};
+use crate::writes::succeeded;
+use cbm_channel::Dos;
+use cbm_d64::D64Disk;
+use cbm_program::{Options, run};
+use std::alloc::Global;
+use std::io;
+use std::rt::Runtime;
+use std::time::Instant;
+use test_images::empty_image;
+
+/// How often the short script runs.
+const TURNS: u32 = 100;
+
+/// How often a file of 664 blocks is written or read.
+const LONG_TURNS: u32 = 3;
+
+/// A program of three bytes is read.
+const HELLO: &str = "open 0 HELLO\nget 0 100\nstatus\n";
+
+/// A file of 664 blocks is written, and read.
+const WRITING: &str = "open 1 BIG\nfill 1 168656 41\nclose 1\n";
+
+const READING: &str = "open 0 BIG\nget 0 200000\n";
+
+/// A drive whose disk may be written.
+const WRITABLE: Options = Options {
+    device: 8,
+    protected: false,
+    check: false,
+};
+
+/// The disk that a script leaves of an image, where it prints so many bytes.
+fn played(alloc: Global, image: &[u8], script: &str, printed: usize) -> io::Result<Vec<u8>> {
+    let mut out: Vec<u8> = Vec::new(alloc);
+    let ended = run(alloc, script.as_bytes(), &mut out, image, &WRITABLE);
+    if out.len() != printed {
+        return Err(failed());
+    }
+    ended.map_err(|_| failed())
+}
+
+/// Prints the time of a script that prints so many bytes.
+fn timed(
+    rt: &impl Runtime,
+    alloc: Global,
+    name: &str,
+    image: &[u8],
+    row: (&str, usize, u32),
+) -> io::Result<()> {
+    let (script, printed, turns) = row;
+    let start = Instant::now(rt)?;
+    for _ in 0..turns {
+        let _after = played(alloc, image, script, printed)?;
+    }
+    report(rt, name, &start, turns)
+}
+
+/// The same file by the DOS's calls, on a disk of its own: written, and read.
+fn direct(rt: &impl Runtime, alloc: Global, image: &[u8]) -> io::Result<()> {
+    let disk = D64Disk::from_bytes(alloc, image, false).map_err(|_| failed())?;
+    let mut dos = Dos::new(disk);
+    let start = Instant::now(rt)?;
+    dos.open(1, b"BIG");
+    for _ in 0..168_656u32 {
+        dos.put(1, 0x41);
+    }
+    dos.close(1);
+    report(rt, "664 blocks written by calls", &start, 1)?;
+    let start = Instant::now(rt)?;
+    dos.open(0, b"BIG");
+    dos.talk(0);
+    for _ in 0..168_656u32 {
+        dos.taken(0);
+    }
+    report(rt, "664 blocks read by calls", &start, 1)?;
+    succeeded(&dos, 0)
+}
+
+/// Scripts over the wires, beside the same by the DOS's calls.
+pub fn requests(rt: &impl Runtime, alloc: Global) -> io::Result<()> {
+    let image = empty_image(alloc)?;
+    let hello = played(
+        alloc,
+        image.as_slice(),
+        "open 1 HELLO\nput 1 \\01\\02\\03\nclose 1\n",
+        0,
+    )?;
+    let row = (HELLO, 37, TURNS);
+    timed(rt, alloc, "HELLO read by a script", hello.as_slice(), row)?;
+    let full = played(alloc, image.as_slice(), WRITING, 0)?;
+    let row = (WRITING, 0, LONG_TURNS);
+    timed(
+        rt,
+        alloc,
+        "664 blocks written by a script",
+        image.as_slice(),
+        row,
+    )?;
+    let row = (READING, 337_323, LONG_TURNS);
+    timed(
+        rt,
+        alloc,
+        "664 blocks read by a script",
+        full.as_slice(),
+        row,
+    )?;
+    direct(rt, alloc, image.as_slice())
+}
