@@ -11,6 +11,15 @@ const TRIES: u32 = 100;
 /// How many links are followed, as many as the system does.
 const LINKS: u32 = 40;
 
+/// Whether bytes have to be on the host's disk before they get a file's name.
+#[derive(Clone, Copy, Debug, PartialEq, Eq)]
+pub enum Sync {
+    /// They have, so that also a power cut leaves the old file or the new one.
+    Before,
+    /// The system may write them when it likes.
+    Later,
+}
+
 /// Writes the bytes beside the file, and then gives them the file's name. At an `Err` the file is as it was. What is
 /// there and is no regular file, as a device, is written to as it stands. A link stays a link, also one to nothing yet,
 /// and the file that was there leaves its mode to the new one.
@@ -22,6 +31,17 @@ pub fn save<R: Files + AllocGlobal>(
     path: &str,
     bytes: &[u8],
 ) -> io::Result<()> {
+    save_by(rt, program, path, bytes, Sync::Before)
+}
+
+/// As `save`, with a choice of whether the bytes are on the host's disk before they get the file's name.
+pub fn save_by<R: Files + AllocGlobal>(
+    rt: &R,
+    program: &str,
+    path: &str,
+    bytes: &[u8],
+    sync: Sync,
+) -> io::Result<()> {
     match fs::metadata(rt, path) {
         Ok(metadata) if metadata.is_file() => {
             let place = end_of_links(rt, path)?;
@@ -32,12 +52,13 @@ pub fn save<R: Files + AllocGlobal>(
                 place.as_path(),
                 bytes,
                 Some(metadata.permissions()),
+                sync,
             )
         }
         Ok(_) => fs::write(rt, path, bytes),
         Err(error) if error.kind() == ErrorKind::NotFound => {
             let place = end_of_links(rt, path)?;
-            save_beside(rt, program, place.as_path(), bytes, None)
+            save_beside(rt, program, place.as_path(), bytes, None, sync)
         }
         Err(error) => Err(error),
     }
@@ -73,6 +94,7 @@ fn save_beside<R: Files + AllocGlobal>(
     path: Path<'_>,
     bytes: &[u8],
     permissions: Option<Permissions>,
+    sync: Sync,
 ) -> io::Result<()> {
     for number in 0..TRIES {
         let name = format!(in rt.alloc(); "{program}.{number}.new")?;
@@ -83,7 +105,7 @@ fn save_beside<R: Files + AllocGlobal>(
             .open(rt, new.as_path());
         match file {
             Ok(file) => {
-                let saved = put_in_place(rt, file, new.as_path(), path, bytes, permissions);
+                let saved = put_in_place(rt, file, new.as_path(), path, bytes, permissions, sync);
                 if saved.is_err() {
                     let _ = fs::remove_file(rt, new.as_path());
                 }
@@ -103,11 +125,14 @@ fn put_in_place<R: Files>(
     path: Path<'_>,
     bytes: &[u8],
     permissions: Option<Permissions>,
+    sync: Sync,
 ) -> io::Result<()> {
     file.write_all(bytes)?;
     if let Some(permissions) = permissions {
         file.set_permissions(permissions)?;
     }
-    file.sync_all()?;
+    if sync == Sync::Before {
+        file.sync_all()?;
+    }
     fs::rename(rt, new, path)
 }

@@ -3,4 +3,4 @@
 
 mod beside;
 
-pub use beside::save;
+pub use beside::{Sync, save, save_by};
