@@ -7,3 +7,4 @@ pub mod ChangeLemmas
 pub mod ImageLemmas
 pub mod ConvertLemmas
 pub mod SectorLemmas
+pub mod MapLemmas

@@ -8,3 +8,5 @@ pub mod Making
 pub mod Sectors
 pub mod Converting
 pub mod Mapping
+pub mod Marking
+pub mod OpenDisk

@@ -7,6 +7,7 @@ ghost use Rattle.cbm_volume.specs.Holding.{HasBytes, StandsAt};
 ghost use Rattle.cbm_program.specs.Images.{kind_of, tracks_of, ImageHolds};
 ghost use Rattle.cbm_shell.specs.Converting.{held_by};
 ghost use Rattle.cbm_shell.specs.Images.{IsChecked, OrOpenFault};
+ghost use Rattle.cbm_shell.specs.Mapping.{picture_of};
 ghost use Rattle.cbm_shell.specs.Sectors.{faults_in};
 
 mod facts;
@@ -16,26 +17,15 @@ mod slots;
 
 use crate::fault::ShellFault;
 use crate::images::opened;
-use crate::reading::read_file;
+use crate::open_disk::OpenDisk;
 use cbm_d64::D64Disk;
 use cbm_g64::G64Disk;
 use cbm_program::{DiskImage, Kind, kind_of};
-use cbm_volume::{Entry, Volume};
+use cbm_volume::Entry;
 pub use facts::{Info, info_of};
 pub use mapping::{Mark, picture_of};
 pub use slots::entries_of;
 use std::alloc::Global;
-
-/// The entries in an image of one format.
-fn entries_in<I: DiskImage + Drop>(alloc: Global, image: &[u8]) -> Result<Vec<Entry>, ShellFault>
-    requires { kind_of image.now ≡ I.kind }
-    ensures { let content = held_by image.now in
-        IfOk result (λ v. directory_of (geometry_of (tracks_of (kind_of image.now) image.now) content) content
-        ≡ (record { entries = v.items; trouble = None })) }
-{
-    let volume = Volume::open(opened::<I>(alloc, image)?);
-    entries_of(alloc, &volume)
-}
 
 /// The entries of an image's directory in order, those of empty slots too. Errors: `Image`; `Trouble` where the directory
 /// can't be followed to its end; `Memory`.
@@ -44,25 +34,8 @@ pub fn entries(alloc: Global, image: &[u8]) -> Result<Vec<Entry>, ShellFault>
         IfOk result (λ v. directory_of (geometry_of (tracks_of (kind_of image.now) image.now) content) content
         ≡ (record { entries = v.items; trouble = None })) }
 {
-    match kind_of(image) {
-        Kind::D64 => entries_in::<D64Disk>(alloc, image),
-        Kind::G64 => entries_in::<G64Disk>(alloc, image),
-    }
-}
-
-/// The file of an entry in an image of one format.
-fn file_of_in<I: DiskImage + Drop>(
-    alloc: Global,
-    image: &[u8],
-    entry: &Entry,
-) -> Result<Vec<u8>, ShellFault>
-    requires { kind_of image.now ≡ I.kind }
-    ensures { let kind = kind_of image.now in (d : Disk) (n : ℕ) (bytes : List ℕ) → ImageHolds kind image.now d →
-        StandsAt (tracks_of kind image.now) (held_by image.now) n entry.now → HasBytes d n bytes →
-        MatchResult result (λ v. v.items ≡ bytes) (OrOpenFault (λ fault. fault ≡ ShellFault.Memory)) }
-{
-    let volume = Volume::open(opened::<I>(alloc, image)?);
-    read_file(alloc, &volume, entry)
+    let disk = OpenDisk::open(alloc, image)?;
+    disk.entries(alloc)
 }
 
 /// The bytes of the file of an entry that stands in an image's directory; of a relative file all records. Errors: `Image`;
@@ -73,10 +46,8 @@ pub fn file_of(alloc: Global, image: &[u8], entry: &Entry) -> Result<Vec<u8>, Sh
         StandsAt (tracks_of kind image.now) (held_by image.now) n entry.now → HasBytes d n bytes →
         MatchResult result (λ v. v.items ≡ bytes) (OrOpenFault (λ fault. fault ≡ ShellFault.Memory)) }
 {
-    match kind_of(image) {
-        Kind::D64 => file_of_in::<D64Disk>(alloc, image, entry),
-        Kind::G64 => file_of_in::<G64Disk>(alloc, image, entry),
-    }
+    let disk = OpenDisk::open(alloc, image)?;
+    disk.file_of(alloc, entry)
 }
 
 /// What the disk of an image of one format is.
@@ -111,10 +82,24 @@ pub fn info(alloc: Global, image: &[u8]) -> Result<Info, ShellFault>
     }
 }
 
+/// A picture of the sectors in an image of one format.
+fn picture_in<I: DiskImage + Drop>(alloc: Global, image: &[u8]) -> Result<Vec<u8>, ShellFault>
+    requires { kind_of image.now ≡ I.kind }
+    ensures { let content = held_by image.now in
+        IfOk result (λ v. v.items ≡ picture_of (geometry_of (tracks_of (kind_of image.now) image.now) content) content) }
+{
+    let disk = opened::<I>(alloc, image)?;
+    picture_of(alloc, disk)
+}
+
 /// A picture of an image's sectors, as lines: a sign for each sector, and what the signs mean. Errors: `Image`, `Memory`.
-pub fn picture(alloc: Global, image: &[u8]) -> Result<Vec<u8>, ShellFault> {
+pub fn picture(alloc: Global, image: &[u8]) -> Result<Vec<u8>, ShellFault>
+    // A sector is shown as used exactly where the directory, its map or a closed file has it.
+    ensures { let content = held_by image.now in
+        IfOk result (λ v. v.items ≡ picture_of (geometry_of (tracks_of (kind_of image.now) image.now) content) content) }
+{
     match kind_of(image) {
-        Kind::D64 => picture_of(alloc, opened::<D64Disk>(alloc, image)?),
-        Kind::G64 => picture_of(alloc, opened::<G64Disk>(alloc, image)?),
+        Kind::D64 => picture_in::<D64Disk>(alloc, image),
+        Kind::G64 => picture_in::<G64Disk>(alloc, image),
     }
 }

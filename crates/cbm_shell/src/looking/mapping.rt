@@ -1,7 +1,11 @@
 //! A picture of a disk's sectors.
-ghost use Rattle.std.specs.Prelude.{◌≡◌, ◌≤◌};
+ghost use Rattle.std.specs.Prelude.{◌≡◌, ◌≤◌, [], ◌∷◌, ◌++◌, nat_lt, if◌then◌else◌, codes, decimal, IfOk, OnOk};
+ghost use Rattle.cbm_medium.specs.Place.{directory_head, sectors_on};
+ghost use Rattle.cbm_volume.specs.Map.{geometry_of};
+ghost use Rattle.cbm_volume.specs.Slots.{directory_of};
 ghost use Rattle.cbm_bam.specs.Marks.{is_marked};
-ghost use Rattle.cbm_shell.specs.Mapping.{mark_by, mark_of};
+ghost use Rattle.cbm_shell.specs.Mapping.{mark_by, mark_of, sign_of, chain_of, sectors_of, in_files, used_in, is_among, entries_in, free_by, sign_at, signs_on, row_of, rows_of, picture_of};
+ghost use Rattle.cbm_shell.specs.Marking.{with_places};
 
 use crate::fault::ShellFault;
 use crate::looking::slots::entries_of;
@@ -34,7 +38,9 @@ pub enum Mark {
 
 impl Mark {
     /// Its sign in the picture.
-    fn sign(self) -> u8 {
+    fn sign(self) -> u8
+        ensures { result ≡ sign_of self }
+    {
         match self {
             Mark::Free => b'.',
             Mark::Used => b'#',
@@ -68,50 +74,125 @@ fn mark_of<M: Medium>(medium: &M, at: Address, used: &SectorSet, free: bool) -> 
     }
 }
 
-/// Puts the sectors of a chain into the set, up to its end or to one that is there.
+/// Puts the sectors of a chain into the set, up to its end or to what cuts it off.
 fn use_chain<M: Medium>(medium: &M, geometry: Geometry, from: Link, used: &mut SectorSet)
     requires { geometry ≤ (M.seen medium.now).tracks }
+    ensures { is_marked used.new
+        ≡ with_places (is_marked used.old) (chain_of geometry (M.seen medium.now).content from) }
 {
     let mut link = from;
-    for _ in 0..geometry.sectors() {
+    let count = geometry.sectors();
+    for done in 0..count {
         let Some(at) = link.address(geometry) else {
             return;
         };
-        if used.has(at) {
-            return;
-        }
-        used.insert(at);
         let Ok(bytes) = medium.read(at) else {
             return;
         };
+        used.insert(at);
         link = Link::of(&bytes);
+    }
+}
+
+/// Puts the sectors of an entry's file into the set, if it was closed.
+fn use_file<M: Medium>(medium: &M, geometry: Geometry, entry: &Entry, used: &mut SectorSet)
+    requires { geometry ≤ (M.seen medium.now).tracks }
+    ensures { is_marked used.new
+        ≡ with_places (is_marked used.old) (sectors_of geometry (M.seen medium.now).content entry.now) }
+{
+    if !entry.is_closed() {
+        return;
+    }
+    use_chain(medium, geometry, entry.first_block(), used);
+    if entry.is_relative() {
+        use_chain(medium, geometry, entry.first_side(), used);
     }
 }
 
 /// Puts the sectors of the closed files into the set.
 fn use_files<M: Medium>(medium: &M, geometry: Geometry, entries: &[Entry], used: &mut SectorSet)
     requires { geometry ≤ (M.seen medium.now).tracks }
+    ensures { is_marked used.new
+        ≡ with_places (is_marked used.old) (in_files geometry (M.seen medium.now).content entries.now) }
 {
     for entry in entries {
-        if entry.is_empty() || !entry.is_closed() {
-            continue;
-        }
-        use_chain(medium, geometry, entry.first_block(), used);
-        if entry.is_relative() {
-            use_chain(medium, geometry, entry.first_side(), used);
-        }
+        use_file(medium, geometry, entry, used);
     }
 }
 
 /// The sectors that the directory and the closed files use.
 fn used_sectors<M: Medium>(medium: &M, geometry: Geometry, entries: &[Entry]) -> SectorSet
     requires { geometry ≤ (M.seen medium.now).tracks }
+    ensures { is_marked result ≡ is_among (used_in geometry (M.seen medium.now).content entries.now) }
 {
     let mut used = SectorSet::new();
     use_chain(medium, geometry, Link::new(18, 0), &mut used);
     use_chain(medium, geometry, Link::new(18, 1), &mut used);
     use_files(medium, geometry, entries, &mut used);
     used
+}
+
+/// Whether the map has a sector as free; no sector where 18/0 can't be read.
+fn is_free_at<M: Medium>(medium: &M, geometry: Geometry, at: Address) -> bool
+    requires { geometry ≤ (M.seen medium.now).tracks }
+    ensures { result ≡ free_by ((M.seen medium.now).content directory_head) at }
+{
+    match is_free(medium, geometry, at) {
+        Ok(free) => free,
+        Err(_) => false,
+    }
+}
+
+/// Adds the sign of a sector.
+fn add_sign<M: Medium>(
+    out: &mut Vec<u8>,
+    medium: &M,
+    geometry: Geometry,
+    used: &SectorSet,
+    at: Address,
+) -> Result<(), AllocError>
+    requires room { geometry ≤ (M.seen medium.now).tracks }
+    requires track { at.track ≤ geometry }
+    ensures { OnOk result (out.new.items
+        ≡ out.old.items ++ sign_at (M.seen medium.now).content (is_marked used.now) at ∷ []) }
+{
+    let free = is_free_at(medium, geometry, at);
+    out.push(mark_of(medium, at, used, free).sign()).map_err(AllocError::from)
+}
+
+/// Adds the signs of a track.
+fn add_signs<M: Medium>(
+    out: &mut Vec<u8>,
+    medium: &M,
+    geometry: Geometry,
+    used: &SectorSet,
+    track: u8,
+) -> Result<(), AllocError>
+    requires room { geometry ≤ (M.seen medium.now).tracks }
+    requires track { track ≤ geometry }
+    ensures { OnOk result (out.new.items
+        ≡ out.old.items ++ signs_on (M.seen medium.now).content (is_marked used.now) track (sectors_on track)) }
+{
+    for sector in 0..sectors_of(track) {
+        match Address::new(track, sector) {
+            Some(at) => add_sign(out, medium, geometry, used, at)?,
+            None => unreachable!(),
+        }
+    }
+    Ok(())
+}
+
+/// Adds the number of a track, two places wide, and spaces.
+fn add_number(out: &mut Vec<u8>, track: u8) -> Result<(), AllocError>
+    ensures { OnOk result (out.new.items
+        ≡ out.old.items ++ (if nat_lt track 10 then codes " " else []) ++ decimal track ++ codes "     ") }
+{
+    let mut buffer = Buffer::new();
+    if track < 10 {
+        out.extend_from_slice(b" ")?;
+    }
+    out.extend_from_slice(buffer.format(track).as_bytes())?;
+    out.extend_from_slice(b"     ")
 }
 
 /// Adds the line of a track.
@@ -124,38 +205,56 @@ fn add_track<M: Medium>(
 ) -> Result<(), AllocError>
     requires room { geometry ≤ (M.seen medium.now).tracks }
     requires track { track ≤ geometry }
+    ensures { OnOk result (out.new.items
+        ≡ out.old.items ++ row_of (M.seen medium.now).content (is_marked used.now) track) }
 {
-    let mut buffer = Buffer::new();
-    if track < 10 {
-        out.extend_from_slice(b" ")?;
-    }
-    out.extend_from_slice(buffer.format(track).as_bytes())?;
-    out.extend_from_slice(b"     ")?;
-    for sector in 0..sectors_of(track) {
-        if let Some(at) = Address::new(track, sector) {
-            let free = is_free(medium, geometry, at).unwrap_or(false);
-            out.push(mark_of(medium, at, used, free).sign())?;
-        }
-    }
+    add_number(out, track)?;
+    add_signs(out, medium, geometry, used, track)?;
     out.extend_from_slice(b"\n")
+}
+
+/// The entries of a disk's directory; none where it can't be followed to its end.
+fn entries_or_none<M: Medium>(alloc: Global, volume: &Volume<M>) -> Result<Vec<Entry>, ShellFault>
+    ensures { let now = M.seen volume.now in IfOk result (λ v.
+        v.items ≡ entries_in (directory_of (geometry_of now.tracks now.content) now.content)) }
+{
+    match entries_of(alloc, volume) {
+        Ok(entries) => Ok(entries),
+        Err(ShellFault::Trouble(_)) => Ok(Vec::new(alloc)),
+        Err(fault) => Err(fault),
+    }
+}
+
+/// The lines of the tracks.
+fn add_tracks<M: Medium>(
+    out: &mut Vec<u8>,
+    medium: &M,
+    geometry: Geometry,
+    used: &SectorSet,
+) -> Result<(), AllocError>
+    requires { geometry ≤ (M.seen medium.now).tracks }
+    ensures { OnOk result (out.new.items
+        ≡ out.old.items ++ rows_of (M.seen medium.now).content (is_marked used.now) geometry) }
+{
+    for track in 0..geometry.tracks() {
+        add_track(out, medium, geometry, used, track + 1)?;
+    }
+    Ok(())
 }
 
 /// A line for each track that the disk uses, with a sign for each sector, between a heading and what the signs mean.
 /// Where the directory can't be followed to its end, no file's sectors are used. The one error is `Memory`.
-pub fn picture_of<M: Medium + Drop>(alloc: Global, medium: M) -> Result<Vec<u8>, ShellFault> {
+pub fn picture_of<M: Medium + Drop>(alloc: Global, medium: M) -> Result<Vec<u8>, ShellFault>
+    ensures { let now = M.seen medium in
+        IfOk result (λ v. v.items ≡ picture_of (geometry_of now.tracks now.content) now.content) }
+{
     let volume = Volume::open(medium);
     let geometry = volume.geometry();
-    let entries = match entries_of(alloc, &volume) {
-        Ok(entries) => entries,
-        Err(ShellFault::Memory) => return Err(ShellFault::Memory),
-        Err(_) => Vec::new(alloc),
-    };
+    let entries = entries_or_none(alloc, &volume)?;
     let medium = volume.into_medium();
     let used = used_sectors(&medium, geometry, entries.as_slice());
     let mut out = Vec::from_slice(alloc, HEAD)?;
-    for track in 0..geometry.tracks() {
-        add_track(&mut out, &medium, geometry, &used, track + 1)?;
-    }
+    add_tracks(&mut out, &medium, geometry, &used)?;
     out.extend_from_slice(LEGEND)?;
     Ok(out)
 }

@@ -1,0 +1,13 @@
+use Rattle.std.proofs.Common.{◌≡◌, ℕ, None}
+use Rattle.std.specs.Prelude.{IfOk}
+use Rattle.cbm_medium.specs.Content.{Content}
+use Rattle.cbm_volume.specs.Slots.{directory_of}
+use Rattle.cbm_volume.specs.Map.{geometry_of}
+use Rattle.cbm_shell.specs.OpenDisk.{shown_by}
+use Rattle.cbm_shell.proofs.ImageLemmas.{of_image}
+use Rattle.cbm_shell.proofs.looking.entries.Goals as goal
+
+pub returns : goal.returns
+returns c =
+    of_image (λ (n : ℕ) (t : Content). IfOk c.entries.result (λ v. directory_of (geometry_of n t) t ≡ record { entries = v.items; trouble = None }))
+    c.args.image.now (shown_by c.in_ok-disk.disk) c.in_ok-disk.ensures.ok c.entries.ensures

@@ -1,0 +1,10 @@
+-- What the disk of an image shows.
+use Rattle.cbm_medium.specs.Seen.{Seen}
+use Rattle.cbm_d64.specs.Image as d64
+use Rattle.cbm_g64.specs.Tracks as g64
+use Rattle.cbm_shell.specs.declared.open_disk.OpenDisk.{OpenDisk}
+use Rattle.cbm_shell.specs.declared.open_disk.OpenDisk.TheVariants.{D64, G64}
+
+abbrev pub shown_by : OpenDisk → Seen
+shown_by (D64 disk) = d64.seen_of disk
+shown_by (G64 disk) = g64.seen_of disk

@@ -1,0 +1,67 @@
+//! The disk of an image, for several looks.
+ghost use Rattle.std.specs.Prelude.{◌≡◌, ℕ, List, None, IfErr, IfOk, MatchResult};
+ghost use Rattle.cbm_file.specs.Files.{Disk};
+ghost use Rattle.cbm_volume.specs.Slots.{directory_of};
+ghost use Rattle.cbm_volume.specs.Map.{geometry_of};
+ghost use Rattle.cbm_volume.specs.Holding.{HasBytes, HoldsDisk, StandsAt};
+ghost use Rattle.cbm_shell.specs.Images.{IsOpened, IsOpenFault};
+ghost use Rattle.cbm_shell.specs.OpenDisk.{shown_by};
+
+use crate::fault::ShellFault;
+use crate::images::opened;
+use crate::looking::entries_of;
+use crate::reading::read_file;
+use cbm_d64::D64Disk;
+use cbm_g64::G64Disk;
+use cbm_program::{Kind, kind_of};
+use cbm_volume::{Entry, Volume};
+use std::alloc::Global;
+
+/// The disk of an image. It is opened once, however often one looks into it.
+#[derive(Drop)]
+pub enum OpenDisk {
+    /// That of a D64.
+    D64(Volume<D64Disk>),
+    /// That of a G64.
+    G64(Volume<G64Disk>),
+}
+
+impl OpenDisk {
+    /// The disk of an image. Errors: `Image`, `Memory`.
+    pub fn open(alloc: Global, image: &[u8]) -> Result<OpenDisk, ShellFault>
+        ensures ok { IfOk result (λ disk. IsOpened image.now (shown_by disk)) }
+        ensures err { IfErr result (IsOpenFault image.now) }
+    {
+        match kind_of(image) {
+            Kind::D64 => Ok(OpenDisk::D64(Volume::open(opened::<D64Disk>(alloc, image)?))),
+            Kind::G64 => Ok(OpenDisk::G64(Volume::open(opened::<G64Disk>(alloc, image)?))),
+        }
+    }
+
+    /// The entries of its directory in order, those of empty slots too. Errors: `Trouble` where the directory can't be
+    /// followed to its end; `Memory`.
+    pub fn entries(&self, alloc: Global) -> Result<Vec<Entry>, ShellFault>
+        ensures { let now = shown_by self.now in
+            IfOk result (λ v. directory_of (geometry_of now.tracks now.content) now.content
+            ≡ (record { entries = v.items; trouble = None })) }
+    {
+        match self {
+            OpenDisk::D64(volume) => entries_of(alloc, volume),
+            OpenDisk::G64(volume) => entries_of(alloc, volume),
+        }
+    }
+
+    /// The bytes of the file of an entry that stands in its directory; of a relative file all records. Errors: `Trouble`,
+    /// where its chain can't be followed to its end; `Memory`.
+    pub fn file_of(&self, alloc: Global, entry: &Entry) -> Result<Vec<u8>, ShellFault>
+        // A closed file without records on a sound disk is got byte for byte.
+        ensures { let now = shown_by self.now in (d : Disk) (n : ℕ) (bytes : List ℕ) →
+            HoldsDisk now.tracks now.content d → StandsAt now.tracks now.content n entry.now → HasBytes d n bytes →
+            MatchResult result (λ v. v.items ≡ bytes) (λ fault. fault ≡ ShellFault.Memory) }
+    {
+        match self {
+            OpenDisk::D64(volume) => read_file(alloc, volume, entry),
+            OpenDisk::G64(volume) => read_file(alloc, volume, entry),
+        }
+    }
+}
