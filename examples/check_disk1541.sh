@@ -1,10 +1,10 @@
 #!/bin/sh
 # Runs disk1541 as docs/DISK1541.md says, and on what the gate can't: files, exit statuses, sentences, how images are saved.
-# Usage: sh check_disk1541.sh DISK1541 [DISKS] (the path of the built program, and how many disks are generated, 100 if none is
+# Usage: sh check_disk1541.sh DISK1541 [DISKS] (the path of the built program, and how many disks are generated, 1000 if none is
 # said). Prints one line a case; ends with 1 if one is wrong. As root it also tries a full disk and a folder without leave.
 set -u
 disk=$(realpath "$1")
-disks=${2:-100}
+disks=${2:-1000}
 here=$(dirname "$(realpath "$0")")
 work=$(mktemp -d)
 trap 'rm -rf "$work"' EXIT
@@ -38,7 +38,20 @@ hello='0 "TEST            " AB 2A
 none='0 "TEST            " AB 2A
 663 BLOCKS FREE.             '
 
-# the how-tos
+# The how-tos: each command of the document, in its order, and what it prints.
+mkdir how_to
+cp "$here/hello.d64" how_to
+printf '\001\010game' > how_to/game.prg
+ln -s "$disk" how_to/disk1541
+sed -n '/^## How to/,/^## Exit/p' "$here/../docs/DISK1541.md" | grep -o '`disk1541 [^`]*`' | tr -d '`' > commands.txt
+while read -r line; do
+    echo "\$ $line"
+    (cd how_to && PATH=.:$PATH && eval "$line" 2>&1) || echo "status $?"
+done < commands.txt > told.txt
+is "the ten how-tos of the document print what they should" cmp told.txt "$here/how_to.txt"
+is "and take out, put in and make what they say" test "$(cd how_to && echo *)" = "FOLDER disk1541 empty.d64 game.prg hello.d64 hello.g64 hello.prg"
+
+# each command, its refusals too
 case_of "list" 0 "$hello" "" "$disk" list hello.d64
 case_of "list with a pattern" 0 "$none" "" "$disk" list hello.d64 'X*'
 printf '\001\002\003' > three.bin
@@ -163,8 +176,16 @@ many() {
         k=$((k + 1))
     done
     case_of "a 145th file on $1" 1 "" "disk1541: $1: the disk is full (status 72)" "$disk" put "$1" in.bin --name MORE
-    case_of "144 files are listed" 0 any "" "$disk" list "$1"
-    is "one a line" test "$(wc -l < out.txt)" = 146
+    {
+        echo '0 "MANY            " 64 2A'
+        k=1
+        while [ $k -le 144 ]; do
+            printf '1    %-18s PRG  \n' "\"FILE$k\""
+            k=$((k + 1))
+        done
+        echo '520 BLOCKS FREE.             '
+    } > lines.txt
+    case_of "144 files are listed" 0 "$(cat lines.txt)" "" "$disk" list "$1"
     rm -rf taken
     case_of "all are taken out" 0 "" "" "$disk" get-all "$1" taken
     k=1
@@ -179,7 +200,14 @@ many() {
 many many.d64
 many many.g64
 
-# Generated disks: files of many lengths, some of them deleted; all that is left goes to a new disk of the other format.
+# What a terminal shows of a command that takes long.
+is "progress on a terminal" python3 "$here/on_terminal.py" "$disk" many.d64
+
+# Generated disks: files of many kinds, names and lengths, which go to a new disk of the other format, byte for byte.
+is "$disks generated disks, their files on new ones" python3 "$here/generated_disks.py" "$disk" "$disks"
+
+# Disks that were made by commands: files of many lengths, some of them deleted; all that is left goes to a new disk of the other
+# format.
 number=1
 next() {
     number=$(((number * 1103515245 + 12345) % 2147483648))
@@ -188,7 +216,7 @@ next() {
 head -c 40000 /dev/urandom > noise.bin
 k=0
 bad=0
-while [ $k -lt "$disks" ]; do
+while [ $k -lt 100 ]; do
     old=d64
     new=g64
     [ $((k % 2)) = 0 ] || { old=g64; new=d64; }
@@ -217,7 +245,7 @@ while [ $k -lt "$disks" ]; do
     [ "$("$disk" check old.img)$("$disk" check new.img)" = soundsound ] || bad=1
     k=$((k + 1))
 done
-is "$disks generated disks, their files on new ones" test $bad = 0
+is "100 disks made by commands, their files on new ones" test $bad = 0
 
 # what goes wrong
 head -c 174847 hello.d64 > short.d64
@@ -244,28 +272,39 @@ is "at all" cmp -s unsound.d64 before.d64
 case_of "until it is put in order" 0 "" "" "$disk" validate unsound.d64
 case_of "and then is sound" 0 "sound" "" "$disk" check unsound.d64
 
-# faults of the host
+# Faults of the host: a sentence, a status, and the image as it was.
 cp "$here/hello.d64" host.d64
 cp host.d64 before.d64
 mkdir -p folder
-case_of "a folder as output" 3 "" any "$disk" get host.d64 HELLO -o folder
-case_of "a folder as file" 3 "" any "$disk" put host.d64 folder
-case_of "a folder as new image" 1 "" any "$disk" new folder --title x --id 64 --format d64
-case_of "a file as folder" 3 "" any "$disk" get-all host.d64 three.bin
-case_of "closed standard output" 3 any any sh -c "$disk list host.d64 >&-"
+fault_of() {
+    case_of "$@"
+    is "the image is as it was" cmp -s host.d64 before.d64
+}
+fault_of "a folder as output" 3 "" "disk1541: can't write folder: is a directory" "$disk" get host.d64 HELLO -o folder
+fault_of "a folder as file" 3 "" "disk1541: can't read folder: is a directory" "$disk" put host.d64 folder
+fault_of "a folder as new image" 1 "" "disk1541: folder is there already: take another name, or --replace" "$disk" new folder --title x --id 64 --format d64
+fault_of "a folder to be replaced" 3 "" "disk1541: can't write folder: is a directory" "$disk" new folder --title x --id 64 --format d64 --replace
+fault_of "a file as folder" 3 "" "disk1541: can't write three.bin: entity already exists" "$disk" get-all host.d64 three.bin
+fault_of "closed standard output" 3 any "disk1541: can't write standard output: uncategorized error" sh -c "$disk list host.d64 >&-"
+fault_of "a full standard output" 3 any "disk1541: can't write standard output: no storage space" sh -c "$disk list host.d64 > /dev/full"
+fault_of "closed standard output for an image" 3 any "disk1541: can't write standard output: uncategorized error" sh -c "$disk put - game.prg < host.d64 >&-"
+fault_of "a limit on a file's size" 3 "" "disk1541: can't write host.d64: file too large" sh -c "trap '' XFSZ; ulimit -f 100; exec $disk put host.d64 game.prg --name NEW"
+is "and nothing is left beside" test ! -e disk1541.0.new
 if [ "$(id -u)" = 0 ]; then
     chmod 755 "$work"
     cp "$disk" tool && chmod 755 tool
     if setpriv --reuid=65534 --regid=65534 --clear-groups "$work/tool" --version > out.txt 2>&1; then
         chmod 644 host.d64
-        case_of "no leave to write" 3 "" any setpriv --reuid=65534 --regid=65534 --clear-groups "$work/tool" put host.d64 game.prg
+        fault_of "no leave to write" 3 "" "disk1541: can't write host.d64: permission denied" setpriv --reuid=65534 --regid=65534 --clear-groups "$work/tool" put host.d64 game.prg
+        chmod 666 host.d64
+        fault_of "no leave to write beside" 3 "" "disk1541: can't write host.d64: permission denied" setpriv --reuid=65534 --regid=65534 --clear-groups "$work/tool" put host.d64 game.prg
         chmod 600 host.d64
-        case_of "no leave to read" 3 "" any setpriv --reuid=65534 --regid=65534 --clear-groups "$work/tool" list host.d64
+        fault_of "no leave to read" 3 "" "disk1541: can't read host.d64: permission denied" setpriv --reuid=65534 --regid=65534 --clear-groups "$work/tool" list host.d64
     fi
     if mount -t tmpfs -o size=300k none folder 2> /dev/null; then
         cp host.d64 folder/full.d64
         cat /dev/zero > folder/filler 2> /dev/null
-        case_of "a full disk" 3 "" any "$disk" put folder/full.d64 game.prg
+        case_of "a full disk" 3 "" "disk1541: can't write folder/full.d64: no storage space" "$disk" put folder/full.d64 game.prg
         is "leaves the image as it was" cmp -s folder/full.d64 before.d64
         is "and nothing beside" test "$(ls folder | wc -l)" = 2
         umount folder

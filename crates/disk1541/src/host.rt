@@ -1,5 +1,6 @@
 //! Files of the host, standard input and standard output.
 use crate::failure::Failure;
+use host_files::Sync;
 use std::alloc::Global;
 use std::fs;
 use std::io::{self, Read, Write};
@@ -38,7 +39,8 @@ pub fn print<'a, R: Runtime + AllocGlobal>(rt: &R, bytes: &[u8]) -> Result<(), F
         .map_err(|error| Failure::of_writing(error, "standard output"))
 }
 
-/// Writes a file of the host whole or not at all, or standard output.
+/// Writes an image whole or not at all, or standard output. The new image is on the host's disk before it takes the
+/// place of the old one.
 pub fn write<'a, R: Runtime + AllocGlobal>(
     rt: &R,
     name: &'a str,
@@ -47,12 +49,24 @@ pub fn write<'a, R: Runtime + AllocGlobal>(
     if name == STANDARD {
         return print(rt, bytes);
     }
-    save(rt, name, bytes).map_err(|error| Failure::of_writing(error, name))
+    host_files::save(rt, PROGRAM, name, bytes).map_err(|error| Failure::of_writing(error, name))
 }
 
-/// Writes a file of the host whole or not at all.
-pub fn save<R: Runtime + AllocGlobal>(rt: &R, path: &str, bytes: &[u8]) -> io::Result<()> {
-    host_files::save(rt, PROGRAM, path, bytes)
+/// Writes a file that was taken out, or standard output.
+pub fn hand_out<'a, R: Runtime + AllocGlobal>(
+    rt: &R,
+    name: &'a str,
+    bytes: &[u8],
+) -> Result<(), Failure<'a>> {
+    if name == STANDARD {
+        return print(rt, bytes);
+    }
+    lay_out(rt, name, bytes).map_err(|error| Failure::of_writing(error, name))
+}
+
+/// Writes a file that was taken out whole or not at all. Nothing waits for the host's disk: the image still has the file.
+pub fn lay_out<R: Runtime + AllocGlobal>(rt: &R, path: &str, bytes: &[u8]) -> io::Result<()> {
+    host_files::save_by(rt, PROGRAM, path, bytes, Sync::Later)
 }
 
 /// Whether a name is that of standard input or output.

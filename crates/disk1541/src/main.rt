@@ -11,6 +11,7 @@ mod looking;
 mod making;
 mod names;
 mod program;
+mod progress;
 mod taking;
 mod tasks;
 

@@ -68,16 +68,29 @@ fn digit(value: u8) -> char {
     }
 }
 
+/// The character of a host's name for a code, None where a host can't have it: a letter typed with SHIFT is a capital letter.
+fn host_char(code: u8) -> Option<char> {
+    match code {
+        193..=218 => Some(char::from(code - 128)),
+        code if is_plain(code) => Some(char_of(code)),
+        _ => None,
+    }
+}
+
+/// Adds a code as `%XX`.
+fn add_escaped(text: &mut String, code: u8) -> Result<(), AllocError> {
+    text.push('%')?;
+    text.push(digit(code / 16))?;
+    text.push(digit(code))
+}
+
 /// The name of a host's file for a name on a disk, without an ending: codes that a host can't have are `%XX`.
 pub fn host_name(alloc: Global, name: &[u8]) -> Result<String, AllocError> {
     let mut text = String::new(alloc);
     for (place, code) in name.iter().enumerate() {
-        if is_plain(*code) && !(place == 0 && *code == b'.') {
-            text.push(char_of(*code))?;
-        } else {
-            text.push('%')?;
-            text.push(digit(*code / 16))?;
-            text.push(digit(*code))?;
+        match host_char(*code) {
+            Some(shown) if place > 0 || shown != '.' => text.push(shown)?,
+            _ => add_escaped(&mut text, *code)?,
         }
     }
     if name.is_empty() {

@@ -1,11 +1,13 @@
 //! The program: the words of the command line, the task, the exit status.
 use crate::arguments;
+use crate::progress::Progress;
 use crate::tasks::carry_out;
 use std::process::ExitCode;
 use std::{env, io};
 
 /// Carries out the command line, and answers the exit status, also where its sentence can't be written.
 pub fn run_program(rt: &HostRuntime) -> ExitCode {
+    let progress = Progress::begin(rt);
     let Ok(words) = words_of(rt) else {
         let _ = eprintln!(rt; "disk1541: a word of the command line is no text");
         return ExitCode::from(1);
@@ -18,7 +20,7 @@ pub fn run_program(rt: &HostRuntime) -> ExitCode {
             return ExitCode::from(u8::from(!is_asked));
         }
     };
-    match carry_out(rt, task) {
+    match carry_out(rt, task, progress) {
         Ok(()) => ExitCode::from(0),
         Err(failure) => {
             let _ = failure.tell(rt);

@@ -1,8 +1,9 @@
 //! Commands that take files out.
 use crate::failure::Failure;
-use crate::host::{exists, read, save, write};
+use crate::host::{exists, hand_out, lay_out, read};
 use crate::names::{host_name, petscii, shown};
-use cbm_shell::ShellFault;
+use crate::progress::Progress;
+use cbm_shell::{OpenDisk, ShellFault};
 use cbm_volume::Entry;
 use std::alloc::{AllocError, Global};
 use std::path::{Path, PathBuf};
@@ -21,7 +22,7 @@ pub fn get<'a, R: Runtime + AllocGlobal>(
     let file = cbm_shell::file(rt.alloc(), bytes.as_slice(), pattern.as_slice()).map_err(
         |fault| Failure::Disk(name, fault),
     )?;
-    write(rt, output, file.as_slice())
+    hand_out(rt, output, file.as_slice())
 }
 
 /// The ending of a file's name by its type.
@@ -35,24 +36,34 @@ fn ending(entry: &Entry) -> &'static str {
     }
 }
 
-/// The name of a host's file for an entry; from the second of one name on with its number.
-fn file_name(alloc: Global, entry: &Entry, number: usize) -> Result<String, AllocError> {
-    let name = host_name(alloc, entry.name())?;
-    let end = ending(entry);
-    if number == 0 {
-        return format!(in alloc; "{name}.{end}");
-    }
-    format!(in alloc; "{name}~{number}.{end}")
+/// The names of the host's files so far, without their numbers.
+#[derive(Drop)]
+struct Names {
+    taken: Vec<String>,
 }
 
-/// How many entries of the same name and type stand before one.
-fn number_of(entries: &[Entry], entry: &Entry) -> usize {
-    entries
-        .iter()
-        .filter(|other| !other.is_empty()
-            && other.name() == entry.name()
-            && ending(other) == ending(entry))
-        .count()
+impl Names {
+    /// The name of a host's file for the next entry; from the second of one name on it has a number.
+    fn next(&mut self, alloc: Global, entry: &Entry) -> Result<String, AllocError> {
+        let base = host_name(alloc, entry.name())?;
+        let end = ending(entry);
+        let first = format!(in alloc; "{base}.{end}")?;
+        let number = self.count(first.as_str());
+        self.taken.push(first)?;
+        if number == 0 {
+            return format!(in alloc; "{base}.{end}");
+        }
+        format!(in alloc; "{base}~{number}.{end}")
+    }
+
+    /// How many names so far are this one.
+    fn count(&self, name: &str) -> usize {
+        self.taken
+            .as_slice()
+            .iter()
+            .filter(|other| other.as_str() == name)
+            .count()
+    }
 }
 
 /// Tells of a file that isn't taken out.
@@ -71,11 +82,11 @@ fn tell_left(rt: &impl Eprint, name: &str, fault: ShellFault) -> io::Result<()> 
 }
 
 /// The bytes of an entry's file, if it was closed.
-fn bytes_of(alloc: Global, image: &[u8], entry: &Entry) -> Result<Vec<u8>, ShellFault> {
+fn bytes_of(alloc: Global, disk: &OpenDisk, entry: &Entry) -> Result<Vec<u8>, ShellFault> {
     if !entry.is_closed() {
         return Err(ShellFault::NotClosed);
     }
-    cbm_shell::file_of(alloc, image, entry)
+    disk.file_of(alloc, entry)
 }
 
 /// Saves a file under a name, and tells the name where it isn't that of the disk. Answers whether it was saved.
@@ -91,7 +102,7 @@ fn save_as<R: Runtime + AllocGlobal>(
         let _ = eprintln!(rt; "disk1541: {place} is there already: --replace replaces it");
         return false;
     }
-    if let Err(error) = save(rt, place, bytes) {
+    if let Err(error) = lay_out(rt, place, bytes) {
         let kind = error.kind();
         let _ = eprintln!(rt; "disk1541: can't write {place}: {kind}");
         return false;
@@ -106,13 +117,13 @@ fn save_as<R: Runtime + AllocGlobal>(
 /// Takes the file of an entry out. Answers whether it was saved.
 fn take<R: Runtime + AllocGlobal>(
     rt: &R,
-    image: &[u8],
+    disk: &OpenDisk,
     entry: &Entry,
     path: &PathBuf,
     replaces: bool,
 ) -> Result<bool, AllocError> {
     let name = shown(rt.alloc(), entry.name())?;
-    match bytes_of(rt.alloc(), image, entry) {
+    match bytes_of(rt.alloc(), disk, entry) {
         Ok(bytes) => Ok(save_as(
             rt,
             path.as_path(),
@@ -130,22 +141,25 @@ fn take<R: Runtime + AllocGlobal>(
 /// Takes the files of all entries out, and answers whether all were saved.
 fn take_all<R: Runtime + AllocGlobal>(
     rt: &R,
-    image: &[u8],
+    disk: &OpenDisk,
     entries: &[Entry],
     folder: &str,
     replaces: bool,
+    progress: Progress,
 ) -> Result<bool, AllocError> {
+    let alloc = rt.alloc();
+    let mut names = Names {
+        taken: Vec::new(alloc),
+    };
     let mut are_saved = true;
     for (place, entry) in entries.iter().enumerate() {
-        if entry.is_empty() {
-            continue;
-        }
-        let number = number_of(&entries[..place], entry);
-        let name = file_name(rt.alloc(), entry, number)?;
-        let path = Path::new(folder).join(rt.alloc(), name.as_str())?;
-        let is_saved = take(rt, image, entry, &path, replaces)?;
+        let name = names.next(alloc, entry)?;
+        let path = Path::new(folder).join(alloc, name.as_str())?;
+        let is_saved = take(rt, disk, entry, &path, replaces)?;
         are_saved = are_saved && is_saved;
+        progress.tell(rt, place + 1, entries.len());
     }
+    progress.clear(rt);
     Ok(are_saved)
 }
 
@@ -158,19 +172,28 @@ fn make_folder<'a, R: Runtime + AllocGlobal>(rt: &R, folder: &'a str) -> Result<
     }
 }
 
+/// The disk of an image, and the entries of the files in its directory.
+fn opened(alloc: Global, image: &[u8]) -> Result<(OpenDisk, Vec<Entry>), ShellFault> {
+    let disk = OpenDisk::open(alloc, image)?;
+    let mut entries = disk.entries(alloc)?;
+    entries.retain(|entry| !entry.is_empty());
+    Ok((disk, entries))
+}
+
 /// Takes all files out, into a folder.
 pub fn get_all<'a, R: Runtime + AllocGlobal>(
     rt: &R,
     image: &'a str,
     folder: &'a str,
     replaces: bool,
+    progress: Progress,
 ) -> Result<(), Failure<'a>> {
     let bytes = read(rt, image)?;
-    let entries = cbm_shell::entries(rt.alloc(), bytes.as_slice()).map_err(|fault| Failure::Disk(
+    let (disk, entries) = opened(rt.alloc(), bytes.as_slice()).map_err(|fault| Failure::Disk(
         image, fault,
     ))?;
     make_folder(rt, folder)?;
-    match take_all(rt, bytes.as_slice(), entries.as_slice(), folder, replaces) {
+    match take_all(rt, &disk, entries.as_slice(), folder, replaces, progress) {
         Ok(true) => Ok(()),
         Ok(false) => Err(Failure::Told),
         Err(_) => Err(Failure::NoMemory),

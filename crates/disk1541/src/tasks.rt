@@ -4,11 +4,16 @@ use crate::changing::{delete, letter_of, put, validate, with_names};
 use crate::failure::Failure;
 use crate::looking::{check, info, list, map};
 use crate::making::{convert, make};
+use crate::progress::Progress;
 use crate::taking::{get, get_all};
 use std::rt::Runtime;
 
 /// Carries out a task that only looks, or makes an image; None for one that changes an image.
-fn look<'a, R: Runtime + AllocGlobal>(rt: &R, task: Task<'a>) -> Option<Result<(), Failure<'a>>> {
+fn look<'a, R: Runtime + AllocGlobal>(
+    rt: &R,
+    task: Task<'a>,
+    progress: Progress,
+) -> Option<Result<(), Failure<'a>>> {
     match task {
         Task::List {
             image,
@@ -24,7 +29,7 @@ fn look<'a, R: Runtime + AllocGlobal>(rt: &R, task: Task<'a>) -> Option<Result<(
             image,
             folder,
             replaces,
-        } => Some(get_all(rt, image, folder, replaces)),
+        } => Some(get_all(rt, image, folder, replaces, progress)),
         Task::Info { image } => Some(info(rt, image)),
         Task::Map { image } => Some(map(rt, image)),
         Task::Check { image } => Some(check(rt, image)),
@@ -66,8 +71,12 @@ fn change<'a, R: Runtime + AllocGlobal>(rt: &R, task: Task<'a>) -> Result<(), Fa
 }
 
 /// Carries out a task.
-pub fn carry_out<'a, R: Runtime + AllocGlobal>(rt: &R, task: Task<'a>) -> Result<(), Failure<'a>> {
-    match look(rt, task) {
+pub fn carry_out<'a, R: Runtime + AllocGlobal>(
+    rt: &R,
+    task: Task<'a>,
+    progress: Progress,
+) -> Result<(), Failure<'a>> {
+    match look(rt, task, progress) {
         Some(done) => done,
         None => change(rt, task),
     }
