@@ -157,7 +157,8 @@ fn add_sign<M: Medium>(
         ≡ out.old.items ++ sign_at (M.seen medium.now).content (is_marked used.now) at ∷ []) }
 {
     let free = is_free_at(medium, geometry, at);
-    out.push(mark_of(medium, at, used, free).sign()).map_err(AllocError::from)
+    out.push(mark_of(medium, at, used, free).sign())
+        .map_err(AllocError::from)
 }
 
 /// Adds the signs of a track.
