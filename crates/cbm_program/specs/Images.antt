@@ -2,6 +2,7 @@
 use Rattle.std.specs.Prelude.{ℕ, ◌≡◌, List, length, take, codes, Bool, nat_eq, ◌||◌, if◌then◌else◌, Option, Some, None, option_map}
 use Rattle.std.specs.Str.{bytes_eq}
 use Rattle.cbm_medium.specs.Content.{Content}
+use Rattle.cbm_medium.specs.Seen.{Seen}
 use Rattle.cbm_volume.specs.Holding.{HoldsDisk}
 use Rattle.cbm_d64.specs.Image as d64
 use Rattle.cbm_g64.specs.File as g64
@@ -44,6 +45,14 @@ ImageHolds kind image d = HoldsDisk (tracks_of kind image) (content_of kind imag
 -- a machine at power up, with a disk that a medium of so many tracks and of this content holds
 abbrev pub StartsOn : ℕ → Content → Bool → Machine → Type 0
 StartsOn tracks content protected m = (d : Disk) × HoldsDisk tracks content d × (m ≡ start d protected tracks)
+
+-- the same with what a medium shows
+abbrev pub StartsFrom : Seen → Machine → Type 0
+StartsFrom seen m = StartsOn seen.tracks seen.content seen.protected m
+
+-- a medium that shows this holds the machine's disk
+abbrev pub KeptBy : Seen → Machine → Type 0
+KeptBy seen m = HoldsDisk seen.tracks seen.content m.disk
 
 -- the same of an image's disk
 abbrev pub Begins : List ℕ → Bool → Machine → Type 0

@@ -1,11 +1,10 @@
 //! Running a script on the disk of an image.
 ghost use Rattle.std.specs.Prelude.{◌≡◌, ◌≢◌, ◌≤◌, ℕ, [], true, IfSome, IfOk, IfErr, OnErr};
-ghost use Rattle.cbm_volume.specs.Holding.{HoldsDisk};
 ghost use Rattle.cbm_program.specs.Checking.{printed_behind, checked_text, IsCheckedFirst};
 ghost use Rattle.cbm_program.specs.Output.{Grows, Prints, PrintsPart};
 ghost use Rattle.cbm_program.specs.Running.{script_of, EndsAs};
 ghost use Rattle.cbm_program.specs.Scripts.{printed};
-ghost use Rattle.cbm_program.specs.Images.{kind_of, StartsOn};
+ghost use Rattle.cbm_program.specs.Images.{kind_of, StartsFrom, KeptBy};
 ghost use Rattle.cbm_program.specs.Outcome.{IsOutcome};
 ghost use Rattle.cbm_program.specs.Timetables.{of_requests, of_changes, timetable_of};
 ghost use Rattle.cbm_program.specs.Traces.{PrintsTrace, PrintsTracePart};
@@ -49,31 +48,23 @@ fn run_script<M: DiskImage + Drop, R: Read + Drop, W: Write>(
     requires last { device ≤ 11 }
     ensures ended { EndsAs result (λ bad. IfSome (of_requests (R.remaining reader)) (λ input.
         ((script_of input).bad ≡ bad) × Prints (W.contents writer.old) (W.contents writer.new)
-        (StartsOn (M.seen medium).tracks (M.seen medium).content (M.seen medium).protected)
-        (λ _. Unit {0}) (printed (script_of input).requests))) }
+        (StartsFrom (M.seen medium)) (λ _. Unit {0}) (printed (script_of input).requests))) }
     ensures disk { IfOk result (λ after. IfSome (of_requests (R.remaining reader)) (λ input.
-        Prints (W.contents writer.old) (W.contents writer.new)
-        (StartsOn (M.seen medium).tracks (M.seen medium).content (M.seen medium).protected)
-        (λ m. HoldsDisk (M.seen after).tracks (M.seen after).content m.disk)
+        Prints (W.contents writer.old) (W.contents writer.new) (StartsFrom (M.seen medium)) (KeptBy (M.seen after))
         (printed (script_of input).requests))) }
     ensures fault { OnErr result (IfSome (of_requests (R.remaining reader)) (λ input.
         PrintsPart (W.contents writer.old) (W.contents writer.new)
-        (StartsOn (M.seen medium).tracks (M.seen medium).content (M.seen medium).protected)
-        (printed (script_of input).requests))) }
+        (StartsFrom (M.seen medium)) (printed (script_of input).requests))) }
     // The same of a script of line changes, with its trace.
     ensures played { EndsAs result (λ bad. IfSome (of_changes (R.remaining reader)) (λ input.
         ((timetable_of input).bad ≡ bad) × PrintsTrace (W.contents writer.old) (W.contents writer.new)
-        (StartsOn (M.seen medium).tracks (M.seen medium).content (M.seen medium).protected)
-        (λ _. Unit {0}) device [] (timetable_of input))) }
+        (StartsFrom (M.seen medium)) (λ _. Unit {0}) device [] (timetable_of input))) }
     ensures left { IfOk result (λ after. IfSome (of_changes (R.remaining reader)) (λ input.
-        PrintsTrace (W.contents writer.old) (W.contents writer.new)
-        (StartsOn (M.seen medium).tracks (M.seen medium).content (M.seen medium).protected)
-        (λ m. HoldsDisk (M.seen after).tracks (M.seen after).content m.disk)
+        PrintsTrace (W.contents writer.old) (W.contents writer.new) (StartsFrom (M.seen medium)) (KeptBy (M.seen after))
         device [] (timetable_of input))) }
     ensures cut { OnErr result (IfSome (of_changes (R.remaining reader)) (λ input.
         PrintsTracePart (W.contents writer.old) (W.contents writer.new)
-        (StartsOn (M.seen medium).tracks (M.seen medium).content (M.seen medium).protected)
-        device [] (timetable_of input))) }
+        (StartsFrom (M.seen medium)) device [] (timetable_of input))) }
     ensures grows { Grows (W.contents writer.old) (W.contents writer.new) }
     ensures same_tracks { IfOk result (λ after. (M.seen after).tracks ≡ (M.seen medium).tracks) }
     ensures image { IfErr result (λ fault. (n : ℕ) → fault ≢ RunFault.Image n) }
@@ -98,31 +89,23 @@ fn run_with<M: DiskImage + Drop, R: Read + Drop, W: Write>(
     requires last { device ≤ 11 }
     ensures ended { EndsAs result (λ bad. IfSome (of_requests (R.remaining reader)) (λ input.
         ((script_of input).bad ≡ bad) × Prints (W.contents writer.old) (W.contents writer.new)
-        (StartsOn (M.seen medium).tracks (M.seen medium).content (M.seen medium).protected)
-        (λ _. Unit {0}) (printed_behind checks (script_of input).requests))) }
+        (StartsFrom (M.seen medium)) (λ _. Unit {0}) (printed_behind checks (script_of input).requests))) }
     ensures disk { IfOk result (λ after. IfSome (of_requests (R.remaining reader)) (λ input.
-        Prints (W.contents writer.old) (W.contents writer.new)
-        (StartsOn (M.seen medium).tracks (M.seen medium).content (M.seen medium).protected)
-        (λ m. HoldsDisk (M.seen after).tracks (M.seen after).content m.disk)
+        Prints (W.contents writer.old) (W.contents writer.new) (StartsFrom (M.seen medium)) (KeptBy (M.seen after))
         (printed_behind checks (script_of input).requests))) }
     ensures fault { OnErr result (IfSome (of_requests (R.remaining reader)) (λ input.
         PrintsPart (W.contents writer.old) (W.contents writer.new)
-        (StartsOn (M.seen medium).tracks (M.seen medium).content (M.seen medium).protected)
-        (printed_behind checks (script_of input).requests))) }
+        (StartsFrom (M.seen medium)) (printed_behind checks (script_of input).requests))) }
     // The same of a script of line changes, with its trace.
     ensures played { EndsAs result (λ bad. IfSome (of_changes (R.remaining reader)) (λ input.
         ((timetable_of input).bad ≡ bad) × PrintsTrace (W.contents writer.old) (W.contents writer.new)
-        (StartsOn (M.seen medium).tracks (M.seen medium).content (M.seen medium).protected)
-        (λ _. Unit {0}) device (checked_text checks) (timetable_of input))) }
+        (StartsFrom (M.seen medium)) (λ _. Unit {0}) device (checked_text checks) (timetable_of input))) }
     ensures left { IfOk result (λ after. IfSome (of_changes (R.remaining reader)) (λ input.
-        PrintsTrace (W.contents writer.old) (W.contents writer.new)
-        (StartsOn (M.seen medium).tracks (M.seen medium).content (M.seen medium).protected)
-        (λ m. HoldsDisk (M.seen after).tracks (M.seen after).content m.disk)
+        PrintsTrace (W.contents writer.old) (W.contents writer.new) (StartsFrom (M.seen medium)) (KeptBy (M.seen after))
         device (checked_text checks) (timetable_of input))) }
     ensures cut { OnErr result (IfSome (of_changes (R.remaining reader)) (λ input.
         PrintsTracePart (W.contents writer.old) (W.contents writer.new)
-        (StartsOn (M.seen medium).tracks (M.seen medium).content (M.seen medium).protected)
-        device (checked_text checks) (timetable_of input))) }
+        (StartsFrom (M.seen medium)) device (checked_text checks) (timetable_of input))) }
     // Of any medium the line of the check is printed first, where one is asked for.
     ensures checked { checks ≡ true → EndsAs result (λ bad.
         IsCheckedFirst (M.seen medium).tracks (M.seen medium).content (W.contents writer.old) (W.contents writer.new)) }

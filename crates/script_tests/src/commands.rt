@@ -44,10 +44,12 @@ fn several_patterns_and_none_that_matches(rt: HostRuntime) -> Result<(), Fail> {
     let after = play(&rt, alloc, image.as_slice(), script, text)?;
     let lines = [(1, "   \"A2\"               SEQ  ")];
     list(&rt, alloc, after.as_slice(), &lines, 663)?;
-    // 55 letters and a return are as long as a text may be, and match nothing.
+    // 55 letters and a return are as long as a text may be, and match nothing; 56 are too long.
     let long = "put 15 S0:AAAAAAAAAAAAAAAAAAAAAAAAAAAAAAAAAAAAAAAAAAAAAAAAAAAAAAA\\0d\nstatus\n";
+    let longer = "put 15 S0:AAAAAAAAAAAAAAAAAAAAAAAAAAAAAAAAAAAAAAAAAAAAAAAAAAAAAAAA\nstatus\n";
     let rows = [
         (long, "status 01, FILES SCRATCHED,00,00\n"),
+        (longer, "status 32,SYNTAX ERROR,00,00\n"),
         (
             "put 15 S0:Z\nstatus\n",
             "status 01, FILES SCRATCHED,00,00\n",

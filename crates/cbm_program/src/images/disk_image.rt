@@ -1,8 +1,7 @@
 //! Opening and saving the disk of an image.
 ghost use Rattle.std.specs.Prelude.{◌≡◌, ◌≢◌, ◌≤◌, ℕ, List, [], Option, None, Ok, Err, codes, IfSome, IfOk, IfErr, OnErr};
-ghost use Rattle.cbm_volume.specs.Holding.{HoldsDisk};
 ghost use Rattle.cbm_program.specs.declared.kind.Kind.{Kind};
-ghost use Rattle.cbm_program.specs.Images.{image_fault, IsOf, IsRefusal, StartsOn};
+ghost use Rattle.cbm_program.specs.Images.{image_fault, IsOf, IsRefusal, StartsFrom, KeptBy};
 ghost use Rattle.cbm_program.specs.Lines.{bytes_left, TakesLine};
 ghost use Rattle.cbm_program.specs.Output.{Grows, Prints, PrintsPart};
 ghost use Rattle.cbm_program.specs.Running.{script_of, LineRead, LineIsInRange, EndsAs};
@@ -47,16 +46,13 @@ pub trait DiskImage: Steady {
         ensures ended { (input : Option (List ℕ)) → TakesLine input (bytes_left R.remaining lines.old) (codes "lines") →
             EndsAs result (λ bad. IfSome input (λ bytes. ((timetable_of bytes).bad ≡ bad)
             × PrintsTrace (W.contents writer.old) (W.contents writer.new)
-            (StartsOn (Self.seen self).tracks (Self.seen self).content (Self.seen self).protected)
-            (λ _. Unit {0}) device [] (timetable_of bytes))) }
+            (StartsFrom (Self.seen self)) (λ _. Unit {0}) device [] (timetable_of bytes))) }
         ensures disk { (input : Option (List ℕ)) → TakesLine input (bytes_left R.remaining lines.old) (codes "lines") →
             IfOk result (λ after. IfSome input (λ bytes. PrintsTrace (W.contents writer.old) (W.contents writer.new)
-            (StartsOn (Self.seen self).tracks (Self.seen self).content (Self.seen self).protected)
-            (λ m. HoldsDisk (Self.seen after).tracks (Self.seen after).content m.disk) device [] (timetable_of bytes))) }
+            (StartsFrom (Self.seen self)) (KeptBy (Self.seen after)) device [] (timetable_of bytes))) }
         ensures fault { (input : Option (List ℕ)) → TakesLine input (bytes_left R.remaining lines.old) (codes "lines") →
             OnErr result (IfSome input (λ bytes. PrintsTracePart (W.contents writer.old) (W.contents writer.new)
-            (StartsOn (Self.seen self).tracks (Self.seen self).content (Self.seen self).protected)
-            device [] (timetable_of bytes))) }
+            (StartsFrom (Self.seen self)) device [] (timetable_of bytes))) }
         ensures grows { Grows (W.contents writer.old) (W.contents writer.new) }
         ensures same_tracks { IfOk result (λ after. (Self.seen after).tracks ≡ (Self.seen self).tracks) }
         ensures image { IfErr result (λ fault. (n : ℕ) → fault ≢ RunFault.Image n) };
@@ -76,17 +72,14 @@ pub trait DiskImage: Steady {
         ensures ended { (input : Option (List ℕ)) → LineRead input (bytes_left R.remaining lines.old) 1 (Ok first) →
             EndsAs result (λ bad. IfSome input (λ bytes. ((script_of bytes).bad ≡ bad)
             × Prints (W.contents writer.old) (W.contents writer.new)
-            (StartsOn (Self.seen self).tracks (Self.seen self).content (Self.seen self).protected)
-            (λ _. Unit {0}) (printed (script_of bytes).requests))) }
+            (StartsFrom (Self.seen self)) (λ _. Unit {0}) (printed (script_of bytes).requests))) }
         ensures disk { (input : Option (List ℕ)) → LineRead input (bytes_left R.remaining lines.old) 1 (Ok first) →
             IfOk result (λ after. IfSome input (λ bytes. Prints (W.contents writer.old) (W.contents writer.new)
-            (StartsOn (Self.seen self).tracks (Self.seen self).content (Self.seen self).protected)
-            (λ m. HoldsDisk (Self.seen after).tracks (Self.seen after).content m.disk)
+            (StartsFrom (Self.seen self)) (KeptBy (Self.seen after))
             (printed (script_of bytes).requests))) }
         ensures fault { (input : Option (List ℕ)) → LineRead input (bytes_left R.remaining lines.old) 1 (Ok first) →
             OnErr result (IfSome input (λ bytes. PrintsPart (W.contents writer.old) (W.contents writer.new)
-            (StartsOn (Self.seen self).tracks (Self.seen self).content (Self.seen self).protected)
-            (printed (script_of bytes).requests))) }
+            (StartsFrom (Self.seen self)) (printed (script_of bytes).requests))) }
         ensures grows { Grows (W.contents writer.old) (W.contents writer.new) }
         ensures same_tracks { IfOk result (λ after. (Self.seen after).tracks ≡ (Self.seen self).tracks) }
         ensures image { IfErr result (λ fault. (n : ℕ) → fault ≢ RunFault.Image n) };

@@ -1,0 +1,19 @@
+use Rattle.std.proofs.Common.{rules, ◌*◌, ◌≢◌, ◌≤◌, ◌≡◌, ℕ, ◌<◌, ◌+◌, length, ◌↔◌, IsTrue, ◌-◌, ◌/◌, ◌%◌, Bool, true, false, nat_eq, nat_lt, List, [], ◌∷◌, ◌++◌, slice_index_or, slice_set, bit_and, bit_or, Fits, w8, w32, w64, Bor, MutBor}
+use Rattle.cbm_d64.specs.Image.{index_of, IsImageSize, IsStored, IsErased, code_of, mended, error_at, sector_at, tracks_in, sectors_in}
+use Rattle.cbm_medium.specs.Place.{IsOnDisk}
+use Rattle.cbm_d64.proofs.image.fault_code.Goals as goal
+
+pub returns-in-9 : goal.returns-in-9
+returns-in-9 c = search rules
+
+pub returns-in-11 : goal.returns-in-11
+returns-in-11 c = search rules
+
+pub returns-in-2-to-6 : goal.returns-in-2-to-6
+returns-in-2-to-6 c = search rules
+
+pub returns-in_default : goal.returns-in_default
+returns-in_default c = search rules
+
+pub returns-in_default-2 : goal.returns-in_default-2
+returns-in_default-2 c = search rules

@@ -1,0 +1,63 @@
+use Rattle.std.proofs.Common.{rules, ◌≡◌, ◌≢◌, true, ℕ, List, ◌<◌, ◌≤◌, ◌+◌, ◌*◌, ◌/◌, ◌%◌, length, IfSome, IfOk, IfErr, OnOk, OnErr, Some, Ok, Err, ◌-◌, Bool, false, nat_eq, nat_lt, [], ◌∷◌, ◌++◌, slice_index_or, slice_set, bit_and, bit_or, Fits, w8, w32, w64, Bor, MutBor}
+use Rattle.cbm_medium.specs.Place.{Place}
+use Rattle.cbm_medium.specs.Seen.{OnlyContent}
+use Rattle.cbm_medium.specs.Links.{Chain}
+use Rattle.cbm_medium.specs.Met.{IsMet}
+use Rattle.cbm_bam.specs.Causes.{HasCause}
+use Rattle.cbm_directory.specs.Entries.{HasEntry, Enters, EntersLed, led_to, first_directory, sector_of}
+use Rattle.cbm_directory.specs.EntryChanges.{Clears, ClearsLed, IsEntryRefused}
+use Rattle.cbm_directory.proofs.change.put_slot.Goals as goal
+
+pub returns-in_err-at-clause-entered : goal.returns-in_err-at-clause-entered
+returns-in_err-at-clause-entered g c = search rules
+
+pub returns-in_err-at-clause-exact : goal.returns-in_err-at-clause-exact
+returns-in_err-at-clause-exact g c = search rules
+
+pub returns-in_err-at-clause-err : goal.returns-in_err-at-clause-err
+returns-in_err-at-clause-err g c = search rules
+
+pub returns-in_err-at-clause-cause : goal.returns-in_err-at-clause-cause
+returns-in_err-at-clause-cause g c = search rules
+
+pub returns-in_err-at-clause-protection : goal.returns-in_err-at-clause-protection
+returns-in_err-at-clause-protection g c = search rules
+
+pub returns-in_err-at-clause-only : goal.returns-in_err-at-clause-only
+returns-in_err-at-clause-only g c = search rules
+
+pub returns-in_default-clause-entered : goal.returns-in_default-clause-entered
+returns-in_default-clause-entered g c = search rules
+
+pub returns-in_default-clause-exact : goal.returns-in_default-clause-exact
+returns-in_default-clause-exact g c = search rules
+
+pub returns-in_default-clause-err : goal.returns-in_default-clause-err
+returns-in_default-clause-err g c = search rules
+
+pub returns-in_default-clause-cause : goal.returns-in_default-clause-cause
+returns-in_default-clause-cause g c = search rules
+
+pub returns-in_default-clause-protection : goal.returns-in_default-clause-protection
+returns-in_default-clause-protection g c = search rules
+
+pub returns-in_default-clause-only : goal.returns-in_default-clause-only
+returns-in_default-clause-only g c = search rules
+
+pub returns-clause-entered : goal.returns-clause-entered
+returns-clause-entered g c = search rules
+
+pub returns-clause-exact : goal.returns-clause-exact
+returns-clause-exact g c = search rules
+
+pub returns-clause-err : goal.returns-clause-err
+returns-clause-err g c = search rules
+
+pub returns-clause-cause : goal.returns-clause-cause
+returns-clause-cause g c = search rules
+
+pub returns-clause-protection : goal.returns-clause-protection
+returns-clause-protection g c = search rules
+
+pub returns-clause-only : goal.returns-clause-only
+returns-clause-only g c = search rules

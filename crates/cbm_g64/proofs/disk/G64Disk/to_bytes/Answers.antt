@@ -1,0 +1,24 @@
+use Rattle.std.proofs.Common.{rules, refl, ◌≡◌, ◌≤◌, ◌-◌, ◌⊎◌, ◌↔◌, ℕ, Ok, Err, None, Some, false, true, IfErr, IfOk, IfSome, IsSome, OnErr, OnOk, length, ◌+◌, ◌*◌, ◌<◌, ◌/◌, ◌%◌, Bool, nat_eq, nat_lt, List, [], ◌∷◌, ◌++◌, slice_index_or, slice_set, bit_and, bit_or, Fits, w8, w32, w64, Bor, MutBor}
+use Rattle.cbm_medium.specs.Place.{Has, Place, directory_head}
+use Rattle.cbm_medium.specs.Content.{blank, format_refusal, refusal, written}
+use Rattle.cbm_medium.specs.Seen.{with_content, write_refusal, IsRefused}
+use Rattle.cbm_g64.specs.File.{fault_of, tracks_in}
+use Rattle.cbm_g64.specs.NewFile.{base_of, new_file}
+use Rattle.cbm_g64.specs.Tracks.{bits_at, content_of, id_for, or_zeros, seen_of, AreFilled, AreFresh, AreLaid, HasTrack, IsChanged, IsPut}
+use Rattle.cbm_g64.specs.Image.{IsImageOf}
+use Rattle.cbm_g64.proofs.disk.G64Disk.to_bytes.Goals as goal
+
+pub returns-in_default-clause-ok : goal.returns-in_default-clause-ok
+returns-in_default-clause-ok c = search rules
+
+pub returns-in_default-clause-again : goal.returns-in_default-clause-again
+returns-in_default-clause-again c = search rules
+
+pub returns-in_default-clause-unwritten : goal.returns-in_default-clause-unwritten
+returns-in_default-clause-unwritten c = search rules
+
+pub returns-in_default-clause-err : goal.returns-in_default-clause-err
+returns-in_default-clause-err c = search rules
+
+pub returns-clause-err : goal.returns-clause-err
+returns-clause-err c = search rules

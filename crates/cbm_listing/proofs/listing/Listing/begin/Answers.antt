@@ -1,0 +1,10 @@
+use Rattle.std.proofs.Common.{rules, ◌≡◌, ◌+◌, ◌≤◌, ◌++◌, ◌↔◌, IsTrue, length, drop, slice_get, ℕ, ◌-◌, ◌*◌, ◌<◌, ◌/◌, ◌%◌, Bool, true, false, nat_eq, nat_lt, List, [], ◌∷◌, slice_index_or, slice_set, bit_and, bit_or, Fits, w8, w32, w64, Bor, MutBor}
+use Rattle.cbm_listing.specs.Lines.{title_line, entry_line, last_line}
+use Rattle.cbm_listing.specs.Listed.{Listed, with_line, behind_next}
+use Rattle.cbm_listing.proofs.listing.Listing.begin.Goals as goal
+
+pub returns-clause-value : goal.returns-clause-value
+returns-clause-value c = search rules
+
+pub returns-clause-full : goal.returns-clause-full
+returns-clause-full c = search rules
