@@ -118,6 +118,41 @@ is "what OUT was stays" test "$(cat small.d64)" = old
 is "and nothing is left beside" test ! -e drive1541.0.new
 # The image alone is more than the limit, so that it is no page of the stack that isn't there: that would end any program.
 truncate -s 64M big.d64
+# Each request for memory is refused in turn, by functions that come before the C library's: the program ends well, or with 3 and
+# nothing saved, and what it printed is a beginning.
+if command -v cc > /dev/null; then
+    cat > refusing.c <<'X'
+#include <errno.h>
+#include <stdlib.h>
+void *__libc_malloc(size_t);
+void *__libc_realloc(void *, size_t);
+static long asked;
+static int is_refused(void) {
+    if (asked++ != atol(getenv("REFUSED"))) return 0;
+    errno = ENOMEM;
+    return 1;
+}
+void *malloc(size_t size) { return is_refused() ? 0 : __libc_malloc(size); }
+void *realloc(void *was, size_t size) { return is_refused() ? 0 : __libc_realloc(was, size); }
+X
+    cc -shared -fPIC -o refusing.so refusing.c
+    for script in hello.script save.script; do
+        "$drive" hello.d64 $script whole.d64 > whole.txt
+        for number in $(seq 0 99); do
+            rm -f out.d64
+            REFUSED=$number LD_PRELOAD=./refusing.so "$drive" hello.d64 $script out.d64 > out.txt 2> err.txt
+            got=$?
+            if [ $got = 0 ]; then
+                cmp -s whole.txt out.txt && cmp -s whole.d64 out.d64 || got=wrong
+            else
+                [ $got = 3 ] && [ "$(cat err.txt)" = "no memory" ] && [ ! -e out.d64 ] &&
+                    head -c "$(wc -c < out.txt)" whole.txt | cmp -s - out.txt || got=wrong
+            fi
+            [ $got = wrong ] && break
+        done
+        is "want of memory, request by request, in $script ($number)" test $got != wrong
+    done
+fi
 case_of "a limit on memory" 3 "no memory" sh -c "ulimit -v 20000; exec $drive big.d64 hello.script none.d64"
 is "each line is seen at once" sh -c "(printf 'status\n'; sleep 1; cmp -s seen.txt - <<X || touch late
 status 73,CBM DOS V2.6 1541,00,00

@@ -2,6 +2,7 @@
 use crate::arguments::{self, Arguments};
 use crate::failure::{Failure, Stream, exit_status};
 use cbm_program::{Options, run};
+use clap::error::ErrorKind;
 use host_files::save;
 use std::io::{BufWriter, Write};
 use std::process::ExitCode;
@@ -10,22 +11,42 @@ use std::{env, fs, io};
 
 /// Carries out the command line, and answers the exit status, also where its line can't be written.
 pub fn run_program(rt: &HostRuntime) -> ExitCode {
-    let Ok(words) = words_of(rt) else {
-        let _ = eprintln!(rt; "error: a word of the command line is no text");
-        return ExitCode::from(1);
+    let words = match words_of(rt) {
+        Ok(words) => words,
+        Err(error) => return without_words(rt, &error),
     };
     let arguments = match arguments::parse(rt.alloc(), words.as_slice()) {
         Ok(arguments) => arguments,
-        Err(error) => {
-            let _ = error.print(rt);
-            return ExitCode::from(1);
-        }
+        Err(error) => return without_arguments(rt, &error),
     };
     let ended = carry_out(rt, &arguments);
     if let Err(failure) = &ended {
         let _ = failure.tell(rt, &arguments);
     }
     ExitCode::from(exit_status(&ended))
+}
+
+// A word that isn't text is refused as one that doesn't parse.
+fn without_words(rt: &HostRuntime, error: &io::Error) -> ExitCode {
+    if error.kind() == io::ErrorKind::OutOfMemory {
+        return without_memory(rt);
+    }
+    let _ = eprintln!(rt; "error: a word of the command line is no text");
+    ExitCode::from(1)
+}
+
+fn without_arguments(rt: &HostRuntime, error: &clap::Error) -> ExitCode {
+    if error.kind() == ErrorKind::OutOfMemory {
+        return without_memory(rt);
+    }
+    let _ = error.print(rt);
+    ExitCode::from(1)
+}
+
+// Memory ran out before the command line was read.
+fn without_memory(rt: &HostRuntime) -> ExitCode {
+    let _ = eprintln!(rt; "no memory");
+    ExitCode::from(exit_status(&Err(Failure::NoMemory)))
 }
 
 fn words_of(rt: &HostRuntime) -> io::Result<Vec<String>> {

@@ -1,10 +1,11 @@
-use Rattle.std.proofs.Common.{◌∙◌, ◌≡◌, [], true, subst}
+use Rattle.std.proofs.Common.{◌∙◌, ◌≡◌, ℕ, List, [], Option, true, subst}
 use Rattle.std.proofs.lemmas.Result.{IfOk-weaker}
 use Rattle.std.specs.Io.KnownBytes.{Appends}
 use Rattle.std.specs.Prelude.{IfOk, OnErr}
 use Rattle.cbm_file.specs.Files.{Disk}
 use Rattle.cbm_volume.specs.Holding.{HoldsDisk}
-use Rattle.cbm_program.specs.Images.{StartsOn}
+use Rattle.cbm_drive.specs.Machines.{Machine}
+use Rattle.cbm_program.specs.Images.{StartsOn, StartsFrom, KeptBy}
 use Rattle.cbm_program.specs.Checking.{checked_text, IsCheckPrinted}
 use Rattle.cbm_program.specs.Output.{AppendsPart}
 use Rattle.cbm_program.specs.Running.{EndsAs}
@@ -12,8 +13,9 @@ use Rattle.cbm_program.specs.Timetables.{of_requests, of_changes}
 use Rattle.cbm_program.proofs.OutputLemmas.{grows_on}
 use Rattle.cbm_program.proofs.LinePrints.{if_err}
 use Rattle.cbm_program.proofs.RunLemmas.{Ended, Begun}
-use Rattle.cbm_program.proofs.StartLemmas.{Printed, ends-any, checked-first, ended-behind, printed-behind, begun-behind, cut-start, said-start}
+use Rattle.cbm_program.proofs.StartLemmas.{Said, Printed, ends-any, checked-first, ended-behind, printed-behind, begun-behind, cut-start, said-start}
 use Rattle.cbm_program.proofs.TraceLemmas.{Traced, Left, Cut, cut-text, traced-behind, left-behind, cut-behind, ends-map, err-map}
+use Rattle.cbm_program.proofs.images.run_with.Given.{Over}
 use Rattle.cbm_program.proofs.images.run_with.Goals as goal
 
 -- the check's line broke off
@@ -27,99 +29,72 @@ returns-in_err-print_check-clause-cut g c =
     let broken = subst (λ k. (d : Disk) → HoldsDisk (g.M.Medium.seen k).tracks (g.M.Medium.seen k).content d → AppendsPart (g.W.Write.contents c.args.writer.now) (g.W.Write.contents c.print_check.new.writer) (checked_text c.args.checks)) c.open-volume.ensures c.in_err-print_check.ensures.err in
     if_err c.from_residual.result (cut-text (checked_text c.args.checks) _ _ _ (StartsOn (g.M.Medium.seen c.args.medium).tracks (g.M.Medium.seen c.args.medium).content (g.M.Medium.seen c.args.medium).protected) c.args.device (λ m s. broken s.0 s.1))
 
+-- behind the check's line: what was written before it, behind it and in the end, the script, and the machines that stood at the beginning
+module _ (g : Over) (c : goal.After-run_script g) where
+  abbrev before : Option (List ℕ)
+  before = g.W.Write.contents c.args.writer.now
+
+  abbrev between : Option (List ℕ)
+  between = g.W.Write.contents c.print_check.new.writer
+
+  abbrev behind : Option (List ℕ)
+  behind = g.W.Write.contents c.run_script.new.writer
+
+  abbrev asked : Option (List ℕ)
+  asked = of_requests (g.R.Read.remaining c.args.reader)
+
+  abbrev timed : Option (List ℕ)
+  timed = of_changes (g.R.Read.remaining c.args.reader)
+
+  abbrev starts : Machine → Type 0
+  starts = StartsFrom (g.M.Medium.seen c.args.medium)
+
+  -- the line was printed
+  said : Said c.args.checks before between starts
+  said = said-start (g.M.Medium.seen c.args.medium).tracks (g.M.Medium.seen c.args.medium).content (g.M.Medium.seen c.args.medium).protected c.args.checks before between
+      (subst (λ k. (d : Disk) → HoldsDisk (g.M.Medium.seen k).tracks (g.M.Medium.seen k).content d → Appends before between (checked_text c.args.checks)) c.open-volume.ensures c.in_ok-print_check.ensures.ok)
+
+  -- the medium that the script ran on is the one that was checked
+  same : c.into_medium.result ≡ c.args.medium
+  same = c.into_medium.ensures ∙ c.open-volume.ensures
+
 -- a script of requests, behind the check's line
 pub returns-clause-ended : goal.returns-clause-ended
 returns-clause-ended g c =
-    let seen = g.M.Medium.seen in
-    let contents = g.W.Write.contents in
     let r = c.run_script.result in
-    let same = c.into_medium.ensures ∙ c.open-volume.ensures in
-    let said = said-start (seen c.args.medium).tracks (seen c.args.medium).content (seen c.args.medium).protected c.args.checks _ _ (subst (λ k. (d : Disk) → HoldsDisk (seen k).tracks (seen k).content d → Appends (contents c.args.writer.now) (contents c.print_check.new.writer) (checked_text c.args.checks)) c.open-volume.ensures c.in_ok-print_check.ensures.ok) in
-    let a = contents c.args.writer.now in
-    let b = contents c.print_check.new.writer in
-    let d = contents c.run_script.new.writer in
-    let asked = of_requests (g.R.Read.remaining c.args.reader) in
-    let timed = of_changes (g.R.Read.remaining c.args.reader) in
-    let starts = StartsOn (seen c.args.medium).tracks (seen c.args.medium).content (seen c.args.medium).protected in
-    ends-map r _ _ (subst (λ k. EndsAs r (λ bad. Ended b d asked (StartsOn (g.M.Medium.seen k).tracks (g.M.Medium.seen k).content (g.M.Medium.seen k).protected) (λ m. Unit {0}) bad)) same c.run_script.ensures.ended) (λ bad h. ended-behind c.args.checks a b d asked starts (λ m. Unit {0}) bad said h)
+    ends-map r _ _ (subst (λ k. EndsAs r (λ bad. Ended (between g c) (behind g c) (asked g c) (StartsFrom (g.M.Medium.seen k)) (λ m. Unit {0}) bad)) (same g c) c.run_script.ensures.ended)
+    (λ bad h. ended-behind c.args.checks (before g c) (between g c) (behind g c) (asked g c) (starts g c) (λ m. Unit {0}) bad (said g c) h)
 
 pub returns-clause-disk : goal.returns-clause-disk
 returns-clause-disk g c =
-    let seen = g.M.Medium.seen in
-    let contents = g.W.Write.contents in
     let r = c.run_script.result in
-    let same = c.into_medium.ensures ∙ c.open-volume.ensures in
-    let said = said-start (seen c.args.medium).tracks (seen c.args.medium).content (seen c.args.medium).protected c.args.checks _ _ (subst (λ k. (d : Disk) → HoldsDisk (seen k).tracks (seen k).content d → Appends (contents c.args.writer.now) (contents c.print_check.new.writer) (checked_text c.args.checks)) c.open-volume.ensures c.in_ok-print_check.ensures.ok) in
-    let a = contents c.args.writer.now in
-    let b = contents c.print_check.new.writer in
-    let d = contents c.run_script.new.writer in
-    let asked = of_requests (g.R.Read.remaining c.args.reader) in
-    let timed = of_changes (g.R.Read.remaining c.args.reader) in
-    let starts = StartsOn (seen c.args.medium).tracks (seen c.args.medium).content (seen c.args.medium).protected in
-    IfOk-weaker r _ _ (λ after h. printed-behind c.args.checks a b d asked starts (λ m. HoldsDisk (seen after).tracks (seen after).content m.disk) said h)
-    (subst (λ k. IfOk r (λ after. Printed b d asked (StartsOn (g.M.Medium.seen k).tracks (g.M.Medium.seen k).content (g.M.Medium.seen k).protected) (λ m. HoldsDisk (seen after).tracks (seen after).content m.disk))) same c.run_script.ensures.disk)
+    IfOk-weaker r _ _ (λ after h. printed-behind c.args.checks (before g c) (between g c) (behind g c) (asked g c) (starts g c) (KeptBy (g.M.Medium.seen after)) (said g c) h)
+    (subst (λ k. IfOk r (λ after. Printed (between g c) (behind g c) (asked g c) (StartsFrom (g.M.Medium.seen k)) (KeptBy (g.M.Medium.seen after)))) (same g c) c.run_script.ensures.disk)
 
 pub returns-clause-fault : goal.returns-clause-fault
 returns-clause-fault g c =
-    let seen = g.M.Medium.seen in
-    let contents = g.W.Write.contents in
     let r = c.run_script.result in
-    let same = c.into_medium.ensures ∙ c.open-volume.ensures in
-    let said = said-start (seen c.args.medium).tracks (seen c.args.medium).content (seen c.args.medium).protected c.args.checks _ _ (subst (λ k. (d : Disk) → HoldsDisk (seen k).tracks (seen k).content d → Appends (contents c.args.writer.now) (contents c.print_check.new.writer) (checked_text c.args.checks)) c.open-volume.ensures c.in_ok-print_check.ensures.ok) in
-    let a = contents c.args.writer.now in
-    let b = contents c.print_check.new.writer in
-    let d = contents c.run_script.new.writer in
-    let asked = of_requests (g.R.Read.remaining c.args.reader) in
-    let timed = of_changes (g.R.Read.remaining c.args.reader) in
-    let starts = StartsOn (seen c.args.medium).tracks (seen c.args.medium).content (seen c.args.medium).protected in
-    err-map r _ _ (subst (λ k. OnErr r (Begun b d asked (StartsOn (g.M.Medium.seen k).tracks (g.M.Medium.seen k).content (g.M.Medium.seen k).protected))) same c.run_script.ensures.fault) (λ h. begun-behind c.args.checks a b d asked starts said h)
+    err-map r _ _ (subst (λ k. OnErr r (Begun (between g c) (behind g c) (asked g c) (StartsFrom (g.M.Medium.seen k)))) (same g c) c.run_script.ensures.fault)
+    (λ h. begun-behind c.args.checks (before g c) (between g c) (behind g c) (asked g c) (starts g c) (said g c) h)
 
 -- a script of line changes, behind the check's line
 pub returns-clause-played : goal.returns-clause-played
 returns-clause-played g c =
-    let seen = g.M.Medium.seen in
-    let contents = g.W.Write.contents in
     let r = c.run_script.result in
-    let same = c.into_medium.ensures ∙ c.open-volume.ensures in
-    let said = said-start (seen c.args.medium).tracks (seen c.args.medium).content (seen c.args.medium).protected c.args.checks _ _ (subst (λ k. (d : Disk) → HoldsDisk (seen k).tracks (seen k).content d → Appends (contents c.args.writer.now) (contents c.print_check.new.writer) (checked_text c.args.checks)) c.open-volume.ensures c.in_ok-print_check.ensures.ok) in
-    let a = contents c.args.writer.now in
-    let b = contents c.print_check.new.writer in
-    let d = contents c.run_script.new.writer in
-    let asked = of_requests (g.R.Read.remaining c.args.reader) in
-    let timed = of_changes (g.R.Read.remaining c.args.reader) in
-    let starts = StartsOn (seen c.args.medium).tracks (seen c.args.medium).content (seen c.args.medium).protected in
-    ends-map r _ _ (subst (λ k. EndsAs r (λ bad. Traced [] b d timed (StartsOn (g.M.Medium.seen k).tracks (g.M.Medium.seen k).content (g.M.Medium.seen k).protected) (λ m. Unit {0}) c.args.device bad)) same c.run_script.ensures.played) (λ bad h. traced-behind c.args.checks a b d timed starts (λ m. Unit {0}) c.args.device bad said h)
+    ends-map r _ _ (subst (λ k. EndsAs r (λ bad. Traced [] (between g c) (behind g c) (timed g c) (StartsFrom (g.M.Medium.seen k)) (λ m. Unit {0}) c.args.device bad)) (same g c) c.run_script.ensures.played)
+    (λ bad h. traced-behind c.args.checks (before g c) (between g c) (behind g c) (timed g c) (starts g c) (λ m. Unit {0}) c.args.device bad (said g c) h)
 
 pub returns-clause-left : goal.returns-clause-left
 returns-clause-left g c =
-    let seen = g.M.Medium.seen in
-    let contents = g.W.Write.contents in
     let r = c.run_script.result in
-    let same = c.into_medium.ensures ∙ c.open-volume.ensures in
-    let said = said-start (seen c.args.medium).tracks (seen c.args.medium).content (seen c.args.medium).protected c.args.checks _ _ (subst (λ k. (d : Disk) → HoldsDisk (seen k).tracks (seen k).content d → Appends (contents c.args.writer.now) (contents c.print_check.new.writer) (checked_text c.args.checks)) c.open-volume.ensures c.in_ok-print_check.ensures.ok) in
-    let a = contents c.args.writer.now in
-    let b = contents c.print_check.new.writer in
-    let d = contents c.run_script.new.writer in
-    let asked = of_requests (g.R.Read.remaining c.args.reader) in
-    let timed = of_changes (g.R.Read.remaining c.args.reader) in
-    let starts = StartsOn (seen c.args.medium).tracks (seen c.args.medium).content (seen c.args.medium).protected in
-    IfOk-weaker r _ _ (λ after h. left-behind c.args.checks a b d timed starts (λ m. HoldsDisk (seen after).tracks (seen after).content m.disk) c.args.device said h)
-    (subst (λ k. IfOk r (λ after. Left [] b d timed (StartsOn (g.M.Medium.seen k).tracks (g.M.Medium.seen k).content (g.M.Medium.seen k).protected) (λ m. HoldsDisk (seen after).tracks (seen after).content m.disk) c.args.device)) same c.run_script.ensures.left)
+    IfOk-weaker r _ _ (λ after h. left-behind c.args.checks (before g c) (between g c) (behind g c) (timed g c) (starts g c) (KeptBy (g.M.Medium.seen after)) c.args.device (said g c) h)
+    (subst (λ k. IfOk r (λ after. Left [] (between g c) (behind g c) (timed g c) (StartsFrom (g.M.Medium.seen k)) (KeptBy (g.M.Medium.seen after)) c.args.device)) (same g c) c.run_script.ensures.left)
 
 pub returns-clause-cut : goal.returns-clause-cut
 returns-clause-cut g c =
-    let seen = g.M.Medium.seen in
-    let contents = g.W.Write.contents in
     let r = c.run_script.result in
-    let same = c.into_medium.ensures ∙ c.open-volume.ensures in
-    let said = said-start (seen c.args.medium).tracks (seen c.args.medium).content (seen c.args.medium).protected c.args.checks _ _ (subst (λ k. (d : Disk) → HoldsDisk (seen k).tracks (seen k).content d → Appends (contents c.args.writer.now) (contents c.print_check.new.writer) (checked_text c.args.checks)) c.open-volume.ensures c.in_ok-print_check.ensures.ok) in
-    let a = contents c.args.writer.now in
-    let b = contents c.print_check.new.writer in
-    let d = contents c.run_script.new.writer in
-    let asked = of_requests (g.R.Read.remaining c.args.reader) in
-    let timed = of_changes (g.R.Read.remaining c.args.reader) in
-    let starts = StartsOn (seen c.args.medium).tracks (seen c.args.medium).content (seen c.args.medium).protected in
-    err-map r _ _ (subst (λ k. OnErr r (Cut [] b d timed (StartsOn (g.M.Medium.seen k).tracks (g.M.Medium.seen k).content (g.M.Medium.seen k).protected) c.args.device)) same c.run_script.ensures.cut) (λ h. cut-behind c.args.checks a b d timed starts c.args.device said h)
+    err-map r _ _ (subst (λ k. OnErr r (Cut [] (between g c) (behind g c) (timed g c) (StartsFrom (g.M.Medium.seen k)) c.args.device)) (same g c) c.run_script.ensures.cut)
+    (λ h. cut-behind c.args.checks (before g c) (between g c) (behind g c) (timed g c) (starts g c) c.args.device (said g c) h)
 
 -- the check's line comes first
 pub returns-clause-checked : goal.returns-clause-checked
