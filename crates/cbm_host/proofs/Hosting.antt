@@ -55,7 +55,7 @@ module _ (D M : Type 0) (stands : D → M → Type 0) (step : M → Act → M) (
       let k = t.performing in
       record {
         made = t.made ++ x ∷ [];
-        performing = performing_on D M stands step says e limit p q b c [] t.made (t.made ++ x ∷ []) bytes (bytes ++ taken_with q.byte) last (last_with q.byte last) ss x k (next 0 ss k.made k.going) refl refl refl;
+        performing = performing_on D M stands stands step says e limit p q b c [] t.made (t.made ++ x ∷ []) bytes (bytes ++ taken_with q.byte) last (last_with q.byte last) ss x k (next 0 ss k.made k.going) refl refl refl;
       }
 
   pub taking_none : (e : Engined) (limit : ℕ) (p q : Performing) (b c : Cabled D) (bytes : List ℕ) (last : Bool) (ss : List (Station M)) (x : Event) → (t : IsTaking D M stands step says e limit p b bytes last ss)
@@ -76,7 +76,7 @@ module _ (D M : Type 0) (stands : D → M → Type 0) (step : M → Act → M) (
       → HasTaken D M stands step says e limit q c bytes last ss
   taking_over e limit p q b c bytes last ss t stopped =
       let k = t.performing in
-      record { made = t.made; performed = performing_still D M stands step says e limit p q b c [] t.made bytes last ss k (stopped 0 ss k.made k.going) }
+      record { made = t.made; performed = performing_still D M stands stands step says e limit p q b c [] t.made bytes last ss k (stopped 0 ss k.made k.going) }
 
 -- ---- over the DOS
 
