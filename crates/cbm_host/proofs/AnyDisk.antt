@@ -48,26 +48,26 @@ played_more = record { more = more }
 module _ {D : Type 0} (shows : D → Shown) (b : Party) where
   -- A machine plays back what it shows, and then this.
   pub rest_played : (bus : Cabled D) (trail : List Shown) → IsAtRest shows b bus → (p : Playback) × IsBusAt D Playback (IsPlayedBack shows trail) bus.host bus.drives (at_rest Playback played_step played_says (λ d. p) (b ∷ []))
-  rest_played bus trail k = by_drives (held_by bus.host bus.drives) bus.drives k
+  rest_played bus trail k = by_drives bus.drives k
     where
-      by_drives : (all : Rattle.cbm_drive.specs.declared.wires.Wires.Wires) (xs : List (Seated D)) → AllZip (IsSeat D (Unit {0}) (λ x u. IfSome (shows x) (λ s. s.0 < 256)) all) xs (at_rest (Unit {0}) (λ u act. u) (λ u. None) (λ d. tt) (b ∷ []))
-          → (p : Playback) × AllZip (IsSeat D Playback (IsPlayedBack shows trail) all) xs (at_rest Playback played_step played_says (λ d. p) (b ∷ []))
-      by_drives all [] k = elim k [ ]
-      by_drives all (x ∷ y ∷ xs) k = elim k.1 [ ]
-      by_drives all (x ∷ []) k = (
+      by_drives : (xs : List (Seated D)) → AllZip (IsSeat D (Unit {0}) (λ x u. IfSome (shows x) (λ s. s.0 < 256)) (held_by bus.host bus.drives)) xs (at_rest (Unit {0}) (λ u act. u) (λ u. None) (λ d. tt) (b ∷ []))
+          → (p : Playback) × AllZip (IsSeat D Playback (IsPlayedBack shows trail) (held_by bus.host bus.drives)) xs (at_rest Playback played_step played_says (λ d. p) (b ∷ []))
+      by_drives [] k = elim k [ ]
+      by_drives (x ∷ y ∷ xs) k = elim k.1 [ ]
+      by_drives (x ∷ []) k = (
         record { shown = shows x.machine ∷ trail; owed = false },
         (record { port = k.0.port; machine = record { shown = refl; owed = λ e. absurd cc; byte = k.0.machine }; rest = k.0.rest }, tt),
       )
 
   -- What a machine plays back shows a byte, or nothing to say.
   pub rests_again : (bus : Cabled D) (trail : List Shown) (p : Playback) → IsBusAt D Playback (IsPlayedBack shows trail) bus.host bus.drives (at_rest Playback played_step played_says (λ d. p) (b ∷ [])) → IsAtRest shows b bus
-  rests_again bus trail p k = by_drives (held_by bus.host bus.drives) bus.drives k
+  rests_again bus trail p k = by_drives bus.drives k
     where
-      by_drives : (all : Rattle.cbm_drive.specs.declared.wires.Wires.Wires) (xs : List (Seated D)) → AllZip (IsSeat D Playback (IsPlayedBack shows trail) all) xs (at_rest Playback played_step played_says (λ d. p) (b ∷ []))
-          → AllZip (IsSeat D (Unit {0}) (λ x u. IfSome (shows x) (λ s. s.0 < 256)) all) xs (at_rest (Unit {0}) (λ u act. u) (λ u. None) (λ d. tt) (b ∷ []))
-      by_drives all [] k = elim k [ ]
-      by_drives all (x ∷ y ∷ xs) k = elim k.1 [ ]
-      by_drives all (x ∷ []) k = (record { port = k.0.port; machine = k.0.machine.byte; rest = k.0.rest }, tt)
+      by_drives : (xs : List (Seated D)) → AllZip (IsSeat D Playback (IsPlayedBack shows trail) (held_by bus.host bus.drives)) xs (at_rest Playback played_step played_says (λ d. p) (b ∷ []))
+          → AllZip (IsSeat D (Unit {0}) (λ x u. IfSome (shows x) (λ s. s.0 < 256)) (held_by bus.host bus.drives)) xs (at_rest (Unit {0}) (λ u act. u) (λ u. None) (λ d. tt) (b ∷ []))
+      by_drives [] k = elim k [ ]
+      by_drives (x ∷ y ∷ xs) k = elim k.1 [ ]
+      by_drives (x ∷ []) k = (record { port = k.0.port; machine = k.0.machine.byte; rest = k.0.rest }, tt)
 
 -- ---- short requests
 

@@ -26,9 +26,9 @@ if_err (Ok x) P f = tt
 if_err (Err e) P f = f e
 
 -- an error of any kind
-pub match_err : {A E : Type 0} (r : Result A E) (x : E) (Q : A → Type 0) (P : E → Type 0) → IsErrAnd r (λ e. e ≡ x) → ((e : E) → P e) → MatchResult r Q P
-match_err (Ok a) x Q P is h = elim is [ ]
-match_err (Err e) x Q P is h = h e
+pub match_err : {A E : Type 0} (r : Result A E) (S : E → Type 0) (Q : A → Type 0) (P : E → Type 0) → IsErrAnd r S → ((e : E) → P e) → MatchResult r Q P
+match_err (Ok a) S Q P is h = elim is [ ]
+match_err (Err e) S Q P is h = h e
 
 -- ---- events up to a limit
 
