@@ -32,3 +32,4 @@ pub mod Performed
 pub mod Recorded
 pub mod AnyDisk
 pub mod Anyway
+pub mod Regrouped

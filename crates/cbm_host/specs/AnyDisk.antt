@@ -1,12 +1,15 @@
 -- A request to a drive on any disk: what the drive showed is played back by a machine, and for that machine the request was carried out.
-use Rattle.std.specs.Prelude.{◌≡◌, ◌<◌, ◌≤◌, ℕ, Bool, List, [], ◌∷◌, length, Option, None, IfSome}
+use Rattle.std.specs.Prelude.{◌≡◌, ◌<◌, ◌≤◌, ◌+◌, ℕ, Bool, false, List, [], ◌∷◌, length, Option, None, IfSome}
 use Rattle.cbm_drive.specs.Cables.{Cabled}
+use Rattle.cbm_drive.specs.Desks.{Desk}
 use Rattle.cbm_drive.specs.Seats.{IsBusAt}
 use Rattle.cbm_host.specs.CarriedOut.{AreBytes, IsShort, HasCarriedOut}
-use Rattle.cbm_host.specs.Engines.{sent_by}
+use Rattle.cbm_host.specs.Engines.{sent_by, engine_at}
+use Rattle.cbm_host.specs.Hosted.{IsTaking, Hosting, party_of}
 use Rattle.cbm_host.specs.Performed.{IsCutShort}
 use Rattle.cbm_host.specs.Playback.{Shown, Playback, played_says, played_step, IsPlayedBack}
-use Rattle.cbm_host.specs.Requests.{most_bytes}
+use Rattle.cbm_host.specs.Performers.{Performing}
+use Rattle.cbm_host.specs.Requests.{most_bytes, longest}
 use Rattle.cbm_host.specs.declared.request.Request.{Request}
 use Rattle.cbm_host.specs.declared.request.Request.TheVariants.{Get, Status}
 use Rattle.cbm_iec.specs.declared.event.Event.{Event}
@@ -40,3 +43,19 @@ module _ {D : Type 0} (shows : D → Shown) where
     pub trail : List Shown
     pub began : IsBusAt D Playback (IsPlayedBack shows trail) before.host before.drives (at_rest Playback played_step played_says (λ d. played) (b ∷ []))
     pub cut : IsCutShort D Playback (IsPlayedBack shows []) played_step played_says now old new (at_rest Playback played_step played_says (λ d. played) (b ∷ []))
+
+-- ---- a drive with its DOS alone on the cable
+
+module _ {K : Type 0} (shows : Desk K → Shown) where
+  -- THE DRIVE RESTS, on any disk.
+  abbrev pub RestsAnyway : Hosting K → Type 0
+  RestsAnyway h = IsAtRest shows (party_of h.device) h.bus
+
+  -- a machine that plays back what it shows, and then these
+  abbrev pub IsHostedBack : List Shown → Hosting K → Playback → Type 0
+  IsHostedBack trail h m = IsBusAt (Desk K) Playback (IsPlayedBack shows trail) h.bus.host h.bus.drives (at_rest Playback played_step played_says (λ d. m) (party_of h.device ∷ []))
+
+  -- A request to it is under way, as one to that machine: begun on this bus, it came to that one.
+  abbrev pub IsTakingBack : List Shown → Hosting K → Playback → Request → Performing → Cabled (Desk K) → List ℕ → Bool → Type 0
+  IsTakingBack shown h m request p bus bytes last =
+      IsTaking (Desk K) Playback (IsPlayedBack shows shown) played_step played_says (engine_at h.moment h.device request) (h.moment + longest) p bus bytes last (at_rest Playback played_step played_says (λ d. m) (party_of h.device ∷ []))

@@ -1,8 +1,9 @@
 -- What the drive showed behind each act of a call, on any disk: where a machine plays that back, and then what it shows later, the call is one of that machine.
-use Rattle.std.specs.Prelude.{◌≡◌, ℕ, Bool, List, [], ◌++◌, Option, Result, MatchBool, MatchOption, MatchResult}
+use Rattle.std.specs.Prelude.{◌≡◌, ℕ, Bool, List, [], ◌∷◌, ◌++◌, Option, Result, MatchBool, MatchOption, MatchResult}
 use Rattle.cbm_drive.specs.Cables.{Cabled}
 use Rattle.cbm_drive.specs.Players.{IsStill}
 use Rattle.cbm_host.specs.Engines.{Engined, engine_due}
+use Rattle.cbm_host.specs.Hosted.{IsTaking, HasTaken}
 use Rattle.cbm_host.specs.Performed.{IsPerforming, IsCutShort, HasPerformed}
 use Rattle.cbm_host.specs.Performers.{Performing, IsAsked, IsGoing, IsHeldBack, IsUnmoved, HasStopped, HasCome, HasNext}
 use Rattle.cbm_host.specs.Playback.{Shown, Playback, played_says, played_step, IsPlayedBack}
@@ -46,3 +47,8 @@ module _ {D : Type 0} (shows : D → Shown) where
   -- memory ran out
   abbrev pub IsCutShortBack : List Shown → Cabled D → List Event → List Event → List (Station Playback) → Type 0
   IsCutShortBack shown = IsCutShort D Playback (IsPlayedBack shows shown) played_step played_says
+
+  -- the next byte that the host takes, or the end of the request
+  abbrev pub TakesRecorded : Performing → Performing → Cabled D → Cabled D → Option (ℕ × Bool) → Type 0
+  TakesRecorded old new b c result = (trail : List Shown) × ((later : List Shown) (e : Engined) (limit : ℕ) (bytes : List ℕ) (last : Bool) (ss : List (Station Playback)) → IsTaking D Playback (IsPlayedBack shows (trail ++ later)) played_step played_says e limit old b bytes last ss
+      → MatchOption result (HasTaken D Playback (IsPlayedBack shows later) played_step played_says e limit new c bytes last ss) (λ x. IsTaking D Playback (IsPlayedBack shows later) played_step played_says e limit new c (bytes ++ x.0 ∷ []) x.1 ss))

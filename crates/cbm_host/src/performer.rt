@@ -49,7 +49,7 @@ impl<'a> Performer<'a> {
     ghost use Rattle.cbm_iec.specs.declared.line.Change.{Change};
     ghost use Rattle.cbm_host.specs.declared.due.Due.TheVariants.{Makes, Waits, Hears};
     ghost use Rattle.cbm_host.specs.Playback.{Shown, Playback, played_says, played_step, IsPlayedBack};
-    ghost use Rattle.cbm_host.specs.Recorded.{GoesUpToRecorded, GoesOnRecorded, PlaysRecorded, ComesRecorded, NextRecorded};
+    ghost use Rattle.cbm_host.specs.Recorded.{GoesUpToRecorded, GoesOnRecorded, PlaysRecorded, ComesRecorded, NextRecorded, TakesRecorded};
     ghost use Rattle.cbm_drive.specs.Players.{IsTurnOf, IsAfter, HasGiven, IsStill};
 
     /// Before the first event of a request to the drive with this device number; its first change comes at the start.
@@ -104,6 +104,8 @@ impl<'a> Performer<'a> {
             IsTaking _ D.State D.stands D.step D.says e limit self.old bus.old bytes last ss → MatchOption result
             (HasTaken _ D.State D.stands D.step D.says e limit self.new bus.new bytes last ss)
             (λ x. IsTaking _ D.State D.stands D.step D.says e limit self.new bus.new (bytes ++ x.0 ∷ []) x.1 ss) }
+        // On any disk the same holds for a machine that plays back what the drive showed.
+        ensures recorded { (shows : D → Shown) → TakesRecorded shows self.old self.new bus.old bus.new result }
         ensures fewer { IfSome result (λ x. left_of self.new bus.new < left_of self.old bus.old) }
         ensures limit { self.new.limit ≡ self.old.limit }
         ensures lasting { numbers D.lasting bus.new.drives ≡ numbers D.lasting bus.old.drives }
