@@ -81,7 +81,7 @@ module _ (D M : Type 0) (stood stands : D → M → Type 0) (step : M → Act �
 
 -- ---- over the DOS
 
-is_drive : (device : ℕ) → 8 ≤ device → device ≤ 11 → IsDrive (party_of device)
+pub is_drive : (device : ℕ) → 8 ≤ device → device ≤ 11 → IsDrive (party_of device)
 is_drive device low high = record { from = low; upto = high; some = omega arith; prompt = omega arith }
 
 module _ {M : Type 0} (seen : M → Seen) where

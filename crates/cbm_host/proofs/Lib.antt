@@ -33,3 +33,4 @@ pub mod Recorded
 pub mod AnyDisk
 pub mod Anyway
 pub mod Regrouped
+pub mod HostedAnyway

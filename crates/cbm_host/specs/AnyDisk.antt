@@ -1,5 +1,5 @@
 -- A request to a drive on any disk: what the drive showed is played back by a machine, and for that machine the request was carried out.
-use Rattle.std.specs.Prelude.{◌≡◌, ◌<◌, ◌≤◌, ◌+◌, ℕ, Bool, false, List, [], ◌∷◌, length, Option, None, IfSome}
+use Rattle.std.specs.Prelude.{◌≡◌, ◌<◌, ◌≤◌, ◌+◌, ◌++◌, ℕ, Bool, List, [], ◌∷◌, length, Option, None, IfSome}
 use Rattle.cbm_drive.specs.Cables.{Cabled}
 use Rattle.cbm_drive.specs.Desks.{Desk}
 use Rattle.cbm_drive.specs.Seats.{IsBusAt}
@@ -44,18 +44,23 @@ module _ {D : Type 0} (shows : D → Shown) where
     pub began : IsBusAt D Playback (IsPlayedBack shows trail) before.host before.drives (at_rest Playback played_step played_says (λ d. played) (b ∷ []))
     pub cut : IsCutShort D Playback (IsPlayedBack shows []) played_step played_says now old new (at_rest Playback played_step played_says (λ d. played) (b ∷ []))
 
--- ---- a drive with its DOS alone on the cable
+-- ---- a request taken byte by byte
 
-module _ {K : Type 0} (shows : Desk K → Shown) where
-  -- THE DRIVE RESTS, on any disk.
-  abbrev pub RestsAnyway : Hosting K → Type 0
-  RestsAnyway h = IsAtRest shows (party_of h.device) h.bus
+module _ {D : Type 0} (shows : D → Shown) where
+  -- A REQUEST IS UNDER WAY to the drive with this device number, which was at rest, whatever its disk: where a machine plays back what the drive showed so
+  -- far, and then these, it is one to that machine.
+  pub record IsUnderWayAnyway (device : ℕ) (bus : Cabled D) (p : Performing) (request : Request) : Type 0 where
+    pub start : ℕ
+    pub before : Cabled D
+    pub rested : IsAtRest shows (party_of device) before
+    pub trail : List Shown
+    pub goes : (later : List Shown) (m : Playback) → IsBusAt D Playback (IsPlayedBack shows (trail ++ later)) before.host before.drives (at_rest Playback played_step played_says (λ d. m) (party_of device ∷ []))
+        → (bytes : List ℕ) × (last : Bool) × IsTaking D Playback (IsPlayedBack shows later) played_step played_says (engine_at start device request) (start + longest) p bus bytes last (at_rest Playback played_step played_says (λ d. m) (party_of device ∷ []))
 
-  -- a machine that plays back what it shows, and then these
-  abbrev pub IsHostedBack : List Shown → Hosting K → Playback → Type 0
-  IsHostedBack trail h m = IsBusAt (Desk K) Playback (IsPlayedBack shows trail) h.bus.host h.bus.drives (at_rest Playback played_step played_says (λ d. m) (party_of h.device ∷ []))
+  -- IT IS OVER: the drive is at rest again, if the request was one of at most 200,000 bytes for the machine that plays it back.
+  abbrev pub IsOverAnyway : ℕ → Cabled D → Request → Type 0
+  IsOverAnyway device bus request = (m : Playback) × (IsBounded device m request → IsAtRest shows (party_of device) bus)
 
-  -- A request to it is under way, as one to that machine: begun on this bus, it came to that one.
-  abbrev pub IsTakingBack : List Shown → Hosting K → Playback → Request → Performing → Cabled (Desk K) → List ℕ → Bool → Type 0
-  IsTakingBack shown h m request p bus bytes last =
-      IsTaking (Desk K) Playback (IsPlayedBack shows shown) played_step played_says (engine_at h.moment h.device request) (h.moment + longest) p bus bytes last (at_rest Playback played_step played_says (λ d. m) (party_of h.device ∷ []))
+-- THE DRIVE RESTS, on any disk.
+abbrev pub RestsAnyway : {K : Type 0} → (Desk K → Shown) → Hosting K → Type 0
+RestsAnyway shows h = IsAtRest shows (party_of h.device) h.bus

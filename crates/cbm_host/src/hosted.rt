@@ -49,6 +49,8 @@ impl<M: Steady> Hosted<M> {
     ghost use Rattle.cbm_host.specs.Hosted.{Rests, IsUnderWay, IsGoingOn, IsOver, tracks_on};
     ghost use Rattle.cbm_host.specs.Progress.{left_of};
     ghost use Rattle.cbm_host.specs.Served.{hear, served, IsModest};
+    ghost use Rattle.cbm_host.specs.Playback.{Shown, Playback};
+    ghost use Rattle.cbm_host.specs.AnyDisk.{IsBounded, IsUnderWayAnyway, IsOverAnyway, RestsAnyway};
 
     /// A drive at power up with this medium and a device number from 8 to 11.
     pub fn new(medium: M, device: u8) -> Hosted<M>
@@ -77,6 +79,9 @@ impl<M: Steady> Hosted<M> {
         requires channel { channel_of request ≤ 15 }
         ensures under_way { (m : Machine) → Rests M.seen self.now m →
             IsUnderWay M.seen self.now result m request.entry [] false }
+        // On any disk:
+        ensures anyway { (shows : desks.Desk (Kept M) → Shown) → RestsAnyway shows self.now →
+            IsUnderWayAnyway shows self.now.device self.now.bus result request.entry }
         ensures limit { result.limit ≡ self.now.moment + 250000000 }
     {
         Performer::new(self.moment, self.device, request)
@@ -89,6 +94,12 @@ impl<M: Steady> Hosted<M> {
             IsModest request → IsUnderWay M.seen self.old performer.old m request bytes last → MatchOption result
             (IsOver M.seen self.new m request bytes last)
             (λ x. IsGoingOn M.seen self.new performer.new m request (bytes ++ x.0 ∷ []) x.1) }
+        // On any disk:
+        ensures anyway { (shows : desks.Desk (Kept M) → Shown) (request : Request) → channel_of request ≤ 15 →
+            IsUnderWayAnyway shows self.old.device self.old.bus performer.old request → MatchOption result
+            (IsOverAnyway shows self.new.device self.new.bus request)
+            (λ x. IsUnderWayAnyway shows self.new.device self.new.bus performer.new request) }
+        ensures device { self.new.device ≡ self.old.device }
         // Whatever the drive stands for:
         ensures fewer { IfSome result (λ x. left_of performer.new self.new.bus < left_of performer.old self.old.bus) }
         ensures limit { performer.new.limit ≡ performer.old.limit }
@@ -115,6 +126,8 @@ impl<M: Steady> Hosted<M> {
         requires short { length text.now ≤ 200000 }
         requires moment { self.old.moment < 2 ^ 58 }
         ensures rests { (m : Machine) → Rests M.seen self.old m → Rests M.seen self.new (after_open channel text.now m) }
+        // On any disk the drive rests again.
+        ensures anyway { (shows : desks.Desk (Kept M) → Shown) → RestsAnyway shows self.old → RestsAnyway shows self.new }
         ensures soon { self.new.moment ≤ self.old.moment + 250000000 }
         ensures tracks { tracks_on M.seen self.new ≡ tracks_on M.seen self.old }
     {
@@ -127,6 +140,8 @@ impl<M: Steady> Hosted<M> {
         requires short { length bytes.now ≤ 200000 }
         requires moment { self.old.moment < 2 ^ 58 }
         ensures rests { (m : Machine) → Rests M.seen self.old m → Rests M.seen self.new (hear channel bytes.now m) }
+        // On any disk the drive rests again.
+        ensures anyway { (shows : desks.Desk (Kept M) → Shown) → RestsAnyway shows self.old → RestsAnyway shows self.new }
         ensures soon { self.new.moment ≤ self.old.moment + 250000000 }
         ensures tracks { tracks_on M.seen self.new ≡ tracks_on M.seen self.old }
     {
@@ -140,6 +155,8 @@ impl<M: Steady> Hosted<M> {
         requires moment { self.old.moment < 2 ^ 58 }
         ensures rests { (m : Machine) → Rests M.seen self.old m →
             Rests M.seen self.new (hear channel (replicate count byte) m) }
+        // On any disk the drive rests again.
+        ensures anyway { (shows : desks.Desk (Kept M) → Shown) → RestsAnyway shows self.old → RestsAnyway shows self.new }
         ensures soon { self.new.moment ≤ self.old.moment + 250000000 }
         ensures tracks { tracks_on M.seen self.new ≡ tracks_on M.seen self.old }
     {
@@ -151,6 +168,8 @@ impl<M: Steady> Hosted<M> {
         requires channel { channel ≤ 15 }
         requires moment { self.old.moment < 2 ^ 58 }
         ensures rests { (m : Machine) → Rests M.seen self.old m → Rests M.seen self.new (closing.close channel m) }
+        // On any disk the drive rests again.
+        ensures anyway { (shows : desks.Desk (Kept M) → Shown) → RestsAnyway shows self.old → RestsAnyway shows self.new }
         ensures soon { self.new.moment ≤ self.old.moment + 250000000 }
         ensures tracks { tracks_on M.seen self.new ≡ tracks_on M.seen self.old }
     {
@@ -163,6 +182,9 @@ impl<M: Steady> Hosted<M> {
         requires channel { channel_of request ≤ 15 }
         ensures rests { (m : Machine) → IsModest request.entry → Rests M.seen self.old m →
             Rests M.seen self.new (served request.entry m).machine }
+        // On any disk:
+        ensures anyway { (shows : desks.Desk (Kept M) → Shown) → ((m : Playback) → IsBounded self.old.device m request.entry) →
+            RestsAnyway shows self.old → RestsAnyway shows self.new }
         ensures soon { self.new.moment ≤ self.old.moment + 250000000 }
         ensures tracks { tracks_on M.seen self.new ≡ tracks_on M.seen self.old }
     {
