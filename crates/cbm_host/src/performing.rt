@@ -45,7 +45,7 @@ pub fn perform<D: Machine, const N: usize>(
     ensures recorded { (shows : D → Shown) (b : Party) → IsDrive b → b.device ≡ device → IsAtRest shows b bus.old →
         MatchResult result
         (λ done. IsCarriedOutAnyway shows b start request.entry bus.old bus.new events.old.items events.new.items
-            done.bytes.items done.last done.end)
+        done.bytes.items done.last done.end)
         (λ e. IsCutShortAnyway shows b bus.old bus.new events.old.items events.new.items) }
     ensures end { IfOk result (λ done. done.end ≤ start + 250000000) }
     // Whatever the machine stands for, nothing happens later than that.
@@ -91,7 +91,7 @@ fn run<D: Machine, const N: usize>(
         IsPerformingBack shows (trail ++ later) e limit performer.old bus.old old events.old.items done.old.bytes.items
         done.old.last ss → MatchResult result
         (λ u. HasPerformedBack shows later e limit performer.new bus.new old events.new.items done.new.bytes.items
-            done.new.last ss)
+        done.new.last ss)
         (λ x. IsCutShortBack shows later bus.new old events.new.items ss)) }
     ensures within { HasAddedUpTo performer.old.limit events.old.items events.new.items }
     ensures limit { performer.new.limit ≡ performer.old.limit }
@@ -124,10 +124,10 @@ fn step<D: Machine, const N: usize>(
         IsPerformingBack shows (trail ++ later) e limit performer.old bus.old old events.old.items done.old.bytes.items
         done.old.last ss → MatchResult result
         (λ more. MatchBool more
-            (IsPerformingBack shows later e limit performer.new bus.new old events.new.items done.new.bytes.items
-            done.new.last ss)
-            (HasPerformedBack shows later e limit performer.new bus.new old events.new.items done.new.bytes.items
-            done.new.last ss))
+        (IsPerformingBack shows later e limit performer.new bus.new old events.new.items done.new.bytes.items
+        done.new.last ss)
+        (HasPerformedBack shows later e limit performer.new bus.new old events.new.items done.new.bytes.items
+        done.new.last ss))
         (λ x. IsCutShortBack shows later bus.new old events.new.items ss)) }
     ensures within { HasAddedUpTo performer.old.limit events.old.items events.new.items }
     ensures fewer { IfOk result (λ more. more ≡ true → left_of performer.new bus.new < left_of performer.old bus.old) }
