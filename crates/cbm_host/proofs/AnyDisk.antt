@@ -6,9 +6,10 @@ use Rattle.cbm_drive.specs.Cables.{Cabled}
 use Rattle.cbm_drive.specs.Seats.{Seated, Meets, IsSeat, IsBusAt, held_by}
 use Rattle.cbm_host.specs.AnyDisk.{IsBounded, IsAtRest}
 use Rattle.cbm_host.specs.CarriedOut.{IsShort}
-use Rattle.cbm_host.specs.Playback.{Shown, Playback, says_or, first_of, played_says, played_step, IsPlayedBack, owes}
+use Rattle.cbm_drive.specs.Playback.{Shown, Playback, says_or, first_of, played_says, played_step, IsPlayedBack}
 use Rattle.cbm_host.specs.declared.request.Request.{Request}
 use Rattle.cbm_host.specs.declared.request.Request.TheVariants.{Open, Put, Fill, Get, Close, Status}
+use Rattle.cbm_iec.specs.Machines.{owes}
 use Rattle.cbm_iec.specs.declared.act.Act.TheVariants.{Said}
 use Rattle.cbm_iec.specs.declared.lines.Lines.{Lines}
 use Rattle.cbm_iec.specs.declared.party.Party.{Party}

@@ -9,7 +9,7 @@ use Rattle.cbm_host.specs.CarriedOut.{HasCarriedOut}
 use Rattle.cbm_host.specs.Engines.{engine_at, stage_end, channel_of}
 use Rattle.cbm_host.specs.Performed.{HasPerformed}
 use Rattle.cbm_host.specs.Performers.{Performing}
-use Rattle.cbm_host.specs.Playback.{Shown, Playback, played_says, played_step, IsPlayedBack}
+use Rattle.cbm_drive.specs.Playback.{Shown, Playback, played_says, played_step, IsPlayedBack}
 use Rattle.cbm_host.specs.Requests.{longest}
 use Rattle.cbm_host.specs.declared.request.Request.{Request}
 use Rattle.cbm_iec.specs.declared.event.Event.{Event}

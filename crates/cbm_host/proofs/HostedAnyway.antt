@@ -13,7 +13,7 @@ use Rattle.cbm_host.specs.AnyDisk.{IsAtRest, IsUnderWayAnyway, IsOverAnyway}
 use Rattle.cbm_host.specs.Engines.{engine_at, channel_of}
 use Rattle.cbm_host.specs.Hosted.{party_of}
 use Rattle.cbm_host.specs.Performers.{Performing}
-use Rattle.cbm_host.specs.Playback.{Shown, Playback, played_says, played_step, IsPlayedBack}
+use Rattle.cbm_drive.specs.Playback.{Shown, Playback, played_says, played_step, IsPlayedBack}
 use Rattle.cbm_host.specs.Recorded.{TakesRecorded}
 use Rattle.cbm_host.specs.Requests.{longest}
 use Rattle.cbm_host.specs.declared.request.Request.{Request}

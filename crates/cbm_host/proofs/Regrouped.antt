@@ -5,7 +5,7 @@ use Rattle.cbm_drive.specs.Cables.{Cabled}
 use Rattle.cbm_host.specs.Engines.{Engined}
 use Rattle.cbm_host.specs.Hosted.{IsTaking}
 use Rattle.cbm_host.specs.Performers.{Performing}
-use Rattle.cbm_host.specs.Playback.{Shown, Playback, played_says, played_step, IsPlayedBack}
+use Rattle.cbm_drive.specs.Playback.{Shown, Playback, played_says, played_step, IsPlayedBack}
 use Rattle.cbm_session.specs.Playing.{Station}
 
 pub regrouped : {D : Type 0} (shows : D → Shown) (first second later : List Shown) (e : Engined) (limit : ℕ) (p : Performing) (b : Cabled D) (bytes : List ℕ) (last : Bool) (ss : List (Station Playback)) → IsTaking D Playback (IsPlayedBack shows ((first ++ second) ++ later)) played_step played_says e limit p b bytes last ss

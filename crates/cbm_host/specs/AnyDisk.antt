@@ -7,7 +7,7 @@ use Rattle.cbm_host.specs.CarriedOut.{AreBytes, IsShort, HasCarriedOut}
 use Rattle.cbm_host.specs.Engines.{sent_by, engine_at}
 use Rattle.cbm_host.specs.Hosted.{IsTaking, Hosting, party_of}
 use Rattle.cbm_host.specs.Performed.{IsCutShort}
-use Rattle.cbm_host.specs.Playback.{Shown, Playback, played_says, played_step, IsPlayedBack}
+use Rattle.cbm_drive.specs.Playback.{Shown, Playback, played_says, played_step, IsPlayedBack}
 use Rattle.cbm_host.specs.Performers.{Performing}
 use Rattle.cbm_host.specs.Requests.{most_bytes, longest}
 use Rattle.cbm_host.specs.declared.request.Request.{Request}

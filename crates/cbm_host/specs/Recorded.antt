@@ -6,7 +6,7 @@ use Rattle.cbm_host.specs.Engines.{Engined, engine_due}
 use Rattle.cbm_host.specs.Hosted.{IsTaking, HasTaken}
 use Rattle.cbm_host.specs.Performed.{IsPerforming, IsCutShort, HasPerformed}
 use Rattle.cbm_host.specs.Performers.{Performing, IsAsked, IsGoing, IsHeldBack, IsUnmoved, HasStopped, HasCome, HasNext}
-use Rattle.cbm_host.specs.Playback.{Shown, Playback, played_says, played_step, IsPlayedBack}
+use Rattle.cbm_drive.specs.Playback.{Shown, Playback, played_says, played_step, IsPlayedBack}
 use Rattle.cbm_iec.specs.declared.event.Event.{Event}
 use Rattle.cbm_iec.specs.declared.line.Change.{Change}
 use Rattle.cbm_session.specs.Playing.{Station}

@@ -49,7 +49,7 @@ impl<M: Steady> Hosted<M> {
     ghost use Rattle.cbm_host.specs.Hosted.{Rests, IsUnderWay, IsGoingOn, IsOver, tracks_on};
     ghost use Rattle.cbm_host.specs.Progress.{left_of};
     ghost use Rattle.cbm_host.specs.Served.{hear, served, IsModest};
-    ghost use Rattle.cbm_host.specs.Playback.{Shown, Playback};
+    ghost use Rattle.cbm_drive.specs.Playback.{Shown, Playback};
     ghost use Rattle.cbm_host.specs.AnyDisk.{IsBounded, IsUnderWayAnyway, IsOverAnyway, RestsAnyway};
 
     /// A drive at power up with this medium and a device number from 8 to 11.
@@ -80,8 +80,8 @@ impl<M: Steady> Hosted<M> {
         ensures under_way { (m : Machine) → Rests M.seen self.now m →
             IsUnderWay M.seen self.now result m request.entry [] false }
         // On any disk:
-        ensures anyway { (shows : desks.Desk (Kept M) → Shown) → RestsAnyway shows self.now →
-            IsUnderWayAnyway shows self.now.device self.now.bus result request.entry }
+        ensures anyway { RestsAnyway (desk_shows M.seen) self.now →
+            IsUnderWayAnyway (desk_shows M.seen) self.now.device self.now.bus result request.entry }
         ensures limit { result.limit ≡ self.now.moment + 250000000 }
     {
         Performer::new(self.moment, self.device, request)
@@ -95,10 +95,10 @@ impl<M: Steady> Hosted<M> {
             (IsOver M.seen self.new m request bytes last)
             (λ x. IsGoingOn M.seen self.new performer.new m request (bytes ++ x.0 ∷ []) x.1) }
         // On any disk:
-        ensures anyway { (shows : desks.Desk (Kept M) → Shown) (request : Request) → channel_of request ≤ 15 →
-            IsUnderWayAnyway shows self.old.device self.old.bus performer.old request → MatchOption result
-            (IsOverAnyway shows self.new.device self.new.bus request)
-            (λ x. IsUnderWayAnyway shows self.new.device self.new.bus performer.new request) }
+        ensures anyway { (request : Request) → channel_of request ≤ 15 →
+            IsUnderWayAnyway (desk_shows M.seen) self.old.device self.old.bus performer.old request → MatchOption result
+            (IsOverAnyway (desk_shows M.seen) self.new.device self.new.bus request)
+            (λ x. IsUnderWayAnyway (desk_shows M.seen) self.new.device self.new.bus performer.new request) }
         ensures device { self.new.device ≡ self.old.device }
         // Whatever the drive stands for:
         ensures fewer { IfSome result (λ x. left_of performer.new self.new.bus < left_of performer.old self.old.bus) }
@@ -127,7 +127,7 @@ impl<M: Steady> Hosted<M> {
         requires moment { self.old.moment < 2 ^ 58 }
         ensures rests { (m : Machine) → Rests M.seen self.old m → Rests M.seen self.new (after_open channel text.now m) }
         // On any disk the drive rests again.
-        ensures anyway { (shows : desks.Desk (Kept M) → Shown) → RestsAnyway shows self.old → RestsAnyway shows self.new }
+        ensures anyway { RestsAnyway (desk_shows M.seen) self.old → RestsAnyway (desk_shows M.seen) self.new }
         ensures soon { self.new.moment ≤ self.old.moment + 250000000 }
         ensures tracks { tracks_on M.seen self.new ≡ tracks_on M.seen self.old }
     {
@@ -141,7 +141,7 @@ impl<M: Steady> Hosted<M> {
         requires moment { self.old.moment < 2 ^ 58 }
         ensures rests { (m : Machine) → Rests M.seen self.old m → Rests M.seen self.new (hear channel bytes.now m) }
         // On any disk the drive rests again.
-        ensures anyway { (shows : desks.Desk (Kept M) → Shown) → RestsAnyway shows self.old → RestsAnyway shows self.new }
+        ensures anyway { RestsAnyway (desk_shows M.seen) self.old → RestsAnyway (desk_shows M.seen) self.new }
         ensures soon { self.new.moment ≤ self.old.moment + 250000000 }
         ensures tracks { tracks_on M.seen self.new ≡ tracks_on M.seen self.old }
     {
@@ -156,7 +156,7 @@ impl<M: Steady> Hosted<M> {
         ensures rests { (m : Machine) → Rests M.seen self.old m →
             Rests M.seen self.new (hear channel (replicate count byte) m) }
         // On any disk the drive rests again.
-        ensures anyway { (shows : desks.Desk (Kept M) → Shown) → RestsAnyway shows self.old → RestsAnyway shows self.new }
+        ensures anyway { RestsAnyway (desk_shows M.seen) self.old → RestsAnyway (desk_shows M.seen) self.new }
         ensures soon { self.new.moment ≤ self.old.moment + 250000000 }
         ensures tracks { tracks_on M.seen self.new ≡ tracks_on M.seen self.old }
     {
@@ -169,7 +169,7 @@ impl<M: Steady> Hosted<M> {
         requires moment { self.old.moment < 2 ^ 58 }
         ensures rests { (m : Machine) → Rests M.seen self.old m → Rests M.seen self.new (closing.close channel m) }
         // On any disk the drive rests again.
-        ensures anyway { (shows : desks.Desk (Kept M) → Shown) → RestsAnyway shows self.old → RestsAnyway shows self.new }
+        ensures anyway { RestsAnyway (desk_shows M.seen) self.old → RestsAnyway (desk_shows M.seen) self.new }
         ensures soon { self.new.moment ≤ self.old.moment + 250000000 }
         ensures tracks { tracks_on M.seen self.new ≡ tracks_on M.seen self.old }
     {
@@ -183,8 +183,8 @@ impl<M: Steady> Hosted<M> {
         ensures rests { (m : Machine) → IsModest request.entry → Rests M.seen self.old m →
             Rests M.seen self.new (served request.entry m).machine }
         // On any disk:
-        ensures anyway { (shows : desks.Desk (Kept M) → Shown) → ((m : Playback) → IsBounded self.old.device m request.entry) →
-            RestsAnyway shows self.old → RestsAnyway shows self.new }
+        ensures anyway { ((m : Playback) → IsBounded self.old.device m request.entry) →
+            RestsAnyway (desk_shows M.seen) self.old → RestsAnyway (desk_shows M.seen) self.new }
         ensures soon { self.new.moment ≤ self.old.moment + 250000000 }
         ensures tracks { tracks_on M.seen self.new ≡ tracks_on M.seen self.old }
     {

@@ -30,7 +30,7 @@ impl<'a> Model for Performer<'a> {
 }
 
 impl<'a> Performer<'a> {
-    ghost use Rattle.std.specs.Prelude.{◌≡◌, ◌+◌, ◌-◌, ◌++◌, ◌^◌, ◌<◌, ◌≤◌, ℕ, Bool, List, [], ◌∷◌, None, Some, true, false, IfSome, MatchOption};
+    ghost use Rattle.std.specs.Prelude.{◌≡◌, ◌+◌, ◌++◌, ◌^◌, ◌<◌, ◌≤◌, ℕ, Bool, List, [], ◌∷◌, None, Some, true, false, IfSome, MatchOption};
     ghost use Rattle.cbm_session.specs.Playing.{Station, at_rest};
     ghost use Rattle.cbm_session.specs.Sessions.{IsDrive};
     ghost use Rattle.cbm_iec.specs.declared.party.Party.{Party};
@@ -48,9 +48,7 @@ impl<'a> Performer<'a> {
     ghost use Rattle.cbm_iec.specs.declared.event.Event.{Event};
     ghost use Rattle.cbm_iec.specs.declared.line.Change.{Change};
     ghost use Rattle.cbm_host.specs.declared.due.Due.TheVariants.{Makes, Waits, Hears};
-    ghost use Rattle.cbm_host.specs.Playback.{Shown, Playback, played_says, played_step, IsPlayedBack};
     ghost use Rattle.cbm_host.specs.Recorded.{GoesUpToRecorded, GoesOnRecorded, PlaysRecorded, ComesRecorded, NextRecorded, TakesRecorded};
-    ghost use Rattle.cbm_drive.specs.Players.{IsTurnOf, IsAfter, HasGiven, IsStill};
 
     /// Before the first event of a request to the drive with this device number; its first change comes at the start.
     pub fn new(start: u64, device: u8, request: Request<'a>) -> Performer<'a>
@@ -78,7 +76,7 @@ impl<'a> Performer<'a> {
             (HasStopped _ D.State D.stands D.step D.says self.old self.new bus.new n ss es)
             (HasNext _ D.State D.stands D.step D.says self.old self.new bus.new n ss es) }
         // On any disk the same holds for a machine that plays back what the drive showed.
-        ensures recorded { (shows : D → Shown) → NextRecorded shows self.old self.new bus.old bus.new result }
+        ensures recorded { NextRecorded D.shows self.old self.new bus.old bus.new result }
         // Whatever the machine stands for, less is left to come behind an event.
         ensures fewer { IfSome result (λ e. left_of self.new bus.new < left_of self.old bus.old) }
         ensures within { IfSome result (λ e. e.change.moment ≤ self.old.limit) }
@@ -105,7 +103,7 @@ impl<'a> Performer<'a> {
             (HasTaken _ D.State D.stands D.step D.says e limit self.new bus.new bytes last ss)
             (λ x. IsTaking _ D.State D.stands D.step D.says e limit self.new bus.new (bytes ++ x.0 ∷ []) x.1 ss) }
         // On any disk the same holds for a machine that plays back what the drive showed.
-        ensures recorded { (shows : D → Shown) → TakesRecorded shows self.old self.new bus.old bus.new result }
+        ensures recorded { TakesRecorded D.shows self.old self.new bus.old bus.new result }
         ensures fewer { IfSome result (λ x. left_of self.new bus.new < left_of self.old bus.old) }
         ensures limit { self.new.limit ≡ self.old.limit }
         ensures lasting { numbers D.lasting bus.new.drives ≡ numbers D.lasting bus.old.drives }
@@ -189,7 +187,7 @@ impl<'a> Performer<'a> {
     /// The event that comes next.
     fn event<D: Machine, const N: usize>(&mut self, bus: &mut Bus<D, N>) -> Option<Event>
         ensures come { GoesOn _ D.State D.stands D.step D.says self.old self.new bus.old bus.new result }
-        ensures recorded { N ≡ 1 → (shows : D → Shown) → GoesOnRecorded shows self.old self.new bus.old bus.new result }
+        ensures recorded { N ≡ 1 → GoesOnRecorded D.shows self.old self.new bus.old bus.new result }
         ensures fewer { IfSome result (λ e. FallsBy e.who self.old self.new bus.old bus.new) }
         ensures limit { self.new.limit ≡ self.old.limit }
         ensures lasting { numbers D.lasting bus.new.drives ≡ numbers D.lasting bus.old.drives }
@@ -206,8 +204,7 @@ impl<'a> Performer<'a> {
     fn ask<D: Machine, const N: usize>(&mut self, bus: &mut Bus<D, N>, upto: u64) -> Option<Event>
         requires { upto ≤ self.old.limit }
         ensures come { GoesUpTo _ D.State D.stands D.step D.says upto self.old self.new bus.old bus.new result }
-        ensures recorded { N ≡ 1 → (shows : D → Shown) →
-            GoesUpToRecorded shows upto self.old self.new bus.old bus.new result }
+        ensures recorded { N ≡ 1 → GoesUpToRecorded D.shows upto self.old self.new bus.old bus.new result }
         ensures waiting { IsWaitingFrom self.new.player.from self.new.player.waiting }
         ensures fewer { IfSome result (λ e. IsDrives e.who → at_most (self.old.limit + 1) self.new.player.second
             bus.new.drives < at_most (self.old.limit + 1) self.old.player.second bus.old.drives) }
@@ -215,32 +212,7 @@ impl<'a> Performer<'a> {
         ensures limit { self.new.limit ≡ self.old.limit }
         ensures lasting { numbers D.lasting bus.new.drives ≡ numbers D.lasting bus.old.drives }
     {
-        Performer::given(&mut self.player, bus, upto)
-    }
-
-    /// The player's next event. It stands in for the player's own call until that has the clause `recorded`.
-    fn given<D: Machine, const N: usize>(
-        player: &mut Player,
-        bus: &mut Bus<D, N>,
-        upto: u64,
-    ) -> Option<Event>
-        requires { upto < 2 ^ 59 - 1 }
-        ensures given { (n : ℕ) (ss : List (Station D.State)) (es : List Event) →
-            (a : IsAfter _ D.State D.stands D.step D.says player.old bus.old n ss es) → MatchOption result
-            (IsStill _ D.State D.stands D.step D.says player.old player.new bus.old bus.new upto a.stations)
-            (HasGiven _ D.State D.stands D.step D.says player.new bus.new upto n ss es) }
-        ensures recorded { N ≡ 1 → (shows : D → Shown) → (trail : List Shown) × ((later : List Shown) (n : ℕ)
-            (ss : List (Station Playback)) (es : List Event) →
-            (a : IsAfter _ Playback (IsPlayedBack shows (trail ++ later)) played_step played_says player.old bus.old n ss es) → MatchOption result
-            ((trail ≡ []) × IsStill _ Playback (IsPlayedBack shows later) played_step played_says player.old player.new bus.old bus.new upto a.stations)
-            (HasGiven _ Playback (IsPlayedBack shows later) played_step played_says player.new bus.new upto n ss es)) }
-        ensures turn { IfSome result (λ e. IsTurnOf e.who e.change player.old.waiting player.new.waiting) }
-        ensures waiting { IsWaitingFrom player.new.from player.new.waiting }
-        ensures fewer { IfSome result (λ e. IsDrives e.who → (limit : ℕ) → upto < limit →
-            at_most limit player.new.second bus.new.drives < at_most limit player.old.second bus.old.drives) }
-        ensures lasting { numbers D.lasting bus.new.drives ≡ numbers D.lasting bus.old.drives }
-    {
-        player.next(bus, upto)
+        self.player.next(bus, upto)
     }
 
     /// What the drive does up to a moment, where no change of the host is due.
@@ -248,8 +220,7 @@ impl<'a> Performer<'a> {
         requires upto { upto ≤ self.old.limit }
         requires none { (change : Change) → engine_due self.old.engine ≡ Makes change → ⊥ }
         ensures come { GoesUpTo _ D.State D.stands D.step D.says upto self.old self.new bus.old bus.new result }
-        ensures recorded { N ≡ 1 → (shows : D → Shown) →
-            GoesUpToRecorded shows upto self.old self.new bus.old bus.new result }
+        ensures recorded { N ≡ 1 → GoesUpToRecorded D.shows upto self.old self.new bus.old bus.new result }
         ensures waiting { IsWaitingFrom self.new.player.from self.new.player.waiting }
         ensures drive { IfSome result (λ e. IsDrives e.who) }
         ensures fewer { IfSome result (λ e. at_most (self.old.limit + 1) self.new.player.second bus.new.drives
@@ -269,7 +240,7 @@ impl<'a> Performer<'a> {
     fn hear<D: Machine, const N: usize>(&mut self, bus: &mut Bus<D, N>) -> Option<Event>
         requires due { engine_due self.old.engine ≡ Hears }
         ensures come { GoesOn _ D.State D.stands D.step D.says self.old self.new bus.old bus.new result }
-        ensures recorded { N ≡ 1 → (shows : D → Shown) → GoesOnRecorded shows self.old self.new bus.old bus.new result }
+        ensures recorded { N ≡ 1 → GoesOnRecorded D.shows self.old self.new bus.old bus.new result }
         ensures fewer { IfSome result (λ e. FallsBy e.who self.old self.new bus.old bus.new) }
         ensures limit { self.new.limit ≡ self.old.limit }
         ensures lasting { numbers D.lasting bus.new.drives ≡ numbers D.lasting bus.old.drives }
@@ -289,8 +260,7 @@ impl<'a> Performer<'a> {
             IsGoing _ D.State D.stands D.step D.says self.old bus.old n ss es → MatchOption result
             (IsHeldBack _ D.State D.stands D.step D.says self.old self.new bus.old bus.new change)
             (HasCome _ D.State D.stands D.step D.says self.old self.new bus.new n ss es) }
-        ensures recorded { N ≡ 1 → (shows : D → Shown) →
-            PlaysRecorded shows change self.old self.new bus.old bus.new result }
+        ensures recorded { N ≡ 1 → PlaysRecorded D.shows change self.old self.new bus.old bus.new result }
         ensures fewer { IfSome result (λ e. FallsBy e.who self.old self.new bus.old bus.new) }
         ensures engine { self.new.engine ≡ self.old.engine }
         ensures limit { self.new.limit ≡ self.old.limit }
@@ -322,7 +292,7 @@ impl<'a> Performer<'a> {
     fn wait<D: Machine, const N: usize>(&mut self, bus: &mut Bus<D, N>, until: u64) -> Option<Event>
         requires due { engine_due self.old.engine ≡ Waits until }
         ensures come { GoesOn _ D.State D.stands D.step D.says self.old self.new bus.old bus.new result }
-        ensures recorded { N ≡ 1 → (shows : D → Shown) → GoesOnRecorded shows self.old self.new bus.old bus.new result }
+        ensures recorded { N ≡ 1 → GoesOnRecorded D.shows self.old self.new bus.old bus.new result }
         ensures fewer { IfSome result (λ e. FallsBy e.who self.old self.new bus.old bus.new) }
         ensures limit { self.new.limit ≡ self.old.limit }
         ensures lasting { numbers D.lasting bus.new.drives ≡ numbers D.lasting bus.old.drives }
@@ -351,8 +321,7 @@ impl<'a> Performer<'a> {
             IsGoing _ D.State D.stands D.step D.says self.old bus.old n ss es → MatchOption result
             (IsUnmoved _ D.State D.stands D.step D.says self.old self.new bus.old bus.new until n ss es)
             (HasCome _ D.State D.stands D.step D.says self.old self.new bus.new n ss es) }
-        ensures recorded { N ≡ 1 → (shows : D → Shown) →
-            ComesRecorded shows until self.old self.new bus.old bus.new result }
+        ensures recorded { N ≡ 1 → ComesRecorded D.shows until self.old self.new bus.old bus.new result }
         ensures fewer { IfSome result (λ e. FallsBy e.who self.old self.new bus.old bus.new) }
         ensures engine { self.new.engine ≡ self.old.engine }
         ensures limit { self.new.limit ≡ self.old.limit }

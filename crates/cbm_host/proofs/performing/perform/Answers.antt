@@ -6,7 +6,7 @@ use Rattle.cbm_host.proofs.performing.perform.Goals as goal
 use Rattle.cbm_host.specs.CarriedOut.{IsShort}
 use Rattle.cbm_host.specs.Engines.{engine_at}
 use Rattle.cbm_host.specs.Performed.{HasPerformed}
-use Rattle.cbm_host.specs.Playback.{Shown, Playback, played_says, played_step, IsPlayedBack}
+use Rattle.cbm_drive.specs.Playback.{Shown, Playback, played_says, played_step, IsPlayedBack}
 use Rattle.cbm_host.proofs.AnyDisk.{played_byte, rest_played}
 use Rattle.cbm_host.proofs.Anyway.{carried_anyway}
 
@@ -40,10 +40,11 @@ returns-in-Err-clause-memory g c = λ ss bus.
 -- ---- on any disk
 
 pub returns-in-Ok-clause-recorded : goal.returns-in-Ok-clause-recorded
-returns-in-Ok-clause-recorded g c = λ shows b drive device rest.
+returns-in-Ok-clause-recorded g c = λ b drive device rest.
+    let shows = g.D.Machine.shows in
     let engine = engine_at c.args.start c.args.device c.args.request in
     let limit = c.args.start + 250000000 in
-    let run = c.in-Ok.ensures.recorded shows in
+    let run = c.in-Ok.ensures.recorded in
     let first = rest_played shows b c.args.bus.now (run.0 ++ []) rest in
     let ss = at_rest Playback played_step played_says (λ d. first.0) (b ∷ []) in
     let h = run.1 [] engine limit c.args.events.now.items ss
@@ -53,10 +54,11 @@ returns-in-Ok-clause-recorded g c = λ shows b drive device rest.
     carried_anyway shows b drive c.args.start c.args.request c.requires.channel c.args.bus.now c.run.new.bus (run.0 ++ []) first.0 first.1 c.run.new.performer c.args.events.now.items c.run.new.events.items c.run.new.done.bytes.items c.run.new.done.last c.over.result h2 c.over.ensures.end
 
 pub returns-in-Err-clause-recorded : goal.returns-in-Err-clause-recorded
-returns-in-Err-clause-recorded g c = λ shows b drive device rest.
+returns-in-Err-clause-recorded g c = λ b drive device rest.
+    let shows = g.D.Machine.shows in
     let engine = engine_at c.args.start c.args.device c.args.request in
     let limit = c.args.start + 250000000 in
-    let run = c.in-Err.ensures.recorded shows in
+    let run = c.in-Err.ensures.recorded in
     let first = rest_played shows b c.args.bus.now (run.0 ++ []) rest in
     let ss = at_rest Playback played_step played_says (λ d. first.0) (b ∷ []) in
     record {

@@ -2,12 +2,12 @@ use Rattle.std.proofs.Common.{ℕ, refl, ◌∙◌, subst, List, [], ◌++◌}
 use Rattle.cbm_host.proofs.Performed.{if_no, if_yes, if_err, added_none, added_more, match_err}
 use Rattle.cbm_host.proofs.performing.run.Goals as goal
 use Rattle.cbm_host.specs.Performed.{HasAddedUpTo}
-use Rattle.cbm_host.specs.Playback.{Shown}
+use Rattle.cbm_drive.specs.Playback.{Shown}
 use Rattle.cbm_host.specs.Recorded.{IsPerformingBack}
 use Rattle.std.proofs.lemmas.List.{append_assoc}
 
 pub events-init : goal.events-init
-events-init g c = record { performing = λ e limit old ss p. p; within = added_none c.args.performer.now.limit c.args.events.now.items c.args.events.now.items refl; limit = refl; recorded = λ shows. ([], λ later e limit old ss p. p) }
+events-init g c = record { performing = λ e limit old ss p. p; within = added_none c.args.performer.now.limit c.args.events.now.items c.args.events.now.items refl; limit = refl; recorded = ([], λ later e limit old ss p. p) }
 
 pub events-preserved : goal.events-preserved
 events-preserved g c = record {
@@ -16,9 +16,10 @@ events-preserved g c = record {
       if_yes c.in_ok-step.field-0 _ _ c.if-branch.true (c.in_ok-step.ensures.performing e limit old ss k));
   within = added_more _ _ _ _ c.events.invariant.within (subst (λ (l : ℕ). HasAddedUpTo l c.events.events.items c.step.new.events.items) c.events.invariant.limit c.step.ensures.within);
   limit = c.step.ensures.limit ∙ c.events.invariant.limit;
-  recorded = λ shows.
-      (let before = c.events.invariant.recorded shows in
-      let step = c.in_ok-step.ensures.recorded shows in (
+  recorded =
+      (let shows = g.D.Machine.shows in
+      let before = c.events.invariant.recorded in
+      let step = c.in_ok-step.ensures.recorded in (
         before.0 ++ step.0,
         λ later e limit old ss p.
             let first = subst (λ (l : List Shown). IsPerformingBack shows l e limit c.args.performer.now c.args.bus.now old c.args.events.now.items c.args.done.now.bytes.items c.args.done.now.last ss) (append_assoc before.0 step.0 later) p in
@@ -48,9 +49,10 @@ returns-in_err-step-clause-within g c = added_more _ _ _ _ c.events.invariant.wi
 
 -- on any disk
 pub returns-clause-recorded : goal.returns-clause-recorded
-returns-clause-recorded g c = λ shows.
-    let before = c.events.invariant.recorded shows in
-    let step = c.in_ok-step.ensures.recorded shows in (
+returns-clause-recorded g c =
+    let shows = g.D.Machine.shows in
+    let before = c.events.invariant.recorded in
+    let step = c.in_ok-step.ensures.recorded in (
       before.0 ++ step.0,
       λ later e limit old ss p.
           let first = subst (λ (l : List Shown). IsPerformingBack shows l e limit c.args.performer.now c.args.bus.now old c.args.events.now.items c.args.done.now.bytes.items c.args.done.now.last ss) (append_assoc before.0 step.0 later) p in
@@ -59,9 +61,10 @@ returns-clause-recorded g c = λ shows.
     )
 
 pub returns-in_err-step-clause-recorded : goal.returns-in_err-step-clause-recorded
-returns-in_err-step-clause-recorded g c = λ shows.
-    let before = c.events.invariant.recorded shows in
-    let step = c.in_err-step.ensures.recorded shows in (
+returns-in_err-step-clause-recorded g c =
+    let shows = g.D.Machine.shows in
+    let before = c.events.invariant.recorded in
+    let step = c.in_err-step.ensures.recorded in (
       before.0 ++ step.0,
       λ later e limit old ss p.
           let first = subst (λ (l : List Shown). IsPerformingBack shows l e limit c.args.performer.now c.args.bus.now old c.args.events.now.items c.args.done.now.bytes.items c.args.done.now.last ss) (append_assoc before.0 step.0 later) p in

@@ -2,7 +2,7 @@ use Rattle.std.proofs.Common.{◌++◌, refl, ap, ◌∙◌}
 use Rattle.cbm_host.proofs.Performed.{if_err, added_none, added_one, cut_before, cut_behind, performing_on, performing_still, match_err}
 use Rattle.cbm_host.proofs.performing.step.Goals as goal
 use Rattle.cbm_host.specs.Performed.{taken_with, last_with}
-use Rattle.cbm_host.specs.Playback.{Shown, Playback, played_says, played_step, IsPlayedBack}
+use Rattle.cbm_drive.specs.Playback.{Shown, Playback, played_says, played_step, IsPlayedBack}
 
 pub returns-in_default-clause-performing : goal.returns-in_default-clause-performing
 returns-in_default-clause-performing g c = λ e limit old ss p.
@@ -40,8 +40,9 @@ returns-in_err-take-clause-within g c = added_one c.args.performer.now.limit c.a
 -- ---- the same on any disk
 
 pub returns-in_default-clause-recorded : goal.returns-in_default-clause-recorded
-returns-in_default-clause-recorded g c = λ shows.
-    let none = c.in_default.ensures.recorded shows in (
+returns-in_default-clause-recorded g c =
+    let shows = g.D.Machine.shows in
+    let none = c.in_default.ensures.recorded in (
       none.0,
       λ later e limit old ss p.
           performing_still _ Playback (IsPlayedBack shows (none.0 ++ later)) (IsPlayedBack shows later) played_step played_says e limit c.args.performer.now c.next.new.self c.args.bus.now c.next.new.bus old c.args.events.now.items c.args.done.now.bytes.items c.args.done.now.last ss p
@@ -49,8 +50,9 @@ returns-in_default-clause-recorded g c = λ shows.
     )
 
 pub returns-clause-recorded : goal.returns-clause-recorded
-returns-clause-recorded g c = λ shows.
-    let next = c.in-Some.ensures.recorded shows in (
+returns-clause-recorded g c =
+    let shows = g.D.Machine.shows in
+    let next = c.in-Some.ensures.recorded in (
       next.0,
       λ later e limit old ss p.
           performing_on _ Playback (IsPlayedBack shows (next.0 ++ later)) (IsPlayedBack shows later) played_step played_says e limit c.args.performer.now c.next.new.self c.args.bus.now c.next.new.bus old c.args.events.now.items c.push.new.self.items c.args.done.now.bytes.items
@@ -59,8 +61,9 @@ returns-clause-recorded g c = λ shows.
     )
 
 pub returns-in_err-push-clause-recorded : goal.returns-in_err-push-clause-recorded
-returns-in_err-push-clause-recorded g c = λ shows.
-    let next = c.in-Some.ensures.recorded shows in (
+returns-in_err-push-clause-recorded g c =
+    let shows = g.D.Machine.shows in
+    let next = c.in-Some.ensures.recorded in (
       next.0,
       λ later e limit old ss p.
           match_err c.from_residual.result _ _ _ c.from_residual.ensures.1 (λ x. cut_before _ Playback (IsPlayedBack shows (next.0 ++ later)) (IsPlayedBack shows later) played_step played_says e limit c.args.performer.now c.next.new.self c.args.bus.now c.next.new.bus old c.args.events.now.items c.push.new.self.items c.args.done.now.bytes.items
@@ -68,8 +71,9 @@ returns-in_err-push-clause-recorded g c = λ shows.
     )
 
 pub returns-in_err-take-clause-recorded : goal.returns-in_err-take-clause-recorded
-returns-in_err-take-clause-recorded g c = λ shows.
-    let next = c.in-Some.ensures.recorded shows in (
+returns-in_err-take-clause-recorded g c =
+    let shows = g.D.Machine.shows in
+    let next = c.in-Some.ensures.recorded in (
       next.0,
       λ later e limit old ss p.
           match_err c.from_residual-in_err-take.result _ _ _ c.from_residual-in_err-take.ensures.1 (λ x. cut_behind _ Playback (IsPlayedBack shows (next.0 ++ later)) (IsPlayedBack shows later) played_step played_says e limit c.args.performer.now c.next.new.self c.args.bus.now c.next.new.bus old c.args.events.now.items c.push.new.self.items c.args.done.now.bytes.items

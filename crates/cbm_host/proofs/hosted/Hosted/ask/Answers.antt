@@ -15,6 +15,7 @@ pub returns-clause-limit : goal.returns-clause-limit
 returns-clause-limit g c = c.new.ensures.limit ∙ ap (λ (h : Hosting _). h.moment + 250000000) c.self.view_is
 
 pub returns-clause-anyway : goal.returns-clause-anyway
-returns-clause-anyway g c = λ shows.
+returns-clause-anyway g c =
+    let shows = desk_shows g.M.Medium.seen in
     subst (λ (h : Hosting _). RestsAnyway shows h → IsUnderWayAnyway shows h.device h.bus c.new.result c.args.request) c.self.view_is
     (λ r. begun_anyway shows c.self.inside.device c.self.inside.moment c.self.inside.bus c.new.result c.args.request r c.new.ensures.player c.new.ensures.engine c.new.ensures.limit)

@@ -1,10 +1,10 @@
 use Rattle.std.proofs.Common.{◌≤◌, [], ◌∷◌, ◌++◌, false, refl, ◌∙◌, arith, ℕ, sym, subst}
 use Rattle.cbm_host.proofs.hosted.Hosted.carry_out.Goals as goal
 use Rattle.cbm_host.specs.AnyDisk.{IsBounded}
-use Rattle.cbm_host.specs.Playback.{Playback}
+use Rattle.cbm_drive.specs.Playback.{Playback}
 
 pub bytes-init : goal.bytes-init
-bytes-init g c = record { under_way = λ m k r. ([], false, c.ask-performer.ensures.under_way m r); limit = c.ask-performer.ensures.limit; tracks = refl; device = refl; anyway = λ shows r. c.ask-performer.ensures.anyway shows r }
+bytes-init g c = record { under_way = λ m k r. ([], false, c.ask-performer.ensures.under_way m r); limit = c.ask-performer.ensures.limit; tracks = refl; device = refl; anyway = λ r. c.ask-performer.ensures.anyway r }
 
 pub bytes-preserved : goal.bytes-preserved
 bytes-preserved g c = record {
@@ -14,7 +14,7 @@ bytes-preserved g c = record {
   limit = c.take.ensures.limit ∙ c.bytes.invariant.limit;
   tracks = c.take.ensures.tracks ∙ c.bytes.invariant.tracks;
   device = c.take.ensures.device ∙ c.bytes.invariant.device;
-  anyway = λ shows r. c.in-Some.ensures.anyway shows c.args.request c.requires.channel (c.bytes.invariant.anyway shows r);
+  anyway = λ r. c.in-Some.ensures.anyway c.args.request c.requires.channel (c.bytes.invariant.anyway r);
 }
 
 pub bytes-smaller : goal.bytes-smaller
@@ -35,7 +35,8 @@ pub returns-clause-tracks : goal.returns-clause-tracks
 returns-clause-tracks g c = c.take.ensures.tracks ∙ c.bytes.invariant.tracks
 
 pub returns-clause-anyway : goal.returns-clause-anyway
-returns-clause-anyway g c = λ shows bounded r.
-    let over = c.in_default.ensures.anyway shows c.args.request c.requires.channel (c.bytes.invariant.anyway shows r) in
+returns-clause-anyway g c = λ bounded r.
+    let shows = desk_shows g.M.Medium.seen in
+    let over = c.in_default.ensures.anyway c.args.request c.requires.channel (c.bytes.invariant.anyway r) in
     let same = c.take.ensures.device ∙ c.bytes.invariant.device in
     over.1 (subst (λ (d : ℕ). IsBounded d over.0 c.args.request) (sym same) (bounded over.0))

@@ -3,7 +3,7 @@ use Rattle.cbm_channel.specs.Machines.{Machine}
 use Rattle.cbm_channel.specs.Standing.{Kept}
 use Rattle.cbm_drive.specs.Desks.{Desk}
 use Rattle.cbm_host.specs.AnyDisk.{RestsAnyway, IsUnderWayAnyway}
-use Rattle.cbm_host.specs.Playback.{Shown}
+use Rattle.cbm_drive.specs.Playback.{Shown}
 use Rattle.cbm_host.specs.Hosted.{Rests, IsUnderWay, tracks_on}
 use Rattle.cbm_host.specs.Progress.{left_of}
 use Rattle.cbm_host.specs.Served.{IsModest}
@@ -16,7 +16,7 @@ invariant-bytes g l = record {
   limit : l.performer.limit ≡ l.fn.self.moment + 250000000;
   tracks : tracks_on g.M.Medium.seen l.self ≡ tracks_on g.M.Medium.seen l.fn.self;
   device : l.self.device ≡ l.fn.self.device;
-  anyway : (shows : Desk (Kept g.row.M.Denot) → Shown) → RestsAnyway shows l.fn.self → IsUnderWayAnyway shows l.self.device l.self.bus l.performer l.fn.request;
+  anyway : RestsAnyway (desk_shows g.M.Medium.seen) l.fn.self → IsUnderWayAnyway (desk_shows g.M.Medium.seen) l.self.device l.self.bus l.performer l.fn.request;
 }
 
 abbrev pub decreases-bytes : goal.decreases-bytes

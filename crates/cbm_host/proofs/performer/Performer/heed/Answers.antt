@@ -5,7 +5,7 @@ use Rattle.cbm_host.specs.Engines.{engine_due}
 use Rattle.cbm_host.specs.Performers.{IsDue}
 use Rattle.cbm_iec.specs.declared.event.Who.TheVariants.{Host}
 use Rattle.cbm_iec.specs.declared.event.Who.{Who}
-use Rattle.cbm_host.specs.Playback.{played_says, played_step, IsPlayedBack}
+use Rattle.cbm_drive.specs.Playback.{played_says, played_step, IsPlayedBack}
 
 -- none of the host's is due
 pub returns-in-Host-clause-come : goal.returns-in-Host-clause-come
@@ -15,9 +15,10 @@ returns-in-Host-clause-come g c = λ n ss es k asked.
     absurd (c.requires.none e.change (sym (ap engine_due c.ask.ensures.engine) ∙ due))
 
 pub returns-in-Host-clause-recorded : goal.returns-in-Host-clause-recorded
-returns-in-Host-clause-recorded g c = λ one shows.
+returns-in-Host-clause-recorded g c = λ one.
+    let shows = g.D.Machine.shows in
     let e = c.in_ok-event.event in
-    let come = c.in_ok-event.ensures.recorded one shows in (
+    let come = c.in_ok-event.ensures.recorded one in (
       come.0,
       λ later n ss es k asked.
           let due : IsDue Host e.change c.ask.new.self.engine = subst (λ (w : Who). IsDue w e.change c.ask.new.self.engine) c.in-Host.is (come.1 later n ss es k asked).due in
@@ -25,6 +26,7 @@ returns-in-Host-clause-recorded g c = λ one shows.
     )
 
 pub returns-in_err-event-clause-recorded : goal.returns-in_err-event-clause-recorded
-returns-in_err-event-clause-recorded g c = λ one shows.
-    let come = c.in_err-event.ensures.recorded one shows in
+returns-in_err-event-clause-recorded g c = λ one.
+    let shows = g.D.Machine.shows in
+    let come = c.in_err-event.ensures.recorded one in
     (come.0, λ later n ss es k asked. match_none c.from_residual.result _ _ c.from_residual.ensures (come.1 later n ss es k asked))

@@ -2,11 +2,11 @@ use Rattle.std.proofs.Common.{◌<◌, [], ◌++◌, refl, sym, ◌∙◌, arith
 use Rattle.cbm_host.proofs.Hosting.{taking_none, taking_some, taking_over}
 use Rattle.cbm_host.proofs.Regrouped.{regrouped}
 use Rattle.cbm_host.proofs.performer.Performer.next_byte.Goals as goal
-use Rattle.cbm_host.specs.Playback.{Playback, played_says, played_step, IsPlayedBack}
+use Rattle.cbm_drive.specs.Playback.{Playback, played_says, played_step, IsPlayedBack}
 use Rattle.cbm_host.specs.Progress.{left_of}
 
 pub events-init : goal.events-init
-events-init g c = record { taking = λ e limit bytes last ss t. t; fewer = omega arith; limit = refl; lasting = refl; recorded = λ shows. ([], λ later e limit bytes last ss t. t) }
+events-init g c = record { taking = λ e limit bytes last ss t. t; fewer = omega arith; limit = refl; lasting = refl; recorded = ([], λ later e limit bytes last ss t. t) }
 
 pub events-preserved : goal.events-preserved
 events-preserved g c =
@@ -19,9 +19,10 @@ events-preserved g c =
       fewer = omega (arith, less, least);
       limit = c.next.ensures.limit ∙ c.events.invariant.limit;
       lasting = c.next.ensures.lasting ∙ c.events.invariant.lasting;
-      recorded = λ shows.
-          (let before = c.events.invariant.recorded shows in
-          let next = c.in-Some.ensures.recorded shows in (
+      recorded =
+          (let shows = g.D.Machine.shows in
+          let before = c.events.invariant.recorded in
+          let next = c.in-Some.ensures.recorded in (
             before.0 ++ next.0,
             λ later e limit bytes last ss t.
                 taking_none _ Playback (IsPlayedBack shows (next.0 ++ later)) (IsPlayedBack shows later) played_step played_says e limit c.events.self c.next.new.self c.events.bus c.next.new.bus bytes last ss c.in-Some._event
@@ -50,9 +51,10 @@ returns-clause-taken g c = λ e limit bytes last ss t.
 -- ---- on any disk
 
 pub returns-in-Some-byte-clause-recorded : goal.returns-in-Some-byte-clause-recorded
-returns-in-Some-byte-clause-recorded g c = λ shows.
-    let before = c.events.invariant.recorded shows in
-    let next = c.in-Some.ensures.recorded shows in (
+returns-in-Some-byte-clause-recorded g c =
+    let shows = g.D.Machine.shows in
+    let before = c.events.invariant.recorded in
+    let next = c.in-Some.ensures.recorded in (
       before.0 ++ next.0,
       λ later e limit bytes last ss t.
           taking_some _ Playback (IsPlayedBack shows (next.0 ++ later)) (IsPlayedBack shows later) played_step played_says e limit c.events.self c.next.new.self c.events.bus c.next.new.bus bytes last ss c.in-Some._event c.in-Some-byte.said
@@ -60,9 +62,10 @@ returns-in-Some-byte-clause-recorded g c = λ shows.
     )
 
 pub returns-clause-recorded : goal.returns-clause-recorded
-returns-clause-recorded g c = λ shows.
-    let before = c.events.invariant.recorded shows in
-    let next = c.in_default.ensures.recorded shows in (
+returns-clause-recorded g c =
+    let shows = g.D.Machine.shows in
+    let before = c.events.invariant.recorded in
+    let next = c.in_default.ensures.recorded in (
       before.0 ++ next.0,
       λ later e limit bytes last ss t.
           taking_over _ Playback (IsPlayedBack shows (next.0 ++ later)) (IsPlayedBack shows later) played_step played_says e limit c.events.self c.next.new.self c.events.bus c.next.new.bus bytes last ss

@@ -7,7 +7,7 @@ use Rattle.cbm_host.specs.Engines.{engine_due, engine_passed}
 use Rattle.cbm_host.specs.Performers.{Performing, IsGoing}
 use Rattle.cbm_host.specs.declared.due.Due.TheVariants.{Over}
 use Rattle.cbm_host.proofs.Recorded.{as_it_was, made_or_held_back, waited_then_back}
-use Rattle.cbm_host.specs.Playback.{Shown, Playback, played_says, played_step, IsPlayedBack}
+use Rattle.cbm_drive.specs.Playback.{Shown, Playback, played_says, played_step, IsPlayedBack}
 use Rattle.std.proofs.lemmas.List.{append_assoc}
 
 -- the host gives up before
@@ -52,10 +52,11 @@ returns-in-Makes-clause-fewer g c =
 -- ---- the same on any disk
 
 pub returns-then-until-self-clause-recorded : goal.returns-then-until-self-clause-recorded
-returns-then-until-self-clause-recorded g c = λ one shows.
+returns-then-until-self-clause-recorded g c = λ one.
+    let shows = g.D.Machine.shows in
     let late = c.if-until-self.true in
     let same = ap (λ (p : Performing). p.limit) c.self.view_is ∙ c.before-2.ensures.limit in
-    let none = c.in_default.ensures.recorded one shows in (
+    let none = c.in_default.ensures.recorded one in (
       none.0,
       λ later n ss es k.
           let still = none.1 later n ss es k in
@@ -64,14 +65,15 @@ returns-then-until-self-clause-recorded g c = λ one shows.
     )
 
 pub returns-in-Makes-clause-recorded : goal.returns-in-Makes-clause-recorded
-returns-in-Makes-clause-recorded g c = λ one shows.
+returns-in-Makes-clause-recorded g c = λ one.
+    let shows = g.D.Machine.shows in
     let soon = c.if-until-self.false in
     let same = ap (λ (p : Performing). p.limit) c.self.view_is ∙ c.before-2.ensures.limit in
     let player = ap (λ (p : Performing). p.player) c.self.view_is in
     let passed = c.passed.ensures ∙ ap engine_passed (ap (λ (p : Performing). p.engine) c.self.view_is ∙ c.before-2.ensures.engine) in
     let mid : Performing = record { player = c.self.inside.player; engine = c.passed.new.self; byte = c.self.inside.byte; limit = c.self.inside.limit } in
-    let none = c.in_default.ensures.recorded one shows in
-    let come = c.play.ensures.recorded one shows in (
+    let none = c.in_default.ensures.recorded one in
+    let come = c.play.ensures.recorded one in (
       none.0 ++ come.0,
       λ later n ss es k.
           let before : IsGoing g.row.D.Denot Playback (IsPlayedBack shows (none.0 ++ (come.0 ++ later))) played_step played_says c.args.self.now c.args.bus.now n ss es =
@@ -85,14 +87,15 @@ returns-in-Makes-clause-recorded g c = λ one shows.
     )
 
 pub returns-in_default-due-clause-recorded : goal.returns-in_default-due-clause-recorded
-returns-in_default-due-clause-recorded g c = λ one shows.
+returns-in_default-due-clause-recorded g c = λ one.
+    let shows = g.D.Machine.shows in
     let soon = c.if-until-self.false in
     let same = ap (λ (p : Performing). p.limit) c.self.view_is ∙ c.before-2.ensures.limit in
     let player = ap (λ (p : Performing). p.player) c.self.view_is in
     let passed = c.passed.ensures ∙ ap engine_passed (ap (λ (p : Performing). p.engine) c.self.view_is ∙ c.before-2.ensures.engine) in
     let mid : Performing = record { player = c.self.inside.player; engine = c.passed.new.self; byte = c.self.inside.byte; limit = c.self.inside.limit } in
     let over = passed_over c.args.self.now.engine c.args.until c.requires.due (λ x e. c.in_default-due.not-Makes x (c.due.ensures ∙ ap engine_due passed ∙ e)) in
-    let none = c.in_default.ensures.recorded one shows in (
+    let none = c.in_default.ensures.recorded one in (
       none.0,
       λ later n ss es k.
           let still = none.1 later n ss es k in

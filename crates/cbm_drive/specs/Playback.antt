@@ -1,17 +1,7 @@
 -- A machine that plays back what another one showed, act by act. So a drive on any disk is a machine, too: of what it showed nothing else is known.
-use Rattle.std.specs.Prelude.{ℕ, ◌≡◌, ◌<◌, ◌&&◌, Bool, true, false, not, List, [], ◌∷◌, Option, Some, None, IfSome, IsSome, if◌then◌else◌}
+use Rattle.std.specs.Prelude.{ℕ, ◌≡◌, ◌<◌, Bool, true, List, [], ◌∷◌, Option, Some, None, IfSome, IsSome, if◌then◌else◌}
+use Rattle.cbm_iec.specs.Machines.{owes}
 use Rattle.cbm_iec.specs.declared.act.Act.{Act}
-use Rattle.cbm_iec.specs.declared.act.Act.TheVariants.{Said}
-
--- a byte that isn't the last
-abbrev pub goes_on : Option (ℕ × Bool) → Bool
-goes_on None = false
-goes_on (Some said) = not said.1
-
--- with this act such a byte was said, so there must be another
-abbrev pub owes : Act → Option (ℕ × Bool) → Bool
-owes (Said byte last) shown = not last && goes_on shown
-owes act shown = false
 
 -- the byte to say, and whether it is the last
 abbrev pub Shown : Type 0
