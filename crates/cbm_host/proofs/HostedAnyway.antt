@@ -1,10 +1,13 @@
 -- A request to a drive on any disk, byte by byte: it is one to the machine that plays back what the drive showed.
-use Rattle.std.proofs.Common.{◌≡◌, ℕ, ◌+◌, ◌≤◌, Bool, false, List, [], ◌∷◌, ◌++◌, Option, Some, None, refl, subst}
-use Rattle.std.specs.Prelude.{MatchOption}
+use Rattle.std.proofs.Common.{◌≡◌, ℕ, ◌+◌, ◌<◌, ◌≤◌, Bool, false, List, [], ◌∷◌, ◌++◌, Option, Some, None, refl, sym, subst}
+use Rattle.std.specs.Prelude.{IfSome, MatchOption}
 use Rattle.std.proofs.lemmas.List.{append_assoc}
-use Rattle.cbm_drive.specs.Cables.{Cabled}
+use Rattle.cbm_iec.specs.Ports as ports
+use Rattle.cbm_iec.specs.declared.lines.Lines.{Lines}
+use Rattle.cbm_iec.specs.declared.port.Port.{Port}
+use Rattle.cbm_drive.specs.Cables.{Cabled, all_free}
 use Rattle.cbm_drive.specs.Players.{at_start}
-use Rattle.cbm_drive.specs.Seats.{IsBusAt}
+use Rattle.cbm_drive.specs.Seats.{Seated, IsWithout, IsBusAt, held_by}
 use Rattle.cbm_host.proofs.AnyDisk.{played_byte, played_more, rest_played, rests_again, is_short}
 use Rattle.cbm_host.proofs.CarriedOut.{some_end, carried_out_then}
 use Rattle.cbm_host.proofs.Hosting.{is_drive}
@@ -17,7 +20,7 @@ use Rattle.cbm_drive.specs.Playback.{Shown, Playback, played_says, played_step, 
 use Rattle.cbm_host.specs.Recorded.{TakesRecorded}
 use Rattle.cbm_host.specs.Requests.{longest}
 use Rattle.cbm_host.specs.declared.request.Request.{Request}
-use Rattle.cbm_session.specs.Playing.{Station, at_rest}
+use Rattle.cbm_session.specs.Playing.{Station, at_rest, nobody}
 
 module _ {D : Type 0} (shows : D → Shown) (device : ℕ) where
   abbrev resting : Playback → List (Station Playback)
@@ -25,6 +28,16 @@ module _ {D : Type 0} (shows : D → Shown) (device : ℕ) where
 
   abbrev IsOnBus : List Shown → Cabled D → Playback → Type 0
   IsOnBus shown b m = IsBusAt D Playback (IsPlayedBack shows shown) b.host b.drives (resting m)
+
+  -- at power up
+  pub rests_first_anyway : (b : Cabled D) (x : Seated D) → b.host ≡ all_free → b.drives ≡ x ∷ [] → x.port ≡ ports.resting (party_of device) → IfSome (shows x.machine) (λ s. s.0 < 256) → IsAtRest shows (party_of device) b
+  rests_first_anyway b x free one port byte =
+      subst (λ (l : Lines). IsBusAt D (Unit {0}) (λ x u. IfSome (shows x) (λ s. s.0 < 256)) l b.drives (at_rest (Unit {0}) (λ u act. u) (λ u. None) (λ d. tt) (party_of device ∷ []))) (sym free)
+      (subst (λ (xs : List (Seated D)). IsBusAt D (Unit {0}) (λ x u. IfSome (shows x) (λ s. s.0 < 256)) all_free xs (at_rest (Unit {0}) (λ u act. u) (λ u. None) (λ d. tt) (party_of device ∷ []))) (sym one)
+      (record { port = port; machine = byte; rest = rest }, tt))
+    where
+      rest : IsWithout (held_by all_free (x ∷ [])) x.port.own nobody
+      rest = subst (λ (q : Port). IsWithout (held_by all_free ((record { port = q; machine = x.machine }) ∷ [])) q.own nobody) (sym port) (record { host = refl; clocks = refl; datas = refl })
 
   -- before the first event
   pub begun_anyway : (start : ℕ) (b : Cabled D) (p : Performing) (request : Request) → IsAtRest shows (party_of device) b → p.player ≡ at_start → p.engine ≡ engine_at start device request → p.limit ≡ start + longest → IsUnderWayAnyway shows device b p request

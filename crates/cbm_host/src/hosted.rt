@@ -49,7 +49,9 @@ impl<M: Steady> Hosted<M> {
     ghost use Rattle.cbm_host.specs.Hosted.{Rests, IsUnderWay, IsGoingOn, IsOver, tracks_on};
     ghost use Rattle.cbm_host.specs.Progress.{left_of};
     ghost use Rattle.cbm_host.specs.Served.{hear, served, IsModest};
-    ghost use Rattle.cbm_drive.specs.Playback.{Shown, Playback};
+    ghost use Rattle.cbm_drive.specs.Addressing.{unaddressed};
+    ghost use Rattle.cbm_drive.specs.Desks.{desk_shows};
+    ghost use Rattle.cbm_drive.specs.Playback.{Playback};
     ghost use Rattle.cbm_host.specs.AnyDisk.{IsBounded, IsUnderWayAnyway, IsOverAnyway, RestsAnyway};
 
     /// A drive at power up with this medium and a device number from 8 to 11.
@@ -58,6 +60,9 @@ impl<M: Steady> Hosted<M> {
         requires high { device ≤ 11 }
         ensures rests { (d : Disk) → HoldsDisk (M.seen medium).tracks (M.seen medium).content d →
             Rests M.seen result (start d (M.seen medium).protected (M.seen medium).tracks) }
+        // On any disk, where a drive that isn't addressed has nothing to say.
+        ensures anyway { ((x : desks.Desk (Kept M)) → x.addressed ≡ unaddressed device →
+            IfSome (desk_shows M.seen x) (λ s. s.0 < 256)) → RestsAnyway (desk_shows M.seen) result }
         ensures tracks { tracks_on M.seen result ≡ (M.seen medium).tracks ∷ [] }
         ensures moment { result.moment ≡ 1000 }
     {

@@ -1,4 +1,5 @@
 use Rattle.std.proofs.Common.{◌+◌, ap, ◌∙◌, subst}
+use Rattle.cbm_drive.specs.Desks.{desk_shows}
 use Rattle.cbm_host.proofs.Hosting.{asked, OnAsk}
 use Rattle.cbm_host.proofs.hosted.Hosted.ask.Goals as goal
 use Rattle.cbm_host.specs.Hosted.{Hosting}

@@ -36,7 +36,6 @@ returns-clause-tracks g c = c.take.ensures.tracks ∙ c.bytes.invariant.tracks
 
 pub returns-clause-anyway : goal.returns-clause-anyway
 returns-clause-anyway g c = λ bounded r.
-    let shows = desk_shows g.M.Medium.seen in
     let over = c.in_default.ensures.anyway c.args.request c.requires.channel (c.bytes.invariant.anyway r) in
     let same = c.take.ensures.device ∙ c.bytes.invariant.device in
     over.1 (subst (λ (d : ℕ). IsBounded d over.0 c.args.request) (sym same) (bounded over.0))

@@ -1,9 +1,7 @@
 use Rattle.std.proofs.Common.{◌≡◌, ◌+◌, ℕ, Bool, List}
 use Rattle.cbm_channel.specs.Machines.{Machine}
-use Rattle.cbm_channel.specs.Standing.{Kept}
-use Rattle.cbm_drive.specs.Desks.{Desk}
+use Rattle.cbm_drive.specs.Desks.{desk_shows}
 use Rattle.cbm_host.specs.AnyDisk.{RestsAnyway, IsUnderWayAnyway}
-use Rattle.cbm_drive.specs.Playback.{Shown}
 use Rattle.cbm_host.specs.Hosted.{Rests, IsUnderWay, tracks_on}
 use Rattle.cbm_host.specs.Progress.{left_of}
 use Rattle.cbm_host.specs.Served.{IsModest}

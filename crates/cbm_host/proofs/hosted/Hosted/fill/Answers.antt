@@ -11,7 +11,6 @@ returns-clause-rests g c = λ m r.
 
 pub returns-clause-anyway : goal.returns-clause-anyway
 returns-clause-anyway g c = λ r.
-    let shows = desk_shows g.M.Medium.seen in
     let small : c.args.byte < 256 = (let f = c.ranges.byte in omega arith) in
     let many = so_many c.args.count c.args.byte in
     let few = c.requires.short in

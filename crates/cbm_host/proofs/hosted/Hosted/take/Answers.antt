@@ -1,6 +1,7 @@
 use Rattle.std.proofs.Common.{◌<◌, refl, ap, ◌∙◌, subst, arith, Some, None}
 use Rattle.cbm_drive.specs.Cables.{Cabled}
 use Rattle.cbm_drive.specs.Seats.{numbers}
+use Rattle.cbm_drive.specs.Desks.{desk_shows}
 use Rattle.cbm_host.proofs.Hosting.{taken_on, taken_over, OnByte, OnEnd}
 use Rattle.cbm_host.proofs.Progress.{as_many}
 use Rattle.cbm_host.proofs.hosted.Hosted.take.Goals as goal
