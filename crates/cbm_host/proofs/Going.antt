@@ -50,8 +50,8 @@ min_later a b l = omega (arith, l)
 
 module _ (D M : Type 0) (stands : D → M → Type 0) (step : M → Act → M) (says : M → Option (ℕ × Bool)) where
   -- what is known of a player that gave nothing
-  still_quiet : (p q : Turns) (b b2 : Cabled D) (upto n : ℕ) (ss : List (Station M)) (es : List Event) (a : IsAfter D M stands step says p b n ss es) → IsStill D M stands step says p q b b2 upto a.stations → IsQuietUntil M step says (upto + 1) n ss es
-  still_quiet p q b b2 upto n ss es a k = record { second = p.second; from = a.from; stations = a.stations; plays = a.plays; later = some_later p.second k.second; silent = k.silent }
+  pub still_quiet : (p : Turns) (b : Cabled D) (upto n : ℕ) (ss : List (Station M)) (es : List Event) (a : IsAfter D M stands step says p b n ss es) → IfSome p.second (λ e. upto < e.change.moment) → (p.second ≡ None → AreSilent M step says (upto + 1) a.stations) → IsQuietUntil M step says (upto + 1) n ss es
+  still_quiet p b upto n ss es a later silent = record { second = p.second; from = a.from; stations = a.stations; plays = a.plays; later = some_later p.second later; silent = silent }
     where
       some_later : (o : Option Event) → IfSome o (λ e. upto < e.change.moment) → IfSome o (λ e. upto + 1 ≤ e.change.moment)
       some_later None h = tt
@@ -61,13 +61,29 @@ module _ (D M : Type 0) (stands : D → M → Type 0) (step : M → Act → M) (
   goes_same : (n : ℕ) (ss : List (Station M)) (es : List Event) (old mid e : Engined) → mid ≡ old → GoesOnFrom M step says n ss es mid e → GoesOnFrom M step says n ss es old e
   goes_same n ss es old mid e same g = subst (λ (x : Engined). GoesOnFrom M step says n ss es x e) same g
 
-  going_same : (old new : Performing) (b b2 : Cabled D) (n : ℕ) (ss : List (Station M)) (es : List Event) → IsGoing D M stands step says old b n ss es → new.player ≡ old.player → b2 ≡ b → IsHandedOn new.player.waiting new.engine → IsGoing D M stands step says new b2 n ss es
+  pub going_same : (old new : Performing) (b b2 : Cabled D) (n : ℕ) (ss : List (Station M)) (es : List Event) → IsGoing D M stands step says old b n ss es → new.player ≡ old.player → b2 ≡ b → IsHandedOn new.player.waiting new.engine → IsGoing D M stands step says new b2 n ss es
   going_same old new b b2 n ss es g player bus handed = record {
     after = subst (λ (x : Turns). IsAfter D M stands step says x b2 n ss es) (sym player) (subst (λ (y : Cabled D). IsAfter D M stands step says old.player y n ss es) (sym bus) g.after);
     handed = handed;
   }
 
-  -- what the player answers, where the engine stays as it is
+  -- what the player gives, where the engine stays as it is
+  pub given_come : (old new : Performing) (b2 : Cabled D) (upto n : ℕ) (ss : List (Station M)) (es : List Event) (e : Event) → new.engine ≡ old.engine → new.limit ≡ old.limit → upto ≤ old.limit → IsHandedOn old.player.waiting old.engine → IsAsked upto old.player.waiting (engine_due old.engine)
+      → IsTurnOf e.who e.change old.player.waiting new.player.waiting → IsWaitingFrom new.player.from new.player.waiting → HasGiven D M stands step says new.player b2 upto n ss es e → HasCome D M stands step says old new b2 n ss es e
+  given_come old new b2 upto n ss es e engine limit l was a t waits k = record {
+    after = k.after;
+    goes_on = inl engine;
+    due = turn_due e.who e.change old.player new.player new.engine upto handed t (subst (λ (x : Engined). IsAsked upto old.player.waiting (engine_due x)) (sym engine) a) k.moment waits k.from;
+    handed = turn_handed e.who e.change old.player.waiting new.player.waiting new.engine handed t;
+    moment = (let m = k.moment in omega (arith, m, limit, l));
+    from = k.from;
+    limit = limit;
+  }
+    where
+      handed : IsHandedOn old.player.waiting new.engine
+      handed = subst (λ (x : Engined). IsHandedOn old.player.waiting x) (sym engine) was
+
+  -- what the player answers
   pub asked : (old new : Performing) (p : Turns) (b b2 : Cabled D) (upto n : ℕ) (ss : List (Station M)) (es : List Event) (r : Option Event) → p ≡ old.player → new.engine ≡ old.engine → new.limit ≡ old.limit → upto ≤ old.limit
       → ((a : IsAfter D M stands step says p b n ss es) → MatchOption r (IsStill D M stands step says p new.player b b2 upto a.stations) (HasGiven D M stands step says new.player b2 upto n ss es))
       → IfSome r (λ e. IsTurnOf e.who e.change p.waiting new.player.waiting) → IsWaitingFrom new.player.from new.player.waiting → (g : IsGoing D M stands step says old b n ss es) → IsAsked upto old.player.waiting (engine_due old.engine)
@@ -76,21 +92,21 @@ module _ (D M : Type 0) (stands : D → M → Type 0) (step : M → Act → M) (
       by_answer r (subst (λ (x : Turns). (y : IsAfter D M stands step says x b n ss es) → MatchOption r (IsStill D M stands step says x new.player b b2 upto y.stations) (HasGiven D M stands step says new.player b2 upto n ss es)) player given g.after)
       (subst (λ (x : Turns). IfSome r (λ e. IsTurnOf e.who e.change x.waiting new.player.waiting)) player turn)
     where
-      handed : IsHandedOn old.player.waiting new.engine
-      handed = subst (λ (x : Engined). IsHandedOn old.player.waiting x) (sym engine) g.handed
-
       by_answer : (r : Option Event) → MatchOption r (IsStill D M stands step says old.player new.player b b2 upto g.after.stations) (HasGiven D M stands step says new.player b2 upto n ss es) → IfSome r (λ e. IsTurnOf e.who e.change old.player.waiting new.player.waiting)
           → MatchOption r (IsStill D M stands step says old.player new.player b b2 upto g.after.stations) (HasCome D M stands step says old new b2 n ss es)
       by_answer None k t = k
-      by_answer (Some e) k t = record {
-        after = k.after;
-        goes_on = inl engine;
-        due = turn_due e.who e.change old.player new.player new.engine upto handed t (subst (λ (x : Engined). IsAsked upto old.player.waiting (engine_due x)) (sym engine) a) k.moment waits k.from;
-        handed = turn_handed e.who e.change old.player.waiting new.player.waiting new.engine handed t;
-        moment = (let m = k.moment in omega (arith, m, limit, l));
-        from = k.from;
-        limit = limit;
-      }
+      by_answer (Some e) k t = given_come old new b2 upto n ss es e engine limit l g.handed a t waits k
+
+  -- where the host does nothing and no event comes up to the limit
+  pub heard_none : (old new : Performing) (b b2 : Cabled D) (upto n : ℕ) (ss : List (Station M)) (es : List Event) → upto ≡ old.limit → engine_due old.engine ≡ Hears → new.engine ≡ old.engine → new.limit ≡ old.limit → new.player ≡ old.player → b2 ≡ b → IsQuietUntil M step says (upto + 1) n ss es
+      → IsGoing D M stands step says old b n ss es → HasStopped D M stands step says old new b2 n ss es
+  heard_none old new b b2 upto n ss es all due engine limit same bus quiet_until g = record {
+    going = going_same old new b b2 n ss es g same bus (subst (λ (x : Turns). IsHandedOn x.waiting new.engine) (sym same) (subst (λ (x : Engined). IsHandedOn old.player.waiting x) (sym engine) g.handed));
+    goes_on = inl engine;
+    stops = subst (Stops M step says new.player new.limit n ss es) (sym (ap engine_due engine ∙ due)) (subst (λ (l : ℕ). IsQuietUntil M step says (l + 1) n ss es) (all ∙ sym limit) quiet_until);
+    from = ap (λ (x : Turns). x.from) same;
+    limit = limit;
+  }
 
   -- where the host does nothing: what the player answers up to the limit
   pub heard : (old new : Performing) (b b2 : Cabled D) (upto n : ℕ) (ss : List (Station M)) (es : List Event) (r : Option Event) → upto ≡ old.limit → engine_due old.engine ≡ Hears → new.engine ≡ old.engine → new.limit ≡ old.limit
@@ -99,63 +115,64 @@ module _ (D M : Type 0) (stands : D → M → Type 0) (step : M → Act → M) (
   heard old new b b2 upto n ss es r all due engine limit come g = by_answer r (come g (subst (IsAsked upto old.player.waiting) (sym due) tt))
     where
       by_answer : (r : Option Event) → MatchOption r (IsStill D M stands step says old.player new.player b b2 upto g.after.stations) (HasCome D M stands step says old new b2 n ss es) → MatchOption r (HasStopped D M stands step says old new b2 n ss es) (HasCome D M stands step says old new b2 n ss es)
-      by_answer None k = record {
-        going =
-            going_same old new b b2 n ss es g k.same k.bus (subst (λ (x : Turns). IsHandedOn x.waiting new.engine) (sym k.same) (subst (λ (x : Engined). IsHandedOn old.player.waiting x) (sym engine) g.handed));
-        goes_on = inl engine;
-        stops = subst (Stops M step says new.player new.limit n ss es) (sym (ap engine_due engine ∙ due)) (subst (λ (l : ℕ). IsQuietUntil M step says (l + 1) n ss es) (all ∙ sym limit) (still_quiet old.player new.player b b2 upto n ss es g.after k));
-        from = ap (λ (x : Turns). x.from) k.same;
-        limit = limit;
-      }
+      by_answer None k = heard_none old new b b2 upto n ss es all due engine limit k.same k.bus (still_quiet old.player b upto n ss es g.after k.second k.silent) g
       by_answer (Some e) k = k
 
   -- where the host's change was handed to the player
-  pub played : (old mid new : Performing) (b b2 : Cabled D) (change : Change) (n : ℕ) (ss : List (Station M)) (es : List Event) (r : Option Event) → engine_due old.engine ≡ Makes change → mid.player.second ≡ old.player.second → mid.player.from ≡ old.player.from → mid.engine ≡ old.engine → mid.limit ≡ old.limit
-      → (IsHandedOn old.player.waiting old.engine → mid.player.waiting ≡ Some change)
-      → ((g : IsGoing D M stands step says mid b n ss es) → IsAsked change.moment mid.player.waiting (engine_due mid.engine) → MatchOption r (IsStill D M stands step says mid.player new.player b b2 change.moment g.after.stations) (HasCome D M stands step says mid new b2 n ss es))
-      → IsWaitingFrom new.player.from new.player.waiting → IsGoing D M stands step says old b n ss es → MatchOption r (IsHeldBack D M stands step says old new b b2 change) (HasCome D M stands step says old new b2 n ss es)
-  played old mid new b b2 change n ss es r due second from engine limit waits come ahead g = by_answer r (come going (subst (IsAsked change.moment mid.player.waiting) (sym mid_due) (waiting, omega arith)))
+  pub handed_going : (old mid : Performing) (b : Cabled D) (change : Change) (n : ℕ) (ss : List (Station M)) (es : List Event) → engine_due mid.engine ≡ Makes change → mid.player.second ≡ old.player.second → mid.player.from ≡ old.player.from → mid.player.waiting ≡ Some change → IsGoing D M stands step says old b n ss es
+      → IsGoing D M stands step says mid b n ss es
+  handed_going old mid b change n ss es due second from waiting g = record {
+    after = (let a = g.after in record {
+      from = a.from;
+      stations = a.stations;
+      before = subst (λ (m : ℕ). a.from ≤ m) (sym from) a.before;
+      plays = subst (λ (o : Option Event). Plays M step says n ss (es ++ pending o) a.from a.stations) (sym second) a.plays;
+      now = a.now;
+      second = subst (λ (m : ℕ). IsSecond m mid.player.second) (sym from) (subst (IsSecond old.player.from) (sym second) a.second);
+    });
+    handed = subst (λ (o : Option Change). IsHandedOn o mid.engine) (sym waiting) due;
+  }
+
+  -- the change that waits comes
+  pub never_still : (mid new : Performing) (b : Cabled D) (change : Change) (n : ℕ) (ss : List (Station M)) (es : List Event) → mid.player.waiting ≡ Some change → IsWaitingFrom new.player.from new.player.waiting → IsGoing D M stands step says mid b n ss es → IfSome mid.player.second (λ e. change.moment < e.change.moment)
+      → (mid.player.second ≡ None → IfSome mid.player.waiting (λ w. change.moment < w.moment)) → new.player ≡ mid.player → ⊥
+  never_still mid new b change n ss es waiting ahead going = by_second mid.player.second refl
     where
-      waiting : mid.player.waiting ≡ Some change
-      waiting = waits g.handed
-
-      mid_due : engine_due mid.engine ≡ Makes change
-      mid_due = ap engine_due engine ∙ due
-
-      going : IsGoing D M stands step says mid b n ss es
-      going = record {
-        after = (let a = g.after in record {
-          from = a.from;
-          stations = a.stations;
-          before = subst (λ (m : ℕ). a.from ≤ m) (sym from) a.before;
-          plays = subst (λ (o : Option Event). Plays M step says n ss (es ++ pending o) a.from a.stations) (sym second) a.plays;
-          now = a.now;
-          second = subst (λ (m : ℕ). IsSecond m mid.player.second) (sym from) (subst (IsSecond old.player.from) (sym second) a.second);
-        });
-        handed = subst (λ (o : Option Change). IsHandedOn o mid.engine) (sym waiting) mid_due;
-      }
-
-      -- the change that waits comes
-      never : (o : Option Event) → mid.player.second ≡ o → IfSome o (λ e. change.moment < e.change.moment) → (mid.player.second ≡ None → IfSome mid.player.waiting (λ w. change.moment < w.moment)) → new.player ≡ mid.player → ⊥
-      never None none h k same = let late : IfSome (Some change) (λ w. change.moment < w.moment) = subst (λ (w : Option Change). IfSome w (λ x. change.moment < x.moment)) waiting (k none) in omega (arith, late)
-      never (Some e) some h k same =
+      by_second : (o : Option Event) → mid.player.second ≡ o → IfSome o (λ e. change.moment < e.change.moment) → (mid.player.second ≡ None → IfSome mid.player.waiting (λ w. change.moment < w.moment)) → new.player ≡ mid.player → ⊥
+      by_second None none h k same = let late : IfSome (Some change) (λ w. change.moment < w.moment) = subst (λ (w : Option Change). IfSome w (λ x. change.moment < x.moment)) waiting (k none) in omega (arith, late)
+      by_second (Some e) some h k same =
           let soon : IsWaitingFrom mid.player.from (Some change) = subst (IsWaitingFrom mid.player.from) waiting (subst (λ (x : Turns). IsWaitingFrom x.from x.waiting) same ahead) in
           let upto = soon.0 in
           let last : IsSecond mid.player.from (Some e) = subst (IsSecond mid.player.from) some going.after.second in
           let before_it = last.1 in
           omega (arith, upto, before_it, h)
 
+  pub come_behind : (old mid new : Performing) (b2 : Cabled D) (n : ℕ) (ss : List (Station M)) (es : List Event) (e : Event) → mid.engine ≡ old.engine → mid.limit ≡ old.limit → HasCome D M stands step says mid new b2 n ss es e → HasCome D M stands step says old new b2 n ss es e
+  come_behind old mid new b2 n ss es e engine limit k = record {
+    after = k.after;
+    goes_on = goes_same n ss es old.engine mid.engine new.engine engine k.goes_on;
+    due = k.due;
+    handed = k.handed;
+    moment = k.moment;
+    from = k.from;
+    limit = k.limit ∙ limit;
+  }
+
+  pub played : (old mid new : Performing) (b b2 : Cabled D) (change : Change) (n : ℕ) (ss : List (Station M)) (es : List Event) (r : Option Event) → engine_due old.engine ≡ Makes change → mid.player.second ≡ old.player.second → mid.player.from ≡ old.player.from → mid.engine ≡ old.engine → mid.limit ≡ old.limit
+      → (IsHandedOn old.player.waiting old.engine → mid.player.waiting ≡ Some change)
+      → ((g : IsGoing D M stands step says mid b n ss es) → IsAsked change.moment mid.player.waiting (engine_due mid.engine) → MatchOption r (IsStill D M stands step says mid.player new.player b b2 change.moment g.after.stations) (HasCome D M stands step says mid new b2 n ss es))
+      → IsWaitingFrom new.player.from new.player.waiting → IsGoing D M stands step says old b n ss es → MatchOption r (IsHeldBack D M stands step says old new b b2 change) (HasCome D M stands step says old new b2 n ss es)
+  played old mid new b b2 change n ss es r due second from engine limit waits come ahead g = by_answer r (come going (subst (IsAsked change.moment mid.player.waiting) (sym mid_due) (waits g.handed, omega arith)))
+    where
+      mid_due : engine_due mid.engine ≡ Makes change
+      mid_due = ap engine_due engine ∙ due
+
+      going : IsGoing D M stands step says mid b n ss es
+      going = handed_going old mid b change n ss es mid_due second from (waits g.handed) g
+
       by_answer : (r : Option Event) → MatchOption r (IsStill D M stands step says mid.player new.player b b2 change.moment going.after.stations) (HasCome D M stands step says mid new b2 n ss es) → MatchOption r (IsHeldBack D M stands step says old new b b2 change) (HasCome D M stands step says old new b2 n ss es)
-      by_answer None k = absurd (never mid.player.second refl k.second k.waiting k.same)
-      by_answer (Some e) k = record {
-        after = k.after;
-        goes_on = goes_same n ss es old.engine mid.engine new.engine engine k.goes_on;
-        due = k.due;
-        handed = k.handed;
-        moment = k.moment;
-        from = k.from;
-        limit = k.limit ∙ limit;
-      }
+      by_answer None k = absurd (never_still mid new b change n ss es (waits g.handed) ahead going k.second k.waiting k.same)
+      by_answer (Some e) k = come_behind old mid new b2 n ss es e engine limit k
 
   -- where the player refused it, or where it is too late
   pub held_back : (old new : Performing) (b b2 : Cabled D) (n : ℕ) (ss : List (Station M)) (es : List Event) (change : Change) → engine_due old.engine ≡ Makes change → new.engine ≡ old.engine → new.limit ≡ old.limit → IsHeldBack D M stands step says old new b b2 change → IsGoing D M stands step says old b n ss es → HasStopped D M stands step says old new b2 n ss es
@@ -180,7 +197,7 @@ module _ (D M : Type 0) (stands : D → M → Type 0) (step : M → Act → M) (
   unmoved old new b b2 upto until n ss es r due last come g = by_answer r (come g (subst (IsAsked upto old.player.waiting) (sym due) (omega (arith, last))))
     where
       by_answer : (r : Option Event) → MatchOption r (IsStill D M stands step says old.player new.player b b2 upto g.after.stations) (HasCome D M stands step says old new b2 n ss es) → MatchOption r (IsUnmoved D M stands step says old new b b2 until n ss es) (HasCome D M stands step says old new b2 n ss es)
-      by_answer None k = record { player = k.same; bus = k.bus; quiet = subst (λ (t : ℕ). IsQuietUntil M step says t n ss es) last (still_quiet old.player new.player b b2 upto n ss es g.after k) }
+      by_answer None k = record { player = k.same; bus = k.bus; quiet = subst (λ (t : ℕ). IsQuietUntil M step says t n ss es) last (still_quiet old.player b upto n ss es g.after k.second k.silent) }
       by_answer (Some e) k = k
 
   -- before the first moment nothing comes
@@ -224,20 +241,20 @@ module _ (D M : Type 0) (stands : D → M → Type 0) (step : M → Act → M) (
   -- The host waited to no avail, and its engine goes on.
   module _ (old asked_ mid : Performing) (b b2 : Cabled D) (until n : ℕ) (ss : List (Station M)) (es : List Event) (due : engine_due old.engine ≡ Waits until) (soon : until ≤ old.limit) (player : mid.player ≡ asked_.player) (passed : mid.engine ≡ engine_passed old.engine) (limit : mid.limit ≡ old.limit)
       (k : IsUnmoved D M stands step says old asked_ b b2 until n ss es) (g : IsGoing D M stands step says old b n ss es) where
-    over : IsQuietUntil M step says until n ss es
-    over = subst (λ (t : ℕ). IsQuietUntil M step says t n ss es) (min_sooner until (old.limit + 1) (omega (arith, soon))) k.quiet
+    pub waited_quiet : IsQuietUntil M step says until n ss es
+    waited_quiet = subst (λ (t : ℕ). IsQuietUntil M step says t n ss es) (min_sooner until (old.limit + 1) (omega (arith, soon))) k.quiet
 
     pub waited : IsGoing D M stands step says mid b2 n ss es
     waited = going_same old mid b b2 n ss es g (player ∙ k.player) k.bus (subst (λ (x : Turns). IsHandedOn x.waiting mid.engine) (sym (player ∙ k.player)) (none_waits old.player.waiting old.engine mid.engine until due g.handed))
 
     -- it is over
     pub waited_over : (e : Due) → engine_due mid.engine ≡ e → Stops M step says mid.player mid.limit n ss es e → HasStopped D M stands step says old mid b2 n ss es
-    waited_over e is s = record { going = waited; goes_on = inr (until, due, passed, over); stops = subst (Stops M step says mid.player mid.limit n ss es) (sym is) s; from = ap (λ (x : Turns). x.from) (player ∙ k.player); limit = limit }
+    waited_over e is s = record { going = waited; goes_on = inr (until, due, passed, waited_quiet); stops = subst (Stops M step says mid.player mid.limit n ss es) (sym is) s; from = ap (λ (x : Turns). x.from) (player ∙ k.player); limit = limit }
 
     -- or its change comes
     pub waited_then : (new : Performing) (b3 : Cabled D) (r : Option Event) → new.engine ≡ mid.engine → MatchOption r (HasStopped D M stands step says mid new b3 n ss es) (HasCome D M stands step says mid new b3 n ss es) → MatchOption r (HasStopped D M stands step says old new b3 n ss es) (HasCome D M stands step says old new b3 n ss es)
-    waited_then new b3 None same h = record { going = h.going; goes_on = inr (until, due, same ∙ passed, over); stops = h.stops; from = h.from ∙ ap (λ (x : Turns). x.from) (player ∙ k.player); limit = h.limit ∙ limit }
-    waited_then new b3 (Some e) same h = record { after = h.after; goes_on = inr (until, due, same ∙ passed, over); due = h.due; handed = h.handed; moment = h.moment; from = h.from; limit = h.limit ∙ limit }
+    waited_then new b3 None same h = record { going = h.going; goes_on = inr (until, due, same ∙ passed, waited_quiet); stops = h.stops; from = h.from ∙ ap (λ (x : Turns). x.from) (player ∙ k.player); limit = h.limit ∙ limit }
+    waited_then new b3 (Some e) same h = record { after = h.after; goes_on = inr (until, due, same ∙ passed, waited_quiet); due = h.due; handed = h.handed; moment = h.moment; from = h.from; limit = h.limit ∙ limit }
 
   -- the engine is told the event
   pub told_next : (old mid new : Performing) (b : Cabled D) (n : ℕ) (ss : List (Station M)) (es : List Event) (e : Event) → HasCome D M stands step says old mid b n ss es e → new.player ≡ mid.player → new.limit ≡ mid.limit → new.engine ≡ engine_behind e.who e.change mid.engine → new.byte ≡ byte_with e.who mid.engine

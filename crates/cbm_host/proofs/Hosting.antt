@@ -46,41 +46,42 @@ so_many (suc n) b = ap suc (so_many n b)
 
 -- ---- over any machine
 
-module _ (D M : Type 0) (stands : D → M → Type 0) (step : M → Act → M) (says : M → Option (ℕ × Bool)) where
+-- other drives may stand for the stations before an event than behind it
+module _ (D M : Type 0) (stood stands : D → M → Type 0) (step : M → Act → M) (says : M → Option (ℕ × Bool)) where
   -- each event leads on, and a byte with it
-  taking_on : (e : Engined) (limit : ℕ) (p q : Performing) (b c : Cabled D) (bytes : List ℕ) (last : Bool) (ss : List (Station M)) (x : Event) → (t : IsTaking D M stands step says e limit p b bytes last ss)
-      → ((n : ℕ) (ss : List (Station M)) (es : List Event) → IsGoing D M stands step says p b n ss es → HasNext D M stands step says p q c n ss es x)
+  taking_on : (e : Engined) (limit : ℕ) (p q : Performing) (b c : Cabled D) (bytes : List ℕ) (last : Bool) (ss : List (Station M)) (x : Event) → (t : IsTaking D M stood step says e limit p b bytes last ss)
+      → ((n : ℕ) (ss : List (Station M)) (es : List Event) → IsGoing D M stood step says p b n ss es → HasNext D M stands step says p q c n ss es x)
       → IsTaking D M stands step says e limit q c (bytes ++ taken_with q.byte) (last_with q.byte last) ss
   taking_on e limit p q b c bytes last ss x t next =
       let k = t.performing in
       record {
         made = t.made ++ x ∷ [];
-        performing = performing_on D M stands step says e limit p q b c [] t.made (t.made ++ x ∷ []) bytes (bytes ++ taken_with q.byte) last (last_with q.byte last) ss x k (next 0 ss k.made k.going) refl refl refl;
+        performing = performing_on D M stood stands step says e limit p q b c [] t.made (t.made ++ x ∷ []) bytes (bytes ++ taken_with q.byte) last (last_with q.byte last) ss x k (next 0 ss k.made k.going) refl refl refl;
       }
 
-  pub taking_none : (e : Engined) (limit : ℕ) (p q : Performing) (b c : Cabled D) (bytes : List ℕ) (last : Bool) (ss : List (Station M)) (x : Event) → (t : IsTaking D M stands step says e limit p b bytes last ss)
-      → ((n : ℕ) (ss : List (Station M)) (es : List Event) → IsGoing D M stands step says p b n ss es → HasNext D M stands step says p q c n ss es x) → q.byte ≡ None
+  pub taking_none : (e : Engined) (limit : ℕ) (p q : Performing) (b c : Cabled D) (bytes : List ℕ) (last : Bool) (ss : List (Station M)) (x : Event) → (t : IsTaking D M stood step says e limit p b bytes last ss)
+      → ((n : ℕ) (ss : List (Station M)) (es : List Event) → IsGoing D M stood step says p b n ss es → HasNext D M stands step says p q c n ss es x) → q.byte ≡ None
       → IsTaking D M stands step says e limit q c bytes last ss
   taking_none e limit p q b c bytes last ss x t next none =
       subst (λ (l : List ℕ). IsTaking D M stands step says e limit q c l last ss) (append-nil bytes)
       (subst (λ (o : Option (ℕ × Bool)). IsTaking D M stands step says e limit q c (bytes ++ taken_with o) (last_with o last) ss) none (taking_on e limit p q b c bytes last ss x t next))
 
-  pub taking_some : (e : Engined) (limit : ℕ) (p q : Performing) (b c : Cabled D) (bytes : List ℕ) (last : Bool) (ss : List (Station M)) (x : Event) (said : ℕ × Bool) → (t : IsTaking D M stands step says e limit p b bytes last ss)
-      → ((n : ℕ) (ss : List (Station M)) (es : List Event) → IsGoing D M stands step says p b n ss es → HasNext D M stands step says p q c n ss es x) → q.byte ≡ Some said
+  pub taking_some : (e : Engined) (limit : ℕ) (p q : Performing) (b c : Cabled D) (bytes : List ℕ) (last : Bool) (ss : List (Station M)) (x : Event) (said : ℕ × Bool) → (t : IsTaking D M stood step says e limit p b bytes last ss)
+      → ((n : ℕ) (ss : List (Station M)) (es : List Event) → IsGoing D M stood step says p b n ss es → HasNext D M stands step says p q c n ss es x) → q.byte ≡ Some said
       → IsTaking D M stands step says e limit q c (bytes ++ said.0 ∷ []) said.1 ss
   taking_some e limit p q b c bytes last ss x said t next some =
       subst (λ (o : Option (ℕ × Bool)). IsTaking D M stands step says e limit q c (bytes ++ taken_with o) (last_with o last) ss) some (taking_on e limit p q b c bytes last ss x t next)
 
-  pub taking_over : (e : Engined) (limit : ℕ) (p q : Performing) (b c : Cabled D) (bytes : List ℕ) (last : Bool) (ss : List (Station M)) → (t : IsTaking D M stands step says e limit p b bytes last ss)
-      → ((n : ℕ) (ss : List (Station M)) (es : List Event) → IsGoing D M stands step says p b n ss es → HasStopped D M stands step says p q c n ss es)
+  pub taking_over : (e : Engined) (limit : ℕ) (p q : Performing) (b c : Cabled D) (bytes : List ℕ) (last : Bool) (ss : List (Station M)) → (t : IsTaking D M stood step says e limit p b bytes last ss)
+      → ((n : ℕ) (ss : List (Station M)) (es : List Event) → IsGoing D M stood step says p b n ss es → HasStopped D M stands step says p q c n ss es)
       → HasTaken D M stands step says e limit q c bytes last ss
   taking_over e limit p q b c bytes last ss t stopped =
       let k = t.performing in
-      record { made = t.made; performed = performing_still D M stands step says e limit p q b c [] t.made bytes last ss k (stopped 0 ss k.made k.going) }
+      record { made = t.made; performed = performing_still D M stood stands step says e limit p q b c [] t.made bytes last ss k (stopped 0 ss k.made k.going) }
 
 -- ---- over the DOS
 
-is_drive : (device : ℕ) → 8 ≤ device → device ≤ 11 → IsDrive (party_of device)
+pub is_drive : (device : ℕ) → 8 ≤ device → device ≤ 11 → IsDrive (party_of device)
 is_drive device low high = record { from = low; upto = high; some = omega arith; prompt = omega arith }
 
 module _ {M : Type 0} (seen : M → Seen) where

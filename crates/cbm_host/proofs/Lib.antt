@@ -29,3 +29,8 @@ pub mod Hosting
 pub mod Waiting
 pub mod Going
 pub mod Performed
+pub mod Recorded
+pub mod AnyDisk
+pub mod Anyway
+pub mod Regrouped
+pub mod HostedAnyway

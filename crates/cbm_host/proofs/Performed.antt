@@ -3,7 +3,7 @@ use Rattle.std.proofs.Common.{◌≡◌, ℕ, zero, suc, ◌+◌, ◌<◌, ◌�
 use Rattle.std.proofs.lemmas.List.{append_assoc, append-nil}
 use Rattle.std.proofs.lemmas.List.Elements.{All-append}
 use Rattle.std.specs.List.{AllZip}
-use Rattle.std.specs.Prelude.{MatchBool, slice_index_or}
+use Rattle.std.specs.Prelude.{IsErrAnd, MatchBool, MatchResult, slice_index_or}
 use Rattle.cbm_drive.specs.Cables.{Cabled}
 use Rattle.cbm_drive.specs.Players.{at_start, from_behind, pending, IsAfter}
 use Rattle.cbm_drive.specs.Seats.{Seated, IsSeat, IsBusAt, held_by}
@@ -24,6 +24,11 @@ if_yes v P Q e h = subst (λ (b : Bool). MatchBool b P Q) e h
 pub if_err : {A E : Type 0} (r : Result A E) (P : E → Type 0) → ((e : E) → P e) → IfErr r P
 if_err (Ok x) P f = tt
 if_err (Err e) P f = f e
+
+-- an error of any kind
+pub match_err : {A E : Type 0} (r : Result A E) (S : E → Type 0) (Q : A → Type 0) (P : E → Type 0) → IsErrAnd r S → ((e : E) → P e) → MatchResult r Q P
+match_err (Ok a) S Q P is h = elim is [ ]
+match_err (Err e) S Q P is h = h e
 
 -- ---- events up to a limit
 
@@ -49,8 +54,9 @@ last_of : (t : ℕ) (es : List Event) (x : Event) → from_last t (es ++ x ∷ [
 last_of t [] x = refl
 last_of t (e ∷ es) x = last_of (from_behind e.who e.change.moment) es x
 
-module _ (D M : Type 0) (stands : D → M → Type 0) (step : M → Act → M) (says : M → Option (ℕ × Bool)) where
-  pub performing_on : (e : Engined) (limit : ℕ) (old new : Performing) (b b2 : Cabled D) (first es es2 : List Event) (bytes bytes2 : List ℕ) (last last2 : Bool) (ss : List (Station M)) (x : Event) → (p : IsPerforming D M stands step says e limit old b first es bytes last ss)
+-- Before a call other drives may stand for the stations than behind it: `stood` and `stands`.
+module _ (D M : Type 0) (stood stands : D → M → Type 0) (step : M → Act → M) (says : M → Option (ℕ × Bool)) where
+  pub performing_on : (e : Engined) (limit : ℕ) (old new : Performing) (b b2 : Cabled D) (first es es2 : List Event) (bytes bytes2 : List ℕ) (last last2 : Bool) (ss : List (Station M)) (x : Event) → (p : IsPerforming D M stood step says e limit old b first es bytes last ss)
       → HasNext D M stands step says old new b2 0 ss p.made x → es2 ≡ es ++ x ∷ [] → bytes2 ≡ bytes ++ taken_with new.byte → last2 ≡ last_with new.byte last → IsPerforming D M stands step says e limit new b2 first es2 bytes2 last2 ss
   performing_on e limit old new b b2 first es es2 bytes bytes2 last last2 ss x p k added taken over = record {
     made = p.made ++ x ∷ [];
@@ -62,7 +68,7 @@ module _ (D M : Type 0) (stands : D → M → Type 0) (step : M → Act → M) (
   }
 
   -- where there was no memory for the event, or for the byte that was taken with it
-  pub cut_before : (e : Engined) (limit : ℕ) (old new : Performing) (b b2 : Cabled D) (first es es2 : List Event) (bytes : List ℕ) (last : Bool) (ss : List (Station M)) (x : Event) → (p : IsPerforming D M stands step says e limit old b first es bytes last ss)
+  pub cut_before : (e : Engined) (limit : ℕ) (old new : Performing) (b b2 : Cabled D) (first es es2 : List Event) (bytes : List ℕ) (last : Bool) (ss : List (Station M)) (x : Event) → (p : IsPerforming D M stood step says e limit old b first es bytes last ss)
       → HasNext D M stands step says old new b2 0 ss p.made x → es2 ≡ es → IsCutShort D M stands step says b2 first es2 ss
   cut_before e limit old new b b2 first es es2 bytes last ss x p k same =
       let a = k.going.after in
@@ -76,7 +82,7 @@ module _ (D M : Type 0) (stands : D → M → Type 0) (step : M → Act → M) (
         now = a.now;
       }
 
-  pub cut_behind : (e : Engined) (limit : ℕ) (old new : Performing) (b b2 : Cabled D) (first es es2 : List Event) (bytes : List ℕ) (last : Bool) (ss : List (Station M)) (x : Event) → (p : IsPerforming D M stands step says e limit old b first es bytes last ss)
+  pub cut_behind : (e : Engined) (limit : ℕ) (old new : Performing) (b b2 : Cabled D) (first es es2 : List Event) (bytes : List ℕ) (last : Bool) (ss : List (Station M)) (x : Event) → (p : IsPerforming D M stood step says e limit old b first es bytes last ss)
       → HasNext D M stands step says old new b2 0 ss p.made x → es2 ≡ es ++ x ∷ [] → IsCutShort D M stands step says b2 first es2 ss
   cut_behind e limit old new b b2 first es es2 bytes last ss x p k more =
       let a = k.going.after in
@@ -91,7 +97,7 @@ module _ (D M : Type 0) (stands : D → M → Type 0) (step : M → Act → M) (
       }
 
   -- where nothing came
-  pub performing_still : (e : Engined) (limit : ℕ) (old new : Performing) (b b2 : Cabled D) (first es : List Event) (bytes : List ℕ) (last : Bool) (ss : List (Station M)) → (p : IsPerforming D M stands step says e limit old b first es bytes last ss) → HasStopped D M stands step says old new b2 0 ss p.made
+  pub performing_still : (e : Engined) (limit : ℕ) (old new : Performing) (b b2 : Cabled D) (first es : List Event) (bytes : List ℕ) (last : Bool) (ss : List (Station M)) → (p : IsPerforming D M stood step says e limit old b first es bytes last ss) → HasStopped D M stands step says old new b2 0 ss p.made
       → HasPerformed D M stands step says e limit new b2 first es bytes last ss
   performing_still e limit old new b b2 first es bytes last ss p k = record {
     made = p.made;
@@ -105,6 +111,7 @@ module _ (D M : Type 0) (stands : D → M → Type 0) (step : M → Act → M) (
     until = k.limit ∙ p.until;
   }
 
+module _ (D M : Type 0) (stands : D → M → Type 0) (step : M → Act → M) (says : M → Option (ℕ × Bool)) where
   -- what is said is a byte
   all_bytes : (R : Seated D → Station M → Type 0) → ((x : Seated D) (s : Station M) → R x s → IsByte M step says (says s.machine)) → (xs : List (Seated D)) (ss : List (Station M)) → AllZip R xs ss → AllBytes M step says ss
   all_bytes R byte [] [] h = tt

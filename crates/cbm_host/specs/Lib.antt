@@ -15,3 +15,5 @@ pub mod Served
 pub mod Progress
 pub mod Begun
 pub mod Hosted
+pub mod Recorded
+pub mod AnyDisk

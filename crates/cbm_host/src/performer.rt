@@ -48,6 +48,7 @@ impl<'a> Performer<'a> {
     ghost use Rattle.cbm_iec.specs.declared.event.Event.{Event};
     ghost use Rattle.cbm_iec.specs.declared.line.Change.{Change};
     ghost use Rattle.cbm_host.specs.declared.due.Due.TheVariants.{Makes, Waits, Hears};
+    ghost use Rattle.cbm_host.specs.Recorded.{GoesUpToRecorded, GoesOnRecorded, PlaysRecorded, ComesRecorded, NextRecorded, TakesRecorded};
 
     /// Before the first event of a request to the drive with this device number; its first change comes at the start.
     pub fn new(start: u64, device: u8, request: Request<'a>) -> Performer<'a>
@@ -74,6 +75,8 @@ impl<'a> Performer<'a> {
             IsGoing _ D.State D.stands D.step D.says self.old bus.old n ss es → MatchOption result
             (HasStopped _ D.State D.stands D.step D.says self.old self.new bus.new n ss es)
             (HasNext _ D.State D.stands D.step D.says self.old self.new bus.new n ss es) }
+        // On any disk the same holds for a machine that plays back what the drive showed.
+        ensures recorded { NextRecorded D.shows self.old self.new bus.old bus.new result }
         // Whatever the machine stands for, less is left to come behind an event.
         ensures fewer { IfSome result (λ e. left_of self.new bus.new < left_of self.old bus.old) }
         ensures within { IfSome result (λ e. e.change.moment ≤ self.old.limit) }
@@ -99,6 +102,8 @@ impl<'a> Performer<'a> {
             IsTaking _ D.State D.stands D.step D.says e limit self.old bus.old bytes last ss → MatchOption result
             (HasTaken _ D.State D.stands D.step D.says e limit self.new bus.new bytes last ss)
             (λ x. IsTaking _ D.State D.stands D.step D.says e limit self.new bus.new (bytes ++ x.0 ∷ []) x.1 ss) }
+        // On any disk the same holds for a machine that plays back what the drive showed.
+        ensures recorded { TakesRecorded D.shows self.old self.new bus.old bus.new result }
         ensures fewer { IfSome result (λ x. left_of self.new bus.new < left_of self.old bus.old) }
         ensures limit { self.new.limit ≡ self.old.limit }
         ensures lasting { numbers D.lasting bus.new.drives ≡ numbers D.lasting bus.old.drives }
@@ -182,6 +187,7 @@ impl<'a> Performer<'a> {
     /// The event that comes next.
     fn event<D: Machine, const N: usize>(&mut self, bus: &mut Bus<D, N>) -> Option<Event>
         ensures come { GoesOn _ D.State D.stands D.step D.says self.old self.new bus.old bus.new result }
+        ensures recorded { N ≡ 1 → GoesOnRecorded D.shows self.old self.new bus.old bus.new result }
         ensures fewer { IfSome result (λ e. FallsBy e.who self.old self.new bus.old bus.new) }
         ensures limit { self.new.limit ≡ self.old.limit }
         ensures lasting { numbers D.lasting bus.new.drives ≡ numbers D.lasting bus.old.drives }
@@ -198,6 +204,7 @@ impl<'a> Performer<'a> {
     fn ask<D: Machine, const N: usize>(&mut self, bus: &mut Bus<D, N>, upto: u64) -> Option<Event>
         requires { upto ≤ self.old.limit }
         ensures come { GoesUpTo _ D.State D.stands D.step D.says upto self.old self.new bus.old bus.new result }
+        ensures recorded { N ≡ 1 → GoesUpToRecorded D.shows upto self.old self.new bus.old bus.new result }
         ensures waiting { IsWaitingFrom self.new.player.from self.new.player.waiting }
         ensures fewer { IfSome result (λ e. IsDrives e.who → at_most (self.old.limit + 1) self.new.player.second
             bus.new.drives < at_most (self.old.limit + 1) self.old.player.second bus.old.drives) }
@@ -213,6 +220,7 @@ impl<'a> Performer<'a> {
         requires upto { upto ≤ self.old.limit }
         requires none { (change : Change) → engine_due self.old.engine ≡ Makes change → ⊥ }
         ensures come { GoesUpTo _ D.State D.stands D.step D.says upto self.old self.new bus.old bus.new result }
+        ensures recorded { N ≡ 1 → GoesUpToRecorded D.shows upto self.old self.new bus.old bus.new result }
         ensures waiting { IsWaitingFrom self.new.player.from self.new.player.waiting }
         ensures drive { IfSome result (λ e. IsDrives e.who) }
         ensures fewer { IfSome result (λ e. at_most (self.old.limit + 1) self.new.player.second bus.new.drives
@@ -232,6 +240,7 @@ impl<'a> Performer<'a> {
     fn hear<D: Machine, const N: usize>(&mut self, bus: &mut Bus<D, N>) -> Option<Event>
         requires due { engine_due self.old.engine ≡ Hears }
         ensures come { GoesOn _ D.State D.stands D.step D.says self.old self.new bus.old bus.new result }
+        ensures recorded { N ≡ 1 → GoesOnRecorded D.shows self.old self.new bus.old bus.new result }
         ensures fewer { IfSome result (λ e. FallsBy e.who self.old self.new bus.old bus.new) }
         ensures limit { self.new.limit ≡ self.old.limit }
         ensures lasting { numbers D.lasting bus.new.drives ≡ numbers D.lasting bus.old.drives }
@@ -251,6 +260,7 @@ impl<'a> Performer<'a> {
             IsGoing _ D.State D.stands D.step D.says self.old bus.old n ss es → MatchOption result
             (IsHeldBack _ D.State D.stands D.step D.says self.old self.new bus.old bus.new change)
             (HasCome _ D.State D.stands D.step D.says self.old self.new bus.new n ss es) }
+        ensures recorded { N ≡ 1 → PlaysRecorded D.shows change self.old self.new bus.old bus.new result }
         ensures fewer { IfSome result (λ e. FallsBy e.who self.old self.new bus.old bus.new) }
         ensures engine { self.new.engine ≡ self.old.engine }
         ensures limit { self.new.limit ≡ self.old.limit }
@@ -282,6 +292,7 @@ impl<'a> Performer<'a> {
     fn wait<D: Machine, const N: usize>(&mut self, bus: &mut Bus<D, N>, until: u64) -> Option<Event>
         requires due { engine_due self.old.engine ≡ Waits until }
         ensures come { GoesOn _ D.State D.stands D.step D.says self.old self.new bus.old bus.new result }
+        ensures recorded { N ≡ 1 → GoesOnRecorded D.shows self.old self.new bus.old bus.new result }
         ensures fewer { IfSome result (λ e. FallsBy e.who self.old self.new bus.old bus.new) }
         ensures limit { self.new.limit ≡ self.old.limit }
         ensures lasting { numbers D.lasting bus.new.drives ≡ numbers D.lasting bus.old.drives }
@@ -310,6 +321,7 @@ impl<'a> Performer<'a> {
             IsGoing _ D.State D.stands D.step D.says self.old bus.old n ss es → MatchOption result
             (IsUnmoved _ D.State D.stands D.step D.says self.old self.new bus.old bus.new until n ss es)
             (HasCome _ D.State D.stands D.step D.says self.old self.new bus.new n ss es) }
+        ensures recorded { N ≡ 1 → ComesRecorded D.shows until self.old self.new bus.old bus.new result }
         ensures fewer { IfSome result (λ e. FallsBy e.who self.old self.new bus.old bus.new) }
         ensures engine { self.new.engine ≡ self.old.engine }
         ensures limit { self.new.limit ≡ self.old.limit }

@@ -1,6 +1,6 @@
 //! A request carried out on the bus.
 
-ghost use Rattle.std.specs.Prelude.{◌≡◌, ◌+◌, ◌<◌, ◌≤◌, ◌^◌, ℕ, List, [], ◌∷◌, true, IfOk, IfErr, OnOk, MatchBool};
+ghost use Rattle.std.specs.Prelude.{◌≡◌, ◌+◌, ◌<◌, ◌≤◌, ◌++◌, ◌^◌, ℕ, List, [], ◌∷◌, true, IfOk, IfErr, OnOk, MatchBool, MatchResult};
 ghost use Rattle.cbm_iec.specs.declared.event.Event.{Event};
 ghost use Rattle.cbm_session.specs.Playing.{Station, at_rest};
 ghost use Rattle.cbm_session.specs.Sessions.{IsDrive};
@@ -11,6 +11,9 @@ ghost use Rattle.cbm_host.specs.CarriedOut.{IsShort, HasCarriedOut};
 ghost use Rattle.cbm_iec.specs.declared.party.Party.{Party};
 ghost use Rattle.cbm_host.specs.Progress.{left_of};
 ghost use Rattle.cbm_host.specs.Performed.{IsPerforming, IsCutShort, HasAddedUpTo, HasPerformed};
+ghost use Rattle.cbm_drive.specs.Playback.{Shown, Playback};
+ghost use Rattle.cbm_host.specs.Recorded.{IsPerformingBack, HasPerformedBack, IsCutShortBack};
+ghost use Rattle.cbm_host.specs.AnyDisk.{IsAtRest, IsCarriedOutAnyway, IsCutShortAnyway};
 
 use crate::done::Done;
 use crate::performer::Performer;
@@ -38,6 +41,12 @@ pub fn perform<D: Machine, const N: usize>(
         IsBusAt _ D.State D.stands bus.old.host bus.old.drives (at_rest D.State D.step D.says ms (b ∷ [])) →
         IfOk result (λ done. HasCarriedOut _ D.State D.stands D.step D.says b ms start request.entry bus.new
         events.old.items events.new.items done.bytes.items done.last done.end) }
+    // On any disk a machine plays back what the drive showed, and for that machine the request was carried out.
+    ensures recorded { (b : Party) → IsDrive b → b.device ≡ device → IsAtRest D.shows b bus.old →
+        MatchResult result
+        (λ done. IsCarriedOutAnyway D.shows b start request.entry bus.old bus.new events.old.items events.new.items
+        done.bytes.items done.last done.end)
+        (λ e. IsCutShortAnyway D.shows b bus.old bus.new events.old.items events.new.items) }
     ensures end { IfOk result (λ done. done.end ≤ start + 250000000) }
     // Whatever the machine stands for, nothing happens later than that.
     ensures within { HasAddedUpTo (start + 250000000) events.old.items events.new.items }
@@ -77,6 +86,13 @@ fn run<D: Machine, const N: usize>(
         IsPerforming _ D.State D.stands D.step D.says e limit performer.old bus.old old events.old.items
         done.old.bytes.items done.old.last ss →
         IfErr result (λ x. IsCutShort _ D.State D.stands D.step D.says bus.new old events.new.items ss) }
+    ensures recorded { (trail : List Shown) × ((later : List Shown) (e : Engined) (limit : ℕ)
+        (old : List Event) (ss : List (Station Playback)) →
+        IsPerformingBack D.shows (trail ++ later) e limit performer.old bus.old old events.old.items done.old.bytes.items
+        done.old.last ss → MatchResult result
+        (λ u. HasPerformedBack D.shows later e limit performer.new bus.new old events.new.items done.new.bytes.items
+        done.new.last ss)
+        (λ x. IsCutShortBack D.shows later bus.new old events.new.items ss)) }
     ensures within { HasAddedUpTo performer.old.limit events.old.items events.new.items }
     ensures limit { performer.new.limit ≡ performer.old.limit }
 {
@@ -103,6 +119,16 @@ fn step<D: Machine, const N: usize>(
         IsPerforming _ D.State D.stands D.step D.says e limit performer.old bus.old old events.old.items
         done.old.bytes.items done.old.last ss →
         IfErr result (λ x. IsCutShort _ D.State D.stands D.step D.says bus.new old events.new.items ss) }
+    ensures recorded { (trail : List Shown) × ((later : List Shown) (e : Engined) (limit : ℕ)
+        (old : List Event) (ss : List (Station Playback)) →
+        IsPerformingBack D.shows (trail ++ later) e limit performer.old bus.old old events.old.items done.old.bytes.items
+        done.old.last ss → MatchResult result
+        (λ more. MatchBool more
+        (IsPerformingBack D.shows later e limit performer.new bus.new old events.new.items done.new.bytes.items
+        done.new.last ss)
+        (HasPerformedBack D.shows later e limit performer.new bus.new old events.new.items done.new.bytes.items
+        done.new.last ss))
+        (λ x. IsCutShortBack D.shows later bus.new old events.new.items ss)) }
     ensures within { HasAddedUpTo performer.old.limit events.old.items events.new.items }
     ensures fewer { IfOk result (λ more. more ≡ true → left_of performer.new bus.new < left_of performer.old bus.old) }
     ensures limit { performer.new.limit ≡ performer.old.limit }

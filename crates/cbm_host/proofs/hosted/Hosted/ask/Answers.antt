@@ -1,7 +1,10 @@
 use Rattle.std.proofs.Common.{◌+◌, ap, ◌∙◌, subst}
+use Rattle.cbm_drive.specs.Desks.{desk_shows}
 use Rattle.cbm_host.proofs.Hosting.{asked, OnAsk}
 use Rattle.cbm_host.proofs.hosted.Hosted.ask.Goals as goal
 use Rattle.cbm_host.specs.Hosted.{Hosting}
+use Rattle.cbm_host.proofs.HostedAnyway.{begun_anyway}
+use Rattle.cbm_host.specs.AnyDisk.{RestsAnyway, IsUnderWayAnyway}
 
 pub returns-clause-under_way : goal.returns-clause-under_way
 returns-clause-under_way g c =
@@ -11,3 +14,9 @@ returns-clause-under_way g c =
 
 pub returns-clause-limit : goal.returns-clause-limit
 returns-clause-limit g c = c.new.ensures.limit ∙ ap (λ (h : Hosting _). h.moment + 250000000) c.self.view_is
+
+pub returns-clause-anyway : goal.returns-clause-anyway
+returns-clause-anyway g c =
+    let shows = desk_shows g.M.Medium.seen in
+    subst (λ (h : Hosting _). RestsAnyway shows h → IsUnderWayAnyway shows h.device h.bus c.new.result c.args.request) c.self.view_is
+    (λ r. begun_anyway shows c.self.inside.device c.self.inside.moment c.self.inside.bus c.new.result c.args.request r c.new.ensures.player c.new.ensures.engine c.new.ensures.limit)

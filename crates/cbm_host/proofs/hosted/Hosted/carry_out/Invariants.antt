@@ -1,5 +1,7 @@
 use Rattle.std.proofs.Common.{◌≡◌, ◌+◌, ℕ, Bool, List}
 use Rattle.cbm_channel.specs.Machines.{Machine}
+use Rattle.cbm_drive.specs.Desks.{desk_shows}
+use Rattle.cbm_host.specs.AnyDisk.{RestsAnyway, IsUnderWayAnyway}
 use Rattle.cbm_host.specs.Hosted.{Rests, IsUnderWay, tracks_on}
 use Rattle.cbm_host.specs.Progress.{left_of}
 use Rattle.cbm_host.specs.Served.{IsModest}
@@ -11,6 +13,8 @@ invariant-bytes g l = record {
   under_way : (m : Machine) → IsModest l.fn.request → Rests g.M.Medium.seen l.fn.self m → (bytes : List ℕ) × (last : Bool) × IsUnderWay g.M.Medium.seen l.self l.performer m l.fn.request bytes last;
   limit : l.performer.limit ≡ l.fn.self.moment + 250000000;
   tracks : tracks_on g.M.Medium.seen l.self ≡ tracks_on g.M.Medium.seen l.fn.self;
+  device : l.self.device ≡ l.fn.self.device;
+  anyway : RestsAnyway (desk_shows g.M.Medium.seen) l.fn.self → IsUnderWayAnyway (desk_shows g.M.Medium.seen) l.self.device l.self.bus l.performer l.fn.request;
 }
 
 abbrev pub decreases-bytes : goal.decreases-bytes

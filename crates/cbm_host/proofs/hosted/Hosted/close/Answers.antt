@@ -3,3 +3,6 @@ use Rattle.cbm_host.proofs.hosted.Hosted.close.Goals as goal
 
 pub returns-clause-rests : goal.returns-clause-rests
 returns-clause-rests g c = λ m r. c.carry_out.ensures.rests m (omega arith, tt) r
+
+pub returns-clause-anyway : goal.returns-clause-anyway
+returns-clause-anyway g c = λ r. c.carry_out.ensures.anyway (λ m. (omega arith, tt)) r

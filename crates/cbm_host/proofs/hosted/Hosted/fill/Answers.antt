@@ -8,3 +8,10 @@ returns-clause-rests g c = λ m r.
     let many = so_many c.args.count c.args.byte in
     let few = c.requires.short in
     c.carry_out.ensures.rests m (omega (arith, many, few), are_equal c.args.count c.args.byte small) r
+
+pub returns-clause-anyway : goal.returns-clause-anyway
+returns-clause-anyway g c = λ r.
+    let small : c.args.byte < 256 = (let f = c.ranges.byte in omega arith) in
+    let many = so_many c.args.count c.args.byte in
+    let few = c.requires.short in
+    c.carry_out.ensures.anyway (λ m. (omega (arith, many, few), are_equal c.args.count c.args.byte small)) r

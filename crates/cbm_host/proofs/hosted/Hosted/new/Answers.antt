@@ -1,6 +1,8 @@
-use Rattle.std.proofs.Common.{refl, sym, subst}
+use Rattle.std.proofs.Common.{◌<◌, refl, sym, subst}
+use Rattle.std.specs.Prelude.{IfSome}
 use Rattle.cbm_channel.specs.Machines.{start}
-use Rattle.cbm_drive.specs.Desks.{DeskStands, at_first}
+use Rattle.cbm_drive.specs.Desks.{DeskStands, at_first, desk_shows}
+use Rattle.cbm_host.proofs.HostedAnyway.{rests_first_anyway}
 use Rattle.cbm_host.proofs.Hosting.{rests_first}
 use Rattle.cbm_host.proofs.hosted.Hosted.new.Goals as goal
 use Rattle.cbm_host.specs.Hosted.{Hosting}
@@ -12,3 +14,8 @@ returns-clause-rests g c = λ d h.
     let here : Hosting _ = record { bus = c.new-2.result; device = c.args.device; moment = 1000 } in
     rests_first seen c.args.device m here c.new.result refl c.new-2.ensures.host c.new-2.ensures.drives c.new.ensures.port
     (subst (λ x. DeskStands seen x (at_first c.args.device m)) (sym c.new.ensures.machine) (c.at_power_up-desk.ensures.stands d h))
+
+pub returns-clause-anyway : goal.returns-clause-anyway
+returns-clause-anyway g c = λ bytes.
+    let shows = desk_shows g.M.Medium.seen in
+    rests_first_anyway shows c.args.device c.new-2.result c.new.result c.new-2.ensures.host c.new-2.ensures.drives c.new.ensures.port (subst (λ x. IfSome (shows x) (λ s. s.0 < 256)) (sym c.new.ensures.machine) (bytes c.at_power_up-desk.result c.at_power_up-desk.ensures.addressed))

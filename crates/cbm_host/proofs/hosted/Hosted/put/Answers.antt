@@ -4,3 +4,6 @@ use Rattle.cbm_host.proofs.hosted.Hosted.put.Goals as goal
 
 pub returns-clause-rests : goal.returns-clause-rests
 returns-clause-rests g c = λ m r. c.carry_out.ensures.rests m (c.requires.short, are_bytes c.args.bytes.now (λ i. let f = c.type_inv.bytes i in omega arith)) r
+
+pub returns-clause-anyway : goal.returns-clause-anyway
+returns-clause-anyway g c = λ r. c.carry_out.ensures.anyway (λ m. (c.requires.short, are_bytes c.args.bytes.now (λ i. let f = c.type_inv.bytes i in omega arith))) r

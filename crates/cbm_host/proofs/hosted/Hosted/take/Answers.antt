@@ -1,11 +1,13 @@
-use Rattle.std.proofs.Common.{◌<◌, refl, ap, ◌∙◌, subst, arith}
+use Rattle.std.proofs.Common.{◌<◌, refl, ap, ◌∙◌, subst, arith, Some, None}
 use Rattle.cbm_drive.specs.Cables.{Cabled}
 use Rattle.cbm_drive.specs.Seats.{numbers}
+use Rattle.cbm_drive.specs.Desks.{desk_shows}
 use Rattle.cbm_host.proofs.Hosting.{taken_on, taken_over, OnByte, OnEnd}
 use Rattle.cbm_host.proofs.Progress.{as_many}
 use Rattle.cbm_host.proofs.hosted.Hosted.take.Goals as goal
 use Rattle.cbm_host.specs.Hosted.{Hosting}
 use Rattle.cbm_host.specs.Progress.{left_of}
+use Rattle.cbm_host.proofs.HostedAnyway.{goes_on_anyway, over_anyway, OnTakeAnyway}
 
 pub returns-in-Some-clause-taken : goal.returns-in-Some-clause-taken
 returns-in-Some-clause-taken g c =
@@ -44,3 +46,23 @@ invariant_of-self-in-None g c = (c.self.invariant.0, c.self.invariant.1, as_many
 
 pub invariant_of-self : goal.invariant_of-self
 invariant_of-self g c = (c.self.invariant.0, c.self.invariant.1, as_many (λ x. (g.M.Medium.seen x.dos.medium).tracks) c.self.inside.bus.drives c.next_byte.new.bus.drives c.next_byte.ensures.lasting ∙ c.self.invariant.2)
+
+-- ---- on any disk
+
+pub returns-in-Some-clause-anyway : goal.returns-in-Some-clause-anyway
+returns-in-Some-clause-anyway g c =
+    let shows = desk_shows g.M.Medium.seen in
+    subst (λ (h : Hosting _). OnTakeAnyway shows c.self.inside.device h.device h.bus c.next_byte.new.bus c.args.performer.now c.next_byte.new.self (Some c.in-Some.said)) c.self.view_is
+    (λ request channel u. goes_on_anyway shows c.self.inside.device c.self.inside.bus c.next_byte.new.bus c.args.performer.now c.next_byte.new.self c.in-Some.said (c.in-Some.ensures.recorded) request u)
+
+pub returns-in-None-clause-anyway : goal.returns-in-None-clause-anyway
+returns-in-None-clause-anyway g c =
+    let shows = desk_shows g.M.Medium.seen in
+    subst (λ (h : Hosting _). OnTakeAnyway shows c.self.inside.device h.device h.bus c.next_byte.new.bus c.args.performer.now c.next_byte.new.self None) c.self.view_is
+    (λ request channel u. over_anyway shows c.self.inside.device c.self.inside.bus c.next_byte.new.bus c.args.performer.now c.next_byte.new.self c.self.invariant.0 c.self.invariant.1 (c.in-None.ensures.recorded) request channel u)
+
+pub returns-in-Some-clause-device : goal.returns-in-Some-clause-device
+returns-in-Some-clause-device g c = ap (λ (h : Hosting _). h.device) c.self.view_is
+
+pub returns-in-None-clause-device : goal.returns-in-None-clause-device
+returns-in-None-clause-device g c = ap (λ (h : Hosting _). h.device) c.self.view_is

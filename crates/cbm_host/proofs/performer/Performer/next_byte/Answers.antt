@@ -1,10 +1,12 @@
-use Rattle.std.proofs.Common.{◌<◌, refl, sym, ◌∙◌, arith}
+use Rattle.std.proofs.Common.{◌<◌, [], ◌++◌, refl, sym, ◌∙◌, arith}
 use Rattle.cbm_host.proofs.Hosting.{taking_none, taking_some, taking_over}
+use Rattle.cbm_host.proofs.Regrouped.{regrouped}
 use Rattle.cbm_host.proofs.performer.Performer.next_byte.Goals as goal
+use Rattle.cbm_drive.specs.Playback.{Playback, played_says, played_step, IsPlayedBack}
 use Rattle.cbm_host.specs.Progress.{left_of}
 
 pub events-init : goal.events-init
-events-init g c = record { taking = λ e limit bytes last ss t. t; fewer = omega arith; limit = refl; lasting = refl }
+events-init g c = record { taking = λ e limit bytes last ss t. t; fewer = omega arith; limit = refl; lasting = refl; recorded = ([], λ later e limit bytes last ss t. t) }
 
 pub events-preserved : goal.events-preserved
 events-preserved g c =
@@ -12,11 +14,20 @@ events-preserved g c =
     let least = c.events.invariant.fewer in
     record {
       taking = λ e limit bytes last ss t.
-          taking_none _ g.D.Machine.State g.D.Machine.stands g.D.Machine.step g.D.Machine.says e limit c.events.self c.next.new.self c.events.bus c.next.new.bus bytes last ss c.in-Some._event (c.events.invariant.taking e limit bytes last ss t) c.in-Some.ensures.next
+          taking_none _ g.D.Machine.State g.D.Machine.stands g.D.Machine.stands g.D.Machine.step g.D.Machine.says e limit c.events.self c.next.new.self c.events.bus c.next.new.bus bytes last ss c.in-Some._event (c.events.invariant.taking e limit bytes last ss t) c.in-Some.ensures.next
           (sym c.byte.ensures ∙ c.in_default-byte.is);
       fewer = omega (arith, less, least);
       limit = c.next.ensures.limit ∙ c.events.invariant.limit;
       lasting = c.next.ensures.lasting ∙ c.events.invariant.lasting;
+      recorded =
+          (let shows = g.D.Machine.shows in
+          let before = c.events.invariant.recorded in
+          let next = c.in-Some.ensures.recorded in (
+            before.0 ++ next.0,
+            λ later e limit bytes last ss t.
+                taking_none _ Playback (IsPlayedBack shows (next.0 ++ later)) (IsPlayedBack shows later) played_step played_says e limit c.events.self c.next.new.self c.events.bus c.next.new.bus bytes last ss c.in-Some._event
+                (before.1 (next.0 ++ later) e limit bytes last ss (regrouped shows before.0 next.0 later e limit c.args.self.now c.args.bus.now bytes last ss t)) (next.1 later) (sym c.byte.ensures ∙ c.in_default-byte.is),
+          ));
     }
 
 pub events-smaller : goal.events-smaller
@@ -24,7 +35,7 @@ events-smaller g c = c.in-Some.ensures.fewer
 
 pub returns-in-Some-byte-clause-taken : goal.returns-in-Some-byte-clause-taken
 returns-in-Some-byte-clause-taken g c = λ e limit bytes last ss t.
-    taking_some _ g.D.Machine.State g.D.Machine.stands g.D.Machine.step g.D.Machine.says e limit c.events.self c.next.new.self c.events.bus c.next.new.bus bytes last ss c.in-Some._event c.in-Some-byte.said (c.events.invariant.taking e limit bytes last ss t) c.in-Some.ensures.next
+    taking_some _ g.D.Machine.State g.D.Machine.stands g.D.Machine.stands g.D.Machine.step g.D.Machine.says e limit c.events.self c.next.new.self c.events.bus c.next.new.bus bytes last ss c.in-Some._event c.in-Some-byte.said (c.events.invariant.taking e limit bytes last ss t) c.in-Some.ensures.next
     (sym c.byte.ensures ∙ c.in-Some-byte.is)
 
 pub returns-in-Some-byte-clause-fewer : goal.returns-in-Some-byte-clause-fewer
@@ -35,4 +46,28 @@ returns-in-Some-byte-clause-fewer g c =
 
 pub returns-clause-taken : goal.returns-clause-taken
 returns-clause-taken g c = λ e limit bytes last ss t.
-    taking_over _ g.D.Machine.State g.D.Machine.stands g.D.Machine.step g.D.Machine.says e limit c.events.self c.next.new.self c.events.bus c.next.new.bus bytes last ss (c.events.invariant.taking e limit bytes last ss t) c.in_default.ensures.next
+    taking_over _ g.D.Machine.State g.D.Machine.stands g.D.Machine.stands g.D.Machine.step g.D.Machine.says e limit c.events.self c.next.new.self c.events.bus c.next.new.bus bytes last ss (c.events.invariant.taking e limit bytes last ss t) c.in_default.ensures.next
+
+-- ---- on any disk
+
+pub returns-in-Some-byte-clause-recorded : goal.returns-in-Some-byte-clause-recorded
+returns-in-Some-byte-clause-recorded g c =
+    let shows = g.D.Machine.shows in
+    let before = c.events.invariant.recorded in
+    let next = c.in-Some.ensures.recorded in (
+      before.0 ++ next.0,
+      λ later e limit bytes last ss t.
+          taking_some _ Playback (IsPlayedBack shows (next.0 ++ later)) (IsPlayedBack shows later) played_step played_says e limit c.events.self c.next.new.self c.events.bus c.next.new.bus bytes last ss c.in-Some._event c.in-Some-byte.said
+          (before.1 (next.0 ++ later) e limit bytes last ss (regrouped shows before.0 next.0 later e limit c.args.self.now c.args.bus.now bytes last ss t)) (next.1 later) (sym c.byte.ensures ∙ c.in-Some-byte.is),
+    )
+
+pub returns-clause-recorded : goal.returns-clause-recorded
+returns-clause-recorded g c =
+    let shows = g.D.Machine.shows in
+    let before = c.events.invariant.recorded in
+    let next = c.in_default.ensures.recorded in (
+      before.0 ++ next.0,
+      λ later e limit bytes last ss t.
+          taking_over _ Playback (IsPlayedBack shows (next.0 ++ later)) (IsPlayedBack shows later) played_step played_says e limit c.events.self c.next.new.self c.events.bus c.next.new.bus bytes last ss
+          (before.1 (next.0 ++ later) e limit bytes last ss (regrouped shows before.0 next.0 later e limit c.args.self.now c.args.bus.now bytes last ss t)) (next.1 later),
+    )

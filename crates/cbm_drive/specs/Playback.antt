@@ -1,0 +1,40 @@
+-- A machine that plays back what another one showed, act by act. So a drive on any disk is a machine, too: of what it showed nothing else is known.
+use Rattle.std.specs.Prelude.{ℕ, ◌≡◌, ◌<◌, Bool, true, List, [], ◌∷◌, Option, Some, None, IfSome, IsSome, if◌then◌else◌}
+use Rattle.cbm_iec.specs.Machines.{owes}
+use Rattle.cbm_iec.specs.declared.act.Act.{Act}
+
+-- the byte to say, and whether it is the last
+abbrev pub Shown : Type 0
+Shown = Option (ℕ × Bool)
+
+-- what it shows now, and behind each act to come; and whether a byte that isn't the last was said, so that there must be another
+pub record Playback : Type 0 where
+  pub shown : List Shown
+  pub owed : Bool
+
+-- what there is to say; where nothing is recorded any more, nothing, or, where a byte is owed, a last 0
+abbrev pub says_or : Bool → Shown → Shown
+says_or owed None = if owed then Some (0, true) else None
+says_or owed (Some said) = Some said
+
+abbrev pub first_of : List Shown → Shown
+first_of [] = None
+first_of (now ∷ later) = now
+
+abbrev pub behind_first : List Shown → List Shown
+behind_first [] = []
+behind_first (now ∷ later) = later
+
+abbrev pub played_says : Playback → Shown
+played_says p = says_or p.owed (first_of p.shown)
+
+-- behind each act the next is shown
+abbrev pub played_step : Playback → Act → Playback
+played_step p act = record { shown = behind_first p.shown; owed = owes act (played_says p) }
+
+module _ {D : Type 0} (shows : D → Shown) where
+  -- IT PLAYS BACK THIS MACHINE: what that shows now, and then these.
+  pub record IsPlayedBack (later : List Shown) (x : D) (p : Playback) : Type 0 where
+    pub shown : p.shown ≡ shows x ∷ later
+    pub owed : p.owed ≡ true → IsSome (shows x)
+    pub byte : IfSome (shows x) (λ s. s.0 < 256)

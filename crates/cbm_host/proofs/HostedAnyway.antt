@@ -1,0 +1,89 @@
+-- A request to a drive on any disk, byte by byte: it is one to the machine that plays back what the drive showed.
+use Rattle.std.proofs.Common.{◌≡◌, ℕ, ◌+◌, ◌<◌, ◌≤◌, Bool, false, List, [], ◌∷◌, ◌++◌, Option, Some, None, refl, sym, subst}
+use Rattle.std.specs.Prelude.{IfSome, MatchOption}
+use Rattle.std.proofs.lemmas.List.{append_assoc}
+use Rattle.cbm_iec.specs.Ports as ports
+use Rattle.cbm_iec.specs.declared.lines.Lines.{Lines}
+use Rattle.cbm_iec.specs.declared.port.Port.{Port}
+use Rattle.cbm_drive.specs.Cables.{Cabled, all_free}
+use Rattle.cbm_drive.specs.Players.{at_start}
+use Rattle.cbm_drive.specs.Seats.{Seated, IsWithout, IsBusAt, held_by}
+use Rattle.cbm_host.proofs.AnyDisk.{played_byte, played_more, rest_played, rests_again, is_short}
+use Rattle.cbm_host.proofs.CarriedOut.{some_end, carried_out_then}
+use Rattle.cbm_host.proofs.Hosting.{is_drive}
+use Rattle.cbm_host.proofs.Performed.{performing_none}
+use Rattle.cbm_host.specs.AnyDisk.{IsAtRest, IsUnderWayAnyway, IsOverAnyway}
+use Rattle.cbm_host.specs.Engines.{engine_at, channel_of}
+use Rattle.cbm_host.specs.Hosted.{party_of}
+use Rattle.cbm_host.specs.Performers.{Performing}
+use Rattle.cbm_drive.specs.Playback.{Shown, Playback, played_says, played_step, IsPlayedBack}
+use Rattle.cbm_host.specs.Recorded.{TakesRecorded}
+use Rattle.cbm_host.specs.Requests.{longest}
+use Rattle.cbm_host.specs.declared.request.Request.{Request}
+use Rattle.cbm_session.specs.Playing.{Station, at_rest, nobody}
+
+module _ {D : Type 0} (shows : D → Shown) (device : ℕ) where
+  abbrev resting : Playback → List (Station Playback)
+  resting m = at_rest Playback played_step played_says (λ d. m) (party_of device ∷ [])
+
+  abbrev IsOnBus : List Shown → Cabled D → Playback → Type 0
+  IsOnBus shown b m = IsBusAt D Playback (IsPlayedBack shows shown) b.host b.drives (resting m)
+
+  -- at power up
+  pub rests_first_anyway : (b : Cabled D) (x : Seated D) → b.host ≡ all_free → b.drives ≡ x ∷ [] → x.port ≡ ports.resting (party_of device) → IfSome (shows x.machine) (λ s. s.0 < 256) → IsAtRest shows (party_of device) b
+  rests_first_anyway b x free one port byte =
+      subst (λ (l : Lines). IsBusAt D (Unit {0}) (λ x u. IfSome (shows x) (λ s. s.0 < 256)) l b.drives (at_rest (Unit {0}) (λ u act. u) (λ u. None) (λ d. tt) (party_of device ∷ []))) (sym free)
+      (subst (λ (xs : List (Seated D)). IsBusAt D (Unit {0}) (λ x u. IfSome (shows x) (λ s. s.0 < 256)) all_free xs (at_rest (Unit {0}) (λ u act. u) (λ u. None) (λ d. tt) (party_of device ∷ []))) (sym one)
+      (record { port = port; machine = byte; rest = rest }, tt))
+    where
+      rest : IsWithout (held_by all_free (x ∷ [])) x.port.own nobody
+      rest = subst (λ (q : Port). IsWithout (held_by all_free ((record { port = q; machine = x.machine }) ∷ [])) q.own nobody) (sym port) (record { host = refl; clocks = refl; datas = refl })
+
+  -- before the first event
+  pub begun_anyway : (start : ℕ) (b : Cabled D) (p : Performing) (request : Request) → IsAtRest shows (party_of device) b → p.player ≡ at_start → p.engine ≡ engine_at start device request → p.limit ≡ start + longest → IsUnderWayAnyway shows device b p request
+  begun_anyway start b p request rests player engine limit = record {
+    start = start;
+    before = b;
+    rested = rests;
+    trail = [];
+    goes = λ later m k. (
+      [],
+      false,
+      record {
+        made = [];
+        performing = performing_none D Playback (IsPlayedBack shows later) played_step played_says (played_byte shows later) (engine_at start device request) (start + longest) p b [] [] false (resting m) k player engine limit refl refl;
+      },
+    );
+  }
+
+  -- one more byte was taken
+  pub goes_on_anyway : (b c : Cabled D) (p q : Performing) (said : ℕ × Bool) → TakesRecorded shows p q b c (Some said) → (request : Request) → IsUnderWayAnyway shows device b p request → IsUnderWayAnyway shows device c q request
+  goes_on_anyway b c p q said takes request u = record {
+    start = u.start;
+    before = u.before;
+    rested = u.rested;
+    trail = u.trail ++ takes.0;
+    goes = λ later m k.
+        (let k2 : IsOnBus (u.trail ++ (takes.0 ++ later)) u.before m = subst (λ (l : List Shown). IsOnBus l u.before m) (append_assoc u.trail takes.0 later) k in
+        let t = u.goes (takes.0 ++ later) m k2 in
+        (t.0 ++ said.0 ∷ [], said.1, takes.1 later (engine_at u.start device request) (u.start + longest) t.0 t.1 (resting m) t.2));
+  }
+
+  -- no more comes
+  pub over_anyway : (b c : Cabled D) (p q : Performing) → 8 ≤ device → device ≤ 11 → TakesRecorded shows p q b c None → (request : Request) → channel_of request ≤ 15 → IsUnderWayAnyway shows device b p request → IsOverAnyway shows device c request
+  over_anyway b c p q low high takes request channel u =
+      let first = rest_played shows (party_of device) u.before (u.trail ++ (takes.0 ++ [])) u.rested in
+      let t = u.goes (takes.0 ++ []) first.0 first.1 in
+      let h = takes.1 [] (engine_at u.start device request) (u.start + longest) t.0 t.1 (resting first.0) t.2 in (
+        first.0,
+        λ small.
+            let short = is_short device first.0 request small in
+            let drive = is_drive device low high in
+            let some = some_end D Playback (IsPlayedBack shows []) played_step played_says played_more (party_of device) drive (λ d. first.0) u.start request channel short q c [] h.made t.0 t.1 h.performed in
+            let k = carried_out_then D Playback (IsPlayedBack shows []) played_step played_says played_more (party_of device) drive (λ d. first.0) u.start request channel short q c [] h.made t.0 t.1 h.performed some.0 some.1 in
+            rests_again shows (party_of device) c [] k.machine k.now,
+      )
+
+  -- the same of what a call answers
+  abbrev pub OnTakeAnyway : ℕ → Cabled D → Cabled D → Performing → Performing → Option (ℕ × Bool) → Type 0
+  OnTakeAnyway d b c p q result = (request : Request) → channel_of request ≤ 15 → IsUnderWayAnyway shows d b p request → MatchOption result (IsOverAnyway shows device c request) (λ x. IsUnderWayAnyway shows device c q request)
