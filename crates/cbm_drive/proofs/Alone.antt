@@ -101,15 +101,17 @@ module _ {D : Type 0} (shows : D → Shown) where
   told_here c host now x y e k later (s ∷ t ∷ ss) h = absurd h.1
   told_here c host now x y e k later (s ∷ []) h =
       let b = h.0 in
-      let own : y.port.own ≡ x.port.own = ap (λ (p : Port). p.own) k.port in
-      (subst (λ (o : Held). IsSeat D Playback (IsPlayedBack shows later) (record { host = now; clocks = bit o.clock_low + 0; datas = bit o.data_low + 0 }) y (tell Playback played_step played_says c s)) (sym own)
-      (told_one D Playback (IsPlayedBack shows (recorded shows (told_act k.others x.port) y.machine ++ later)) (IsPlayedBack shows later) played_step played_says (held_by now (x ∷ [])) k.others c.moment (behind_host c.line c.way s.rest) x y s
-      k.lines k.port (λ m q. played_acted shows later x.machine y.machine m (told_act k.others x.port) q k.machine)
-      (record {
-        port = b.port;
-        machine = b.machine;
-        rest = record { host = ap (λ (l : Lines). lines_after l c.line c.way) b.rest.host ∙ sym e; clocks = b.rest.clocks; datas = b.rest.datas };
-      })), tt)
+      let own : y.port.own ≡ x.port.own = ap (λ (p : Port). p.own) k.port in (
+        subst (λ (o : Held). IsSeat D Playback (IsPlayedBack shows later) (record { host = now; clocks = bit o.clock_low + 0; datas = bit o.data_low + 0 }) y (tell Playback played_step played_says c s)) (sym own)
+            (told_one D Playback (IsPlayedBack shows (recorded shows (told_act k.others x.port) y.machine ++ later)) (IsPlayedBack shows later) played_step played_says (held_by now (x ∷ [])) k.others c.moment (behind_host c.line c.way s.rest) x y s
+            k.lines k.port (λ m q. played_acted shows later x.machine y.machine m (told_act k.others x.port) q k.machine)
+            (record {
+              port = b.port;
+              machine = b.machine;
+              rest = record { host = ap (λ (l : Lines). lines_after l c.line c.way) b.rest.host ∙ sym e; clocks = b.rest.clocks; datas = b.rest.datas };
+            })),
+        tt,
+      )
 
   pub tells_alone : (c : Change) (host now : Lines) (xs ys : List (Seated D)) → now ≡ lines_after host c.line c.way → length xs ≡ 1 → AllZip (λ x y. IsToldBy shows c.moment (held_by now xs) x y) xs ys → Tells c host now xs ys
   tells_alone c host now [] ys e one h = absurd (omega (arith, one))

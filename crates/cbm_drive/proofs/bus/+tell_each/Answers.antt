@@ -15,10 +15,12 @@ returns-clause-told g t c = λ f ss h.
 
 pub returns-clause-each : goal.returns-clause-each
 returns-clause-each g t c =
-    subst (λ (xs : List (Seated _)). AllZip (λ x y. IsToldBy g.D.Machine.shows c.args.moment c.args.wires.now x y) xs (c.line.new.self ∷ c.tell_each.new.drives)) (sym c.in-Some.ensures.cases.0)
-    (record {
-      others = c.without-others.result;
-      lines = λ q w. c.without-others.ensures q (subst (λ (o : Held). IsWithout c.args.wires.now o q) (sym c.own.ensures) w);
-      port = c.line.ensures.port;
-      machine = c.line.ensures.acted;
-    }, c.tell_each.ensures.each)
+    subst (λ (xs : List (Seated _)). AllZip (λ x y. IsToldBy g.D.Machine.shows c.args.moment c.args.wires.now x y) xs (c.line.new.self ∷ c.tell_each.new.drives)) (sym c.in-Some.ensures.cases.0) (
+      record {
+        others = c.without-others.result;
+        lines = λ q w. c.without-others.ensures q (subst (λ (o : Held). IsWithout c.args.wires.now o q) (sym c.own.ensures) w);
+        port = c.line.ensures.port;
+        machine = c.line.ensures.acted;
+      },
+      c.tell_each.ensures.each,
+    )
