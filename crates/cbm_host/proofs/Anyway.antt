@@ -2,7 +2,8 @@
 use Rattle.std.proofs.Common.{◌≡◌, ℕ, ◌+◌, ◌≤◌, Bool, List, [], ◌∷◌, Some, sym, ap, ◌∙◌, arith}
 use Rattle.cbm_drive.specs.Cables.{Cabled}
 use Rattle.cbm_drive.specs.Seats.{IsBusAt}
-use Rattle.cbm_host.proofs.AnyDisk.{played_more, rests_again, is_short}
+use Rattle.cbm_drive.specs.PlayedBack.{played_machine}
+use Rattle.cbm_host.proofs.AnyDisk.{rests_again, is_short}
 use Rattle.cbm_host.proofs.CarriedOut.{some_end, carried_soon, carried_out_then}
 use Rattle.cbm_host.specs.AnyDisk.{IsBounded, IsCarriedOutAnyway}
 use Rattle.cbm_host.specs.CarriedOut.{HasCarriedOut}
@@ -33,8 +34,8 @@ module _ {D : Type 0} (shows : D → Shown) (b : Party) (drive : IsDrive b) (sta
       done : IsBounded b.device m request → HasCarriedOut D Playback (IsPlayedBack shows []) played_step played_says b (λ d. m) start request now old new bytes last end
       done small =
           let short = is_short b.device m request small in
-          let some = some_end D Playback (IsPlayedBack shows []) played_step played_says played_more b drive (λ d. m) start request channel short p now old new bytes last h in
-          let soon = carried_soon D Playback (IsPlayedBack shows []) played_step played_says played_more b drive (λ d. m) start request channel short p now old new bytes last h some.0 some.1 in
+          let some = some_end D Playback (IsPlayedBack shows []) played_step played_says played_machine b drive (λ d. m) start request channel short p now old new bytes last h in
+          let soon = carried_soon D Playback (IsPlayedBack shows []) played_step played_says played_machine b drive (λ d. m) start request channel short p now old new bytes last h some.0 some.1 in
           let until = h.until in
           let same = over some.0 some.1 (omega (arith, soon, until)) in
-          carried_out_then D Playback (IsPlayedBack shows []) played_step played_says played_more b drive (λ d. m) start request channel short p now old new bytes last h end (some.1 ∙ ap (λ (t : ℕ). Some t) (sym same))
+          carried_out_then D Playback (IsPlayedBack shows []) played_step played_says played_machine b drive (λ d. m) start request channel short p now old new bytes last h end (some.1 ∙ ap (λ (t : ℕ). Some t) (sym same))

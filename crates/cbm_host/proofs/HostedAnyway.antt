@@ -8,7 +8,8 @@ use Rattle.cbm_iec.specs.declared.port.Port.{Port}
 use Rattle.cbm_drive.specs.Cables.{Cabled, all_free}
 use Rattle.cbm_drive.specs.Players.{at_start}
 use Rattle.cbm_drive.specs.Seats.{Seated, IsWithout, IsBusAt, held_by}
-use Rattle.cbm_host.proofs.AnyDisk.{played_byte, played_more, rest_played, rests_again, is_short}
+use Rattle.cbm_drive.specs.PlayedBack.{played_byte, played_machine}
+use Rattle.cbm_host.proofs.AnyDisk.{rest_played, rests_again, is_short}
 use Rattle.cbm_host.proofs.CarriedOut.{some_end, carried_out_then}
 use Rattle.cbm_host.proofs.Hosting.{is_drive}
 use Rattle.cbm_host.proofs.Performed.{performing_none}
@@ -79,8 +80,8 @@ module _ {D : Type 0} (shows : D → Shown) (device : ℕ) where
         λ small.
             let short = is_short device first.0 request small in
             let drive = is_drive device low high in
-            let some = some_end D Playback (IsPlayedBack shows []) played_step played_says played_more (party_of device) drive (λ d. first.0) u.start request channel short q c [] h.made t.0 t.1 h.performed in
-            let k = carried_out_then D Playback (IsPlayedBack shows []) played_step played_says played_more (party_of device) drive (λ d. first.0) u.start request channel short q c [] h.made t.0 t.1 h.performed some.0 some.1 in
+            let some = some_end D Playback (IsPlayedBack shows []) played_step played_says played_machine (party_of device) drive (λ d. first.0) u.start request channel short q c [] h.made t.0 t.1 h.performed in
+            let k = carried_out_then D Playback (IsPlayedBack shows []) played_step played_says played_machine (party_of device) drive (λ d. first.0) u.start request channel short q c [] h.made t.0 t.1 h.performed some.0 some.1 in
             rests_again shows (party_of device) c [] k.machine k.now,
       )
 
