@@ -31,3 +31,4 @@ pub mod Placings
 pub mod Goings
 pub mod Opens
 pub mod Steady
+pub mod Nexts

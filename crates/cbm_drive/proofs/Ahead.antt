@@ -175,12 +175,14 @@ module _ (D M : Type 0) (stands : D → M → Type 0) (step : M → Act → M) (
     pub now : IsBusAt D M stands host xs stations
     pub any : AnyShows M step says limit stations
 
-  pub shows_on : (host : Lines) (limit t device : ℕ) (xs ys : List (Seated D)) (cs : List Change) → (k : ShowsStill host limit xs) → HasReacted D M stands step says host t device ys cs k.stations → cs ≡ [] → ShowsStill host limit ys
+  pub shows_never : (host : Lines) (limit : ℕ) (xs : List (Seated D)) → AreInTime limit xs → ShowsStill host limit xs → ⊥
+  shows_never host limit xs l k = any_due M step says limit k.stations (stations_in_time D M stands step says (held_by host xs) limit xs k.stations k.now l) k.any
+
+module _ (D M : Type 0) (stood stands : D → M → Type 0) (step : M → Act → M) (says : M → Option (ℕ × Bool)) where
+  -- one reaction on
+  pub shows_on : (host : Lines) (limit t device : ℕ) (xs ys : List (Seated D)) (cs : List Change) → (k : ShowsStill D M stood step says host limit xs) → HasReacted D M stands step says host t device ys cs k.stations → cs ≡ [] → ShowsStill D M stands step says host limit ys
   shows_on host limit t device xs ys cs k r none = record {
     stations = reacting M step says t r.before r.station r.behind;
     now = r.now;
     any = any_reacting M step says limit t r.before r.behind r.station r.first.due (sym r.changes ∙ none) (subst (AnyShows M step says limit) r.is k.any);
   }
-
-  pub shows_never : (host : Lines) (limit : ℕ) (xs : List (Seated D)) → AreInTime limit xs → ShowsStill host limit xs → ⊥
-  shows_never host limit xs l k = any_due M step says limit k.stations (stations_in_time D M stands step says (held_by host xs) limit xs k.stations k.now l) k.any

@@ -67,7 +67,7 @@ recount Pull low c f b t e = (let z : bit low ≡ 0 = ap bit t in omega (arith, 
 recount Free low zero f b t e = (let z : bit low ≡ 1 = ap bit t in absurd (omega (arith, e, z)))
 recount Free low (suc c) f b t e = (let z : bit low ≡ 1 = ap bit t in omega (arith, e, z))
 
-counted_behind : {D : Type 0} (line : Line) (way : Way) (all : Wires) (own : Held) (front back front' back' : List (Seated D)) → IsToggled line way own → IsAllOf all own front back → map own_of front' ≡ map own_of front → map own_of back' ≡ map own_of back
+pub counted_behind : {D : Type 0} (line : Line) (way : Way) (all : Wires) (own : Held) (front back front' back' : List (Seated D)) → IsToggled line way own → IsAllOf all own front back → map own_of front' ≡ map own_of front → map own_of back' ≡ map own_of back
     → IsAllOf (behind_change line way all) (held_after line way own) front' back'
 counted_behind line way all own front back front' back' t h e f =
     let cf = same_sums (λ o. bit o.clock_low) front front' e in

@@ -14,3 +14,4 @@ pub mod Ahead
 pub mod Players
 pub mod Desks
 pub mod Handed
+pub mod Alone

@@ -61,16 +61,19 @@ module _ (D M : Type 0) (stands : D → M → Type 0) (step : M → Act → M) (
     now = h;
   }
 
-  one_step : (host : Lines) (t n device : ℕ) (xs ys : List (Seated D)) (cs : List Change) (ss : List (Station M)) → IsBusAt D M stands host xs ss → (r : HasReacted D M stands step says host t device ys cs ss)
+-- one step more: of what stood for the stations before, something stands behind it
+module _ (D M : Type 0) (stood stands : D → M → Type 0) (step : M → Act → M) (says : M → Option (ℕ × Bool)) (byte : (x : D) (m : M) (n : ℕ) (last : Bool) → stood x m → says m ≡ Some (n, last) → n < 256)
+    (byte_now : (x : D) (m : M) (n : ℕ) (last : Bool) → stands x m → says m ≡ Some (n, last) → n < 256) where
+  one_step : (host : Lines) (t n device : ℕ) (xs ys : List (Seated D)) (cs : List Change) (ss : List (Station M)) → IsBusAt D M stood host xs ss → (r : HasReacted D M stands step says host t device ys cs ss)
       → Plays M step says n ss (drive_events device cs) (suc t) (reacting M step says t r.before r.station r.behind)
   one_step host t n device xs ys cs ss h r =
       let made : drive_events device cs ≡ drive_events r.station.port.party.device (shown M step says t r.station) ++ [] =
       (λ i. drive_events (r.which i) (r.changes i)) ∙ sym (append-nil (drive_events r.station.port.party.device (shown M step says t r.station))) in
-      reaction t r.before r.station r.behind [] (at_bus host xs ss h) r.is r.first made
-      (stays (at_bus host ys (reacting M step says t r.before r.station r.behind) r.now) refl refl refl)
+      reaction t r.before r.station r.behind [] (at_bus D M stood step says byte host xs ss h) r.is r.first made
+      (stays (at_bus D M stands step says byte_now host ys (reacting M step says t r.before r.station r.behind) r.now) refl refl refl)
 
   -- one reaction more
-  pub settled_more : (host : Lines) (limit t device n : ℕ) (xs ys : List (Seated D)) (cs : List Change) (old mid new : List Event) (ss : List (Station M)) → (s : HasSettled D M stands step says host limit xs old mid n ss)
+  pub settled_more : (host : Lines) (limit t device n : ℕ) (xs ys : List (Seated D)) (cs : List Change) (old mid new : List Event) (ss : List (Station M)) → (s : HasSettled D M stood step says host limit xs old mid n ss)
       → HasReacted D M stands step says host t device ys cs s.stations → t < limit → new ≡ mid ++ drive_events device cs → HasSettled D M stands step says host limit ys old new n ss
   settled_more host limit t device n xs ys cs old mid new ss s r l e = record {
     made = s.made ++ drive_events device cs;
@@ -84,7 +87,7 @@ module _ (D M : Type 0) (stands : D → M → Type 0) (step : M → Act → M) (
   }
 
   -- the first reaction that shows something
-  pub settled_to : (host : Lines) (limit t device n : ℕ) (xs ys : List (Seated D)) (cs : List Change) (ss : List (Station M)) → (s : HasSettled D M stands step says host limit xs [] [] n ss)
+  pub settled_to : (host : Lines) (limit t device n : ℕ) (xs ys : List (Seated D)) (cs : List Change) (ss : List (Station M)) → (s : HasSettled D M stood step says host limit xs [] [] n ss)
       → HasReacted D M stands step says host t device ys cs s.stations → HasSettled D M stands step says host (t + 1) ys [] (drive_events device cs) n ss
   settled_to host limit t device n xs ys cs ss s r = record {
     made = s.made ++ drive_events device cs;
@@ -97,6 +100,13 @@ module _ (D M : Type 0) (stands : D → M → Type 0) (step : M → Act → M) (
     now = r.now;
   }
 
+  -- the host changes a line, where no reaction is due before
+  pub one_change : (host now : Lines) (c : Change) (n : ℕ) (xs ys : List (Seated D)) (ss : List (Station M)) → IsBusAt D M stood host xs ss → AreInTime c.moment xs → n ≤ c.moment → IsBusAt D M stands now ys (map (λ s. tell M step says c s) ss)
+      → Plays M step says n ss (host_event c ∷ []) c.moment (map (λ s. tell M step says c s) ss)
+  one_change host now c n xs ys ss h t l k =
+      change c [] (at_bus D M stood step says byte host xs ss h) l (stations_in_time D M stood step says (held_by host xs) c.moment xs ss h t) refl (stays (at_bus D M stands step says byte_now now ys (map (λ s. tell M step says c s) ss) k) refl refl refl)
+
+module _ (D M : Type 0) (stands : D → M → Type 0) (step : M → Act → M) (says : M → Option (ℕ × Bool)) (byte : (x : D) (m : M) (n : ℕ) (last : Bool) → stands x m → says m ≡ Some (n, last) → n < 256) where
   -- want of memory behind a reaction
   pub settled_cut : (host : Lines) (limit t device n : ℕ) (xs ys : List (Seated D)) (cs : List Change) (old mid new : List Event) (ss : List (Station M)) → (s : HasSettled D M stands step says host limit xs old mid n ss)
       → HasReacted D M stands step says host t device ys cs s.stations → IsBegun mid new (drive_events device cs) → IsCutOff D M stands step says host ys old new n ss
@@ -107,16 +117,10 @@ module _ (D M : Type 0) (stands : D → M → Type 0) (step : M → Act → M) (
     stations = reacting M step says t r.before r.station r.behind;
     added = b.added ∙ ap (λ (v : List Event). v ++ b.given) s.added ∙ append_assoc old s.made b.given;
     plays = subst (λ (v : List Event). Plays M step says n ss v (suc t) (reacting M step says t r.before r.station r.behind)) (ap (λ (v : List Event). s.made ++ v) (sym b.all) ∙ sym (append_assoc s.made b.given b.left))
-        (plays_then M step says s.plays (one_step host t s.from device xs ys cs s.stations s.now r));
+        (plays_then M step says s.plays (one_step D M stands stands step says byte byte host t s.from device xs ys cs s.stations s.now r));
     quiet = ap host_changes (append_assoc s.made b.given b.left ∙ ap (λ (v : List Event). s.made ++ v) b.all) ∙ both_none s.made device cs s.quiet;
     now = r.now;
   }
-
-  -- the host changes a line, where no reaction is due before
-  pub one_change : (host now : Lines) (c : Change) (n : ℕ) (xs ys : List (Seated D)) (ss : List (Station M)) → IsBusAt D M stands host xs ss → AreInTime c.moment xs → n ≤ c.moment → IsBusAt D M stands now ys (map (λ s. tell M step says c s) ss)
-      → Plays M step says n ss (host_event c ∷ []) c.moment (map (λ s. tell M step says c s) ss)
-  one_change host now c n xs ys ss h t l k =
-      change c [] (at_bus host xs ss h) l (stations_in_time D M stands step says (held_by host xs) c.moment xs ss h t) refl (stays (at_bus now ys (map (λ s. tell M step says c s) ss) k) refl refl refl)
 
   -- the reactions before it, and the change
   pub played_more : (host now : Lines) (c : Change) (before : ℕ) (xs ys zs : List (Seated D)) (old mid new last : List Event) (cs : List Change) (ss : List (Station M)) → (p : HasPlayed D M stands step says host before xs old mid cs ss)
@@ -127,7 +131,7 @@ module _ (D M : Type 0) (stands : D → M → Type 0) (step : M → Act → M) (
     from = c.moment;
     stations = map (λ u. tell M step says c u) s.stations;
     added = e ∙ ap (λ (v : List Event). v ++ host_event c ∷ []) (s.added ∙ ap (λ (v : List Event). v ++ s.made) p.added) ∙ append_assoc (old ++ p.made) s.made (host_event c ∷ []) ∙ append_assoc old p.made (s.made ++ host_event c ∷ []);
-    plays = plays_then M step says p.plays (plays_then M step says s.plays (one_change host now c s.from ys zs s.stations s.now t s.before (told s.stations s.now)));
+    plays = plays_then M step says p.plays (plays_then M step says s.plays (one_change D M stands stands step says byte byte host now c s.from ys zs s.stations s.now t s.before (told s.stations s.now)));
     hosts = host_append p.made (s.made ++ host_event c ∷ []) ∙ (λ i. p.hosts i ++ (host_append s.made (host_event c ∷ []) ∙ ap (λ (v : List Change). v ++ c ∷ []) s.quiet) i);
     before = omega arith;
     now = told s.stations s.now;
@@ -159,7 +163,7 @@ module _ (D M : Type 0) (stands : D → M → Type 0) (step : M → Act → M) (
     stations = map (λ u. tell M step says c u) s.stations;
     added = s.added ∙ ap (λ (v : List Event). v ++ s.made) p.added ∙ append_assoc old p.made s.made;
     plays = subst (λ (v : List Event). Plays M step says 0 ss v c.moment (map (λ u. tell M step says c u) s.stations)) (sym (append_assoc p.made s.made (host_event c ∷ [])))
-        (plays_then M step says p.plays (plays_then M step says s.plays (one_change host now c s.from ys zs s.stations s.now t s.before (told s.stations s.now))));
+        (plays_then M step says p.plays (plays_then M step says s.plays (one_change D M stands stands step says byte byte host now c s.from ys zs s.stations s.now t s.before (told s.stations s.now))));
     rest = rest;
     hosts = ap (λ (v : List Change). v ++ rest) (ap host_changes (append_assoc p.made s.made (host_event c ∷ [])) ∙ host_append p.made (s.made ++ host_event c ∷ []) ∙ (λ i. p.hosts i ++ (host_append s.made (host_event c ∷ []) ∙ ap (λ (v : List Change). v ++ c ∷ []) s.quiet) i)) ∙ e;
     now = told s.stations s.now;
@@ -186,7 +190,7 @@ module _ (D M : Type 0) (stands : D → M → Type 0) (step : M → Act → M) (
     from = 0;
     stations = ss;
     added = sym (append-nil es);
-    plays = stays (at_bus host xs ss h) refl refl refl;
+    plays = stays (at_bus D M stands step says byte host xs ss h) refl refl refl;
     hosts = refl;
     before = omega arith;
     now = h;

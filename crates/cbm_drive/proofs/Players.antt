@@ -4,7 +4,7 @@ use Rattle.std.proofs.lemmas.List.{append_assoc, append-nil}
 use Rattle.cbm_iec.specs.declared.act.Act.{Act}
 use Rattle.std.specs.Prelude.{◌^◌, IfSome, IsSome, MatchOption}
 use Rattle.cbm_iec.specs.declared.event.Event.{Event}
-use Rattle.cbm_iec.specs.declared.event.Who.TheVariants.{Drive}
+use Rattle.cbm_iec.specs.declared.event.Who.TheVariants.{Host, Drive}
 use Rattle.cbm_iec.specs.declared.event.Who.{Who}
 use Rattle.cbm_iec.specs.declared.line.Change.{Change}
 use Rattle.cbm_iec.specs.declared.lines.Lines.{Lines}
@@ -62,15 +62,43 @@ pub fewer_most : {D : Type 0} (limit : ℕ) (was now : Option Event) (xs ys : Li
 fewer_most limit was None xs ys l = omega (arith, l)
 fewer_most limit was (Some e) xs ys l = omega (arith, l)
 
+-- behind a drive's event the host may change a line one moment later
+behind_drive : (w : Who) (t : ℕ) → IsDrives w → t + 1 ≡ from_behind w t
+behind_drive Host t h = absurd h
+behind_drive (Drive d) t h = refl
+
+module _ (D M : Type 0) (stands : D → M → Type 0) (step : M → Act → M) (says : M → Option (ℕ × Bool)) where
+  -- the second change of a reaction is given
+  pub given_second : (p q : Turns) (b : Cabled D) (upto n : ℕ) (ss : List (Station M)) (es : List Event) (e : Event) → p.second ≡ Some e → q.second ≡ None → q.from ≡ p.from → e.change.moment ≤ upto → (a : IsAfter D M stands step says p b n ss es)
+      → HasGiven D M stands step says q b upto n ss es e
+  given_second p q b upto n ss es e is none same l a =
+      let drives : IsSecond p.from (Some e) = subst (IsSecond p.from) is a.second in
+      record {
+        after = record {
+          from = a.from;
+          stations = a.stations;
+          before = subst (λ (m : ℕ). a.from ≤ m) (sym same) a.before;
+          plays = subst (λ (v : List Event). Plays M step says n ss v a.from a.stations) (ap (λ o. es ++ pending o) is ∙ sym (ap (λ o. (es ++ e ∷ []) ++ pending o) none ∙ append-nil (es ++ e ∷ []))) a.plays;
+          now = a.now;
+          second = subst (IsSecond q.from) (sym none) tt;
+        };
+        moment = l;
+        from = same ∙ sym drives.1 ∙ behind_drive e.who e.change.moment drives.0;
+      }
+
+  -- what was given up to a moment was given up to a later one
+  pub given_by : (q : Turns) (c : Cabled D) (t upto n : ℕ) (ss : List (Station M)) (es : List Event) (e : Event) → t ≤ upto → HasGiven D M stands step says q c t n ss es e → HasGiven D M stands step says q c upto n ss es e
+  given_by q c t upto n ss es e l h = record { after = h.after; moment = (let m = h.moment in omega (arith, l, m)); from = h.from }
+
 module _ (D M : Type 0) (stands : D → M → Type 0) (step : M → Act → M) (says : M → Option (ℕ × Bool)) (byte : (x : D) (m : M) (n : ℕ) (last : Bool) → stands x m → says m ≡ Some (n, last) → n < 256) where
   -- nothing was still to be given
   none_pending : (p : Turns) (es : List Event) → p.second ≡ None → es ++ pending p.second ≡ es
   none_pending p es e = ap (λ o. es ++ pending o) e ∙ append-nil es
 
   -- the first event of what a drive shows, where the second one is kept
-  pub given_shown : (p q : Turns) (b c : Cabled D) (upto t device n until : ℕ) (cs : List Change) (ss : List (Station M)) (es : List Event) (e : Event) → p.second ≡ None → (a : IsAfter D M stands step says p b n ss es)
+  pub given_shown : (stood : D → M → Type 0) (p q : Turns) (b c : Cabled D) (upto t device n until : ℕ) (cs : List Change) (ss : List (Station M)) (es : List Event) (e : Event) → p.second ≡ None → (a : IsAfter D M stood step says p b n ss es)
       → HasSettled D M stands step says b.host until c.drives [] (drive_events device cs) a.from a.stations → c.host ≡ b.host → until ≤ q.from → q.from ≡ t + 1 → AreAt t cs → drive_events device cs ≡ e ∷ pending q.second → t ≤ upto → HasGiven D M stands step says q c upto n ss es e
-  given_shown p q b c upto t device n until cs ss es e none a s host from behind at_ made moment = record {
+  given_shown stood p q b c upto t device n until cs ss es e none a s host from behind at_ made moment = record {
     after = record {
       from = s.from;
       stations = s.stations;
@@ -86,17 +114,17 @@ module _ (D M : Type 0) (stands : D → M → Type 0) (step : M → Act → M) (
   }
 
   -- the change that waited
-  pub given_change : (p q : Turns) (b c : Cabled D) (upto n : ℕ) (w : Change) (ys : List (Seated D)) (ss : List (Station M)) (es : List Event) → p.second ≡ None → q.second ≡ None → q.from ≡ w.moment → w.moment ≤ upto → (a : IsAfter D M stands step says p b n ss es)
-      → (s : HasSettled D M stands step says b.host w.moment ys [] [] a.from a.stations) → AreInTime w.moment ys → ((us : List (Station M)) → IsBusAt D M stands b.host ys us → IsBusAt D M stands c.host c.drives (map (λ u. tell M step says w u) us))
+  pub given_change : (stood mid : D → M → Type 0) (byte_mid : (x : D) (m : M) (n : ℕ) (last : Bool) → mid x m → says m ≡ Some (n, last) → n < 256) (p q : Turns) (b c : Cabled D) (upto n : ℕ) (w : Change) (ys : List (Seated D)) (ss : List (Station M)) (es : List Event) → p.second ≡ None → q.second ≡ None → q.from ≡ w.moment → w.moment ≤ upto → (a : IsAfter D M stood step says p b n ss es)
+      → (s : HasSettled D M mid step says b.host w.moment ys [] [] a.from a.stations) → AreInTime w.moment ys → ((us : List (Station M)) → IsBusAt D M mid b.host ys us → IsBusAt D M stands c.host c.drives (map (λ u. tell M step says w u) us))
       → HasGiven D M stands step says q c upto n ss es (host_event w)
-  given_change p q b c upto n w ys ss es none none_q from moment a s in_time told = record {
+  given_change stood mid byte_mid p q b c upto n w ys ss es none none_q from moment a s in_time told = record {
     after = record {
       from = w.moment;
       stations = map (λ u. tell M step says w u) s.stations;
       before = omega (arith, from);
       plays = subst (λ (v : List Event). Plays M step says n ss v w.moment (map (λ u. tell M step says w u) s.stations))
           ((λ i. none_pending p es none i ++ (sym s.added i ++ host_event w ∷ [])) ∙ sym (none_pending q (es ++ host_event w ∷ []) none_q))
-          (plays_then M step says a.plays (plays_then M step says s.plays (one_change D M stands step says byte b.host c.host w s.from ys c.drives s.stations s.now in_time s.before (told s.stations s.now))));
+          (plays_then M step says a.plays (plays_then M step says s.plays (one_change D M mid stands step says byte_mid byte b.host c.host w s.from ys c.drives s.stations s.now in_time s.before (told s.stations s.now))));
       now = told s.stations s.now;
       second = subst (IsSecond q.from) (sym none_q) tt;
     };
@@ -104,12 +132,12 @@ module _ (D M : Type 0) (stands : D → M → Type 0) (step : M → Act → M) (
     from = from;
   }
 
-  pub shown_next : (p q : Turns) (b c : Cabled D) (upto t device n : ℕ) (cs : List Change) (ss : List (Station M)) (es : List Event) (r : Option Event) → p.second ≡ None → (a : IsAfter D M stands step says p b n ss es)
+  pub shown_next : (stood : D → M → Type 0) (p q : Turns) (b c : Cabled D) (upto t device n : ℕ) (cs : List Change) (ss : List (Station M)) (es : List Event) (r : Option Event) → p.second ≡ None → (a : IsAfter D M stood step says p b n ss es)
       → HasSettled D M stands step says b.host (t + 1) c.drives [] (drive_events device cs) a.from a.stations → c.host ≡ b.host → q.from ≡ t + 1 → AreAt t cs → (cs ≡ [] → ⊥)
       → MatchOption r (cs ≡ []) (λ e. drive_events device cs ≡ e ∷ pending q.second) → t ≤ upto → IfSome r (HasGiven D M stands step says q c upto n ss es) × IsSome r
-  shown_next p q b c upto t device n cs ss es None none a s host from at_ shows h l = absurd (shows h)
-  shown_next p q b c upto t device n cs ss es (Some e) none a s host from at_ shows h l =
-      (given_shown p q b c upto t device n (t + 1) cs ss es e none a s host (omega (arith, from)) from at_ h l, refl)
+  shown_next stood p q b c upto t device n cs ss es None none a s host from at_ shows h l = absurd (shows h)
+  shown_next stood p q b c upto t device n cs ss es (Some e) none a s host from at_ shows h l =
+      (given_shown stood p q b c upto t device n (t + 1) cs ss es e none a s host (omega (arith, from)) from at_ h l, refl)
 
   -- nothing is due any more: all is over
   pub is_finished : (p q : Turns) (b c : Cabled D) (upto n : ℕ) (ss : List (Station M)) (es : List Event) → p.second ≡ None → q.second ≡ None → q.from ≡ upto + 1 → (a : IsAfter D M stands step says p b n ss es)

@@ -164,20 +164,21 @@ module _ (D M : Type 0) (stands : D → M → Type 0) (step : M → Act → M) (
   stations_in_time all t (x ∷ xs) [] z h = absurd z
   stations_in_time all t (x ∷ xs) (s ∷ ss) z h = (subst (λ (p : Port). IsInTime t (port_due p)) z.0.port h.0, stations_in_time all t xs ss z.1 h.1)
 
+module _ (D M : Type 0) (stood stands : D → M → Type 0) (step : M → Act → M) (says : M → Option (ℕ × Bool)) where
   -- what `hear_each` says of the drives before and behind
   abbrev pub Hear : ℕ → List (Seated D) → List (Seated D) → List (Seated D) → List (Seated D) → Wires → List Change → Type 0
-  Hear t front back front' back' all cs = (own : Held) (bs hs : List (Station M)) → AreAt t cs → Toggles own cs → IsAllOf all own front back → AllZip (IsSeat D M stands all) front bs → AllZip (IsSeat D M stands all) back hs
+  Hear t front back front' back' all cs = (own : Held) (bs hs : List (Station M)) → AreAt t cs → Toggles own cs → IsAllOf all own front back → AllZip (IsSeat D M stood all) front bs → AllZip (IsSeat D M stood all) back hs
       → HaveHeard D M stands step says (behind_all cs all) (held_behind cs own) cs front' back' bs hs
 
   -- THE REACTION HAPPENS: from what `due` says of the drive, and `hear_each` of the others
   pub reacts : (host : Lines) (t n : ℕ) (front : List (Seated D)) (x x' : Seated D) (back front' back' : List (Seated D)) (cs : List Change) (ss : List (Station M)) → length front ≡ n
-      → ((m : M) → stands x.machine m → x'.port ≡ reacted t (says m) x.port) → ((m : M) → stands x.machine m → cs ≡ reaction_changes t (says m) x.port)
-      → ((m : M) → stands x.machine m → stands x'.machine (acted M step (reaction_act (says m) x.port) m))
+      → ((m : M) → stood x.machine m → x'.port ≡ reacted t (says m) x.port) → ((m : M) → stood x.machine m → cs ≡ reaction_changes t (says m) x.port)
+      → ((m : M) → stood x.machine m → stands x'.machine (acted M step (reaction_act (says m) x.port) m))
       → Hear t front back front' back' (held_by host (front ++ x ∷ back)) cs
-      → IsBusAt D M stands host (front ++ x ∷ back) ss → IsFirstDue (front ++ x ∷ back) (n, t) → HasReacted D M stands step says host t x.port.party.device (front' ++ x' ∷ back') cs ss
+      → IsBusAt D M stood host (front ++ x ∷ back) ss → IsFirstDue (front ++ x ∷ back) (n, t) → HasReacted D M stands step says host t x.port.party.device (front' ++ x' ∷ back') cs ss
   reacts host t n front x x' back front' back' cs ss len port changes machine heard bus first =
       let all : Wires = held_by host (front ++ x ∷ back) in
-      let p = parts (IsSeat D M stands all) front x back ss bus in
+      let p = parts (IsSeat D M stood all) front x back ss bus in
       let f = first_parts n t front x back len first in
       let s : Station M = p.station in
       let m : M = s.machine in
@@ -209,8 +210,8 @@ module _ (D M : Type 0) (stands : D → M → Type 0) (step : M → Act → M) (
         is = p.is;
         first = record {
           due = subst (λ (q : Port). port_due q ≡ Some t) p.here.port f.due;
-          later = stations_later all t front p.before p.front f.later;
-          in_time = stations_in_time all t back p.behind p.back f.in_time;
+          later = stations_later D M stood step says all t front p.before p.front f.later;
+          in_time = stations_in_time D M stood step says all t back p.behind p.back f.in_time;
         };
         which = ap (λ (q : Port). q.party.device) p.here.port;
         changes = is_shown;

@@ -5,6 +5,7 @@ use Rattle.cbm_channel.specs.Machines.{Machine}
 use Rattle.cbm_channel.specs.Closing.{close}
 use Rattle.cbm_channel.specs.Talking.{talk, listen, peek, taken}
 use Rattle.cbm_channel.specs.Calls.{put, end_put, after_open}
+use Rattle.cbm_channel.specs.Shown.{shown_by}
 use Rattle.cbm_channel.specs.Standing.{Kept, Stands}
 use Rattle.cbm_iec.specs.declared.party.Role.{Role}
 use Rattle.cbm_iec.specs.declared.party.Role.TheVariants.{Listener, Talker}
@@ -70,6 +71,15 @@ peek_from (Some channel) m = peek channel m
 -- the byte that a talker has to say, and whether it is the last: none before a secondary address
 abbrev pub desk_says : Desk Machine → Option (ℕ × Bool)
 desk_says d = peek_from (channel_said d.addressed.role d.addressed.channel) d.dos
+
+-- what a DOS shows on a channel, if it is a talker's
+abbrev pub shown_from : {M : Type 0} → Option ℕ → Kept M → Option (ℕ × Bool)
+shown_from None k = None
+shown_from (Some channel) k = shown_by channel k
+
+-- THE BYTE THAT IS SHOWN to a talker's listeners, and whether it is the last, on any disk
+abbrev pub desk_shows : {M : Type 0} → Desk (Kept M) → Option (ℕ × Bool)
+desk_shows d = shown_from (channel_said d.addressed.role d.addressed.channel) d.dos
 
 -- The DOS stands for the machine, and both are addressed alike.
 abbrev pub IsAlike : {M : Type 0} → (M → Seen) → Desk (Kept M) → Desk Machine → Type 0

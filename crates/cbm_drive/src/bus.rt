@@ -5,7 +5,9 @@ ghost use Rattle.std.specs.List.{AllZip};
 ghost use Rattle.cbm_session.specs.Among.{Rest};
 ghost use Rattle.cbm_session.specs.Following.{lines_after};
 ghost use Rattle.cbm_session.specs.Playing.{Station, tell, told_lines};
-ghost use Rattle.cbm_drive.specs.Seats.{Seated, Meets, IsSeat, IsBusAt, own_of, numbers, IsFirstDue, AreIdle};
+ghost use Rattle.cbm_drive.specs.Seats.{Seated, Meets, IsSeat, IsBusAt, own_of, held_by, numbers, IsFirstDue, AreIdle};
+ghost use Rattle.cbm_drive.specs.Playback.{Shown, Playback, IsPlayedBack, played_says, played_step};
+ghost use Rattle.cbm_drive.specs.Recorded.{IsToldBy};
 ghost use Rattle.cbm_drive.specs.Progress.{AreKept, IsNearer};
 ghost use Rattle.cbm_drive.specs.Reactions.{AreAt, Toggles, IsAllOf, HaveHeard, HasReacted, behind_all, held_behind};
 ghost use Rattle.cbm_iec.specs.declared.lines.Held.{Held};
@@ -33,6 +35,8 @@ pub(crate) fn tell_each<D: Machine>(drives: &mut [Drive<D>], moment: u64, wires:
         (map (λ s. told_lines D.State D.step D.says moment (f s.rest) s) ss) }
     ensures own { map own_of drives.new ≡ map own_of drives.old }
     ensures kept { AreKept moment drives.old drives.new }
+    // Whatever the machines stand for:
+    ensures each { AllZip (λ x y. IsToldBy D.shows moment wires.now x y) drives.old drives.new }
     ensures lasting { numbers D.lasting drives.new ≡ numbers D.lasting drives.old }
 {
     let Some((first, rest)) = drives.split_first_mut() else {
@@ -137,6 +141,12 @@ pub(crate) fn react<D: Machine>(
         IsFirstDue drives.old (place, moment) →
         IfSome result (λ a.
         HasReacted _ D.State D.stands D.step D.says host moment a.device drives.new a.changes.items ss) }
+    // Of a drive alone, whatever its machine stands for: so it is of the machine that plays back what this one showed.
+    ensures recorded { length drives.old ≡ 1 → IsFirstDue drives.old (place, moment) → IfSome result (λ a.
+        (trail : List Shown) × ((later : List Shown) (ss : List (Station Playback)) →
+        IsBusAt _ Playback (IsPlayedBack D.shows (trail ++ later)) host drives.old ss →
+        HasReacted _ Playback (IsPlayedBack D.shows later) played_step played_says host moment a.device drives.new
+        a.changes.items ss)) }
     ensures moments { IfSome result (λ a. AreAt moment a.changes.items) }
     ensures some { IsSome result }
     ensures nearer { IsFirstDue drives.old (place, moment) → IsNearer moment drives.old drives.new }
@@ -159,6 +169,11 @@ pub(crate) fn tell_all<D: Machine>(drives: &mut [Drive<D>], host: Lines, change:
     ensures host { result ≡ lines_after host change.line change.way }
     ensures told { (ss : List (Station D.State)) → IsBusAt _ D.State D.stands host drives.old ss →
         IsBusAt _ D.State D.stands result drives.new (map (λ s. tell D.State D.step D.says change s) ss) }
+    // Of a drive alone, whatever its machine stands for: so it is of the machine that plays back what this one showed.
+    ensures recorded { length drives.old ≡ 1 → (trail : List Shown) × ((later : List Shown) (ss : List (Station Playback)) →
+        IsBusAt _ Playback (IsPlayedBack D.shows (trail ++ later)) host drives.old ss →
+        IsBusAt _ Playback (IsPlayedBack D.shows later) result drives.new
+        (map (λ s. tell Playback played_step played_says change s) ss)) }
     ensures kept { AreKept change.moment drives.old drives.new }
     ensures same { length drives.new ≡ length drives.old }
     ensures lasting { numbers D.lasting drives.new ≡ numbers D.lasting drives.old }

@@ -32,7 +32,7 @@ impl<D: Machine, const N: usize> Model for Bus<D, N> {
 }
 
 impl<D: Machine, const N: usize> Bus<D, N> {
-    ghost use Rattle.std.specs.Prelude.{◌≡◌, ◌+◌, ◌^◌, ◌<◌, ◌≤◌, ℕ, List, [], length, map, IfSome, IsSome, Some, None, MatchBool, Err, IfErr, OnOk, MatchOption, MatchResult};
+    ghost use Rattle.std.specs.Prelude.{◌≡◌, ◌+◌, ◌^◌, ◌<◌, ◌≤◌, ℕ, List, [], ◌++◌, length, map, IfSome, IsSome, Some, None, MatchBool, Err, IfErr, OnOk, MatchOption, MatchResult};
     ghost use Rattle.cbm_iec.specs.declared.party.Party.{Party};
     ghost use Rattle.cbm_session.specs.Handed.{AllReact};
     ghost use Rattle.cbm_session.specs.Playing.{Station, tell, drive_events, at_rest};
@@ -45,6 +45,7 @@ impl<D: Machine, const N: usize> Bus<D, N> {
     ghost use Rattle.cbm_drive.specs.declared.fault.PlayFault.{PlayFault};
     ghost use Rattle.cbm_drive.specs.declared.fault.PlayFault.TheVariants.{Memory};
     ghost use Rattle.cbm_drive.specs.Played.{HasSettled, IsCutOff, HasPlayed, IsPlayCut, HasHanded};
+    ghost use Rattle.cbm_drive.specs.Playback.{Shown, Playback, IsPlayedBack, played_says, played_step};
     ghost use Rattle.cbm_drive.specs.Progress.{AreKept, IsNearer, left};
     ghost use Rattle.cbm_drive.specs.Reactions.{AreAt, HasReacted};
 
@@ -85,6 +86,11 @@ impl<D: Machine, const N: usize> Bus<D, N> {
         requires { change.moment < 2 ^ 60 }
         ensures told { (ss : List (Station D.State)) → IsBusAt _ D.State D.stands self.old.host self.old.drives ss →
             IsBusAt _ D.State D.stands self.new.host self.new.drives (map (λ s. tell D.State D.step D.says change s) ss) }
+        // Of a drive alone, whatever its machine stands for: so it is of the machine that plays back what this one showed.
+        ensures recorded { N ≡ 1 → (trail : List Shown) × ((later : List Shown) (ss : List (Station Playback)) →
+            IsBusAt _ Playback (IsPlayedBack D.shows (trail ++ later)) self.old.host self.old.drives ss →
+            IsBusAt _ Playback (IsPlayedBack D.shows later) self.new.host self.new.drives
+            (map (λ s. tell Playback played_step played_says change s) ss)) }
         // What was due is still due, or something later, or nothing, whatever the machines stand for.
         ensures kept { AreKept change.moment self.old.drives self.new.drives }
         ensures lasting { numbers D.lasting self.new.drives ≡ numbers D.lasting self.old.drives }
@@ -114,8 +120,12 @@ impl<D: Machine, const N: usize> Bus<D, N> {
     /// Whether a drive changes a line before a limit, if the host changes none.
     pub fn shows_before(&self, limit: u64) -> bool
         requires { limit < 2 ^ 60 }
-        ensures { (ss : List (Station D.State)) → IsBusAt _ D.State D.stands self.now.host self.now.drives ss →
+        ensures says { (ss : List (Station D.State)) → IsBusAt _ D.State D.stands self.now.host self.now.drives ss →
             MatchBool result (AnyShows D.State D.step D.says limit ss) (AreSilent D.State D.step D.says limit ss) }
+        // Whatever the machines stand for: so it is of those that play back what they show.
+        ensures recorded { (later : List Shown) (ss : List (Station Playback)) →
+            IsBusAt _ Playback (IsPlayedBack D.shows later) self.now.host self.now.drives ss → MatchBool result
+            (AnyShows Playback played_step played_says limit ss) (AreSilent Playback played_step played_says limit ss) }
     {
         any_shows(self.drives.as_slice(), limit)
     }
@@ -128,6 +138,15 @@ impl<D: Machine, const N: usize> Bus<D, N> {
             (HasSettled _ D.State D.stands D.step D.says self.old.host until self.new.drives [] [] n ss)
             (λ r. HasSettled _ D.State D.stands D.step D.says self.old.host (r.0 + 1) self.new.drives []
             (drive_events r.1.device r.1.changes.items) n ss) }
+        // Of a drive alone, whatever its machine stands for: so it is of the machine that plays back what this one showed.
+        ensures recorded { N ≡ 1 → (trail : List Shown) × ((later : List Shown) (ss : List (Station Playback)) →
+            IsBusAt _ Playback (IsPlayedBack D.shows (trail ++ later)) self.old.host self.old.drives ss →
+            ((n until : ℕ) → n ≤ until → limit ≤ until → MatchOption result
+            (HasSettled _ Playback (IsPlayedBack D.shows later) played_step played_says self.old.host until self.new.drives
+            [] [] n ss)
+            (λ r. HasSettled _ Playback (IsPlayedBack D.shows later) played_step played_says self.old.host (r.0 + 1)
+            self.new.drives [] (drive_events r.1.device r.1.changes.items) n ss))
+            × (AnyShows Playback played_step played_says limit ss → IsSome result)) }
         ensures before { IfSome result (λ r. r.0 < limit) }
         ensures shows { IfSome result (λ r. r.1.changes.items ≡ [] → ⊥) }
         ensures settled { result ≡ None → AreInTime limit self.new.drives }

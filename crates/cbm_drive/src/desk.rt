@@ -79,12 +79,13 @@ impl<M: Medium> Desk<M> {
 }
 
 impl<M: Steady> Desk<M> {
-    ghost use Rattle.std.specs.Prelude.{◌≡◌, ◌<◌, ◌≤◌, IfSome};
+    ghost use Rattle.std.specs.Prelude.{◌≡◌, ◌<◌, ◌≤◌, ℕ, true, false, Some, IfSome, IsSome};
+    ghost use Rattle.cbm_iec.specs.Machines.{owes};
     ghost use Rattle.cbm_channel.specs.Standing.{Leads};
     ghost use Rattle.cbm_channel.specs.Machines as files;
     ghost use Rattle.cbm_drive.specs.Addressing.{attended, waiting, heard, released, secondary_of, channel_of, channel_heard, channel_said, ended, addressed_after};
     ghost use Rattle.cbm_drive.specs.Desks as desks;
-    ghost use Rattle.cbm_drive.specs.Desks.{seconded, ending, put_to, taken_from, asked, desk_says, IsAlike};
+    ghost use Rattle.cbm_drive.specs.Desks.{seconded, ending, put_to, taken_from, asked, desk_says, desk_shows, IsAlike};
 
     /// ATN was pulled: what a listener was sent ends, and the secondary address goes.
     fn pulled(&mut self)
@@ -157,6 +158,8 @@ impl<M: Steady> Desk<M> {
             Leads M.seen self.old.dos self.new.dos (taken_from (channel_said a.role a.channel)) }
         ensures addressed { self.new.addressed ≡ self.old.addressed }
         ensures tracks { (M.seen self.new.dos.medium).tracks ≡ (M.seen self.old.dos.medium).tracks }
+        // Behind a byte that isn't the last (EOI) there is another, on any disk.
+        ensures next { (n : ℕ) → desk_shows self.old ≡ Some (n, false) → IsSome (desk_shows self.new) }
     {
         if let Some(channel) = self.addressee.channel_said() {
             self.dos.taken(channel);
@@ -168,6 +171,7 @@ impl<M: Steady> Desk<M> {
         ensures leads { Leads M.seen self.old.dos self.new.dos (asked act self.old.addressed) }
         ensures addressed { self.new.addressed ≡ addressed_after act self.old.addressed }
         ensures tracks { (M.seen self.new.dos.medium).tracks ≡ (M.seen self.old.dos.medium).tracks }
+        ensures owed { owes act (desk_shows self.old) ≡ true → IsSome (desk_shows self.new) }
     {
         match act {
             Act::Pulled => self.pulled(),
@@ -182,6 +186,7 @@ impl<M: Steady> Desk<M> {
     /// The byte that there is to say, and whether it is the last.
     fn shown(&self) -> Option<(u8, bool)>
         ensures value { (d : desks.Desk files.Machine) → IsAlike M.seen self.now d → result ≡ desk_says d }
+        ensures shows { result ≡ desk_shows self.now }
         ensures byte { IfSome result (λ s. s.0 < 256) }
     {
         let channel = self.addressee.channel_said()?;
@@ -192,7 +197,7 @@ impl<M: Steady> Desk<M> {
 impl<M: Steady> Machine for Desk<M> {
     ghost use Rattle.cbm_channel.specs.Machines as files;
     ghost use Rattle.cbm_drive.specs.Desks as desks;
-    ghost use Rattle.cbm_drive.specs.Desks.{desk_step, desk_says, DeskStands};
+    ghost use Rattle.cbm_drive.specs.Desks.{desk_step, desk_says, desk_shows, DeskStands};
     ghost use Rattle.cbm_drive.specs.NextSaid.{is_byte, more_said};
 
     ghost State = { desks.Desk files.Machine };
@@ -202,6 +207,8 @@ impl<M: Steady> Machine for Desk<M> {
     ghost says = { desk_says };
 
     ghost stands = { λ x d. DeskStands M.seen x d };
+
+    ghost shows = { desk_shows };
 
     ghost lasting = { λ x. (M.seen x.dos.medium).tracks };
 

@@ -1,9 +1,10 @@
 //! Looking ahead: whether a drive changes a line before a limit.
 
-ghost use Rattle.std.specs.Prelude.{◌≡◌, ◌+◌, ◌<◌, ◌≤◌, ◌^◌, ℕ, Bool, Option, List, [], length, None, IfSome, IsSome, MatchBool, MatchOption};
+ghost use Rattle.std.specs.Prelude.{◌≡◌, ◌+◌, ◌<◌, ◌≤◌, ◌^◌, ℕ, Bool, Option, List, [], ◌++◌, length, None, IfSome, IsSome, MatchBool, MatchOption};
 ghost use Rattle.std.specs.List.{AllZip};
 ghost use Rattle.cbm_session.specs.Playing.{Station, drive_events};
 ghost use Rattle.cbm_drive.specs.Played.{HasSettled};
+ghost use Rattle.cbm_drive.specs.Playback.{Shown, Playback, IsPlayedBack, played_says, played_step};
 ghost use Rattle.cbm_drive.specs.Progress.{left};
 ghost use Rattle.cbm_drive.specs.Reactions.{AreAt};
 ghost use Rattle.cbm_drive.specs.Seats.{IsSeat, IsBusAt, AreInTime, numbers};
@@ -35,9 +36,13 @@ pub(crate) fn shows(mut port: Port, peek: Option<(u8, bool)>, limit: u64) -> boo
 /// Whether one of these drives changes a line before a limit, if the host changes nothing.
 pub(crate) fn any_shows<D: Machine>(drives: &[Drive<D>], limit: u64) -> bool
     requires { limit < 2 ^ 60 }
-    ensures { (wires : Wires) (ss : List (Station D.State)) →
+    ensures says { (wires : Wires) (ss : List (Station D.State)) →
         AllZip (IsSeat _ D.State D.stands wires) drives.now ss → MatchBool result
         (AnyShows D.State D.step D.says limit ss) (AreSilent D.State D.step D.says limit ss) }
+    // Whatever the machines stand for: so it is of those that play back what they show.
+    ensures recorded { (later : List Shown) (wires : Wires) (ss : List (Station Playback)) →
+        AllZip (IsSeat _ Playback (IsPlayedBack D.shows later) wires) drives.now ss → MatchBool result
+        (AnyShows Playback played_step played_says limit ss) (AreSilent Playback played_step played_says limit ss) }
 {
     let Some((first, rest)) = drives.split_first() else {
         return false;
@@ -58,6 +63,14 @@ pub(crate) fn first_shown<D: Machine>(
         (HasSettled _ D.State D.stands D.step D.says host until drives.new [] [] n ss)
         (λ r. HasSettled _ D.State D.stands D.step D.says host (r.0 + 1) drives.new []
         (drive_events r.1.device r.1.changes.items) n ss) }
+    // Of a drive alone, whatever its machine stands for: so it is of the machine that plays back what this one showed.
+    ensures recorded { length drives.old ≡ 1 → (trail : List Shown) × ((later : List Shown) (ss : List (Station Playback)) →
+        IsBusAt _ Playback (IsPlayedBack D.shows (trail ++ later)) host drives.old ss →
+        ((n until : ℕ) → n ≤ until → limit ≤ until → MatchOption result
+        (HasSettled _ Playback (IsPlayedBack D.shows later) played_step played_says host until drives.new [] [] n ss)
+        (λ r. HasSettled _ Playback (IsPlayedBack D.shows later) played_step played_says host (r.0 + 1) drives.new []
+        (drive_events r.1.device r.1.changes.items) n ss))
+        × (AnyShows Playback played_step played_says limit ss → IsSome result)) }
     ensures before { IfSome result (λ r. r.0 < limit) }
     ensures shows { IfSome result (λ r. r.1.changes.items ≡ [] → ⊥) }
     ensures settled { result ≡ None → AreInTime limit drives.new }

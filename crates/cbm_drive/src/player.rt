@@ -38,6 +38,7 @@ impl Player {
     ghost use Rattle.cbm_session.specs.Sessions.{IsBus};
     ghost use Rattle.cbm_session.specs.Timing.{HostKeeps};
     ghost use Rattle.cbm_iec.specs.declared.party.Party.{Party};
+    ghost use Rattle.cbm_drive.specs.Playback.{Shown, Playback, IsPlayedBack, played_says, played_step};
     ghost use Rattle.cbm_drive.specs.Reactions.{AreAt};
     ghost use Rattle.cbm_drive.specs.Seats.{AreLater, numbers};
     ghost use Rattle.cbm_drive.specs.Players.{at_start, pending, at_most, IsWaitingFrom, IsTurnOf, IsBehind, IsDrives, IsGivenBefore, IsAfter, HasGiven, IsStill, IsFinished};
@@ -97,6 +98,15 @@ impl Player {
             (a : IsAfter _ D.State D.stands D.step D.says self.old bus.old n ss es) → MatchOption result
             (IsStill _ D.State D.stands D.step D.says self.old self.new bus.old bus.new upto a.stations)
             (HasGiven _ D.State D.stands D.step D.says self.new bus.new upto n ss es) }
+        // Whatever the machine stands for: on a bus with one drive there is a list of what it showed behind each act of this
+        // call, and the same holds of the machine that plays it back.
+        ensures recorded { N ≡ 1 → (trail : List Shown) × ((later : List Shown) (n : ℕ) (ss : List (Station Playback))
+            (es : List Event) →
+            (a : IsAfter _ Playback (IsPlayedBack D.shows (trail ++ later)) played_step played_says self.old bus.old n ss es) →
+            MatchOption result ((trail ≡ []) ×
+            IsStill _ Playback (IsPlayedBack D.shows later) played_step played_says self.old self.new bus.old bus.new upto
+            a.stations)
+            (HasGiven _ Playback (IsPlayedBack D.shows later) played_step played_says self.new bus.new upto n ss es)) }
         ensures turn { IfSome result (λ e. IsTurnOf e.who e.change self.old.waiting self.new.waiting) }
         ensures waiting { IsWaitingFrom self.new.from self.new.waiting }
         ensures second { IfSome result (λ e. IsGivenBefore (upto + 1) self.new.second) }
@@ -179,6 +189,14 @@ impl Player {
         ensures given { (n : ℕ) (ss : List (Station D.State)) (es : List Event) →
             IsAfter _ D.State D.stands D.step D.says self.old bus.old n ss es →
             IfSome result (HasGiven _ D.State D.stands D.step D.says self.new bus.new change.moment n ss es) × IsSome result }
+        // Whatever the machine stands for: on a bus with one drive there is a list of what it showed behind each act of this
+        // call, and the same holds of the machine that plays it back.
+        ensures recorded { N ≡ 1 → (trail : List Shown) × ((later : List Shown) (n : ℕ) (ss : List (Station Playback))
+            (es : List Event) →
+            IsAfter _ Playback (IsPlayedBack D.shows (trail ++ later)) played_step played_says self.old bus.old n ss es →
+            IfSome result
+            (HasGiven _ Playback (IsPlayedBack D.shows later) played_step played_says self.new bus.new change.moment n ss es)
+            × IsSome result) }
         ensures turn { IfSome result (λ e. IsTurnOf e.who e.change self.old.waiting self.new.waiting) }
         ensures waiting { IsWaitingFrom self.new.from self.new.waiting }
         ensures comes { IsSome result }
@@ -216,6 +234,15 @@ impl Player {
             (a : IsAfter _ D.State D.stands D.step D.says self.old bus.old n ss es) → MatchOption result
             (IsStill _ D.State D.stands D.step D.says self.old self.new bus.old bus.new upto a.stations)
             (HasGiven _ D.State D.stands D.step D.says self.new bus.new upto n ss es) }
+        // Whatever the machine stands for: on a bus with one drive there is a list of what it showed behind each act of this
+        // call, and the same holds of the machine that plays it back.
+        ensures recorded { N ≡ 1 → (trail : List Shown) × ((later : List Shown) (n : ℕ) (ss : List (Station Playback))
+            (es : List Event) →
+            (a : IsAfter _ Playback (IsPlayedBack D.shows (trail ++ later)) played_step played_says self.old bus.old n ss es) →
+            MatchOption result ((trail ≡ []) ×
+            IsStill _ Playback (IsPlayedBack D.shows later) played_step played_says self.old self.new bus.old bus.new upto
+            a.stations)
+            (HasGiven _ Playback (IsPlayedBack D.shows later) played_step played_says self.new bus.new upto n ss es)) }
         ensures second { IfSome result (λ e. IsGivenBefore (upto + 1) self.new.second) }
         ensures turn { IfSome result (λ e. IsTurnOf e.who e.change self.old.waiting self.new.waiting) }
         ensures waiting { IsWaitingFrom self.new.from self.new.waiting }

@@ -22,6 +22,8 @@ impl<D: Machine + Drop> Machine for Recorder<D> {
 
     ghost stands = { λ x m. D.stands x.machine m };
 
+    ghost shows = { λ x. D.shows x.machine };
+
     ghost lasting = { λ x. D.lasting x.machine };
 
     fn act(&mut self, act: Act) {

@@ -6,7 +6,7 @@ use cbm_machine::{Code, Status};
 use cbm_volume::Medium;
 
 impl<M: Medium> Dos<M> {
-    ghost use Rattle.std.specs.Prelude.{◌≡◌, ◌≤◌, ◌<◌, slice_index_or};
+    ghost use Rattle.std.specs.Prelude.{◌≡◌, ◌≤◌, ◌<◌, ℕ, false, Some, IsSome, slice_index_or};
     ghost use Rattle.cbm_machine.specs.Machines.{Machine};
     ghost use Rattle.cbm_machine.specs.Talking.{peek, taken, talk, listen};
     ghost use Rattle.cbm_channel.specs.Grounds.{IsToldFor};
@@ -75,6 +75,8 @@ impl<M: Medium> Dos<M> {
             (slice_index_or self.new.channels channel Closed) self.old.told self.new.told }
         ensures others { SameBut channel self.old.channels self.new.channels }
         ensures medium { self.new.medium ≡ self.old.medium }
+        // Behind a byte that isn't the last (EOI) another one waits.
+        ensures next { (n : ℕ) → shown_by channel self.old ≡ Some (n, false) → IsSome (shown_by channel self.new) }
     {
         if channel == 15 {
             self.telling.taken();

@@ -29,6 +29,8 @@ impl Machine for Parrot {
 
     ghost stands = { λ x m. Unit {0} };
 
+    ghost shows = { λ x. Some (55, false) };
+
     ghost lasting = { λ x. 0 };
 
     fn act(&mut self, act: Act) {

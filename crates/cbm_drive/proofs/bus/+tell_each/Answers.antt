@@ -1,6 +1,7 @@
-use Rattle.std.proofs.Common.{List, sym, subst}
+use Rattle.std.proofs.Common.{List, ◌∷◌, sym, subst}
 use Rattle.std.specs.List.{AllZip}
 use Rattle.cbm_iec.specs.declared.lines.Held.{Held}
+use Rattle.cbm_drive.specs.Recorded.{IsToldBy}
 use Rattle.cbm_drive.specs.Seats.{Seated, Meets, IsWithout}
 use Rattle.cbm_drive.proofs.Told.{told_next}
 use Rattle.cbm_drive.proofs.bus.+tell_each.Goals as goal
@@ -11,3 +12,15 @@ returns-clause-told g t c = λ f ss h.
     (λ q w. c.without-others.ensures q (subst (λ (o : Held). IsWithout c.args.wires.now o q) (sym c.own.ensures) w))
     c.line.ensures.port c.line.ensures.machine (λ us k. c.tell_each.ensures.told f us k)
     (subst (λ (xs : List (Seated _)). AllZip (λ x s. Meets _ g.D.Machine.State g.D.Machine.stands c.args.wires.now (f s.rest) x s) xs ss) c.in-Some.ensures.cases.0 h)
+
+pub returns-clause-each : goal.returns-clause-each
+returns-clause-each g t c =
+    subst (λ (xs : List (Seated _)). AllZip (λ x y. IsToldBy g.D.Machine.shows c.args.moment c.args.wires.now x y) xs (c.line.new.self ∷ c.tell_each.new.drives)) (sym c.in-Some.ensures.cases.0) (
+      record {
+        others = c.without-others.result;
+        lines = λ q w. c.without-others.ensures q (subst (λ (o : Held). IsWithout c.args.wires.now o q) (sym c.own.ensures) w);
+        port = c.line.ensures.port;
+        machine = c.line.ensures.acted;
+      },
+      c.tell_each.ensures.each,
+    )

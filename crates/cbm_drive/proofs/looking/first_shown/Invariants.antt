@@ -5,6 +5,7 @@ use Rattle.cbm_drive.specs.Progress.{left}
 use Rattle.cbm_drive.specs.Seats.{IsBusAt, numbers}
 use Rattle.cbm_drive.specs.Silence.{AnyShows}
 use Rattle.cbm_drive.proofs.Ahead.{ShowsStill}
+use Rattle.cbm_drive.proofs.Alone.{Settles}
 use Rattle.cbm_drive.proofs.looking.first_shown.Given as goal
 
 -- nothing was shown so far, and what is to be shown still is
@@ -17,6 +18,7 @@ invariant-loop-place g l =
     × (length l.drives ≡ length l.initial.drives)
     × ((until : ℕ) → l.limit ≤ until → left until l.drives ≤ left until l.initial.drives)
     × (numbers g.D.Machine.lasting l.drives ≡ numbers g.D.Machine.lasting l.initial.drives)
+    × (length l.initial.drives ≡ 1 → Settles g.D.Machine.shows l.host l.limit l.initial.drives l.drives)
 
 abbrev pub decreases-loop-place : goal.decreases-loop-place
 decreases-loop-place g l = left l.limit l.drives

@@ -30,7 +30,7 @@ pub loop-place-preserved-in-Continue-1 : goal.loop-place-preserved-in-Continue-1
 loop-place-preserved-in-Continue-1 g c = (
   (λ ss n h l.
       (let s = c.loop-place.invariant.0 ss n h l in
-      settled_more _ g.D.Machine.State g.D.Machine.stands g.D.Machine.step g.D.Machine.says g.met.D.Machine.byte c.args.host c.args.limit c.in-Some.moment c.in-Some-react.answer.device n c.loop-place.drives c.react.new.drives c.in-Some-react.answer.changes.items
+      settled_more _ g.D.Machine.State g.D.Machine.stands g.D.Machine.stands g.D.Machine.step g.D.Machine.says g.met.D.Machine.byte g.met.D.Machine.byte c.args.host c.args.limit c.in-Some.moment c.in-Some-react.answer.device n c.loop-place.drives c.react.new.drives c.in-Some-react.answer.changes.items
       c.args.events.now.items c.loop-place.events.items c.give.new.events.items ss s (c.in-Some-react.ensures.reacted s.stations s.now c.in-Some.ensures.first) (omega (arith, c.if-moment-limit.false))
       (c.in_ok-give.ensures.given ∙ ap (λ (cs : List Change). c.loop-place.events.items ++ drive_events c.in-Some-react.answer.device cs) c.deref.ensures.0))),
   c.in-Some-react.ensures.same ∙ c.loop-place.invariant.1,

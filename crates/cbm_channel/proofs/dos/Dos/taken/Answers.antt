@@ -1,10 +1,12 @@
-use Rattle.std.proofs.Common.{◌<◌, refl, ap, arith}
+use Rattle.std.proofs.Common.{◌≡◌, ◌<◌, Some, false, refl, sym, ap, subst, arith}
 use Rattle.std.specs.Prelude.{slice_index_or}
 use Rattle.cbm_machine.specs.Machines.{channel}
 use Rattle.cbm_machine.specs.Talking.{taken}
-use Rattle.cbm_channel.specs.Standing.{uses_of}
+use Rattle.cbm_channel.specs.Shown.{shown_by}
+use Rattle.cbm_channel.specs.Standing.{Kept, uses_of}
 use Rattle.cbm_channel.proofs.Asked.{below_15, taken_other}
 use Rattle.cbm_channel.proofs.Stands.{with_one, told_on, means_of, stands_at, waits_at, use_at, moved, stood, not_ok}
+use Rattle.cbm_channel.proofs.Nexts.{more_of, more_told}
 use Rattle.cbm_channel.proofs.Places.{taken_fits_in}
 use Rattle.cbm_channel.proofs.dos.Dos.taken.Goals as goal
 
@@ -33,3 +35,18 @@ returns-in_default-clause-leads g c = λ m s.
     moved _ _ _ _ _ _ _ _ (taken_other c.args.channel m _ (below_15 c.args.channel lt) at)
     (with_one _ _ _ _ _ _ m c.args.channel _ _ lt c.self.invariant well.1 well.2 well.3
     (taken_fits_in _ _ m.disk m.protected m.channels c.args.channel (channel m c.args.channel) (means_of _ _ _ _ _ _ m st) refl st.orderly) st)
+
+pub returns-then-channel-eq15-clause-next : goal.returns-then-channel-eq15-clause-next
+returns-then-channel-eq15-clause-next g c = λ n e.
+    more_told c.self.inside.channels c.args.channel n c.self.inside.telling _ c.if-channel-eq15.true c.taken.ensures (subst (λ (k : Kept _). shown_by c.args.channel k ≡ Some (n, false)) (sym c.self.view_is) e)
+
+-- the trouble is told, and the byte before it waits
+pub returns-in-Err-clause-next : goal.returns-in-Err-clause-next
+returns-in-Err-clause-next g c = λ n e.
+    more_of _ _ c.self.inside.channels c.set.new.self.channels c.args.channel n c.index-self-channel.result _ c.self.inside.telling c.set.new.self.told _ c.set.ensures.channels (omega (arith, c.requires, c.if-channel-eq15.false)) c.self.invariant.count
+    c.taken-2.ensures.fits c.taken-2.ensures.taken (subst (λ (k : Kept _). shown_by c.args.channel k ≡ Some (n, false)) (sym c.self.view_is) e)
+
+pub returns-in_default-clause-next : goal.returns-in_default-clause-next
+returns-in_default-clause-next g c = λ n e.
+    more_of _ _ c.self.inside.channels _ c.args.channel n c.index-self-channel.result c.taken-2.new.self c.self.inside.telling c.self.inside.telling _ refl (omega (arith, c.requires, c.if-channel-eq15.false)) c.self.invariant.count
+    c.taken-2.ensures.fits c.taken-2.ensures.taken (subst (λ (k : Kept _). shown_by c.args.channel k ≡ Some (n, false)) (sym c.self.view_is) e)

@@ -9,6 +9,6 @@ use Rattle.cbm_drive.specs.Seats.{Seated}
 pub returns-in_default-clause-machine : goal.returns-in_default-clause-machine
 returns-in_default-clause-machine g c = λ m stood.
     let here = subst (λ (x : g.row.D.Denot). g.D.Machine.stands x m) (ap (λ (x : Seated _). x.machine) (sym c.self.view_is)) stood in
-    let alike = c.said-said.ensures m stood in
+    let alike = c.said-said.ensures.says m stood in
     let none : reaction_act (g.D.Machine.says m) c.args.self.now.port ≡ None = sym alike.act ∙ ap (λ (x : Seated _). reaction_act c.said-said.result x.port) (sym c.self.view_is) ∙ sym c.due-reaction.ensures.act ∙ c.in_default.is in
     subst (λ (v : Option Act). g.D.Machine.stands c.self.inside.machine (acted g.D.Machine.State g.D.Machine.step v m)) (sym none) here

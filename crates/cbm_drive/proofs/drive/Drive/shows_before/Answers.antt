@@ -11,10 +11,12 @@ pub returns-in-Some : goal.returns-in-Some
 returns-in-Some g c = record {
   foretold = λ s port stands.
       subst (λ (p : Port). Foretold c.args.limit (g.D.Machine.says s.machine) c.shows.result p) (ap (λ (x : Seated _). x.port) c.self.view_is ∙ port)
-      (subst (λ (o : Option (ℕ × Bool)). Foretold c.args.limit o c.shows.result c.self.inside.port) (c.peek.ensures s.machine (subst (λ (x : Seated _). g.D.Machine.stands x.machine s.machine) (sym c.self.view_is) stands)) c.shows.ensures);
+      (subst (λ (o : Option (ℕ × Bool)). Foretold c.args.limit o c.shows.result c.self.inside.port) (c.peek.ensures.says s.machine (subst (λ (x : Seated _). g.D.Machine.stands x.machine s.machine) (sym c.self.view_is) stands)) c.shows.ensures);
   foreseen = λ s port stands.
       foreseen_by g.D.Machine.State g.D.Machine.step g.D.Machine.says c.args.limit c.shows.result c.self.inside.port c.peek.result s (ap (λ (x : Seated _). x.port) c.self.view_is ∙ port)
-      (c.peek.ensures s.machine (subst (λ (x : Seated _). g.D.Machine.stands x.machine s.machine) (sym c.self.view_is) stands)) c.shows.ensures;
+      (c.peek.ensures.says s.machine (subst (λ (x : Seated _). g.D.Machine.stands x.machine s.machine) (sym c.self.view_is) stands)) c.shows.ensures;
+  shows = subst (λ (x : Seated _). Foretold c.args.limit (g.D.Machine.shows x.machine) c.shows.result x.port) c.self.view_is
+      (subst (λ (o : Option (ℕ × Bool)). Foretold c.args.limit o c.shows.result c.self.inside.port) c.peek.ensures.shows c.shows.ensures);
 }
 
 -- what is due comes at the limit or later
@@ -22,6 +24,7 @@ pub returns-in_default : goal.returns-in_default
 returns-in_default g c = record {
   foretold = λ s port stands. idle (subst (IsInTime c.args.limit) (c.in-Some.ensures ∙ ap (λ (x : Seated _). port_due x.port) c.self.view_is ∙ ap port_due port) c.if-moment-limit.false);
   foreseen = λ s port stands. quiet (subst (IsInTime c.args.limit) (c.in-Some.ensures ∙ ap (λ (x : Seated _). port_due x.port) c.self.view_is ∙ ap port_due port) c.if-moment-limit.false);
+  shows = idle (subst (IsInTime c.args.limit) (c.in-Some.ensures ∙ ap (λ (x : Seated _). port_due x.port) c.self.view_is) c.if-moment-limit.false);
 }
 
 -- nothing is due
@@ -29,4 +32,5 @@ pub returns-in_default-2 : goal.returns-in_default-2
 returns-in_default-2 g c = record {
   foretold = λ s port stands. idle (subst (IsInTime c.args.limit) (c.in_default.ensures ∙ ap (λ (x : Seated _). port_due x.port) c.self.view_is ∙ ap port_due port) tt);
   foreseen = λ s port stands. quiet (subst (IsInTime c.args.limit) (c.in_default.ensures ∙ ap (λ (x : Seated _). port_due x.port) c.self.view_is ∙ ap port_due port) tt);
+  shows = idle (subst (IsInTime c.args.limit) (c.in_default.ensures ∙ ap (λ (x : Seated _). port_due x.port) c.self.view_is) tt);
 }

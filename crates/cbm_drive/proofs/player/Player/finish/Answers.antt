@@ -7,7 +7,7 @@ pub returns-in-Some-first_shown-clause-given : goal.returns-in-Some-first_shown-
 returns-in-Some-first_shown-clause-given g c = λ n ss es a.
     let second : c.args.self.now.second ≡ None = sym (ap (λ (p : Turns). p.second) c.self.view_is) ∙ (sym c.take.ensures.value ∙ c.in_default.is) in
     after_match c.give.result _ _ _ (λ e given. given.after)
-    (shown_next _ g.D.Machine.State g.D.Machine.stands g.D.Machine.step g.D.Machine.says g.met.D.Machine.byte c.args.self.now c.give.new.self c.args.bus.now c.first_shown.new.self c.args.upto c.in-Some-first_shown.moment c.in-Some-first_shown.answer.device n
+    (shown_next _ g.D.Machine.State g.D.Machine.stands g.D.Machine.step g.D.Machine.says g.met.D.Machine.byte g.D.Machine.stands c.args.self.now c.give.new.self c.args.bus.now c.first_shown.new.self c.args.upto c.in-Some-first_shown.moment c.in-Some-first_shown.answer.device n
     c.in-Some-first_shown.answer.changes.items ss es c.give.result second a (c.in-Some-first_shown.ensures.played a.stations a.from (a.from + (c.args.upto + 1)) a.now (omega arith) (omega arith)) c.first_shown.ensures.host c.give.ensures.from
     c.in-Some-first_shown.ensures.moments c.in-Some-first_shown.ensures.shows c.give.ensures.given (let l = c.in-Some-first_shown.ensures.before in omega (arith, l)))
 
