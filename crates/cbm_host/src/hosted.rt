@@ -49,7 +49,6 @@ impl<M: Steady> Hosted<M> {
     ghost use Rattle.cbm_host.specs.Hosted.{Rests, IsUnderWay, IsGoingOn, IsOver, tracks_on};
     ghost use Rattle.cbm_host.specs.Progress.{left_of};
     ghost use Rattle.cbm_host.specs.Served.{hear, served, IsModest};
-    ghost use Rattle.cbm_drive.specs.Addressing.{unaddressed};
     ghost use Rattle.cbm_drive.specs.Desks.{desk_shows};
     ghost use Rattle.cbm_drive.specs.Playback.{Playback};
     ghost use Rattle.cbm_host.specs.AnyDisk.{IsBounded, IsUnderWayAnyway, IsOverAnyway, RestsAnyway};
@@ -60,9 +59,8 @@ impl<M: Steady> Hosted<M> {
         requires high { device ≤ 11 }
         ensures rests { (d : Disk) → HoldsDisk (M.seen medium).tracks (M.seen medium).content d →
             Rests M.seen result (start d (M.seen medium).protected (M.seen medium).tracks) }
-        // On any disk, where a drive that isn't addressed has nothing to say.
-        ensures anyway { ((x : desks.Desk (Kept M)) → x.addressed ≡ unaddressed device →
-            IfSome (desk_shows M.seen x) (λ s. s.0 < 256)) → RestsAnyway (desk_shows M.seen) result }
+        // On any disk:
+        ensures anyway { RestsAnyway desk_shows result }
         ensures tracks { tracks_on M.seen result ≡ (M.seen medium).tracks ∷ [] }
         ensures moment { result.moment ≡ 1000 }
     {
@@ -85,8 +83,8 @@ impl<M: Steady> Hosted<M> {
         ensures under_way { (m : Machine) → Rests M.seen self.now m →
             IsUnderWay M.seen self.now result m request.entry [] false }
         // On any disk:
-        ensures anyway { RestsAnyway (desk_shows M.seen) self.now →
-            IsUnderWayAnyway (desk_shows M.seen) self.now.device self.now.bus result request.entry }
+        ensures anyway { RestsAnyway desk_shows self.now →
+            IsUnderWayAnyway desk_shows self.now.device self.now.bus result request.entry }
         ensures limit { result.limit ≡ self.now.moment + 250000000 }
     {
         Performer::new(self.moment, self.device, request)
@@ -101,9 +99,9 @@ impl<M: Steady> Hosted<M> {
             (λ x. IsGoingOn M.seen self.new performer.new m request (bytes ++ x.0 ∷ []) x.1) }
         // On any disk:
         ensures anyway { (request : Request) → channel_of request ≤ 15 →
-            IsUnderWayAnyway (desk_shows M.seen) self.old.device self.old.bus performer.old request → MatchOption result
-            (IsOverAnyway (desk_shows M.seen) self.new.device self.new.bus request)
-            (λ x. IsUnderWayAnyway (desk_shows M.seen) self.new.device self.new.bus performer.new request) }
+            IsUnderWayAnyway desk_shows self.old.device self.old.bus performer.old request → MatchOption result
+            (IsOverAnyway desk_shows self.new.device self.new.bus request)
+            (λ x. IsUnderWayAnyway desk_shows self.new.device self.new.bus performer.new request) }
         ensures device { self.new.device ≡ self.old.device }
         // Whatever the drive stands for:
         ensures fewer { IfSome result (λ x. left_of performer.new self.new.bus < left_of performer.old self.old.bus) }
@@ -132,7 +130,7 @@ impl<M: Steady> Hosted<M> {
         requires moment { self.old.moment < 2 ^ 58 }
         ensures rests { (m : Machine) → Rests M.seen self.old m → Rests M.seen self.new (after_open channel text.now m) }
         // On any disk the drive rests again.
-        ensures anyway { RestsAnyway (desk_shows M.seen) self.old → RestsAnyway (desk_shows M.seen) self.new }
+        ensures anyway { RestsAnyway desk_shows self.old → RestsAnyway desk_shows self.new }
         ensures soon { self.new.moment ≤ self.old.moment + 250000000 }
         ensures tracks { tracks_on M.seen self.new ≡ tracks_on M.seen self.old }
     {
@@ -146,7 +144,7 @@ impl<M: Steady> Hosted<M> {
         requires moment { self.old.moment < 2 ^ 58 }
         ensures rests { (m : Machine) → Rests M.seen self.old m → Rests M.seen self.new (hear channel bytes.now m) }
         // On any disk the drive rests again.
-        ensures anyway { RestsAnyway (desk_shows M.seen) self.old → RestsAnyway (desk_shows M.seen) self.new }
+        ensures anyway { RestsAnyway desk_shows self.old → RestsAnyway desk_shows self.new }
         ensures soon { self.new.moment ≤ self.old.moment + 250000000 }
         ensures tracks { tracks_on M.seen self.new ≡ tracks_on M.seen self.old }
     {
@@ -161,7 +159,7 @@ impl<M: Steady> Hosted<M> {
         ensures rests { (m : Machine) → Rests M.seen self.old m →
             Rests M.seen self.new (hear channel (replicate count byte) m) }
         // On any disk the drive rests again.
-        ensures anyway { RestsAnyway (desk_shows M.seen) self.old → RestsAnyway (desk_shows M.seen) self.new }
+        ensures anyway { RestsAnyway desk_shows self.old → RestsAnyway desk_shows self.new }
         ensures soon { self.new.moment ≤ self.old.moment + 250000000 }
         ensures tracks { tracks_on M.seen self.new ≡ tracks_on M.seen self.old }
     {
@@ -174,7 +172,7 @@ impl<M: Steady> Hosted<M> {
         requires moment { self.old.moment < 2 ^ 58 }
         ensures rests { (m : Machine) → Rests M.seen self.old m → Rests M.seen self.new (closing.close channel m) }
         // On any disk the drive rests again.
-        ensures anyway { RestsAnyway (desk_shows M.seen) self.old → RestsAnyway (desk_shows M.seen) self.new }
+        ensures anyway { RestsAnyway desk_shows self.old → RestsAnyway desk_shows self.new }
         ensures soon { self.new.moment ≤ self.old.moment + 250000000 }
         ensures tracks { tracks_on M.seen self.new ≡ tracks_on M.seen self.old }
     {
@@ -189,7 +187,7 @@ impl<M: Steady> Hosted<M> {
             Rests M.seen self.new (served request.entry m).machine }
         // On any disk:
         ensures anyway { ((m : Playback) → IsBounded self.old.device m request.entry) →
-            RestsAnyway (desk_shows M.seen) self.old → RestsAnyway (desk_shows M.seen) self.new }
+            RestsAnyway desk_shows self.old → RestsAnyway desk_shows self.new }
         ensures soon { self.new.moment ≤ self.old.moment + 250000000 }
         ensures tracks { tracks_on M.seen self.new ≡ tracks_on M.seen self.old }
     {

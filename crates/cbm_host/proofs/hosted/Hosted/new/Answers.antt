@@ -1,7 +1,8 @@
 use Rattle.std.proofs.Common.{◌<◌, refl, sym, subst}
 use Rattle.std.specs.Prelude.{IfSome}
 use Rattle.cbm_channel.specs.Machines.{start}
-use Rattle.cbm_drive.specs.Desks.{DeskStands, at_first, desk_shows}
+use Rattle.cbm_drive.specs.Addressing.{Addressed, channel_said}
+use Rattle.cbm_drive.specs.Desks.{DeskStands, at_first, desk_shows, shown_from}
 use Rattle.cbm_host.proofs.HostedAnyway.{rests_first_anyway}
 use Rattle.cbm_host.proofs.Hosting.{rests_first}
 use Rattle.cbm_host.proofs.hosted.Hosted.new.Goals as goal
@@ -15,7 +16,9 @@ returns-clause-rests g c = λ d h.
     rests_first seen c.args.device m here c.new.result refl c.new-2.ensures.host c.new-2.ensures.drives c.new.ensures.port
     (subst (λ x. DeskStands seen x (at_first c.args.device m)) (sym c.new.ensures.machine) (c.at_power_up-desk.ensures.stands d h))
 
+-- a drive that isn't addressed has nothing to say
 pub returns-clause-anyway : goal.returns-clause-anyway
-returns-clause-anyway g c = λ bytes.
-    let shows = desk_shows g.M.Medium.seen in
-    rests_first_anyway shows c.args.device c.new-2.result c.new.result c.new-2.ensures.host c.new-2.ensures.drives c.new.ensures.port (subst (λ x. IfSome (shows x) (λ s. s.0 < 256)) (sym c.new.ensures.machine) (bytes c.at_power_up-desk.result c.at_power_up-desk.ensures.addressed))
+returns-clause-anyway g c =
+    let desk = c.at_power_up-desk.result in
+    let silent : IfSome (desk_shows desk) (λ s. s.0 < 256) = subst (λ (a : Addressed). IfSome (shown_from (channel_said a.role a.channel) desk.dos) (λ s. s.0 < 256)) (sym c.at_power_up-desk.ensures.addressed) tt in
+    rests_first_anyway desk_shows c.args.device c.new-2.result c.new.result c.new-2.ensures.host c.new-2.ensures.drives c.new.ensures.port (subst (λ x. IfSome (desk_shows x) (λ s. s.0 < 256)) (sym c.new.ensures.machine) silent)

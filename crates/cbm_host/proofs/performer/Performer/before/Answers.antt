@@ -21,11 +21,11 @@ returns-clause-come g c = λ n ss es.
 pub returns-in_err-upto-clause-recorded : goal.returns-in_err-upto-clause-recorded
 returns-in_err-upto-clause-recorded g c = λ one.
     let shows = g.D.Machine.shows in (
-  [],
-  λ later n ss es.
-      unmoved_none_back _ _ _ (IsPlayedBack shows) played_step played_says [] later c.args.self.now c.args.bus.now c.min.result c.args.until n ss es c.from_residual.result refl c.from_residual.ensures c.in_err-upto.ensures
-      (c.min.ensures ∙ ap (λ (p : Performing). min c.args.until (p.limit + 1)) c.self.view_is),
-)
+      [],
+      λ later n ss es.
+          unmoved_none_back _ _ _ (IsPlayedBack shows) played_step played_says [] later c.args.self.now c.args.bus.now c.min.result c.args.until n ss es c.from_residual.result refl c.from_residual.ensures c.in_err-upto.ensures
+          (c.min.ensures ∙ ap (λ (p : Performing). min c.args.until (p.limit + 1)) c.self.view_is),
+    )
 
 pub returns-clause-recorded : goal.returns-clause-recorded
 returns-clause-recorded g c = λ one.
