@@ -8,3 +8,6 @@ pub mod ImageLemmas
 pub mod ConvertLemmas
 pub mod SectorLemmas
 pub mod MapLemmas
+pub mod BlankDisks
+pub mod ZeroImages
+pub mod NewImages

@@ -1,5 +1,5 @@
 -- Bytes that are put one after another.
-use Rattle.std.proofs.Common.{◌≡◌, ℕ, List, [], ◌∷◌, ap, ◌∙◌, sym, subst, suc, ◌+◌, ◌<◌, length, drop, slice_index, refl, arith}
+use Rattle.std.proofs.Common.{◌≡◌, ℕ, List, [], ◌∷◌, ap, ◌∙◌, sym, subst, suc, ◌+◌, ◌<◌, length, drop, slice_index, arith}
 use Rattle.std.proofs.Math.Seq.{drop-cons}
 use Rattle.cbm_channel.specs.Machines.{Machine}
 use Rattle.cbm_channel.specs.Calls.{put}

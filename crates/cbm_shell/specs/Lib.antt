@@ -1,3 +1,4 @@
+pub mod Petscii
 pub mod Readable
 pub mod Reading
 pub mod Listing

@@ -1,10 +1,13 @@
 -- New images of empty disks.
-use Rattle.std.specs.Prelude.{ℕ, ◌≡◌, List, [], ◌∷◌, ◌++◌, replicate, None}
+use Rattle.std.specs.Prelude.{ℕ, ◌≡◌, List, [], ◌∷◌, ◌++◌, replicate, None, Ok}
+use Rattle.cbm_medium.specs.Place.{Place, Has}
+use Rattle.cbm_medium.specs.Seen.{Seen}
 use Rattle.cbm_file.specs.Files.{Disk, blocks_on}
 use Rattle.cbm_file.specs.Padding.{padded}
+use Rattle.cbm_volume.specs.Holding.{HoldsDisk}
 use Rattle.cbm_program.specs.declared.kind.Kind.{Kind}
 use Rattle.cbm_program.specs.declared.kind.Kind.TheVariants as kind
-use Rattle.cbm_program.specs.Images.{kind_of, ImageHolds}
+use Rattle.cbm_program.specs.Images.{kind_of, image_fault, tracks_of, content_of, ImageHolds}
 use Rattle.cbm_shell.specs.declared.making.Form.{Form}
 use Rattle.cbm_shell.specs.declared.making.Form.TheVariants as form
 
@@ -30,7 +33,20 @@ tracks_on form.D64 = 35
 tracks_on form.LongD64 = 40
 tracks_on form.G64 = 35
 
--- the image is one of its format, is sound, and holds the empty disk
+-- An image without fault whose sectors are all zeros.
+pub record IsBlank (form : Form) (image : List ℕ) : Type 0 where
+  pub accepted : image_fault (kind_in form) image ≡ None
+  pub tracks : tracks_of (kind_in form) image ≡ tracks_on form
+  pub zeros : (p : Place) → Has (tracks_on form) p → content_of (kind_in form) image p ≡ Ok (replicate 256 0)
+
+-- The disk shows the empty disk; its first sector is zeros.
+pub record IsEmpty (tracks : ℕ) (title id : List ℕ) (seen : Seen) : Type 0 where
+  pub same_tracks : seen.tracks ≡ tracks
+  pub holds : HoldsDisk tracks seen.content (empty_disk tracks title id)
+  pub first : seen.content (record { track = 1; sector = 0 }) ≡ Ok (replicate 256 0)
+
+-- THE NEW IMAGE is one of its format, has no fault that it would be refused for, is sound, and holds the empty disk.
 pub record IsNew (form : Form) (title id image : List ℕ) : Type 0 where
   pub opens : kind_of image ≡ kind_in form
+  pub accepted : image_fault (kind_in form) image ≡ None
   pub holds : ImageHolds (kind_in form) image (empty_disk (tracks_on form) title id)

@@ -1,10 +1,10 @@
 -- A directory as the drive sends it, as readable text.
-use Rattle.std.specs.Prelude.{ℕ, ◌+◌, ◌*◌, List, [], ◌∷◌, ◌++◌, drop, slice_index, codes, decimal, encode_utf8, ◌==◌, if◌then◌else◌}
-use Rattle.cbm_shell.specs.declared.petscii.TheConstants.{TABLE}
+use Rattle.std.specs.Prelude.{ℕ, ◌+◌, ◌*◌, List, [], ◌∷◌, ◌++◌, drop, codes, decimal, encode_utf8, ◌==◌, if◌then◌else◌}
+use Rattle.cbm_shell.specs.Petscii.{char_of}
 
 -- a PETSCII code as the UTF-8 of its character; the code of reverse letters isn't shown
 abbrev pub shown_as : ℕ → List ℕ
-shown_as code = if code == 18 then [] else encode_utf8 (slice_index TABLE code)
+shown_as code = if code == 18 then [] else encode_utf8 (char_of code)
 
 unfoldable mutual
   -- From the beginning of a line on: its link, its number, its text. A link whose second code is 0 ends the lines, as LIST sees it.

@@ -12,7 +12,7 @@ ghost use Rattle.cbm_shell.specs.Converting.{told_id, held_by, is_plain, has_mor
 use crate::fault::ShellFault;
 use crate::images::{opened, saved};
 use crate::looking::sectors::faults_in;
-use crate::making::{OF_35_TRACKS, OF_40_TRACKS, settled, zeros};
+use crate::making::{OF_35_TRACKS, OF_40_TRACKS, zeros};
 use cbm_d64::D64Disk;
 use cbm_g64::G64Disk;
 use cbm_medium::{Address, Fault, Medium, sectors_of};
@@ -225,6 +225,18 @@ fn copied<M: Medium>(alloc: Global, medium: &M) -> Result<D64Disk, ShellFault>
     };
     copy_tracks(medium, &mut disk);
     Ok(disk)
+}
+
+/// The image, if it is one of this format. The one error is `Mistaken`.
+fn settled(image: Vec<u8>, kind: Kind) -> Result<Vec<u8>, ShellFault>
+    ensures ok { IfOk result (λ v. (v ≡ image) × (kind_of v.items ≡ kind)) }
+    ensures err { IfErr result (λ fault. fault ≡ ShellFault.Mistaken) }
+{
+    if kind_of(image.as_slice()) == kind {
+        Ok(image)
+    } else {
+        Err(ShellFault::Mistaken)
+    }
 }
 
 /// A D64 as a G64.

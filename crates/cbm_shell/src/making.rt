@@ -1,15 +1,14 @@
 //! New images of empty disks.
-ghost use Rattle.std.specs.Prelude.{◌≡◌, ◌≤◌, length, replicate, IfOk, IfErr};
-ghost use Rattle.cbm_volume.specs.Holding.{HoldsDisk};
-ghost use Rattle.cbm_program.specs.Images.{kind_of, tracks_of};
-ghost use Rattle.cbm_shell.specs.Making.{empty_disk, kind_in, tracks_on, IsNew};
+ghost use Rattle.std.specs.Prelude.{◌≡◌, ◌≤◌, false, length, replicate, None, Ok, IfOk};
+ghost use Rattle.cbm_medium.specs.Place.{Place, Has};
+ghost use Rattle.cbm_program.specs.Images.{image_fault, IsOf};
+ghost use Rattle.cbm_program.specs.declared.kind.Kind.TheVariants.{D64, G64};
+ghost use Rattle.cbm_shell.specs.Making.{kind_in, tracks_on, IsBlank, IsEmpty, IsNew};
 
-use crate::fault::ShellFault;
-use crate::images::saved;
 use cbm_d64::D64Disk;
 use cbm_g64::G64Disk;
-use cbm_medium::{Medium, Trouble};
-use cbm_program::{DiskImage, Kind, kind_of};
+use cbm_medium::Steady;
+use cbm_program::{DiskImage, RunFault};
 use cbm_volume::Volume;
 use std::alloc::{AllocError, Global};
 
@@ -18,9 +17,6 @@ pub(crate) const OF_35_TRACKS: usize = 174_848;
 
 /// The bytes of a D64 of 40 tracks.
 pub(crate) const OF_40_TRACKS: usize = 196_608;
-
-/// The bytes of a G64's tables: 12, and twice 84 entries of four bytes.
-const TABLES: usize = 684;
 
 /// What a new image is.
 #[derive(Clone, Copy, Debug, PartialEq, Eq)]
@@ -40,84 +36,116 @@ pub(crate) fn zeros(alloc: Global, count: usize) -> Result<Vec<u8>, AllocError>
     vec![in alloc; 0; count]
 }
 
-/// A G64 with tables of 84 entries and no track.
-fn trackless(alloc: Global) -> Result<Vec<u8>, AllocError> {
-    let mut image = Vec::with_capacity(alloc, TABLES)?;
-    image.extend_from_slice(b"GCR-1541\0\x54\xf8\x1e")?;
-    image.resize(TABLES, 0)?;
-    Ok(image)
+/// A G64 whose sectors are all zeros.
+fn blank_g64(alloc: Global, id: [u8; 2]) -> Result<Vec<u8>, AllocError>
+    ensures { IfOk result (λ v. IsBlank Form.G64 v.items) }
+{
+    let sectors = zeros(alloc, OF_35_TRACKS)?;
+    let Ok(disk) = D64Disk::from_bytes(alloc, sectors.as_slice(), false) else {
+        return Err(AllocError);
+    };
+    match G64Disk::from_sectors(alloc, &disk, id) {
+        Ok(image) => Ok(image),
+        Err(_) => Err(AllocError),
+    }
 }
 
-/// An image that wasn't formatted.
-fn unformatted(alloc: Global, form: Form) -> Result<Vec<u8>, AllocError>
-    ensures { IfOk result (λ v. tracks_of (kind_in form) v.items ≡ tracks_on form) }
+/// An image whose sectors are all zeros.
+fn blank(alloc: Global, form: Form, id: [u8; 2]) -> Result<Vec<u8>, AllocError>
+    ensures { IfOk result (λ v. IsBlank form v.items) }
 {
     match form {
         Form::D64 => zeros(alloc, OF_35_TRACKS),
         Form::LongD64 => zeros(alloc, OF_40_TRACKS),
-        Form::G64 => trackless(alloc),
+        Form::G64 => blank_g64(alloc, id),
     }
 }
 
-/// A disk formatted as the drive's own NEW does it.
-fn formatted<M: Medium + Drop>(medium: M, title: &[u8], id: [u8; 2]) -> Result<M, Trouble>
-    requires { length title.now ≤ 16 }
-    ensures { let tracks = (M.seen medium).tracks in IfOk result (λ after. ((M.seen after).tracks ≡ tracks) ×
-        HoldsDisk tracks (M.seen after).content (empty_disk tracks title.now id)) }
+/// The disk of an image that has no fault.
+fn opened<I: DiskImage>(alloc: Global, image: &[u8]) -> Result<I, AllocError>
+    requires { image_fault I.kind image.now ≡ None }
+    ensures { IfOk result (λ disk. IsOf I.kind image.now (I.seen disk).tracks (I.seen disk).content
+        × ((I.seen disk).protected ≡ false)) }
 {
+    match I::open(alloc, image, false) {
+        Ok(disk) => Ok(disk),
+        Err(RunFault::Memory) => Err(AllocError),
+        Err(_) => unreachable!(),
+    }
+}
+
+/// A disk formatted as the drive's own NEW does it. A disk of zeros is sound, with no block free, and so NEW is refused by
+/// none of its sectors.
+fn formatted<M: Steady + Drop>(medium: M, title: &[u8], id: [u8; 2]) -> M
+    requires short { length title.now ≤ 16 }
+    requires blank { (p : Place) → Has (M.seen medium).tracks p → (M.seen medium).content p ≡ Ok (replicate 256 0) }
+    requires free { (M.seen medium).protected ≡ false }
+    ensures { IsEmpty (M.seen medium).tracks title.now id (M.seen result) }
+{
+    let _tracks = medium.tracks();
     let mut volume = Volume::open(medium);
-    volume.new_disk(title, Some(id))?;
-    Ok(volume.into_medium())
-}
-
-/// The image, if it is one of this format. The one error is `Mistaken`.
-pub(crate) fn settled(image: Vec<u8>, kind: Kind) -> Result<Vec<u8>, ShellFault>
-    ensures ok { IfOk result (λ v. (v ≡ image) × (kind_of v.items ≡ kind)) }
-    ensures err { IfErr result (λ fault. fault ≡ ShellFault.Mistaken) }
-{
-    if kind_of(image.as_slice()) == kind {
-        Ok(image)
-    } else {
-        Err(ShellFault::Mistaken)
+    match volume.new_disk(title, Some(id)) {
+        Ok(()) => volume.into_medium(),
+        Err(_) => unreachable!(),
     }
 }
 
-/// A new image of one format.
+/// The disk of a new image.
 fn made<I: DiskImage + Drop>(
     alloc: Global,
     form: Form,
-    kind: Kind,
     title: &[u8],
     id: [u8; 2],
-) -> Result<Vec<u8>, ShellFault>
+) -> Result<I, AllocError>
     requires short { length title.now ≤ 16 }
-    requires kind { kind ≡ I.kind }
-    requires form { kind_in form ≡ kind }
+    requires form { kind_in form ≡ I.kind }
+    ensures { IfOk result (λ disk. IsEmpty (tracks_on form) title.now id (I.seen disk)) }
+{
+    let image = blank(alloc, form, id)?;
+    let disk = opened(alloc, image.as_slice())?;
+    Ok(formatted(disk, title, id))
+}
+
+/// A new D64.
+fn new_d64(alloc: Global, form: Form, title: &[u8], id: [u8; 2]) -> Result<Vec<u8>, AllocError>
+    requires short { length title.now ≤ 16 }
+    requires form { kind_in form ≡ D64 }
     ensures { IfOk result (λ v. IsNew form title.now id v.items) }
 {
-    let image = unformatted(alloc, form)?;
-    // The one cause that such an image is refused for is want of memory.
-    let Ok(disk) = I::open(alloc, image.as_slice(), false) else {
-        return Err(ShellFault::Memory);
-    };
-    let disk = formatted(disk, title, id)?;
-    settled(saved(alloc, &disk)?, kind)
+    let disk: D64Disk = made(alloc, form, title, id)?;
+    match disk.to_bytes(alloc) {
+        Ok(image) => Ok(image),
+        Err(_) => Err(AllocError),
+    }
+}
+
+/// A new G64.
+fn new_g64(alloc: Global, form: Form, title: &[u8], id: [u8; 2]) -> Result<Vec<u8>, AllocError>
+    requires short { length title.now ≤ 16 }
+    requires form { kind_in form ≡ G64 }
+    ensures { IfOk result (λ v. IsNew form title.now id v.items) }
+{
+    let disk: G64Disk = made(alloc, form, title, id)?;
+    match disk.to_bytes(alloc) {
+        Ok(image) => Ok(image),
+        Err(_) => Err(AllocError),
+    }
 }
 
 /// An image of an empty disk, formatted with a title of at most sixteen bytes and an id as the drive's own NEW does it
-/// (1541 User's Guide, "NEW"). Errors: `Memory`; `Trouble` and `Mistaken`, which no such image gives.
+/// (1541 User's Guide, "NEW"). No title and no id is refused: the one error is want of memory.
 pub fn new_image(
     alloc: Global,
     form: Form,
     title: &[u8],
     id: [u8; 2],
-) -> Result<Vec<u8>, ShellFault>
+) -> Result<Vec<u8>, AllocError>
     requires { length title.now ≤ 16 }
     ensures { IfOk result (λ v. IsNew form title.now id v.items) }
 {
     match form {
-        Form::D64 => made::<D64Disk>(alloc, form, Kind::D64, title, id),
-        Form::LongD64 => made::<D64Disk>(alloc, form, Kind::D64, title, id),
-        Form::G64 => made::<G64Disk>(alloc, form, Kind::G64, title, id),
+        Form::D64 => new_d64(alloc, form, title, id),
+        Form::LongD64 => new_d64(alloc, form, title, id),
+        Form::G64 => new_g64(alloc, form, title, id),
     }
 }

@@ -4,6 +4,7 @@ ghost use Rattle.cbm_file.specs.Files.{Disk};
 ghost use Rattle.cbm_volume.specs.Slots.{directory_of};
 ghost use Rattle.cbm_volume.specs.Map.{geometry_of};
 ghost use Rattle.cbm_volume.specs.Holding.{HasBytes, HoldsDisk, StandsAt};
+ghost use Rattle.cbm_program.specs.Images.{image_fault, kind_of};
 ghost use Rattle.cbm_shell.specs.Images.{IsOpened, IsOpenFault};
 ghost use Rattle.cbm_shell.specs.OpenDisk.{shown_by};
 
@@ -31,6 +32,9 @@ impl OpenDisk {
     pub fn open(alloc: Global, image: &[u8]) -> Result<OpenDisk, ShellFault>
         ensures ok { IfOk result (λ disk. IsOpened image.now (shown_by disk)) }
         ensures err { IfErr result (IsOpenFault image.now) }
+        // An image without fault is always opened, if there is memory.
+        ensures accepted { image_fault (kind_of image.now) image.now ≡ None →
+            IfErr result (λ fault. fault ≡ ShellFault.Memory) }
     {
         match kind_of(image) {
             Kind::D64 => Ok(OpenDisk::D64(Volume::open(opened::<D64Disk>(alloc, image)?))),

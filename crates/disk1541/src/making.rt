@@ -38,9 +38,9 @@ pub fn make<'a, R: Runtime + AllocGlobal>(
         return Err(Failure::Id(id));
     };
     require_new(rt, image, replaces)?;
-    let bytes = new_image(rt.alloc(), form, codes.as_slice(), marks).map_err(|fault| Failure::Disk(
-        image, fault,
-    ))?;
+    let bytes = new_image(rt.alloc(), form, codes.as_slice(), marks).map_err(
+        |_| Failure::NoMemory,
+    )?;
     write(rt, image, bytes.as_slice())
 }
 

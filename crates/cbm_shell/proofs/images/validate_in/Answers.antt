@@ -1,4 +1,4 @@
-use Rattle.std.proofs.Common.{rules, subst, sym, ap, ◌∙◌, ◌≡◌}
+use Rattle.std.proofs.Common.{subst, sym, ◌≡◌}
 use Rattle.cbm_file.specs.Files.{Disk}
 use Rattle.cbm_file.specs.Changes.{validated}
 use Rattle.cbm_volume.specs.Holding.{HoldsDisk}

@@ -1,0 +1,119 @@
+-- Images of new disks: they have no fault, and their first bytes tell their format.
+use Rattle.std.proofs.Common.{◌≡◌, ℕ, ◌≤◌, List, [], ◌∷◌, length, take, refl, sym, ap, subst, ◌∙◌, arith, inl, inr, Bool, true, false, Ok, Err, Option, Some, None, replicate}
+use Rattle.std.specs.Prelude.{◌==◌, codes, if◌then◌else◌}
+use Rattle.std.specs.Str.{bytes_eq}
+use Rattle.std.proofs.lemmas.Bool.{and_parts, eqb-true}
+use Rattle.std.proofs.lemmas.List.{take-take, length-replicate}
+use Rattle.std.specs.Prelude.{Result, IfOk, option_map}
+use Rattle.std.specs.declared.alloc.AllocError.{AllocError}
+use Rattle.cbm_d64.specs.Image.{IsImageSize, tracks_in, error_at, code_of, cell_of, sector_at, content_of}
+use Rattle.cbm_d64.proofs.Sectors.{content_on_disk}
+use Rattle.cbm_d64.specs.Image as sectors
+use Rattle.cbm_g64.specs.File.{has_signature, fault_of, tracks_in as tracks_in_file}
+use Rattle.cbm_g64.specs.Numbers.{number_of}
+use Rattle.cbm_g64.specs.Tracks as circles
+use Rattle.cbm_volume.specs.Holding.{HoldsDisk}
+use Rattle.cbm_g64.proofs.Sound.{passes}
+use Rattle.cbm_program.specs.declared.kind.Kind.{Kind}
+use Rattle.cbm_program.specs.declared.kind.Kind.TheVariants.{D64, G64}
+use Rattle.cbm_program.specs.Images.{kind_of, size_fault, image_fault, tracks_of, ImageHolds}
+use Rattle.cbm_program.specs.Images as images
+use Rattle.cbm_shell.specs.declared.making.Form.{Form}
+use Rattle.cbm_shell.specs.Making.{kind_in, tracks_on, empty_disk, IsBlank, IsEmpty, IsNew}
+use Rattle.cbm_shell.proofs.ZeroImages.{content_zeros}
+
+-- ---- a D64
+
+-- an image of one of the three sizes has no fault
+pub right_size : (n : ℕ) → IsImageSize n → size_fault n ≡ None
+right_size n (inl e) = ap size_fault e
+right_size n (inr (inl e)) = ap size_fault e
+right_size n (inr (inr e)) = ap size_fault e
+
+some_track : (n : ℕ) → 1 ≤ tracks_in n
+some_track n = by_test (n == 196608)
+  where
+    by_test : (b : Bool) → 1 ≤ (if b then 40 else 35)
+    by_test true = omega arith
+    by_test false = omega arith
+
+bytes_of : (o : Option ℕ) (xs ys : List ℕ) → cell_of o xs ≡ Ok ys → xs ≡ ys
+bytes_of None xs ys h = cc
+bytes_of (Some code) xs ys h = absurd (cc)
+
+-- one whose first sector is zeros isn't taken for a G64
+pub first_zeros : (image : List ℕ) → content_of image (record { track = 1; sector = 0 }) ≡ Ok (replicate 256 0) → kind_of image ≡ D64
+first_zeros image h =
+    let here : content_of image (record { track = 1; sector = 0 }) ≡ cell_of (code_of (error_at image 0)) (take 256 image)
+    = content_on_disk image (record { track = 1; sector = 0 }) (omega arith) (some_track (length image)) in
+    let front : take 256 image ≡ replicate 256 0 = bytes_of (code_of (error_at image 0)) (take 256 image) (replicate 256 0) (sym here ∙ h) in
+    let eight : take 8 image ≡ take 8 (replicate 256 0) = sym (take-take 8 256 image (omega arith)) ∙ ap (take 8) front in
+    ap (λ (xs : List ℕ). if bytes_eq xs (codes "GCR-1541") then G64 else D64) eight
+
+-- ---- a G64
+
+-- the signature is what it is told by
+signed : (file : List ℕ) → has_signature file ≡ true → take 8 file ≡ codes "GCR-1541"
+signed [] h = absurd (cc)
+signed (a ∷ []) h = absurd (cc)
+signed (a ∷ b ∷ []) h = absurd (cc)
+signed (a ∷ b ∷ c ∷ []) h = absurd (cc)
+signed (a ∷ b ∷ c ∷ d ∷ []) h = absurd (cc)
+signed (a ∷ b ∷ c ∷ d ∷ e ∷ []) h = absurd (cc)
+signed (a ∷ b ∷ c ∷ d ∷ e ∷ f ∷ []) h = absurd (cc)
+signed (a ∷ b ∷ c ∷ d ∷ e ∷ f ∷ g ∷ []) h = absurd (cc)
+signed (a ∷ b ∷ c ∷ d ∷ e ∷ f ∷ g ∷ i ∷ rest) h =
+    let p = and_parts _ _ h in
+    let q = and_parts (a == 71) _ p.1 in
+    let r = and_parts (b == 67) _ q.1 in
+    let s = and_parts (c == 82) _ r.1 in
+    let t = and_parts (d == 45) _ s.1 in
+    let u = and_parts (e == 49) _ t.1 in
+    let v = and_parts (f == 53) _ u.1 in
+    let w = and_parts (g == 52) (i == 49) v.1 in
+    rw (eqb-true a 71 q.0, eqb-true b 67 r.0, eqb-true c 82 s.0, eqb-true d 45 t.0, eqb-true e 49 u.0, eqb-true f 53 v.0, eqb-true g 52 w.0, eqb-true i 49 w.1) refl
+
+-- one without fault is taken for a G64
+pub has_kind : (file : List ℕ) → fault_of file ≡ None → kind_of file ≡ G64
+has_kind file h = ap (λ (xs : List ℕ). if bytes_eq xs (codes "GCR-1541") then G64 else D64) (signed file (passes file h).signature)
+
+-- ---- before NEW
+
+-- a D64 of zeros
+pub blank_sectors : (form : Form) (n : ℕ) (image : List ℕ) → kind_in form ≡ D64 → IsImageSize n → (n == 175531) ≡ false → tracks_in n ≡ tracks_on form → image ≡ replicate n 0 → IsBlank form image
+blank_sectors form n image kind size plain tracks is =
+    let wide : length image ≡ n = ap length is ∙ length-replicate n 0 in
+    record {
+      accepted = subst (λ (k : Kind). image_fault k image ≡ None) (sym kind) (ap size_fault wide ∙ right_size n size);
+      tracks = subst (λ (k : Kind). tracks_of k image ≡ tracks_on form) (sym kind) (ap tracks_in wide ∙ tracks);
+      zeros = λ p h. subst (λ (k : Kind). images.content_of k image p ≡ Ok (replicate 256 0)) (sym kind) (content_zeros n image p size plain is);
+    }
+
+pub blank_if : {A : Type 0} (r : Result A AllocError) (items : A → List ℕ) (form : Form) (n : ℕ) → kind_in form ≡ D64 → IsImageSize n → (n == 175531) ≡ false → tracks_in n ≡ tracks_on form
+    → IfOk r (λ v. items v ≡ replicate n 0) → IfOk r (λ v. IsBlank form (items v))
+blank_if (Ok v) items form n kind size plain tracks h = blank_sectors form n (items v) kind size plain tracks h
+blank_if (Err e) items form n kind size plain tracks h = tt
+
+-- ---- behind NEW
+
+-- the image of a D64 that shows an empty disk
+pub new_sectors : (form : Form) (title id image : List ℕ) (disk : sectors.Image) → kind_in form ≡ D64 → IsImageSize (length disk.bytes) → image ≡ disk.bytes
+    → IsEmpty (tracks_on form) title id (sectors.seen_of disk) → IsNew form title id image
+new_sectors form title id image disk kind size same e = record {
+  opens = first_zeros image (ap (λ (xs : List ℕ). content_of xs (record { track = 1; sector = 0 })) same ∙ e.first) ∙ sym kind;
+  accepted = subst (λ (k : Kind). image_fault k image ≡ None) (sym kind) (ap (λ (xs : List ℕ). size_fault (length xs)) same ∙ right_size (length disk.bytes) size);
+  holds = subst (λ (k : Kind). ImageHolds k image (empty_disk (tracks_on form) title id)) (sym kind)
+      (subst (λ (xs : List ℕ). ImageHolds D64 xs (empty_disk (tracks_on form) title id)) (sym same)
+      (subst (λ (n : ℕ). HoldsDisk n (content_of disk.bytes) (empty_disk (tracks_on form) title id)) (sym e.same_tracks) e.holds));
+}
+
+-- the image of a G64 that shows one
+pub new_circles : (form : Form) (title id image : List ℕ) (disk : circles.Disk) → kind_in form ≡ G64 → (fault_of image ≡ None) × (tracks_in_file image 35 ≡ disk.tracks)
+    → IsEmpty (tracks_on form) title id (circles.seen_of disk) → IsNew form title id image
+new_circles form title id image disk kind again e = record {
+  opens = has_kind image again.0 ∙ sym kind;
+  accepted = subst (λ (k : Kind). image_fault k image ≡ None) (sym kind) (ap (option_map number_of) again.0);
+  holds = subst (λ (k : Kind). ImageHolds k image (empty_disk (tracks_on form) title id)) (sym kind)
+      (subst (λ (ts : List (List Bool)). HoldsDisk 35 (circles.content_of ts) (empty_disk (tracks_on form) title id)) (sym again.1)
+      (subst (λ (n : ℕ). HoldsDisk n (circles.content_of disk.tracks) (empty_disk (tracks_on form) title id)) (sym e.same_tracks) e.holds));
+}
