@@ -12,7 +12,7 @@ use Rattle.cbm_session.specs.Playing.{Station, Plays, tell, host_event, drive_ev
 use Rattle.cbm_session.proofs.headline.Keeping.{plays_then}
 use Rattle.cbm_drive.specs.Cables.{Cabled}
 use Rattle.cbm_drive.specs.Played.{HasSettled}
-use Rattle.cbm_drive.specs.Players.{Turns, pending, at_most, IsDrives, IsGivenBefore, IsWaitingFrom, from_behind, IsSecond, IsAfter, HasGiven, IsFinished}
+use Rattle.cbm_drive.specs.Players.{Turns, pending, at_most, IsDrives, IsWaitingFrom, from_behind, IsSecond, IsAfter, HasGiven, IsFinished}
 use Rattle.cbm_drive.specs.Progress.{left}
 use Rattle.cbm_drive.specs.Reactions.{AreAt}
 use Rattle.cbm_drive.specs.Seats.{Seated, IsBusAt, AreInTime}

@@ -1,5 +1,5 @@
 -- What plays back a machine is a machine: it says bytes, and behind a byte that isn't the last another one.
-use Rattle.std.proofs.Common.{◌≡◌, ℕ, ◌<◌, Bool, true, false, List, [], ◌∷◌, ◌++◌, Option, Some, None, refl, sym, ap, subst, ◌∙◌}
+use Rattle.std.proofs.Common.{◌≡◌, ℕ, ◌<◌, Bool, true, false, List, ◌∷◌, ◌++◌, Option, Some, None, refl, sym, ap, subst, ◌∙◌}
 use Rattle.std.specs.Prelude.{IfSome, IsSome}
 use Rattle.cbm_iec.specs.Machines.{acted, goes_on, owes, IsShownBehind}
 use Rattle.cbm_iec.specs.declared.act.Act.TheVariants.{Said}

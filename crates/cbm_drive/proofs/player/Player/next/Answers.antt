@@ -1,4 +1,4 @@
-use Rattle.std.proofs.Common.{◌≡◌, [], ◌++◌, Option, Some, refl, sym, ap, subst, ◌∙◌}
+use Rattle.std.proofs.Common.{◌≡◌, [], Option, Some, refl, sym, ap, subst, ◌∙◌}
 use Rattle.std.specs.Prelude.{◌<◌, IfSome}
 use Rattle.cbm_iec.specs.declared.event.Event.{Event}
 use Rattle.cbm_drive.specs.Playback.{Playback, IsPlayedBack, played_says, played_step}
