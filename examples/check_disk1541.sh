@@ -148,6 +148,7 @@ is "goes to standard output" cmp -s out.txt game.prg
 case_of "standard input as a file" 0 any "" "$disk" get there.d64 INPUT
 is "has its bytes" cmp -s out.txt game.prg
 case_of "which wants a name" 1 "" "disk1541: name the file by --name" "$disk" put there.d64 -
+case_of "but not twice" 1 "" "disk1541: \`-\` is the image or the file, not both" "$disk" put - - --name TWICE
 for bad_name in A,B A=B A:B 'A"B'; do
     sentence="disk1541: a name can't have \`,\` \`=\` \`:\` or a quotation mark: $bad_name"
     case_of "put as $bad_name" 1 "" "$sentence" "$disk" put there.d64 game.prg --name "$bad_name"

@@ -1,6 +1,6 @@
 //! Commands that change an image.
 use crate::failure::Failure;
-use crate::host::{joined, read, write};
+use crate::host::{is_standard, joined, read, write};
 use crate::names::{file_name, name_of_file, petscii};
 use cbm_shell::Change;
 use std::rt::Runtime;
@@ -47,6 +47,9 @@ pub fn put<'a, R: Runtime + AllocGlobal>(
     end: &[u8],
     replaces: bool,
 ) -> Result<(), Failure<'a>> {
+    if is_standard(image) && is_standard(file) {
+        return Err(Failure::Twice);
+    }
     let name = match name {
         Some(name) => file_name(rt.alloc(), name)?,
         None => name_of_file(rt.alloc(), file)?,

@@ -21,6 +21,8 @@ pub enum Failure<'a> {
     Divided(&'a str),
     /// A file from standard input has no name.
     NoName,
+    /// Standard input is read once, so it isn't image and file.
+    Twice,
     /// No file has such a type.
     Type(&'a str),
     /// A disk's title has more than sixteen characters.
@@ -110,6 +112,7 @@ impl<'a> Failure<'a> {
                 eprintln!(rt; "disk1541: a name can't have `,` `=` `:` or a quotation mark: {name}")
             }
             Failure::NoName => eprintln!(rt; "disk1541: name the file by --name"),
+            Failure::Twice => eprintln!(rt; "disk1541: `-` is the image or the file, not both"),
             Failure::Type(kind) => {
                 eprintln!(rt; "disk1541: {kind} is no type of a file: take prg, seq or usr")
             }

@@ -1,32 +1,51 @@
 //! The program: the words of the command line, the task, the exit status.
 use crate::arguments;
+use crate::failure::Failure;
 use crate::progress::Progress;
 use crate::tasks::carry_out;
+use clap::error::ErrorKind;
 use std::process::ExitCode;
 use std::{env, io};
 
 /// Carries out the command line, and answers the exit status, also where its sentence can't be written.
 pub fn run_program(rt: &HostRuntime) -> ExitCode {
     let progress = Progress::begin(rt);
-    let Ok(words) = words_of(rt) else {
-        let _ = eprintln!(rt; "disk1541: a word of the command line is no text");
-        return ExitCode::from(1);
+    let words = match words_of(rt) {
+        Ok(words) => words,
+        Err(error) => return without_words(rt, &error),
     };
     let task = match arguments::parse(rt.alloc(), words.as_slice()) {
         Ok(task) => task,
-        Err(error) => {
-            let _ = error.print(rt);
-            let is_asked = error.exit_code() == 0;
-            return ExitCode::from(u8::from(!is_asked));
-        }
+        Err(error) => return without_task(rt, &error),
     };
     match carry_out(rt, task, progress) {
         Ok(()) => ExitCode::from(0),
-        Err(failure) => {
-            let _ = failure.tell(rt);
-            ExitCode::from(failure.status())
-        }
+        Err(failure) => ended(rt, failure),
     }
+}
+
+// Tells what went wrong.
+fn ended(rt: &HostRuntime, failure: Failure<'_>) -> ExitCode {
+    let _ = failure.tell(rt);
+    ExitCode::from(failure.status())
+}
+
+fn without_words(rt: &HostRuntime, error: &io::Error) -> ExitCode {
+    if error.kind() == io::ErrorKind::OutOfMemory {
+        return ended(rt, Failure::NoMemory);
+    }
+    let _ = eprintln!(rt; "disk1541: a word of the command line is no text");
+    ExitCode::from(1)
+}
+
+// What was asked for, as help is, is no fault.
+fn without_task(rt: &HostRuntime, error: &clap::Error) -> ExitCode {
+    if error.kind() == ErrorKind::OutOfMemory {
+        return ended(rt, Failure::NoMemory);
+    }
+    let _ = error.print(rt);
+    let is_asked = error.exit_code() == 0;
+    ExitCode::from(u8::from(!is_asked))
 }
 
 fn words_of(rt: &HostRuntime) -> io::Result<Vec<String>> {
