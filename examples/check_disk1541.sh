@@ -65,14 +65,19 @@ case_of "what was put is there" 0 any "" "$disk" get hello.d64 GAME -o back.prg
 is "byte for byte" cmp -s game.prg back.prg
 case_of "put again is refused" 1 "" "disk1541: hello.d64: a file of that name is there: take another name, or --replace (status 63)" "$disk" put hello.d64 game.prg
 case_of "put with --replace" 0 "" "" "$disk" put hello.d64 three.bin --name GAME --replace
-case_of "the new bytes" 0 any "" "$disk" get hello.d64 GAME -o back.prg
-is "are those" cmp -s three.bin back.prg
+case_of "a file that is there is kept" 1 "" "disk1541: back.prg is there already: take another name, or --replace" "$disk" get hello.d64 GAME -o back.prg
+is "as it was" cmp -s game.prg back.prg
+case_of "or replaced" 0 any "" "$disk" get hello.d64 GAME -o back.prg --replace
+is "by the new bytes" cmp -s three.bin back.prg
 case_of "copy" 0 "" "" "$disk" copy hello.d64 HELLO SECOND
 case_of "rename" 0 "" "" "$disk" rename hello.d64 SECOND OTHER
-case_of "the copy under its new name" 0 any "" "$disk" get hello.d64 OTHER -o back.prg
-is "has the bytes" cmp -s three.bin back.prg
+case_of "the copy under its new name" 0 any "" "$disk" get hello.d64 OTHER -o other.prg
+is "has the bytes" cmp -s three.bin other.prg
 case_of "delete" 0 "" "" "$disk" delete hello.d64 'O*'
 case_of "it is gone" 1 "" "disk1541: OTHER: no such file" "$disk" get hello.d64 OTHER
+file=$(stat -c %i hello.d64)
+case_of "nothing to delete" 1 "" "disk1541: nothing is deleted: no file that isn't locked matches O*" "$disk" delete hello.d64 'O*'
+is "and nothing is saved" test "$(stat -c %i hello.d64)" = "$file"
 case_of "check" 0 "sound" "" "$disk" check hello.d64
 case_of "validate" 0 "" "" "$disk" validate hello.d64
 case_of "put a sequential file" 0 "" "" "$disk" put hello.d64 game.prg --name NOTES --type seq
@@ -234,7 +239,7 @@ while [ $k -lt 100 ]; do
         file=$((file + 1))
     done
     next 3
-    "$disk" delete old.img "F$got*"
+    "$disk" delete old.img "F$got*" 2> /dev/null
     "$disk" list old.img > list.txt || bad=1
     "$disk" get-all old.img here || bad=1
     "$disk" new new.img --title "DISK $k" --id 64 --format $new || bad=1
@@ -281,7 +286,8 @@ fault_of() {
     case_of "$@"
     is "the image is as it was" cmp -s host.d64 before.d64
 }
-fault_of "a folder as output" 3 "" "disk1541: can't write folder: is a directory" "$disk" get host.d64 HELLO -o folder
+fault_of "a folder as output" 1 "" "disk1541: folder is there already: take another name, or --replace" "$disk" get host.d64 HELLO -o folder
+fault_of "a folder as output to be replaced" 3 "" "disk1541: can't write folder: is a directory" "$disk" get host.d64 HELLO -o folder --replace
 fault_of "a folder as file" 3 "" "disk1541: can't read folder: is a directory" "$disk" put host.d64 folder
 fault_of "a folder as new image" 1 "" "disk1541: folder is there already: take another name, or --replace" "$disk" new folder --title x --id 64 --format d64
 fault_of "a folder to be replaced" 3 "" "disk1541: can't write folder: is a directory" "$disk" new folder --title x --id 64 --format d64 --replace

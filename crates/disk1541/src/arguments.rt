@@ -64,6 +64,7 @@ pub enum Task<'a> {
         image: &'a str,
         name: &'a str,
         output: &'a str,
+        replaces: bool,
     },
     /// A file of the host into the image.
     Put {
@@ -158,7 +159,8 @@ fn get_command<'a>(alloc: Global) -> Result<Command<'a>, Error> {
     .default_value("-");
     let command = on_image(alloc, "get", "Takes a file out")?
         .arg(word(alloc, "NAME", "the file's name, or a pattern"))?
-        .arg(output)?;
+        .arg(output)?
+        .arg(flag(alloc, "replace", "replace the file that is there"))?;
     Ok(command)
 }
 
@@ -323,6 +325,7 @@ fn looking_task<'a>(name: &str, matches: &ArgMatches<'a>) -> Option<Task<'a>> {
             image,
             name: given(matches, "NAME"),
             output: given(matches, "output"),
+            replaces: matches.get_flag("replace"),
         }),
         "get-all" => Some(Task::GetAll {
             image,

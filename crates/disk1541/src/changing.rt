@@ -3,7 +3,18 @@ use crate::failure::Failure;
 use crate::host::{is_standard, joined, read, write};
 use crate::names::{file_name, name_of_file, petscii};
 use cbm_shell::Change;
+use std::alloc::Global;
 use std::rt::Runtime;
+
+/// The image with a change on its disk.
+fn changed<'a>(
+    alloc: Global,
+    image: &'a str,
+    bytes: &[u8],
+    change: &Change<'_>,
+) -> Result<Vec<u8>, Failure<'a>> {
+    cbm_shell::change(alloc, bytes, change).map_err(|fault| Failure::Disk(image, fault))
+}
 
 /// Makes a change on the disk of an image, and saves it.
 fn change<'a, R: Runtime + AllocGlobal>(
@@ -12,9 +23,7 @@ fn change<'a, R: Runtime + AllocGlobal>(
     change: &Change<'_>,
 ) -> Result<(), Failure<'a>> {
     let bytes = read(rt, image)?;
-    let changed = cbm_shell::change(rt.alloc(), bytes.as_slice(), change).map_err(
-        |fault| Failure::Disk(image, fault),
-    )?;
+    let changed = changed(rt.alloc(), image, bytes.as_slice(), change)?;
     write(rt, image, changed.as_slice())
 }
 
@@ -73,14 +82,22 @@ pub fn with_names<'a, R: Runtime + AllocGlobal>(
     command(rt, image, &[letter, new.as_slice(), b"=", old.as_slice()])
 }
 
-/// Deletes the files that match.
+/// Deletes the files that match. Where none does, or those are locked, the drive changes nothing; that is told, and the
+/// image isn't saved anew.
 pub fn delete<'a, R: Runtime + AllocGlobal>(
     rt: &R,
     image: &'a str,
     pattern: &'a str,
 ) -> Result<(), Failure<'a>> {
-    let pattern = petscii(rt.alloc(), pattern)?;
-    command(rt, image, &[b"S0:", pattern.as_slice()])
+    let bytes = read(rt, image)?;
+    let codes = petscii(rt.alloc(), pattern)?;
+    let text = joined(rt.alloc(), &[b"S0:", codes.as_slice()])?;
+    let change = Change::Command(text.as_slice());
+    let changed = changed(rt.alloc(), image, bytes.as_slice(), &change)?;
+    if changed.as_slice() == bytes.as_slice() {
+        return Err(Failure::NoneDeleted(pattern));
+    }
+    write(rt, image, changed.as_slice())
 }
 
 /// Puts the disk in order.

@@ -15,6 +15,8 @@ pub enum Failure<'a> {
     Disk(&'a str, ShellFault),
     /// The disk isn't sound, as a check says.
     Unsound(Unsound),
+    /// No file that isn't locked matches the pattern, so none was deleted.
+    NoneDeleted(&'a str),
     /// A name has a character that no disk has.
     Name(&'a str),
     /// A name has one of `,` `=` `:` `"`, which divide the words of the drive's commands.
@@ -97,6 +99,9 @@ impl<'a> Failure<'a> {
             }
             Failure::Lossy(name) => {
                 eprintln!(rt; "disk1541: {name} isn't written; --lossy writes it all the same")
+            }
+            Failure::NoneDeleted(pattern) => {
+                eprintln!(rt; "disk1541: nothing is deleted: no file that isn't locked matches {pattern}")
             }
             _ => self.tell_word(rt),
         }

@@ -1,6 +1,6 @@
 //! Commands that take files out.
 use crate::failure::Failure;
-use crate::host::{exists, hand_out, lay_out, read};
+use crate::host::{exists, hand_out, lay_out, read, require_new};
 use crate::names::{host_name, petscii, shown};
 use crate::progress::Progress;
 use cbm_shell::{OpenDisk, ShellFault};
@@ -10,18 +10,20 @@ use std::path::{Path, PathBuf};
 use std::rt::Runtime;
 use std::{fs, io};
 
-/// Takes a file out.
+/// Takes a file out. A file of this computer that is there is kept, unless it is to be replaced.
 pub fn get<'a, R: Runtime + AllocGlobal>(
     rt: &R,
     image: &'a str,
     name: &'a str,
     output: &'a str,
+    replaces: bool,
 ) -> Result<(), Failure<'a>> {
     let bytes = read(rt, image)?;
     let pattern = petscii(rt.alloc(), name)?;
     let file = cbm_shell::file(rt.alloc(), bytes.as_slice(), pattern.as_slice()).map_err(
         |fault| Failure::Disk(name, fault),
     )?;
+    require_new(rt, output, replaces)?;
     hand_out(rt, output, file.as_slice())
 }
 

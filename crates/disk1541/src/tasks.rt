@@ -24,7 +24,8 @@ fn look<'a, R: Runtime + AllocGlobal>(
             image,
             name,
             output,
-        } => Some(get(rt, image, name, output)),
+            replaces,
+        } => Some(get(rt, image, name, output, replaces)),
         Task::GetAll {
             image,
             folder,
