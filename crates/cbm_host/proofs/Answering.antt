@@ -17,8 +17,8 @@ use Rattle.cbm_host.proofs.Requests.{plays_requests}
 use Rattle.cbm_host.proofs.Saying.{Marks, by_drive, heard_marks, said_marks, leave_marks, AreSmall, Counts, SaysLast, SaysMost, IsSaid, turned_marks, sends_counts, takes_counts, closes_counts}
 use Rattle.cbm_host.specs.Attentions.{listen, unlisten, talk, untalk, data_on, close_on}
 use Rattle.cbm_host.specs.CarriedOut.{heard, spoken, said as talked, called, left_by, acts_of, IsTakenUpTo, IsTakenBy, AreBytes, SaysOn, SaysFew, IsShort}
-use Rattle.cbm_host.specs.Engines.{engine_at, channel_of, most_of, is_last}
-use Rattle.cbm_host.specs.Requests.{sending, Said, Mute, UpToLast, UpToMost, count_of, IsSaidFor, most_bytes, longest, pieces_of, IsPlayed}
+use Rattle.cbm_host.specs.Engines.{engine_at, channel_of, most_bytes, most_of, is_last}
+use Rattle.cbm_host.specs.Requests.{sending, Said, Mute, UpToLast, UpToMost, count_of, IsSaidFor, longest, pieces_of, IsPlayed}
 use Rattle.cbm_host.specs.declared.request.Request.{Request}
 use Rattle.cbm_host.specs.declared.request.Request.TheVariants.{Open, Put, Fill, Get, Close, Status}
 

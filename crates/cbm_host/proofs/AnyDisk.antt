@@ -1,17 +1,17 @@
 -- A machine that plays back what a drive showed: it stands for a drive at rest, and its requests are short where their bounds are.
-use Rattle.std.proofs.Common.{◌≡◌, ℕ, ◌<◌, ◌≤◌, Bool, true, false, List, [], ◌∷◌, Option, Some, None, refl, arith}
+use Rattle.std.proofs.Common.{ℕ, ◌<◌, false, List, [], ◌∷◌, None, refl, arith}
 use Rattle.std.specs.Prelude.{IfSome}
 use Rattle.std.specs.List.{AllZip}
 use Rattle.cbm_drive.specs.Cables.{Cabled}
-use Rattle.cbm_drive.specs.Seats.{Seated, Meets, IsSeat, IsBusAt, held_by}
-use Rattle.cbm_host.specs.AnyDisk.{IsBounded, IsAtRest}
+use Rattle.cbm_drive.specs.Seats.{Seated, IsSeat, IsBusAt, held_by}
+use Rattle.cbm_host.specs.AnyDisk.{IsAtRest}
 use Rattle.cbm_host.specs.CarriedOut.{IsShort}
 use Rattle.cbm_drive.specs.Playback.{Shown, Playback, played_says, played_step, IsPlayedBack}
+use Rattle.cbm_host.specs.Served.{IsModest}
 use Rattle.cbm_host.specs.declared.request.Request.{Request}
 use Rattle.cbm_host.specs.declared.request.Request.TheVariants.{Open, Put, Fill, Get, Close, Status}
-use Rattle.cbm_iec.specs.declared.lines.Lines.{Lines}
 use Rattle.cbm_iec.specs.declared.party.Party.{Party}
-use Rattle.cbm_session.specs.Playing.{Station, at_rest}
+use Rattle.cbm_session.specs.Playing.{at_rest}
 
 module _ {D : Type 0} (shows : D → Shown) (b : Party) where
   -- A machine plays back what it shows, and then this.
@@ -38,9 +38,9 @@ module _ {D : Type 0} (shows : D → Shown) (b : Party) where
       by_drives (x ∷ []) k = (record { port = k.0.port; machine = k.0.machine.byte; rest = k.0.rest }, tt)
 
 -- Its requests are short where their bounds are.
-pub is_short : (d : ℕ) (p : Playback) (request : Request) → IsBounded d p request → IsShort Playback played_step played_says d p request
+pub is_short : (d : ℕ) (p : Playback) (request : Request) → IsModest request → IsShort Playback played_step played_says d p request
 is_short d p (Get channel most) h = (h.0, λ bytes says less. (let few = h.1 in omega (arith, few, less)))
-is_short d p Status h = h
+is_short d p Status h = (omega arith, λ bytes says less. less)
 is_short d p (Open channel text) h = h
 is_short d p (Put channel bytes) h = h
 is_short d p (Fill channel count byte) h = h

@@ -5,13 +5,14 @@ use Rattle.cbm_drive.specs.Seats.{IsBusAt}
 use Rattle.cbm_drive.specs.PlayedBack.{played_machine}
 use Rattle.cbm_host.proofs.AnyDisk.{rests_again, is_short}
 use Rattle.cbm_host.proofs.CarriedOut.{some_end, carried_soon, carried_out_then}
-use Rattle.cbm_host.specs.AnyDisk.{IsBounded, IsCarriedOutAnyway}
+use Rattle.cbm_host.specs.AnyDisk.{IsCarriedOutAnyway}
 use Rattle.cbm_host.specs.CarriedOut.{HasCarriedOut}
 use Rattle.cbm_host.specs.Engines.{engine_at, stage_end, channel_of}
 use Rattle.cbm_host.specs.Performed.{HasPerformed}
 use Rattle.cbm_host.specs.Performers.{Performing}
 use Rattle.cbm_drive.specs.Playback.{Shown, Playback, played_says, played_step, IsPlayedBack}
 use Rattle.cbm_host.specs.Requests.{longest}
+use Rattle.cbm_host.specs.Served.{IsModest}
 use Rattle.cbm_host.specs.declared.request.Request.{Request}
 use Rattle.cbm_iec.specs.declared.event.Event.{Event}
 use Rattle.cbm_iec.specs.declared.party.Party.{Party}
@@ -31,7 +32,7 @@ module _ {D : Type 0} (shows : D → Shown) (b : Party) (drive : IsDrive b) (sta
     rests = λ small. (let k = done small in rests_again shows b now [] k.machine k.now);
   }
     where
-      done : IsBounded b.device m request → HasCarriedOut D Playback (IsPlayedBack shows []) played_step played_says b (λ d. m) start request now old new bytes last end
+      done : IsModest request → HasCarriedOut D Playback (IsPlayedBack shows []) played_step played_says b (λ d. m) start request now old new bytes last end
       done small =
           let short = is_short b.device m request small in
           let some = some_end D Playback (IsPlayedBack shows []) played_step played_says played_machine b drive (λ d. m) start request channel short p now old new bytes last h in

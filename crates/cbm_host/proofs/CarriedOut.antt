@@ -40,6 +40,7 @@ use Rattle.cbm_host.proofs.Joined.{DriveComes, Comes, comes}
 use Rattle.cbm_host.proofs.Joining.{is_next}
 use Rattle.cbm_host.proofs.Joint.{met, quiet_bytes, goes_bytes}
 use Rattle.cbm_host.proofs.Settling.{Settles, rests, one_settles}
+use Rattle.cbm_host.proofs.Started.{not_before_start}
 use Rattle.cbm_host.specs.CarriedOut as asked
 use Rattle.cbm_host.specs.CarriedOut.{IsTakenBy, IsShort, HasCarriedOut}
 use Rattle.cbm_host.specs.Engines.{engine_at, engine_due, stage_end, channel_of}
@@ -234,6 +235,7 @@ module _ (D M : Type 0) (stands : D → M → Type 0) (step : M → Act → M) (
         kept = subst (λ (v : List (Station M)). IsKept M step says (b ∷ []) ms h.made the_plan.played.until v) (sym one.1 ∙ is_at_rest) (kept_one the_plan.played.until);
         ran = ran;
         taken = subst (λ (v : Bool). IsTakenBy request bytes v) (sym is_last) (subst (λ (l : List ℕ). IsTakenBy request l (last_from false the_plan.marks)) (sym is_taken) the_plan.taken);
+        later = not_before_start b start b.device (start + longest) request the_plan.pieces is_bus the_plan.played;
         soon = the_plan.played.soon;
       };
     }

@@ -39,7 +39,7 @@ all_upto w m [] last h = sooner w m last.event.who (moment_of last) h.0
 all_upto w m (x ∷ front) last h = all_upto w m front last h.1
 
 -- a step of such a list isn't later than its last
-upto_last : (xs : List Step) (s : Step) (ys front : List Step) (last : Step) → GoesOn (xs ++ s ∷ ys) → xs ++ s ∷ ys ≡ front ++ last ∷ [] → moment_of s ≤ moment_of last
+pub upto_last : (xs : List Step) (s : Step) (ys front : List Step) (last : Step) → GoesOn (xs ++ s ∷ ys) → xs ++ s ∷ ys ≡ front ++ last ∷ [] → moment_of s ≤ moment_of last
 upto_last [] s ys [] last g e = let same : s ≡ last = cc in subst (λ (v : Step). moment_of s ≤ moment_of v) same (omega arith)
 upto_last [] s ys (f ∷ front) last g e =
     let same : s ≡ f = cc in

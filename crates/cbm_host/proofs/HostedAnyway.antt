@@ -8,13 +8,13 @@ use Rattle.cbm_iec.specs.declared.port.Port.{Port}
 use Rattle.cbm_drive.specs.Cables.{Cabled, all_free}
 use Rattle.cbm_drive.specs.Players.{at_start}
 use Rattle.cbm_drive.specs.Seats.{Seated, IsWithout, IsBusAt, held_by}
-use Rattle.cbm_drive.specs.PlayedBack.{played_byte, played_machine}
-use Rattle.cbm_host.proofs.AnyDisk.{rest_played, rests_again, is_short}
-use Rattle.cbm_host.proofs.CarriedOut.{some_end, carried_out_then}
+use Rattle.cbm_drive.specs.PlayedBack.{played_byte}
+use Rattle.cbm_host.proofs.AnyDisk.{rest_played}
+use Rattle.cbm_host.proofs.Anyway.{carried_anyway}
 use Rattle.cbm_host.proofs.Hosting.{is_drive}
 use Rattle.cbm_host.proofs.Performed.{performing_none}
 use Rattle.cbm_host.specs.AnyDisk.{IsAtRest, IsUnderWayAnyway, IsOverAnyway}
-use Rattle.cbm_host.specs.Engines.{engine_at, channel_of}
+use Rattle.cbm_host.specs.Engines.{engine_at, stage_end, channel_of}
 use Rattle.cbm_host.specs.Hosted.{party_of}
 use Rattle.cbm_host.specs.Performers.{Performing}
 use Rattle.cbm_drive.specs.Playback.{Shown, Playback, played_says, played_step, IsPlayedBack}
@@ -41,9 +41,8 @@ module _ {D : Type 0} (shows : D → Shown) (device : ℕ) where
       rest = subst (λ (q : Port). IsWithout (held_by all_free ((record { port = q; machine = x.machine }) ∷ [])) q.own nobody) (sym port) (record { host = refl; clocks = refl; datas = refl })
 
   -- before the first event
-  pub begun_anyway : (start : ℕ) (b : Cabled D) (p : Performing) (request : Request) → IsAtRest shows (party_of device) b → p.player ≡ at_start → p.engine ≡ engine_at start device request → p.limit ≡ start + longest → IsUnderWayAnyway shows device b p request
+  pub begun_anyway : (start : ℕ) (b : Cabled D) (p : Performing) (request : Request) → IsAtRest shows (party_of device) b → p.player ≡ at_start → p.engine ≡ engine_at start device request → p.limit ≡ start + longest → IsUnderWayAnyway shows device start b p request
   begun_anyway start b p request rests player engine limit = record {
-    start = start;
     before = b;
     rested = rests;
     trail = [];
@@ -58,33 +57,27 @@ module _ {D : Type 0} (shows : D → Shown) (device : ℕ) where
   }
 
   -- one more byte was taken
-  pub goes_on_anyway : (b c : Cabled D) (p q : Performing) (said : ℕ × Bool) → TakesRecorded shows p q b c (Some said) → (request : Request) → IsUnderWayAnyway shows device b p request → IsUnderWayAnyway shows device c q request
-  goes_on_anyway b c p q said takes request u = record {
-    start = u.start;
+  pub goes_on_anyway : (start : ℕ) (b c : Cabled D) (p q : Performing) (said : ℕ × Bool) → TakesRecorded shows p q b c (Some said) → (request : Request) → IsUnderWayAnyway shows device start b p request → IsUnderWayAnyway shows device start c q request
+  goes_on_anyway start b c p q said takes request u = record {
     before = u.before;
     rested = u.rested;
     trail = u.trail ++ takes.0;
     goes = λ later m k.
         (let k2 : IsOnBus (u.trail ++ (takes.0 ++ later)) u.before m = subst (λ (l : List Shown). IsOnBus l u.before m) (append_assoc u.trail takes.0 later) k in
         let t = u.goes (takes.0 ++ later) m k2 in
-        (t.0 ++ said.0 ∷ [], said.1, takes.1 later (engine_at u.start device request) (u.start + longest) t.0 t.1 (resting m) t.2));
+        (t.0 ++ said.0 ∷ [], said.1, takes.1 later (engine_at start device request) (start + longest) t.0 t.1 (resting m) t.2));
   }
 
   -- no more comes
-  pub over_anyway : (b c : Cabled D) (p q : Performing) → 8 ≤ device → device ≤ 11 → TakesRecorded shows p q b c None → (request : Request) → channel_of request ≤ 15 → IsUnderWayAnyway shows device b p request → IsOverAnyway shows device c request
-  over_anyway b c p q low high takes request channel u =
+  pub over_anyway : (start moment : ℕ) (b c : Cabled D) (p q : Performing) → 8 ≤ device → device ≤ 11 → ((t : ℕ) → stage_end q.engine.stage ≡ Some t → t ≤ q.limit → moment ≡ t) → TakesRecorded shows p q b c None
+      → (request : Request) → channel_of request ≤ 15 → IsUnderWayAnyway shows device start b p request → IsOverAnyway shows device start c moment request
+  over_anyway start moment b c p q low high is takes request channel u =
       let first = rest_played shows (party_of device) u.before (u.trail ++ (takes.0 ++ [])) u.rested in
       let t = u.goes (takes.0 ++ []) first.0 first.1 in
-      let h = takes.1 [] (engine_at u.start device request) (u.start + longest) t.0 t.1 (resting first.0) t.2 in (
-        first.0,
-        λ small.
-            let short = is_short device first.0 request small in
-            let drive = is_drive device low high in
-            let some = some_end D Playback (IsPlayedBack shows []) played_step played_says played_machine (party_of device) drive (λ d. first.0) u.start request channel short q c [] h.made t.0 t.1 h.performed in
-            let k = carried_out_then D Playback (IsPlayedBack shows []) played_step played_says played_machine (party_of device) drive (λ d. first.0) u.start request channel short q c [] h.made t.0 t.1 h.performed some.0 some.1 in
-            rests_again shows (party_of device) c [] k.machine k.now,
-      )
+      let h = takes.1 [] (engine_at start device request) (start + longest) t.0 t.1 (resting first.0) t.2 in
+      let over = carried_anyway shows (party_of device) (is_drive device low high) start request channel u.before c (u.trail ++ (takes.0 ++ [])) first.0 first.1 q [] h.made t.0 t.1 moment h.performed is in
+      record { rests = over.rests; later = λ modest. (over.done modest).done.later }
 
   -- the same of what a call answers
-  abbrev pub OnTakeAnyway : ℕ → Cabled D → Cabled D → Performing → Performing → Option (ℕ × Bool) → Type 0
-  OnTakeAnyway d b c p q result = (request : Request) → channel_of request ≤ 15 → IsUnderWayAnyway shows d b p request → MatchOption result (IsOverAnyway shows device c request) (λ x. IsUnderWayAnyway shows device c q request)
+  abbrev pub OnTakeAnyway : ℕ → Cabled D → Cabled D → ℕ → Performing → Performing → Option (ℕ × Bool) → Type 0
+  OnTakeAnyway d b c moment p q result = (request : Request) (start : ℕ) → channel_of request ≤ 15 → IsUnderWayAnyway shows d start b p request → MatchOption result (IsOverAnyway shows device start c moment request) (λ x. IsUnderWayAnyway shows device start c q request)

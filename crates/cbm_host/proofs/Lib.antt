@@ -16,6 +16,7 @@ pub mod Ended
 pub mod Counted
 pub mod Saying
 pub mod Finished
+pub mod Started
 pub mod Fronts
 pub mod Answering
 pub mod Settling

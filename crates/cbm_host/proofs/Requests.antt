@@ -1,5 +1,5 @@
 -- Every request is a session of its own, and the host performs its part of it.
-use Rattle.std.proofs.Common.{replicate, ◌≡◌, ℕ, ◌+◌, ◌*◌, ◌≤◌, ◌<◌, ◌-◌, ◌^◌, true, false, List, [], ◌∷◌, ◌++◌, length, Some, None, ap, ◌∙◌, arith, refl}
+use Rattle.std.proofs.Common.{replicate, ◌≡◌, ℕ, ◌+◌, ◌*◌, ◌≤◌, ◌<◌, true, false, List, [], ◌∷◌, ◌++◌, length, Some, None, ap, ◌∙◌, arith, refl}
 use Rattle.cbm_iec.specs.Roles.{role_after}
 use Rattle.cbm_iec.specs.declared.party.Party.{Party}
 use Rattle.cbm_iec.specs.declared.party.Role.TheVariants.{Absent, Talker}
@@ -13,6 +13,7 @@ use Rattle.cbm_host.proofs.Playing.{attending, pull_then, command_then, nobody_t
 use Rattle.cbm_host.proofs.Sent.{accepted_soon, listener_then}
 use Rattle.cbm_host.proofs.Taken.{talker_then, nothing_then, up_to_last_then, as_many_then}
 use Rattle.cbm_host.specs.Attentions.{listen, unlisten, talk, data_on, close_on, open_on}
+use Rattle.cbm_host.specs.Engines.{most_bytes}
 use Rattle.cbm_host.specs.Requests.{accept_for, attention, sending, Said, Mute, UpToLast, UpToMost, turned, taking, leave, count_of, IsSaidFor, longest, IsPlayed, PlaysRequests}
 use Rattle.cbm_host.specs.Stages as stages
 use Rattle.cbm_host.specs.Waits.{ready_wait, turn_wait, phase}
@@ -130,4 +131,4 @@ plays_requests b start said (Put channel bytes) drive c n w m = sends b drive st
 plays_requests b start said (Fill channel count byte) drive c n w m = sends b drive start (replicate count byte) 0 (data_on + channel) (start + longest) (omega arith) (omega (arith, c)) (omega (arith, n))
 plays_requests b start said (Get channel most) drive c n w m = takes b drive start [] most channel (start + longest) said c w (omega (arith, m))
 plays_requests b start said (Close channel) drive c n w m = closes b drive start [] 0 channel (start + longest) c (omega arith)
-plays_requests b start said Status drive c n w m = takes b drive start [] (2 ^ 32 - 1) 15 (start + longest) said (omega arith) w (omega (arith, m))
+plays_requests b start said Status drive c n w m = takes b drive start [] most_bytes 15 (start + longest) said (omega arith) w (omega (arith, m))

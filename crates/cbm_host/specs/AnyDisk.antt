@@ -1,27 +1,20 @@
 -- A request to a drive on any disk: what the drive showed is played back by a machine, and for that machine the request was carried out.
-use Rattle.std.specs.Prelude.{◌≡◌, ◌<◌, ◌≤◌, ◌+◌, ◌++◌, ℕ, Bool, List, [], ◌∷◌, length, Option, None, IfSome}
+use Rattle.std.specs.Prelude.{◌<◌, ◌≤◌, ◌+◌, ◌++◌, ℕ, Bool, List, [], ◌∷◌, None, IfSome}
 use Rattle.cbm_drive.specs.Cables.{Cabled}
 use Rattle.cbm_drive.specs.Desks.{Desk}
 use Rattle.cbm_drive.specs.Seats.{IsBusAt}
-use Rattle.cbm_host.specs.CarriedOut.{AreBytes, IsShort, HasCarriedOut}
-use Rattle.cbm_host.specs.Engines.{sent_by, engine_at}
+use Rattle.cbm_host.specs.CarriedOut.{HasCarriedOut}
+use Rattle.cbm_host.specs.Engines.{engine_at}
 use Rattle.cbm_host.specs.Hosted.{IsTaking, Hosting, party_of}
 use Rattle.cbm_host.specs.Performed.{IsCutShort}
 use Rattle.cbm_drive.specs.Playback.{Shown, Playback, played_says, played_step, IsPlayedBack}
 use Rattle.cbm_host.specs.Performers.{Performing}
-use Rattle.cbm_host.specs.Requests.{most_bytes, longest}
+use Rattle.cbm_host.specs.Requests.{longest}
+use Rattle.cbm_host.specs.Served.{IsModest}
 use Rattle.cbm_host.specs.declared.request.Request.{Request}
-use Rattle.cbm_host.specs.declared.request.Request.TheVariants.{Get, Status}
 use Rattle.cbm_iec.specs.declared.event.Event.{Event}
 use Rattle.cbm_iec.specs.declared.party.Party.{Party}
 use Rattle.cbm_session.specs.Playing.{at_rest}
-
--- A REQUEST OF AT MOST 200,000 BYTES: so many are sent, or one at least and so many at most are wanted. A status line, which is taken to its end, must be
--- that short as the drive showed it.
-abbrev pub IsBounded : ℕ → Playback → Request → Type 0
-IsBounded d p (Get channel most) = (1 ≤ most) × (most ≤ most_bytes)
-IsBounded d p Status = IsShort Playback played_step played_says d p Status
-IsBounded d p request = (length (sent_by request) ≤ most_bytes) × AreBytes (sent_by request)
 
 module _ {D : Type 0} (shows : D → Shown) where
   -- THE DRIVE IS AT REST: all lines are free and nothing is due; it shows a byte, or nothing to say.
@@ -29,13 +22,14 @@ module _ {D : Type 0} (shows : D → Shown) where
   IsAtRest b bus = IsBusAt D (Unit {0}) (λ x u. IfSome (shows x) (λ s. s.0 < 256)) bus.host bus.drives (at_rest (Unit {0}) (λ u act. u) (λ u. None) (λ d. tt) (b ∷ []))
 
   -- THE REQUEST WAS CARRIED OUT, whatever the disk: this machine plays back what the drive showed from the beginning on, for it the request was carried out,
-  -- and the drive is at rest again, so that another request may come.
+  -- and the drive is at rest again, so that another request may come. Nothing is asked of the drive or its disk, only that the request is of at most 200,000
+  -- bytes.
   pub record IsCarriedOutAnyway (b : Party) (start : ℕ) (request : Request) (before now : Cabled D) (old new : List Event) (bytes : List ℕ) (last : Bool) (end : ℕ) : Type 0 where
     pub played : Playback
     pub trail : List Shown
     pub began : IsBusAt D Playback (IsPlayedBack shows trail) before.host before.drives (at_rest Playback played_step played_says (λ d. played) (b ∷ []))
-    pub done : IsBounded b.device played request → HasCarriedOut D Playback (IsPlayedBack shows []) played_step played_says b (λ d. played) start request now old new bytes last end
-    pub rests : IsBounded b.device played request → IsAtRest b now
+    pub done : IsModest request → HasCarriedOut D Playback (IsPlayedBack shows []) played_step played_says b (λ d. played) start request now old new bytes last end
+    pub rests : IsModest request → IsAtRest b now
 
   -- MEMORY RAN OUT, whatever the disk: the events that were added are a beginning of what such a machine made.
   pub record IsCutShortAnyway (b : Party) (before now : Cabled D) (old new : List Event) : Type 0 where
@@ -47,19 +41,19 @@ module _ {D : Type 0} (shows : D → Shown) where
 -- ---- a request taken byte by byte
 
 module _ {D : Type 0} (shows : D → Shown) where
-  -- A REQUEST IS UNDER WAY to the drive with this device number, which was at rest, whatever its disk: where a machine plays back what the drive showed so
-  -- far, and then these, it is one to that machine.
-  pub record IsUnderWayAnyway (device : ℕ) (bus : Cabled D) (p : Performing) (request : Request) : Type 0 where
-    pub start : ℕ
+  -- A REQUEST IS UNDER WAY since this moment to the drive with this device number, which was at rest, whatever its disk: where a machine plays back what the
+  -- drive showed so far, and then these, it is one to that machine.
+  pub record IsUnderWayAnyway (device start : ℕ) (bus : Cabled D) (p : Performing) (request : Request) : Type 0 where
     pub before : Cabled D
     pub rested : IsAtRest shows (party_of device) before
     pub trail : List Shown
     pub goes : (later : List Shown) (m : Playback) → IsBusAt D Playback (IsPlayedBack shows (trail ++ later)) before.host before.drives (at_rest Playback played_step played_says (λ d. m) (party_of device ∷ []))
         → (bytes : List ℕ) × (last : Bool) × IsTaking D Playback (IsPlayedBack shows later) played_step played_says (engine_at start device request) (start + longest) p bus bytes last (at_rest Playback played_step played_says (λ d. m) (party_of device ∷ []))
 
-  -- IT IS OVER: the drive is at rest again, if the request was one of at most 200,000 bytes for the machine that plays it back.
-  abbrev pub IsOverAnyway : ℕ → Cabled D → Request → Type 0
-  IsOverAnyway device bus request = (m : Playback) × (IsBounded device m request → IsAtRest shows (party_of device) bus)
+  -- IT IS OVER at that moment: where it was a request of at most 200,000 bytes, the drive is at rest again, and the moment isn't before the start.
+  pub record IsOverAnyway (device start : ℕ) (bus : Cabled D) (moment : ℕ) (request : Request) : Type 0 where
+    pub rests : IsModest request → IsAtRest shows (party_of device) bus
+    pub later : IsModest request → start ≤ moment
 
 -- THE DRIVE RESTS, on any disk.
 abbrev pub RestsAnyway : {K : Type 0} → (Desk K → Shown) → Hosting K → Type 0

@@ -10,8 +10,8 @@ use Rattle.cbm_session.specs.Timing.{HostKeeps}
 use Rattle.cbm_drive.specs.Cables.{Cabled}
 use Rattle.cbm_drive.specs.Seats.{IsBusAt}
 use Rattle.cbm_host.specs.Attentions.{listen, unlisten, talk, untalk, data_on, close_on, open_on}
-use Rattle.cbm_host.specs.Engines.{is_last, sent_by, most_of}
-use Rattle.cbm_host.specs.Requests.{most_bytes, longest}
+use Rattle.cbm_host.specs.Engines.{is_last, sent_by, most_bytes, most_of}
+use Rattle.cbm_host.specs.Requests.{longest}
 use Rattle.cbm_host.specs.declared.request.Request.{Request}
 use Rattle.cbm_host.specs.declared.request.Request.TheVariants.{Open, Put, Fill, Get, Close, Status}
 
@@ -73,13 +73,15 @@ module _ (M : Type 0) (step : M → Act → M) (says : M → Option (ℕ × Bool
   IsShort d m Status = SaysFew (most_of Status) (run M step says m (called (talk + d) (data_on + 15)))
   IsShort d m request = (length (sent_by request) ≤ most_bytes) × AreBytes (sent_by request)
 
-  -- A REQUEST WAS CARRIED OUT, by these events up to this end: the host kept the bus's timing; the events are a beginning of a session in which each byte
-  -- said is the machine's answer, and no reaction was late; the machine ran exactly the acts of the request with these bytes; and with it the bus is at rest.
+  -- A REQUEST WAS CARRIED OUT, by these events up to this end, which isn't before the start: the host kept the bus's timing; the events are a beginning of
+  -- a session in which each byte said is the machine's answer, and no reaction was late; the machine ran exactly the acts of the request with these bytes;
+  -- and with it the bus is at rest.
   pub record IsCarriedOut (b : Party) (ms : ℕ → M) (start : ℕ) (request : Request) (made : List Event) (bytes : List ℕ) (last : Bool) (end : ℕ) (machine : M) : Type 0 where
     pub timing : HostKeeps (b ∷ []) made end
     pub kept : IsKept M step says (b ∷ []) ms made end (at_rest M step says (λ d. machine) (b ∷ []))
     pub ran : Run M step says (ms b.device) (acts_of b.device request bytes last) machine
     pub taken : IsTakenBy request bytes last
+    pub later : start ≤ end
     pub soon : end ≤ start + longest
 
 module _ (D M : Type 0) (stands : D → M → Type 0) (step : M → Act → M) (says : M → Option (ℕ × Bool)) where

@@ -1,5 +1,5 @@
 -- A request under way: what the host is at, the bytes that are left, and what becomes of it behind each change.
-use Rattle.std.specs.Prelude.{ℕ, ◌+◌, ◌-◌, ◌^◌, Bool, true, false, List, [], ◌∷◌, Option, Some, None, nat_le, ◌||◌, replicate, if◌then◌else◌}
+use Rattle.std.specs.Prelude.{ℕ, ◌+◌, ◌-◌, Bool, true, false, List, [], ◌∷◌, Option, Some, None, nat_le, ◌||◌, replicate, if◌then◌else◌}
 use Rattle.cbm_iec.specs.declared.line.Change.{Change}
 use Rattle.cbm_iec.specs.declared.line.Line.{Line}
 use Rattle.cbm_iec.specs.declared.line.Line.TheVariants.{Data}
@@ -52,16 +52,21 @@ channel_of (Get channel most) = channel
 channel_of (Close channel) = channel
 channel_of Status = 15
 
--- the bytes that it sends, and how many it takes at most
+-- the bytes that it sends
 abbrev pub sent_by : Request → List ℕ
 sent_by (Open channel text) = text.now
 sent_by (Put channel bytes) = bytes.now
 sent_by (Fill channel count byte) = replicate count byte
 sent_by request = []
 
+-- the longest request, in bytes
+abbrev pub most_bytes : ℕ
+most_bytes = 200000
+
+-- how many bytes it takes at most: of a status, whose line is far shorter, as many as of the longest get
 abbrev pub most_of : Request → ℕ
 most_of (Get channel most) = most
-most_of Status = 2 ^ 32 - 1
+most_of Status = most_bytes
 most_of request = 0
 
 abbrev pub engine_at : ℕ → ℕ → Request → Engined

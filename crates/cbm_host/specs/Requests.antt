@@ -10,7 +10,7 @@ use Rattle.cbm_session.specs.Sessions.{rest, Linked, session_steps, IsDrive}
 use Rattle.cbm_session.specs.Steps.{Step, moment_of}
 use Rattle.cbm_iec.specs.declared.party.Role.TheVariants.{Absent}
 use Rattle.cbm_host.specs.Attentions.{listen, unlisten, talk, untalk, data_on, close_on, open_on}
-use Rattle.cbm_host.specs.Engines.{Engined, engine_at, is_last, channel_of, sent_by, most_of}
+use Rattle.cbm_host.specs.Engines.{Engined, engine_at, is_last, channel_of, sent_by, most_bytes, most_of}
 use Rattle.cbm_host.specs.Framed.{frame_for, told_for}
 use Rattle.cbm_host.specs.Performing.{Performs}
 use Rattle.cbm_host.specs.Waits.{ready_wait, answer_wait, phase, turn_wait, silence}
@@ -114,10 +114,7 @@ IsSaidFor most Mute = Unit {0}
 IsSaidFor most (UpToLast first more) = length more + 1 ≤ most
 IsSaidFor most (UpToMost first more next last) = length more + 1 ≡ most
 
--- the longest request, in bytes, and in microseconds
-abbrev pub most_bytes : ℕ
-most_bytes = 200000
-
+-- the longest request, in microseconds
 abbrev pub longest : ℕ
 longest = 250000000
 

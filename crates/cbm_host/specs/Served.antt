@@ -7,8 +7,7 @@ use Rattle.cbm_channel.specs.Talking.{peek, taken, talk, listen}
 use Rattle.cbm_channel.specs.Calls.{put, end_put, after_open}
 use Rattle.cbm_drive.specs.Desks.{Desk, at_first}
 use Rattle.cbm_host.specs.CarriedOut.{AreBytes}
-use Rattle.cbm_host.specs.Engines.{sent_by}
-use Rattle.cbm_host.specs.Requests.{most_bytes}
+use Rattle.cbm_host.specs.Engines.{sent_by, most_bytes}
 use Rattle.cbm_host.specs.declared.request.Request.{Request}
 use Rattle.cbm_host.specs.declared.request.Request.TheVariants.{Open, Put, Fill, Get, Close, Status}
 
@@ -65,7 +64,7 @@ pub record IsServed (d : ℕ) (request : Request) (m : Machine) (bytes : List �
   pub said : bytes ≡ (served request m).bytes
   pub marked : last ≡ (served request m).marked
 
--- A request of at most 200,000 bytes: so many are sent, or one at least and so many at most are wanted. A status line is shorter.
+-- A request of at most 200,000 bytes: so many are sent, or one at least and so many at most are wanted. A status is never longer.
 abbrev pub IsModest : Request → Type 0
 IsModest (Get channel most) = (1 ≤ most) × (most ≤ most_bytes)
 IsModest Status = Unit {0}

@@ -50,8 +50,7 @@ impl<M: Steady> Hosted<M> {
     ghost use Rattle.cbm_host.specs.Progress.{left_of};
     ghost use Rattle.cbm_host.specs.Served.{hear, served, IsModest};
     ghost use Rattle.cbm_drive.specs.Desks.{desk_shows};
-    ghost use Rattle.cbm_drive.specs.Playback.{Playback};
-    ghost use Rattle.cbm_host.specs.AnyDisk.{IsBounded, IsUnderWayAnyway, IsOverAnyway, RestsAnyway};
+    ghost use Rattle.cbm_host.specs.AnyDisk.{IsUnderWayAnyway, IsOverAnyway, RestsAnyway};
 
     /// A drive at power up with this medium and a device number from 8 to 11.
     pub fn new(medium: M, device: u8) -> Hosted<M>
@@ -84,7 +83,7 @@ impl<M: Steady> Hosted<M> {
             IsUnderWay M.seen self.now result m request.entry [] false }
         // On any disk:
         ensures anyway { RestsAnyway desk_shows self.now →
-            IsUnderWayAnyway desk_shows self.now.device self.now.bus result request.entry }
+            IsUnderWayAnyway desk_shows self.now.device self.now.moment self.now.bus result request.entry }
         ensures limit { result.limit ≡ self.now.moment + 250000000 }
     {
         Performer::new(self.moment, self.device, request)
@@ -98,10 +97,10 @@ impl<M: Steady> Hosted<M> {
             (IsOver M.seen self.new m request bytes last)
             (λ x. IsGoingOn M.seen self.new performer.new m request (bytes ++ x.0 ∷ []) x.1) }
         // On any disk:
-        ensures anyway { (request : Request) → channel_of request ≤ 15 →
-            IsUnderWayAnyway desk_shows self.old.device self.old.bus performer.old request → MatchOption result
-            (IsOverAnyway desk_shows self.new.device self.new.bus request)
-            (λ x. IsUnderWayAnyway desk_shows self.new.device self.new.bus performer.new request) }
+        ensures anyway { (request : Request) (start : ℕ) → channel_of request ≤ 15 →
+            IsUnderWayAnyway desk_shows self.old.device start self.old.bus performer.old request → MatchOption result
+            (IsOverAnyway desk_shows self.new.device start self.new.bus self.new.moment request)
+            (λ x. IsUnderWayAnyway desk_shows self.new.device start self.new.bus performer.new request) }
         ensures device { self.new.device ≡ self.old.device }
         // Whatever the drive stands for:
         ensures fewer { IfSome result (λ x. left_of performer.new self.new.bus < left_of performer.old self.old.bus) }
@@ -129,8 +128,9 @@ impl<M: Steady> Hosted<M> {
         requires short { length text.now ≤ 200000 }
         requires moment { self.old.moment < 2 ^ 58 }
         ensures rests { (m : Machine) → Rests M.seen self.old m → Rests M.seen self.new (after_open channel text.now m) }
-        // On any disk the drive rests again.
+        // On any disk the drive rests again, and the next request doesn't begin before this one.
         ensures anyway { RestsAnyway desk_shows self.old → RestsAnyway desk_shows self.new }
+        ensures later { RestsAnyway desk_shows self.old → self.old.moment ≤ self.new.moment }
         ensures soon { self.new.moment ≤ self.old.moment + 250000000 }
         ensures tracks { tracks_on M.seen self.new ≡ tracks_on M.seen self.old }
     {
@@ -143,8 +143,9 @@ impl<M: Steady> Hosted<M> {
         requires short { length bytes.now ≤ 200000 }
         requires moment { self.old.moment < 2 ^ 58 }
         ensures rests { (m : Machine) → Rests M.seen self.old m → Rests M.seen self.new (hear channel bytes.now m) }
-        // On any disk the drive rests again.
+        // On any disk the drive rests again, and the next request doesn't begin before this one.
         ensures anyway { RestsAnyway desk_shows self.old → RestsAnyway desk_shows self.new }
+        ensures later { RestsAnyway desk_shows self.old → self.old.moment ≤ self.new.moment }
         ensures soon { self.new.moment ≤ self.old.moment + 250000000 }
         ensures tracks { tracks_on M.seen self.new ≡ tracks_on M.seen self.old }
     {
@@ -158,8 +159,9 @@ impl<M: Steady> Hosted<M> {
         requires moment { self.old.moment < 2 ^ 58 }
         ensures rests { (m : Machine) → Rests M.seen self.old m →
             Rests M.seen self.new (hear channel (replicate count byte) m) }
-        // On any disk the drive rests again.
+        // On any disk the drive rests again, and the next request doesn't begin before this one.
         ensures anyway { RestsAnyway desk_shows self.old → RestsAnyway desk_shows self.new }
+        ensures later { RestsAnyway desk_shows self.old → self.old.moment ≤ self.new.moment }
         ensures soon { self.new.moment ≤ self.old.moment + 250000000 }
         ensures tracks { tracks_on M.seen self.new ≡ tracks_on M.seen self.old }
     {
@@ -171,8 +173,9 @@ impl<M: Steady> Hosted<M> {
         requires channel { channel ≤ 15 }
         requires moment { self.old.moment < 2 ^ 58 }
         ensures rests { (m : Machine) → Rests M.seen self.old m → Rests M.seen self.new (closing.close channel m) }
-        // On any disk the drive rests again.
+        // On any disk the drive rests again, and the next request doesn't begin before this one.
         ensures anyway { RestsAnyway desk_shows self.old → RestsAnyway desk_shows self.new }
+        ensures later { RestsAnyway desk_shows self.old → self.old.moment ≤ self.new.moment }
         ensures soon { self.new.moment ≤ self.old.moment + 250000000 }
         ensures tracks { tracks_on M.seen self.new ≡ tracks_on M.seen self.old }
     {
@@ -186,8 +189,8 @@ impl<M: Steady> Hosted<M> {
         ensures rests { (m : Machine) → IsModest request.entry → Rests M.seen self.old m →
             Rests M.seen self.new (served request.entry m).machine }
         // On any disk:
-        ensures anyway { ((m : Playback) → IsBounded self.old.device m request.entry) →
-            RestsAnyway desk_shows self.old → RestsAnyway desk_shows self.new }
+        ensures anyway { IsModest request.entry → RestsAnyway desk_shows self.old → RestsAnyway desk_shows self.new }
+        ensures later { IsModest request.entry → RestsAnyway desk_shows self.old → self.old.moment ≤ self.new.moment }
         ensures soon { self.new.moment ≤ self.old.moment + 250000000 }
         ensures tracks { tracks_on M.seen self.new ≡ tracks_on M.seen self.old }
     {

@@ -2,6 +2,9 @@
 
 use crate::left::Left;
 
+/// The bytes that are taken of a status at most: its line is far shorter, but whatever the drive says, the request ends.
+const MOST_BYTES: u32 = 200_000;
+
 /// A request, on a channel from 0 to 15.
 #[derive(Clone, Copy, Drop)]
 pub enum Request<'a> {
@@ -15,7 +18,7 @@ pub enum Request<'a> {
     Get(u8, u32),
     /// CLOSE: LISTEN, $E0 + channel, UNLISTEN.
     Close(u8),
-    /// The status line: channel 15 to its end.
+    /// The status line: channel 15 to its end, 200,000 bytes at most.
     Status,
 }
 
@@ -41,7 +44,7 @@ impl<'a> Request<'a> {
     {
         match self {
             Request::Get(_, most) => most,
-            Request::Status => u32::MAX,
+            Request::Status => MOST_BYTES,
             Request::Open(..) | Request::Put(..) | Request::Fill(..) | Request::Close(_) => 0,
         }
     }

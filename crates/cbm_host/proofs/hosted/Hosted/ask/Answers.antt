@@ -18,5 +18,5 @@ returns-clause-limit g c = c.new.ensures.limit ∙ ap (λ (h : Hosting _). h.mom
 pub returns-clause-anyway : goal.returns-clause-anyway
 returns-clause-anyway g c =
     let shows = desk_shows in
-    subst (λ (h : Hosting _). RestsAnyway shows h → IsUnderWayAnyway shows h.device h.bus c.new.result c.args.request) c.self.view_is
+    subst (λ (h : Hosting _). RestsAnyway shows h → IsUnderWayAnyway shows h.device h.moment h.bus c.new.result c.args.request) c.self.view_is
     (λ r. begun_anyway shows c.self.inside.device c.self.inside.moment c.self.inside.bus c.new.result c.args.request r c.new.ensures.player c.new.ensures.engine c.new.ensures.limit)

@@ -1,7 +1,5 @@
-use Rattle.std.proofs.Common.{◌≤◌, [], ◌∷◌, ◌++◌, false, refl, ◌∙◌, arith, ℕ, sym, subst}
+use Rattle.std.proofs.Common.{◌≤◌, [], ◌∷◌, ◌++◌, false, refl, ◌∙◌, arith}
 use Rattle.cbm_host.proofs.hosted.Hosted.carry_out.Goals as goal
-use Rattle.cbm_host.specs.AnyDisk.{IsBounded}
-use Rattle.cbm_drive.specs.Playback.{Playback}
 
 pub bytes-init : goal.bytes-init
 bytes-init g c = record { under_way = λ m k r. ([], false, c.ask-performer.ensures.under_way m r); limit = c.ask-performer.ensures.limit; tracks = refl; device = refl; anyway = λ r. c.ask-performer.ensures.anyway r }
@@ -14,7 +12,7 @@ bytes-preserved g c = record {
   limit = c.take.ensures.limit ∙ c.bytes.invariant.limit;
   tracks = c.take.ensures.tracks ∙ c.bytes.invariant.tracks;
   device = c.take.ensures.device ∙ c.bytes.invariant.device;
-  anyway = λ r. c.in-Some.ensures.anyway c.args.request c.requires.channel (c.bytes.invariant.anyway r);
+  anyway = λ r. c.in-Some.ensures.anyway c.args.request c.args.self.now.moment c.requires.channel (c.bytes.invariant.anyway r);
 }
 
 pub bytes-smaller : goal.bytes-smaller
@@ -35,7 +33,7 @@ pub returns-clause-tracks : goal.returns-clause-tracks
 returns-clause-tracks g c = c.take.ensures.tracks ∙ c.bytes.invariant.tracks
 
 pub returns-clause-anyway : goal.returns-clause-anyway
-returns-clause-anyway g c = λ bounded r.
-    let over = c.in_default.ensures.anyway c.args.request c.requires.channel (c.bytes.invariant.anyway r) in
-    let same = c.take.ensures.device ∙ c.bytes.invariant.device in
-    over.1 (subst (λ (d : ℕ). IsBounded d over.0 c.args.request) (sym same) (bounded over.0))
+returns-clause-anyway g c = λ modest r. (c.in_default.ensures.anyway c.args.request c.args.self.now.moment c.requires.channel (c.bytes.invariant.anyway r)).rests modest
+
+pub returns-clause-later : goal.returns-clause-later
+returns-clause-later g c = λ modest r. (c.in_default.ensures.anyway c.args.request c.args.self.now.moment c.requires.channel (c.bytes.invariant.anyway r)).later modest

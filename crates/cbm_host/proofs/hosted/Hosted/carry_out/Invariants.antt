@@ -14,7 +14,7 @@ invariant-bytes g l = record {
   limit : l.performer.limit ≡ l.fn.self.moment + 250000000;
   tracks : tracks_on g.M.Medium.seen l.self ≡ tracks_on g.M.Medium.seen l.fn.self;
   device : l.self.device ≡ l.fn.self.device;
-  anyway : RestsAnyway desk_shows l.fn.self → IsUnderWayAnyway desk_shows l.self.device l.self.bus l.performer l.fn.request;
+  anyway : RestsAnyway desk_shows l.fn.self → IsUnderWayAnyway desk_shows l.self.device l.fn.self.moment l.self.bus l.performer l.fn.request;
 }
 
 abbrev pub decreases-bytes : goal.decreases-bytes

@@ -6,4 +6,7 @@ pub returns-clause-rests : goal.returns-clause-rests
 returns-clause-rests g c = λ m r. c.carry_out.ensures.rests m (c.requires.short, are_bytes c.args.bytes.now (λ i. let f = c.type_inv.bytes i in omega arith)) r
 
 pub returns-clause-anyway : goal.returns-clause-anyway
-returns-clause-anyway g c = λ r. c.carry_out.ensures.anyway (λ m. (c.requires.short, are_bytes c.args.bytes.now (λ i. let f = c.type_inv.bytes i in omega arith))) r
+returns-clause-anyway g c = λ r. c.carry_out.ensures.anyway (c.requires.short, are_bytes c.args.bytes.now (λ i. let f = c.type_inv.bytes i in omega arith)) r
+
+pub returns-clause-later : goal.returns-clause-later
+returns-clause-later g c = λ r. c.carry_out.ensures.later (c.requires.short, are_bytes c.args.bytes.now (λ i. let f = c.type_inv.bytes i in omega arith)) r

@@ -52,14 +52,14 @@ invariant_of-self g c = (c.self.invariant.0, c.self.invariant.1, as_many (λ x. 
 pub returns-in-Some-clause-anyway : goal.returns-in-Some-clause-anyway
 returns-in-Some-clause-anyway g c =
     let shows = desk_shows in
-    subst (λ (h : Hosting _). OnTakeAnyway shows c.self.inside.device h.device h.bus c.next_byte.new.bus c.args.performer.now c.next_byte.new.self (Some c.in-Some.said)) c.self.view_is
-    (λ request channel u. goes_on_anyway shows c.self.inside.device c.self.inside.bus c.next_byte.new.bus c.args.performer.now c.next_byte.new.self c.in-Some.said (c.in-Some.ensures.recorded) request u)
+    subst (λ (h : Hosting _). OnTakeAnyway shows c.self.inside.device h.device h.bus c.next_byte.new.bus c.self.inside.moment c.args.performer.now c.next_byte.new.self (Some c.in-Some.said)) c.self.view_is
+    (λ request start channel u. goes_on_anyway shows c.self.inside.device start c.self.inside.bus c.next_byte.new.bus c.args.performer.now c.next_byte.new.self c.in-Some.said (c.in-Some.ensures.recorded) request u)
 
 pub returns-in-None-clause-anyway : goal.returns-in-None-clause-anyway
 returns-in-None-clause-anyway g c =
     let shows = desk_shows in
-    subst (λ (h : Hosting _). OnTakeAnyway shows c.self.inside.device h.device h.bus c.next_byte.new.bus c.args.performer.now c.next_byte.new.self None) c.self.view_is
-    (λ request channel u. over_anyway shows c.self.inside.device c.self.inside.bus c.next_byte.new.bus c.args.performer.now c.next_byte.new.self c.self.invariant.0 c.self.invariant.1 (c.in-None.ensures.recorded) request channel u)
+    subst (λ (h : Hosting _). OnTakeAnyway shows c.self.inside.device h.device h.bus c.next_byte.new.bus c.over-self-inside.result c.args.performer.now c.next_byte.new.self None) c.self.view_is
+    (λ request start channel u. over_anyway shows c.self.inside.device start c.over-self-inside.result c.self.inside.bus c.next_byte.new.bus c.args.performer.now c.next_byte.new.self c.self.invariant.0 c.self.invariant.1 c.over-self-inside.ensures.end (c.in-None.ensures.recorded) request channel u)
 
 pub returns-in-Some-clause-device : goal.returns-in-Some-clause-device
 returns-in-Some-clause-device g c = ap (λ (h : Hosting _). h.device) c.self.view_is

@@ -1,0 +1,51 @@
+-- A request isn't over before its first change, which comes at its start.
+use Rattle.std.proofs.Common.{◌≡◌, ℕ, ◌≤◌, List, [], ◌∷◌, ◌++◌, refl, sym, ap, ◌∙◌, subst, arith}
+use Rattle.cbm_iec.specs.Ports.{change_at}
+use Rattle.cbm_iec.specs.declared.line.Change.{Change}
+use Rattle.cbm_iec.specs.declared.line.Line.TheVariants.{Atn}
+use Rattle.cbm_iec.specs.declared.line.Way.TheVariants.{Pull}
+use Rattle.cbm_iec.specs.declared.party.Party.{Party}
+use Rattle.cbm_session.proofs.timing.SessionOrder.{goes_on}
+use Rattle.cbm_session.specs.Laws.{GoesOn}
+use Rattle.cbm_session.specs.Pieces.{Piece}
+use Rattle.cbm_session.specs.Sessions.{rest, IsBus}
+use Rattle.cbm_session.specs.Steps.{Step, moment_of}
+use Rattle.cbm_host.proofs.Finished.{upto_last}
+use Rattle.cbm_host.specs.Engines.{Engined, engine_at, engine_due, engine_seen}
+use Rattle.cbm_host.specs.Performing.{Performs, ends, makes, sees, passes}
+use Rattle.cbm_host.specs.Requests.{IsPlayed}
+use Rattle.cbm_host.specs.declared.due.Due.TheVariants.{Makes, Waits}
+use Rattle.cbm_host.specs.declared.request.Request.{Request}
+use Rattle.cbm_host.specs.declared.stage.Stage.TheVariants.{Ending}
+
+-- a step of these is made at that moment
+record HasStepAt (t : ℕ) (ss : List Step) : Type 0 where
+  front : List Step
+  here : Step
+  behind : List Step
+  parts : ss ≡ front ++ here ∷ behind
+  moment : moment_of here ≡ t
+
+one_more : (t : ℕ) (s : Step) (ss : List Step) → HasStepAt t ss → HasStepAt t (s ∷ ss)
+one_more t s ss h = record { front = s ∷ h.front; here = h.here; behind = h.behind; parts = ap (λ (l : List Step). s ∷ l) h.parts; moment = h.moment }
+
+module _ (start d : ℕ) (request : Request) (until : ℕ) where
+  -- before the pull nothing that the drive does changes what the host is at
+  pulls : {e e2 : Engined} {ss : List Step} → Performs e ss e2 → e ≡ engine_at start d request → e2.stage ≡ Ending until → HasStepAt start ss
+  pulls {e} {e2} (ends same) first ending = let k : (engine_at start d request).stage ≡ Ending until = ap (λ (x : Engined). x.stage) (sym first ∙ sym same) ∙ ending in absurd cc
+  pulls {e} (makes {t} {line} {way} {mark} {ss} due taken h) first ending =
+      let k : Makes (change_at t line way) ≡ Makes (change_at start Atn Pull) = sym due ∙ ap engine_due first in
+      let c : change_at t line way ≡ change_at start Atn Pull = cc in
+      record { front = []; here = _; behind = ss; parts = refl; moment = ap (λ (x : Change). x.moment) c }
+  pulls {e} (sees {o} {t} {line} {way} {mark} {ss} early h) first ending = one_more start _ ss (pulls h (ap (engine_seen (change_at t line way)) first) ending)
+  pulls {e} (passes u due silent h) first ending = let k : Waits u ≡ Makes (change_at start Atn Pull) = sym due ∙ ap engine_due first in absurd cc
+
+-- THE END ISN'T BEFORE THE START
+pub not_before_start : (b : Party) (start d limit : ℕ) (request : Request) (ks : List Piece) → IsBus (b ∷ []) → (f : IsPlayed b (rest (b ∷ [])) (engine_at start d request) ks limit) → start ≤ f.until
+not_before_start b start d limit request ks is_bus f =
+    let h = pulls start d request f.until f.performs refl f.ending in
+    let order : GoesOn (h.front ++ h.here ∷ h.behind) = subst GoesOn h.parts (goes_on (b ∷ []) ks is_bus f.linked) in
+    let last = upto_last h.front h.here h.behind f.front f.last order (sym h.parts ∙ f.steps) in
+    let here = h.moment in
+    let over = f.over in
+    omega (arith, last, here, over)
