@@ -48,6 +48,7 @@ pub(crate) fn tell_each<D: Machine>(drives: &mut [Drive<D>], moment: u64, wires:
 }
 
 /// The reaction that is due first among those before a drive and its own, which comes behind theirs of the same moment.
+#[inline(always)]
 fn or_sooner<D: Machine>(
     first: Option<(usize, u64)>,
     place: usize,
@@ -67,6 +68,7 @@ fn or_sooner<D: Machine>(
 }
 
 /// The drive whose reaction is due first, by its place, and when: of several at one moment the one that is listed first.
+#[inline(always)]
 pub(crate) fn first_due<D: Machine>(drives: &[Drive<D>]) -> Option<(usize, u64)>
     ensures bound { IfSome result (λ f. f.0 < length drives.now) }
     ensures first { MatchOption result (AreIdle drives.now) (IsFirstDue drives.now) }
@@ -128,6 +130,7 @@ fn hear_each<D: Machine>(
 
 /// The reaction of the drive at a place, which is due at this moment: all others are told each line that it changes, with
 /// what is held then.
+#[inline(always)]
 pub(crate) fn react<D: Machine>(
     drives: &mut [Drive<D>],
     host: Lines,
