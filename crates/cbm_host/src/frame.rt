@@ -80,6 +80,30 @@ impl Frame {
         }
     }
 
+    /// The same in place; while bits are sent it writes no more than what changes.
+    #[inline(always)]
+    pub(crate) fn make(&mut self, moment: u64)
+        requires { moment < 2 ^ 60 }
+        ensures { self.new ≡ frame_made moment self.old }
+    {
+        match *self {
+            Frame::Setting { bits, .. } => {
+                *self = Frame::Showing {
+                    at: moment + PHASE,
+                    bits: bits.toggled(),
+                };
+            }
+            Frame::Showing { bits, .. } => {
+                *self = Frame::Hiding {
+                    at: moment + PHASE,
+                    bits,
+                };
+            }
+            Frame::Hiding { bits, .. } => *self = bits.behind().next(moment),
+            other => *self = other.made(moment),
+        }
+    }
+
     /// Behind a change of who hears. The accept is the caller's.
     pub(crate) fn seen(self, change: Change) -> Frame
         requires { change.moment < 2 ^ 60 }
