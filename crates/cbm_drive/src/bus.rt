@@ -128,6 +128,34 @@ fn hear_each<D: Machine>(
     hear_each(front, back, wires, moment, more);
 }
 
+/// As `hear_each`, of drives of which there may be none: a drive alone on the cable has nobody to tell.
+#[inline(always)]
+fn hear_others<D: Machine>(
+    front: &mut [Drive<D>],
+    back: &mut [Drive<D>],
+    wires: Wires,
+    moment: u64,
+    changes: &[Change],
+)
+    requires moment { moment < 2 ^ 60 }
+    requires clocks { wires.clocks + length changes.now < 2 ^ 60 }
+    requires datas { wires.datas + length changes.now < 2 ^ 60 }
+    ensures heard { (own : Held) (bs hs : List (Station D.State)) →
+        AreAt moment changes.now → Toggles own changes.now → IsAllOf wires own front.old back.old →
+        AllZip (IsSeat _ D.State D.stands wires) front.old bs → AllZip (IsSeat _ D.State D.stands wires) back.old hs →
+        HaveHeard _ D.State D.stands D.step D.says (behind_all changes.now wires) (held_behind changes.now own)
+        changes.now front.new back.new bs hs }
+    ensures front { AreKept moment front.old front.new }
+    ensures back { AreKept moment back.old back.new }
+    ensures front_lasting { numbers D.lasting front.new ≡ numbers D.lasting front.old }
+    ensures back_lasting { numbers D.lasting back.new ≡ numbers D.lasting back.old }
+{
+    if front.is_empty() && back.is_empty() {
+        return;
+    }
+    hear_each(front, back, wires, moment, changes);
+}
+
 /// The reaction of the drive at a place, which is due at this moment: all others are told each line that it changes, with
 /// what is held then.
 #[inline(always)]
@@ -161,7 +189,7 @@ pub(crate) fn react<D: Machine>(
     let (drive, back) = rest.split_first_mut()?;
     let device = drive.device();
     let changes = drive.due(moment);
-    hear_each(front, back, wires, moment, &changes);
+    hear_others(front, back, wires, moment, &changes);
     Some(Answer { device, changes })
 }
 
