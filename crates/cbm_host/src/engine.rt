@@ -55,6 +55,7 @@ impl<'a> Engine<'a> {
     }
 
     /// What the host does next.
+    #[inline(always)]
     pub(crate) fn due(&self) -> Due
         ensures { result ≡ engine_due self.now }
     {

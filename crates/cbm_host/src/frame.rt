@@ -44,10 +44,11 @@ pub(crate) enum Frame {
 
 impl Frame {
     /// The change of the host that comes next, if it waits for nobody.
-    pub(crate) fn change(self) -> Option<Change>
-        ensures { result ≡ frame_change self }
+    #[inline(always)]
+    pub(crate) fn change(&self) -> Option<Change>
+        ensures { result ≡ frame_change self.now }
     {
-        let (moment, line, way) = match self {
+        let (moment, line, way) = match *self {
             Frame::Readying { at, .. } | Frame::Showing { at, .. } => (at, Line::Clock, Way::Free),
             Frame::Starting { at, .. } | Frame::Hiding { at, .. } => (at, Line::Clock, Way::Pull),
             Frame::Setting { at, bits } => (at, Line::Data, bits.toggle()),

@@ -88,10 +88,11 @@ impl Came {
 
 impl Take {
     /// The change of the host that comes next, if it waits for nobody.
-    pub(crate) fn change(self) -> Option<Change>
-        ensures { result ≡ take_change self }
+    #[inline(always)]
+    pub(crate) fn change(&self) -> Option<Change>
+        ensures { result ≡ take_change self.now }
     {
-        let (moment, way) = match self {
+        let (moment, way) = match *self {
             Take::Freeing(at) | Take::Unmarking(at) => (at, Way::Free),
             Take::Marking(at) | Take::Accepting { at, .. } => (at, Way::Pull),
             Take::Awaiting | Take::Listening(_) | Take::Gathering(_) => return None,
