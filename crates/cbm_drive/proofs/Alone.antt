@@ -1,10 +1,11 @@
 -- A drive alone on a cable, and the machine that plays back what its own shows.
-use Rattle.std.proofs.Common.{◌≡◌, ℕ, zero, suc, length, ◌+◌, ◌<◌, ◌≤◌, Bool, true, false, List, [], ◌∷◌, ◌++◌, map, Some, refl, sym, ap, subst, ◌∙◌, arith, inl, inr}
+use Rattle.std.proofs.Common.{◌≡◌, ℕ, zero, suc, length, ◌+◌, ◌<◌, ◌≤◌, Bool, true, false, List, [], ◌∷◌, ◌++◌, map, Option, Some, refl, sym, ap, subst, ◌∙◌, arith, inl, inr}
 use Rattle.std.proofs.lemmas.List.{append_assoc}
 use Rattle.std.specs.Prelude.{MatchBool}
 use Rattle.std.specs.List.{AllZip}
 use Rattle.cbm_iec.specs.Machines.{acted}
 use Rattle.cbm_iec.specs.Ports.{port_due, reacted, reaction_act, reaction_changes, told_act}
+use Rattle.cbm_iec.specs.declared.act.Act.{Act}
 use Rattle.cbm_iec.specs.declared.line.Change.{Change}
 use Rattle.cbm_iec.specs.declared.lines.Held.{Held}
 use Rattle.cbm_iec.specs.declared.lines.Lines.{Lines}
@@ -17,7 +18,7 @@ use Rattle.cbm_drive.specs.Playback.{Shown, Playback, played_says, played_step, 
 use Rattle.cbm_drive.specs.PlayedBack.{played_as, played_byte, played_acted}
 use Rattle.cbm_drive.specs.Played.{HasSettled}
 use Rattle.cbm_drive.specs.Progress.{AreKept}
-use Rattle.cbm_drive.specs.Reactions.{Toggles, IsAllOf, HasReacted, behind_all, held_behind, behind_change, held_after}
+use Rattle.cbm_drive.specs.Reactions.{Toggles, IsAllOf, HaveHeard, HasReacted, behind_all, held_behind, behind_change, held_after}
 use Rattle.cbm_drive.specs.Recorded.{IsToldBy, ReactsBy}
 use Rattle.cbm_drive.specs.Seats.{Seated, IsSeat, IsBusAt, IsFirstDue, AreInTime, bit, held_by}
 use Rattle.cbm_drive.specs.Silence.{AnyShows, AreSilent, Foretold, Foreseen}
@@ -35,6 +36,17 @@ no_seats R S f (b ∷ bs) h = absurd h
 lone_counts : {D : Type 0} (cs : List Change) (all : Wires) (own : Held) → Toggles own cs → IsAllOf {D = D} all own [] [] → IsAllOf {D = D} (behind_all cs all) (held_behind cs own) [] []
 lone_counts [] all own t h = h
 lone_counts (c ∷ cs) all own t h = lone_counts cs (behind_change c.line c.way all) (held_after c.line c.way own) t.1 (counted_behind c.line c.way all own [] [] [] [] t.0 h refl refl)
+
+-- what changes on a cable with nobody else
+pub heard_nobody : (D M : Type 0) (stands : D → M → Type 0) (step : M → Act → M) (says : M → Option (ℕ × Bool)) (cs : List Change) (all : Wires) (own : Held) (front back : List (Seated D)) (bs hs : List (Station M)) → front ≡ [] → back ≡ []
+    → Toggles own cs → IsAllOf all own front back → AllZip (IsSeat D M stands all) front bs → AllZip (IsSeat D M stands all) back hs → HaveHeard D M stands step says (behind_all cs all) (held_behind cs own) cs front back bs hs
+heard_nobody D M stands step says cs all own [] [] bs hs front back toggles counts b h = record {
+  counts = lone_counts cs all own toggles counts;
+  before = no_seats (IsSeat D M stands all) (IsSeat D M stands (behind_all cs all)) (λ s. hear_all M step says cs s) bs b;
+  behind = no_seats (IsSeat D M stands all) (IsSeat D M stands (behind_all cs all)) (λ s. hear_all M step says cs s) hs h;
+}
+heard_nobody D M stands step says cs all own (x ∷ xs) ys bs hs front back toggles counts b h = absurd (cc)
+heard_nobody D M stands step says cs all own [] (y ∷ ys) bs hs front back toggles counts b h = absurd (cc)
 
 some_length : {A : Type 0} (xs : List A) (x : A) (ys : List A) → 1 ≤ length (xs ++ x ∷ ys)
 some_length [] x ys = omega arith

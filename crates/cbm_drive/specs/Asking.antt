@@ -1,5 +1,5 @@
 -- Which reactions look at the byte that there is to say.
-use Rattle.std.specs.Prelude.{ℕ, ◌≡◌, Bool, true, false, Option}
+use Rattle.std.specs.Prelude.{ℕ, ◌≡◌, ◌%◌, Bool, true, false, not, Option, if◌then◌else◌, ◌==◌, ◌||◌, nat_le}
 use Rattle.cbm_iec.specs.Ports.{next_held, next_side, reaction_act}
 use Rattle.cbm_iec.specs.declared.mouth.Mouth.TheVariants.{Answering, Led}
 use Rattle.cbm_iec.specs.declared.mouth.Mouth.{Mouth}
@@ -16,6 +16,10 @@ mouth_asks mouth = false
 abbrev pub side_asks : Side → Bool
 side_asks (Hearing ear) = false
 side_asks (Speaking mouth) = mouth_asks mouth
+
+-- Whether the next half of a bit, of sixteen, or the end of its frame, changes CLOCK: it is pulled with an even half and at the end, and freed with an odd one.
+abbrev pub half_changes : ℕ → Bool → Bool
+half_changes half clock_low = if nat_le 16 half || ((half % 2) == 0) then not clock_low else clock_low
 
 -- With either byte to say the reaction that is due is the same.
 pub record ReactsAlike (p q : Option (ℕ × Bool)) (port : Port) : Type 0 where

@@ -48,6 +48,7 @@ pub(crate) fn tell_each<D: Machine>(drives: &mut [Drive<D>], moment: u64, wires:
 }
 
 /// The reaction that is due first among those before a drive and its own, which comes behind theirs of the same moment.
+#[inline(always)]
 fn or_sooner<D: Machine>(
     first: Option<(usize, u64)>,
     place: usize,
@@ -67,6 +68,7 @@ fn or_sooner<D: Machine>(
 }
 
 /// The drive whose reaction is due first, by its place, and when: of several at one moment the one that is listed first.
+#[inline(always)]
 pub(crate) fn first_due<D: Machine>(drives: &[Drive<D>]) -> Option<(usize, u64)>
     ensures bound { IfSome result (λ f. f.0 < length drives.now) }
     ensures first { MatchOption result (AreIdle drives.now) (IsFirstDue drives.now) }
@@ -126,8 +128,37 @@ fn hear_each<D: Machine>(
     hear_each(front, back, wires, moment, more);
 }
 
+/// As `hear_each`, of drives of which there may be none: a drive alone on the cable has nobody to tell.
+#[inline(always)]
+fn hear_others<D: Machine>(
+    front: &mut [Drive<D>],
+    back: &mut [Drive<D>],
+    wires: Wires,
+    moment: u64,
+    changes: &[Change],
+)
+    requires moment { moment < 2 ^ 60 }
+    requires clocks { wires.clocks + length changes.now < 2 ^ 60 }
+    requires datas { wires.datas + length changes.now < 2 ^ 60 }
+    ensures heard { (own : Held) (bs hs : List (Station D.State)) →
+        AreAt moment changes.now → Toggles own changes.now → IsAllOf wires own front.old back.old →
+        AllZip (IsSeat _ D.State D.stands wires) front.old bs → AllZip (IsSeat _ D.State D.stands wires) back.old hs →
+        HaveHeard _ D.State D.stands D.step D.says (behind_all changes.now wires) (held_behind changes.now own)
+        changes.now front.new back.new bs hs }
+    ensures front { AreKept moment front.old front.new }
+    ensures back { AreKept moment back.old back.new }
+    ensures front_lasting { numbers D.lasting front.new ≡ numbers D.lasting front.old }
+    ensures back_lasting { numbers D.lasting back.new ≡ numbers D.lasting back.old }
+{
+    if front.is_empty() && back.is_empty() {
+        return;
+    }
+    hear_each(front, back, wires, moment, changes);
+}
+
 /// The reaction of the drive at a place, which is due at this moment: all others are told each line that it changes, with
 /// what is held then.
+#[inline(always)]
 pub(crate) fn react<D: Machine>(
     drives: &mut [Drive<D>],
     host: Lines,
@@ -158,7 +189,7 @@ pub(crate) fn react<D: Machine>(
     let (drive, back) = rest.split_first_mut()?;
     let device = drive.device();
     let changes = drive.due(moment);
-    hear_each(front, back, wires, moment, &changes);
+    hear_others(front, back, wires, moment, &changes);
     Some(Answer { device, changes })
 }
 

@@ -82,6 +82,7 @@ impl<D: Machine, const N: usize> Bus<D, N> {
     }
 
     /// The host changes a line: each drive is told, with what all others hold then.
+    #[inline(always)]
     pub fn line(&mut self, change: Change)
         requires { change.moment < 2 ^ 60 }
         ensures told { (ss : List (Station D.State)) → IsBusAt _ D.State D.stands self.old.host self.old.drives ss →
@@ -118,6 +119,7 @@ impl<D: Machine, const N: usize> Bus<D, N> {
     }
 
     /// Whether a drive changes a line before a limit, if the host changes none.
+    #[inline(always)]
     pub fn shows_before(&self, limit: u64) -> bool
         requires { limit < 2 ^ 60 }
         ensures says { (ss : List (Station D.State)) → IsBusAt _ D.State D.stands self.now.host self.now.drives ss →
@@ -131,6 +133,7 @@ impl<D: Machine, const N: usize> Bus<D, N> {
     }
 
     /// The first reaction before a limit that changes a line, and its moment. Those before it, which change none, happen.
+    #[inline(always)]
     pub(crate) fn first_shown(&mut self, limit: u64) -> Option<(u64, Answer)>
         requires { limit < 2 ^ 60 }
         ensures played { (ss : List (Station D.State)) (n until : ℕ) →

@@ -51,6 +51,7 @@ pub(crate) fn any_shows<D: Machine>(drives: &[Drive<D>], limit: u64) -> bool
 }
 
 /// The first reaction before a limit that changes a line, and its moment. Those before it, which change none, happen.
+#[inline(always)]
 pub(crate) fn first_shown<D: Machine>(
     drives: &mut [Drive<D>],
     host: Lines,

@@ -88,6 +88,7 @@ impl Player {
 
     /// The next event at a moment or before it. A change that waits comes before reactions of its own moment. None where
     /// none comes by then, and then the player and the drives are as they were.
+    #[inline(always)]
     pub fn next<D: Machine, const N: usize>(
         &mut self,
         bus: &mut Bus<D, N>,
@@ -177,6 +178,7 @@ impl Player {
     {}
 
     /// The change that waits, or what a drive shows before it.
+    #[inline(always)]
     fn turn<D: Machine, const N: usize>(
         &mut self,
         bus: &mut Bus<D, N>,
@@ -221,6 +223,7 @@ impl Player {
     }
 
     /// What a drive shows at a moment or before it, where no change waits up to there.
+    #[inline(always)]
     fn reaction<D: Machine, const N: usize>(
         &mut self,
         bus: &mut Bus<D, N>,
@@ -261,6 +264,7 @@ impl Player {
     }
 
     /// The first change of a reaction; the second one is still to be given.
+    #[inline(always)]
     fn give(&mut self, moment: u64, answer: &Answer) -> Option<Event>
         requires second { self.old.second ≡ None }
         requires waiting { IsWaitingFrom (moment + 1) self.old.waiting }

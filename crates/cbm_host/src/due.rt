@@ -20,6 +20,7 @@ pub(crate) enum Due {
 
 impl Due {
     /// A change, or a wait for the drive.
+    #[inline(always)]
     pub(crate) fn of(change: Option<Change>) -> Due
         ensures { result ≡ due_of change }
     {

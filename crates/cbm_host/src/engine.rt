@@ -29,7 +29,7 @@ impl<'a> Model for Engine<'a> {
 }
 
 impl<'a> Engine<'a> {
-    ghost use Rattle.std.specs.Prelude.{◌≡◌, ◌^◌, ◌<◌, ◌≤◌};
+    ghost use Rattle.std.specs.Prelude.{◌≡◌, ◌^◌, ◌<◌, ◌≤◌, MatchBool};
     ghost use Rattle.cbm_host.specs.Engines.{engine_at, engine_due, stage_taken, stage_end, engine_made, engine_seen, engine_passed, accepted, sending_on, taking_on, channel_of};
 
     /// A request to the drive with a device number, before its first change, which comes at this moment.
@@ -55,6 +55,7 @@ impl<'a> Engine<'a> {
     }
 
     /// What the host does next.
+    #[inline(always)]
     pub(crate) fn due(&self) -> Due
         ensures { result ≡ engine_due self.now }
     {
@@ -86,10 +87,40 @@ impl<'a> Engine<'a> {
         requires { moment < 2 ^ 60 }
         ensures { self.new ≡ engine_made moment self.old }
     {
+        if self.make(moment) {
+            return;
+        }
         match self.stage {
             Stage::Calling(_) => self.send(moment, READY),
             Stage::Taking(Take::Accepting { last, .. }) => self.take(moment, last),
             stage => self.stage = stage.made(moment),
+        }
+    }
+
+    /// The quick way of `made` for a frame's change, in place. False at another stage, and then nothing has changed.
+    #[inline(always)]
+    fn make(&mut self, moment: u64) -> bool
+        requires { moment < 2 ^ 60 }
+        ensures { MatchBool result (self.new ≡ engine_made moment self.old) (self.new ≡ self.old) }
+    {
+        match &mut self.stage {
+            Stage::Framing { frame, .. } => {
+                frame.make(moment);
+                true
+            }
+            _ => false,
+        }
+    }
+
+    /// The quick way of `seen` while bits come, in place. False where something else happens, and then nothing has changed.
+    #[inline(always)]
+    fn gather_on(&mut self, change: Change) -> bool
+        requires { change.moment < 2 ^ 60 }
+        ensures { MatchBool result (self.new ≡ engine_seen change self.old) (self.new ≡ self.old) }
+    {
+        match &mut self.stage {
+            Stage::Taking(take) => take.gather_on(change),
+            _ => false,
         }
     }
 
@@ -98,6 +129,9 @@ impl<'a> Engine<'a> {
         requires { change.moment < 2 ^ 60 }
         ensures { self.new ≡ engine_seen change self.old }
     {
+        if self.gather_on(change) {
+            return;
+        }
         match (self.stage, change.line, change.way) {
             (
                 Stage::Framing {

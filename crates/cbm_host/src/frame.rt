@@ -44,10 +44,11 @@ pub(crate) enum Frame {
 
 impl Frame {
     /// The change of the host that comes next, if it waits for nobody.
-    pub(crate) fn change(self) -> Option<Change>
-        ensures { result ≡ frame_change self }
+    #[inline(always)]
+    pub(crate) fn change(&self) -> Option<Change>
+        ensures { result ≡ frame_change self.now }
     {
-        let (moment, line, way) = match self {
+        let (moment, line, way) = match *self {
             Frame::Readying { at, .. } | Frame::Showing { at, .. } => (at, Line::Clock, Way::Free),
             Frame::Starting { at, .. } | Frame::Hiding { at, .. } => (at, Line::Clock, Way::Pull),
             Frame::Setting { at, bits } => (at, Line::Data, bits.toggle()),
@@ -77,6 +78,30 @@ impl Frame {
             Frame::Hiding { bits, .. } => bits.behind().next(moment),
             Frame::Clearing(_) => Frame::Sent,
             waiting => waiting,
+        }
+    }
+
+    /// The same in place; while bits are sent it writes no more than what changes.
+    #[inline(always)]
+    pub(crate) fn make(&mut self, moment: u64)
+        requires { moment < 2 ^ 60 }
+        ensures { self.new ≡ frame_made moment self.old }
+    {
+        match *self {
+            Frame::Setting { bits, .. } => {
+                *self = Frame::Showing {
+                    at: moment + PHASE,
+                    bits: bits.toggled(),
+                };
+            }
+            Frame::Showing { bits, .. } => {
+                *self = Frame::Hiding {
+                    at: moment + PHASE,
+                    bits,
+                };
+            }
+            Frame::Hiding { bits, .. } => *self = bits.behind().next(moment),
+            other => *self = other.made(moment),
         }
     }
 

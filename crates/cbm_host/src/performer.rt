@@ -69,6 +69,7 @@ impl<'a> Performer<'a> {
     }
 
     /// The next event, the host's or the drive's. None where the request is over.
+    #[inline(always)]
     pub fn next<D: Machine, const N: usize>(&mut self, bus: &mut Bus<D, N>) -> Option<Event>
         requires one { N ≡ 1 }
         ensures next { (n : ℕ) (ss : List (Station D.State)) (es : List Event) →
@@ -93,6 +94,7 @@ impl<'a> Performer<'a> {
 
     /// Goes on to the next byte that the host takes, and answers it and whether it carries EOI. None where the request is
     /// over.
+    #[inline(always)]
     pub fn next_byte<D: Machine, const N: usize>(
         &mut self,
         bus: &mut Bus<D, N>,
@@ -166,6 +168,7 @@ impl<'a> Performer<'a> {
     {}
 
     /// The engine is told an event.
+    #[inline(always)]
     fn tell(&mut self, event: Event)
         requires { event.change.moment < 2 ^ 60 }
         ensures player { self.new.player ≡ self.old.player }
@@ -186,6 +189,7 @@ impl<'a> Performer<'a> {
     }
 
     /// The event that comes next.
+    #[inline(always)]
     fn event<D: Machine, const N: usize>(&mut self, bus: &mut Bus<D, N>) -> Option<Event>
         ensures come { GoesOn _ D.State D.stands D.step D.says self.old self.new bus.old bus.new result }
         ensures recorded { N ≡ 1 → GoesOnRecorded D.shows self.old self.new bus.old bus.new result }
@@ -202,6 +206,7 @@ impl<'a> Performer<'a> {
     }
 
     /// What comes up to a moment, where the host does nothing else than what it has handed on.
+    #[inline(always)]
     fn ask<D: Machine, const N: usize>(&mut self, bus: &mut Bus<D, N>, upto: u64) -> Option<Event>
         requires { upto ≤ self.old.limit }
         ensures come { GoesUpTo _ D.State D.stands D.step D.says upto self.old self.new bus.old bus.new result }
@@ -217,6 +222,7 @@ impl<'a> Performer<'a> {
     }
 
     /// What the drive does up to a moment, where no change of the host is due.
+    #[inline(always)]
     fn heed<D: Machine, const N: usize>(&mut self, bus: &mut Bus<D, N>, upto: u64) -> Option<Event>
         requires upto { upto ≤ self.old.limit }
         requires none { (change : Change) → engine_due self.old.engine ≡ Makes change → ⊥ }
@@ -238,6 +244,7 @@ impl<'a> Performer<'a> {
     }
 
     /// What the drive does, as long as the host doesn't give up.
+    #[inline(always)]
     fn hear<D: Machine, const N: usize>(&mut self, bus: &mut Bus<D, N>) -> Option<Event>
         requires due { engine_due self.old.engine ≡ Hears }
         ensures come { GoesOn _ D.State D.stands D.step D.says self.old self.new bus.old bus.new result }
@@ -251,6 +258,7 @@ impl<'a> Performer<'a> {
     }
 
     /// The host's change that is due, or what the drive does before it.
+    #[inline(always)]
     fn play<D: Machine, const N: usize>(
         &mut self,
         bus: &mut Bus<D, N>,
@@ -275,6 +283,7 @@ impl<'a> Performer<'a> {
 
     /// Hands the host's change that is due to the player, where it doesn't wait there already. False where the player
     /// refuses it, and then nothing has changed.
+    #[inline(always)]
     fn hand_on(&mut self, change: Change) -> bool
         requires moment { change.moment ≤ self.old.limit }
         requires due { engine_due self.old.engine ≡ Makes change }
@@ -290,6 +299,7 @@ impl<'a> Performer<'a> {
     }
 
     /// What the drive does before a moment, or what the host does then where it does nothing.
+    #[inline(always)]
     fn wait<D: Machine, const N: usize>(&mut self, bus: &mut Bus<D, N>, until: u64) -> Option<Event>
         requires due { engine_due self.old.engine ≡ Waits until }
         ensures come { GoesOn _ D.State D.stands D.step D.says self.old self.new bus.old bus.new result }
@@ -312,6 +322,7 @@ impl<'a> Performer<'a> {
     }
 
     /// What the drive does before a moment at which the host goes on by itself.
+    #[inline(always)]
     fn before<D: Machine, const N: usize>(
         &mut self,
         bus: &mut Bus<D, N>,

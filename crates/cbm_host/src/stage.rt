@@ -213,10 +213,11 @@ impl Stage {
     }
 
     /// What the host does next.
-    pub(crate) fn due(self) -> Due
-        ensures { result ≡ stage_due self }
+    #[inline(always)]
+    pub(crate) fn due(&self) -> Due
+        ensures { result ≡ stage_due self.now }
     {
-        match self {
+        match *self {
             Stage::Attending { at, pull, .. } => Due::Makes(pull.change(at)),
             Stage::Calling(moment) => Due::Makes(Change {
                 moment,
@@ -224,9 +225,9 @@ impl Stage {
                 way: Way::Free,
             }),
             Stage::Releasing { at, release } => Due::Makes(release.change(at)),
-            Stage::Framing { frame, .. } => Due::of(frame.change()),
+            Stage::Framing { ref frame, .. } => Due::of(frame.change()),
             Stage::Taking(Take::Listening(until)) => Due::Waits(until),
-            Stage::Taking(take) => Due::of(take.change()),
+            Stage::Taking(ref take) => Due::of(take.change()),
             Stage::Turning(until) | Stage::Ending(until) => Due::Waits(until),
             Stage::Done(at) => Due::Over(at),
         }

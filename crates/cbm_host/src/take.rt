@@ -1,7 +1,8 @@
 //! A byte of the talker on the wires.
 
-ghost use Rattle.std.specs.Prelude.{◌≡◌, ◌^◌, ◌<◌};
+ghost use Rattle.std.specs.Prelude.{◌≡◌, ◌^◌, ◌<◌, MatchBool};
 ghost use Rattle.cbm_host.specs.Taking.{nothing_came, came_bit, take_change, take_made, take_seen};
+ghost use Rattle.cbm_host.specs.declared.take.Take.TheVariants.{Gathering};
 
 use crate::waits::{ANSWER, EOI_PULSE, EOI_WAIT};
 use cbm_iec::{Change, Line, Way};
@@ -62,14 +63,36 @@ impl Came {
             ..self
         }
     }
+
+    /// A change of the talker while bits come counts in place. False where the byte is over, and then nothing has changed.
+    #[inline(always)]
+    fn gather(&mut self, change: Change) -> bool
+        ensures { MatchBool result (Gathering self.new ≡ take_seen change (Gathering self.old)) (self.new ≡ self.old) }
+    {
+        match (change.line, change.way) {
+            (Line::Data, way) => {
+                self.low = way == Way::Pull;
+                true
+            }
+            (Line::Clock, Way::Free) => {
+                if self.count < 8 {
+                    *self = self.bit();
+                }
+                true
+            }
+            (Line::Clock, Way::Pull) => self.count != 8,
+            (Line::Atn, _) => true,
+        }
+    }
 }
 
 impl Take {
     /// The change of the host that comes next, if it waits for nobody.
-    pub(crate) fn change(self) -> Option<Change>
-        ensures { result ≡ take_change self }
+    #[inline(always)]
+    pub(crate) fn change(&self) -> Option<Change>
+        ensures { result ≡ take_change self.now }
     {
-        let (moment, way) = match self {
+        let (moment, way) = match *self {
             Take::Freeing(at) | Take::Unmarking(at) => (at, Way::Free),
             Take::Marking(at) | Take::Accepting { at, .. } => (at, Way::Pull),
             Take::Awaiting | Take::Listening(_) | Take::Gathering(_) => return None,
@@ -91,6 +114,18 @@ impl Take {
             Take::Marking(_) => Take::Unmarking(moment + EOI_PULSE),
             Take::Unmarking(_) => Take::Gathering(Came::nothing(true)),
             other => other,
+        }
+    }
+
+    /// The quick way of `seen` while bits come: they are counted in place. False where something else happens, and then nothing
+    /// has changed.
+    #[inline(always)]
+    pub(crate) fn gather_on(&mut self, change: Change) -> bool
+        ensures { MatchBool result (self.new ≡ take_seen change self.old) (self.new ≡ self.old) }
+    {
+        match self {
+            Take::Gathering(came) => came.gather(change),
+            _ => false,
         }
     }
 

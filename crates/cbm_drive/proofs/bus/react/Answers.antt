@@ -14,12 +14,12 @@ returns-clause-reacted g c = λ ss bus first.
     let x = c.in_ok-rest.drive.now in
     let back = c.in_ok-rest.back.now in
     let old : c.args.drives.now ≡ front ++ x ∷ back = c.split_at_mut-front.ensures.value ∙ ap (λ (ys : List (Seated _)). front ++ ys) c.in_ok-rest.ensures.cases.0 in
-    subst (λ (device : ℕ). HasReacted _ g.D.Machine.State g.D.Machine.stands g.D.Machine.step g.D.Machine.says c.args.host c.args.moment device (c.hear_each.new.front ++ c.due-changes.new.self ∷ c.hear_each.new.back) c.due-changes.result.items ss) (sym c.device-device.ensures)
-    (reacts _ g.D.Machine.State g.D.Machine.stands g.D.Machine.stands g.D.Machine.step g.D.Machine.says c.args.host c.args.moment c.args.place front x c.due-changes.new.self back c.hear_each.new.front c.hear_each.new.back c.due-changes.result.items ss
+    subst (λ (device : ℕ). HasReacted _ g.D.Machine.State g.D.Machine.stands g.D.Machine.step g.D.Machine.says c.args.host c.args.moment device (c.hear_others.new.front ++ c.due-changes.new.self ∷ c.hear_others.new.back) c.due-changes.result.items ss) (sym c.device-device.ensures)
+    (reacts _ g.D.Machine.State g.D.Machine.stands g.D.Machine.stands g.D.Machine.step g.D.Machine.says c.args.host c.args.moment c.args.place front x c.due-changes.new.self back c.hear_others.new.front c.hear_others.new.back c.due-changes.result.items ss
     c.split_at_mut-front.ensures.front_len c.due-changes.ensures.port c.due-changes.ensures.changes c.due-changes.ensures.machine
-    (subst (Hear _ g.D.Machine.State g.D.Machine.stands g.D.Machine.stands g.D.Machine.step g.D.Machine.says c.args.moment front back c.hear_each.new.front c.hear_each.new.back (held_by c.args.host (front ++ x ∷ back))) c.deref.ensures.0
-    (subst (λ (w : Wires). Hear _ g.D.Machine.State g.D.Machine.stands g.D.Machine.stands g.D.Machine.step g.D.Machine.says c.args.moment front back c.hear_each.new.front c.hear_each.new.back w c.deref.result.now)
-    (c.of-wires.ensures.value ∙ ap (held_by c.args.host) old) c.hear_each.ensures.heard))
+    (subst (Hear _ g.D.Machine.State g.D.Machine.stands g.D.Machine.stands g.D.Machine.step g.D.Machine.says c.args.moment front back c.hear_others.new.front c.hear_others.new.back (held_by c.args.host (front ++ x ∷ back))) c.deref.ensures.0
+    (subst (λ (w : Wires). Hear _ g.D.Machine.State g.D.Machine.stands g.D.Machine.stands g.D.Machine.step g.D.Machine.says c.args.moment front back c.hear_others.new.front c.hear_others.new.back w c.deref.result.now)
+    (c.of-wires.ensures.value ∙ ap (held_by c.args.host) old) c.hear_others.ensures.heard))
     (subst (λ (xs : List (Seated _)). IsBusAt _ g.D.Machine.State g.D.Machine.stands c.args.host xs ss) old bus)
     (subst (λ (xs : List (Seated _)). IsFirstDue xs (c.args.place, c.args.moment)) old first))
 
@@ -29,9 +29,9 @@ returns-clause-nearer g c = λ first.
     let x = c.in_ok-rest.drive.now in
     let back = c.in_ok-rest.back.now in
     let old : c.args.drives.now ≡ front ++ x ∷ back = c.split_at_mut-front.ensures.value ∙ ap (λ (ys : List (Seated _)). front ++ ys) c.in_ok-rest.ensures.cases.0 in
-    subst (λ (xs : List (Seated _)). IsNearer c.args.moment xs (c.hear_each.new.front ++ c.due-changes.new.self ∷ c.hear_each.new.back)) (sym old)
-    (nearer c.args.place c.args.moment front x c.due-changes.new.self back c.hear_each.new.front c.hear_each.new.back c.split_at_mut-front.ensures.front_len
-    (subst (λ (xs : List (Seated _)). IsFirstDue xs (c.args.place, c.args.moment)) old first) c.due-changes.ensures.later c.hear_each.ensures.front c.hear_each.ensures.back)
+    subst (λ (xs : List (Seated _)). IsNearer c.args.moment xs (c.hear_others.new.front ++ c.due-changes.new.self ∷ c.hear_others.new.back)) (sym old)
+    (nearer c.args.place c.args.moment front x c.due-changes.new.self back c.hear_others.new.front c.hear_others.new.back c.split_at_mut-front.ensures.front_len
+    (subst (λ (xs : List (Seated _)). IsFirstDue xs (c.args.place, c.args.moment)) old first) c.due-changes.ensures.later c.hear_others.ensures.front c.hear_others.ensures.back)
 
 pub returns-clause-recorded : goal.returns-clause-recorded
 returns-clause-recorded g c = λ one first.
@@ -39,5 +39,5 @@ returns-clause-recorded g c = λ one first.
     let x = c.in_ok-rest.drive.now in
     let back = c.in_ok-rest.back.now in
     let old : c.args.drives.now ≡ front ++ x ∷ back = c.split_at_mut-front.ensures.value ∙ ap (λ (ys : List (Seated _)). front ++ ys) c.in_ok-rest.ensures.cases.0 in
-    reacts_alone g.D.Machine.shows c.args.host c.args.moment c.device-device.result c.args.place c.args.drives.now front x c.due-changes.new.self back c.hear_each.new.front c.hear_each.new.back c.due-changes.result.items one old
-    c.hear_each.ensures.front c.hear_each.ensures.back first c.device-device.ensures c.due-changes.ensures.reacts
+    reacts_alone g.D.Machine.shows c.args.host c.args.moment c.device-device.result c.args.place c.args.drives.now front x c.due-changes.new.self back c.hear_others.new.front c.hear_others.new.back c.due-changes.result.items one old
+    c.hear_others.ensures.front c.hear_others.ensures.back first c.device-device.ensures c.due-changes.ensures.reacts
