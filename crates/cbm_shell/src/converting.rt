@@ -1,5 +1,5 @@
 //! D64 images as G64 images, and back.
-ghost use Rattle.std.specs.Prelude.{◌≡◌, ◌≢◌, ◌≤◌, ◌<◌, ◌+◌, ◌*◌, ℕ, Ok, [], true, false, length, replicate, slice_index, not, IfOk, IfErr};
+ghost use Rattle.std.specs.Prelude.{IsTrue, ◌↔◌, ◌≡◌, ◌≢◌, ◌≤◌, ◌<◌, ◌+◌, ◌*◌, ℕ, Ok, [], true, false, length, replicate, slice_index, not, IfOk, IfErr};
 ghost use Rattle.cbm_medium.specs.Place.{Place, Has, sectors_on};
 ghost use Rattle.cbm_medium.specs.Content.{written};
 ghost use Rattle.cbm_track.specs.Circle.{each_below};
@@ -45,8 +45,8 @@ pub struct Losses {
 impl Losses {
     /// Whether nothing is lost.
     pub fn is_none(&self) -> bool
-        ensures { result ≡ true → (self.now.unreadable.items ≡ []) × (self.now.more_tracks ≡ false) ×
-            (self.now.error_bytes ≡ false) × (self.now.header_id ≡ false) }
+        ensures { IsTrue result ↔ ((self.now.unreadable.items ≡ []) × (self.now.more_tracks ≡ false) ×
+            (self.now.error_bytes ≡ false) × (self.now.header_id ≡ false)) }
     {
         self.unreadable.is_empty() && !self.more_tracks && !self.error_bytes && !self.header_id
     }

@@ -1,5 +1,5 @@
 //! PETSCII and Unicode.
-ghost use Rattle.std.specs.Prelude.{◌≡◌, IfSome};
+ghost use Rattle.std.specs.Prelude.{◌≡◌, ◌≢◌, ◌<◌, ℕ, None, IfSome};
 ghost use Rattle.cbm_shell.specs.Petscii.{char_of};
 
 /// Codes 0 to 31 control the screen, and are shown as Unicode's pictures of control codes.
@@ -103,6 +103,9 @@ pub const TABLE: [[char; 32]; 8] = [
     CONTROLS, DIGITS, LETTERS, LINES, HIDDEN, BLOCKS, LINES, BLOCKS,
 ];
 
+/// How many codes there are.
+const CODES: u16 = 256;
+
 /// The last code, and the code of π, as which it is shown.
 const LAST: u8 = 255;
 
@@ -118,9 +121,12 @@ pub fn char_of(code: u8) -> char
 
 /// The first PETSCII code that is shown as a character; None where none is.
 pub fn code_of(shown: char) -> Option<u8>
-    ensures { IfSome result (λ code. char_of code ≡ shown) }
+    ensures some { IfSome result (λ code. char_of code ≡ shown) }
+    ensures first { IfSome result (λ code. (k : ℕ) → k < code → char_of k ≢ shown) }
+    ensures none { result ≡ None → (k : ℕ) → k < 256 → char_of k ≢ shown }
 {
-    for code in 0..=255u8 {
+    for number in 0..CODES {
+        let code = number as u8;
         if char_of(code) == shown {
             return Some(code);
         }
