@@ -101,7 +101,9 @@ impl<'a> Failure<'a> {
                 eprintln!(rt; "disk1541: {name} isn't written; --lossy writes it all the same")
             }
             Failure::NoneDeleted(pattern) => {
-                eprintln!(rt; "disk1541: nothing is deleted: no file that isn't locked matches {pattern}")
+                eprintln!(rt;
+                    "disk1541: nothing is deleted: no file that isn't locked matches {pattern}"
+                )
             }
             _ => self.tell_word(rt),
         }
