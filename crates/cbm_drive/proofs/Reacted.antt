@@ -18,7 +18,7 @@ use Rattle.cbm_session.specs.Following.{IsInTime}
 use Rattle.cbm_session.specs.Playing.{Station, IsLaterDue, AllLater, AllInTime, hear_all, react, shown}
 use Rattle.cbm_drive.specs.declared.wires.Wires.{Wires}
 use Rattle.cbm_drive.specs.Seats.{Seated, IsSeat, IsWithout, IsBusAt, IsFirstDue, AreLater, AreInTime, bit, total, clock_of, data_of, held_by}
-use Rattle.cbm_drive.specs.Reactions.{AreAt, Toggles, IsToggled, IsAllOf, HaveHeard, HasReacted, pulls, behind_change, behind_all, held_after, held_behind}
+use Rattle.cbm_drive.specs.Reactions.{AreAt, Toggles, IsToggled, IsAllOf, HaveHeard, Hear, HasReacted, pulls, behind_change, behind_all, held_after, held_behind}
 
 -- ---- the changes of a reaction
 
@@ -165,16 +165,11 @@ module _ (D M : Type 0) (stands : D → M → Type 0) (step : M → Act → M) (
   stations_in_time all t (x ∷ xs) (s ∷ ss) z h = (subst (λ (p : Port). IsInTime t (port_due p)) z.0.port h.0, stations_in_time all t xs ss z.1 h.1)
 
 module _ (D M : Type 0) (stood stands : D → M → Type 0) (step : M → Act → M) (says : M → Option (ℕ × Bool)) where
-  -- what `hear_each` says of the drives before and behind
-  abbrev pub Hear : ℕ → List (Seated D) → List (Seated D) → List (Seated D) → List (Seated D) → Wires → List Change → Type 0
-  Hear t front back front' back' all cs = (own : Held) (bs hs : List (Station M)) → AreAt t cs → Toggles own cs → IsAllOf all own front back → AllZip (IsSeat D M stood all) front bs → AllZip (IsSeat D M stood all) back hs
-      → HaveHeard D M stands step says (behind_all cs all) (held_behind cs own) cs front' back' bs hs
-
-  -- THE REACTION HAPPENS: from what `due` says of the drive, and `hear_each` of the others
+  -- THE REACTION HAPPENS: from what `due` says of the drive, and `hear_others` of the others
   pub reacts : (host : Lines) (t n : ℕ) (front : List (Seated D)) (x x' : Seated D) (back front' back' : List (Seated D)) (cs : List Change) (ss : List (Station M)) → length front ≡ n
       → ((m : M) → stood x.machine m → x'.port ≡ reacted t (says m) x.port) → ((m : M) → stood x.machine m → cs ≡ reaction_changes t (says m) x.port)
       → ((m : M) → stood x.machine m → stands x'.machine (acted M step (reaction_act (says m) x.port) m))
-      → Hear t front back front' back' (held_by host (front ++ x ∷ back)) cs
+      → Hear D M stood stands step says t front back front' back' (held_by host (front ++ x ∷ back)) cs
       → IsBusAt D M stood host (front ++ x ∷ back) ss → IsFirstDue (front ++ x ∷ back) (n, t) → HasReacted D M stands step says host t x.port.party.device (front' ++ x' ∷ back') cs ss
   reacts host t n front x x' back front' back' cs ss len port changes machine heard bus first =
       let all : Wires = held_by host (front ++ x ∷ back) in

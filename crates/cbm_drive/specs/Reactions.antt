@@ -66,6 +66,12 @@ pub record HaveHeard (D M : Type 0) (stands : D → M → Type 0) (step : M → 
   pub before : AllZip (IsSeat D M stands all) front (map (λ s. hear_all M step says cs s) bs)
   pub behind : AllZip (IsSeat D M stands all) back (map (λ s. hear_all M step says cs s) hs)
 
+-- The drives before and behind one that made these changes at this moment hear each of them, where it changed its own lines with them and these counts of
+-- who holds a line are true.
+abbrev pub Hear : (D M : Type 0) (stood stands : D → M → Type 0) (step : M → Act → M) (says : M → Option (ℕ × Bool)) → ℕ → List (Seated D) → List (Seated D) → List (Seated D) → List (Seated D) → Wires → List Change → Type 0
+Hear D M stood stands step says t front back front' back' all cs = (own : Held) (bs hs : List (Station M)) → AreAt t cs → Toggles own cs → IsAllOf all own front back → AllZip (IsSeat D M stood all) front bs → AllZip (IsSeat D M stood all) back hs
+    → HaveHeard D M stands step says (behind_all cs all) (held_behind cs own) cs front' back' bs hs
+
 -- THE REACTION THAT IS DUE FIRST HAS HAPPENED: the drives stand for the stations behind it.
 pub record HasReacted (D M : Type 0) (stands : D → M → Type 0) (step : M → Act → M) (says : M → Option (ℕ × Bool)) (host : Lines) (t device : ℕ) (xs : List (Seated D)) (cs : List Change) (ss : List (Station M)) : Type 0 where
   pub before : List (Station M)

@@ -9,8 +9,7 @@ ghost use Rattle.cbm_drive.specs.Seats.{Seated, Meets, IsSeat, IsBusAt, own_of, 
 ghost use Rattle.cbm_drive.specs.Playback.{Shown, Playback, IsPlayedBack, played_says, played_step};
 ghost use Rattle.cbm_drive.specs.Recorded.{IsToldBy};
 ghost use Rattle.cbm_drive.specs.Progress.{AreKept, IsNearer};
-ghost use Rattle.cbm_drive.specs.Reactions.{AreAt, Toggles, IsAllOf, HaveHeard, HasReacted, behind_all, held_behind};
-ghost use Rattle.cbm_iec.specs.declared.lines.Held.{Held};
+ghost use Rattle.cbm_drive.specs.Reactions.{AreAt, Hear, HasReacted};
 
 use crate::drive::Drive;
 use crate::wires::{Wires, with_change};
@@ -109,11 +108,8 @@ fn hear_each<D: Machine>(
     requires moment { moment < 2 ^ 60 }
     requires clocks { wires.clocks + length changes.now < 2 ^ 60 }
     requires datas { wires.datas + length changes.now < 2 ^ 60 }
-    ensures heard { (own : Held) (bs hs : List (Station D.State)) →
-        AreAt moment changes.now → Toggles own changes.now → IsAllOf wires own front.old back.old →
-        AllZip (IsSeat _ D.State D.stands wires) front.old bs → AllZip (IsSeat _ D.State D.stands wires) back.old hs →
-        HaveHeard _ D.State D.stands D.step D.says (behind_all changes.now wires) (held_behind changes.now own)
-        changes.now front.new back.new bs hs }
+    ensures heard { Hear _ D.State D.stands D.stands D.step D.says moment front.old back.old front.new back.new wires
+        changes.now }
     ensures front { AreKept moment front.old front.new }
     ensures back { AreKept moment back.old back.new }
     ensures front_lasting { numbers D.lasting front.new ≡ numbers D.lasting front.old }
@@ -140,11 +136,8 @@ fn hear_others<D: Machine>(
     requires moment { moment < 2 ^ 60 }
     requires clocks { wires.clocks + length changes.now < 2 ^ 60 }
     requires datas { wires.datas + length changes.now < 2 ^ 60 }
-    ensures heard { (own : Held) (bs hs : List (Station D.State)) →
-        AreAt moment changes.now → Toggles own changes.now → IsAllOf wires own front.old back.old →
-        AllZip (IsSeat _ D.State D.stands wires) front.old bs → AllZip (IsSeat _ D.State D.stands wires) back.old hs →
-        HaveHeard _ D.State D.stands D.step D.says (behind_all changes.now wires) (held_behind changes.now own)
-        changes.now front.new back.new bs hs }
+    ensures heard { Hear _ D.State D.stands D.stands D.step D.says moment front.old back.old front.new back.new wires
+        changes.now }
     ensures front { AreKept moment front.old front.new }
     ensures back { AreKept moment back.old back.new }
     ensures front_lasting { numbers D.lasting front.new ≡ numbers D.lasting front.old }

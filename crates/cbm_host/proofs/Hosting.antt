@@ -25,6 +25,7 @@ use Rattle.cbm_host.specs.Performers.{Performing, IsGoing, HasStopped, HasNext}
 use Rattle.cbm_host.specs.Requests.{longest}
 use Rattle.cbm_host.specs.Served.{IsModest}
 use Rattle.cbm_host.specs.declared.request.Request.{Request}
+use Rattle.cbm_host.specs.declared.request.Request.TheVariants.{Fill}
 use Rattle.cbm_iec.specs.declared.act.Act.{Act}
 use Rattle.cbm_iec.specs.declared.event.Event.{Event}
 use Rattle.cbm_iec.specs.declared.party.Party.{Party}
@@ -43,6 +44,10 @@ are_equal (suc n) b h = (h, are_equal n b h)
 pub so_many : (n b : ℕ) → length (replicate n b) ≡ n
 so_many zero b = refl
 so_many (suc n) b = ap suc (so_many n b)
+
+-- so many equal bytes are a request of at most 200,000 bytes
+pub is_modest_fill : (channel count byte : ℕ) → count ≤ 200000 → byte < 256 → IsModest (Fill channel count byte)
+is_modest_fill channel count byte few small = (let many = so_many count byte in omega (arith, many, few), are_equal count byte small)
 
 -- ---- over any machine
 

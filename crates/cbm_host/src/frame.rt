@@ -59,29 +59,7 @@ impl Frame {
         Some(Change { moment, line, way })
     }
 
-    /// Behind that change.
-    pub(crate) fn made(self, moment: u64) -> Frame
-        requires { moment < 2 ^ 60 }
-        ensures { result ≡ frame_made moment self }
-    {
-        match self {
-            Frame::Readying { byte, eoi, .. } => Frame::Ready { byte, eoi },
-            Frame::Starting { byte, .. } => Bits::of(byte).next(moment),
-            Frame::Setting { bits, .. } => Frame::Showing {
-                at: moment + PHASE,
-                bits: bits.toggled(),
-            },
-            Frame::Showing { bits, .. } => Frame::Hiding {
-                at: moment + PHASE,
-                bits,
-            },
-            Frame::Hiding { bits, .. } => bits.behind().next(moment),
-            Frame::Clearing(_) => Frame::Sent,
-            waiting => waiting,
-        }
-    }
-
-    /// The same in place; while bits are sent it writes no more than what changes.
+    /// That change was made; while bits are sent it writes no more than what changes.
     #[inline(always)]
     pub(crate) fn make(&mut self, moment: u64)
         requires { moment < 2 ^ 60 }
@@ -101,7 +79,10 @@ impl Frame {
                 };
             }
             Frame::Hiding { bits, .. } => *self = bits.behind().next(moment),
-            other => *self = other.made(moment),
+            Frame::Readying { byte, eoi, .. } => *self = Frame::Ready { byte, eoi },
+            Frame::Starting { byte, .. } => *self = Bits::of(byte).next(moment),
+            Frame::Clearing(_) => *self = Frame::Sent,
+            Frame::Ready { .. } | Frame::EoiSent(_) | Frame::EoiHeard(_) | Frame::Sent => {}
         }
     }
 

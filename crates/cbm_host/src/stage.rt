@@ -254,10 +254,10 @@ impl Stage {
                     None => Stage::command(moment, attention),
                 }
             }
-            Stage::Framing { frame, behind } => Stage::Framing {
-                frame: frame.made(moment),
-                behind,
-            },
+            Stage::Framing { mut frame, behind } => {
+                frame.make(moment);
+                Stage::Framing { frame, behind }
+            }
             Stage::Releasing { release, .. } => release.made(moment),
             Stage::Taking(take) => Stage::Taking(take.made(moment)),
             other => other,

@@ -1,9 +1,9 @@
 use Rattle.std.proofs.Common.{ℕ, sym, ◌≡◌, ◌∷◌, ◌++◌, List, ap, subst, ◌∙◌}
 use Rattle.cbm_drive.specs.declared.wires.Wires.{Wires}
 use Rattle.cbm_drive.specs.Seats.{Seated, IsBusAt, IsFirstDue, held_by}
-use Rattle.cbm_drive.specs.Reactions.{HasReacted}
+use Rattle.cbm_drive.specs.Reactions.{HasReacted, Hear}
 use Rattle.cbm_drive.proofs.Alone.{reacts_alone}
-use Rattle.cbm_drive.proofs.Reacted.{reacts, Hear}
+use Rattle.cbm_drive.proofs.Reacted.{reacts}
 use Rattle.cbm_drive.specs.Progress.{IsNearer}
 use Rattle.cbm_drive.proofs.Nearer.{nearer}
 use Rattle.cbm_drive.proofs.bus.react.Goals as goal
