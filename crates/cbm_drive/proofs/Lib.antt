@@ -15,3 +15,4 @@ pub mod Players
 pub mod Desks
 pub mod Handed
 pub mod Alone
+pub mod Halves

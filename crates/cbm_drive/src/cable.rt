@@ -3,6 +3,7 @@
 use crate::bus::{Answer, first_due, react, tell_all};
 use crate::drive::Drive;
 use crate::fault::{PlayFault, first_fault};
+use crate::half::Half;
 use crate::looking::{any_shows, first_shown};
 use crate::playing::{play_on, settle};
 use cbm_iec::{Change, Event, Lines, Machine};
@@ -41,6 +42,7 @@ impl<D: Machine, const N: usize> Bus<D, N> {
     ghost use Rattle.cbm_drive.specs.Silence.{AnyShows, AreSilent};
     ghost use Rattle.cbm_drive.specs.Seats.{AreIdle, AreInTime, IsBusAt, numbers};
     ghost use Rattle.cbm_drive.specs.Cables.{all_free, IsDueFirst};
+    ghost use Rattle.cbm_drive.specs.Halves.{SaysHalfAlone};
     ghost use Rattle.cbm_drive.specs.Ordered.{fault_of};
     ghost use Rattle.cbm_drive.specs.declared.fault.PlayFault.{PlayFault};
     ghost use Rattle.cbm_drive.specs.declared.fault.PlayFault.TheVariants.{Memory};
@@ -163,6 +165,21 @@ impl<D: Machine, const N: usize> Bus<D, N> {
         ensures lasting { numbers D.lasting self.new.drives ≡ numbers D.lasting self.old.drives }
     {
         first_shown(self.drives.as_mut_slice(), self.host, limit)
+    }
+
+    /// The quick way of `first_shown` where a drive alone on the cable says half of a bit before a limit. None where there are
+    /// more drives, or something else is due, or nothing, and then nothing has changed.
+    #[inline(always)]
+    pub(crate) fn half(&mut self, limit: u64) -> Option<Half>
+        requires { limit < 2 ^ 60 }
+        ensures said { MatchOption result (self.new ≡ self.old) (SaysHalfAlone limit self.old self.new) }
+        ensures lasting { numbers D.lasting self.new.drives ≡ numbers D.lasting self.old.drives }
+    {
+        let (drive, others) = self.drives.as_mut_slice().split_first_mut()?;
+        if !others.is_empty() {
+            return None;
+        }
+        drive.half(limit)
     }
 
     /// The reactions that are due before a limit happen, each in its turn, and their changes go to the events. So a host may

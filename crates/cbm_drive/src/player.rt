@@ -3,6 +3,7 @@
 use crate::bus::Answer;
 use crate::cable::Bus;
 use crate::fault::PlayFault;
+use crate::half::Half;
 use cbm_iec::{Change, Event, Machine, Who};
 use std::marker::Model;
 
@@ -33,12 +34,13 @@ impl Model for Player {
 }
 
 impl Player {
-    ghost use Rattle.std.specs.Prelude.{◌≡◌, ◌+◌, ◌-◌, ◌∷◌, ◌++◌, ◌<◌, ◌≤◌, ◌^◌, ℕ, List, [], is_some, false, None, Some, Ok, Err, if◌then◌else◌, nat_lt, min, IfSome, MatchOption, IsSome};
+    ghost use Rattle.std.specs.Prelude.{◌≡◌, ◌+◌, ◌-◌, ◌∷◌, ◌++◌, ◌<◌, ◌≤◌, ◌^◌, ℕ, List, [], is_some, not, false, None, Some, Ok, Err, if◌then◌else◌, nat_lt, min, IfSome, MatchOption, IsSome};
     ghost use Rattle.cbm_session.specs.Playing.{Station, drive_events, at_rest, IsKept};
     ghost use Rattle.cbm_session.specs.Sessions.{IsBus};
     ghost use Rattle.cbm_session.specs.Timing.{HostKeeps};
     ghost use Rattle.cbm_iec.specs.declared.party.Party.{Party};
     ghost use Rattle.cbm_drive.specs.Playback.{Shown, Playback, IsPlayedBack, played_says, played_step};
+    ghost use Rattle.cbm_drive.specs.Halves.{half_events};
     ghost use Rattle.cbm_drive.specs.Reactions.{AreAt};
     ghost use Rattle.cbm_drive.specs.Seats.{AreLater, numbers};
     ghost use Rattle.cbm_drive.specs.Players.{at_start, pending, at_most, IsWaitingFrom, IsTurnOf, IsBehind, IsDrives, IsGivenBefore, IsAfter, HasGiven, IsStill, IsFinished};
@@ -131,6 +133,47 @@ impl Player {
             Some(change) if change.moment <= upto => self.turn(bus, change),
             _ => self.reaction(bus, upto),
         }
+    }
+
+    /// The quick way of `next` where a drive alone on the bus says half of a bit, up to a moment, and no change waits: its changes
+    /// come at once, CLOCK's and behind it DATA's, if that changes. None where anything else comes, or nothing, and then the
+    /// player and the drive are as they were.
+    #[inline(always)]
+    pub fn half<D: Machine, const N: usize>(
+        &mut self,
+        bus: &mut Bus<D, N>,
+        upto: u64,
+    ) -> Option<Half>
+        requires { upto < 2 ^ 59 - 1 }
+        ensures none { result ≡ None → (self.new ≡ self.old) × (bus.new ≡ bus.old) }
+        ensures given { (n : ℕ) (ss : List (Station D.State)) (es : List Event) →
+            IsAfter _ D.State D.stands D.step D.says self.old bus.old n ss es → IfSome result (λ h.
+            IsAfter _ D.State D.stands D.step D.says self.new bus.new n ss (es ++ half_events h)) }
+        // Whatever the machine stands for: so it is of the machine that plays back what this one shows later.
+        ensures recorded { (later : List Shown) (n : ℕ) (ss : List (Station Playback)) (es : List Event) →
+            IsAfter _ Playback (IsPlayedBack D.shows later) played_step played_says self.old bus.old n ss es →
+            IfSome result (λ h. IsAfter _ Playback (IsPlayedBack D.shows later) played_step played_says self.new bus.new n ss
+            (es ++ half_events h)) }
+        ensures alone { IfSome result (λ h. (self.old.waiting ≡ None) × (self.old.second ≡ None)) }
+        ensures player { IfSome result (λ h. self.new ≡ record {
+          waiting = None;
+          second = None;
+          from = h.moment + 1;
+          taken = self.old.taken;
+        }) }
+        ensures moment { IfSome result (λ h. h.moment ≤ upto) }
+        ensures clock { IfSome result (λ h. h.now.clock_low ≡ not h.was.clock_low) }
+        // Whatever the machine stands for, less is left to come.
+        ensures fewer { IfSome result (λ h. (limit : ℕ) → upto < limit →
+            at_most limit self.new.second bus.new.drives < at_most limit self.old.second bus.old.drives) }
+        ensures lasting { numbers D.lasting bus.new.drives ≡ numbers D.lasting bus.old.drives }
+    {
+        if self.waiting.is_some() || self.second.is_some() {
+            return None;
+        }
+        let half = bus.half(upto + 1)?;
+        self.from = half.moment + 1;
+        Some(half)
     }
 
     /// The next event up to a moment, as `next` gives it, at the end: where no other comes by then, the reactions that change no

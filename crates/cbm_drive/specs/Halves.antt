@@ -1,0 +1,38 @@
+-- Half of a bit of a byte that a drive says: one reaction, which changes CLOCK, and perhaps DATA behind it.
+use Rattle.std.specs.Prelude.{ℕ, ◌≡◌, ◌<◌, Bool, not, List, [], ◌∷◌, Option, Some, None}
+use Rattle.cbm_drive.specs.Cables.{Cabled}
+use Rattle.cbm_drive.specs.Seats.{Seated}
+use Rattle.cbm_drive.specs.declared.half.Half.{Half}
+use Rattle.cbm_iec.specs.Ports.{port_due, reacted, reaction_act, changes_between}
+use Rattle.cbm_iec.specs.declared.event.Event.{Event}
+use Rattle.cbm_iec.specs.declared.line.Change.{Change}
+use Rattle.cbm_session.specs.Playing.{IsLaterDue, drive_events}
+
+-- what it changes
+abbrev pub half_lines : Half → List Change
+half_lines h = changes_between h.moment h.was h.now
+
+abbrev pub half_events : Half → List Event
+half_events h = drive_events h.device (half_lines h)
+
+-- A DRIVE SAID HALF OF A BIT before a limit: the reaction that was due, whatever there is to say, and no act came of it.
+pub record SaysHalf {D : Type 0} (limit : ℕ) (x y : Seated D) (h : Half) : Type 0 where
+  pub due : port_due x.port ≡ Some h.moment
+  pub before : h.moment < limit
+  pub which : h.device ≡ x.port.party.device
+  pub was : h.was ≡ x.port.own
+  pub now : h.now ≡ y.port.own
+  pub clock : h.now.clock_low ≡ not h.was.clock_low
+  pub port : (peek : Option (ℕ × Bool)) → y.port ≡ reacted h.moment peek x.port
+  pub act : (peek : Option (ℕ × Bool)) → reaction_act peek x.port ≡ None
+  pub machine : y.machine ≡ x.machine
+  pub later : IsLaterDue h.moment (port_due y.port)
+
+-- and it is the only drive on the cable
+pub record SaysHalfAlone {D : Type 0} (limit : ℕ) (b c : Cabled D) (h : Half) : Type 0 where
+  pub old : Seated D
+  pub new : Seated D
+  pub was : b.drives ≡ old ∷ []
+  pub now : c.drives ≡ new ∷ []
+  pub host : c.host ≡ b.host
+  pub half : SaysHalf limit old new h
