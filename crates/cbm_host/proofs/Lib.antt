@@ -35,3 +35,4 @@ pub mod AnyDisk
 pub mod Anyway
 pub mod Regrouped
 pub mod HostedAnyway
+pub mod Halves

@@ -8,7 +8,7 @@ use Rattle.cbm_iec.specs.declared.line.Way.TheVariants.{Pull}
 use Rattle.cbm_host.specs.Attentions.{listen, unlisten, talk, untalk, data_on, close_on, open_on}
 use Rattle.cbm_host.specs.Stages.{commanding, releasing, leaving, stage_due, stage_made, stage_seen, stage_passed}
 use Rattle.cbm_host.specs.Sending.{frame_seen}
-use Rattle.cbm_host.specs.Taking.{take_made}
+use Rattle.cbm_host.specs.Taking.{take_made, gathers}
 use Rattle.cbm_host.specs.Waits.{ready_wait, answer_wait, turn_wait}
 use Rattle.cbm_host.specs.declared.commands.Commands.TheVariants.{Two, Three}
 use Rattle.cbm_host.specs.declared.due.Due.{Due}
@@ -147,6 +147,16 @@ seen_at c stage e = at_stage (stage_seen c stage) e
 
 abbrev pub engine_seen : Change → Engined → Engined
 engine_seen c e = seen_at c e.stage e
+
+-- behind some, one after the other
+abbrev pub engine_heard : List Change → Engined → Engined
+engine_heard [] e = e
+engine_heard (c ∷ cs) e = engine_heard cs (engine_seen c e)
+
+-- bits of the drive come, one of them at least
+abbrev pub stage_gathers : Stage → Bool
+stage_gathers (Taking take) = gathers take
+stage_gathers stage = false
 
 -- the drive changed nothing for as long as the host waits
 abbrev pub engine_passed : Engined → Engined

@@ -28,6 +28,10 @@ module _ (D M : Type 0) (stands : D → M → Type 0) (step : M → Act → M) (
     pub made : List Event
     pub performed : HasPerformed D M stands step says e limit p b [] made bytes last ss
 
+  -- WHERE NO BYTE WAS TAKEN the request is still under way, with those that were.
+  abbrev pub TakesOn : Performing → Performing → Cabled D → Cabled D → Type 0
+  TakesOn p q b c = (e : Engined) (limit : ℕ) (bytes : List ℕ) (last : Bool) (ss : List (Station M)) → IsTaking e limit p b bytes last ss → IsTaking e limit q c bytes last ss
+
 -- the bus, the drive's device number, and when the last request was over
 pub record Hosting (A : Type 0) : Type 0 where
   pub bus : Cabled (Desk A)

@@ -1,5 +1,5 @@
 -- A byte of the talker on the wires: what the host changes next, and what becomes of it behind its own changes and the talker's.
-use Rattle.std.specs.Prelude.{ℕ, ◌+◌, ◌==◌, nat_lt, Bool, true, false, Option, Some, None, if◌then◌else◌}
+use Rattle.std.specs.Prelude.{ℕ, ◌+◌, ◌==◌, nat_lt, Bool, true, false, Option, Some, None, List, [], ◌∷◌, if◌then◌else◌}
 use Rattle.cbm_iec.specs.Hearing.{with_bit}
 use Rattle.cbm_iec.specs.Ports.{change_at}
 use Rattle.cbm_iec.specs.declared.line.Change.{Change}
@@ -62,3 +62,13 @@ take_lined t Data way take = take_set (is_pull way) take
 -- behind a change of the talker
 abbrev pub take_seen : Change → Take → Take
 take_seen c take = take_lined c.moment c.line c.way take
+
+-- behind some, one after the other
+abbrev pub take_heard : List Change → Take → Take
+take_heard [] take = take
+take_heard (c ∷ cs) take = take_heard cs (take_seen c take)
+
+-- bits come, one of them at least
+abbrev pub gathers : Take → Bool
+gathers (Gathering c) = nat_lt c.count 8
+gathers take = false

@@ -8,6 +8,7 @@ use crate::request::Request;
 use crate::stage::{Behind, Errand, Pulls, Sequence, Stage};
 use crate::take::Take;
 use crate::waits::{ANSWER, READY, TURN};
+use cbm_drive::Half;
 use cbm_iec::{Change, Line, Way};
 use std::marker::Model;
 
@@ -29,8 +30,9 @@ impl<'a> Model for Engine<'a> {
 }
 
 impl<'a> Engine<'a> {
-    ghost use Rattle.std.specs.Prelude.{◌≡◌, ◌^◌, ◌<◌, ◌≤◌, MatchBool};
-    ghost use Rattle.cbm_host.specs.Engines.{engine_at, engine_due, stage_taken, stage_end, engine_made, engine_seen, engine_passed, accepted, sending_on, taking_on, channel_of};
+    ghost use Rattle.std.specs.Prelude.{◌≡◌, ◌^◌, ◌<◌, ◌≤◌, true, not, MatchBool};
+    ghost use Rattle.cbm_drive.specs.Halves.{half_lines};
+    ghost use Rattle.cbm_host.specs.Engines.{engine_at, engine_due, stage_taken, stage_end, engine_made, engine_seen, engine_heard, engine_passed, stage_gathers, accepted, sending_on, taking_on, channel_of};
 
     /// A request to the drive with a device number, before its first change, which comes at this moment.
     pub(crate) fn new(start: u64, device: u8, request: Request<'a>) -> Engine<'a>
@@ -142,6 +144,29 @@ impl<'a> Engine<'a> {
                 Way::Pull,
             ) => self.accepted(change.moment, behind),
             (stage, _, _) => self.stage = stage.seen(change),
+        }
+    }
+
+    /// Whether bits of the drive come, one of them at least.
+    #[inline(always)]
+    pub(crate) fn gathers(&self) -> bool
+        ensures { result ≡ stage_gathers self.now.stage }
+    {
+        match self.stage {
+            Stage::Taking(Take::Gathering(came)) => came.count < 8,
+            _ => false,
+        }
+    }
+
+    /// The drive said half of such a bit.
+    #[inline(always)]
+    pub(crate) fn heard(&mut self, half: Half)
+        requires gathers { stage_gathers self.old.stage ≡ true }
+        requires clock { half.now.clock_low ≡ not half.was.clock_low }
+        ensures { self.new ≡ engine_heard (half_lines half) self.old }
+    {
+        if let Stage::Taking(Take::Gathering(came)) = &mut self.stage {
+            came.half(half);
         }
     }
 

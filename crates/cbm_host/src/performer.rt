@@ -41,7 +41,8 @@ impl<'a> Performer<'a> {
     ghost use Rattle.cbm_drive.specs.Players.{at_start, at_most, IsDrives, IsWaitingFrom};
     ghost use Rattle.cbm_drive.specs.Seats.{numbers};
     ghost use Rattle.cbm_host.specs.Progress.{left_of, FallsBy};
-    ghost use Rattle.cbm_host.specs.Hosted.{IsTaking, HasTaken};
+    ghost use Rattle.cbm_host.specs.Hosted.{IsTaking, HasTaken, TakesOn};
+    ghost use Rattle.cbm_drive.specs.Playback.{Shown, Playback, IsPlayedBack, played_says, played_step};
     ghost use Rattle.cbm_host.specs.Engines.{Engined};
     ghost use Rattle.cbm_host.specs.Engines.{channel_of, engine_at, engine_due, stage_end};
     ghost use Rattle.cbm_host.specs.Performers.{IsHandedOn, IsHeldBack, IsUnmoved, IsGoing, GoesOn, GoesUpTo, HasStopped, HasCome, HasNext, engine_behind, byte_with};
@@ -114,6 +115,7 @@ impl<'a> Performer<'a> {
             if let Some(said) = self.byte() {
                 return Some(said);
             }
+            self.gather(bus);
         }
         None
     }
@@ -186,6 +188,44 @@ impl<'a> Performer<'a> {
                 self.engine.seen(event.change);
             }
         }
+    }
+
+    /// The halves of bits that the drive says next, one after the other, while the host waits for them. So a byte is taken much
+    /// sooner than event by event.
+    #[inline(always)]
+    fn gather<D: Machine, const N: usize>(&mut self, bus: &mut Bus<D, N>)
+        ensures taken { TakesOn _ D.State D.stands D.step D.says self.old self.new bus.old bus.new }
+        // On any disk the same holds for a machine that plays back what the drive shows later.
+        ensures recorded { (later : List Shown) →
+            TakesOn _ Playback (IsPlayedBack D.shows later) played_step played_says self.old self.new bus.old bus.new }
+        ensures fewer { left_of self.new bus.new ≤ left_of self.old bus.old }
+        ensures limit { self.new.limit ≡ self.old.limit }
+        ensures lasting { numbers D.lasting bus.new.drives ≡ numbers D.lasting bus.old.drives }
+    {
+        'halves: while self.half(bus) {}
+    }
+
+    /// The next half of a bit, where the host waits for it. False where something else comes, or nothing, and then nothing has
+    /// changed.
+    #[inline(always)]
+    fn half<D: Machine, const N: usize>(&mut self, bus: &mut Bus<D, N>) -> bool
+        ensures taken { TakesOn _ D.State D.stands D.step D.says self.old self.new bus.old bus.new }
+        // On any disk the same holds for a machine that plays back what the drive shows later.
+        ensures recorded { (later : List Shown) →
+            TakesOn _ Playback (IsPlayedBack D.shows later) played_step played_says self.old self.new bus.old bus.new }
+        ensures fewer { result ≡ true → left_of self.new bus.new < left_of self.old bus.old }
+        ensures same { result ≡ false → (self.new ≡ self.old) × (bus.new ≡ bus.old) }
+        ensures limit { self.new.limit ≡ self.old.limit }
+        ensures lasting { numbers D.lasting bus.new.drives ≡ numbers D.lasting bus.old.drives }
+    {
+        if !self.engine.gathers() {
+            return false;
+        }
+        let Some(half) = self.player.half(bus, self.limit) else {
+            return false;
+        };
+        self.engine.heard(half);
+        true
     }
 
     /// The event that comes next.

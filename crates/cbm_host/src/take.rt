@@ -1,10 +1,12 @@
 //! A byte of the talker on the wires.
 
-ghost use Rattle.std.specs.Prelude.{◌≡◌, ◌^◌, ◌<◌, MatchBool};
-ghost use Rattle.cbm_host.specs.Taking.{nothing_came, came_bit, take_change, take_made, take_seen};
+ghost use Rattle.std.specs.Prelude.{◌≡◌, ◌^◌, ◌<◌, not, MatchBool};
+ghost use Rattle.cbm_drive.specs.Halves.{half_lines};
+ghost use Rattle.cbm_host.specs.Taking.{nothing_came, came_bit, take_change, take_made, take_seen, take_heard};
 ghost use Rattle.cbm_host.specs.declared.take.Take.TheVariants.{Gathering};
 
 use crate::waits::{ANSWER, EOI_PULSE, EOI_WAIT};
+use cbm_drive::Half;
 use cbm_iec::{Change, Line, Way};
 
 /// The bits of a byte that came so far.
@@ -82,6 +84,23 @@ impl Came {
             }
             (Line::Clock, Way::Pull) => self.count != 8,
             (Line::Atn, _) => true,
+        }
+    }
+}
+
+impl Came {
+    /// Half of a bit counts in place: CLOCK is freed, and the bit counts, or pulled; then DATA may change for the next one.
+    #[inline(always)]
+    pub(crate) fn half(&mut self, half: Half)
+        requires count { self.old.count < 8 }
+        requires clock { half.now.clock_low ≡ not half.was.clock_low }
+        ensures { Gathering self.new ≡ take_heard (half_lines half) (Gathering self.old) }
+    {
+        if half.was.clock_low {
+            *self = self.bit();
+        }
+        if half.was.data_low != half.now.data_low {
+            self.low = half.now.data_low;
         }
     }
 }

@@ -8,30 +8,37 @@ use Rattle.cbm_host.specs.Progress.{left_of}
 pub events-init : goal.events-init
 events-init g c = record { taking = λ e limit bytes last ss t. t; fewer = omega arith; limit = refl; lasting = refl; recorded = ([], λ later e limit bytes last ss t. t) }
 
+-- an event, and the halves of bits behind it
 pub events-preserved : goal.events-preserved
 events-preserved g c =
     let less : left_of c.next.new.self c.next.new.bus < left_of c.events.self c.events.bus = c.in-Some.ensures.fewer in
+    let more = c.gather.ensures.fewer in
     let least = c.events.invariant.fewer in
     record {
       taking = λ e limit bytes last ss t.
-          taking_none _ g.D.Machine.State g.D.Machine.stands g.D.Machine.stands g.D.Machine.step g.D.Machine.says e limit c.events.self c.next.new.self c.events.bus c.next.new.bus bytes last ss c.in-Some._event (c.events.invariant.taking e limit bytes last ss t) c.in-Some.ensures.next
-          (sym c.byte.ensures ∙ c.in_default-byte.is);
-      fewer = omega (arith, less, least);
-      limit = c.next.ensures.limit ∙ c.events.invariant.limit;
-      lasting = c.next.ensures.lasting ∙ c.events.invariant.lasting;
+          c.gather.ensures.taken e limit bytes last ss
+          (taking_none _ g.D.Machine.State g.D.Machine.stands g.D.Machine.stands g.D.Machine.step g.D.Machine.says e limit c.events.self c.next.new.self c.events.bus c.next.new.bus bytes last ss c.in-Some._event (c.events.invariant.taking e limit bytes last ss t) c.in-Some.ensures.next
+          (sym c.byte.ensures ∙ c.in_default-byte.is));
+      fewer = omega (arith, less, more, least);
+      limit = c.gather.ensures.limit ∙ c.next.ensures.limit ∙ c.events.invariant.limit;
+      lasting = c.gather.ensures.lasting ∙ c.next.ensures.lasting ∙ c.events.invariant.lasting;
       recorded =
           (let shows = g.D.Machine.shows in
           let before = c.events.invariant.recorded in
           let next = c.in-Some.ensures.recorded in (
             before.0 ++ next.0,
             λ later e limit bytes last ss t.
-                taking_none _ Playback (IsPlayedBack shows (next.0 ++ later)) (IsPlayedBack shows later) played_step played_says e limit c.events.self c.next.new.self c.events.bus c.next.new.bus bytes last ss c.in-Some._event
-                (before.1 (next.0 ++ later) e limit bytes last ss (regrouped shows before.0 next.0 later e limit c.args.self.now c.args.bus.now bytes last ss t)) (next.1 later) (sym c.byte.ensures ∙ c.in_default-byte.is),
+                c.gather.ensures.recorded later e limit bytes last ss
+                (taking_none _ Playback (IsPlayedBack shows (next.0 ++ later)) (IsPlayedBack shows later) played_step played_says e limit c.events.self c.next.new.self c.events.bus c.next.new.bus bytes last ss c.in-Some._event
+                (before.1 (next.0 ++ later) e limit bytes last ss (regrouped shows before.0 next.0 later e limit c.args.self.now c.args.bus.now bytes last ss t)) (next.1 later) (sym c.byte.ensures ∙ c.in_default-byte.is)),
           ));
     }
 
 pub events-smaller : goal.events-smaller
-events-smaller g c = c.in-Some.ensures.fewer
+events-smaller g c =
+    let less : left_of c.next.new.self c.next.new.bus < left_of c.events.self c.events.bus = c.in-Some.ensures.fewer in
+    let more = c.gather.ensures.fewer in
+    omega (arith, less, more)
 
 pub returns-in-Some-byte-clause-taken : goal.returns-in-Some-byte-clause-taken
 returns-in-Some-byte-clause-taken g c = λ e limit bytes last ss t.
