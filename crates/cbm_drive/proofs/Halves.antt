@@ -3,7 +3,7 @@ use Rattle.std.proofs.Common.{◌≡◌, ℕ, ◌+◌, ◌<◌, ◌≤◌, Bool,
 use Rattle.std.proofs.lemmas.List.{append-nil}
 use Rattle.std.specs.Prelude.{false, is_some, MatchOption}
 use Rattle.cbm_iec.specs.Machines.{acted}
-use Rattle.cbm_iec.specs.Ports.{changes_between, reaction_act}
+use Rattle.cbm_iec.specs.Ports.{changes_between}
 use Rattle.cbm_iec.specs.declared.act.Act.{Act}
 use Rattle.cbm_iec.specs.declared.event.Event.{Event}
 use Rattle.cbm_iec.specs.declared.lines.Lines.{Lines}
@@ -13,7 +13,7 @@ use Rattle.cbm_session.proofs.headline.Keeping.{plays_then}
 use Rattle.cbm_drive.specs.Cables.{Cabled}
 use Rattle.cbm_drive.specs.Halves.{half_lines, half_events, SaysHalf, SaysHalfAlone}
 use Rattle.cbm_drive.specs.Played.{HasSettled}
-use Rattle.cbm_drive.specs.Players.{Turns, pending, at_most, IsSecond, IsAfter}
+use Rattle.cbm_drive.specs.Players.{Turns, pending, IsSecond, IsAfter}
 use Rattle.cbm_drive.specs.Progress.{left}
 use Rattle.cbm_drive.specs.Reactions.{HasReacted}
 use Rattle.cbm_drive.specs.Seats.{Seated, IsBusAt, held_by, numbers}

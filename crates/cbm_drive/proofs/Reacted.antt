@@ -18,7 +18,7 @@ use Rattle.cbm_session.specs.Following.{IsInTime}
 use Rattle.cbm_session.specs.Playing.{Station, IsLaterDue, AllLater, AllInTime, hear_all, react, shown}
 use Rattle.cbm_drive.specs.declared.wires.Wires.{Wires}
 use Rattle.cbm_drive.specs.Seats.{Seated, IsSeat, IsWithout, IsBusAt, IsFirstDue, AreLater, AreInTime, bit, total, clock_of, data_of, held_by}
-use Rattle.cbm_drive.specs.Reactions.{AreAt, Toggles, IsToggled, IsAllOf, HaveHeard, Hear, HasReacted, pulls, behind_change, behind_all, held_after, held_behind}
+use Rattle.cbm_drive.specs.Reactions.{AreAt, Toggles, IsToggled, Hear, HasReacted, pulls, behind_change, behind_all, held_after, held_behind}
 
 -- ---- the changes of a reaction
 

@@ -5,7 +5,7 @@ ghost use Rattle.cbm_host.specs.Engines.{channel_of};
 
 use crate::wired::{Wired, empty_disk};
 use cbm_channel::Dos;
-use cbm_host::Request;
+use cbm_host::{Hosted, Request};
 use std::alloc::Global;
 use std::process::Abort;
 use std::test::Fail;
@@ -190,5 +190,39 @@ fn a_fill_is_a_put(rt: HostRuntime) -> Result<(), Fail> {
     let by_fill = filled.into_disk().to_bytes(rt.alloc())?;
     let by_put = put.into_disk().to_bytes(rt.alloc())?;
     assert!(&rt; by_fill.as_slice() == by_put.as_slice());
+    Ok(())
+}
+
+// Byte by byte, as a script takes them, the same bytes come as event by event, and the request is over at the same moment.
+#[test]
+fn bytes_are_taken_one_by_one(rt: HostRuntime) -> Result<(), Fail> {
+    let mut bytes = Vec::new(rt.alloc());
+    for byte in 0..600u16 {
+        bytes.push((byte % 251) as u8)?;
+    }
+    let mut wired = Wired::new(&rt, rt.alloc(), 20)?;
+    wired.asks(&rt, rt.alloc(), Request::Open(2, b"DATA,S,W"))?;
+    wired.asks(&rt, rt.alloc(), Request::Put(2, bytes.as_slice()))?;
+    wired.asks(&rt, rt.alloc(), Request::Close(2))?;
+    wired.asks(&rt, rt.alloc(), Request::Open(2, b"DATA,S,R"))?;
+    let done = wired.asks(&rt, rt.alloc(), Request::Get(2, 1000))?;
+    let mut hosted = Hosted::new(empty_disk(rt.alloc())?, 8);
+    hosted.open(2, b"DATA,S,W");
+    assert!(rt; bytes.len() == 600);
+    hosted.put(2, bytes.as_slice());
+    hosted.close(2);
+    hosted.open(2, b"DATA,S,R");
+    let mut performer = hosted.ask(Request::Get(2, 1000));
+    let mut taken = Vec::new(rt.alloc());
+    let mut marked = false;
+    for _ in 0..1000u16 {
+        if let Some((byte, last)) = hosted.take(&mut performer) {
+            taken.push(byte)?;
+            marked = last;
+        }
+    }
+    assert!(rt; taken.as_slice() == bytes.as_slice() && marked);
+    assert!(rt; taken.as_slice() == done.bytes.as_slice());
+    assert!(rt; performer.over() == done.end);
     Ok(())
 }

@@ -119,7 +119,7 @@ fn played(
 }
 
 // An attention with one byte: ready at 1000, its start at 1040, bits of 40 each; then ATN is free at 1400.
-fn attention(alloc: Global, byte: u8, talks: bool) -> Result<Vec<Change>, AllocError> {
+pub(crate) fn attention(alloc: Global, byte: u8, talks: bool) -> Result<Vec<Change>, AllocError> {
     let mut changes = Vec::new(alloc);
     changes.push(at(0, Atn, Pull))?;
     changes.push(at(0, Clock, Pull))?;

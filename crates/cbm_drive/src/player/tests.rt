@@ -4,7 +4,7 @@ ghost use Rattle.std.specs.Prelude.{◌^◌, ◌<◌};
 
 use crate::cable::Bus;
 use crate::drive::Drive;
-use crate::drive::tests::{Parrot, at};
+use crate::drive::tests::{Parrot, at, attention};
 use crate::fault::PlayFault;
 use crate::player::Player;
 use arrayvec::ArrayVec;
@@ -117,5 +117,46 @@ fn what_shows_nothing_waits(rt: HostRuntime) -> Result<(), Fail> {
     assert!(rt; player.next(&mut bus, 999).is_none());
     give(&rt, &mut player, &mut bus, at(25, Atn, Pull))?;
     assert!(rt; player.next(&mut bus, 999) == drive(at(45, Data, Pull)));
+    Ok(())
+}
+
+// TALK 8, CLOCK free for the turnaround at 1420 and DATA 120 later: the halves of $37, its end apart.
+#[test]
+fn a_byte_comes_in_halves(rt: HostRuntime) -> Result<(), Fail> {
+    let mut bus = bus();
+    let mut player = Player::new();
+    let mut changes = attention(rt.alloc(), 0x48, true)?;
+    changes.push(at(1420, Clock, Free))?;
+    changes.push(at(1540, Data, Free))?;
+    let mut last = None;
+    for change in changes.as_slice() {
+        assert!(rt; change.moment < 1 << 58 && !player.waits() && player.offer(*change).is_ok());
+        for _ in 0..10 {
+            if player.waits() {
+                last = player.next(&mut bus, change.moment);
+            }
+        }
+    }
+    assert!(rt; last == host(at(1540, Data, Free)));
+    assert!(rt; player.half(&mut bus, 1559).is_none());
+    for half in 0..16u64 {
+        let moment = 1560 + 60 * half;
+        let low = matches!(half, 6 | 7 | 12..=15);
+        let Some(said) = player.half(&mut bus, moment) else {
+            assert!(rt; false, "{half}");
+            return Ok(());
+        };
+        let shown = said.was.clock_low;
+        assert!(rt; said.moment == moment && said.device == 8, "{half}");
+        assert!(rt;
+            shown == (half % 2 == 1) && said.now.clock_low != shown,
+            "{half}"
+        );
+        assert!(rt; said.now.data_low == low, "{half}");
+    }
+    assert!(rt; player.half(&mut bus, 9999).is_none());
+    assert!(rt; player.next(&mut bus, 9999) == drive(at(2520, Clock, Pull)));
+    assert!(rt; player.half(&mut bus, 9999).is_none());
+    assert!(rt; player.next(&mut bus, 9999) == drive(at(2520, Data, Free)));
     Ok(())
 }

@@ -1,6 +1,5 @@
-use Rattle.std.proofs.Common.{List, ◌∷◌, refl, sym, ap, ◌∙◌}
+use Rattle.std.proofs.Common.{◌∷◌, refl, sym, ap, ◌∙◌}
 use Rattle.cbm_drive.specs.Cables.{Cabled}
-use Rattle.cbm_drive.specs.Seats.{Seated}
 use Rattle.cbm_drive.proofs.Ahead.{none_of}
 use Rattle.cbm_drive.proofs.Halves.{half_alone}
 use Rattle.cbm_drive.proofs.cable.Bus.half.Goals as goal

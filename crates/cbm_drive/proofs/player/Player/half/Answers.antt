@@ -1,4 +1,4 @@
-use Rattle.std.proofs.Common.{◌+◌, None, refl, sym, ap, ◌∙◌}
+use Rattle.std.proofs.Common.{◌+◌, refl, sym, ap, ◌∙◌}
 use Rattle.cbm_drive.specs.Playback.{Playback, IsPlayedBack, played_says, played_step}
 use Rattle.cbm_drive.specs.Players.{Turns}
 use Rattle.cbm_drive.proofs.Alone.{byte_of}
