@@ -42,10 +42,10 @@ not_some None e = refl
 not_some (Some x) e = absurd (cc)
 
 -- the drive of which the cable was asked is the only one
-pub half_alone : {D : Type 0} (limit : ℕ) (r : Option Half) (b c : Cabled D) (x y : Seated D) (others : List (Seated D)) → others ≡ [] → b.drives ≡ x ∷ others → c.drives ≡ y ∷ others → c.host ≡ b.host → MatchOption r (y ≡ x) (SaysHalf limit x y)
+pub only_half : {D : Type 0} (limit : ℕ) (r : Option Half) (b c : Cabled D) (x y : Seated D) (others : List (Seated D)) → others ≡ [] → b.drives ≡ x ∷ others → c.drives ≡ y ∷ others → c.host ≡ b.host → MatchOption r (y ≡ x) (SaysHalf limit x y)
     → MatchOption r (c ≡ b) (SaysHalfAlone limit b c)
-half_alone limit None b c x y others none was now host same = (λ i. record { host = host i; drives = (now ∙ ap (λ (z : Seated _). z ∷ others) same ∙ sym was) i })
-half_alone limit (Some h) b c x y others none was now host said = record { old = x; new = y; was = was ∙ ap (λ (xs : List (Seated _)). x ∷ xs) none; now = now ∙ ap (λ (xs : List (Seated _)). y ∷ xs) none; host = host; half = said }
+only_half limit None b c x y others none was now host same = (λ i. record { host = host i; drives = (now ∙ ap (λ (z : Seated _). z ∷ others) same ∙ sym was) i })
+only_half limit (Some h) b c x y others none was now host said = record { old = x; new = y; was = was ∙ ap (λ (xs : List (Seated _)). x ∷ xs) none; now = now ∙ ap (λ (xs : List (Seated _)). y ∷ xs) none; host = host; half = said }
 
 module _ (D M : Type 0) (stands : D → M → Type 0) (step : M → Act → M) (says : M → Option (ℕ × Bool)) (byte : (x : D) (m : M) (n : ℕ) (last : Bool) → stands x m → says m ≡ Some (n, last) → n < 256) where
   -- it is a reaction, whatever there is to say

@@ -1,12 +1,35 @@
 -- Half of a bit of a byte that a drive says: one reaction, which changes CLOCK, and perhaps DATA behind it.
-use Rattle.std.specs.Prelude.{ℕ, ◌≡◌, ◌<◌, Bool, not, List, [], ◌∷◌, Option, Some, None}
+use Rattle.std.specs.Prelude.{ℕ, ◌≡◌, ◌<◌, Bool, false, not, ◌&&◌, nat_lt, is_some, List, [], ◌∷◌, Option, Some, None}
 use Rattle.cbm_drive.specs.Cables.{Cabled}
+use Rattle.cbm_drive.specs.Players.{Turns}
 use Rattle.cbm_drive.specs.Seats.{Seated}
 use Rattle.cbm_drive.specs.declared.half.Half.{Half}
-use Rattle.cbm_iec.specs.Ports.{port_due, reacted, reaction_act, changes_between}
+use Rattle.cbm_iec.specs.Ports.{port_due, port_half, reacted, reaction_act, changes_between}
 use Rattle.cbm_iec.specs.declared.event.Event.{Event}
 use Rattle.cbm_iec.specs.declared.line.Change.{Change}
+use Rattle.cbm_iec.specs.declared.port.Port.{Port}
 use Rattle.cbm_session.specs.Playing.{IsLaterDue, drive_events}
+
+-- ---- whether it comes
+
+abbrev pub is_before : ℕ → Option ℕ → Bool
+is_before limit None = false
+is_before limit (Some t) = nat_lt t limit
+
+-- before a limit, of a drive; and of the only one
+abbrev pub half_before : ℕ → Port → Bool
+half_before limit p = is_before limit (port_due p) && port_half p
+
+abbrev pub half_alone : {D : Type 0} → ℕ → List (Seated D) → Bool
+half_alone limit [] = false
+half_alone limit (x ∷ []) = half_before limit x.port
+half_alone limit (x ∷ y ∷ xs) = false
+
+-- No change waits, and none is still to be given.
+abbrev pub has_nothing : Turns → Bool
+has_nothing p = not (is_some p.waiting) && not (is_some p.second)
+
+-- ---- what it is
 
 -- what it changes
 abbrev pub half_lines : Half → List Change

@@ -33,7 +33,7 @@ impl<D: Machine, const N: usize> Model for Bus<D, N> {
 }
 
 impl<D: Machine, const N: usize> Bus<D, N> {
-    ghost use Rattle.std.specs.Prelude.{◌≡◌, ◌+◌, ◌^◌, ◌<◌, ◌≤◌, ℕ, List, [], ◌++◌, length, map, IfSome, IsSome, Some, None, MatchBool, Err, IfErr, OnOk, MatchOption, MatchResult};
+    ghost use Rattle.std.specs.Prelude.{◌≡◌, ◌+◌, ◌^◌, ◌<◌, ◌≤◌, ℕ, List, [], ◌++◌, length, map, IfSome, IsSome, is_some, Some, None, MatchBool, Err, IfErr, OnOk, MatchOption, MatchResult};
     ghost use Rattle.cbm_iec.specs.declared.party.Party.{Party};
     ghost use Rattle.cbm_session.specs.Handed.{AllReact};
     ghost use Rattle.cbm_session.specs.Playing.{Station, tell, drive_events, at_rest};
@@ -42,7 +42,7 @@ impl<D: Machine, const N: usize> Bus<D, N> {
     ghost use Rattle.cbm_drive.specs.Silence.{AnyShows, AreSilent};
     ghost use Rattle.cbm_drive.specs.Seats.{AreIdle, AreInTime, IsBusAt, numbers};
     ghost use Rattle.cbm_drive.specs.Cables.{all_free, IsDueFirst};
-    ghost use Rattle.cbm_drive.specs.Halves.{SaysHalfAlone};
+    ghost use Rattle.cbm_drive.specs.Halves.{half_alone, SaysHalfAlone};
     ghost use Rattle.cbm_drive.specs.Ordered.{fault_of};
     ghost use Rattle.cbm_drive.specs.declared.fault.PlayFault.{PlayFault};
     ghost use Rattle.cbm_drive.specs.declared.fault.PlayFault.TheVariants.{Memory};
@@ -172,6 +172,7 @@ impl<D: Machine, const N: usize> Bus<D, N> {
     #[inline(always)]
     pub(crate) fn half(&mut self, limit: u64) -> Option<Half>
         requires { limit < 2 ^ 60 }
+        ensures comes { is_some result ≡ half_alone limit self.old.drives }
         ensures said { MatchOption result (self.new ≡ self.old) (SaysHalfAlone limit self.old self.new) }
         ensures lasting { numbers D.lasting self.new.drives ≡ numbers D.lasting self.old.drives }
     {

@@ -34,13 +34,13 @@ impl Model for Player {
 }
 
 impl Player {
-    ghost use Rattle.std.specs.Prelude.{◌≡◌, ◌+◌, ◌-◌, ◌∷◌, ◌++◌, ◌<◌, ◌≤◌, ◌^◌, ℕ, List, [], is_some, not, false, None, Some, Ok, Err, if◌then◌else◌, nat_lt, min, IfSome, MatchOption, IsSome};
+    ghost use Rattle.std.specs.Prelude.{◌≡◌, ◌+◌, ◌-◌, ◌∷◌, ◌++◌, ◌<◌, ◌≤◌, ◌^◌, ℕ, List, [], is_some, not, ◌&&◌, false, None, Some, Ok, Err, if◌then◌else◌, nat_lt, min, IfSome, MatchOption, IsSome};
     ghost use Rattle.cbm_session.specs.Playing.{Station, drive_events, at_rest, IsKept};
     ghost use Rattle.cbm_session.specs.Sessions.{IsBus};
     ghost use Rattle.cbm_session.specs.Timing.{HostKeeps};
     ghost use Rattle.cbm_iec.specs.declared.party.Party.{Party};
     ghost use Rattle.cbm_drive.specs.Playback.{Shown, Playback, IsPlayedBack, played_says, played_step};
-    ghost use Rattle.cbm_drive.specs.Halves.{half_events};
+    ghost use Rattle.cbm_drive.specs.Halves.{has_nothing, half_alone, half_events};
     ghost use Rattle.cbm_drive.specs.Reactions.{AreAt};
     ghost use Rattle.cbm_drive.specs.Seats.{AreLater, numbers};
     ghost use Rattle.cbm_drive.specs.Players.{at_start, pending, at_most, IsWaitingFrom, IsTurnOf, IsBehind, IsDrives, IsGivenBefore, IsAfter, HasGiven, IsStill, IsFinished};
@@ -145,6 +145,7 @@ impl Player {
         upto: u64,
     ) -> Option<Half>
         requires { upto < 2 ^ 59 - 1 }
+        ensures comes { is_some result ≡ (has_nothing self.old && half_alone (upto + 1) bus.old.drives) }
         ensures none { result ≡ None → (self.new ≡ self.old) × (bus.new ≡ bus.old) }
         ensures given { (n : ℕ) (ss : List (Station D.State)) (es : List Event) →
             IsAfter _ D.State D.stands D.step D.says self.old bus.old n ss es → IfSome result (λ h.

@@ -14,8 +14,8 @@ pub invariant_of-self-2 : goal.invariant_of-self-2
 invariant_of-self-2 g c =
     subst (λ (b : Party). (b.device < 31) × (1 ≤ b.reaction)) (sym (ap (λ (p : Port). p.party) (c.if-not-send_on.ensures.sent None).0)) c.self.invariant
 
-pub returns : goal.returns
-returns g c =
+pub returns-clause-said : goal.returns-clause-said
+returns-clause-said g c =
     let sent = c.if-not-send_on.ensures.sent in
     let due : port_due c.self.inside.port ≡ Some c.in-Speaking-Sending.at = ap side_due c.in-Speaking-Sending.is ∙ ap mouth_due (rw c.in-Speaking-Sending.is at c.in-Speaking-Sending.field-0-is) in
     subst (λ (x : Seated _). SaysHalf c.args.limit x (record { port = c.send_on.new.self; machine = c.self.inside.machine }) (record { moment = c.in-Speaking-Sending.at; device = c.send_on.new.self.party.device; was = c.self.inside.port.own; now = c.send_on.new.self.own })) c.self.view_is (record {
