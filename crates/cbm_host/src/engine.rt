@@ -114,26 +114,11 @@ impl<'a> Engine<'a> {
         }
     }
 
-    /// The quick way of `seen` while bits come, in place. False where something else happens, and then nothing has changed.
-    #[inline(always)]
-    fn gather_on(&mut self, change: Change) -> bool
-        requires { change.moment < 2 ^ 60 }
-        ensures { MatchBool result (self.new ≡ engine_seen change self.old) (self.new ≡ self.old) }
-    {
-        match &mut self.stage {
-            Stage::Taking(take) => take.gather_on(change),
-            _ => false,
-        }
-    }
-
     /// The drive changed a line.
     pub(crate) fn seen(&mut self, change: Change)
         requires { change.moment < 2 ^ 60 }
         ensures { self.new ≡ engine_seen change self.old }
     {
-        if self.gather_on(change) {
-            return;
-        }
         match (self.stage, change.line, change.way) {
             (
                 Stage::Framing {

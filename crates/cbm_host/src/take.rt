@@ -1,6 +1,6 @@
 //! A byte of the talker on the wires.
 
-ghost use Rattle.std.specs.Prelude.{◌≡◌, ◌^◌, ◌<◌, not, MatchBool};
+ghost use Rattle.std.specs.Prelude.{◌≡◌, ◌^◌, ◌<◌, not};
 ghost use Rattle.cbm_drive.specs.Halves.{half_lines};
 ghost use Rattle.cbm_host.specs.Taking.{nothing_came, came_bit, take_change, take_made, take_seen, take_heard};
 ghost use Rattle.cbm_host.specs.declared.take.Take.TheVariants.{Gathering};
@@ -66,29 +66,6 @@ impl Came {
         }
     }
 
-    /// A change of the talker while bits come counts in place. False where the byte is over, and then nothing has changed.
-    #[inline(always)]
-    fn gather(&mut self, change: Change) -> bool
-        ensures { MatchBool result (Gathering self.new ≡ take_seen change (Gathering self.old)) (self.new ≡ self.old) }
-    {
-        match (change.line, change.way) {
-            (Line::Data, way) => {
-                self.low = way == Way::Pull;
-                true
-            }
-            (Line::Clock, Way::Free) => {
-                if self.count < 8 {
-                    *self = self.bit();
-                }
-                true
-            }
-            (Line::Clock, Way::Pull) => self.count != 8,
-            (Line::Atn, _) => true,
-        }
-    }
-}
-
-impl Came {
     /// Half of a bit counts in place: CLOCK is freed, and the bit counts, or pulled; then DATA may change for the next one.
     #[inline(always)]
     pub(crate) fn half(&mut self, half: Half)
@@ -133,18 +110,6 @@ impl Take {
             Take::Marking(_) => Take::Unmarking(moment + EOI_PULSE),
             Take::Unmarking(_) => Take::Gathering(Came::nothing(true)),
             other => other,
-        }
-    }
-
-    /// The quick way of `seen` while bits come: they are counted in place. False where something else happens, and then nothing
-    /// has changed.
-    #[inline(always)]
-    pub(crate) fn gather_on(&mut self, change: Change) -> bool
-        ensures { MatchBool result (self.new ≡ take_seen change self.old) (self.new ≡ self.old) }
-    {
-        match self {
-            Take::Gathering(came) => came.gather(change),
-            _ => false,
         }
     }
 
