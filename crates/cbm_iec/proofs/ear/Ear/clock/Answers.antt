@@ -8,7 +8,3 @@ returns-in-Holding c = search rules
 -- a byte that begins at once has no EOI
 pub returns-in-Ready : goal.returns-in-Ready
 returns-in-Ready c = search rules
-
--- a bit is read with CLOCK's release
-pub returns-after-data_low : goal.returns-after-data_low
-returns-after-data_low c = search rules
