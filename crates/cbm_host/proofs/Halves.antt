@@ -1,36 +1,32 @@
 -- Half of a bit that the drive says, while the host waits for it.
-use Rattle.std.proofs.Common.{◌≡◌, inl, ℕ, ◌+◌, ◌*◌, ◌<◌, ◌≤◌, Bool, true, false, List, [], ◌∷◌, ◌++◌, length, Option, Some, None, refl, sym, ap, ◌∙◌, subst, arith}
+use Rattle.std.proofs.Common.{◌≡◌, inl, ℕ, ◌+◌, ◌*◌, ◌<◌, ◌≤◌, Bool, true, false, List, [], ◌∷◌, ◌++◌, length, Option, None, refl, sym, ap, ◌∙◌, subst, arith}
 use Rattle.std.proofs.lemmas.List.{append_assoc, append-nil}
 use Rattle.std.proofs.lemmas.Bool.Decides.{nat_tests}
 use Rattle.std.specs.Prelude.{not, nat_lt, ◌==◌, if◌then◌else◌}
 use Rattle.cbm_drive.specs.Cables.{Cabled}
 use Rattle.cbm_drive.specs.Halves.{half_lines, half_events}
-use Rattle.cbm_drive.specs.Players.{Turns, from_behind, at_most, IsAfter}
+use Rattle.cbm_drive.specs.Players.{from_behind, at_most, IsAfter}
 use Rattle.cbm_drive.specs.declared.half.Half.{Half}
 use Rattle.cbm_host.proofs.Progress.{seen_least, less_second}
 use Rattle.cbm_host.specs.Engines.{Engined, at_stage, engine_due, engine_seen, engine_heard, stage_gathers}
-use Rattle.cbm_host.specs.Hosted.{IsTaking, TakesOn}
+use Rattle.cbm_host.specs.Hosted.{TakesOn}
 use Rattle.cbm_host.specs.Performed.{from_last, goes, Runs}
 use Rattle.cbm_host.specs.Performers.{Performing, IsHandedOn}
 use Rattle.cbm_host.specs.Progress.{engine_left, more_than, left_of}
 use Rattle.cbm_host.specs.Performing.{IsBefore}
 use Rattle.cbm_host.specs.Stages.{take_due}
-use Rattle.cbm_host.specs.Taking.{came_bit, take_seen, take_heard}
+use Rattle.cbm_host.specs.Taking.{came_bit}
 use Rattle.cbm_host.specs.Waits.{answer_wait}
 use Rattle.cbm_host.specs.declared.due.Due.TheVariants.{Hears}
 use Rattle.cbm_host.specs.declared.stage.Stage.TheVariants.{Attending, Framing, Calling, Releasing, Turning, Taking, Ending, Done}
 use Rattle.cbm_host.specs.declared.stage.Stage.{Stage}
 use Rattle.cbm_host.specs.declared.take.Came.{Came}
 use Rattle.cbm_host.specs.declared.take.Take.TheVariants.{Awaiting, Freeing, Listening, Marking, Unmarking, Gathering, Accepting}
-use Rattle.cbm_host.specs.declared.take.Take.{Take}
-use Rattle.cbm_iec.specs.Ports.{change_at, changes_between}
+use Rattle.cbm_iec.specs.Ports.{changes_between}
 use Rattle.cbm_iec.specs.declared.act.Act.{Act}
 use Rattle.cbm_iec.specs.declared.event.Event.{Event}
 use Rattle.cbm_iec.specs.declared.event.Who.TheVariants.{Drive}
 use Rattle.cbm_iec.specs.declared.line.Change.{Change}
-use Rattle.cbm_iec.specs.declared.line.Line.TheVariants.{Clock, Data}
-use Rattle.cbm_iec.specs.declared.line.Way.TheVariants.{Pull, Free}
-use Rattle.cbm_iec.specs.declared.line.Way.{Way}
 use Rattle.cbm_iec.specs.declared.lines.Held.{Held}
 use Rattle.cbm_session.specs.Playing.{Station, drive_events}
 

@@ -1,5 +1,5 @@
 -- What the drive showed behind each act of a call, on any disk: where a machine plays that back, and then what it shows later, the call is one of that machine.
-use Rattle.std.specs.Prelude.{◌≡◌, ℕ, Bool, List, [], ◌∷◌, ◌++◌, Option, Result, MatchBool, MatchOption, MatchResult}
+use Rattle.std.specs.Prelude.{◌≡◌, ℕ, Bool, List, [], ◌∷◌, ◌++◌, Option, MatchOption}
 use Rattle.cbm_drive.specs.Cables.{Cabled}
 use Rattle.cbm_drive.specs.Players.{IsStill}
 use Rattle.cbm_host.specs.Engines.{Engined, engine_due}

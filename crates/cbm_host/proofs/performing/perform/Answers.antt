@@ -6,7 +6,7 @@ use Rattle.cbm_host.proofs.performing.perform.Goals as goal
 use Rattle.cbm_host.specs.CarriedOut.{IsShort}
 use Rattle.cbm_host.specs.Engines.{engine_at}
 use Rattle.cbm_host.specs.Performed.{HasPerformed}
-use Rattle.cbm_drive.specs.Playback.{Shown, Playback, played_says, played_step, IsPlayedBack}
+use Rattle.cbm_drive.specs.Playback.{Playback, played_says, played_step, IsPlayedBack}
 use Rattle.cbm_drive.specs.PlayedBack.{played_byte}
 use Rattle.cbm_host.proofs.AnyDisk.{rest_played}
 use Rattle.cbm_host.proofs.Anyway.{carried_anyway}

@@ -2,7 +2,7 @@ use Rattle.std.proofs.Common.{◌++◌, refl, ap, ◌∙◌}
 use Rattle.cbm_host.proofs.Performed.{if_err, added_none, added_one, cut_before, cut_behind, performing_on, performing_still, match_err}
 use Rattle.cbm_host.proofs.performing.step.Goals as goal
 use Rattle.cbm_host.specs.Performed.{taken_with, last_with}
-use Rattle.cbm_drive.specs.Playback.{Shown, Playback, played_says, played_step, IsPlayedBack}
+use Rattle.cbm_drive.specs.Playback.{Playback, played_says, played_step, IsPlayedBack}
 
 pub returns-in_default-clause-performing : goal.returns-in_default-clause-performing
 returns-in_default-clause-performing g c = λ e limit old ss p.

@@ -1,4 +1,4 @@
-use Rattle.std.proofs.Common.{◌<◌, refl, ap, ◌∙◌, arith}
+use Rattle.std.proofs.Common.{◌<◌, refl, ◌∙◌, arith}
 use Rattle.cbm_host.proofs.performer.Performer.gather.Goals as goal
 use Rattle.cbm_host.specs.Progress.{left_of}
 

@@ -5,7 +5,6 @@ use Rattle.cbm_host.specs.Engines.{engine_due}
 use Rattle.cbm_host.specs.Performers.{IsDue}
 use Rattle.cbm_iec.specs.declared.event.Who.TheVariants.{Host}
 use Rattle.cbm_iec.specs.declared.event.Who.{Who}
-use Rattle.cbm_drive.specs.Playback.{played_says, played_step, IsPlayedBack}
 
 -- none of the host's is due
 pub returns-in-Host-clause-come : goal.returns-in-Host-clause-come
