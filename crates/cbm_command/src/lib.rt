@@ -10,8 +10,6 @@ mod open_text;
 mod opening;
 mod pattern;
 mod refusal;
-#[cfg(test)]
-mod tests;
 mod text;
 
 pub use command::Command;

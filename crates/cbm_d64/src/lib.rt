@@ -4,8 +4,6 @@
 mod disk;
 mod fault;
 mod image;
-#[cfg(test)]
-mod tests;
 
 pub use disk::D64Disk;
 pub use fault::D64Fault;

@@ -10,9 +10,6 @@ use cbm_iec::{Change, Event, Lines, Machine};
 use std::alloc::AllocError;
 use std::marker::Model;
 
-#[cfg(test)]
-mod tests;
-
 /// Drives on one cable with a host. Of several whose reactions are due at one moment the one that is listed first answers
 /// first.
 #[derive(Drop)]

@@ -7,9 +7,6 @@ use crate::half::Half;
 use cbm_iec::{Change, Event, Machine, Who};
 use std::marker::Model;
 
-#[cfg(test)]
-mod tests;
-
 /// Plays a host's changes on a bus one at a time, and gives the events one by one; it takes no memory.
 ///
 /// A change is offered, and `next` is asked for events up to a moment: the reactions that are due before the change, the

@@ -3,8 +3,6 @@
 
 mod file_type;
 mod padding;
-#[cfg(test)]
-mod tests;
 
 pub use file_type::FileType;
 pub use padding::{before_filler, padded};

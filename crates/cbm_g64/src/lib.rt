@@ -8,8 +8,6 @@ mod disk;
 mod fault;
 mod image;
 mod numbers;
-#[cfg(test)]
-mod tests;
 
 pub use disk::G64Disk;
 pub use fault::G64Fault;

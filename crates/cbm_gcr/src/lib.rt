@@ -6,6 +6,3 @@ mod group;
 mod nibble;
 
 pub use group::{decode5, encode4};
-
-#[cfg(test)]
-mod tests;

@@ -4,8 +4,6 @@
 mod entry;
 mod line;
 mod listing;
-#[cfg(test)]
-mod tests;
 
 pub use cbm_file::FileType;
 pub use entry::Entry;

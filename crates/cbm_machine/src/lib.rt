@@ -4,8 +4,6 @@
 mod code;
 mod status;
 mod telling;
-#[cfg(test)]
-mod tests;
 
 pub use code::Code;
 pub use status::{Status, StatusLine};

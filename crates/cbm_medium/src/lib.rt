@@ -9,8 +9,6 @@ mod geometry;
 mod link;
 mod medium;
 mod steady;
-#[cfg(test)]
-mod tests;
 
 pub use address::{Address, sectors_of};
 pub use failing::Failing;

@@ -8,8 +8,6 @@ mod header;
 mod indexed;
 mod layout;
 mod sector;
-#[cfg(test)]
-mod tests;
 
 pub use fresh::{fresh_track, track_bytes};
 pub use group::decoding_undoes_code;

@@ -8,6 +8,3 @@ mod track;
 mod words;
 
 pub use track::Track;
-
-#[cfg(test)]
-mod tests;

@@ -1,10 +1,16 @@
-//! Drives with disks, on the bus.
+//! Drives on the bus: with machines of a few lines, and with disks.
 #![tactic(auto)]
 
 #[cfg(test)]
+mod cables;
+#[cfg(test)]
 mod desks;
 #[cfg(test)]
+mod drives;
+#[cfg(test)]
 mod host;
+#[cfg(test)]
+mod players;
 #[cfg(test)]
 mod recorder;
 #[cfg(test)]

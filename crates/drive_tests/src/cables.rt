@@ -2,11 +2,9 @@
 
 ghost use Rattle.std.specs.Prelude.{◌^◌, ◌<◌, ◌≤◌};
 
-use crate::cable::Bus;
-use crate::drive::Drive;
-use crate::drive::tests::{Parrot, at};
-use crate::fault::PlayFault;
+use crate::drives::{Parrot, at};
 use arrayvec::ArrayVec;
+use cbm_drive::{Bus, Drive, PlayFault};
 use cbm_iec::Line::*;
 use cbm_iec::Way::*;
 use cbm_iec::{Change, Party, Who};

@@ -1,6 +1,6 @@
 //! Statuses, as the drive's table has them.
-use crate::{Code, Status, Telling};
 use cbm_command::Refusal;
+use cbm_machine::{Code, Status, Telling};
 
 #[test]
 fn tells_statuses(rt: HostRuntime) {

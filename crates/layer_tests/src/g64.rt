@@ -1,6 +1,6 @@
 ghost use Rattle.std.specs.Prelude.{◌≡◌};
 
-use crate::{G64Disk, G64Fault};
+use cbm_g64::{G64Disk, G64Fault};
 use cbm_medium::{Address, Fault, Medium, sectors_of};
 use cbm_sector::read_sector;
 use std::alloc::Global;

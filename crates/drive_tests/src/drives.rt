@@ -2,10 +2,10 @@
 
 ghost use Rattle.std.specs.Prelude.{◌≡◌, ◌^◌, ◌<◌};
 
-use crate::drive::Drive;
 use Line::*;
 use Way::*;
 use arrayvec::ArrayVec;
+use cbm_drive::Drive;
 use cbm_iec::*;
 use std::alloc::{AllocError, Global};
 use std::process::Abort;

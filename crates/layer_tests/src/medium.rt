@@ -1,4 +1,4 @@
-use crate::{Address, Geometry, Link, sectors_of};
+use cbm_medium::{Address, Geometry, Link, sectors_of};
 
 /// How many sectors of a track there are, by asking for each.
 fn sectors_found(track: u8) -> usize {

@@ -1,7 +1,7 @@
 ghost use Rattle.std.specs.Prelude.{◌≡◌};
 
-use crate::{fresh_track, id_of, read_sector, write_sector};
 use cbm_medium::{Address, Fault};
+use cbm_sector::{fresh_track, id_of, read_sector, write_sector};
 use cbm_track::Track;
 use std::process::Abort;
 use std::test::Fail;

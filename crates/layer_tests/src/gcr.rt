@@ -1,4 +1,4 @@
-use crate::{decode5, encode4};
+use cbm_gcr::{decode5, encode4};
 
 /// Bytes and their code, as the format's descriptions print them.
 const ROWS: [([u8; 4], [u8; 5]); 4] = [

@@ -1,5 +1,5 @@
 //! Texts and their answers, taken from the rules.
-use crate::{Command, Mode, Opening, Refusal, matches, parse_command, parse_open};
+use cbm_command::{Command, Mode, Opening, Refusal, matches, parse_command, parse_open};
 use cbm_file::FileType;
 use std::test::Fail;
 

@@ -2,12 +2,9 @@
 
 ghost use Rattle.std.specs.Prelude.{◌^◌, ◌<◌};
 
-use crate::cable::Bus;
-use crate::drive::Drive;
-use crate::drive::tests::{Parrot, at, attention};
-use crate::fault::PlayFault;
-use crate::player::Player;
+use crate::drives::{Parrot, at, attention};
 use arrayvec::ArrayVec;
+use cbm_drive::{Bus, Drive, PlayFault, Player};
 use cbm_iec::Line::*;
 use cbm_iec::Way::*;
 use cbm_iec::{Change, Event, Party, Who};

@@ -1,4 +1,4 @@
-use crate::Track;
+use cbm_track::Track;
 use std::process::Abort;
 use std::test::Fail;
 

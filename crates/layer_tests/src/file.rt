@@ -1,5 +1,5 @@
 //! The types of files, as the directory's table has them.
-use crate::FileType;
+use cbm_file::FileType;
 
 #[test]
 fn numbers_types(rt: HostRuntime) {

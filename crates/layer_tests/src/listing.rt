@@ -1,5 +1,5 @@
 //! A listing, byte by byte.
-use crate::{Entry, FileType, Listing};
+use cbm_listing::{Entry, FileType, Listing};
 
 /// The line of a file in a listing by itself, without the title's.
 fn line_of(entry: &Entry<'_>, shown: &mut [u8; 32]) {
