@@ -9,7 +9,7 @@ use crate::talk::Talk;
 use std::alloc::{AllocError, Global};
 
 /// How far a step is.
-#[derive(Clone, Copy, PartialEq, Eq)]
+#[derive(Clone, Copy)]
 enum Stage {
     /// Its requests are read.
     Asked,
@@ -52,12 +52,12 @@ impl Step {
 
     /// Whether more can be asked.
     pub fn is_asked(&self) -> bool {
-        self.stage == Stage::Asked
+        matches!(self.stage, Stage::Asked)
     }
 
     /// Whether a line said of its disk what a check says.
     pub fn is_judged(&self) -> bool {
-        self.stage == Stage::Judged
+        matches!(self.stage, Stage::Judged)
     }
 
     /// A line says of its disk what a check says.
