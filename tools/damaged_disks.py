@@ -1,14 +1,13 @@
 #!/usr/bin/env python3
-"""damaged_disks.py: 500 damaged disks, and what `check` and VALIDATE say of each.
+"""damaged_disks.py: 500 damaged disks, and what `check` and VALIDATE say of each, as a transcript (docs/CASES.md).
 
-A plain reading of the D64 format and of the drive's rules (docs/DECISIONS.md), apart from the drive's own code: the words
-that it prints stand in crates/script_tests/src/damaged.rt, whose test makes the same disks. A word is the verdict of `check`
-(`-` or number.track.sector), then `=` and the free blocks that VALIDATE leaves or, where it refuses, `+` and its status
-code.track.sector.
+A plain reading of the D64 format and of the drive's rules (docs/DECISIONS.md), apart from the drive's own code: what it prints
+is crates/cases/data/damaged.cases.
 """
 
 CODES = {2: 20, 3: 21, 4: 22, 5: 23, 6: 24, 9: 27, 11: 29}  # a D64's error bytes
 HEADER_FAULTS = (20, 21, 27, 29)
+TEXTS = {29: "DISK ID MISMATCH", 66: "ILLEGAL TRACK OR SECTOR", 71: "DIR ERROR"}
 IMAGE = 174_848
 
 
@@ -28,11 +27,10 @@ def put(image, at, values):
     image[at : at + len(values)] = bytes(values)
 
 
-def base():
-    """A closed SEQ file of two blocks, a PRG file that was never closed, a USR file of three, a REL file."""
+def formatted(used):
+    """A disk with error bytes as NEW leaves it, but that these sectors are taken."""
     image = bytearray(IMAGE + 683)
     put(image, IMAGE, [1] * 683)
-    used = {(18, 0), (18, 1), (17, 0), (17, 10), (17, 20), (16, 1), (16, 2), (16, 3), (19, 1), (19, 2)}
     head = place(18, 0)
     put(image, head, [18, 1, 0x41, 0])
     for track in range(1, 36):
@@ -42,6 +40,12 @@ def base():
     put(image, head + 144, b"TEST")
     put(image, head + 162, b"AB\xa02A")
     put(image, place(18, 1), [0, 255])
+    return image
+
+
+def base():
+    """A closed SEQ file of two blocks, a PRG file that was never closed, a USR file of three, a REL file."""
+    image = formatted({(18, 0), (18, 1), (17, 0), (17, 10), (17, 20), (16, 1), (16, 2), (16, 3), (19, 1), (19, 2)})
     entries = [(0x81, 17, 0, b"A", 0, 0, 0, 2), (2, 17, 20, b"B", 0, 0, 0, 0), (0x83, 16, 1, b"C", 0, 0, 0, 3), (0x84, 19, 1, b"R", 19, 2, 20, 2)]
     for n, (kind, track, sector, name, side_track, side, length, blocks) in enumerate(entries):
         entry = place(18, 1) + 32 * n
@@ -197,31 +201,70 @@ def judge(image, validates):
     return 664 - sum(track != 18 for track, sector in used)
 
 
-def verdict(image, validates):
+def verdict(image):
+    """What `check` says."""
     try:
-        free = judge(image, validates)
-        return "=%d" % free if validates else "-"
+        judge(image, False)
+        return "sound"
     except Flaw as flaw:
         number, at = flaw.args
-        if validates:
-            number = code_of(image, at) if number in (5, 9) else 66 if number in (4, 6) else 71
-        return ("+" if validates else "") + "%d.%d.%d" % (number, *at)
+        return "%d %d %d" % (number, *at)
 
 
-def word(seed):
+def refusal(image):
+    """What VALIDATE answers where it refuses, and the blocks that it leaves free where it doesn't."""
+    try:
+        return None, judge(image, True)
+    except Flaw as flaw:
+        number, at = flaw.args
+        code = code_of(image, at) if number in (5, 9) else 66 if number in (4, 6) else 71
+        return "%d,%s,%02d,%02d" % (code, TEXTS.get(code, "READ ERROR"), min(at[0], 99), min(at[1], 99)), None
+
+
+def pokes(before, after):
+    """The lines that make of one image another."""
+    lines = []
+    for track, sector in all_sectors():
+        at = place(track, sector)
+        changed = [n for n in range(256) if before[at + n] != after[at + n]]
+        while changed:
+            first = last = changed[0]
+            while changed and changed[0] <= last + 3:
+                last = changed.pop(0)
+            lines.append("poke %d/%d+$%02x = %s" % (track, sector, first, after[at + first : at + last + 1].hex(" ")))
+        error = IMAGE + at // 256
+        if before[error] != after[error]:
+            lines.append("poke %d/%d error %d" % (track, sector, after[error]))
+    return lines
+
+
+VALIDATE = ["> put 15 V0", "> status"]
+
+
+def case(seed):
+    """The lines of the disk of this number."""
     image = base()
     r = Random(seed)
     for _ in range(1 + r.below(3)):
         damage(image, r)
-    return verdict(image, False) + verdict(image, True)
+    lines = ["", "== damaged disk %d" % seed, "disk files", *pokes(base(), image)]
+    found = verdict(image)
+    unsound = ["check " + found] if found != "sound" else []
+    status, free = refusal(image)
+    if status:
+        return [*lines, *unsound, "stays", *VALIDATE, "status " + status, *unsound]
+    fine = [*VALIDATE, "status 00, OK,00,00"]
+    return [*lines, *unsound, "then", *fine, "free %d" % free, "stays", *fine]
 
 
 if __name__ == "__main__":
-    line = ""
+    print("; 500 damaged disks, written by tools/damaged_disks.py: what a check says of each, and what VALIDATE answers. Where it")
+    print("; refuses, the disk stays; else the disk is sound afterwards, and a second VALIDATE changes nothing.")
+    print()
+    print("== four files")
+    print("; A closed SEQ file of two blocks, a PRG file that was never closed, a USR file of three blocks, and a REL file.")
+    print("disk empty, error bytes")
+    empty = formatted({(18, 0), (18, 1)})
+    print("\n".join([*pokes(empty, base()), "keep files"]))
     for seed in range(500):
-        w = word(seed)
-        if len(line) + len(w) > 90:
-            print(line)
-            line = ""
-        line += w + " "
-    print(line.rstrip())
+        print("\n".join(case(seed)))

@@ -54,6 +54,8 @@ pub struct Way {
     pub protected: bool,
     /// The same is asked of a G64.
     pub circles: bool,
+    /// The same is asked by the drive's calls, without wires.
+    pub calls: bool,
     pub refusals: Refusals,
     /// The script's last line has no line feed.
     pub unended: bool,
@@ -65,6 +67,7 @@ impl Way {
         device: 8,
         protected: false,
         circles: false,
+        calls: false,
         refusals: Refusals::None,
         unended: false,
     };
@@ -74,6 +77,7 @@ impl Way {
         match word {
             "protected" => self.protected = true,
             "g64 too" => self.circles = true,
+            "by calls too" => self.calls = true,
             "no last line feed" => self.unended = true,
             "device 9" => self.device = 9,
             "device 10" => self.device = 10,

@@ -2,7 +2,7 @@
 
 use crate::head::Way;
 use crate::playing::{Played, circles_of, holds_the_same, play};
-use crate::refusals::Refusals;
+use crate::refusals::{Refusals, Stop};
 use crate::report::Report;
 use crate::stops;
 use crate::talk::Talk;
@@ -110,6 +110,22 @@ impl Step {
         report.tell(self.number, "the G64 holds otherwise")
     }
 
+    /// Plays its script by the drive's calls, which must print and leave the same.
+    fn play_by_calls(
+        &self,
+        report: &mut Report,
+        image: &[u8],
+        text: &str,
+        after: &[u8],
+    ) -> Result<(), AllocError> {
+        let other = stops::play(self.alloc, image, self.script(), Stop::NEVER)?.played;
+        report.compare(self.number, text, other.text.as_str())?;
+        match other.after {
+            Some(other) if other.as_slice() == after => Ok(()),
+            Some(_) | None => report.tell(self.number, "the calls leave another disk"),
+        }
+    }
+
     /// Refuses its writes one by one, if that is asked for.
     fn stop_at_each(&mut self, report: &mut Report, image: &[u8]) -> Result<(), AllocError> {
         match self.way.refusals {
@@ -140,6 +156,9 @@ impl Step {
         let Some(after) = after else {
             return Ok(None);
         };
+        if self.way.calls {
+            self.play_by_calls(report, image, text.as_str(), after.as_slice())?;
+        }
         if self.way.circles {
             self.play_on_circles(report, image, text.as_str(), after.as_slice())?;
         }

@@ -41,13 +41,18 @@ impl Talk {
         Ok(())
     }
 
-    /// Compares a line that was printed with the answer that is written.
+    /// Compares a line that was printed with the answer that is written; of one that ends in `..` the beginning.
     fn compare_one(
         &self,
         report: &mut Report,
         answer: &Numbered,
         came: &str,
     ) -> Result<(), AllocError> {
+        if let Some(beginning) = answer.text.as_str().strip_suffix("..")
+            && came.starts_with(beginning)
+        {
+            return Ok(());
+        }
         match printed_for(self.alloc, answer.text.as_str())? {
             Some(wanted) => report.compare(answer.number, wanted.as_str(), came),
             None => report.tell(answer.number, "no bytes as `00 ff`, `41*254` or `\"NAME\"`"),

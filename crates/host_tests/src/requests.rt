@@ -1,30 +1,19 @@
-// Requests over the wires: what the drive says, and the disk behind them.
+// Requests over the wires: what the drive says, whatever its reaction, and when a request is over.
 
 ghost use Rattle.std.specs.Prelude.{◌≤◌};
 ghost use Rattle.cbm_host.specs.Engines.{channel_of};
 
 use crate::wired::{Wired, empty_disk};
-use cbm_channel::Dos;
 use cbm_host::{Hosted, Request};
 use std::alloc::Global;
 use std::process::Abort;
 use std::test::Fail;
 
-/// The status after power up.
-const POWER_UP: &[u8] = b"73,CBM DOS V2.6 1541,00,00\r";
-
 /// The status where all is well.
 const OK: &[u8] = b"00, OK,00,00\r";
 
-/// The status of a channel that isn't open.
-const NOT_OPEN: &[u8] = b"61,FILE NOT OPEN,00,00\r";
-
-/// The program HELLO, the first two of its bytes, and the last.
+/// The program HELLO.
 const HELLO: &[u8] = b"\x01\x02\x03";
-
-const FIRST: &[u8] = b"\x01\x02";
-
-const LAST: &[u8] = b"\x03";
 
 // Asserts that a request is answered by these bytes, the last of them with EOI or not.
 fn answers(
@@ -41,13 +30,6 @@ fn answers(
     assert!(rt; done.bytes.as_slice() == bytes);
     assert!(rt; done.last == last);
     Ok(())
-}
-
-#[test]
-fn the_status_is_read_twice(rt: HostRuntime) -> Result<(), Fail> {
-    let mut wired = Wired::new(&rt, rt.alloc(), 20)?;
-    answers(&rt, rt.alloc(), &mut wired, Request::Status, POWER_UP, true)?;
-    answers(&rt, rt.alloc(), &mut wired, Request::Status, OK, true)
 }
 
 // A drive that reacts soon frees CLOCK behind its last byte before ATN is pulled; a slower one is cut there.
@@ -94,86 +76,9 @@ fn a_program_is_written_and_read(rt: HostRuntime) -> Result<(), Fail> {
     Ok(())
 }
 
-// A byte that wasn't asked for comes with the next request, and a file that was read has nothing more to say.
+// Equal bytes that take no memory end at the same moment as if they had been put.
 #[test]
-fn a_program_is_read_in_pieces(rt: HostRuntime) -> Result<(), Fail> {
-    let mut wired = Wired::new(&rt, rt.alloc(), 20)?;
-    answers(&rt, rt.alloc(), &mut wired, Request::Get(0, 3), &[], false)?;
-    answers(&rt, rt.alloc(), &mut wired, Request::Status, NOT_OPEN, true)?;
-    answers(
-        &rt,
-        rt.alloc(),
-        &mut wired,
-        Request::Open(1, b"HELLO"),
-        &[],
-        false,
-    )?;
-    answers(
-        &rt,
-        rt.alloc(),
-        &mut wired,
-        Request::Put(1, HELLO),
-        &[],
-        false,
-    )?;
-    answers(&rt, rt.alloc(), &mut wired, Request::Close(1), &[], false)?;
-    answers(
-        &rt,
-        rt.alloc(),
-        &mut wired,
-        Request::Open(0, b"HELLO"),
-        &[],
-        false,
-    )?;
-    answers(
-        &rt,
-        rt.alloc(),
-        &mut wired,
-        Request::Get(0, 2),
-        FIRST,
-        false,
-    )?;
-    answers(&rt, rt.alloc(), &mut wired, Request::Get(0, 1), LAST, true)?;
-    answers(&rt, rt.alloc(), &mut wired, Request::Get(0, 1), &[], false)
-}
-
-// A file of several blocks: the disk is byte for byte as the DOS's calls leave it.
-#[test]
-fn the_disk_is_as_the_calls_leave_it(rt: HostRuntime) -> Result<(), Fail> {
-    let mut bytes = Vec::new(rt.alloc());
-    for byte in 0..600u16 {
-        bytes.push((byte % 251) as u8)?;
-    }
-    let mut wired = Wired::new(&rt, rt.alloc(), 20)?;
-    wired.asks(&rt, rt.alloc(), Request::Open(2, b"DATA,S,W"))?;
-    wired.asks(&rt, rt.alloc(), Request::Put(2, bytes.as_slice()))?;
-    wired.asks(&rt, rt.alloc(), Request::Close(2))?;
-    wired.asks(&rt, rt.alloc(), Request::Put(15, b"R0:NEW=DATA"))?;
-    wired.asks(&rt, rt.alloc(), Request::Open(2, b"NEW"))?;
-    answers(
-        &rt,
-        rt.alloc(),
-        &mut wired,
-        Request::Get(2, 5000),
-        bytes.as_slice(),
-        true,
-    )?;
-    let mut dos = Dos::new(empty_disk(rt.alloc())?);
-    dos.open(2, b"DATA,S,W");
-    for byte in bytes.as_slice() {
-        dos.put(2, *byte);
-    }
-    dos.close(2);
-    dos.open(15, b"R0:NEW=DATA");
-    let over_wires = wired.into_disk().to_bytes(rt.alloc())?;
-    let by_calls = dos.into_medium().to_bytes(rt.alloc())?;
-    assert!(&rt; over_wires.as_slice() == by_calls.as_slice());
-    Ok(())
-}
-
-// Equal bytes that take no memory leave the disk as if they had been put, at the same moment.
-#[test]
-fn a_fill_is_a_put(rt: HostRuntime) -> Result<(), Fail> {
+fn a_fill_ends_as_a_put(rt: HostRuntime) -> Result<(), Fail> {
     let mut bytes = Vec::new(rt.alloc());
     for _ in 0..600u16 {
         bytes.push(0x41)?;
@@ -187,9 +92,6 @@ fn a_fill_is_a_put(rt: HostRuntime) -> Result<(), Fail> {
     put.asks(&rt, rt.alloc(), Request::Put(2, bytes.as_slice()))?;
     let put_end = put.asks(&rt, rt.alloc(), Request::Close(2))?.end;
     assert!(&rt; fill_end == put_end);
-    let by_fill = filled.into_disk().to_bytes(rt.alloc())?;
-    let by_put = put.into_disk().to_bytes(rt.alloc())?;
-    assert!(&rt; by_fill.as_slice() == by_put.as_slice());
     Ok(())
 }
 

@@ -52,11 +52,4 @@ impl Wired {
         self.now = done.end;
         Ok(done)
     }
-
-    /// The disk.
-    pub fn into_disk(self) -> D64Disk {
-        let Wired { bus, .. } = self;
-        let [drive] = bus.into_drives();
-        drive.into_machine().into_dos().into_medium()
-    }
 }
