@@ -154,3 +154,17 @@ fn a_return_is_refused(rt: HostRuntime) -> Result<(), Fail> {
     );
     Ok(())
 }
+
+/// How a script of so many empty lines ends.
+fn end_of_lines(alloc: Global, lines: usize) -> Result<Option<RunFault>, Fail> {
+    let image = hello(alloc)?;
+    let script = vec![in alloc; b'\n'; lines]?;
+    Ok(end_of(alloc, script.as_slice(), &mut Sink, image.as_slice()))
+}
+
+#[test]
+fn a_million_lines_and_one(rt: HostRuntime) -> Result<(), Fail> {
+    assert!(rt; end_of_lines(rt.alloc(), 1_000_000)?.is_none());
+    assert!(rt; end_of_lines(rt.alloc(), 1_000_001)? == Some(RunFault::Script(1_000_001)));
+    Ok(())
+}
