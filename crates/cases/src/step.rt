@@ -9,7 +9,7 @@ use crate::talk::Talk;
 use std::alloc::{AllocError, Global};
 
 /// How far a step is.
-#[derive(Clone, Copy, PartialEq, Eq)]
+#[derive(Clone, Copy)]
 enum Stage {
     /// Its requests are read.
     Asked,
@@ -52,12 +52,12 @@ impl Step {
 
     /// Whether more can be asked.
     pub fn is_asked(&self) -> bool {
-        self.stage == Stage::Asked
+        matches!(self.stage, Stage::Asked)
     }
 
     /// Whether a line said of its disk what a check says.
     pub fn is_judged(&self) -> bool {
-        self.stage == Stage::Judged
+        matches!(self.stage, Stage::Judged)
     }
 
     /// A line says of its disk what a check says.
@@ -98,16 +98,18 @@ impl Step {
         let Some(circles) = circles_of(self.alloc, image) else {
             return report.tell(self.number, "this disk has no G64");
         };
-        let other = self.print(circles.as_slice())?;
-        report.compare(self.number, text, other.text.as_str())?;
-        let is_same = match other.after {
-            Some(other) => holds_the_same(self.alloc, after, other.as_slice()),
-            None => false,
-        };
-        if is_same {
+        let Played {
+            text: told,
+            after: left,
+        } = self.print(circles.as_slice())?;
+        report.compare(self.number, text, told.as_str())?;
+        let Some(left) = left else {
             return Ok(());
+        };
+        if !holds_the_same(self.alloc, after, left.as_slice()) {
+            return report.tell(self.number, "the G64 holds otherwise");
         }
-        report.tell(self.number, "the G64 holds otherwise")
+        Ok(())
     }
 
     /// Plays its script by the drive's calls, which must print and leave the same.
@@ -118,12 +120,18 @@ impl Step {
         text: &str,
         after: &[u8],
     ) -> Result<(), AllocError> {
-        let other = stops::play(self.alloc, image, self.script(), Stop::NEVER)?.played;
-        report.compare(self.number, text, other.text.as_str())?;
-        match other.after {
-            Some(other) if other.as_slice() == after => Ok(()),
-            Some(_) | None => report.tell(self.number, "the calls leave another disk"),
+        let Played {
+            text: told,
+            after: left,
+        } = stops::play(self.alloc, image, self.script(), Stop::NEVER)?.played;
+        report.compare(self.number, text, told.as_str())?;
+        let Some(left) = left else {
+            return Ok(());
+        };
+        if left.as_slice() != after {
+            return report.tell(self.number, "the calls leave another disk");
         }
+        Ok(())
     }
 
     /// Refuses its writes one by one, if that is asked for.

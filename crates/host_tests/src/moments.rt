@@ -70,7 +70,7 @@ fn listen_has_its_moments(rt: HostRuntime) -> Result<(), Fail> {
         28,
         &[(DRIVE, 1480, Data, Pull)],
     );
-    // Three bytes, each accepted 480 behind the one before; ATN freed 60 behind the last, and 100 more.
+    // Three bytes, each accepted 480 after the one before; ATN freed 60 after the last, and 100 more.
     assert!(&rt; done.end == 1000 + 3 * 480 + 60 + 100);
     Ok(())
 }
@@ -174,7 +174,7 @@ fn nothing_to_say_has_its_moments(rt: HostRuntime) -> Result<(), Fail> {
     Ok(())
 }
 
-// A byte with EOI to a listener: the drive's pulse is from 200 to 260 and its reaction behind DATA's release.
+// A byte with EOI to a listener: the drive's pulse is from 200 to 260 and its reaction after DATA's release.
 #[test]
 fn eoi_has_its_moments(rt: HostRuntime) -> Result<(), Fail> {
     let mut wired = Wired::new(&rt, rt.alloc(), 20)?;

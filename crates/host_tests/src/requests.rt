@@ -32,7 +32,7 @@ fn answers(
     Ok(())
 }
 
-// A drive that reacts soon frees CLOCK behind its last byte before ATN is pulled; a slower one is cut there.
+// A drive that reacts soon frees CLOCK after its last byte before ATN is pulled; a slower one is cut there.
 #[test]
 fn a_program_is_written_and_read(rt: HostRuntime) -> Result<(), Fail> {
     for reaction in [1, 19, 20, 21, 60] {
