@@ -2,6 +2,7 @@
 use crate::holds;
 use cbm_command::{Command, Mode, Opening, Refusal, matches, parse_command, parse_open};
 use cbm_file::FileType;
+use std::process::Abort;
 
 /// The number of a refusal, or 0.
 fn number<T: Drop>(answer: Result<T, Refusal>) -> u8 {
@@ -12,7 +13,7 @@ fn number<T: Drop>(answer: Result<T, Refusal>) -> u8 {
 }
 
 /// A channel, the text of an OPEN, and the number of its refusal, 0 for none.
-const OPENINGS: [(u8, &[u8], u8); 68] = [
+const OPENINGS: &[(u8, &[u8], u8)] = &[
     // more than 58 bytes, before all else
     (2, &[b'A'; 59], 32),
     (2, &[b'#'; 59], 32),
@@ -95,11 +96,15 @@ fn opens(channel: u8, text: &[u8], wanted: u8) -> bool {
     number(parse_open(channel, text)) == wanted
 }
 
+fn try_openings(rt: &impl Abort, rows: &[(u8, &[u8], u8)]) {
+    for (channel, text, wanted) in rows {
+        holds(rt, opens(*channel, text, *wanted), text);
+    }
+}
+
 #[test]
 fn refuses_openings(rt: HostRuntime) {
-    for (channel, text, wanted) in OPENINGS {
-        holds(&rt, opens(channel, text, wanted), text);
-    }
+    try_openings(&rt, OPENINGS);
 }
 
 const READ: Mode = Mode::Read;
@@ -193,7 +198,7 @@ fn reads_listings(rt: HostRuntime) {
 }
 
 /// A command, and the number of its refusal, 0 for none.
-const COMMANDS: [(&[u8], u8); 68] = [
+const COMMANDS: &[(&[u8], u8)] = &[
     (&[b'S'; 59], 32),
     (&[b'?'; 59], 32),
     (&[b'I'; 58], 0),
@@ -277,11 +282,15 @@ fn commands(text: &[u8], wanted: u8) -> bool {
     number(parse_command(text)) == wanted
 }
 
+fn try_commands(rt: &impl Abort, rows: &[(&[u8], u8)]) {
+    for (text, wanted) in rows {
+        holds(rt, commands(text, *wanted), text);
+    }
+}
+
 #[test]
 fn refuses_commands(rt: HostRuntime) {
-    for (text, wanted) in COMMANDS {
-        holds(&rt, commands(text, wanted), text);
-    }
+    try_commands(&rt, COMMANDS);
 }
 
 /// A command P, its channel, record and place.
