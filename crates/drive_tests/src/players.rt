@@ -34,7 +34,7 @@ enum Step {
 
 use Step::*;
 
-fn stand() -> Stand {
+fn resting() -> Stand {
     let acts = ArrayVec::new();
     let party = Party {
         device: 8,
@@ -140,7 +140,7 @@ const LISTENED: [Step; 3] = [
 
 #[test]
 fn listens(rt: HostRuntime) {
-    let mut stand = stand();
+    let mut stand = resting();
     try_steps(&rt, &mut stand, &LISTEN);
     try_steps(&rt, &mut stand, &LISTENED);
 }
@@ -159,7 +159,7 @@ const FIRST: [Step; 7] = [
 
 #[test]
 fn the_host_comes_first(rt: HostRuntime) {
-    try_steps(&rt, &mut stand(), &FIRST);
+    try_steps(&rt, &mut resting(), &FIRST);
 }
 
 // The drive leaves at 25, and holds no line.
@@ -170,7 +170,7 @@ fn is_leaving(bus: &Bus<Parrot, 1>) -> bool {
 // A reaction that changes no line isn't made where no event follows: the host may still come before it.
 #[test]
 fn what_shows_nothing_waits(rt: HostRuntime) {
-    let mut stand = stand();
+    let mut stand = resting();
     try_steps(&rt, &mut stand, &[Gives(0, Atn, Pull), Gives(5, Atn, Free)]);
     assert!(rt; is_leaving(&stand.bus));
     let steps = [
@@ -227,7 +227,7 @@ fn is_half(stand: &mut Stand, moment: u64, shown: bool, low: bool) -> bool {
 // TALK 8, CLOCK free for the turnaround at 1420 and DATA 120 later: the halves of $37, its end apart.
 #[test]
 fn a_byte_comes_in_halves(rt: HostRuntime) {
-    let mut stand = stand();
+    let mut stand = resting();
     let host = turn(rt.alloc());
     assert!(rt; give_all(&rt, &mut stand, host.changes(&rt)));
     assert!(rt; has_no_half(&mut stand, 1559));
