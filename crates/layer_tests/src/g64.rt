@@ -299,7 +299,7 @@ fn codes_of_missing(disk: &mut G64Disk) -> [u8; 7] {
         read_code(disk, 1, 0),
         write_code(disk, 1, 0, 1),
         read_code(disk, 2, 0),
-        format_code(disk),
+        code_of(disk.format([1, 2])),
         read_code(disk, 1, 0),
         disk.tracks(),
     ]

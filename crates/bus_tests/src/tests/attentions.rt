@@ -11,7 +11,7 @@ use std::alloc::Global;
 use std::process::Abort;
 
 impl Session {
-    // ATN's release, and what follows it up to the next attention; the moment from which ATN may be pulled behind all
+    // ATN's release, and what follows it up to the next attention; the moment from which ATN may be pulled after all
     // of that.
     pub fn release(&mut self, rt: &impl Abort, alloc: Global) -> u64 {
         let first = after(self.accepted, self.gap());
@@ -214,7 +214,7 @@ impl Session {
         }
     }
 
-    // Up to three attentions, each with what follows it; a talk may be cut at any moment behind ATN's release.
+    // Up to three attentions, each with what follows it; a talk may be cut at any moment after ATN's release.
     pub fn write(&mut self, rt: &impl Abort, alloc: Global) -> u64 {
         let mut moment = self.random(50);
         for _ in 0..after(1, self.random(3)) {

@@ -18,7 +18,7 @@ pub fn owed_change(place: usize, moment: u64, line: Line, way: Way) -> Owed {
 }
 
 impl Reading {
-    /// A frame may be ready 100 behind the last accept, and behind ATN's pull or release.
+    /// A frame may be ready 100 after the last accept, and after ATN's pull or release.
     pub fn may_send(&self, moment: u64, changed: Option<u64>) -> bool {
         self.is_clear() && is_behind(moment, 100, changed) && is_behind(moment, 100, self.accepted)
     }
@@ -52,7 +52,7 @@ impl Reading {
         add(rt, next, self)
     }
 
-    /// The first bit begins 1 to 199 behind the moment at which DATA is free, or behind the pulse.
+    /// The first bit begins 1 to 199 after the moment at which DATA is free, or after the pulse.
     pub fn start(
         mut self,
         rt: &impl Abort,
@@ -74,7 +74,7 @@ impl Reading {
         add(rt, next, self)
     }
 
-    /// CLOCK is free at least 20 behind its pull and behind DATA: the bit is 1 where DATA is free.
+    /// CLOCK is free at least 20 after its pull and after DATA: the bit is 1 where DATA is free.
     pub fn bit(
         mut self,
         rt: &impl Abort,
@@ -96,7 +96,7 @@ impl Reading {
         add(rt, next, self)
     }
 
-    /// CLOCK is pulled behind a bit: the next one, or the end of the byte.
+    /// CLOCK is pulled after a bit: the next one, or the end of the byte.
     pub fn bit_over(
         mut self,
         rt: &impl Abort,

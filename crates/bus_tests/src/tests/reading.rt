@@ -36,10 +36,10 @@ pub struct Reading {
     pub seats: Vec<Seat>,
     pub owed: Vec<Owed>,
     pub acts: Vec<(u8, Act)>,
-    /// The last event's moment, and its rank: 0 is the host, behind it the drives in the order of ties.
+    /// The last event's moment, and its rank: 0 is the host, after it the drives in the order of ties.
     pub last: u64,
     pub rank: usize,
-    /// ATN's last pull, its release, and the accept of the last byte that the host sent behind that pull.
+    /// ATN's last pull, its release, and the accept of the last byte that the host sent after that pull.
     pub pulled: u64,
     pub released: Option<u64>,
     pub accepted: Option<u64>,
@@ -57,7 +57,7 @@ pub fn after(moment: u64, wait: u64) -> u64 {
     moment.wrapping_add(wait)
 }
 
-/// Whether a moment is so much behind another, if there is one.
+/// Whether a moment is so much after another, if there is one.
 pub fn is_behind(moment: u64, wait: u64, earlier: Option<u64>) -> bool {
     match earlier {
         Some(earlier) => after(earlier, wait) <= moment,
@@ -71,7 +71,7 @@ pub const FREE: Held = Held {
     data_low: false,
 };
 
-/// The lines that a party holds behind a change of its own.
+/// The lines that a party holds after a change of its own.
 pub fn held_after(held: Held, change: Change) -> Held {
     let low = is_low(change.way);
     match change.line {

@@ -42,7 +42,7 @@ pub struct Session {
     pub broken: Option<(Bound, u64, bool)>,
 }
 
-// The lines behind a change, and whether it changes them.
+// The lines after a change, and whether it changes them.
 pub fn with_own(own: Held, line: Line, low: bool) -> (Held, bool) {
     match line {
         Atn => (own, false),
@@ -108,7 +108,7 @@ impl Session {
     }
 
     // A moment that is at least the first, often that or the last. Where this bound is to be broken it is 1 too
-    // early, if it still comes behind all others.
+    // early, if it still comes after all others.
     pub fn from(&mut self, rt: &impl Abort, bound: Bound, first: u64, last: u64) -> u64 {
         if self.is_flaw(rt, bound) && self.is_behind_all(first.wrapping_sub(1)) {
             self.broken = Some((bound, first.wrapping_sub(1), false));

@@ -84,7 +84,7 @@ impl Reading {
         }
     }
 
-    /// A change of the host is none where its line is so already, and comes behind all that a drive owes before it.
+    /// A change of the host is none where its line is so already, and comes after all that a drive owes before it.
     fn may_change(&self, change: Change) -> bool {
         let moment = change.moment;
         let early = moment < self.last || moment == self.last && self.rank > 0;
@@ -158,7 +158,7 @@ impl Reading {
         add(rt, next, self)
     }
 
-    /// Each drive frees CLOCK and holds DATA, a reaction behind ATN's pull.
+    /// Each drive frees CLOCK and holds DATA, a reaction after ATN's pull.
     fn owe_hold(&mut self, rt: &impl Abort, moment: u64) {
         for (place, seat) in self.seats.iter().enumerate() {
             let at = after(moment, seat.reaction());

@@ -9,7 +9,7 @@ use cbm_iec::*;
 use std::process::Abort;
 
 impl Reading {
-    /// A turnaround may begin behind a byte, with a talker and no listener.
+    /// A turnaround may begin after a byte, with a talker and no listener.
     pub fn may_turn(&self, moment: u64) -> bool {
         let alone = self.has(Role::Talker) && !self.has(Role::Listener);
         alone && self.is_clear() && self.is_accepted(moment)
@@ -68,7 +68,7 @@ impl Reading {
         add(rt, next, self)
     }
 
-    /// The bits begin a reaction behind the host's last release of DATA.
+    /// The bits begin a reaction after the host's last release of DATA.
     fn send(mut self, rt: &impl Abort, moment: u64, last: bool, next: &mut Vec<Reading>) {
         let Some((_, reaction)) = self.first_with(Role::Talker) else {
             return;
@@ -134,7 +134,7 @@ impl Reading {
         add(rt, next, self)
     }
 
-    /// The host takes the byte 1 to 1,000 behind the last pull of CLOCK.
+    /// The host takes the byte 1 to 1,000 after the last pull of CLOCK.
     fn accept(
         mut self,
         rt: &impl Abort,
