@@ -3,10 +3,7 @@ use cbm_medium::{Address, Fault, Medium};
 
 /// The code of a fault, 0 where a call was done.
 pub fn code_of<T: Drop>(answer: Result<T, Fault>) -> u8 {
-    match answer {
-        Ok(_) => 0,
-        Err(fault) => fault.code,
-    }
+    answer.err().map_or(0, |fault| fault.code)
 }
 
 /// The code that a read answers, 0 where it gives the bytes, and 255 where the disk has no such sector.
