@@ -1,15 +1,13 @@
 //! A drive with a machine of a few lines, moment by moment.
 
-ghost use Rattle.std.specs.Prelude.{◌≡◌, ◌^◌, ◌<◌};
-
+use crate::host::Host;
 use Line::*;
 use Way::*;
 use arrayvec::ArrayVec;
 use cbm_drive::Drive;
 use cbm_iec::*;
-use std::alloc::{AllocError, Global};
+use std::alloc::Global;
 use std::process::Abort;
-use std::test::Fail;
 
 /// A machine that always has the byte $37 to say, and keeps the first acts that it is told.
 #[derive(Drop)]
@@ -48,12 +46,6 @@ impl Machine for Parrot {
     ghost more = { λ m n e. ((55, false), refl) };
 }
 
-pub(crate) fn at(moment: u64, line: Line, way: Way) -> Change
-    ensures { result.moment ≡ moment }
-{
-    Change { moment, line, way }
-}
-
 fn with_change(lines: Lines, change: Change) -> Lines {
     let low = change.way == Pull;
     match change.line {
@@ -72,26 +64,32 @@ fn with_change(lines: Lines, change: Change) -> Lines {
     }
 }
 
+/// A change: its moment, its line, and what is done with it.
+type Row = (u64, Line, Way);
+
+// A drive's reaction at a moment, added to what it made.
+fn react(rt: &impl Abort, drive: &mut Drive<Parrot>, moment: u64, made: &mut Vec<Row>) {
+    assert!(rt; moment < 1 << 60);
+    for change in &drive.due(moment) {
+        let row = (change.moment, change.line, change.way);
+        made.push(row).ok().expect(rt, "memory");
+    }
+}
+
 // The drive's reactions before a moment.
-fn settle(
-    rt: &impl Abort,
-    drive: &mut Drive<Parrot>,
-    limit: u64,
-    made: &mut Vec<Change>,
-) -> Result<(), AllocError> {
+fn settle(rt: &impl Abort, drive: &mut Drive<Parrot>, limit: u64, made: &mut Vec<Row>) {
     for _ in 0..100 {
         match drive.next_due() {
-            Some(moment) if moment < limit => {
-                assert!(rt; moment < 1 << 60);
-                for change in &drive.due(moment) {
-                    made.push(*change)?;
-                }
-            }
-            _ => return Ok(()),
+            Some(moment) if moment < limit => react(rt, drive, moment, made),
+            _ => return,
         }
     }
     assert!(rt; false, "the reactions come to an end");
-    Ok(())
+}
+
+fn tell(rt: &impl Abort, drive: &mut Drive<Parrot>, moment: u64, host: Lines) {
+    assert!(rt; moment < 1 << 60);
+    drive.line(moment, host);
 }
 
 // What a drive makes of these changes of a host, up to an end.
@@ -101,7 +99,7 @@ fn played(
     drive: &mut Drive<Parrot>,
     changes: &[Change],
     end: u64,
-) -> Result<Vec<Change>, AllocError> {
+) -> Vec<Row> {
     let mut made = Vec::new(alloc);
     let mut host = Lines {
         atn_low: false,
@@ -109,43 +107,25 @@ fn played(
         data_low: false,
     };
     for change in changes {
-        settle(rt, drive, change.moment, &mut made)?;
-        assert!(rt; change.moment < 1 << 60);
+        settle(rt, drive, change.moment, &mut made);
         host = with_change(host, *change);
-        drive.line(change.moment, host);
+        tell(rt, drive, change.moment, host);
     }
-    settle(rt, drive, end, &mut made)?;
-    Ok(made)
+    settle(rt, drive, end, &mut made);
+    made
 }
 
-// An attention with one byte: ready at 1000, its start at 1040, bits of 40 each; then ATN is free at 1400.
-pub(crate) fn attention(alloc: Global, byte: u8, talks: bool) -> Result<Vec<Change>, AllocError> {
-    let mut changes = Vec::new(alloc);
-    changes.push(at(0, Atn, Pull))?;
-    changes.push(at(0, Clock, Pull))?;
-    changes.push(at(1000, Clock, Free))?;
-    changes.push(at(1040, Clock, Pull))?;
-    let mut left = byte;
-    let mut data = Free;
-    for bit in 0..8u64 {
-        let start = 1040 + 40 * bit;
-        let way = if left % 2 == 0 { Pull } else { Free };
-        if way != data {
-            changes.push(at(start, Data, way))?;
-        }
-        data = way;
-        left /= 2;
-        changes.push(at(start + 20, Clock, Free))?;
-        changes.push(at(start + 40, Clock, Pull))?;
-    }
-    if data == Pull {
-        changes.push(at(1360, Data, Free))?;
-    }
+/// An attention with one byte: ready at 1000, its start at 1040, bits of 40 each; then ATN is free at 1400.
+pub(crate) fn attention(alloc: Global, byte: u8, talks: bool) -> Host {
+    let mut host = Host::new(alloc);
+    host.begin(byte, 0);
     if talks {
-        changes.push(at(1400, Data, Pull))?;
+        host.after(40, Data, Pull);
+        host.after(0, Atn, Free);
+    } else {
+        host.after(40, Atn, Free);
     }
-    changes.push(at(1400, Atn, Free))?;
-    Ok(changes)
+    host
 }
 
 fn drive_8() -> Drive<Parrot> {
@@ -159,77 +139,98 @@ fn drive_8() -> Drive<Parrot> {
     )
 }
 
+// Whether a drive makes this of a host, and its machine is told these acts.
+fn makes(
+    rt: &impl Abort,
+    alloc: Global,
+    host: &Host,
+    end: u64,
+    wanted: &[Row],
+    told: &[Option<Act>],
+) -> bool {
+    let mut drive = drive_8();
+    let made = played(rt, alloc, &mut drive, host.changes(rt), end);
+    made.as_slice() == wanted && drive.into_machine().acts.as_slice() == told
+}
+
+const HEARD: [(u8, &[Row]); 2] = [
+    (
+        0x28,
+        &[(20, Data, Pull), (1020, Data, Free), (1380, Data, Pull)],
+    ),
+    (
+        0x29,
+        &[
+            (20, Data, Pull),
+            (1020, Data, Free),
+            (1380, Data, Pull),
+            (1420, Data, Free),
+        ],
+    ),
+];
+
 #[test]
-fn hears_listen(rt: HostRuntime) -> Result<(), Fail> {
-    let rows: [(u8, &[Change]); 2] = [
-        (
-            0x28,
-            &[
-                at(20, Data, Pull),
-                at(1020, Data, Free),
-                at(1380, Data, Pull),
-            ],
-        ),
-        (
-            0x29,
-            &[
-                at(20, Data, Pull),
-                at(1020, Data, Free),
-                at(1380, Data, Pull),
-                at(1420, Data, Free),
-            ],
-        ),
-    ];
-    for (byte, wanted) in rows {
-        let mut drive = drive_8();
-        let changes = attention(rt.alloc(), byte, false)?;
-        let made = played(&rt, rt.alloc(), &mut drive, &changes, 1501)?;
-        assert!(rt; made.as_slice() == wanted, "{byte}");
-        let acts = drive.into_machine().acts;
+fn hears_listen(rt: HostRuntime) {
+    for (byte, wanted) in HEARD {
+        let host = attention(rt.alloc(), byte, false);
         let told = [
             Some(Act::Pulled),
             Some(Act::Attention(byte)),
             Some(Act::Released),
         ];
-        assert!(rt; acts.as_slice() == told.as_slice(), "the acts of {byte}");
+        assert!(rt; makes(&rt, rt.alloc(), &host, 1501, wanted, &told));
     }
-    Ok(())
 }
 
-// CLOCK is freed for the turnaround at 1420 and DATA 120 later: the drive says $37.
+// An attention with TALK 8. CLOCK is freed for the turnaround at 1420, and DATA 120 later.
+pub(crate) fn turn(alloc: Global) -> Host {
+    let mut host = attention(alloc, 0x48, true);
+    host.after(20, Clock, Free);
+    host.after(120, Data, Free);
+    host
+}
+
+// From 1560 on come the halves of $37's bits.
+const TALKED: [Row; 27] = [
+    (20, Data, Pull),
+    (1020, Data, Free),
+    (1380, Data, Pull),
+    (1440, Clock, Pull),
+    (1440, Data, Free),
+    (1520, Clock, Free),
+    (1560, Clock, Pull),
+    (1620, Clock, Free),
+    (1680, Clock, Pull),
+    (1740, Clock, Free),
+    (1800, Clock, Pull),
+    (1860, Clock, Free),
+    (1920, Clock, Pull),
+    (1920, Data, Pull),
+    (1980, Clock, Free),
+    (2040, Clock, Pull),
+    (2040, Data, Free),
+    (2100, Clock, Free),
+    (2160, Clock, Pull),
+    (2220, Clock, Free),
+    (2280, Clock, Pull),
+    (2280, Data, Pull),
+    (2340, Clock, Free),
+    (2400, Clock, Pull),
+    (2460, Clock, Free),
+    (2520, Clock, Pull),
+    (2520, Data, Free),
+];
+
+// The drive says $37.
 #[test]
-fn talks(rt: HostRuntime) -> Result<(), Fail> {
-    let mut drive = drive_8();
-    let mut changes = attention(rt.alloc(), 0x48, true)?;
-    let c = 1420;
-    changes.push(at(c, Clock, Free))?;
-    changes.push(at(c + 120, Data, Free))?;
-    changes.push(at(c + 1120, Data, Pull))?;
-    let made = played(&rt, rt.alloc(), &mut drive, &changes, c + 1201)?;
-    let mut wanted = Vec::new(rt.alloc());
-    wanted.push(at(20, Data, Pull))?;
-    wanted.push(at(1020, Data, Free))?;
-    wanted.push(at(1380, Data, Pull))?;
-    wanted.push(at(c + 20, Clock, Pull))?;
-    wanted.push(at(c + 20, Data, Free))?;
-    wanted.push(at(c + 100, Clock, Free))?;
-    for half in 0..17u64 {
-        let moment = c + 140 + 60 * half;
-        wanted.push(at(moment, Clock, if half % 2 == 0 { Pull } else { Free }))?;
-        match half {
-            6 | 12 => wanted.push(at(moment, Data, Pull))?,
-            8 | 16 => wanted.push(at(moment, Data, Free))?,
-            _ => {}
-        }
-    }
-    assert!(rt; made.as_slice() == wanted.as_slice(), "a byte");
-    let acts = drive.into_machine().acts;
+fn talks(rt: HostRuntime) {
+    let mut host = turn(rt.alloc());
+    host.after(1000, Data, Pull);
     let told = [
         Some(Act::Pulled),
         Some(Act::Attention(0x48)),
         Some(Act::Released),
         Some(Act::Said(0x37, false)),
     ];
-    assert!(rt; acts.as_slice() == told.as_slice(), "the acts");
-    Ok(())
+    assert!(rt; makes(&rt, rt.alloc(), &host, 2621, &TALKED, &told));
 }

@@ -3,15 +3,17 @@
 use cbm_drive::Line::*;
 use cbm_drive::Way::*;
 use cbm_drive::{Change, Line, Way};
-use std::alloc::{AllocError, Global};
+use std::alloc::Global;
+use std::process::Abort;
 
 /// What a host changes, one after the other. One that is out of step leaves out or delays some of its changes, by chance.
 #[derive(Drop)]
 pub struct Host {
-    pub changes: Vec<Change>,
+    changes: Vec<Change>,
     now: u64,
     seed: u32,
     often: Option<u32>,
+    is_short: bool,
 }
 
 impl Host {
@@ -23,6 +25,7 @@ impl Host {
             now: 0,
             seed: 0,
             often: None,
+            is_short: false,
         }
     }
 
@@ -34,6 +37,7 @@ impl Host {
             now: 0,
             seed,
             often: Some(often),
+            is_short: false,
         }
     }
 
@@ -57,102 +61,124 @@ impl Host {
         }
     }
 
-    /// So many microseconds later a line is changed.
-    pub fn after(&mut self, wait: u64, line: Line, way: Way) -> Result<(), AllocError> {
-        self.now = self.now.wrapping_add(wait);
-        if self.slips() {
-            match self.chance() {
-                0..16 => return Ok(()),
-                late => self.now = self.now.wrapping_add(late as u64),
+    // Whether a change that slips is left out; else it comes later.
+    fn leaves_out(&mut self) -> bool {
+        match self.chance() {
+            0..16 => true,
+            late => {
+                self.now = self.now.wrapping_add(late as u64);
+                false
             }
         }
+    }
+
+    // A change now. Want of memory is kept in mind.
+    fn add(&mut self, line: Line, way: Way) {
         let moment = self.now;
-        self.changes.push(Change { moment, line, way })?;
-        Ok(())
+        let added = self.changes.push(Change { moment, line, way });
+        self.is_short = self.is_short || added.is_err();
+    }
+
+    /// All its changes; memory was there for each.
+    pub fn changes(&self, rt: &impl Abort) -> &[Change] {
+        assert!(rt; !self.is_short);
+        self.changes.as_slice()
+    }
+
+    /// So many microseconds later a line is changed.
+    pub fn after(&mut self, wait: u64, line: Line, way: Way) {
+        self.now = self.now.wrapping_add(wait);
+        let is_left_out = self.slips() && self.leaves_out();
+        if !is_left_out {
+            self.add(line, way);
+        }
     }
 
     /// ATN is pulled, and bytes are sent, 20 for half a bit.
-    pub fn attention(&mut self, wait: u64, bytes: &[u8]) -> Result<(), AllocError> {
-        self.after(wait, Atn, Pull)?;
-        self.after(0, Clock, Pull)?;
+    pub fn attention(&mut self, wait: u64, bytes: &[u8]) {
+        self.after(wait, Atn, Pull);
+        self.after(0, Clock, Pull);
+        self.frames(bytes);
+    }
+
+    /// Bytes, each of them ready after 200 and begun 40 later.
+    fn frames(&mut self, bytes: &[u8]) {
         for byte in bytes {
-            self.after(200, Clock, Free)?;
-            self.after(40, Clock, Pull)?;
-            self.bits(*byte)?;
+            self.after(200, Clock, Free);
+            self.after(40, Clock, Pull);
+            self.bits(*byte);
         }
-        Ok(())
+    }
+
+    /// ATN and CLOCK are pulled, and one byte is sent: ready at 1000, its start at 1040 and later by a delay, bits of
+    /// 40 each. So it ends at 1360.
+    pub fn begin(&mut self, byte: u8, delay: u64) {
+        self.after(0, Atn, Pull);
+        self.after(0, Clock, Pull);
+        self.after(1000, Clock, Free);
+        self.after(delay.wrapping_add(40), Clock, Pull);
+        self.bits(byte);
     }
 
     /// The bits of a byte, where CLOCK is held.
-    pub fn bits(&mut self, byte: u8) -> Result<(), AllocError> {
+    pub fn bits(&mut self, byte: u8) {
         let mut left = byte;
         let mut low = false;
         for _ in 0..8u8 {
             let is_low = left % 2 == 0;
             if is_low != low {
-                self.after(0, Data, if is_low { Pull } else { Free })?;
+                self.after(0, Data, if is_low { Pull } else { Free });
             }
             low = is_low;
             left /= 2;
-            self.after(20, Clock, Free)?;
-            self.after(20, Clock, Pull)?;
+            self.after(20, Clock, Free);
+            self.after(20, Clock, Pull);
         }
         if low {
-            self.after(0, Data, Free)?;
+            self.after(0, Data, Free);
         }
-        Ok(())
     }
 
     /// TALK to drive 8 on channel 15, and the turnaround.
-    pub fn talk(&mut self, wait: u64) -> Result<(), AllocError> {
-        self.attention(wait, &[0x48, 0x6f])?;
-        self.after(100, Data, Pull)?;
-        self.after(0, Atn, Free)?;
-        self.after(20, Clock, Free)
+    pub fn talk(&mut self, wait: u64) {
+        self.attention(wait, &[0x48, 0x6f]);
+        self.after(100, Data, Pull);
+        self.after(0, Atn, Free);
+        self.after(20, Clock, Free);
     }
 
     /// So many bytes are taken, the last of them with EOI.
-    pub fn take(&mut self, bytes: usize) -> Result<(), AllocError> {
+    pub fn take(&mut self, bytes: usize) {
         for place in 1..=bytes {
-            self.after(120, Data, Free)?;
+            self.after(120, Data, Free);
             if place == bytes {
-                self.after(200, Data, Pull)?;
-                self.after(60, Data, Free)?;
+                self.after(200, Data, Pull);
+                self.after(60, Data, Free);
             }
-            self.after(1030, Data, Pull)?;
+            self.after(1030, Data, Pull);
         }
-        Ok(())
     }
 
     /// UNTALK: nobody talks, and all lines are free.
-    pub fn untalk(&mut self) -> Result<(), AllocError> {
-        self.attention(200, &[0x5f])?;
-        self.after(100, Atn, Free)?;
-        self.after(0, Clock, Free)
+    pub fn untalk(&mut self) {
+        self.attention(200, &[0x5f]);
+        self.after(100, Atn, Free);
+        self.after(0, Clock, Free);
     }
 
     /// LISTEN to drive 8 with a secondary address, bytes, and UNLISTEN.
-    pub fn send(&mut self, secondary: u8, bytes: &[u8]) -> Result<(), AllocError> {
-        self.attention(200, &[0x28, secondary])?;
-        self.after(100, Atn, Free)?;
-        for byte in bytes {
-            self.after(200, Clock, Free)?;
-            self.after(40, Clock, Pull)?;
-            self.bits(*byte)?;
-        }
-        self.attention_again(&[0x3f])?;
-        self.after(100, Atn, Free)?;
-        self.after(0, Clock, Free)
+    pub fn send(&mut self, secondary: u8, bytes: &[u8]) {
+        self.attention(200, &[0x28, secondary]);
+        self.after(100, Atn, Free);
+        self.frames(bytes);
+        self.attention_again(&[0x3f]);
+        self.after(100, Atn, Free);
+        self.after(0, Clock, Free);
     }
 
     // As `attention`, where the host holds CLOCK.
-    fn attention_again(&mut self, bytes: &[u8]) -> Result<(), AllocError> {
-        self.after(200, Atn, Pull)?;
-        for byte in bytes {
-            self.after(200, Clock, Free)?;
-            self.after(40, Clock, Pull)?;
-            self.bits(*byte)?;
-        }
-        Ok(())
+    fn attention_again(&mut self, bytes: &[u8]) {
+        self.after(200, Atn, Pull);
+        self.frames(bytes);
     }
 }

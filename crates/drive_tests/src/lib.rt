@@ -6,6 +6,8 @@ mod cables;
 #[cfg(test)]
 mod desks;
 #[cfg(test)]
+mod disks;
+#[cfg(test)]
 mod drives;
 #[cfg(test)]
 mod host;

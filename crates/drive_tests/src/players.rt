@@ -1,159 +1,242 @@
 //! A player gives events one by one.
 
-ghost use Rattle.std.specs.Prelude.{◌^◌, ◌<◌};
-
-use crate::drives::{Parrot, at, attention};
+use crate::drives::{Parrot, turn};
 use arrayvec::ArrayVec;
 use cbm_drive::{Bus, Drive, PlayFault, Player};
 use cbm_iec::Line::*;
 use cbm_iec::Way::*;
-use cbm_iec::{Change, Event, Party, Who};
+use cbm_iec::{Change, Event, Line, Party, Way, Who};
 use std::process::Abort;
-use std::test::Fail;
 
-fn bus() -> Bus<Parrot, 1> {
+/// A player and its bus, with drive 8 alone.
+#[derive(Drop)]
+struct Stand {
+    player: Player,
+    bus: Bus<Parrot, 1>,
+}
+
+/// What is tried, and what comes of it.
+#[derive(Clone, Copy, Drop)]
+enum Step {
+    /// A change is taken, and is the next event.
+    Gives(u64, Line, Way),
+    /// A change is taken, and waits.
+    Waits(u64, Line, Way),
+    /// A change is refused by this fault.
+    Refuses(u64, Line, Way, PlayFault),
+    /// Up to a moment nothing happens, and a change waits or not.
+    Silent(u64, bool),
+    /// Up to a moment the host makes this change, which waited.
+    Host(u64, u64, Line, Way),
+    /// Up to a moment the drive makes this change.
+    Drive(u64, u64, Line, Way),
+}
+
+use Step::*;
+
+fn resting() -> Stand {
     let acts = ArrayVec::new();
     let party = Party {
         device: 8,
         reaction: 20,
     };
-    Bus::new([Drive::new(Parrot { acts }, party)])
+    Stand {
+        player: Player::new(),
+        bus: Bus::new([Drive::new(Parrot { acts }, party)]),
+    }
 }
 
-fn host(change: Change) -> Option<Event> {
-    Some(Event {
-        who: Who::Host,
-        change,
-    })
+impl Stand {
+    fn offer(&mut self, moment: u64, line: Line, way: Way) -> Option<Result<(), PlayFault>> {
+        if self.player.waits() || moment >= 1 << 58 {
+            return None;
+        }
+        Some(self.player.offer(Change { moment, line, way }))
+    }
+
+    fn takes(&mut self, moment: u64, line: Line, way: Way) -> bool {
+        self.offer(moment, line, way) == Some(Ok(()))
+    }
+
+    /// The next event up to a moment.
+    fn next(&mut self, upto: u64) -> Option<Event> {
+        if upto < 1 << 58 {
+            self.player.next(&mut self.bus, upto)
+        } else {
+            None
+        }
+    }
+
+    fn comes(&mut self, upto: u64, who: Who, moment: u64, line: Line, way: Way) -> bool {
+        let change = Change { moment, line, way };
+        self.next(upto) == Some(Event { who, change })
+    }
+
+    fn gives(&mut self, moment: u64, line: Line, way: Way) -> bool {
+        self.takes(moment, line, way) && self.comes(moment, Who::Host, moment, line, way)
+    }
+
+    fn keeps(&mut self, step: Step) -> bool {
+        match step {
+            Gives(moment, line, way) => self.gives(moment, line, way),
+            Waits(moment, line, way) => self.takes(moment, line, way) && self.player.waits(),
+            Refuses(moment, line, way, fault) => {
+                self.offer(moment, line, way) == Some(Err(fault)) && !self.player.waits()
+            }
+            Silent(upto, waits) => self.next(upto).is_none() && self.player.waits() == waits,
+            Host(upto, moment, line, way) => {
+                self.comes(upto, Who::Host, moment, line, way) && !self.player.waits()
+            }
+            Drive(upto, moment, line, way) => { self.comes(upto, Who::Drive(8), moment, line, way) }
+        }
+    }
 }
 
-fn drive(change: Change) -> Option<Event> {
-    Some(Event {
-        who: Who::Drive(8),
-        change,
-    })
-}
-
-// Asserts that a change is taken, and that it is the next event.
-fn give(
-    rt: &impl Abort,
-    player: &mut Player,
-    bus: &mut Bus<Parrot, 1>,
-    change: Change,
-) -> Result<(), Fail>
-    requires { change.moment < 2 ^ 58 }
-{
-    assert!(rt; !player.waits());
-    assert!(rt; player.offer(change).is_ok());
-    assert!(rt; player.next(bus, change.moment) == host(change));
-    Ok(())
+fn try_steps(rt: &impl Abort, stand: &mut Stand, steps: &[Step]) {
+    for step in steps {
+        assert!(rt; stand.keeps(*step));
+    }
 }
 
 // LISTEN 8, 40 for a bit: each event as soon as it comes.
+const LISTEN: [Step; 30] = [
+    Gives(0, Atn, Pull),
+    Gives(0, Clock, Pull),
+    Silent(19, false),
+    Drive(999, 20, Data, Pull),
+    Silent(999, false),
+    Gives(1000, Clock, Free),
+    Drive(1040, 1020, Data, Free),
+    Gives(1040, Clock, Pull),
+    Gives(1040, Data, Pull),
+    Gives(1060, Clock, Free),
+    Gives(1080, Clock, Pull),
+    Gives(1100, Clock, Free),
+    Gives(1120, Clock, Pull),
+    Gives(1140, Clock, Free),
+    Gives(1160, Clock, Pull),
+    Gives(1160, Data, Free),
+    Gives(1180, Clock, Free),
+    Gives(1200, Clock, Pull),
+    Gives(1200, Data, Pull),
+    Gives(1220, Clock, Free),
+    Gives(1240, Clock, Pull),
+    Gives(1240, Data, Free),
+    Gives(1260, Clock, Free),
+    Gives(1280, Clock, Pull),
+    Gives(1280, Data, Pull),
+    Gives(1300, Clock, Free),
+    Gives(1320, Clock, Pull),
+    Gives(1340, Clock, Free),
+    Gives(1360, Clock, Pull),
+    Gives(1360, Data, Free),
+];
+
+const LISTENED: [Step; 3] = [
+    Drive(1399, 1380, Data, Pull),
+    Gives(1400, Atn, Free),
+    Silent(1500, false),
+];
+
 #[test]
-fn listens(rt: HostRuntime) -> Result<(), Fail> {
-    let mut bus = bus();
-    let mut player = Player::new();
-    give(&rt, &mut player, &mut bus, at(0, Atn, Pull))?;
-    give(&rt, &mut player, &mut bus, at(0, Clock, Pull))?;
-    assert!(rt; player.next(&mut bus, 19).is_none());
-    assert!(rt; player.next(&mut bus, 999) == drive(at(20, Data, Pull)));
-    assert!(rt; player.next(&mut bus, 999).is_none());
-    give(&rt, &mut player, &mut bus, at(1000, Clock, Free))?;
-    assert!(rt; player.next(&mut bus, 1040) == drive(at(1020, Data, Free)));
-    let mut byte = 0x28u8;
-    let mut low = false;
-    for bit in 0..8u64 {
-        let moment = 1040 + 40 * bit;
-        give(&rt, &mut player, &mut bus, at(moment, Clock, Pull))?;
-        let is_low = byte % 2 == 0;
-        if is_low != low {
-            let way = if is_low { Pull } else { Free };
-            give(&rt, &mut player, &mut bus, at(moment, Data, way))?;
-        }
-        low = is_low;
-        byte /= 2;
-        give(&rt, &mut player, &mut bus, at(moment + 20, Clock, Free))?;
-    }
-    give(&rt, &mut player, &mut bus, at(1360, Clock, Pull))?;
-    give(&rt, &mut player, &mut bus, at(1360, Data, Free))?;
-    assert!(rt; player.next(&mut bus, 1399) == drive(at(1380, Data, Pull)));
-    give(&rt, &mut player, &mut bus, at(1400, Atn, Free))?;
-    assert!(rt; player.next(&mut bus, 1500).is_none());
-    Ok(())
+fn listens(rt: HostRuntime) {
+    let mut stand = resting();
+    try_steps(&rt, &mut stand, &LISTEN);
+    try_steps(&rt, &mut stand, &LISTENED);
 }
 
 // A change that waits comes before a reaction of its moment.
-#[test]
-fn the_host_comes_first(rt: HostRuntime) -> Result<(), Fail> {
-    let mut bus = bus();
-    let mut player = Player::new();
-    give(&rt, &mut player, &mut bus, at(0, Atn, Pull))?;
-    assert!(rt; !player.waits());
-    assert!(rt; player.offer(at(20, Clock, Pull)).is_ok());
-    assert!(rt; player.waits());
-    assert!(rt; player.next(&mut bus, 19).is_none() && player.waits());
-    assert!(rt; player.next(&mut bus, 20) == host(at(20, Clock, Pull)) && !player.waits());
-    assert!(rt; player.next(&mut bus, 20) == drive(at(20, Data, Pull)));
+const FIRST: [Step; 7] = [
+    Gives(0, Atn, Pull),
+    Waits(20, Clock, Pull),
+    Silent(19, true),
+    Host(20, 20, Clock, Pull),
+    Drive(20, 20, Data, Pull),
     // A change comes after the last reaction that was given.
-    assert!(rt; !player.waits());
-    assert!(rt; player.offer(at(20, Data, Pull)) == Err(PlayFault::Backwards(2)));
-    assert!(rt; !player.waits());
-    give(&rt, &mut player, &mut bus, at(21, Data, Pull))
+    Refuses(20, Data, Pull, PlayFault::Backwards(2)),
+    Gives(21, Data, Pull),
+];
+
+#[test]
+fn the_host_comes_first(rt: HostRuntime) {
+    try_steps(&rt, &mut resting(), &FIRST);
+}
+
+// The drive leaves at 25, and holds no line.
+fn is_leaving(bus: &Bus<Parrot, 1>) -> bool {
+    bus.next_due() == Some(25) && !bus.shows_before(1000)
 }
 
 // A reaction that changes no line isn't made where no event follows: the host may still come before it.
 #[test]
-fn what_shows_nothing_waits(rt: HostRuntime) -> Result<(), Fail> {
-    let mut bus = bus();
-    let mut player = Player::new();
-    give(&rt, &mut player, &mut bus, at(0, Atn, Pull))?;
-    give(&rt, &mut player, &mut bus, at(5, Atn, Free))?;
-    // The drive leaves at 25, and holds no line.
-    assert!(rt; bus.next_due() == Some(25) && !bus.shows_before(1000));
-    assert!(rt; player.next(&mut bus, 999).is_none());
-    give(&rt, &mut player, &mut bus, at(25, Atn, Pull))?;
-    assert!(rt; player.next(&mut bus, 999) == drive(at(45, Data, Pull)));
-    Ok(())
+fn what_shows_nothing_waits(rt: HostRuntime) {
+    let mut stand = resting();
+    try_steps(&rt, &mut stand, &[Gives(0, Atn, Pull), Gives(5, Atn, Free)]);
+    assert!(rt; is_leaving(&stand.bus));
+    let steps = [
+        Silent(999, false),
+        Gives(25, Atn, Pull),
+        Drive(999, 45, Data, Pull),
+    ];
+    try_steps(&rt, &mut stand, &steps);
+}
+
+// Up to ten events, until the change comes that waits: the last of them.
+fn last_of_ten(stand: &mut Stand, upto: u64) -> Option<Event> {
+    let mut last = None;
+    for _ in 0..10 {
+        if stand.player.waits() {
+            last = stand.next(upto);
+        }
+    }
+    last
+}
+
+// Whether each change is taken; and whether the last one comes as an event.
+fn give_all(rt: &impl Abort, stand: &mut Stand, changes: &[Change]) -> bool {
+    let mut is_last = false;
+    for change in changes {
+        assert!(rt; stand.takes(change.moment, change.line, change.way));
+        let wanted = Event {
+            who: Who::Host,
+            change: *change,
+        };
+        is_last = last_of_ten(stand, change.moment) == Some(wanted);
+    }
+    is_last
+}
+
+fn has_no_half(stand: &mut Stand, upto: u64) -> bool {
+    upto < 1 << 58 && stand.player.half(&mut stand.bus, upto).is_none()
+}
+
+// Whether the half that comes at a moment changes CLOCK, pulled or not before, and leaves DATA so.
+fn is_half(stand: &mut Stand, moment: u64, shown: bool, low: bool) -> bool {
+    if moment >= 1 << 58 {
+        return false;
+    }
+    match stand.player.half(&mut stand.bus, moment) {
+        Some(said) => {
+            let is_its = said.moment == moment && said.device == 8 && said.now.data_low == low;
+            is_its && said.was.clock_low == shown && said.now.clock_low != shown
+        }
+        None => false,
+    }
 }
 
 // TALK 8, CLOCK free for the turnaround at 1420 and DATA 120 later: the halves of $37, its end apart.
 #[test]
-fn a_byte_comes_in_halves(rt: HostRuntime) -> Result<(), Fail> {
-    let mut bus = bus();
-    let mut player = Player::new();
-    let mut changes = attention(rt.alloc(), 0x48, true)?;
-    changes.push(at(1420, Clock, Free))?;
-    changes.push(at(1540, Data, Free))?;
-    let mut last = None;
-    for change in changes.as_slice() {
-        assert!(rt; change.moment < 1 << 58 && !player.waits() && player.offer(*change).is_ok());
-        for _ in 0..10 {
-            if player.waits() {
-                last = player.next(&mut bus, change.moment);
-            }
-        }
-    }
-    assert!(rt; last == host(at(1540, Data, Free)));
-    assert!(rt; player.half(&mut bus, 1559).is_none());
+fn a_byte_comes_in_halves(rt: HostRuntime) {
+    let mut stand = resting();
+    let host = turn(rt.alloc());
+    assert!(rt; give_all(&rt, &mut stand, host.changes(&rt)));
+    assert!(rt; has_no_half(&mut stand, 1559));
     for half in 0..16u64 {
-        let moment = 1560 + 60 * half;
         let low = matches!(half, 6 | 7 | 12..=15);
-        let Some(said) = player.half(&mut bus, moment) else {
-            assert!(rt; false, "{half}");
-            return Ok(());
-        };
-        let shown = said.was.clock_low;
-        assert!(rt; said.moment == moment && said.device == 8, "{half}");
-        assert!(rt;
-            shown == (half % 2 == 1) && said.now.clock_low != shown,
-            "{half}"
-        );
-        assert!(rt; said.now.data_low == low, "{half}");
+        assert!(rt; is_half(&mut stand, 1560 + 60 * half, half % 2 == 1, low));
     }
-    assert!(rt; player.half(&mut bus, 9999).is_none());
-    assert!(rt; player.next(&mut bus, 9999) == drive(at(2520, Clock, Pull)));
-    assert!(rt; player.half(&mut bus, 9999).is_none());
-    assert!(rt; player.next(&mut bus, 9999) == drive(at(2520, Data, Free)));
-    Ok(())
+    assert!(rt; has_no_half(&mut stand, 9999));
+    assert!(rt; stand.keeps(Drive(9999, 2520, Clock, Pull)));
+    assert!(rt; has_no_half(&mut stand, 9999));
+    assert!(rt; stand.keeps(Drive(9999, 2520, Data, Free)));
 }

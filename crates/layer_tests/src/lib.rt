@@ -2,9 +2,14 @@
 #![tactic(auto)]
 
 #[cfg(test)]
+use std::process::Abort;
+
+#[cfg(test)]
 mod command;
 #[cfg(test)]
 mod d64;
+#[cfg(test)]
+mod disks;
 #[cfg(test)]
 mod file;
 #[cfg(test)]
@@ -21,3 +26,9 @@ mod medium;
 mod sector;
 #[cfg(test)]
 mod track;
+
+/// Stops where a row doesn't hold, and tells its text.
+#[cfg(test)]
+fn holds(rt: &impl Abort, held: bool, text: &[u8]) {
+    assert!(rt; held, "{text:?}");
+}

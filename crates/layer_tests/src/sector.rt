@@ -1,22 +1,48 @@
-ghost use Rattle.std.specs.Prelude.{◌≡◌};
-
-use cbm_medium::{Address, Fault};
+use crate::disks::code_of;
+use cbm_medium::Address;
 use cbm_sector::{fresh_track, id_of, read_sector, write_sector};
 use cbm_track::Track;
-use std::process::Abort;
-use std::test::Fail;
 
 const ID: [u8; 2] = [0x41, 0x42];
 
-fn address(rt: &impl Abort, track: u8, sector: u8) -> Address
-    ensures { result.track ≡ track }
-{
-    Address::new(track, sector).expect(rt, "a sector of the disk")
+/// The code that a read answers, 0 where it gives the bytes.
+fn read_code(track: &Track, number: u8, sector: u8, id: [u8; 2]) -> u8 {
+    match Address::new(number, sector) {
+        Some(at) if at.track() <= 35 => code_of(read_sector(track, at, id)),
+        _ => 255,
+    }
 }
 
-/// The code that a call answered, 0 where it was done.
-fn code_of<T: Drop>(answer: Result<T, Fault>) -> u8 {
-    answer.err().map_or(0, |fault| fault.code)
+/// The code that a write of one byte 256 times answers on track 18.
+fn write_code(track: &mut Track, sector: u8, id: [u8; 2], byte: u8) -> u8 {
+    match Address::new(18, sector) {
+        Some(at) if at.track() <= 35 => code_of(write_sector(track, at, id, &[byte; 256])),
+        _ => 255,
+    }
+}
+
+/// Whether a sector of track 18 holds one byte 256 times.
+fn shows(track: &Track, sector: u8, byte: u8) -> bool {
+    match Address::new(18, sector) {
+        Some(at) if at.track() <= 35 => match read_sector(track, at, ID) {
+            Ok(bytes) => bytes == [byte; 256],
+            Err(_) => false,
+        },
+        _ => false,
+    }
+}
+
+fn bytes_of(track: &Track) -> [u8; 7142] {
+    let mut bytes = [0; 7142];
+    if track.bits() > 0 {
+        track.bytes_at(0, &mut bytes);
+    }
+    bytes
+}
+
+/// Track 18 of a formatted disk.
+fn track_18() -> Track {
+    fresh_track(18, ID)
 }
 
 /// The same circle turned round by some bits, with some bytes changed first.
@@ -39,30 +65,42 @@ fn turned(track: &Track, by: u32, damage: &[(usize, u8)]) -> Option<Track> {
     Track::from_bytes(&bytes)
 }
 
-#[test]
-fn a_fresh_track_shows_zeros(rt: HostRuntime) -> Result<(), Fail> {
-    let track = fresh_track(18, ID);
-    assert_eq!(rt; track.bits(), 57136);
+/// Whether all sectors of track 18 hold zeros, but one whose bytes are given.
+fn all_show(track: &Track, changed: u8, byte: u8) -> bool {
+    let mut all = id_of(track) == Some(ID);
     for sector in 0..19 {
-        let data = read_sector(&track, address(&rt, 18, sector), ID).map_err(|_| "refused")?;
-        assert_eq!(rt; data.as_slice(), [0; 256].as_slice());
+        all = shows(track, sector, if sector == changed { byte } else { 0 }) && all;
     }
-    assert_eq!(rt; id_of(&track), Some(ID));
-    Ok(())
+    all
 }
 
-/// The header of 18/0 under the id AB: 08 11 00 12 42 41 0f 0f in group code.
+#[test]
+fn a_fresh_track_shows_zeros(rt: HostRuntime) {
+    let track = track_18();
+    assert!(rt; track.bits() == 57136);
+    assert!(rt; all_show(&track, 0, 0));
+}
+
+/// The start of track 18 under the id AB, with the header of 18/0: 08 11 00 12 42 41 0f 0f in group code.
+const START: [u8; 29] = [
+    0xff, 0xff, 0xff, 0xff, 0xff, 0x52, 0x56, 0xb5, 0x29, 0x72, 0x74, 0x9c, 0xb5, 0x55, 0x55, 0x55,
+    0x55, 0x55, 0x55, 0x55, 0x55, 0x55, 0x55, 0x55, 0xff, 0xff, 0xff, 0xff, 0xff,
+];
+
 #[test]
 fn a_header_is_coded(rt: HostRuntime) {
-    let track = fresh_track(18, ID);
-    let mut start = [0; 29];
-    assert!(rt; track.bits() > 0);
-    track.bytes_at(0, &mut start);
-    assert_eq!(rt; &start[..5], [0xff; 5].as_slice());
-    let header = [0x52, 0x56, 0xb5, 0x29, 0x72, 0x74, 0x9c, 0xb5, 0x55, 0x55];
-    assert_eq!(rt; &start[5..15], header.as_slice());
-    assert_eq!(rt; &start[15..24], [0x55; 9].as_slice());
-    assert_eq!(rt; &start[24..], [0xff; 5].as_slice());
+    assert!(rt; bytes_of(&track_18()).starts_with(&START));
+}
+
+/// Whether a fresh track has so many bytes, reads that sector, and has no other after it.
+fn is_zone(track: u8, bytes: u32, last: u8) -> bool {
+    if track == 0 || track > 35 {
+        return false;
+    }
+    let fresh = fresh_track(track, ID);
+    let is_long = fresh.bits() / 8 == bytes && fresh.bits() % 8 == 0;
+    let is_last = Address::new(track, last.wrapping_add(1)).is_none();
+    is_long && is_last && read_code(&fresh, track, last, ID) == 0
 }
 
 /// How long a track of each zone is, in bytes, and its last sector.
@@ -78,13 +116,7 @@ fn zones(rt: HostRuntime) {
         (31, 6250, 16),
         (35, 6250, 16),
     ] {
-        let fresh = fresh_track(track, ID);
-        assert_eq!(rt; fresh.bits(), 8 * bytes);
-        assert_eq!(rt;
-            code_of(read_sector(&fresh, address(&rt, track, last), ID)),
-            0
-        );
-        assert_eq!(rt; Address::new(track, last + 1), None);
+        assert!(rt; is_zone(track, bytes, last));
     }
 }
 
@@ -129,64 +161,83 @@ const DAMAGE: [(&[(usize, u8)], u8, u8); 12] = [
     ),
 ];
 
+/// What 18/0 and 18/1 answer on a damaged track, turned round by some bits.
+fn codes_of(track: &Track, by: u32, damage: &[(usize, u8)]) -> [u8; 2] {
+    match turned(track, by, damage) {
+        Some(damaged) => [
+            read_code(&damaged, 18, 0, ID),
+            read_code(&damaged, 18, 1, ID),
+        ],
+        None => [255, 255],
+    }
+}
+
 #[test]
-fn damage_is_answered(rt: HostRuntime) -> Result<(), Fail> {
-    let track = fresh_track(18, ID);
-    let (first, second) = (address(&rt, 18, 0), address(&rt, 18, 1));
-    for (index, (damage, wanted, beside)) in DAMAGE.iter().enumerate() {
+fn damage_is_answered(rt: HostRuntime) {
+    let track = track_18();
+    for (damage, first, second) in DAMAGE {
         for by in [0, 1, 3, 40, 57, 1000] {
-            let damaged = turned(&track, by, damage).ok_or("no track")?;
-            assert_eq!(rt;
-                code_of(read_sector(&damaged, first, ID)),
-                *wanted,
-                "row {index} by {by}"
-            );
-            assert_eq!(rt;
-                code_of(read_sector(&damaged, second, ID)),
-                *beside,
-                "row {index} by {by}"
-            );
+            assert!(rt; codes_of(&track, by, damage) == [first, second]);
         }
     }
-    assert_eq!(rt; code_of(read_sector(&track, first, [0x41, 0x43])), 29);
-    Ok(())
+    assert!(rt; read_code(&track, 18, 0, [0x41, 0x43]) == 29);
+}
+
+/// What 18/0 answers on a circle of these bytes.
+fn code_on(circle: &[u8]) -> u8 {
+    match Track::from_bytes(circle) {
+        Some(track) => read_code(&track, 18, 0, [0, 0]),
+        None => 255,
+    }
+}
+
+/// What a write answers on a circle of these bytes, and whether it shows an id.
+fn write_code_on(circle: &[u8]) -> (u8, bool) {
+    match Track::from_bytes(circle) {
+        Some(mut track) => {
+            let code = write_code(&mut track, 0, [0, 0], 1);
+            (code, id_of(&track).is_some())
+        }
+        None => (255, true),
+    }
 }
 
 #[test]
-fn odd_circles_answer(rt: HostRuntime) -> Result<(), Fail> {
-    let at = address(&rt, 18, 0);
-    let ones = Track::from_bytes(&[0xff; 100]).ok_or("no track")?;
-    assert_eq!(rt; code_of(read_sector(&ones, at, [0, 0])), 21);
-    let none = Track::from_bytes(&[0x55; 100]).ok_or("no track")?;
-    assert_eq!(rt; code_of(read_sector(&none, at, [0, 0])), 21);
-    let byte = Track::from_bytes(&[0xfe]).ok_or("no track")?;
-    assert_eq!(rt; code_of(read_sector(&byte, at, [0, 0])), 21);
-    let mut two = Track::from_bytes(&[0xff, 0xfe]).ok_or("no track")?;
-    assert_eq!(rt; code_of(read_sector(&two, at, [0, 0])), 20);
-    assert_eq!(rt; code_of(write_sector(&mut two, at, [0, 0], &[1; 256])), 20);
-    assert_eq!(rt; id_of(&two), None);
-    Ok(())
+fn odd_circles_answer(rt: HostRuntime) {
+    assert!(rt; code_on(&[0xff; 100]) == 21);
+    assert!(rt; code_on(&[0x55; 100]) == 21);
+    assert!(rt; code_on(&[0xfe]) == 21);
+    assert!(rt; code_on(&[0xff, 0xfe]) == 20);
+    assert!(rt; write_code_on(&[0xff, 0xfe]) == (20, false));
+}
+
+/// Only the 2,600 bits of the block differ.
+fn is_one_block(before: &[u8], after: &[u8]) -> bool {
+    let mut changed = 0u32;
+    for (x, y) in before.iter().zip(after) {
+        if x != y {
+            changed = changed.saturating_add(1);
+        }
+    }
+    changed > 300 && changed <= 326
+}
+
+fn is_written(track: &mut Track) -> bool {
+    let before = bytes_of(track);
+    let code = write_code(track, 7, ID, 0xff);
+    code == 0 && all_show(track, 7, 0xff) && is_one_block(&before, &bytes_of(track))
+}
+
+fn is_written_turned(by: u32) -> bool {
+    match turned(&track_18(), by, &[]) {
+        Some(mut track) => is_written(&mut track),
+        None => false,
+    }
 }
 
 #[test]
-fn a_write_is_read(rt: HostRuntime) -> Result<(), Fail> {
+fn a_write_is_read(rt: HostRuntime) {
     for by in 0..8 {
-        let mut track = turned(&fresh_track(18, ID), by, &[]).ok_or("no track")?;
-        let old = turned(&track, 0, &[]).ok_or("no track")?;
-        write_sector(&mut track, address(&rt, 18, 7), ID, &[0xff; 256]).map_err(|_| "refused")?;
-        for sector in 0..19 {
-            let data = read_sector(&track, address(&rt, 18, sector), ID).map_err(|_| "refused")?;
-            let wanted = if sector == 7 { 0xff } else { 0 };
-            assert_eq!(rt; data.as_slice(), [wanted; 256].as_slice());
-        }
-        assert_eq!(rt; id_of(&track), Some(ID));
-        // Only the 2,600 bits of the block differ.
-        let (mut before, mut after) = ([0; 7142], [0; 7142]);
-        assert!(rt; track.bits() > 0 && old.bits() > 0);
-        old.bytes_at(0, &mut before);
-        track.bytes_at(0, &mut after);
-        let changed = before.iter().zip(&after).filter(|(x, y)| x != y).count();
-        assert!(rt; changed > 300 && changed <= 326, "{changed}");
+        assert!(rt; is_written_turned(by));
     }
-    Ok(())
 }

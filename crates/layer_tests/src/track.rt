@@ -1,6 +1,4 @@
 use cbm_track::Track;
-use std::process::Abort;
-use std::test::Fail;
 
 /// The bit at a place of a circle, by the place alone.
 fn bit(circle: &[u8], place: usize) -> bool {
@@ -62,13 +60,21 @@ fn fill(circle: &mut [u8], chance: &mut u64) {
     }
 }
 
+/// How many bits a circle of so many zero bytes has.
+fn bits_of(size: usize) -> Option<u32> {
+    Some(Track::from_bytes([0; 7929].get(..size)?)?.bits())
+}
+
 #[test]
 fn sizes(rt: HostRuntime) {
-    assert!(rt; Track::from_bytes(&[]).is_none());
-    assert!(rt; Track::from_bytes(&[0; 7929]).is_none());
-    for (size, bits) in [(1usize, 8), (2, 16), (7928, 63424)] {
-        let track = Track::from_bytes(&[0; 7928][..size]);
-        assert_eq!(rt; track.map_or(0, |track| track.bits()), bits);
+    for (size, bits) in [
+        (0, None),
+        (7929, None),
+        (1, Some(8)),
+        (2, Some(16)),
+        (7928, Some(63424)),
+    ] {
+        assert!(rt; bits_of(size) == bits);
     }
 }
 
@@ -89,69 +95,99 @@ const MARKS: [([u8; 4], u32, Option<u32>); 9] = [
     ([0xff, 0xff, 0xff, 0xff], 0, None),
 ];
 
-#[test]
-fn sync_marks(rt: HostRuntime) -> Result<(), Fail> {
-    for (bytes, from, block) in MARKS {
-        let track = Track::from_bytes(&bytes).ok_or("no track")?;
-        assert!(rt; from < track.bits());
-        assert_eq!(rt; track.next_sync(from), block, "in {bytes:?} from {from}");
+/// Whether the search from a place of a circle finds that block.
+fn is_found(circle: &[u8], from: u32, block: Option<u32>) -> bool {
+    match Track::from_bytes(circle) {
+        Some(track) if from < track.bits() => track.next_sync(from) == block,
+        _ => false,
     }
-    Ok(())
 }
 
 #[test]
-fn tiny_circles(rt: HostRuntime) -> Result<(), Fail> {
+fn sync_marks(rt: HostRuntime) {
+    for (bytes, from, block) in MARKS {
+        assert!(rt; is_found(&bytes, from, block));
+    }
+}
+
+#[test]
+fn tiny_circles(rt: HostRuntime) {
     for byte in 0..=255u8 {
-        let track = Track::from_bytes(&[byte]).ok_or("no track")?;
         for from in 0..8 {
-            if from < track.bits() {
-                assert_eq!(rt; track.next_sync(from), None, "in {byte}");
-            }
+            assert!(rt; is_found(&[byte], from, None));
         }
     }
-    let track = Track::from_bytes(&[0xff, 0xfe]).ok_or("no track")?;
-    assert_eq!(rt; track.next_sync(0), Some(15));
-    Ok(())
+    assert!(rt; is_found(&[0xff, 0xfe], 0, Some(15)));
 }
 
-/// One circle, at one place: what the calls answer is what the plain program answers.
-fn compare(rt: &impl Abort, circle: &[u8], place: u32, count: u32) -> Result<(), Fail> {
-    let mut track = Track::from_bytes(circle).ok_or("no track")?;
-    if place >= track.bits() || circle.len() < 6 || circle.len() > 64 {
-        return Ok(());
+/// What the searches answer is what the plain program answers.
+fn finds(track: &Track, circle: &[u8], place: u32, count: u32) -> bool {
+    if place >= track.bits() || count > 1000 {
+        return false;
     }
-    assert_eq!(rt; track.next_sync(place), next_block(circle, place));
-    if count <= 1000 {
-        assert_eq!(rt;
-            track.is_clear(place, count),
-            is_clear(circle, place, count)
-        );
-    }
+    let found = track.next_sync(place) == next_block(circle, place);
+    found && track.is_clear(place, count) == is_clear(circle, place, count)
+}
+
+/// Nine bytes from a place on are the bits there.
+fn reads(track: &Track, circle: &[u8], place: u32) -> bool {
     let mut out = [0; 9];
-    track.bytes_at(place, &mut out);
+    if place < track.bits() {
+        track.bytes_at(place, &mut out);
+    }
+    let mut same = true;
     for k in 0..72 {
-        assert_eq!(rt; bit(&out, k), bit(circle, place as usize + k));
+        same = bit(&out, k) == bit(circle, place as usize + k) && same;
     }
-    let bytes = [0xa5, 0xff, 0x00, 0x5a, 0xc3];
-    assert!(rt; track.bits() >= 40);
-    track.overwrite(place, &bytes);
-    let mut new = [0; 64];
-    assert!(rt; track.bits() > 0);
-    track.bytes_at(0, &mut new);
-    for k in 0..8 * circle.len() {
-        let at = (place as usize + k) % (8 * circle.len());
-        let wanted = if k < 40 {
-            bit(&bytes, k)
-        } else {
-            bit(circle, at)
-        };
-        assert_eq!(rt; bit(&new, at), wanted);
+    same
+}
+
+const NEW: [u8; 5] = [0xa5, 0xff, 0x00, 0x5a, 0xc3];
+
+/// The circle with five bytes written at a place.
+fn written(mut track: Track, place: u32) -> [u8; 64] {
+    let mut bytes = [0; 64];
+    if track.bits() >= 40 && place < track.bits() {
+        track.overwrite(place, &NEW);
     }
-    Ok(())
+    if track.bits() > 0 {
+        track.bytes_at(0, &mut bytes);
+    }
+    bytes
+}
+
+/// Whether the five bytes stand at a place of the new circle, and all else is as it was.
+fn is_written(circle: &[u8], new: &[u8; 64], place: usize) -> bool {
+    let mut same = circle.len() <= 64 && place < 1000;
+    if same {
+        for k in 0..8 * circle.len() {
+            let at = (place + k) % (8 * circle.len());
+            let wanted = if k < 40 {
+                bit(&NEW, k)
+            } else {
+                bit(circle, at)
+            };
+            same = bit(new, at) == wanted && same;
+        }
+    }
+    same
+}
+
+/// One circle, at one place: what the calls answer is what the plain program answers. A place past the circle isn't
+/// looked at.
+fn is_same(circle: &[u8], place: u32, count: u32) -> bool {
+    match Track::from_bytes(circle) {
+        Some(track) if place >= track.bits() => true,
+        Some(track) => {
+            let same = finds(&track, circle, place, count) && reads(&track, circle, place);
+            same && is_written(circle, &written(track, place), place as usize)
+        }
+        None => false,
+    }
 }
 
 #[test]
-fn ten_thousand_circles(rt: HostRuntime) -> Result<(), Fail> {
+fn ten_thousand_circles(rt: HostRuntime) {
     let mut chance = 0x9e37_79b9_7f4a_7c15;
     for _ in 0..12_000 {
         let mut circle = [0; 64];
@@ -160,8 +196,7 @@ fn ten_thousand_circles(rt: HostRuntime) -> Result<(), Fail> {
         for _ in 0..2 {
             let place = (next_chance(&mut chance) % 368) as u32;
             let count = (next_chance(&mut chance) % 400) as u32;
-            compare(&rt, &circle[..size], place, count)?;
+            assert!(rt; is_same(&circle[..size], place, count));
         }
     }
-    Ok(())
 }

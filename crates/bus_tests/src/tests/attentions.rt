@@ -2,142 +2,144 @@
 
 use crate::tests::bounds::Bound;
 use crate::tests::plays::*;
-use crate::tests::reading::{FREE, after};
+use crate::tests::reading::{FREE, add, after};
 use crate::tests::sessions::*;
 use Line::*;
 use Way::*;
 use cbm_iec::*;
-use std::alloc::{AllocError, Global};
+use std::alloc::Global;
+use std::process::Abort;
 
 impl Session {
-    // ATN's release, and what follows it up to the next attention; the moment from which ATN may be pulled behind all
+    // ATN's release, and what follows it up to the next attention; the moment from which ATN may be pulled after all
     // of that.
-    pub fn release(&mut self, alloc: Global) -> Result<u64, AllocError> {
+    pub fn release(&mut self, rt: &impl Abort, alloc: Global) -> u64 {
         let first = after(self.accepted, self.gap());
-        let moment = self.from(Bound::Release, first, after(first, 80))?;
+        let moment = self.from(rt, Bound::Release, first, after(first, 80));
         self.released = moment;
         match (self.any(Role::Listener), self.any(Role::Talker)) {
             (None, None) => {
-                self.host(moment, Atn, Free)?;
-                self.each(alloc, moment, Act::Released)?;
-                self.let_go(alloc, moment)?;
+                self.host(rt, moment, Atn, Free);
+                self.each(rt, alloc, moment, Act::Released);
+                self.let_go(rt, alloc, moment);
                 let clock = self.pick(moment, after(moment, 100));
-                self.host(clock, Clock, Free)?;
-                Ok(after(moment, 100).max(clock))
+                self.host(rt, clock, Clock, Free);
+                after(moment, 100).max(clock)
             }
             (Some(_), _) => {
-                self.host(moment, Atn, Free)?;
-                self.each(alloc, moment, Act::Released)?;
-                self.let_go(alloc, moment)?;
+                self.host(rt, moment, Atn, Free);
+                self.each(rt, alloc, moment, Act::Released);
+                self.let_go(rt, alloc, moment);
                 let mut ready = after(moment, 100);
                 for _ in 0..self.random(3) {
                     let eoi = self.random(2) == 0;
                     let byte = (self.random(256) % 256) as u8;
-                    let from = self.from(Bound::Ready, ready, after(ready, 60))?;
-                    self.frame(alloc, false, byte, eoi, from)?;
+                    let from = self.from(rt, Bound::Ready, ready, after(ready, 60));
+                    self.frame(rt, alloc, false, byte, eoi, from);
                     ready = after(self.accepted, 100);
                 }
-                Ok(after(moment, 100).max(after(self.accepted, self.gap())))
+                after(moment, 100).max(after(self.accepted, self.gap()))
             }
             (None, Some(talker)) => {
-                self.host(moment, Data, Pull)?;
-                let freed = self.together(moment)?;
-                self.host(freed, Atn, Free)?;
-                self.each(alloc, moment, Act::Released)?;
-                let behind = self.let_go(alloc, moment)?;
-                let clock = self.from(Bound::Turn, after(moment, 20), after(moment, 90))?;
-                self.host(clock, Clock, Free)?;
-                let end = self.talk(talker, after(clock, talker.reaction))?;
-                Ok(end.max(behind))
+                self.host(rt, moment, Data, Pull);
+                let freed = self.together(rt, moment);
+                self.host(rt, freed, Atn, Free);
+                self.each(rt, alloc, moment, Act::Released);
+                let behind = self.let_go(rt, alloc, moment);
+                let clock = self.from(rt, Bound::Turn, after(moment, 20), after(moment, 90));
+                self.host(rt, clock, Clock, Free);
+                let end = self.talk(rt, talker, after(clock, talker.reaction));
+                end.max(behind)
             }
         }
     }
 
     // The answer of a talker: nothing to say, or bytes up to a last one.
-    pub fn talk(&mut self, talker: Member, answer: u64) -> Result<u64, AllocError> {
+    pub fn talk(&mut self, rt: &impl Abort, talker: Member, answer: u64) -> u64 {
         let (device, r) = (talker.device, talker.reaction);
         if self.silent {
-            self.drive(device, answer, Data, Free)?;
-            self.acts.push((answer, device, Act::Silent))?;
+            self.drive(rt, device, answer, Data, Free);
+            add(rt, &mut self.acts, (answer, device, Act::Silent));
             if self.random(2) == 0 {
-                return Ok(after(answer, 1));
+                return after(answer, 1);
             }
-            let free = self.from(Bound::Silence, after(answer, 1), after(answer, 80))?;
-            self.host(free, Data, Free)?;
-            return Ok(free);
+            let free = self.from(rt, Bound::Silence, after(answer, 1), after(answer, 80));
+            self.host(rt, free, Data, Free);
+            return free;
         }
-        self.drive(device, answer, Clock, Pull)?;
-        self.drive(device, answer, Data, Free)?;
+        self.drive(rt, device, answer, Clock, Pull);
+        self.drive(rt, device, answer, Data, Free);
         let mut lead = after(answer, 80);
         for _ in 0..3 {
             let byte = *STATUS.get(self.said).unwrap_or(&0);
             let last = self.said % 3 == 2;
-            self.drive(device, lead, Clock, Free)?;
-            let free = self.from(Bound::Take, after(lead, 1), after(lead, 300))?;
-            self.host(free, Data, Free)?;
+            self.drive(rt, device, lead, Clock, Free);
+            let free = self.from(rt, Bound::Take, after(lead, 1), after(lead, 300));
+            self.host(rt, free, Data, Free);
             let mut begin = free;
             if last {
-                let mark = self.from(Bound::Mark, after(free, 200), after(free, 400))?;
-                begin = self.from(Bound::Unmark, after(mark, 60), after(mark, 160))?;
-                self.host(mark, Data, Pull)?;
-                self.host(begin, Data, Free)?;
+                let mark = self.from(rt, Bound::Mark, after(free, 200), after(free, 400));
+                begin = self.from(rt, Bound::Unmark, after(mark, 60), after(mark, 160));
+                self.host(rt, mark, Data, Pull);
+                self.host(rt, begin, Data, Free);
             }
-            let accept = self.say(device, byte, after(begin, r))?;
-            self.host(accept, Data, Pull)?;
-            self.acts.push((accept, device, Act::Said(byte, last)))?;
+            let accept = self.say(rt, device, byte, after(begin, r));
+            self.host(rt, accept, Data, Pull);
+            add(rt, &mut self.acts, (accept, device, Act::Said(byte, last)));
             self.said = if self.said < 26 { self.said + 1 } else { 0 };
             if last {
-                self.drive(device, after(accept, r), Clock, Free)?;
-                return Ok(after(accept, r.wrapping_add(1)));
+                self.drive(rt, device, after(accept, r), Clock, Free);
+                return after(accept, r.wrapping_add(1));
             }
             lead = after(accept, 100);
         }
-        Ok(lead)
+        lead
     }
 
     // The bits of a byte, from the first; when the host accepts it.
-    pub fn say(&mut self, device: u8, byte: u8, first: u64) -> Result<u64, AllocError> {
+    pub fn say(&mut self, rt: &impl Abort, device: u8, byte: u8, first: u64) -> u64 {
         let mut left = byte;
         let mut moment = first;
         for _ in 0..8 {
-            self.drive(device, moment, Clock, Pull)?;
+            self.drive(rt, device, moment, Clock, Pull);
             self.drive(
+                rt,
                 device,
                 moment,
                 Data,
                 if left % 2 == 0 { Pull } else { Free },
-            )?;
-            self.drive(device, after(moment, 60), Clock, Free)?;
+            );
+            self.drive(rt, device, after(moment, 60), Clock, Free);
             left = left / 2;
             moment = after(moment, 120);
         }
-        self.drive(device, moment, Clock, Pull)?;
-        self.drive(device, moment, Data, Free)?;
-        self.within(Bound::Accept, after(first, 961), after(first, 1960))
+        self.drive(rt, device, moment, Clock, Pull);
+        self.drive(rt, device, moment, Data, Free);
+        self.within(rt, Bound::Accept, after(first, 961), after(first, 1960))
     }
 
     // An attention of some bytes, so that no drive listens beside one that talks.
-    pub fn attention(&mut self, alloc: Global, moment: u64) -> Result<(), AllocError> {
-        self.pull(alloc, moment)?;
+    pub fn attention(&mut self, rt: &impl Abort, alloc: Global, moment: u64) {
+        self.pull(rt, alloc, moment);
         let device = (8 + self.random(4) % 4) as u8;
         match self.random(4) {
-            0 => self.command(alloc, 0x40 + device)?,
-            1 => self.command(alloc, 0x20 + device)?,
-            2 => self.command(alloc, 0x3f)?,
+            0 => self.command(rt, alloc, 0x40 + device),
+            1 => self.command(rt, alloc, 0x20 + device),
+            2 => self.command(rt, alloc, 0x3f),
             _ => {
-                self.command(alloc, 0x5f)?;
-                self.command(alloc, 0x20 + device)?;
-                self.command(alloc, 0x6f)?;
+                self.command(rt, alloc, 0x5f);
+                self.command(rt, alloc, 0x20 + device);
+                self.command(rt, alloc, 0x6f);
             }
         }
         match (self.any(Role::Listener), self.any(Role::Talker)) {
-            (Some(_), Some(_)) => self.command(alloc, 0x3f),
-            _ => Ok(()),
+            (Some(_), Some(_)) => self.command(rt, alloc, 0x3f),
+            _ => {}
         }
     }
 
     // ATN is pulled at this moment: only what lies before stands.
-    pub fn cut(&mut self, alloc: Global, moment: u64) -> Result<(), AllocError> {
+    pub fn cut(&mut self, rt: &impl Abort, alloc: Global, moment: u64) {
         if let Some((_, flawed, _)) = self.broken
             && moment <= flawed
         {
@@ -146,22 +148,22 @@ impl Session {
         let mut changes = Vec::new(alloc);
         for change in &self.changes {
             if change.moment < moment {
-                changes.push(*change)?;
+                add(rt, &mut changes, *change);
             }
         }
         let mut wanted = Vec::new(alloc);
         for event in &self.wanted {
             if event.change.moment < moment {
-                wanted.push(*event)?;
+                add(rt, &mut wanted, *event);
             }
         }
         let mut acts = Vec::new(alloc);
         self.said = 0;
         for (counted, device, act) in &self.acts {
             if *counted < moment {
-                acts.push((*counted, *device, *act))?;
+                add(rt, &mut acts, (*counted, *device, *act));
                 if let Act::Said(_, _) = *act {
-                    self.said = if self.said < 26 { self.said + 1 } else { 0 };
+                    self.said = if self.said < 26 { self.said + 1 } else { 0 }
                 }
             }
         }
@@ -184,7 +186,6 @@ impl Session {
         self.changes = changes;
         self.wanted = wanted;
         self.acts = acts;
-        Ok(())
     }
 
     // A moment of a talk: often that of an event, or 1 beside it.
@@ -213,25 +214,25 @@ impl Session {
         }
     }
 
-    // Up to three attentions, each with what follows it; a talk may be cut at any moment behind ATN's release.
-    pub fn write(&mut self, alloc: Global) -> Result<u64, AllocError> {
+    // Up to three attentions, each with what follows it; a talk may be cut at any moment after ATN's release.
+    pub fn write(&mut self, rt: &impl Abort, alloc: Global) -> u64 {
         let mut moment = self.random(50);
         for _ in 0..after(1, self.random(3)) {
-            self.attention(alloc, moment)?;
-            let end = self.release(alloc)?;
+            self.attention(rt, alloc, moment);
+            let end = self.release(rt, alloc);
             let talks = self.any(Role::Talker).is_some() && self.any(Role::Listener).is_none();
             if !talks {
-                moment = self.from(Bound::Attention, end, after(end, 200))?;
+                moment = self.from(rt, Bound::Attention, end, after(end, 200));
                 continue;
             }
             moment = self.pick(end, after(end, 200));
             let first = after(self.released, 1);
             if first < end && self.random(2) == 0 {
                 moment = self.cut_moment(first, end.wrapping_sub(1));
-                self.cut(alloc, moment)?;
+                self.cut(rt, alloc, moment);
             }
         }
-        self.pull(alloc, moment)?;
-        Ok(moment)
+        self.pull(rt, alloc, moment);
+        moment
     }
 }

@@ -5,7 +5,8 @@ use crate::tests::reading::*;
 use Line::*;
 use Way::*;
 use cbm_iec::*;
-use std::alloc::{AllocError, Global};
+use std::alloc::Global;
+use std::process::Abort;
 
 /// A change that a drive owes, with which no act counts.
 pub fn owed_change(place: usize, moment: u64, line: Line, way: Way) -> Owed {
@@ -17,7 +18,7 @@ pub fn owed_change(place: usize, moment: u64, line: Line, way: Way) -> Owed {
 }
 
 impl Reading {
-    /// A frame may be ready 100 behind the last accept, and behind ATN's pull or release.
+    /// A frame may be ready 100 after the last accept, and after ATN's pull or release.
     pub fn may_send(&self, moment: u64, changed: Option<u64>) -> bool {
         self.is_clear() && is_behind(moment, 100, changed) && is_behind(moment, 100, self.accepted)
     }
@@ -26,12 +27,13 @@ impl Reading {
     /// DATA is free on the wire.
     pub fn ready(
         mut self,
+        rt: &impl Abort,
         alloc: Global,
         moment: u64,
         frame: Frame,
         next: &mut Vec<Reading>,
-    ) -> Result<(), AllocError> {
-        let hearers = self.hearers(alloc, frame.attention)?;
+    ) {
+        let hearers = self.hearers(rt, alloc, frame.attention);
         let mut slowest = 0;
         for (_, reaction) in &hearers {
             slowest = slowest.max(*reaction);
@@ -39,48 +41,50 @@ impl Reading {
         let wire = after(moment, slowest);
         let pulse = after(wire, 200);
         for (place, reaction) in &hearers {
-            self.owe(*place, after(moment, *reaction), Data, Free, None)?;
+            self.owe(rt, *place, after(moment, *reaction), Data, Free, None);
             if frame.eoi {
-                self.owe(*place, after(pulse, *reaction), Data, Pull, None)?;
+                self.owe(rt, *place, after(pulse, *reaction), Data, Pull, None);
                 let end = after(after(pulse, 60), *reaction);
-                self.owe(*place, end, Data, Free, None)?;
+                self.owe(rt, *place, end, Data, Free, None);
             }
         }
         self.phase = Phase::Ready(frame, wire, after(after(pulse, 60), slowest));
-        Ok(next.push(self)?)
+        add(rt, next, self)
     }
 
-    /// The first bit begins 1 to 199 behind the moment at which DATA is free, or behind the pulse.
+    /// The first bit begins 1 to 199 after the moment at which DATA is free, or after the pulse.
     pub fn start(
         mut self,
+        rt: &impl Abort,
         moment: u64,
         frame: Frame,
         wire: u64,
         quiet: u64,
         next: &mut Vec<Reading>,
-    ) -> Result<(), AllocError> {
+    ) {
         let fits = if frame.eoi {
             quiet < moment
         } else {
             wire < moment && moment <= after(wire, 199)
         };
         if !fits || !self.is_clear() {
-            return Ok(());
+            return;
         }
         self.phase = Phase::Setting(frame, moment, None);
-        Ok(next.push(self)?)
+        add(rt, next, self)
     }
 
-    /// CLOCK is free at least 20 behind its pull and behind DATA: the bit is 1 where DATA is free.
+    /// CLOCK is free at least 20 after its pull and after DATA: the bit is 1 where DATA is free.
     pub fn bit(
         mut self,
+        rt: &impl Abort,
         moment: u64,
         frame: Frame,
         set: u64,
         next: &mut Vec<Reading>,
-    ) -> Result<(), AllocError> {
+    ) {
         if moment < after(set, 20) {
-            return Ok(());
+            return;
         }
         let top = if self.host.data_low { 0 } else { 128 };
         let read = Frame {
@@ -89,49 +93,51 @@ impl Reading {
             ..frame
         };
         self.phase = Phase::Showing(read, moment);
-        Ok(next.push(self)?)
+        add(rt, next, self)
     }
 
-    /// CLOCK is pulled behind a bit: the next one, or the end of the byte.
+    /// CLOCK is pulled after a bit: the next one, or the end of the byte.
     pub fn bit_over(
         mut self,
+        rt: &impl Abort,
         alloc: Global,
         moment: u64,
         frame: Frame,
         next: &mut Vec<Reading>,
-    ) -> Result<(), AllocError> {
+    ) {
         if frame.count < 8 {
             self.phase = Phase::Setting(frame, moment, None);
-            return Ok(next.push(self)?);
+            return add(rt, next, self);
         }
         if self.host.data_low {
             self.phase = Phase::Freeing(frame, moment);
-            return Ok(next.push(self)?);
+            return add(rt, next, self);
         }
-        self.sent(alloc, moment, frame, next)
+        self.sent(rt, alloc, moment, frame, next)
     }
 
     /// The byte is sent: each that heard it pulls DATA, and with that it counts.
     pub fn sent(
         mut self,
+        rt: &impl Abort,
         alloc: Global,
         end: u64,
         frame: Frame,
         next: &mut Vec<Reading>,
-    ) -> Result<(), AllocError> {
+    ) {
         let (phase, act) = if frame.attention {
             (Phase::Attention, Act::Attention(frame.byte))
         } else {
             (Phase::Listening, Act::Heard(frame.byte, frame.eoi))
         };
         let mut fastest = 60;
-        let hearers = self.hearers(alloc, frame.attention)?;
+        let hearers = self.hearers(rt, alloc, frame.attention);
         for (place, reaction) in &hearers {
             fastest = fastest.min(*reaction);
-            self.owe(*place, after(end, *reaction), Data, Pull, Some(act))?;
+            self.owe(rt, *place, after(end, *reaction), Data, Pull, Some(act));
         }
         self.phase = phase;
         self.accepted = Some(after(end, fastest));
-        Ok(next.push(self)?)
+        add(rt, next, self)
     }
 }

@@ -5,7 +5,7 @@
 pub enum Bound {
     // Two changes of the host at one moment.
     Together,
-    // ATN's pull, behind its release and behind the last accept.
+    // ATN's pull, after its release and after the last accept.
     Attention,
     // A frame of the host: ready, its first pull of CLOCK, without the end signalled and with it, and the phases of a
     // bit.
@@ -14,7 +14,7 @@ pub enum Bound {
     StartBehindPulse,
     Settled,
     Shown,
-    // ATN's release, and CLOCK's behind it for a talker.
+    // ATN's release, and CLOCK's after it for a talker.
     Release,
     Turn,
     // DATA freed with nothing to say, or for a byte; for the last one pulled and freed again; the accept.

@@ -1,9 +1,10 @@
 //! The judge of a trace: whether it begins a session, whether the host keeps the timing, and whether a drive is late.
 
-use crate::tests::reading::Reading;
+use crate::tests::reading::{Reading, add};
 use cbm_iec::*;
-use std::alloc::{AllocError, Global};
+use std::alloc::Global;
 use std::mem;
+use std::process::Abort;
 
 /// What is said of a trace: all its readings at once, of which one says that it begins a session.
 #[derive(Drop)]
@@ -35,16 +36,16 @@ fn is_late_at(readings: &[Reading], moment: u64) -> bool {
 }
 
 impl Judge {
-    pub fn new(alloc: Global, parties: &[Party]) -> Result<Judge, AllocError> {
+    pub fn new(rt: &impl Abort, alloc: Global, parties: &[Party]) -> Judge {
         let mut readings = Vec::new(alloc);
-        readings.push(Reading::at_rest(alloc, parties)?)?;
-        Ok(Judge {
+        add(rt, &mut readings, Reading::at_rest(rt, alloc, parties));
+        Judge {
             alloc,
             readings,
             seen: 0,
             keeps: true,
             late: false,
-        })
+        }
     }
 
     /// Whether a drive was late at a moment from what was seen to before that one. Only where something falls due can
@@ -96,36 +97,37 @@ impl Judge {
     }
 
     /// The next event; whether some session goes on with it.
-    fn see(&mut self, event: Event) -> Result<bool, AllocError> {
+    fn see(&mut self, rt: &impl Abort, event: Event) -> bool {
         let moment = event.change.moment;
         self.pass(moment);
         let mut next = Vec::new(self.alloc);
         for reading in mem::replace(&mut self.readings, Vec::new(self.alloc)) {
-            reading.step(self.alloc, event, &mut next)?;
+            reading.step(rt, self.alloc, event, &mut next);
         }
         if next.is_empty() && event.who == Who::Host && !self.late {
             self.keeps = false;
         }
         self.readings = next;
         self.seen = moment;
-        Ok(!self.readings.is_empty())
+        !self.readings.is_empty()
     }
 
     /// Judges a trace up to an end.
     pub fn of(
+        rt: &impl Abort,
         alloc: Global,
         parties: &[Party],
         trace: &[Event],
         end: u64,
-    ) -> Result<Judge, AllocError> {
-        let mut judge = Judge::new(alloc, parties)?;
+    ) -> Judge {
+        let mut judge = Judge::new(rt, alloc, parties);
         for event in trace {
-            if !judge.see(*event)? {
-                return Ok(judge);
+            if !judge.see(rt, *event) {
+                return judge;
             }
         }
         judge.pass(end.wrapping_add(1));
-        Ok(judge)
+        judge
     }
 
     /// The trace begins a session.

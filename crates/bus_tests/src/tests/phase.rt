@@ -27,7 +27,7 @@ pub enum Phase {
     Setting(Frame, u64, Option<u64>),
     /// CLOCK was freed with a bit then.
     Showing(Frame, u64),
-    /// CLOCK was pulled behind the eighth bit then, at which DATA is to be freed.
+    /// CLOCK was pulled after the eighth bit then, at which DATA is to be freed.
     Freeing(Frame, u64),
     /// ATN was freed with neither listener nor talker: CLOCK is to be freed.
     Leaving,

@@ -1,16 +1,18 @@
 //! One to four drives and a host, played plainly: each event is told to every other party before the next.
 
-ghost use Rattle.std.specs.Prelude.{◌^◌, ◌<◌, ◌+◌, ◌≡◌};
-
 use crate::tests::judge::Judge;
+use crate::tests::reading::{add, after};
 use Line::*;
 use Way::*;
 use cbm_iec::*;
-use std::alloc::{AllocError, Global};
+use std::alloc::Global;
 use std::process::Abort;
 
 // The first status after switching on, as the talker says it.
 pub const STATUS: &[u8; 27] = b"73,CBM DOS V2.6 1541,00,00\r";
+
+/// A change of a drive: the moment, its device, the line, and what is done with it.
+pub type Wanted = (u64, u8, Line, Way);
 
 // One to four drives and a host; every drive says the status from the first byte that was not taken.
 #[derive(Drop)]
@@ -50,12 +52,12 @@ pub fn with_change(lines: Lines, change: Change) -> Lines {
 }
 
 impl Bus {
-    pub fn new(alloc: Global, parties: &[Party]) -> Result<Bus, AllocError> {
+    pub fn new(rt: &impl Abort, alloc: Global, parties: &[Party]) -> Bus {
         let mut ports = Vec::new(alloc);
         for party in parties {
-            ports.push(Port::new(*party))?;
+            add(rt, &mut ports, Port::new(*party));
         }
-        Ok(Bus {
+        Bus {
             ports,
             host: Lines {
                 atn_low: false,
@@ -67,7 +69,7 @@ impl Bus {
             mute: false,
             heard: Vec::new(alloc),
             events: Vec::new(alloc),
-        })
+        }
     }
 
     // What all parties but that drive hold.
@@ -100,22 +102,21 @@ impl Bus {
         }
     }
 
-    fn count(&mut self, device: u8, act: Option<Act>) -> Result<(), AllocError> {
+    fn count(&mut self, rt: &impl Abort, device: u8, act: Option<Act>) {
         if let Some(act) = act {
             if let Act::Said(_, _) = act {
                 self.said = if self.said < 26 || !self.short && self.said < 100 {
                     self.said + 1
                 } else {
                     0
-                };
+                }
             }
-            self.heard.push((device, act))?;
+            add(rt, &mut self.heard, (device, act));
         }
-        Ok(())
     }
 
     // Each drive is told what the others hold.
-    fn tell(&mut self, rt: &impl Abort, moment: u64) -> Result<(), AllocError> {
+    fn tell(&mut self, rt: &impl Abort, moment: u64) {
         assert!(rt; moment < 1 << 60);
         for place in 0..self.ports.len() {
             assert!(rt; place < self.ports.len());
@@ -124,14 +125,13 @@ impl Bus {
             if others != port.others {
                 let act = port.line(moment, others);
                 self.ports[place] = port;
-                self.count(port.party.device, act)?;
+                self.count(rt, port.party.device, act);
             }
         }
-        Ok(())
     }
 
     // The reactions that are due at this moment, in the order of the drives.
-    fn react(&mut self, rt: &impl Abort, moment: u64) -> Result<(), AllocError> {
+    fn react(&mut self, rt: &impl Abort, moment: u64) {
         assert!(rt; moment < 1 << 60);
         for place in 0..self.ports.len() {
             assert!(rt; place < self.ports.len());
@@ -140,17 +140,20 @@ impl Bus {
                 assert!(rt; port.party.device < 31);
                 let reaction = port.due(moment, self.peek());
                 self.ports[place] = port;
-                self.count(port.party.device, reaction.act)?;
+                self.count(rt, port.party.device, reaction.act);
                 for change in &reaction.changes {
-                    self.events.push(Event {
-                        who: Who::Drive(port.party.device),
-                        change: *change,
-                    })?;
+                    add(
+                        rt,
+                        &mut self.events,
+                        Event {
+                            who: Who::Drive(port.party.device),
+                            change: *change,
+                        },
+                    );
                 }
-                self.tell(rt, moment)?;
+                self.tell(rt, moment);
             }
         }
-        Ok(())
     }
 
     pub fn next_due(&self) -> Option<u64> {
@@ -160,83 +163,65 @@ impl Bus {
                 first = match first {
                     Some(other) if other <= at => Some(other),
                     _ => Some(at),
-                };
+                }
             }
         }
         first
     }
 
     // All reactions before the limit.
-    fn settle(&mut self, rt: &impl Abort, limit: u64) -> Result<(), AllocError> {
+    fn settle(&mut self, rt: &impl Abort, limit: u64) {
         for _ in 0..100_000 {
             match self.next_due() {
-                Some(at) if at < limit => self.react(rt, at)?,
-                _ => return Ok(()),
+                Some(at) if at < limit => self.react(rt, at),
+                _ => return (),
             }
         }
         assert!(rt; false, "the reactions come to an end");
-        Ok(())
     }
 
-    pub fn play(
-        &mut self,
-        rt: &impl Abort,
-        changes: &[Change],
-        end: u64,
-    ) -> Result<(), AllocError> {
+    pub fn play(&mut self, rt: &impl Abort, changes: &[Change], end: u64) {
         assert!(rt; end < 1 << 60);
         for change in changes {
-            self.settle(rt, change.moment)?;
-            self.events.push(Event {
-                who: Who::Host,
-                change: *change,
-            })?;
+            self.settle(rt, change.moment);
+            add(
+                rt,
+                &mut self.events,
+                Event {
+                    who: Who::Host,
+                    change: *change,
+                },
+            );
             self.host = with_change(self.host, *change);
-            self.tell(rt, change.moment)?;
+            self.tell(rt, change.moment);
         }
         self.settle(rt, end + 1)
     }
 
     // What the plain reader says of the trace up to an end.
-    pub fn judge(&self, alloc: Global, end: u64) -> Result<Judge, AllocError> {
+    pub fn judge(&self, rt: &impl Abort, alloc: Global, end: u64) -> Judge {
         let mut parties = Vec::new(alloc);
         for port in &self.ports {
-            parties.push(port.party)?;
+            add(rt, &mut parties, port.party);
         }
-        Judge::of(alloc, &parties, &self.events, end)
+        Judge::of(rt, alloc, &parties, &self.events, end)
     }
 
-    // The drives' changes are these.
-    pub fn expect(&self, rt: &impl Abort, row: &str, wanted: &[(u64, u8, Line, Way)]) {
-        self.expect_until(rt, row, 0, u64::MAX, wanted);
-    }
-
-    // The drives' changes from a moment on and before another are these.
-    pub fn expect_until(
-        &self,
-        rt: &impl Abort,
-        row: &str,
-        from: u64,
-        until: u64,
-        wanted: &[(u64, u8, Line, Way)],
-    ) {
-        let mut place = 0;
+    // Whether the drives' changes from a moment on and before another are these.
+    pub fn makes(&self, from: u64, until: u64, wanted: &[Wanted]) -> bool {
+        let (mut place, mut same) = (0usize, true);
         for event in &self.events {
+            let change = event.change;
             if let Who::Drive(device) = event.who
-                && event.change.moment >= from
-                && event.change.moment < until
+                && change.moment >= from
+                && change.moment < until
             {
-                assert!(rt; place < wanted.len(), "{row}: too many changes");
-                let change = event.change;
-                assert_eq!(rt;
-                    (change.moment, device, change.line, change.way),
-                    wanted[place],
-                    "{row}: change {place}"
-                );
-                place += 1;
+                let row = (change.moment, device, change.line, change.way);
+                same = wanted.get(place) == Some(&row) && same;
+                place = place.wrapping_add(1);
             }
         }
-        assert_eq!(rt; place, wanted.len(), "{row}: the number of changes");
+        same && place == wanted.len()
     }
 }
 
@@ -253,41 +238,37 @@ pub fn shown(who: Who, moment: u64, line: Line, way: Way) -> Event {
     }
 }
 
-// A frame of the host whose bits take 40 each; DATA is set with CLOCK's pull. The last pull is 320 behind the start.
-pub fn send(changes: &mut Vec<Change>, byte: u8, ready: u64, start: u64) -> Result<(), AllocError>
-    requires { start < 2 ^ 50 }
-{
-    changes.push(at(ready, Clock, Free))?;
-    changes.push(at(start, Clock, Pull))?;
+// A frame of the host whose bits take 40 each; DATA is set with CLOCK's pull. The last pull is 320 after the start.
+pub fn send(rt: &impl Abort, changes: &mut Vec<Change>, byte: u8, ready: u64, start: u64) {
+    add(rt, changes, at(ready, Clock, Free));
+    add(rt, changes, at(start, Clock, Pull));
     let mut left = byte;
     let mut data_low = false;
-    for k in 0..8u64 {
-        let moment = start + 40 * k;
+    let mut moment = start;
+    for _ in 0..8 {
         let low = left % 2 == 0;
         if low != data_low {
-            changes.push(at(moment, Data, if low { Pull } else { Free }))?;
+            add(rt, changes, at(moment, Data, if low { Pull } else { Free }));
         }
         data_low = low;
         left = left / 2;
-        changes.push(at(moment + 20, Clock, Free))?;
-        changes.push(at(moment + 40, Clock, Pull))?;
+        add(rt, changes, at(after(moment, 20), Clock, Free));
+        moment = after(moment, 40);
+        add(rt, changes, at(moment, Clock, Pull));
     }
     if data_low {
-        changes.push(at(start + 320, Data, Free))?;
+        add(rt, changes, at(moment, Data, Free));
     }
-    Ok(())
 }
 
-// LISTEN to a device: the attention byte at 1000, its start at 1040 and all from there on shifted, ATN free at 1400.
-pub fn listen(alloc: Global, byte: u8, shift: u64) -> Result<Vec<Change>, AllocError>
-    requires { shift < 2 ^ 40 }
-{
+// LISTEN to a device: the attention byte at 1000, its start at 1040 and all from there on shifted, ATN free at a moment.
+pub fn listen(rt: &impl Abort, alloc: Global, byte: u8, shift: u64, free: u64) -> Vec<Change> {
     let mut changes = Vec::new(alloc);
-    changes.push(at(0, Atn, Pull))?;
-    changes.push(at(0, Clock, Pull))?;
-    send(&mut changes, byte, 1000, 1040 + shift)?;
-    changes.push(at(1400 + shift, Atn, Free))?;
-    Ok(changes)
+    add(rt, &mut changes, at(0, Atn, Pull));
+    add(rt, &mut changes, at(0, Clock, Pull));
+    send(rt, &mut changes, byte, 1000, after(1040, shift));
+    add(rt, &mut changes, at(after(free, shift), Atn, Free));
+    changes
 }
 
 pub fn one(device: u8, reaction: u8) -> Party {

@@ -3,7 +3,8 @@
 use crate::tests::phase::Phase;
 use crate::tests::plays::is_low;
 use cbm_iec::*;
-use std::alloc::{AllocError, Global};
+use std::alloc::Global;
+use std::process::Abort;
 
 /// A drive on the bus.
 #[derive(Clone, Copy, Drop)]
@@ -35,10 +36,10 @@ pub struct Reading {
     pub seats: Vec<Seat>,
     pub owed: Vec<Owed>,
     pub acts: Vec<(u8, Act)>,
-    /// The last event's moment, and its rank: 0 is the host, behind it the drives in the order of ties.
+    /// The last event's moment, and its rank: 0 is the host, after it the drives in the order of ties.
     pub last: u64,
     pub rank: usize,
-    /// ATN's last pull, its release, and the accept of the last byte that the host sent behind that pull.
+    /// ATN's last pull, its release, and the accept of the last byte that the host sent after that pull.
     pub pulled: u64,
     pub released: Option<u64>,
     pub accepted: Option<u64>,
@@ -46,12 +47,17 @@ pub struct Reading {
     pub since: u64,
 }
 
+/// Adds to a list; want of memory ends the test.
+pub fn add<T: Drop>(rt: &impl Abort, list: &mut Vec<T>, item: T) {
+    list.push(item).ok().expect(rt, "memory");
+}
+
 /// A later moment.
 pub fn after(moment: u64, wait: u64) -> u64 {
     moment.wrapping_add(wait)
 }
 
-/// Whether a moment is so much behind another, if there is one.
+/// Whether a moment is so much after another, if there is one.
 pub fn is_behind(moment: u64, wait: u64, earlier: Option<u64>) -> bool {
     match earlier {
         Some(earlier) => after(earlier, wait) <= moment,
@@ -65,7 +71,7 @@ pub const FREE: Held = Held {
     data_low: false,
 };
 
-/// The lines that a party holds behind a change of its own.
+/// The lines that a party holds after a change of its own.
 pub fn held_after(held: Held, change: Change) -> Held {
     let low = is_low(change.way);
     match change.line {
@@ -99,16 +105,20 @@ pub fn role_after(device: u8, byte: u8, role: Role) -> Role {
 
 impl Reading {
     /// From rest: all lines free, no roles, nothing owed; the drives in the order of ties.
-    pub fn at_rest(alloc: Global, parties: &[Party]) -> Result<Reading, AllocError> {
+    pub fn at_rest(rt: &impl Abort, alloc: Global, parties: &[Party]) -> Reading {
         let mut seats = Vec::new(alloc);
         for party in parties {
-            seats.push(Seat {
-                party: *party,
-                role: Role::Absent,
-                own: FREE,
-            })?;
+            add(
+                rt,
+                &mut seats,
+                Seat {
+                    party: *party,
+                    role: Role::Absent,
+                    own: FREE,
+                },
+            );
         }
-        Ok(Reading {
+        Reading {
             phase: Phase::Open,
             host: FREE,
             seats,
@@ -120,24 +130,24 @@ impl Reading {
             released: None,
             accepted: None,
             since: 0,
-        })
+        }
     }
 
     /// The same reading once more, where a trace may go on in two ways.
-    pub fn copy(&self) -> Result<Reading, AllocError> {
-        Ok(Reading {
+    pub fn copy(&self, rt: &impl Abort) -> Reading {
+        Reading {
             phase: self.phase,
             host: self.host,
-            seats: self.seats.clone()?,
-            owed: self.owed.clone()?,
-            acts: self.acts.clone()?,
+            seats: self.seats.clone().ok().expect(rt, "memory"),
+            owed: self.owed.clone().ok().expect(rt, "memory"),
+            acts: self.acts.clone().ok().expect(rt, "memory"),
             last: self.last,
             rank: self.rank,
             pulled: self.pulled,
             released: self.released,
             accepted: self.accepted,
             since: self.since,
-        })
+        }
     }
 
     /// Where the next change that is owed stands in the list: by moment, then by the order of ties.
@@ -151,7 +161,7 @@ impl Reading {
                     Some((at, other))
                 }
                 _ => Some((index, *owed)),
-            };
+            }
         }
         first
     }
@@ -171,37 +181,40 @@ impl Reading {
 
     pub fn owe(
         &mut self,
+        rt: &impl Abort,
         place: usize,
         moment: u64,
         line: Line,
         way: Way,
         act: Option<Act>,
-    ) -> Result<(), AllocError> {
-        self.owed.push(Owed {
-            place,
-            change: Change { moment, line, way },
-            act,
-        })?;
-        Ok(())
+    ) {
+        add(
+            rt,
+            &mut self.owed,
+            Owed {
+                place,
+                change: Change { moment, line, way },
+                act,
+            },
+        );
     }
 
     /// An act that counts for each drive.
-    pub fn count_each(&mut self, act: Act) -> Result<(), AllocError> {
+    pub fn count_each(&mut self, rt: &impl Abort, act: Act) {
         for seat in &self.seats {
-            self.acts.push((seat.party.device, act))?;
+            add(rt, &mut self.acts, (seat.party.device, act));
         }
-        Ok(())
     }
 
     /// The drives that hear a frame of the host: in attention all, else the listeners.
-    pub fn hearers(&self, alloc: Global, attention: bool) -> Result<Vec<(usize, u64)>, AllocError> {
+    pub fn hearers(&self, rt: &impl Abort, alloc: Global, attention: bool) -> Vec<(usize, u64)> {
         let mut hearers = Vec::new(alloc);
         for (place, seat) in self.seats.iter().enumerate() {
             if attention || seat.role == Role::Listener {
-                hearers.push((place, seat.reaction()))?;
+                add(rt, &mut hearers, (place, seat.reaction()));
             }
         }
-        Ok(hearers)
+        hearers
     }
 
     /// The first drive with a role, and its reaction.

@@ -4,11 +4,12 @@
 
 use crate::tests::bounds::{BOUNDS, Bound};
 use crate::tests::plays::*;
-use crate::tests::reading::{FREE, after, role_after};
+use crate::tests::reading::{FREE, add, after, role_after};
 use Line::*;
 use Way::*;
 use cbm_iec::*;
-use std::alloc::{AllocError, Global};
+use std::alloc::Global;
+use std::process::Abort;
 
 // A drive of the generated session.
 #[derive(Clone, Copy, Drop)]
@@ -41,7 +42,7 @@ pub struct Session {
     pub broken: Option<(Bound, u64, bool)>,
 }
 
-// The lines behind a change, and whether it changes them.
+// The lines after a change, and whether it changes them.
 pub fn with_own(own: Held, line: Line, low: bool) -> (Held, bool) {
     match line {
         Atn => (own, false),
@@ -85,9 +86,9 @@ impl Session {
     }
 
     // Whether the bound that comes now is the one to be broken.
-    pub fn is_flaw(&mut self, bound: Bound) -> Result<bool, AllocError> {
-        self.bounds.push(bound)?;
-        Ok(self.bounds.len() as u64 == self.flaw)
+    pub fn is_flaw(&mut self, rt: &impl Abort, bound: Bound) -> bool {
+        add(rt, &mut self.bounds, bound);
+        self.bounds.len() as u64 == self.flaw
     }
 
     /// Which bound to break: one of a kind, if there is one.
@@ -107,32 +108,32 @@ impl Session {
     }
 
     // A moment that is at least the first, often that or the last. Where this bound is to be broken it is 1 too
-    // early, if it still comes behind all others.
-    pub fn from(&mut self, bound: Bound, first: u64, last: u64) -> Result<u64, AllocError> {
-        if self.is_flaw(bound)? && self.is_behind_all(first.wrapping_sub(1)) {
+    // early, if it still comes after all others.
+    pub fn from(&mut self, rt: &impl Abort, bound: Bound, first: u64, last: u64) -> u64 {
+        if self.is_flaw(rt, bound) && self.is_behind_all(first.wrapping_sub(1)) {
             self.broken = Some((bound, first.wrapping_sub(1), false));
-            return Ok(first.wrapping_sub(1));
+            return first.wrapping_sub(1);
         }
-        Ok(self.pick(first, last))
+        self.pick(first, last)
     }
 
     // A moment that is at least the first and at most the last, or 1 beside them where one of them is to be broken.
-    pub fn within(&mut self, bound: Bound, first: u64, last: u64) -> Result<u64, AllocError> {
-        let moment = self.from(bound, first, last)?;
-        if self.is_flaw(bound)? {
+    pub fn within(&mut self, rt: &impl Abort, bound: Bound, first: u64, last: u64) -> u64 {
+        let moment = self.from(rt, bound, first, last);
+        if self.is_flaw(rt, bound) {
             self.broken = Some((bound, after(last, 1), true));
-            return Ok(after(last, 1));
+            return after(last, 1);
         }
-        Ok(moment)
+        moment
     }
 
     // The moment of a change that comes together with the last one, or 1 later.
-    pub fn together(&mut self, moment: u64) -> Result<u64, AllocError> {
-        if self.is_flaw(Bound::Together)? {
+    pub fn together(&mut self, rt: &impl Abort, moment: u64) -> u64 {
+        if self.is_flaw(rt, Bound::Together) {
             self.broken = Some((Bound::Together, after(moment, 1), true));
-            return Ok(after(moment, 1));
+            return after(moment, 1);
         }
-        Ok(moment)
+        moment
     }
 
     pub fn is_behind_all(&self, moment: u64) -> bool {
@@ -143,23 +144,16 @@ impl Session {
     }
 
     // A change of the host, where it changes its line.
-    pub fn host(&mut self, moment: u64, line: Line, way: Way) -> Result<(), AllocError> {
+    pub fn host(&mut self, rt: &impl Abort, moment: u64, line: Line, way: Way) {
         let (held, changes) = with_own(self.host, line, is_low(way));
         if line == Atn || changes {
-            self.changes.push(at(moment, line, way))?;
+            add(rt, &mut self.changes, at(moment, line, way));
         }
         self.host = held;
-        Ok(())
     }
 
     // A change of a drive, where it changes its line.
-    pub fn drive(
-        &mut self,
-        device: u8,
-        moment: u64,
-        line: Line,
-        way: Way,
-    ) -> Result<(), AllocError> {
+    pub fn drive(&mut self, rt: &impl Abort, device: u8, moment: u64, line: Line, way: Way) {
         let mut changed = false;
         for member in &mut self.members {
             if member.device == device {
@@ -169,63 +163,77 @@ impl Session {
             }
         }
         if changed {
-            self.wanted.push(Event {
-                who: Who::Drive(device),
-                change: at(moment, line, way),
-            })?;
+            add(
+                rt,
+                &mut self.wanted,
+                Event {
+                    who: Who::Drive(device),
+                    change: at(moment, line, way),
+                },
+            );
         }
-        Ok(())
     }
 
     // The members, copied, since they are read while the session grows.
-    pub fn seats(&self, alloc: Global) -> Result<Vec<Member>, AllocError> {
+    pub fn seats(&self, rt: &impl Abort, alloc: Global) -> Vec<Member> {
         let mut seats = Vec::new(alloc);
         for member in &self.members {
-            seats.push(*member)?;
+            add(rt, &mut seats, *member);
         }
-        Ok(seats)
+        seats
     }
 
-    pub fn each(&mut self, alloc: Global, moment: u64, act: Act) -> Result<(), AllocError> {
-        let seats = self.seats(alloc)?;
+    pub fn each(&mut self, rt: &impl Abort, alloc: Global, moment: u64, act: Act) {
+        let seats = self.seats(rt, alloc);
         for member in &seats {
-            self.acts.push((moment, member.device, act))?;
+            add(rt, &mut self.acts, (moment, member.device, act));
         }
-        Ok(())
     }
 
-    pub fn pull(&mut self, alloc: Global, moment: u64) -> Result<(), AllocError> {
-        self.host(moment, Atn, Pull)?;
+    pub fn pull(&mut self, rt: &impl Abort, alloc: Global, moment: u64) {
+        self.host(rt, moment, Atn, Pull);
         let mut joined = moment;
         if !self.host.clock_low {
-            joined = self.together(joined)?;
-            self.host(joined, Clock, Pull)?;
+            joined = self.together(rt, joined);
+            self.host(rt, joined, Clock, Pull);
         }
         if self.host.data_low {
-            let freed = self.together(joined)?;
-            self.host(freed, Data, Free)?;
+            let freed = self.together(rt, joined);
+            self.host(rt, freed, Data, Free);
         }
-        self.each(alloc, moment, Act::Pulled)?;
-        let seats = self.seats(alloc)?;
+        self.each(rt, alloc, moment, Act::Pulled);
+        let seats = self.seats(rt, alloc);
         for member in &seats {
-            self.drive(member.device, after(moment, member.reaction), Clock, Free)?;
-            self.drive(member.device, after(moment, member.reaction), Data, Pull)?;
+            self.drive(
+                rt,
+                member.device,
+                after(moment, member.reaction),
+                Clock,
+                Free,
+            );
+            self.drive(
+                rt,
+                member.device,
+                after(moment, member.reaction),
+                Data,
+                Pull,
+            );
         }
         self.pulled = moment;
-        Ok(())
     }
 
     // A frame of the host, to all in attention and else to the listeners.
     pub fn frame(
         &mut self,
+        rt: &impl Abort,
         alloc: Global,
         attention: bool,
         byte: u8,
         eoi: bool,
         ready: u64,
-    ) -> Result<(), AllocError> {
-        let seats = self.seats(alloc)?;
-        self.host(ready, Clock, Free)?;
+    ) {
+        let seats = self.seats(rt, alloc);
+        self.host(rt, ready, Clock, Free);
         let mut slowest = 0;
         let mut fastest = 60;
         for member in &seats {
@@ -237,9 +245,14 @@ impl Session {
         let t = after(ready, slowest);
         let quiet = after(t, slowest.wrapping_add(260));
         let start = if eoi {
-            self.from(Bound::StartBehindPulse, after(quiet, 1), after(quiet, 300))?
+            self.from(
+                rt,
+                Bound::StartBehindPulse,
+                after(quiet, 1),
+                after(quiet, 300),
+            )
         } else {
-            self.within(Bound::Start, after(t, 1), after(t, 199))?
+            self.within(rt, Bound::Start, after(t, 1), after(t, 199))
         };
         if let Some((Bound::Start, moment, _)) = self.broken
             && moment == start
@@ -247,7 +260,7 @@ impl Session {
             // To listeners the host might still signal the end.
             self.broken = Some((Bound::Start, moment, attention && t < moment));
         }
-        self.host(start, Clock, Pull)?;
+        self.host(rt, start, Clock, Pull);
         let mut last = start;
         let mut left = byte;
         for _ in 0..8 {
@@ -256,49 +269,51 @@ impl Session {
             let mut set = last;
             if low != self.host.data_low {
                 set = self.pick(last, after(last, 50));
-                self.host(set, Data, if low { Pull } else { Free })?;
+                self.host(rt, set, Data, if low { Pull } else { Free });
             }
-            let free = self.from(Bound::Settled, after(set, 20), after(set, 90))?;
-            self.host(free, Clock, Free)?;
-            last = self.from(Bound::Shown, after(free, 20), after(free, 90))?;
-            self.host(last, Clock, Pull)?;
+            let free = self.from(rt, Bound::Settled, after(set, 20), after(set, 90));
+            self.host(rt, free, Clock, Free);
+            last = self.from(rt, Bound::Shown, after(free, 20), after(free, 90));
+            self.host(rt, last, Clock, Pull);
         }
         if self.host.data_low {
-            let freed = self.together(last)?;
-            self.host(freed, Data, Free)?;
+            let freed = self.together(rt, last);
+            self.host(rt, freed, Data, Free);
         }
         for member in &seats {
             let (device, r) = (member.device, member.reaction);
             if attention || member.role == Role::Listener {
-                self.drive(device, after(ready, r), Data, Free)?;
+                self.drive(rt, device, after(ready, r), Data, Free);
                 if eoi {
-                    self.drive(device, after(t, r.wrapping_add(200)), Data, Pull)?;
-                    self.drive(device, after(t, r.wrapping_add(260)), Data, Free)?;
+                    self.drive(rt, device, after(t, r.wrapping_add(200)), Data, Pull);
+                    self.drive(rt, device, after(t, r.wrapping_add(260)), Data, Free);
                 }
-                self.drive(device, after(last, r), Data, Pull)?;
-                self.acts.push((
-                    after(last, r),
-                    device,
-                    if attention {
-                        Act::Attention(byte)
-                    } else {
-                        Act::Heard(byte, eoi)
-                    },
-                ))?;
+                self.drive(rt, device, after(last, r), Data, Pull);
+                add(
+                    rt,
+                    &mut self.acts,
+                    (
+                        after(last, r),
+                        device,
+                        if attention {
+                            Act::Attention(byte)
+                        } else {
+                            Act::Heard(byte, eoi)
+                        },
+                    ),
+                );
             }
         }
         self.accepted = after(last, fastest);
-        Ok(())
     }
 
-    pub fn command(&mut self, alloc: Global, byte: u8) -> Result<(), AllocError> {
+    pub fn command(&mut self, rt: &impl Abort, alloc: Global, byte: u8) {
         let first = after(self.pulled.max(self.accepted), 100);
-        let ready = self.from(Bound::Ready, first, after(first, 60))?;
-        self.frame(alloc, true, byte, false, ready)?;
+        let ready = self.from(rt, Bound::Ready, first, after(first, 60));
+        self.frame(rt, alloc, true, byte, false, ready);
         for member in &mut self.members {
             member.role = role_after(member.device, byte, member.role);
         }
-        Ok(())
     }
 
     pub fn any(&self, role: Role) -> Option<Member> {
@@ -316,23 +331,29 @@ impl Session {
     }
 
     // Drives without a role let go of DATA.
-    pub fn let_go(&mut self, alloc: Global, moment: u64) -> Result<u64, AllocError> {
-        let seats = self.seats(alloc)?;
+    pub fn let_go(&mut self, rt: &impl Abort, alloc: Global, moment: u64) -> u64 {
+        let seats = self.seats(rt, alloc);
         let mut behind = moment;
         for member in &seats {
             if member.role == Role::Absent {
-                self.drive(member.device, after(moment, member.reaction), Data, Free)?;
+                self.drive(
+                    rt,
+                    member.device,
+                    after(moment, member.reaction),
+                    Data,
+                    Free,
+                );
                 behind = behind.max(after(moment, member.reaction.wrapping_add(1)));
             }
         }
-        Ok(behind)
+        behind
     }
 }
 
 impl Session {
     /// A session of one to four drives, whose order of ties rises or falls; of its bounds the one with that number is
     /// broken, counted from 1.
-    pub fn new(alloc: Global, seed: u64, flaw: u64) -> Result<Session, AllocError> {
+    pub fn new(rt: &impl Abort, alloc: Global, seed: u64, flaw: u64) -> Session {
         let mut session = Session {
             seed,
             members: Vec::new(alloc),
@@ -360,23 +381,27 @@ impl Session {
                 _ => 1 + session.random(60) % 60,
             };
             if (place as u64) < count {
-                session.members.push(Member {
-                    device: if falling { 11 - place } else { 8 + place },
-                    reaction,
-                    role: Role::Absent,
-                    own: FREE,
-                })?;
+                add(
+                    rt,
+                    &mut session.members,
+                    Member {
+                        device: if falling { 11 - place } else { 8 + place },
+                        reaction,
+                        role: Role::Absent,
+                        own: FREE,
+                    },
+                );
             }
         }
-        Ok(session)
+        session
     }
 
     // The acts that count, without their moments.
-    pub fn counted(&self, alloc: Global) -> Result<Vec<(u8, Act)>, AllocError> {
+    pub fn counted(&self, rt: &impl Abort, alloc: Global) -> Vec<(u8, Act)> {
         let mut counted = Vec::new(alloc);
         for (_, device, act) in &self.acts {
-            counted.push((*device, *act))?;
+            add(rt, &mut counted, (*device, *act));
         }
-        Ok(counted)
+        counted
     }
 }

@@ -6,7 +6,8 @@ use crate::tests::reading::*;
 use Line::*;
 use Way::*;
 use cbm_iec::*;
-use std::alloc::{AllocError, Global};
+use std::alloc::Global;
+use std::process::Abort;
 
 /// A frame of which nothing was read yet.
 fn frame(attention: bool, eoi: bool) -> Frame {
@@ -20,80 +21,70 @@ fn frame(attention: bool, eoi: bool) -> Frame {
 
 impl Reading {
     /// The readings that go on from this one with an event.
-    pub fn step(
-        self,
-        alloc: Global,
-        event: Event,
-        next: &mut Vec<Reading>,
-    ) -> Result<(), AllocError> {
+    pub fn step(self, rt: &impl Abort, alloc: Global, event: Event, next: &mut Vec<Reading>) {
         match event.who {
-            Who::Host => self.host_step(alloc, event.change, next),
-            Who::Drive(device) => self.drive_step(device, event.change, next),
+            Who::Host => self.host_step(rt, alloc, event.change, next),
+            Who::Drive(device) => self.drive_step(rt, device, event.change, next),
         }
     }
 
     /// A drive's change is the first of all that is owed, and comes before the host's next one is due: at one moment
     /// the host's comes first.
-    fn drive_step(
-        mut self,
-        device: u8,
-        change: Change,
-        next: &mut Vec<Reading>,
-    ) -> Result<(), AllocError> {
+    fn drive_step(mut self, rt: &impl Abort, device: u8, change: Change, next: &mut Vec<Reading>) {
         let Some((index, owed)) = self.first_owed() else {
-            return Ok(());
+            return;
         };
         let rank = after(owed.place as u64, 1) as usize;
         let early = change.moment < self.last || change.moment == self.last && rank < self.rank;
         if early || !self.is_quiet(change.moment) {
-            return Ok(());
+            return;
         }
         if change != owed.change || index >= self.owed.len() {
-            return Ok(());
+            return;
         }
         self.owed.remove(index);
         self.last = change.moment;
         self.rank = rank;
-        if !self.shows(owed, device)? {
-            return Ok(());
+        if !self.shows(rt, owed, device) {
+            return;
         }
-        self.go_on(next)
+        self.go_on(rt, next)
     }
 
     /// The drive that owes is that one: it shows its change, and the act counts.
-    fn shows(&mut self, owed: Owed, device: u8) -> Result<bool, AllocError> {
+    fn shows(&mut self, rt: &impl Abort, owed: Owed, device: u8) -> bool {
         let Some(seat) = self.seats.get_mut(owed.place) else {
-            return Ok(false);
+            return false;
         };
         if seat.party.device != device {
-            return Ok(false);
+            return false;
         }
         seat.own = held_after(seat.own, owed.change);
         if let Some(act) = owed.act {
             if let Act::Attention(byte) = act {
                 seat.role = role_after(device, byte, seat.role);
             }
-            self.acts.push((device, act))?;
+            add(rt, &mut self.acts, (device, act));
         }
-        Ok(true)
+        true
     }
 
     /// What stands once nothing more is owed.
-    fn go_on(mut self, next: &mut Vec<Reading>) -> Result<(), AllocError> {
+    fn go_on(mut self, rt: &impl Abort, next: &mut Vec<Reading>) {
         match self.phase {
-            Phase::Leading(answer) if self.is_clear() => self.offer(after(answer, 80), next),
-            Phase::Sending(_, _, _, _) if self.is_clear() => self.bits(next),
+            Phase::Leading(answer) if self.is_clear() => self.offer(rt, after(answer, 80), next),
+            Phase::Sending(_, _, _, _) if self.is_clear() => self.bits(rt, next),
             Phase::Taken if self.is_clear() => {
                 self.phase = Phase::Open;
                 self.released = None;
                 self.since = after(self.last, 1);
-                Ok(next.push(self)?)
+                add(rt, next, self)
             }
-            _ => Ok(next.push(self)?),
+            _ => add(rt, next, self),
         }
     }
 
-    /// A change of the host is none where its line is so already, and comes behind all that a drive owes before it.
+    /// A change of the host is none where its line is so already, and comes after all that a drive owes before it.
     fn may_change(&self, change: Change) -> bool {
         let moment = change.moment;
         let early = moment < self.last || moment == self.last && self.rank > 0;
@@ -107,25 +98,26 @@ impl Reading {
 
     fn host_step(
         mut self,
+        rt: &impl Abort,
         alloc: Global,
         change: Change,
         next: &mut Vec<Reading>,
-    ) -> Result<(), AllocError> {
+    ) {
         if !self.may_change(change) {
-            return Ok(());
+            return;
         }
         let moment = change.moment;
         if change.line == Atn && change.way == Pull {
-            return self.pull(moment, next);
+            return self.pull(rt, moment, next);
         }
         self.host = held_after(self.host, change);
         self.last = moment;
         self.rank = 0;
         match (change.line, change.way) {
-            (Atn, _) => self.release(moment, next),
-            (Clock, Free) => self.clock_freed(alloc, moment, next),
-            (Clock, Pull) => self.clock_pulled(alloc, moment, next),
-            (Data, way) => self.data_changed(alloc, moment, way, next),
+            (Atn, _) => self.release(rt, moment, next),
+            (Clock, Free) => self.clock_freed(rt, alloc, moment, next),
+            (Clock, Pull) => self.clock_pulled(rt, alloc, moment, next),
+            (Data, way) => self.data_changed(rt, alloc, moment, way, next),
         }
     }
 
@@ -145,11 +137,11 @@ impl Reading {
         }
     }
 
-    fn pull(mut self, moment: u64, next: &mut Vec<Reading>) -> Result<(), AllocError> {
+    fn pull(mut self, rt: &impl Abort, moment: u64, next: &mut Vec<Reading>) {
         if !self.may_pull(moment) {
-            return Ok(());
+            return;
         }
-        self.count_each(Act::Pulled)?;
+        self.count_each(rt, Act::Pulled);
         let clock = !self.host.clock_low;
         self.phase = if clock || self.host.data_low {
             Phase::Pulling(clock, self.host.data_low)
@@ -162,26 +154,25 @@ impl Reading {
         self.released = None;
         self.accepted = None;
         self.owed.clear();
-        self.owe_hold(moment)?;
-        Ok(next.push(self)?)
+        self.owe_hold(rt, moment);
+        add(rt, next, self)
     }
 
-    /// Each drive frees CLOCK and holds DATA, a reaction behind ATN's pull.
-    fn owe_hold(&mut self, moment: u64) -> Result<(), AllocError> {
+    /// Each drive frees CLOCK and holds DATA, a reaction after ATN's pull.
+    fn owe_hold(&mut self, rt: &impl Abort, moment: u64) {
         for (place, seat) in self.seats.iter().enumerate() {
             let at = after(moment, seat.reaction());
             if seat.own.clock_low {
-                self.owed.push(owed_change(place, at, Clock, Free))?;
+                add(rt, &mut self.owed, owed_change(place, at, Clock, Free));
             }
             if !seat.own.data_low {
-                self.owed.push(owed_change(place, at, Data, Pull))?;
+                add(rt, &mut self.owed, owed_change(place, at, Data, Pull));
             }
         }
-        Ok(())
     }
 
     /// ATN's release, of an attention with at least one byte.
-    fn release(mut self, moment: u64, next: &mut Vec<Reading>) -> Result<(), AllocError> {
+    fn release(mut self, rt: &impl Abort, moment: u64, next: &mut Vec<Reading>) {
         let talks = self.has(Role::Talker);
         match self.phase {
             Phase::Attention if !talks && self.is_clear() && self.is_accepted(moment) => {
@@ -193,51 +184,53 @@ impl Reading {
                 self.released = Some(moment);
             }
             Phase::Turning if self.released == Some(moment) => self.phase = Phase::Turned,
-            _ => return Ok(()),
+            _ => return (),
         }
-        self.count_each(Act::Released)?;
+        self.count_each(rt, Act::Released);
         for (place, seat) in self.seats.iter().enumerate() {
             if seat.role == Role::Absent {
                 let at = after(moment, seat.reaction());
-                self.owed.push(owed_change(place, at, Data, Free))?;
+                add(rt, &mut self.owed, owed_change(place, at, Data, Free));
             }
         }
-        Ok(next.push(self)?)
+        add(rt, next, self)
     }
 
     /// CLOCK was freed: a frame is ready, a bit is there, or it follows ATN's release.
-    fn clock_freed(
-        mut self,
-        alloc: Global,
-        moment: u64,
-        next: &mut Vec<Reading>,
-    ) -> Result<(), AllocError> {
+    fn clock_freed(mut self, rt: &impl Abort, alloc: Global, moment: u64, next: &mut Vec<Reading>) {
         match self.phase {
             Phase::Attention if self.may_send(moment, Some(self.pulled)) => {
-                self.ready(alloc, moment, frame(true, false), next)
+                self.ready(rt, alloc, moment, frame(true, false), next)
             }
             Phase::Listening if self.may_send(moment, self.released) => {
-                let other = self.copy()?;
-                self.ready(alloc, moment, frame(false, false), next)?;
-                other.ready(alloc, moment, frame(false, true), next)
+                let other = self.copy(rt);
+                self.ready(rt, alloc, moment, frame(false, false), next);
+                other.ready(rt, alloc, moment, frame(false, true), next)
             }
-            Phase::Setting(frame, pull, set) => self.bit(moment, frame, set.unwrap_or(pull), next),
+            Phase::Setting(frame, pull, set) => self.bit(
+                rt,
+                moment,
+                frame,
+                set.unwrap_or(pull),
+                next,
+            ),
             Phase::Leaving => {
                 self.phase = Phase::Open;
                 self.since = moment;
-                Ok(next.push(self)?)
+                add(rt, next, self)
             }
-            Phase::Turned if is_behind(moment, 20, self.released) => self.turned(moment, next),
-            _ => Ok(()),
+            Phase::Turned if is_behind(moment, 20, self.released) => self.turned(rt, moment, next),
+            _ => {}
         }
     }
 
     fn clock_pulled(
         mut self,
+        rt: &impl Abort,
         alloc: Global,
         moment: u64,
         next: &mut Vec<Reading>,
-    ) -> Result<(), AllocError> {
+    ) {
         match self.phase {
             Phase::Pulling(true, data) if moment == self.pulled => {
                 self.phase = if data {
@@ -245,41 +238,42 @@ impl Reading {
                 } else {
                     Phase::Attention
                 };
-                Ok(next.push(self)?)
+                add(rt, next, self)
             }
-            Phase::Ready(frame, wire, quiet) => self.start(moment, frame, wire, quiet, next),
+            Phase::Ready(frame, wire, quiet) => self.start(rt, moment, frame, wire, quiet, next),
             Phase::Showing(frame, free) if is_behind(moment, 20, Some(free)) => {
-                self.bit_over(alloc, moment, frame, next)
+                self.bit_over(rt, alloc, moment, frame, next)
             }
-            _ => Ok(()),
+            _ => {}
         }
     }
 
     fn data_changed(
         mut self,
+        rt: &impl Abort,
         alloc: Global,
         moment: u64,
         way: Way,
         next: &mut Vec<Reading>,
-    ) -> Result<(), AllocError> {
+    ) {
         match (self.phase, way) {
             (Phase::Pulling(false, true), Free) if moment == self.pulled => {
                 self.phase = Phase::Attention;
-                Ok(next.push(self)?)
+                add(rt, next, self)
             }
             (Phase::Setting(frame, pull, None), _) => {
                 self.phase = Phase::Setting(frame, pull, Some(moment));
-                Ok(next.push(self)?)
+                add(rt, next, self)
             }
             (Phase::Freeing(frame, end), Free) if moment == end => {
-                self.sent(alloc, end, frame, next)
+                self.sent(rt, alloc, end, frame, next)
             }
             (Phase::Attention, Pull) if self.may_turn(moment) => {
                 self.phase = Phase::Turning;
                 self.released = Some(moment);
-                Ok(next.push(self)?)
+                add(rt, next, self)
             }
-            (_, way) => self.answer(moment, way, next),
+            (_, way) => self.answer(rt, moment, way, next),
         }
     }
 }

@@ -6,55 +6,50 @@ use crate::tests::reading::*;
 use Line::*;
 use Way::*;
 use cbm_iec::*;
-use std::alloc::AllocError;
+use std::process::Abort;
 
 impl Reading {
-    /// A turnaround may begin behind a byte, with a talker and no listener.
+    /// A turnaround may begin after a byte, with a talker and no listener.
     pub fn may_turn(&self, moment: u64) -> bool {
         let alone = self.has(Role::Talker) && !self.has(Role::Listener);
         alone && self.is_clear() && self.is_accepted(moment)
     }
 
     /// CLOCK is free: the talker answers, with a byte to say or with none.
-    pub fn turned(mut self, moment: u64, next: &mut Vec<Reading>) -> Result<(), AllocError> {
+    pub fn turned(mut self, rt: &impl Abort, moment: u64, next: &mut Vec<Reading>) {
         let Some((place, reaction)) = self.first_with(Role::Talker) else {
-            return Ok(());
+            return;
         };
         let answer = after(moment, reaction);
-        let mut other = self.copy()?;
+        let mut other = self.copy(rt);
         self.phase = Phase::Leading(answer);
-        self.owe(place, answer, Clock, Pull, None)?;
-        self.owe(place, answer, Data, Free, None)?;
-        next.push(self)?;
+        self.owe(rt, place, answer, Clock, Pull, None);
+        self.owe(rt, place, answer, Data, Free, None);
+        add(rt, next, self);
         other.phase = Phase::Silent(answer);
-        other.owe(place, answer, Data, Free, Some(Act::Silent))?;
-        Ok(next.push(other)?)
+        other.owe(rt, place, answer, Data, Free, Some(Act::Silent));
+        add(rt, next, other)
     }
 
     /// The talker frees CLOCK for a byte, last or not.
-    pub fn offer(mut self, start: u64, next: &mut Vec<Reading>) -> Result<(), AllocError> {
+    pub fn offer(mut self, rt: &impl Abort, start: u64, next: &mut Vec<Reading>) {
         let Some((place, _)) = self.first_with(Role::Talker) else {
-            return Ok(());
+            return;
         };
-        self.owe(place, start, Clock, Free, None)?;
-        let mut other = self.copy()?;
+        self.owe(rt, place, start, Clock, Free, None);
+        let mut other = self.copy(rt);
         self.phase = Phase::Offered(false, start);
         other.phase = Phase::Offered(true, start);
-        next.push(self)?;
-        Ok(next.push(other)?)
+        add(rt, next, self);
+        add(rt, next, other)
     }
 
     /// DATA was changed by the host while a drive talks.
-    pub fn answer(
-        mut self,
-        moment: u64,
-        way: Way,
-        next: &mut Vec<Reading>,
-    ) -> Result<(), AllocError> {
+    pub fn answer(mut self, rt: &impl Abort, moment: u64, way: Way, next: &mut Vec<Reading>) {
         match (self.phase, way) {
             (Phase::Silent(at), Free) if at < moment => self.phase = Phase::Over,
             (Phase::Offered(false, start), Free) if start < moment => {
-                return self.send(moment, false, next);
+                return self.send(rt, moment, false, next);
             }
             (Phase::Offered(true, start), Free) if start < moment => {
                 self.phase = Phase::Marking(moment);
@@ -63,50 +58,51 @@ impl Reading {
                 self.phase = Phase::Marked(moment);
             }
             (Phase::Marked(pull), Free) if after(pull, 60) <= moment => {
-                return self.send(moment, true, next);
+                return self.send(rt, moment, true, next);
             }
             (Phase::Waiting(last, first, byte), Pull) => {
-                return self.accept(moment, last, first, byte, next);
+                return self.accept(rt, moment, last, first, byte, next);
             }
-            _ => return Ok(()),
+            _ => return (),
         }
-        Ok(next.push(self)?)
+        add(rt, next, self)
     }
 
-    /// The bits begin a reaction behind the host's last release of DATA.
-    fn send(mut self, moment: u64, last: bool, next: &mut Vec<Reading>) -> Result<(), AllocError> {
+    /// The bits begin a reaction after the host's last release of DATA.
+    fn send(mut self, rt: &impl Abort, moment: u64, last: bool, next: &mut Vec<Reading>) {
         let Some((_, reaction)) = self.first_with(Role::Talker) else {
-            return Ok(());
+            return;
         };
         self.phase = Phase::Sending(last, after(moment, reaction), 0, 0);
-        self.bits(next)
+        self.bits(rt, next)
     }
 
     /// The next bit, 0 or 1, or the end of the byte: CLOCK is pulled and DATA freed.
-    pub fn bits(mut self, next: &mut Vec<Reading>) -> Result<(), AllocError> {
+    pub fn bits(mut self, rt: &impl Abort, next: &mut Vec<Reading>) {
         let (Phase::Sending(last, first, byte, count), Some((place, _))) = (
             self.phase,
             self.first_with(Role::Talker),
         ) else {
-            return Ok(());
+            return;
         };
         if count < 8 {
-            let other = self.copy()?;
+            let other = self.copy(rt);
             self.bit_of(
+                rt,
                 place,
                 Phase::Sending(last, first, byte / 2, count + 1),
                 next,
-            )?;
+            );
             let one = Phase::Sending(last, first, byte / 2 + 128, count + 1);
-            return other.bit_of(place, one, next);
+            return other.bit_of(rt, place, one, next);
         }
         let end = after(first, 960);
-        self.owe(place, end, Clock, Pull, None)?;
+        self.owe(rt, place, end, Clock, Pull, None);
         if self.holds_data(place) {
-            self.owe(place, end, Data, Free, None)?;
+            self.owe(rt, place, end, Data, Free, None);
         }
         self.phase = Phase::Waiting(last, first, byte);
-        Ok(next.push(self)?)
+        add(rt, next, self)
     }
 
     fn holds_data(&self, place: usize) -> bool {
@@ -124,49 +120,45 @@ impl Reading {
     }
 
     /// A bit: CLOCK pulled with DATA by the bit, and CLOCK freed 60 later.
-    fn bit_of(
-        mut self,
-        place: usize,
-        phase: Phase,
-        next: &mut Vec<Reading>,
-    ) -> Result<(), AllocError> {
+    fn bit_of(mut self, rt: &impl Abort, place: usize, phase: Phase, next: &mut Vec<Reading>) {
         if let Phase::Sending(_, first, byte, count) = phase {
             let at = after(first, 120 * (count as u64)).wrapping_sub(120);
-            self.owe(place, at, Clock, Pull, None)?;
+            self.owe(rt, place, at, Clock, Pull, None);
             let low = byte < 128;
             if low != self.holds_data(place) {
-                self.owe(place, at, Data, if low { Pull } else { Free }, None)?;
+                self.owe(rt, place, at, Data, if low { Pull } else { Free }, None);
             }
-            self.owe(place, after(at, 60), Clock, Free, None)?;
+            self.owe(rt, place, after(at, 60), Clock, Free, None);
         }
         self.phase = phase;
-        Ok(next.push(self)?)
+        add(rt, next, self)
     }
 
-    /// The host takes the byte 1 to 1,000 behind the last pull of CLOCK.
+    /// The host takes the byte 1 to 1,000 after the last pull of CLOCK.
     fn accept(
         mut self,
+        rt: &impl Abort,
         moment: u64,
         last: bool,
         first: u64,
         byte: u8,
         next: &mut Vec<Reading>,
-    ) -> Result<(), AllocError> {
+    ) {
         let fits = after(first, 961) <= moment && moment <= after(first, 1960);
         let Some((place, reaction)) = self.first_with(Role::Talker) else {
-            return Ok(());
+            return;
         };
         if !fits || !self.is_clear() {
-            return Ok(());
+            return;
         }
         let device = self.device_at(place);
-        self.acts.push((device, Act::Said(byte, last)))?;
+        add(rt, &mut self.acts, (device, Act::Said(byte, last)));
         if !last {
-            return self.offer(after(moment, 100), next);
+            return self.offer(rt, after(moment, 100), next);
         }
         self.phase = Phase::Taken;
         let freed = owed_change(place, after(moment, reaction), Clock, Free);
-        self.owed.push(freed)?;
-        Ok(next.push(self)?)
+        add(rt, &mut self.owed, freed);
+        add(rt, next, self)
     }
 }

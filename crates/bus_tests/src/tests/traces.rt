@@ -2,84 +2,67 @@
 
 use crate::tests::bounds::{BOUNDS, Bound};
 use crate::tests::plays::*;
-use crate::tests::reading::after;
+use crate::tests::reading::{add, after};
 use crate::tests::sessions::*;
 use crate::tests::verdicts::*;
 use cbm_iec::*;
-use std::alloc::{AllocError, Global};
+use std::alloc::Global;
 use std::process::Abort;
-use std::test::Fail;
 
-fn own_events(alloc: Global, events: &[Event], device: u8) -> Result<Vec<Event>, AllocError> {
+fn own_events(rt: &impl Abort, alloc: Global, events: &[Event], device: u8) -> Vec<Event> {
     let mut own = Vec::new(alloc);
     for event in events {
         if event.who == Who::Drive(device) {
-            own.push(*event)?;
+            add(rt, &mut own, *event);
         }
     }
-    Ok(own)
+    own
 }
 
-fn parties_of(rt: &impl Abort, alloc: Global, session: &Session) -> Result<Vec<Party>, AllocError> {
+fn parties_of(rt: &impl Abort, alloc: Global, session: &Session) -> Vec<Party> {
     let mut parties = Vec::new(alloc);
     for member in &session.members {
         assert!(rt; member.reaction <= 60);
-        parties.push(one(member.device, member.reaction as u8))?;
+        add(rt, &mut parties, one(member.device, member.reaction as u8));
     }
-    Ok(parties)
+    parties
 }
 
 // What the drives make of the host's changes.
-fn played(
-    rt: &impl Abort,
-    alloc: Global,
-    session: &Session,
-    changes: &[Change],
-    end: u64,
-) -> Result<Bus, AllocError> {
-    let parties = parties_of(rt, alloc, session)?;
-    let mut bus = Bus::new(alloc, &parties)?;
+fn played(rt: &impl Abort, alloc: Global, session: &Session, changes: &[Change], end: u64) -> Bus {
+    let parties = parties_of(rt, alloc, session);
+    let mut bus = Bus::new(rt, alloc, &parties);
     bus.short = true;
     bus.mute = session.silent;
-    bus.play(rt, changes, end)?;
-    Ok(bus)
+    bus.play(rt, changes, end);
+    bus
 }
 
-// The drives make what was written down, and are told what counts.
-fn follows(
-    rt: &impl Abort,
-    alloc: Global,
-    bus: &Bus,
-    session: &Session,
-    seed: u64,
-) -> Result<(), AllocError> {
+// Whether a drive makes what was written down, and is told what counts.
+fn is_followed(rt: &impl Abort, alloc: Global, bus: &Bus, session: &Session, device: u8) -> bool {
+    let made = own_events(rt, alloc, &bus.events, device);
+    let wanted = own_events(rt, alloc, &session.wanted, device);
+    let counted = session.counted(rt, alloc);
+    made.as_slice() == wanted.as_slice() && is_told(rt, alloc, &bus.heard, &counted, device)
+}
+
+// All drives do.
+fn follows(rt: &impl Abort, alloc: Global, bus: &Bus, session: &Session, seed: u64) {
     for port in &bus.ports {
-        let device = port.party.device;
-        let made = own_events(alloc, &bus.events, device)?;
-        let wanted = own_events(alloc, &session.wanted, device)?;
-        assert!(rt;
-            made.as_slice() == wanted.as_slice(),
-            "seed {seed}: the changes of a drive"
-        );
-        let told = own_acts(alloc, &bus.heard, device)?;
-        let counted = own_acts(alloc, &session.counted(alloc)?, device)?;
-        assert!(rt;
-            told.as_slice() == counted.as_slice(),
-            "seed {seed}: what a drive is told, as it was written down"
-        );
+        let is_followed = is_followed(rt, alloc, bus, session, port.party.device);
+        assert!(rt; is_followed, "seed {seed}: what a drive does");
     }
-    Ok(())
 }
 
 // A host that ends somewhere on the way: the changes up to then.
-fn ended(alloc: Global, changes: &[Change], end: u64) -> Result<Vec<Change>, AllocError> {
+fn ended(rt: &impl Abort, alloc: Global, changes: &[Change], end: u64) -> Vec<Change> {
     let mut front = Vec::new(alloc);
     for change in changes {
         if change.moment <= end {
-            front.push(*change)?;
+            add(rt, &mut front, *change);
         }
     }
-    Ok(front)
+    front
 }
 
 // Whether a later change is of that line.
@@ -97,11 +80,12 @@ fn comes_again(changes: &[Change], place: usize) -> bool {
 
 // A change left out, doubled, or its line changed in place of the next one's and that one's in its place.
 fn disturbed(
+    rt: &impl Abort,
     alloc: Global,
     changes: &[Change],
     place: usize,
     how: u64,
-) -> Result<Vec<Change>, AllocError> {
+) -> Vec<Change> {
     let mut other = Vec::new(alloc);
     for (at, change) in changes.iter().enumerate() {
         let before = changes.get(at.wrapping_sub(1));
@@ -109,48 +93,44 @@ fn disturbed(
         match (how, behind, before) {
             (0, _, _) if at == place => {}
             (1, _, _) if at == place => {
-                other.push(*change)?;
-                other.push(*change)?;
+                add(rt, &mut other, *change);
+                add(rt, &mut other, *change);
             }
-            (2, Some(next), _) if at == place => other.push(Change {
-                moment: change.moment,
-                ..*next
-            })?,
-            (2, _, Some(last)) if at == place.wrapping_add(1) => {
-                other.push(Change {
+            (2, Some(next), _) if at == place => add(
+                rt,
+                &mut other,
+                Change {
                     moment: change.moment,
-                    ..*last
-                })?;
+                    ..*next
+                },
+            ),
+            (2, _, Some(last)) if at == place.wrapping_add(1) => {
+                add(
+                    rt,
+                    &mut other,
+                    Change {
+                        moment: change.moment,
+                        ..*last
+                    },
+                );
             }
-            _ => other.push(*change)?,
+            _ => add(rt, &mut other, *change),
         }
     }
-    Ok(other)
+    other
 }
 
 // A host that keeps the timing: the drives make what was written down, and the trace is a session.
-fn check_whole(
-    rt: &impl Abort,
-    alloc: Global,
-    session: &Session,
-    end: u64,
-    seed: u64,
-) -> Result<(), AllocError> {
-    let bus = played(rt, alloc, session, &session.changes, end)?;
-    follows(rt, alloc, &bus, session, seed)?;
+fn check_whole(rt: &impl Abort, alloc: Global, session: &Session, end: u64, seed: u64) {
+    let bus = played(rt, alloc, session, &session.changes, end);
+    follows(rt, alloc, &bus, session, seed);
     keeps(rt, alloc, &bus, end, "session", seed)
 }
 
 // The same host up to a moment of its own.
-fn check_front(
-    rt: &impl Abort,
-    alloc: Global,
-    session: &Session,
-    until: u64,
-    seed: u64,
-) -> Result<(), AllocError> {
-    let changes = ended(alloc, &session.changes, until)?;
-    let bus = played(rt, alloc, session, &changes, until)?;
+fn check_front(rt: &impl Abort, alloc: Global, session: &Session, until: u64, seed: u64) {
+    let changes = ended(rt, alloc, &session.changes, until);
+    let bus = played(rt, alloc, session, &changes, until);
     keeps(rt, alloc, &bus, until, "front of session", seed)
 }
 
@@ -164,12 +144,12 @@ fn check_disturbed(
     how: u64,
     end: u64,
     seed: u64,
-) -> Result<u64, AllocError> {
+) -> u64 {
     if how != 1 && !comes_again(&session.changes, place) {
-        return Ok(0);
+        return 0;
     }
-    let changes = disturbed(alloc, &session.changes, place, how)?;
-    let bus = played(rt, alloc, session, &changes, end)?;
+    let changes = disturbed(rt, alloc, &session.changes, place, how);
+    let bus = played(rt, alloc, session, &changes, end);
     breaks(
         rt,
         alloc,
@@ -177,20 +157,14 @@ fn check_disturbed(
         end,
         "a change left out, doubled or swapped in",
         seed,
-    )?;
-    Ok(1)
+    );
+    1
 }
 
 // A host that is late with a change, up to the moment before it.
-fn check_late(
-    rt: &impl Abort,
-    alloc: Global,
-    flawed: &Session,
-    until: u64,
-    seed: u64,
-) -> Result<(), AllocError> {
-    let changes = ended(alloc, &flawed.changes, until)?;
-    let bus = played(rt, alloc, flawed, &changes, until)?;
+fn check_late(rt: &impl Abort, alloc: Global, flawed: &Session, until: u64, seed: u64) {
+    let changes = ended(rt, alloc, &flawed.changes, until);
+    let bus = played(rt, alloc, flawed, &changes, until);
     breaks(
         rt,
         alloc,
@@ -208,74 +182,68 @@ fn check_flawed(
     seed: u64,
     flaw: u64,
     broken: &mut Vec<Bound>,
-) -> Result<u64, AllocError> {
-    let mut flawed = Session::new(alloc, seed, flaw)?;
-    let end = after(flawed.write(alloc)?, 3000);
+) -> u64 {
+    let mut flawed = Session::new(rt, alloc, seed, flaw);
+    let end = after(flawed.write(rt, alloc), 3000);
     if let Some((bound, moment, late)) = flawed.broken {
-        let bus = played(rt, alloc, &flawed, &flawed.changes, end)?;
-        breaks(rt, alloc, &bus, end, "a bound broken by 1 in", seed)?;
-        broken.push(bound)?;
+        let bus = played(rt, alloc, &flawed, &flawed.changes, end);
+        breaks(rt, alloc, &bus, end, "a bound broken by 1 in", seed);
+        add(rt, broken, bound);
         if late {
-            check_late(rt, alloc, &flawed, moment.wrapping_sub(1), seed)?;
-            return Ok(2);
+            check_late(rt, alloc, &flawed, moment.wrapping_sub(1), seed);
+            return 2;
         }
-        return Ok(1);
+        return 1;
     }
-    Ok(0)
+    0
 }
 
 // Hosts made of one seed: one that keeps the timing, whole and up to a moment of its own, one that is disturbed, and
 // one that breaks a bound. Answers how many traces were judged.
-fn check(
-    rt: &impl Abort,
-    alloc: Global,
-    seed: u64,
-    broken: &mut Vec<Bound>,
-) -> Result<u64, AllocError> {
-    let mut session = Session::new(alloc, seed, 0)?;
-    let end = session.write(alloc)?;
+fn check(rt: &impl Abort, alloc: Global, seed: u64, broken: &mut Vec<Bound>) -> u64 {
+    let mut session = Session::new(rt, alloc, seed, 0);
+    let end = session.write(rt, alloc);
     let last = after(end, 3000);
-    check_whole(rt, alloc, &session, last, seed)?;
+    check_whole(rt, alloc, &session, last, seed);
     let until = session.random(after(end, 1));
-    check_front(rt, alloc, &session, until, seed)?;
+    check_front(rt, alloc, &session, until, seed);
     let how = session.random(3);
     let count = session.changes.len() as u64;
     let place = session.random(count) as usize;
-    let disturbed = check_disturbed(rt, alloc, &session, place, how, last, seed)?;
-    let flawed = check_flawed(rt, alloc, seed, session.choose(), broken)?;
-    Ok(after(2, after(disturbed, flawed)))
+    let disturbed = check_disturbed(rt, alloc, &session, place, how, last, seed);
+    let flawed = check_flawed(rt, alloc, seed, session.choose(), broken);
+    after(2, after(disturbed, flawed))
 }
 
 // So many traces of some seeds, with each bound broken at least once.
-fn check_all(rt: &impl Abort, alloc: Global, first: u64, last: u64) -> Result<(), Fail> {
+fn check_all(rt: &impl Abort, alloc: Global, first: u64, last: u64) {
     let mut broken = Vec::new(alloc);
     let mut traces = 0;
     for seed in first..last {
-        traces = after(traces, check(rt, alloc, seed, &mut broken)?);
+        traces = after(traces, check(rt, alloc, seed, &mut broken));
     }
     assert!(rt; traces >= 90_000, "{traces} traces");
     for bound in BOUNDS {
         assert!(rt; broken.contains(&bound), "{bound:?} was never broken");
     }
-    Ok(())
 }
 
 #[test]
-fn first_quarter(rt: HostRuntime) -> Result<(), Fail> {
+fn first_quarter(rt: HostRuntime) {
     check_all(&rt, rt.alloc(), 0, 25_000)
 }
 
 #[test]
-fn second_quarter(rt: HostRuntime) -> Result<(), Fail> {
+fn second_quarter(rt: HostRuntime) {
     check_all(&rt, rt.alloc(), 25_000, 50_000)
 }
 
 #[test]
-fn third_quarter(rt: HostRuntime) -> Result<(), Fail> {
+fn third_quarter(rt: HostRuntime) {
     check_all(&rt, rt.alloc(), 50_000, 75_000)
 }
 
 #[test]
-fn last_quarter(rt: HostRuntime) -> Result<(), Fail> {
+fn last_quarter(rt: HostRuntime) {
     check_all(&rt, rt.alloc(), 75_000, 100_000)
 }
