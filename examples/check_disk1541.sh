@@ -258,6 +258,28 @@ head -c 174847 hello.d64 > short.d64
 case_of "no image of a disk" 2 "" "disk1541: short.d64 is no image of a disk (fault 1 of its format)" "$disk" list short.d64
 case_of "no image" 3 "" any "$disk" list nothing.d64
 case_of "a folder as image" 3 "" any "$disk" list .
+truncate -s 64M big.d64
+case_of "a limit on memory" 3 "" "disk1541: can't read big.d64: out of memory" sh -c "ulimit -v 20000; exec $disk list big.d64"
+# Each request for memory is refused in turn: the command ends well, or with 3, one sentence and the image as it was.
+if command -v cc > /dev/null; then
+    cc -shared -fPIC -o refusing.so "$here/refusing.c"
+    for words in "list" "put game.prg"; do
+        cp "$here/hello.d64" whole.d64
+        "$disk" ${words%% *} whole.d64 ${words#"${words%% *}"} > whole.txt
+        for number in $(seq 0 199); do
+            cp "$here/hello.d64" refused.d64
+            REFUSED=$number LD_PRELOAD=./refusing.so "$disk" ${words%% *} refused.d64 ${words#"${words%% *}"} > out.txt 2> err.txt
+            got=$?
+            if [ $got = 0 ]; then
+                cmp -s whole.txt out.txt && cmp -s whole.d64 refused.d64 || got=wrong
+            else
+                [ $got = 3 ] && [ "$(grep -c '^disk1541: .*memory' err.txt)" = 1 ] && [ "$(wc -l < err.txt)" = 1 ] && cmp -s "$here/hello.d64" refused.d64 || got=wrong
+            fi
+            [ $got = wrong ] && break
+        done
+        is "want of memory, request by request, in $words ($number)" test $got != wrong
+    done
+fi
 case_of "no file to put" 3 "" any "$disk" put hello.d64 nothing.prg
 case_of "no such type" 1 "" "disk1541: txt is no type of a file: take prg, seq or usr" "$disk" put hello.d64 game.prg --type txt
 case_of "no command" 1 "" any "$disk"

@@ -121,21 +121,7 @@ truncate -s 64M big.d64
 # Each request for memory is refused in turn, by functions that come before the C library's: the program ends well, or with 3 and
 # nothing saved, and what it printed is a beginning.
 if command -v cc > /dev/null; then
-    cat > refusing.c <<'X'
-#include <errno.h>
-#include <stdlib.h>
-void *__libc_malloc(size_t);
-void *__libc_realloc(void *, size_t);
-static long asked;
-static int is_refused(void) {
-    if (asked++ != atol(getenv("REFUSED"))) return 0;
-    errno = ENOMEM;
-    return 1;
-}
-void *malloc(size_t size) { return is_refused() ? 0 : __libc_malloc(size); }
-void *realloc(void *was, size_t size) { return is_refused() ? 0 : __libc_realloc(was, size); }
-X
-    cc -shared -fPIC -o refusing.so refusing.c
+    cc -shared -fPIC -o refusing.so "$here/refusing.c"
     for script in hello.script save.script; do
         "$drive" hello.d64 $script whole.d64 > whole.txt
         for number in $(seq 0 99); do
