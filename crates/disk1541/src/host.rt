@@ -1,5 +1,5 @@
 //! Files of the host, standard input and standard output.
-use crate::failure::Failure;
+use crate::failure::{Failure, in_memory};
 use host_files::Sync;
 use std::alloc::Global;
 use std::fs;
@@ -95,7 +95,7 @@ pub fn exists<R: Runtime + AllocGlobal>(rt: &R, name: &str) -> bool {
 pub fn joined<'a>(alloc: Global, parts: &[&[u8]]) -> Result<Vec<u8>, Failure<'a>> {
     let mut text = Vec::new(alloc);
     for part in parts {
-        text.extend_from_slice(part).map_err(|_| Failure::NoMemory)?;
+        in_memory(text.extend_from_slice(part))?;
     }
     Ok(text)
 }

@@ -1,84 +1,73 @@
-//! Carrying out the tasks of the command line.
-use crate::arguments::Task;
-use crate::changing::{delete, letter_of, put, validate, with_names};
+//! Carrying out the commands.
+mod changing;
+mod check;
+mod convert;
+mod delete;
+mod get;
+mod get_all;
+mod info;
+mod list;
+mod losses;
+mod make;
+mod map;
+mod put;
+mod rename;
+mod taking;
+mod validate;
+
+use self::check::check;
+use self::convert::convert;
+use self::delete::delete;
+use self::get::get;
+use self::get_all::get_all;
+use self::info::info;
+use self::list::list;
+use self::make::make;
+use self::map::map;
+use self::put::put;
+use self::rename::{copy, rename};
+use self::validate::validate;
+use crate::commands::{Verb, verb_of};
 use crate::failure::Failure;
-use crate::looking::{check, info, list, map};
-use crate::making::{convert, make};
 use crate::progress::Progress;
-use crate::taking::{get, get_all};
+use clap::ArgMatches;
 use std::rt::Runtime;
 
-/// Carries out a task that only looks, or makes an image; None for one that changes an image.
-fn look<'a, R: Runtime + AllocGlobal>(
+/// Carries out a command with its words.
+fn perform<'a, R: Runtime + AllocGlobal>(
     rt: &R,
-    task: Task<'a>,
-    progress: Progress,
-) -> Option<Result<(), Failure<'a>>> {
-    match task {
-        Task::List {
-            image,
-            pattern,
-            style,
-        } => Some(list(rt, image, pattern, style)),
-        Task::Get {
-            image,
-            name,
-            output,
-            replaces,
-        } => Some(get(rt, image, name, output, replaces)),
-        Task::GetAll {
-            image,
-            folder,
-            replaces,
-        } => Some(get_all(rt, image, folder, replaces, progress)),
-        Task::Info { image } => Some(info(rt, image)),
-        Task::Map { image } => Some(map(rt, image)),
-        Task::Check { image } => Some(check(rt, image)),
-        _ => None,
-    }
-}
-
-/// Carries out a task that changes an image or makes one.
-fn change<'a, R: Runtime + AllocGlobal>(rt: &R, task: Task<'a>) -> Result<(), Failure<'a>> {
-    match task {
-        Task::New {
-            image,
-            title,
-            id,
-            tracks,
-            format,
-            replaces,
-        } => make(rt, image, title, id, tracks, format, replaces),
-        Task::Convert {
-            image,
-            output,
-            format,
-            is_lossy,
-            replaces,
-        } => convert(rt, image, output, format, is_lossy, replaces),
-        Task::Put {
-            image,
-            file,
-            name,
-            kind,
-            replaces,
-        } => put(rt, image, file, name, letter_of(kind)?, replaces),
-        Task::Copy { image, old, new } => with_names(rt, image, b"C0:", old, new),
-        Task::Rename { image, old, new } => with_names(rt, image, b"R0:", old, new),
-        Task::Delete { image, pattern } => delete(rt, image, pattern),
-        Task::Validate { image } => validate(rt, image),
-        _ => Ok(()),
-    }
-}
-
-/// Carries out a task.
-pub fn carry_out<'a, R: Runtime + AllocGlobal>(
-    rt: &R,
-    task: Task<'a>,
+    verb: Verb,
+    words: &ArgMatches<'a>,
     progress: Progress,
 ) -> Result<(), Failure<'a>> {
-    match look(rt, task, progress) {
-        Some(done) => done,
-        None => change(rt, task),
+    match verb {
+        Verb::List => list(rt, words),
+        Verb::Get => get(rt, words),
+        Verb::GetAll => get_all(rt, words, progress),
+        Verb::Info => info(rt, words),
+        Verb::Map => map(rt, words),
+        Verb::Check => check(rt, words),
+        Verb::New => make(rt, words),
+        Verb::Convert => convert(rt, words),
+        Verb::Put => put(rt, words),
+        Verb::Copy => copy(rt, words),
+        Verb::Rename => rename(rt, words),
+        Verb::Delete => delete(rt, words),
+        Verb::Validate => validate(rt, words),
+    }
+}
+
+/// Carries out the command line. It has a command of the table, since clap refuses any other.
+pub fn carry_out<'a, R: Runtime + AllocGlobal>(
+    rt: &R,
+    line: &ArgMatches<'a>,
+    progress: Progress,
+) -> Result<(), Failure<'a>> {
+    let Some((name, words)) = line.subcommand() else {
+        return Err(Failure::Told);
+    };
+    match verb_of(name) {
+        Some(verb) => perform(rt, verb, words, progress),
+        None => Err(Failure::Told),
     }
 }

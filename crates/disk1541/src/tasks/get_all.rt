@@ -1,0 +1,98 @@
+//! GET-ALL: all files out of the image, to a folder of the host.
+use super::taking::{Names, Place, take};
+use crate::arguments::{flag, given};
+use crate::failure::{Failure, on_disk};
+use crate::host::read;
+use crate::progress::Progress;
+use crate::words::{FOLDER, IMAGE, REPLACE_FILES};
+use cbm_shell::{OpenDisk, ShellFault};
+use cbm_volume::Entry;
+use clap::ArgMatches;
+use std::alloc::{AllocError, Global};
+use std::fs;
+use std::path::Path;
+use std::rt::Runtime;
+
+/// Where the files go.
+fn place_of<'a>(words: &ArgMatches<'a>) -> Place<'a> {
+    Place {
+        folder: given(words, &FOLDER),
+        replaces: flag(words, &REPLACE_FILES),
+    }
+}
+
+/// Makes the folder, if it isn't there.
+fn make_folder<'a, R: Runtime + AllocGlobal>(rt: &R, folder: &'a str) -> Result<(), Failure<'a>> {
+    match fs::create_dir(rt, folder) {
+        Ok(()) => Ok(()),
+        Err(_) if Path::new(folder).is_dir(rt) => Ok(()),
+        Err(error) => Err(Failure::of_writing(error, folder)),
+    }
+}
+
+/// The entries of the files in the directory of a disk.
+fn files_of(alloc: Global, disk: &OpenDisk) -> Result<Vec<Entry>, ShellFault> {
+    let mut entries = disk.entries(alloc)?;
+    entries.retain(|entry| !entry.is_empty());
+    Ok(entries)
+}
+
+/// Takes the files of all entries out, and answers whether all were saved.
+fn take_all<R: Runtime + AllocGlobal>(
+    rt: &R,
+    disk: &OpenDisk,
+    entries: &[Entry],
+    place: Place<'_>,
+    progress: Progress,
+) -> Result<bool, AllocError> {
+    let mut names = Names::new(rt.alloc());
+    let mut are_saved = true;
+    let mut done: usize = 0;
+    for entry in entries {
+        let is_saved = take(rt, disk, entry, &mut names, place)?;
+        are_saved = are_saved && is_saved;
+        done = done.saturating_add(1);
+        progress.tell(rt, done, entries.len());
+    }
+    progress.clear(rt);
+    Ok(are_saved)
+}
+
+/// Takes the files of a disk out.
+fn take_disk<'a, R: Runtime + AllocGlobal>(
+    rt: &R,
+    disk: &OpenDisk,
+    entries: &[Entry],
+    place: Place<'a>,
+    progress: Progress,
+) -> Result<(), Failure<'a>> {
+    make_folder(rt, place.folder)?;
+    match take_all(rt, disk, entries, place, progress) {
+        Ok(true) => Ok(()),
+        Ok(false) => Err(Failure::Told),
+        Err(_) => Err(Failure::NoMemory),
+    }
+}
+
+/// Takes all files of an image out.
+fn take_image<'a, R: Runtime + AllocGlobal>(
+    rt: &R,
+    words: &ArgMatches<'a>,
+    bytes: &[u8],
+    progress: Progress,
+) -> Result<(), Failure<'a>> {
+    let image = given(words, &IMAGE);
+    let disk = on_disk(image, OpenDisk::open(rt.alloc(), bytes))?;
+    let entries = on_disk(image, files_of(rt.alloc(), &disk))?;
+    take_disk(rt, &disk, entries.as_slice(), place_of(words), progress)
+}
+
+/// Takes all files out, into a folder.
+pub fn get_all<'a, R: Runtime + AllocGlobal>(
+    rt: &R,
+    words: &ArgMatches<'a>,
+    progress: Progress,
+) -> Result<(), Failure<'a>> {
+    let bytes = read(rt, given(words, &IMAGE))?;
+    take_image(rt, words, bytes.as_slice(), progress)
+}

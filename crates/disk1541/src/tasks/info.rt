@@ -1,0 +1,124 @@
+//! INFO: what the disk is.
+use crate::arguments::given;
+use crate::failure::{Failure, on_disk};
+use crate::host::{print, read};
+use crate::names::shown;
+use crate::words::IMAGE;
+use cbm_program::{Kind, kind_of};
+use cbm_shell::{Info, ShellFault};
+use cbm_volume::Unsound;
+use clap::ArgMatches;
+use std::alloc::{AllocError, Global};
+use std::rt::Runtime;
+
+/// The size of a D64 of 35 tracks with error bytes.
+const WITH_ERRORS: usize = 175_531;
+
+/// How an image's format is called.
+fn name_of(image: &[u8]) -> &'static str {
+    match kind_of(image) {
+        Kind::G64 => "G64",
+        Kind::D64 if image.len() == WITH_ERRORS => "D64 with error bytes",
+        Kind::D64 => "D64",
+    }
+}
+
+/// The line of the format.
+fn add_format(
+    alloc: Global,
+    text: &mut String,
+    image: &[u8],
+    tracks: u8,
+) -> Result<(), AllocError> {
+    let name = name_of(image);
+    text.push_str(format!(in alloc; "format       {name}, {tracks} tracks\n")?.as_str())
+}
+
+/// The line of the title.
+fn add_title(alloc: Global, text: &mut String, title: &[u8]) -> Result<(), AllocError> {
+    let title = shown(alloc, title)?;
+    let title = title.as_str().trim_end_matches('\u{a0}');
+    text.push_str(format!(in alloc; "title        {title}\n")?.as_str())
+}
+
+/// A line of what codes show.
+fn add_shown(alloc: Global, text: &mut String, name: &str, codes: &[u8]) -> Result<(), AllocError> {
+    let codes = shown(alloc, codes)?;
+    text.push_str(format!(in alloc; "{name}{codes}\n")?.as_str())
+}
+
+/// The lines of the title, the id and the free blocks.
+fn add_label(alloc: Global, text: &mut String, info: &Info) -> Result<(), AllocError> {
+    let Some(label) = info.label else {
+        return text.push_str("title        unknown: track 18, sector 0 can't be read\n");
+    };
+    let [first, second, _, dos, version] = label.mark;
+    let free = info.free.unwrap_or(0);
+    add_title(alloc, text, label.title.as_slice())?;
+    add_shown(alloc, text, "id           ", &[first, second])?;
+    add_shown(alloc, text, "DOS          ", &[dos, version])?;
+    text.push_str(format!(in alloc; "blocks free  {free}\n")?.as_str())
+}
+
+/// The line of how many files there are, where the directory can be followed to its end.
+fn add_files(alloc: Global, text: &mut String, image: &[u8]) -> Result<(), AllocError> {
+    let Ok(entries) = cbm_shell::entries(alloc, image) else {
+        return Ok(());
+    };
+    let mut files: usize = 0;
+    for entry in entries.as_slice() {
+        if !entry.is_empty() {
+            files = files.saturating_add(1);
+        }
+    }
+    text.push_str(format!(in alloc; "files        {files}\n")?.as_str())
+}
+
+/// What is wrong first.
+fn add_unsound(alloc: Global, text: &mut String, unsound: Unsound) -> Result<(), AllocError> {
+    let line = cbm_shell::unsound_text(alloc, unsound)?;
+    text.push_str("no: ")?;
+    text.push_str(std::str::from_utf8(line.as_slice()).unwrap_or("\n"))
+}
+
+/// The lines of what is wrong.
+fn add_faults(alloc: Global, text: &mut String, info: &Info) -> Result<(), AllocError> {
+    let count = info.unreadable.len();
+    text.push_str(format!(in alloc; "unreadable   {count}\nsound        ")?.as_str())?;
+    match info.check {
+        Ok(()) => text.push_str("yes\n"),
+        Err(unsound) => add_unsound(alloc, text, unsound),
+    }
+}
+
+/// All lines.
+fn add_lines(
+    alloc: Global,
+    text: &mut String,
+    info: &Info,
+    image: &[u8],
+) -> Result<(), AllocError> {
+    add_format(alloc, text, image, info.tracks)?;
+    add_label(alloc, text, info)?;
+    add_files(alloc, text, image)?;
+    add_faults(alloc, text, info)
+}
+
+/// What the disk is, as lines.
+fn lines_of(alloc: Global, image: &[u8]) -> Result<String, ShellFault> {
+    let info = cbm_shell::info(alloc, image)?;
+    let mut text = String::new(alloc);
+    add_lines(alloc, &mut text, &info, image)?;
+    Ok(text)
+}
+
+/// Tells what the disk is.
+pub fn info<'a, R: Runtime + AllocGlobal>(
+    rt: &R,
+    words: &ArgMatches<'a>,
+) -> Result<(), Failure<'a>> {
+    let image = given(words, &IMAGE);
+    let bytes = read(rt, image)?;
+    let text = on_disk(image, lines_of(rt.alloc(), bytes.as_slice()))?;
+    print(rt, text.as_str().as_bytes())
+}
