@@ -1,5 +1,5 @@
 //! The command line, as clap reads it.
-use crate::commands::{COMMANDS, Command};
+use crate::commands::{Command, commands};
 use crate::words::{Mark, Word};
 use clap::{Arg, ArgMatches, Error};
 use std::alloc::{AllocError, Global};
@@ -44,11 +44,22 @@ fn subcommand<'a>(alloc: Global, command: &Command) -> Result<clap::Command<'a>,
         .args(args)
 }
 
+/// Adds a command.
+fn add_subcommand<'a>(
+    alloc: Global,
+    subcommands: &mut Vec<clap::Command<'a>>,
+    command: &Command,
+) -> Result<(), AllocError> {
+    let subcommand = subcommand(alloc, command)?;
+    subcommands.push(subcommand)?;
+    Ok(())
+}
+
 /// All commands.
 fn subcommands<'a>(alloc: Global) -> Result<Vec<clap::Command<'a>>, AllocError> {
     let mut subcommands = Vec::new(alloc);
-    for command in COMMANDS {
-        subcommands.push(subcommand(alloc, command)?)?;
+    for command in commands() {
+        add_subcommand(alloc, &mut subcommands, command)?;
     }
     Ok(subcommands)
 }
@@ -70,16 +81,16 @@ pub fn parse<'a>(alloc: Global, words: &'a [String]) -> Result<ArgMatches<'a>, E
 }
 
 /// A word that the command line must have.
-pub fn given<'a>(words: &ArgMatches<'a>, word: &Word) -> &'a str {
-    words.get_str(word.name).unwrap_or("")
+pub fn given<'a>(words: &ArgMatches<'a>, name: &str) -> &'a str {
+    words.get_str(name).unwrap_or("")
 }
 
 /// A word that may be missing.
-pub fn option<'a>(words: &ArgMatches<'a>, word: &Word) -> Option<&'a str> {
-    words.get_str(word.name)
+pub fn option<'a>(words: &ArgMatches<'a>, name: &str) -> Option<&'a str> {
+    words.get_str(name)
 }
 
 /// Whether a word is there.
-pub fn flag(words: &ArgMatches<'_>, word: &Word) -> bool {
-    words.get_flag(word.name)
+pub fn flag(words: &ArgMatches<'_>, name: &str) -> bool {
+    words.get_flag(name)
 }

@@ -50,7 +50,7 @@ pub struct Command {
 }
 
 /// All commands, in the order of help.
-pub const COMMANDS: &[Command] = &[
+const COMMANDS: &[Command] = &[
     Command {
         verb: Verb::List,
         name: "list",
@@ -131,9 +131,14 @@ pub const COMMANDS: &[Command] = &[
     },
 ];
 
+/// All commands, in the order of help.
+pub fn commands() -> &'static [Command] {
+    COMMANDS
+}
+
 /// The command of a name.
 pub fn verb_of(name: &str) -> Option<Verb> {
-    for command in COMMANDS {
+    for command in commands() {
         if command.name == name {
             return Some(command.verb);
         }

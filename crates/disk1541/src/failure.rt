@@ -56,16 +56,6 @@ impl<'a> Failure<'a> {
     ghost use Rattle.std.specs.Prelude.{◌≡◌};
     ghost use Rattle.disk1541.specs.Exits.{exit_status};
 
-    /// What a refused call on a file was.
-    pub fn of_reading(error: io::Error, name: &'a str) -> Failure<'a> {
-        Failure::Read(name, error.kind())
-    }
-
-    /// What a refused call on a file was.
-    pub fn of_writing(error: io::Error, name: &'a str) -> Failure<'a> {
-        Failure::Write(name, error.kind())
-    }
-
     /// The exit status: 1 the disk or a name is at fault, 2 the image is none, 3 this computer's files or memory are.
     pub fn status(self) -> u8
         ensures { result ≡ exit_status self.entry }

@@ -10,6 +10,7 @@ mod json;
 mod names;
 mod program;
 mod progress;
+mod reading;
 mod refusal;
 mod tasks;
 mod word_fault;

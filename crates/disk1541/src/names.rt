@@ -10,15 +10,23 @@ use std::path::Path;
 /// The most bytes of a name on a disk.
 const LONGEST: usize = 16;
 
-/// A name as PETSCII: small letters are the letters of a C64 at power up.
-pub fn petscii<'a>(alloc: Global, name: &'a str) -> Result<Vec<u8>, Failure<'a>> {
-    let mut codes = Vec::new(alloc);
+/// Adds a name's codes.
+fn add_codes<'a>(codes: &mut Vec<u8>, name: &'a str) -> Result<(), Failure<'a>> {
     for shown in name.chars() {
         let Some(code) = code_of(shown.to_ascii_uppercase()) else {
             return Err(Failure::Word(WordFault::Name(name)));
         };
-        codes.push(code).map_err(|_| Failure::NoMemory)?;
+        if codes.push(code).is_err() {
+            return Err(Failure::NoMemory);
+        }
     }
+    Ok(())
+}
+
+/// A name as PETSCII: small letters are the letters of a C64 at power up.
+pub fn petscii<'a>(alloc: Global, name: &'a str) -> Result<Vec<u8>, Failure<'a>> {
+    let mut codes = Vec::new(alloc);
+    add_codes(&mut codes, name)?;
     Ok(codes)
 }
 

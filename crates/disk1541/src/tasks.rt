@@ -1,35 +1,40 @@
 //! Carrying out the commands.
-mod changing;
 mod check;
 mod convert;
-mod delete;
+mod edit;
 mod get;
 mod get_all;
 mod info;
 mod list;
 mod losses;
 mod make;
-mod map;
 mod put;
 mod rename;
+mod show;
 mod taking;
-mod validate;
 
 use self::check::check;
+pub use self::convert::Conversion;
 use self::convert::convert;
-use self::delete::delete;
+use self::edit::{Edit, save_edit};
+pub use self::get::OneFile;
 use self::get::get;
 use self::get_all::get_all;
-use self::info::info;
-use self::list::list;
+pub use self::list::Style;
+pub use self::make::Blank;
 use self::make::make;
-use self::map::map;
+pub use self::put::HostFile;
 use self::put::put;
-use self::rename::{copy, rename};
-use self::validate::validate;
+pub use self::rename::Pair;
+use self::rename::rename;
+pub use self::show::View;
+use self::show::show;
+pub use self::taking::Place;
+use crate::arguments::given;
 use crate::commands::{Verb, verb_of};
 use crate::failure::Failure;
 use crate::progress::Progress;
+use crate::reading::{blank, conversion, directory, host_file, one_file, pair, place};
 use clap::ArgMatches;
 use std::rt::Runtime;
 
@@ -40,20 +45,21 @@ fn perform<'a, R: Runtime + AllocGlobal>(
     words: &ArgMatches<'a>,
     progress: Progress,
 ) -> Result<(), Failure<'a>> {
+    let image = given(words, "IMAGE");
     match verb {
-        Verb::List => list(rt, words),
-        Verb::Get => get(rt, words),
-        Verb::GetAll => get_all(rt, words, progress),
-        Verb::Info => info(rt, words),
-        Verb::Map => map(rt, words),
-        Verb::Check => check(rt, words),
-        Verb::New => make(rt, words),
-        Verb::Convert => convert(rt, words),
-        Verb::Put => put(rt, words),
-        Verb::Copy => copy(rt, words),
-        Verb::Rename => rename(rt, words),
-        Verb::Delete => delete(rt, words),
-        Verb::Validate => validate(rt, words),
+        Verb::List => show(rt, image, directory(words)),
+        Verb::Get => get(rt, image, &one_file(words)),
+        Verb::GetAll => get_all(rt, image, place(words), progress),
+        Verb::Info => show(rt, image, View::Facts),
+        Verb::Map => show(rt, image, View::Sectors),
+        Verb::Check => check(rt, image),
+        Verb::New => make(rt, image, &blank(words)),
+        Verb::Convert => convert(rt, image, &conversion(words)),
+        Verb::Put => put(rt, image, &host_file(words)),
+        Verb::Copy => rename(rt, image, b"C0:", &pair(words)),
+        Verb::Rename => rename(rt, image, b"R0:", &pair(words)),
+        Verb::Delete => save_edit(rt, image, &Edit::Delete(given(words, "PATTERN"))),
+        Verb::Validate => save_edit(rt, image, &Edit::Validate),
     }
 }
 

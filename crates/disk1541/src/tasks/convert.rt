@@ -1,27 +1,37 @@
 //! CONVERT: the image in the other format.
 use super::losses::tell_lost;
-use crate::arguments::{flag, given, option};
 use crate::failure::{Failure, on_disk};
 use crate::formats::format;
 use crate::host::{read, require_new, write};
 use crate::word_fault::WordFault;
-use crate::words::{FORMAT, IMAGE, LOSSY, OUT, REPLACE_IMAGE};
 use cbm_program::{Kind, kind_of};
 use cbm_shell::Converted;
-use clap::ArgMatches;
+use host_files::Sync;
 use std::rt::Runtime;
 
-/// Writes an image, unless it lacks something and that isn't wanted.
+/// An image that is made of another.
+#[derive(Clone, Copy)]
+pub struct Conversion<'a> {
+    /// Where it goes.
+    pub output: &'a str,
+    /// The word that tells its format.
+    pub format: Option<&'a str>,
+    /// It may lack something.
+    pub is_lossy: bool,
+    /// An image that is there is replaced.
+    pub replaces: bool,
+}
+
+/// Writes the new image, unless it lacks something and that isn't wanted.
 fn write_converted<'a, R: Runtime + AllocGlobal>(
     rt: &R,
-    output: &'a str,
+    wanted: &Conversion<'a>,
     new: &Converted,
-    is_lossy: bool,
 ) -> Result<(), Failure<'a>> {
-    if !is_lossy && !new.lost.is_none() {
-        return Err(Failure::Lossy(output));
+    if !wanted.is_lossy && !new.lost.is_none() {
+        return Err(Failure::Lossy(wanted.output));
     }
-    write(rt, output, new.image.as_slice())
+    write(rt, wanted.output, new.image.as_slice(), Sync::Before)
 }
 
 /// Refuses to make an image in the format that it has.
@@ -32,38 +42,29 @@ fn require_other<'a>(image: &'a str, old: Kind, kind: Kind) -> Result<(), Failur
     Ok(())
 }
 
-/// Makes the image in the other format, and tells what it lacks.
-fn convert_to<'a, R: Runtime + AllocGlobal>(
-    rt: &R,
-    words: &ArgMatches<'a>,
-    bytes: &[u8],
-    old: Kind,
-) -> Result<(), Failure<'a>> {
-    let output = given(words, &OUT);
-    let new = on_disk(given(words, &IMAGE), cbm_shell::convert(rt.alloc(), bytes))?;
-    let _ = tell_lost(rt, output, &new.lost, old);
-    write_converted(rt, output, &new, flag(words, &LOSSY))
-}
-
-/// Makes the image in a format, if that is the other one and nothing is there.
+/// Makes the new image, if it has the other format and nothing is there, and tells what it lacks.
 fn convert_bytes<'a, R: Runtime + AllocGlobal>(
     rt: &R,
-    words: &ArgMatches<'a>,
+    image: &'a str,
     bytes: &[u8],
+    wanted: &Conversion<'a>,
     kind: Kind,
 ) -> Result<(), Failure<'a>> {
     let old = kind_of(bytes);
-    require_other(given(words, &IMAGE), old, kind)?;
-    require_new(rt, given(words, &OUT), flag(words, &REPLACE_IMAGE))?;
-    convert_to(rt, words, bytes, old)
+    require_other(image, old, kind)?;
+    require_new(rt, wanted.output, wanted.replaces)?;
+    let new = on_disk(image, cbm_shell::convert(rt.alloc(), bytes))?;
+    let _ = tell_lost(rt, wanted.output, &new.lost, old);
+    write_converted(rt, wanted, &new)
 }
 
 /// Makes a G64 of a D64, or a D64 of a G64.
 pub fn convert<'a, R: Runtime + AllocGlobal>(
     rt: &R,
-    words: &ArgMatches<'a>,
+    image: &'a str,
+    wanted: &Conversion<'a>,
 ) -> Result<(), Failure<'a>> {
-    let kind = format(given(words, &OUT), option(words, &FORMAT))?;
-    let bytes = read(rt, given(words, &IMAGE))?;
-    convert_bytes(rt, words, bytes.as_slice(), kind)
+    let kind = format(wanted.output, wanted.format)?;
+    let bytes = read(rt, image)?;
+    convert_bytes(rt, image, bytes.as_slice(), wanted, kind)
 }

@@ -1,32 +1,21 @@
 //! GET-ALL: all files out of the image, to a folder of the host.
 use super::taking::{Names, Place, take};
-use crate::arguments::{flag, given};
 use crate::failure::{Failure, on_disk};
 use crate::host::read;
 use crate::progress::Progress;
-use crate::words::{FOLDER, IMAGE, REPLACE_FILES};
 use cbm_shell::{OpenDisk, ShellFault};
 use cbm_volume::Entry;
-use clap::ArgMatches;
 use std::alloc::{AllocError, Global};
 use std::fs;
 use std::path::Path;
 use std::rt::Runtime;
-
-/// Where the files go.
-fn place_of<'a>(words: &ArgMatches<'a>) -> Place<'a> {
-    Place {
-        folder: given(words, &FOLDER),
-        replaces: flag(words, &REPLACE_FILES),
-    }
-}
 
 /// Makes the folder, if it isn't there.
 fn make_folder<'a, R: Runtime + AllocGlobal>(rt: &R, folder: &'a str) -> Result<(), Failure<'a>> {
     match fs::create_dir(rt, folder) {
         Ok(()) => Ok(()),
         Err(_) if Path::new(folder).is_dir(rt) => Ok(()),
-        Err(error) => Err(Failure::of_writing(error, folder)),
+        Err(error) => Err(Failure::Write(folder, error.kind())),
     }
 }
 
@@ -77,22 +66,23 @@ fn take_disk<'a, R: Runtime + AllocGlobal>(
 /// Takes all files of an image out.
 fn take_image<'a, R: Runtime + AllocGlobal>(
     rt: &R,
-    words: &ArgMatches<'a>,
+    image: &'a str,
     bytes: &[u8],
+    place: Place<'a>,
     progress: Progress,
 ) -> Result<(), Failure<'a>> {
-    let image = given(words, &IMAGE);
     let disk = on_disk(image, OpenDisk::open(rt.alloc(), bytes))?;
     let entries = on_disk(image, files_of(rt.alloc(), &disk))?;
-    take_disk(rt, &disk, entries.as_slice(), place_of(words), progress)
+    take_disk(rt, &disk, entries.as_slice(), place, progress)
 }
 
 /// Takes all files out, into a folder.
 pub fn get_all<'a, R: Runtime + AllocGlobal>(
     rt: &R,
-    words: &ArgMatches<'a>,
+    image: &'a str,
+    place: Place<'a>,
     progress: Progress,
 ) -> Result<(), Failure<'a>> {
-    let bytes = read(rt, given(words, &IMAGE))?;
-    take_image(rt, words, bytes.as_slice(), progress)
+    let bytes = read(rt, image)?;
+    take_image(rt, image, bytes.as_slice(), place, progress)
 }

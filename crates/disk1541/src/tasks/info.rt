@@ -1,15 +1,9 @@
 //! INFO: what the disk is.
-use crate::arguments::given;
-use crate::failure::{Failure, on_disk};
-use crate::host::{print, read};
 use crate::names::shown;
-use crate::words::IMAGE;
 use cbm_program::{Kind, kind_of};
 use cbm_shell::{Info, ShellFault};
 use cbm_volume::Unsound;
-use clap::ArgMatches;
 use std::alloc::{AllocError, Global};
-use std::rt::Runtime;
 
 /// The size of a D64 of 35 tracks with error bytes.
 const WITH_ERRORS: usize = 175_531;
@@ -105,20 +99,9 @@ fn add_lines(
 }
 
 /// What the disk is, as lines.
-fn lines_of(alloc: Global, image: &[u8]) -> Result<String, ShellFault> {
+pub fn lines_of(alloc: Global, image: &[u8]) -> Result<Vec<u8>, ShellFault> {
     let info = cbm_shell::info(alloc, image)?;
     let mut text = String::new(alloc);
     add_lines(alloc, &mut text, &info, image)?;
-    Ok(text)
-}
-
-/// Tells what the disk is.
-pub fn info<'a, R: Runtime + AllocGlobal>(
-    rt: &R,
-    words: &ArgMatches<'a>,
-) -> Result<(), Failure<'a>> {
-    let image = given(words, &IMAGE);
-    let bytes = read(rt, image)?;
-    let text = on_disk(image, lines_of(rt.alloc(), bytes.as_slice()))?;
-    print(rt, text.as_str().as_bytes())
+    Ok(text.into_bytes())
 }

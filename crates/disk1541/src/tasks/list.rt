@@ -1,35 +1,19 @@
 //! LIST: the directory.
-use crate::arguments::{flag, given};
 use crate::failure::{Failure, on_disk};
-use crate::host::{print, read};
 use crate::json::listing;
 use crate::names::petscii;
-use crate::words::{IMAGE, JSON, RAW, SHOWN};
 use cbm_shell::ShellFault;
-use clap::ArgMatches;
 use std::alloc::Global;
-use std::rt::Runtime;
 
 /// How the directory is shown.
 #[derive(Clone, Copy)]
-enum Style {
+pub enum Style {
     /// Lines of text.
     Lines,
     /// The bytes that the drive sends.
     Raw,
     /// JSON.
     Json,
-}
-
-/// What the words say of it.
-fn style_of(words: &ArgMatches<'_>) -> Style {
-    if flag(words, &RAW) {
-        Style::Raw
-    } else if flag(words, &JSON) {
-        Style::Json
-    } else {
-        Style::Lines
-    }
 }
 
 /// The entries of the directory that a pattern means, as JSON.
@@ -53,24 +37,14 @@ fn listed(
     }
 }
 
-/// Shows the files of a directory that a pattern means.
-fn print_listed<'a, R: Runtime + AllocGlobal>(
-    rt: &R,
-    words: &ArgMatches<'a>,
+/// The files of the directory that a pattern means.
+pub fn list<'a>(
+    alloc: Global,
+    image: &'a str,
     bytes: &[u8],
-    pattern: &[u8],
-) -> Result<(), Failure<'a>> {
-    let lines = listed(rt.alloc(), bytes, pattern, style_of(words));
-    let lines = on_disk(given(words, &IMAGE), lines)?;
-    print(rt, lines.as_slice())
-}
-
-/// Shows the directory.
-pub fn list<'a, R: Runtime + AllocGlobal>(
-    rt: &R,
-    words: &ArgMatches<'a>,
-) -> Result<(), Failure<'a>> {
-    let bytes = read(rt, given(words, &IMAGE))?;
-    let pattern = petscii(rt.alloc(), given(words, &SHOWN))?;
-    print_listed(rt, words, bytes.as_slice(), pattern.as_slice())
+    pattern: &'a str,
+    style: Style,
+) -> Result<Vec<u8>, Failure<'a>> {
+    let pattern = petscii(alloc, pattern)?;
+    on_disk(image, listed(alloc, bytes, pattern.as_slice(), style))
 }

@@ -1,8 +1,9 @@
 //! Files that are taken out of an image into a folder.
-use crate::host::{exists, lay_out};
+use crate::host::{exists, write};
 use crate::names::{host_name, shown, type_of};
 use cbm_shell::{OpenDisk, ShellFault};
 use cbm_volume::Entry;
+use host_files::Sync;
 use std::alloc::{AllocError, Global};
 use std::io;
 use std::path::{Path, PathBuf};
@@ -102,9 +103,8 @@ fn save_as<R: Runtime + AllocGlobal>(
         let _ = eprintln!(rt; "disk1541: {place} is there already: --replace replaces it");
         return false;
     }
-    if let Err(error) = lay_out(rt, place, bytes) {
-        let kind = error.kind();
-        let _ = eprintln!(rt; "disk1541: can't write {place}: {kind}");
+    if let Err(failure) = write(rt, place, bytes, Sync::Later) {
+        let _ = failure.tell(rt);
         return false;
     }
     let file = path.file_stem().unwrap_or(place);
