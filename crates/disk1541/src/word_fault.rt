@@ -29,34 +29,38 @@ pub enum WordFault<'a> {
 }
 
 impl<'a> WordFault<'a> {
-    /// Prints the sentence on standard error.
-    pub fn tell(self, rt: &impl Eprint) -> io::Result<()> {
+    /// The sentence: its start, the word, its end.
+    fn sentence(self) -> (&'static str, &'a str, &'static str) {
         match self {
-            WordFault::Name(name) => {
-                eprintln!(rt; "disk1541: a name on a disk can't have a character of {name}")
-            }
+            WordFault::Name(name) => ("a name on a disk can't have a character of ", name, ""),
             WordFault::Divided(name) => {
-                eprintln!(rt; "disk1541: a name can't have `,` `=` `:` or a quotation mark: {name}")
+                (
+                    "a name can't have `,` `=` `:` or a quotation mark: ",
+                    name,
+                    "",
+                )
             }
-            WordFault::NoName => eprintln!(rt; "disk1541: name the file by --name"),
-            WordFault::Twice => eprintln!(rt; "disk1541: `-` is the image or the file, not both"),
-            WordFault::Type(kind) => {
-                eprintln!(rt; "disk1541: {kind} is no type of a file: take prg, seq or usr")
-            }
-            WordFault::Title(title) => {
-                eprintln!(rt; "disk1541: a title has at most 16 characters: {title}")
-            }
-            WordFault::Id(id) => eprintln!(rt; "disk1541: an id has two characters: {id}"),
-            WordFault::Tracks(tracks) => {
-                eprintln!(rt; "disk1541: a disk has 35 or 40 tracks, not {tracks}")
-            }
-            WordFault::LongG64 => eprintln!(rt; "disk1541: a G64 has 35 tracks here, not 40"),
-            WordFault::SameFormat(name) => {
-                eprintln!(rt; "disk1541: {name} has that format already")
-            }
+            WordFault::NoName => ("name the file by --name", "", ""),
+            WordFault::Twice => ("`-` is the image or the file, not both", "", ""),
+            WordFault::Type(kind) => ("", kind, " is no type of a file: take prg, seq or usr"),
+            WordFault::Title(title) => ("a title has at most 16 characters: ", title, ""),
+            WordFault::Id(id) => ("an id has two characters: ", id, ""),
+            WordFault::Tracks(tracks) => ("a disk has 35 or 40 tracks, not ", tracks, ""),
+            WordFault::LongG64 => ("a G64 has 35 tracks here, not 40", "", ""),
+            WordFault::SameFormat(name) => ("", name, " has that format already"),
             WordFault::Format(word) => {
-                eprintln!(rt; "disk1541: {word} tells no format: say --format d64 or --format g64")
+                (
+                    "",
+                    word,
+                    " tells no format: say --format d64 or --format g64",
+                )
             }
         }
+    }
+
+    /// Prints the sentence on standard error.
+    pub fn tell(self, rt: &impl Eprint) -> io::Result<()> {
+        let (start, word, end) = self.sentence();
+        eprintln!(rt; "disk1541: {start}{word}{end}")
     }
 }

@@ -1,11 +1,12 @@
 //! GET-ALL: all files out of the image, to a folder of the host.
+use super::info::count_files;
 use super::taking::{Names, Place, take};
 use crate::failure::{Failure, on_disk};
 use crate::host::read;
 use crate::progress::Progress;
-use cbm_shell::{OpenDisk, ShellFault};
+use cbm_shell::OpenDisk;
 use cbm_volume::Entry;
-use std::alloc::{AllocError, Global};
+use std::alloc::AllocError;
 use std::fs;
 use std::path::Path;
 use std::rt::Runtime;
@@ -19,13 +20,6 @@ fn make_folder<'a, R: Runtime + AllocGlobal>(rt: &R, folder: &'a str) -> Result<
     }
 }
 
-/// The entries of the files in the directory of a disk.
-fn files_of(alloc: Global, disk: &OpenDisk) -> Result<Vec<Entry>, ShellFault> {
-    let mut entries = disk.entries(alloc)?;
-    entries.retain(|entry| !entry.is_empty());
-    Ok(entries)
-}
-
 /// Takes the files of all entries out, and answers whether all were saved.
 fn take_all<R: Runtime + AllocGlobal>(
     rt: &R,
@@ -37,11 +31,15 @@ fn take_all<R: Runtime + AllocGlobal>(
     let mut names = Names::new(rt.alloc());
     let mut are_saved = true;
     let mut done: usize = 0;
+    let count = count_files(entries);
     for entry in entries {
+        if entry.is_empty() {
+            continue;
+        }
         let is_saved = take(rt, disk, entry, &mut names, place)?;
         are_saved = are_saved && is_saved;
         done = done.saturating_add(1);
-        progress.tell(rt, done, entries.len());
+        progress.tell(rt, done, count);
     }
     progress.clear(rt);
     Ok(are_saved)
@@ -72,7 +70,7 @@ fn take_image<'a, R: Runtime + AllocGlobal>(
     progress: Progress,
 ) -> Result<(), Failure<'a>> {
     let disk = on_disk(image, OpenDisk::open(rt.alloc(), bytes))?;
-    let entries = on_disk(image, files_of(rt.alloc(), &disk))?;
+    let entries = on_disk(image, disk.entries(rt.alloc()))?;
     take_disk(rt, &disk, entries.as_slice(), place, progress)
 }
 

@@ -2,7 +2,7 @@
 use crate::names::shown;
 use cbm_program::{Kind, kind_of};
 use cbm_shell::{Info, ShellFault};
-use cbm_volume::Unsound;
+use cbm_volume::{Entry, Unsound};
 use std::alloc::{AllocError, Global};
 
 /// The size of a D64 of 35 tracks with error bytes.
@@ -28,17 +28,24 @@ fn add_format(
     text.push_str(format!(in alloc; "format       {name}, {tracks} tracks\n")?.as_str())
 }
 
+/// A line.
+fn add_line(text: &mut String, name: &str, value: &str) -> Result<(), AllocError> {
+    text.push_str(name)?;
+    text.push_str(value)?;
+    text.push('\n')
+}
+
 /// The line of the title.
 fn add_title(alloc: Global, text: &mut String, title: &[u8]) -> Result<(), AllocError> {
     let title = shown(alloc, title)?;
     let title = title.as_str().trim_end_matches('\u{a0}');
-    text.push_str(format!(in alloc; "title        {title}\n")?.as_str())
+    add_line(text, "title        ", title)
 }
 
 /// A line of what codes show.
 fn add_shown(alloc: Global, text: &mut String, name: &str, codes: &[u8]) -> Result<(), AllocError> {
     let codes = shown(alloc, codes)?;
-    text.push_str(format!(in alloc; "{name}{codes}\n")?.as_str())
+    add_line(text, name, codes.as_str())
 }
 
 /// The lines of the title, the id and the free blocks.
@@ -54,17 +61,23 @@ fn add_label(alloc: Global, text: &mut String, info: &Info) -> Result<(), AllocE
     text.push_str(format!(in alloc; "blocks free  {free}\n")?.as_str())
 }
 
+/// How many files are in a directory.
+pub fn count_files(entries: &[Entry]) -> usize {
+    let mut files: usize = 0;
+    for entry in entries {
+        if !entry.is_empty() {
+            files = files.saturating_add(1);
+        }
+    }
+    files
+}
+
 /// The line of how many files there are, where the directory can be followed to its end.
 fn add_files(alloc: Global, text: &mut String, image: &[u8]) -> Result<(), AllocError> {
     let Ok(entries) = cbm_shell::entries(alloc, image) else {
         return Ok(());
     };
-    let mut files: usize = 0;
-    for entry in entries.as_slice() {
-        if !entry.is_empty() {
-            files = files.saturating_add(1);
-        }
-    }
+    let files = count_files(entries.as_slice());
     text.push_str(format!(in alloc; "files        {files}\n")?.as_str())
 }
 

@@ -90,6 +90,15 @@ fn bytes_of(alloc: Global, disk: &OpenDisk, entry: &Entry) -> Result<Vec<u8>, Sh
     disk.file_of(alloc, entry)
 }
 
+/// Tells the name of a host's file where it isn't that of the disk.
+fn tell_name(rt: &impl Eprint, path: Path<'_>, name: &str) -> io::Result<()> {
+    let place = path.as_str();
+    if path.file_stem().unwrap_or(place) == name {
+        return Ok(());
+    }
+    eprintln!(rt; "disk1541: \"{name}\" is written as {place}")
+}
+
 /// Saves a file under a name, and tells the name where it isn't that of the disk. Answers whether it was saved.
 fn save_as<R: Runtime + AllocGlobal>(
     rt: &R,
@@ -107,10 +116,7 @@ fn save_as<R: Runtime + AllocGlobal>(
         let _ = failure.tell(rt);
         return false;
     }
-    let file = path.file_stem().unwrap_or(place);
-    if file != name {
-        let _ = eprintln!(rt; "disk1541: \"{name}\" is written as {place}");
-    }
+    let _ = tell_name(rt, path, name);
     true
 }
 
