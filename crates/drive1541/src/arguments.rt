@@ -1,7 +1,7 @@
 //! The words of the command line.
 use crate::failure::Stream;
 use clap::{Arg, ArgAction, Command, Error, value_parser};
-use std::alloc::{AllocError, Global};
+use std::alloc::Global;
 
 /// What the command line asks for.
 #[derive(Drop)]
@@ -32,35 +32,12 @@ impl<'a> Arguments<'a> {
     }
 }
 
-/// The files that the command line names, and what help says of them.
-const FILES: [(&str, &str); 3] = [
-    ("IMAGE", "the disk image"),
-    ("SCRIPT", "the requests, a line each"),
-    ("OUT", "where the image goes"),
-];
-
-/// The words that are there or aren't.
-const SWITCHES: [(&str, &str); 2] = [
-    ("read-only", "protect the disk"),
-    ("check", "print first whether the disk is sound"),
-];
-
-/// A file that must be named.
+/// A file that the command line names.
 fn file<'a>(alloc: Global, name: &'a str, help: &'a str) -> Arg<'a> {
     Arg::new(alloc, name)
         .required(true)
         .action(ArgAction::Set)
         .help(help)
-}
-
-/// The drive's number.
-fn device<'a>(alloc: Global) -> Arg<'a> {
-    Arg::new(alloc, "device")
-        .long("device")
-        .value_name("N")
-        .value_parser(value_parser!(u8).range(8..12))
-        .default_value("8")
-        .help("the drive's number, 8 to 11")
 }
 
 /// A word that is there or isn't.
@@ -71,25 +48,23 @@ fn switch<'a>(alloc: Global, name: &'a str, help: &'a str) -> Arg<'a> {
         .help(help)
 }
 
-/// All words.
-fn args<'a>(alloc: Global) -> Result<Vec<Arg<'a>>, AllocError> {
-    let mut args = Vec::new(alloc);
-    for (name, help) in &FILES {
-        args.push(file(alloc, *name, *help))?;
-    }
-    args.push(device(alloc))?;
-    for (name, help) in &SWITCHES {
-        args.push(switch(alloc, *name, *help))?;
-    }
-    Ok(args)
-}
-
 /// What may stand on the command line.
-fn command<'a>(alloc: Global) -> Result<Command<'a>, AllocError> {
-    let args = args(alloc)?;
-    Command::new(alloc, "drive1541")
+fn command<'a>(alloc: Global) -> Result<Command<'a>, Error> {
+    let device = Arg::new(alloc, "device")
+        .long("device")
+        .value_name("N")
+        .value_parser(value_parser!(u8).range(8..12))
+        .default_value("8")
+        .help("the drive's number, 8 to 11");
+    let command = Command::new(alloc, "drive1541")
         .about("Runs a script of requests on a disk image")
-        .args(args)
+        .arg(file(alloc, "IMAGE", "the disk image"))?
+        .arg(file(alloc, "SCRIPT", "the requests, a line each"))?
+        .arg(file(alloc, "OUT", "where the image goes"))?
+        .arg(device)?
+        .arg(switch(alloc, "read-only", "protect the disk"))?
+        .arg(switch(alloc, "check", "print first whether the disk is sound"))?;
+    Ok(command)
 }
 
 /// Reads the command line.
