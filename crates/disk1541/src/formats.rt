@@ -1,36 +1,58 @@
 //! Formats of images.
 use crate::failure::Failure;
+use crate::word_fault::WordFault;
 use cbm_program::Kind;
 use cbm_shell::Form;
 use std::path::Path;
 
+/// The words that tell a format.
+const FORMATS: [(&str, Kind); 4] = [
+    ("d64", Kind::D64),
+    ("D64", Kind::D64),
+    ("g64", Kind::G64),
+    ("G64", Kind::G64),
+];
+
 /// The format that a word tells.
 fn told(word: &str) -> Option<Kind> {
-    match word {
-        "d64" | "D64" => Some(Kind::D64),
-        "g64" | "G64" => Some(Kind::G64),
-        _ => None,
+    for (name, kind) in &FORMATS {
+        if *name == word {
+            return Some(*kind);
+        }
+    }
+    None
+}
+
+/// The format that an image's name tells by its ending.
+fn told_by_name(image: &str) -> Option<Kind> {
+    match Path::new(image).extension() {
+        Some(ending) => told(ending),
+        None => None,
     }
 }
 
 /// The format of a new image: what `--format` says, or the ending of its name.
 pub fn format<'a>(image: &'a str, word: Option<&'a str>) -> Result<Kind, Failure<'a>> {
-    match word {
-        Some(word) => told(word).ok_or(Failure::Format(word)),
-        None => Path::new(image)
-            .extension()
-            .and_then(told)
-            .ok_or(Failure::Format(image)),
+    let (kind, name) = match word {
+        Some(word) => (told(word), word),
+        None => (told_by_name(image), image),
+    };
+    match kind {
+        Some(kind) => Ok(kind),
+        None => Err(Failure::Word(WordFault::Format(name))),
     }
 }
 
 /// What a new image is.
 pub fn form<'a>(kind: Kind, tracks: &'a str) -> Result<Form, Failure<'a>> {
-    match (kind, tracks) {
-        (Kind::D64, "35") => Ok(Form::D64),
-        (Kind::D64, "40") => Ok(Form::LongD64),
-        (Kind::G64, "35") => Ok(Form::G64),
-        (Kind::G64, "40") => Err(Failure::LongG64),
-        _ => Err(Failure::Tracks(tracks)),
+    let is_long = tracks == "40";
+    if !is_long && tracks != "35" {
+        return Err(Failure::Word(WordFault::Tracks(tracks)));
+    }
+    match kind {
+        Kind::D64 if is_long => Ok(Form::LongD64),
+        Kind::D64 => Ok(Form::D64),
+        Kind::G64 if is_long => Err(Failure::Word(WordFault::LongG64)),
+        Kind::G64 => Ok(Form::G64),
     }
 }

@@ -1,5 +1,5 @@
 //! Files of the host, standard input and standard output.
-use crate::failure::Failure;
+use crate::failure::{Failure, in_memory};
 use host_files::Sync;
 use std::alloc::Global;
 use std::fs;
@@ -19,7 +19,7 @@ fn read_input<'a, R: Runtime + AllocGlobal>(rt: &R) -> Result<Vec<u8>, Failure<'
     let mut input = rt.reader();
     match input.read_to_end(&mut bytes) {
         Ok(_) => Ok(bytes),
-        Err(error) => Err(Failure::of_reading(error, "standard input")),
+        Err(error) => Err(Failure::Read("standard input", error.kind())),
     }
 }
 
@@ -28,45 +28,38 @@ pub fn read<'a, R: Runtime + AllocGlobal>(rt: &R, name: &'a str) -> Result<Vec<u
     if name == STANDARD {
         return read_input(rt);
     }
-    fs::read(rt, name).map_err(|error| Failure::of_reading(error, name))
+    match fs::read(rt, name) {
+        Ok(bytes) => Ok(bytes),
+        Err(error) => Err(Failure::Read(name, error.kind())),
+    }
+}
+
+/// What writing to a name came to.
+fn written(name: &str, answer: io::Result<()>) -> Result<(), Failure<'_>> {
+    match answer {
+        Ok(()) => Ok(()),
+        Err(error) => Err(Failure::Write(name, error.kind())),
+    }
 }
 
 /// Prints bytes on standard output.
 pub fn print<'a, R: Runtime + AllocGlobal>(rt: &R, bytes: &[u8]) -> Result<(), Failure<'a>> {
     let mut output = io::writer(rt);
-    output
-        .write_all(bytes)
-        .map_err(|error| Failure::of_writing(error, "standard output"))
+    written("standard output", output.write_all(bytes))
 }
 
-/// Writes an image whole or not at all, or standard output. The new image is on the host's disk before it takes the
-/// place of the old one.
+/// Writes a file whole or not at all, or standard output. A new image is on the host's disk before it takes the place
+/// of the old one; of a file that was taken out the image still has the bytes, so nothing waits for the host's disk.
 pub fn write<'a, R: Runtime + AllocGlobal>(
     rt: &R,
     name: &'a str,
     bytes: &[u8],
+    sync: Sync,
 ) -> Result<(), Failure<'a>> {
     if name == STANDARD {
         return print(rt, bytes);
     }
-    host_files::save(rt, PROGRAM, name, bytes).map_err(|error| Failure::of_writing(error, name))
-}
-
-/// Writes a file that was taken out, or standard output.
-pub fn hand_out<'a, R: Runtime + AllocGlobal>(
-    rt: &R,
-    name: &'a str,
-    bytes: &[u8],
-) -> Result<(), Failure<'a>> {
-    if name == STANDARD {
-        return print(rt, bytes);
-    }
-    lay_out(rt, name, bytes).map_err(|error| Failure::of_writing(error, name))
-}
-
-/// Writes a file that was taken out whole or not at all. Nothing waits for the host's disk: the image still has the file.
-pub fn lay_out<R: Runtime + AllocGlobal>(rt: &R, path: &str, bytes: &[u8]) -> io::Result<()> {
-    host_files::save_by(rt, PROGRAM, path, bytes, Sync::Later)
+    written(name, host_files::save_by(rt, PROGRAM, name, bytes, sync))
 }
 
 /// Whether a name is that of standard input or output.
@@ -95,7 +88,7 @@ pub fn exists<R: Runtime + AllocGlobal>(rt: &R, name: &str) -> bool {
 pub fn joined<'a>(alloc: Global, parts: &[&[u8]]) -> Result<Vec<u8>, Failure<'a>> {
     let mut text = Vec::new(alloc);
     for part in parts {
-        text.extend_from_slice(part).map_err(|_| Failure::NoMemory)?;
+        in_memory(text.extend_from_slice(part))?;
     }
     Ok(text)
 }

@@ -1,9 +1,14 @@
 //! The directory as JSON.
-use crate::names::shown;
+use crate::names::{shown, type_of};
 use cbm_command::matches;
 use cbm_shell::Info;
 use cbm_volume::Entry;
 use std::alloc::{AllocError, Global};
+
+/// The digits to the base 16.
+const DIGITS: [char; 16] = [
+    '0', '1', '2', '3', '4', '5', '6', '7', '8', '9', 'a', 'b', 'c', 'd', 'e', 'f',
+];
 
 /// Adds a text between quotation marks; `"` is the one character of a disk that JSON wants marked.
 fn add_quoted(text: &mut String, words: &str) -> Result<(), AllocError> {
@@ -18,12 +23,32 @@ fn add_quoted(text: &mut String, words: &str) -> Result<(), AllocError> {
 }
 
 /// Adds codes as digits to the base 16.
-fn add_codes(alloc: Global, text: &mut String, codes: &[u8]) -> Result<(), AllocError> {
+fn add_codes(text: &mut String, codes: &[u8]) -> Result<(), AllocError> {
     text.push('"')?;
     for code in codes {
-        text.push_str(format!(in alloc; "{code:02x}")?.as_str())?;
+        text.push(DIGITS[usize::from(code / 16)])?;
+        text.push(DIGITS[usize::from(code % 16)])?;
     }
     text.push('"')
+}
+
+/// Adds a name and what codes show.
+fn add_shown(alloc: Global, text: &mut String, name: &str, codes: &[u8]) -> Result<(), AllocError> {
+    text.push_str(name)?;
+    add_quoted(text, shown(alloc, codes)?.as_str())
+}
+
+/// Adds the disk's title.
+fn add_title(alloc: Global, text: &mut String, title: &[u8]) -> Result<(), AllocError> {
+    text.push_str("\"title\": ")?;
+    let title = shown(alloc, title)?;
+    add_quoted(text, title.as_str().trim_end_matches('\u{a0}'))
+}
+
+/// Adds how many blocks are free.
+fn add_free(alloc: Global, text: &mut String, free: Option<u16>) -> Result<(), AllocError> {
+    let free = free.unwrap_or(0);
+    text.push_str(format!(in alloc; ", \"free\": {free}, ")?.as_str())
 }
 
 /// Adds what the disk's label says.
@@ -31,46 +56,63 @@ fn add_label(alloc: Global, text: &mut String, info: &Info) -> Result<(), AllocE
     let Some(label) = info.label else {
         return Ok(());
     };
-    let title = shown(alloc, label.title.as_slice())?;
     let [first, second, _, dos, version] = label.mark;
-    let id = shown(alloc, &[first, second])?;
-    let kind = shown(alloc, &[dos, version])?;
-    let free = info.free.unwrap_or(0);
-    text.push_str("\"title\": ")?;
-    add_quoted(text, title.as_str().trim_end_matches('\u{a0}'))?;
-    text.push_str(", \"id\": ")?;
-    add_quoted(text, id.as_str())?;
-    text.push_str(", \"dos\": ")?;
-    add_quoted(text, kind.as_str())?;
-    text.push_str(format!(in alloc; ", \"free\": {free}, ")?.as_str())
+    add_title(alloc, text, label.title.as_slice())?;
+    add_shown(alloc, text, ", \"id\": ", &[first, second])?;
+    add_shown(alloc, text, ", \"dos\": ", &[dos, version])?;
+    add_free(alloc, text, info.free)
 }
 
-/// The name of a file's type.
-fn kind_of(entry: &Entry) -> &'static str {
-    match entry.kind().map(|kind| kind.number()) {
-        Some(0) => "del",
-        Some(1) => "seq",
-        Some(2) => "prg",
-        Some(3) => "usr",
-        Some(4) => "rel",
-        _ => "unknown",
-    }
+/// Adds a file's type, its size and its marks.
+fn add_facts(alloc: Global, text: &mut String, entry: &Entry) -> Result<(), AllocError> {
+    let kind = type_of(entry).unwrap_or("unknown");
+    let blocks = entry.blocks();
+    let is_closed = entry.is_closed();
+    let is_locked = entry.is_locked();
+    text.push_str(format!(in alloc;
+        ", \"type\": \"{kind}\", \"blocks\": {blocks}, \"closed\": {is_closed}, \"locked\": {is_locked}}}"
+    )?.as_str())
 }
 
 /// Adds a file.
 fn add_file(alloc: Global, text: &mut String, entry: &Entry) -> Result<(), AllocError> {
-    let name = shown(alloc, entry.name())?;
-    let kind = kind_of(entry);
-    let blocks = entry.blocks();
-    let is_closed = entry.is_closed();
-    let is_locked = entry.is_locked();
-    text.push_str("\n  {\"name\": ")?;
-    add_quoted(text, name.as_str())?;
+    add_shown(alloc, text, "\n  {\"name\": ", entry.name())?;
     text.push_str(", \"petscii\": ")?;
-    add_codes(alloc, text, entry.name())?;
-    text.push_str(format!(in alloc;
-        ", \"type\": \"{kind}\", \"blocks\": {blocks}, \"closed\": {is_closed}, \"locked\": {is_locked}}}"
-    )?.as_str())
+    add_codes(text, entry.name())?;
+    add_facts(alloc, text, entry)
+}
+
+/// Adds the files that a pattern means.
+fn add_files(
+    alloc: Global,
+    text: &mut String,
+    entries: &[Entry],
+    pattern: &[u8],
+) -> Result<(), AllocError> {
+    let mut before = "";
+    for entry in entries {
+        if !entry.is_empty() && matches(pattern, entry.name()) {
+            text.push_str(before)?;
+            add_file(alloc, text, entry)?;
+            before = ",";
+        }
+    }
+    Ok(())
+}
+
+/// Adds the disk's label, and the files that a pattern means.
+fn add_listing(
+    alloc: Global,
+    text: &mut String,
+    info: &Info,
+    entries: &[Entry],
+    pattern: &[u8],
+) -> Result<(), AllocError> {
+    text.push('{')?;
+    add_label(alloc, text, info)?;
+    text.push_str("\"files\": [")?;
+    add_files(alloc, text, entries, pattern)?;
+    text.push_str("]}\n")
 }
 
 /// The disk's label, and the files that a pattern means.
@@ -81,20 +123,6 @@ pub fn listing(
     pattern: &[u8],
 ) -> Result<String, AllocError> {
     let mut text = String::new(alloc);
-    text.push('{')?;
-    add_label(alloc, &mut text, info)?;
-    text.push_str("\"files\": [")?;
-    let mut is_first = true;
-    for entry in entries {
-        if entry.is_empty() || !matches(pattern, entry.name()) {
-            continue;
-        }
-        if !is_first {
-            text.push(',')?;
-        }
-        is_first = false;
-        add_file(alloc, &mut text, entry)?;
-    }
-    text.push_str("]}\n")?;
+    add_listing(alloc, &mut text, info, entries, pattern)?;
     Ok(text)
 }

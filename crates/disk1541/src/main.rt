@@ -2,18 +2,19 @@
 #![tactic(auto)]
 
 mod arguments;
-mod changing;
+mod commands;
 mod failure;
 mod formats;
 mod host;
 mod json;
-mod looking;
-mod making;
 mod names;
 mod program;
 mod progress;
-mod taking;
+mod reading;
+mod refusal;
 mod tasks;
+mod word_fault;
+mod words;
 
 use std::process::ExitCode;
 

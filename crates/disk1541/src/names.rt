@@ -1,22 +1,32 @@
 //! Names on a disk and names of the host's files.
 use crate::failure::Failure;
 use crate::host::is_standard;
+use crate::word_fault::WordFault;
 use cbm_shell::{char_of, code_of};
+use cbm_volume::{Entry, FileType};
 use std::alloc::{AllocError, Global};
 use std::path::Path;
 
 /// The most bytes of a name on a disk.
 const LONGEST: usize = 16;
 
+/// Adds a name's codes.
+fn add_codes<'a>(codes: &mut Vec<u8>, name: &'a str) -> Result<(), Failure<'a>> {
+    for shown in name.chars() {
+        let Some(code) = code_of(shown.to_ascii_uppercase()) else {
+            return Err(Failure::Word(WordFault::Name(name)));
+        };
+        if codes.push(code).is_err() {
+            return Err(Failure::NoMemory);
+        }
+    }
+    Ok(())
+}
+
 /// A name as PETSCII: small letters are the letters of a C64 at power up.
 pub fn petscii<'a>(alloc: Global, name: &'a str) -> Result<Vec<u8>, Failure<'a>> {
     let mut codes = Vec::new(alloc);
-    for shown in name.chars() {
-        let Some(code) = code_of(shown.to_ascii_uppercase()) else {
-            return Err(Failure::Name(name));
-        };
-        codes.push(code).map_err(|_| Failure::NoMemory)?;
-    }
+    add_codes(&mut codes, name)?;
     Ok(codes)
 }
 
@@ -25,11 +35,21 @@ fn divides(code: u8) -> bool {
     matches!(code, b',' | b'=' | b':' | b'"')
 }
 
+/// Whether one of the codes does.
+fn is_divided(codes: &[u8]) -> bool {
+    for code in codes {
+        if divides(*code) {
+            return true;
+        }
+    }
+    false
+}
+
 /// The name of one file as PETSCII.
 pub fn file_name<'a>(alloc: Global, name: &'a str) -> Result<Vec<u8>, Failure<'a>> {
     let codes = petscii(alloc, name)?;
-    if codes.as_slice().iter().any(|code| divides(*code)) {
-        return Err(Failure::Divided(name));
+    if is_divided(codes.as_slice()) {
+        return Err(Failure::Word(WordFault::Divided(name)));
     }
     Ok(codes)
 }
@@ -37,7 +57,7 @@ pub fn file_name<'a>(alloc: Global, name: &'a str) -> Result<Vec<u8>, Failure<'a
 /// The name that a file of the host gets on a disk: without its folder and its ending, at most sixteen characters.
 pub fn name_of_file<'a>(alloc: Global, file: &'a str) -> Result<Vec<u8>, Failure<'a>> {
     if is_standard(file) {
-        return Err(Failure::NoName);
+        return Err(Failure::Word(WordFault::NoName));
     }
     let stem = Path::new(file).file_stem().unwrap_or(file);
     let mut name = file_name(alloc, stem)?;
@@ -52,6 +72,17 @@ pub fn shown(alloc: Global, codes: &[u8]) -> Result<String, AllocError> {
         text.push(char_of(*code))?;
     }
     Ok(text)
+}
+
+/// How the type of a file is called; None where it is none's.
+pub fn type_of(entry: &Entry) -> Option<&'static str> {
+    match entry.kind()? {
+        FileType::Del => Some("del"),
+        FileType::Seq => Some("seq"),
+        FileType::Prg => Some("prg"),
+        FileType::Usr => Some("usr"),
+        FileType::Rel => Some("rel"),
+    }
 }
 
 /// Whether a code stands for itself in the name of a host's file: what `put` makes the same code of, but for `/`, `%`

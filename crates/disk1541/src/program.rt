@@ -1,4 +1,4 @@
-//! The program: the words of the command line, the task, the exit status.
+//! The program: the words of the command line, the command, the exit status.
 use crate::arguments;
 use crate::failure::Failure;
 use crate::progress::Progress;
@@ -14,11 +14,11 @@ pub fn run_program(rt: &HostRuntime) -> ExitCode {
         Ok(words) => words,
         Err(error) => return without_words(rt, &error),
     };
-    let task = match arguments::parse(rt.alloc(), words.as_slice()) {
-        Ok(task) => task,
-        Err(error) => return without_task(rt, &error),
+    let line = match arguments::parse(rt.alloc(), words.as_slice()) {
+        Ok(line) => line,
+        Err(error) => return without_line(rt, &error),
     };
-    match carry_out(rt, task, progress) {
+    match carry_out(rt, &line, progress) {
         Ok(()) => ExitCode::from(0),
         Err(failure) => ended(rt, failure),
     }
@@ -39,7 +39,7 @@ fn without_words(rt: &HostRuntime, error: &io::Error) -> ExitCode {
 }
 
 // What was asked for, as help is, is no fault.
-fn without_task(rt: &HostRuntime, error: &clap::Error) -> ExitCode {
+fn without_line(rt: &HostRuntime, error: &clap::Error) -> ExitCode {
     if error.kind() == ErrorKind::OutOfMemory {
         return ended(rt, Failure::NoMemory);
     }

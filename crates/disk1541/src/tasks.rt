@@ -1,84 +1,79 @@
-//! Carrying out the tasks of the command line.
-use crate::arguments::Task;
-use crate::changing::{delete, letter_of, put, validate, with_names};
+//! Carrying out the commands.
+mod check;
+mod convert;
+mod edit;
+mod get;
+mod get_all;
+mod info;
+mod list;
+mod losses;
+mod make;
+mod put;
+mod rename;
+mod show;
+mod taking;
+
+use self::check::check;
+pub use self::convert::Conversion;
+use self::convert::convert;
+use self::edit::{Edit, save_edit};
+pub use self::get::OneFile;
+use self::get::get;
+use self::get_all::get_all;
+pub use self::list::Style;
+pub use self::make::Blank;
+use self::make::make;
+pub use self::put::HostFile;
+use self::put::put;
+pub use self::rename::Pair;
+use self::rename::rename;
+pub use self::show::View;
+use self::show::show;
+pub use self::taking::Place;
+use crate::arguments::given;
+use crate::commands::{Verb, verb_of};
 use crate::failure::Failure;
-use crate::looking::{check, info, list, map};
-use crate::making::{convert, make};
 use crate::progress::Progress;
-use crate::taking::{get, get_all};
+use crate::reading::{blank, conversion, directory, host_file, one_file, pair, place};
+use clap::ArgMatches;
 use std::rt::Runtime;
 
-/// Carries out a task that only looks, or makes an image; None for one that changes an image.
-fn look<'a, R: Runtime + AllocGlobal>(
+/// Carries out a command with its words.
+fn perform<'a, R: Runtime + AllocGlobal>(
     rt: &R,
-    task: Task<'a>,
-    progress: Progress,
-) -> Option<Result<(), Failure<'a>>> {
-    match task {
-        Task::List {
-            image,
-            pattern,
-            style,
-        } => Some(list(rt, image, pattern, style)),
-        Task::Get {
-            image,
-            name,
-            output,
-            replaces,
-        } => Some(get(rt, image, name, output, replaces)),
-        Task::GetAll {
-            image,
-            folder,
-            replaces,
-        } => Some(get_all(rt, image, folder, replaces, progress)),
-        Task::Info { image } => Some(info(rt, image)),
-        Task::Map { image } => Some(map(rt, image)),
-        Task::Check { image } => Some(check(rt, image)),
-        _ => None,
-    }
-}
-
-/// Carries out a task that changes an image or makes one.
-fn change<'a, R: Runtime + AllocGlobal>(rt: &R, task: Task<'a>) -> Result<(), Failure<'a>> {
-    match task {
-        Task::New {
-            image,
-            title,
-            id,
-            tracks,
-            format,
-            replaces,
-        } => make(rt, image, title, id, tracks, format, replaces),
-        Task::Convert {
-            image,
-            output,
-            format,
-            is_lossy,
-            replaces,
-        } => convert(rt, image, output, format, is_lossy, replaces),
-        Task::Put {
-            image,
-            file,
-            name,
-            kind,
-            replaces,
-        } => put(rt, image, file, name, letter_of(kind)?, replaces),
-        Task::Copy { image, old, new } => with_names(rt, image, b"C0:", old, new),
-        Task::Rename { image, old, new } => with_names(rt, image, b"R0:", old, new),
-        Task::Delete { image, pattern } => delete(rt, image, pattern),
-        Task::Validate { image } => validate(rt, image),
-        _ => Ok(()),
-    }
-}
-
-/// Carries out a task.
-pub fn carry_out<'a, R: Runtime + AllocGlobal>(
-    rt: &R,
-    task: Task<'a>,
+    verb: Verb,
+    words: &ArgMatches<'a>,
     progress: Progress,
 ) -> Result<(), Failure<'a>> {
-    match look(rt, task, progress) {
-        Some(done) => done,
-        None => change(rt, task),
+    let image = given(words, "IMAGE");
+    match verb {
+        Verb::List => show(rt, image, directory(words)),
+        Verb::Get => get(rt, image, &one_file(words)),
+        Verb::GetAll => get_all(rt, image, place(words), progress),
+        Verb::Info => show(rt, image, View::Facts),
+        Verb::Map => show(rt, image, View::Sectors),
+        Verb::Check => check(rt, image),
+        Verb::New => make(rt, image, &blank(words)),
+        Verb::Convert => convert(rt, image, &conversion(words)),
+        Verb::Put => put(rt, image, &host_file(words)),
+        Verb::Copy => rename(rt, image, b"C0:", &pair(words)),
+        Verb::Rename => rename(rt, image, b"R0:", &pair(words)),
+        Verb::Delete => save_edit(rt, image, &Edit::Delete(given(words, "PATTERN"))),
+        Verb::Validate => save_edit(rt, image, &Edit::Validate),
+    }
+}
+
+/// Carries out the command line. It has a command of the table, since clap refuses any other.
+pub fn carry_out<'a, R: Runtime + AllocGlobal>(
+    rt: &R,
+    line: &ArgMatches<'a>,
+    progress: Progress,
+) -> Result<(), Failure<'a>> {
+    let Some((name, words)) = line.subcommand() else {
+        return Err(Failure::Told);
+    };
+    match verb_of(name) {
+        Some(verb) => perform(rt, verb, words, progress),
+        None => Err(Failure::Told),
     }
 }

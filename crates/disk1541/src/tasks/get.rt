@@ -1,0 +1,45 @@
+//! GET: a file out of the image, to a file of the host or to standard output.
+use crate::failure::{Failure, on_disk};
+use crate::host::{read, require_new, write};
+use crate::names::petscii;
+use host_files::Sync;
+use std::alloc::Global;
+use std::rt::Runtime;
+
+/// A file that is taken out.
+#[derive(Clone, Copy)]
+pub struct OneFile<'a> {
+    /// Its name, or a pattern.
+    pub name: &'a str,
+    /// Where it goes.
+    pub output: &'a str,
+    /// A file that is there is replaced.
+    pub replaces: bool,
+}
+
+/// The bytes of the first file that a name means.
+fn file_of<'a>(alloc: Global, image: &[u8], name: &'a str) -> Result<Vec<u8>, Failure<'a>> {
+    let pattern = petscii(alloc, name)?;
+    on_disk(name, cbm_shell::file(alloc, image, pattern.as_slice()))
+}
+
+/// Takes a file out. One of the host that is there is kept, unless it is to be replaced.
+fn take_out<'a, R: Runtime + AllocGlobal>(
+    rt: &R,
+    image: &[u8],
+    taken: &OneFile<'a>,
+) -> Result<(), Failure<'a>> {
+    let file = file_of(rt.alloc(), image, taken.name)?;
+    require_new(rt, taken.output, taken.replaces)?;
+    write(rt, taken.output, file.as_slice(), Sync::Later)
+}
+
+/// Takes a file out of an image.
+pub fn get<'a, R: Runtime + AllocGlobal>(
+    rt: &R,
+    image: &'a str,
+    taken: &OneFile<'a>,
+) -> Result<(), Failure<'a>> {
+    let bytes = read(rt, image)?;
+    take_out(rt, bytes.as_slice(), taken)
+}

@@ -1,0 +1,120 @@
+//! INFO: what the disk is.
+use crate::names::shown;
+use cbm_program::{Kind, kind_of};
+use cbm_shell::{Info, ShellFault};
+use cbm_volume::{Entry, Unsound};
+use std::alloc::{AllocError, Global};
+
+/// The size of a D64 of 35 tracks with error bytes.
+const WITH_ERRORS: usize = 175_531;
+
+/// How an image's format is called.
+fn name_of(image: &[u8]) -> &'static str {
+    match kind_of(image) {
+        Kind::G64 => "G64",
+        Kind::D64 if image.len() == WITH_ERRORS => "D64 with error bytes",
+        Kind::D64 => "D64",
+    }
+}
+
+/// The line of the format.
+fn add_format(
+    alloc: Global,
+    text: &mut String,
+    image: &[u8],
+    tracks: u8,
+) -> Result<(), AllocError> {
+    let name = name_of(image);
+    text.push_str(format!(in alloc; "format       {name}, {tracks} tracks\n")?.as_str())
+}
+
+/// A line.
+fn add_line(text: &mut String, name: &str, value: &str) -> Result<(), AllocError> {
+    text.push_str(name)?;
+    text.push_str(value)?;
+    text.push('\n')
+}
+
+/// The line of the title.
+fn add_title(alloc: Global, text: &mut String, title: &[u8]) -> Result<(), AllocError> {
+    let title = shown(alloc, title)?;
+    let title = title.as_str().trim_end_matches('\u{a0}');
+    add_line(text, "title        ", title)
+}
+
+/// A line of what codes show.
+fn add_shown(alloc: Global, text: &mut String, name: &str, codes: &[u8]) -> Result<(), AllocError> {
+    let codes = shown(alloc, codes)?;
+    add_line(text, name, codes.as_str())
+}
+
+/// The lines of the title, the id and the free blocks.
+fn add_label(alloc: Global, text: &mut String, info: &Info) -> Result<(), AllocError> {
+    let Some(label) = info.label else {
+        return text.push_str("title        unknown: track 18, sector 0 can't be read\n");
+    };
+    let [first, second, _, dos, version] = label.mark;
+    let free = info.free.unwrap_or(0);
+    add_title(alloc, text, label.title.as_slice())?;
+    add_shown(alloc, text, "id           ", &[first, second])?;
+    add_shown(alloc, text, "DOS          ", &[dos, version])?;
+    text.push_str(format!(in alloc; "blocks free  {free}\n")?.as_str())
+}
+
+/// How many files are in a directory.
+pub fn count_files(entries: &[Entry]) -> usize {
+    let mut files: usize = 0;
+    for entry in entries {
+        if !entry.is_empty() {
+            files = files.saturating_add(1);
+        }
+    }
+    files
+}
+
+/// The line of how many files there are, where the directory can be followed to its end.
+fn add_files(alloc: Global, text: &mut String, image: &[u8]) -> Result<(), AllocError> {
+    let Ok(entries) = cbm_shell::entries(alloc, image) else {
+        return Ok(());
+    };
+    let files = count_files(entries.as_slice());
+    text.push_str(format!(in alloc; "files        {files}\n")?.as_str())
+}
+
+/// What is wrong first.
+fn add_unsound(alloc: Global, text: &mut String, unsound: Unsound) -> Result<(), AllocError> {
+    let line = cbm_shell::unsound_text(alloc, unsound)?;
+    text.push_str("no: ")?;
+    text.push_str(std::str::from_utf8(line.as_slice()).unwrap_or("\n"))
+}
+
+/// The lines of what is wrong.
+fn add_faults(alloc: Global, text: &mut String, info: &Info) -> Result<(), AllocError> {
+    let count = info.unreadable.len();
+    text.push_str(format!(in alloc; "unreadable   {count}\nsound        ")?.as_str())?;
+    match info.check {
+        Ok(()) => text.push_str("yes\n"),
+        Err(unsound) => add_unsound(alloc, text, unsound),
+    }
+}
+
+/// All lines.
+fn add_lines(
+    alloc: Global,
+    text: &mut String,
+    info: &Info,
+    image: &[u8],
+) -> Result<(), AllocError> {
+    add_format(alloc, text, image, info.tracks)?;
+    add_label(alloc, text, info)?;
+    add_files(alloc, text, image)?;
+    add_faults(alloc, text, info)
+}
+
+/// What the disk is, as lines.
+pub fn lines_of(alloc: Global, image: &[u8]) -> Result<Vec<u8>, ShellFault> {
+    let info = cbm_shell::info(alloc, image)?;
+    let mut text = String::new(alloc);
+    add_lines(alloc, &mut text, &info, image)?;
+    Ok(text.into_bytes())
+}

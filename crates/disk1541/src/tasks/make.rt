@@ -1,0 +1,77 @@
+//! NEW: an image of an empty disk.
+ghost use Rattle.std.specs.Prelude.{◌≤◌, length, IfOk};
+
+use crate::failure::{Failure, in_memory};
+use crate::formats::{form, format};
+use crate::host::{require_new, write};
+use crate::names::petscii;
+use crate::word_fault::WordFault;
+use cbm_shell::{Form, new_image};
+use host_files::Sync;
+use std::alloc::Global;
+use std::rt::Runtime;
+
+/// The most characters of a title.
+const LONGEST: usize = 16;
+
+/// An empty disk that is made.
+#[derive(Clone, Copy)]
+pub struct Blank<'a> {
+    /// Its title.
+    pub title: &'a str,
+    /// Its id.
+    pub id: &'a str,
+    /// How many tracks it has.
+    pub tracks: &'a str,
+    /// The word that tells the image's format.
+    pub format: Option<&'a str>,
+    /// An image that is there is replaced.
+    pub replaces: bool,
+}
+
+/// The codes of a title.
+fn title_of<'a>(alloc: Global, title: &'a str) -> Result<Vec<u8>, Failure<'a>>
+    ensures { IfOk result (λ v. length v.items ≤ 16) }
+{
+    let codes = petscii(alloc, title)?;
+    if codes.len() > LONGEST {
+        return Err(Failure::Word(WordFault::Title(title)));
+    }
+    Ok(codes)
+}
+
+/// The two codes of an id.
+fn id_of<'a>(alloc: Global, id: &'a str) -> Result<[u8; 2], Failure<'a>> {
+    match petscii(alloc, id)?.as_slice() {
+        [first, second] => Ok([*first, *second]),
+        _ => Err(Failure::Word(WordFault::Id(id))),
+    }
+}
+
+/// Makes an image of an empty disk with a title, if nothing is there.
+fn make_titled<'a, R: Runtime + AllocGlobal>(
+    rt: &R,
+    image: &'a str,
+    blank: &Blank<'a>,
+    form: Form,
+    title: &[u8],
+) -> Result<(), Failure<'a>>
+    requires { length title.now ≤ 16 }
+{
+    let id = id_of(rt.alloc(), blank.id)?;
+    require_new(rt, image, blank.replaces)?;
+    let bytes = in_memory(new_image(rt.alloc(), form, title, id))?;
+    write(rt, image, bytes.as_slice(), Sync::Before)
+}
+
+/// Makes an image of an empty disk.
+pub fn make<'a, R: Runtime + AllocGlobal>(
+    rt: &R,
+    image: &'a str,
+    blank: &Blank<'a>,
+) -> Result<(), Failure<'a>> {
+    let kind = format(image, blank.format)?;
+    let form = form(kind, blank.tracks)?;
+    let title = title_of(rt.alloc(), blank.title)?;
+    make_titled(rt, image, blank, form, title.as_slice())
+}

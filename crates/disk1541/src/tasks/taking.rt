@@ -1,0 +1,159 @@
+//! Files that are taken out of an image into a folder.
+use crate::host::{exists, write};
+use crate::names::{host_name, shown, type_of};
+use cbm_shell::{OpenDisk, ShellFault};
+use cbm_volume::Entry;
+use host_files::Sync;
+use std::alloc::{AllocError, Global};
+use std::io;
+use std::path::{Path, PathBuf};
+use std::rt::Runtime;
+
+/// Where files are written.
+#[derive(Clone, Copy)]
+pub struct Place<'a> {
+    /// The folder.
+    pub folder: &'a str,
+    /// Files that are there are replaced.
+    pub replaces: bool,
+}
+
+/// The names of the host's files so far, without their numbers.
+#[derive(Drop)]
+pub struct Names {
+    taken: Vec<String>,
+}
+
+impl Names {
+    /// None yet.
+    pub fn new(alloc: Global) -> Names {
+        Names {
+            taken: Vec::new(alloc),
+        }
+    }
+
+    /// The name of a host's file for the next entry; from the second of one name on it has a number.
+    fn next(&mut self, alloc: Global, entry: &Entry) -> Result<String, AllocError> {
+        let base = host_name(alloc, entry.name())?;
+        let end = type_of(entry).unwrap_or("del");
+        let number = self.enter(format!(in alloc; "{base}.{end}")?)?;
+        numbered(alloc, base.as_str(), end, number)
+    }
+
+    /// Adds a name, and answers how many so far were the same.
+    fn enter(&mut self, name: String) -> Result<usize, AllocError> {
+        let count = self.count(name.as_str());
+        self.taken.push(name)?;
+        Ok(count)
+    }
+
+    /// How many names so far are this one.
+    fn count(&self, name: &str) -> usize {
+        let mut count: usize = 0;
+        for other in self.taken.as_slice() {
+            if other.as_str() == name {
+                count = count.saturating_add(1);
+            }
+        }
+        count
+    }
+}
+
+/// A name with a number, from 1 on, and an ending.
+fn numbered(alloc: Global, base: &str, end: &str, number: usize) -> Result<String, AllocError> {
+    if number == 0 {
+        return format!(in alloc; "{base}.{end}");
+    }
+    format!(in alloc; "{base}~{number}.{end}")
+}
+
+/// Tells of a file that isn't taken out.
+fn tell_left(rt: &impl Eprint, name: &str, fault: ShellFault) -> io::Result<()> {
+    match fault {
+        ShellFault::Trouble(trouble) => {
+            let code = trouble.code;
+            let track = trouble.track;
+            let sector = trouble.sector;
+            eprintln!(rt;
+                "disk1541: \"{name}\" isn't taken out: track {track}, sector {sector} can't be read (error {code})"
+            )
+        }
+        _ => eprintln!(rt; "disk1541: \"{name}\" isn't taken out: {fault}"),
+    }
+}
+
+/// The bytes of an entry's file, if it was closed.
+fn bytes_of(alloc: Global, disk: &OpenDisk, entry: &Entry) -> Result<Vec<u8>, ShellFault> {
+    if !entry.is_closed() {
+        return Err(ShellFault::NotClosed);
+    }
+    disk.file_of(alloc, entry)
+}
+
+/// Tells the name of a host's file where it isn't that of the disk.
+fn tell_name(rt: &impl Eprint, path: Path<'_>, name: &str) -> io::Result<()> {
+    let place = path.as_str();
+    if path.file_stem().unwrap_or(place) == name {
+        return Ok(());
+    }
+    eprintln!(rt; "disk1541: \"{name}\" is written as {place}")
+}
+
+/// Saves a file under a name, and tells the name where it isn't that of the disk. Answers whether it was saved.
+fn save_as<R: Runtime + AllocGlobal>(
+    rt: &R,
+    path: Path<'_>,
+    name: &str,
+    bytes: &[u8],
+    replaces: bool,
+) -> bool {
+    let place = path.as_str();
+    if !replaces && exists(rt, place) {
+        let _ = eprintln!(rt; "disk1541: {place} is there already: --replace replaces it");
+        return false;
+    }
+    if let Err(failure) = write(rt, place, bytes, Sync::Later) {
+        let _ = failure.tell(rt);
+        return false;
+    }
+    let _ = tell_name(rt, path, name);
+    true
+}
+
+/// Takes the file of an entry out, to a path. Answers whether it was saved.
+fn take_to<R: Runtime + AllocGlobal>(
+    rt: &R,
+    disk: &OpenDisk,
+    entry: &Entry,
+    path: &PathBuf,
+    replaces: bool,
+) -> Result<bool, AllocError> {
+    let name = shown(rt.alloc(), entry.name())?;
+    match bytes_of(rt.alloc(), disk, entry) {
+        Ok(bytes) => Ok(save_as(
+            rt,
+            path.as_path(),
+            name.as_str(),
+            bytes.as_slice(),
+            replaces,
+        )),
+        Err(fault) => {
+            let _ = tell_left(rt, name.as_str(), fault);
+            Ok(false)
+        }
+    }
+}
+
+/// Takes the file of the next entry out. Answers whether it was saved.
+pub fn take<R: Runtime + AllocGlobal>(
+    rt: &R,
+    disk: &OpenDisk,
+    entry: &Entry,
+    names: &mut Names,
+    place: Place<'_>,
+) -> Result<bool, AllocError> {
+    let alloc = rt.alloc();
+    let name = names.next(alloc, entry)?;
+    let path = Path::new(place.folder).join(alloc, name.as_str())?;
+    take_to(rt, disk, entry, &path, place.replaces)
+}

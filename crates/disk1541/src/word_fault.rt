@@ -1,0 +1,66 @@
+//! What is wrong with a word of the command line.
+use std::io;
+
+/// Why a word of the command line is refused.
+#[derive(Clone, Copy)]
+pub enum WordFault<'a> {
+    /// A name has a character that no disk has.
+    Name(&'a str),
+    /// A name has one of `,` `=` `:` `"`, which divide the words of the drive's commands.
+    Divided(&'a str),
+    /// A file from standard input has no name.
+    NoName,
+    /// Standard input is read once, so it isn't image and file.
+    Twice,
+    /// No file has such a type.
+    Type(&'a str),
+    /// A disk's title has more than sixteen characters.
+    Title(&'a str),
+    /// A disk's id hasn't two characters.
+    Id(&'a str),
+    /// No disk has so many tracks.
+    Tracks(&'a str),
+    /// A G64 has 35 tracks.
+    LongG64,
+    /// No image has such a format, or the name doesn't tell it.
+    Format(&'a str),
+    /// The image has that format already.
+    SameFormat(&'a str),
+}
+
+impl<'a> WordFault<'a> {
+    /// The sentence: its start, the word, its end.
+    fn sentence(self) -> (&'static str, &'a str, &'static str) {
+        match self {
+            WordFault::Name(name) => ("a name on a disk can't have a character of ", name, ""),
+            WordFault::Divided(name) => {
+                (
+                    "a name can't have `,` `=` `:` or a quotation mark: ",
+                    name,
+                    "",
+                )
+            }
+            WordFault::NoName => ("name the file by --name", "", ""),
+            WordFault::Twice => ("`-` is the image or the file, not both", "", ""),
+            WordFault::Type(kind) => ("", kind, " is no type of a file: take prg, seq or usr"),
+            WordFault::Title(title) => ("a title has at most 16 characters: ", title, ""),
+            WordFault::Id(id) => ("an id has two characters: ", id, ""),
+            WordFault::Tracks(tracks) => ("a disk has 35 or 40 tracks, not ", tracks, ""),
+            WordFault::LongG64 => ("a G64 has 35 tracks here, not 40", "", ""),
+            WordFault::SameFormat(name) => ("", name, " has that format already"),
+            WordFault::Format(word) => {
+                (
+                    "",
+                    word,
+                    " tells no format: say --format d64 or --format g64",
+                )
+            }
+        }
+    }
+
+    /// Prints the sentence on standard error.
+    pub fn tell(self, rt: &impl Eprint) -> io::Result<()> {
+        let (start, word, end) = self.sentence();
+        eprintln!(rt; "disk1541: {start}{word}{end}")
+    }
+}

@@ -1,0 +1,229 @@
+//! The words that the commands take.
+use clap::ArgAction;
+
+/// How a word is marked on the command line.
+#[derive(Clone, Copy)]
+pub enum Mark {
+    /// By its place.
+    Place,
+    /// By `--` and its name.
+    Long,
+    /// By `--` and its name, or by `-` and a letter.
+    Short(char),
+}
+
+/// A word that a command takes.
+#[derive(Clone, Copy)]
+pub struct Word {
+    /// Its name.
+    pub name: &'static str,
+    /// What help says of it.
+    pub help: &'static str,
+    /// How it is marked.
+    pub mark: Mark,
+    /// Whether it must be there.
+    pub is_needed: bool,
+    /// Whether it has a value.
+    pub action: ArgAction,
+    /// What help calls its value, where that isn't its name.
+    pub value: &'static [&'static str],
+    /// What it is where it is missing.
+    pub default: &'static [&'static str],
+}
+
+/// A word that must be there.
+const NEEDED: Word = Word {
+    name: "",
+    help: "",
+    mark: Mark::Place,
+    is_needed: true,
+    action: ArgAction::Set,
+    value: &[],
+    default: &[],
+};
+
+/// A word with a value that may be missing.
+const OPTION: Word = Word {
+    mark: Mark::Long,
+    is_needed: false,
+    ..NEEDED
+};
+
+/// A word that is there or not.
+const FLAG: Word = Word {
+    action: ArgAction::SetTrue,
+    ..OPTION
+};
+
+/// The image that a command is about.
+pub const IMAGE: Word = Word {
+    name: "IMAGE",
+    help: "the disk image",
+    ..NEEDED
+};
+
+/// The files that LIST shows.
+pub const SHOWN: Word = Word {
+    name: "PATTERN",
+    help: "the files that are meant: `?` for one character, `*` for the rest",
+    is_needed: false,
+    default: &["*"],
+    ..NEEDED
+};
+
+/// LIST as the drive sends it.
+pub const RAW: Word = Word {
+    name: "raw",
+    help: "the bytes that the drive sends",
+    ..FLAG
+};
+
+/// LIST for programs.
+pub const JSON: Word = Word {
+    name: "json",
+    help: "as JSON, for programs",
+    ..FLAG
+};
+
+/// The file that GET takes out.
+pub const NAME: Word = Word {
+    name: "NAME",
+    help: "the file's name, or a pattern",
+    ..NEEDED
+};
+
+/// Where GET writes it.
+pub const OUTPUT: Word = Word {
+    name: "output",
+    help: "where the file goes, `-` for standard output",
+    mark: Mark::Short('o'),
+    value: &["FILE"],
+    default: &["-"],
+    ..OPTION
+};
+
+/// GET over a file that is there.
+pub const REPLACE_FILE: Word = Word {
+    name: "replace",
+    help: "replace the file that is there",
+    ..FLAG
+};
+
+/// Where GET-ALL writes the files.
+pub const FOLDER: Word = Word {
+    name: "DIR",
+    help: "the folder; it is made if it isn't there",
+    ..NEEDED
+};
+
+/// GET-ALL over files that are there.
+pub const REPLACE_FILES: Word = Word {
+    help: "replace files that are there",
+    ..REPLACE_FILE
+};
+
+/// The title of a new disk.
+pub const TITLE: Word = Word {
+    name: "title",
+    help: "the disk's title, up to 16 characters",
+    is_needed: true,
+    value: &["T"],
+    ..OPTION
+};
+
+/// Its id.
+pub const ID: Word = Word {
+    name: "id",
+    help: "the disk's id, two characters",
+    is_needed: true,
+    value: &["XX"],
+    ..OPTION
+};
+
+/// How many tracks it has.
+pub const TRACKS: Word = Word {
+    name: "tracks",
+    help: "35 or 40",
+    value: &["N"],
+    default: &["35"],
+    ..OPTION
+};
+
+/// The format of a new image.
+pub const FORMAT: Word = Word {
+    name: "format",
+    help: "d64 or g64; without it the ending of the name says so",
+    value: &["F"],
+    ..OPTION
+};
+
+/// A new image over one that is there.
+pub const REPLACE_IMAGE: Word = Word {
+    help: "replace the image that is there",
+    ..REPLACE_FILE
+};
+
+/// The image that CONVERT makes.
+pub const OUT: Word = Word {
+    name: "OUT",
+    help: "the new image",
+    ..NEEDED
+};
+
+/// CONVERT with what is lost.
+pub const LOSSY: Word = Word {
+    name: "lossy",
+    help: "also where the new image lacks something",
+    ..FLAG
+};
+
+/// The file that PUT reads.
+pub const FILE: Word = Word {
+    name: "FILE",
+    help: "the file",
+    ..NEEDED
+};
+
+/// Its name on the disk.
+pub const NAME_ON_DISK: Word = Word {
+    name: "name",
+    help: "its name on the disk",
+    value: &["NAME"],
+    ..OPTION
+};
+
+/// Its type.
+pub const TYPE: Word = Word {
+    name: "type",
+    help: "prg, seq or usr",
+    value: &["TYPE"],
+    default: &["prg"],
+    ..OPTION
+};
+
+/// PUT over a file of this name.
+pub const REPLACE_NAME: Word = Word {
+    help: "replace the file of this name",
+    ..REPLACE_FILE
+};
+
+/// A file's name.
+pub const OLD: Word = Word {
+    name: "OLD",
+    help: "the file's name",
+    ..NEEDED
+};
+
+/// Its new name.
+pub const NEW: Word = Word {
+    name: "NEW",
+    help: "the new name",
+    ..NEEDED
+};
+
+/// The files that DELETE deletes.
+pub const DELETED: Word = Word {
+    name: "PATTERN",
+    help: "the files that are meant",
+    ..NEEDED
+};
