@@ -1,7 +1,6 @@
 use crate::disks::{failed, report, stamp, sum_of_all};
-use cbm_d64::D64Disk;
+use crate::images::{circles, d64, g64};
 use cbm_g64::G64Disk;
-use cbm_medium::Medium;
 use cbm_sector::track_bytes;
 use std::alloc::Global;
 use std::io;
@@ -23,10 +22,10 @@ pub fn images(rt: &impl Runtime, alloc: Global) -> io::Result<()> {
     let mut file = made(rt, alloc)?;
     let start = Instant::now(rt)?;
     for _ in 0..TIMES {
-        let _disk = G64Disk::from_bytes(alloc, file.as_slice(), false).map_err(|_| failed())?;
+        let _disk = g64(alloc, file.as_slice())?;
     }
     report(rt, "G64Disk::from_bytes", &start, TIMES)?;
-    let mut disk = G64Disk::from_bytes(alloc, file.as_slice(), false).map_err(|_| failed())?;
+    let mut disk = g64(alloc, file.as_slice())?;
     let start = Instant::now(rt)?;
     for _ in 0..WRITES {
         stamp(&mut disk, 1);
@@ -34,7 +33,7 @@ pub fn images(rt: &impl Runtime, alloc: Global) -> io::Result<()> {
     report(rt, "G64Disk::write of 18/0", &start, WRITES)?;
     read_all(rt, "G64Disk::read of 683 sectors", &disk)?;
     turn_tracks(file.as_mut_slice());
-    let mut turned = G64Disk::from_bytes(alloc, file.as_slice(), false).map_err(|_| failed())?;
+    let mut turned = g64(alloc, file.as_slice())?;
     let start = Instant::now(rt)?;
     for _ in 0..WRITES {
         stamp(&mut turned, 1);
@@ -86,14 +85,11 @@ fn turn(bytes: &mut [u8]) {
 /// The G64 image of a D64 image of zeros, and the time that it takes.
 fn made(rt: &impl Runtime, alloc: Global) -> io::Result<Vec<u8>> {
     let image = vec![in alloc; 0; IMAGE]?;
-    let disk = D64Disk::from_bytes(alloc, image.as_slice(), false).map_err(|_| failed())?;
-    if disk.tracks() != 35 {
-        return Err(failed());
-    }
+    let disk = d64(alloc, image.as_slice())?;
     let start = Instant::now(rt)?;
     for _ in 0..TIMES {
-        let _file = G64Disk::from_sectors(alloc, &disk, [65, 66]).map_err(|_| failed())?;
+        let _file = circles(alloc, &disk)?;
     }
     report(rt, "G64Disk::from_sectors", &start, TIMES)?;
-    G64Disk::from_sectors(alloc, &disk, [65, 66]).map_err(|_| failed())
+    circles(alloc, &disk)
 }

@@ -1,7 +1,7 @@
 ghost use Rattle.std.specs.Prelude.{◌≤◌};
 
+use crate::images::d64;
 use cbm_chain::ChainReader;
-use cbm_d64::D64Disk;
 use cbm_medium::{Address, Geometry, Link, Medium, sectors_of};
 use std::alloc::Global;
 use std::io;
@@ -46,13 +46,15 @@ pub fn images(rt: &impl Runtime, alloc: Global) -> io::Result<()> {
     let image = vec![in alloc; 0; IMAGE]?;
     let start = Instant::now(rt)?;
     for _ in 0..TIMES {
-        let _disk = D64Disk::from_bytes(alloc, image.as_slice(), false).map_err(|_| failed())?;
+        let _disk = d64(alloc, image.as_slice())?;
     }
     report(rt, "D64Disk::from_bytes", &start, TIMES)?;
-    let mut disk = D64Disk::from_bytes(alloc, image.as_slice(), false).map_err(|_| failed())?;
+    let mut disk = d64(alloc, image.as_slice())?;
     let start = Instant::now(rt)?;
     for _ in 0..TIMES {
-        let _image = disk.to_bytes(alloc).map_err(|_| failed())?;
+        if disk.to_bytes(alloc).is_err() {
+            return Err(failed());
+        }
     }
     report(rt, "D64Disk::to_bytes", &start, TIMES)?;
     let start = Instant::now(rt)?;
@@ -98,7 +100,7 @@ pub fn sum_of_all<M: Medium>(disk: &M) -> u32 {
 pub fn chains(rt: &impl Runtime, alloc: Global) -> io::Result<()> {
     let mut image = vec![in alloc; 1; IMAGE]?;
     link_all(&mut image);
-    let disk = D64Disk::from_bytes(alloc, image.as_slice(), false).map_err(|_| failed())?;
+    let disk = d64(alloc, image.as_slice())?;
     let start = Instant::now(rt)?;
     let mut count = 0u32;
     for _ in 0..10 {

@@ -1,9 +1,8 @@
 ghost use Rattle.std.specs.Prelude.{◌≤◌};
 
 use crate::disks::{failed, report};
+use crate::images::{circles, d64, g64};
 use cbm_channel::Dos;
-use cbm_d64::D64Disk;
-use cbm_g64::G64Disk;
 use cbm_medium::{Medium, sectors_of};
 use cbm_volume::Volume;
 use std::alloc::Global;
@@ -24,7 +23,7 @@ const CHECKS: u32 = 100;
 pub fn files(rt: &impl Runtime, alloc: Global) -> io::Result<()> {
     let mut image = vec![in alloc; 1; IMAGE]?;
     enter_big(&mut image);
-    let disk = D64Disk::from_bytes(alloc, image.as_slice(), false).map_err(|_| failed())?;
+    let disk = d64(alloc, image.as_slice())?;
     let mut dos = Dos::new(disk);
     let start = Instant::now(rt)?;
     let mut count = 0u32;
@@ -45,14 +44,11 @@ pub fn checks(rt: &impl Runtime, alloc: Global) -> io::Result<()> {
     enter_big(&mut image);
     set(&mut image, HEAD, &[0; 256]);
     set(&mut image, HEAD.wrapping_add(72), &[17, 0xfc, 0xff, 7]);
-    let disk = D64Disk::from_bytes(alloc, image.as_slice(), false).map_err(|_| failed())?;
-    if disk.tracks() != 35 {
-        return Err(failed());
-    }
-    let file = G64Disk::from_sectors(alloc, &disk, [65, 66]).map_err(|_| failed())?;
+    let disk = d64(alloc, image.as_slice())?;
+    let file = circles(alloc, &disk)?;
     check_often(rt, "Volume::check of a full D64", disk)?;
-    let circles = G64Disk::from_bytes(alloc, file.as_slice(), false).map_err(|_| failed())?;
-    check_often(rt, "Volume::check of a full G64", circles)
+    let disk = g64(alloc, file.as_slice())?;
+    check_often(rt, "Volume::check of a full G64", disk)
 }
 
 fn check_often<M: Medium + Drop>(rt: &impl Runtime, name: &str, medium: M) -> io::Result<()> {

@@ -4,6 +4,7 @@
 mod circles;
 mod disks;
 mod drives;
+mod images;
 mod records;
 mod scripts;
 mod wires;

@@ -1,14 +1,12 @@
 use crate::disks::{failed, report};
-use crate::writes::succeeded;
+use crate::images::{circles, empty, g64};
+use crate::writes::{command, succeeded};
 use cbm_channel::Dos;
-use cbm_d64::D64Disk;
-use cbm_g64::G64Disk;
 use cbm_medium::Medium;
 use std::alloc::Global;
 use std::io;
 use std::rt::Runtime;
 use std::time::Instant;
-use test_images::empty_image;
 
 /// The records of the file: each fills a block, and the disk is full.
 const RECORDS: u16 = 658;
@@ -22,17 +20,12 @@ const LENGTH: u32 = 254;
 /// A relative file of 658 records of 254 bytes grows over a whole disk at once; then its first, middle and last records are
 /// read and written in place, each with its P: on a D64, and on a G64.
 pub fn files(rt: &impl Runtime, alloc: Global) -> io::Result<()> {
-    let image = empty_image(alloc)?;
-    let disk = D64Disk::from_bytes(alloc, image.as_slice(), false).map_err(|_| failed())?;
-    if disk.tracks() != 35 {
-        return Err(failed());
-    }
-    let file = G64Disk::from_sectors(alloc, &disk, [65, 66]).map_err(|_| failed())?;
+    let disk = empty(alloc)?;
+    let file = circles(alloc, &disk)?;
     eprintln!(rt; "Records on a D64:")?;
     records(rt, disk)?;
-    let circles = G64Disk::from_bytes(alloc, file.as_slice(), false).map_err(|_| failed())?;
     eprintln!(rt; "Records on a G64:")?;
-    records(rt, circles)
+    records(rt, g64(alloc, file.as_slice())?)
 }
 
 fn records<M: Medium + Drop>(rt: &impl Runtime, medium: M) -> io::Result<()> {
@@ -94,7 +87,7 @@ fn rewrite<M: Medium>(
 /// P to the first byte of a record.
 fn seek<M: Medium>(dos: &mut Dos<M>, number: u16) {
     let [low, high] = number.to_le_bytes();
-    dos.open(15, &[b'P', 98, low, high, 1]);
+    command(dos, &[b'P', 98, low, high, 1]);
 }
 
 /// A whole record is put; it begins with this byte above 0.

@@ -1,7 +1,8 @@
 use crate::disks::{failed, report};
-use crate::writes::succeeded;
+use crate::images::d64;
+use crate::writes::{store, succeeded};
 use cbm_channel::Dos;
-use cbm_d64::D64Disk;
+use cbm_medium::Medium;
 use cbm_program::{Options, run};
 use std::alloc::Global;
 use std::io;
@@ -56,23 +57,23 @@ fn timed(
     report(rt, name, &start, turns)
 }
 
-/// The same file by the DOS's calls, on a disk of its own: written, and read.
-fn direct(rt: &impl Runtime, alloc: Global, image: &[u8]) -> io::Result<()> {
-    let disk = D64Disk::from_bytes(alloc, image, false).map_err(|_| failed())?;
-    let mut dos = Dos::new(disk);
-    let start = Instant::now(rt)?;
-    dos.open(1, b"BIG");
-    for _ in 0..168_656u32 {
-        dos.put(1, 0x41);
-    }
-    dos.close(1);
-    report(rt, "664 blocks written by calls", &start, 1)?;
-    let start = Instant::now(rt)?;
-    dos.open(0, b"BIG");
+/// Bytes of a file are taken.
+fn take<M: Medium>(dos: &mut Dos<M>, name: &[u8], bytes: u32) {
+    dos.open(0, name);
     dos.talk(0);
-    for _ in 0..168_656u32 {
+    for _ in 0..bytes {
         dos.taken(0);
     }
+}
+
+/// The same file by the DOS's calls, on a disk of its own: written, and read.
+fn direct(rt: &impl Runtime, alloc: Global, image: &[u8]) -> io::Result<()> {
+    let mut dos = Dos::new(d64(alloc, image)?);
+    let start = Instant::now(rt)?;
+    store(&mut dos, b"BIG", 168_656);
+    report(rt, "664 blocks written by calls", &start, 1)?;
+    let start = Instant::now(rt)?;
+    take(&mut dos, b"BIG", 168_656);
     report(rt, "664 blocks read by calls", &start, 1)?;
     succeeded(&dos, 0)
 }

@@ -1,4 +1,5 @@
 use crate::disks::failed;
+use crate::images::empty;
 use cbm_channel::Dos;
 use cbm_d64::D64Disk;
 use cbm_drive::Line::*;
@@ -9,7 +10,6 @@ use std::io;
 use std::mem::size_of;
 use std::rt::Runtime;
 use std::time::Instant;
-use test_images::empty_image;
 
 /// How many bytes are sent, or taken.
 const BYTES: u32 = 20_000;
@@ -103,8 +103,7 @@ fn drive(alloc: Global, device: u8, reaction: u8) -> io::Result<Drive<Desk<D64Di
     if device >= 31 || reaction == 0 {
         return Err(failed());
     }
-    let image = empty_image(alloc)?;
-    let disk = D64Disk::from_bytes(alloc, image.as_slice(), false).map_err(|_| failed())?;
+    let disk = empty(alloc)?;
     Ok(Drive::new(
         Desk::new(Dos::new(disk), device),
         Party { device, reaction },
@@ -173,24 +172,53 @@ fn files(alloc: Global, devices: &[u8], bytes: u32) -> io::Result<(Host, Host)> 
     Ok((writing, reading))
 }
 
+// A bus with one drive, number 8.
+fn one(alloc: Global) -> io::Result<Bus<Desk<D64Disk>, 1>> {
+    Ok(Bus::new([drive(alloc, 8, 20)?]))
+}
+
+// A bus with four drives of unlike reactions.
+fn four(alloc: Global) -> io::Result<Bus<Desk<D64Disk>, 4>> {
+    let eight = drive(alloc, 8, 1)?;
+    let nine = drive(alloc, 9, 20)?;
+    let ten = drive(alloc, 10, 40)?;
+    let eleven = drive(alloc, 11, 60)?;
+    Ok(Bus::new([eight, nine, ten, eleven]))
+}
+
+// One drive, all changes at once.
+fn one_at_once(rt: &impl Runtime, alloc: Global, writing: &Host, reading: &Host) -> io::Result<()> {
+    let mut bus = one(alloc)?;
+    plays(rt, alloc, "one drive listens", &mut bus, writing)?;
+    plays(rt, alloc, "one drive talks", &mut bus, reading)
+}
+
+// One drive, each event as soon as it comes.
+fn one_by_player(
+    rt: &impl Runtime,
+    alloc: Global,
+    writing: &Host,
+    reading: &Host,
+) -> io::Result<()> {
+    let mut bus = one(alloc)?;
+    streams(rt, "one drive listens, by a player", &mut bus, writing)?;
+    streams(rt, "one drive talks, by a player", &mut bus, reading)
+}
+
+// Four drives, all changes at once.
+fn four_at_once(rt: &impl Runtime, alloc: Global) -> io::Result<()> {
+    let (writing, reading) = files(alloc, &[0x28, 0x29, 0x2a, 0x2b], BYTES / 4)?;
+    let mut bus = four(alloc)?;
+    plays(rt, alloc, "four drives listen", &mut bus, &writing)?;
+    plays(rt, alloc, "one of four drives talks", &mut bus, &reading)
+}
+
 /// Drives with disks over the wires: events a second, the host's and the drives'.
 pub fn drives(rt: &impl Runtime, alloc: Global) -> io::Result<()> {
     let size = size_of::<Drive<Desk<D64Disk>>>();
     eprintln!(rt; "a drive with a D64: {size} bytes, and its image")?;
     let (writing, reading) = files(alloc, &[0x28], BYTES)?;
-    let mut bus = Bus::new([drive(alloc, 8, 20)?]);
-    plays(rt, alloc, "one drive listens", &mut bus, &writing)?;
-    plays(rt, alloc, "one drive talks", &mut bus, &reading)?;
-    let mut bus = Bus::new([drive(alloc, 8, 20)?]);
-    streams(rt, "one drive listens, by a player", &mut bus, &writing)?;
-    streams(rt, "one drive talks, by a player", &mut bus, &reading)?;
-    let (writing, reading) = files(alloc, &[0x28, 0x29, 0x2a, 0x2b], BYTES / 4)?;
-    let mut bus = Bus::new([
-        drive(alloc, 8, 1)?,
-        drive(alloc, 9, 20)?,
-        drive(alloc, 10, 40)?,
-        drive(alloc, 11, 60)?,
-    ]);
-    plays(rt, alloc, "four drives listen", &mut bus, &writing)?;
-    plays(rt, alloc, "one of four drives talks", &mut bus, &reading)
+    one_at_once(rt, alloc, &writing, &reading)?;
+    one_by_player(rt, alloc, &writing, &reading)?;
+    four_at_once(rt, alloc)
 }

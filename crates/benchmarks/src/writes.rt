@@ -1,14 +1,12 @@
 use crate::circles::turn_tracks;
 use crate::disks::{failed, report};
+use crate::images::{circles, empty, g64};
 use cbm_channel::Dos;
-use cbm_d64::D64Disk;
-use cbm_g64::G64Disk;
 use cbm_medium::Medium;
 use std::alloc::Global;
 use std::io;
 use std::rt::Runtime;
 use std::time::Instant;
-use test_images::empty_image;
 
 /// The bytes of a file of 664 blocks.
 const LARGEST: u32 = 168_656;
@@ -21,17 +19,12 @@ const VALIDATIONS: u32 = 100;
 
 /// A file of 664 blocks written byte by byte to an empty disk through `Dos`, and scratched: a D64, a G64, and a G64 whose blocks begin inside bytes.
 pub fn files(rt: &impl Runtime, alloc: Global) -> io::Result<()> {
-    let image = empty_image(alloc)?;
-    let disk = D64Disk::from_bytes(alloc, image.as_slice(), false).map_err(|_| failed())?;
-    if disk.tracks() != 35 {
-        return Err(failed());
-    }
-    let mut file = G64Disk::from_sectors(alloc, &disk, [65, 66]).map_err(|_| failed())?;
+    let disk = empty(alloc)?;
+    let mut file = circles(alloc, &disk)?;
     write(rt, "Dos, a byte of a file of 664 blocks written", disk)?;
-    let circles = G64Disk::from_bytes(alloc, file.as_slice(), false).map_err(|_| failed())?;
-    write(rt, "the same on a G64", circles)?;
+    write(rt, "the same on a G64", g64(alloc, file.as_slice())?)?;
     turn_tracks(file.as_mut_slice());
-    let turned = G64Disk::from_bytes(alloc, file.as_slice(), false).map_err(|_| failed())?;
+    let turned = g64(alloc, file.as_slice())?;
     write(rt, "the same, each track turned by 3 bits", turned)
 }
 
@@ -39,17 +32,27 @@ pub fn files(rt: &impl Runtime, alloc: Global) -> io::Result<()> {
 fn write<M: Medium + Drop>(rt: &impl Runtime, name: &str, medium: M) -> io::Result<()> {
     let mut dos = Dos::new(medium);
     let start = Instant::now(rt)?;
-    dos.open(1, b"BIG");
-    for _ in 0..LARGEST {
-        dos.put(1, 65);
-    }
-    dos.close(1);
+    store(&mut dos, b"BIG", LARGEST);
     report(rt, name, &start, LARGEST)?;
     succeeded(&dos, 0)?;
     let start = Instant::now(rt)?;
-    dos.open(15, b"S0:BIG");
+    command(&mut dos, b"S0:BIG");
     report(rt, "S of that file", &start, 1)?;
     succeeded(&dos, 1)
+}
+
+/// A program of so many bytes is written, with OPEN and CLOSE.
+pub fn store<M: Medium>(dos: &mut Dos<M>, name: &[u8], bytes: u32) {
+    dos.open(1, name);
+    for _ in 0..bytes {
+        dos.put(1, 65);
+    }
+    dos.close(1);
+}
+
+/// A command is sent.
+pub fn command<M: Medium>(dos: &mut Dos<M>, text: &[u8]) {
+    dos.open(15, text);
 }
 
 /// Whether the drive's status is this one.
@@ -63,29 +66,14 @@ pub fn succeeded<M: Medium>(dos: &Dos<M>, code: u8) -> io::Result<()> {
 
 /// A disk with 144 files of one block is validated.
 pub fn validations(rt: &impl Runtime, alloc: Global) -> io::Result<()> {
-    let image = empty_image(alloc)?;
-    let disk = D64Disk::from_bytes(alloc, image.as_slice(), false).map_err(|_| failed())?;
-    let mut dos = Dos::new(disk);
+    let mut dos = Dos::new(empty(alloc)?);
     for number in 0..144u8 {
-        dos.open(
-            2,
-            &[
-                b'F',
-                65 + number / 12,
-                65 + number % 12,
-                b',',
-                b'S',
-                b',',
-                b'W',
-            ],
-        );
-        dos.put(2, number);
-        dos.close(2);
+        store(&mut dos, &[b'F', 65 + number / 12, 65 + number % 12], 1);
         succeeded(&dos, 0)?;
     }
     let start = Instant::now(rt)?;
     for _ in 0..VALIDATIONS {
-        dos.open(15, b"V0");
+        command(&mut dos, b"V0");
     }
     report(rt, "V of a D64 with 144 files", &start, VALIDATIONS)?;
     succeeded(&dos, 0)
@@ -93,15 +81,9 @@ pub fn validations(rt: &impl Runtime, alloc: Global) -> io::Result<()> {
 
 /// A file of 332 blocks is written, and then copied: the time of a byte of each.
 pub fn copies(rt: &impl Runtime, alloc: Global) -> io::Result<()> {
-    let image = empty_image(alloc)?;
-    let disk = D64Disk::from_bytes(alloc, image.as_slice(), false).map_err(|_| failed())?;
-    let mut dos = Dos::new(disk);
+    let mut dos = Dos::new(empty(alloc)?);
     let start = Instant::now(rt)?;
-    dos.open(1, b"HALF");
-    for _ in 0..HALF {
-        dos.put(1, 65);
-    }
-    dos.close(1);
+    store(&mut dos, b"HALF", HALF);
     report(
         rt,
         "Dos, a byte of a file of 332 blocks written",
@@ -110,7 +92,7 @@ pub fn copies(rt: &impl Runtime, alloc: Global) -> io::Result<()> {
     )?;
     succeeded(&dos, 0)?;
     let start = Instant::now(rt)?;
-    dos.open(15, b"C0:COPY=HALF");
+    command(&mut dos, b"C0:COPY=HALF");
     report(rt, "a byte of its copy by C", &start, HALF)?;
     succeeded(&dos, 0)
 }
