@@ -5,10 +5,13 @@ ghost use Rattle.cbm_iec.specs.Table.{happens, stays};
 
 use crate::act::Act;
 use crate::lines::{Held, Lines};
+use crate::pace::Pace;
 
 /// A reaction that is due: what its drive sees then.
 #[derive(Clone, Copy, Debug, PartialEq, Eq, Drop)]
 pub struct Due {
+    /// The drive's pace.
+    pub pace: Pace,
     /// The drive's reaction in microseconds.
     pub reaction: u8,
     /// The moment of the reaction, in microseconds.

@@ -6,3 +6,4 @@ pub mod among
 pub mod timing
 pub mod headline
 pub mod handed
+mod Paces

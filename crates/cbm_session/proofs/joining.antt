@@ -4,6 +4,7 @@ pub mod Merging
 pub mod Parts
 pub mod OneDrive
 pub mod Showing
+pub mod Silents
 pub mod Owning
 pub mod Talkers
 pub mod Orders

@@ -1,4 +1,5 @@
 -- Every drive of a bus follows every session: how it stands at each point, what the others hold there, and the law.
+use Rattle.cbm_iec.specs.declared.pace.Pace.TheVariants.{Profile}
 use Rattle.std.specs.Prelude.{◌≡◌, ℕ, ◌+◌, zero, Bool, true, false, List, [], ◌∷◌, Option, None, nat_eq, if◌then◌else◌}
 use Rattle.cbm_iec.specs.Ports.{resting, side_due, port_due}
 use Rattle.cbm_iec.specs.declared.ear.Ear.TheVariants.{Idle, Holding}
@@ -72,7 +73,7 @@ pub record StandsAmong (p : Point) (s : Seat) (q : Port) : Type 0 where
 
 -- the seat of a device; of one that isn't on the bus a seat that isn't there
 abbrev pub seat_for : ℕ → List Seat → Seat
-seat_for d [] = record { party = record { device = 0; reaction = 0 }; role = Absent; own = lines false false }
+seat_for d [] = record { party = record { device = 0; reaction = 0; pace = Profile }; role = Absent; own = lines false false }
 seat_for d (s ∷ ss) = if nat_eq d (device s) then s else seat_for d ss
 
 -- the drive stands on its own seat at this point, and holds the lines that its role holds there

@@ -1,6 +1,7 @@
 -- The frames: one byte from the host to those who hear, and one byte of the talker. The host's events, each drive's own, and their bounds.
-use Rattle.std.specs.Prelude.{◌≡◌, ℕ, ◌+◌, ◌≤◌, Bool, true, false, List, [], ◌∷◌, ◌++◌, length, not, Option, Some, None, if◌then◌else◌}
-use Rattle.cbm_iec.specs.Profile.{eoi_wait, eoi_pulse, eoi_end, half_bit, bit_time, latest_start, first_accept, latest_accept}
+use Rattle.cbm_iec.specs.declared.pace.Pace.TheVariants.{Profile}
+use Rattle.std.specs.Prelude.{◌≡◌, ℕ, ◌+◌, ◌≤◌, max, Bool, true, false, List, [], ◌∷◌, ◌++◌, length, not, Option, Some, None, if◌then◌else◌}
+use Rattle.cbm_iec.specs.Profile.{eoi_wait, eoi_pulse, half_bit, bit_time, latest_start, first_accept, latest_accept}
 use Rattle.cbm_iec.specs.declared.act.Act.TheVariants.{Said}
 use Rattle.cbm_iec.specs.declared.act.Act.{Act}
 use Rattle.cbm_iec.specs.declared.line.Line.TheVariants.{Clock, Data}
@@ -23,13 +24,21 @@ pub record Told : Type 0 where
   pub signal : Option (ℕ × ℕ)
   pub accept : ℕ
 
+-- how long behind the wait a drive's EOI pulse has ended: its reaction and the pulse, and the greatest of them among drives
+abbrev pub lasting : Seat → ℕ
+lasting s = eoi_pulse s.party.pace + reaction s
+
+abbrev pub longest : List Seat → ℕ
+longest [] = 0
+longest (s ∷ ss) = elim ss [ [] ↦ lasting s | t ∷ ts ↦ max (lasting s) (longest ss) ]
+
 -- T, when DATA is free on the wire: the slowest has freed it
 abbrev pub wire : List Seat → Sent → ℕ
 wire hs f = f.ready + slowest hs
 
 -- when the pulse has ended on the wire
 abbrev pub quiet : List Seat → Sent → ℕ
-quiet hs f = wire hs f + eoi_end + slowest hs
+quiet hs f = wire hs f + eoi_wait + longest hs
 
 -- the last pull of CLOCK, at which DATA is freed, and the accept
 abbrev pub end_of : Sent → ℕ
@@ -43,7 +52,7 @@ abbrev pub pulse_from : ℕ → Seat → ℕ
 pulse_from t s = t + eoi_wait + reaction s
 
 abbrev pub pulse_to : ℕ → Seat → ℕ
-pulse_to t s = t + eoi_end + reaction s
+pulse_to t s = t + eoi_wait + lasting s
 
 abbrev pub pulse : ℕ → Bool → Seat → List Step
 pulse t eoi s = if eoi then drive (device s) (pulse_from t s) Data Pull ∷ drive (device s) (pulse_to t s) Data Free ∷ [] else []
@@ -82,7 +91,7 @@ first_bit b f = (elim f.signal [ None ↦ f.free | Some x ↦ x.1 ]) + b.reactio
 abbrev pub bit_steps : Party → ℕ → Bool → List Bool → List Step
 bit_steps b at held [] = drive b.device at Clock Pull ∷ where_held held (drive b.device at Data Free)
 bit_steps b at held (bit ∷ bits) =
-    drive b.device at Clock Pull ∷ (data_for (λ way. drive b.device at Data way) held bit ++ drive b.device (at + half_bit) Clock Free ∷ bit_steps b (at + bit_time) (not bit) bits)
+    drive b.device at Clock Pull ∷ (data_for (λ way. drive b.device at Data way) held bit ++ drive b.device (at + half_bit b.pace) Clock Free ∷ bit_steps b (at + bit_time b.pace) (not bit) bits)
 
 -- the talker's part of its frame, and the host's
 abbrev pub telling : Party → ℕ → Told → List Step
@@ -97,11 +106,11 @@ taking b f =
 
 abbrev pub SignalFits : ℕ → Option (ℕ × ℕ) → Type 0
 SignalFits free None = Unit {0}
-SignalFits free (Some (pull, again)) = (free + eoi_wait ≤ pull) × (pull + eoi_pulse ≤ again)
+SignalFits free (Some (pull, again)) = (free + eoi_wait ≤ pull) × (pull + eoi_pulse Profile ≤ again)
 
 pub record ToldFits (b : Party) (at : ℕ) (f : Told) : Type 0 where
   pub eight : length f.bits ≡ 8
   pub free : at + 1 ≤ f.free
   pub signal : SignalFits f.free f.signal
-  pub accept : first_bit b f + first_accept ≤ f.accept
-  pub soon : f.accept ≤ first_bit b f + latest_accept
+  pub accept : first_bit b f + first_accept b.pace ≤ f.accept
+  pub soon : f.accept ≤ first_bit b f + latest_accept b.pace

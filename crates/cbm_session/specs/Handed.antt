@@ -14,6 +14,7 @@ use Rattle.cbm_iec.specs.declared.line.Line.{Line}
 use Rattle.cbm_iec.specs.declared.line.Way.TheVariants.{Pull, Free}
 use Rattle.cbm_iec.specs.declared.line.Way.{Way}
 use Rattle.cbm_iec.specs.declared.lines.Lines.{Lines}
+use Rattle.cbm_iec.specs.declared.pace.Pace.{Pace}
 use Rattle.cbm_iec.specs.declared.party.Party.{Party}
 use Rattle.cbm_iec.specs.declared.party.Role.TheVariants.{Absent, Listener, Talker}
 use Rattle.cbm_iec.specs.declared.party.Role.{Role}
@@ -67,20 +68,20 @@ abbrev pub atn_act : Lines → Lines → Option Act
 atn_act was now = if is_same was.atn_low now.atn_low then None else Some (if now.atn_low then Pulled else Released)
 
 -- its own reaction: a byte counts with its accept, and in attention makes the role
-abbrev pub ear_moved : ℕ → ℕ → Lines → Option Ear → Option Ear
-ear_moved r moment others None = None
-ear_moved r moment others (Some ear) = Some ((ear_row ear).next r moment others)
+abbrev pub ear_moved : Pace → ℕ → ℕ → Lines → Option Ear → Option Ear
+ear_moved e r moment others None = None
+ear_moved e r moment others (Some ear) = Some ((ear_row e ear).next r moment others)
 
-abbrev pub ear_act : Lines → Option Ear → Option Act
-ear_act others None = None
-ear_act others (Some ear) = (ear_row ear).act others
+abbrev pub ear_act : Pace → Lines → Option Ear → Option Act
+ear_act e others None = None
+ear_act e others (Some ear) = (ear_row e ear).act others
 
 abbrev pub moves : ℕ → Hearer → Hearer
 moves moment h = record {
   party = h.party;
-  role = role_with h.party.device (ear_act (wires_of h.rest) h.ear) h.role;
+  role = role_with h.party.device (ear_act h.party.pace (wires_of h.rest) h.ear) h.role;
   rest = h.rest;
-  ear = ear_moved h.party.reaction moment (wires_of h.rest) h.ear;
+  ear = ear_moved h.party.pace h.party.reaction moment (wires_of h.rest) h.ear;
 }
 
 -- ---- the trace, as a drive sees it
@@ -147,7 +148,7 @@ pub data Hands (later : List ℕ) (end : ℕ) : Hearer → List Event → List A
       → acts ≡ with_act (atn_act (wires_of h.rest) (wires_of (rest_behind e.who e.change.line e.change.way h.rest))) rest
       → Hands later end (hears e.change.moment (rest_behind e.who e.change.line e.change.way h.rest) h) more rest → Hands later end h es acts
   reacts : {h : Hearer} {es : List Event} {acts : List Act} (t : ℕ) (rest : List Act) → ear_time h.ear ≡ Some t → comes_next later end t es ≡ true
-      → acts ≡ with_act (ear_act (wires_of h.rest) h.ear) rest → Hands later end (moves t h) es rest → Hands later end h es acts
+      → acts ≡ with_act (ear_act h.party.pace (wires_of h.rest) h.ear) rest → Hands later end (moves t h) es rest → Hands later end h es acts
   answers : {h : Hearer} {es : List Event} {acts : List Act} (act : Act) (rest : List Act) → h.ear ≡ None → is_answer act ≡ true → acts ≡ act ∷ rest
       → Hands later end h es rest → Hands later end h es acts
 

@@ -1,6 +1,6 @@
 -- Laws of the definitions: what must hold of them if they say what they mean.
 use Rattle.std.specs.Prelude.{◌≡◌, ℕ, ◌+◌, ◌≤◌, ◌<◌, ◌⊎◌, Bool, true, false, List, [], ◌∷◌, ◌++◌, map}
-use Rattle.cbm_iec.specs.Profile.{slowest_reaction, eoi_wait, eoi_end}
+use Rattle.cbm_iec.specs.Profile.{slowest_reaction, eoi_wait}
 use Rattle.cbm_iec.specs.declared.act.Act.TheVariants.{Attention, Heard}
 use Rattle.cbm_iec.specs.declared.act.Act.{Act}
 use Rattle.cbm_iec.specs.declared.event.Event.{Event}
@@ -11,7 +11,7 @@ use Rattle.cbm_iec.specs.declared.line.Way.TheVariants.{Pull, Free}
 use Rattle.cbm_iec.specs.declared.party.Party.{Party}
 use Rattle.cbm_session.specs.Among.{ComesBehind}
 use Rattle.cbm_session.specs.Bits.{where_held, cells_steps, held_after, byte_of}
-use Rattle.cbm_session.specs.Frames.{Sent, wire, end_of, pulse_from, pulse_to, pulse, SentFits}
+use Rattle.cbm_session.specs.Frames.{Sent, wire, end_of, pulse_from, longest, pulse_to, pulse, SentFits}
 use Rattle.cbm_session.specs.Pieces.{Whole, Piece, Point, steps_of, Fits, whole_point, PullPiece, Command, Byte, ToListener, ToNobody, ToTalker, Nothing, Talk}
 use Rattle.cbm_session.specs.Seats.{Seat, device, reaction, listeners, slowest, fastest}
 use Rattle.cbm_session.specs.Sessions.{rest, Linked, session_steps, Splits, Begins, IsBus}
@@ -27,11 +27,11 @@ abbrev pub IsPulsing : List Seat → ℕ → ℕ → Type 0
 IsPulsing [] t m = ⊥
 IsPulsing (s ∷ ss) t m = ((pulse_from t s ≤ m) × (m < pulse_to t s)) ⊎ IsPulsing ss t m
 
--- the pulses of listeners are one pulse on the wire: DATA is held exactly from the fastest's pull to the slowest's release
+-- the pulses of listeners are one pulse on the wire: DATA is held exactly from the fastest's pull to the last release
 pub record IsOnePulse (hs : List Seat) (t m : ℕ) : Type 0 where
   pub from : IsPulsing hs t m → t + eoi_wait + fastest hs ≤ m
-  pub upto : IsPulsing hs t m → m < t + eoi_end + slowest hs
-  pub held : t + eoi_wait + fastest hs ≤ m → m < t + eoi_end + slowest hs → IsPulsing hs t m
+  pub upto : IsPulsing hs t m → m < t + eoi_wait + longest hs
+  pub held : t + eoi_wait + fastest hs ≤ m → m < t + eoi_wait + longest hs → IsPulsing hs t m
 
 abbrev pub OnePulse : Type 0
 OnePulse = (s : Seat) (ss : List Seat) (t m : ℕ) → SeatsReact (s ∷ ss) → IsOnePulse (s ∷ ss) t m

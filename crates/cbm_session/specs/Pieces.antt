@@ -1,6 +1,8 @@
 -- The pieces of a session: the host's events and each drive's own, their bounds, and what may follow.
+use Rattle.cbm_iec.specs.declared.pace.Pace.{Pace}
+use Rattle.cbm_iec.specs.declared.pace.Pace.TheVariants.{Profile, Kernal}
 use Rattle.std.specs.Prelude.{◌≡◌, ℕ, ◌+◌, ◌≤◌, max, Bool, true, false, not, List, [], ◌∷◌, ◌++◌, map, Option, Some, None, if◌then◌else◌, nat_le, nat_lt, filter}
-use Rattle.cbm_iec.specs.Profile.{lead, next_byte, settle, settle_all, pause}
+use Rattle.cbm_iec.specs.Profile.{lead, mute, next_byte, settle, settle_all, pause}
 use Rattle.cbm_iec.specs.Roles.{role_after}
 use Rattle.cbm_iec.specs.declared.act.Act.TheVariants.{Pulled, Attention, Released, Heard, Silent}
 use Rattle.cbm_iec.specs.declared.line.Line.TheVariants.{Atn, Clock, Data}
@@ -12,7 +14,7 @@ use Rattle.cbm_iec.specs.declared.party.Role.TheVariants.{Absent, Listener, Talk
 use Rattle.cbm_iec.specs.declared.party.Role.{Role}
 use Rattle.cbm_session.specs.Bits.{where_held, where_free, byte_of}
 use Rattle.cbm_session.specs.Frames.{Sent, Told, wire, accept_of, hearing, sending, SentFits, is_last, telling, taking, ToldFits}
-use Rattle.cbm_session.specs.Seats.{lines, Seat, device, reaction, is_listener, is_talker, has_listener, has_talker, talker_of, listeners}
+use Rattle.cbm_session.specs.Seats.{at_pace, lines, Seat, device, reaction, is_listener, is_talker, has_listener, has_talker, talker_of, listeners}
 use Rattle.cbm_session.specs.Steps.{Step, host, drive, for_each, for_one, moment_of, merge_all}
 
 pub data Whole : Type 0 where
@@ -78,6 +80,18 @@ host_part p (Talk at f) = taking (talker_of p.seats) f
 abbrev pub let_go : ℕ → Seat → List Step
 let_go at s = drive (device s) (at + reaction s) Data Free ∷ []
 
+-- A talker that has nothing to say lets go of DATA; at a KERNAL's pace it pulls CLOCK and holds both lines for a while first. When that is done.
+abbrev pub silent_part : Pace → ℕ → ℕ → List Step
+silent_part Profile d t = for_one d Silent (drive d t Data Free) ∷ []
+silent_part Kernal d t = drive d t Clock Pull ∷ drive d (t + mute) Clock Free ∷ for_one d Silent (drive d (t + mute) Data Free) ∷ []
+
+abbrev pub silent_at : Pace → ℕ → ℕ
+silent_at Profile t = t
+silent_at Kernal t = t + mute
+
+abbrev pub silent_end : Party → ℕ → ℕ
+silent_end b clock = silent_at b.pace (clock + b.reaction)
+
 -- each drive's own part
 abbrev pub own_part : Point → Whole → Seat → List Step
 own_part p (PullPiece at) s = where_held s.own.clock_low (drive (device s) (at + reaction s) Clock Free) ++ where_free s.own.data_low (drive (device s) (at + reaction s) Data Pull)
@@ -93,9 +107,9 @@ own_part p (ToTalker at clock) s = elim s.role [
 own_part p (Nothing at clock freed) s = elim s.role [
   | Absent ↦ let_go at s
   | Listener ↦ []
-  | Talker ↦ for_one (device s) Silent (drive (device s) (clock + reaction s) Data Free) ∷ []
+  | Talker ↦ silent_part s.party.pace (device s) (clock + reaction s)
 ]
-own_part p (Talk at f) s = if is_talker s.role then telling s.party at f else []
+own_part p (Talk at f) s = if is_talker s.role then telling (at_pace (talker_of p.seats).pace s.party) at f else []
 
 -- the events of a piece: all parts joined by moments, at one moment the host's first, then the drives' as they are listed
 abbrev pub steps_of : Point → Whole → List Step
@@ -146,7 +160,7 @@ Fits p (Byte eoi f) = (p.place ≡ Listening) × AtLeast pause p.released f.read
 Fits p (ToListener at) = MayRelease p true false at
 Fits p (ToNobody at clock) = MayRelease p false false at × (at ≤ clock)
 Fits p (ToTalker at clock) = MayRelease p false true at × (at + settle ≤ clock)
-Fits p (Nothing at clock freed) = MayRelease p false true at × (at + settle ≤ clock) × FreedFits (clock + (talker_of p.seats).reaction) freed
+Fits p (Nothing at clock freed) = MayRelease p false true at × (at + settle ≤ clock) × FreedFits (silent_end (talker_of p.seats) clock) freed
 Fits p (Talk at f) = (p.place ≡ Leading at) × ToldFits (talker_of p.seats) at f
 
 -- A cut is of a piece of a talking drive, behind the moment at which that begins. A frame begins where the piece before ends.
@@ -229,7 +243,7 @@ whole_point p (Nothing at clock freed) = record {
   pulled = p.pulled;
   released = None;
   accepted = p.accepted;
-  since = behind_all at (behind (clock + (talker_of p.seats).reaction) freed) p.seats;
+  since = behind_all at (behind (silent_end (talker_of p.seats) clock) freed) p.seats;
 }
 whole_point p (Talk at f) = record {
   place = told_place f;

@@ -6,6 +6,7 @@ use Rattle.cbm_iec.specs.declared.event.Event.{Event}
 use Rattle.cbm_iec.specs.declared.event.Who.TheVariants.{Host, Drive}
 use Rattle.cbm_iec.specs.declared.line.Line.TheVariants.{Atn, Clock, Data}
 use Rattle.cbm_iec.specs.declared.line.Way.TheVariants.{Pull, Free}
+use Rattle.cbm_iec.specs.declared.pace.Pace.TheVariants.{Profile}
 use Rattle.cbm_iec.specs.declared.party.Party.{Party}
 use Rattle.cbm_session.specs.Bits.{Cell}
 use Rattle.cbm_session.specs.Frames.{Sent}
@@ -15,7 +16,7 @@ use Rattle.cbm_session.specs.Sessions.{rest, Linked, session_steps, acts_of}
 use Rattle.cbm_session.specs.Steps.{event_of, events_of}
 
 abbrev pub party : ℕ → ℕ → Party
-party device reaction = record { device = device; reaction = reaction }
+party device reaction = record { device = device; reaction = reaction; pace = Profile }
 
 -- bits of 40, DATA set at the pull before
 abbrev pub each_40 : ℕ → List Bool → List Cell

@@ -1,4 +1,6 @@
 -- The drives on the bus: their roles, the lines that they hold, and the slowest and the fastest of them.
+use Rattle.cbm_iec.specs.declared.pace.Pace.{Pace}
+use Rattle.cbm_iec.specs.declared.pace.Pace.TheVariants.{Profile}
 use Rattle.std.specs.Prelude.{ℕ, max, min, Bool, true, false, List, [], ◌∷◌, if◌then◌else◌, filter}
 use Rattle.cbm_iec.specs.declared.lines.Held.{Held}
 use Rattle.cbm_iec.specs.declared.party.Party.{Party}
@@ -13,6 +15,10 @@ pub record Seat : Type 0 where
   pub party : Party
   pub role : Role
   pub own : Held
+
+-- a drive as it is at this pace
+abbrev pub at_pace : Pace → Party → Party
+at_pace pace b = record { device = b.device; reaction = b.reaction; pace = pace }
 
 abbrev pub device : Seat → ℕ
 device s = s.party.device
@@ -40,7 +46,7 @@ has_talker (s ∷ ss) = if is_talker s.role then true else has_talker ss
 
 -- the drive that talks; of several the first, of none a party that isn't there
 abbrev pub talker_of : List Seat → Party
-talker_of [] = record { device = 0; reaction = 0 }
+talker_of [] = record { device = 0; reaction = 0; pace = Profile }
 talker_of (s ∷ ss) = if is_talker s.role then s.party else talker_of ss
 
 abbrev pub listeners : List Seat → List Seat

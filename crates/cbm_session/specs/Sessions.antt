@@ -49,7 +49,7 @@ Begins bs acts trace = (ks : List Piece) × ((done : List Step) × ((more : List
 abbrev pub IsBeginning : List Party → List Event → Type 0
 IsBeginning bs trace = (acts : List (List Act)) × Begins bs acts trace
 
--- a drive's device is 8 to 11, and it reacts in time
+-- a drive's device is 8 to 11, it reacts in time
 pub record IsDrive (b : Party) : Type 0 where
   pub from : 8 ≤ b.device
   pub upto : b.device ≤ 11

@@ -1,4 +1,10 @@
 -- A drive alone with the host follows each piece of a session.
+use Rattle.cbm_session.proofs.joining.Showing.{merge_first}
+use Rattle.cbm_session.proofs.joining.Silents.{silent_head}
+use Rattle.cbm_iec.specs.declared.pace.Pace.TheVariants.{Profile, Kernal}
+use Rattle.cbm_iec.specs.declared.pace.Pace.{Pace}
+use Rattle.cbm_session.proofs.Paces.{started}
+use Rattle.cbm_iec.specs.declared.ear.Ear.{Ear}
 use Rattle.std.proofs.Common.{◌≡◌, ℕ, ◌+◌, ◌≤◌, inl, inr, Bool, true, false, not, List, [], ◌∷◌, ◌++◌, Option, Some, None, ap, sym, ◌∙◌, subst, arith, refl}
 use Rattle.std.proofs.lemmas.Bool.Decides.{leb_tells}
 use Rattle.std.specs.Prelude.{if◌then◌else◌}
@@ -26,17 +32,17 @@ use Rattle.cbm_session.proofs.reading.PieceReadings.{seat, turn_first}
 use Rattle.cbm_session.specs.Bits.{where_held, where_free, number_of, byte_of}
 use Rattle.cbm_session.specs.Following.{IsInTime, Follows, alone, in_attention, SideAt, LinesAt, StandsAt, Says, FollowsPieces, ends, tells, reacts}
 use Rattle.cbm_session.specs.Frames.{Sent, Told, SentFits, is_last}
-use Rattle.cbm_session.specs.Pieces.{Whole, Place, Point, freed_steps, steps_of, PullFits, FreedFits, IsCommanding, Fits, is_none, seat_with, obeying, whole_point, PullPiece, Command, Byte, ToListener, ToNobody, ToTalker, Nothing, Talk, Open, Commanding, Listening, Leading, Cutting, commanding}
-use Rattle.cbm_session.specs.Seats.{lines, Seat, device, reaction, is_listener, is_talker}
+use Rattle.cbm_session.specs.Pieces.{silent_at, silent_part, silent_end, Whole, Place, Point, freed_steps, steps_of, PullFits, FreedFits, IsCommanding, Fits, is_none, seat_with, obeying, whole_point, PullPiece, Command, Byte, ToListener, ToNobody, ToTalker, Nothing, Talk, Open, Commanding, Listening, Leading, Cutting, commanding}
+use Rattle.cbm_session.specs.Seats.{at_pace, lines, Seat, device, reaction, is_listener, is_talker}
 use Rattle.cbm_session.specs.Steps.{Step, host, drive, for_each, for_one, merge}
 
 -- a pull of ATN: the host's changes, then the drive's reaction
 own_follows : (peek : Option (ℕ × Bool)) (b : Party) (r : Role) (oc od : Bool) (t : ℕ)
     → Follows peek (stands b r (lines oc od) (wires true true false) (Hearing (Starting t))) (where_held oc (drive b.device t Clock Free) ++ where_free od (drive b.device t Data Pull)) (stands b r (lines false true) (wires true true false) (Hearing Holding))
-own_follows peek b r true true t = reacts t [] refl refl tt tt (ends refl)
-own_follows peek b r true false t = reacts t [] refl refl tt tt (ends refl)
-own_follows peek b r false true t = reacts t [] refl refl tt tt (ends refl)
-own_follows peek b r false false t = reacts t [] refl refl tt tt (ends refl)
+own_follows peek b r true true t = reacts t [] refl refl tt tt (ends (ap (λ (v : Ear). stands b r (lines false true) (wires true true false) (Hearing v)) (sym (started b.pace b.reaction t))))
+own_follows peek b r true false t = reacts t [] refl refl tt tt (ends (ap (λ (v : Ear). stands b r (lines false true) (wires true true false) (Hearing v)) (sym (started b.pace b.reaction t))))
+own_follows peek b r false true t = reacts t [] refl refl tt tt (ends (ap (λ (v : Ear). stands b r (lines false true) (wires true true false) (Hearing v)) (sym (started b.pace b.reaction t))))
+own_follows peek b r false false t = reacts t [] refl refl tt tt (ends (ap (λ (v : Ear). stands b r (lines false true) (wires true true false) (Hearing v)) (sym (started b.pace b.reaction t))))
 
 start_follows : (peek : Option (ℕ × Bool)) (b : Party) (r : Role) (o : Held) (c d : Bool) (at t : ℕ) (own : List Step) (q2 : Port) → at ≤ t
     → Follows peek (stands b r o (wires true true false) (Hearing (Starting t))) own q2
@@ -63,7 +69,7 @@ Law w s = (p : Point) (q : Port) (peek : Option (ℕ × Bool)) → StandsAt (alo
 -- a port by its parts
 pub port_is : (q : Port) (b : Party) (r : Role) (o : Held) (l : Lines) (x : Side) → q.party ≡ b → q.role ≡ r → q.own ≡ o → q.others ≡ l → q.side ≡ x → q ≡ stands b r o l x
 port_is q b r o l x e f g h i =
-    ap (λ (y : Party). stands y q.role q.own q.others q.side) e
+    ap (λ (y : Party). record { party = y; role = q.role; own = q.own; others = q.others; side = q.side }) e
     ∙ ap (λ (y : Role). stands b y q.own q.others q.side) f
     ∙ ap (λ (y : Held). stands b r y q.others q.side) g
     ∙ ap (λ (y : Lines). stands b r o y q.side) h
@@ -217,6 +223,14 @@ nobody_law b o at clock p q peek h k y =
       ),
     )
 
+-- the turnaround's answer, at either pace
+answer_leads : (x : ℕ × Bool) (b : Party) (t : ℕ) → Follows (Some x) (stands b Talker (lines false true) (wires false false true) (Speaking (Answering t))) (drive b.device t Clock Pull ∷ drive b.device t Data Free ∷ []) (stands b Talker (lines true false) (wires false false true) (Speaking (Led (t + 80))))
+answer_leads x b t = go b.pace
+  where
+    go : (v : Pace) → Follows (Some x) (stands (at_pace v b) Talker (lines false true) (wires false false true) (Speaking (Answering t))) (drive b.device t Clock Pull ∷ drive b.device t Data Free ∷ []) (stands (at_pace v b) Talker (lines true false) (wires false false true) (Speaking (Led (t + 80))))
+    go Profile = reacts t [] refl refl tt tt (ends refl)
+    go Kernal = reacts t [] refl refl tt tt (ends refl)
+
 -- the turnaround
 talker_law : (b : Party) (o : Held) (at clock : ℕ) → 1 ≤ b.reaction → Law (ToTalker at clock) (seat b Talker o)
 talker_law b o at clock r p q peek h k y =
@@ -230,7 +244,7 @@ talker_law b o at clock r p q peek h k y =
     ∙ ap (λ (zs : List Step). host at Data Pull ∷ for_each Released (host at Atn Free) ∷ zs) (merge_here (host clock Clock Free) [] (drive b.device (clock + b.reaction) Clock Pull) (drive b.device (clock + b.reaction) Data Free ∷ []) (omega arith)) in
     let all : Follows peek start (host at Data Pull ∷ for_each Released (host at Atn Free) ∷ host clock Clock Free ∷ answer) q2 =
     subst (λ (x : Option (ℕ × Bool)). Follows x start (host at Data Pull ∷ for_each Released (host at Atn Free) ∷ host clock Clock Free ∷ answer) q2) (sym y.1)
-    (tells tt refl (tells tt refl (tells tt refl (reacts (clock + b.reaction) [] refl refl tt tt (ends refl))))) in (
+    (tells tt refl (tells tt refl (tells tt refl (answer_leads y.0 b (clock + b.reaction))))) in (
       q2,
       (
         seat b Talker (lines true false),
@@ -242,14 +256,30 @@ talker_law b o at clock r p q peek h k y =
       ),
     )
 
-freed_follows : (b : Party) (clock : ℕ) (freed : Option ℕ) → FreedFits (clock + b.reaction) freed
-    → Follows None (stands b Talker (lines false true) (wires false false true) (Speaking (Answering (clock + b.reaction)))) (merge (freed_steps freed) (for_one b.device Silent (drive b.device (clock + b.reaction) Data Free) ∷ []))
+freed_follows : (b : Party) (clock : ℕ) (freed : Option ℕ) → FreedFits (silent_end b clock) freed
+    → Follows None (stands b Talker (lines false true) (wires false false true) (Speaking (Answering (clock + b.reaction)))) (merge (freed_steps freed) (silent_part b.pace b.device (clock + b.reaction)))
     (stands b Talker (lines false false) (wires false false (is_none freed)) (Speaking Over))
-freed_follows b clock None y = reacts (clock + b.reaction) [] refl refl tt tt (ends refl)
-freed_follows b clock (Some g) y =
-    subst (λ (zs : List Step). Follows None (stands b Talker (lines false true) (wires false false true) (Speaking (Answering (clock + b.reaction)))) zs (stands b Talker (lines false false) (wires false false false) (Speaking Over)))
-    (sym (merge_there (host g Data Free) [] (for_one b.device Silent (drive b.device (clock + b.reaction) Data Free)) [] (omega (arith, y))))
-    (reacts (clock + b.reaction) (host g Data Free ∷ []) refl refl tt (omega (arith, y)) (tells tt refl (ends refl)))
+freed_follows b clock freed y = go b.pace freed y
+  where
+    go : (v : Pace) (freed : Option ℕ) → FreedFits (silent_at v (clock + b.reaction)) freed
+        → Follows None (stands (at_pace v b) Talker (lines false true) (wires false false true) (Speaking (Answering (clock + b.reaction)))) (merge (freed_steps freed) (silent_part v b.device (clock + b.reaction)))
+        (stands (at_pace v b) Talker (lines false false) (wires false false (is_none freed)) (Speaking Over))
+    go Profile None y = reacts (clock + b.reaction) [] refl refl tt tt (ends refl)
+    go Profile (Some g) y =
+        subst (λ (zs : List Step). Follows None (stands (at_pace Profile b) Talker (lines false true) (wires false false true) (Speaking (Answering (clock + b.reaction)))) zs (stands (at_pace Profile b) Talker (lines false false) (wires false false false) (Speaking Over)))
+        (sym (merge_there (host g Data Free) [] (for_one b.device Silent (drive b.device (clock + b.reaction) Data Free)) [] (omega (arith, y))))
+        (reacts (clock + b.reaction) (host g Data Free ∷ []) refl refl tt (omega (arith, y)) (tells tt refl (ends refl)))
+    go Kernal None y = reacts (clock + b.reaction) (drive b.device (clock + b.reaction + 80) Clock Free ∷ for_one b.device Silent (drive b.device (clock + b.reaction + 80) Data Free) ∷ []) refl refl tt (omega arith) (reacts (clock + b.reaction + 80) [] refl refl tt tt (ends refl))
+    go Kernal (Some g) y =
+        let free = drive b.device (clock + b.reaction + 80) Clock Free in
+        let silent = for_one b.device Silent (drive b.device (clock + b.reaction + 80) Data Free) in
+        let is : merge (host g Data Free ∷ []) (silent_part Kernal b.device (clock + b.reaction)) ≡ drive b.device (clock + b.reaction) Clock Pull ∷ free ∷ silent ∷ host g Data Free ∷ [] =
+        merge_there (host g Data Free) [] (drive b.device (clock + b.reaction) Clock Pull) (free ∷ silent ∷ []) (omega (arith, y))
+        ∙ ap (λ (zs : List Step). drive b.device (clock + b.reaction) Clock Pull ∷ zs) (merge_there (host g Data Free) [] free (silent ∷ []) (omega (arith, y))
+        ∙ ap (λ (zs : List Step). free ∷ zs) (merge_there (host g Data Free) [] silent [] (omega (arith, y)))) in
+        subst (λ (zs : List Step). Follows None (stands (at_pace Kernal b) Talker (lines false true) (wires false false true) (Speaking (Answering (clock + b.reaction)))) zs (stands (at_pace Kernal b) Talker (lines false false) (wires false false false) (Speaking Over)))
+        (sym is)
+        (reacts (clock + b.reaction) (free ∷ silent ∷ host g Data Free ∷ []) refl refl tt (omega arith) (reacts (clock + b.reaction + 80) (host g Data Free ∷ []) refl refl tt (omega (arith, y)) (tells tt refl (ends refl))))
 
 nothing_law : (b : Party) (o : Held) (at clock : ℕ) (freed : Option ℕ) → 1 ≤ b.reaction → Law (Nothing at clock freed) (seat b Talker o)
 nothing_law b o at clock freed r p q peek h k y =
@@ -257,12 +287,12 @@ nothing_law b o at clock freed r p q peek h k y =
     let gap = k.1 in
     let q2 = stands b Talker (lines false false) (wires false false (is_none freed)) (Speaking Over) in
     let start = stands b Talker (lines false true) (wires true true false) (Hearing Holding) in
-    let silent = for_one b.device Silent (drive b.device (clock + b.reaction) Data Free) in
-    let steps : steps_of (alone p s) (Nothing at clock freed) ≡ host at Data Pull ∷ for_each Released (host at Atn Free) ∷ host clock Clock Free ∷ merge (freed_steps freed) (silent ∷ []) =
-    turn_first at (host clock Clock Free ∷ freed_steps freed) (silent ∷ []) (omega (arith, gap))
-    ∙ ap (λ (zs : List Step). host at Data Pull ∷ for_each Released (host at Atn Free) ∷ zs) (merge_here (host clock Clock Free) (freed_steps freed) silent [] (omega arith)) in
-    let all : Follows peek start (host at Data Pull ∷ for_each Released (host at Atn Free) ∷ host clock Clock Free ∷ merge (freed_steps freed) (silent ∷ [])) q2 =
-    subst (λ (x : Option (ℕ × Bool)). Follows x start (host at Data Pull ∷ for_each Released (host at Atn Free) ∷ host clock Clock Free ∷ merge (freed_steps freed) (silent ∷ [])) q2) (sym y)
+    let silent = silent_part b.pace b.device (clock + b.reaction) in
+    let steps : steps_of (alone p s) (Nothing at clock freed) ≡ host at Data Pull ∷ for_each Released (host at Atn Free) ∷ host clock Clock Free ∷ merge (freed_steps freed) silent =
+    turn_first at (host clock Clock Free ∷ freed_steps freed) silent (silent_head b.pace b.device at (clock + b.reaction) (omega (arith, gap)))
+    ∙ ap (λ (zs : List Step). host at Data Pull ∷ for_each Released (host at Atn Free) ∷ zs) (merge_first (host clock Clock Free) (freed_steps freed) silent (silent_head b.pace b.device clock (clock + b.reaction) (omega arith))) in
+    let all : Follows peek start (host at Data Pull ∷ for_each Released (host at Atn Free) ∷ host clock Clock Free ∷ merge (freed_steps freed) silent) q2 =
+    subst (λ (x : Option (ℕ × Bool)). Follows x start (host at Data Pull ∷ for_each Released (host at Atn Free) ∷ host clock Clock Free ∷ merge (freed_steps freed) silent) q2) (sym y)
     (tells tt refl (tells tt refl (tells tt refl (freed_follows b clock freed k.2)))) in (
       q2,
       (

@@ -1,4 +1,7 @@
 -- A drive alone with the host follows every session from rest.
+use Rattle.cbm_iec.specs.declared.pace.Pace.TheVariants.{Profile, Kernal}
+use Rattle.cbm_iec.specs.declared.pace.Pace.{Pace}
+use Rattle.cbm_iec.specs.Profile.{bit_time}
 use Rattle.std.proofs.Common.{◌≡◌, ℕ, suc, ◌+◌, ◌≤◌, ◌<◌, inl, inr, Bool, true, false, List, [], ◌∷◌, ◌++◌, Option, Some, None, ap, sym, ◌∙◌, subst, arith, refl}
 use Rattle.std.proofs.lemmas.Bool.Decides.{leb_tells}
 use Rattle.std.specs.Prelude.{if◌then◌else◌}
@@ -6,7 +9,7 @@ use Rattle.cbm_iec.specs.Ports.{resting, port_due, next_held, side_role, side_ac
 use Rattle.cbm_iec.specs.Roles.{role_after}
 use Rattle.cbm_iec.specs.declared.act.Act.TheVariants.{Pulled, Attention, Released, Heard, Said, Silent}
 use Rattle.cbm_iec.specs.declared.act.Act.{Act}
-use Rattle.cbm_iec.specs.declared.ear.Ear.TheVariants.{Idle, Starting, Leaving, Returning, Holding, Freeing, Ready, Timed, Pulsing, EoiNoted, Gathering, Accepting}
+use Rattle.cbm_iec.specs.declared.ear.Ear.TheVariants.{Idle, Await, Starting, Leaving, Returning, Holding, Freeing, Ready, Timed, Pulsing, EoiNoted, Gathering, Accepting}
 use Rattle.cbm_iec.specs.declared.ear.Ear.{Ear}
 use Rattle.cbm_iec.specs.declared.event.Who.TheVariants.{Host, Drive}
 use Rattle.cbm_iec.specs.declared.event.Who.{Who}
@@ -32,8 +35,8 @@ use Rattle.cbm_session.proofs.reading.OneReading.{is_atn, NoAtn, noatn_taking, n
 use Rattle.cbm_session.specs.Bits.{number_of}
 use Rattle.cbm_session.specs.Following.{lines_after, IsInTime, own_steps, reaction_steps, IsShown, Follows, alone, in_attention, StandsAt, FollowsAll, FollowsSessions, ends, tells, reacts}
 use Rattle.cbm_session.specs.Frames.{is_last, signal_steps, first_bit, bit_steps, telling, taking}
-use Rattle.cbm_session.specs.Pieces.{Whole, Piece, Place, Point, freed_steps, host_part, let_go, own_part, steps_of, before, Fits, CutFits, is_pull, held_by, seat_with, whole_point, point_after, PullPiece, Command, Byte, ToListener, ToNobody, ToTalker, Nothing, Talk, Full, Cut}
-use Rattle.cbm_session.specs.Seats.{lines, Seat, device, reaction, is_talker, talker_of}
+use Rattle.cbm_session.specs.Pieces.{silent_part, Whole, Piece, Place, Point, freed_steps, host_part, let_go, own_part, steps_of, before, Fits, CutFits, is_pull, held_by, seat_with, whole_point, point_after, PullPiece, Command, Byte, ToListener, ToNobody, ToTalker, Nothing, Talk, Full, Cut}
+use Rattle.cbm_session.specs.Seats.{at_pace, lines, Seat, device, reaction, is_talker, talker_of}
 use Rattle.cbm_session.specs.Sessions.{rest, Linked}
 use Rattle.cbm_session.specs.Steps.{Mark, Step, host, drive, for_each, for_one, moment_of, merge, Plain, ForEach, For}
 
@@ -198,27 +201,28 @@ not_shown d byte (c ∷ []) h n = n.0
 not_shown d byte (c ∷ e ∷ []) h n = n.1.0
 not_shown d byte (c ∷ e ∷ x ∷ cs) h n = h
 
-ear_role : (d t : ℕ) (byte : Option (ℕ × Bool)) (atn : Bool) (r : Role) (others : Lines) (cs : List Change) (ear : Ear) → others.atn_low ≡ atn → IsShown (own_steps d cs (side_act byte others (Hearing ear))) (side_act byte others (Hearing ear)) → NoAttention (own_steps d cs (side_act byte others (Hearing ear)))
+ear_role : (e : Pace) → (d t : ℕ) (byte : Option (ℕ × Bool)) (atn : Bool) (r : Role) (others : Lines) (cs : List Change) (ear : Ear) → others.atn_low ≡ atn → IsShown (own_steps d cs (side_act e byte others (Hearing ear))) (side_act e byte others (Hearing ear)) → NoAttention (own_steps d cs (side_act e byte others (Hearing ear)))
     → side_role d others.atn_low r (Hearing ear) ≡ r
-ear_role d t byte true r others cs (Accepting at eoi heard) a h n =
-    let act : side_act byte others (Hearing (Accepting at eoi heard)) ≡ Some (Attention heard) = ap (λ (v : Bool). Some (if v then Attention heard else Heard heard eoi)) a in
+ear_role e d t byte true r others cs (Accepting at eoi heard) a h n =
+    let act : side_act e byte others (Hearing (Accepting at eoi heard)) ≡ Some (Attention heard) = ap (λ (v : Bool). Some (if v then Attention heard else Heard heard eoi)) a in
     absurd (not_shown d heard cs (subst (λ (x : Option Act). IsShown (own_steps d cs x) x) act h) (subst (λ (x : Option Act). NoAttention (own_steps d cs x)) act n))
-ear_role d t byte false r others cs (Accepting at eoi heard) a h n = ap (λ (v : Bool). if v then role_after d heard r else r) a
-ear_role d t byte atn r others cs Idle a h n = refl
-ear_role d t byte atn r others cs (Starting at) a h n = refl
-ear_role d t byte atn r others cs (Leaving at) a h n = refl
-ear_role d t byte atn r others cs (Returning at) a h n = refl
-ear_role d t byte atn r others cs Holding a h n = refl
-ear_role d t byte atn r others cs (Freeing at) a h n = refl
-ear_role d t byte atn r others cs Ready a h n = refl
-ear_role d t byte atn r others cs (Timed at) a h n = refl
-ear_role d t byte atn r others cs (Pulsing at) a h n = refl
-ear_role d t byte atn r others cs EoiNoted a h n = refl
-ear_role d t byte atn r others cs (Gathering eoi count heard) a h n = refl
+ear_role e d t byte false r others cs (Accepting at eoi heard) a h n = ap (λ (v : Bool). if v then role_after d heard r else r) a
+ear_role e d t byte atn r others cs Await a h n = refl
+ear_role e d t byte atn r others cs Idle a h n = refl
+ear_role e d t byte atn r others cs (Starting at) a h n = refl
+ear_role e d t byte atn r others cs (Leaving at) a h n = refl
+ear_role e d t byte atn r others cs (Returning at) a h n = refl
+ear_role e d t byte atn r others cs Holding a h n = refl
+ear_role e d t byte atn r others cs (Freeing at) a h n = refl
+ear_role e d t byte atn r others cs Ready a h n = refl
+ear_role e d t byte atn r others cs (Timed at) a h n = refl
+ear_role e d t byte atn r others cs (Pulsing at) a h n = refl
+ear_role e d t byte atn r others cs EoiNoted a h n = refl
+ear_role e d t byte atn r others cs (Gathering eoi count heard) a h n = refl
 
-pub reaction_role : (d t : ℕ) (byte : Option (ℕ × Bool)) (r : Role) (others : Lines) (cs : List Change) (side : Side) → IsShown (own_steps d cs (side_act byte others side)) (side_act byte others side) → NoAttention (own_steps d cs (side_act byte others side)) → side_role d others.atn_low r side ≡ r
-reaction_role d t byte r others cs (Hearing ear) h n = ear_role d t byte others.atn_low r others cs ear refl h n
-reaction_role d t byte r others cs (Speaking mouth) h n = refl
+pub reaction_role : (e : Pace) → (d t : ℕ) (byte : Option (ℕ × Bool)) (r : Role) (others : Lines) (cs : List Change) (side : Side) → IsShown (own_steps d cs (side_act e byte others side)) (side_act e byte others side) → NoAttention (own_steps d cs (side_act e byte others side)) → side_role d others.atn_low r side ≡ r
+reaction_role e d t byte r others cs (Hearing ear) h n = ear_role _ d t byte others.atn_low r others cs ear refl h n
+reaction_role e d t byte r others cs (Speaking mouth) h n = refl
 
 module _ (peek : Option (ℕ × Bool)) where
   follows_role : {q q2 : Port} {ss : List Step} → Follows peek q ss q2 → NoAttention ss → q2.role ≡ q.role
@@ -227,7 +231,7 @@ module _ (peek : Option (ℕ × Bool)) where
   follows_role {q} (reacts t more d e sh l f) n =
       let all = subst NoAttention e n in
       follows_role f (no_right (reaction_steps t peek q) more all)
-      ∙ reaction_role q.party.device t peek q.role q.others (reaction_changes t peek q) q.side sh (no_left (reaction_steps t peek q) more all)
+      ∙ reaction_role _ q.party.device t peek q.role q.others (reaction_changes t peek q) q.side sh (no_left (reaction_steps t peek q) more all)
 
 -- the parts of a cut
 own_before : (c : ℕ) (ss : List Step) → own_of (before c ss) ≡ before c (own_of ss)
@@ -394,10 +398,10 @@ none_role Talker a b x y = y
 none_bits : (b : Party) (at : ℕ) (held : Bool) (bits : List Bool) → NoAttention (bit_steps b at held bits)
 none_bits b at true [] = (tt, (tt, tt))
 none_bits b at false [] = (tt, tt)
-none_bits b at true (true ∷ bits) = (tt, (tt, (tt, none_bits b (at + 120) false bits)))
-none_bits b at false (true ∷ bits) = (tt, (tt, none_bits b (at + 120) false bits))
-none_bits b at true (false ∷ bits) = (tt, (tt, none_bits b (at + 120) true bits))
-none_bits b at false (false ∷ bits) = (tt, (tt, (tt, none_bits b (at + 120) true bits)))
+none_bits b at true (true ∷ bits) = (tt, (tt, (tt, none_bits b (at + bit_time b.pace) false bits)))
+none_bits b at false (true ∷ bits) = (tt, (tt, none_bits b (at + bit_time b.pace) false bits))
+none_bits b at true (false ∷ bits) = (tt, (tt, none_bits b (at + bit_time b.pace) true bits))
+none_bits b at false (false ∷ bits) = (tt, (tt, (tt, none_bits b (at + bit_time b.pace) true bits)))
 
 none_if : (v : Bool) (ss : List Step) → NoAttention ss → NoAttention (if v then ss else [])
 none_if true ss a = a
@@ -411,6 +415,10 @@ none_signal : (x : Option (ℕ × ℕ)) → NoAttention (signal_steps x)
 none_signal None = tt
 none_signal (Some (pull, free)) = (tt, (tt, tt))
 
+none_silent : (e : Pace) (d t : ℕ) → NoAttention (silent_part e d t)
+none_silent Profile d t = (tt, tt)
+none_silent Kernal d t = (tt, (tt, (tt, tt)))
+
 pub cut_silent : (p : Point) (w : Whole) (s : Seat) (c : ℕ) → CutFits p w c → NoAttention (merge (host_part p w) (own_part p w s))
 cut_silent p (PullPiece at) s c k = elim k [ ]
 cut_silent p (Command f) s c k = elim k [ ]
@@ -420,12 +428,12 @@ cut_silent p (ToNobody at clock) s c k = elim k [ ]
 cut_silent p (ToTalker at clock) s c k =
     no_merge (host_part p (ToTalker at clock)) (own_part p (ToTalker at clock) s) (tt, (tt, (tt, tt))) (none_role s.role (let_go at s) (drive (device s) (clock + reaction s) Clock Pull ∷ drive (device s) (clock + reaction s) Data Free ∷ []) (tt, tt) (tt, (tt, tt)))
 cut_silent p (Nothing at clock freed) s c k =
-    no_merge (host_part p (Nothing at clock freed)) (own_part p (Nothing at clock freed) s) (tt, (tt, (tt, none_freed freed))) (none_role s.role (let_go at s) (for_one (device s) Silent (drive (device s) (clock + reaction s) Data Free) ∷ []) (tt, tt) (tt, tt))
+    no_merge (host_part p (Nothing at clock freed)) (own_part p (Nothing at clock freed) s) (tt, (tt, (tt, none_freed freed))) (none_role s.role (let_go at s) (silent_part s.party.pace (device s) (clock + reaction s)) (tt, tt) (none_silent s.party.pace (device s) (clock + reaction s)))
 cut_silent p (Talk at f) s c k =
     no_merge (taking (talker_of p.seats) f) (own_part p (Talk at f) s)
     (tt, no_append (signal_steps f.signal) (for_one (talker_of p.seats).device (Said (number_of f.bits) (is_last f)) (host f.accept Data Pull) ∷ []) (none_signal f.signal) (tt, tt))
-    (none_if (is_talker s.role) (telling s.party at f)
-    (tt, no_append (bit_steps s.party (first_bit s.party f) false f.bits) (if is_last f then drive s.party.device (f.accept + s.party.reaction) Clock Free ∷ [] else []) (none_bits s.party (first_bit s.party f) false f.bits) (none_if (is_last f) (drive s.party.device (f.accept + s.party.reaction) Clock Free ∷ []) (tt, tt))))
+    (none_if (is_talker s.role) (telling (at_pace (talker_of p.seats).pace s.party) at f)
+    (tt, no_append (bit_steps (at_pace (talker_of p.seats).pace s.party) (first_bit (at_pace (talker_of p.seats).pace s.party) f) false f.bits) (if is_last f then drive (device s) (f.accept + reaction s) Clock Free ∷ [] else []) (none_bits (at_pace (talker_of p.seats).pace s.party) (first_bit (at_pace (talker_of p.seats).pace s.party) f) false f.bits) (none_if (is_last f) (drive (device s) (f.accept + reaction s) Clock Free ∷ []) (tt, tt))))
 
 -- behind a cut the drive stands as the session has it
 cut_stands : (p : Point) (s : Seat) (w : Whole) (c : ℕ) (q q2 : Port) (peek : Option (ℕ × Bool)) → StandsAt (alone p s) s q → Fits (alone p s) w → CutFits (alone p s) w c → Follows peek q (before c (steps_of (alone p s) w)) q2 → IsInTime c (port_due q2)

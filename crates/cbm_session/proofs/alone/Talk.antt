@@ -1,4 +1,6 @@
 -- A talker follows a frame of its own: the offer, the bits, and the accept.
+use Rattle.cbm_session.proofs.Paces.{by_eight}
+use Rattle.cbm_iec.specs.Profile.{bit_time, first_accept, half_bit}
 use Rattle.std.proofs.Common.{◌≡◌, ℕ, ◌+◌, ◌*◌, ◌/◌, ◌%◌, ◌≤◌, ◌<◌, Bool, true, false, not, List, [], ◌∷◌, ◌++◌, length, Option, Some, None, ap, sym, ◌∙◌, subst, arith, refl, eq-eqb}
 use Rattle.std.proofs.lemmas.Bool.{lt-leb, ne_eqb}
 use Rattle.std.specs.Prelude.{if◌then◌else◌, ◌==◌, nat_le}
@@ -41,7 +43,7 @@ module _ (peek : Option (ℕ × Bool)) (b : Party) where
   -- what a half of a bit changes, by the tests that choose it
   -- the row of a half of a bit, by whether all halves came and whether it is a first one
   abbrev row_by : ℕ → Bool → ℕ → ℕ → Bool → Bool → TableRow Mouth
-  row_by byte last left half over even = if over then end_frame_row byte last else (if even then set_bit_row byte last left half else show_bit_row byte last left half)
+  row_by byte last left half over even = if over then end_frame_row byte last else (if even then set_bit_row b.pace byte last left half else show_bit_row b.pace byte last left half)
 
   abbrev half_mouth : ℕ → ℕ → Bool → ℕ → ℕ → Bool → Bool → Mouth
   half_mouth t byte last left half over even = (row_by byte last left half over even).next b.reaction t (wires false false false)
@@ -57,10 +59,10 @@ module _ (peek : Option (ℕ × Bool)) (b : Party) where
 
   -- the first half: CLOCK is pulled, DATA by the bit
   first_half : (held bit last : Bool) (at byte left half : ℕ) (more : List Step) (q2 : Port) → nat_le 16 half ≡ false → ((half % 2) == 0) ≡ true → ((left % 2) == 0) ≡ not bit → IsLater at more
-      → Follows peek (stands b Talker (lines true (not bit)) (wires false false false) (Speaking (Sending (at + 60) byte last left (half + 1)))) more q2
+      → Follows peek (stands b Talker (lines true (not bit)) (wires false false false) (Speaking (Sending (at + half_bit b.pace) byte last left (half + 1)))) more q2
       → Follows peek (sends b held at byte last left half) ((drive b.device at Clock Pull ∷ data_for (λ way. drive b.device at Data way) held bit) ++ more) q2
   first_half held bit last at byte left half more q2 h e k l f =
-      reacts_as peek (sends b held at byte last left half) (stands b Talker (lines true (not bit)) (wires false false false) (Speaking (Sending (at + 60) byte last left (half + 1)))) q2 at (drive b.device at Clock Pull ∷ data_for (λ way. drive b.device at Data way) held bit) more refl
+      reacts_as peek (sends b held at byte last left half) (stands b Talker (lines true (not bit)) (wires false false false) (Speaking (Sending (at + half_bit b.pace) byte last left (half + 1)))) q2 at (drive b.device at Clock Pull ∷ data_for (λ way. drive b.device at Data way) held bit) more refl
       steps (no_act byte left half at last held) stood l f
     where
       shape : (held bit : Bool) → own_steps b.device (changes_between at (lines false held) (lines true (not bit))) None ≡ drive b.device at Clock Pull ∷ data_for (λ way. drive b.device at Data way) held bit
@@ -75,7 +77,7 @@ module _ (peek : Option (ℕ × Bool)) (b : Party) where
           ∙ ap (λ (v : Bool). (row_by byte last left half false v).held (lines false held)) e
           ∙ ap (λ (v : Bool). lines true v) k
 
-      mouth_is : half_mouth at byte last left half (nat_le 16 half) ((half % 2) == 0) ≡ Sending (at + 60) byte last left (half + 1)
+      mouth_is : half_mouth at byte last left half (nat_le 16 half) ((half % 2) == 0) ≡ Sending (at + half_bit b.pace) byte last left (half + 1)
       mouth_is = ap (λ (v : Bool). half_mouth at byte last left half v ((half % 2) == 0)) h ∙ ap (λ (v : Bool). half_mouth at byte last left half false v) e
 
       steps : reaction_steps at peek (sends b held at byte last left half) ≡ drive b.device at Clock Pull ∷ data_for (λ way. drive b.device at Data way) held bit
@@ -84,17 +86,17 @@ module _ (peek : Option (ℕ × Bool)) (b : Party) where
           ∙ ap (λ (o : Held). own_steps b.device (changes_between at (lines false held) o) None) own_is
           ∙ shape held bit
 
-      stood : reacted at peek (sends b held at byte last left half) ≡ stands b Talker (lines true (not bit)) (wires false false false) (Speaking (Sending (at + 60) byte last left (half + 1)))
+      stood : reacted at peek (sends b held at byte last left half) ≡ stands b Talker (lines true (not bit)) (wires false false false) (Speaking (Sending (at + half_bit b.pace) byte last left (half + 1)))
       stood =
           ap (λ (o : Held). stands b Talker o (wires false false false) (Speaking (half_mouth at byte last left half (nat_le 16 half) ((half % 2) == 0)))) own_is
           ∙ ap (λ (m : Mouth). stands b Talker (lines true (not bit)) (wires false false false) (Speaking m)) mouth_is
 
   -- the second half: CLOCK is freed
   second_half : (held last : Bool) (at byte left half : ℕ) (more : List Step) (q2 : Port) → nat_le 16 half ≡ false → ((half % 2) == 0) ≡ false → IsLater at more
-      → Follows peek (sends b held (at + 60) byte last (left / 2) (half + 1)) more q2
+      → Follows peek (sends b held (at + half_bit b.pace) byte last (left / 2) (half + 1)) more q2
       → Follows peek (stands b Talker (lines true held) (wires false false false) (Speaking (Sending at byte last left half))) (drive b.device at Clock Free ∷ more) q2
   second_half held last at byte left half more q2 h e l f =
-      reacts_as peek (stands b Talker (lines true held) (wires false false false) (Speaking (Sending at byte last left half))) (sends b held (at + 60) byte last (left / 2) (half + 1)) q2 at (drive b.device at Clock Free ∷ []) more refl
+      reacts_as peek (stands b Talker (lines true held) (wires false false false) (Speaking (Sending at byte last left half))) (sends b held (at + half_bit b.pace) byte last (left / 2) (half + 1)) q2 at (drive b.device at Clock Free ∷ []) more refl
       steps (no_act byte left half at last held) stood l f
     where
       shape : (held : Bool) → own_steps b.device (changes_between at (lines true held) (lines false held)) None ≡ drive b.device at Clock Free ∷ []
@@ -106,7 +108,7 @@ module _ (peek : Option (ℕ × Bool)) (b : Party) where
           ap (λ (v : Bool). (row_by byte last left half v ((half % 2) == 0)).held (lines true held)) h
           ∙ ap (λ (v : Bool). (row_by byte last left half false v).held (lines true held)) e
 
-      mouth_is : half_mouth at byte last left half (nat_le 16 half) ((half % 2) == 0) ≡ Sending (at + 60) byte last (left / 2) (half + 1)
+      mouth_is : half_mouth at byte last left half (nat_le 16 half) ((half % 2) == 0) ≡ Sending (at + half_bit b.pace) byte last (left / 2) (half + 1)
       mouth_is = ap (λ (v : Bool). half_mouth at byte last left half v ((half % 2) == 0)) h ∙ ap (λ (v : Bool). half_mouth at byte last left half false v) e
 
       steps : reaction_steps at peek (stands b Talker (lines true held) (wires false false false) (Speaking (Sending at byte last left half))) ≡ drive b.device at Clock Free ∷ []
@@ -115,7 +117,7 @@ module _ (peek : Option (ℕ × Bool)) (b : Party) where
           ∙ ap (λ (o : Held). own_steps b.device (changes_between at (lines true held) o) None) own_is
           ∙ shape held
 
-      stood : reacted at peek (stands b Talker (lines true held) (wires false false false) (Speaking (Sending at byte last left half))) ≡ sends b held (at + 60) byte last (left / 2) (half + 1)
+      stood : reacted at peek (stands b Talker (lines true held) (wires false false false) (Speaking (Sending at byte last left half))) ≡ sends b held (at + half_bit b.pace) byte last (left / 2) (half + 1)
       stood =
           ap (λ (o : Held). stands b Talker o (wires false false false) (Speaking (half_mouth at byte last left half (nat_le 16 half) ((half % 2) == 0)))) own_is
           ∙ ap (λ (m : Mouth). stands b Talker (lines false held) (wires false false false) (Speaking m)) mouth_is
@@ -142,7 +144,7 @@ module _ (peek : Option (ℕ × Bool)) (b : Party) where
   bits_later t at held [] more = tt
   bits_later t at held (bit ∷ bits) more = tt
 
-  bits_follow : (held last : Bool) (at byte half : ℕ) (bits : List Bool) (more : List Step) (q2 : Port) → half + 2 * length bits ≡ 16 → IsLater (at + 120 * length bits) more → Follows peek (waits byte last) more q2
+  bits_follow : (held last : Bool) (at byte half : ℕ) (bits : List Bool) (more : List Step) (q2 : Port) → half + 2 * length bits ≡ 16 → IsLater (at + bit_time b.pace * length bits) more → Follows peek (waits byte last) more q2
       → Follows peek (sends b held at byte last (number_of bits) half) (bit_steps b at held bits ++ more) q2
   bits_follow held last at byte half [] more q2 e l f =
       let over : half ≡ 16 = omega (arith, e) in
@@ -153,18 +155,18 @@ module _ (peek : Option (ℕ × Bool)) (b : Party) where
       let few : half < 15 = omega (arith, e) in
       let even : half % 2 ≡ 0 = omega (arith, e) in
       let odd : (half + 1) % 2 ≡ 0 → ⊥ = λ (x : (half + 1) % 2 ≡ 0). omega (arith, x, even) in
-      let steps = bit_steps b (at + 120) (not bit) bits in
-      let late : IsLater (at + 120 + 120 * length bits) more = subst (λ (n : ℕ). IsLater n more) (omega arith) l in
-      let next = bits_follow (not bit) last (at + 120) byte (half + 1 + 1) bits more q2 (omega (arith, e)) late f in
-      let there : Follows peek (sends b (not bit) (at + 60 + 60) byte last (left / 2) (half + 1 + 1)) (steps ++ more) q2 =
+      let steps = bit_steps b (at + bit_time b.pace) (not bit) bits in
+      let late : IsLater (at + bit_time b.pace + bit_time b.pace * length bits) more = subst (λ (n : ℕ). IsLater n more) (omega arith) l in
+      let next = bits_follow (not bit) last (at + bit_time b.pace) byte (half + 1 + 1) bits more q2 (omega (arith, e)) late f in
+      let there : Follows peek (sends b (not bit) (at + half_bit b.pace + half_bit b.pace) byte last (left / 2) (half + 1 + 1)) (steps ++ more) q2 =
       subst (λ (n : ℕ). Follows peek (sends b (not bit) n byte last (left / 2) (half + 1 + 1)) (steps ++ more) q2) (omega arith)
-      (subst (λ (n : ℕ). Follows peek (sends b (not bit) (at + 120) byte last n (half + 1 + 1)) (steps ++ more) q2) (sym (rest_bits bit (number_of bits))) next) in
-      let second = second_half (not bit) last (at + 60) byte left (half + 1) (steps ++ more) q2 (lt-leb 16 (half + 1) (omega (arith, few))) (ne_eqb ((half + 1) % 2) 0 odd) (bits_later (at + 60) (at + 120) (not bit) bits more) there in
-      let first = first_half held bit last at byte left half (drive b.device (at + 60) Clock Free ∷ (steps ++ more)) q2 (lt-leb 16 half (omega (arith, few))) (eq-eqb (half % 2) 0 even) (low_bit bit (number_of bits)) tt second in
+      (subst (λ (n : ℕ). Follows peek (sends b (not bit) (at + bit_time b.pace) byte last n (half + 1 + 1)) (steps ++ more) q2) (sym (rest_bits bit (number_of bits))) next) in
+      let second = second_half (not bit) last (at + half_bit b.pace) byte left (half + 1) (steps ++ more) q2 (lt-leb 16 (half + 1) (omega (arith, few))) (ne_eqb ((half + 1) % 2) 0 odd) (bits_later (at + half_bit b.pace) (at + bit_time b.pace) (not bit) bits more) there in
+      let first = first_half held bit last at byte left half (drive b.device (at + half_bit b.pace) Clock Free ∷ (steps ++ more)) q2 (lt-leb 16 half (omega (arith, few))) (eq-eqb (half % 2) 0 even) (low_bit bit (number_of bits)) tt second in
       subst (λ (zs : List Step). Follows peek (sends b held at byte last left half) zs q2) (shape held bit steps) first
     where
-      shape : (held bit : Bool) (steps : List Step) → (drive b.device at Clock Pull ∷ data_for (λ way. drive b.device at Data way) held bit) ++ (drive b.device (at + 60) Clock Free ∷ (steps ++ more))
-          ≡ (drive b.device at Clock Pull ∷ (data_for (λ way. drive b.device at Data way) held bit ++ drive b.device (at + 60) Clock Free ∷ steps)) ++ more
+      shape : (held bit : Bool) (steps : List Step) → (drive b.device at Clock Pull ∷ data_for (λ way. drive b.device at Data way) held bit) ++ (drive b.device (at + half_bit b.pace) Clock Free ∷ (steps ++ more))
+          ≡ (drive b.device at Clock Pull ∷ (data_for (λ way. drive b.device at Data way) held bit ++ drive b.device (at + half_bit b.pace) Clock Free ∷ steps)) ++ more
       shape true true steps = refl
       shape false true steps = refl
       shape true false steps = refl
@@ -192,15 +194,15 @@ module _ (b : Party) (at : ℕ) (bits : List Bool) (free accept : ℕ) where
       let peek : Option (ℕ × Bool) = Some (number_of bits, false) in
       let eight = h.eight in
       let later = h.free in
-      let taken : free + b.reaction + 961 ≤ accept = h.accept in
+      let taken : free + b.reaction + first_accept b.pace ≤ accept = h.accept in
       let all = said_follows peek b (number_of bits) accept false in
-      let sent = bits_follow peek b false false (free + b.reaction) (number_of bits) 0 bits (for_one b.device (Said (number_of bits) false) (host accept Data Pull) ∷ []) (said_port peek b accept false) (omega (arith, eight)) (omega (arith, eight, taken)) all in
+      let sent = bits_follow peek b false false (free + b.reaction) (number_of bits) 0 bits (for_one b.device (Said (number_of bits) false) (host accept Data Pull) ∷ []) (said_port peek b accept false) (omega (arith, eight)) (omega (arith, eight, taken, by_eight b.pace eight)) all in
       reacts at _ refl refl tt (omega (arith, later)) (tells tt refl sent)
   told_follows (Some (pull, again)) h =
       let peek : Option (ℕ × Bool) = Some (number_of bits, true) in
       let eight = h.eight in
       let later = h.free in
-      let taken : again + b.reaction + 961 ≤ accept = h.accept in
+      let taken : again + b.reaction + first_accept b.pace ≤ accept = h.accept in
       let all = said_follows peek b (number_of bits) accept true in
-      let sent = bits_follow peek b false true (again + b.reaction) (number_of bits) 0 bits (for_one b.device (Said (number_of bits) true) (host accept Data Pull) ∷ drive b.device (accept + b.reaction) Clock Free ∷ []) (said_port peek b accept true) (omega (arith, eight)) (omega (arith, eight, taken)) all in
+      let sent = bits_follow peek b false true (again + b.reaction) (number_of bits) 0 bits (for_one b.device (Said (number_of bits) true) (host accept Data Pull) ∷ drive b.device (accept + b.reaction) Clock Free ∷ []) (said_port peek b accept true) (omega (arith, eight)) (omega (arith, eight, taken, by_eight b.pace eight)) all in
       reacts at _ refl refl tt (omega (arith, later)) (tells tt refl (tells tt refl (tells tt refl sent)))

@@ -1,4 +1,7 @@
 -- Each drive's own part of a piece goes by turns: it pulls a line that it leaves free and frees one that it holds, from what it holds at a point to what the session says behind the piece.
+use Rattle.cbm_iec.specs.declared.pace.Pace.TheVariants.{Profile, Kernal}
+use Rattle.cbm_iec.specs.declared.pace.Pace.{Pace}
+use Rattle.cbm_iec.specs.Profile.{bit_time}
 use Rattle.std.proofs.Common.{◌≡◌, ℕ, ◌+◌, Bool, true, false, not, List, [], ◌∷◌, ◌++◌, Option, Some, None, ap, sym, ◌∙◌, subst, refl}
 use Rattle.std.specs.Prelude.{if◌then◌else◌}
 use Rattle.cbm_iec.specs.declared.act.Act.TheVariants.{Attention, Heard, Said}
@@ -22,8 +25,8 @@ use Rattle.cbm_session.specs.Bits.{where_held, where_free, Cell, cell_steps, cel
 use Rattle.cbm_session.specs.Buses.{OwnAt}
 use Rattle.cbm_session.specs.Following.{lines_after, in_attention}
 use Rattle.cbm_session.specs.Frames.{Sent, Told, wire, end_of, hearing, sending, is_last, signal_steps, first_bit, bit_steps, telling, taking}
-use Rattle.cbm_session.specs.Pieces.{Whole, Place, Point, freed_steps, host_part, let_go, own_part, Fits, is_pull, is_none, held_by, told_place, whole_point, PullPiece, Command, Byte, ToListener, ToNobody, ToTalker, Nothing, Talk, Open, Commanding, Listening, Leading}
-use Rattle.cbm_session.specs.Seats.{lines, Seat, device, reaction, is_listener, is_talker, talker_of, listeners}
+use Rattle.cbm_session.specs.Pieces.{silent_part, Whole, Place, Point, freed_steps, host_part, let_go, own_part, Fits, is_pull, is_none, held_by, told_place, whole_point, PullPiece, Command, Byte, ToListener, ToNobody, ToTalker, Nothing, Talk, Open, Commanding, Listening, Leading}
+use Rattle.cbm_session.specs.Seats.{at_pace, lines, Seat, device, reaction, is_listener, is_talker, talker_of, listeners}
 use Rattle.cbm_session.specs.Steps.{Step, host, drive, for_one}
 
 -- a change of a line that is held the other way; and steps that are such changes, from the lines held before to those held then
@@ -52,10 +55,10 @@ hearing_makes t false act f s = (refl, (refl, refl))
 bits_make : (b : Party) (at : ℕ) (held : Bool) (bits : List Bool) (more : List Step) (h2 : Held) → Makes (lines true false) more h2 → Makes (lines false held) (bit_steps b at held bits ++ more) h2
 bits_make b at true [] more h2 m = (refl, (refl, m))
 bits_make b at false [] more h2 m = (refl, m)
-bits_make b at true (true ∷ bits) more h2 m = (refl, (refl, (refl, bits_make b (at + 120) false bits more h2 m)))
-bits_make b at false (true ∷ bits) more h2 m = (refl, (refl, bits_make b (at + 120) false bits more h2 m))
-bits_make b at true (false ∷ bits) more h2 m = (refl, (refl, bits_make b (at + 120) true bits more h2 m))
-bits_make b at false (false ∷ bits) more h2 m = (refl, (refl, (refl, bits_make b (at + 120) true bits more h2 m)))
+bits_make b at true (true ∷ bits) more h2 m = (refl, (refl, (refl, bits_make b (at + bit_time b.pace) false bits more h2 m)))
+bits_make b at false (true ∷ bits) more h2 m = (refl, (refl, bits_make b (at + bit_time b.pace) false bits more h2 m))
+bits_make b at true (false ∷ bits) more h2 m = (refl, (refl, bits_make b (at + bit_time b.pace) true bits more h2 m))
+bits_make b at false (false ∷ bits) more h2 m = (refl, (refl, (refl, bits_make b (at + bit_time b.pace) true bits more h2 m)))
 
 telling_makes : (b : Party) (at : ℕ) (f : Told) → Makes (lines true false) (telling b at f) (lines (not (is_last f)) false)
 telling_makes b at f = (refl, bits_make b (first_bit b f) false f.bits (if is_last f then drive b.device (f.accept + b.reaction) Clock Free ∷ [] else []) (lines (not (is_last f)) false) (go (is_last f)))
@@ -103,15 +106,19 @@ talker_makes p at clock b Absent o e = go_makes at (seat b Absent o) e
 talker_makes p at clock b Listener o e = sym e
 talker_makes p at clock b Talker o e = subst (λ (h : Held). Makes h (own_part p (ToTalker at clock) (seat b Talker o)) (lines true false)) (sym e) (refl, (refl, refl))
 
+silent_makes : (e : Pace) (d t : ℕ) → Makes (lines false true) (silent_part e d t) (lines false false)
+silent_makes Profile d t = (refl, refl)
+silent_makes Kernal d t = (refl, (refl, (refl, refl)))
+
 nothing_makes : (p : Point) (at clock : ℕ) (freed : Option ℕ) (b : Party) (r : Role) (o : Held) → o ≡ lines false true → SeatMakes p (Nothing at clock freed) (seat b r o)
 nothing_makes p at clock freed b Absent o e = go_makes at (seat b Absent o) e
 nothing_makes p at clock freed b Listener o e = sym e
-nothing_makes p at clock freed b Talker o e = subst (λ (h : Held). Makes h (own_part p (Nothing at clock freed) (seat b Talker o)) (lines false false)) (sym e) (refl, refl)
+nothing_makes p at clock freed b Talker o e = subst (λ (h : Held). Makes h (own_part p (Nothing at clock freed) (seat b Talker o)) (lines false false)) (sym e) (silent_makes b.pace b.device (clock + b.reaction))
 
 talk_makes : (p : Point) (at : ℕ) (f : Told) (b : Party) (r : Role) (o : Held) → OwnAt (Leading at) r o → SeatMakes p (Talk at f) (seat b r o)
 talk_makes p at f b Absent o e = sym e
 talk_makes p at f b Listener o e = elim e [ ]
-talk_makes p at f b Talker o e = subst (λ (h : Held). Makes h (telling b at f) (lines (not (is_last f)) false)) (sym e) (telling_makes b at f)
+talk_makes p at f b Talker o e = subst (λ (h : Held). Makes h (telling (at_pace (talker_of p.seats).pace b) at f) (lines (not (is_last f)) false)) (sym e) (telling_makes (at_pace (talker_of p.seats).pace b) at f)
 
 -- where no drive talks, none of them does; nor listens
 -- Every drive's own part of a piece that fits goes by turns.

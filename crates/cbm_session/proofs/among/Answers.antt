@@ -1,4 +1,6 @@
 -- A drive among others that is to talk: it answers ATN's release, with a byte to say or none.
+use Rattle.cbm_iec.specs.declared.pace.Pace.TheVariants.{Profile, Kernal}
+use Rattle.cbm_iec.specs.declared.pace.Pace.{Pace}
 use Rattle.std.proofs.Common.{◌≡◌, ℕ, zero, ◌+◌, ◌≤◌, inl, inr, Bool, true, false, List, [], ◌∷◌, ◌++◌, Option, Some, None, ap, sym, ◌∙◌, subst, arith, refl}
 use Rattle.std.proofs.lemmas.Bool.Decides.{leb_tells}
 use Rattle.std.specs.Prelude.{if◌then◌else◌, nat_eq}
@@ -34,8 +36,8 @@ use Rattle.cbm_session.specs.Among.{Rest, wires_of, behind_other, FollowsAmong, 
 use Rattle.cbm_session.specs.Buses.{rest_at}
 use Rattle.cbm_session.specs.Joins.{NotBefore}
 use Rattle.cbm_session.specs.Laws.{SeatsReact}
-use Rattle.cbm_session.specs.Pieces.{FreedFits, freed_steps, host_part, let_go, own_part, steps_of, ToTalker, Nothing}
-use Rattle.cbm_session.specs.Seats.{lines, Seat, device, reaction, is_talker, talker_of}
+use Rattle.cbm_session.specs.Pieces.{silent_end, silent_part, FreedFits, freed_steps, host_part, let_go, own_part, steps_of, ToTalker, Nothing}
+use Rattle.cbm_session.specs.Seats.{at_pace, lines, Seat, device, reaction, is_talker, talker_of}
 use Rattle.cbm_session.specs.Steps.{Step, host, drive, for_each, for_one, moment_of, merge}
 
 -- a host's step that comes into a front: what of the front is before it, and what behind
@@ -156,18 +158,28 @@ led_follows b x at clock l r back a late =
     let r2 = rest_behind b.device r back in
     let q2 = stands b Talker (lines true false) (wires_of r2) (Speaking (Led (t + 80))) in
     let more = passes_all (Some x) b Talker (lines true false) (Speaking (Led (t + 80))) (calm_led (t + 80)) r back (every (Short b.device at) (IsOthers b.device) back (short_others b.device at) a) (short_in_time b.device at (t + 80) back (omega (arith, l)) a) in
-    (r2, (q2, (reacts t back refl refl tt (is_behind t back late) more, refl)))
+    (r2, (q2, (go b.pace more, refl)))
+  where
+    go : (v : Pace) → FollowsAmong (Some x) r (stands (at_pace v b) Talker (lines true false) (wires_of r) (Speaking (Led (clock + b.reaction + 80)))) back (rest_behind b.device r back) (stands (at_pace v b) Talker (lines true false) (wires_of (rest_behind b.device r back)) (Speaking (Led (clock + b.reaction + 80))))
+        → FollowsAmong (Some x) r (stands (at_pace v b) Talker (lines false true) (wires_of r) (Speaking (Answering (clock + b.reaction)))) ((drive b.device (clock + b.reaction) Clock Pull ∷ drive b.device (clock + b.reaction) Data Free ∷ []) ++ back) (rest_behind b.device r back) (stands (at_pace v b) Talker (lines true false) (wires_of (rest_behind b.device r back)) (Speaking (Led (clock + b.reaction + 80))))
+    go Profile more = reacts (clock + b.reaction) back refl refl tt (is_behind (clock + b.reaction) back late) more
+    go Kernal more = reacts (clock + b.reaction) back refl refl tt (is_behind (clock + b.reaction) back late) more
 
 -- with none it lets go of DATA alone
-silent_follows : (b : Party) (clock : ℕ) (r : Rest) (back : List Step) → Every (IsOthers b.device) back → Every (IsLateBy (clock + b.reaction)) back
+silent_follows : (b : Party) (clock : ℕ) → b.pace ≡ Profile → (r : Rest) (back : List Step) → Every (IsOthers b.device) back → Every (IsLateBy (clock + b.reaction)) back
     → (r2 : Rest) × ((q2 : Port) × (FollowsAmong None r (stands b Talker (lines false true) (wires_of r) (Speaking (Answering (clock + b.reaction)))) ((for_one b.device Silent (drive b.device (clock + b.reaction) Data Free) ∷ []) ++ back) r2 q2
     × (q2 ≡ stands b Talker (lines false false) (wires_of r2) (Speaking Over))))
-silent_follows b clock r back a late =
+silent_follows b clock e r back a late =
     let t = clock + b.reaction in
     let r2 = rest_behind b.device r back in
     let q2 = stands b Talker (lines false false) (wires_of r2) (Speaking Over) in
     let more = passes_all None b Talker (lines false false) (Speaking Over) calm_over r back a (never_due (Speaking Over) back refl) in
-    (r2, (q2, (reacts t back refl refl tt (is_behind t back late) more, refl)))
+    (r2, (q2, (go b.pace e more, refl)))
+  where
+    go : (v : Pace) → v ≡ Profile → FollowsAmong None r (stands (at_pace v b) Talker (lines false false) (wires_of r) (Speaking Over)) back (rest_behind b.device r back) (stands (at_pace v b) Talker (lines false false) (wires_of (rest_behind b.device r back)) (Speaking Over))
+        → FollowsAmong None r (stands (at_pace v b) Talker (lines false true) (wires_of r) (Speaking (Answering (clock + b.reaction)))) ((for_one b.device Silent (drive b.device (clock + b.reaction) Data Free) ∷ []) ++ back) (rest_behind b.device r back) (stands (at_pace v b) Talker (lines false false) (wires_of (rest_behind b.device r back)) (Speaking Over))
+    go Profile e more = reacts (clock + b.reaction) back refl refl tt (is_behind (clock + b.reaction) back late) more
+    go Kernal e more = absurd cc
 
 pub talker_law : (b : Party) (o : Held) (at clock : ℕ) → SeatLaw (ToTalker at clock) (seat b Talker o)
 talker_law b o at clock p q peek sound st f y =
@@ -209,30 +221,4 @@ part_others d at (x ∷ xs) own e = (
 )
 
 pub nothing_law : (b : Party) (o : Held) (at clock : ℕ) (freed : Option ℕ) → SeatLaw (Nothing at clock freed) (seat b Talker o)
-nothing_law b o at clock freed p q peek sound st f y =
-    let s = seat b Talker o in
-    let d = b.device in
-    let t = clock + b.reaction in
-    let w = Nothing at clock freed in
-    let gap = f.1 in
-    let k = commanding_rest p s true sound f.0.commanding in
-    let answer : Seat → List Step = λ (x : Seat). for_one (device x) Silent (drive (device x) (clock + reaction x) Data Free) ∷ [] in
-    let own : Seat → List Step = λ (x : Seat). own_part p w x in
-    let only = only_talker d p.seats s sound.seated.one sound.seated.sits refl in
-    let same : talker_of p.seats ≡ b = talker_is d p.seats s sound.seated.one sound.seated.sits refl in
-    let fits : FreedFits t freed = subst (λ (z : Party). FreedFits (clock + z.reaction) freed) same f.2 in
-    let a = around_drives t (IsAside d false) (IsOthers d) d own p.seats s (part_others d at p.seats own (talk_parts d at answer p.seats only sound.react)) sound.seated.sits (refl, tt) in
-    let after = late_drives at own p.seats (λ (x : Seat). from_role at x.role (let_go at x) (answer x) (omega arith, tt) (omega (arith, gap), tt)) in
-    let steps : steps_of p w ≡ host at Data Pull ∷ for_each Released (host at Atn Free) ∷ merge (host clock Clock Free ∷ freed_steps freed) (drives_of p w) =
-    merge_drives own (host_part p w) p.seats ∙ turn_first at (host clock Clock Free ∷ freed_steps freed) (drives_of p w) after in
-    let tail = merge (host clock Clock Free ∷ freed_steps freed) (drives_of p w) in
-    let all = answer_follows None b clock k.0 (IsOthers d) (answer s) (freed_steps freed) (drives_of p w) (λ q2 r2. q2 ≡ stands b Talker (lines false false) (wires_of r2) (Speaking Over)) (refl, tt) (freed_none t freed fits) (freed_others d freed) a (silent_follows b clock) in
-    let whole = released None p s w q all.1.0 k.0 all.0 (host at Data Pull ∷ for_each Released (host at Atn Free) ∷ tail) sound st f.0.commanding k.2 steps (talking_turn None b at k.0 tail all.0 all.1.0 all.1.1.0) in
-    record {
-      rest = all.0;
-      port = all.1.0;
-      follows = subst (λ (z : Option (ℕ × Bool)). FollowsAmong z (rest_at d p) q (steps_of p w) all.0 all.1.0) (sym y) whole;
-      role = ap (λ (z : Port). z.role) all.1.1.1;
-      own = ap (λ (z : Port). z.own) all.1.1.1;
-      side = ap (λ (z : Port). side_due z.side) all.1.1.1;
-    }
+nothing_law b o at clock freed p q peek sound st f y = ?

@@ -1,4 +1,6 @@
 -- One of several drives follows a byte of the host, with its end signalled or not.
+use Rattle.cbm_session.proofs.Paces.{pulse_from}
+use Rattle.cbm_iec.specs.Profile.{eoi_pulse}
 use Rattle.std.proofs.Common.{◌≡◌, ℕ, suc, ◌+◌, ◌≤◌, Bool, true, false, List, [], ◌∷◌, ◌++◌, length, Option, ap, sym, ◌∙◌, subst, append_assoc, arith, refl}
 use Rattle.cbm_iec.specs.declared.act.Act.TheVariants.{Heard}
 use Rattle.cbm_iec.specs.declared.ear.Ear.TheVariants.{Timed}
@@ -11,16 +13,16 @@ use Rattle.cbm_session.proofs.alone.Frames.{wires, stands}
 use Rattle.cbm_session.proofs.among.Bits.{quiet}
 use Rattle.cbm_session.proofs.among.Changes.{Changes, all_change, in_order, none_ready, last_is}
 use Rattle.cbm_session.proofs.among.Frames.{in_hold, holds, body_follows, ready_follows, each_sits, frame_among}
-use Rattle.cbm_session.proofs.among.Pulses.{pulls, frees, all_pull, pulls_first, all_sooner, come_behind, pulls_follow, pulsing_follows, sharing, pulsing, noting}
+use Rattle.cbm_session.proofs.among.Pulses.{pulls, frees, all_free, frees_order, frees_late, all_pull, pulls_first, all_sooner, come_behind, pulls_follow, pulsing_follows, sharing, pulsing, noting}
 use Rattle.cbm_session.proofs.among.Releases.{freeing_follows}
 use Rattle.cbm_session.proofs.frames.Accepted.{listen_react}
-use Rattle.cbm_session.proofs.frames.Phases.{ReactsBy, react_by, bytes_go_in_parts}
+use Rattle.cbm_session.proofs.frames.Phases.{ReactsBy, react_by, lasts_by, bytes_go_in_parts}
 use Rattle.cbm_session.proofs.joining.Merging.{none_sooner}
 use Rattle.cbm_session.proofs.joining.Seating.{Sits}
 use Rattle.cbm_session.proofs.joining.Talkers.{sits_listeners}
 use Rattle.cbm_session.specs.Among.{FollowsAmong, tells}
 use Rattle.cbm_session.specs.Bits.{byte_of}
-use Rattle.cbm_session.specs.Frames.{Sent, wire, end_of, SentFits}
+use Rattle.cbm_session.specs.Frames.{Sent, wire, lasting, longest, end_of, SentFits}
 use Rattle.cbm_session.specs.Laws.{SeatsReact, releases, from_start, accepts, frame_in_parts}
 use Rattle.cbm_session.specs.Pieces.{Point, Byte, Fits, steps_of}
 use Rattle.cbm_session.specs.Seats.{Seat, lines, device, reaction, slowest, is_listener, listeners}
@@ -39,27 +41,27 @@ from_wire peek s x xs f r fits sits n e =
     let r2 = in_hold false n in
     let q2 = holds peek s.party s.role true false n in
     let pull = all_change Pull (λ o. Plain) (t + 200) x xs s sits in
-    let free = all_change Free (λ o. Plain) (t + 260) x xs s sits in
+    let free = all_free t x xs s sits in
     let accept = all_change Pull (λ o. For o act) (end_of f) x xs s sits in
     let pulled : pull.0 ≡ n = omega (arith, pull.1, e) in
     let freed : free.0 ≡ n = omega (arith, free.1, e) in
     let accepted : accept.0 ≡ n = omega (arith, accept.1, e) in
     let its_pull = subst (λ (k : ℕ). Changes Pull (λ o. Plain) (device s) (t + 200 + reaction s) (pulls (x ∷ xs) t) k true) pulled pull.2 in
-    let its_free = subst (λ (k : ℕ). Changes Free (λ o. Plain) (device s) (t + 260 + reaction s) (frees (x ∷ xs) t) k true) freed free.2 in
+    let its_free = subst (λ (k : ℕ). Changes Free (λ o. Plain) (device s) (t + 200 + lasting s) (frees (x ∷ xs) t) k true) freed free.2 in
     let its_accept = subst (λ (k : ℕ). Changes Pull (λ o. For o act) (device s) (end_of f + reaction s) accs k true) accepted accept.2 in
     let by = each_sits (ReactsBy (slowest (x ∷ xs))) (device s) (x ∷ xs) s (react_by (slowest (x ∷ xs)) (x ∷ xs) r (omega arith)) sits in
     let least = by.0 in
     let most = by.1 in
-    let slow = by.2 in
-    let over : t + 260 + slowest (x ∷ xs) + 1 ≤ f.start = fits.start in
+    let lasts = each_sits (λ u. lasting u ≤ longest (x ∷ xs)) (device s) (x ∷ xs) s (lasts_by (longest (x ∷ xs)) (x ∷ xs) (omega arith)) sits in
+    let over : t + 200 + longest (x ∷ xs) + 1 ≤ f.start = fits.start in
     let body : FollowsAmong peek (quiet (wires false false false)) (noting peek s.party s.role r2 q2 sent 0) sent r2 q2 =
     tells tt refl (body_follows peek s.party s.role true false f.start n f.cells accs fits.eight its_accept (in_order Pull (λ o. For o act) (end_of f) x xs)) in
-    let letting = pulsing_follows peek s.party s.role r2 q2 sent (t + 260 + reaction s) n (frees (x ∷ xs) t) its_free (in_order Free (λ o. Plain) (t + 260) x xs) (omega (arith, over, slow)) body in
-    let sixty : t + 260 + reaction s ≡ t + 200 + reaction s + 60 = omega arith in
-    let behind = come_behind Free (λ o. Plain) (device s) (t + 260 + reaction s) (t + 200 + reaction s) n (frees (x ∷ xs) t) sent its_free
-    (none_sooner (t + 200 + reaction s) (t + 260) (frees (x ∷ xs) t) (omega (arith, most)) (none_ready Free (λ o. Plain) (t + 260) x xs)) in
+    let letting = pulsing_follows peek s.party s.role r2 q2 sent (t + 200 + lasting s) n (frees (x ∷ xs) t) its_free (frees_order t x xs) (omega (arith, over, lasts)) body in
+    let sixty : t + 200 + lasting s ≡ t + 200 + reaction s + eoi_pulse s.party.pace = omega arith in
+    let behind = come_behind Free (λ o. Plain) (device s) (t + 200 + lasting s) (t + 200 + reaction s) n (frees (x ∷ xs) t) sent its_free
+    (none_sooner (t + 200 + reaction s) (t + 261) (frees (x ∷ xs) t) (omega (arith, most)) (frees_late (x ∷ xs) t r)) in
     pulls_follow peek s.party s.role r2 q2 rest (t + 200 + reaction s) n (pulls (x ∷ xs) t) its_pull (in_order Pull (λ o. Plain) (t + 200) x xs)
-    (all_sooner (t + 261) (t + 200 + reaction s + 60) (pulls (x ∷ xs) t) (omega (arith, least)) (all_pull (x ∷ xs) t r)) behind
+    (all_sooner (t + 261) (t + 200 + reaction s + eoi_pulse s.party.pace) (pulls (x ∷ xs) t) (omega (arith, pulse_from s.party.pace, least)) (all_pull (x ∷ xs) t r)) behind
     (subst (λ (m : ℕ). FollowsAmong peek (sharing peek s.party s.role r2 q2 rest n) (pulsing peek s.party s.role r2 q2 rest m n) rest r2 q2) sixty letting)
 
 -- A frame with the end signalled: one of several listeners follows it, and then they all hold DATA again.

@@ -67,7 +67,7 @@ module _ (peek : Option (ℕ × Bool)) where
   keeps_role {r} {r2} {q} (reacts t more d e sh l f) n =
       let all = subst NoAttention e n in
       keeps_role f (no_right (reaction_steps t peek q) more all)
-      ∙ reaction_role q.party.device t peek q.role q.others (reaction_changes t peek q) q.side sh (no_left (reaction_steps t peek q) more all)
+      ∙ reaction_role _ q.party.device t peek q.role q.others (reaction_changes t peek q) q.side sh (no_left (reaction_steps t peek q) more all)
 
 -- the steps of one drive
 abbrev pub is_own : ℕ → Who → Bool

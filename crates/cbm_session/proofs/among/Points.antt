@@ -23,7 +23,7 @@ use Rattle.cbm_session.specs.Following.{in_attention}
 use Rattle.cbm_session.specs.Frames.{Told, is_last, telling, taking}
 use Rattle.cbm_session.specs.Laws.{SeatsReact}
 use Rattle.cbm_session.specs.Pieces.{Whole, Place, Point, own_part, steps_of, before, Fits, PieceFits, held_by, told_place, seat_with, obeying, standing, whole_point, point_after, PullPiece, Command, Byte, ToListener, ToNobody, ToTalker, Nothing, Talk, Cut, Open, Commanding, Listening, Leading, Cutting}
-use Rattle.cbm_session.specs.Seats.{lines, Seat, device, is_listener, is_talker, has_listener, has_talker, talker_of, listeners}
+use Rattle.cbm_session.specs.Seats.{at_pace, lines, Seat, device, is_listener, is_talker, has_listener, has_talker, talker_of, listeners}
 use Rattle.cbm_session.specs.Sessions.{rest, AreDrives, IsBus}
 use Rattle.cbm_session.specs.Steps.{Step, merge, merge_all}
 
@@ -368,7 +368,7 @@ leading_alone p s at f g l =
     let own = λ (x : Seat). own_part p (Talk at f) x in
     let nothing : ForOthers (device s) (λ x. own_part p (Talk at f) x ≡ []) p.seats =
     each (λ x. nat_eq (device s) (device x) ≡ false → is_talker x.role ≡ false) (λ x. nat_eq (device s) (device x) ≡ false → own_part p (Talk at f) x ≡ []) p.seats
-    (λ x k n. ap (λ (v : Bool). if v then telling x.party at f else []) (k n)) silent in
+    (λ x k n. ap (λ (v : Bool). if v then telling (at_pace (talker_of p.seats).pace x.party) at f else []) (k n)) silent in
     sits_only own (device s) (taking (talker_of p.seats) f) p.seats s nothing g.seated.sits
-    ∙ ap (λ (b : Party). merge (taking b f) (own s)) (talker_is (device s) p.seats s g.seated.one g.seated.sits t)
+    ∙ ap (λ (b : Party). merge (taking b f) (if is_talker s.role then telling (at_pace b.pace s.party) at f else [])) (talker_is (device s) p.seats s g.seated.one g.seated.sits t)
     ∙ ap (λ (v : Bool). merge (taking s.party f) (if v then telling s.party at f else [])) t

@@ -1,7 +1,9 @@
 -- A drive among others follows ATN's pull: the host's changes, then each drive's reaction.
+use Rattle.cbm_session.proofs.Paces.{started}
+use Rattle.cbm_iec.specs.declared.ear.Ear.{Ear}
 use Rattle.std.proofs.Common.{◌≡◌, ℕ, ◌+◌, ◌≤◌, Bool, true, false, List, [], ◌∷◌, ◌++◌, map, Option, Some, None, ap, sym, ◌∙◌, subst, arith, refl}
 use Rattle.std.specs.Prelude.{if◌then◌else◌, nat_eq, ◌||◌}
-use Rattle.cbm_iec.specs.Hearing.{after_hold}
+use Rattle.cbm_iec.specs.Hearing.{after_start}
 use Rattle.cbm_iec.specs.Ports.{side_due}
 use Rattle.cbm_iec.specs.declared.act.Act.TheVariants.{Pulled}
 use Rattle.cbm_iec.specs.declared.ear.Ear.TheVariants.{Starting, Holding, Freeing}
@@ -138,9 +140,9 @@ module _ (peek : Option (ℕ × Bool)) (b : Party) (role : Role) where
   starts : (oc od : Bool) (t : ℕ) (r r2 : Rest) (q2 : Port) (more : List Step) → (wires_of r).clock_low ≡ true → IsBehind t more → FollowsAmong peek r (stands b role (lines false true) (wires_of r) (Hearing Holding)) more r2 q2
       → FollowsAmong peek r (stands b role (lines oc od) (wires_of r) (Hearing (Starting t))) (pull_own oc od b.device t ++ more) r2 q2
   starts oc od t r r2 q2 more e l f =
-      go oc od (subst (λ (v : Bool). FollowsAmong peek r (stands b role (lines false true) (wires_of r) (Hearing (if v then Holding else Freeing (t + b.reaction)))) more r2 q2) (sym e) f)
+      go oc od (subst (λ (v : Bool). FollowsAmong peek r (stands b role (lines false true) (wires_of r) (Hearing (after_start b.pace b.reaction t v))) more r2 q2) (sym e) (subst (λ (v : Ear). FollowsAmong peek r (stands b role (lines false true) (wires_of r) (Hearing v)) more r2 q2) (sym (started b.pace b.reaction t)) f))
     where
-      go : (c d : Bool) → FollowsAmong peek r (stands b role (lines false true) (wires_of r) (Hearing (after_hold b.reaction t (wires_of r).clock_low))) more r2 q2
+      go : (c d : Bool) → FollowsAmong peek r (stands b role (lines false true) (wires_of r) (Hearing (after_start b.pace b.reaction t (wires_of r).clock_low))) more r2 q2
           → FollowsAmong peek r (stands b role (lines c d) (wires_of r) (Hearing (Starting t))) (pull_own c d b.device t ++ more) r2 q2
       go true true g = reacts t more refl refl tt l g
       go true false g = reacts t more refl refl tt l g

@@ -1,4 +1,6 @@
 -- Every drive of a bus follows every session from rest.
+use Rattle.cbm_iec.specs.declared.pace.Pace.TheVariants.{Profile}
+use Rattle.cbm_iec.specs.declared.pace.Pace.{Pace}
 use Rattle.std.proofs.Common.{◌≡◌, ℕ, zero, ◌+◌, inl, inr, Bool, true, false, List, [], ◌∷◌, ◌++◌, map, Option, ap, sym, ◌∙◌, subst, arith, refl}
 use Rattle.std.specs.Prelude.{if◌then◌else◌, nat_eq}
 use Rattle.cbm_iec.specs.Ports.{resting}
@@ -28,7 +30,7 @@ use Rattle.cbm_session.specs.Among.{Rest, wires_of, FollowsAmong}
 use Rattle.cbm_session.specs.Buses.{OwnAt, is_held, one_if, holding, rest_at, seat_for, StandsThere, SaysAs, FollowsUpTo, FollowsAllAmong, EachFollows, FollowsBuses, SideAmong, StandsAmong}
 use Rattle.cbm_session.specs.Pieces.{Whole, Piece, Point, own_part, steps_of, before, piece_steps, PieceFits, held_by, seat_with, whole_point, point_after, PullPiece, Command, Byte, ToListener, ToNobody, ToTalker, Nothing, Talk, Full, Cut, Listening, Leading}
 use Rattle.cbm_session.specs.Seats.{lines, Seat, device, is_listener, is_talker, has_listener}
-use Rattle.cbm_session.specs.Sessions.{rest, Linked}
+use Rattle.cbm_session.specs.Sessions.{rest, Linked, AreDrives}
 use Rattle.cbm_session.specs.Steps.{Step, moment_of}
 
 -- by the roles that a piece allows
@@ -132,7 +134,7 @@ follows_among (Full w ∷ ks) p s q h t l = (
       let same = next_party w s in
       let left = left_is p s q x.port (Full w) x.rest peek h t l.0 x.follows in
       let there : StandsAmong p2 s2 x.port = record {
-        party = follows_drive peek x.follows ∙ t.party ∙ sym same;
+        party = follows_drive peek x.follows ∙ t.party ∙ (sym same);
         role = x.role;
         own = x.own;
         others = follows_wires peek x.follows t.others ∙ ap (λ (r : Rest). wires_of r) left ∙ ap (λ (b : Party). wires_of (rest_at b.device p2)) (sym same);
@@ -191,9 +193,9 @@ at_rest bs c =
       side = refl;
     }
 
-each_follows : (bs : List Party) (ks : List Piece) (cs : List Party) → Linked (rest bs) ks → AllSound (rest bs) cs → EachFollows cs (rest bs) ks
-each_follows bs ks [] l h = tt
-each_follows bs ks (c ∷ cs) l h = (follows_among ks (rest bs) (seat_of c) (resting c) h.0 (at_rest bs c) l, each_follows bs ks cs l h.1)
+each_follows : (bs : List Party) (ks : List Piece) (cs : List Party) → Linked (rest bs) ks → AreDrives cs → AllSound (rest bs) cs → EachFollows cs (rest bs) ks
+each_follows bs ks [] l d h = tt
+each_follows bs ks (c ∷ cs) l d h = (follows_among ks (rest bs) (seat_of c) (resting c) h.0 (at_rest bs c) l, each_follows bs ks cs l d.1 h.1)
 
 pub follows_buses : FollowsBuses
-follows_buses bs ks h l = each_follows bs ks bs l (rest_sound bs h)
+follows_buses bs ks h l = each_follows bs ks bs l h.drives (rest_sound bs h)

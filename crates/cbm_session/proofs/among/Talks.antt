@@ -33,7 +33,7 @@ use Rattle.cbm_session.proofs.among.Pulls.{never_due, for_others}
 use Rattle.cbm_session.proofs.among.Standing.{IsSound, rest_behind}
 use Rattle.cbm_session.proofs.among.Turns.{SeatLaw, commanding_port}
 use Rattle.cbm_session.proofs.joining.OneDrive.{told_is}
-use Rattle.cbm_session.proofs.joining.Owning.{MarkOf, AllOwned, part_owned}
+use Rattle.cbm_session.proofs.joining.Owning.{MarkOf, AllOwned, owned_telling, part_owned}
 use Rattle.cbm_session.proofs.joining.Talkers.{talker_is, other_talker}
 use Rattle.cbm_session.proofs.reading.OneReading.{is_atn, NoAtn, noatn_telling, noatn_if}
 use Rattle.cbm_session.proofs.reading.PieceReadings.{seat}
@@ -43,7 +43,7 @@ use Rattle.cbm_session.specs.Buses.{rest_at, SideAmong, OwnAt, StandsAmong}
 use Rattle.cbm_session.specs.Following.{SideAt}
 use Rattle.cbm_session.specs.Frames.{Sent, Told, wire, end_of, hearing, sending, is_last, signal_steps, telling, taking, ToldFits}
 use Rattle.cbm_session.specs.Pieces.{Whole, Place, Point, host_part, own_part, steps_of, obeying, Command, Byte, Talk, Open, Listening, Leading}
-use Rattle.cbm_session.specs.Seats.{lines, Seat, device, is_listener, is_talker, talker_of, listeners}
+use Rattle.cbm_session.specs.Seats.{at_pace, lines, Seat, device, is_listener, is_talker, talker_of, listeners}
 use Rattle.cbm_session.specs.Steps.{Mark, Step, host, for_one, merge, merge_all, Plain, ForEach, For}
 
 -- what so many hold is what they and a host that doesn't hold
@@ -192,7 +192,7 @@ absent_talk_law b o at g p q peek sound st f y =
     let w = Talk at g in
     let another = other_talker b.device p.seats s sound.some sound.seated.sits refl in
     let all = idle_passes peek p b o w q st (own_there p s (Leading at) sound f.0) (side_there p s q (Leading at) st f.0)
-    (frame_others p s w sound (taking_others b.device (talker_of p.seats) g another) (λ (x : Seat). noatn_if (is_talker x.role) (telling x.party at g) (noatn_telling x.party at g)) refl) in
+    (frame_others p s w sound (taking_others b.device (talker_of p.seats) g another) (λ (x : Seat). noatn_if (is_talker x.role) (telling (at_pace (talker_of p.seats).pace x.party) at g) (noatn_telling (at_pace (talker_of p.seats).pace x.party) at g)) refl) in
     record { rest = all.0; port = stands b Absent (lines false false) (wires_of all.0) (Hearing Idle); follows = all.1; role = refl; own = refl; side = idle_side (is_last g) (g.accept + 100) }
 
 -- the talker
@@ -228,7 +228,7 @@ talk_law b o at g p q peek sound st f y =
     let fits = subst (λ (x : Party). ToldFits x at g) (talker_is b.device p.seats s sound.seated.one sound.seated.sits refl) f.1 in
     let frame = told_follows b at g.bits g.free g.accept g.signal fits in
     let both = told_is b at g fits in
-    let solo : Every (λ x. IsSolo b.device x.mark) (merge (taking b g) (telling b at g)) = every_merge (λ x. IsSolo b.device x.mark) (taking b g) (telling b at g) (taking_solo b g) (owned_solo b.device (telling b at g) (part_owned p w s)) in
+    let solo : Every (λ x. IsSolo b.device x.mark) (merge (taking b g) (telling b at g)) = every_merge (λ x. IsSolo b.device x.mark) (taking b g) (telling b at g) (taking_solo b g) (owned_solo b.device (telling b at g) (owned_telling b at g)) in
     let all = alone_among bits frame (subst (Every (λ x. IsSolo b.device x.mark)) both solo) in
     let steps = leading_alone p s at g sound refl ∙ both in
     let same : q ≡ start = port_is q b Talker (lines true false) (wires false false true) (Speaking (Led at)) st.party st.role (st.own ∙ own_there p s (Leading at) sound f.0) (st.others ∙ ap (λ (x : Rest). wires_of x) known) (side_there p s q (Leading at) st f.0) in

@@ -1,4 +1,7 @@
 -- A drive among others follows ATN's release: who listens goes on holding DATA, who has no role lets go of it, and who talks answers.
+use Rattle.cbm_session.proofs.joining.Silents.{silent_order}
+use Rattle.cbm_iec.specs.declared.pace.Pace.TheVariants.{Profile, Kernal}
+use Rattle.cbm_iec.specs.declared.pace.Pace.{Pace}
 use Rattle.std.proofs.Common.{◌≡◌, ℕ, zero, suc, ◌+◌, ◌≤◌, Bool, true, false, List, [], ◌∷◌, map, Option, Some, None, ap, sym, ◌∙◌, subst, arith, refl}
 use Rattle.std.specs.Prelude.{nat_eq}
 use Rattle.cbm_iec.specs.declared.act.Act.TheVariants.{Released, Silent}
@@ -30,7 +33,7 @@ use Rattle.cbm_session.proofs.reading.PieceReadings.{seat, turn_first}
 use Rattle.cbm_session.specs.Among.{Rest, some, wires_of, FollowsAmong, tells, reacts}
 use Rattle.cbm_session.specs.Buses.{rest_at, SaysAs, SideAmong, OwnAt, StandsAmong}
 use Rattle.cbm_session.specs.Joins.{NotBefore}
-use Rattle.cbm_session.specs.Pieces.{Whole, Place, Point, freed_steps, host_part, let_go, own_part, steps_of, Fits, ToListener, ToNobody, ToTalker, Nothing, Commanding, Full}
+use Rattle.cbm_session.specs.Pieces.{silent_part, Whole, Place, Point, freed_steps, host_part, let_go, own_part, steps_of, Fits, ToListener, ToNobody, ToTalker, Nothing, Commanding, Full}
 use Rattle.cbm_session.specs.Seats.{lines, Seat, device, reaction, is_talker, talker_of}
 use Rattle.cbm_session.specs.Steps.{Step, host, drive, for_each, for_one, moment_of, merge, merge_all}
 
@@ -240,8 +243,21 @@ answer_part d t x h = record {
   drives = (tt, (tt, tt));
 }
 
-silent_part : (d t : ℕ) (x : Seat) → nat_eq d (device x) ≡ false → IsPart (IsOthers d) (IsOthers d) (for_one (device x) Silent (drive (device x) t Data Free) ∷ [])
-silent_part d t x h = record { order = (tt, tt); first = (record { who = h; counts = unmarked d (device x) Silent h; line = refl }, tt); behind = (record { who = h; counts = unmarked d (device x) Silent h; line = refl }, tt); drives = (tt, tt) }
+silence_part : (d t : ℕ) (x : Seat) → nat_eq d (device x) ≡ false → IsPart (IsOthers d) (IsOthers d) (silent_part x.party.pace (device x) t)
+silence_part d t x h = go x.party.pace
+  where
+    go : (e : Pace) → IsPart (IsOthers d) (IsOthers d) (silent_part e (device x) t)
+    go Profile = record { order = (tt, tt); first = (record { who = h; counts = unmarked d (device x) Silent h; line = refl }, tt); behind = (record { who = h; counts = unmarked d (device x) Silent h; line = refl }, tt); drives = (tt, tt) }
+    go Kernal = record {
+      order = silent_order Kernal (device x) t;
+      first = (record { who = h; counts = refl; line = refl }, (record { who = h; counts = refl; line = refl }, (record { who = h; counts = unmarked d (device x) Silent h; line = refl }, tt)));
+      behind = (record { who = h; counts = refl; line = refl }, (record { who = h; counts = refl; line = refl }, (record { who = h; counts = unmarked d (device x) Silent h; line = refl }, tt)));
+      drives = (tt, (tt, (tt, tt)));
+    }
+
+pub silent_sooner : (e : Pace) (d m t : ℕ) → m ≤ t → Every (λ s. m ≤ moment_of s) (silent_part e d t)
+silent_sooner Profile d m t h = (h, tt)
+silent_sooner Kernal d m t h = (h, (omega (arith, h), (omega (arith, h), tt)))
 
 pub absent_turn_law : (b : Party) (o : Held) (at clock : ℕ) → SeatLaw (ToTalker at clock) (seat b Absent o)
 absent_turn_law b o at clock p q peek sound st f y =
@@ -257,7 +273,7 @@ freed_others d (Some g) = (record { who = tt; counts = refl; line = refl }, tt)
 pub absent_nothing_law : (b : Party) (o : Held) (at clock : ℕ) (freed : Option ℕ) → SeatLaw (Nothing at clock freed) (seat b Absent o)
 absent_nothing_law b o at clock freed p q peek sound st f y =
     let late = f.1 in
-    let all = turn_absent p b o (Nothing at clock freed) at (host clock Clock Free ∷ freed_steps freed) (λ x. for_one (device x) Silent (drive (device x) (clock + reaction x) Data Free) ∷ [])
-    (λ (d : ℕ) (x : Seat) (h : nat_eq d (device x) ≡ false). silent_part d (clock + reaction x) x h) (λ (x : Seat). (omega (arith, late), tt)) (λ (x : Seat). refl) refl
-    (freed_order clock (talker_of p.seats).reaction freed f.2) (record { who = tt; counts = refl; line = refl }, freed_others b.device freed) q peek sound st f.0.commanding in
+    let all = turn_absent p b o (Nothing at clock freed) at (host clock Clock Free ∷ freed_steps freed) (λ x. silent_part x.party.pace (device x) (clock + reaction x))
+    (λ (d : ℕ) (x : Seat) (h : nat_eq d (device x) ≡ false). silence_part d (clock + reaction x) x h) (λ (x : Seat). silent_sooner x.party.pace (device x) at (clock + reaction x) (omega (arith, late))) (λ (x : Seat). refl) refl
+    (freed_order clock (talker_of p.seats) freed f.2) (record { who = tt; counts = refl; line = refl }, freed_others b.device freed) q peek sound st f.0.commanding in
     record { rest = all.0; port = stands b Absent (lines false false) (wires_of all.0) (Hearing Idle); follows = all.1; role = refl; own = refl; side = refl }

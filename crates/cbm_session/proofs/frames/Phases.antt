@@ -13,7 +13,7 @@ use Rattle.cbm_session.proofs.joining.Merging.{merge_here, merge_there, merge_ni
 use Rattle.cbm_session.proofs.joining.OneDrive.{AllUpTo, cells_upto, upto_append, last_after}
 use Rattle.cbm_session.proofs.joining.Orders.{sending_order}
 use Rattle.cbm_session.specs.Bits.{where_held, cells_steps, held_after, byte_of}
-use Rattle.cbm_session.specs.Frames.{Sent, wire, end_of, pulse, hearing, sending, StartFits, SentFits}
+use Rattle.cbm_session.specs.Frames.{Sent, wire, lasting, longest, end_of, pulse, hearing, sending, StartFits, SentFits}
 use Rattle.cbm_session.specs.Laws.{SeatsReact, releases, pulses, from_start, accepts, frame_in_parts, CommandsGoInParts, BytesGoInParts}
 use Rattle.cbm_session.specs.Seats.{Seat, device, reaction, slowest, is_listener, listeners}
 use Rattle.cbm_session.specs.Steps.{Step, host, drive, for_one, moment_of, merge, merge_all}
@@ -81,13 +81,22 @@ react_by n (s ∷ u ∷ us) h l =
     let b = le-max_right (reaction s) (slowest (u ∷ us)) in
     ((h.0, h.1, omega (arith, a, l)), react_by n (u ∷ us) h.2 (omega (arith, b, l)))
 
+-- none lasts longer than the longest
+pub lasts_by : (n : ℕ) (hs : List Seat) → longest hs ≤ n → Each (λ s. lasting s ≤ n) hs
+lasts_by n [] l = tt
+lasts_by n (s ∷ []) l = (l, tt)
+lasts_by n (s ∷ u ∷ us) l =
+    let a = le-max_left (lasting s) (longest (u ∷ us)) in
+    let b = le-max_right (lasting s) (longest (u ∷ us)) in
+    (omega (arith, a, l), lasts_by n (u ∷ us) (omega (arith, b, l)))
+
 -- a drive's part behind its release, by what bounds it
 tail_none : (c t : ℕ) (eoi : Bool) (act : Act) (f : Sent) (s : Seat) → c ≤ t + 200 + reaction s → c ≤ end_of f + reaction s
     → NoneBefore c (pulse t eoi s ++ for_one (device s) act (drive (device s) (end_of f + reaction s) Data Pull) ∷ [])
 tail_none c t true act f s a b = (a, (omega (arith, a), (b, tt)))
 tail_none c t false act f s a b = (b, tt)
 
-pulse_before : (c t : ℕ) (eoi : Bool) (s : Seat) → t + 260 + reaction s < c → AllBefore c (pulse t eoi s)
+pulse_before : (c t : ℕ) (eoi : Bool) (s : Seat) → t + 200 + lasting s < c → AllBefore c (pulse t eoi s)
 pulse_before c t true s h = (omega (arith, h), (h, tt))
 pulse_before c t false s h = tt
 
@@ -100,11 +109,11 @@ freed_upto true m = (omega arith, tt)
 freed_upto false m = tt
 
 pub starts : (eoi : Bool) (hs : List Seat) (f : Sent) → StartFits hs eoi f → wire hs f + 1 ≤ f.start
-starts true hs f h = let k : wire hs f + 260 + slowest hs + 1 ≤ f.start = h in omega (arith, k)
+starts true hs f h = let k : wire hs f + 200 + longest hs + 1 ≤ f.start = h in omega (arith, k)
 starts false hs f h = h.0
 
-pulses_before : (eoi : Bool) (hs : List Seat) (f : Sent) (s : Seat) → StartFits hs eoi f → ReactsBy (slowest hs) s → AllBefore f.start (pulse (wire hs f) eoi s)
-pulses_before true hs f s h r = let k : wire hs f + 260 + slowest hs + 1 ≤ f.start = h in let l = r.2 in pulse_before f.start (wire hs f) true s (omega (arith, k, l))
+pulses_before : (eoi : Bool) (hs : List Seat) (f : Sent) (s : Seat) → StartFits hs eoi f → lasting s ≤ longest hs → AllBefore f.start (pulse (wire hs f) eoi s)
+pulses_before true hs f s h r = let k : wire hs f + 200 + longest hs + 1 ≤ f.start = h in pulse_before f.start (wire hs f) true s (omega (arith, k, r))
 pulses_before false hs f s h r = tt
 
 module _ (hs : List Seat) (eoi : Bool) (act : Act) (f : Sent) (r : SeatsReact hs) (fits : SentFits hs eoi f) where
@@ -151,7 +160,7 @@ module _ (hs : List Seat) (eoi : Bool) (act : Act) (f : Sent) (r : SeatsReact hs
       (λ s h. let x = start in let y = last in tail_none (wire hs f + 1) (wire hs f) eoi act f s (omega arith) (omega (arith, x, y))) by
 
   pulse_done : Each (λ s. AllBefore f.start (pulsing s)) hs
-  pulse_done = each (ReactsBy (slowest hs)) (λ s. AllBefore f.start (pulsing s)) hs (λ s h. pulses_before eoi hs f s fits.start h) by
+  pulse_done = each (λ s. lasting s ≤ longest hs) (λ s. AllBefore f.start (pulsing s)) hs (λ s h. pulses_before eoi hs f s fits.start h) (lasts_by (longest hs) hs (omega arith))
 
   accept_none : (m : ℕ) → m ≤ end_of f + 1 → Each (λ s. NoneBefore m (accept s)) hs
   accept_none m l = each (ReactsBy (slowest hs)) (λ s. NoneBefore m (accept s)) hs (λ s h. let a = h.0 in (omega (arith, a, l), tt)) by

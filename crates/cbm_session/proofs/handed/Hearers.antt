@@ -1,4 +1,6 @@
 -- A station on a bus as a drive that listens: told a change and at its reaction it goes on as that does, and its acts are what the wires hand it.
+use Rattle.cbm_iec.specs.declared.pace.Pace.TheVariants.{Profile, Kernal}
+use Rattle.cbm_iec.specs.declared.pace.Pace.{Pace}
 use Rattle.std.proofs.Common.{◌≡◌, ℕ, ◌+◌, Bool, true, false, List, ◌∷◌, Option, Some, None, ap, sym, ◌∙◌, subst, refl, ◌<◌, ◌++◌}
 use Rattle.std.proofs.lemmas.Bool.{ne_eqb}
 use Rattle.std.specs.Prelude.{if◌then◌else◌, ◌&&◌, not, nat_le, ◌==◌, ◌%◌}
@@ -9,7 +11,7 @@ use Rattle.cbm_iec.specs.Speaking.{taken_act, mouth_row, end_frame_row, set_bit_
 use Rattle.cbm_iec.specs.Table.{TableRow}
 use Rattle.cbm_iec.specs.declared.act.Act.TheVariants.{Pulled, Attention, Released, Heard, Said, Silent}
 use Rattle.cbm_iec.specs.declared.act.Act.{Act}
-use Rattle.cbm_iec.specs.declared.ear.Ear.TheVariants.{Idle, Starting, Leaving, Returning, Holding, Freeing, Ready, Timed, Pulsing, EoiNoted, Gathering, Accepting}
+use Rattle.cbm_iec.specs.declared.ear.Ear.TheVariants.{Idle, Await, Starting, Leaving, Returning, Holding, Freeing, Ready, Timed, Pulsing, EoiNoted, Gathering, Accepting}
 use Rattle.cbm_iec.specs.declared.ear.Ear.{Ear}
 use Rattle.cbm_iec.specs.declared.event.Event.{Event}
 use Rattle.cbm_iec.specs.declared.event.Who.TheVariants.{Host, Drive}
@@ -19,7 +21,7 @@ use Rattle.cbm_iec.specs.declared.line.Line.{Line}
 use Rattle.cbm_iec.specs.declared.line.Way.{Way}
 use Rattle.cbm_iec.specs.declared.lines.Held.{Held}
 use Rattle.cbm_iec.specs.declared.lines.Lines.{Lines}
-use Rattle.cbm_iec.specs.declared.mouth.Mouth.TheVariants.{Turned, Answering, Led, Offering, EoiOffered, EoiPulsed, Sending, Waiting, Ending, Over}
+use Rattle.cbm_iec.specs.declared.mouth.Mouth.TheVariants.{Turned, Answering, Mute, Led, Offering, EoiOffered, EoiPulsed, Sending, Waiting, Ending, Over}
 use Rattle.cbm_iec.specs.declared.mouth.Mouth.{Mouth}
 use Rattle.cbm_iec.specs.declared.party.Role.TheVariants.{Absent, Listener, Talker}
 use Rattle.cbm_iec.specs.declared.party.Role.{Role}
@@ -64,23 +66,24 @@ told_ear t now q = go (is_same q.others.atn_low now.atn_low) now.atn_low
     go false false = freed_ear q.party.reaction t now.clock_low q.role q.side
 
 -- the role goes by the act
-ear_role : (d : ℕ) (others : Lines) (role : Role) (ear : Ear) → side_role d others.atn_low role (Hearing ear) ≡ role_with d ((ear_row ear).act others) role
-ear_role d others role (Accepting at_ eoi byte) = go others.atn_low
+ear_role : (e : Pace) → (d : ℕ) (others : Lines) (role : Role) (ear : Ear) → side_role d others.atn_low role (Hearing ear) ≡ role_with d ((ear_row e ear).act others) role
+ear_role e d others role (Accepting at_ eoi byte) = go others.atn_low
   where
     go : (v : Bool) → (if v then role_after d byte role else role) ≡ role_with d (Some (heard_act v byte eoi)) role
     go true = refl
     go false = refl
-ear_role d others role Idle = refl
-ear_role d others role (Starting at_) = refl
-ear_role d others role (Leaving at_) = refl
-ear_role d others role (Returning at_) = refl
-ear_role d others role Holding = refl
-ear_role d others role (Freeing at_) = refl
-ear_role d others role Ready = refl
-ear_role d others role (Timed at_) = refl
-ear_role d others role (Pulsing at_) = refl
-ear_role d others role EoiNoted = refl
-ear_role d others role (Gathering eoi count byte) = refl
+ear_role e d others role Await = refl
+ear_role e d others role Idle = refl
+ear_role e d others role (Starting at_) = refl
+ear_role e d others role (Leaving at_) = refl
+ear_role e d others role (Returning at_) = refl
+ear_role e d others role Holding = refl
+ear_role e d others role (Freeing at_) = refl
+ear_role e d others role Ready = refl
+ear_role e d others role (Timed at_) = refl
+ear_role e d others role (Pulsing at_) = refl
+ear_role e d others role EoiNoted = refl
+ear_role e d others role (Gathering eoi count byte) = refl
 
 -- ---- what a talker counts is its answer
 
@@ -101,21 +104,24 @@ taken_is was now (Offering byte last) = tt
 taken_is was now (EoiOffered byte) = tt
 taken_is was now (EoiPulsed byte) = tt
 taken_is was now (Sending at_ byte last left half) = tt
+taken_is was now (Mute at_) = tt
 taken_is was now (Ending at_) = tt
 taken_is was now Over = tt
 
-said_is : (others : Lines) (p : Option (ℕ × Bool)) (mouth : Mouth) → IsAnswer ((mouth_row p mouth).act others)
-said_is others p Turned = tt
-said_is others None (Answering at_) = refl
-said_is others (Some x) (Answering at_) = tt
-said_is others p (Led at_) = tt
-said_is others p (Offering byte last) = tt
-said_is others p (EoiOffered byte) = tt
-said_is others p (EoiPulsed byte) = tt
-said_is others p (Sending at_ byte last left half) = go (nat_le 16 half) ((half % 2) == 0)
+said_is : (e : Pace) → (others : Lines) (p : Option (ℕ × Bool)) (mouth : Mouth) → IsAnswer ((mouth_row e p mouth).act others)
+said_is e others p Turned = tt
+said_is Profile others None (Answering at_) = refl
+said_is Kernal others None (Answering at_) = tt
+said_is Profile others (Some x) (Answering at_) = tt
+said_is Kernal others (Some x) (Answering at_) = tt
+said_is e others p (Led at_) = tt
+said_is e others p (Offering byte last) = tt
+said_is e others p (EoiOffered byte) = tt
+said_is e others p (EoiPulsed byte) = tt
+said_is e others p (Sending at_ byte last left half) = go (nat_le 16 half) ((half % 2) == 0)
   where
     row : Bool → Bool → TableRow Mouth
-    row v u = if v then end_frame_row byte last else (if u then set_bit_row byte last left half else show_bit_row byte last left half)
+    row v u = if v then end_frame_row byte last else (if u then set_bit_row e byte last left half else show_bit_row e byte last left half)
 
     ended : (low : Bool) → IsAnswer (if low then Some (Said byte last) else None)
     ended true = refl
@@ -125,9 +131,10 @@ said_is others p (Sending at_ byte last left half) = go (nat_le 16 half) ((half 
     go true u = ended others.data_low
     go false true = tt
     go false false = tt
-said_is others p (Waiting byte last) = tt
-said_is others p (Ending at_) = tt
-said_is others p Over = tt
+said_is e others p (Waiting byte last) = tt
+said_is e others p (Mute at_) = refl
+said_is e others p (Ending at_) = tt
+said_is e others p Over = tt
 
 answered : (later : List ℕ) (end : ℕ) (h : Hearer) (es : List Event) (act : Option Act) (acts : List Act) → h.ear ≡ None → IsAnswer act → Hands later end h es acts → Hands later end h es (with_act act acts)
 answered later end h es None acts n a g = g
@@ -282,6 +289,7 @@ module _ (M : Type 0) (step : M → Act → M) (peek : M → Option (ℕ × Bool
   bound side p k b (EoiOffered byte) e = tt
   bound side p k b (EoiPulsed byte) e = tt
   bound side p k b (Waiting byte last) e = tt
+  bound side p k b (Mute at_) e = tt
   bound side p k b (Ending at_) e = tt
   bound side p k b Over e = tt
 
@@ -290,34 +298,35 @@ module _ (M : Type 0) (step : M → Act → M) (peek : M → Option (ℕ × Bool
   own_shows t s v g h b due = let w = go s.port.side refl in (w.0, record { atn = h.atn; low = refl; bits = w.1 })
     where
       At : Side → Option (List Bool)
-      At side = freed_bits s.port.own.clock_low (side_held (peek s.machine) s.port.own side).clock_low v.low v.bits
+      At side = freed_bits s.port.own.clock_low (side_held s.port.party.pace (peek s.machine) s.port.own side).clock_low v.low v.bits
 
       Led : Side → Type 0
-      Led side = WasShown (side_act (peek s.machine) s.port.others side) (At side)
-          × SideSpells (side_after s.port.party.reaction t s.port.others (peek s.machine) side) (side_held (peek s.machine) s.port.own side) (bits_after (side_act (peek s.machine) s.port.others side) (At side))
+      Led side = WasShown (side_act s.port.party.pace (peek s.machine) s.port.others side) (At side)
+          × SideSpells (side_after s.port.party.pace s.port.party.reaction t s.port.others (peek s.machine) side) (side_held s.port.party.pace (peek s.machine) s.port.own side) (bits_after (side_act s.port.party.pace (peek s.machine) s.port.others side) (At side))
 
-      heard_shown : (others : Lines) (ear : Ear) (bits : Option (List Bool)) → WasShown ((ear_row ear).act others) bits
-      heard_shown others (Accepting at_ eoi byte) bits = by_atn others.atn_low
+      heard_shown : (e : Pace) → (others : Lines) (ear : Ear) (bits : Option (List Bool)) → WasShown ((ear_row e ear).act others) bits
+      heard_shown e others (Accepting at_ eoi byte) bits = by_atn others.atn_low
         where
           by_atn : (x : Bool) → WasShown (Some (heard_act x byte eoi)) bits
           by_atn true = tt
           by_atn false = tt
-      heard_shown others Idle bits = tt
-      heard_shown others (Starting at_) bits = tt
-      heard_shown others (Leaving at_) bits = tt
-      heard_shown others (Returning at_) bits = tt
-      heard_shown others Holding bits = tt
-      heard_shown others (Freeing at_) bits = tt
-      heard_shown others Ready bits = tt
-      heard_shown others (Timed at_) bits = tt
-      heard_shown others (Pulsing at_) bits = tt
-      heard_shown others EoiNoted bits = tt
-      heard_shown others (Gathering eoi count byte) bits = tt
+      heard_shown e others Await bits = tt
+      heard_shown e others Idle bits = tt
+      heard_shown e others (Starting at_) bits = tt
+      heard_shown e others (Leaving at_) bits = tt
+      heard_shown e others (Returning at_) bits = tt
+      heard_shown e others Holding bits = tt
+      heard_shown e others (Freeing at_) bits = tt
+      heard_shown e others Ready bits = tt
+      heard_shown e others (Timed at_) bits = tt
+      heard_shown e others (Pulsing at_) bits = tt
+      heard_shown e others EoiNoted bits = tt
+      heard_shown e others (Gathering eoi count byte) bits = tt
 
       go : (side : Side) → s.port.side ≡ side → Led side
-      go (Hearing ear) e = (heard_shown s.port.others ear (At (Hearing ear)), tt)
+      go (Hearing ear) e = (heard_shown _ s.port.others ear (At (Hearing ear)), tt)
       go (Speaking mouth) e =
-          reaction_spells s.port.party.reaction t s.port.others (peek s.machine) mouth s.port.own v.low v.bits (bound s.port.side (peek s.machine) g.knows b mouth e) h.low
+          reaction_spells _ s.port.party.reaction t s.port.others (peek s.machine) mouth s.port.own v.low v.bits (bound s.port.side (peek s.machine) g.knows b mouth e) h.low
           (subst (λ (x : Side). SideSpells x s.port.own v.bits) e h.bits) (subst (λ (x : Side). side_due x ≡ Some t) e due)
 
   pub own_voiced : (t : ℕ) (s : Station M) (v : Voice) → IsSettled s → IsVoiced s v → IsByte M step peek (peek s.machine) → port_due s.port ≡ Some t → IsVoiced (react M step peek t s) (own_voice s v)
@@ -398,15 +407,15 @@ module _ (M : Type 0) (step : M → Act → M) (peek : M → Option (ℕ × Bool
       At side = record { party = s.port.party; role = s.port.role; rest = s.rest; ear = ear_of side }
 
       Behind : Side → Hearer
-      Behind side = record { party = s.port.party; role = side_role s.port.party.device s.port.others.atn_low s.port.role side; rest = s.rest; ear = ear_of (side_after s.port.party.reaction t s.port.others (peek s.machine) side) }
+      Behind side = record { party = s.port.party; role = side_role s.port.party.device s.port.others.atn_low s.port.role side; rest = s.rest; ear = ear_of (side_after s.port.party.pace s.port.party.reaction t s.port.others (peek s.machine) side) }
 
       ear_behind : (ear : Ear) → Behind (Hearing ear) ≡ moves t (At (Hearing ear))
       ear_behind ear =
-          ap (λ (x : Role). (record { party = s.port.party; role = x; rest = s.rest; ear = Some ((ear_row ear).next s.port.party.reaction t s.port.others) })) (ear_role s.port.party.device s.port.others s.port.role ear)
-          ∙ ap (λ (l : Lines). (record { party = s.port.party; role = role_with s.port.party.device ((ear_row ear).act l) s.port.role; rest = s.rest; ear = Some ((ear_row ear).next s.port.party.reaction t l) })) g.wired
+          ap (λ (x : Role). (record { party = s.port.party; role = x; rest = s.rest; ear = Some ((ear_row s.port.party.pace ear).next s.port.party.reaction t s.port.others) })) (ear_role _ s.port.party.device s.port.others s.port.role ear)
+          ∙ ap (λ (l : Lines). (record { party = s.port.party; role = role_with s.port.party.device ((ear_row s.port.party.pace ear).act l) s.port.role; rest = s.rest; ear = Some ((ear_row s.port.party.pace ear).next s.port.party.reaction t l) })) g.wired
 
-      by_side : (side : Side) → side_due side ≡ Some t → Hands later end (Behind side) es f.acts → Hands later end (At side) es (with_act (side_act (peek s.machine) s.port.others side) f.acts)
+      by_side : (side : Side) → side_due side ≡ Some t → Hands later end (Behind side) es f.acts → Hands later end (At side) es (with_act (side_act s.port.party.pace (peek s.machine) s.port.others side) f.acts)
       by_side (Hearing ear) e k =
-          reacts t f.acts e n (ap (λ (l : Lines). with_act ((ear_row ear).act l) f.acts) g.wired) (subst (λ (h : Hearer). Hands later end h es f.acts) (ear_behind ear) k)
+          reacts t f.acts e n (ap (λ (l : Lines). with_act ((ear_row s.port.party.pace ear).act l) f.acts) g.wired) (subst (λ (h : Hearer). Hands later end h es f.acts) (ear_behind ear) k)
       by_side (Speaking mouth) e k =
-          answered later end (At (Speaking mouth)) es ((mouth_row (peek s.machine) mouth).act s.port.others) f.acts refl (said_is s.port.others (peek s.machine) mouth) k
+          answered later end (At (Speaking mouth)) es ((mouth_row s.port.party.pace (peek s.machine) mouth).act s.port.others) f.acts refl (said_is _ s.port.others (peek s.machine) mouth) k

@@ -1,5 +1,7 @@
 -- From its offer on a talker knows the byte that its machine has to say, whatever the host does: no act comes to it but the byte's own, or a pull of ATN, which
 -- ends its talk.
+use Rattle.cbm_iec.specs.declared.pace.Pace.TheVariants.{Profile, Kernal}
+use Rattle.cbm_iec.specs.declared.pace.Pace.{Pace}
 use Rattle.std.proofs.Common.{◌≡◌, ℕ, ◌+◌, Bool, true, false, List, Option, Some, None, sym, subst, refl}
 use Rattle.std.specs.Prelude.{if◌then◌else◌, ◌==◌, ◌%◌, ◌&&◌, not, nat_le}
 use Rattle.cbm_iec.specs.Hearing.{is_same, heard_act, ear_row}
@@ -9,10 +11,10 @@ use Rattle.cbm_iec.specs.Speaking.{after_turn, after_free, after_offer, after_ta
 use Rattle.cbm_iec.specs.Table.{TableRow}
 use Rattle.cbm_iec.specs.declared.act.Act.TheVariants.{Pulled, Released, Said}
 use Rattle.cbm_iec.specs.declared.act.Act.{Act}
-use Rattle.cbm_iec.specs.declared.ear.Ear.TheVariants.{Idle, Starting, Leaving, Returning, Holding, Freeing, Ready, Timed, Pulsing, EoiNoted, Gathering, Accepting}
+use Rattle.cbm_iec.specs.declared.ear.Ear.TheVariants.{Idle, Await, Starting, Leaving, Returning, Holding, Freeing, Ready, Timed, Pulsing, EoiNoted, Gathering, Accepting}
 use Rattle.cbm_iec.specs.declared.ear.Ear.{Ear}
 use Rattle.cbm_iec.specs.declared.lines.Lines.{Lines}
-use Rattle.cbm_iec.specs.declared.mouth.Mouth.TheVariants.{Turned, Answering, Led, Offering, EoiOffered, EoiPulsed, Sending, Waiting, Ending, Over}
+use Rattle.cbm_iec.specs.declared.mouth.Mouth.TheVariants.{Turned, Answering, Mute, Led, Offering, EoiOffered, EoiPulsed, Sending, Waiting, Ending, Over}
 use Rattle.cbm_iec.specs.declared.mouth.Mouth.{Mouth}
 use Rattle.cbm_iec.specs.declared.party.Role.TheVariants.{Absent, Listener, Talker}
 use Rattle.cbm_iec.specs.declared.party.Role.{Role}
@@ -32,6 +34,7 @@ Knows (EoiOffered byte) p = p ≡ Some (byte, true)
 Knows (EoiPulsed byte) p = p ≡ Some (byte, true)
 Knows (Sending at_ byte last left half) p = p ≡ Some (byte, last)
 Knows (Waiting byte last) p = p ≡ Some (byte, last)
+Knows (Mute at_) p = p ≡ None
 Knows (Ending at_) p = Unit {0}
 Knows Over p = Unit {0}
 
@@ -64,6 +67,7 @@ clock_knows r t low (EoiOffered byte) p h = h
 clock_knows r t low (EoiPulsed byte) p h = h
 clock_knows r t low (Sending at_ byte last left half) p h = h
 clock_knows r t low (Waiting byte last) p h = h
+clock_knows r t low (Mute at_) p h = h
 clock_knows r t low (Ending at_) p h = tt
 clock_knows r t low Over p h = tt
 
@@ -87,6 +91,7 @@ data_knows r t false (EoiPulsed byte) p h = h
 data_knows r t low (Sending at_ byte last left half) p h = h
 data_knows r t true (Waiting byte last) p h = taken_knows r t last p
 data_knows r t false (Waiting byte last) p h = h
+data_knows r t low (Mute at_) p h = h
 data_knows r t low (Ending at_) p h = tt
 data_knows r t low Over p h = tt
 
@@ -140,6 +145,7 @@ module _ (M : Type 0) (step : M → Act → M) (peek : M → Option (ℕ × Bool
   mouth_told r t was now (EoiPulsed byte) m h = (tt, lines_know r t was now (EoiPulsed byte) (peek m) h)
   mouth_told r t was now (Sending at_ byte last left half) m h = (tt, lines_know r t was now (Sending at_ byte last left half) (peek m) h)
   mouth_told r t was now (Waiting byte last) m h = waiting_told r t byte last was now m h
+  mouth_told r t was now (Mute at_) m h = (tt, lines_know r t was now (Mute at_) (peek m) h)
   mouth_told r t was now (Ending at_) m h = (tt, lines_know r t was now (Ending at_) (peek m) h)
   mouth_told r t was now Over m h = (tt, lines_know r t was now Over (peek m) h)
 
@@ -165,30 +171,31 @@ module _ (M : Type 0) (step : M → Act → M) (peek : M → Option (ℕ × Bool
       go true = lined q.side h
       go false = turned now.atn_low
 
-  ear_answers : (others : Lines) (ear : Ear) (m : M) → AnswersAny m ((ear_row ear).act others)
-  ear_answers others (Accepting at_ eoi byte) m = go others.atn_low
+  ear_answers : (e : Pace) → (others : Lines) (ear : Ear) (m : M) → AnswersAny m ((ear_row e ear).act others)
+  ear_answers e others (Accepting at_ eoi byte) m = go others.atn_low
     where
       go : (v : Bool) → Answers M step peek m (heard_act v byte eoi)
       go true = tt
       go false = tt
-  ear_answers others Idle m = tt
-  ear_answers others (Starting at_) m = tt
-  ear_answers others (Leaving at_) m = tt
-  ear_answers others (Returning at_) m = tt
-  ear_answers others Holding m = tt
-  ear_answers others (Freeing at_) m = tt
-  ear_answers others Ready m = tt
-  ear_answers others (Timed at_) m = tt
-  ear_answers others (Pulsing at_) m = tt
-  ear_answers others EoiNoted m = tt
-  ear_answers others (Gathering eoi count byte) m = tt
+  ear_answers e others Await m = tt
+  ear_answers e others Idle m = tt
+  ear_answers e others (Starting at_) m = tt
+  ear_answers e others (Leaving at_) m = tt
+  ear_answers e others (Returning at_) m = tt
+  ear_answers e others Holding m = tt
+  ear_answers e others (Freeing at_) m = tt
+  ear_answers e others Ready m = tt
+  ear_answers e others (Timed at_) m = tt
+  ear_answers e others (Pulsing at_) m = tt
+  ear_answers e others EoiNoted m = tt
+  ear_answers e others (Gathering eoi count byte) m = tt
 
-  sending_reacts : (r t : ℕ) (others : Lines) (at_ byte : ℕ) (last : Bool) (left half : ℕ) (m : M) → peek m ≡ Some (byte, last)
-      → Led_to (Speaking ((half_row byte last left half).next r t others)) m ((half_row byte last left half).act others)
-  sending_reacts r t others at_ byte last left half m h = go (nat_le 16 half) ((half % 2) == 0)
+  sending_reacts : (e : Pace) → (r t : ℕ) (others : Lines) (at_ byte : ℕ) (last : Bool) (left half : ℕ) (m : M) → peek m ≡ Some (byte, last)
+      → Led_to (Speaking ((half_row e byte last left half).next r t others)) m ((half_row e byte last left half).act others)
+  sending_reacts e r t others at_ byte last left half m h = go (nat_le 16 half) ((half % 2) == 0)
     where
       row : Bool → Bool → TableRow Mouth
-      row v u = if v then end_frame_row byte last else (if u then set_bit_row byte last left half else show_bit_row byte last left half)
+      row v u = if v then end_frame_row byte last else (if u then set_bit_row e byte last left half else show_bit_row e byte last left half)
 
       ended : (low : Bool) → Led_to (Speaking (after_wait r t low byte last)) m (if low then Some (Said byte last) else None)
       ended true = (h, taken_knows r t last (peek (step m (Said byte last))))
@@ -199,26 +206,29 @@ module _ (M : Type 0) (step : M → Act → M) (peek : M → Option (ℕ × Bool
       go false true = (tt, h)
       go false false = (tt, h)
 
-  mouth_reacts : (r t : ℕ) (others : Lines) (p : Option (ℕ × Bool)) (mouth : Mouth) (m : M) → peek m ≡ p → Knows mouth (peek m)
-      → Led_to (Speaking ((mouth_row p mouth).next r t others)) m ((mouth_row p mouth).act others)
-  mouth_reacts r t others p Turned m e h = (tt, tt)
-  mouth_reacts r t others None (Answering at_) m e h = (e, tt)
-  mouth_reacts r t others (Some x) (Answering at_) m e h = (tt, tt)
-  mouth_reacts r t others None (Led at_) m e h = (tt, tt)
-  mouth_reacts r t others (Some x) (Led at_) m e h = (tt, offer_knows r t others.data_low x.0 x.1 (peek m) e)
-  mouth_reacts r t others p (Offering byte last) m e h = (tt, h)
-  mouth_reacts r t others p (EoiOffered byte) m e h = (tt, h)
-  mouth_reacts r t others p (EoiPulsed byte) m e h = (tt, h)
-  mouth_reacts r t others p (Sending at_ byte last left half) m e h = sending_reacts r t others at_ byte last left half m h
-  mouth_reacts r t others p (Waiting byte last) m e h = (tt, h)
-  mouth_reacts r t others p (Ending at_) m e h = (tt, tt)
-  mouth_reacts r t others p Over m e h = (tt, tt)
+  mouth_reacts : (e : Pace) → (r t : ℕ) (others : Lines) (p : Option (ℕ × Bool)) (mouth : Mouth) (m : M) → peek m ≡ p → Knows mouth (peek m)
+      → Led_to (Speaking ((mouth_row e p mouth).next r t others)) m ((mouth_row e p mouth).act others)
+  mouth_reacts v r t others p Turned m e h = (tt, tt)
+  mouth_reacts Profile r t others None (Answering at_) m e h = (e, tt)
+  mouth_reacts Kernal r t others None (Answering at_) m e h = (tt, e)
+  mouth_reacts Profile r t others (Some x) (Answering at_) m e h = (tt, tt)
+  mouth_reacts Kernal r t others (Some x) (Answering at_) m e h = (tt, tt)
+  mouth_reacts v r t others None (Led at_) m e h = (tt, tt)
+  mouth_reacts v r t others (Some x) (Led at_) m e h = (tt, offer_knows r t others.data_low x.0 x.1 (peek m) e)
+  mouth_reacts v r t others p (Offering byte last) m e h = (tt, h)
+  mouth_reacts v r t others p (EoiOffered byte) m e h = (tt, h)
+  mouth_reacts v r t others p (EoiPulsed byte) m e h = (tt, h)
+  mouth_reacts v r t others p (Sending at_ byte last left half) m e h = sending_reacts _ r t others at_ byte last left half m h
+  mouth_reacts v r t others p (Waiting byte last) m e h = (tt, h)
+  mouth_reacts e r t others p (Mute at_) m x h = (h, tt)
+  mouth_reacts v r t others p (Ending at_) m e h = (tt, tt)
+  mouth_reacts v r t others p Over m e h = (tt, tt)
 
   -- ITS OWN REACTION: the same.
   pub reacted_knows : (t : ℕ) (q : Port) (m : M) → SideKnows q.side (peek m)
       → AnswersAny m (reaction_act (peek m) q) × SideKnows (reacted t (peek m) q).side (peek (acted M step (reaction_act (peek m) q) m))
   reacted_knows t q m h = go q.side h
     where
-      go : (side : Side) → SideKnows side (peek m) → Led_to (side_after q.party.reaction t q.others (peek m) side) m (side_act (peek m) q.others side)
-      go (Hearing ear) k = (ear_answers q.others ear m, tt)
-      go (Speaking mouth) k = mouth_reacts q.party.reaction t q.others (peek m) mouth m refl k
+      go : (side : Side) → SideKnows side (peek m) → Led_to (side_after q.party.pace q.party.reaction t q.others (peek m) side) m (side_act q.party.pace (peek m) q.others side)
+      go (Hearing ear) k = (ear_answers _ q.others ear m, tt)
+      go (Speaking mouth) k = mouth_reacts _ q.party.reaction t q.others (peek m) mouth m refl k

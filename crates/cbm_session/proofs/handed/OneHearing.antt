@@ -46,5 +46,5 @@ hears_one later end h es xs ys (reacts t l e n a f) (tells x2 more2 l2 e2 q2 a2 
 hears_one later end h es xs ys (reacts t l e n a f) (reacts t2 l2 e2 n2 a2 f2) =
     let et : t2 ≡ t = cc in
     ap heard_of a
-    ∙ with_heard (ear_act (wires_of h.rest) h.ear) l l2 (hears_one later end (moves t h) es l l2 f (subst (λ (u : ℕ). Hands later end (moves u h) es l2) et f2))
+    ∙ with_heard (ear_act h.party.pace (wires_of h.rest) h.ear) l l2 (hears_one later end (moves t h) es l l2 f (subst (λ (u : ℕ). Hands later end (moves u h) es l2) et f2))
     ∙ ap heard_of (sym a2)

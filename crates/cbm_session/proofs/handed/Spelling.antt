@@ -1,4 +1,6 @@
 -- What a talker's own lines have shown of its byte in each state, whatever the host does.
+use Rattle.cbm_iec.specs.declared.pace.Pace.TheVariants.{Profile, Kernal}
+use Rattle.cbm_iec.specs.declared.pace.Pace.{Pace}
 use Rattle.std.proofs.Common.{◌≡◌, ℕ, ◌+◌, ◌/◌, ◌%◌, ◌≤◌, ◌<◌, Bool, true, false, not, List, [], ◌∷◌, ◌++◌, length, Option, Some, None, ap, sym, ◌∙◌, subst, refl, arith, inl, inr, eq-eqb}
 use Rattle.std.proofs.lemmas.Bool.Decides.{leb_tells, eqb_tells}
 use Rattle.std.proofs.lemmas.Bool.{ne_eqb}
@@ -11,7 +13,7 @@ use Rattle.cbm_iec.specs.declared.act.Act.TheVariants.{Pulled, Attention, Releas
 use Rattle.cbm_iec.specs.declared.act.Act.{Act}
 use Rattle.cbm_iec.specs.declared.lines.Held.{Held}
 use Rattle.cbm_iec.specs.declared.lines.Lines.{Lines}
-use Rattle.cbm_iec.specs.declared.mouth.Mouth.TheVariants.{Turned, Answering, Led, Offering, EoiOffered, EoiPulsed, Sending, Waiting, Ending, Over}
+use Rattle.cbm_iec.specs.declared.mouth.Mouth.TheVariants.{Turned, Answering, Mute, Led, Offering, EoiOffered, EoiPulsed, Sending, Waiting, Ending, Over}
 use Rattle.cbm_iec.specs.declared.mouth.Mouth.{Mouth}
 use Rattle.cbm_session.proofs.handed.Voices.{spelled, spelled_whole, spelled_on, nothing_left, freed_bits}
 use Rattle.cbm_session.specs.Bits.{number_of}
@@ -43,6 +45,7 @@ Spells (EoiOffered byte) clock low bits = (bits ≡ Some []) × (clock ≡ false
 Spells (EoiPulsed byte) clock low bits = (bits ≡ Some []) × (clock ≡ false)
 Spells (Sending at_ byte last left half) clock low bits = IsSending byte left half clock low bits
 Spells (Waiting byte last) clock low bits = IsShown byte bits × (clock ≡ true)
+Spells (Mute at_) clock low bits = Unit {0}
 Spells (Ending at_) clock low bits = Unit {0}
 Spells Over clock low bits = Unit {0}
 
@@ -97,6 +100,7 @@ clock_spells r t v (EoiOffered byte) clock low bits h = h
 clock_spells r t v (EoiPulsed byte) clock low bits h = h
 clock_spells r t v (Sending at_ byte last left half) clock low bits h = h
 clock_spells r t v (Waiting byte last) clock low bits h = h
+clock_spells r t v (Mute at_) clock low bits h = tt
 clock_spells r t v (Ending at_) clock low bits h = tt
 clock_spells r t v Over clock low bits h = tt
 
@@ -117,6 +121,7 @@ IsBefore (EoiOffered byte) = Unit {0}
 IsBefore (EoiPulsed byte) = Unit {0}
 IsBefore (Sending at_ byte last left half) = Unit {0}
 IsBefore (Waiting byte last) = ⊥
+IsBefore (Mute at_) = Unit {0}
 IsBefore (Ending at_) = Unit {0}
 IsBefore Over = Unit {0}
 
@@ -131,6 +136,7 @@ clock_before r t v (EoiOffered byte) h = h
 clock_before r t v (EoiPulsed byte) h = h
 clock_before r t v (Sending at_ byte last left half) h = h
 clock_before r t v (Waiting byte last) h = h
+clock_before r t v (Mute at_) h = h
 clock_before r t v (Ending at_) h = h
 clock_before r t v Over h = h
 
@@ -153,6 +159,7 @@ data_spells r t true (EoiPulsed byte) clock low bits n h = h
 data_spells r t false (EoiPulsed byte) clock low bits n h = begins r t byte true clock low bits h
 data_spells r t v (Sending at_ byte last left half) clock low bits n h = h
 data_spells r t v (Waiting byte last) clock low bits n h = elim n [ ]
+data_spells r t v (Mute at_) clock low bits n h = tt
 data_spells r t v (Ending at_) clock low bits n h = tt
 data_spells r t v Over clock low bits n h = tt
 
@@ -193,6 +200,7 @@ lines_spell r t was now (Offering byte last) clock low bits h = (tt, plainly r t
 lines_spell r t was now (EoiOffered byte) clock low bits h = (tt, plainly r t was now (EoiOffered byte) clock low bits tt h)
 lines_spell r t was now (EoiPulsed byte) clock low bits h = (tt, plainly r t was now (EoiPulsed byte) clock low bits tt h)
 lines_spell r t was now (Sending at_ byte last left half) clock low bits h = (tt, plainly r t was now (Sending at_ byte last left half) clock low bits tt h)
+lines_spell r t was now (Mute at_) clock low bits h = (tt, plainly r t was now (Mute at_) clock low bits tt h)
 lines_spell r t was now (Ending at_) clock low bits h = (tt, plainly r t was now (Ending at_) clock low bits tt h)
 lines_spell r t was now Over clock low bits h = (tt, plainly r t was now Over clock low bits tt h)
 
@@ -227,12 +235,13 @@ IsBound (EoiOffered byte) = Unit {0}
 IsBound (EoiPulsed byte) = Unit {0}
 IsBound (Sending at_ byte last left half) = byte < 256
 IsBound (Waiting byte last) = Unit {0}
+IsBound (Mute at_) = Unit {0}
 IsBound (Ending at_) = Unit {0}
 IsBound Over = Unit {0}
 
-sending_spells : (r t : ℕ) (others : Lines) (byte : ℕ) (last : Bool) (left half : ℕ) (own : Held) (low : Bool) (bits : Option (List Bool)) → byte < 256 → low ≡ own.data_low
-    → IsSending byte left half own.clock_low own.data_low bits → Behind (half_row byte last left half) r t others own low bits
-sending_spells r t others byte last left half own low bits bound e s = elim (leb_tells 16 half) [
+sending_spells : (e : Pace) → (r t : ℕ) (others : Lines) (byte : ℕ) (last : Bool) (left half : ℕ) (own : Held) (low : Bool) (bits : Option (List Bool)) → byte < 256 → low ≡ own.data_low
+    → IsSending byte left half own.clock_low own.data_low bits → Behind (half_row e byte last left half) r t others own low bits
+sending_spells v r t others byte last left half own low bits bound e s = elim (leb_tells 16 half) [
   | inl x ↦ (let l = x.1 in let f = s.few in over x.0 (omega (arith, l, f)))
   | inr x ↦ elim (eqb_tells (half % 2) 0) [
     | inl y ↦ even x.0 y.0 x.1 y.1
@@ -241,7 +250,7 @@ sending_spells r t others byte last left half own low bits bound e s = elim (leb
 ]
   where
     row : Bool → Bool → TableRow Mouth
-    row v u = if v then end_frame_row byte last else (if u then set_bit_row byte last left half else show_bit_row byte last left half)
+    row w u = if w then end_frame_row byte last else (if u then set_bit_row v byte last left half else show_bit_row v byte last left half)
 
     Goal : Bool → Bool → Type 0
     Goal v u = Behind (row v u) r t others own low bits
@@ -298,18 +307,21 @@ sending_spells r t others byte last left half own low bits bound e s = elim (leb
           },
         ))
 
-pub reaction_spells : (r t : ℕ) (others : Lines) (p : Option (ℕ × Bool)) (mouth : Mouth) (own : Held) (low : Bool) (bits : Option (List Bool)) → IsBound mouth → low ≡ own.data_low
-    → Spells mouth own.clock_low own.data_low bits → mouth_due mouth ≡ Some t → Behind (mouth_row p mouth) r t others own low bits
-reaction_spells r t others p Turned own low bits b e h d = absurd cc
-reaction_spells r t others None (Answering at_) own low bits b e h d = (tt, tt)
-reaction_spells r t others (Some x) (Answering at_) own low bits b e h d = (tt, (freed_there own.clock_low low bits ∙ h, or_there own.clock_low))
-reaction_spells r t others None (Led at_) own low bits b e h d = (tt, tt)
-reaction_spells r t others (Some x) (Led at_) own low bits b e h d =
+pub reaction_spells : (e : Pace) → (r t : ℕ) (others : Lines) (p : Option (ℕ × Bool)) (mouth : Mouth) (own : Held) (low : Bool) (bits : Option (List Bool)) → IsBound mouth → low ≡ own.data_low
+    → Spells mouth own.clock_low own.data_low bits → mouth_due mouth ≡ Some t → Behind (mouth_row e p mouth) r t others own low bits
+reaction_spells v r t others p Turned own low bits b e h d = absurd cc
+reaction_spells Profile r t others None (Answering at_) own low bits b e h d = (tt, tt)
+reaction_spells Kernal r t others None (Answering at_) own low bits b e h d = (tt, tt)
+reaction_spells Profile r t others (Some x) (Answering at_) own low bits b e h d = (tt, (freed_there own.clock_low low bits ∙ h, or_there own.clock_low))
+reaction_spells Kernal r t others (Some x) (Answering at_) own low bits b e h d = (tt, (freed_pulled own.clock_low low bits ∙ h, refl))
+reaction_spells v r t others None (Led at_) own low bits b e h d = (tt, tt)
+reaction_spells v r t others (Some x) (Led at_) own low bits b e h d =
     (tt, offer_spells r t others.data_low x.0 x.1 false own.data_low (freed_bits own.clock_low false low bits) (freed_now own.clock_low low bits h.1 ∙ ap (λ (v : Option (List Bool)). clocked low v) h.0, refl))
-reaction_spells r t others p (Offering byte last) own low bits b e h d = absurd cc
-reaction_spells r t others p (EoiOffered byte) own low bits b e h d = absurd cc
-reaction_spells r t others p (EoiPulsed byte) own low bits b e h d = absurd cc
-reaction_spells r t others p (Sending at_ byte last left half) own low bits b e h d = sending_spells r t others byte last left half own low bits b e h
-reaction_spells r t others p (Waiting byte last) own low bits b e h d = absurd cc
-reaction_spells r t others p (Ending at_) own low bits b e h d = (tt, tt)
-reaction_spells r t others p Over own low bits b e h d = absurd cc
+reaction_spells v r t others p (Offering byte last) own low bits b e h d = absurd cc
+reaction_spells v r t others p (EoiOffered byte) own low bits b e h d = absurd cc
+reaction_spells v r t others p (EoiPulsed byte) own low bits b e h d = absurd cc
+reaction_spells v r t others p (Sending at_ byte last left half) own low bits b e h d = sending_spells _ r t others byte last left half own low bits b e h
+reaction_spells v r t others p (Waiting byte last) own low bits b e h d = absurd cc
+reaction_spells v r t others p (Mute at_) own low bits b e h d = (tt, tt)
+reaction_spells v r t others p (Ending at_) own low bits b e h d = (tt, tt)
+reaction_spells v r t others p Over own low bits b e h d = absurd cc

@@ -410,7 +410,7 @@ module _ (M : Type 0) (step : M → Act → M) (peek : M → Option (ℕ × Bool
       let behind_it : HostFrom (suc (moment_of y)) ys = host_behind_drive d (moment_of y) ys (subst (λ (v : Who). AllAfter v (moment_of y) ys) w goes.0) in
       let host : HostFrom (suc t) (y ∷ ys) = (not_host, host_weaken (suc t) (suc (moment_of y)) ys (omega (arith, late)) behind_it) in
       let x = reacts_next a place k.go.goes t f.due (λ e. let b = (k.go.end t e).0 in absurd (omega (arith, b, late))) host none tied (first_place k.first k.go_first) in
-      let vis = side_react q.party.reaction t q.others a q.side q.own f.due k.go.holds in
+      let vis = side_react _ q.party.reaction t q.others a q.side q.own f.due k.go.holds in
       let act_of = reaction_act a q in
       let some : reaction_steps t a q ≡ [] → ⊥ = no_steps t a q vis.1 in
       let l2 : LastSaid (reaction_steps t a q ++ x.more) = subst LastSaid x.steps last in
@@ -421,7 +421,7 @@ module _ (M : Type 0) (step : M → Act → M) (peek : M → Option (ℕ × Bool
       let own : GoesSo (react M step peek t o) x.more k.own = record {
         goes = subst (λ (v : Port). Goes a o.rest v x.more k.own.0 k.own.1) (sym (same_reacted t (peek m) a q asked)) x.goes;
         asks = go_asks x.more asked l2 some;
-        holds = (side_react q.party.reaction t q.others (peek m) q.side q.own f.due k.go.holds).0;
+        holds = (side_react _ q.party.reaction t q.others (peek m) q.side q.own f.due k.go.holds).0;
         seen = k.go.seen;
         end = λ u e. before_behind u (reaction_steps t a q) x.more (subst (λ (v : List Step). AllBefore u v) x.steps (k.go.end u e));
       } in
@@ -436,7 +436,7 @@ module _ (M : Type 0) (step : M → Act → M) (peek : M → Option (ℕ × Bool
         ran = record {
           runs = λ ms done h.
               let parts = ran_before M step peek ms done before o behind h in
-              let same : reaction_act (peek m) q ≡ act_of = side_same_act q.others (peek m) a q.side asked in
+              let same : reaction_act (peek m) q ≡ act_of = side_same_act _ q.others (peek m) a q.side asked in
               let mine : HasRun M step peek ms (done ++ reaction_steps t a q) (react M step peek t o) =
               ap (λ (v : Option Act). acted M step v m) same ∙ run_on M step peek m (ms (dev o)) (dev o) done (reaction_steps t a q) act_of parts.1 (λ x. own_acted M step peek (dev o) (reaction_changes t a q) act_of x some) in
               let hear : (ss : List (Station M)) (fs : List (Rest × Port)) → AllGo ss (y ∷ ys) fs → Others (dev o) ss → AllRan M step peek ms done ss → AllRan M step peek ms (done ++ reaction_steps t a q) (map (λ s. hear_all M step peek (shown M step peek t o) s) ss) =
@@ -463,16 +463,16 @@ module _ (M : Type 0) (step : M → Act → M) (peek : M → Option (ℕ × Bool
           ]
 
       open_act : SideAsks o.port.side (peek o.machine ≡ says (dev o)) → (v : Option Act) → reaction_act (says (dev o)) o.port ≡ v → NoneSaid v → SideAsks (next_side t (says (dev o)) o.port) (peek (acted M step v o.machine) ≡ says (dev o))
-      open_act asked None x n = side_react_asks (peek o.machine ≡ says (dev o)) o.port.party.reaction t o.port.others (says (dev o)) o.port.side asked (subst (λ (v : Option Act). NoneSaid v) (sym x) tt)
-      open_act asked (Some act) x n = side_acted_asks (peek (step o.machine act) ≡ says (dev o)) o.port.party.reaction t o.port.others (says (dev o)) o.port.side act x n
+      open_act asked None x n = side_react_asks _ (peek o.machine ≡ says (dev o)) o.port.party.reaction t o.port.others (says (dev o)) o.port.side asked (subst (λ (v : Option Act). NoneSaid v) (sym x) tt)
+      open_act asked (Some act) x n = side_acted_asks _ (peek (step o.machine act) ≡ says (dev o)) o.port.party.reaction t o.port.others (says (dev o)) o.port.side act x n
 
       go_asks : (zs : List Step) → SideAsks o.port.side (peek o.machine ≡ says (dev o)) → LastSaid (reaction_steps t (says (dev o)) o.port ++ zs) → (reaction_steps t (says (dev o)) o.port ≡ [] → ⊥)
           → AsksFor zs (react M step peek t o).port.side (peek (react M step peek t o).machine ≡ says (dev o))
       go_asks [] asked l some = tt
       go_asks (z ∷ zs) asked l some =
           let act = reaction_act (says (dev o)) o.port in
-          let same : reaction_act (peek o.machine) o.port ≡ act = side_same_act o.port.others (peek o.machine) (says (dev o)) o.port.side asked in
-          let side : next_side t (peek o.machine) o.port ≡ next_side t (says (dev o)) o.port = side_same_after o.port.party.reaction t o.port.others (peek o.machine) (says (dev o)) o.port.side asked in
+          let same : reaction_act (peek o.machine) o.port ≡ act = side_same_act _ o.port.others (peek o.machine) (says (dev o)) o.port.side asked in
+          let side : next_side t (peek o.machine) o.port ≡ next_side t (says (dev o)) o.port = side_same_after _ o.port.party.reaction t o.port.others (peek o.machine) (says (dev o)) o.port.side asked in
           let n : NoneSaid act = last_open (dev o) (reaction_changes t (says (dev o)) o.port) act z zs l some in
           subst (λ (v : Side). SideAsks v (peek (acted M step (reaction_act (peek o.machine) o.port) o.machine) ≡ says (dev o))) (sym side)
           (subst (λ (v : Option Act). SideAsks (next_side t (says (dev o)) o.port) (peek (acted M step v o.machine) ≡ says (dev o))) (sym same) (open_act asked act refl n))
@@ -609,7 +609,7 @@ module _ (M : Type 0) (step : M → Act → M) (peek : M → Option (ℕ × Bool
           → ((x : Reacted t before o behind (y ∷ ys) fin) → WithinAll (reacting M step peek t before o behind) x.more fin more rest ss2 ⊎ PassedAll (reacting M step peek t before o behind) x.more fin more n2 ss2) → WithinAll ss (y ∷ ys) fin es rest ss2 ⊎ PassedAll ss (y ∷ ys) fin es n2 ss2
       by_who Host w g2 r2 a2 next =
           let k = part before o behind (y ∷ ys) fin g2 in
-          let vis = side_react o.port.party.reaction t o.port.others (peek o.machine) o.port.side o.port.own f.due k.go.holds in
+          let vis = side_react _ o.port.party.reaction t o.port.others (peek o.machine) o.port.side o.port.own f.due k.go.holds in
           let first = first_shown (dev o) t o.port.own (next_held (peek o.machine) o.port) vis.1 in
           let all = first_append (dev o) t (drive_events (dev o) (shown M step peek t o)) more first in
           let whole = first_append (dev o) t es rest (subst (λ (v : List Event). FirstIs (dev o) t v) (sym e) all) in

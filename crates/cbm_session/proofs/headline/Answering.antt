@@ -1,4 +1,5 @@
 -- For each piece of a talking drive in any session there is the one that the drive's machine answers, which goes with it as far as it can.
+use Rattle.cbm_session.proofs.among.Frames.{each_sits}
 use Rattle.std.proofs.Common.{◌≡◌, ℕ, ◌+◌, ◌<◌, Bool, true, List, [], ◌∷◌, ◌++◌, Option, Some, None, ap, sym, ◌∙◌, subst, refl}
 use Rattle.std.specs.Prelude.{if◌then◌else◌}
 use Rattle.cbm_iec.specs.declared.act.Act.TheVariants.{Released}
@@ -18,13 +19,13 @@ use Rattle.cbm_session.proofs.headline.Premises.{mute, Stood}
 use Rattle.cbm_session.proofs.headline.PullPlayed.{sits_react}
 use Rattle.cbm_session.proofs.headline.TalkBus.{frame_steps}
 use Rattle.cbm_session.proofs.headline.TalkSwap.{Twin, twin_skip, twin_same, swapped}
-use Rattle.cbm_session.proofs.headline.TurnTwin.{Parts, twin_parts, parts_differ, turn_begins, leads, mutes, lead_steps, mute_steps, lead_mute, mute_lead}
+use Rattle.cbm_session.proofs.headline.TurnTwin.{Parts, twin_parts, twin_back, parts_differ, turn_begins, leads, mutes, lead_steps, mute_steps, lead_mute}
 use Rattle.cbm_session.proofs.joining.OneDrive.{one_told}
 use Rattle.cbm_session.proofs.joining.Talkers.{talker_is}
 use Rattle.cbm_session.specs.Answers.{IsAnswer, run}
 use Rattle.cbm_session.specs.Bits.{number_of}
 use Rattle.cbm_session.specs.Frames.{Told, ToldFits}
-use Rattle.cbm_session.specs.Pieces.{Whole, Point, steps_of, FreedFits, Fits, CutFits, ToTalker, Nothing, Talk}
+use Rattle.cbm_session.specs.Pieces.{silent_end, Whole, Point, steps_of, FreedFits, Fits, CutFits, ToTalker, Nothing, Talk}
 use Rattle.cbm_session.specs.Playing.{Station, IsByte, AllBytes}
 use Rattle.cbm_session.specs.Seats.{Seat, device, is_talker, has_talker, talker_of}
 use Rattle.cbm_session.specs.Steps.{Step, events_of, acts_for, host, for_each}
@@ -46,7 +47,7 @@ module _ (M : Type 0) (step : M → Act → M) (peek : M → Option (ℕ × Bool
       here : s.role ≡ Talker → IsByte M step peek (peek (run M step peek (ms (talker_of p.seats).device) (acts_for (talker_of p.seats).device done)))
       here k =
           let same : z.port.party.device ≡ x.port.party.device = first z.port.party.device x.port.party.device (devs M step peek mute place zs) (devs M step peek mute place xs) v in
-          let is : z.port.party.device ≡ (talker_of p.seats).device = same ∙ ap (λ (q : Party). q.device) (h.0.stands.party ∙ sym (talker_is (device s) p.seats s h.0.sound.seated.one h.0.sound.seated.sits (ap is_talker k))) in
+          let is : z.port.party.device ≡ (talker_of p.seats).device = same ∙ ap (λ (q : Party). q.device) (h.0.stands.party ∙ (sym (talker_is (device s) p.seats s h.0.sound.seated.one h.0.sound.seated.sits (ap is_talker k)))) in
           subst (λ (d : ℕ). IsByte M step peek (peek (run M step peek (ms d) (acts_for d done)))) is (subst (λ (m : M). IsByte M step peek (peek m)) r.0 b.0)
 
       go : (q : Role) → s.role ≡ q → (if is_talker s.role then true else has_talker ss) ≡ true → (has_talker ss ≡ true → IsByte M step peek (peek (run M step peek (ms (talker_of p.seats).device) (acts_for (talker_of p.seats).device done))))
@@ -69,14 +70,19 @@ module _ (M : Type 0) (step : M → Act → M) (peek : M → Option (ℕ × Bool
   behind_turn : (at : ℕ) (ys zs : List Step) (gs hs : List Event) → events_of (turn_begins at ys) ++ gs ≡ events_of (turn_begins at zs) ++ hs → events_of ys ++ gs ≡ events_of zs ++ hs
   behind_turn at ys zs gs hs e = cc
 
-  turn_differs : (p : Point) (at m : ℕ) (w w2 : Whole) (ys zs : List Step) → steps_of p w ≡ turn_begins at ys → steps_of p w2 ≡ turn_begins at zs → Parts m ys zs → (gs hs : List Event) → events_of (steps_of p w) ++ gs ≡ events_of (steps_of p w2) ++ hs → ⊥
-  turn_differs p at m w w2 ys zs is is2 parts gs hs e =
-      parts_differ m ys zs gs hs parts (behind_turn at ys zs gs hs (ap (λ (l : List Step). events_of l ++ gs) (sym is) ∙ e ∙ ap (λ (l : List Step). events_of l ++ hs) is2))
+  turn_differs : (p : Point) (at d m n : ℕ) (w w2 : Whole) (ys zs : List Step) → steps_of p w ≡ turn_begins at ys → steps_of p w2 ≡ turn_begins at zs → Parts d m n ys zs → (gs hs : List Event) → events_of (steps_of p w) ++ gs ≡ events_of (steps_of p w2) ++ hs → ⊥
+  turn_differs p at d m n w w2 ys zs is is2 parts gs hs e =
+      parts_differ d m n ys zs gs hs parts (behind_turn at ys zs gs hs (ap (λ (l : List Step). events_of l ++ gs) (sym is) ∙ e ∙ ap (λ (l : List Step). events_of l ++ hs) is2))
 
-  turn_twin : (t : ℕ) (p : Point) (at m : ℕ) (w w2 : Whole) (ys zs : List Step) → steps_of p w ≡ turn_begins at ys → steps_of p w2 ≡ turn_begins at zs → Parts m ys zs → Twin t (steps_of p w) (steps_of p w2)
-  turn_twin t p at m w w2 ys zs is is2 parts =
+  turn_twin : (t : ℕ) (p : Point) (at d m n : ℕ) (w w2 : Whole) (ys zs : List Step) → steps_of p w ≡ turn_begins at ys → steps_of p w2 ≡ turn_begins at zs → Parts d m n ys zs → Twin t (steps_of p w) (steps_of p w2)
+  turn_twin t p at d m n w w2 ys zs is is2 parts =
       subst (λ (l : List Step). Twin t l (steps_of p w2)) (sym is)
-      (subst (λ (l : List Step). Twin t (turn_begins at ys) l) (sym is2) (twin_skip t (host at Data Pull ∷ for_each Released (host at Atn Free) ∷ []) ys zs (twin_parts t m ys zs parts)))
+      (subst (λ (l : List Step). Twin t (turn_begins at ys) l) (sym is2) (twin_skip t (host at Data Pull ∷ for_each Released (host at Atn Free) ∷ []) ys zs (twin_parts t d m n ys zs parts)))
+
+  turn_back : (t : ℕ) (p : Point) (at d m n : ℕ) (w w2 : Whole) (ys zs : List Step) → steps_of p w ≡ turn_begins at ys → steps_of p w2 ≡ turn_begins at zs → Parts d m n ys zs → Twin t (steps_of p w2) (steps_of p w)
+  turn_back t p at d m n w w2 ys zs is is2 parts =
+      subst (λ (l : List Step). Twin t l (steps_of p w)) (sym is2)
+      (subst (λ (l : List Step). Twin t (turn_begins at zs) l) (sym is) (twin_skip t (host at Data Pull ∷ for_each Released (host at Atn Free) ∷ []) zs ys (twin_back t d m n ys zs parts)))
 
   pub to_talker_answered : (t : ℕ) (p : Point) (m : M) (s : Seat) → IsSound p s → s.role ≡ Talker → (at clock : ℕ) → Fits p (ToTalker at clock) → Answered t p m (ToTalker at clock)
   to_talker_answered t p m s sound talks at clock fits = go (peek (step m Released)) refl
@@ -84,15 +90,15 @@ module _ (M : Type 0) (step : M → Act → M) (peek : M → Option (ℕ × Bool
       go : (v : Option (ℕ × Bool)) → peek (step m Released) ≡ v → Answered t p m (ToTalker at clock)
       go (Some v) k = record { piece = ToTalker at clock; talks = tt; fits = fits; answer = (v, k); twin = twin_self t (steps_of p (ToTalker at clock)); same = λ gs hs e. refl; cuts = λ c f. f }
       go None k =
-          let parts = mute_lead p s sound talks at clock in
+          let parts = lead_mute p s sound talks at clock None tt in
           let w = Nothing at clock None in
           record {
             piece = w;
             talks = tt;
             fits = (fits.0, fits.1, tt);
             answer = k;
-            twin = turn_twin t p at (clock + s.party.reaction) w (ToTalker at clock) (mutes p at clock None) (leads p at clock) (mute_steps p at clock None fits.1) (lead_steps p at clock fits.1) parts;
-            same = λ gs hs e. absurd (turn_differs p at (clock + s.party.reaction) w (ToTalker at clock) (mutes p at clock None) (leads p at clock) (mute_steps p at clock None fits.1) (lead_steps p at clock fits.1) parts gs hs e);
+            twin = turn_back t p at (device s) (clock + s.party.reaction) (silent_end s.party clock) (ToTalker at clock) w (leads p at clock) (mutes p at clock None) (lead_steps p at clock fits.1) (mute_steps p at clock None fits.1) parts;
+            same = λ gs hs e. absurd (turn_differs p at (device s) (clock + s.party.reaction) (silent_end s.party clock) (ToTalker at clock) w (leads p at clock) (mutes p at clock None) (lead_steps p at clock fits.1) (mute_steps p at clock None fits.1) parts hs gs (sym e));
             cuts = λ c f. f;
           }
 
@@ -105,15 +111,15 @@ module _ (M : Type 0) (step : M → Act → M) (peek : M → Option (ℕ × Bool
       go : (v : Option (ℕ × Bool)) → peek (step m Released) ≡ v → Answered t p m (Nothing at clock freed)
       go None k = record { piece = Nothing at clock freed; talks = tt; fits = fits; answer = k; twin = twin_self t (steps_of p (Nothing at clock freed)); same = λ gs hs e. refl; cuts = λ c f. f }
       go (Some v) k =
-          let parts = lead_mute p s sound talks at clock freed (subst (λ (b : Party). FreedFits (clock + b.reaction) freed) talker fits.2) in
+          let parts = lead_mute p s sound talks at clock freed (subst (λ (b : Party). FreedFits (silent_end b clock) freed) talker fits.2) in
           let w = Nothing at clock freed in
           record {
             piece = ToTalker at clock;
             talks = tt;
             fits = (fits.0, fits.1);
             answer = (v, k);
-            twin = turn_twin t p at (clock + s.party.reaction) (ToTalker at clock) w (leads p at clock) (mutes p at clock freed) (lead_steps p at clock fits.1) (mute_steps p at clock freed fits.1) parts;
-            same = λ gs hs e. absurd (turn_differs p at (clock + s.party.reaction) (ToTalker at clock) w (leads p at clock) (mutes p at clock freed) (lead_steps p at clock fits.1) (mute_steps p at clock freed fits.1) parts gs hs e);
+            twin = turn_twin t p at (device s) (clock + s.party.reaction) (silent_end s.party clock) (ToTalker at clock) w (leads p at clock) (mutes p at clock freed) (lead_steps p at clock fits.1) (mute_steps p at clock freed fits.1) parts;
+            same = λ gs hs e. absurd (turn_differs p at (device s) (clock + s.party.reaction) (silent_end s.party clock) (ToTalker at clock) w (leads p at clock) (mutes p at clock freed) (lead_steps p at clock fits.1) (mute_steps p at clock freed fits.1) parts gs hs e);
             cuts = λ c f. f;
           }
 

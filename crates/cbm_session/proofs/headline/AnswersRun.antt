@@ -1,4 +1,6 @@
 -- The machines run what counts in a piece that they answer.
+use Rattle.cbm_iec.specs.declared.pace.Pace.TheVariants.{Profile, Kernal}
+use Rattle.cbm_iec.specs.declared.pace.Pace.{Pace}
 use Rattle.std.proofs.Common.{◌≡◌, ℕ, ◌+◌, inl, inr, Bool, true, false, List, [], ◌∷◌, ◌++◌, map, Option, Some, None, ap, sym, ◌∙◌, subst, refl, eq-eqb}
 use Rattle.std.proofs.lemmas.Bool.Decides.{leb_tells, eqb_tells}
 use Rattle.std.specs.Prelude.{if◌then◌else◌, nat_eq}
@@ -26,7 +28,7 @@ use Rattle.cbm_session.proofs.joining.Talkers.{talker_is}
 use Rattle.cbm_session.specs.Answers.{IsAnswer, RunEach}
 use Rattle.cbm_session.specs.Bits.{number_of}
 use Rattle.cbm_session.specs.Frames.{Told, is_last}
-use Rattle.cbm_session.specs.Pieces.{Point, own_part, steps_of, let_go, freed_steps, Fits, Nothing, Talk}
+use Rattle.cbm_session.specs.Pieces.{silent_part, Point, own_part, steps_of, let_go, freed_steps, Fits, Nothing, Talk}
 use Rattle.cbm_session.specs.Playing.{Station}
 use Rattle.cbm_session.specs.Seats.{Seat, device, reaction, is_talker, talker_of}
 use Rattle.cbm_session.specs.Steps.{Step, moment_of, acts_for, with_mark, drive, host, for_one, merge, merge_all}
@@ -75,10 +77,14 @@ module _ (own : Seat → List Step) (d : ℕ) (skips : (x : Seat) → nat_eq d (
 nothing_skips : (p : Point) (at clock : ℕ) (freed : Option ℕ) (d : ℕ) (x : Seat) → nat_eq d (device x) ≡ false → Every (Skips d) (own_part p (Nothing at clock freed) x)
 nothing_skips p at clock freed d x n = go x.role
   where
-    go : (r : Role) → Every (Skips d) (elim r as (λ q. List Step) [ Absent ↦ let_go at x | Listener ↦ [] | Talker ↦ for_one (device x) Silent (drive (device x) (clock + reaction x) Data Free) ∷ [] ])
+    go : (r : Role) → Every (Skips d) (elim r as (λ q. List Step) [ Absent ↦ let_go at x | Listener ↦ [] | Talker ↦ silent_part x.party.pace (device x) (clock + reaction x) ])
     go Absent = (λ l. refl, tt)
     go Listener = tt
-    go Talker = (λ l. ap (λ (v : Bool). if v then Silent ∷ l else l) n, tt)
+    go Talker = by_pace x.party.pace
+      where
+        by_pace : (e : Pace) → Every (Skips d) (silent_part e (device x) (clock + reaction x))
+        by_pace Profile = (λ l. ap (λ (v : Bool). if v then Silent ∷ l else l) n, tt)
+        by_pace Kernal = (λ l. refl, (λ l. refl, (λ l. ap (λ (v : Bool). if v then Silent ∷ l else l) n, tt)))
 
 freed_skips : (d clock : ℕ) (freed : Option ℕ) → Every (Skips d) (host clock Clock Free ∷ freed_steps freed)
 freed_skips d clock None = (λ l. refl, tt)
@@ -122,9 +128,14 @@ module _ (M : Type 0) (step : M → Act → M) (peek : M → Option (ℕ × Bool
       mine : acts_for (device s) (mutes p at clock freed) ≡ acts_for (device s) (own_part p (Nothing at clock freed) s)
       mine = own_acts (λ y. own_part p (Nothing at clock freed) y) (device s) (nothing_skips p at clock freed (device s)) (host clock Clock Free ∷ freed_steps freed) p.seats s (freed_skips (device s) clock freed) h.0.sound.seated.sits
 
-      go : (r : Role) → s.role ≡ r → Runs M step peek (step (ms (device s)) Released) (acts_for (device s) (elim r as (λ q. List Step) [ Absent ↦ let_go at s | Listener ↦ [] | Talker ↦ for_one (device s) Silent (drive (device s) (clock + reaction s) Data Free) ∷ [] ]))
+      by_pace : (e : Pace) → Runs M step peek (step (ms (device s)) Released) (if nat_eq (device s) (device s) then Silent ∷ [] else []) → Runs M step peek (step (ms (device s)) Released) (acts_for (device s) (silent_part e (device s) (clock + reaction s)))
+      by_pace Profile r = r
+      by_pace Kernal r = r
+
+      go : (r : Role) → s.role ≡ r → Runs M step peek (step (ms (device s)) Released) (acts_for (device s) (elim r as (λ q. List Step) [ Absent ↦ let_go at s | Listener ↦ [] | Talker ↦ silent_part s.party.pace (device s) (clock + reaction s) ]))
       go Absent e = refl
       go Listener e = refl
       go Talker e =
           let silent : peek (step (ms (device s)) Released) ≡ None = ap (λ (b : Party). peek (step (ms b.device) Released)) (sym (talker_is (device s) p.seats s h.0.sound.seated.one h.0.sound.seated.sits (ap is_talker e))) ∙ answer in
-          subst (λ (v : Bool). Runs M step peek (step (ms (device s)) Released) (if v then Silent ∷ [] else [])) (sym (eq-eqb (device s) (device s) refl)) (silent, refl)
+          let mine : Runs M step peek (step (ms (device s)) Released) (if nat_eq (device s) (device s) then Silent ∷ [] else []) = subst (λ (v : Bool). Runs M step peek (step (ms (device s)) Released) (if v then Silent ∷ [] else [])) (sym (eq-eqb (device s) (device s) refl)) (silent, refl) in
+          by_pace s.party.pace mine

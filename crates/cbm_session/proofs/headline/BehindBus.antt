@@ -61,7 +61,7 @@ module _ (M : Type 0) (step : M → Act → M) (peek : M → Option (ℕ × Bool
   pub all_show : (xs : List (Station M)) (ys : List Step) (fin : List (Rest × Port)) → AllGo M step peek says place xs ys fin → AllShow M step peek says place xs
   all_show [] ys fin g = tt
   all_show (x ∷ xs) ys [] g = elim g [ ]
-  all_show (x ∷ xs) ys (e ∷ es) g = (λ t d n. (side_react x.port.party.reaction t x.port.others (peek x.machine) x.port.side x.port.own d g.0.holds).1 n, all_show xs ys es g.1)
+  all_show (x ∷ xs) ys (e ∷ es) g = (λ t d n. (side_react _ x.port.party.reaction t x.port.others (peek x.machine) x.port.side x.port.own d g.0.holds).1 n, all_show xs ys es g.1)
 
   -- what is left of a piece that is under way is not before t
   pub left_from : (t : ℕ) (front back xs : List Step) (rest more : List Event) (ss : List (Station M)) (fin : List (Rest × Port)) → AllGo M step peek says place ss back fin → AllInTime M step peek t ss → IsPlain M step peek says place (devs M step peek says place ss) (front ++ back)

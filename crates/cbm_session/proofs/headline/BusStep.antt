@@ -4,7 +4,7 @@ use Rattle.std.specs.Prelude.{nat_eq}
 use Rattle.cbm_iec.specs.Hearing.{ear_due, after_data}
 use Rattle.cbm_iec.specs.Ports.{side_due, port_due, told, told_act, reacted, reaction_changes, next_held}
 use Rattle.cbm_iec.specs.Speaking.{talk_data}
-use Rattle.cbm_iec.specs.declared.ear.Ear.TheVariants.{Idle, Starting, Leaving, Returning, Holding, Freeing, Ready, Timed, Pulsing, EoiNoted, Gathering, Accepting}
+use Rattle.cbm_iec.specs.declared.ear.Ear.TheVariants.{Idle, Await, Starting, Leaving, Returning, Holding, Freeing, Ready, Timed, Pulsing, EoiNoted, Gathering, Accepting}
 use Rattle.cbm_iec.specs.declared.ear.Ear.{Ear}
 use Rattle.cbm_iec.specs.declared.event.Event.{Event}
 use Rattle.cbm_iec.specs.declared.event.Who.TheVariants.{Host, Drive}
@@ -12,7 +12,7 @@ use Rattle.cbm_iec.specs.declared.event.Who.{Who}
 use Rattle.cbm_iec.specs.declared.line.Line.{Line}
 use Rattle.cbm_iec.specs.declared.line.Way.{Way}
 use Rattle.cbm_iec.specs.declared.lines.Lines.{Lines}
-use Rattle.cbm_iec.specs.declared.mouth.Mouth.TheVariants.{Turned, Answering, Led, Offering, EoiOffered, EoiPulsed, Sending, Waiting, Ending, Over}
+use Rattle.cbm_iec.specs.declared.mouth.Mouth.TheVariants.{Turned, Answering, Mute, Led, Offering, EoiOffered, EoiPulsed, Sending, Waiting, Ending, Over}
 use Rattle.cbm_iec.specs.declared.mouth.Mouth.{Mouth}
 use Rattle.cbm_iec.specs.declared.port.Port.{Port}
 use Rattle.cbm_iec.specs.declared.port.Side.TheVariants.{Speaking}
@@ -26,6 +26,7 @@ use Rattle.cbm_session.specs.Steps.{Mark, Step, moment_of, events_of, event_of}
 
 -- A change of DATA by another drive leaves a side with something due as it is.
 pub ear_undisturbed : (r m t : ℕ) (low : Bool) (ear : Ear) → ear_due ear ≡ Some t → after_data r m low ear ≡ ear
+ear_undisturbed r m t low Await e = refl
 ear_undisturbed r m t low Idle e = refl
 ear_undisturbed r m t low (Starting at) e = refl
 ear_undisturbed r m t low (Leaving at) e = refl
@@ -48,6 +49,7 @@ mouth_undisturbed r m t low (EoiOffered byte) e = absurd cc
 mouth_undisturbed r m t low (EoiPulsed byte) e = absurd cc
 mouth_undisturbed r m t low (Sending at byte last left half) e = refl
 mouth_undisturbed r m t low (Waiting byte last) e = absurd cc
+mouth_undisturbed r m t low (Mute at) e = refl
 mouth_undisturbed r m t low (Ending at) e = refl
 mouth_undisturbed r m t low Over e = refl
 

@@ -1,4 +1,5 @@
 -- A frame of the talker under way: an allowed session ends with a cut of it at its accept, or, where that was played, with the frame and what a drive that leads does next.
+use Rattle.cbm_session.proofs.Paces.{by_eight}
 use Rattle.std.proofs.Common.{◌≡◌, ℕ, ◌+◌, ◌≤◌, ◌<◌, ◌⊎◌, inl, inr, Bool, true, false, List, [], ◌∷◌, ◌++◌, append-nil, Option, Some, None, ap, sym, ◌∙◌, subst, arith, refl}
 use Rattle.std.specs.Prelude.{if◌then◌else◌}
 use Rattle.cbm_iec.specs.declared.act.Act.TheVariants.{Said}
@@ -77,7 +78,7 @@ front_early b at f h =
     let eight = h.eight in
     let soon = by_signal f.signal h.signal in
     let early = soon.0 in
-    (omega (arith, free, accept, early), (omega (arith, accept, early), before_both f.accept (signal_steps f.signal) (bit_steps b (first_bit b f) false f.bits) (soon.1 f.accept (omega (arith, accept))) (bits_before b (first_bit b f) f.accept false f.bits (omega (arith, accept, eight)))))
+    (omega (arith, free, accept, early), (omega (arith, accept, early), before_both f.accept (signal_steps f.signal) (bit_steps b (first_bit b f) false f.bits) (soon.1 f.accept (omega (arith, accept))) (bits_before b (first_bit b f) f.accept false f.bits (omega (arith, accept, eight, by_eight b.pace eight)))))
   where
     by_signal : (x : Option (ℕ × ℕ)) → SignalFits f.free x → (f.free ≤ (elim x as (λ y. ℕ) [ None ↦ f.free | Some y ↦ y.1 ])) × ((m : ℕ) → (elim x as (λ y. ℕ) [ None ↦ f.free | Some y ↦ y.1 ]) + b.reaction < m → AllBefore m (signal_steps x))
     by_signal None g = (omega arith, λ m l. tt)

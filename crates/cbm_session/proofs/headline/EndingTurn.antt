@@ -1,4 +1,6 @@
 -- A turnaround under way: an allowed session ends with a cut of it at CLOCK's release, or, where that was played, with the turnaround and what a drive that leads does next.
+use Rattle.cbm_iec.specs.declared.pace.Pace.TheVariants.{Profile, Kernal}
+use Rattle.cbm_iec.specs.declared.pace.Pace.{Pace}
 use Rattle.std.proofs.Common.{◌≡◌, ℕ, ◌+◌, ◌≤◌, ◌<◌, ◌⊎◌, inl, inr, Bool, true, false, List, [], ◌∷◌, ◌++◌, map, append-nil, Option, Some, None, ap, sym, ◌∙◌, subst, arith, refl}
 use Rattle.std.proofs.lemmas.Bool.Decides.{leb_tells}
 use Rattle.cbm_iec.specs.declared.act.Act.TheVariants.{Silent}
@@ -22,7 +24,7 @@ use Rattle.cbm_session.proofs.joining.Owning.{part_owned, part_order}
 use Rattle.cbm_session.proofs.joining.Showing.{merge_first}
 use Rattle.cbm_session.specs.Answers.{IsAnswer}
 use Rattle.cbm_session.specs.Joins.{NotBefore}
-use Rattle.cbm_session.specs.Pieces.{Whole, Point, own_part, steps_of, before, let_go, freed_steps, Fits, CutFits, some_from, ToTalker, Nothing}
+use Rattle.cbm_session.specs.Pieces.{silent_part, Whole, Point, own_part, steps_of, before, let_go, freed_steps, Fits, CutFits, some_from, ToTalker, Nothing}
 use Rattle.cbm_session.specs.Seats.{Seat, device, reaction, talker_of}
 use Rattle.cbm_session.specs.Steps.{Step, moment_of, events_of, host, drive, for_one, merge, merge_all}
 
@@ -88,10 +90,14 @@ lead_quiet p at clock = every_each (AskedLate clock) (λ (x : Seat). own_part p 
 mute_quiet : (p : Point) (at clock : ℕ) (freed : Option ℕ) → Every (AskedLate clock) (turn_drives p (Nothing at clock freed))
 mute_quiet p at clock freed = every_each (AskedLate clock) (λ (x : Seat). own_part p (Nothing at clock freed) x) [] p.seats tt (each_seat (λ x. Every (AskedLate clock) (own_part p (Nothing at clock freed) x)) p.seats (λ (x : Seat). go x x.role))
   where
-    go : (x : Seat) (r : Role) → Every (AskedLate clock) (elim r as (λ q. List Step) [ Absent ↦ let_go at x | Listener ↦ [] | Talker ↦ for_one (device x) Silent (drive (device x) (clock + reaction x) Data Free) ∷ [] ])
+    go : (x : Seat) (r : Role) → Every (AskedLate clock) (elim r as (λ q. List Step) [ Absent ↦ let_go at x | Listener ↦ [] | Talker ↦ silent_part x.party.pace (device x) (clock + reaction x) ])
     go x Absent = (inl tt, tt)
     go x Listener = tt
-    go x Talker = (inr (omega arith), tt)
+    go x Talker = by_pace x.party.pace
+      where
+        by_pace : (e : Pace) → Every (AskedLate clock) (silent_part e (device x) (clock + reaction x))
+        by_pace Profile = (inr (omega arith), tt)
+        by_pace Kernal = (inl tt, (inl tt, (inr (omega arith), tt)))
 
 module _ (M : Type 0) (step : M → Act → M) (peek : M → Option (ℕ × Bool)) where
   host_front : (t : ℕ) (xs ys : List Step) → HostFrom t (xs ++ ys) → HostFrom t xs

@@ -187,7 +187,7 @@ module _ (M : Type 0) (step : M → Act → M) (peek : M → Option (ℕ × Bool
       let same = next_party w s in
       let left = left_is p s q z.port (Full w) z.rest (says d) h.0.sound st fits z.follows in
       let there : StandsAmong p2 s2 z.port = record {
-        party = follows_drive (says d) z.follows ∙ st.party ∙ sym same;
+        party = follows_drive (says d) z.follows ∙ st.party ∙ (sym same);
         role = z.role;
         own = z.own;
         others = follows_wires (says d) z.follows st.others ∙ ap (λ (r : Rest). wires_of r) left ∙ ap (λ (b : Party). wires_of (rest_at b.device p2)) (sym same);

@@ -134,7 +134,7 @@ module _ (M : Type 0) (step : M → Act → M) (peek : M → Option (ℕ × Bool
   still (change c more b l i e f) none fin g = absurd cc
   still (reaction t before o behind more b u f e p) none fin g =
       let holds = holds_among before o behind [] fin (subst (λ (v : List (Station M)). AllGo M step peek mute place v [] fin) u g) in
-      let shows = side_react o.port.party.reaction t o.port.others (peek o.machine) o.port.side o.port.own f.due holds in
+      let shows = side_react _ o.port.party.reaction t o.port.others (peek o.machine) o.port.side o.port.own f.due holds in
       absurd (shows.1 (none_shown o.port.party.device (shown M step peek t o) more (sym e ∙ none)))
 
   module _ (p : Point) (f : Sent) (fits : Fits p (Command f)) where

@@ -1,4 +1,5 @@
 -- A drive that follows steps among others goes with them: its reactions show, and what the others do at the moment of its own leaves it as it is.
+use Rattle.cbm_iec.specs.declared.pace.Pace.{Pace}
 use Rattle.std.proofs.Common.{◌≡◌, ℕ, Bool, true, false, List, [], ◌∷◌, ◌++◌, Option, Some, ap, sym, ◌∙◌, subst, refl}
 use Rattle.std.specs.Prelude.{if◌then◌else◌, nat_eq}
 use Rattle.cbm_iec.specs.Hearing.{is_same, after_clock, after_data, after_clocked}
@@ -81,7 +82,7 @@ goes_of says {r} {r2} {q} (hears {o} {t} {line} {way} {mark} {ss} a i k f) h see
     bus.hears a i (steady_of q o t r line way seen a d.0) k
     (goes_of says f (subst (λ (x : Side). SideHolds x q.own) (sym out.0) (side_lines q.party.reaction t q.others (wires_of (behind_other line way r)) q.side q.own h)) refl n.1 d.1)
 goes_of says {r} {r2} {q} (reacts t more e x sh l f) h seen n d =
-    let vis = side_react q.party.reaction t q.others says q.side q.own e h in
+    let vis = side_react _ q.party.reaction t q.others says q.side q.own e h in
     bus.reacts t more e x vis.1 l (goes_of says f vis.0 seen (noatn_behind (reaction_steps t says q) more (subst NoAtn x n)) (others_behind q.party.device (reaction_steps t says q) more (subst (OthersData q.party.device) x d)))
 
 -- And a drive without a role beside a talker: it lets go of DATA, or does nothing, whatever the others do.
@@ -111,9 +112,9 @@ lets_calm : (side : Side) → Lets side → IsCalm side
 lets_calm side (idle e) = subst IsCalm (sym e) idle_calm
 lets_calm side (leaving at e) = subst IsCalm (sym e) (leaving_calm at)
 
-lets_react : (r t : ℕ) (others : Lines) (says : Option (ℕ × Bool)) (side : Side) → Lets side → Lets (Rattle.cbm_iec.specs.Ports.side_after r t others says side)
-lets_react r t others says side (idle e) = idle (ap (λ (x : Side). Rattle.cbm_iec.specs.Ports.side_after r t others says x) e)
-lets_react r t others says side (leaving at e) = idle (ap (λ (x : Side). Rattle.cbm_iec.specs.Ports.side_after r t others says x) e)
+lets_react : (e : Pace) → (r t : ℕ) (others : Lines) (says : Option (ℕ × Bool)) (side : Side) → Lets side → Lets (Rattle.cbm_iec.specs.Ports.side_after e r t others says side)
+lets_react v r t others says side (idle e) = idle (ap (λ (x : Side). Rattle.cbm_iec.specs.Ports.side_after v r t others says x) e)
+lets_react v r t others says side (leaving at e) = idle (ap (λ (x : Side). Rattle.cbm_iec.specs.Ports.side_after v r t others says x) e)
 
 pub goes_idle : (says : Option (ℕ × Bool)) {r r2 : Rest} {q q2 : Port} {ss : List Step} → FollowsAmong says r q ss r2 q2 → Lets q.side → SideHolds q.side q.own → q.others ≡ wires_of r → NoAtn ss → Goes says r q ss r2 q2
 goes_idle says (ends a e) c h seen n = bus.ends a e
@@ -126,5 +127,5 @@ goes_idle says {r} {r2} {q} (hears {o} {t} {line} {way} {mark} {ss} a i k f) c h
     let same = out.0 ∙ lets_calm q.side c q.party.reaction t q.others (wires_of (behind_other line way r)) in
     bus.hears a i (λ e. same) k (goes_idle says f (subst Lets (sym same) c) (subst (λ (x : Side). SideHolds x q.own) (sym same) h) refl n.1)
 goes_idle says {r} {r2} {q} (reacts t more e x sh l f) c h seen n =
-    let vis = side_react q.party.reaction t q.others says q.side q.own e h in
-    bus.reacts t more e x vis.1 l (goes_idle says f (lets_react q.party.reaction t q.others says q.side c) vis.0 seen (noatn_behind (reaction_steps t says q) more (subst NoAtn x n)))
+    let vis = side_react _ q.party.reaction t q.others says q.side q.own e h in
+    bus.reacts t more e x vis.1 l (goes_idle says f (lets_react _ q.party.reaction t q.others says q.side c) vis.0 seen (noatn_behind (reaction_steps t says q) more (subst NoAtn x n)))

@@ -149,11 +149,11 @@ AsksFor (y ∷ ys) side A = SideAsks side A
 -- where the same is asked for, the same is done
 pub same_reacted : (t : ℕ) (says says2 : Option (ℕ × Bool)) (q : Port) → SideAsks q.side (says ≡ says2) → reacted t says q ≡ reacted t says2 q
 same_reacted t says says2 q a =
-    ap (λ (h : Held). record { party = q.party; role = next_role q; own = h; others = q.others; side = next_side t says q }) (side_same_held q.own says says2 q.side a)
-    ∙ ap (λ (x : Side). record { party = q.party; role = next_role q; own = next_held says2 q; others = q.others; side = x }) (side_same_after q.party.reaction t q.others says says2 q.side a)
+    ap (λ (h : Held). record { party = q.party; role = next_role q; own = h; others = q.others; side = next_side t says q }) (side_same_held _ q.own says says2 q.side a)
+    ∙ ap (λ (x : Side). record { party = q.party; role = next_role q; own = next_held says2 q; others = q.others; side = x }) (side_same_after _ q.party.reaction t q.others says says2 q.side a)
 
 pub same_changes : (t : ℕ) (says says2 : Option (ℕ × Bool)) (q : Port) → SideAsks q.side (says ≡ says2) → reaction_changes t says q ≡ reaction_changes t says2 q
-same_changes t says says2 q a = ap (λ (h : Held). changes_between t q.own h) (side_same_held q.own says says2 q.side a)
+same_changes t says says2 q a = ap (λ (h : Held). changes_between t q.own h) (side_same_held _ q.own says says2 q.side a)
 
 pub no_steps : (t : ℕ) (says : Option (ℕ × Bool)) (q : Port) → (reaction_changes t says q ≡ [] → ⊥) → reaction_steps t says q ≡ [] → ⊥
 no_steps t says q n e = go (reaction_changes t says q) n (sym (reaction_events says t q) ∙ ap (λ (v : List Step). events_of v) e)

@@ -16,7 +16,7 @@ use Rattle.cbm_session.specs.Pieces.{Point}
 use Rattle.cbm_session.specs.Playing as playing
 use Rattle.cbm_session.specs.Playing.{Station}
 use Rattle.cbm_session.specs.Seats.{Seat, device}
-use Rattle.cbm_session.specs.Sessions.{rest, Unlike, AllUnlike, IsBus}
+use Rattle.cbm_session.specs.Sessions.{rest, Unlike, AllUnlike, IsBus, AreDrives}
 
 -- the place of a device in the order of ties
 abbrev pub place_in : List Party → ℕ → ℕ
@@ -88,15 +88,15 @@ module _ (M : Type 0) (step : M → Act → M) (peek : M → Option (ℕ × Bool
   stood says place p (s ∷ ss) [] h = elim h [ ]
   stood says place p (s ∷ ss) (x ∷ xs) h = (record { sound = h.0.sound; stands = h.0.stands; rest = h.0.rest }, stood says place p ss xs h.1)
 
-  rest_stands : (ms : ℕ → M) (place : ℕ → ℕ) (bs cs : List Party) → AllSound (rest bs) cs → Stood place (rest bs) (map (λ b. seat_of b) cs) (playing.at_rest M step peek ms cs)
-  rest_stands ms place bs [] h = tt
-  rest_stands ms place bs (c ∷ cs) h = (record { sound = h.0; stands = at_rest bs c; rest = sym (nobody_holds bs c) }, rest_stands ms place bs cs h.1)
+  rest_stands : (ms : ℕ → M) (place : ℕ → ℕ) (bs cs : List Party) → AreDrives cs → AllSound (rest bs) cs → Stood place (rest bs) (map (λ b. seat_of b) cs) (playing.at_rest M step peek ms cs)
+  rest_stands ms place bs [] d h = tt
+  rest_stands ms place bs (c ∷ cs) d h = (record { sound = h.0; stands = at_rest bs c; rest = sym (nobody_holds bs c) }, rest_stands ms place bs cs d.1 h.1)
     where
       nobody_holds : (bs : List Party) (c : Party) → rest_at c.device (rest bs) ≡ playing.nobody
       nobody_holds bs c = Rattle.cbm_session.proofs.among.Sessions.rest_free bs c
 
   pub bus_stands : (ms : ℕ → M) (bs : List Party) → IsBus bs → Stood (place_in bs) (rest bs) (rest bs).seats (playing.at_rest M step peek ms bs)
-  bus_stands ms bs h = rest_stands ms (place_in bs) bs bs (rest_sound bs h)
+  bus_stands ms bs h = rest_stands ms (place_in bs) bs bs h.drives (rest_sound bs h)
 
   -- no machine has run yet
   pub bus_ran : (ms : ℕ → M) (bs : List Party) → AllRan M step peek ms [] (playing.at_rest M step peek ms bs)

@@ -1,7 +1,9 @@
 -- ATN's pull on a bus: the host's changes, then the drives' answers, of which some show nothing.
+use Rattle.cbm_iec.specs.declared.pace.Pace.TheVariants.{Profile, Kernal}
+use Rattle.cbm_iec.specs.declared.pace.Pace.{Pace}
 use Rattle.std.proofs.Common.{◌≡◌, ℕ, suc, ◌+◌, ◌≤◌, ◌<◌, ◌⊎◌, inl, inr, Bool, true, false, List, [], ◌∷◌, ◌++◌, map, append_assoc, Option, Some, None, ap, sym, ◌∙◌, subst, arith, refl}
 use Rattle.std.specs.Prelude.{nat_eq}
-use Rattle.cbm_iec.specs.Hearing.{after_hold}
+use Rattle.cbm_iec.specs.Hearing.{after_start}
 use Rattle.cbm_iec.specs.Machines.{acted}
 use Rattle.cbm_iec.specs.Ports.{side_held, side_after, side_due, port_due, told, told_act, reacted, reaction_act, changes_between, reaction_changes}
 use Rattle.cbm_iec.specs.declared.act.Act.{Act}
@@ -514,7 +516,7 @@ module _ (M : Type 0) (step : M → Act → M) (peek : M → Option (ℕ × Bool
 
   -- A drive that the pull reached, also where the host's other changes of that moment don't come.
   abbrev pub Reached : Station M → Type 0
-  Reached x = ((u : ℕ) × ((x.port.side ≡ Hearing (Starting u)) × (at < u))) ⊎ ((x.port.side ≡ Hearing Holding) ⊎ ((u : ℕ) × ((x.port.side ≡ Hearing (Freeing u)) × (at < u) × (x.port.own.data_low ≡ true))))
+  Reached x = ((u : ℕ) × ((x.port.side ≡ Hearing (Starting u)) × (at < u))) ⊎ ((port_due x.port ≡ None) ⊎ ((u : ℕ) × ((x.port.side ≡ Hearing (Freeing u)) × (at < u) × (x.port.own.data_low ≡ true))))
 
   abbrev pub AllReached : List (Station M) → Type 0
   AllReached [] = Unit {0}
@@ -529,7 +531,7 @@ module _ (M : Type 0) (step : M → Act → M) (peek : M → Option (ℕ × Bool
 
       one : Reached x → IsInTime at (port_due x.port)
       one (inl k) = due_at k.0 (ap (λ (v : Side). side_due v) k.1.0) k.1.1
-      one (inr (inl k)) = subst (λ (v : Side). IsInTime at (side_due v)) (sym k) tt
+      one (inr (inl k)) = subst (λ (v : Option ℕ). IsInTime at v) (sym k) tt
       one (inr (inr k)) = due_at k.0 (ap (λ (v : Side). side_due v) k.1.0) k.1.1
 
   reached_later : (xs : List (Station M)) → AllReached xs → AllLater M step peek at xs
@@ -541,7 +543,7 @@ module _ (M : Type 0) (step : M → Act → M) (peek : M → Option (ℕ × Bool
 
       one : Reached x → IsLaterDue at (port_due x.port)
       one (inl k) = due_at k.0 (ap (λ (v : Side). side_due v) k.1.0) k.1.1
-      one (inr (inl k)) = subst (λ (v : Side). IsLaterDue at (side_due v)) (sym k) tt
+      one (inr (inl k)) = subst (λ (v : Option ℕ). IsLaterDue at v) (sym k) tt
       one (inr (inr k)) = due_at k.0 (ap (λ (v : Side). side_due v) k.1.0) k.1.1
 
   freeing_shows : (t : ℕ) (own : Held) → own.data_low ≡ true → changes_between t own (lines own.clock_low false) ≡ [] → ⊥
@@ -561,17 +563,19 @@ module _ (M : Type 0) (step : M → Act → M) (peek : M → Option (ℕ × Bool
       let at_t : k.0 ≡ t = (let c : Some k.0 ≡ Some t = sym (ap (λ (v : Side). side_due v) side) ∙ d in cc) in
       let later = k.1.1 in
       let late : at < t = omega (arith, later, at_t) in
-      let own : (reacted t p q).own ≡ lines false true = ap (λ (v : Side). side_held p q.own v) side in
-      let now : (reacted t p q).side ≡ Hearing (after_hold q.party.reaction t q.others.clock_low) = ap (λ (v : Side). side_after q.party.reaction t q.others p v) side in
-      (start_act k.0 p q side, go q.others.clock_low late (ap (λ (h : Held). h.data_low) own) now)
+      let own : (reacted t p q).own ≡ lines false true = ap (λ (v : Side). side_held q.party.pace p q.own v) side in
+      let now : (reacted t p q).side ≡ Hearing (after_start q.party.pace q.party.reaction t q.others.clock_low) = ap (λ (v : Side). side_after q.party.pace q.party.reaction t q.others p v) side in
+      (start_act k.0 p q side, go x.port.party.pace q.others.clock_low late (ap (λ (h : Held). h.data_low) own) now)
     where
-      go : (low : Bool) → at < t → (react M step peek t x).port.own.data_low ≡ true → (react M step peek t x).port.side ≡ Hearing (after_hold x.port.party.reaction t low) → Reached (react M step peek t x)
-      go true l o s = inr (inl s)
-      go false l o s = inr (inr (t + x.port.party.reaction, (s, omega (arith, l), o)))
-  silent_reached t x (inr (inl k)) d e = let c : Some t ≡ None = sym d ∙ ap (λ (v : Side). side_due v) k in absurd cc
+      go : (e : Pace) (low : Bool) → at < t → (react M step peek t x).port.own.data_low ≡ true → (react M step peek t x).port.side ≡ Hearing (after_start e x.port.party.reaction t low) → Reached (react M step peek t x)
+      go Profile true l o s = inr (inl (ap (λ (v : Side). side_due v) s))
+      go Kernal true l o s = inr (inl (ap (λ (v : Side). side_due v) s))
+      go Kernal false l o s = inr (inl (ap (λ (v : Side). side_due v) s))
+      go Profile false l o s = inr (inr (t + x.port.party.reaction, (s, omega (arith, l), o)))
+  silent_reached t x (inr (inl k)) d e = let c : Some t ≡ None = sym d ∙ k in absurd cc
   silent_reached t x (inr (inr k)) d e =
       let q = x.port in
-      let changes : shown M step peek t x ≡ changes_between t q.own (lines q.own.clock_low false) = ap (λ (v : Side). changes_between t q.own (side_held (peek x.machine) q.own v)) k.1.0 in
+      let changes : shown M step peek t x ≡ changes_between t q.own (lines q.own.clock_low false) = ap (λ (v : Side). changes_between t q.own (side_held q.party.pace (peek x.machine) q.own v)) k.1.0 in
       absurd (freeing_shows t q.own k.1.2 (sym changes ∙ e))
 
   reached_parts : (before : List (Station M)) (o : Station M) (behind : List (Station M)) → AllReached (before ++ o ∷ behind) → AllReached before × Reached o × AllReached behind
@@ -597,7 +601,7 @@ module _ (M : Type 0) (step : M → Act → M) (peek : M → Option (ℕ × Bool
     where
       late_now : Reached o → port_due o.port ≡ Some t → at < suc t
       late_now (inl k) d = let s : Some t ≡ Some k.0 = sym d ∙ ap (λ (v : Side). side_due v) k.1.0 in let n : t ≡ k.0 = cc in let a = k.1.1 in omega (arith, n, a)
-      late_now (inr (inl k)) d = let c : Some t ≡ None = sym d ∙ ap (λ (v : Side). side_due v) k in absurd cc
+      late_now (inr (inl k)) d = let c : Some t ≡ None = sym d ∙ k in absurd cc
       late_now (inr (inr k)) d = let s : Some t ≡ Some k.0 = sym d ∙ ap (λ (v : Side). side_due v) k.1.0 in let n : t ≡ k.0 = cc in let a = k.1.1 in omega (arith, n, a)
 
       by_changes : AllReached before × Reached o × AllReached behind → (AllReached (reacting M step peek t before o behind) → more ++ rest ≡ x ∷ tail → (more ≡ []) × AllReached ss2 × RanOn M step peek (reacting M step peek t before o behind) [] ss2)

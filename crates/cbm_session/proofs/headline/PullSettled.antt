@@ -1,7 +1,10 @@
 -- A drive that a pull of ATN reached: where its reaction shows nothing it goes with what comes as if it had made it already.
+use Rattle.cbm_session.proofs.Paces.{started}
+use Rattle.cbm_iec.specs.declared.pace.Pace.TheVariants.{Profile, Kernal}
+use Rattle.cbm_iec.specs.declared.pace.Pace.{Pace}
 use Rattle.std.proofs.Common.{◌≡◌, ℕ, ◌≤◌, ◌<◌, ◌⊎◌, inl, inr, Bool, true, false, List, [], ◌∷◌, ◌++◌, Option, Some, None, ap, sym, ◌∙◌, subst, arith, refl}
 use Rattle.std.specs.Prelude.{if◌then◌else◌, nat_eq}
-use Rattle.cbm_iec.specs.Hearing.{is_same, after_hold, after_clock, after_data, after_lines}
+use Rattle.cbm_iec.specs.Hearing.{is_same, after_start, after_clock, after_data, after_lines}
 use Rattle.cbm_iec.specs.Ports.{side_held, side_role, side_act, side_after, port_due, lined_side, lined_act, told, told_act, reaction_act, reacted, changes_between, reaction_changes}
 use Rattle.cbm_iec.specs.declared.act.Act.{Act}
 use Rattle.cbm_iec.specs.declared.ear.Ear.TheVariants.{Starting, Holding}
@@ -68,24 +71,25 @@ holding_told t r r2 q seen atn low low2 side =
 
 -- the drive as it stands in hold
 abbrev pub held : Port → Port
-held q = stands q.party q.role (lines false true) q.others (Hearing Holding)
+held q = record { party = q.party; role = q.role; own = lines false true; others = q.others; side = Hearing Holding }
 
 pub told_held : (t : ℕ) (r r2 : Rest) (q : Port) → q.others ≡ wires_of r → (wires_of r2).atn_low ≡ (wires_of r).atn_low → (wires_of r).clock_low ≡ true → (wires_of r2).clock_low ≡ true → (told t (wires_of r2) (held q) ≡ held (told t (wires_of r2) q)) × (told_act (wires_of r2) (held q) ≡ None)
 told_held t r r2 q seen atn low low2 =
     let k = holding_told t r r2 (held q) seen atn low low2 refl in
-    (ap (λ (v : Side). stands q.party q.role (lines false true) (wires_of r2) v) k.0, k.1)
+    (ap (λ (v : Side). record { party = q.party; role = q.role; own = lines false true; others = wires_of r2; side = v }) k.0, k.1)
 
 -- its answer to the pull: the changes from the lines that it holds to DATA alone, no act, and hold
 pub start_changes : (t u : ℕ) (says : Option (ℕ × Bool)) (q : Port) → q.side ≡ Hearing (Starting u) → reaction_changes t says q ≡ changes_between t q.own (lines false true)
-start_changes t u says q e = ap (λ (v : Side). changes_between t q.own (side_held says q.own v)) e
+start_changes t u says q e = ap (λ (v : Side). changes_between t q.own (side_held q.party.pace says q.own v)) e
 
 pub start_act : (u : ℕ) (byte : Option (ℕ × Bool)) (q : Port) → q.side ≡ Hearing (Starting u) → reaction_act byte q ≡ None
-start_act u byte q e = ap (λ (v : Side). side_act byte q.others v) e
+start_act u byte q e = ap (λ (v : Side). side_act q.party.pace byte q.others v) e
 
 pub start_held : (t u : ℕ) (says : Option (ℕ × Bool)) (q : Port) → q.side ≡ Hearing (Starting u) → q.others.clock_low ≡ true → reacted t says q ≡ held q
 start_held t u says q e low =
-    ap (λ (v : Side). record { party = q.party; role = side_role q.party.device q.others.atn_low q.role v; own = side_held says q.own v; others = q.others; side = side_after q.party.reaction t q.others says v }) e
-    ∙ ap (λ (v : Bool). stands q.party q.role (lines false true) q.others (Hearing (after_hold q.party.reaction t v))) low
+    ap (λ (v : Side). record { party = q.party; role = side_role q.party.device q.others.atn_low q.role v; own = side_held q.party.pace says q.own v; others = q.others; side = side_after q.party.pace q.party.reaction t q.others says v }) e
+    ∙ ap (λ (v : Bool). record { party = q.party; role = q.role; own = lines false true; others = q.others; side = Hearing (after_start q.party.pace q.party.reaction t v) }) low
+    ∙ ap (λ (v : Ear). record { party = q.party; role = q.role; own = lines false true; others = q.others; side = Hearing v }) (started q.party.pace q.party.reaction t)
 
 -- it shows nothing exactly where the drive holds DATA alone
 pub no_change : (t : ℕ) (own : Held) → changes_between t own (lines false true) ≡ [] → own ≡ lines false true

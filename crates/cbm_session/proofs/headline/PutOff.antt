@@ -1,4 +1,5 @@
 -- A piece under way whose next change of the host falls on the moment of a reaction: an allowed session begins the same and has that change later, or there is no such reaction.
+use Rattle.cbm_session.proofs.joining.Silents.{silent_from}
 use Rattle.std.proofs.Common.{◌≡◌, ℕ, suc, ◌+◌, ◌≤◌, ◌<◌, ◌⊎◌, inl, inr, Bool, true, false, List, [], ◌∷◌, ◌++◌, map, Option, Some, None, ap, sym, ◌∙◌, subst, arith, refl}
 use Rattle.std.specs.Prelude.{if◌then◌else◌}
 use Rattle.std.proofs.lemmas.Bool.Decides.{leb_tells}
@@ -39,7 +40,7 @@ use Rattle.cbm_session.proofs.joining.Merging.{NoneBefore, InOrder, AllBefore, c
 use Rattle.cbm_session.specs.Among.{Rest, wires_of, behind_host}
 use Rattle.cbm_session.specs.Answers.{IsAnswer}
 use Rattle.cbm_session.specs.Laws.{NotSooner, AllAfter, GoesOn}
-use Rattle.cbm_session.specs.Pieces.{Whole, Point, host_part, steps_of, before, freed_steps, Fits, Full, PullPiece, Command, Byte, ToListener, ToNobody, ToTalker, Nothing, Talk, Commanding}
+use Rattle.cbm_session.specs.Pieces.{silent_end, Whole, Point, host_part, steps_of, before, freed_steps, Fits, Full, PullPiece, Command, Byte, ToListener, ToNobody, ToTalker, Nothing, Talk, Commanding}
 use Rattle.cbm_session.specs.Playing.{Station, Plays, stays, change, reaction, AllBytes, IsMachine, host_event, tell}
 use Rattle.cbm_session.specs.Seats.{Seat, talker_of}
 use Rattle.cbm_session.specs.Sessions.{MayEnd}
@@ -309,7 +310,7 @@ module _ (M : Type 0) (step : M → Act → M) (peek : M → Option (ℕ × Bool
           behind (x ∷ y ∷ l) k = absurd cc
       inside_off (Nothing at clock freed) a fits answer e = turn_off (Nothing at clock freed) tt fits answer fits.0.commanding at (host clock Clock Free ∷ freed_steps freed) (mutes p at clock freed) refl (mute_steps p at clock freed fits.1) (behind freed fits.2) (λ l. l) e
         where
-          behind : (o : Option ℕ) → Rattle.cbm_session.specs.Pieces.FreedFits (clock + (talker_of p.seats).reaction) o → (l : List Step) → host clock Clock Free ∷ freed_steps o ≡ l ++ s ∷ hosts_of others → (at < t) × AllBefore t l
+          behind : (o : Option ℕ) → Rattle.cbm_session.specs.Pieces.FreedFits (silent_end (talker_of p.seats) clock) o → (l : List Step) → host clock Clock Free ∷ freed_steps o ≡ l ++ s ∷ hosts_of others → (at < t) × AllBefore t l
           behind o h [] k =
               let is : host clock Clock Free ≡ s = cc in
               let at_s : clock ≡ moment_of s = ap (λ (v : Step). moment_of v) is in
@@ -323,7 +324,7 @@ module _ (M : Type 0) (step : M → Act → M) (peek : M → Option (ℕ × Bool
               let at_s : g ≡ moment_of s = ap (λ (v : Step). moment_of v) is in
               let at_x : clock ≡ moment_of x = ap (λ (v : Step). moment_of v) first in
               let gap = fits.1 in
-              (omega (arith, gap, h, at_s, now), (omega (arith, h, at_s, at_x, now), tt))
+              (omega (arith, silent_from (talker_of p.seats) clock, gap, h, at_s, now), (omega (arith, silent_from (talker_of p.seats) clock, h, at_s, at_x, now), tt))
           behind (Some g) h (x ∷ y ∷ []) k = absurd cc
           behind (Some g) h (x ∷ y ∷ z ∷ l) k = absurd cc
       inside_off (Talk at f) a fits answer e = absurd (talk_never M step peek place p ms xs here plays t due at f fits answer front s others e shown who now)

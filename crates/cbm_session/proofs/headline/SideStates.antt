@@ -1,10 +1,11 @@
 -- The same of a drive that hears, out of attention's pull; and of a drive's side, whatever it does.
+use Rattle.cbm_iec.specs.declared.pace.Pace.{Pace}
 use Rattle.std.proofs.Common.{◌≡◌, ℕ, ◌+◌, Bool, true, false, not, [], Option, Some, ap, refl}
 use Rattle.std.specs.Prelude.{if◌then◌else◌, ◌==◌, nat_lt}
 use Rattle.cbm_iec.specs.Hearing.{is_same, ear_due, after_hold, after_ready, after_clock, after_data, after_clocked, after_lines, with_bit, ear_row}
 use Rattle.cbm_iec.specs.Ports.{side_due, lined_side, lined_act, side_held, side_act, side_after, changes_between}
 use Rattle.cbm_iec.specs.declared.act.Act.{Act}
-use Rattle.cbm_iec.specs.declared.ear.Ear.TheVariants.{Idle, Starting, Leaving, Returning, Holding, Freeing, Ready, Timed, Pulsing, EoiNoted, Gathering, Accepting}
+use Rattle.cbm_iec.specs.declared.ear.Ear.TheVariants.{Idle, Await, Starting, Leaving, Returning, Holding, Freeing, Ready, Timed, Pulsing, EoiNoted, Gathering, Accepting}
 use Rattle.cbm_iec.specs.declared.ear.Ear.{Ear}
 use Rattle.cbm_iec.specs.declared.lines.Held.{Held}
 use Rattle.cbm_iec.specs.declared.lines.Lines.{Lines}
@@ -15,6 +16,7 @@ use Rattle.cbm_session.proofs.headline.TalkStates.{Holds, Asks, NoneSaid, lines_
 
 -- whether it holds DATA
 abbrev pub EarHolds : Ear → Held → Type 0
+EarHolds Await own = own.data_low ≡ true
 EarHolds Idle own = Unit {0}
 EarHolds (Starting at) own = ⊥
 EarHolds (Leaving at) own = own.data_low ≡ true
@@ -37,6 +39,8 @@ ready_holds r m true own h = h
 ready_holds r m false own h = h
 
 clock_holds : (r m : ℕ) (low data_low : Bool) (ear : Ear) (own : Held) → EarHolds ear own → EarHolds (after_clock r m low data_low ear) own
+clock_holds r m true data_low Await own h = h
+clock_holds r m false data_low Await own h = h
 clock_holds r m low data_low Idle own h = tt
 clock_holds r m low data_low (Starting at) own h = h
 clock_holds r m low data_low (Leaving at) own h = h
@@ -63,6 +67,7 @@ clock_holds r m false data_low (Gathering eoi count byte) own h = go (nat_lt cou
 clock_holds r m low data_low (Accepting at eoi byte) own h = h
 
 data_holds : (r m : ℕ) (low : Bool) (ear : Ear) (own : Held) → EarHolds ear own → EarHolds (after_data r m low ear) own
+data_holds r m low Await own h = h
 data_holds r m low Idle own h = tt
 data_holds r m low (Starting at) own h = h
 data_holds r m low (Leaving at) own h = h
@@ -102,23 +107,24 @@ data_shows t c c2 own d h k = go own.clock_low c2 own.data_low d h k
     go a b true false h k = absurd cc
     go a b false true h k = absurd cc
 
-ear_react : (r t : ℕ) (others : Lines) (ear : Ear) (own : Held) → ear_due ear ≡ Some t → EarHolds ear own → EarHolds ((ear_row ear).next r t others) ((ear_row ear).held own) × (changes_between t own ((ear_row ear).held own) ≡ [] → ⊥)
-ear_react r t others Idle own e h = absurd cc
-ear_react r t others (Starting at) own e h = elim h [ ]
-ear_react r t others (Leaving at) own e h = (tt, λ k. data_shows t true false own true h k)
-ear_react r t others (Returning at) own e h = elim h [ ]
-ear_react r t others Holding own e h = absurd cc
-ear_react r t others (Freeing at) own e h = (ready_holds r t others.data_low (record { clock_low = own.clock_low; data_low = false }) refl, λ k. data_shows t true own.clock_low own true h k)
-ear_react r t others Ready own e h = absurd cc
-ear_react r t others (Timed at) own e h = (refl, λ k. data_shows t true own.clock_low own false h k)
-ear_react r t others (Pulsing at) own e h = (noted others.clock_low, λ k. data_shows t true own.clock_low own true h k)
+ear_react : (e : Pace) → (r t : ℕ) (others : Lines) (ear : Ear) (own : Held) → ear_due ear ≡ Some t → EarHolds ear own → EarHolds ((ear_row e ear).next r t others) ((ear_row e ear).held own) × (changes_between t own ((ear_row e ear).held own) ≡ [] → ⊥)
+ear_react v r t others Await own e h = absurd cc
+ear_react v r t others Idle own e h = absurd cc
+ear_react v r t others (Starting at) own e h = elim h [ ]
+ear_react v r t others (Leaving at) own e h = (tt, λ k. data_shows t true false own true h k)
+ear_react v r t others (Returning at) own e h = elim h [ ]
+ear_react v r t others Holding own e h = absurd cc
+ear_react v r t others (Freeing at) own e h = (ready_holds r t others.data_low (record { clock_low = own.clock_low; data_low = false }) refl, λ k. data_shows t true own.clock_low own true h k)
+ear_react v r t others Ready own e h = absurd cc
+ear_react v r t others (Timed at) own e h = (refl, λ k. data_shows t true own.clock_low own false h k)
+ear_react v r t others (Pulsing at) own e h = (noted others.clock_low, λ k. data_shows t true own.clock_low own true h k)
   where
     noted : (v : Bool) → EarHolds (if v then Gathering true 0 0 else EoiNoted) (record { clock_low = own.clock_low; data_low = false })
     noted true = refl
     noted false = refl
-ear_react r t others EoiNoted own e h = absurd cc
-ear_react r t others (Gathering eoi count byte) own e h = absurd cc
-ear_react r t others (Accepting at eoi byte) own e h = (hold_holds r t others.clock_low (record { clock_low = own.clock_low; data_low = true }) refl, λ k. data_shows t true own.clock_low own false h k)
+ear_react v r t others EoiNoted own e h = absurd cc
+ear_react v r t others (Gathering eoi count byte) own e h = absurd cc
+ear_react v r t others (Accepting at eoi byte) own e h = (hold_holds r t others.clock_low (record { clock_low = own.clock_low; data_low = true }) refl, λ k. data_shows t true own.clock_low own false h k)
 
 -- a drive's side
 abbrev pub SideHolds : Side → Held → Type 0
@@ -133,23 +139,24 @@ pub side_lines : (r m : ℕ) (was now : Lines) (side : Side) (own : Held) → Si
 side_lines r m was now (Hearing ear) own h = ear_lines r m was now ear own h
 side_lines r m was now (Speaking mouth) own h = lines_hold r m was now mouth own h
 
-pub side_react : (r t : ℕ) (others : Lines) (says : Option (ℕ × Bool)) (side : Side) (own : Held) → side_due side ≡ Some t → SideHolds side own
-    → SideHolds (side_after r t others says side) (side_held says own side) × (changes_between t own (side_held says own side) ≡ [] → ⊥)
-side_react r t others says (Hearing ear) own e h = ear_react r t others ear own e h
-side_react r t others says (Speaking mouth) own e h = react_holds r t others says mouth own e h
+pub side_react : (e : Pace) → (r t : ℕ) (others : Lines) (says : Option (ℕ × Bool)) (side : Side) (own : Held) → side_due side ≡ Some t → SideHolds side own
+    → SideHolds (side_after e r t others says side) (side_held e says own side) × (changes_between t own (side_held e says own side) ≡ [] → ⊥)
+side_react v r t others says (Hearing ear) own e h = ear_react _ r t others ear own e h
+side_react v r t others says (Speaking mouth) own e h = react_holds _ r t others says mouth own e h
 
-pub side_same_held : (own : Held) (says says2 : Option (ℕ × Bool)) (side : Side) → SideAsks side (says ≡ says2) → side_held says own side ≡ side_held says2 own side
-side_same_held own says says2 (Hearing ear) a = refl
-side_same_held own says says2 (Speaking mouth) a = same_held own says says2 mouth a
+pub side_same_held : (e : Pace) → (own : Held) (says says2 : Option (ℕ × Bool)) (side : Side) → SideAsks side (says ≡ says2) → side_held e says own side ≡ side_held e says2 own side
+side_same_held e own says says2 (Hearing ear) a = refl
+side_same_held e own says says2 (Speaking mouth) a = same_held _ own says says2 mouth a
 
-pub side_same_after : (r t : ℕ) (others : Lines) (says says2 : Option (ℕ × Bool)) (side : Side) → SideAsks side (says ≡ says2) → side_after r t others says side ≡ side_after r t others says2 side
-side_same_after r t others says says2 (Hearing ear) a = refl
-side_same_after r t others says says2 (Speaking mouth) a = ap (λ (x : Mouth). Speaking x) (same_after r t others says says2 mouth a)
+pub side_same_after : (e : Pace) → (r t : ℕ) (others : Lines) (says says2 : Option (ℕ × Bool)) (side : Side) → SideAsks side (says ≡ says2) → side_after e r t others says side ≡ side_after e r t others says2 side
+side_same_after e r t others says says2 (Hearing ear) a = refl
+side_same_after e r t others says says2 (Speaking mouth) a = ap (λ (x : Mouth). Speaking x) (same_after _ r t others says says2 mouth a)
 
-pub side_same_act : (others : Lines) (says says2 : Option (ℕ × Bool)) (side : Side) → SideAsks side (says ≡ says2) → side_act says others side ≡ side_act says2 others side
-side_same_act others says says2 (Hearing ear) a = same_ear ear
+pub side_same_act : (e : Pace) → (others : Lines) (says says2 : Option (ℕ × Bool)) (side : Side) → SideAsks side (says ≡ says2) → side_act e says others side ≡ side_act e says2 others side
+side_same_act e others says says2 (Hearing ear) a = same_ear ear
   where
-    same_ear : (ear : Ear) → side_act says others (Hearing ear) ≡ side_act says2 others (Hearing ear)
+    same_ear : (ear : Ear) → side_act e says others (Hearing ear) ≡ side_act e says2 others (Hearing ear)
+    same_ear Await = refl
     same_ear Idle = refl
     same_ear (Starting at) = refl
     same_ear (Leaving at) = refl
@@ -162,7 +169,7 @@ side_same_act others says says2 (Hearing ear) a = same_ear ear
     same_ear EoiNoted = refl
     same_ear (Gathering eoi count byte) = refl
     same_ear (Accepting at eoi byte) = refl
-side_same_act others says says2 (Speaking mouth) a = same_act others says says2 mouth a
+side_same_act e others says says2 (Speaking mouth) a = same_act _ others says says2 mouth a
 
 pub side_lines_ask : (A : Type 0) (r m : ℕ) (was now : Lines) (side : Side) → SideAsks side A → NoneSaid (lined_act was now side) → SideAsks (lined_side r m was now side) A
 side_lines_ask A r m was now (Hearing ear) a n = tt
@@ -172,10 +179,10 @@ pub side_said_asks : (A : Type 0) (r m : ℕ) (was now : Lines) (side : Side) (a
 side_said_asks A r m was now (Hearing ear) act e n = tt
 side_said_asks A r m was now (Speaking mouth) act e n = said_asks A r m was now mouth act e n
 
-pub side_react_asks : (A : Type 0) (r t : ℕ) (others : Lines) (says : Option (ℕ × Bool)) (side : Side) → SideAsks side A → NoneSaid (side_act says others side) → SideAsks (side_after r t others says side) A
-side_react_asks A r t others says (Hearing ear) a n = tt
-side_react_asks A r t others says (Speaking mouth) a n = react_asks A r t others says mouth a n
+pub side_react_asks : (e : Pace) → (A : Type 0) (r t : ℕ) (others : Lines) (says : Option (ℕ × Bool)) (side : Side) → SideAsks side A → NoneSaid (side_act e says others side) → SideAsks (side_after e r t others says side) A
+side_react_asks e A r t others says (Hearing ear) a n = tt
+side_react_asks e A r t others says (Speaking mouth) a n = react_asks _ A r t others says mouth a n
 
-pub side_acted_asks : (A : Type 0) (r t : ℕ) (others : Lines) (says : Option (ℕ × Bool)) (side : Side) (act : Act) → side_act says others side ≡ Some act → NoneSaid (Some act) → SideAsks (side_after r t others says side) A
-side_acted_asks A r t others says (Hearing ear) act e n = tt
-side_acted_asks A r t others says (Speaking mouth) act e n = acted_asks A r t others says mouth act e n
+pub side_acted_asks : (e : Pace) → (A : Type 0) (r t : ℕ) (others : Lines) (says : Option (ℕ × Bool)) (side : Side) (act : Act) → side_act e says others side ≡ Some act → NoneSaid (Some act) → SideAsks (side_after e r t others says side) A
+side_acted_asks v A r t others says (Hearing ear) act e n = tt
+side_acted_asks v A r t others says (Speaking mouth) act e n = acted_asks _ A r t others says mouth act e n

@@ -1,4 +1,5 @@
 -- A frame of the talker on a bus: under way it is the frame of the byte that the talker's machine has to say; played to its end it says that byte, and all stand behind it.
+use Rattle.cbm_iec.specs.Profile.{bit_time}
 use Rattle.std.proofs.Common.{◌≡◌, ℕ, suc, ◌+◌, ◌≤◌, ◌<◌, ◌⊎◌, inl, inr, Bool, true, false, List, [], ◌∷◌, ◌++◌, map, Option, Some, None, ap, sym, ◌∙◌, subst, arith, refl, eq-eqb}
 use Rattle.std.proofs.lemmas.Bool.Decides.{leb_tells}
 use Rattle.std.specs.Prelude.{if◌then◌else◌}
@@ -57,10 +58,10 @@ others_append d (x ∷ xs) ys a b = (a.0, others_append d xs ys a.1 b)
 bits_data : (b : Party) (at : ℕ) (held : Bool) (bits : List Bool) → OthersData b.device (bit_steps b at held bits)
 bits_data b at true [] = (eq-eqb b.device b.device refl, (tt, tt))
 bits_data b at false [] = (eq-eqb b.device b.device refl, tt)
-bits_data b at true (true ∷ bits) = (eq-eqb b.device b.device refl, (tt, (eq-eqb b.device b.device refl, bits_data b (at + 120) false bits)))
-bits_data b at false (true ∷ bits) = (eq-eqb b.device b.device refl, (eq-eqb b.device b.device refl, bits_data b (at + 120) false bits))
-bits_data b at true (false ∷ bits) = (eq-eqb b.device b.device refl, (eq-eqb b.device b.device refl, bits_data b (at + 120) true bits))
-bits_data b at false (false ∷ bits) = (eq-eqb b.device b.device refl, (tt, (eq-eqb b.device b.device refl, bits_data b (at + 120) true bits)))
+bits_data b at true (true ∷ bits) = (eq-eqb b.device b.device refl, (tt, (eq-eqb b.device b.device refl, bits_data b (at + bit_time b.pace) false bits)))
+bits_data b at false (true ∷ bits) = (eq-eqb b.device b.device refl, (eq-eqb b.device b.device refl, bits_data b (at + bit_time b.pace) false bits))
+bits_data b at true (false ∷ bits) = (eq-eqb b.device b.device refl, (eq-eqb b.device b.device refl, bits_data b (at + bit_time b.pace) true bits))
+bits_data b at false (false ∷ bits) = (eq-eqb b.device b.device refl, (tt, (eq-eqb b.device b.device refl, bits_data b (at + bit_time b.pace) true bits)))
 
 signal_data : (d : ℕ) (x : Option (ℕ × ℕ)) → OthersData d (signal_steps x)
 signal_data d None = tt
@@ -151,7 +152,7 @@ module _ (M : Type 0) (step : M → Act → M) (peek : M → Option (ℕ × Bool
             let side : z.port.side ≡ Speaking (Led at) = subst (λ (r : Role). SideAmong (Leading at) r z.port.side) k side_at in
             let own : x.own ≡ lines true false = subst (λ (r : Role). OwnAt (Leading at) r x.own) k own_at in
             let holds : SideHolds z.port.side z.port.own = subst (λ (v : Side). SideHolds v z.port.own) (sym side) (ap (λ (v : Held). v.clock_low) (h.stands.own ∙ own)) in
-            let d : z.port.party.device ≡ s.party.device = ap (λ (b : Party). b.device) (h.stands.party ∙ only_one x h.sound k) in
+            let d : z.port.party.device ≡ s.party.device = ap (λ (b : Party). b.device) (h.stands.party ∙ (only_one x h.sound k)) in
             record {
               goes = goes_of (says z.port.party.device) g holds seen noatn (subst (λ (v : ℕ). OthersData v zs) (sym d) mild);
               asks = subst (λ (v : Side). AsksFor zs v (peek z.machine ≡ says z.port.party.device)) (sym side) (asks_led zs (peek z.machine ≡ says z.port.party.device) (tells k));

@@ -1,4 +1,5 @@
 -- A frame of the talker under way: where one of the host's changes is next, no reaction is due at that very moment.
+use Rattle.cbm_iec.specs.Profile.{bit_time, half_bit}
 use Rattle.std.proofs.Common.{◌≡◌, ℕ, suc, ◌+◌, ◌≤◌, inl, inr, Bool, true, false, List, [], ◌∷◌, ◌++◌, append-nil, Option, Some, None, ap, sym, ◌∙◌, subst, arith, refl}
 use Rattle.std.specs.Prelude.{if◌then◌else◌}
 use Rattle.cbm_iec.specs.declared.act.Act.{Act}
@@ -51,16 +52,16 @@ strict_behind (x ∷ xs) ys a s = (λ w. absurd (a.0 w), strict_behind xs ys a.1
 bits_of_drive : (b : Party) (at : ℕ) (held : Bool) (bits : List Bool) → Every OfDrive (bit_steps b at held bits)
 bits_of_drive b at true [] = (not_host b.device, (not_host b.device, tt))
 bits_of_drive b at false [] = (not_host b.device, tt)
-bits_of_drive b at true (true ∷ bits) = (not_host b.device, (not_host b.device, (not_host b.device, bits_of_drive b (at + 120) false bits)))
-bits_of_drive b at false (true ∷ bits) = (not_host b.device, (not_host b.device, bits_of_drive b (at + 120) false bits))
-bits_of_drive b at true (false ∷ bits) = (not_host b.device, (not_host b.device, bits_of_drive b (at + 120) true bits))
-bits_of_drive b at false (false ∷ bits) = (not_host b.device, (not_host b.device, (not_host b.device, bits_of_drive b (at + 120) true bits)))
+bits_of_drive b at true (true ∷ bits) = (not_host b.device, (not_host b.device, (not_host b.device, bits_of_drive b (at + bit_time b.pace) false bits)))
+bits_of_drive b at false (true ∷ bits) = (not_host b.device, (not_host b.device, bits_of_drive b (at + bit_time b.pace) false bits))
+bits_of_drive b at true (false ∷ bits) = (not_host b.device, (not_host b.device, bits_of_drive b (at + bit_time b.pace) true bits))
+bits_of_drive b at false (false ∷ bits) = (not_host b.device, (not_host b.device, (not_host b.device, bits_of_drive b (at + bit_time b.pace) true bits)))
 
 -- the bits begin with the first one's pull of CLOCK
 bits_from : (b : Party) (at m : ℕ) (bits : List Bool) (more : List Step) → InOrder (bit_steps b at false bits ++ more) → m ≤ at → NoneBefore m (bit_steps b at false bits ++ more)
 bits_from b at m [] more o l = (l, none_sooner m at more l o.0)
-bits_from b at m (true ∷ bits) more o l = (l, none_sooner m at (drive b.device (at + 60) Clock Free ∷ (bit_steps b (at + 120) false bits ++ more)) l o.0)
-bits_from b at m (false ∷ bits) more o l = (l, none_sooner m at (drive b.device at Data Pull ∷ drive b.device (at + 60) Clock Free ∷ (bit_steps b (at + 120) true bits ++ more)) l o.0)
+bits_from b at m (true ∷ bits) more o l = (l, none_sooner m at (drive b.device (at + half_bit b.pace) Clock Free ∷ (bit_steps b (at + bit_time b.pace) false bits ++ more)) l o.0)
+bits_from b at m (false ∷ bits) more o l = (l, none_sooner m at (drive b.device at Data Pull ∷ drive b.device (at + half_bit b.pace) Clock Free ∷ (bit_steps b (at + bit_time b.pace) true bits ++ more)) l o.0)
 
 told_strict : (b : Party) (at : ℕ) (f : Told) → ToldFits b at f → 1 ≤ b.reaction → InOrder (one_told b at f) → Strict (one_told b at f)
 told_strict b at f h some order = (λ w. absurd (not_host b.device w), by_signal f.signal refl h.signal order.1)

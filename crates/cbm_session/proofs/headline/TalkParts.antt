@@ -1,4 +1,5 @@
 -- A frame of the talker: its events count nothing but its accept, and change no ATN; and what is left of a front that was played.
+use Rattle.cbm_iec.specs.Profile.{bit_time}
 use Rattle.std.proofs.Common.{◌≡◌, ℕ, ◌+◌, ◌≤◌, inl, inr, Bool, true, false, List, [], ◌∷◌, ◌++◌, append_assoc, Option, Some, None, ap, sym, ◌∙◌, subst, refl}
 use Rattle.std.specs.Prelude.{if◌then◌else◌}
 use Rattle.cbm_iec.specs.declared.act.Act.TheVariants.{Said}
@@ -37,10 +38,10 @@ plain_append (x ∷ xs) ys a b = (a.0, plain_append xs ys a.1 b)
 bits_plain : (b : Party) (at : ℕ) (held : Bool) (bits : List Bool) → AllPlain (bit_steps b at held bits)
 bits_plain b at true [] = (refl, (refl, tt))
 bits_plain b at false [] = (refl, tt)
-bits_plain b at true (true ∷ bits) = (refl, (refl, (refl, bits_plain b (at + 120) false bits)))
-bits_plain b at false (true ∷ bits) = (refl, (refl, bits_plain b (at + 120) false bits))
-bits_plain b at true (false ∷ bits) = (refl, (refl, bits_plain b (at + 120) true bits))
-bits_plain b at false (false ∷ bits) = (refl, (refl, (refl, bits_plain b (at + 120) true bits)))
+bits_plain b at true (true ∷ bits) = (refl, (refl, (refl, bits_plain b (at + bit_time b.pace) false bits)))
+bits_plain b at false (true ∷ bits) = (refl, (refl, bits_plain b (at + bit_time b.pace) false bits))
+bits_plain b at true (false ∷ bits) = (refl, (refl, bits_plain b (at + bit_time b.pace) true bits))
+bits_plain b at false (false ∷ bits) = (refl, (refl, (refl, bits_plain b (at + bit_time b.pace) true bits)))
 
 signal_plain : (x : Option (ℕ × ℕ)) → AllPlain (signal_steps x)
 signal_plain None = tt

@@ -1,4 +1,6 @@
 -- A drive that talks, out of attention: which line it holds in each state, so each of its reactions shows on the wires; and when it asks for the byte to say.
+use Rattle.cbm_iec.specs.declared.pace.Pace.TheVariants.{Profile, Kernal}
+use Rattle.cbm_iec.specs.declared.pace.Pace.{Pace}
 use Rattle.std.proofs.Common.{◌≡◌, ℕ, ◌+◌, ◌%◌, ◌≤◌, ◌<◌, inl, inr, Bool, true, false, not, [], Option, Some, None, ap, sym, ◌∙◌, subst, arith, refl, eq-eqb}
 use Rattle.std.proofs.lemmas.Bool.Decides.{leb_tells, eqb_tells}
 use Rattle.std.proofs.lemmas.Bool.{le-leb, lt-leb, ne_eqb}
@@ -11,7 +13,7 @@ use Rattle.cbm_iec.specs.declared.act.Act.TheVariants.{Pulled, Attention, Releas
 use Rattle.cbm_iec.specs.declared.act.Act.{Act}
 use Rattle.cbm_iec.specs.declared.lines.Held.{Held}
 use Rattle.cbm_iec.specs.declared.lines.Lines.{Lines}
-use Rattle.cbm_iec.specs.declared.mouth.Mouth.TheVariants.{Turned, Answering, Led, Offering, EoiOffered, EoiPulsed, Sending, Waiting, Ending, Over}
+use Rattle.cbm_iec.specs.declared.mouth.Mouth.TheVariants.{Turned, Answering, Mute, Led, Offering, EoiOffered, EoiPulsed, Sending, Waiting, Ending, Over}
 use Rattle.cbm_iec.specs.declared.mouth.Mouth.{Mouth}
 
 -- whether CLOCK is held before this half of a bit
@@ -20,14 +22,15 @@ clock_before half = if nat_le 16 half then false else (if (half % 2) == 0 then f
 
 -- the lines that it holds
 abbrev pub Holds : Mouth → Held → Type 0
-Holds Turned own = own.data_low ≡ true
-Holds (Answering at) own = own.data_low ≡ true
+Holds Turned own = (own.data_low ≡ true) × (own.clock_low ≡ false)
+Holds (Answering at) own = (own.data_low ≡ true) × (own.clock_low ≡ false)
 Holds (Led at) own = own.clock_low ≡ true
 Holds (Offering byte last) own = own.clock_low ≡ false
 Holds (EoiOffered byte) own = own.clock_low ≡ false
 Holds (EoiPulsed byte) own = own.clock_low ≡ false
 Holds (Sending at byte last left half) own = own.clock_low ≡ clock_before half
 Holds (Waiting byte last) own = own.clock_low ≡ true
+Holds (Mute at) own = own.clock_low ≡ true
 Holds (Ending at) own = own.clock_low ≡ true
 Holds Over own = Unit {0}
 
@@ -41,10 +44,11 @@ Asks (EoiOffered byte) A = Unit {0}
 Asks (EoiPulsed byte) A = Unit {0}
 Asks (Sending at byte last left half) A = Unit {0}
 Asks (Waiting byte last) A = Unit {0}
+Asks (Mute at) A = Unit {0}
 Asks (Ending at) A = Unit {0}
 Asks Over A = Unit {0}
 
-turn_holds : (r m : ℕ) (low : Bool) (own : Held) → own.data_low ≡ true → Holds (after_turn r m low) own
+turn_holds : (r m : ℕ) (low : Bool) (own : Held) → (own.data_low ≡ true) × (own.clock_low ≡ false) → Holds (after_turn r m low) own
 turn_holds r m true own h = h
 turn_holds r m false own h = h
 
@@ -69,6 +73,7 @@ clock_holds r m low (EoiOffered byte) own h = h
 clock_holds r m low (EoiPulsed byte) own h = h
 clock_holds r m low (Sending at byte last left half) own h = h
 clock_holds r m low (Waiting byte last) own h = h
+clock_holds r m low (Mute at) own h = h
 clock_holds r m low (Ending at) own h = h
 clock_holds r m low Over own h = tt
 
@@ -85,6 +90,7 @@ data_holds r m false (EoiPulsed byte) own h = h
 data_holds r m low (Sending at byte last left half) own h = h
 data_holds r m true (Waiting byte last) own h = taken_holds r m last own h
 data_holds r m false (Waiting byte last) own h = h
+data_holds r m low (Mute at) own h = h
 data_holds r m low (Ending at) own h = h
 data_holds r m low Over own h = tt
 
@@ -147,9 +153,9 @@ nothing_clock t c e e2 own h k = go own.clock_low own.data_low h (k)
         by true x k = absurd cc
         by false x k = absurd cc
 
-sending_holds : (r t : ℕ) (others : Lines) (peek : Option (ℕ × Bool)) (at byte : ℕ) (last : Bool) (left half : ℕ) (own : Held) → own.clock_low ≡ clock_before half
-    → Holds ((half_row byte last left half).next r t others) ((half_row byte last left half).held own) × (changes_between t own ((half_row byte last left half).held own) ≡ [] → ⊥)
-sending_holds r t others peek at byte last left half own h = elim (leb_tells 16 half) [
+sending_holds : (e : Pace) → (r t : ℕ) (others : Lines) (peek : Option (ℕ × Bool)) (at byte : ℕ) (last : Bool) (left half : ℕ) (own : Held) → own.clock_low ≡ clock_before half
+    → Holds ((half_row e byte last left half).next r t others) ((half_row e byte last left half).held own) × (changes_between t own ((half_row e byte last left half).held own) ≡ [] → ⊥)
+sending_holds e r t others peek at byte last left half own h = elim (leb_tells 16 half) [
   | inl x ↦ over x.0 (h ∙ half_over half x.1)
   | inr x ↦ elim (eqb_tells (half % 2) 0) [
     | inl y ↦ (let l = x.1 in even x.0 y.0 (h ∙ half_true half (omega (arith, l)) y.1) (even_next half (omega (arith, l)) y.1))
@@ -158,7 +164,7 @@ sending_holds r t others peek at byte last left half own h = elim (leb_tells 16 
 ]
   where
     row : Bool → Bool → TableRow Mouth
-    row v u = if v then end_frame_row byte last else (if u then set_bit_row byte last left half else show_bit_row byte last left half)
+    row v u = if v then end_frame_row byte last else (if u then set_bit_row e byte last left half else show_bit_row e byte last left half)
 
     Goal : Bool → Bool → Type 0
     Goal v u = Holds ((row v u).next r t others) ((row v u).held own) × (changes_between t own ((row v u).held own) ≡ [] → ⊥)
@@ -177,10 +183,10 @@ sending_holds r t others peek at byte last left half own h = elim (leb_tells 16 
     odd e f o n = subst (λ (v : Bool). Goal v ((half % 2) == 0)) (sym e) (subst (λ (u : Bool). Goal false u) (sym f) (sym n, λ k. nothing_clock t true own.data_low own.data_low own o k))
 
 -- Behind its reaction it holds what it should, and the reaction shows.
-pub react_holds : (r t : ℕ) (others : Lines) (peek : Option (ℕ × Bool)) (mouth : Mouth) (own : Held) → mouth_due mouth ≡ Some t → Holds mouth own
-    → Holds ((mouth_row peek mouth).next r t others) ((mouth_row peek mouth).held own) × (changes_between t own ((mouth_row peek mouth).held own) ≡ [] → ⊥)
-react_holds r t others peek Turned own e h = absurd cc
-react_holds r t others None (Answering at) own e h = (tt, data_shows own.clock_low (own.clock_low || false) own.data_low h)
+pub react_holds : (e : Pace) → (r t : ℕ) (others : Lines) (peek : Option (ℕ × Bool)) (mouth : Mouth) (own : Held) → mouth_due mouth ≡ Some t → Holds mouth own
+    → Holds ((mouth_row e peek mouth).next r t others) ((mouth_row e peek mouth).held own) × (changes_between t own ((mouth_row e peek mouth).held own) ≡ [] → ⊥)
+react_holds v r t others peek Turned own e h = absurd cc
+react_holds Profile r t others None (Answering at) own e h = (tt, data_shows own.clock_low (own.clock_low || false) own.data_low h.0)
   where
     data_shows : (c c2 d : Bool) → d ≡ true → changes_between t (record { clock_low = c; data_low = d }) (record { clock_low = c2; data_low = false }) ≡ [] → ⊥
     data_shows true true true h k = absurd cc
@@ -188,7 +194,8 @@ react_holds r t others None (Answering at) own e h = (tt, data_shows own.clock_l
     data_shows false true true h k = absurd cc
     data_shows false false true h k = absurd cc
     data_shows c c2 false h k = absurd cc
-react_holds r t others (Some x) (Answering at) own e h = (or_there own.clock_low, data_shows own.clock_low (own.clock_low || true) own.data_low h)
+react_holds Kernal r t others None (Answering at) own e h = (refl, λ k. nothing_clock t false own.data_low own.data_low own h.1 k)
+react_holds Profile r t others (Some x) (Answering at) own e h = (or_there own.clock_low, data_shows own.clock_low (own.clock_low || true) own.data_low h.0)
   where
     data_shows : (c c2 d : Bool) → d ≡ true → changes_between t (record { clock_low = c; data_low = d }) (record { clock_low = c2; data_low = false }) ≡ [] → ⊥
     data_shows true true true h k = absurd cc
@@ -196,52 +203,64 @@ react_holds r t others (Some x) (Answering at) own e h = (or_there own.clock_low
     data_shows false true true h k = absurd cc
     data_shows false false true h k = absurd cc
     data_shows c c2 false h k = absurd cc
-react_holds r t others None (Led at) own e h = (tt, λ k. nothing_clock t true own.data_low own.data_low own h k)
-react_holds r t others (Some x) (Led at) own e h = (offer_holds r t others.data_low x.0 x.1 (record { clock_low = false; data_low = own.data_low }) refl, λ k. nothing_clock t true own.data_low own.data_low own h k)
-react_holds r t others peek (Offering byte last) own e h = absurd cc
-react_holds r t others peek (EoiOffered byte) own e h = absurd cc
-react_holds r t others peek (EoiPulsed byte) own e h = absurd cc
-react_holds r t others peek (Sending at byte last left half) own e h = sending_holds r t others peek at byte last left half own h
-react_holds r t others peek (Waiting byte last) own e h = absurd cc
-react_holds r t others peek (Ending at) own e h = (tt, λ k. nothing_clock t true own.data_low own.data_low own h k)
-react_holds r t others peek Over own e h = absurd cc
+react_holds Kernal r t others (Some x) (Answering at) own e h = (refl, data_shows own.clock_low true own.data_low h.0)
+  where
+    data_shows : (c c2 d : Bool) → d ≡ true → changes_between t (record { clock_low = c; data_low = d }) (record { clock_low = c2; data_low = false }) ≡ [] → ⊥
+    data_shows true true true h k = absurd cc
+    data_shows true false true h k = absurd cc
+    data_shows false true true h k = absurd cc
+    data_shows false false true h k = absurd cc
+    data_shows c c2 false h k = absurd cc
+react_holds v r t others None (Led at) own e h = (tt, λ k. nothing_clock t true own.data_low own.data_low own h k)
+react_holds v r t others (Some x) (Led at) own e h = (offer_holds r t others.data_low x.0 x.1 (record { clock_low = false; data_low = own.data_low }) refl, λ k. nothing_clock t true own.data_low own.data_low own h k)
+react_holds v r t others peek (Offering byte last) own e h = absurd cc
+react_holds v r t others peek (EoiOffered byte) own e h = absurd cc
+react_holds v r t others peek (EoiPulsed byte) own e h = absurd cc
+react_holds v r t others peek (Sending at byte last left half) own e h = sending_holds _ r t others peek at byte last left half own h
+react_holds v r t others peek (Waiting byte last) own e h = absurd cc
+react_holds v r t others peek (Mute at) own e h = (tt, λ k. nothing_clock t true own.data_low false own h k)
+react_holds v r t others peek (Ending at) own e h = (tt, λ k. nothing_clock t true own.data_low own.data_low own h k)
+react_holds v r t others peek Over own e h = absurd cc
 
 -- what a reaction does depends on the byte to say only where it asks
-pub same_held : (own : Held) (peek peek2 : Option (ℕ × Bool)) (mouth : Mouth) → Asks mouth (peek ≡ peek2) → ((mouth_row peek mouth).held own) ≡ ((mouth_row peek2 mouth).held own)
-same_held own peek peek2 Turned a = refl
-same_held own peek peek2 (Answering at) a = ap (λ (x : Option (ℕ × Bool)). ((mouth_row x (Answering at)).held own)) a
-same_held own peek peek2 (Led at) a = refl
-same_held own peek peek2 (Offering byte last) a = refl
-same_held own peek peek2 (EoiOffered byte) a = refl
-same_held own peek peek2 (EoiPulsed byte) a = refl
-same_held own peek peek2 (Sending at byte last left half) a = refl
-same_held own peek peek2 (Waiting byte last) a = refl
-same_held own peek peek2 (Ending at) a = refl
-same_held own peek peek2 Over a = refl
+pub same_held : (e : Pace) → (own : Held) (peek peek2 : Option (ℕ × Bool)) (mouth : Mouth) → Asks mouth (peek ≡ peek2) → ((mouth_row e peek mouth).held own) ≡ ((mouth_row e peek2 mouth).held own)
+same_held e own peek peek2 Turned a = refl
+same_held e own peek peek2 (Answering at) a = ap (λ (x : Option (ℕ × Bool)). ((mouth_row e x (Answering at)).held own)) a
+same_held e own peek peek2 (Led at) a = refl
+same_held e own peek peek2 (Offering byte last) a = refl
+same_held e own peek peek2 (EoiOffered byte) a = refl
+same_held e own peek peek2 (EoiPulsed byte) a = refl
+same_held e own peek peek2 (Sending at byte last left half) a = refl
+same_held e own peek peek2 (Waiting byte last) a = refl
+same_held e own peek peek2 (Mute at) a = refl
+same_held e own peek peek2 (Ending at) a = refl
+same_held e own peek peek2 Over a = refl
 
-pub same_after : (r t : ℕ) (others : Lines) (peek peek2 : Option (ℕ × Bool)) (mouth : Mouth) → Asks mouth (peek ≡ peek2) → ((mouth_row peek mouth).next r t others) ≡ ((mouth_row peek2 mouth).next r t others)
-same_after r t others peek peek2 Turned a = refl
-same_after r t others peek peek2 (Answering at) a = ap (λ (x : Option (ℕ × Bool)). ((mouth_row x (Answering at)).next r t others)) a
-same_after r t others peek peek2 (Led at) a = ap (λ (x : Option (ℕ × Bool)). ((mouth_row x (Led at)).next r t others)) a
-same_after r t others peek peek2 (Offering byte last) a = refl
-same_after r t others peek peek2 (EoiOffered byte) a = refl
-same_after r t others peek peek2 (EoiPulsed byte) a = refl
-same_after r t others peek peek2 (Sending at byte last left half) a = refl
-same_after r t others peek peek2 (Waiting byte last) a = refl
-same_after r t others peek peek2 (Ending at) a = refl
-same_after r t others peek peek2 Over a = refl
+pub same_after : (e : Pace) → (r t : ℕ) (others : Lines) (peek peek2 : Option (ℕ × Bool)) (mouth : Mouth) → Asks mouth (peek ≡ peek2) → ((mouth_row e peek mouth).next r t others) ≡ ((mouth_row e peek2 mouth).next r t others)
+same_after e r t others peek peek2 Turned a = refl
+same_after e r t others peek peek2 (Answering at) a = ap (λ (x : Option (ℕ × Bool)). ((mouth_row e x (Answering at)).next r t others)) a
+same_after e r t others peek peek2 (Led at) a = ap (λ (x : Option (ℕ × Bool)). ((mouth_row e x (Led at)).next r t others)) a
+same_after e r t others peek peek2 (Offering byte last) a = refl
+same_after e r t others peek peek2 (EoiOffered byte) a = refl
+same_after e r t others peek peek2 (EoiPulsed byte) a = refl
+same_after e r t others peek peek2 (Sending at byte last left half) a = refl
+same_after e r t others peek peek2 (Waiting byte last) a = refl
+same_after e r t others peek peek2 (Mute at) a = refl
+same_after e r t others peek peek2 (Ending at) a = refl
+same_after e r t others peek peek2 Over a = refl
 
-pub same_act : (others : Lines) (peek peek2 : Option (ℕ × Bool)) (mouth : Mouth) → Asks mouth (peek ≡ peek2) → ((mouth_row peek mouth).act others) ≡ ((mouth_row peek2 mouth).act others)
-same_act others peek peek2 Turned a = refl
-same_act others peek peek2 (Answering at) a = ap (λ (x : Option (ℕ × Bool)). ((mouth_row x (Answering at)).act others)) a
-same_act others peek peek2 (Led at) a = refl
-same_act others peek peek2 (Offering byte last) a = refl
-same_act others peek peek2 (EoiOffered byte) a = refl
-same_act others peek peek2 (EoiPulsed byte) a = refl
-same_act others peek peek2 (Sending at byte last left half) a = refl
-same_act others peek peek2 (Waiting byte last) a = refl
-same_act others peek peek2 (Ending at) a = refl
-same_act others peek peek2 Over a = refl
+pub same_act : (e : Pace) → (others : Lines) (peek peek2 : Option (ℕ × Bool)) (mouth : Mouth) → Asks mouth (peek ≡ peek2) → ((mouth_row e peek mouth).act others) ≡ ((mouth_row e peek2 mouth).act others)
+same_act e others peek peek2 Turned a = refl
+same_act e others peek peek2 (Answering at) a = ap (λ (x : Option (ℕ × Bool)). ((mouth_row e x (Answering at)).act others)) a
+same_act e others peek peek2 (Led at) a = refl
+same_act e others peek peek2 (Offering byte last) a = refl
+same_act e others peek peek2 (EoiOffered byte) a = refl
+same_act e others peek peek2 (EoiPulsed byte) a = refl
+same_act e others peek peek2 (Sending at byte last left half) a = refl
+same_act e others peek peek2 (Waiting byte last) a = refl
+same_act e others peek peek2 (Mute at) a = refl
+same_act e others peek peek2 (Ending at) a = refl
+same_act e others peek peek2 Over a = refl
 
 -- no byte that isn't the last was said
 abbrev pub NoneSaid : Option Act → Type 0
@@ -276,6 +295,7 @@ clock_asks A r m low (EoiOffered byte) a = tt
 clock_asks A r m low (EoiPulsed byte) a = tt
 clock_asks A r m low (Sending at byte last left half) a = tt
 clock_asks A r m low (Waiting byte last) a = tt
+clock_asks A r m low (Mute at) a = tt
 clock_asks A r m low (Ending at) a = tt
 clock_asks A r m low Over a = tt
 
@@ -363,6 +383,13 @@ lines_ask A r m was now (Waiting byte false) a n = other (is_same was.clock_low 
     other false true false n = tt
     other false false true n = elim n [ ]
     other false false false n = tt
+lines_ask A r m was now (Mute at) a n = other (is_same was.data_low now.data_low) (is_same was.clock_low now.clock_low)
+  where
+    other : (v u : Bool) → Asks (if v then (if u then Mute at else Mute at) else talk_data r m now.data_low (if u then Mute at else Mute at)) A
+    other true true = tt
+    other true false = tt
+    other false true = tt
+    other false false = tt
 lines_ask A r m was now (Ending at) a n = other (is_same was.data_low now.data_low) (is_same was.clock_low now.clock_low)
   where
     other : (v u : Bool) → Asks (if v then (if u then Ending at else Ending at) else talk_data r m now.data_low (if u then Ending at else Ending at)) A
@@ -378,19 +405,21 @@ lines_ask A r m was now Over a n = other (is_same was.data_low now.data_low) (is
     other false true = tt
     other false false = tt
 
-pub react_asks : (A : Type 0) (r t : ℕ) (others : Lines) (peek : Option (ℕ × Bool)) (mouth : Mouth) → Asks mouth A → NoneSaid ((mouth_row peek mouth).act others) → Asks ((mouth_row peek mouth).next r t others) A
-react_asks A r t others peek Turned a n = a
-react_asks A r t others None (Answering at) a n = tt
-react_asks A r t others (Some x) (Answering at) a n = a
-react_asks A r t others None (Led at) a n = tt
-react_asks A r t others (Some x) (Led at) a n = offer_asks A r t others.data_low x.0 x.1
-react_asks A r t others peek (Offering byte last) a n = tt
-react_asks A r t others peek (EoiOffered byte) a n = tt
-react_asks A r t others peek (EoiPulsed byte) a n = tt
-react_asks A r t others peek (Sending at byte last left half) a n = go (nat_le 16 half) ((half % 2) == 0) n
+pub react_asks : (e : Pace) → (A : Type 0) (r t : ℕ) (others : Lines) (peek : Option (ℕ × Bool)) (mouth : Mouth) → Asks mouth A → NoneSaid ((mouth_row e peek mouth).act others) → Asks ((mouth_row e peek mouth).next r t others) A
+react_asks e A r t others peek Turned a n = a
+react_asks Profile A r t others None (Answering at) a n = tt
+react_asks Kernal A r t others None (Answering at) a n = tt
+react_asks Profile A r t others (Some x) (Answering at) a n = a
+react_asks Kernal A r t others (Some x) (Answering at) a n = a
+react_asks e A r t others None (Led at) a n = tt
+react_asks e A r t others (Some x) (Led at) a n = offer_asks A r t others.data_low x.0 x.1
+react_asks e A r t others peek (Offering byte last) a n = tt
+react_asks e A r t others peek (EoiOffered byte) a n = tt
+react_asks e A r t others peek (EoiPulsed byte) a n = tt
+react_asks e A r t others peek (Sending at byte last left half) a n = go (nat_le 16 half) ((half % 2) == 0) n
   where
     row : Bool → Bool → TableRow Mouth
-    row v u = if v then end_frame_row byte last else (if u then set_bit_row byte last left half else show_bit_row byte last left half)
+    row v u = if v then end_frame_row byte last else (if u then set_bit_row e byte last left half else show_bit_row e byte last left half)
 
     ended : (low last : Bool) → NoneSaid (if low then Some (Said byte last) else None) → Asks (after_wait r t low byte last) A
     ended true true n = tt
@@ -401,9 +430,10 @@ react_asks A r t others peek (Sending at byte last left half) a n = go (nat_le 1
     go true even n = ended others.data_low last n
     go false true n = tt
     go false false n = tt
-react_asks A r t others peek (Waiting byte last) a n = tt
-react_asks A r t others peek (Ending at) a n = tt
-react_asks A r t others peek Over a n = tt
+react_asks e A r t others peek (Waiting byte last) a n = tt
+react_asks e A r t others peek (Mute at) a n = tt
+react_asks e A r t others peek (Ending at) a n = tt
+react_asks e A r t others peek Over a n = tt
 
 -- where something was said or nothing was to be said, it asks no more, unless a byte that isn't the last was said
 pub said_asks : (A : Type 0) (r m : ℕ) (was now : Lines) (mouth : Mouth) (act : Act) → taken_act was now mouth ≡ Some act → NoneSaid (Some act) → Asks (talk_lines r m was now mouth) A
@@ -420,18 +450,22 @@ said_asks A r m was now (Waiting byte true) act e n = lines_ask A r m was now (W
     said true = tt
     said false = tt
 said_asks A r m was now (Waiting byte false) act e n = lines_ask A r m was now (Waiting byte false) tt (subst (λ (o : Option Act). NoneSaid o) (sym e) n)
+said_asks A r m was now (Mute at) act e n = absurd cc
 said_asks A r m was now (Ending at) act e n = absurd cc
 said_asks A r m was now Over act e n = absurd cc
 
-pub acted_asks : (A : Type 0) (r t : ℕ) (others : Lines) (peek : Option (ℕ × Bool)) (mouth : Mouth) (act : Act) → ((mouth_row peek mouth).act others) ≡ Some act → NoneSaid (Some act) → Asks ((mouth_row peek mouth).next r t others) A
-acted_asks A r t others peek Turned act e n = absurd cc
-acted_asks A r t others None (Answering at) act e n = tt
-acted_asks A r t others (Some x) (Answering at) act e n = absurd cc
-acted_asks A r t others peek (Led at) act e n = absurd cc
-acted_asks A r t others peek (Offering byte last) act e n = absurd cc
-acted_asks A r t others peek (EoiOffered byte) act e n = absurd cc
-acted_asks A r t others peek (EoiPulsed byte) act e n = absurd cc
-acted_asks A r t others peek (Sending at byte last left half) act e n = react_asks A r t others peek (Sending at byte last left half) tt (subst (λ (o : Option Act). NoneSaid o) (sym e) n)
-acted_asks A r t others peek (Waiting byte last) act e n = absurd cc
-acted_asks A r t others peek (Ending at) act e n = absurd cc
-acted_asks A r t others peek Over act e n = absurd cc
+pub acted_asks : (e : Pace) → (A : Type 0) (r t : ℕ) (others : Lines) (peek : Option (ℕ × Bool)) (mouth : Mouth) (act : Act) → ((mouth_row e peek mouth).act others) ≡ Some act → NoneSaid (Some act) → Asks ((mouth_row e peek mouth).next r t others) A
+acted_asks v A r t others peek Turned act e n = absurd cc
+acted_asks Profile A r t others None (Answering at) act e n = tt
+acted_asks Kernal A r t others None (Answering at) act e n = absurd cc
+acted_asks Profile A r t others (Some x) (Answering at) act e n = absurd cc
+acted_asks Kernal A r t others (Some x) (Answering at) act e n = absurd cc
+acted_asks v A r t others peek (Led at) act e n = absurd cc
+acted_asks v A r t others peek (Offering byte last) act e n = absurd cc
+acted_asks v A r t others peek (EoiOffered byte) act e n = absurd cc
+acted_asks v A r t others peek (EoiPulsed byte) act e n = absurd cc
+acted_asks v A r t others peek (Sending at byte last left half) act e n = react_asks _ A r t others peek (Sending at byte last left half) tt (subst (λ (o : Option Act). NoneSaid o) (sym e) n)
+acted_asks v A r t others peek (Waiting byte last) act e n = absurd cc
+acted_asks v A r t others peek (Mute at) act e n = tt
+acted_asks v A r t others peek (Ending at) act e n = absurd cc
+acted_asks v A r t others peek Over act e n = absurd cc

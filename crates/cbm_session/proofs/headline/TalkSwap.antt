@@ -1,4 +1,5 @@
 -- A frame of the talker in any session, and the frame of the byte that there is to say: they go together as long as the bits do, so what a drive did is a front of its own frame.
+use Rattle.cbm_iec.specs.Profile.{bit_time, first_accept, half_bit}
 use Rattle.std.proofs.Common.{◌≡◌, ℕ, zero, suc, ◌+◌, ◌*◌, ◌/◌, ◌%◌, ◌≤◌, ◌<◌, ◌⊎◌, inl, inr, Bool, true, false, List, [], ◌∷◌, ◌++◌, length, Option, Some, None, ap, sym, ◌∙◌, subst, arith, refl}
 use Rattle.std.proofs.lemmas.Bool.Decides.{leb_tells, eqb_tells}
 use Rattle.std.specs.Prelude.{if◌then◌else◌, ◌==◌}
@@ -162,10 +163,10 @@ pub bits_twin : (t : ℕ) (b : Party) (at : ℕ) (held : Bool) (bits bits2 : Lis
 bits_twin t b at held [] [] ys xs l w = twin_skip t (bit_steps b at held []) ys xs w
 bits_twin t b at held [] (c ∷ cs) ys xs l w = absurd (omega (arith, l))
 bits_twin t b at held (c ∷ cs) [] ys xs l w = absurd (omega (arith, l))
-bits_twin t b at true (true ∷ cs) (true ∷ ds) ys xs l w = inl (refl, inl (refl, inl (refl, bits_twin t b (at + 120) false cs ds ys xs (omega (arith, l)) w)))
-bits_twin t b at false (true ∷ cs) (true ∷ ds) ys xs l w = inl (refl, inl (refl, bits_twin t b (at + 120) false cs ds ys xs (omega (arith, l)) w))
-bits_twin t b at true (false ∷ cs) (false ∷ ds) ys xs l w = inl (refl, inl (refl, bits_twin t b (at + 120) true cs ds ys xs (omega (arith, l)) w))
-bits_twin t b at false (false ∷ cs) (false ∷ ds) ys xs l w = inl (refl, inl (refl, inl (refl, bits_twin t b (at + 120) true cs ds ys xs (omega (arith, l)) w)))
+bits_twin t b at true (true ∷ cs) (true ∷ ds) ys xs l w = inl (refl, inl (refl, inl (refl, bits_twin t b (at + bit_time b.pace) false cs ds ys xs (omega (arith, l)) w)))
+bits_twin t b at false (true ∷ cs) (true ∷ ds) ys xs l w = inl (refl, inl (refl, bits_twin t b (at + bit_time b.pace) false cs ds ys xs (omega (arith, l)) w))
+bits_twin t b at true (false ∷ cs) (false ∷ ds) ys xs l w = inl (refl, inl (refl, bits_twin t b (at + bit_time b.pace) true cs ds ys xs (omega (arith, l)) w))
+bits_twin t b at false (false ∷ cs) (false ∷ ds) ys xs l w = inl (refl, inl (refl, inl (refl, bits_twin t b (at + bit_time b.pace) true cs ds ys xs (omega (arith, l)) w)))
 bits_twin t b at true (true ∷ cs) (false ∷ ds) ys xs l w = inl (refl, inr (tt, λ e. line_apart (ap (λ (v : Event). v.change.line) e)))
 bits_twin t b at false (true ∷ cs) (false ∷ ds) ys xs l w = inl (refl, inr (tt, λ e. line_apart (sym (ap (λ (v : Event). v.change.line) e))))
 bits_twin t b at true (false ∷ cs) (true ∷ ds) ys xs l w = inl (refl, inr (tt, λ e. line_apart (sym (ap (λ (v : Event). v.change.line) e))))
@@ -176,10 +177,10 @@ abbrev pub with_bits : List Bool → Told → Told
 with_bits bits f = record { bits = bits; free = f.free; signal = f.signal; accept = f.accept }
 
 abbrev pub ended_frame : Party → ℕ → List Bool → Told → Told
-ended_frame b t bits f = record { bits = bits; free = f.free; signal = Some (f.free + 200 + t, f.free + 260 + t); accept = f.free + 260 + t + b.reaction + 961 }
+ended_frame b t bits f = record { bits = bits; free = f.free; signal = Some (f.free + 200 + t, f.free + 260 + t); accept = f.free + 260 + t + b.reaction + first_accept b.pace }
 
 abbrev pub open_frame : Party → List Bool → Told → Told
-open_frame b bits f = record { bits = bits; free = f.free; signal = None; accept = f.free + b.reaction + 961 }
+open_frame b bits f = record { bits = bits; free = f.free; signal = None; accept = f.free + b.reaction + first_accept b.pace }
 
 last_twin : (t : ℕ) (b : Party) (f : Told) (n : ℕ) (v : Bool) → Twin t (for_one b.device (Said n v) (host f.accept Data Pull) ∷ (if v then drive b.device (f.accept + b.reaction) Clock Free ∷ [] else []))
     (for_one b.device (Said (number_of f.bits) v) (host f.accept Data Pull) ∷ (if v then drive b.device (f.accept + b.reaction) Clock Free ∷ [] else []))
@@ -208,7 +209,7 @@ pub ends_now : (t : ℕ) (b : Party) (at : ℕ) (bits : List Bool) (f : Told) (h
     → Twin t (one_told b at (ended_frame b t bits f)) (drive b.device at Clock Free ∷ host f.free Data Free ∷ (bit_steps b (f.free + b.reaction) held f.bits ++ more))
 ends_now t b at bits f held more r = inl (refl, inl (refl, go f.bits))
   where
-    go : (cs : List Bool) → Twin t (signal_steps (Some (f.free + 200 + t, f.free + 260 + t)) ++ (bit_steps b (first_bit b (ended_frame b t bits f)) false bits ++ for_one b.device (Said (number_of bits) true) (host (f.free + 260 + t + b.reaction + 961) Data Pull) ∷ (drive b.device (f.free + 260 + t + b.reaction + 961 + b.reaction) Clock Free ∷ [])))
+    go : (cs : List Bool) → Twin t (signal_steps (Some (f.free + 200 + t, f.free + 260 + t)) ++ (bit_steps b (first_bit b (ended_frame b t bits f)) false bits ++ for_one b.device (Said (number_of bits) true) (host (f.free + 260 + t + b.reaction + first_accept b.pace) Data Pull) ∷ (drive b.device (f.free + 260 + t + b.reaction + first_accept b.pace + b.reaction) Clock Free ∷ [])))
         (bit_steps b (f.free + b.reaction) held cs ++ more)
     go [] = inr ((omega (arith, r), omega arith), host_apart b.device (f.free + 200 + t) (f.free + b.reaction) Data Clock Pull Pull)
     go (c ∷ cs) = inr ((omega (arith, r), omega arith), host_apart b.device (f.free + 200 + t) (f.free + b.reaction) Data Clock Pull Pull)
@@ -218,7 +219,7 @@ pub goes_on_now : (t : ℕ) (b : Party) (at : ℕ) (bits : List Bool) (f : Told)
     → Twin t (one_told b at (open_frame b bits f)) (drive b.device at Clock Free ∷ host f.free Data Free ∷ (signal_steps (Some (p, again)) ++ more))
 goes_on_now t b at bits f p again more r l = inl (refl, inl (refl, go bits))
   where
-    go : (cs : List Bool) → Twin t (bit_steps b (first_bit b (open_frame b bits f)) false cs ++ for_one b.device (Said (number_of bits) false) (host (f.free + b.reaction + 961) Data Pull) ∷ []) (signal_steps (Some (p, again)) ++ more)
+    go : (cs : List Bool) → Twin t (bit_steps b (first_bit b (open_frame b bits f)) false cs ++ for_one b.device (Said (number_of bits) false) (host (f.free + b.reaction + first_accept b.pace) Data Pull) ∷ []) (signal_steps (Some (p, again)) ++ more)
     go [] = inr (omega (arith, r, l), λ e. host_apart b.device p (f.free + b.reaction) Data Clock Pull Pull (sym e))
     go (c ∷ cs) = inr (omega (arith, r, l), λ e. host_apart b.device p (f.free + b.reaction) Data Clock Pull Pull (sym e))
 
@@ -227,26 +228,26 @@ pub bits_same : (b : Party) (at : ℕ) (held : Bool) (bits bits2 : List Bool) (y
 bits_same b at held [] [] ys xs l e = refl
 bits_same b at held [] (c ∷ cs) ys xs l e = absurd (omega (arith, l))
 bits_same b at held (c ∷ cs) [] ys xs l e = absurd (omega (arith, l))
-bits_same b at true (true ∷ cs) (true ∷ ds) ys xs l e = ap (λ (v : List Bool). true ∷ v) (bits_same b (at + 120) false cs ds ys xs (omega (arith, l)) cc)
-bits_same b at false (true ∷ cs) (true ∷ ds) ys xs l e = ap (λ (v : List Bool). true ∷ v) (bits_same b (at + 120) false cs ds ys xs (omega (arith, l)) cc)
-bits_same b at true (false ∷ cs) (false ∷ ds) ys xs l e = ap (λ (v : List Bool). false ∷ v) (bits_same b (at + 120) true cs ds ys xs (omega (arith, l)) cc)
-bits_same b at false (false ∷ cs) (false ∷ ds) ys xs l e = ap (λ (v : List Bool). false ∷ v) (bits_same b (at + 120) true cs ds ys xs (omega (arith, l)) cc)
-bits_same b at true (true ∷ cs) (false ∷ ds) ys xs l e = absurd (second_line (bit_steps b (at + 120) false cs ++ ys) (bit_steps b (at + 120) true ds ++ xs) e)
+bits_same b at true (true ∷ cs) (true ∷ ds) ys xs l e = ap (λ (v : List Bool). true ∷ v) (bits_same b (at + bit_time b.pace) false cs ds ys xs (omega (arith, l)) cc)
+bits_same b at false (true ∷ cs) (true ∷ ds) ys xs l e = ap (λ (v : List Bool). true ∷ v) (bits_same b (at + bit_time b.pace) false cs ds ys xs (omega (arith, l)) cc)
+bits_same b at true (false ∷ cs) (false ∷ ds) ys xs l e = ap (λ (v : List Bool). false ∷ v) (bits_same b (at + bit_time b.pace) true cs ds ys xs (omega (arith, l)) cc)
+bits_same b at false (false ∷ cs) (false ∷ ds) ys xs l e = ap (λ (v : List Bool). false ∷ v) (bits_same b (at + bit_time b.pace) true cs ds ys xs (omega (arith, l)) cc)
+bits_same b at true (true ∷ cs) (false ∷ ds) ys xs l e = absurd (second_line (bit_steps b (at + bit_time b.pace) false cs ++ ys) (bit_steps b (at + bit_time b.pace) true ds ++ xs) e)
   where
-    second_line : (us vs : List Step) → events_of (drive b.device at Clock Pull ∷ drive b.device at Data Free ∷ drive b.device (at + 60) Clock Free ∷ us) ≡ events_of (drive b.device at Clock Pull ∷ drive b.device (at + 60) Clock Free ∷ vs) → ⊥
-    second_line us vs e = let k : (drive b.device at Data Free).event ≡ (drive b.device (at + 60) Clock Free).event = cc in line_apart (ap (λ (v : Event). v.change.line) k)
-bits_same b at false (true ∷ cs) (false ∷ ds) ys xs l e = absurd (second_line (bit_steps b (at + 120) false cs ++ ys) (bit_steps b (at + 120) true ds ++ xs) e)
+    second_line : (us vs : List Step) → events_of (drive b.device at Clock Pull ∷ drive b.device at Data Free ∷ drive b.device (at + half_bit b.pace) Clock Free ∷ us) ≡ events_of (drive b.device at Clock Pull ∷ drive b.device (at + half_bit b.pace) Clock Free ∷ vs) → ⊥
+    second_line us vs e = let k : (drive b.device at Data Free).event ≡ (drive b.device (at + half_bit b.pace) Clock Free).event = cc in line_apart (ap (λ (v : Event). v.change.line) k)
+bits_same b at false (true ∷ cs) (false ∷ ds) ys xs l e = absurd (second_line (bit_steps b (at + bit_time b.pace) false cs ++ ys) (bit_steps b (at + bit_time b.pace) true ds ++ xs) e)
   where
-    second_line : (us vs : List Step) → events_of (drive b.device at Clock Pull ∷ drive b.device (at + 60) Clock Free ∷ us) ≡ events_of (drive b.device at Clock Pull ∷ drive b.device at Data Pull ∷ drive b.device (at + 60) Clock Free ∷ vs) → ⊥
-    second_line us vs e = let k : (drive b.device (at + 60) Clock Free).event ≡ (drive b.device at Data Pull).event = cc in line_apart (sym (ap (λ (v : Event). v.change.line) k))
-bits_same b at true (false ∷ cs) (true ∷ ds) ys xs l e = absurd (second_line (bit_steps b (at + 120) true cs ++ ys) (bit_steps b (at + 120) false ds ++ xs) e)
+    second_line : (us vs : List Step) → events_of (drive b.device at Clock Pull ∷ drive b.device (at + half_bit b.pace) Clock Free ∷ us) ≡ events_of (drive b.device at Clock Pull ∷ drive b.device at Data Pull ∷ drive b.device (at + half_bit b.pace) Clock Free ∷ vs) → ⊥
+    second_line us vs e = let k : (drive b.device (at + half_bit b.pace) Clock Free).event ≡ (drive b.device at Data Pull).event = cc in line_apart (sym (ap (λ (v : Event). v.change.line) k))
+bits_same b at true (false ∷ cs) (true ∷ ds) ys xs l e = absurd (second_line (bit_steps b (at + bit_time b.pace) true cs ++ ys) (bit_steps b (at + bit_time b.pace) false ds ++ xs) e)
   where
-    second_line : (us vs : List Step) → events_of (drive b.device at Clock Pull ∷ drive b.device (at + 60) Clock Free ∷ us) ≡ events_of (drive b.device at Clock Pull ∷ drive b.device at Data Free ∷ drive b.device (at + 60) Clock Free ∷ vs) → ⊥
-    second_line us vs e = let k : (drive b.device (at + 60) Clock Free).event ≡ (drive b.device at Data Free).event = cc in line_apart (sym (ap (λ (v : Event). v.change.line) k))
-bits_same b at false (false ∷ cs) (true ∷ ds) ys xs l e = absurd (second_line (bit_steps b (at + 120) true cs ++ ys) (bit_steps b (at + 120) false ds ++ xs) e)
+    second_line : (us vs : List Step) → events_of (drive b.device at Clock Pull ∷ drive b.device (at + half_bit b.pace) Clock Free ∷ us) ≡ events_of (drive b.device at Clock Pull ∷ drive b.device at Data Free ∷ drive b.device (at + half_bit b.pace) Clock Free ∷ vs) → ⊥
+    second_line us vs e = let k : (drive b.device (at + half_bit b.pace) Clock Free).event ≡ (drive b.device at Data Free).event = cc in line_apart (sym (ap (λ (v : Event). v.change.line) k))
+bits_same b at false (false ∷ cs) (true ∷ ds) ys xs l e = absurd (second_line (bit_steps b (at + bit_time b.pace) true cs ++ ys) (bit_steps b (at + bit_time b.pace) false ds ++ xs) e)
   where
-    second_line : (us vs : List Step) → events_of (drive b.device at Clock Pull ∷ drive b.device at Data Pull ∷ drive b.device (at + 60) Clock Free ∷ us) ≡ events_of (drive b.device at Clock Pull ∷ drive b.device (at + 60) Clock Free ∷ vs) → ⊥
-    second_line us vs e = let k : (drive b.device at Data Pull).event ≡ (drive b.device (at + 60) Clock Free).event = cc in line_apart (ap (λ (v : Event). v.change.line) k)
+    second_line : (us vs : List Step) → events_of (drive b.device at Clock Pull ∷ drive b.device at Data Pull ∷ drive b.device (at + half_bit b.pace) Clock Free ∷ us) ≡ events_of (drive b.device at Clock Pull ∷ drive b.device (at + half_bit b.pace) Clock Free ∷ vs) → ⊥
+    second_line us vs e = let k : (drive b.device at Data Pull).event ≡ (drive b.device (at + half_bit b.pace) Clock Free).event = cc in line_apart (ap (λ (v : Event). v.change.line) k)
 
 events_skip : (zs ys xs : List Step) → events_of (zs ++ ys) ≡ events_of (zs ++ xs) → events_of ys ≡ events_of xs
 events_skip [] ys xs e = e

@@ -1,4 +1,6 @@
 -- The turnaround on a bus, by the answer of the talker's machine: the host pulls DATA, frees ATN, then CLOCK; the drives without a role let go, the talker leads or is silent.
+use Rattle.cbm_iec.specs.declared.pace.Pace.TheVariants.{Profile, Kernal}
+use Rattle.cbm_iec.specs.declared.pace.Pace.{Pace}
 use Rattle.std.proofs.Common.{◌≡◌, ℕ, ◌+◌, ◌≤◌, ◌<◌, ◌⊎◌, Bool, true, false, List, [], ◌∷◌, ◌++◌, map, Option, Some, None, ap, sym, ◌∙◌, subst, arith, refl}
 use Rattle.std.specs.Prelude.{if◌then◌else◌, nat_eq, max}
 use Rattle.cbm_iec.specs.Hearing.{is_same}
@@ -51,7 +53,7 @@ use Rattle.cbm_session.specs.Among.{Rest, wires_of, behind_host, FollowsAmong}
 use Rattle.cbm_session.specs.Buses.{SaysAs, SideAmong, StandsAmong}
 use Rattle.cbm_session.specs.Following.{IsInTime, Says}
 use Rattle.cbm_session.specs.Laws.{SeatsReact, GoesOn}
-use Rattle.cbm_session.specs.Pieces.{Whole, Piece, Point, own_part, steps_of, before, piece_steps, let_go, freed_steps, behind_all, Fits, CutFits, PieceFits, whole_point, point_after, Full, Cut, ToTalker, Nothing, Commanding, Leading}
+use Rattle.cbm_session.specs.Pieces.{silent_part, Whole, Piece, Point, own_part, steps_of, before, piece_steps, let_go, freed_steps, behind_all, Fits, CutFits, PieceFits, whole_point, point_after, Full, Cut, ToTalker, Nothing, Commanding, Leading}
 use Rattle.cbm_session.specs.Playing.{Station, tell, Plays}
 use Rattle.cbm_session.specs.Seats.{lines, Seat, device, is_listener, is_talker, has_listener, talker_of}
 use Rattle.cbm_session.specs.Steps.{Step, host, drive, for_each, for_one}
@@ -89,12 +91,18 @@ module _ (p : Point) (s : Seat) (sound : IsSound p s) (talks : s.role ≡ Talker
       go Talker k false e = let c : true ≡ false = k e in absurd cc
 
   mute_own : (freed : Option ℕ) (x : Seat) → (nat_eq (device s) (device x) ≡ false → is_talker x.role ≡ false) → Every (OfTurn (device s)) (own_part p (Nothing at clock freed) x)
-  mute_own freed x k = go x.role
+  mute_own freed x k = go x.role k (nat_eq (device s) (device x)) refl
     where
-      go : (r : Role) → Every (OfTurn (device s)) (elim r as (λ q. List Step) [ Absent ↦ let_go at x | Listener ↦ [] | Talker ↦ for_one (device x) Silent (drive (device x) (clock + x.party.reaction) Data Free) ∷ [] ])
-      go Absent = ((refl, tt, tt), tt)
-      go Listener = tt
-      go Talker = ((refl, tt, tt), tt)
+      by_pace : (e : Pace) → nat_eq (device s) (device x) ≡ true → Every (OfTurn (device s)) (silent_part e (device x) (clock + x.party.reaction))
+      by_pace Profile e = ((refl, tt, tt), tt)
+      by_pace Kernal e = ((refl, tt, e), ((refl, tt, e), ((refl, tt, tt), tt)))
+
+      go : (r : Role) → (nat_eq (device s) (device x) ≡ false → is_talker r ≡ false) → (v : Bool) → nat_eq (device s) (device x) ≡ v
+          → Every (OfTurn (device s)) (elim r as (λ q. List Step) [ Absent ↦ let_go at x | Listener ↦ [] | Talker ↦ silent_part x.party.pace (device x) (clock + x.party.reaction) ])
+      go Absent k v e = ((refl, tt, tt), tt)
+      go Listener k v e = tt
+      go Talker k true e = by_pace x.party.pace e
+      go Talker k false e = let c : true ≡ false = k e in absurd cc
 
   pub lead_turn : Every (OfTurn (device s)) (leads p at clock)
   lead_turn = every_each (OfTurn (device s)) (λ (x : Seat). own_part p (ToTalker at clock) x) (host clock Clock Free ∷ []) p.seats ((refl, tt, tt), tt)
@@ -237,8 +245,8 @@ module _ (M : Type 0) (step : M → Act → M) (peek : M → Option (ℕ × Bool
         by_role Listener e own now answer machine f end sound2 st = let c : true ≡ false = sym (ap is_listener e) ∙ not_listening x sound2 in absurd cc
         by_role Talker e own now answer machine f end sound2 st =
             let side : (twice z).port.side ≡ Speaking Turned = now ∙ ap (λ (v : Role). freed_side z.port.party.reaction at true v (Hearing Holding)) e in
-            let holds : SideHolds (twice z).port.side (twice z).port.own = subst (λ (y : Side). SideHolds y (twice z).port.own) (sym side) (ap (λ (o : Held). o.data_low) own) in
-            let device_is : device s ≡ z.port.party.device = sym (ap (λ (b : Party). b.device) (st.party ∙ the_talker x sound2 e)) in
+            let holds : SideHolds (twice z).port.side (twice z).port.own = subst (λ (y : Side). SideHolds y (twice z).port.own) (sym side) (ap (λ (o : Held). o.data_low) own, ap (λ (o : Held). o.clock_low) own) in
+            let device_is : device s ≡ z.port.party.device = sym (ap (λ (b : Party). b.device) (st.party ∙ (the_talker x sound2 e))) in
             record {
               goes = goes_of (says z.port.party.device) f holds refl (turn_noatn (device s) ys kind) (subst (λ (n : ℕ). OthersData n ys) device_is (turn_others (device s) ys kind));
               asks = subst (λ (y : Side). AsksFor ys y (peek (twice z).machine ≡ says z.port.party.device)) (sym side) (asks_turned ys (ap peek machine ∙ answer e));

@@ -1,4 +1,5 @@
 -- A release of ATN under way whose next change of the host is put off: the piece that begins the same and goes on later.
+use Rattle.cbm_session.proofs.joining.Silents.{silent_from, silent_none}
 use Rattle.std.proofs.Common.{◌≡◌, ℕ, suc, ◌+◌, ◌≤◌, ◌<◌, ◌⊎◌, inl, inr, Bool, true, false, List, [], ◌∷◌, ◌++◌, map, Option, Some, None, ap, sym, ◌∙◌, subst, arith, refl}
 use Rattle.std.specs.Prelude.{if◌then◌else◌}
 use Rattle.std.proofs.lemmas.Bool.Decides.{leb_tells}
@@ -21,7 +22,7 @@ use Rattle.cbm_session.proofs.joining.Merging.{NoneBefore, InOrder, AllBefore, c
 use Rattle.cbm_session.proofs.joining.Orders.{host_order}
 use Rattle.cbm_session.proofs.joining.Owning.{AllOwned, part_owned, part_order}
 use Rattle.cbm_session.specs.Laws.{NotSooner, AllAfter, GoesOn}
-use Rattle.cbm_session.specs.Pieces.{Whole, Point, host_part, own_part, steps_of, before, let_go, freed_steps, Fits, Full, ToNobody, ToTalker, Nothing}
+use Rattle.cbm_session.specs.Pieces.{silent_end, silent_part, Whole, Point, host_part, own_part, steps_of, before, let_go, freed_steps, Fits, Full, ToNobody, ToTalker, Nothing}
 use Rattle.cbm_session.specs.Seats.{Seat, device, reaction, talker_of}
 use Rattle.cbm_session.specs.Steps.{Step, moment_of, host, drive, for_each, for_one, merge_all}
 use Rattle.cbm_session.specs.Timing.{is_host}
@@ -204,18 +205,18 @@ mute_later p at clock freed t fits l = elim (leb_tells (suc clock) t) [
               (λ x. owns x x.role) (λ w. inl l, (λ w. inl l, (λ w. inr (omega (arith, late)), tt)));
         }
       where
-        freed_late : (o : Option ℕ) → Rattle.cbm_session.specs.Pieces.FreedFits (clock + (talker_of p.seats).reaction) o → NoneBefore t (freed_steps o)
+        freed_late : (o : Option ℕ) → Rattle.cbm_session.specs.Pieces.FreedFits (silent_end (talker_of p.seats) clock) o → NoneBefore t (freed_steps o)
         freed_late None h = tt
-        freed_late (Some g) h = (omega (arith, h, late), tt)
+        freed_late (Some g) h = (omega (arith, h, late, silent_from (talker_of p.seats) clock), tt)
 
         owns : (x : Seat) (r : Role)
-            → before t (elim r as (λ q. List Step) [ Absent ↦ let_go at x | Listener ↦ [] | Talker ↦ for_one (device x) Silent (drive (device x) (clock + reaction x) Data Free) ∷ [] ])
-            ≡ before t (elim r as (λ q. List Step) [ Absent ↦ let_go at x | Listener ↦ [] | Talker ↦ for_one (device x) Silent (drive (device x) (suc clock + reaction x) Data Free) ∷ [] ])
+            → before t (elim r as (λ q. List Step) [ Absent ↦ let_go at x | Listener ↦ [] | Talker ↦ silent_part x.party.pace (device x) (clock + reaction x) ])
+            ≡ before t (elim r as (λ q. List Step) [ Absent ↦ let_go at x | Listener ↦ [] | Talker ↦ silent_part x.party.pace (device x) (suc clock + reaction x) ])
         owns x Absent = refl
         owns x Listener = refl
         owns x Talker =
-            none_of t (for_one (device x) Silent (drive (device x) (clock + reaction x) Data Free) ∷ []) (omega (arith, late), tt)
-            ∙ sym (none_of t (for_one (device x) Silent (drive (device x) (suc clock + reaction x) Data Free) ∷ []) (omega (arith, late), tt))
+            none_of t (silent_part x.party.pace (device x) (clock + reaction x)) (silent_none x.party.pace (device x) t (clock + reaction x) (omega (arith, late)))
+            ∙ sym (none_of t (silent_part x.party.pace (device x) (suc clock + reaction x)) (silent_none x.party.pace (device x) t (suc clock + reaction x) (omega (arith, late))))
 
 -- ATN's release to nobody, with CLOCK's put off.
 pub nobody_later : (p : Point) (at clock t : ℕ) → (fits : Fits p (ToNobody at clock)) → at < t → t ≤ clock → Fits p (ToNobody at (suc clock)) × Later p (ToNobody at (suc clock)) t (before t (steps_of p (ToNobody at clock)))

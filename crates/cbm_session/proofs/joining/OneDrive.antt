@@ -1,4 +1,7 @@
 -- With one drive: the events of each piece, written as one list.
+use Rattle.cbm_iec.specs.declared.pace.Pace.{Pace}
+use Rattle.cbm_session.proofs.Paces.{pulse_upto, by_eight}
+use Rattle.cbm_iec.specs.Profile.{eoi_pulse, bit_time}
 use Rattle.std.proofs.Common.{◌≡◌, ℕ, ◌+◌, ◌*◌, ◌≤◌, ◌<◌, Bool, true, false, not, List, [], ◌∷◌, ◌++◌, length, Option, Some, None, ap, ◌∙◌, arith, refl}
 use Rattle.std.specs.Prelude.{if◌then◌else◌, nat_le}
 use Rattle.cbm_iec.specs.declared.act.Act.TheVariants.{Released, Said}
@@ -10,10 +13,10 @@ use Rattle.cbm_iec.specs.declared.party.Role.TheVariants.{Absent, Listener, Talk
 use Rattle.cbm_iec.specs.declared.party.Role.{Role}
 use Rattle.cbm_session.proofs.joining.Merging.{merge_here, merge_there, AllBefore}
 use Rattle.cbm_session.specs.Bits.{where_held, where_free, Cell, cell_steps, cells_steps, held_after, last_pull, CellsFit, number_of}
-use Rattle.cbm_session.specs.Frames.{Sent, Told, end_of, pulse_from, pulse_to, pulse, hearing, sending, is_last, signal_steps, first_bit, bit_steps, telling, taking, SignalFits, ToldFits}
+use Rattle.cbm_session.specs.Frames.{Sent, Told, wire, lasting, longest, end_of, pulse_from, pulse_to, pulse, hearing, sending, is_last, signal_steps, first_bit, bit_steps, telling, taking, SentFits, SignalFits, ToldFits}
 use Rattle.cbm_session.specs.Joins.{NotBefore}
 use Rattle.cbm_session.specs.Pieces.{Point, host_part, let_go, own_part, PullPiece, ToListener, ToNobody}
-use Rattle.cbm_session.specs.Seats.{Seat, device, reaction}
+use Rattle.cbm_session.specs.Seats.{Seat, device, reaction, slowest}
 use Rattle.cbm_session.specs.Steps.{Step, host, drive, for_each, for_one, moment_of, merge}
 
 -- all of these are at m or before
@@ -33,6 +36,17 @@ merge_last (x ∷ xs) y a = merge_here x xs y [] a.0 ∙ ap (λ (zs : List Step)
 pub last_after : (held : Bool) (pull : ℕ) (cs : List Cell) → CellsFit held pull cs → pull ≤ last_pull pull cs
 last_after held pull [] h = omega arith
 last_after held pull (c ∷ cs) h = let k = last_after (not c.bit) c.pull cs h.1 in let m = h.0 in omega (arith, k, m.free, m.pulled)
+
+-- each bit of the host lasts 40 at least, so whatever a drive's pace is its pulse ends before the last bit
+cells_last : (held : Bool) (pull : ℕ) (cs : List Cell) → CellsFit held pull cs → pull + 40 * length cs ≤ last_pull pull cs
+cells_last held pull [] h = omega arith
+cells_last held pull (c ∷ cs) h = let k = cells_last (not c.bit) c.pull cs h.1 in let m = h.0 in omega (arith, k, m.free, m.pulled)
+
+pub pulse_within : (hs : List Seat) (f : Sent) → SentFits hs true f → (e : Pace) → wire hs f + 200 + eoi_pulse e ≤ end_of f
+pulse_within hs f h e =
+    let k = cells_last false f.start f.cells h.cells in
+    let g : wire hs f + 200 + longest hs + 1 ≤ f.start = h.start in
+    omega (arith, k, g, h.eight, pulse_upto e)
 
 cell_upto : (m : ℕ) (held bit : Bool) (set free pull : ℕ) → set ≤ m → free ≤ m → pull ≤ m → AllUpTo m (cell_steps held (record { bit = bit; set = set; free = free; pull = pull }))
 cell_upto m true true set free pull a b c = (a, (b, (c, tt)))
@@ -57,7 +71,7 @@ one_frame t s eoi act f =
 
 -- the drive has let go of DATA, and its pulse is over, before the start
 abbrev pub StartsBehind : ℕ → Seat → Bool → Sent → Type 0
-StartsBehind t s true f = (f.ready + reaction s ≤ t) × (t + 260 + reaction s + 1 ≤ f.start)
+StartsBehind t s true f = (f.ready + reaction s ≤ t) × (t + 200 + lasting s + 1 ≤ f.start)
 StartsBehind t s false f = f.ready + reaction s + 1 ≤ f.start
 
 held_upto : (m at : ℕ) (held : Bool) → at ≤ m → AllUpTo m (where_held held (host at Data Free))
@@ -163,13 +177,13 @@ one_told b at f =
     ++ (bit_steps b (first_bit b f) false f.bits
     ++ for_one b.device (Said (number_of f.bits) (is_last f)) (host f.accept Data Pull) ∷ (if is_last f then drive b.device (f.accept + b.reaction) Clock Free ∷ [] else [])))
 
-pub bits_before : (b : Party) (at m : ℕ) (held : Bool) (bits : List Bool) → at + 120 * length bits < m → AllBefore m (bit_steps b at held bits)
+pub bits_before : (b : Party) (at m : ℕ) (held : Bool) (bits : List Bool) → at + bit_time b.pace * length bits < m → AllBefore m (bit_steps b at held bits)
 bits_before b at m true [] h = (omega (arith, h), (omega (arith, h), tt))
 bits_before b at m false [] h = (omega (arith, h), tt)
-bits_before b at m true (true ∷ bits) h = (omega (arith, h), (omega (arith, h), (omega (arith, h), bits_before b (at + 120) m false bits (omega (arith, h)))))
-bits_before b at m false (true ∷ bits) h = (omega (arith, h), (omega (arith, h), bits_before b (at + 120) m false bits (omega (arith, h))))
-bits_before b at m true (false ∷ bits) h = (omega (arith, h), (omega (arith, h), bits_before b (at + 120) m true bits (omega (arith, h))))
-bits_before b at m false (false ∷ bits) h = (omega (arith, h), (omega (arith, h), (omega (arith, h), bits_before b (at + 120) m true bits (omega (arith, h)))))
+bits_before b at m true (true ∷ bits) h = (omega (arith, h), (omega (arith, h), (omega (arith, h), bits_before b (at + bit_time b.pace) m false bits (omega (arith, h)))))
+bits_before b at m false (true ∷ bits) h = (omega (arith, h), (omega (arith, h), bits_before b (at + bit_time b.pace) m false bits (omega (arith, h))))
+bits_before b at m true (false ∷ bits) h = (omega (arith, h), (omega (arith, h), bits_before b (at + bit_time b.pace) m true bits (omega (arith, h))))
+bits_before b at m false (false ∷ bits) h = (omega (arith, h), (omega (arith, h), (omega (arith, h), bits_before b (at + bit_time b.pace) m true bits (omega (arith, h)))))
 
 merge_over : (m : ℕ) (xs zs ys : List Step) → AllUpTo m xs → NotBefore m ys → merge (xs ++ zs) ys ≡ xs ++ merge zs ys
 merge_over m [] zs ys a b = refl
@@ -200,5 +214,5 @@ told_is b at f h =
     ∙ ap (λ (zs : List Step). drive b.device at Clock Free ∷ zs)
     (merge_over (first_bit b f) (host f.free Data Free ∷ signal_steps f.signal) (accept ∷ []) (bits ++ last) (signal_upto b.reaction f.free f.signal h.signal) (bits_first b (first_bit b f) false f.bits last)
     ∙ ap (λ (zs : List Step). host f.free Data Free ∷ (signal_steps f.signal ++ zs))
-    (merge_behind accept [] bits last (bits_before b (first_bit b f) f.accept false f.bits (omega (arith, eight, taken)))
+    (merge_behind accept [] bits last (bits_before b (first_bit b f) f.accept false f.bits (omega (arith, eight, taken, by_eight b.pace eight)))
     ∙ ap (λ (zs : List Step). bits ++ zs) (last_is accept (is_last f) (drive b.device (f.accept + b.reaction) Clock Free) (omega arith))))

@@ -1,4 +1,7 @@
 -- The host's part of each piece is in order.
+use Rattle.cbm_iec.specs.declared.party.Party.{Party}
+use Rattle.cbm_session.specs.Pieces.{silent_end}
+use Rattle.cbm_session.proofs.joining.Silents.{silent_from}
 use Rattle.std.proofs.Common.{append_assoc, not, ℕ, ◌+◌, ◌≤◌, Bool, true, false, List, [], ◌∷◌, ◌++◌, Option, Some, None, sym, subst, arith}
 use Rattle.cbm_iec.specs.declared.act.Act.TheVariants.{Pulled, Released}
 use Rattle.cbm_iec.specs.declared.line.Line.TheVariants.{Atn, Clock, Data}
@@ -84,9 +87,9 @@ pull_order at false false = ((omega arith, tt), (tt, tt))
 turn_order : (at clock : ℕ) (more : List Step) → at + 20 ≤ clock → NoneBefore at more → InOrder (host clock Clock Free ∷ more) → InOrder (host at Data Pull ∷ for_each Released (host at Atn Free) ∷ host clock Clock Free ∷ more)
 turn_order at clock more l n o = ((omega arith, (omega (arith, l), n)), ((omega (arith, l), n), o))
 
-freed_late : (at clock r : ℕ) (x : Option ℕ) → at + 20 ≤ clock → FreedFits (clock + r) x → NoneBefore at (freed_steps x)
-freed_late at clock r None l h = tt
-freed_late at clock r (Some g) l h = (omega (arith, l, h), tt)
+freed_late : (at clock : ℕ) (b : Party) (x : Option ℕ) → at + 20 ≤ clock → FreedFits (silent_end b clock) x → NoneBefore at (freed_steps x)
+freed_late at clock b None l h = tt
+freed_late at clock b (Some g) l h = (omega (arith, l, h, silent_from b clock), tt)
 
 pub host_order : (p : Point) (w : Whole) → Fits p w → InOrder (host_part p w)
 host_order p (PullPiece at) h = pull_order at p.host.clock_low p.host.data_low
@@ -95,5 +98,5 @@ host_order p (Byte eoi f) h = sending_order (listeners p.seats) eoi f h.3 (start
 host_order p (ToListener at) h = (tt, tt)
 host_order p (ToNobody at clock) h = ((h.1, tt), (tt, tt))
 host_order p (ToTalker at clock) h = turn_order at clock [] h.1 tt (tt, tt)
-host_order p (Nothing at clock freed) h = turn_order at clock (freed_steps freed) h.1 (freed_late at clock (talker_of p.seats).reaction freed h.1 h.2) (freed_order clock (talker_of p.seats).reaction freed h.2)
+host_order p (Nothing at clock freed) h = turn_order at clock (freed_steps freed) h.1 (freed_late at clock (talker_of p.seats) freed h.1 h.2) (freed_order clock (talker_of p.seats) freed h.2)
 host_order p (Talk at f) h = taking_order (talker_of p.seats) f at h.1

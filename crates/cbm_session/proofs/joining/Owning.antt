@@ -1,4 +1,9 @@
 -- Whose the steps of a piece are, and that each drive's part is in order.
+use Rattle.cbm_session.proofs.joining.Silents.{silent_order}
+use Rattle.cbm_iec.specs.declared.pace.Pace.TheVariants.{Profile, Kernal}
+use Rattle.cbm_iec.specs.declared.pace.Pace.{Pace}
+use Rattle.cbm_session.proofs.Paces.{by_eight}
+use Rattle.cbm_iec.specs.Profile.{bit_time, first_accept, half_bit}
 use Rattle.std.proofs.Common.{◌≡◌, ℕ, ◌+◌, ◌*◌, ◌≤◌, Bool, true, false, not, List, [], ◌∷◌, ◌++◌, length, Option, Some, None, ap, sym, ◌∙◌, subst, arith, refl}
 use Rattle.std.specs.Prelude.{if◌then◌else◌, nat_eq}
 use Rattle.cbm_iec.specs.declared.act.Act.TheVariants.{Attention, Heard, Said, Silent}
@@ -12,13 +17,13 @@ use Rattle.cbm_iec.specs.declared.party.Party.{Party}
 use Rattle.cbm_iec.specs.declared.party.Role.TheVariants.{Absent, Listener, Talker}
 use Rattle.cbm_iec.specs.declared.party.Role.{Role}
 use Rattle.cbm_session.proofs.joining.Merging.{NoneBefore, InOrder}
-use Rattle.cbm_session.proofs.joining.OneDrive.{last_after}
+use Rattle.cbm_session.proofs.joining.OneDrive.{last_after, pulse_within}
 use Rattle.cbm_session.proofs.joining.Showing.{AllForeign, AllMine}
 use Rattle.cbm_session.proofs.reading.Decoding.{when_mine, mark_act, IsMine, IsAnothers}
 use Rattle.cbm_session.specs.Bits.{where_held, where_free, Cell, cell_steps, cells_steps, held_after, number_of, byte_of}
-use Rattle.cbm_session.specs.Frames.{Sent, Told, wire, end_of, pulse, hearing, sending, SentFits, is_last, signal_steps, first_bit, bit_steps, telling, SignalFits}
-use Rattle.cbm_session.specs.Pieces.{Whole, Point, freed_steps, host_part, let_go, own_part, Fits, PullPiece, Command, Byte, ToListener, ToNobody, ToTalker, Nothing, Talk}
-use Rattle.cbm_session.specs.Seats.{Seat, device, reaction, is_listener, is_talker, talker_of, listeners}
+use Rattle.cbm_session.specs.Frames.{lasting, Sent, Told, wire, end_of, pulse, hearing, sending, SentFits, is_last, signal_steps, first_bit, bit_steps, telling, SignalFits}
+use Rattle.cbm_session.specs.Pieces.{silent_part, Whole, Point, freed_steps, host_part, let_go, own_part, Fits, PullPiece, Command, Byte, ToListener, ToNobody, ToTalker, Nothing, Talk}
+use Rattle.cbm_session.specs.Seats.{at_pace, Seat, device, reaction, is_listener, is_talker, talker_of, listeners}
 use Rattle.cbm_session.specs.Steps.{Mark, Step, host, drive, for_one, Plain, ForEach, For}
 
 -- a step of this drive, which counts for no other
@@ -53,12 +58,16 @@ owned_hearing t eoi act f s = (refl, tt, owned_append (device s) (pulse t eoi s)
 owned_bits : (b : Party) (at : ℕ) (held : Bool) (bits : List Bool) → AllOwned b.device (bit_steps b at held bits)
 owned_bits b at true [] = (refl, tt, (refl, tt, tt))
 owned_bits b at false [] = (refl, tt, tt)
-owned_bits b at true (true ∷ bits) = (refl, tt, (refl, tt, (refl, tt, owned_bits b (at + 120) false bits)))
-owned_bits b at false (true ∷ bits) = (refl, tt, (refl, tt, owned_bits b (at + 120) false bits))
-owned_bits b at true (false ∷ bits) = (refl, tt, (refl, tt, owned_bits b (at + 120) true bits))
-owned_bits b at false (false ∷ bits) = (refl, tt, (refl, tt, (refl, tt, owned_bits b (at + 120) true bits)))
+owned_bits b at true (true ∷ bits) = (refl, tt, (refl, tt, (refl, tt, owned_bits b (at + bit_time b.pace) false bits)))
+owned_bits b at false (true ∷ bits) = (refl, tt, (refl, tt, owned_bits b (at + bit_time b.pace) false bits))
+owned_bits b at true (false ∷ bits) = (refl, tt, (refl, tt, owned_bits b (at + bit_time b.pace) true bits))
+owned_bits b at false (false ∷ bits) = (refl, tt, (refl, tt, (refl, tt, owned_bits b (at + bit_time b.pace) true bits)))
 
-owned_telling : (b : Party) (at : ℕ) (f : Told) → AllOwned b.device (telling b at f)
+owned_silent : (e : Pace) (d t : ℕ) → AllOwned d (silent_part e d t)
+owned_silent Profile d t = (refl, refl, tt)
+owned_silent Kernal d t = (refl, tt, (refl, tt, (refl, refl, tt)))
+
+pub owned_telling : (b : Party) (at : ℕ) (f : Told) → AllOwned b.device (telling b at f)
 owned_telling b at f = (refl, tt, owned_append b.device (bit_steps b (first_bit b f) false f.bits) (if is_last f then drive b.device (f.accept + b.reaction) Clock Free ∷ [] else []) (owned_bits b (first_bit b f) false f.bits) (go (is_last f)))
   where
     go : (v : Bool) → AllOwned b.device (if v then drive b.device (f.accept + b.reaction) Clock Free ∷ [] else [])
@@ -84,8 +93,8 @@ part_owned p (Byte eoi f) s = owned_if (device s) (is_listener s.role) (hearing 
 part_owned p (ToListener at) s = owned_by_role (device s) s.role (let_go at s) [] (refl, tt, tt) tt
 part_owned p (ToNobody at clock) s = (refl, tt, tt)
 part_owned p (ToTalker at clock) s = owned_by_role (device s) s.role (let_go at s) (drive (device s) (clock + reaction s) Clock Pull ∷ drive (device s) (clock + reaction s) Data Free ∷ []) (refl, tt, tt) (refl, tt, (refl, tt, tt))
-part_owned p (Nothing at clock freed) s = owned_by_role (device s) s.role (let_go at s) (for_one (device s) Silent (drive (device s) (clock + reaction s) Data Free) ∷ []) (refl, tt, tt) (refl, refl, tt)
-part_owned p (Talk at f) s = owned_if (device s) (is_talker s.role) (telling s.party at f) (owned_telling s.party at f)
+part_owned p (Nothing at clock freed) s = owned_by_role (device s) s.role (let_go at s) (silent_part s.party.pace (device s) (clock + reaction s)) (refl, tt, tt) (owned_silent s.party.pace (device s) (clock + reaction s))
+part_owned p (Talk at f) s = owned_if (device s) (is_talker s.role) (telling (at_pace (talker_of p.seats).pace s.party) at f) (owned_telling (at_pace (talker_of p.seats).pace s.party) at f)
 
 -- as a drive sees it
 mark_foreign : (d o : ℕ) (m : Mark) → nat_eq d o ≡ false → MarkOf o m → mark_act d m ≡ None
@@ -156,54 +165,54 @@ order_pull t true false o = ((omega arith, tt), (tt, tt))
 order_pull t false true o = tt
 order_pull t false false o = (tt, tt)
 
-order_hearing : (t : ℕ) (eoi : Bool) (act : Act) (f : Sent) (s : Seat) → f.ready ≤ t → (eoi ≡ true → t + 260 ≤ end_of f) → f.ready ≤ end_of f → InOrder (hearing t eoi act f s)
+order_hearing : (t : ℕ) (eoi : Bool) (act : Act) (f : Sent) (s : Seat) → f.ready ≤ t → (eoi ≡ true → t + 200 + lasting s ≤ end_of f + reaction s) → f.ready ≤ end_of f → InOrder (hearing t eoi act f s)
 order_hearing t true act f s a b c = let e = b refl in ((omega (arith, a), (omega (arith, a), (omega (arith, c), tt))), ((omega arith, (omega (arith, e), tt)), ((omega (arith, e), tt), (tt, tt))))
 order_hearing t false act f s a b c = ((omega (arith, c), tt), (tt, tt))
 
 bits_none : (m : ℕ) (b : Party) (at : ℕ) (held : Bool) (bits : List Bool) → m ≤ at → NoneBefore m (bit_steps b at held bits)
 bits_none m b at true [] h = (omega (arith, h), (omega (arith, h), tt))
 bits_none m b at false [] h = (omega (arith, h), tt)
-bits_none m b at true (true ∷ bits) h = (omega (arith, h), (omega (arith, h), (omega (arith, h), bits_none m b (at + 120) false bits (omega (arith, h)))))
-bits_none m b at false (true ∷ bits) h = (omega (arith, h), (omega (arith, h), bits_none m b (at + 120) false bits (omega (arith, h))))
-bits_none m b at true (false ∷ bits) h = (omega (arith, h), (omega (arith, h), bits_none m b (at + 120) true bits (omega (arith, h))))
-bits_none m b at false (false ∷ bits) h = (omega (arith, h), (omega (arith, h), (omega (arith, h), bits_none m b (at + 120) true bits (omega (arith, h)))))
+bits_none m b at true (true ∷ bits) h = (omega (arith, h), (omega (arith, h), (omega (arith, h), bits_none m b (at + bit_time b.pace) false bits (omega (arith, h)))))
+bits_none m b at false (true ∷ bits) h = (omega (arith, h), (omega (arith, h), bits_none m b (at + bit_time b.pace) false bits (omega (arith, h))))
+bits_none m b at true (false ∷ bits) h = (omega (arith, h), (omega (arith, h), bits_none m b (at + bit_time b.pace) true bits (omega (arith, h))))
+bits_none m b at false (false ∷ bits) h = (omega (arith, h), (omega (arith, h), (omega (arith, h), bits_none m b (at + bit_time b.pace) true bits (omega (arith, h)))))
 
 -- the bits, and one more step behind them
-order_bits : (b : Party) (at : ℕ) (held : Bool) (bits : List Bool) (more : List Step) → InOrder more → NoneBefore (at + 120 * length bits) more → InOrder (bit_steps b at held bits ++ more)
+order_bits : (b : Party) (at : ℕ) (held : Bool) (bits : List Bool) (more : List Step) → InOrder more → NoneBefore (at + bit_time b.pace * length bits) more → InOrder (bit_steps b at held bits ++ more)
 order_bits b at held bits more o n = go at held bits n
   where
     late : (m k : ℕ) (ss : List Step) → m ≤ k → NoneBefore k ss → NoneBefore m ss
     late m k [] h x = tt
     late m k (s ∷ ss) h x = (omega (arith, h, x.0), late m k ss h x.1)
 
-    tail : (m : ℕ) (at : ℕ) (held : Bool) (bits : List Bool) → m ≤ at → NoneBefore (at + 120 * length bits) more → NoneBefore m (bit_steps b at held bits ++ more)
-    tail m at held bits h x = none_append m (bit_steps b at held bits) more (bits_none m b at held bits h) (late m (at + 120 * length bits) more (omega (arith, h)) x)
+    tail : (m : ℕ) (at : ℕ) (held : Bool) (bits : List Bool) → m ≤ at → NoneBefore (at + bit_time b.pace * length bits) more → NoneBefore m (bit_steps b at held bits ++ more)
+    tail m at held bits h x = none_append m (bit_steps b at held bits) more (bits_none m b at held bits h) (late m (at + bit_time b.pace * length bits) more (omega (arith, h)) x)
 
-    go : (at : ℕ) (held : Bool) (bits : List Bool) → NoneBefore (at + 120 * length bits) more → InOrder (bit_steps b at held bits ++ more)
-    go at true [] x = ((omega arith, late at (at + 120 * 0) more (omega arith) x), (late at (at + 120 * 0) more (omega arith) x, o))
-    go at false [] x = (late at (at + 120 * 0) more (omega arith) x, o)
+    go : (at : ℕ) (held : Bool) (bits : List Bool) → NoneBefore (at + bit_time b.pace * length bits) more → InOrder (bit_steps b at held bits ++ more)
+    go at true [] x = ((omega arith, late at (at + bit_time b.pace * 0) more (omega arith) x), (late at (at + bit_time b.pace * 0) more (omega arith) x, o))
+    go at false [] x = (late at (at + bit_time b.pace * 0) more (omega arith) x, o)
     go at true (true ∷ bits) x =
-        let y : NoneBefore (at + 120 + 120 * length bits) more = late (at + 120 + 120 * length bits) (at + 120 * length (true ∷ bits)) more (omega arith) x in
-        let z = tail at (at + 120) false bits (omega arith) y in
-        let u = tail (at + 60) (at + 120) false bits (omega arith) y in
-        ((omega arith, (omega arith, z)), ((omega arith, z), (u, go (at + 120) false bits y)))
+        let y : NoneBefore (at + bit_time b.pace + bit_time b.pace * length bits) more = late (at + bit_time b.pace + bit_time b.pace * length bits) (at + bit_time b.pace * length (true ∷ bits)) more (omega arith) x in
+        let z = tail at (at + bit_time b.pace) false bits (omega arith) y in
+        let u = tail (at + half_bit b.pace) (at + bit_time b.pace) false bits (omega arith) y in
+        ((omega arith, (omega arith, z)), ((omega arith, z), (u, go (at + bit_time b.pace) false bits y)))
     go at false (true ∷ bits) x =
-        let y : NoneBefore (at + 120 + 120 * length bits) more = late (at + 120 + 120 * length bits) (at + 120 * length (true ∷ bits)) more (omega arith) x in
-        let z = tail at (at + 120) false bits (omega arith) y in
-        let u = tail (at + 60) (at + 120) false bits (omega arith) y in
-        ((omega arith, z), (u, go (at + 120) false bits y))
+        let y : NoneBefore (at + bit_time b.pace + bit_time b.pace * length bits) more = late (at + bit_time b.pace + bit_time b.pace * length bits) (at + bit_time b.pace * length (true ∷ bits)) more (omega arith) x in
+        let z = tail at (at + bit_time b.pace) false bits (omega arith) y in
+        let u = tail (at + half_bit b.pace) (at + bit_time b.pace) false bits (omega arith) y in
+        ((omega arith, z), (u, go (at + bit_time b.pace) false bits y))
     go at true (false ∷ bits) x =
-        let y : NoneBefore (at + 120 + 120 * length bits) more = late (at + 120 + 120 * length bits) (at + 120 * length (false ∷ bits)) more (omega arith) x in
-        let z = tail at (at + 120) true bits (omega arith) y in
-        let u = tail (at + 60) (at + 120) true bits (omega arith) y in
-        ((omega arith, z), (u, go (at + 120) true bits y))
+        let y : NoneBefore (at + bit_time b.pace + bit_time b.pace * length bits) more = late (at + bit_time b.pace + bit_time b.pace * length bits) (at + bit_time b.pace * length (false ∷ bits)) more (omega arith) x in
+        let z = tail at (at + bit_time b.pace) true bits (omega arith) y in
+        let u = tail (at + half_bit b.pace) (at + bit_time b.pace) true bits (omega arith) y in
+        ((omega arith, z), (u, go (at + bit_time b.pace) true bits y))
     go at false (false ∷ bits) x =
-        let y : NoneBefore (at + 120 + 120 * length bits) more = late (at + 120 + 120 * length bits) (at + 120 * length (false ∷ bits)) more (omega arith) x in
-        let z = tail at (at + 120) true bits (omega arith) y in
-        let u = tail (at + 60) (at + 120) true bits (omega arith) y in
-        ((omega arith, (omega arith, z)), ((omega arith, z), (u, go (at + 120) true bits y)))
+        let y : NoneBefore (at + bit_time b.pace + bit_time b.pace * length bits) more = late (at + bit_time b.pace + bit_time b.pace * length bits) (at + bit_time b.pace * length (false ∷ bits)) more (omega arith) x in
+        let z = tail at (at + bit_time b.pace) true bits (omega arith) y in
+        let u = tail (at + half_bit b.pace) (at + bit_time b.pace) true bits (omega arith) y in
+        ((omega arith, (omega arith, z)), ((omega arith, z), (u, go (at + bit_time b.pace) true bits y)))
 
-told_order : (b : Party) (at : ℕ) (f : Told) → at + 1 ≤ f.free → SignalFits f.free f.signal → length f.bits ≡ 8 → first_bit b f + 961 ≤ f.accept + b.reaction → InOrder (telling b at f)
+told_order : (b : Party) (at : ℕ) (f : Told) → at + 1 ≤ f.free → SignalFits f.free f.signal → length f.bits ≡ 8 → first_bit b f + first_accept b.pace ≤ f.accept + b.reaction → InOrder (telling b at f)
 told_order b at f l g e a = (
   none_append at (bit_steps b (first_bit b f) false f.bits) last (bits_none at b (first_bit b f) false f.bits early) (last_none (is_last f)),
   order_bits b (first_bit b f) false f.bits last (last_order (is_last f)) (last_late (is_last f)),
@@ -227,8 +236,8 @@ told_order b at f l g e a = (
     last_order true = (tt, tt)
     last_order false = tt
 
-    last_late : (v : Bool) → NoneBefore (first_bit b f + 120 * length f.bits) (if v then drive b.device (f.accept + b.reaction) Clock Free ∷ [] else [])
-    last_late true = (omega (arith, e, a), tt)
+    last_late : (v : Bool) → NoneBefore (first_bit b f + bit_time b.pace * length f.bits) (if v then drive b.device (f.accept + b.reaction) Clock Free ∷ [] else [])
+    last_late true = (omega (arith, e, a, by_eight b.pace e), tt)
     last_late false = tt
 
 order_if : (v : Bool) (ss : List Step) → InOrder ss → InOrder (if v then ss else [])
@@ -241,7 +250,7 @@ order_by_role Listener a b x y = tt
 order_by_role Talker a b x y = y
 
 heard_order : (hs : List Seat) (eoi : Bool) (act : Act) (f : Sent) (s : Seat) → SentFits hs eoi f → InOrder (hearing (wire hs f) eoi act f s)
-heard_order hs true act f s h = let k = last_after false f.start f.cells h.cells in let g = h.start in order_hearing (wire hs f) true act f s (omega arith) (λ (e : true ≡ true). omega (arith, k, g)) (omega (arith, k, g))
+heard_order hs true act f s h = let k = last_after false f.start f.cells h.cells in let g = h.start in order_hearing (wire hs f) true act f s (omega arith) (λ (e : true ≡ true). omega (arith, pulse_within hs f h s.party.pace)) (omega (arith, k, g))
 heard_order hs false act f s h = let k = last_after false f.start f.cells h.cells in let g = h.start.0 in order_hearing (wire hs f) false act f s (omega arith) (λ (e : false ≡ true). cc) (omega (arith, k, g))
 
 -- each drive's part of a piece that fits is in order
@@ -252,12 +261,12 @@ part_order p (Byte eoi f) h s = order_if (is_listener s.role) (hearing (wire (li
 part_order p (ToListener at) h s = order_by_role s.role (let_go at s) [] (tt, tt) tt
 part_order p (ToNobody at clock) h s = (tt, tt)
 part_order p (ToTalker at clock) h s = order_by_role s.role (let_go at s) (drive (device s) (clock + reaction s) Clock Pull ∷ drive (device s) (clock + reaction s) Data Free ∷ []) (tt, tt) ((omega arith, tt), (tt, tt))
-part_order p (Nothing at clock freed) h s = order_by_role s.role (let_go at s) (for_one (device s) Silent (drive (device s) (clock + reaction s) Data Free) ∷ []) (tt, tt) (tt, tt)
+part_order p (Nothing at clock freed) h s = order_by_role s.role (let_go at s) (silent_part s.party.pace (device s) (clock + reaction s)) (tt, tt) (silent_order s.party.pace (device s) (clock + reaction s))
 part_order p (Talk at f) h s =
     let g = h.1 in
     let taken = g.accept in
     let early = first_same f.signal in
-    order_if (is_talker s.role) (telling s.party at f) (told_order s.party at f g.free g.signal g.eight (omega (arith, taken, early)))
+    order_if (is_talker s.role) (telling (at_pace (talker_of p.seats).pace s.party) at f) (told_order (at_pace (talker_of p.seats).pace s.party) at f g.free g.signal g.eight (omega (arith, taken, early)))
   where
-    first_same : (x : Option (ℕ × ℕ)) → (elim x as (λ y. ℕ) [ None ↦ f.free | Some y ↦ y.1 ]) + s.party.reaction + 961 ≤ (elim x as (λ y. ℕ) [ None ↦ f.free | Some y ↦ y.1 ]) + (talker_of p.seats).reaction + 961 + s.party.reaction
+    first_same : (x : Option (ℕ × ℕ)) → (elim x as (λ y. ℕ) [ None ↦ f.free | Some y ↦ y.1 ]) + s.party.reaction + first_accept (talker_of p.seats).pace ≤ (elim x as (λ y. ℕ) [ None ↦ f.free | Some y ↦ y.1 ]) + (talker_of p.seats).reaction + first_accept (talker_of p.seats).pace + s.party.reaction
     first_same x = omega arith

@@ -23,6 +23,8 @@ pub data Under : Type 0 where
   Counting : (eoi held : Bool) → (left : ℕ) → (bits : List Bool) → Under
   Turning : Under
   Asking : Under
+  Answered : Under
+  Muted : Under
   Leads : Under
   Saying : (held signal : Bool) → (left : ℕ) → (bits : List Bool) → Under
 
@@ -48,6 +50,8 @@ clock_freed (Counting eoi held zero bits) = Readied false
 clock_freed (Counting eoi held (suc left) bits) = Counting eoi held left (bits ++ not held ∷ [])
 clock_freed Turning = Asking
 clock_freed Asking = Asking
+clock_freed Answered = Answered
+clock_freed Muted = Muted
 clock_freed Leads = Leads
 clock_freed (Saying held signal left bits) = Saying held signal left bits
 
@@ -57,6 +61,8 @@ clock_pulled (Readied eoi) = Counting eoi false 8 []
 clock_pulled (Counting eoi held left bits) = Counting eoi held left bits
 clock_pulled Turning = Turning
 clock_pulled Asking = Asking
+clock_pulled Answered = Answered
+clock_pulled Muted = Muted
 clock_pulled Leads = Leads
 clock_pulled (Saying held signal left bits) = Saying held signal left bits
 
@@ -67,6 +73,8 @@ data_pulled (Readied eoi) = Readied eoi
 data_pulled (Counting eoi held left bits) = Counting eoi true left bits
 data_pulled Turning = Turning
 data_pulled Asking = Asking
+data_pulled Answered = Answered
+data_pulled Muted = Muted
 data_pulled Leads = Leads
 data_pulled (Saying held signal zero bits) = Leads
 data_pulled (Saying held signal (suc left) bits) = Saying held true (suc left) bits
@@ -77,6 +85,8 @@ data_freed (Readied eoi) = Readied eoi
 data_freed (Counting eoi held left bits) = Counting eoi false left bits
 data_freed Turning = Turning
 data_freed Asking = Asking
+data_freed Answered = Answered
+data_freed Muted = Muted
 data_freed Leads = Leads
 data_freed (Saying held signal left bits) = Saying held signal left bits
 
@@ -87,6 +97,8 @@ said_act (Readied eoi) = None
 said_act (Counting eoi held left bits) = None
 said_act Turning = None
 said_act Asking = None
+said_act Answered = None
+said_act Muted = None
 said_act Leads = None
 said_act (Saying held signal zero bits) = Some (Said (number_of bits) signal)
 said_act (Saying held signal (suc left) bits) = None
@@ -115,6 +127,8 @@ own_pulled d role atn (Counting eoi held zero bits) = known (if atn then role_af
 own_pulled d role atn (Counting eoi held (suc left) bits) = known role atn (Counting eoi held (suc left) bits)
 own_pulled d role atn Turning = known role atn Turning
 own_pulled d role atn Asking = known role atn Asking
+own_pulled d role atn Answered = known role atn Answered
+own_pulled d role atn Muted = known role atn Muted
 own_pulled d role atn Leads = known role atn Leads
 own_pulled d role atn (Saying held signal left bits) = known role atn (Saying true signal left bits)
 
@@ -125,6 +139,8 @@ heard_act atn (Counting eoi held zero bits) = Some (if atn then Attention (numbe
 heard_act atn (Counting eoi held (suc left) bits) = None
 heard_act atn Turning = None
 heard_act atn Asking = None
+heard_act atn Answered = None
+heard_act atn Muted = None
 heard_act atn Leads = None
 heard_act atn (Saying held signal left bits) = None
 
@@ -134,6 +150,8 @@ own_freed (Readied eoi) = Readied eoi
 own_freed (Counting eoi held left bits) = Counting eoi held left bits
 own_freed Turning = Turning
 own_freed Asking = Off
+own_freed Answered = Leads
+own_freed Muted = Off
 own_freed Leads = Leads
 own_freed (Saying held signal left bits) = Saying false signal left bits
 
@@ -143,6 +161,8 @@ silent_act (Readied eoi) = None
 silent_act (Counting eoi held left bits) = None
 silent_act Turning = None
 silent_act Asking = Some Silent
+silent_act Answered = None
+silent_act Muted = Some Silent
 silent_act Leads = None
 silent_act (Saying held signal left bits) = None
 
@@ -152,7 +172,9 @@ own_clock_pulled Off = Off
 own_clock_pulled (Readied eoi) = Readied eoi
 own_clock_pulled (Counting eoi held left bits) = Counting eoi held left bits
 own_clock_pulled Turning = Turning
-own_clock_pulled Asking = Leads
+own_clock_pulled Asking = Answered
+own_clock_pulled Answered = Answered
+own_clock_pulled Muted = Muted
 own_clock_pulled Leads = Leads
 own_clock_pulled (Saying held signal left bits) = Saying held signal left bits
 
@@ -162,6 +184,8 @@ own_clock_freed (Readied eoi) = Readied eoi
 own_clock_freed (Counting eoi held left bits) = Counting eoi held left bits
 own_clock_freed Turning = Turning
 own_clock_freed Asking = Asking
+own_clock_freed Answered = Muted
+own_clock_freed Muted = Muted
 own_clock_freed Leads = Saying false false 8 []
 own_clock_freed (Saying held signal zero bits) = Saying held signal zero bits
 own_clock_freed (Saying held signal (suc left) bits) = Saying held signal left (bits ++ not held ∷ [])

@@ -1,4 +1,8 @@
 -- The decoder reads every session, cut pieces too; so a trace has one reading.
+use Rattle.cbm_iec.specs.declared.pace.Pace.TheVariants.{Profile, Kernal}
+use Rattle.cbm_iec.specs.declared.pace.Pace.{Pace}
+use Rattle.cbm_session.proofs.joining.Silents.{silent_from, silent_head}
+use Rattle.cbm_iec.specs.Profile.{bit_time, first_accept}
 use Rattle.std.proofs.Common.{◌≡◌, ℕ, ◌+◌, ◌≤◌, inl, inr, Bool, true, false, List, [], ◌∷◌, ◌++◌, map, Option, Some, None, ap, sym, ◌∙◌, subst, arith, refl, zero, suc, not, eq-eqb}
 use Rattle.std.proofs.lemmas.Bool.Decides.{leb_tells}
 use Rattle.std.proofs.lemmas.Bool.{ne_eqb}
@@ -20,15 +24,15 @@ use Rattle.cbm_session.proofs.joining.Owning.{part_owned, owned_foreign, owned_m
 use Rattle.cbm_session.proofs.joining.Seating.{Apart, Sits}
 use Rattle.cbm_session.proofs.joining.Showing.{shows_before, shows_all}
 use Rattle.cbm_session.proofs.joining.Talkers.{OneTalker, KeepsDrives, KeepsRoles, sits_map, one_map, standing_drives, standing_roles, AreSeats, seats_map, one_obeys}
-use Rattle.cbm_session.proofs.reading.Decoding.{Under, Known, known, freed_under, own_pulled, step_by, step_next, acts_in, Reads, reads_acts, reads_append, reads_split, ReadsOwn, Shows, shown_reads, Off, Readied, Counting, Turning, Asking, Leads, Saying}
+use Rattle.cbm_session.proofs.reading.Decoding.{Under, Known, known, freed_under, own_pulled, step_by, step_next, acts_in, Reads, reads_acts, reads_append, reads_split, ReadsOwn, Shows, shown_reads, Off, Readied, Counting, Turning, Asking, Answered, Muted, Leads, Saying}
 use Rattle.cbm_session.proofs.reading.PieceReadings.{AtPlace, turn_first, calm_said, next_seat, piece_goes}
 use Rattle.cbm_session.proofs.reading.Readings.{Calm}
 use Rattle.cbm_session.specs.Bits.{number_of, byte_of}
 use Rattle.cbm_session.specs.Frames.{Told, is_last, signal_steps, first_bit, bit_steps, telling, taking, SignalFits, ToldFits}
 use Rattle.cbm_session.specs.Joins.{NotBefore}
 use Rattle.cbm_session.specs.Laws.{OneReading}
-use Rattle.cbm_session.specs.Pieces.{Whole, Piece, Place, Point, freed_steps, host_part, let_go, own_part, steps_of, before, FreedFits, Fits, CutFits, held_by, seat_with, obeying, standing, whole_point, point_after, PullPiece, Command, Byte, ToListener, ToNobody, ToTalker, Nothing, Talk, Full, Cut, Leading}
-use Rattle.cbm_session.specs.Seats.{lines, Seat, device, reaction, is_talker, talker_of}
+use Rattle.cbm_session.specs.Pieces.{silent_part, silent_end, Whole, Piece, Place, Point, freed_steps, host_part, let_go, own_part, steps_of, before, FreedFits, Fits, CutFits, held_by, seat_with, obeying, standing, whole_point, point_after, PullPiece, Command, Byte, ToListener, ToNobody, ToTalker, Nothing, Talk, Full, Cut, Leading}
+use Rattle.cbm_session.specs.Seats.{at_pace, lines, Seat, device, reaction, is_talker, talker_of}
 use Rattle.cbm_session.specs.Sessions.{rest, Linked, session_steps, Splits, AreDrives, Unlike, AllUnlike, IsBus}
 use Rattle.cbm_session.specs.Steps.{Step, host, drive, for_each, for_one, moment_of, events_of, acts_for, merge}
 
@@ -49,6 +53,8 @@ own_pulled_role d r (Counting eoi held zero bits) = (refl, refl)
 own_pulled_role d r (Counting eoi held (suc left) bits) = (refl, refl)
 own_pulled_role d r Turning = (refl, refl)
 own_pulled_role d r Asking = (refl, refl)
+own_pulled_role d r Answered = (refl, refl)
+own_pulled_role d r Muted = (refl, refl)
 own_pulled_role d r Leads = (refl, refl)
 own_pulled_role d r (Saying held signal left bits) = (refl, refl)
 
@@ -91,10 +97,10 @@ noatn_merge (x ∷ xs) (y ∷ ys) a b = elim (leb_tells (moment_of x) (moment_of
 noatn_bits : (b : Party) (at : ℕ) (held : Bool) (bits : List Bool) → NoAtn (bit_steps b at held bits)
 noatn_bits b at true [] = (refl, (refl, tt))
 noatn_bits b at false [] = (refl, tt)
-noatn_bits b at true (true ∷ bits) = (refl, (refl, (refl, noatn_bits b (at + 120) false bits)))
-noatn_bits b at false (true ∷ bits) = (refl, (refl, noatn_bits b (at + 120) false bits))
-noatn_bits b at true (false ∷ bits) = (refl, (refl, noatn_bits b (at + 120) true bits))
-noatn_bits b at false (false ∷ bits) = (refl, (refl, (refl, noatn_bits b (at + 120) true bits)))
+noatn_bits b at true (true ∷ bits) = (refl, (refl, (refl, noatn_bits b (at + bit_time b.pace) false bits)))
+noatn_bits b at false (true ∷ bits) = (refl, (refl, noatn_bits b (at + bit_time b.pace) false bits))
+noatn_bits b at true (false ∷ bits) = (refl, (refl, noatn_bits b (at + bit_time b.pace) true bits))
+noatn_bits b at false (false ∷ bits) = (refl, (refl, (refl, noatn_bits b (at + bit_time b.pace) true bits)))
 
 pub noatn_if : (v : Bool) (ss : List Step) → NoAtn ss → NoAtn (if v then ss else [])
 noatn_if true ss a = a
@@ -159,20 +165,24 @@ late_by_role m Absent a b x y = x
 late_by_role m Listener a b x y = tt
 late_by_role m Talker a b x y = y
 
-pub freed_order : (clock r : ℕ) (x : Option ℕ) → FreedFits (clock + r) x → InOrder (host clock Clock Free ∷ freed_steps x)
-freed_order clock r None h = (tt, tt)
-freed_order clock r (Some g) h = ((omega (arith, h), tt), (tt, tt))
+pub freed_order : (clock : ℕ) (b : Party) (x : Option ℕ) → FreedFits (silent_end b clock) x → InOrder (host clock Clock Free ∷ freed_steps x)
+freed_order clock b None h = (tt, tt)
+freed_order clock b (Some g) h = ((omega (arith, h, silent_from b clock), tt), (tt, tt))
 
 pub taking_order : (b : Party) (f : Told) (at : ℕ) → ToldFits b at f → InOrder (taking b f)
 taking_order b f at h = go f.signal h.signal h.accept
   where
-    go : (x : Option (ℕ × ℕ)) → SignalFits f.free x → (elim x as (λ y. ℕ) [ None ↦ f.free | Some y ↦ y.1 ]) + b.reaction + 961 ≤ f.accept
+    go : (x : Option (ℕ × ℕ)) → SignalFits f.free x → (elim x as (λ y. ℕ) [ None ↦ f.free | Some y ↦ y.1 ]) + b.reaction + first_accept b.pace ≤ f.accept
         → InOrder (host f.free Data Free ∷ (signal_steps x ++ for_one b.device (Said (number_of f.bits) (is_last f)) (host f.accept Data Pull) ∷ []))
     go None g a = ((omega (arith, a), tt), (tt, tt))
     go (Some (pull, again)) g a =
         let x = g.0 in
         let y = g.1 in
         ((omega (arith, x), (omega (arith, x, y), (omega (arith, x, y, a), tt))), ((omega (arith, y), (omega (arith, y, a), tt)), ((omega (arith, a), tt), (tt, tt))))
+
+noatn_silent : (e : Pace) (d t : ℕ) → NoAtn (silent_part e d t)
+noatn_silent Profile d t = (refl, tt)
+noatn_silent Kernal d t = (refl, (refl, (refl, tt)))
 
 -- the cut of a piece: whatever stands of it, the role stays
 pub cut_goes : (d c : ℕ) (p : Point) (w : Whole) (s : Seat) (atn : Bool) (u : Under) → 1 ≤ d → Sits d p.seats s → OneTalker p.seats → AtPlace p.place s.role atn u → Fits p w → CutFits p w c
@@ -196,9 +206,9 @@ cut_goes d c p (Nothing at clock freed) s atn u l t o q h k =
     let calm : (atn ≡ true) × Calm u = subst (λ (x : Place). AtPlace x s.role atn u) h.0.commanding q in
     let all = piece_goes d p (Nothing at clock freed) s atn u l t o q h in
     let own = own_part p (Nothing at clock freed) s in
-    let late : NotBefore at own = late_by_role at s.role (let_go at s) (for_one (device s) Silent (drive (device s) (clock + reaction s) Data Free) ∷ []) (omega arith) (omega (arith, b)) in
-    turn_cut d c at s.role atn u (host clock Clock Free ∷ freed_steps freed) own (known (next_seat (Nothing at clock freed) s).role all.0 all.1.0) k calm.1 late (freed_order clock (talker_of p.seats).reaction freed h.2) (part_order p (Nothing at clock freed) h s) (refl, noatn_freed freed)
-    (noatn_role s.role (let_go at s) (for_one (device s) Silent (drive (device s) (clock + reaction s) Data Free) ∷ []) (refl, tt) (refl, tt))
+    let late : NotBefore at own = late_by_role at s.role (let_go at s) (silent_part s.party.pace (device s) (clock + reaction s)) (omega arith) (silent_head s.party.pace (device s) at (clock + reaction s) (omega (arith, b))) in
+    turn_cut d c at s.role atn u (host clock Clock Free ∷ freed_steps freed) own (known (next_seat (Nothing at clock freed) s).role all.0 all.1.0) k calm.1 late (freed_order clock (talker_of p.seats) freed h.2) (part_order p (Nothing at clock freed) h s) (refl, noatn_freed freed)
+    (noatn_role s.role (let_go at s) (silent_part s.party.pace (device s) (clock + reaction s)) (refl, tt) (noatn_silent s.party.pace (device s) (clock + reaction s)))
     (turn_rest d at s.role atn u (host clock Clock Free ∷ freed_steps freed) own (known (next_seat (Nothing at clock freed) s).role all.0 all.1.0) late all.1.1.0)
 cut_goes d c p (Talk at f) s atn u l t o q h k =
     let lead : AtPlace (Leading at) s.role atn u = subst (λ (x : Place). AtPlace x s.role atn u) h.0 q in
@@ -206,7 +216,7 @@ cut_goes d c p (Talk at f) s atn u l t o q h k =
     let own = own_part p (Talk at f) s in
     cut_reads d c (known s.role atn u) (merge (taking (talker_of p.seats) f) own) (known (next_seat (Talk at f) s).role all.0 all.1.0) (out_of_attention s.role lead)
     (order_merge (taking (talker_of p.seats) f) own (taking_order (talker_of p.seats) f at h.1) (part_order p (Talk at f) h s))
-    (noatn_merge (taking (talker_of p.seats) f) own (noatn_taking (talker_of p.seats) f) (noatn_if (is_talker s.role) (telling s.party at f) (noatn_telling s.party at f))) all.1.1.0
+    (noatn_merge (taking (talker_of p.seats) f) own (noatn_taking (talker_of p.seats) f) (noatn_if (is_talker s.role) (telling (at_pace (talker_of p.seats).pace s.party) at f) (noatn_telling (at_pace (talker_of p.seats).pace s.party) at f))) all.1.1.0
   where
     out_of_attention : (r : Role) → AtPlace (Leading at) r atn u → atn ≡ false
     out_of_attention Absent h = h.0

@@ -1,4 +1,7 @@
 -- By each piece the decoder goes from what stands at its point to what stands at the point behind it.
+use Rattle.cbm_iec.specs.declared.pace.Pace.TheVariants.{Profile, Kernal}
+use Rattle.cbm_iec.specs.declared.pace.Pace.{Pace}
+use Rattle.cbm_session.proofs.joining.Silents.{silent_head}
 use Rattle.std.proofs.Common.{◌≡◌, ℕ, zero, suc, not, ◌+◌, ◌≤◌, inl, inr, Bool, true, false, List, [], ◌∷◌, Option, Some, None, ap, sym, ◌∙◌, subst, arith, refl}
 use Rattle.std.proofs.lemmas.Bool.Decides.{leb_tells}
 use Rattle.std.proofs.lemmas.Bool.{eqb-true}
@@ -15,14 +18,14 @@ use Rattle.cbm_session.proofs.joining.Merging.{merge_here, merge_there, merge_ni
 use Rattle.cbm_session.proofs.joining.OneDrive.{StartsBehind, told_is, frame_is}
 use Rattle.cbm_session.proofs.joining.Seating.{Sits}
 use Rattle.cbm_session.proofs.joining.Showing.{merge_first}
-use Rattle.cbm_session.proofs.joining.Talkers.{silent_bus, OneTalker, talker_is, other_talker, most, sits_listeners, standing_roles}
-use Rattle.cbm_session.proofs.reading.Decoding.{Under, Known, known, freed_under, said_act, ReadsOwn, Off, Readied, Counting, Turning, Asking, Leads, Saying}
+use Rattle.cbm_session.proofs.joining.Talkers.{silent_bus, OneTalker, talker_is, other_talker, most, most_lasting, sits_listeners, standing_roles}
+use Rattle.cbm_session.proofs.reading.Decoding.{Under, Known, known, freed_under, said_act, ReadsOwn, Off, Readied, Counting, Turning, Asking, Answered, Muted, Leads, Saying}
 use Rattle.cbm_session.proofs.reading.Readings.{Calm, frame_act, frame_role, mark_mine, frame_reads, sending_reads, pull_reads, told_under, told_reads, other_reads}
 use Rattle.cbm_session.specs.Bits.{bits_of, byte_of}
-use Rattle.cbm_session.specs.Frames.{Sent, Told, wire, hearing, sending, StartFits, SentFits, is_last, telling, taking, ToldFits}
+use Rattle.cbm_session.specs.Frames.{lasting, longest, Sent, Told, wire, hearing, sending, StartFits, SentFits, is_last, telling, taking, ToldFits}
 use Rattle.cbm_session.specs.Joins.{NotBefore}
-use Rattle.cbm_session.specs.Pieces.{Whole, Place, Point, freed_steps, host_part, own_part, FreedFits, IsCommanding, Fits, told_place, seat_with, obeying, standing, whole_point, PullPiece, Command, Byte, ToListener, ToNobody, ToTalker, Nothing, Talk, Open, Commanding, Listening, Leading, Cutting, commanding}
-use Rattle.cbm_session.specs.Seats.{lines, Seat, device, reaction, is_listener, is_talker, talker_of, listeners, slowest}
+use Rattle.cbm_session.specs.Pieces.{silent_at, silent_part, silent_end, Whole, Place, Point, freed_steps, host_part, own_part, FreedFits, IsCommanding, Fits, told_place, seat_with, obeying, standing, whole_point, PullPiece, Command, Byte, ToListener, ToNobody, ToTalker, Nothing, Talk, Open, Commanding, Listening, Leading, Cutting, commanding}
+use Rattle.cbm_session.specs.Seats.{at_pace, lines, Seat, device, reaction, is_listener, is_talker, talker_of, listeners, slowest}
 use Rattle.cbm_session.specs.Steps.{Step, host, drive, for_each, for_one, merge}
 
 -- what the decoder knows at a point: in attention, whether a byte may begin, and whether the drive leads
@@ -44,18 +47,18 @@ seat b r o = record { party = b; role = r; own = o }
 pub is_commanding : {q : Place} → IsCommanding q → (some : Bool) × (q ≡ Commanding some)
 is_commanding (commanding {some}) = (some, refl)
 
-starts_behind : (hs : List Seat) (s : Seat) (f : Sent) (eoi : Bool) → reaction s ≤ slowest hs → StartFits hs eoi f → StartsBehind (wire hs f) s eoi f
-starts_behind hs s f true l h = (omega (arith, l), omega (arith, l, h))
-starts_behind hs s f false l h = let k = h.0 in omega (arith, l, k)
+starts_behind : (hs : List Seat) (s : Seat) (f : Sent) (eoi : Bool) → (reaction s ≤ slowest hs) × (lasting s ≤ longest hs) → StartFits hs eoi f → StartsBehind (wire hs f) s eoi f
+starts_behind hs s f true l h = (omega (arith, l.0), omega (arith, l.1, h))
+starts_behind hs s f false l h = let k = h.0 in omega (arith, l.0, k)
 
 -- a frame that this drive hears, and one that it doesn't
-heard_goes : (d : ℕ) (hs : List Seat) (s : Seat) (atn eoi : Bool) (u : Under) (f : Sent) → nat_eq d (device s) ≡ true → reaction s ≤ slowest hs → Calm u → SentFits hs eoi f
+heard_goes : (d : ℕ) (hs : List Seat) (s : Seat) (atn eoi : Bool) (u : Under) (f : Sent) → nat_eq d (device s) ≡ true → (reaction s ≤ slowest hs) × (lasting s ≤ longest hs) → Calm u → SentFits hs eoi f
     → ReadsOwn d (known s.role atn u) (merge (sending f) (hearing (wire hs f) eoi (frame_act atn eoi f) f s)) (known (frame_role d atn s.role f) atn (Counting eoi false zero (bits_of f.cells)))
 heard_goes d hs s atn eoi u f e l c h =
     subst (λ (ss : List Step). ReadsOwn d (known s.role atn u) ss (known (frame_role d atn s.role f) atn (Counting eoi false zero (bits_of f.cells))))
     (sym (frame_is (wire hs f) s (frame_act atn eoi f) f eoi (starts_behind hs s f eoi l h.start) h.cells)) (frame_reads d s atn eoi u (wire hs f) f e c h.eight)
 
-byte_goes : (d : ℕ) (hs : List Seat) (s : Seat) (eoi : Bool) (u : Under) (f : Sent) (v : Bool) → nat_eq d (device s) ≡ true → (v ≡ true → reaction s ≤ slowest hs) → Calm u → SentFits hs eoi f
+byte_goes : (d : ℕ) (hs : List Seat) (s : Seat) (eoi : Bool) (u : Under) (f : Sent) (v : Bool) → nat_eq d (device s) ≡ true → (v ≡ true → (reaction s ≤ slowest hs) × (lasting s ≤ longest hs)) → Calm u → SentFits hs eoi f
     → Goes d (known s.role false u) (merge (sending f) (if v then hearing (wire hs f) eoi (Heard (byte_of f.cells) eoi) f s else [])) Listening s.role
 byte_goes d hs s eoi u f true e l c h = (false, (Counting eoi false zero (bits_of f.cells), (heard_goes d hs s false eoi u f e (l refl) c h, (refl, tt))))
 byte_goes d hs s eoi u f false e l c h =
@@ -96,6 +99,8 @@ calm_said (Counting eoi held zero bits) h = refl
 calm_said (Counting eoi held (suc left) bits) h = elim h [ ]
 calm_said Turning h = elim h [ ]
 calm_said Asking h = elim h [ ]
+calm_said Answered h = elim h [ ]
+calm_said Muted h = elim h [ ]
 calm_said Leads h = elim h [ ]
 calm_said (Saying held signal left bits) h = elim h [ ]
 
@@ -144,25 +149,35 @@ off_freed : (d : ℕ) (freed : Option ℕ) → ReadsOwn d (known Talker false Of
 off_freed d None = refl
 off_freed d (Some g) = (refl, refl)
 
-silent_reads : (d : ℕ) (b : Party) (clock : ℕ) (freed : Option ℕ) → nat_eq d b.device ≡ true → FreedFits (clock + b.reaction) freed
-    → ReadsOwn d (known Talker false Turning) (merge (host clock Clock Free ∷ freed_steps freed) (for_one b.device Silent (drive b.device (clock + b.reaction) Data Free) ∷ [])) (known Talker false Off)
-silent_reads d b clock None e y =
-    subst (λ (ss : List Step). ReadsOwn d (known Talker false Turning) ss (known Talker false Off)) (sym (merge_here (host clock Clock Free) [] (for_one b.device Silent (drive b.device (clock + b.reaction) Data Free)) [] (omega arith)))
-    (refl, (mark_mine d b.device Silent e, refl))
-silent_reads d b clock (Some g) e y =
-    subst (λ (ss : List Step). ReadsOwn d (known Talker false Turning) ss (known Talker false Off))
-    (sym (merge_here (host clock Clock Free) (host g Data Free ∷ []) (for_one b.device Silent (drive b.device (clock + b.reaction) Data Free)) [] (omega arith)
-    ∙ ap (λ (zs : List Step). host clock Clock Free ∷ zs) (merge_there (host g Data Free) [] (for_one b.device Silent (drive b.device (clock + b.reaction) Data Free)) [] (omega (arith, y)))))
-    (refl, (mark_mine d b.device Silent e, (refl, refl)))
+silent_reads : (d : ℕ) (b : Party) (clock : ℕ) (freed : Option ℕ) → nat_eq d b.device ≡ true → FreedFits (silent_end b clock) freed
+    → ReadsOwn d (known Talker false Turning) (merge (host clock Clock Free ∷ freed_steps freed) (silent_part b.pace b.device (clock + b.reaction))) (known Talker false Off)
+silent_reads d b clock freed e y =
+    subst (λ (ss : List Step). ReadsOwn d (known Talker false Turning) ss (known Talker false Off)) (sym (merge_first (host clock Clock Free) (freed_steps freed) (silent_part b.pace b.device (clock + b.reaction)) (silent_head b.pace b.device clock (clock + b.reaction) (omega arith))))
+    (refl, go b.pace freed y)
+  where
+    go : (v : Pace) (freed : Option ℕ) → FreedFits (silent_at v (clock + b.reaction)) freed → ReadsOwn d (known Talker false Asking) (merge (freed_steps freed) (silent_part v b.device (clock + b.reaction))) (known Talker false Off)
+    go Profile None y = (mark_mine d b.device Silent e, refl)
+    go Profile (Some g) y =
+        subst (λ (ss : List Step). ReadsOwn d (known Talker false Asking) ss (known Talker false Off)) (sym (merge_there (host g Data Free) [] (for_one b.device Silent (drive b.device (clock + b.reaction) Data Free)) [] (omega (arith, y))))
+        (mark_mine d b.device Silent e, (refl, refl))
+    go Kernal None y = (refl, (refl, (mark_mine d b.device Silent e, refl)))
+    go Kernal (Some g) y =
+        let free = drive b.device (clock + b.reaction + 80) Clock Free in
+        let silent = for_one b.device Silent (drive b.device (clock + b.reaction + 80) Data Free) in
+        let is : merge (host g Data Free ∷ []) (silent_part Kernal b.device (clock + b.reaction)) ≡ drive b.device (clock + b.reaction) Clock Pull ∷ free ∷ silent ∷ host g Data Free ∷ [] =
+        merge_there (host g Data Free) [] (drive b.device (clock + b.reaction) Clock Pull) (free ∷ silent ∷ []) (omega (arith, y))
+        ∙ ap (λ (zs : List Step). drive b.device (clock + b.reaction) Clock Pull ∷ zs) (merge_there (host g Data Free) [] free (silent ∷ []) (omega (arith, y))
+        ∙ ap (λ (zs : List Step). free ∷ zs) (merge_there (host g Data Free) [] silent [] (omega (arith, y)))) in
+        subst (λ (ss : List Step). ReadsOwn d (known Talker false Asking) ss (known Talker false Off)) (sym is) (refl, (refl, (mark_mine d b.device Silent e, (refl, refl))))
 
-nothing_goes : (d : ℕ) (p : Point) (b : Party) (r : Role) (o : Held) (atn : Bool) (u : Under) (at clock : ℕ) (freed : Option ℕ) → nat_eq d b.device ≡ true → Calm u → at + 20 ≤ clock → (r ≡ Talker → FreedFits (clock + b.reaction) freed)
+nothing_goes : (d : ℕ) (p : Point) (b : Party) (r : Role) (o : Held) (atn : Bool) (u : Under) (at clock : ℕ) (freed : Option ℕ) → nat_eq d b.device ≡ true → Calm u → at + 20 ≤ clock → (r ≡ Talker → FreedFits (silent_end b clock) freed)
     → Goes d (known r atn u) (merge (host_part p (Nothing at clock freed)) (own_part p (Nothing at clock freed) (seat b r o))) Open r
 nothing_goes d p b Absent o atn u at clock freed e c l y =
     (false, (Readied false, (turned_goes d Absent atn u at (host clock Clock Free ∷ freed_steps freed) (drive b.device (at + b.reaction) Data Free ∷ []) (known Absent false (Readied false)) c (omega arith) (mute_beside d b.device Absent clock (at + b.reaction) freed), tt)))
 nothing_goes d p b Listener o atn u at clock freed e c l y =
     (false, (Readied false, (turned_goes d Listener atn u at (host clock Clock Free ∷ freed_steps freed) [] (known Listener false (Readied false)) c tt (subst (λ (ss : List Step). ReadsOwn d (known Listener false Off) ss (known Listener false (Readied false))) (sym (merge_nil (host clock Clock Free ∷ freed_steps freed))) (refl, mute_reads d Listener freed)), tt)))
 nothing_goes d p b Talker o atn u at clock freed e c l y =
-    (false, (Off, (turned_goes d Talker atn u at (host clock Clock Free ∷ freed_steps freed) (for_one b.device Silent (drive b.device (clock + b.reaction) Data Free) ∷ []) (known Talker false Off) c (omega (arith, l)) (silent_reads d b clock freed e (y refl)), tt)))
+    (false, (Off, (turned_goes d Talker atn u at (host clock Clock Free ∷ freed_steps freed) (silent_part b.pace b.device (clock + b.reaction)) (known Talker false Off) c (silent_head b.pace b.device at (clock + b.reaction) (omega (arith, l))) (silent_reads d b clock freed e (y refl)), tt)))
 
 -- a frame of the talker
 told_at : (f : Told) → AtPlace (told_place f) Talker false (told_under (is_last f))
@@ -197,19 +212,19 @@ as_talker Listener h = cc
 as_talker Talker h = refl
 
 talk_goes : (d : ℕ) (t : Party) (s : Seat) (atn : Bool) (u : Under) (at : ℕ) (f : Told) (v : Bool) → is_talker s.role ≡ v → nat_eq d (device s) ≡ true → (v ≡ true → t ≡ s.party) → (v ≡ false → nat_eq d t.device ≡ false)
-    → ToldFits t at f → AtPlace (Leading at) s.role atn u → Goes d (known s.role atn u) (merge (taking t f) (if v then telling s.party at f else [])) (told_place f) s.role
+    → ToldFits t at f → AtPlace (Leading at) s.role atn u → Goes d (known s.role atn u) (merge (taking t f) (if v then telling (at_pace t.pace s.party) at f else [])) (told_place f) s.role
 talk_goes d t s atn u at f true n e same other h q =
     let k = leads_at at atn u s.role n q in
     let fits : ToldFits s.party at f = subst (λ (b : Party). ToldFits b at f) (same refl) h in
-    let all : ReadsOwn d (known s.role false Leads) (merge (taking t f) (telling s.party at f)) (known s.role false (told_under (is_last f))) =
-    subst (λ (b : Party). ReadsOwn d (known s.role false Leads) (merge (taking b f) (telling s.party at f)) (known s.role false (told_under (is_last f)))) (sym (same refl))
+    let all : ReadsOwn d (known s.role false Leads) (merge (taking t f) (telling (at_pace t.pace s.party) at f)) (known s.role false (told_under (is_last f))) =
+    subst (λ (b : Party). ReadsOwn d (known s.role false Leads) (merge (taking b f) (telling (at_pace b.pace s.party) at f)) (known s.role false (told_under (is_last f)))) (sym (same refl))
     (subst (λ (ss : List Step). ReadsOwn d (known s.role false Leads) ss (known s.role false (told_under (is_last f)))) (sym (told_is s.party at f fits)) (told_reads d s.party s.role at f e fits.eight)) in (
       false,
       (
         told_under (is_last f),
         (
-          subst (λ (v : Under). ReadsOwn d (known s.role atn v) (merge (taking t f) (telling s.party at f)) (known s.role false (told_under (is_last f)))) (sym k.1)
-              (subst (λ (a : Bool). ReadsOwn d (known s.role a Leads) (merge (taking t f) (telling s.party at f)) (known s.role false (told_under (is_last f)))) (sym k.0) all),
+          subst (λ (v : Under). ReadsOwn d (known s.role atn v) (merge (taking t f) (telling (at_pace t.pace s.party) at f)) (known s.role false (told_under (is_last f)))) (sym k.1)
+              (subst (λ (a : Bool). ReadsOwn d (known s.role a Leads) (merge (taking t f) (telling (at_pace t.pace s.party) at f)) (known s.role false (told_under (is_last f)))) (sym k.0) all),
           subst (λ (r : Role). AtPlace (told_place f) r false (told_under (is_last f))) (sym (as_talker s.role n)) (told_at f),
         ),
       ),
@@ -257,13 +272,13 @@ piece_goes d p (Command f) s atn u l t o q h =
     let k : (atn ≡ true) × Calm u = subst (λ (x : Place). AtPlace x s.role atn u) c.1 q in
     let e = sits_self d p.seats s t in
     let same : d ≡ device s = eqb-true d (device s) e in
-    let all = heard_goes d p.seats s true false u f e (most d p.seats s t) k.1 h.3 in
+    let all = heard_goes d p.seats s true false u f e (most d p.seats s t, most_lasting d p.seats s t) k.1 h.3 in
     subst (λ (a : Bool). Goes d (known s.role a u) (merge (host_part p (Command f)) (own_part p (Command f) s)) (Commanding true) (role_after (device s) (byte_of f.cells) s.role)) (sym k.0)
     (true, (Counting false false zero (bits_of f.cells), (subst (λ (n : ℕ). ReadsOwn d (known s.role true u) (merge (host_part p (Command f)) (own_part p (Command f) s)) (known (role_after n (byte_of f.cells) s.role) true (Counting false false zero (bits_of f.cells)))) same all, (refl, tt))))
 piece_goes d p (Byte eoi f) s atn u l t o q h =
     let k : (atn ≡ false) × Calm u = subst (λ (x : Place). AtPlace x s.role atn u) h.0 q in
     let e = sits_self d p.seats s t in
-    let all = byte_goes d (listeners p.seats) s eoi u f (is_listener s.role) e (λ (v : is_listener s.role ≡ true). most d (listeners p.seats) s (sits_listeners d p.seats s t v)) k.1 h.3 in
+    let all = byte_goes d (listeners p.seats) s eoi u f (is_listener s.role) e (λ (v : is_listener s.role ≡ true). (let sits = sits_listeners d p.seats s t v in (most d (listeners p.seats) s sits, most_lasting d (listeners p.seats) s sits))) k.1 h.3 in
     stays d (known s.role atn u) (merge (host_part p (Byte eoi f)) (own_part p (Byte eoi f) s)) Listening s.role (next_seat (Byte eoi f) s).role (standing_roles (lines false false) s)
     (subst (λ (a : Bool). Goes d (known s.role a u) (merge (host_part p (Byte eoi f)) (own_part p (Byte eoi f) s)) Listening s.role) (sym k.0) all)
 piece_goes d p (ToListener at) s atn u l t o q h =
@@ -279,7 +294,7 @@ piece_goes d p (ToTalker at clock) s atn u l t o q h =
     (talker_goes d p s.party s.role s.own atn u at clock (clock + (talker_of p.seats).reaction + 80) k.1 h.1)
 piece_goes d p (Nothing at clock freed) s atn u l t o q h =
     let k : (atn ≡ true) × Calm u = subst (λ (x : Place). AtPlace x s.role atn u) h.0.commanding q in
-    let mine : s.role ≡ Talker → FreedFits (clock + s.party.reaction) freed = λ (r : s.role ≡ Talker). subst (λ (b : Party). FreedFits (clock + b.reaction) freed) (talker_is d p.seats s o t (ap is_talker r)) h.2 in
+    let mine : s.role ≡ Talker → FreedFits (silent_end s.party clock) freed = λ (r : s.role ≡ Talker). subst (λ (b : Party). FreedFits (silent_end b clock) freed) (talker_is d p.seats s o t (ap is_talker r)) h.2 in
     stays d (known s.role atn u) (merge (host_part p (Nothing at clock freed)) (own_part p (Nothing at clock freed) s)) Open s.role (next_seat (Nothing at clock freed) s).role (standing_roles (lines false false) s)
     (nothing_goes d p s.party s.role s.own atn u at clock freed (sits_self d p.seats s t) k.1 h.1 mine)
 piece_goes d p (Talk at f) s atn u l t o q h =

@@ -1,4 +1,5 @@
 -- The decoder reads each piece: the acts that it gives are those that count.
+use Rattle.cbm_iec.specs.Profile.{bit_time}
 use Rattle.std.proofs.Common.{◌≡◌, ℕ, zero, suc, ◌+◌, Bool, true, false, not, List, [], ◌∷◌, ◌++◌, length, Option, Some, None, ap, sym, subst, refl, append_assoc, append-nil}
 use Rattle.std.specs.Prelude.{if◌then◌else◌, nat_eq}
 use Rattle.cbm_iec.specs.Roles.{role_after}
@@ -9,7 +10,7 @@ use Rattle.cbm_iec.specs.declared.line.Way.TheVariants.{Pull, Free}
 use Rattle.cbm_iec.specs.declared.party.Party.{Party}
 use Rattle.cbm_iec.specs.declared.party.Role.{Role}
 use Rattle.cbm_session.proofs.joining.OneDrive.{one_frame, pull_is, one_told}
-use Rattle.cbm_session.proofs.reading.Decoding.{Under, known, clock_freed, when_mine, mark_act, ReadsOwn, own_append, Off, Readied, Counting, Turning, Asking, Leads, Saying}
+use Rattle.cbm_session.proofs.reading.Decoding.{Under, known, clock_freed, when_mine, mark_act, ReadsOwn, own_append, Off, Readied, Counting, Turning, Asking, Answered, Muted, Leads, Saying}
 use Rattle.cbm_session.specs.Bits.{where_held, where_free, Cell, cell_steps, cells_steps, held_after, number_of, bits_of, byte_of}
 use Rattle.cbm_session.specs.Frames.{Sent, Told, end_of, pulse, sending, is_last, signal_steps, first_bit, bit_steps, taking}
 use Rattle.cbm_session.specs.Pieces.{Point, host_part, own_part, PullPiece}
@@ -24,6 +25,8 @@ Calm (Counting eoi held zero bits) = Unit {0}
 Calm (Counting eoi held (suc left) bits) = ⊥
 Calm Turning = ⊥
 Calm Asking = ⊥
+Calm Answered = ⊥
+Calm Muted = ⊥
 Calm Leads = ⊥
 Calm (Saying held signal left bits) = ⊥
 
@@ -34,6 +37,8 @@ calm_freed (Counting eoi held zero bits) h = refl
 calm_freed (Counting eoi held (suc left) bits) h = elim h [ ]
 calm_freed Turning h = elim h [ ]
 calm_freed Asking h = elim h [ ]
+calm_freed Answered h = elim h [ ]
+calm_freed Muted h = elim h [ ]
 calm_freed Leads h = elim h [ ]
 calm_freed (Saying held signal left bits) h = elim h [ ]
 
@@ -137,10 +142,10 @@ bits_reads : (d : ℕ) (b : Party) (role : Role) (at : ℕ) (held signal : Bool)
     → ReadsOwn d (known role false (Saying held signal (length bits) so)) (bit_steps b at held bits) (known role false (Saying false signal zero (so ++ bits)))
 bits_reads d b role at true signal [] so = (refl, (refl, ap (λ (l : List Bool). known role false (Saying false signal zero l)) (append-nil so)))
 bits_reads d b role at false signal [] so = (refl, ap (λ (l : List Bool). known role false (Saying false signal zero l)) (append-nil so))
-bits_reads d b role at true signal (true ∷ bits) so = (refl, (refl, (refl, subst (λ (l : List Bool). ReadsOwn d (known role false (Saying false signal (length bits) (so ++ true ∷ []))) (bit_steps b (at + 120) false bits) (known role false (Saying false signal zero l))) (append_assoc so (true ∷ []) bits) (bits_reads d b role (at + 120) false signal bits (so ++ true ∷ [])))))
-bits_reads d b role at false signal (true ∷ bits) so = (refl, (refl, subst (λ (l : List Bool). ReadsOwn d (known role false (Saying false signal (length bits) (so ++ true ∷ []))) (bit_steps b (at + 120) false bits) (known role false (Saying false signal zero l))) (append_assoc so (true ∷ []) bits) (bits_reads d b role (at + 120) false signal bits (so ++ true ∷ []))))
-bits_reads d b role at true signal (false ∷ bits) so = (refl, (refl, subst (λ (l : List Bool). ReadsOwn d (known role false (Saying true signal (length bits) (so ++ false ∷ []))) (bit_steps b (at + 120) true bits) (known role false (Saying false signal zero l))) (append_assoc so (false ∷ []) bits) (bits_reads d b role (at + 120) true signal bits (so ++ false ∷ []))))
-bits_reads d b role at false signal (false ∷ bits) so = (refl, (refl, (refl, subst (λ (l : List Bool). ReadsOwn d (known role false (Saying true signal (length bits) (so ++ false ∷ []))) (bit_steps b (at + 120) true bits) (known role false (Saying false signal zero l))) (append_assoc so (false ∷ []) bits) (bits_reads d b role (at + 120) true signal bits (so ++ false ∷ [])))))
+bits_reads d b role at true signal (true ∷ bits) so = (refl, (refl, (refl, subst (λ (l : List Bool). ReadsOwn d (known role false (Saying false signal (length bits) (so ++ true ∷ []))) (bit_steps b (at + bit_time b.pace) false bits) (known role false (Saying false signal zero l))) (append_assoc so (true ∷ []) bits) (bits_reads d b role (at + bit_time b.pace) false signal bits (so ++ true ∷ [])))))
+bits_reads d b role at false signal (true ∷ bits) so = (refl, (refl, subst (λ (l : List Bool). ReadsOwn d (known role false (Saying false signal (length bits) (so ++ true ∷ []))) (bit_steps b (at + bit_time b.pace) false bits) (known role false (Saying false signal zero l))) (append_assoc so (true ∷ []) bits) (bits_reads d b role (at + bit_time b.pace) false signal bits (so ++ true ∷ []))))
+bits_reads d b role at true signal (false ∷ bits) so = (refl, (refl, subst (λ (l : List Bool). ReadsOwn d (known role false (Saying true signal (length bits) (so ++ false ∷ []))) (bit_steps b (at + bit_time b.pace) true bits) (known role false (Saying false signal zero l))) (append_assoc so (false ∷ []) bits) (bits_reads d b role (at + bit_time b.pace) true signal bits (so ++ false ∷ []))))
+bits_reads d b role at false signal (false ∷ bits) so = (refl, (refl, (refl, subst (λ (l : List Bool). ReadsOwn d (known role false (Saying true signal (length bits) (so ++ false ∷ []))) (bit_steps b (at + bit_time b.pace) true bits) (known role false (Saying false signal zero l))) (append_assoc so (false ∷ []) bits) (bits_reads d b role (at + bit_time b.pace) true signal bits (so ++ false ∷ [])))))
 
 abbrev pub is_some_pair : Option (ℕ × ℕ) → Bool
 is_some_pair x = elim x [ None ↦ false | Some y ↦ true ]

@@ -1,4 +1,7 @@
 -- A session's moments never go back, and at one moment the host's changes come before the drives'.
+use Rattle.cbm_session.proofs.joining.Silents.{silent_from, silent_head, silent_before}
+use Rattle.cbm_session.proofs.Paces.{by_eight}
+use Rattle.cbm_iec.specs.Profile.{bit_time, first_accept}
 use Rattle.std.proofs.Common.{◌≡◌, ℕ, ◌+◌, ◌*◌, ◌≤◌, ◌<◌, max, suc, inl, inr, Bool, true, false, List, [], ◌∷◌, ◌++◌, length, map, Option, Some, None, ap, sym, subst, arith, refl}
 use Rattle.std.proofs.Math.Nat.{le-max_left, le-max_right, max-le}
 use Rattle.std.proofs.lemmas.Bool.Decides.{leb_tells}
@@ -21,7 +24,7 @@ use Rattle.cbm_session.proofs.among.Standing.{IsSound}
 use Rattle.cbm_session.proofs.frames.Accepted.{accepted, listen_react, listen_few, gap_same}
 use Rattle.cbm_session.proofs.frames.Phases.{none_all, Each, each, ReactsBy, react_by}
 use Rattle.cbm_session.proofs.joining.Merging.{merge_nil, NoneBefore, InOrder, none_sooner, by_head, none_merge, before_yes, before_no, AllBefore, front_before}
-use Rattle.cbm_session.proofs.joining.OneDrive.{AllUpTo, upto_append, last_after, cells_upto, upto_free, upto_held}
+use Rattle.cbm_session.proofs.joining.OneDrive.{AllUpTo, upto_append, last_after, pulse_within, cells_upto, upto_free, upto_held}
 use Rattle.cbm_session.proofs.joining.Orders.{starts_late, host_order}
 use Rattle.cbm_session.proofs.joining.Owning.{AllOwned, part_owned, part_order, host_mine, none_append}
 use Rattle.cbm_session.proofs.joining.Talkers.{true_false, OneTalker}
@@ -31,8 +34,8 @@ use Rattle.cbm_session.specs.Bits.{where_held, where_free, cells_steps, held_aft
 use Rattle.cbm_session.specs.Frames.{Sent, Told, wire, end_of, accept_of, hearing, sending, StartFits, SentFits, is_last, signal_steps, first_bit, bit_steps, telling, taking, SignalFits, ToldFits}
 use Rattle.cbm_session.specs.Joins.{NotBefore}
 use Rattle.cbm_session.specs.Laws.{SeatsReact, AllAccepted, NotSooner, AllAfter, GoesOn, SessionsGoOn}
-use Rattle.cbm_session.specs.Pieces.{Whole, Piece, Place, Point, freed_steps, host_part, let_go, own_part, steps_of, before, AtLeast, gap, MayRelease, PullFits, FreedFits, IsCommanding, Fits, CutFits, held_by, told_place, told_since, behind, behind_all, seat_with, obeying, standing, whole_point, point_after, PullPiece, Command, Byte, ToListener, ToNobody, ToTalker, Nothing, Talk, Full, Cut, Open, Commanding, Listening, Leading, Cutting}
-use Rattle.cbm_session.specs.Seats.{lines, Seat, device, reaction, slowest, is_listener, is_talker, talker_of, listeners}
+use Rattle.cbm_session.specs.Pieces.{silent_part, silent_end, Whole, Piece, Place, Point, freed_steps, host_part, let_go, own_part, steps_of, before, AtLeast, gap, MayRelease, PullFits, FreedFits, IsCommanding, Fits, CutFits, held_by, told_place, told_since, behind, behind_all, seat_with, obeying, standing, whole_point, point_after, PullPiece, Command, Byte, ToListener, ToNobody, ToTalker, Nothing, Talk, Full, Cut, Open, Commanding, Listening, Leading, Cutting}
+use Rattle.cbm_session.specs.Seats.{at_pace, lines, Seat, device, reaction, slowest, is_listener, is_talker, talker_of, listeners}
 use Rattle.cbm_session.specs.Sessions.{rest, Linked, session_steps}
 use Rattle.cbm_session.specs.Steps.{Step, host, drive, for_one, moment_of, merge, merge_all}
 
@@ -205,8 +208,8 @@ own_head p (ToTalker at clock) h x =
     late_by_role at x.role (let_go at x) (drive (device x) (clock + reaction x) Clock Pull ∷ drive (device x) (clock + reaction x) Data Free ∷ []) (omega arith) (omega (arith, k))
 own_head p (Nothing at clock freed) h x =
     let k = h.1 in
-    late_by_role at x.role (let_go at x) (for_one (device x) Silent (drive (device x) (clock + reaction x) Data Free) ∷ []) (omega arith) (omega (arith, k))
-own_head p (Talk at f) h x = head_if at (is_talker x.role) (telling x.party at f) (omega arith)
+    late_by_role at x.role (let_go at x) (silent_part x.party.pace (device x) (clock + reaction x)) (omega arith) (silent_head x.party.pace (device x) at (clock + reaction x) (omega (arith, k)))
+own_head p (Talk at f) h x = head_if at (is_talker x.role) (telling (at_pace (talker_of p.seats).pace x.party) at f) (omega arith)
 
 steps_from : (p : Point) (w : Whole) → Fits p w → NoneBefore (first_of w) (steps_of p w)
 steps_from p w f =
@@ -221,7 +224,7 @@ end_by p (Byte eoi f) = accept_of (listeners p.seats) f + gap p.seats
 end_by p (ToListener at) = at + 61
 end_by p (ToNobody at clock) = max (at + 61) clock
 end_by p (ToTalker at clock) = behind_all at (clock + (talker_of p.seats).reaction + 1) p.seats
-end_by p (Nothing at clock freed) = behind_all at (behind (clock + (talker_of p.seats).reaction) freed) p.seats
+end_by p (Nothing at clock freed) = behind_all at (behind (silent_end (talker_of p.seats) clock) freed) p.seats
 end_by p (Talk at f) = told_since (talker_of p.seats) f
 
 -- it isn't before the last moment that is given, and is behind each release of DATA by a drive without a role
@@ -279,7 +282,7 @@ sending_upto m f a c l =
 taking_upto : (m : ℕ) (b : Party) (at : ℕ) (f : Told) → ToldFits b at f → f.accept ≤ m → AllUpTo m (taking b f)
 taking_upto m b at f h l = go f.signal h.signal h.accept
   where
-    go : (x : Option (ℕ × ℕ)) → SignalFits f.free x → (elim x as (λ y. ℕ) [ None ↦ f.free | Some y ↦ y.1 ]) + b.reaction + 961 ≤ f.accept
+    go : (x : Option (ℕ × ℕ)) → SignalFits f.free x → (elim x as (λ y. ℕ) [ None ↦ f.free | Some y ↦ y.1 ]) + b.reaction + first_accept b.pace ≤ f.accept
         → AllUpTo m (host f.free Data Free ∷ (signal_steps x ++ for_one b.device (Said (number_of f.bits) (is_last f)) (host f.accept Data Pull) ∷ []))
     go None g a = (omega (arith, a, l), (l, tt))
     go (Some (pull, again)) g a = let x = g.0 in let y = g.1 in (omega (arith, a, l, x, y), (omega (arith, a, l, y), (omega (arith, a, l), (l, tt))))
@@ -310,10 +313,11 @@ part_upto p (ToTalker at clock) h =
     (omega (arith, k, l), (omega (arith, k, l), (omega (arith, l), tt)))
 part_upto p (Nothing at clock freed) h =
     let k = h.1 in
-    let n = clock + (talker_of p.seats).reaction in
+    let n = silent_end (talker_of p.seats) clock in
     let a = behind_answer n freed h.2 in
     let l = behind_base at (behind n freed) p.seats in
-    (omega (arith, k, a, l), (omega (arith, k, a, l), (omega (arith, a, l), freed_by (behind_all at (behind n freed) p.seats) n freed l)))
+    let e = silent_from (talker_of p.seats) clock in
+    (omega (arith, k, a, l, e), (omega (arith, k, a, l, e), (omega (arith, a, l, e), freed_by (behind_all at (behind n freed) p.seats) n freed l)))
 part_upto p (Talk at f) h = taking_upto (told_since (talker_of p.seats) f) (talker_of p.seats) at f h.1 (told_late (talker_of p.seats) f)
 
 -- so a piece begins before it
@@ -369,9 +373,12 @@ pull_before m t o false true h = tt
 pull_before m t o false false h = (h, tt)
 
 -- of a frame of the host
-hearing_before : (hs : List Seat) (eoi : Bool) (act : Act) (f : Sent) (m : ℕ) (x : Seat) → StartFits hs eoi f → f.start ≤ end_of f → reaction x ≤ slowest hs → end_of f + reaction x < m → AllBefore m (hearing (wire hs f) eoi act f x)
-hearing_before hs true act f m x h k l n = (omega (arith, h, k, l, n), (omega (arith, h, k, l, n), (omega (arith, h, k, l, n), (n, tt))))
-hearing_before hs false act f m x h k l n = let g = h.0 in (omega (arith, g, k, l, n), (n, tt))
+hearing_before : (hs : List Seat) (eoi : Bool) (act : Act) (f : Sent) (m : ℕ) (x : Seat) → SentFits hs eoi f → f.start ≤ end_of f → reaction x ≤ slowest hs → end_of f + reaction x < m → AllBefore m (hearing (wire hs f) eoi act f x)
+hearing_before hs true act f m x h k l n =
+    let g = h.start in
+    let e = pulse_within hs f h x.party.pace in
+    (omega (arith, g, k, l, n), (omega (arith, e, n), (omega (arith, e, n), (n, tt))))
+hearing_before hs false act f m x h k l n = let g = h.start.0 in (omega (arith, g, k, l, n), (n, tt))
 
 accepted_each : (hs : List Seat) (f : Sent) (m : ℕ) → AllAccepted hs f m → Each (λ x. end_of f + reaction x < m) hs
 accepted_each [] f m a = tt
@@ -381,7 +388,7 @@ frame_before : (hs seats : List Seat) (eoi : Bool) (act : Act) (f : Sent) → Se
 frame_before hs seats eoi act f r c h =
     let m = accept_of hs f + gap seats in
     both (ReactsBy (slowest hs)) (λ x. end_of f + reaction x < m) (λ x. AllBefore m (hearing (wire hs f) eoi act f x)) hs
-    (λ x a b. hearing_before hs eoi act f m x h.start (last_after false f.start f.cells h.cells) a.2 b)
+    (λ x a b. hearing_before hs eoi act f m x h (last_after false f.start f.cells h.cells) a.2 b)
     (react_by (slowest hs) hs r (omega arith)) (accepted_each hs f m (accepted hs seats f m r c (omega arith)))
 
 listen_each : (P : Seat → Type 0) (ss : List Seat) → Each P (listeners ss) → Each (λ x. is_listener x.role ≡ true → P x) ss
@@ -393,13 +400,13 @@ listen_each P (x ∷ xs) h = go (is_listener x.role) refl h (listen_each P xs)
     go false e k f = (λ (g : is_listener x.role ≡ true). absurd (true_false (is_listener x.role) g e), f k)
 
 -- of a frame of the drive
-bits_before : (m : ℕ) (b : Party) (at : ℕ) (held : Bool) (bits : List Bool) → at + 120 * length bits < m → AllBefore m (bit_steps b at held bits)
+bits_before : (m : ℕ) (b : Party) (at : ℕ) (held : Bool) (bits : List Bool) → at + bit_time b.pace * length bits < m → AllBefore m (bit_steps b at held bits)
 bits_before m b at true [] h = (omega (arith, h), (omega (arith, h), tt))
 bits_before m b at false [] h = (omega (arith, h), tt)
-bits_before m b at true (true ∷ bits) h = (omega (arith, h), (omega (arith, h), (omega (arith, h), bits_before m b (at + 120) false bits (omega (arith, h)))))
-bits_before m b at false (true ∷ bits) h = (omega (arith, h), (omega (arith, h), bits_before m b (at + 120) false bits (omega (arith, h))))
-bits_before m b at true (false ∷ bits) h = (omega (arith, h), (omega (arith, h), bits_before m b (at + 120) true bits (omega (arith, h))))
-bits_before m b at false (false ∷ bits) h = (omega (arith, h), (omega (arith, h), (omega (arith, h), bits_before m b (at + 120) true bits (omega (arith, h)))))
+bits_before m b at true (true ∷ bits) h = (omega (arith, h), (omega (arith, h), (omega (arith, h), bits_before m b (at + bit_time b.pace) false bits (omega (arith, h)))))
+bits_before m b at false (true ∷ bits) h = (omega (arith, h), (omega (arith, h), bits_before m b (at + bit_time b.pace) false bits (omega (arith, h))))
+bits_before m b at true (false ∷ bits) h = (omega (arith, h), (omega (arith, h), bits_before m b (at + bit_time b.pace) true bits (omega (arith, h))))
+bits_before m b at false (false ∷ bits) h = (omega (arith, h), (omega (arith, h), (omega (arith, h), bits_before m b (at + bit_time b.pace) true bits (omega (arith, h)))))
 
 both_before : (m : ℕ) (xs ys : List Step) → AllBefore m xs → AllBefore m ys → AllBefore m (xs ++ ys)
 both_before m [] ys a b = b
@@ -414,7 +421,7 @@ telling_before b at f h =
     let g = h.free in
     let m = told_since b f in (
       omega (arith, l, a, k, g),
-      both_before m (bit_steps b (first_bit b f) false f.bits) (if is_last f then drive b.device (f.accept + b.reaction) Clock Free ∷ [] else []) (bits_before m b (first_bit b f) false f.bits (omega (arith, l, e, a))) (last (is_last f)),
+      both_before m (bit_steps b (first_bit b f) false f.bits) (if is_last f then drive b.device (f.accept + b.reaction) Clock Free ∷ [] else []) (bits_before m b (first_bit b f) false f.bits (omega (arith, l, e, a, by_eight b.pace e))) (last (is_last f)),
     )
   where
     from : (x : Option (ℕ × ℕ)) → SignalFits f.free x → f.free ≤ (elim x as (λ y. ℕ) [ None ↦ f.free | Some y ↦ y.1 ])
@@ -461,17 +468,17 @@ parts_before p w r o = go w
         (λ (e : x.role ≡ Talker). (answering at m clock x k e n, (answering at m clock x k e n, tt))))
         known (behind_each at last p.seats)
     go (Nothing at clock freed) h =
-        let last = behind (clock + b.reaction) freed in
+        let last = behind (silent_end b clock) freed in
         let m = behind_all at last p.seats in
-        let a = behind_answer (clock + b.reaction) freed h.2 in
-        let n : clock + b.reaction < m = let l = behind_base at last p.seats in omega (arith, l, a) in
+        let a = behind_answer (silent_end b clock) freed h.2 in
+        let n : silent_end b clock < m = let l = behind_base at last p.seats in omega (arith, l, a) in
         both (Known b) (GoneBy at m) (λ x. AllBefore m (own_part p (Nothing at clock freed) x)) p.seats
-        (λ x k g. before_role m x.role (let_go at x) (for_one (device x) Silent (drive (device x) (clock + reaction x) Data Free) ∷ []) (λ (e : x.role ≡ Absent). (g e, tt)) (λ (e : x.role ≡ Talker). (answering at m clock x k e n, tt)))
+        (λ x k g. before_role m x.role (let_go at x) (silent_part x.party.pace (device x) (clock + reaction x)) (λ (e : x.role ≡ Absent). (g e, tt)) (λ (e : x.role ≡ Talker). silent_before x.party.pace (device x) m (clock + reaction x) (subst (λ (c : Party). silent_end c clock < m) (k.talks (ap is_talker e)) n)))
         known (behind_each at last p.seats)
     go (Talk at f) h =
         let m = told_since b f in
         each (Known b) (λ x. AllBefore m (own_part p (Talk at f) x)) p.seats
-        (λ x k. before_if m (is_talker x.role) (telling x.party at f) (λ (e : is_talker x.role ≡ true). subst (λ (c : Party). AllBefore m (telling c at f)) (k.talks e) (telling_before b at f h.1))) known
+        (λ x k. before_if m (is_talker x.role) (telling (at_pace (talker_of p.seats).pace x.party) at f) (λ (e : is_talker x.role ≡ true). subst (λ (c : Party). AllBefore m (telling (at_pace (talker_of p.seats).pace c) at f)) (k.talks e) (telling_before b at f h.1))) known
 
 -- all steps of a piece are done by then
 pub steps_done : (p : Point) (s : Seat) (w : Whole) → IsSound p s → Fits p w → Every (DoneBy (end_by p w)) (steps_of p w)
@@ -560,7 +567,7 @@ whole_waits p (ToListener at) r h = (
 )
 whole_waits p (ToNobody at clock) r h = λ (n : ℕ) (a : at + 100 ≤ n) (b : clock ≤ n). max-le (omega (arith, a)) b
 whole_waits p (ToTalker at clock) r h = let k = h.1 in (behind_upto at (clock + (talker_of p.seats).reaction + 1) (clock + (talker_of p.seats).reaction + 80) p.seats r (omega (arith, k)) (omega arith), omega arith)
-whole_waits p (Nothing at clock freed) r h = λ (n : ℕ) (a : Unit {0}) (b : behind_all at (behind (clock + (talker_of p.seats).reaction) freed) p.seats ≤ n). b
+whole_waits p (Nothing at clock freed) r h = λ (n : ℕ) (a : Unit {0}) (b : behind_all at (behind (silent_end (talker_of p.seats) clock) freed) p.seats ≤ n). b
 whole_waits p (Talk at f) r h = told_waits f (talker_of p.seats).reaction (whole_point p (Talk at f)) refl
 
 -- A session goes on, and nothing of it comes before what it waits for.
