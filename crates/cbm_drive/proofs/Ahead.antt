@@ -5,15 +5,17 @@ use Rattle.std.specs.Prelude.{◌==◌, nat_le, if◌then◌else◌, ◌%◌, �
 use Rattle.cbm_iec.specs.Machines.{acted}
 use Rattle.cbm_iec.specs.Ports.{port_due, reacted, reaction_act, next_role, next_held, next_side}
 use Rattle.cbm_iec.specs.Hearing.{ear_row}
-use Rattle.cbm_iec.specs.Speaking.{mouth_row, after_taken, end_frame_row, set_bit_row, show_bit_row}
+use Rattle.cbm_iec.specs.Speaking.{mouth_row, answer_row, after_taken, end_frame_row, set_bit_row, show_bit_row}
 use Rattle.cbm_iec.specs.Table.{TableRow}
 use Rattle.cbm_iec.specs.declared.act.Act.{Act}
 use Rattle.cbm_iec.specs.declared.ear.Ear.{Ear}
 use Rattle.cbm_iec.specs.declared.line.Change.{Change}
 use Rattle.cbm_iec.specs.declared.lines.Held.{Held}
 use Rattle.cbm_iec.specs.declared.lines.Lines.{Lines}
-use Rattle.cbm_iec.specs.declared.mouth.Mouth.TheVariants.{Turned, Answering, Led, Offering, EoiOffered, EoiPulsed, Sending, Waiting, Ending, Over}
+use Rattle.cbm_iec.specs.declared.mouth.Mouth.TheVariants.{Turned, Answering, Mute, Led, Offering, EoiOffered, EoiPulsed, Sending, Waiting, Ending, Over}
 use Rattle.cbm_iec.specs.declared.mouth.Mouth.{Mouth}
+use Rattle.cbm_iec.specs.declared.pace.Pace.TheVariants.{Profile, Kernal}
+use Rattle.cbm_iec.specs.declared.pace.Pace.{Pace}
 use Rattle.cbm_iec.specs.declared.party.Party.{Party}
 use Rattle.cbm_iec.specs.declared.party.Role.{Role}
 use Rattle.cbm_iec.specs.declared.port.Port.{Port}
@@ -61,7 +63,7 @@ module _ (M : Type 0) (step : M → Act → M) (says : M → Option (ℕ × Bool
   hearing limit peek answer party role own others ear rest m (over t due before none more) =
       let port : Port = record { party = party; role = role; own = own; others = others; side = Hearing ear } in
       passes t due before none
-      (hearing limit peek answer party (next_role port) (next_held peek port) others ((ear_row ear).next party.reaction t others) rest (acted M step (reaction_act (says m) port) m) more)
+      (hearing limit peek answer party (next_role port) (next_held peek port) others ((ear_row party.pace ear).next party.reaction t others) rest (acted M step (reaction_act (says m) port) m) more)
 
   -- nothing is due to a talker that is done
   is_over : (limit : ℕ) (peek : Option (ℕ × Bool)) (answer : Bool) (party : Party) (role : Role) (own : Held) (others : Lines) (rest : Rest) (m : M)
@@ -83,12 +85,23 @@ module _ (M : Type 0) (step : M → Act → M) (says : M → Option (ℕ × Bool
 
   -- a talker's reaction that tells its machine an act, and shows nothing
   spoken : (limit : ℕ) (peek : Option (ℕ × Bool)) (answer : Bool) (party : Party) (role : Role) (own : Held) (atn clock low : Bool) (mouth : Mouth) (rest : Rest) (m : M) (t : ℕ) (a : Act)
-      → (mouth_row peek mouth).act (record { atn_low = atn; clock_low = clock; data_low = low }) ≡ Some a
+      → (mouth_row party.pace peek mouth).act (record { atn_low = atn; clock_low = clock; data_low = low }) ≡ Some a
       → Foretold limit peek answer (reacted t peek (record { party = party; role = role; own = own; others = record { atn_low = atn; clock_low = clock; data_low = low }; side = Speaking mouth }))
       → Foreseen M step says limit answer (with_port rest m (reacted t peek (record { party = party; role = role; own = own; others = record { atn_low = atn; clock_low = clock; data_low = low }; side = Speaking mouth })))
-  spoken limit None answer party role own atn clock low (Answering at_) rest m t a e more =
-      is_over limit None answer party role (record { clock_low = own.clock_low || false; data_low = false }) (record { atn_low = atn; clock_low = clock; data_low = low }) rest m more
-  spoken limit (Some x) answer party role own atn clock low (Answering at_) rest m t a e more = absurd (cc)
+  spoken limit peek answer party role own atn clock low (Answering at_) rest m t a e more = answered party.pace peek e more
+    where
+      others : Lines
+      others = record { atn_low = atn; clock_low = clock; data_low = low }
+
+      answered : (p : Pace) (peek : Option (ℕ × Bool)) → (answer_row p peek).act others ≡ Some a
+          → Foretold limit peek answer (record { party = party; role = role; own = (answer_row p peek).held own; others = others; side = Speaking ((answer_row p peek).next party.reaction t others) })
+          → Foreseen M step says limit answer (with_port rest m (record { party = party; role = role; own = (answer_row p peek).held own; others = others; side = Speaking ((answer_row p peek).next party.reaction t others) }))
+      answered Profile None e more = is_over limit None answer party role (record { clock_low = own.clock_low || false; data_low = false }) others rest m more
+      answered Profile (Some x) e more = absurd (cc)
+      answered Kernal None e more = absurd (cc)
+      answered Kernal (Some x) e more = absurd (cc)
+  spoken limit peek answer party role own atn clock low (Mute at_) rest m t a e more =
+      is_over limit peek answer party role (record { clock_low = false; data_low = false }) (record { atn_low = atn; clock_low = clock; data_low = low }) rest m more
   spoken limit peek answer party role own atn clock low (Led at_) rest m t a e more = absurd (cc)
   spoken limit peek answer party role own atn clock low (Ending at_) rest m t a e more = absurd (cc)
   spoken limit peek answer party role own atn clock low Turned rest m t a e more = absurd (cc)
@@ -100,7 +113,7 @@ module _ (M : Type 0) (step : M → Act → M) (says : M → Option (ℕ × Bool
   spoken limit peek answer party role own atn clock low (Sending at_ byte last left half) rest m t a e more = by_half (nat_le 16 half) (half % 2 == 0) low e more
     where
       row_of : Bool → Bool → TableRow Mouth
-      row_of b c = if b then end_frame_row byte last else (if c then set_bit_row byte last left half else show_bit_row byte last left half)
+      row_of b c = if b then end_frame_row byte last else (if c then set_bit_row party.pace byte last left half else show_bit_row party.pace byte last left half)
 
       by_half : (b c d : Bool) → (row_of b c).act (record { atn_low = atn; clock_low = clock; data_low = d }) ≡ Some a
           → Foretold limit peek answer (record { party = party; role = role; own = (row_of b c).held own; others = record { atn_low = atn; clock_low = clock; data_low = d }; side = Speaking ((row_of b c).next party.reaction t (record { atn_low = atn; clock_low = clock; data_low = d })) })

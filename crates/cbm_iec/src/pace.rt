@@ -3,6 +3,8 @@
 ghost use Rattle.std.specs.Prelude.{◌≡◌};
 ghost use Rattle.cbm_iec.specs.Profile.{eoi_pulse, half_bit};
 
+use crate::profile::{EOI_PULSE, HALF_BIT, KERNAL_EOI_PULSE, KERNAL_HALF_BIT};
+
 /// Which hosts a drive keeps pace with.
 #[derive(Clone, Copy, Debug, Default, PartialEq, Eq, Drop)]
 pub enum Pace {
@@ -20,8 +22,8 @@ impl Pace {
         ensures { result ≡ eoi_pulse self }
     {
         match self {
-            Pace::Profile => 60,
-            Pace::Kernal => 80,
+            Pace::Profile => EOI_PULSE,
+            Pace::Kernal => KERNAL_EOI_PULSE,
         }
     }
 
@@ -31,8 +33,8 @@ impl Pace {
         ensures { result ≡ half_bit self }
     {
         match self {
-            Pace::Profile => 60,
-            Pace::Kernal => 80,
+            Pace::Profile => HALF_BIT,
+            Pace::Kernal => KERNAL_HALF_BIT,
         }
     }
 }

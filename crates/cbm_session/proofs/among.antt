@@ -16,6 +16,7 @@ pub mod Counted
 pub mod Points
 pub mod Turns
 pub mod Answers
+pub mod Silences
 pub mod Alone
 pub mod Talks
 pub mod Sessions

@@ -1,7 +1,7 @@
--- A drive among others that is to talk: it answers ATN's release, with a byte to say or none.
+-- A drive among others that is to talk: it answers ATN's release, with a byte to say.
 use Rattle.cbm_iec.specs.declared.pace.Pace.TheVariants.{Profile, Kernal}
 use Rattle.cbm_iec.specs.declared.pace.Pace.{Pace}
-use Rattle.std.proofs.Common.{◌≡◌, ℕ, zero, ◌+◌, ◌≤◌, inl, inr, Bool, true, false, List, [], ◌∷◌, ◌++◌, Option, Some, None, ap, sym, ◌∙◌, subst, arith, refl}
+use Rattle.std.proofs.Common.{◌≡◌, ℕ, zero, ◌+◌, ◌≤◌, inl, inr, Bool, true, false, List, [], ◌∷◌, ◌++◌, Option, Some, None, ap, sym, ◌∙◌, subst, arith, refl, append_assoc, append-nil}
 use Rattle.std.proofs.lemmas.Bool.Decides.{leb_tells}
 use Rattle.std.specs.Prelude.{if◌then◌else◌, nat_eq}
 use Rattle.cbm_iec.specs.Ports.{side_due}
@@ -100,11 +100,11 @@ module _ (peek : Option (ℕ × Bool)) (b : Party) (clock n : ℕ) (B : Step →
   abbrev answers : Rest → Port
   answers r = stands b Talker (lines false true) (wires_of r) (Speaking (Answering due))
 
-  -- with what comes from the answer on
-  answer_follows : AllAt due mine → NoneBefore (due + 1) freed → Every B freed → Around due (IsAside b.device false) B mine ds
-      → ((r : Rest) (back : List Step) → Every B back → Every (IsLateBy due) back → (r2 : Rest) × ((q2 : Port) × (FollowsAmong peek r (answers r) (mine ++ back) r2 q2 × End q2 r2)))
-      → (r2 : Rest) × ((q2 : Port) × (FollowsAmong peek (turned_rest n) (stands b Talker (lines false true) (wires_of (turned_rest n)) (Speaking Turned)) (merge (host clock Clock Free ∷ freed) ds) r2 q2 × End q2 r2))
-  answer_follows m l fb a more =
+  -- from the answer on; tail comes behind all of it
+  pub answer_goes : (tail : List Step) → AllAt due mine → NoneBefore (due + 1) freed → Every B freed → Around due (IsAside b.device false) B mine ds
+      → ((r : Rest) (back : List Step) → Every B back → Every (IsLateBy due) back → (r2 : Rest) × ((q2 : Port) × (FollowsAmong peek r (answers r) (mine ++ (back ++ tail)) r2 q2 × End q2 r2)))
+      → (r2 : Rest) × ((q2 : Port) × (FollowsAmong peek (turned_rest n) (stands b Talker (lines false true) (wires_of (turned_rest n)) (Speaking Turned)) (merge (host clock Clock Free ∷ freed) ds ++ tail) r2 q2 × End q2 r2))
+  answer_goes tail m l fb a more =
       let d = b.device in
       let free = host clock Clock Free in
       let rest = mine ++ a.back in
@@ -119,19 +119,32 @@ module _ (peek : Option (ℕ × Bool)) (b : Party) (clock n : ℕ) (B : Step →
       let r3 = answering_rest r1.datas in
       let r4 = rest_behind d r3 c.front in
       let all = more r4 c.back c.behind c.late in
-      let answer = asides peek b Talker (lines false true) (Speaking (Answering due)) (calm_answering due) false r3 all.0 all.1.0 c.front (mine ++ c.back) refl c.first (in_time (Speaking (Answering due)) due c.front refl c.upto) all.1.1.0 in
-      let here = subst (λ (zs : List Step). FollowsAmong peek r3 (answers r3) zs all.0 all.1.0) {x = c.front ++ (mine ++ c.back)} (sym {b = c.front ++ (mine ++ c.back)} c.is) answer in
-      let turn = answering_turn peek b clock r1.datas (merge freed (i.1.0 ++ rest)) all.0 all.1.0 here in
-      let from = subst (λ (r : Rest). FollowsAmong peek r (stands b Talker (lines false true) (wires_of r) (Speaking Turned)) (free ∷ merge freed (i.1.0 ++ rest)) all.0 all.1.0) (sym known) turn in
-      let whole = asides peek b Talker (lines false true) (Speaking Turned) calm_turned true (turned_rest n) all.0 all.1.0 i.0 (free ∷ merge freed (i.1.0 ++ rest)) refl (every (IsAside d false) (IsAside d true) i.0 (aside_keeps d true) left) (never_due (Speaking Turned) i.0 refl) from in
-      (all.0, (all.1.0, (subst (λ (zs : List Step). FollowsAmong peek (turned_rest n) (stands b Talker (lines false true) (wires_of (turned_rest n)) (Speaking Turned)) zs all.0 all.1.0) (sym (ap (λ (zs : List Step). merge (free ∷ freed) zs) a.is ∙ i.1.1.1)) whole, all.1.1.1)))
+      let later = merge freed (i.1.0 ++ rest) ++ tail in
+      let answer = asides peek b Talker (lines false true) (Speaking (Answering due)) (calm_answering due) false r3 all.0 all.1.0 c.front (mine ++ (c.back ++ tail)) refl c.first (in_time (Speaking (Answering due)) due c.front refl c.upto) all.1.1.0 in
+      let is : later ≡ c.front ++ (mine ++ (c.back ++ tail)) = ap (λ (zs : List Step). zs ++ tail) c.is ∙ append_assoc c.front (mine ++ c.back) tail ∙ ap (λ (zs : List Step). c.front ++ zs) (append_assoc mine c.back tail) in
+      let here = subst (λ (zs : List Step). FollowsAmong peek r3 (answers r3) zs all.0 all.1.0) {x = c.front ++ (mine ++ (c.back ++ tail))} (sym {b = c.front ++ (mine ++ (c.back ++ tail))} is) answer in
+      let turn = answering_turn peek b clock r1.datas later all.0 all.1.0 here in
+      let from = subst (λ (r : Rest). FollowsAmong peek r (stands b Talker (lines false true) (wires_of r) (Speaking Turned)) (free ∷ later) all.0 all.1.0) (sym known) turn in
+      let whole = asides peek b Talker (lines false true) (Speaking Turned) calm_turned true (turned_rest n) all.0 all.1.0 i.0 (free ∷ later) refl (every (IsAside d false) (IsAside d true) i.0 (aside_keeps d true) left) (never_due (Speaking Turned) i.0 refl) from in
+      let steps : merge (free ∷ freed) ds ++ tail ≡ i.0 ++ free ∷ later =
+      ap (λ (zs : List Step). zs ++ tail) (ap (λ (zs : List Step). merge (free ∷ freed) zs) a.is ∙ i.1.1.1) ∙ append_assoc i.0 (free ∷ merge freed (i.1.0 ++ rest)) tail in
+      (all.0, (all.1.0, (subst (λ (zs : List Step). FollowsAmong peek (turned_rest n) (stands b Talker (lines false true) (wires_of (turned_rest n)) (Speaking Turned)) zs all.0 all.1.0) (sym steps) whole, all.1.1.1)))
+
+  -- where nothing comes behind
+  pub answer_follows : AllAt due mine → NoneBefore (due + 1) freed → Every B freed → Around due (IsAside b.device false) B mine ds
+      → ((r : Rest) (back : List Step) → Every B back → Every (IsLateBy due) back → (r2 : Rest) × ((q2 : Port) × (FollowsAmong peek r (answers r) (mine ++ back) r2 q2 × End q2 r2)))
+      → (r2 : Rest) × ((q2 : Port) × (FollowsAmong peek (turned_rest n) (stands b Talker (lines false true) (wires_of (turned_rest n)) (Speaking Turned)) (merge (host clock Clock Free ∷ freed) ds) r2 q2 × End q2 r2))
+  answer_follows m l fb a more =
+      let all = answer_goes [] m l fb a (λ (r : Rest) (back : List Step) e late. subst (λ (zs : List Step). (r2 : Rest) × ((q2 : Port) × (FollowsAmong peek r (answers r) (mine ++ zs) r2 q2 × End q2 r2))) (sym (append-nil back)) (more r back e late)) in
+      let steps = merge (host clock Clock Free ∷ freed) ds in
+      (all.0, (all.1.0, (subst (λ (zs : List Step). FollowsAmong peek (turned_rest n) (stands b Talker (lines false true) (wires_of (turned_rest n)) (Speaking Turned)) zs all.0 all.1.0) (append-nil steps) all.1.1.0, all.1.1.1)))
 
 -- not later than this moment, besides
-abbrev Short : ℕ → ℕ → Step → Type 0
+abbrev pub Short : ℕ → ℕ → Step → Type 0
 Short d at s = IsOthers d s × (moment_of s ≤ at + 60)
 
 -- the other drives only let go of DATA, within 60
-talk_parts : (d at : ℕ) (answer : Seat → List Step) (seats : List Seat) → ForOthers d (λ x. is_talker x.role ≡ false) seats → SeatsReact seats
+pub talk_parts : (d at : ℕ) (answer : Seat → List Step) (seats : List Seat) → ForOthers d (λ x. is_talker x.role ≡ false) seats → SeatsReact seats
     → ForOthers d (λ x. IsPart (IsAside d false) (Short d at) (elim x.role as (λ r. List Step) [ Absent ↦ let_go at x | Listener ↦ [] | Talker ↦ answer x ])) seats
 talk_parts d at answer [] e r = tt
 talk_parts d at answer (x ∷ xs) e r = (
@@ -142,10 +155,10 @@ talk_parts d at answer (x ∷ xs) e r = (
     one : nat_eq d (device x) ≡ false → IsPart (IsAside d false) (Short d at) (let_go at x)
     one h = let k = r.1 in record { order = (tt, tt); first = (record { who = h; counts = refl; line = tt }, tt); behind = ((record { who = h; counts = refl; line = refl }, omega (arith, k)), tt); drives = (tt, tt) }
 
-short_others : (d at : ℕ) (s : Step) → Short d at s → IsOthers d s
+pub short_others : (d at : ℕ) (s : Step) → Short d at s → IsOthers d s
 short_others d at s h = h.0
 
-short_in_time : (d at t : ℕ) (ss : List Step) → at + 60 ≤ t → Every (Short d at) ss → Every (InTime (Speaking (Led t))) ss
+pub short_in_time : (d at t : ℕ) (ss : List Step) → at + 60 ≤ t → Every (Short d at) ss → Every (InTime (Speaking (Led t))) ss
 short_in_time d at t [] l a = tt
 short_in_time d at t (s ∷ ss) l a = let k = a.0.1 in (omega (arith, k, l), short_in_time d at t ss l a.1)
 
@@ -164,22 +177,6 @@ led_follows b x at clock l r back a late =
         → FollowsAmong (Some x) r (stands (at_pace v b) Talker (lines false true) (wires_of r) (Speaking (Answering (clock + b.reaction)))) ((drive b.device (clock + b.reaction) Clock Pull ∷ drive b.device (clock + b.reaction) Data Free ∷ []) ++ back) (rest_behind b.device r back) (stands (at_pace v b) Talker (lines true false) (wires_of (rest_behind b.device r back)) (Speaking (Led (clock + b.reaction + 80))))
     go Profile more = reacts (clock + b.reaction) back refl refl tt (is_behind (clock + b.reaction) back late) more
     go Kernal more = reacts (clock + b.reaction) back refl refl tt (is_behind (clock + b.reaction) back late) more
-
--- with none it lets go of DATA alone
-silent_follows : (b : Party) (clock : ℕ) → b.pace ≡ Profile → (r : Rest) (back : List Step) → Every (IsOthers b.device) back → Every (IsLateBy (clock + b.reaction)) back
-    → (r2 : Rest) × ((q2 : Port) × (FollowsAmong None r (stands b Talker (lines false true) (wires_of r) (Speaking (Answering (clock + b.reaction)))) ((for_one b.device Silent (drive b.device (clock + b.reaction) Data Free) ∷ []) ++ back) r2 q2
-    × (q2 ≡ stands b Talker (lines false false) (wires_of r2) (Speaking Over))))
-silent_follows b clock e r back a late =
-    let t = clock + b.reaction in
-    let r2 = rest_behind b.device r back in
-    let q2 = stands b Talker (lines false false) (wires_of r2) (Speaking Over) in
-    let more = passes_all None b Talker (lines false false) (Speaking Over) calm_over r back a (never_due (Speaking Over) back refl) in
-    (r2, (q2, (go b.pace e more, refl)))
-  where
-    go : (v : Pace) → v ≡ Profile → FollowsAmong None r (stands (at_pace v b) Talker (lines false false) (wires_of r) (Speaking Over)) back (rest_behind b.device r back) (stands (at_pace v b) Talker (lines false false) (wires_of (rest_behind b.device r back)) (Speaking Over))
-        → FollowsAmong None r (stands (at_pace v b) Talker (lines false true) (wires_of r) (Speaking (Answering (clock + b.reaction)))) ((for_one b.device Silent (drive b.device (clock + b.reaction) Data Free) ∷ []) ++ back) (rest_behind b.device r back) (stands (at_pace v b) Talker (lines false false) (wires_of (rest_behind b.device r back)) (Speaking Over))
-    go Profile e more = reacts (clock + b.reaction) back refl refl tt (is_behind (clock + b.reaction) back late) more
-    go Kernal e more = absurd cc
 
 pub talker_law : (b : Party) (o : Held) (at clock : ℕ) → SeatLaw (ToTalker at clock) (seat b Talker o)
 talker_law b o at clock p q peek sound st f y =
@@ -208,17 +205,3 @@ talker_law b o at clock p q peek sound st f y =
       own = ap (λ (z : Port). z.own) all.1.1.1;
       side = ap (λ (z : Port). z.side) all.1.1.1 ∙ ap (λ (z : Party). Speaking (Led (clock + z.reaction + 80))) (sym same);
     }
-
-freed_none : (t : ℕ) (freed : Option ℕ) → FreedFits t freed → NoneBefore (t + 1) (freed_steps freed)
-freed_none t None h = tt
-freed_none t (Some g) h = (h, tt)
-
-part_others : (d at : ℕ) (seats : List Seat) (own : Seat → List Step) → ForOthers d (λ x. IsPart (IsAside d false) (Short d at) (own x)) seats → ForOthers d (λ x. IsPart (IsAside d false) (IsOthers d) (own x)) seats
-part_others d at [] own e = tt
-part_others d at (x ∷ xs) own e = (
-  λ (h : nat_eq d (device x) ≡ false). let k = e.0 h in record { order = k.order; first = k.first; behind = every (Short d at) (IsOthers d) (own x) (short_others d at) k.behind; drives = k.drives },
-  part_others d at xs own e.1,
-)
-
-pub nothing_law : (b : Party) (o : Held) (at clock : ℕ) (freed : Option ℕ) → SeatLaw (Nothing at clock freed) (seat b Talker o)
-nothing_law b o at clock freed p q peek sound st f y = ?

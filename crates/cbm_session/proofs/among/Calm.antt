@@ -15,7 +15,7 @@ use Rattle.cbm_iec.specs.declared.line.Line.{Line}
 use Rattle.cbm_iec.specs.declared.line.Way.{Way}
 use Rattle.cbm_iec.specs.declared.lines.Held.{Held}
 use Rattle.cbm_iec.specs.declared.lines.Lines.{Lines}
-use Rattle.cbm_iec.specs.declared.mouth.Mouth.TheVariants.{Turned, Answering, Led, Over}
+use Rattle.cbm_iec.specs.declared.mouth.Mouth.TheVariants.{Turned, Answering, Mute, Led, Over}
 use Rattle.cbm_iec.specs.declared.party.Party.{Party}
 use Rattle.cbm_iec.specs.declared.party.Role.{Role}
 use Rattle.cbm_iec.specs.declared.port.Port.{Port}
@@ -75,6 +75,15 @@ pub calm_led : (at : ℕ) → Calm (Speaking (Led at))
 calm_led at r m a c e u v = (go (is_same c e) (is_same u v), refl)
   where
     go : (x y : Bool) → Speaking (if y then (if x then Led at else Led at) else talk_data r m v (if x then Led at else Led at)) ≡ Speaking (Led at)
+    go true true = refl
+    go false true = refl
+    go true false = refl
+    go false false = refl
+
+pub calm_mute : (at : ℕ) → Calm (Speaking (Mute at))
+calm_mute at r m a c e u v = (go (is_same c e) (is_same u v), refl)
+  where
+    go : (x y : Bool) → Speaking (if y then (if x then Mute at else Mute at) else talk_data r m v (if x then Mute at else Mute at)) ≡ Speaking (Mute at)
     go true true = refl
     go false true = refl
     go true false = refl

@@ -355,7 +355,7 @@ own_only own d l [] e h = refl
 own_only own d l (x ∷ xs) e h =
     ap (λ (zs : List Step). merge l zs) (ap (λ (zs : List Step). merge_all zs (map own xs)) (e.0 h.0) ∙ own_only own d [] xs e.1 h.1) ∙ merge_nil l
 
-sits_only : (own : Seat → List Step) (d : ℕ) (l : List Step) (seats : List Seat) (s : Seat) → ForOthers d (λ x. own x ≡ []) seats → Sits d seats s → merge_all l (map own seats) ≡ merge l (own s)
+pub sits_only : (own : Seat → List Step) (d : ℕ) (l : List Step) (seats : List Seat) (s : Seat) → ForOthers d (λ x. own x ≡ []) seats → Sits d seats s → merge_all l (map own seats) ≡ merge l (own s)
 sits_only own d l [] s e h = elim h [ ]
 sits_only own d l (x ∷ xs) s e (inl h) = ap (λ (zs : List Step). merge l zs) (own_only own d (own x) xs e.1 h.2 ∙ ap own h.0)
 sits_only own d l (x ∷ xs) s e (inr h) =

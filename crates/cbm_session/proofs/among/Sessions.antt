@@ -12,7 +12,8 @@ use Rattle.cbm_iec.specs.declared.party.Role.TheVariants.{Absent, Listener, Talk
 use Rattle.cbm_iec.specs.declared.party.Role.{Role}
 use Rattle.cbm_iec.specs.declared.port.Port.{Port}
 use Rattle.cbm_session.proofs.alone.Frames.{wires}
-use Rattle.cbm_session.proofs.among.Answers.{talker_law, nothing_law}
+use Rattle.cbm_session.proofs.among.Answers.{talker_law}
+use Rattle.cbm_session.proofs.among.Silences.{nothing_law}
 use Rattle.cbm_session.proofs.among.Counted.{rest_after}
 use Rattle.cbm_session.proofs.among.Frames.{each_sits}
 use Rattle.cbm_session.proofs.among.Fronts.{steps_order, among_cut, follows_rest, follows_wires, follows_drive, cut_among}
