@@ -13,7 +13,7 @@ use Rattle.cbm_session.specs.Among.{ComesBehind}
 use Rattle.cbm_session.specs.Bits.{where_held, cells_steps, held_after, byte_of}
 use Rattle.cbm_session.specs.Frames.{Sent, wire, end_of, pulse_from, longest, pulse_to, pulse, SentFits}
 use Rattle.cbm_session.specs.Pieces.{Whole, Piece, Point, steps_of, Fits, whole_point, PullPiece, Command, Byte, ToListener, ToNobody, ToTalker, Nothing, Talk}
-use Rattle.cbm_session.specs.Seats.{Seat, device, reaction, listeners, slowest, fastest}
+use Rattle.cbm_session.specs.Seats.{Seat, device, reaction, listeners, fastest}
 use Rattle.cbm_session.specs.Sessions.{rest, Linked, session_steps, Splits, Begins, IsBus}
 use Rattle.cbm_session.specs.Steps.{Step, host, drive, for_one, moment_of, events_of, merge_all}
 use Rattle.cbm_session.specs.Timing.{LaterHost, Owes, IsLate, any, HostKeeps}

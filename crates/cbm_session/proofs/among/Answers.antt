@@ -1,11 +1,10 @@
 -- A drive among others that is to talk: it answers ATN's release, with a byte to say.
 use Rattle.cbm_iec.specs.declared.pace.Pace.TheVariants.{Profile, Kernal}
 use Rattle.cbm_iec.specs.declared.pace.Pace.{Pace}
-use Rattle.std.proofs.Common.{◌≡◌, ℕ, zero, ◌+◌, ◌≤◌, inl, inr, Bool, true, false, List, [], ◌∷◌, ◌++◌, Option, Some, None, ap, sym, ◌∙◌, subst, arith, refl, append_assoc, append-nil}
+use Rattle.std.proofs.Common.{◌≡◌, ℕ, zero, ◌+◌, ◌≤◌, inl, inr, Bool, true, false, List, [], ◌∷◌, ◌++◌, Option, Some, ap, sym, ◌∙◌, subst, arith, refl, append_assoc, append-nil}
 use Rattle.std.proofs.lemmas.Bool.Decides.{leb_tells}
 use Rattle.std.specs.Prelude.{if◌then◌else◌, nat_eq}
-use Rattle.cbm_iec.specs.Ports.{side_due}
-use Rattle.cbm_iec.specs.declared.act.Act.TheVariants.{Released, Silent}
+use Rattle.cbm_iec.specs.declared.act.Act.TheVariants.{Released}
 use Rattle.cbm_iec.specs.declared.event.Who.TheVariants.{Host, Drive}
 use Rattle.cbm_iec.specs.declared.event.Who.{Who}
 use Rattle.cbm_iec.specs.declared.line.Line.TheVariants.{Atn, Clock, Data}
@@ -14,7 +13,7 @@ use Rattle.cbm_iec.specs.declared.line.Way.TheVariants.{Pull, Free}
 use Rattle.cbm_iec.specs.declared.line.Way.{Way}
 use Rattle.cbm_iec.specs.declared.lines.Held.{Held}
 use Rattle.cbm_iec.specs.declared.lines.Lines.{Lines}
-use Rattle.cbm_iec.specs.declared.mouth.Mouth.TheVariants.{Turned, Answering, Led, Over}
+use Rattle.cbm_iec.specs.declared.mouth.Mouth.TheVariants.{Turned, Answering, Led}
 use Rattle.cbm_iec.specs.declared.party.Party.{Party}
 use Rattle.cbm_iec.specs.declared.party.Role.TheVariants.{Absent, Listener, Talker}
 use Rattle.cbm_iec.specs.declared.port.Port.{Port}
@@ -22,11 +21,11 @@ use Rattle.cbm_iec.specs.declared.port.Side.TheVariants.{Speaking}
 use Rattle.cbm_session.proofs.alone.Frames.{wires, stands}
 use Rattle.cbm_session.proofs.alone.Fronts.{AllAt}
 use Rattle.cbm_session.proofs.among.Around.{ForOthers, IsPart, IsLateBy, own_late, Around, around_drives, weave_late, merge_drives, every, is_behind}
-use Rattle.cbm_session.proofs.among.Calm.{Every, IsOthers, ByAnother, KeepsClock, IsAside, InTime, passes_all, asides, aside_host, calm_turned, calm_answering, calm_led, calm_over}
+use Rattle.cbm_session.proofs.among.Calm.{Every, IsOthers, ByAnother, KeepsClock, IsAside, InTime, passes_all, asides, aside_host, calm_turned, calm_answering, calm_led}
 use Rattle.cbm_session.proofs.among.Points.{commanding_rest, only_talker}
 use Rattle.cbm_session.proofs.among.Pulls.{in_time, never_due}
 use Rattle.cbm_session.proofs.among.Standing.{rest_next, rest_behind}
-use Rattle.cbm_session.proofs.among.Turns.{SeatLaw, drives_of, turned_rest, answering_rest, released, talking_turn, answering_turn, late_drives, from_role, part_untalked, freed_others}
+use Rattle.cbm_session.proofs.among.Turns.{SeatLaw, drives_of, turned_rest, answering_rest, released, talking_turn, answering_turn, late_drives, from_role, part_untalked}
 use Rattle.cbm_session.proofs.joining.Merging.{merge_here, merge_there, NoneBefore}
 use Rattle.cbm_session.proofs.joining.OneDrive.{AllUpTo}
 use Rattle.cbm_session.proofs.joining.Showing.{merge_first}
@@ -36,9 +35,9 @@ use Rattle.cbm_session.specs.Among.{Rest, wires_of, behind_other, FollowsAmong, 
 use Rattle.cbm_session.specs.Buses.{rest_at}
 use Rattle.cbm_session.specs.Joins.{NotBefore}
 use Rattle.cbm_session.specs.Laws.{SeatsReact}
-use Rattle.cbm_session.specs.Pieces.{silent_end, silent_part, FreedFits, freed_steps, host_part, let_go, own_part, steps_of, ToTalker, Nothing}
+use Rattle.cbm_session.specs.Pieces.{host_part, let_go, own_part, steps_of, ToTalker}
 use Rattle.cbm_session.specs.Seats.{at_pace, lines, Seat, device, reaction, is_talker, talker_of}
-use Rattle.cbm_session.specs.Steps.{Step, host, drive, for_each, for_one, moment_of, merge}
+use Rattle.cbm_session.specs.Steps.{Step, host, drive, for_each, moment_of, merge}
 
 -- a host's step that comes into a front: what of the front is before it, and what behind
 insert_host : (x : Step) (xs front rest : List Step) → NotBefore (moment_of x) rest → (a : List Step) × ((c : List Step) × ((front ≡ a ++ c) × (merge (x ∷ xs) (front ++ rest) ≡ a ++ x ∷ merge xs (c ++ rest))))

@@ -2,11 +2,11 @@
 use Rattle.cbm_session.proofs.Paces.{started}
 use Rattle.cbm_iec.specs.declared.ear.Ear.{Ear}
 use Rattle.std.proofs.Common.{◌≡◌, ℕ, ◌+◌, ◌≤◌, Bool, true, false, List, [], ◌∷◌, ◌++◌, map, Option, Some, None, ap, sym, ◌∙◌, subst, arith, refl}
-use Rattle.std.specs.Prelude.{if◌then◌else◌, nat_eq, ◌||◌}
+use Rattle.std.specs.Prelude.{nat_eq, ◌||◌}
 use Rattle.cbm_iec.specs.Hearing.{after_start}
 use Rattle.cbm_iec.specs.Ports.{side_due}
 use Rattle.cbm_iec.specs.declared.act.Act.TheVariants.{Pulled}
-use Rattle.cbm_iec.specs.declared.ear.Ear.TheVariants.{Starting, Holding, Freeing}
+use Rattle.cbm_iec.specs.declared.ear.Ear.TheVariants.{Starting, Holding}
 use Rattle.cbm_iec.specs.declared.event.Who.TheVariants.{Host, Drive}
 use Rattle.cbm_iec.specs.declared.event.Who.{Who}
 use Rattle.cbm_iec.specs.declared.line.Line.TheVariants.{Atn, Clock, Data}

@@ -1,7 +1,7 @@
 -- A drive among others that is to talk and has nothing to say: it lets go of DATA, at a KERNAL's pace after it has held both lines for a while.
 use Rattle.cbm_iec.specs.declared.pace.Pace.TheVariants.{Profile, Kernal}
 use Rattle.cbm_iec.specs.declared.pace.Pace.{Pace}
-use Rattle.std.proofs.Common.{◌≡◌, ℕ, ◌+◌, ◌≤◌, ◌<◌, Bool, true, false, List, [], ◌∷◌, ◌++◌, map, Option, Some, None, ap, sym, ◌∙◌, subst, arith, refl, append-nil}
+use Rattle.std.proofs.Common.{◌≡◌, ℕ, ◌+◌, ◌≤◌, Bool, true, false, List, [], ◌∷◌, ◌++◌, map, Option, Some, None, ap, sym, ◌∙◌, subst, arith, refl, append-nil}
 use Rattle.std.specs.Prelude.{nat_eq}
 use Rattle.cbm_iec.specs.Ports.{side_due}
 use Rattle.cbm_iec.specs.Profile.{mute}
@@ -15,10 +15,10 @@ use Rattle.cbm_iec.specs.declared.party.Role.TheVariants.{Absent, Listener, Talk
 use Rattle.cbm_iec.specs.declared.party.Role.{Role}
 use Rattle.cbm_iec.specs.declared.port.Port.{Port}
 use Rattle.cbm_iec.specs.declared.port.Side.TheVariants.{Speaking}
-use Rattle.cbm_session.proofs.alone.Frames.{wires, stands}
+use Rattle.cbm_session.proofs.alone.Frames.{stands}
 use Rattle.cbm_session.proofs.among.Answers.{Short, answer_follows, answer_goes, talk_parts, short_others, short_in_time}
 use Rattle.cbm_session.proofs.among.Around.{ForOthers, IsPart, IsLateBy, around_drives, merge_drives, every, is_behind, with_own}
-use Rattle.cbm_session.proofs.among.Calm.{Every, IsOthers, IsAside, InTime, passes, passes_all, calm_mute, calm_over}
+use Rattle.cbm_session.proofs.among.Calm.{Every, IsOthers, IsAside, passes, passes_all, calm_mute, calm_over}
 use Rattle.cbm_session.proofs.among.Points.{commanding_rest, only_talker, sits_only}
 use Rattle.cbm_session.proofs.among.Pulls.{never_due}
 use Rattle.cbm_session.proofs.among.Standing.{rest_behind}
@@ -27,12 +27,12 @@ use Rattle.cbm_session.proofs.frames.Phases.{Each, merge_split, before_all, spli
 use Rattle.cbm_session.proofs.joining.Merging.{merge_there, NoneBefore, AllBefore}
 use Rattle.cbm_session.proofs.joining.Talkers.{talker_is}
 use Rattle.cbm_session.proofs.reading.PieceReadings.{seat, turn_first}
-use Rattle.cbm_session.specs.Among.{Rest, wires_of, FollowsAmong, IsBehind, ends, tells, reacts}
+use Rattle.cbm_session.specs.Among.{Rest, wires_of, FollowsAmong, IsBehind, reacts}
 use Rattle.cbm_session.specs.Buses.{rest_at}
 use Rattle.cbm_session.specs.Laws.{SeatsReact}
 use Rattle.cbm_session.specs.Pieces.{silent_end, silent_part, FreedFits, freed_steps, host_part, let_go, own_part, steps_of, Nothing}
 use Rattle.cbm_session.specs.Seats.{at_pace, lines, Seat, device, reaction, is_talker, talker_of}
-use Rattle.cbm_session.specs.Steps.{Step, host, drive, for_each, for_one, moment_of, merge, merge_all}
+use Rattle.cbm_session.specs.Steps.{Step, host, drive, for_each, for_one, merge, merge_all}
 
 freed_none : (t : ℕ) (freed : Option ℕ) → FreedFits t freed → NoneBefore (t + 1) (freed_steps freed)
 freed_none t None h = tt

@@ -35,7 +35,7 @@ use Rattle.cbm_session.specs.Buses.{rest_at, SaysAs, SideAmong, OwnAt, StandsAmo
 use Rattle.cbm_session.specs.Joins.{NotBefore}
 use Rattle.cbm_session.specs.Pieces.{silent_part, Whole, Place, Point, freed_steps, host_part, let_go, own_part, steps_of, Fits, ToListener, ToNobody, ToTalker, Nothing, Commanding, Full}
 use Rattle.cbm_session.specs.Seats.{lines, Seat, device, reaction, is_talker, talker_of}
-use Rattle.cbm_session.specs.Steps.{Step, host, drive, for_each, for_one, moment_of, merge, merge_all}
+use Rattle.cbm_session.specs.Steps.{Step, host, drive, for_each, moment_of, merge, merge_all}
 
 -- the law for one drive
 abbrev pub SeatLaw : Whole → Seat → Type 0

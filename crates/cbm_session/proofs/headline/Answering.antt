@@ -1,5 +1,4 @@
 -- For each piece of a talking drive in any session there is the one that the drive's machine answers, which goes with it as far as it can.
-use Rattle.cbm_session.proofs.among.Frames.{each_sits}
 use Rattle.std.proofs.Common.{◌≡◌, ℕ, ◌+◌, ◌<◌, Bool, true, List, [], ◌∷◌, ◌++◌, Option, Some, None, ap, sym, ◌∙◌, subst, refl}
 use Rattle.std.specs.Prelude.{if◌then◌else◌}
 use Rattle.cbm_iec.specs.declared.act.Act.TheVariants.{Released}

@@ -6,7 +6,7 @@ use Rattle.std.proofs.lemmas.Bool.Decides.{leb_tells, eqb_tells}
 use Rattle.std.specs.Prelude.{if◌then◌else◌, nat_eq}
 use Rattle.cbm_iec.specs.declared.act.Act.TheVariants.{Released, Said, Silent}
 use Rattle.cbm_iec.specs.declared.act.Act.{Act}
-use Rattle.cbm_iec.specs.declared.line.Line.TheVariants.{Clock, Data}
+use Rattle.cbm_iec.specs.declared.line.Line.TheVariants.{Clock}
 use Rattle.cbm_iec.specs.declared.line.Way.TheVariants.{Free}
 use Rattle.cbm_iec.specs.declared.party.Party.{Party}
 use Rattle.cbm_iec.specs.declared.party.Role.TheVariants.{Absent, Listener, Talker}
@@ -31,7 +31,7 @@ use Rattle.cbm_session.specs.Frames.{Told, is_last}
 use Rattle.cbm_session.specs.Pieces.{silent_part, Point, own_part, steps_of, let_go, freed_steps, Fits, Nothing, Talk}
 use Rattle.cbm_session.specs.Playing.{Station}
 use Rattle.cbm_session.specs.Seats.{Seat, device, reaction, is_talker, talker_of}
-use Rattle.cbm_session.specs.Steps.{Step, moment_of, acts_for, with_mark, drive, host, for_one, merge, merge_all}
+use Rattle.cbm_session.specs.Steps.{Step, moment_of, acts_for, with_mark, host, merge, merge_all}
 
 -- a step that counts nothing for a drive
 abbrev pub Skips : ℕ → Step → Type 0

@@ -3,7 +3,6 @@ use Rattle.cbm_iec.specs.declared.pace.Pace.TheVariants.{Profile, Kernal}
 use Rattle.cbm_iec.specs.declared.pace.Pace.{Pace}
 use Rattle.std.proofs.Common.{◌≡◌, ℕ, ◌+◌, ◌≤◌, ◌<◌, ◌⊎◌, inl, inr, Bool, true, false, List, [], ◌∷◌, ◌++◌, map, append-nil, Option, Some, None, ap, sym, ◌∙◌, subst, arith, refl}
 use Rattle.std.proofs.lemmas.Bool.Decides.{leb_tells}
-use Rattle.cbm_iec.specs.declared.act.Act.TheVariants.{Silent}
 use Rattle.cbm_iec.specs.declared.act.Act.{Act}
 use Rattle.cbm_iec.specs.declared.line.Line.TheVariants.{Clock, Data}
 use Rattle.cbm_iec.specs.declared.line.Way.TheVariants.{Pull, Free}
@@ -26,7 +25,7 @@ use Rattle.cbm_session.specs.Answers.{IsAnswer}
 use Rattle.cbm_session.specs.Joins.{NotBefore}
 use Rattle.cbm_session.specs.Pieces.{silent_part, Whole, Point, own_part, steps_of, before, let_go, freed_steps, Fits, CutFits, some_from, ToTalker, Nothing}
 use Rattle.cbm_session.specs.Seats.{Seat, device, reaction, talker_of}
-use Rattle.cbm_session.specs.Steps.{Step, moment_of, events_of, host, drive, for_one, merge, merge_all}
+use Rattle.cbm_session.specs.Steps.{Step, moment_of, events_of, host, drive, merge, merge_all}
 
 -- what the drives do in a turnaround, and the turnaround around CLOCK's release
 abbrev pub turn_drives : Point → Whole → List Step

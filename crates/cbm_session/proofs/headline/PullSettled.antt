@@ -1,7 +1,5 @@
 -- A drive that a pull of ATN reached: where its reaction shows nothing it goes with what comes as if it had made it already.
 use Rattle.cbm_session.proofs.Paces.{started}
-use Rattle.cbm_iec.specs.declared.pace.Pace.TheVariants.{Profile, Kernal}
-use Rattle.cbm_iec.specs.declared.pace.Pace.{Pace}
 use Rattle.std.proofs.Common.{◌≡◌, ℕ, ◌≤◌, ◌<◌, ◌⊎◌, inl, inr, Bool, true, false, List, [], ◌∷◌, ◌++◌, Option, Some, None, ap, sym, ◌∙◌, subst, arith, refl}
 use Rattle.std.specs.Prelude.{if◌then◌else◌, nat_eq}
 use Rattle.cbm_iec.specs.Hearing.{is_same, after_start, after_clock, after_data, after_lines}
@@ -20,7 +18,6 @@ use Rattle.cbm_iec.specs.declared.lines.Lines.{Lines}
 use Rattle.cbm_iec.specs.declared.port.Port.{Port}
 use Rattle.cbm_iec.specs.declared.port.Side.TheVariants.{Hearing}
 use Rattle.cbm_iec.specs.declared.port.Side.{Side}
-use Rattle.cbm_session.proofs.alone.Frames.{stands}
 use Rattle.cbm_session.proofs.among.Around.{NotHost}
 use Rattle.cbm_session.proofs.among.Calm.{Every}
 use Rattle.cbm_session.proofs.among.Pulls.{clock_held}

@@ -6,7 +6,7 @@ use Rattle.std.specs.Prelude.{if◌then◌else◌, nat_eq, max}
 use Rattle.cbm_iec.specs.Hearing.{is_same}
 use Rattle.cbm_iec.specs.Machines.{acted}
 use Rattle.cbm_iec.specs.Ports.{side_due, port_due, freed_side, turned_side, lined_side, lined_act, told, told_act}
-use Rattle.cbm_iec.specs.declared.act.Act.TheVariants.{Pulled, Released, Silent}
+use Rattle.cbm_iec.specs.declared.act.Act.TheVariants.{Pulled, Released}
 use Rattle.cbm_iec.specs.declared.act.Act.{Act}
 use Rattle.cbm_iec.specs.declared.ear.Ear.TheVariants.{Leaving, Holding}
 use Rattle.cbm_iec.specs.declared.event.Event.{Event}
@@ -56,7 +56,7 @@ use Rattle.cbm_session.specs.Laws.{SeatsReact, GoesOn}
 use Rattle.cbm_session.specs.Pieces.{silent_part, Whole, Piece, Point, own_part, steps_of, before, piece_steps, let_go, freed_steps, behind_all, Fits, CutFits, PieceFits, whole_point, point_after, Full, Cut, ToTalker, Nothing, Commanding, Leading}
 use Rattle.cbm_session.specs.Playing.{Station, tell, Plays}
 use Rattle.cbm_session.specs.Seats.{lines, Seat, device, is_listener, is_talker, has_listener, talker_of}
-use Rattle.cbm_session.specs.Steps.{Step, host, drive, for_each, for_one}
+use Rattle.cbm_session.specs.Steps.{Step, host, drive, for_each}
 
 -- a step behind ATN's release: no change of ATN, no byte said, and of the drives only the talker changes CLOCK
 abbrev pub OfTurn : ℕ → Step → Type 0

@@ -3,7 +3,7 @@ use Rattle.cbm_session.proofs.joining.Silents.{silent_from, silent_none}
 use Rattle.std.proofs.Common.{◌≡◌, ℕ, suc, ◌+◌, ◌≤◌, ◌<◌, ◌⊎◌, inl, inr, Bool, true, false, List, [], ◌∷◌, ◌++◌, map, Option, Some, None, ap, sym, ◌∙◌, subst, arith, refl}
 use Rattle.std.specs.Prelude.{if◌then◌else◌}
 use Rattle.std.proofs.lemmas.Bool.Decides.{leb_tells}
-use Rattle.cbm_iec.specs.declared.act.Act.TheVariants.{Released, Silent}
+use Rattle.cbm_iec.specs.declared.act.Act.TheVariants.{Released}
 use Rattle.cbm_iec.specs.declared.event.Who.TheVariants.{Host, Drive}
 use Rattle.cbm_iec.specs.declared.event.Who.{Who}
 use Rattle.cbm_iec.specs.declared.line.Line.TheVariants.{Atn, Clock, Data}
@@ -24,7 +24,7 @@ use Rattle.cbm_session.proofs.joining.Owning.{AllOwned, part_owned, part_order}
 use Rattle.cbm_session.specs.Laws.{NotSooner, AllAfter, GoesOn}
 use Rattle.cbm_session.specs.Pieces.{silent_end, silent_part, Whole, Point, host_part, own_part, steps_of, before, let_go, freed_steps, Fits, Full, ToNobody, ToTalker, Nothing}
 use Rattle.cbm_session.specs.Seats.{Seat, device, reaction, talker_of}
-use Rattle.cbm_session.specs.Steps.{Step, moment_of, host, drive, for_each, for_one, merge_all}
+use Rattle.cbm_session.specs.Steps.{Step, moment_of, host, drive, for_each, merge_all}
 use Rattle.cbm_session.specs.Timing.{is_host}
 
 -- no change of the host at this moment

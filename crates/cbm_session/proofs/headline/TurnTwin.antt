@@ -9,7 +9,7 @@ use Rattle.cbm_session.proofs.joining.Silents.{silent_from}
 use Rattle.std.proofs.Common.{◌≡◌, ℕ, ◌+◌, ◌≤◌, ◌<◌, ◌⊎◌, inl, inr, false, List, [], ◌∷◌, ◌++◌, map, Option, Some, None, ap, sym, ◌∙◌, subst, arith, refl}
 use Rattle.std.proofs.lemmas.Bool.Decides.{leb_tells}
 use Rattle.std.specs.Prelude.{nat_eq}
-use Rattle.cbm_iec.specs.declared.act.Act.TheVariants.{Released, Silent}
+use Rattle.cbm_iec.specs.declared.act.Act.TheVariants.{Released}
 use Rattle.cbm_iec.specs.declared.event.Event.{Event}
 use Rattle.cbm_iec.specs.declared.event.Who.TheVariants.{Host, Drive}
 use Rattle.cbm_iec.specs.declared.event.Who.{Who}
@@ -29,7 +29,7 @@ use Rattle.cbm_session.proofs.reading.PieceReadings.{turn_first}
 use Rattle.cbm_session.specs.Joins.{NotBefore}
 use Rattle.cbm_session.specs.Pieces.{silent_end, silent_at, silent_part, Point, own_part, steps_of, let_go, freed_steps, FreedFits, ToTalker, Nothing}
 use Rattle.cbm_session.specs.Seats.{Seat, device, reaction, is_talker}
-use Rattle.cbm_session.specs.Steps.{Step, events_of, host, drive, for_each, for_one, moment_of, merge, merge_all}
+use Rattle.cbm_session.specs.Steps.{Step, events_of, host, drive, for_each, moment_of, merge, merge_all}
 
 -- a step of drive d, and one of another drive
 abbrev pub IsOwn : ℕ → Who → Type 0

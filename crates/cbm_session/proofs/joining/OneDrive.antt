@@ -16,7 +16,7 @@ use Rattle.cbm_session.specs.Bits.{where_held, where_free, Cell, cell_steps, cel
 use Rattle.cbm_session.specs.Frames.{Sent, Told, wire, lasting, longest, end_of, pulse_from, pulse_to, pulse, hearing, sending, is_last, signal_steps, first_bit, bit_steps, telling, taking, SentFits, SignalFits, ToldFits}
 use Rattle.cbm_session.specs.Joins.{NotBefore}
 use Rattle.cbm_session.specs.Pieces.{Point, host_part, let_go, own_part, PullPiece, ToListener, ToNobody}
-use Rattle.cbm_session.specs.Seats.{Seat, device, reaction, slowest}
+use Rattle.cbm_session.specs.Seats.{Seat, device, reaction}
 use Rattle.cbm_session.specs.Steps.{Step, host, drive, for_each, for_one, moment_of, merge}
 
 -- all of these are at m or before

@@ -6,7 +6,7 @@ use Rattle.cbm_session.proofs.Paces.{by_eight}
 use Rattle.cbm_iec.specs.Profile.{bit_time, first_accept, half_bit}
 use Rattle.std.proofs.Common.{◌≡◌, ℕ, ◌+◌, ◌*◌, ◌≤◌, Bool, true, false, not, List, [], ◌∷◌, ◌++◌, length, Option, Some, None, ap, sym, ◌∙◌, subst, arith, refl}
 use Rattle.std.specs.Prelude.{if◌then◌else◌, nat_eq}
-use Rattle.cbm_iec.specs.declared.act.Act.TheVariants.{Attention, Heard, Said, Silent}
+use Rattle.cbm_iec.specs.declared.act.Act.TheVariants.{Attention, Heard, Said}
 use Rattle.cbm_iec.specs.declared.act.Act.{Act}
 use Rattle.cbm_iec.specs.declared.event.Who.TheVariants.{Drive}
 use Rattle.cbm_iec.specs.declared.line.Line.TheVariants.{Clock, Data}

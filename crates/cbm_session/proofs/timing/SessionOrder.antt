@@ -6,7 +6,7 @@ use Rattle.std.proofs.Common.{◌≡◌, ℕ, ◌+◌, ◌*◌, ◌≤◌, ◌<�
 use Rattle.std.proofs.Math.Nat.{le-max_left, le-max_right, max-le}
 use Rattle.std.proofs.lemmas.Bool.Decides.{leb_tells}
 use Rattle.std.specs.Prelude.{if◌then◌else◌}
-use Rattle.cbm_iec.specs.declared.act.Act.TheVariants.{Attention, Heard, Said, Silent}
+use Rattle.cbm_iec.specs.declared.act.Act.TheVariants.{Attention, Heard, Said}
 use Rattle.cbm_iec.specs.declared.act.Act.{Act}
 use Rattle.cbm_iec.specs.declared.event.Who.TheVariants.{Host, Drive}
 use Rattle.cbm_iec.specs.declared.event.Who.{Who}
@@ -31,7 +31,7 @@ use Rattle.cbm_session.proofs.joining.Talkers.{true_false, OneTalker}
 use Rattle.cbm_session.proofs.reading.OneReading.{late_by_role, seat_of}
 use Rattle.cbm_session.proofs.reading.PieceReadings.{next_seat}
 use Rattle.cbm_session.specs.Bits.{where_held, where_free, cells_steps, held_after, CellsFit, byte_of, number_of}
-use Rattle.cbm_session.specs.Frames.{Sent, Told, wire, end_of, accept_of, hearing, sending, StartFits, SentFits, is_last, signal_steps, first_bit, bit_steps, telling, taking, SignalFits, ToldFits}
+use Rattle.cbm_session.specs.Frames.{Sent, Told, wire, end_of, accept_of, hearing, sending, SentFits, is_last, signal_steps, first_bit, bit_steps, telling, taking, SignalFits, ToldFits}
 use Rattle.cbm_session.specs.Joins.{NotBefore}
 use Rattle.cbm_session.specs.Laws.{SeatsReact, AllAccepted, NotSooner, AllAfter, GoesOn, SessionsGoOn}
 use Rattle.cbm_session.specs.Pieces.{silent_part, silent_end, Whole, Piece, Place, Point, freed_steps, host_part, let_go, own_part, steps_of, before, AtLeast, gap, MayRelease, PullFits, FreedFits, IsCommanding, Fits, CutFits, held_by, told_place, told_since, behind, behind_all, seat_with, obeying, standing, whole_point, point_after, PullPiece, Command, Byte, ToListener, ToNobody, ToTalker, Nothing, Talk, Full, Cut, Open, Commanding, Listening, Leading, Cutting}
