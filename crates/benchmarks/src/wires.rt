@@ -4,7 +4,7 @@ use cbm_channel::Dos;
 use cbm_d64::D64Disk;
 use cbm_drive::Line::*;
 use cbm_drive::Way::*;
-use cbm_drive::{Bus, Change, Desk, Drive, Line, Party, Player, Way};
+use cbm_drive::{Bus, Change, Desk, Drive, Line, Pace, Party, Player, Way};
 use std::alloc::{AllocError, Global};
 use std::io;
 use std::mem::size_of;
@@ -106,7 +106,7 @@ fn drive(alloc: Global, device: u8, reaction: u8) -> io::Result<Drive<Desk<D64Di
     let disk = empty(alloc)?;
     Ok(Drive::new(
         Desk::new(Dos::new(disk), device),
-        Party { device, reaction },
+        Party { device, reaction, pace: Pace::Profile },
     ))
 }
 

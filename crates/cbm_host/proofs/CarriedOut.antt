@@ -10,6 +10,7 @@ use Rattle.cbm_iec.specs.declared.lines.Held.{Held}
 use Rattle.cbm_iec.specs.declared.party.Party.{Party}
 use Rattle.cbm_iec.specs.declared.party.Role.TheVariants.{Absent}
 use Rattle.cbm_iec.specs.declared.port.Port.{Port}
+use Rattle.cbm_iec.specs.declared.pace.Pace.TheVariants.{Profile}
 use Rattle.cbm_session.proofs.headline.FrameBus.{StandsSo}
 use Rattle.cbm_session.proofs.headline.Here.{Here}
 use Rattle.cbm_session.proofs.headline.LawsMet.{keeps}
@@ -23,7 +24,7 @@ use Rattle.cbm_session.specs.Buses.{SideAmong, rest_at, holding}
 use Rattle.cbm_session.specs.Following.{in_attention}
 use Rattle.cbm_session.specs.Pieces.{Piece, Place, Point, Open}
 use Rattle.cbm_session.specs.Playing.{Station, IsLaterDue, nobody, Plays, at_rest, IsMachine, IsKept}
-use Rattle.cbm_session.specs.Seats.{lines, Seat}
+use Rattle.cbm_session.specs.Seats.{at_pace, lines, Seat}
 use Rattle.cbm_session.specs.Sessions.{rest, Splits, session_steps, acts_of, IsDrive, IsBus}
 use Rattle.cbm_session.specs.Steps.{Step, events_of, acts_for}
 use Rattle.cbm_session.specs.Timing.{HostKeeps}
@@ -88,7 +89,10 @@ free_rest b p place host seats =
     ∙ ap (λ (ss : List Seat). record { host = all_free; clocks = holding Clock b.device ss; datas = holding Data b.device ss }) seats
     ∙ Rattle.cbm_session.proofs.among.Sessions.rest_free (b ∷ []) b
 
-module _ (D M : Type 0) (stands : D → M → Type 0) (step : M → Act → M) (says : M → Option (ℕ × Bool)) (machine : IsMachine M step says) (b : Party) (drive : IsDrive b) (ms : ℕ → M) (start : ℕ) (request : Request) (channel : channel_of request ≤ 15) (short : IsShort M step says b.device (ms b.device) request) where
+module _ (D M : Type 0) (stands : D → M → Type 0) (step : M → Act → M) (says : M → Option (ℕ × Bool)) (machine : IsMachine M step says) (v : Party) (drive : IsDrive (at_pace Profile v)) (ms : ℕ → M) (start : ℕ) (request : Request) (channel : channel_of request ≤ 15) (short : IsShort M step says v.device (ms v.device) request) where
+  abbrev b : Party
+  b = at_pace Profile v
+
   abbrev peek : M → Option (ℕ × Bool)
   peek = bytewise M step says false
 

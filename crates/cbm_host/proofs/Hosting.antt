@@ -1,4 +1,6 @@
 -- A request to a drive with its DOS, from the first event to the end.
+use Rattle.cbm_iec.specs.declared.pace.Pace.TheVariants.{Profile}
+use Rattle.cbm_session.specs.Seats.{at_pace}
 use Rattle.std.proofs.Common.{◌≡◌, ℕ, zero, suc, get_or, replicate, ◌+◌, ◌<◌, ◌≤◌, Bool, false, List, [], ◌∷◌, ◌++◌, append-nil, length, Option, Some, None, refl, sym, ap, ◌∙◌, subst, arith}
 use Rattle.std.specs.Prelude.{MatchOption}
 use Rattle.cbm_medium.specs.Seen.{Seen}
@@ -105,12 +107,12 @@ module _ {M : Type 0} (seen : M → Seen) where
 
   -- what the laws of a request say of it
   abbrev pub Begins : Hosting (Kept M) → Performing → Type 0
-  Begins h p = (b : Party) (ms : ℕ → Desk Machine) (start : ℕ) (request : Request) (old new : List Event) (bytes : List ℕ) (last : Bool) → IsDrive b → channel_of request ≤ 15 → IsShort (Desk Machine) desk_step desk_says b.device (ms b.device) request
+  Begins h p = (v : Party) (ms : ℕ → Desk Machine) (start : ℕ) (request : Request) (old new : List Event) (bytes : List ℕ) (last : Bool) → let b = at_pace Profile v in IsDrive b → channel_of request ≤ 15 → IsShort (Desk Machine) desk_step desk_says b.device (ms b.device) request
       → IsPerforming (Desk (Kept M)) (Desk Machine) (DeskStands seen) desk_step desk_says (engine_at start b.device request) (start + longest) p h.bus old new bytes last (at_rest (Desk Machine) desk_step desk_says ms (b ∷ []))
       → IsRequestBegun (Desk Machine) desk_step desk_says b.device (ms b.device) request bytes last
 
   abbrev pub CarriesOut : Hosting (Kept M) → Performing → Type 0
-  CarriesOut h p = (b : Party) (ms : ℕ → Desk Machine) (start : ℕ) (request : Request) (old new : List Event) (bytes : List ℕ) (last : Bool) → IsDrive b → channel_of request ≤ 15 → IsShort (Desk Machine) desk_step desk_says b.device (ms b.device) request
+  CarriesOut h p = (v : Party) (ms : ℕ → Desk Machine) (start : ℕ) (request : Request) (old new : List Event) (bytes : List ℕ) (last : Bool) → let b = at_pace Profile v in IsDrive b → channel_of request ≤ 15 → IsShort (Desk Machine) desk_step desk_says b.device (ms b.device) request
       → HasPerformed (Desk (Kept M)) (Desk Machine) (DeskStands seen) desk_step desk_says (engine_at start b.device request) (start + longest) p h.bus old new bytes last (at_rest (Desk Machine) desk_step desk_says ms (b ∷ []))
       → (end : ℕ) × (stage_end p.engine.stage ≡ Some end) × HasCarriedOut (Desk (Kept M)) (Desk Machine) (DeskStands seen) desk_step desk_says b ms start request h.bus old new bytes last end
 

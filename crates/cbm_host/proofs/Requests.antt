@@ -4,9 +4,10 @@ use Rattle.cbm_iec.specs.Roles.{role_after}
 use Rattle.cbm_iec.specs.declared.party.Party.{Party}
 use Rattle.cbm_iec.specs.declared.party.Role.TheVariants.{Absent, Talker}
 use Rattle.cbm_iec.specs.declared.party.Role.{Role}
+use Rattle.cbm_iec.specs.declared.pace.Pace.TheVariants.{Profile}
 use Rattle.cbm_session.proofs.reading.PieceReadings.{seat}
 use Rattle.cbm_session.specs.Pieces.{Piece}
-use Rattle.cbm_session.specs.Seats.{lines}
+use Rattle.cbm_session.specs.Seats.{at_pace, lines}
 use Rattle.cbm_session.specs.Sessions.{rest, IsDrive}
 use Rattle.cbm_host.proofs.Pieces.{at_stage}
 use Rattle.cbm_host.proofs.Playing.{attending, pull_then, command_then, nobody_then, listens, talks, still_listens, still_talks}
@@ -25,7 +26,10 @@ use Rattle.cbm_host.specs.declared.stage.Errand.TheVariants.{Sends, Takes, Leave
 use Rattle.cbm_host.specs.declared.stage.Pulls.TheVariants.{PullAtn}
 use Rattle.cbm_host.specs.declared.stage.Stage.TheVariants.{Attending}
 
-module _ (b : Party) (drive : IsDrive b) (start : ℕ) (left : List ℕ) (most : ℕ) where
+module _ (v : Party) (drive : IsDrive (at_pace Profile v)) (start : ℕ) (left : List ℕ) (most : ℕ) where
+  abbrev b : Party
+  b = at_pace Profile v
+
   abbrev r : ℕ
   r = b.reaction
 

@@ -12,6 +12,7 @@ use Rattle.cbm_iec.specs.declared.lines.Held.{Held}
 use Rattle.cbm_iec.specs.declared.party.Party.{Party}
 use Rattle.cbm_iec.specs.declared.party.Role.TheVariants.{Absent, Listener, Talker}
 use Rattle.cbm_iec.specs.declared.party.Role.{Role}
+use Rattle.cbm_iec.specs.declared.pace.Pace.TheVariants.{Profile}
 use Rattle.cbm_session.proofs.headline.Unasked.{Runs}
 use Rattle.cbm_session.proofs.joining.OneDrive.{told_is}
 use Rattle.cbm_session.proofs.reading.PieceReadings.{seat}
@@ -19,7 +20,7 @@ use Rattle.cbm_session.specs.Answers.{PieceAnswers, run, run_each, RunEach, Allo
 use Rattle.cbm_session.specs.Bits.{bits_of, number_of}
 use Rattle.cbm_session.specs.Following.{alone}
 use Rattle.cbm_session.specs.Pieces.{Piece, Point, before, steps_of, piece_steps, held_by, own_part, seat_with, point_after, PullPiece, Command, Byte, ToListener, ToNobody, ToTalker, Nothing, Talk, Full, Cut, Open}
-use Rattle.cbm_session.specs.Seats.{lines, Seat, talker_of}
+use Rattle.cbm_session.specs.Seats.{at_pace, lines, Seat, talker_of}
 use Rattle.cbm_session.specs.Sessions.{rest, session_steps}
 use Rattle.cbm_session.specs.Steps.{Mark, Step, ForEach, For, acts_for}
 use Rattle.cbm_host.proofs.Counted.{marks_of, acts_from, marks_append, acts_are, pull_marks, command_marks, byte_marks, told_marks}
@@ -66,7 +67,10 @@ AreSmall (byte ∷ bytes) = (byte < 256) × AreSmall bytes
 abbrev pair : ℕ → Bool → Option (ℕ × Bool)
 pair n last = Some (n, last)
 
-module _ (M : Type 0) (step : M → Act → M) (peek : M → Option (ℕ × Bool)) (small : (m : M) (n : ℕ) (last : Bool) → peek m ≡ Some (n, last) → n < 256) (b : Party) (some : 1 ≤ b.reaction) (prompt : b.reaction ≤ 60) where
+module _ (M : Type 0) (step : M → Act → M) (peek : M → Option (ℕ × Bool)) (small : (m : M) (n : ℕ) (last : Bool) → peek m ≡ Some (n, last) → n < 256) (v : Party) (some : 1 ≤ v.reaction) (prompt : v.reaction ≤ 60) where
+  abbrev b : Party
+  b = at_pace Profile v
+
   abbrev r : ℕ
   r = b.reaction
 

@@ -3,9 +3,10 @@ use Rattle.std.proofs.Common.{◌≡◌, ℕ, ◌+◌, ◌*◌, ◌≤◌, Bool,
 use Rattle.cbm_iec.specs.declared.party.Party.{Party}
 use Rattle.cbm_iec.specs.declared.party.Role.TheVariants.{Listener}
 use Rattle.cbm_iec.specs.declared.party.Role.{Role}
+use Rattle.cbm_iec.specs.declared.pace.Pace.TheVariants.{Profile}
 use Rattle.cbm_session.proofs.reading.PieceReadings.{seat}
 use Rattle.cbm_session.specs.Pieces.{Point, Byte, ToListener, Full, Listening}
-use Rattle.cbm_session.specs.Seats.{lines}
+use Rattle.cbm_session.specs.Seats.{at_pace, lines}
 use Rattle.cbm_host.proofs.Frames.{frame_fits, cells_end}
 use Rattle.cbm_host.proofs.Pieces.{at_stage, listener_performed, byte_performed}
 use Rattle.cbm_host.proofs.Playing.{go_on, point, attending, leave_then}
@@ -26,7 +27,10 @@ pub accepted_soon : (r : ℕ) (eoi : Bool) (byte ready : ℕ) → r ≤ 60 → (
 accepted_soon r true byte ready h = let end = cells_end 8 byte (start_for r true ready) in (omega (arith, end), omega (arith, end, h))
 accepted_soon r false byte ready h = let end = cells_end 8 byte (start_for r false ready) in (omega (arith, end), omega (arith, end, h))
 
-module _ (b : Party) (some : 1 ≤ b.reaction) (prompt : b.reaction ≤ 60) (most : ℕ) where
+module _ (v : Party) (some : 1 ≤ v.reaction) (prompt : v.reaction ≤ 60) (most : ℕ) where
+  abbrev b : Party
+  b = at_pace Profile v
+
   pub sent_then : (pulled released accept since t wait limit : ℕ) (bytes : List ℕ) → released ≤ t → accept ≤ t → released + 100 ≤ t + wait → accept + 20 ≤ t + wait → wait ≤ 100 → t + 820 + 900 * length bytes ≤ limit
       → IsPlayed b (listening b pulled released accept since) (sending_on t wait most bytes) (sent b.reaction t wait bytes) limit
   sent_then pulled released accept since t wait limit [] a c d e f soon =

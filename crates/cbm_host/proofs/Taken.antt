@@ -13,6 +13,7 @@ use Rattle.cbm_iec.specs.declared.lines.Held.{Held}
 use Rattle.cbm_iec.specs.declared.party.Party.{Party}
 use Rattle.cbm_iec.specs.declared.party.Role.TheVariants.{Talker}
 use Rattle.cbm_iec.specs.declared.party.Role.{Role}
+use Rattle.cbm_iec.specs.declared.pace.Pace.TheVariants.{Profile}
 use Rattle.cbm_session.proofs.joining.Merging.{NoneBefore, AllBefore, before_yes, before_no}
 use Rattle.cbm_session.proofs.joining.OneDrive.{one_told, told_is, bits_before}
 use Rattle.cbm_session.proofs.reading.PieceReadings.{seat}
@@ -20,7 +21,7 @@ use Rattle.cbm_session.specs.Bits.{number_of}
 use Rattle.cbm_session.specs.Following.{alone}
 use Rattle.cbm_session.specs.Frames.{bit_steps, first_bit, signal_steps, taking, ToldFits, is_last}
 use Rattle.cbm_session.specs.Pieces.{Piece, Place, Point, PullFits, before, some_from, steps_of, held_by, own_part, seat_with, point_after, Talk, ToTalker, Nothing, Full, Cut, Leading, Open, Cutting}
-use Rattle.cbm_session.specs.Seats.{lines, Seat}
+use Rattle.cbm_session.specs.Seats.{at_pace, lines, Seat}
 use Rattle.cbm_session.specs.Steps.{Step, host, drive, for_one, moment_of}
 use Rattle.cbm_host.proofs.Composing.{performs_then}
 use Rattle.cbm_host.proofs.Pieces.{at_stage, talker_performed, nothing_performed}
@@ -81,7 +82,10 @@ bits_none b m at false (false ∷ bits) h = (h, (h, (omega (arith, h), bits_none
 abbrev pub leading : Party → ℕ → ℕ → ℕ → ℕ → Point
 leading b at pulled accepted since = point b Talker (lines true false) (Leading at) (lines false true) pulled None accepted since
 
-module _ (b : Party) (some : 1 ≤ b.reaction) (prompt : b.reaction ≤ 60) where
+module _ (v : Party) (some : 1 ≤ v.reaction) (prompt : v.reaction ≤ 60) where
+  abbrev b : Party
+  b = at_pace Profile v
+
   abbrev r : ℕ
   r = b.reaction
 

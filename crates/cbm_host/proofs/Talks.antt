@@ -9,10 +9,12 @@ use Rattle.cbm_iec.specs.declared.line.Way.TheVariants.{Pull, Free}
 use Rattle.cbm_iec.specs.declared.party.Party.{Party}
 use Rattle.cbm_iec.specs.declared.party.Role.{Role}
 use Rattle.cbm_iec.specs.declared.party.Role.TheVariants.{Absent}
+use Rattle.cbm_iec.specs.declared.pace.Pace.TheVariants.{Profile}
 use Rattle.cbm_session.specs.Bits.{data_for, Cell, number_of, bits_of}
 use Rattle.cbm_session.proofs.alone.Frames.{shifted, shifted_is}
 use Rattle.cbm_session.specs.Frames.{bit_steps, signal_steps, first_bit}
 use Rattle.cbm_session.specs.Steps.{Step, host, drive, for_one}
+use Rattle.cbm_session.specs.Seats.{at_pace}
 use Rattle.cbm_host.proofs.Composing.{performs_then}
 use Rattle.cbm_host.specs.Engines.{Engined, taking_on}
 use Rattle.cbm_host.specs.Framed.{bits_for, told_for}
@@ -31,7 +33,10 @@ abbrev pub came_in : ℕ → List Bool → ℕ
 came_in byte [] = byte
 came_in byte (bit ∷ bits) = came_in (with_bit byte (not bit)) bits
 
-module _ (b : Party) (left : List ℕ) (most : ℕ) where
+module _ (v : Party) (left : List ℕ) (most : ℕ) where
+  abbrev b : Party
+  b = at_pace Profile v
+
   abbrev pub taking : Take → Engined
   taking take = record { stage = Taking take; left = left; most = most }
 

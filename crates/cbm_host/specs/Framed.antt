@@ -1,6 +1,7 @@
 -- The frames of a request with the host's waits: every moment follows from where the frame begins and from the drive's reaction.
 use Rattle.std.specs.Prelude.{ℕ, zero, suc, ◌+◌, ◌*◌, ◌/◌, Bool, not, List, [], ◌∷◌, Option, Some, None, if◌then◌else◌}
 use Rattle.cbm_iec.specs.Profile.{eoi_end, bit_time}
+use Rattle.cbm_iec.specs.declared.pace.Pace.TheVariants.{Profile}
 use Rattle.cbm_session.specs.Bits.{Cell}
 use Rattle.cbm_session.specs.Frames.{Sent, Told}
 use Rattle.cbm_host.specs.Sending.{is_low}
@@ -13,7 +14,7 @@ cells_for (suc n) left at = record { bit = not (is_low left); set = at; free = a
 
 -- The first bit begins a wait behind T, when the drive has freed DATA; with EOI behind the drive's pulse.
 abbrev pub start_for : ℕ → Bool → ℕ → ℕ
-start_for r eoi ready = (if eoi then ready + r + eoi_end + r else ready + r) + answer_wait
+start_for r eoi ready = (if eoi then ready + r + eoi_end Profile + r else ready + r) + answer_wait
 
 -- a byte of the host to a drive that reacts in r
 abbrev pub frame_for : ℕ → Bool → ℕ → ℕ → Sent
@@ -38,5 +39,5 @@ told_for r last byte at = record {
   bits = bits_for 8 byte;
   free = at + answer_wait;
   signal = signal_for last (at + answer_wait);
-  accept = told_from r last (at + answer_wait) + 8 * bit_time + answer_wait;
+  accept = told_from r last (at + answer_wait) + 8 * bit_time Profile + answer_wait;
 }

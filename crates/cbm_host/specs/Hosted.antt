@@ -14,6 +14,7 @@ use Rattle.cbm_host.specs.Served.{served}
 use Rattle.cbm_host.specs.declared.request.Request.{Request}
 use Rattle.cbm_iec.specs.declared.act.Act.{Act}
 use Rattle.cbm_iec.specs.declared.event.Event.{Event}
+use Rattle.cbm_iec.specs.declared.pace.Pace.TheVariants.{Profile}
 use Rattle.cbm_iec.specs.declared.party.Party.{Party}
 use Rattle.cbm_session.specs.Playing.{Station, at_rest}
 
@@ -40,7 +41,7 @@ pub record Hosting (A : Type 0) : Type 0 where
 
 -- the drive, which takes 20 microseconds to react
 abbrev pub party_of : ℕ → Party
-party_of device = record { device = device; reaction = 20 }
+party_of device = record { device = device; reaction = 20; pace = Profile }
 
 -- a drive at rest, for a machine
 abbrev pub resting_for : ℕ → Machine → List (Station (Desk Machine))

@@ -2,10 +2,11 @@
 -- address, the bytes with EOI on the last, and UNLISTEN or UNTALK.
 use Rattle.std.specs.Prelude.{replicate, ◌≡◌, ◌≤◌, ℕ, ◌+◌, Bool, true, false, List, [], ◌∷◌, ◌++◌, Some, if◌then◌else◌, nat_lt, length}
 use Rattle.cbm_iec.specs.Profile.{next_byte}
+use Rattle.cbm_iec.specs.declared.pace.Pace.TheVariants.{Profile}
 use Rattle.cbm_iec.specs.declared.party.Party.{Party}
 use Rattle.cbm_session.specs.Frames.{end_of}
 use Rattle.cbm_session.specs.Pieces.{Piece, Point, point_after, Open, PullPiece, Command, Byte, ToListener, ToNobody, ToTalker, Nothing, Talk, Full, Cut}
-use Rattle.cbm_session.specs.Seats.{lines}
+use Rattle.cbm_session.specs.Seats.{at_pace, lines}
 use Rattle.cbm_session.specs.Sessions.{rest, Linked, session_steps, IsDrive}
 use Rattle.cbm_session.specs.Steps.{Step, moment_of}
 use Rattle.cbm_iec.specs.declared.party.Role.TheVariants.{Absent}
@@ -142,5 +143,5 @@ pub record IsPlayed (b : Party) (p : Point) (e : Engined) (ks : List Piece) (lim
 
 -- EVERY REQUEST is a session of its own, whatever the drive says in it, and the host performs its part of it.
 abbrev pub PlaysRequests : Type 0
-PlaysRequests = (b : Party) (start : ℕ) (said : Said) (request : Request) → IsDrive b → channel_of request ≤ 15 → length (sent_by request) ≤ most_bytes → IsSaidFor (most_of request) said → count_of said ≤ most_bytes
+PlaysRequests = (v : Party) (start : ℕ) (said : Said) (request : Request) → let b = at_pace Profile v in IsDrive b → channel_of request ≤ 15 → length (sent_by request) ≤ most_bytes → IsSaidFor (most_of request) said → count_of said ≤ most_bytes
     → IsPlayed b (rest (b ∷ [])) (engine_at start b.device request) (pieces_of b start said request) (start + longest)

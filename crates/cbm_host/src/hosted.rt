@@ -6,7 +6,7 @@ ghost use Rattle.cbm_drive.specs.Seats.{Seated};
 
 use crate::performer::Performer;
 use crate::request::Request;
-use cbm_drive::{Bus, Desk, Drive, Party};
+use cbm_drive::{Bus, Desk, Drive, Pace, Party};
 use cbm_medium::Steady;
 use std::marker::Model;
 
@@ -67,6 +67,7 @@ impl<M: Steady> Hosted<M> {
         let party = Party {
             device,
             reaction: REACTION,
+            pace: Pace::Profile,
         };
         Hosted {
             bus: Bus::new([Drive::new(desk, party)]),

@@ -33,7 +33,9 @@ impl<'a> Performer<'a> {
     ghost use Rattle.std.specs.Prelude.{◌≡◌, ◌+◌, ◌++◌, ◌^◌, ◌<◌, ◌≤◌, ℕ, Bool, List, [], ◌∷◌, None, Some, true, false, IfSome, MatchOption};
     ghost use Rattle.cbm_session.specs.Playing.{Station, at_rest};
     ghost use Rattle.cbm_session.specs.Sessions.{IsDrive};
+    ghost use Rattle.cbm_iec.specs.declared.pace.Pace.TheVariants.{Profile};
     ghost use Rattle.cbm_iec.specs.declared.party.Party.{Party};
+    ghost use Rattle.cbm_session.specs.Seats.{at_pace};
     ghost use Rattle.cbm_host.specs.Begun.{IsRequestBegun};
     ghost use Rattle.cbm_host.specs.CarriedOut.{IsShort, HasCarriedOut};
     ghost use Rattle.cbm_host.specs.Performed.{IsPerforming, HasPerformed};
@@ -149,8 +151,8 @@ impl<'a> Performer<'a> {
     /// A law, and nothing is done: where no more events come of a request to a drive at rest, the request was carried out,
     /// and its end is told.
     pub fn carries_out<D: Machine, const N: usize>(&self, bus: &Bus<D, N>)
-        ensures { (b : Party) (ms : ℕ → D.State) (start : ℕ) (request : Request) (old new : List Event) (bytes : List ℕ)
-            (last : Bool) → IsDrive b → channel_of request ≤ 15 →
+        ensures { (v : Party) (ms : ℕ → D.State) (start : ℕ) (request : Request) (old new : List Event) (bytes : List ℕ)
+            (last : Bool) → let b = at_pace Profile v in IsDrive b → channel_of request ≤ 15 →
             IsShort D.State D.step D.says b.device (ms b.device) request →
             HasPerformed _ D.State D.stands D.step D.says (engine_at start b.device request) (start + 250000000) self.now
             bus.now old new bytes last (at_rest D.State D.step D.says ms (b ∷ [])) →
@@ -161,8 +163,8 @@ impl<'a> Performer<'a> {
     /// A law, and nothing is done: while a request to a drive at rest is under way, the bytes so far are the first of those
     /// that the drive says in it, and with EOI they are all of them.
     pub fn begins<D: Machine, const N: usize>(&self, bus: &Bus<D, N>)
-        ensures { (b : Party) (ms : ℕ → D.State) (start : ℕ) (request : Request) (old new : List Event)
-            (bytes : List ℕ) (last : Bool) → IsDrive b → channel_of request ≤ 15 →
+        ensures { (v : Party) (ms : ℕ → D.State) (start : ℕ) (request : Request) (old new : List Event)
+            (bytes : List ℕ) (last : Bool) → let b = at_pace Profile v in IsDrive b → channel_of request ≤ 15 →
             IsShort D.State D.step D.says b.device (ms b.device) request →
             IsPerforming _ D.State D.stands D.step D.says (engine_at start b.device request) (start + 250000000)
             self.now bus.now old new bytes last (at_rest D.State D.step D.says ms (b ∷ [])) →

@@ -3,11 +3,13 @@
 ghost use Rattle.std.specs.Prelude.{◌≡◌, ◌+◌, ◌<◌, ◌≤◌, ◌++◌, ◌^◌, ℕ, List, [], ◌∷◌, true, IfOk, IfErr, OnOk, MatchBool, MatchResult};
 ghost use Rattle.cbm_iec.specs.declared.event.Event.{Event};
 ghost use Rattle.cbm_session.specs.Playing.{Station, at_rest};
+ghost use Rattle.cbm_session.specs.Seats.{at_pace};
 ghost use Rattle.cbm_session.specs.Sessions.{IsDrive};
 ghost use Rattle.cbm_drive.specs.Seats.{IsBusAt};
 ghost use Rattle.cbm_drive.specs.declared.fault.PlayFault.TheVariants.{Memory};
 ghost use Rattle.cbm_host.specs.Engines.{Engined, channel_of};
 ghost use Rattle.cbm_host.specs.CarriedOut.{IsShort, HasCarriedOut};
+ghost use Rattle.cbm_iec.specs.declared.pace.Pace.TheVariants.{Profile};
 ghost use Rattle.cbm_iec.specs.declared.party.Party.{Party};
 ghost use Rattle.cbm_host.specs.Progress.{left_of};
 ghost use Rattle.cbm_host.specs.Performed.{IsPerforming, IsCutShort, HasAddedUpTo, HasPerformed};
@@ -36,13 +38,13 @@ pub fn perform<D: Machine, const N: usize>(
     requires start { start < 2 ^ 58 }
     requires device { device < 31 }
     requires channel { channel_of request ≤ 15 }
-    ensures carried_out { (b : Party) (ms : ℕ → D.State) → IsDrive b → b.device ≡ device →
+    ensures carried_out { (v : Party) (ms : ℕ → D.State) → let b = at_pace Profile v in IsDrive b → b.device ≡ device →
         IsShort D.State D.step D.says device (ms device) request.entry →
         IsBusAt _ D.State D.stands bus.old.host bus.old.drives (at_rest D.State D.step D.says ms (b ∷ [])) →
         IfOk result (λ done. HasCarriedOut _ D.State D.stands D.step D.says b ms start request.entry bus.new
         events.old.items events.new.items done.bytes.items done.last done.end) }
     // On any disk a machine plays back what the drive showed, and for that machine the request was carried out.
-    ensures recorded { (b : Party) → IsDrive b → b.device ≡ device → IsAtRest D.shows b bus.old →
+    ensures recorded { (v : Party) → let b = at_pace Profile v in IsDrive b → b.device ≡ device → IsAtRest D.shows b bus.old →
         MatchResult result
         (λ done. IsCarriedOutAnyway D.shows b start request.entry bus.old bus.new events.old.items events.new.items
         done.bytes.items done.last done.end)

@@ -86,7 +86,7 @@ text_one e = append-nil (event_text e)
 
 module _ {M : Type 0} (seen : M → Seen) where
   -- a drive at power up
-  pub starts_at : (device : ℕ) (m : Machine) (p : Turns) (b : Cabled (Desk (Kept M))) (x : Seated (Desk (Kept M))) → p ≡ at_start → b.host ≡ all_free → b.drives ≡ x ∷ [] → x.port ≡ resting (record { device = device; reaction = 20 }) → DeskStands seen x.machine (at_first device m)
+  pub starts_at : (device : ℕ) (m : Machine) (p : Turns) (b : Cabled (Desk (Kept M))) (x : Seated (Desk (Kept M))) → p ≡ at_start → b.host ≡ all_free → b.drives ≡ x ∷ [] → x.port ≡ resting (record { device = device; reaction = 20; pace = Profile }) → DeskStands seen x.machine (at_first device m)
       → IsAt seen p b (powered device m) []
   starts_at device m p b x start free one port stands = record {
     from = 0;

@@ -44,7 +44,7 @@ trace_text trace = flat_map event_text trace
 
 -- its drive reacts after 20 microseconds
 abbrev pub drives_of : ℕ → List Party
-drives_of device = (record { device = device; reaction = 20 }) ∷ []
+drives_of device = (record { device = device; reaction = 20; pace = Profile }) ∷ []
 
 abbrev pub machines_of : ℕ → Machine → ℕ → Desk Machine
 machines_of device m d = at_first device m

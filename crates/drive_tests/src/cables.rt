@@ -6,14 +6,14 @@ use arrayvec::ArrayVec;
 use cbm_drive::{Bus, Drive, PlayFault};
 use cbm_iec::Line::*;
 use cbm_iec::Way::*;
-use cbm_iec::{Change, Event, Line, Party, Way, Who};
+use cbm_iec::{Change, Event, Line, Pace, Party, Way, Who};
 use std::alloc::Global;
 use std::process::Abort;
 
 fn drive(rt: &impl Abort, device: u8, reaction: u8) -> Drive<Parrot> {
     assert!(rt; device < 31 && reaction > 0);
     let acts = ArrayVec::new();
-    Drive::new(Parrot { acts }, Party { device, reaction })
+    Drive::new(Parrot { acts }, Party { device, reaction, pace: Pace::Profile })
 }
 
 // Two drives by their devices and reactions.

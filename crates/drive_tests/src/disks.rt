@@ -3,7 +3,7 @@
 use crate::host::Host;
 use cbm_channel::Dos;
 use cbm_d64::D64Disk;
-use cbm_drive::{Bus, Desk, Drive, Event, Party};
+use cbm_drive::{Bus, Desk, Drive, Event, Pace, Party};
 use std::alloc::Global;
 use std::process::Abort;
 use test_images::empty_image;
@@ -36,6 +36,7 @@ pub fn switched_on(rt: &impl Abort, alloc: Global, device: u8) -> Bus<Desk<D64Di
     let party = Party {
         device,
         reaction: 20,
+        pace: Pace::Profile,
     };
     Bus::new([Drive::new(machine, party)])
 }

@@ -135,6 +135,7 @@ fn drive_8() -> Drive<Parrot> {
         Party {
             device: 8,
             reaction: 20,
+            pace: Pace::Profile,
         },
     )
 }

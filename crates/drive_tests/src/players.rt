@@ -5,7 +5,7 @@ use arrayvec::ArrayVec;
 use cbm_drive::{Bus, Drive, PlayFault, Player};
 use cbm_iec::Line::*;
 use cbm_iec::Way::*;
-use cbm_iec::{Change, Event, Line, Party, Way, Who};
+use cbm_iec::{Change, Event, Line, Pace, Party, Way, Who};
 use std::process::Abort;
 
 /// A player and its bus, with drive 8 alone.
@@ -39,6 +39,7 @@ fn resting() -> Stand {
     let party = Party {
         device: 8,
         reaction: 20,
+        pace: Pace::Profile,
     };
     Stand {
         player: Player::new(),

@@ -9,7 +9,7 @@ use cbm_channel::Dos;
 use cbm_d64::D64Disk;
 use cbm_drive::Line::*;
 use cbm_drive::Way::*;
-use cbm_drive::{Act, Bus, Desk, Drive, Machine, Party};
+use cbm_drive::{Act, Bus, Desk, Drive, Machine, Pace, Party};
 use cbm_volume::Volume;
 use std::alloc::Global;
 use std::process::Abort;
@@ -166,6 +166,7 @@ fn after(
     let party = Party {
         device: 8,
         reaction: 20,
+        pace: Pace::Profile,
     };
     let mut bus = Bus::new([Drive::new(recorder, party)]);
     let mut events = Vec::new(alloc);

@@ -2,7 +2,7 @@
 
 use cbm_channel::Dos;
 use cbm_d64::D64Disk;
-use cbm_drive::{Bus, Desk, Drive, Event, Party};
+use cbm_drive::{Bus, Desk, Drive, Event, Pace, Party};
 use cbm_host::{Done, Request, perform};
 use std::alloc::Global;
 use std::process::Abort;
@@ -33,7 +33,7 @@ impl Wired {
         assert!(rt; reaction > 0);
         let dos = Dos::new(empty_disk(alloc)?);
         let device = 8;
-        let party = Party { device, reaction };
+        let party = Party { device, reaction, pace: Pace::Profile };
         let bus = Bus::new([Drive::new(Desk::new(dos, device), party)]);
         let events = Vec::new(alloc);
         Ok(Wired {

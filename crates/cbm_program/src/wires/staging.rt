@@ -11,7 +11,7 @@ ghost use Rattle.cbm_program.specs.Staging.{IsOpen, IsBorne, StandsOn, PlaysOn, 
 
 use super::event::print_event;
 use crate::fault::RunFault;
-use cbm_drive::{Bus, Change, Desk, Drive, Party, Player, Who};
+use cbm_drive::{Bus, Change, Desk, Drive, Pace, Party, Player, Who};
 use cbm_medium::Steady;
 use std::io::Write;
 
@@ -38,6 +38,7 @@ impl<M: Steady> Stage<M> {
         let party = Party {
             device,
             reaction: REACTION,
+            pace: Pace::Profile,
         };
         Stage {
             bus: Bus::new([Drive::new(desk, party)]),

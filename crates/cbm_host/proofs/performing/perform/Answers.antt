@@ -1,5 +1,7 @@
 use Rattle.std.proofs.Common.{◌+◌, ℕ, Some, [], ◌∷◌, false, refl, sym, ap, ◌∙◌, subst, arith, ◌++◌}
+use Rattle.cbm_iec.specs.declared.pace.Pace.TheVariants.{Profile}
 use Rattle.cbm_session.specs.Playing.{at_rest, IsMachine}
+use Rattle.cbm_session.specs.Seats.{at_pace}
 use Rattle.cbm_host.proofs.CarriedOut.{some_end, carried_soon, carried_out_then}
 use Rattle.cbm_host.proofs.Performed.{performing_none}
 use Rattle.cbm_host.proofs.performing.perform.Goals as goal
@@ -12,7 +14,8 @@ use Rattle.cbm_host.proofs.AnyDisk.{rest_played}
 use Rattle.cbm_host.proofs.Anyway.{carried_anyway}
 
 pub returns-in-Ok-clause-carried_out : goal.returns-in-Ok-clause-carried_out
-returns-in-Ok-clause-carried_out g c = λ b ms drive device short bus.
+returns-in-Ok-clause-carried_out g c = λ v ms drive device short bus.
+    let b = at_pace Profile v in
     let engine = engine_at c.args.start c.args.device c.args.request in
     let limit = c.args.start + 250000000 in
     let ss = at_rest g.D.Machine.State g.D.Machine.step g.D.Machine.says ms (b ∷ []) in
@@ -41,7 +44,8 @@ returns-in-Err-clause-memory g c = λ ss bus.
 -- ---- on any disk
 
 pub returns-in-Ok-clause-recorded : goal.returns-in-Ok-clause-recorded
-returns-in-Ok-clause-recorded g c = λ b drive device rest.
+returns-in-Ok-clause-recorded g c = λ v drive device rest.
+    let b = at_pace Profile v in
     let shows = g.D.Machine.shows in
     let engine = engine_at c.args.start c.args.device c.args.request in
     let limit = c.args.start + 250000000 in
@@ -55,7 +59,8 @@ returns-in-Ok-clause-recorded g c = λ b drive device rest.
     carried_anyway shows b drive c.args.start c.args.request c.requires.channel c.args.bus.now c.run.new.bus (run.0 ++ []) first.0 first.1 c.run.new.performer c.args.events.now.items c.run.new.events.items c.run.new.done.bytes.items c.run.new.done.last c.over.result h2 c.over.ensures.end
 
 pub returns-in-Err-clause-recorded : goal.returns-in-Err-clause-recorded
-returns-in-Err-clause-recorded g c = λ b drive device rest.
+returns-in-Err-clause-recorded g c = λ v drive device rest.
+    let b = at_pace Profile v in
     let shows = g.D.Machine.shows in
     let engine = engine_at c.args.start c.args.device c.args.request in
     let limit = c.args.start + 250000000 in
