@@ -1,5 +1,7 @@
 -- How a drive is addressed on the serial bus: LISTEN and TALK give it a role, a secondary address names a channel.
 use Rattle.std.specs.Prelude.{ℕ, ◌+◌, ◌-◌, ◌%◌, ◌==◌, ◌||◌, Bool, true, false, List, [], ◌∷◌, ◌++◌, take, if◌then◌else◌, Option, Some, None, is_some}
+use Rattle.cbm_iec.specs.declared.pace.Pace.{Pace}
+use Rattle.cbm_iec.specs.declared.pace.Pace.TheVariants.{Profile}
 use Rattle.cbm_iec.specs.declared.party.Role.{Role}
 use Rattle.cbm_iec.specs.declared.party.Role.TheVariants.{Absent, Listener, Talker}
 use Rattle.cbm_iec.specs.declared.act.Act.{Act}
@@ -30,6 +32,7 @@ channel_of (Open channel) = channel
 -- What the bytes in attention made of a drive, and what came since.
 pub record Addressed : Type 0 where
   pub device : ℕ
+  pub pace : Pace
   pub role : Role
   pub channel : Option ℕ  -- the secondary address, for bytes or for a name
   pub naming : Bool  -- it is for the name of an OPEN
@@ -38,7 +41,11 @@ pub record Addressed : Type 0 where
 
 -- at power up
 abbrev pub unaddressed : ℕ → Addressed
-unaddressed device = record { device = device; role = Absent; channel = None; naming = false; freed = false; name = [] }
+unaddressed device = record { device = device; pace = Profile; role = Absent; channel = None; naming = false; freed = false; name = [] }
+
+-- the same at another pace
+abbrev pub paced : Pace → Addressed → Addressed
+paced pace a = record a { pace = pace }
 
 -- the channel to which a listener's bytes go: none before a secondary address
 abbrev pub channel_heard : Role → Option ℕ → Option ℕ

@@ -3,10 +3,12 @@ use Rattle.std.specs.Prelude.{ℕ, ◌≡◌, ◌<◌, Bool, true, false, List, 
 use Rattle.cbm_medium.specs.Seen.{Seen}
 use Rattle.cbm_channel.specs.Machines.{Machine}
 use Rattle.cbm_channel.specs.Closing.{close}
-use Rattle.cbm_channel.specs.Talking.{talk, listen, peek, taken}
+use Rattle.cbm_channel.specs.Talking.{talk, talk_keeping_error, listen, peek, taken}
 use Rattle.cbm_channel.specs.Calls.{put, end_put, after_open}
 use Rattle.cbm_channel.specs.Shown.{shown_by}
 use Rattle.cbm_channel.specs.Standing.{Kept, Stands}
+use Rattle.cbm_iec.specs.declared.pace.Pace.{Pace}
+use Rattle.cbm_iec.specs.declared.pace.Pace.TheVariants.{Profile, Kernal}
 use Rattle.cbm_iec.specs.declared.party.Role.{Role}
 use Rattle.cbm_iec.specs.declared.party.Role.TheVariants.{Listener, Talker}
 use Rattle.cbm_iec.specs.declared.act.Act.{Act}
@@ -15,7 +17,7 @@ use Rattle.cbm_drive.specs.declared.secondary.Secondary.{Secondary}
 use Rattle.cbm_drive.specs.declared.secondary.Secondary.TheVariants.{Data, Close}
 use Rattle.cbm_drive.specs.declared.ended.Ended.{Ended}
 use Rattle.cbm_drive.specs.declared.ended.Ended.TheVariants.{Name, Bytes}
-use Rattle.cbm_drive.specs.Addressing.{Addressed, unaddressed, secondary_of, channel_heard, channel_said, addressed_after, ended}
+use Rattle.cbm_drive.specs.Addressing.{Addressed, unaddressed, paced, secondary_of, channel_heard, channel_said, addressed_after, ended}
 
 -- a DOS, or a machine that it stands for, and how its drive is addressed
 pub record Desk (A : Type 0) : Type 0 where
@@ -26,12 +28,21 @@ pub record Desk (A : Type 0) : Type 0 where
 abbrev pub at_first : {A : Type 0} → ℕ → A → Desk A
 at_first device dos = record { dos = dos; addressed = unaddressed device }
 
+-- the same at another pace
+abbrev pub with_pace : {A : Type 0} → Pace → Desk A → Desk A
+with_pace pace d = record { dos = d.dos; addressed = paced pace d.addressed }
+
+-- A talker's channel is asked for bytes; at a KERNAL's pace an error stays that nobody has begun to read.
+abbrev pub talked_to : Pace → ℕ → Machine → Machine
+talked_to Profile channel m = talk channel m
+talked_to Kernal channel m = talk_keeping_error channel m
+
 -- $60 asks a listener's channel to take bytes, or a talker's to send; $E0 closes a listener's, at once. To others they are nothing.
-abbrev pub seconded : Option Secondary → Role → Machine → Machine
-seconded (Some (Data channel)) Listener m = listen channel m
-seconded (Some (Data channel)) Talker m = talk channel m
-seconded (Some (Close channel)) Listener m = close channel m
-seconded secondary role m = m
+abbrev pub seconded : Pace → Option Secondary → Role → Machine → Machine
+seconded pace (Some (Data channel)) Listener m = listen channel m
+seconded pace (Some (Data channel)) Talker m = talked_to pace channel m
+seconded pace (Some (Close channel)) Listener m = close channel m
+seconded pace secondary role m = m
 
 -- the name is opened, or the bytes have ended
 abbrev pub ending : Option Ended → List ℕ → Machine → Machine
@@ -53,7 +64,7 @@ taken_from (Some channel) m = taken channel m
 -- EACH ACT OF THE BUS, for the machine of a drive that is addressed so
 abbrev pub asked : Act → Addressed → Machine → Machine
 asked Pulled a m = ending (ended a) a.name m
-asked (Attention byte) a m = seconded (secondary_of byte) a.role m
+asked (Attention byte) a m = seconded a.pace (secondary_of byte) a.role m
 asked Released a m = m
 asked (Heard byte eoi) a m = put_to a.naming (channel_heard a.role a.channel) byte m
 asked (Said byte last) a m = taken_from (channel_said a.role a.channel) m

@@ -1,11 +1,11 @@
 //! How a drive is addressed on the bus.
 ghost use Rattle.std.specs.Prelude.{◌≡◌, ◌≤◌, ◌<◌, ◌++◌, ◌∷◌, [], take, IfSome};
-ghost use Rattle.cbm_drive.specs.Addressing.{unaddressed, called, turned, given, attended, waiting, released, heard, ended, ended_channel, channel_heard, channel_said};
+ghost use Rattle.cbm_drive.specs.Addressing.{unaddressed, paced, called, turned, given, attended, waiting, released, heard, ended, ended_channel, channel_heard, channel_said};
 
 use crate::ended::Ended;
 use crate::secondary::Secondary;
 use arrayvec::ArrayVec;
-use cbm_iec::Role;
+use cbm_iec::{Pace, Role};
 use std::marker::Model;
 use std::mem;
 
@@ -25,6 +25,7 @@ fn keep(name: &mut ArrayVec<u8, 256>, byte: u8)
 #[derive(Drop)]
 pub(crate) struct Addressee {
     device: u8,
+    pace: Pace,
     role: Role,
     channel: Option<u8>,
     naming: bool,
@@ -38,7 +39,7 @@ impl Model for Addressee {
 
     ghost Value = { Addressed };
 
-    ghost view = { λ a. record { device = a.device; role = a.role; channel = a.channel; naming = a.naming; freed = a.freed; name = a.name.items } };
+    ghost view = { λ a. record { device = a.device; pace = a.pace; role = a.role; channel = a.channel; naming = a.naming; freed = a.freed; name = a.name.items } };
 
     ghost invariant = { λ a. (a.device < 31) × IfSome a.channel (λ c. c ≤ 15) };
 }
@@ -51,12 +52,27 @@ impl Addressee {
     {
         Addressee {
             device,
+            pace: Pace::Profile,
             role: Role::Absent,
             channel: None,
             naming: false,
             freed: false,
             name: ArrayVec::new(),
         }
+    }
+
+    /// It keeps this pace from now on.
+    pub(crate) fn keep_pace(&mut self, pace: Pace)
+        ensures { self.new ≡ paced pace self.old }
+    {
+        self.pace = pace;
+    }
+
+    /// Its pace.
+    pub(crate) fn pace(&self) -> Pace
+        ensures { result ≡ self.now.pace }
+    {
+        self.pace
     }
 
     /// Its role.

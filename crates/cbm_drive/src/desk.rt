@@ -5,7 +5,7 @@ use crate::calls::{close, end_put, open, put};
 use crate::ended::Ended;
 use crate::secondary::Secondary;
 use cbm_channel::Dos;
-use cbm_iec::{Act, Machine, Role};
+use cbm_iec::{Act, Machine, Pace, Role};
 use cbm_medium::{Medium, Steady};
 use std::marker::Model;
 
@@ -35,7 +35,8 @@ impl<M: Medium> Desk<M> {
     ghost use Rattle.cbm_channel.specs.Standing.{Stands};
     ghost use Rattle.cbm_volume.specs.Holding.{HoldsDisk};
     ghost use Rattle.cbm_drive.specs.Addressing.{unaddressed};
-    ghost use Rattle.cbm_drive.specs.Desks.{at_first, DeskStands};
+    ghost use Rattle.cbm_drive.specs.Desks as desks;
+    ghost use Rattle.cbm_drive.specs.Desks.{at_first, with_pace, DeskStands};
 
     /// As the drive is switched on, with a device number below 31.
     pub fn new(dos: Dos<M>, device: u8) -> Desk<M>
@@ -60,8 +61,25 @@ impl<M: Medium> Desk<M> {
         Desk::new(Dos::new(medium), device)
     }
 
-    /// The DOS.
-    pub fn into_dos(self) -> Dos<M>
+    /// The same drive at this pace, which a drive on the bus has of its `Party`.
+    pub fn with_pace(mut self, pace: Pace) -> Desk<M>
+        ensures value { result ≡ with_pace pace self }
+        ensures stands { (d : desks.Desk files.Machine) → DeskStands M.seen self d →
+            DeskStands M.seen result (with_pace pace d) }
+    {
+        self.addressee.keep_pace(pace);
+        self
+    }
+
+    /// The DOS, to look at: its calls are the bus's alone.
+    pub fn dos(&self) -> &Dos<M>
+        ensures { result.now ≡ self.now.dos }
+    {
+        &self.dos
+    }
+
+    // The DOS.
+    fn into_dos(self) -> Dos<M>
         ensures { result ≡ self.dos }
     {
         let Desk { dos, .. } = self;
@@ -85,7 +103,7 @@ impl<M: Steady> Desk<M> {
     ghost use Rattle.cbm_channel.specs.Machines as files;
     ghost use Rattle.cbm_drive.specs.Addressing.{attended, waiting, heard, released, secondary_of, channel_of, channel_heard, channel_said, ended, addressed_after};
     ghost use Rattle.cbm_drive.specs.Desks as desks;
-    ghost use Rattle.cbm_drive.specs.Desks.{seconded, ending, put_to, taken_from, asked, desk_says, desk_shows, IsAlike};
+    ghost use Rattle.cbm_drive.specs.Desks.{talked_to, seconded, ending, put_to, taken_from, asked, desk_says, desk_shows, IsAlike};
 
     /// ATN was pulled: what a listener was sent ends, and the secondary address goes.
     fn pulled(&mut self)
@@ -104,7 +122,7 @@ impl<M: Steady> Desk<M> {
 
     /// A byte came in attention: a secondary address asks something of the channel, by the role.
     fn attended(&mut self, byte: u8)
-        ensures leads { Leads M.seen self.old.dos self.new.dos (seconded (secondary_of byte) self.old.addressed.role) }
+        ensures leads { Leads M.seen self.old.dos self.new.dos (seconded self.old.addressed.pace (secondary_of byte) self.old.addressed.role) }
         ensures addressed { self.new.addressed ≡ attended byte self.old.addressed }
         ensures tracks { (M.seen self.new.dos.medium).tracks ≡ (M.seen self.old.dos.medium).tracks }
     {
@@ -115,15 +133,28 @@ impl<M: Steady> Desk<M> {
     /// What a secondary address asks of the DOS.
     fn second(&mut self, secondary: Option<Secondary>)
         requires { IfSome secondary (λ s. channel_of s ≤ 15) }
-        ensures leads { Leads M.seen self.old.dos self.new.dos (seconded secondary self.old.addressed.role) }
+        ensures leads { Leads M.seen self.old.dos self.new.dos (seconded self.old.addressed.pace secondary self.old.addressed.role) }
         ensures addressed { self.new.addressed ≡ self.old.addressed }
         ensures tracks { (M.seen self.new.dos.medium).tracks ≡ (M.seen self.old.dos.medium).tracks }
     {
         match (secondary, self.addressee.role()) {
             (Some(Secondary::Data(channel)), Role::Listener) => self.dos.listen(channel),
-            (Some(Secondary::Data(channel)), Role::Talker) => self.dos.talk(channel),
+            (Some(Secondary::Data(channel)), Role::Talker) => self.talk(channel),
             (Some(Secondary::Close(channel)), Role::Listener) => close(&mut self.dos, channel),
             _ => {}
+        }
+    }
+
+    /// A talker's channel is asked for bytes, by the drive's pace.
+    fn talk(&mut self, channel: u8)
+        requires { channel ≤ 15 }
+        ensures leads { Leads M.seen self.old.dos self.new.dos (talked_to self.old.addressed.pace channel) }
+        ensures addressed { self.new.addressed ≡ self.old.addressed }
+        ensures tracks { (M.seen self.new.dos.medium).tracks ≡ (M.seen self.old.dos.medium).tracks }
+    {
+        match self.addressee.pace() {
+            Pace::Profile => self.dos.talk(channel),
+            Pace::Kernal => self.dos.talk_keeping_error(channel),
         }
     }
 

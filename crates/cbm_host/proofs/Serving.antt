@@ -12,6 +12,7 @@ use Rattle.cbm_channel.specs.Plans.{open_text}
 use Rattle.cbm_channel.specs.Statuses.{status_line}
 use Rattle.cbm_channel.specs.Talking.{taken, talk, listen}
 use Rattle.cbm_drive.specs.Addressing.{Addressed, secondary_of, turned, taken_up}
+use Rattle.cbm_iec.specs.declared.pace.Pace.TheVariants.{Profile}
 use Rattle.cbm_drive.specs.Desks.{Desk, at_first, seconded, desk_step, desk_says}
 use Rattle.cbm_drive.specs.declared.secondary.Secondary.{Secondary}
 use Rattle.cbm_drive.specs.declared.secondary.Secondary.TheVariants.{Data, Close as CloseOf, Open as OpenOf}
@@ -98,21 +99,21 @@ untalks d small =
 
 -- a drive of this role with no secondary address, and its desk
 abbrev in_role : ℕ → Role → Addressed
-in_role d role = record { device = d; role = role; channel = None; naming = false; freed = false; name = [] }
+in_role d role = record { device = d; pace = Profile; role = role; channel = None; naming = false; freed = false; name = [] }
 
 abbrev waits : ℕ → Role → Machine → Desk Machine
 waits d role m = record { dos = m; addressed = in_role d role }
 
 -- a listener behind ATN's release, with a channel for a name or for bytes, and what came of the name; and a talker
 abbrev hearing : ℕ → ℕ → Bool → List ℕ → Machine → Desk Machine
-hearing d ch naming name m = record { dos = m; addressed = record { device = d; role = Listener; channel = Some ch; naming = naming; freed = true; name = name } }
+hearing d ch naming name m = record { dos = m; addressed = record { device = d; pace = Profile; role = Listener; channel = Some ch; naming = naming; freed = true; name = name } }
 
 abbrev speaking : ℕ → ℕ → Machine → Desk Machine
-speaking d ch m = record { dos = m; addressed = record { device = d; role = Talker; channel = Some ch; naming = false; freed = true; name = [] } }
+speaking d ch m = record { dos = m; addressed = record { device = d; pace = Profile; role = Talker; channel = Some ch; naming = false; freed = true; name = [] } }
 
 -- A byte in attention, by the secondary address and the role that it makes.
 abbrev taken_by : Option Secondary → Role → Role → Addressed → Machine → Desk Machine
-taken_by s old new a m = record { dos = seconded s old m; addressed = taken_up s new a }
+taken_by s old new a m = record { dos = seconded Profile s old m; addressed = taken_up s new a }
 
 attends : (d byte : ℕ) (s : Option Secondary) (old new : Role) (m : Machine) → secondary_of byte ≡ s → role_after d byte old ≡ new
     → desk_step (waits d old m) (Attention byte) ≡ taken_by s old new (in_role d new) m

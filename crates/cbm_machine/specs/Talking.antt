@@ -5,6 +5,7 @@ use Rattle.cbm_file.specs.Files.{Disk}
 use Rattle.cbm_file.specs.Waiting.{shown}
 use Rattle.cbm_machine.specs.declared.code.Code.{Code}
 use Rattle.cbm_machine.specs.declared.code.Code.TheVariants.{Fine, NoRecord, FileNotOpen}
+use Rattle.cbm_machine.specs.Told.{is_unread_error, told_by}
 use Rattle.cbm_machine.specs.Statuses.{return, status_line}
 use Rattle.cbm_machine.specs.Machines.{Channel, Closed, Reading, Writing, Stopped, Relative, Machine, say, channel, with_channel}
 use Rattle.cbm_machine.specs.Finding.{body_at}
@@ -61,6 +62,10 @@ talk_refusal d (Relative s k p) = if is_some (record_at (body_at d s) k) then No
 -- a channel is asked to talk
 abbrev pub talk : ℕ → Machine → Machine
 talk ch m = if ch == 15 then m else only_refused (talk_refusal m.disk (channel m ch)) m
+
+-- The same of a computer that asks for a file's bytes though its OPEN was refused: an error that nobody has begun to read stays.
+abbrev pub talk_keeping_error : ℕ → Machine → Machine
+talk_keeping_error ch m = if is_unread_error (told_by m) then m else talk ch m
 
 -- what a channel that is asked to listen refuses
 abbrev pub listen_refusal : Channel → Option Code

@@ -1,8 +1,9 @@
 -- What channel 15 tells of the status.
-use Rattle.std.specs.Prelude.{ℕ, ◌+◌, nat_lt, Bool, length, drop, if◌then◌else◌, Option}
+use Rattle.std.specs.Prelude.{ℕ, ◌+◌, ◌==◌, ◌&&◌, nat_le, nat_lt, Bool, length, drop, if◌then◌else◌, Option}
 use Rattle.cbm_machine.specs.declared.code.Code.TheVariants.{Fine}
 use Rattle.cbm_machine.specs.declared.status.Status.{Status}
 use Rattle.cbm_machine.specs.Statuses.{plain, status_line}
+use Rattle.cbm_machine.specs.Codes.{code_number}
 use Rattle.cbm_machine.specs.Machines.{Machine}
 use Rattle.cbm_file.specs.Waiting.{shown}
 
@@ -20,6 +21,10 @@ abbrev pub behind_next : Told → Told
 behind_next t =
     if nat_lt (t.told + 1) (length (status_line t.status)) then record t { told = t.told + 1 }
     else record { status = plain Fine; told = 0 }
+
+-- an error (20 or above) of which no byte was taken yet
+abbrev pub is_unread_error : Told → Bool
+is_unread_error t = (t.told == 0) && nat_le 20 (code_number t.status.code)
 
 -- what a machine tells on channel 15
 abbrev pub told_by : Machine → Told

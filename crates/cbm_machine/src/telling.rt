@@ -1,11 +1,14 @@
 ghost use Rattle.std.specs.Prelude.{◌≡◌, ℕ};
-ghost use Rattle.cbm_machine.specs.Told.{next_told, behind_next, told_by};
+ghost use Rattle.cbm_machine.specs.Told.{next_told, behind_next, told_by, is_unread_error};
 ghost use Rattle.cbm_machine.specs.Machines.{Machine};
 ghost use Rattle.cbm_machine.specs.Talking.{peek, taken};
 
 use crate::code::Code;
 use crate::status::{Status, StatusLine};
 use std::marker::Model;
+
+/// The least number of a status that is an error.
+const FIRST_ERROR: u8 = 20;
 
 /// The status as channel 15 sends it: its line is made once, and sent byte by byte.
 #[derive(Drop)]
@@ -44,6 +47,13 @@ impl Telling {
         ensures { result ≡ self.now.status }
     {
         self.status
+    }
+
+    /// Whether it is an error (20 or above) of whose line nothing was sent yet.
+    pub fn is_unread_error(&self) -> bool
+        ensures { result ≡ is_unread_error self.now }
+    {
+        self.told == 0 && self.status.code.number() >= FIRST_ERROR
     }
 
     /// The next byte of the line, and whether it is the last (EOI).

@@ -85,7 +85,7 @@ fn code_after_name(mut desk: Desk<D64Disk>, is_pulled: bool) -> u8 {
     if is_pulled {
         desk.act(Act::Pulled);
     }
-    desk.into_dos().status_code()
+    desk.dos().status_code()
 }
 
 // A name is opened at the pull of ATN after it, and not before.

@@ -57,7 +57,7 @@ pub fn played(
 
 pub fn into_disk(bus: Bus<Desk<D64Disk>, 1>) -> D64Disk {
     let [drive] = bus.into_drives();
-    drive.into_machine().into_dos().into_medium()
+    drive.into_machine().into_medium()
 }
 
 /// The code that the status shows after an OPEN of a name on channel 2.

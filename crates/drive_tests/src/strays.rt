@@ -125,7 +125,7 @@ fn without_wires(mut desk: Desk<D64Disk>, acts: &[Option<Act>]) -> D64Disk {
             desk.act(act);
         }
     }
-    desk.into_dos().into_medium()
+    desk.into_medium()
 }
 
 fn says_byte(dos: &mut Dos<D64Disk>, byte: u8, last: bool) -> bool {
@@ -200,7 +200,7 @@ fn count(rt: &impl Abort, alloc: Global, image: &[u8], left: &[u8], ends: &mut E
 }
 
 fn into_image(rt: &impl Abort, alloc: Global, machine: Desk<D64Disk>) -> Vec<u8> {
-    sound(rt, alloc, machine.into_dos().into_medium())
+    sound(rt, alloc, machine.into_medium())
 }
 
 // A host has its way with the disk; then it is sound, and what the acts make of it.

@@ -8,7 +8,7 @@ use cbm_volume::Medium;
 impl<M: Medium> Dos<M> {
     ghost use Rattle.std.specs.Prelude.{◌≡◌, ◌≤◌, ◌<◌, ℕ, false, Some, IsSome, slice_index_or};
     ghost use Rattle.cbm_machine.specs.Machines.{Machine};
-    ghost use Rattle.cbm_machine.specs.Talking.{peek, taken, talk, listen};
+    ghost use Rattle.cbm_machine.specs.Talking.{peek, taken, talk, talk_keeping_error, listen};
     ghost use Rattle.cbm_channel.specs.Grounds.{IsToldFor};
     ghost use Rattle.cbm_channel.specs.Standing.{Stands, SameBut, Leads};
     ghost use Rattle.cbm_channel.specs.Shown.{shown_by};
@@ -32,6 +32,22 @@ impl<M: Medium> Dos<M> {
         if let Some(code) = self.channels[channel as usize].talk_refused() {
             self.say(code);
         }
+    }
+
+    /// TALK of a computer that asks for a file's bytes though its OPEN was refused, as a KERNAL does: as `talk`, but an
+    /// error (20 or above) that nobody has begun to read stays the status.
+    pub fn talk_keeping_error(&mut self, channel: u8)
+        requires { channel ≤ 15 }
+        ensures leads { Leads M.seen self.old self.new (talk_keeping_error channel) }
+        // On any disk:
+        ensures channels { self.new.channels ≡ self.old.channels }
+        ensures told { IsToldFor M.seen self.old self.new }
+        ensures medium { self.new.medium ≡ self.old.medium }
+    {
+        if self.telling.is_unread_error() {
+            return;
+        }
+        self.talk(channel);
     }
 
     /// LISTEN: asks a channel to take bytes; the status becomes 61 where it is neither 15 nor open for writing.
