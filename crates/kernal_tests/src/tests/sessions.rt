@@ -21,7 +21,7 @@ const NOT_FOUND: &[u8] = b"62, FILE NOT FOUND,00,00\r";
 const SAVED: &[u8] = b"\x00\xc0\x00\xff\x55\xaa\x0f\xf0\x80\x01";
 
 /// What a session was.
-#[derive(Clone, Copy, Drop)]
+#[derive(Drop)]
 pub struct Tally {
     /// How many jobs the computer had.
     pub jobs: u32,
