@@ -1,4 +1,5 @@
 use Rattle.std.proofs.Common.{◌++◌, List, refl, ap, subst, ◌∙◌, arith}
+use Rattle.cbm_iec.specs.declared.event.Event.{Event}
 use Rattle.cbm_iec.specs.declared.line.Change.{Change}
 use Rattle.cbm_session.specs.Playing.{drive_events}
 use Rattle.cbm_drive.proofs.Firsts.{first_in_time, idle_in_time}
@@ -20,13 +21,13 @@ returns-then-moment-limit-clause-settled g c = first_in_time c.args.limit c.in-S
 pub returns-clause-settled : goal.returns-clause-settled
 returns-clause-settled g c = idle_in_time c.args.limit c.loop-place.drives c.in_default.ensures.first
 
-pub loop-place-smaller-in-Continue-1 : goal.loop-place-smaller-in-Continue-1
-loop-place-smaller-in-Continue-1 g c =
+pub loop-place-smaller-in-Some-react : goal.loop-place-smaller-in-Some-react
+loop-place-smaller-in-Some-react g c =
     less_left c.in-Some.place c.in-Some.moment c.args.limit c.loop-place.drives c.react.new.drives c.in-Some.ensures.first (omega (arith, c.if-moment-limit.false))
     (omega (arith, c.requires.few, c.loop-place.invariant.1, c.in-Some-react.ensures.same)) (c.in-Some-react.ensures.nearer c.in-Some.ensures.first)
 
-pub loop-place-preserved-in-Continue-1 : goal.loop-place-preserved-in-Continue-1
-loop-place-preserved-in-Continue-1 g c = (
+pub loop-place-preserved-in-Some-react : goal.loop-place-preserved-in-Some-react
+loop-place-preserved-in-Some-react g c = (
   (λ ss n h l.
       (let s = c.loop-place.invariant.0 ss n h l in
       settled_more _ g.D.Machine.State g.D.Machine.stands g.D.Machine.stands g.D.Machine.step g.D.Machine.says g.met.D.Machine.byte g.met.D.Machine.byte c.args.host c.args.limit c.in-Some.moment c.in-Some-react.answer.device n c.loop-place.drives c.react.new.drives c.in-Some-react.answer.changes.items
