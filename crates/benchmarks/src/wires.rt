@@ -106,7 +106,11 @@ fn drive(alloc: Global, device: u8, reaction: u8) -> io::Result<Drive<Desk<D64Di
     let disk = empty(alloc)?;
     Ok(Drive::new(
         Desk::new(Dos::new(disk), device),
-        Party { device, reaction, pace: Pace::Profile },
+        Party {
+            device,
+            reaction,
+            pace: Pace::Profile,
+        },
     ))
 }
 

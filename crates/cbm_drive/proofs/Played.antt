@@ -12,7 +12,7 @@ use Rattle.cbm_iec.specs.declared.lines.Lines.{Lines}
 use Rattle.cbm_session.specs.Playing.{Station, Plays, stays, change, reaction, tell, host_event, AllBytes, IsByte, reacting, shown, drive_events}
 use Rattle.cbm_session.proofs.headline.Keeping.{plays_then}
 use Rattle.cbm_drive.specs.declared.wires.Wires.{Wires}
-use Rattle.cbm_drive.specs.Played.{HasSettled, IsCutOff, HasPlayed, IsPlayCut, IsBegun}
+use Rattle.cbm_drive.specs.Played.{HasSettled, HasPlayed, IsPlayCut}
 use Rattle.cbm_drive.specs.Ordered.{host_changes, with_host}
 use Rattle.cbm_drive.proofs.Reacted.{stations_in_time}
 use Rattle.cbm_drive.specs.Reactions.{HasReacted}
@@ -107,21 +107,6 @@ module _ (D M : Type 0) (stood stands : D → M → Type 0) (step : M → Act �
       change c [] (at_bus D M stood step says byte host xs ss h) l (stations_in_time D M stood step says (held_by host xs) c.moment xs ss h t) refl (stays (at_bus D M stands step says byte_now now ys (map (λ s. tell M step says c s) ss) k) refl refl refl)
 
 module _ (D M : Type 0) (stands : D → M → Type 0) (step : M → Act → M) (says : M → Option (ℕ × Bool)) (byte : (x : D) (m : M) (n : ℕ) (last : Bool) → stands x m → says m ≡ Some (n, last) → n < 256) where
-  -- want of memory behind a reaction
-  pub settled_cut : (host : Lines) (limit t device n : ℕ) (xs ys : List (Seated D)) (cs : List Change) (old mid new : List Event) (ss : List (Station M)) → (s : HasSettled D M stands step says host limit xs old mid n ss)
-      → HasReacted D M stands step says host t device ys cs s.stations → IsBegun mid new (drive_events device cs) → IsCutOff D M stands step says host ys old new n ss
-  settled_cut host limit t device n xs ys cs old mid new ss s r b = record {
-    given = s.made ++ b.given;
-    left = b.left;
-    from = suc t;
-    stations = reacting M step says t r.before r.station r.behind;
-    added = b.added ∙ ap (λ (v : List Event). v ++ b.given) s.added ∙ append_assoc old s.made b.given;
-    plays = subst (λ (v : List Event). Plays M step says n ss v (suc t) (reacting M step says t r.before r.station r.behind)) (ap (λ (v : List Event). s.made ++ v) (sym b.all) ∙ sym (append_assoc s.made b.given b.left))
-        (plays_then M step says s.plays (one_step D M stands stands step says byte byte host t s.from device xs ys cs s.stations s.now r));
-    quiet = ap host_changes (append_assoc s.made b.given b.left ∙ ap (λ (v : List Event). s.made ++ v) b.all) ∙ both_none s.made device cs s.quiet;
-    now = r.now;
-  }
-
   -- the reactions before it, and the change
   pub played_more : (host now : Lines) (c : Change) (before : ℕ) (xs ys zs : List (Seated D)) (old mid new last : List Event) (cs : List Change) (ss : List (Station M)) → (p : HasPlayed D M stands step says host before xs old mid cs ss)
       → (s : HasSettled D M stands step says host c.moment ys mid new p.from p.stations) → AreInTime c.moment ys → ((us : List (Station M)) → IsBusAt D M stands host ys us → IsBusAt D M stands now zs (map (λ u. tell M step says c u) us))
@@ -137,36 +122,18 @@ module _ (D M : Type 0) (stands : D → M → Type 0) (step : M → Act → M) (
     now = told s.stations s.now;
   }
 
-  -- want of memory among the reactions
-  pub played_cut : (host : Lines) (before : ℕ) (xs ys : List (Seated D)) (old mid new : List Event) (cs rest all : List Change) (ss : List (Station M)) → (p : HasPlayed D M stands step says host before xs old mid cs ss)
-      → IsCutOff D M stands step says host ys mid new p.from p.stations → cs ++ rest ≡ all → IsPlayCut D M stands step says host ys old new all ss
-  played_cut host before xs ys old mid new cs rest all ss p k e = record {
-    given = p.made ++ k.given;
-    left = k.left;
-    from = k.from;
-    stations = k.stations;
-    added = k.added ∙ ap (λ (v : List Event). v ++ k.given) p.added ∙ append_assoc old p.made k.given;
-    plays = subst (λ (v : List Event). Plays M step says 0 ss v k.from k.stations) (sym (append_assoc p.made k.given k.left)) (plays_then M step says p.plays k.plays);
+  -- want of memory behind reactions
+  pub played_cut : (host : Lines) (before limit : ℕ) (xs ys : List (Seated D)) (old mid new : List Event) (cs rest all : List Change) (ss : List (Station M)) → (p : HasPlayed D M stands step says host before xs old mid cs ss)
+      → HasSettled D M stands step says host limit ys mid new p.from p.stations → cs ++ rest ≡ all → IsPlayCut D M stands step says host ys old new all ss
+  played_cut host before limit xs ys old mid new cs rest all ss p s e = record {
+    made = p.made ++ s.made;
     rest = rest;
-    hosts = ap (λ (v : List Change). v ++ rest) (ap host_changes (append_assoc p.made k.given k.left) ∙ host_append p.made (k.given ++ k.left) ∙ (λ i. p.hosts i ++ k.quiet i) ∙ append-nil cs) ∙ e;
-    now = k.now;
-  }
-
-  -- want of memory for the change itself, which was told
-  pub played_told : (host now : Lines) (c : Change) (before : ℕ) (xs ys zs : List (Seated D)) (old mid new : List Event) (cs rest all : List Change) (ss : List (Station M)) → (p : HasPlayed D M stands step says host before xs old mid cs ss)
-      → (s : HasSettled D M stands step says host c.moment ys mid new p.from p.stations) → AreInTime c.moment ys → ((us : List (Station M)) → IsBusAt D M stands host ys us → IsBusAt D M stands now zs (map (λ u. tell M step says c u) us))
-      → (cs ++ c ∷ []) ++ rest ≡ all → IsPlayCut D M stands step says now zs old new all ss
-  played_told host now c before xs ys zs old mid new cs rest all ss p s t told e = record {
-    given = p.made ++ s.made;
-    left = host_event c ∷ [];
-    from = c.moment;
-    stations = map (λ u. tell M step says c u) s.stations;
+    from = s.from;
+    stations = s.stations;
     added = s.added ∙ ap (λ (v : List Event). v ++ s.made) p.added ∙ append_assoc old p.made s.made;
-    plays = subst (λ (v : List Event). Plays M step says 0 ss v c.moment (map (λ u. tell M step says c u) s.stations)) (sym (append_assoc p.made s.made (host_event c ∷ [])))
-        (plays_then M step says p.plays (plays_then M step says s.plays (one_change D M stands stands step says byte byte host now c s.from ys zs s.stations s.now t s.before (told s.stations s.now))));
-    rest = rest;
-    hosts = ap (λ (v : List Change). v ++ rest) (ap host_changes (append_assoc p.made s.made (host_event c ∷ [])) ∙ host_append p.made (s.made ++ host_event c ∷ []) ∙ (λ i. p.hosts i ++ (host_append s.made (host_event c ∷ []) ∙ ap (λ (v : List Change). v ++ c ∷ []) s.quiet) i)) ∙ e;
-    now = told s.stations s.now;
+    plays = plays_then M step says p.plays s.plays;
+    hosts = ap (λ (v : List Change). v ++ rest) (host_append p.made s.made ∙ (λ i. p.hosts i ++ s.quiet i) ∙ append-nil cs) ∙ e;
+    now = s.now;
   }
 
   -- the reactions up to the end
@@ -198,10 +165,10 @@ module _ (D M : Type 0) (stands : D → M → Type 0) (step : M → Act → M) (
 
   -- the answer of the last reactions is the answer of the whole
   pub played_so : {X E : Type 0} (r : Result X E) (host : Lines) (before limit : ℕ) (xs ys : List (Seated D)) (old mid new : List Event) (cs : List Change) (ss : List (Station M)) → (p : HasPlayed D M stands step says host before xs old mid cs ss)
-      → MatchResult r (λ x. HasSettled D M stands step says host limit ys mid new p.from p.stations) (λ e. IsCutOff D M stands step says host ys mid new p.from p.stations)
+      → HasSettled D M stands step says host limit ys mid new p.from p.stations
       → MatchResult r (λ x. HasPlayed D M stands step says host limit ys old new cs ss) (λ e. IsPlayCut D M stands step says host ys old new cs ss)
   played_so (Ok x) host before limit xs ys old mid new cs ss p h = played_end host before limit xs ys old mid new cs ss p h
-  played_so (Err e) host before limit xs ys old mid new cs ss p h = played_cut host before xs ys old mid new cs [] cs ss p h (append-nil cs)
+  played_so (Err e) host before limit xs ys old mid new cs ss p h = played_cut host before limit xs ys old mid new cs [] cs ss p h (append-nil cs)
 
 -- what is passed on by `?` is an Err
 pub passed_on : {X E : Type 0} (r : Result X E) (P : X → Type 0) (Q : E → Type 0) → IsErr r → ((e : E) → Q e) → MatchResult r P Q

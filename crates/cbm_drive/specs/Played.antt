@@ -10,13 +10,6 @@ use Rattle.cbm_session.specs.Playing.{Station, Plays}
 use Rattle.cbm_drive.specs.Ordered.{host_changes}
 use Rattle.cbm_drive.specs.Seats.{Seated, IsBusAt}
 
--- a beginning of these events was added
-pub record IsBegun (old new es : List Event) : Type 0 where
-  pub given : List Event
-  pub left : List Event
-  pub added : new ≡ old ++ given
-  pub all : given ++ left ≡ es
-
 module _ (D M : Type 0) (stands : D → M → Type 0) (step : M → Act → M) (says : M → Option (ℕ × Bool)) where
   -- THE DRIVES HAVE PLAYED ON: what they made was added to the events, and a change of the host may come from the limit on.
   pub record HasSettled (host : Lines) (limit : ℕ) (xs : List (Seated D)) (old new : List Event) (n : ℕ) (ss : List (Station M)) : Type 0 where
@@ -27,17 +20,6 @@ module _ (D M : Type 0) (stands : D → M → Type 0) (step : M → Act → M) (
     pub plays : Plays M step says n ss made from stations
     pub quiet : host_changes made ≡ []
     pub before : from ≤ limit
-    pub now : IsBusAt D M stands host xs stations
-
-  -- want of memory: a beginning of what they made was added
-  pub record IsCutOff (host : Lines) (xs : List (Seated D)) (old new : List Event) (n : ℕ) (ss : List (Station M)) : Type 0 where
-    pub given : List Event
-    pub left : List Event
-    pub from : ℕ
-    pub stations : List (Station M)
-    pub added : new ≡ old ++ given
-    pub plays : Plays M step says n ss (given ++ left) from stations
-    pub quiet : host_changes (given ++ left) ≡ []
     pub now : IsBusAt D M stands host xs stations
 
   -- THE HOST'S CHANGES WERE PLAYED, and all that the drives made of them was added.
@@ -51,16 +33,15 @@ module _ (D M : Type 0) (stands : D → M → Type 0) (step : M → Act → M) (
     pub before : from ≤ limit
     pub now : IsBusAt D M stands host xs stations
 
-  -- want of memory: a beginning of what happened was added, under a beginning of the changes
+  -- WANT OF MEMORY: a beginning of the changes was played, with what came of them up to there; all that happened was added.
   pub record IsPlayCut (host : Lines) (xs : List (Seated D)) (old new : List Event) (cs : List Change) (ss : List (Station M)) : Type 0 where
-    pub given : List Event
-    pub left : List Event
+    pub made : List Event
+    pub rest : List Change
     pub from : ℕ
     pub stations : List (Station M)
-    pub added : new ≡ old ++ given
-    pub plays : Plays M step says 0 ss (given ++ left) from stations
-    pub rest : List Change
-    pub hosts : host_changes (given ++ left) ++ rest ≡ cs
+    pub added : new ≡ old ++ made
+    pub plays : Plays M step says 0 ss made from stations
+    pub hosts : host_changes made ++ rest ≡ cs
     pub now : IsBusAt D M stands host xs stations
 
   -- WHATEVER THE HOST DID: all that happened was added, and the machine of each drive ran what the wires handed to it and nothing else.

@@ -43,7 +43,7 @@ impl<D: Machine, const N: usize> Bus<D, N> {
     ghost use Rattle.cbm_drive.specs.Ordered.{fault_of};
     ghost use Rattle.cbm_drive.specs.declared.fault.PlayFault.{PlayFault};
     ghost use Rattle.cbm_drive.specs.declared.fault.PlayFault.TheVariants.{Memory};
-    ghost use Rattle.cbm_drive.specs.Played.{HasSettled, IsCutOff, HasPlayed, IsPlayCut, HasHanded};
+    ghost use Rattle.cbm_drive.specs.Played.{HasSettled, HasPlayed, IsPlayCut, HasHanded};
     ghost use Rattle.cbm_drive.specs.Playback.{Shown, Playback, IsPlayedBack, played_says, played_step};
     ghost use Rattle.cbm_drive.specs.Progress.{AreKept, IsNearer, left};
     ghost use Rattle.cbm_drive.specs.Reactions.{AreAt, HasReacted};
@@ -181,16 +181,14 @@ impl<D: Machine, const N: usize> Bus<D, N> {
     }
 
     /// The reactions that are due before a limit happen, each in its turn, and their changes go to the events. So a host may
-    /// change a line at the limit or later. An `Err` is want of memory: a beginning of what was made went to the events.
+    /// change a line at the limit or later. An `Err` is want of memory, before a reaction: what happened went to the events.
     pub fn settle(&mut self, limit: u64, events: &mut Vec<Event>) -> Result<(), AllocError>
         requires { limit < 2 ^ 60 }
         ensures settled { OnOk result (AreInTime limit self.new.drives) }
         ensures played { (ss : List (Station D.State)) (n : ℕ) →
-            IsBusAt _ D.State D.stands self.old.host self.old.drives ss → n ≤ limit → MatchResult result
-            (λ x. HasSettled _ D.State D.stands D.step D.says self.old.host limit self.new.drives events.old.items
-            events.new.items n ss)
-            (λ e. IsCutOff _ D.State D.stands D.step D.says self.old.host self.new.drives events.old.items events.new.items
-            n ss) }
+            IsBusAt _ D.State D.stands self.old.host self.old.drives ss → n ≤ limit →
+            HasSettled _ D.State D.stands D.step D.says self.old.host limit self.new.drives events.old.items
+            events.new.items n ss }
         ensures host { self.new.host ≡ self.old.host }
         ensures lasting { numbers D.lasting self.new.drives ≡ numbers D.lasting self.old.drives }
     {
@@ -199,7 +197,7 @@ impl<D: Machine, const N: usize> Bus<D, N> {
 
     /// Plays these changes of the host up to an end, in microseconds: all events, the host's and the drives', come one after
     /// the other, the reactions that are due at the end too. Errors: the first change that goes back in time or comes after
-    /// the end, and then nothing was played; or want of memory, and then the events are a beginning of what happened.
+    /// the end, and then nothing was played; or want of memory, before a step: the events are all that happened.
     #[tactic(auto, using(crate::proofs::Ordered::in_order))]
     pub fn play(
         &mut self,

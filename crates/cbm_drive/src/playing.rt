@@ -1,9 +1,9 @@
 //! Changes of a host are played on a bus: the events come one after the other.
 
-ghost use Rattle.std.specs.Prelude.{◌≡◌, ◌+◌, ◌≤◌, ◌<◌, ◌^◌, ◌++◌, ℕ, List, length, OnOk, OnErr, MatchResult};
+ghost use Rattle.std.specs.Prelude.{◌≡◌, ◌+◌, ◌≤◌, ◌<◌, ◌^◌, ◌++◌, ℕ, List, length, OnOk, MatchResult, vec_len, vec_capacity};
 ghost use Rattle.cbm_session.specs.Playing.{Station, drive_events};
 ghost use Rattle.cbm_drive.specs.Ordered.{AreOrdered};
-ghost use Rattle.cbm_drive.specs.Played.{HasSettled, IsCutOff, HasPlayed, IsPlayCut, IsBegun};
+ghost use Rattle.cbm_drive.specs.Played.{HasSettled, HasPlayed, IsPlayCut};
 ghost use Rattle.cbm_drive.specs.Seats.{AreInTime, IsBusAt, numbers};
 
 use crate::bus::{first_due, react, tell_all};
@@ -11,23 +11,26 @@ use crate::drive::Drive;
 use cbm_iec::{Change, Event, Lines, Machine, Who};
 use std::alloc::AllocError;
 
-/// The changes that a drive made go to the events.
-fn give(events: &mut Vec<Event>, device: u8, changes: &[Change]) -> Result<(), AllocError>
-    ensures given { OnOk result (events.new.items ≡ events.old.items ++ drive_events device changes.now) }
-    ensures begun { OnErr result (IsBegun events.old.items events.new.items (drive_events device changes.now)) }
+/// The most changes of one reaction: one of CLOCK, then one of DATA.
+const MOST: usize = 2;
+
+/// The changes that a drive made go to the events, which have room for them.
+fn give(events: &mut Vec<Event>, device: u8, changes: &[Change])
+    requires { vec_len events.old + length changes.now ≤ vec_capacity events.old }
+    ensures { events.new.items ≡ events.old.items ++ drive_events device changes.now }
 {
     let Some((change, rest)) = changes.split_first() else {
-        return Ok(());
+        return;
     };
-    events.push(Event {
+    events.push_reserved(Event {
         who: Who::Drive(device),
         change: *change,
-    })?;
-    give(events, device, rest)
+    });
+    give(events, device, rest);
 }
 
 /// The reactions that are due before a limit happen, each in its turn; their changes go to the events. An `Err` is want
-/// of memory: the events are a beginning of what happened.
+/// of memory, before a reaction: up to it all has happened as it is told.
 pub(crate) fn settle<D: Machine>(
     drives: &mut [Drive<D>],
     host: Lines,
@@ -40,23 +43,22 @@ pub(crate) fn settle<D: Machine>(
     ensures same { length drives.new ≡ length drives.old }
     ensures lasting { numbers D.lasting drives.new ≡ numbers D.lasting drives.old }
     ensures played { (ss : List (Station D.State)) (n : ℕ) → IsBusAt _ D.State D.stands host drives.old ss → n ≤ limit →
-        MatchResult result
-        (λ x. HasSettled _ D.State D.stands D.step D.says host limit drives.new events.old.items events.new.items n ss)
-        (λ e. IsCutOff _ D.State D.stands D.step D.says host drives.new events.old.items events.new.items n ss) }
+        HasSettled _ D.State D.stands D.step D.says host limit drives.new events.old.items events.new.items n ss }
 {
     while let Some((place, moment)) = first_due(drives) {
         if moment >= limit {
             return Ok(());
         }
+        events.reserve(MOST)?;
         if let Some(answer) = react(drives, host, place, moment) {
-            give(events, answer.device, &answer.changes)?;
+            give(events, answer.device, &answer.changes);
         }
     }
     Ok(())
 }
 
 /// The changes of the host and the reactions of the drives come one after the other, up to an end; all go to the events.
-/// An `Err` is want of memory: the events are a beginning of what happened.
+/// An `Err` is want of memory, before a step: up to it all has happened as it is told.
 pub(crate) fn play_on<D: Machine>(
     drives: &mut [Drive<D>],
     host: &mut Lines,
@@ -78,11 +80,12 @@ pub(crate) fn play_on<D: Machine>(
 {
     for change in changes {
         settle(drives, *host, change.moment, events)?;
+        events.reserve(1)?;
         *host = tell_all(drives, *host, *change);
-        events.push(Event {
+        events.push_reserved(Event {
             who: Who::Host,
             change: *change,
-        })?;
+        });
     }
     settle(drives, *host, end + 1, events)
 }

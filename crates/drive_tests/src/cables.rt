@@ -13,7 +13,14 @@ use std::process::Abort;
 fn drive(rt: &impl Abort, device: u8, reaction: u8) -> Drive<Parrot> {
     assert!(rt; device < 31 && reaction > 0);
     let acts = ArrayVec::new();
-    Drive::new(Parrot { acts }, Party { device, reaction, pace: Pace::Profile })
+    Drive::new(
+        Parrot { acts },
+        Party {
+            device,
+            reaction,
+            pace: Pace::Profile,
+        },
+    )
 }
 
 // Two drives by their devices and reactions.

@@ -33,7 +33,11 @@ impl Wired {
         assert!(rt; reaction > 0);
         let dos = Dos::new(empty_disk(alloc)?);
         let device = 8;
-        let party = Party { device, reaction, pace: Pace::Profile };
+        let party = Party {
+            device,
+            reaction,
+            pace: Pace::Profile,
+        };
         let bus = Bus::new([Drive::new(Desk::new(dos, device), party)]);
         let events = Vec::new(alloc);
         Ok(Wired {

@@ -272,5 +272,9 @@ pub fn listen(rt: &impl Abort, alloc: Global, byte: u8, shift: u64, free: u64) -
 }
 
 pub fn one(device: u8, reaction: u8) -> Party {
-    Party { device, reaction, pace: Pace::Profile }
+    Party {
+        device,
+        reaction,
+        pace: Pace::Profile,
+    }
 }

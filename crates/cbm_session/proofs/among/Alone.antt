@@ -44,7 +44,7 @@ start_later Kernal r t true = tt
 start_later Kernal r t false = tt
 
 ear_later : (e : Pace) → (r t : ℕ) (others : Lines) (ear : Ear) → IsInTime t (ear_due ((ear_row e ear).next r t others))
-ear_later e r t others (Starting at) = start_later e r t others.clock_low -- hold_later r t others.clock_low
+ear_later e r t others (Starting at) = start_later e r t others.clock_low  -- hold_later r t others.clock_low
 ear_later e r t others (Returning at) = hold_later r t others.clock_low
 ear_later e r t others (Accepting at eoi byte) = hold_later r t others.clock_low
 ear_later e r t others (Freeing at) = ready_later r t others.data_low

@@ -1,12 +1,13 @@
-use Rattle.std.proofs.Common.{◌≡◌, ◌+◌, ◌++◌, ℕ, List, take, drop, get_or, refl, ap, subst, sym, ◌∙◌, arith}
+use Rattle.std.proofs.Common.{◌≡◌, ◌+◌, ◌++◌, ℕ, List, [], ◌∷◌, take, drop, get_or, refl, ap, subst, sym, ◌∙◌, arith}
 use Rattle.std.proofs.lemmas.List.{take-append-drop, take_all}
 use Rattle.std.specs.Prelude.{MatchResult}
 use Rattle.cbm_iec.specs.declared.event.Event.{Event}
 use Rattle.cbm_iec.specs.declared.line.Change.{Change}
+use Rattle.cbm_session.specs.Playing.{host_event}
 use Rattle.cbm_drive.specs.Ordered.{latest}
 use Rattle.cbm_drive.specs.Played.{HasPlayed, IsPlayCut}
 use Rattle.cbm_drive.proofs.Ordered.{next_of, front_bound, no_change}
-use Rattle.cbm_drive.proofs.Played.{played_none, played_more, played_cut, played_told, played_so, passed_on}
+use Rattle.cbm_drive.proofs.Played.{played_none, played_more, played_cut, played_so, passed_on}
 use Rattle.cbm_drive.proofs.playing.play_on.Goals as goal
 
 pub loop-change-init : goal.loop-change-init
@@ -25,11 +26,11 @@ loop-change-preserved g c =
     let next = next_of c.args.end i xs no_change (omega (arith, c.loop-change-test.true)) c.loop-change.invariant.1 in (
       (λ ss h.
           (let p = c.loop-change.invariant.0 ss h in
-          let s = c.in_ok-settle.ensures.played p.stations p.from p.now (omega (arith, p.before, next.not_before)) in
-          subst (λ (t : ℕ). HasPlayed _ g.D.Machine.State g.D.Machine.stands g.D.Machine.step g.D.Machine.says c.tell_all.result t c.tell_all.new.drives c.args.events.now.items c.push.new.self.items (take (i + 1) xs) ss) (sym next.latest_is)
-          (subst (λ (cs : List Change). HasPlayed _ g.D.Machine.State g.D.Machine.stands g.D.Machine.step g.D.Machine.says c.tell_all.result x.moment c.tell_all.new.drives c.args.events.now.items c.push.new.self.items cs ss) (sym next.taken)
-          (played_more _ g.D.Machine.State g.D.Machine.stands g.D.Machine.step g.D.Machine.says g.met.D.Machine.byte c.loop-change.host c.tell_all.result x (latest 0 (take i xs)) c.loop-change.drives c.settle.new.drives c.tell_all.new.drives c.args.events.now.items c.loop-change.events.items c.settle.new.events.items c.push.new.self.items (take i xs) ss p s
-          c.in_ok-settle.ensures.settled c.tell_all.ensures.told c.in_ok-push.ensures.items)))),
+          let s = c.settle.ensures.played p.stations p.from p.now (omega (arith, p.before, next.not_before)) in
+          subst (λ (t : ℕ). HasPlayed _ g.D.Machine.State g.D.Machine.stands g.D.Machine.step g.D.Machine.says c.tell_all.result t c.tell_all.new.drives c.args.events.now.items c.push_reserved.new.self.items (take (i + 1) xs) ss) (sym next.latest_is)
+          (subst (λ (cs : List Change). HasPlayed _ g.D.Machine.State g.D.Machine.stands g.D.Machine.step g.D.Machine.says c.tell_all.result x.moment c.tell_all.new.drives c.args.events.now.items c.push_reserved.new.self.items cs ss) (sym next.taken)
+          (played_more _ g.D.Machine.State g.D.Machine.stands g.D.Machine.step g.D.Machine.says g.met.D.Machine.byte c.loop-change.host c.tell_all.result x (latest 0 (take i xs)) c.loop-change.drives c.settle.new.drives c.tell_all.new.drives c.args.events.now.items c.loop-change.events.items c.settle.new.events.items c.push_reserved.new.self.items (take i xs) ss p s
+          c.in_ok-settle.ensures.settled c.tell_all.ensures.told (c.push_reserved.ensures.items ∙ ap (λ (es : List Event). es ++ host_event x ∷ []) c.reserve.ensures.items))))),
       next.more,
       c.tell_all.ensures.same ∙ c.settle.ensures.same ∙ c.loop-change.invariant.2,
       c.tell_all.ensures.lasting ∙ c.settle.ensures.lasting ∙ c.loop-change.invariant.3,
@@ -43,22 +44,20 @@ returns-in_err-settle-clause-played g c = λ ss h.
     let next = next_of c.args.end i xs no_change (omega (arith, c.loop-change-test.true)) c.loop-change.invariant.1 in
     passed_on c.from_residual.result (λ y. HasPlayed _ g.D.Machine.State g.D.Machine.stands g.D.Machine.step g.D.Machine.says c.loop-change.host (c.args.end + 1) c.settle.new.drives c.args.events.now.items c.settle.new.events.items xs ss)
     (λ e. IsPlayCut _ g.D.Machine.State g.D.Machine.stands g.D.Machine.step g.D.Machine.says c.loop-change.host c.settle.new.drives c.args.events.now.items c.settle.new.events.items xs ss) c.from_residual.ensures.0
-    (λ e. played_cut _ g.D.Machine.State g.D.Machine.stands g.D.Machine.step g.D.Machine.says g.met.D.Machine.byte c.loop-change.host (latest 0 (take i xs)) c.loop-change.drives c.settle.new.drives c.args.events.now.items c.loop-change.events.items c.settle.new.events.items (take i xs) (drop i xs) xs ss p
-    (c.in_err-settle.ensures.played p.stations p.from p.now (omega (arith, p.before, next.not_before))) (take-append-drop i xs))
+    (λ e. played_cut _ g.D.Machine.State g.D.Machine.stands g.D.Machine.step g.D.Machine.says g.met.D.Machine.byte c.loop-change.host (latest 0 (take i xs)) (get_or xs i no_change).moment c.loop-change.drives c.settle.new.drives c.args.events.now.items c.loop-change.events.items c.settle.new.events.items (take i xs) (drop i xs) xs ss p
+    (c.settle.ensures.played p.stations p.from p.now (omega (arith, p.before, next.not_before))) (take-append-drop i xs))
 
-pub returns-in_err-push-clause-played : goal.returns-in_err-push-clause-played
-returns-in_err-push-clause-played g c = λ ss h.
+pub returns-in_err-reserve-clause-played : goal.returns-in_err-reserve-clause-played
+returns-in_err-reserve-clause-played g c = λ ss h.
     let xs = c.args.changes.now in
     let i = c.loop-change.change-index in
-    let x : Change = get_or xs i no_change in
     let p = c.loop-change.invariant.0 ss h in
     let next = next_of c.args.end i xs no_change (omega (arith, c.loop-change-test.true)) c.loop-change.invariant.1 in
-    let s = c.in_ok-settle.ensures.played p.stations p.from p.now (omega (arith, p.before, next.not_before)) in
-    passed_on c.from_residual-in_err-push.result (λ y. HasPlayed _ g.D.Machine.State g.D.Machine.stands g.D.Machine.step g.D.Machine.says c.tell_all.result (c.args.end + 1) c.tell_all.new.drives c.args.events.now.items c.push.new.self.items xs ss)
-    (λ e. IsPlayCut _ g.D.Machine.State g.D.Machine.stands g.D.Machine.step g.D.Machine.says c.tell_all.result c.tell_all.new.drives c.args.events.now.items c.push.new.self.items xs ss) c.from_residual-in_err-push.ensures.0
-    (λ e. subst (λ (es : List Event). IsPlayCut _ g.D.Machine.State g.D.Machine.stands g.D.Machine.step g.D.Machine.says c.tell_all.result c.tell_all.new.drives c.args.events.now.items es xs ss) (sym c.in_err-push.ensures.items)
-    (played_told _ g.D.Machine.State g.D.Machine.stands g.D.Machine.step g.D.Machine.says g.met.D.Machine.byte c.loop-change.host c.tell_all.result x (latest 0 (take i xs)) c.loop-change.drives c.settle.new.drives c.tell_all.new.drives c.args.events.now.items c.loop-change.events.items c.settle.new.events.items (take i xs) (drop (i + 1) xs) xs ss p s
-    c.in_ok-settle.ensures.settled c.tell_all.ensures.told (ap (λ (v : List Change). v ++ drop (i + 1) xs) (sym next.taken) ∙ take-append-drop (i + 1) xs)))
+    passed_on c.from_residual-in_err-reserve.result (λ y. HasPlayed _ g.D.Machine.State g.D.Machine.stands g.D.Machine.step g.D.Machine.says c.loop-change.host (c.args.end + 1) c.settle.new.drives c.args.events.now.items c.reserve.new.self.items xs ss)
+    (λ e. IsPlayCut _ g.D.Machine.State g.D.Machine.stands g.D.Machine.step g.D.Machine.says c.loop-change.host c.settle.new.drives c.args.events.now.items c.reserve.new.self.items xs ss) c.from_residual-in_err-reserve.ensures.0
+    (λ e. subst (λ (es : List Event). IsPlayCut _ g.D.Machine.State g.D.Machine.stands g.D.Machine.step g.D.Machine.says c.loop-change.host c.settle.new.drives c.args.events.now.items es xs ss) (sym c.reserve.ensures.items)
+    (played_cut _ g.D.Machine.State g.D.Machine.stands g.D.Machine.step g.D.Machine.says g.met.D.Machine.byte c.loop-change.host (latest 0 (take i xs)) (get_or xs i no_change).moment c.loop-change.drives c.settle.new.drives c.args.events.now.items c.loop-change.events.items c.settle.new.events.items (take i xs) (drop i xs) xs ss p
+    (c.settle.ensures.played p.stations p.from p.now (omega (arith, p.before, next.not_before))) (take-append-drop i xs)))
 
 pub returns-clause-played : goal.returns-clause-played
 returns-clause-played g c = λ ss h.

@@ -1,10 +1,10 @@
 use Rattle.std.proofs.Common.{◌++◌, List, refl, ap, subst, ◌∙◌, arith}
+use Rattle.cbm_iec.specs.declared.event.Event.{Event}
 use Rattle.cbm_iec.specs.declared.line.Change.{Change}
 use Rattle.cbm_session.specs.Playing.{drive_events}
-use Rattle.cbm_drive.specs.Played.{HasSettled, IsCutOff, IsBegun}
 use Rattle.cbm_drive.proofs.Firsts.{first_in_time, idle_in_time}
 use Rattle.cbm_drive.proofs.Left.{less_left}
-use Rattle.cbm_drive.proofs.Played.{settled_none, settled_more, settled_cut, passed_on}
+use Rattle.cbm_drive.proofs.Played.{settled_none, settled_more}
 use Rattle.cbm_drive.proofs.playing.settle.Goals as goal
 
 pub loop-place-init : goal.loop-place-init
@@ -21,28 +21,18 @@ returns-then-moment-limit-clause-settled g c = first_in_time c.args.limit c.in-S
 pub returns-clause-settled : goal.returns-clause-settled
 returns-clause-settled g c = idle_in_time c.args.limit c.loop-place.drives c.in_default.ensures.first
 
-pub loop-place-smaller-in-Continue-1 : goal.loop-place-smaller-in-Continue-1
-loop-place-smaller-in-Continue-1 g c =
+pub loop-place-smaller-in-Some-react : goal.loop-place-smaller-in-Some-react
+loop-place-smaller-in-Some-react g c =
     less_left c.in-Some.place c.in-Some.moment c.args.limit c.loop-place.drives c.react.new.drives c.in-Some.ensures.first (omega (arith, c.if-moment-limit.false))
     (omega (arith, c.requires.few, c.loop-place.invariant.1, c.in-Some-react.ensures.same)) (c.in-Some-react.ensures.nearer c.in-Some.ensures.first)
 
-pub loop-place-preserved-in-Continue-1 : goal.loop-place-preserved-in-Continue-1
-loop-place-preserved-in-Continue-1 g c = (
+pub loop-place-preserved-in-Some-react : goal.loop-place-preserved-in-Some-react
+loop-place-preserved-in-Some-react g c = (
   (λ ss n h l.
       (let s = c.loop-place.invariant.0 ss n h l in
       settled_more _ g.D.Machine.State g.D.Machine.stands g.D.Machine.stands g.D.Machine.step g.D.Machine.says g.met.D.Machine.byte g.met.D.Machine.byte c.args.host c.args.limit c.in-Some.moment c.in-Some-react.answer.device n c.loop-place.drives c.react.new.drives c.in-Some-react.answer.changes.items
       c.args.events.now.items c.loop-place.events.items c.give.new.events.items ss s (c.in-Some-react.ensures.reacted s.stations s.now c.in-Some.ensures.first) (omega (arith, c.if-moment-limit.false))
-      (c.in_ok-give.ensures.given ∙ ap (λ (cs : List Change). c.loop-place.events.items ++ drive_events c.in-Some-react.answer.device cs) c.deref.ensures.0))),
+      (c.give.ensures ∙ ap (λ (es : List Event). es ++ drive_events c.in-Some-react.answer.device c.deref.result.now) c.reserve.ensures.items ∙ ap (λ (cs : List Change). c.loop-place.events.items ++ drive_events c.in-Some-react.answer.device cs) c.deref.ensures.0))),
   c.in-Some-react.ensures.same ∙ c.loop-place.invariant.1,
   c.in-Some-react.ensures.lasting ∙ c.loop-place.invariant.2,
 )
-
-pub returns-in_err-give-clause-played : goal.returns-in_err-give-clause-played
-returns-in_err-give-clause-played g c = λ ss n h l.
-    let s = c.loop-place.invariant.0 ss n h l in
-    passed_on c.from_residual.result
-    (λ x. HasSettled _ g.D.Machine.State g.D.Machine.stands g.D.Machine.step g.D.Machine.says c.args.host c.args.limit c.react.new.drives c.args.events.now.items c.give.new.events.items n ss)
-    (λ e. IsCutOff _ g.D.Machine.State g.D.Machine.stands g.D.Machine.step g.D.Machine.says c.args.host c.react.new.drives c.args.events.now.items c.give.new.events.items n ss) c.from_residual.ensures.0
-    (λ e. settled_cut _ g.D.Machine.State g.D.Machine.stands g.D.Machine.step g.D.Machine.says g.met.D.Machine.byte c.args.host c.args.limit c.in-Some.moment c.in-Some-react.answer.device n c.loop-place.drives c.react.new.drives c.in-Some-react.answer.changes.items
-    c.args.events.now.items c.loop-place.events.items c.give.new.events.items ss s (c.in-Some-react.ensures.reacted s.stations s.now c.in-Some.ensures.first)
-    (subst (λ (cs : List Change). IsBegun c.loop-place.events.items c.give.new.events.items (drive_events c.in-Some-react.answer.device cs)) c.deref.ensures.0 c.in_err-give.ensures.begun))
