@@ -15,7 +15,7 @@ const POWER_UP: &[u8] = b"73,CBM DOS V2.6 1541,00,00\r";
 const OK: &[u8] = b"00, OK,00,00\r";
 
 /// The status after a file was missing.
-const NOT_FOUND: &[u8] = b"62, FILE NOT FOUND,00,00\r";
+const NOT_FOUND: &[u8] = b"62,FILE NOT FOUND,00,00\r";
 
 /// A program that is saved, of all kinds of bits.
 const SAVED: &[u8] = b"\x00\xc0\x00\xff\x55\xaa\x0f\xf0\x80\x01";
