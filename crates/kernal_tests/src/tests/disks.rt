@@ -42,12 +42,7 @@ pub fn image_with_hello(rt: &impl Abort, alloc: Global) -> Vec<u8> {
 }
 
 /// A drive with that disk, switched on.
-fn drive(
-    rt: &impl Abort,
-    alloc: Global,
-    image: &[u8],
-    party: Party,
-) -> Drive<Desk<D64Disk>> {
+fn drive(rt: &impl Abort, alloc: Global, image: &[u8], party: Party) -> Drive<Desk<D64Disk>> {
     let disk = D64Disk::from_bytes(alloc, image, false)
         .ok()
         .expect(rt, "a disk");
