@@ -8,54 +8,91 @@ use cbm_drive::Pace;
 use std::alloc::Global;
 use std::process::Abort;
 
-/// How many computers are tried in a test.
+/// How many computers are tried with a drive.
 const TRIED: u32 = 200;
 
-/// A computer with drive 8, which reacts in 20.
-fn beside(
-    rt: &impl Abort,
-    alloc: Global,
-    image: &[u8],
-    computer: Computer,
-    pace: Pace,
-    seed: u32,
-) -> Host {
-    Host::new(one(rt, alloc, image, pace, 20), computer, seed)
+/// A reaction at which a KERNAL is served at the profile's pace, too, but for bad lines.
+const USUAL: u8 = 20;
+
+/// One at which a talker's first bit is over before a bad line is.
+const SLOW: u8 = 40;
+
+/// What became of computers that loaded a program.
+#[derive(Drop)]
+struct Ends {
+    /// All went well.
+    well: u32,
+    /// No device was present.
+    absent: u32,
+    /// They wait for the pulse of a listener that notes EOI.
+    pulse: u32,
+    /// They wait for a bit that doesn't come.
+    bits: u32,
 }
 
-/// Of so many computers that LOAD a program, how many see no device; and how many wait for a pulse at EOI for ever.
-fn seen(rt: &impl Abort, alloc: Global, computer: Computer, pace: Pace) -> (u32, u32) {
-    let image = image_with_hello(rt, alloc);
-    let mut absent = 0u32;
-    let mut waiting = 0u32;
-    for seed in 0..TRIED {
-        let mut host = beside(rt, alloc, image.as_slice(), computer, pace, seed);
-        host.loads(8, b"HELLO", HELLO);
+impl Ends {
+    /// One more ended.
+    fn count(&mut self, host: &Host, right: bool) {
         if host.errors & ABSENT != 0 {
-            absent = absent.wrapping_add(1);
-        } else if matches!(host.stuck, Some(Wait::Pulse)) {
-            waiting = waiting.wrapping_add(1);
+            self.absent = self.absent.wrapping_add(1);
+            return;
+        }
+        match host.stuck {
+            Some(Wait::Pulse) => self.pulse = self.pulse.wrapping_add(1),
+            Some(Wait::Bit | Wait::BitEnd) => self.bits = self.bits.wrapping_add(1),
+            None if right => self.well = self.well.wrapping_add(1),
+            _ => {}
         }
     }
-    (absent, waiting)
+}
+
+/// What becomes of computers that load a program from drive 8, which keeps a pace and has a reaction.
+fn ends(rt: &impl Abort, alloc: Global, computer: Computer, pace: Pace, reaction: u8) -> Ends {
+    let image = image_with_hello(rt, alloc);
+    let mut ends = Ends {
+        well: 0,
+        absent: 0,
+        pulse: 0,
+        bits: 0,
+    };
+    for seed in 0..TRIED {
+        let drives = one(rt, alloc, image.as_slice(), pace, reaction);
+        let mut host = Host::new(drives, computer, seed);
+        let right = host.loads(8, b"HELLO", HELLO);
+        ends.count(&host, right);
+    }
+    ends
+}
+
+/// Whether all goes well: at the KERNAL's pace, and with the screen off at the profile's.
+fn is_cured(rt: &impl Abort, alloc: Global, shown: Computer, dark: Computer, reaction: u8) -> bool {
+    let at_its_pace = ends(rt, alloc, shown, Pace::Kernal, reaction);
+    let in_the_dark = ends(rt, alloc, dark, Pace::Profile, reaction);
+    at_its_pace.well == TRIED && in_the_dark.well == TRIED
 }
 
 // A bad line between ATN's pull and CLOCK's: the drive of the profile takes CLOCK's delay for readiness, and lets go of DATA.
 #[test]
 fn no_device_where_a_bad_line_comes(rt: HostRuntime) {
-    let (absent, _) = seen(&rt, rt.alloc(), Computer::Pal, Pace::Profile);
-    assert!(rt; absent > 0);
-    assert!(rt; seen(&rt, rt.alloc(), Computer::Pal, Pace::Kernal) == (0, 0));
-    assert!(rt; seen(&rt, rt.alloc(), Computer::DarkPal, Pace::Profile) == (0, 0));
+    let ends = ends(&rt, rt.alloc(), Computer::Pal, Pace::Profile, USUAL);
+    assert!(rt; ends.absent > 0);
+    assert!(rt; is_cured(&rt, rt.alloc(), Computer::Pal, Computer::DarkPal, USUAL));
 }
 
 // A bad line while a listener pulses for EOI: the pulse of the profile falls between two looks.
 #[test]
 fn eoi_goes_unseen_where_a_bad_line_comes(rt: HostRuntime) {
-    let (_, waiting) = seen(&rt, rt.alloc(), Computer::Ntsc, Pace::Profile);
-    assert!(rt; waiting > 0);
-    assert!(rt; seen(&rt, rt.alloc(), Computer::Ntsc, Pace::Kernal) == (0, 0));
-    assert!(rt; seen(&rt, rt.alloc(), Computer::DarkNtsc, Pace::Profile) == (0, 0));
+    let ends = ends(&rt, rt.alloc(), Computer::Ntsc, Pace::Profile, USUAL);
+    assert!(rt; ends.pulse > 0);
+    assert!(rt; is_cured(&rt, rt.alloc(), Computer::Ntsc, Computer::DarkNtsc, USUAL));
+}
+
+// A bad line in a talker's first bit: where the drive is slow that bit is over before the host looks again.
+#[test]
+fn a_first_bit_goes_unseen_where_a_bad_line_comes(rt: HostRuntime) {
+    let ends = ends(&rt, rt.alloc(), Computer::Pal, Pace::Profile, SLOW);
+    assert!(rt; ends.bits > 0);
+    assert!(rt; is_cured(&rt, rt.alloc(), Computer::Pal, Computer::DarkPal, SLOW));
 }
 
 // With nothing to say a drive of the profile never pulls CLOCK, for which TKATN waits for ever.
@@ -82,7 +119,8 @@ fn all_but_a_missing_file_goes_well(rt: HostRuntime) {
     let listing = listing(&rt, alloc);
     for computer in [Computer::DarkPal, Computer::DarkNtsc, Computer::Vic] {
         for seed in 0..10u32 {
-            let mut host = beside(&rt, alloc, image.as_slice(), computer, Pace::Profile, seed);
+            let drives = one(&rt, alloc, image.as_slice(), Pace::Profile, USUAL);
+            let mut host = Host::new(drives, computer, seed);
             let mut tally = Tally::new();
             programs(&mut host, 8, listing.as_slice(), &mut tally);
             files(&mut host, 8, &mut tally);

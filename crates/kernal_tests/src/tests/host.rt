@@ -68,6 +68,8 @@ const LOOK_TO_FLAG: u64 = 17;
 pub struct Host {
     cable: Cable,
     pub cycles: Cycles,
+    /// The low byte of the timer, which the KERNAL doesn't set: $FF as at reset, or 0, by the seed.
+    timer_low: u64,
     /// ST.
     pub status: u8,
     /// All errors that ST had so far.
@@ -106,6 +108,7 @@ impl Host {
         let mut host = Host {
             cable: Cable::new(drives),
             cycles: Cycles::new(computer, seed),
+            timer_low: if seed / 2 % 2 == 1 { 0xff } else { 0 },
             status: 0,
             errors: 0,
             buffered: None,
@@ -157,6 +160,11 @@ impl Host {
         }
         self.stuck = Some(wait);
         seen
+    }
+
+    /// When a timer ends that starts now with this high byte.
+    pub fn timer_end(&self, high: u64) -> u64 {
+        self.cycles.passed.wrapping_add(high | self.timer_low)
     }
 
     /// Whether a line is pulled before a timer ends; so many cycles to the first look at the timer's flag.

@@ -52,8 +52,8 @@ const BIT: u64 = 26;
 /// From CLOCK's last pull to the start of the timer for the accept.
 const BITS_TO_TIMER: u64 = 19;
 
-/// The timer for the accept: $0400.
-const ACCEPT_TIMER: u64 = 1024;
+/// The timer for the accept, 4 in its high byte.
+const ACCEPT_TIMER: u64 = 0x0400;
 
 /// From the timer's start to the first look at its flag: two reads of it.
 const TIMER_TO_FLAG: u64 = 8;
@@ -132,7 +132,7 @@ impl Host {
     /// Whether DATA is pulled before the timer ends.
     fn is_accepted(&mut self) -> bool {
         self.cycles.pass(BITS_TO_TIMER);
-        let end = self.cycles.passed.wrapping_add(ACCEPT_TIMER);
+        let end = self.timer_end(ACCEPT_TIMER);
         self.is_pulled_before(TIMER_TO_FLAG, end, Data)
     }
 }

@@ -13,8 +13,8 @@ const CLOCK_TO_LOOK: u64 = 16;
 /// From that look to the timer's start: BNE, ASL, RTS, BPL, LDA, STA, LDA, STA.
 const LOOK_TO_TIMER: u64 = 24;
 
-/// The timer for the first bit: 256 cycles.
-const FIRST_BIT_TIMER: u64 = 256;
+/// The timer for the first bit, 1 in its high byte.
+const FIRST_BIT_TIMER: u64 = 0x0100;
 
 /// From the timer's start to DATA's release: JSR, LDA, AND, STA.
 const TIMER_TO_DATA: u64 = 16;
@@ -83,7 +83,7 @@ impl Host {
     /// Starts the timer, frees DATA, and looks whether CLOCK is pulled before the timer ends.
     fn is_begun_in_time(&mut self, cycles: u64) -> bool {
         self.cycles.pass(cycles);
-        let end = self.cycles.passed.wrapping_add(FIRST_BIT_TIMER);
+        let end = self.timer_end(FIRST_BIT_TIMER);
         self.store(TIMER_TO_DATA, Data, Free);
         self.is_pulled_before(DATA_TO_FLAG, end, Clock)
     }
