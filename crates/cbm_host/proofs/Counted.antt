@@ -1,4 +1,6 @@
 -- What counts in the pieces of a request.
+use Rattle.cbm_iec.specs.Profile.{bit_time}
+use Rattle.cbm_iec.specs.declared.pace.Pace.TheVariants.{Profile}
 use Rattle.std.proofs.Common.{◌≡◌, ℕ, ◌+◌, ◌≤◌, Bool, true, false, not, List, [], ◌∷◌, ◌++◌, Option, Some, None, refl, ap, ◌∙◌, arith}
 use Rattle.std.specs.Prelude.{if◌then◌else◌}
 use Rattle.cbm_iec.specs.declared.act.Act.TheVariants.{Pulled, Attention, Heard, Said}
@@ -16,7 +18,7 @@ use Rattle.cbm_session.specs.Bits.{where_held, where_free, Cell, cell_steps, cel
 use Rattle.cbm_session.specs.Following.{alone}
 use Rattle.cbm_session.specs.Frames.{Sent, Told, end_of, signal_steps, bit_steps, first_bit, is_last}
 use Rattle.cbm_session.specs.Pieces.{Point, steps_of, PullPiece, Command, Byte}
-use Rattle.cbm_session.specs.Seats.{Seat, device, reaction}
+use Rattle.cbm_session.specs.Seats.{at_pace, Seat, device, reaction}
 use Rattle.cbm_session.specs.Steps.{Mark, Step, Plain, ForEach, For, host, drive, for_one, with_mark, acts_for}
 use Rattle.cbm_host.proofs.Along.{said_with, taken_in, last_in}
 use Rattle.cbm_host.proofs.Frames.{cells_fit}
@@ -104,10 +106,10 @@ cells_none held (c ∷ cs) = marks_append (cell_steps held c) (cells_steps (not 
 pub bits_none : (b : Party) (at : ℕ) (held : Bool) (bits : List Bool) → marks_of (bit_steps b at held bits) ≡ []
 bits_none b at true [] = refl
 bits_none b at false [] = refl
-bits_none b at true (true ∷ bits) = bits_none b (at + 120) false bits
-bits_none b at false (true ∷ bits) = bits_none b (at + 120) false bits
-bits_none b at true (false ∷ bits) = bits_none b (at + 120) true bits
-bits_none b at false (false ∷ bits) = bits_none b (at + 120) true bits
+bits_none b at true (true ∷ bits) = bits_none b (at + bit_time b.pace) false bits
+bits_none b at false (true ∷ bits) = bits_none b (at + bit_time b.pace) false bits
+bits_none b at true (false ∷ bits) = bits_none b (at + bit_time b.pace) true bits
+bits_none b at false (false ∷ bits) = bits_none b (at + bit_time b.pace) true bits
 
 -- a frame of the host counts as one act
 frame_marks : (t : ℕ) (s : Seat) (eoi : Bool) (act : Act) (f : Sent) → marks_of (one_frame t s eoi act f) ≡ (Drive (device s), For (device s) act) ∷ []
@@ -161,12 +163,14 @@ command_marks p s byte ready some =
     let f = frame_for (reaction s) false byte ready in
     ap (λ (l : List Step). marks_of l) (frame_is (ready + reaction s) s (Attention (byte_of f.cells)) f false (omega arith) (cells_fit false 8 byte f.start)) ∙ frame_marks (ready + reaction s) s false (Attention (byte_of f.cells)) f
 
-pub byte_marks : (p : Point) (b : Party) (o : Held) (eoi : Bool) (byte ready : ℕ) → let f = frame_for b.reaction eoi byte ready in
+pub byte_marks : (p : Point) (v : Party) (o : Held) (eoi : Bool) (byte ready : ℕ) → let b = at_pace Profile v in let f = frame_for b.reaction eoi byte ready in
     marks_of (steps_of (alone p (seat b Listener o)) (Byte eoi f)) ≡ (Drive b.device, For b.device (Heard (byte_of f.cells) eoi)) ∷ []
-byte_marks p b o false byte ready =
+byte_marks p v o false byte ready =
+    let b = at_pace Profile v in
     let f = frame_for b.reaction false byte ready in
     ap (λ (l : List Step). marks_of l) (frame_is (ready + b.reaction) (seat b Listener o) (Heard (byte_of f.cells) false) f false (omega arith) (cells_fit false 8 byte f.start)) ∙ frame_marks (ready + b.reaction) (seat b Listener o) false (Heard (byte_of f.cells) false) f
-byte_marks p b o true byte ready =
+byte_marks p v o true byte ready =
+    let b = at_pace Profile v in
     let f = frame_for b.reaction true byte ready in
     ap (λ (l : List Step). marks_of l) (frame_is (ready + b.reaction) (seat b Listener o) (Heard (byte_of f.cells) true) f true (omega arith, omega arith) (cells_fit false 8 byte f.start)) ∙ frame_marks (ready + b.reaction) (seat b Listener o) true (Heard (byte_of f.cells) true) f
 

@@ -1,4 +1,5 @@
 -- The host performs each piece of a request.
+use Rattle.cbm_iec.specs.declared.pace.Pace.TheVariants.{Profile}
 use Rattle.std.proofs.Common.{◌≡◌, ℕ, ◌+◌, ◌≤◌, Bool, true, false, List, [], ◌∷◌, ◌++◌, Some, ap, sym, ◌∙◌, subst, arith, refl}
 use Rattle.cbm_iec.specs.declared.act.Act.TheVariants.{Pulled, Attention, Released, Heard, Silent}
 use Rattle.cbm_iec.specs.declared.line.Line.TheVariants.{Atn, Clock, Data}
@@ -13,10 +14,10 @@ use Rattle.cbm_session.specs.Bits.{where_held, where_free, byte_of}
 use Rattle.cbm_session.specs.Following.{alone}
 use Rattle.cbm_session.specs.Frames.{end_of}
 use Rattle.cbm_session.specs.Pieces.{Point, steps_of, PullPiece, Command, Byte, ToListener, ToNobody, ToTalker, Nothing}
-use Rattle.cbm_session.specs.Seats.{Seat, device, reaction}
+use Rattle.cbm_session.specs.Seats.{at_pace, Seat, device, reaction}
 use Rattle.cbm_session.specs.Steps.{Step, host, drive, for_each, for_one}
 use Rattle.cbm_host.proofs.Composing.{performs_then}
-use Rattle.cbm_host.proofs.Frames.{framing, frame_performs, cells_fit}
+use Rattle.cbm_host.proofs.Frames.{framing, frame_performs, last_performs, cells_fit}
 use Rattle.cbm_host.specs.Engines.{Engined, accepted, sending_on}
 use Rattle.cbm_host.specs.Framed.{frame_for}
 use Rattle.cbm_host.specs.Performing.{Performs, ends, makes, sees, passes}
@@ -66,7 +67,7 @@ module _ (s : Seat) (some : 1 ≤ reaction s) (prompt : reaction s ≤ 60) (left
       let e = framing behind left most (Readying ready byte false) in
       let e2 = accepted (end_of f + reaction s) behind (framing behind left most Sent) in
       subst (λ (zs : List Step). Performs e zs e2) (sym (frame_is (ready + reaction s) s (Attention (byte_of f.cells)) f false (omega arith) (cells_fit false 8 byte f.start)))
-      (frame_performs behind left most s (Attention (byte_of f.cells)) false byte ready)
+      (frame_performs behind left most s (Attention (byte_of f.cells)) byte ready)
 
   -- ATN's release
   pub listener_performed : (p : Point) (o : Held) (at : ℕ) → let t = seat s.party Listener o in
@@ -99,34 +100,40 @@ module _ (s : Seat) (some : 1 ≤ reaction s) (prompt : reaction s ≤ 60) (left
       subst (λ (zs : List Step). Performs (is_at (Releasing at DataToTalker)) zs (is_at (Taking Awaiting))) (sym (talker_steps p o at))
       (makes refl refl (makes refl refl (makes refl refl (sees (omega (arith, prompt)) (sees tt (ends refl))))))
 
+-- a byte to a listener
+pub byte_performed : (v : Party) (o : Held) (left : List ℕ) (most : ℕ) (p : Point) (eoi : Bool) (byte ready : ℕ) (behind : Behind) → let b = at_pace Profile v in let s = seat b Listener o in let f = frame_for b.reaction eoi byte ready in
+    Performs (framing behind left most (Readying ready byte eoi)) (steps_of (alone p s) (Byte eoi f)) (accepted (end_of f + b.reaction) behind (framing behind left most Sent))
+byte_performed v o left most p false byte ready behind =
+    let b = at_pace Profile v in
+    let s = seat b Listener o in
+    let f = frame_for b.reaction false byte ready in
+    subst (λ (zs : List Step). Performs (framing behind left most (Readying ready byte false)) zs (accepted (end_of f + b.reaction) behind (framing behind left most Sent)))
+    (sym (frame_is (ready + b.reaction) s (Heard (byte_of f.cells) false) f false (omega arith) (cells_fit false 8 byte f.start))) (frame_performs behind left most s (Heard (byte_of f.cells) false) byte ready)
+byte_performed v o left most p true byte ready behind =
+    let b = at_pace Profile v in
+    let s = seat b Listener o in
+    let f = frame_for b.reaction true byte ready in
+    subst (λ (zs : List Step). Performs (framing behind left most (Readying ready byte true)) zs (accepted (end_of f + b.reaction) behind (framing behind left most Sent)))
+    (sym (frame_is (ready + b.reaction) s (Heard (byte_of f.cells) true) f true (omega arith, omega arith) (cells_fit false 8 byte f.start))) (last_performs behind left most v Listener o (Heard (byte_of f.cells) true) byte ready)
+
+module _ (v : Party) (some : 1 ≤ v.reaction) (prompt : v.reaction ≤ 60) (left : List ℕ) (most : ℕ) where
+  abbrev b : Party
+  b = at_pace Profile v
+
   -- nothing to say
-  pub nothing_steps : (p : Point) (o : Held) (at : ℕ) → steps_of (alone p (seat s.party Talker o)) (Nothing at (at + phase) (Some (at + phase + silence)))
-      ≡ host at Data Pull ∷ for_each Released (host at Atn Free) ∷ host (at + phase) Clock Free ∷ for_one (device s) Silent (drive (device s) (at + phase + reaction s) Data Free) ∷ host (at + phase + silence) Data Free ∷ []
+  pub nothing_steps : (p : Point) (o : Held) (at : ℕ) → steps_of (alone p (seat b Talker o)) (Nothing at (at + phase) (Some (at + phase + silence)))
+      ≡ host at Data Pull ∷ for_each Released (host at Atn Free) ∷ host (at + phase) Clock Free ∷ for_one b.device Silent (drive b.device (at + phase + b.reaction) Data Free) ∷ host (at + phase + silence) Data Free ∷ []
   nothing_steps p o at =
       let clock = at + phase in
       let freed = host (clock + silence) Data Free in
-      let silent = for_one (device s) Silent (drive (device s) (clock + reaction s) Data Free) in
+      let silent = for_one b.device Silent (drive b.device (clock + b.reaction) Data Free) in
       turn_first at (host clock Clock Free ∷ freed ∷ []) (silent ∷ []) (omega arith)
       ∙ ap (λ (zs : List Step). host at Data Pull ∷ for_each Released (host at Atn Free) ∷ zs)
       (merge_here (host clock Clock Free) (freed ∷ []) silent [] (omega arith) ∙ ap (λ (zs : List Step). host clock Clock Free ∷ zs) (merge_there freed [] silent [] (omega (arith, prompt))))
 
-  pub nothing_performed : (p : Point) (o : Held) (at : ℕ) → let t = seat s.party Talker o in
-      Performs (is_at (Releasing at DataToTalker)) (steps_of (alone p t) (Nothing at (at + phase) (Some (at + phase + silence)))) (is_at (leaving (at + phase + silence + answer_wait) untalk false false))
+  pub nothing_performed : (p : Point) (o : Held) (at : ℕ) → let t = seat b Talker o in
+      Performs (at_stage left most (Releasing at DataToTalker)) (steps_of (alone p t) (Nothing at (at + phase) (Some (at + phase + silence)))) (at_stage left most (leaving (at + phase + silence + answer_wait) untalk false false))
   nothing_performed p o at =
       let clock = at + phase in
-      subst (λ (zs : List Step). Performs (is_at (Releasing at DataToTalker)) zs (is_at (leaving (clock + silence + answer_wait) untalk false false))) (sym (nothing_steps p o at))
+      subst (λ (zs : List Step). Performs (at_stage left most (Releasing at DataToTalker)) zs (at_stage left most (leaving (clock + silence + answer_wait) untalk false false))) (sym (nothing_steps p o at))
       (makes refl refl (makes refl refl (makes refl refl (sees (omega (arith, prompt)) (passes (clock + silence) refl tt (makes refl refl (ends refl)))))))
-
--- a byte to a listener
-pub byte_performed : (b : Party) (o : Held) (left : List ℕ) (most : ℕ) (p : Point) (eoi : Bool) (byte ready : ℕ) (behind : Behind) → let s = seat b Listener o in let f = frame_for b.reaction eoi byte ready in
-    Performs (framing behind left most (Readying ready byte eoi)) (steps_of (alone p s) (Byte eoi f)) (accepted (end_of f + b.reaction) behind (framing behind left most Sent))
-byte_performed b o left most p false byte ready behind =
-    let s = seat b Listener o in
-    let f = frame_for b.reaction false byte ready in
-    subst (λ (zs : List Step). Performs (framing behind left most (Readying ready byte false)) zs (accepted (end_of f + b.reaction) behind (framing behind left most Sent)))
-    (sym (frame_is (ready + b.reaction) s (Heard (byte_of f.cells) false) f false (omega arith) (cells_fit false 8 byte f.start))) (frame_performs behind left most s (Heard (byte_of f.cells) false) false byte ready)
-byte_performed b o left most p true byte ready behind =
-    let s = seat b Listener o in
-    let f = frame_for b.reaction true byte ready in
-    subst (λ (zs : List Step). Performs (framing behind left most (Readying ready byte true)) zs (accepted (end_of f + b.reaction) behind (framing behind left most Sent)))
-    (sym (frame_is (ready + b.reaction) s (Heard (byte_of f.cells) true) f true (omega arith, omega arith) (cells_fit false 8 byte f.start))) (frame_performs behind left most s (Heard (byte_of f.cells) true) true byte ready)

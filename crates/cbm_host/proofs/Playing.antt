@@ -119,7 +119,7 @@ module _ (b : Party) (some : 1 ≤ b.reaction) (prompt : b.reaction ≤ 60) (lef
       let s = seat b role (lines false true) in
       let f = frame_for r false byte (t + ready_wait) in
       let e1 = accepted (accept_for r false byte (t + ready_wait)) behind (framing behind left most Sent) in
-      go_on (Full (Command f)) ks limit e1 (commanding, omega (arith, p), omega (arith, a), frame_fits s false byte (t + ready_wait))
+      go_on (Full (Command f)) ks limit e1 (commanding, omega (arith, p), omega (arith, a), frame_fits s false byte (t + ready_wait) (λ e. absurd (cc)))
       (command_performed s some prompt left most (attending b role first pulled accept since) byte (t + ready_wait) behind)
       (subst (λ (n : ℕ). IsPlayed b (attending b (role_after b.device n role) true pulled (accept_for r false byte (t + ready_wait)) since) e1 ks limit) (sym (frame_byte r false byte (t + ready_wait) small)) more)
 

@@ -253,7 +253,7 @@ module _ (M : Type 0) (step : M → Act → M) (peek : M → Option (ℕ × Bool
       let ks = leave r (at + phase + silence + answer_wait) (untalk ∷ []) in
       subst (λ (v : Role). Counts (attending b v true pulled accept since) m (Full w ∷ ks) ((Host, ForEach Released) ∷ by_drive d Silent ∷ leave_marks d untalk)) (sym talks)
       (counts_on (attending b Talker true pulled accept since) (seat b Talker (lines false true)) (Full w) ks m ((Host, ForEach Released) ∷ by_drive d Silent ∷ []) (leave_marks d untalk) (Released ∷ Silent ∷ []) refl refl (λ ms e. ap (λ (v : M). peek (step v Released)) e ∙ says)
-      (ap (λ (l : List Step). marks_of l) (nothing_steps (seat b Talker (lines false true)) some prompt [] 0 (attending b Talker true pulled accept since) (lines false true) at)) (ap (λ (l : List Act). Released ∷ l) (one_act (Drive d) Silent)) (tt, (says, refl))
+      (ap (λ (l : List Step). marks_of l) (nothing_steps b some prompt [] 0 (attending b Talker true pulled accept since) (lines false true) at)) (ap (λ (l : List Act). Released ∷ l) (one_act (Drive d) Silent)) (tt, (says, refl))
       (leave_counts (point b Talker (lines false false) Open (lines false false) pulled Rattle.std.proofs.Common.None accept (at + phase + silence)) (seat b Talker (lines false false)) (at + phase + silence + answer_wait) untalk (step (step m Released) Silent) refl (omega arith) (untalked d few)))
 
   -- ---- what the machine says behind ATN's release

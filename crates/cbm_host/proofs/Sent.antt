@@ -45,7 +45,7 @@ module _ (v : Party) (some : 1 ≤ v.reaction) (prompt : v.reaction ≤ 60) (mos
       let after = later.0 in
       let upto = later.1 in
       go_on (Full (Byte eoi (frame_for b.reaction eoi byte ready))) (sent b.reaction next turn_wait left) limit (sending_on next turn_wait most left)
-      (refl, omega (arith, a), omega (arith, c), frame_fits s eoi byte ready)
+      (refl, omega (arith, a), omega (arith, c), frame_fits s eoi byte ready (λ e. refl))
       (byte_performed b (lines false true) left most p eoi byte ready Listened)
       (sent_then pulled released next since next turn_wait limit left (omega (arith, a, after)) (omega arith) (omega (arith, a, after)) (omega arith) (omega arith) (omega (arith, upto, soon)))
 

@@ -4,11 +4,12 @@ use Rattle.std.specs.Prelude.{if◌then◌else◌}
 use Rattle.cbm_iec.specs.Hearing.{is_same, after_data}
 use Rattle.cbm_iec.specs.Ports.{resting, side_due, port_due, freed_side, lined_side, side_after, side_role}
 use Rattle.cbm_iec.specs.declared.act.Act.{Act}
-use Rattle.cbm_iec.specs.declared.ear.Ear.TheVariants.{Idle, Starting, Leaving, Returning, Holding, Freeing, Ready, Timed, Pulsing, EoiNoted, Gathering, Accepting}
+use Rattle.cbm_iec.specs.declared.ear.Ear.TheVariants.{Idle, Starting, Await, Leaving, Returning, Holding, Freeing, Ready, Timed, Pulsing, EoiNoted, Gathering, Accepting}
 use Rattle.cbm_iec.specs.declared.event.Event.{Event}
 use Rattle.cbm_iec.specs.declared.line.Change.{Change}
 use Rattle.cbm_iec.specs.declared.lines.Held.{Held}
 use Rattle.cbm_iec.specs.declared.lines.Lines.{Lines}
+use Rattle.cbm_iec.specs.declared.pace.Pace.{Pace}
 use Rattle.cbm_iec.specs.declared.party.Party.{Party}
 use Rattle.cbm_iec.specs.declared.party.Role.TheVariants.{Absent, Listener, Talker}
 use Rattle.cbm_iec.specs.declared.party.Role.{Role}
@@ -33,6 +34,7 @@ settling : (side : Side) → SettlesAt false Absent side → (side ≡ Hearing I
 settling (Hearing Idle) h = inl refl
 settling (Hearing (Leaving at)) h = inr (at, refl)
 settling (Hearing (Starting at)) h = elim h [ ]
+settling (Hearing Await) h = elim h [ ]
 settling (Hearing (Returning at)) h = elim h [ ]
 settling (Hearing Holding) h = elim h [ ]
 settling (Hearing (Freeing at)) h = elim h [ ]
@@ -81,6 +83,7 @@ same_role : (d : ℕ) (role : Role) (side : Side) → side_role d false role sid
 same_role d role (Hearing Idle) = refl
 same_role d role (Hearing (Leaving at)) = refl
 same_role d role (Hearing (Starting at)) = refl
+same_role d role (Hearing Await) = refl
 same_role d role (Hearing (Returning at)) = refl
 same_role d role (Hearing Holding) = refl
 same_role d role (Hearing (Freeing at)) = refl
@@ -92,16 +95,16 @@ same_role d role (Hearing (Gathering eoi count byte)) = refl
 same_role d role (Hearing (Accepting at eoi byte)) = refl
 same_role d role (Speaking mouth) = refl
 
-reacted_settles : (d r moment : ℕ) (others : Lines) (peek : Option (ℕ × Bool)) (atn : Bool) (role : Role) (side : Side) → SettlesAt atn role side → SettlesAt atn (side_role d atn role side) (side_after r moment others peek side)
-reacted_settles d r moment others peek true role side h = tt
-reacted_settles d r moment others peek false role side h = subst (λ (v : Role). SettlesAt false v (side_after r moment others peek side)) (sym (same_role d role side)) (by_role role h)
+reacted_settles : (e : Pace) (d r moment : ℕ) (others : Lines) (peek : Option (ℕ × Bool)) (atn : Bool) (role : Role) (side : Side) → SettlesAt atn role side → SettlesAt atn (side_role d atn role side) (side_after e r moment others peek side)
+reacted_settles e d r moment others peek true role side h = tt
+reacted_settles e d r moment others peek false role side h = subst (λ (v : Role). SettlesAt false v (side_after e r moment others peek side)) (sym (same_role d role side)) (by_role role h)
   where
-    by_role : (role : Role) → SettlesAt false role side → SettlesAt false role (side_after r moment others peek side)
+    by_role : (role : Role) → SettlesAt false role side → SettlesAt false role (side_after e r moment others peek side)
     by_role Listener h = tt
     by_role Talker h = tt
     by_role Absent h = elim (settling side h) [
-      | inl e ↦ subst (λ (s : Side). SettlesAt false Absent (side_after r moment others peek s)) (sym e) tt
-      | inr k ↦ subst (λ (s : Side). SettlesAt false Absent (side_after r moment others peek s)) (sym k.1) tt
+      | inl same ↦ subst (λ (s : Side). SettlesAt false Absent (side_after e r moment others peek s)) (sym same) tt
+      | inr k ↦ subst (λ (s : Side). SettlesAt false Absent (side_after e r moment others peek s)) (sym k.1) tt
     ]
 
 -- where nothing is due it is idle, and with all lines free its port is as it was switched on
@@ -141,4 +144,4 @@ module _ (M : Type 0) (step : M → Act → M) (peek : M → Option (ℕ × Bool
   one_settles p s h settles =
       one_keeps (λ (x : Station M). Settles x.port)
       (λ c x kept. (let t = tell M step peek c x in told_settles x.port.party.reaction c.moment x.port.others t.port.others x.port.others.atn_low t.port.others.atn_low x.port.role x.port.side kept))
-      (λ t x kept. reacted_settles x.port.party.device x.port.party.reaction t x.port.others (peek x.machine) x.port.others.atn_low x.port.role x.port.side kept) p s h settles
+      (λ t x kept. reacted_settles x.port.party.pace x.port.party.device x.port.party.reaction t x.port.others (peek x.machine) x.port.others.atn_low x.port.role x.port.side kept) p s h settles

@@ -4,7 +4,7 @@ use Rattle.std.proofs.lemmas.Bool.Decides.{leb_tells}
 use Rattle.std.proofs.lemmas.Bool.{le-leb, lt-leb}
 use Rattle.std.proofs.lemmas.List.{append_assoc}
 use Rattle.std.specs.Prelude.{if◌then◌else◌, nat_le}
-use Rattle.cbm_iec.specs.Profile.{next_byte}
+use Rattle.cbm_iec.specs.Profile.{bit_time, next_byte}
 use Rattle.cbm_iec.specs.Roles.{role_after}
 use Rattle.cbm_iec.specs.declared.act.Act.TheVariants.{Said}
 use Rattle.cbm_iec.specs.declared.line.Line.TheVariants.{Clock, Data}
@@ -71,10 +71,10 @@ some_last cut (s ∷ front) x h = go (nat_le cut (moment_of s)) (some_last cut f
 bits_none : (b : Party) (m at : ℕ) (held : Bool) (bits : List Bool) → m ≤ at → NoneBefore m (bit_steps b at held bits)
 bits_none b m at true [] h = (h, (h, tt))
 bits_none b m at false [] h = (h, tt)
-bits_none b m at true (true ∷ bits) h = (h, (h, (omega (arith, h), bits_none b m (at + 120) false bits (omega (arith, h)))))
-bits_none b m at false (true ∷ bits) h = (h, (omega (arith, h), bits_none b m (at + 120) false bits (omega (arith, h))))
-bits_none b m at true (false ∷ bits) h = (h, (omega (arith, h), bits_none b m (at + 120) true bits (omega (arith, h))))
-bits_none b m at false (false ∷ bits) h = (h, (h, (omega (arith, h), bits_none b m (at + 120) true bits (omega (arith, h)))))
+bits_none b m at true (true ∷ bits) h = (h, (h, (omega (arith, h), bits_none b m (at + bit_time b.pace) false bits (omega (arith, h)))))
+bits_none b m at false (true ∷ bits) h = (h, (omega (arith, h), bits_none b m (at + bit_time b.pace) false bits (omega (arith, h))))
+bits_none b m at true (false ∷ bits) h = (h, (omega (arith, h), bits_none b m (at + bit_time b.pace) true bits (omega (arith, h))))
+bits_none b m at false (false ∷ bits) h = (h, (h, (omega (arith, h), bits_none b m (at + bit_time b.pace) true bits (omega (arith, h)))))
 
 -- ---- a frame of the talker
 
@@ -268,6 +268,6 @@ module _ (v : Party) (some : 1 ≤ v.reaction) (prompt : v.reaction ≤ 60) wher
       subst (λ (x : Role). IsPlayed b (attending b x true pulled accept since) (at_stage left most (stages.releasing accept Takes)) (Full w ∷ leave r pull (untalk ∷ [])) limit) (sym talks)
       (go_on (Full w) (leave r pull (untalk ∷ [])) limit (at_stage left most (stages.leaving pull untalk false false))
       (record { commanding = refl; listener = refl; talker = refl; gap = omega arith }, omega arith, omega (arith, prompt))
-      (nothing_performed (seat b Talker (lines false true)) some prompt left most (attending b Talker true pulled accept since) (lines false true) at)
+      (nothing_performed b some prompt left most (attending b Talker true pulled accept since) (lines false true) at)
       (leave_then b some prompt left most (point b Talker (lines false false) Open (lines false false) pulled None accept (at + phase + silence)) (seat b Talker (lines false false)) pull untalk limit refl (tt, omega arith) (omega arith) (omega arith) (untalked b.device few)
       (omega (arith, soon))))

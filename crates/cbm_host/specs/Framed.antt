@@ -1,6 +1,6 @@
 -- The frames of a request with the host's waits: every moment follows from where the frame begins and from the drive's reaction.
 use Rattle.std.specs.Prelude.{ℕ, zero, suc, ◌+◌, ◌*◌, ◌/◌, Bool, not, List, [], ◌∷◌, Option, Some, None, if◌then◌else◌}
-use Rattle.cbm_iec.specs.Profile.{eoi_end, bit_time}
+use Rattle.cbm_iec.specs.Profile.{eoi_wait, eoi_pulse, bit_time}
 use Rattle.cbm_iec.specs.declared.pace.Pace.TheVariants.{Profile}
 use Rattle.cbm_session.specs.Bits.{Cell}
 use Rattle.cbm_session.specs.Frames.{Sent, Told}
@@ -14,7 +14,7 @@ cells_for (suc n) left at = record { bit = not (is_low left); set = at; free = a
 
 -- The first bit begins a wait behind T, when the drive has freed DATA; with EOI behind the drive's pulse.
 abbrev pub start_for : ℕ → Bool → ℕ → ℕ
-start_for r eoi ready = (if eoi then ready + r + eoi_end Profile + r else ready + r) + answer_wait
+start_for r eoi ready = (if eoi then ready + r + eoi_wait + (eoi_pulse Profile + r) else ready + r) + answer_wait
 
 -- a byte of the host to a drive that reacts in r
 abbrev pub frame_for : ℕ → Bool → ℕ → ℕ → Sent

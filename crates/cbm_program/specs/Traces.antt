@@ -1,6 +1,7 @@
 -- What a script of line changes prints: the events of a drive under a host that makes these changes.
 use Rattle.std.specs.Prelude.{◌≡◌, ◌+◌, ◌≤◌, ℕ, List, [], ◌∷◌, ◌++◌, codes, decimal, flat_map, Option, Some, None, IfSome}
 use Rattle.std.specs.Io.KnownBytes.{Appends}
+use Rattle.cbm_iec.specs.declared.pace.Pace.TheVariants.{Profile}
 use Rattle.cbm_iec.specs.Ports.{port_due}
 use Rattle.cbm_iec.specs.declared.event.Event.{Event}
 use Rattle.cbm_iec.specs.declared.event.Who.{Who}
