@@ -47,7 +47,7 @@ impl Ends {
 }
 
 /// What becomes of computers that load a program from drive 8, which keeps a pace and has a reaction.
-fn ends(rt: &impl Abort, alloc: Global, computer: Computer, pace: Pace, reaction: u8) -> Ends {
+fn loading(rt: &impl Abort, alloc: Global, computer: Computer, pace: Pace, reaction: u8) -> Ends {
     let image = image_with_hello(rt, alloc);
     let mut ends = Ends {
         well: 0,
@@ -66,15 +66,15 @@ fn ends(rt: &impl Abort, alloc: Global, computer: Computer, pace: Pace, reaction
 
 /// Whether all goes well: at the KERNAL's pace, and with the screen off at the profile's.
 fn is_cured(rt: &impl Abort, alloc: Global, shown: Computer, dark: Computer, reaction: u8) -> bool {
-    let at_its_pace = ends(rt, alloc, shown, Pace::Kernal, reaction);
-    let in_the_dark = ends(rt, alloc, dark, Pace::Profile, reaction);
+    let at_its_pace = loading(rt, alloc, shown, Pace::Kernal, reaction);
+    let in_the_dark = loading(rt, alloc, dark, Pace::Profile, reaction);
     at_its_pace.well == TRIED && in_the_dark.well == TRIED
 }
 
 // A bad line between ATN's pull and CLOCK's: the drive of the profile takes CLOCK's delay for readiness, and lets go of DATA.
 #[test]
 fn no_device_where_a_bad_line_comes(rt: HostRuntime) {
-    let ends = ends(&rt, rt.alloc(), Computer::Pal, Pace::Profile, USUAL);
+    let ends = loading(&rt, rt.alloc(), Computer::Pal, Pace::Profile, USUAL);
     assert!(rt; ends.absent > 0);
     assert!(rt; is_cured(&rt, rt.alloc(), Computer::Pal, Computer::DarkPal, USUAL));
 }
@@ -82,7 +82,7 @@ fn no_device_where_a_bad_line_comes(rt: HostRuntime) {
 // A bad line while a listener pulses for EOI: the pulse of the profile falls between two looks.
 #[test]
 fn eoi_goes_unseen_where_a_bad_line_comes(rt: HostRuntime) {
-    let ends = ends(&rt, rt.alloc(), Computer::Ntsc, Pace::Profile, USUAL);
+    let ends = loading(&rt, rt.alloc(), Computer::Ntsc, Pace::Profile, USUAL);
     assert!(rt; ends.pulse > 0);
     assert!(rt; is_cured(&rt, rt.alloc(), Computer::Ntsc, Computer::DarkNtsc, USUAL));
 }
@@ -90,7 +90,7 @@ fn eoi_goes_unseen_where_a_bad_line_comes(rt: HostRuntime) {
 // A bad line in a talker's first bit: where the drive is slow that bit is over before the host looks again.
 #[test]
 fn a_first_bit_goes_unseen_where_a_bad_line_comes(rt: HostRuntime) {
-    let ends = ends(&rt, rt.alloc(), Computer::Pal, Pace::Profile, SLOW);
+    let ends = loading(&rt, rt.alloc(), Computer::Pal, Pace::Profile, SLOW);
     assert!(rt; ends.bits > 0);
     assert!(rt; is_cured(&rt, rt.alloc(), Computer::Pal, Computer::DarkPal, SLOW));
 }
