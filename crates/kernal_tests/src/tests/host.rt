@@ -48,8 +48,8 @@ const COMPARED: u64 = 4;
 /// From CMP, where it saw something else than LDA, to LDA again.
 const UNLIKE: u64 = 7;
 
-/// More looks than a fifth of a second has: then the host waits for ever.
-const LOOKS: u32 = 20_000;
+/// So many looks in vain, about a fifth of a second, and the host waits for ever.
+const LOOKS: u32 = 8_000;
 
 /// A call that returns and the next one: RTS, JSR.
 const RETURN_AND_CALL: u64 = 12;

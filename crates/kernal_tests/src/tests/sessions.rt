@@ -118,7 +118,7 @@ impl Stage {
 }
 
 /// How many sessions there are for each reaction, with one drive and with two.
-const SEEDS: u32 = 8;
+const SEEDS: u32 = 16;
 
 /// Sessions at every reaction, and all goes well.
 fn all_goes_well(rt: &impl Abort, alloc: Global, computer: Computer) {
