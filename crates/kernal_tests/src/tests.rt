@@ -1,4 +1,5 @@
-//! The computer (cycles, cable, host), its routines (addressing, sending, taking), what a program has it do (jobs), and the sessions.
+//! The computer (cycles, cable, host), its routines (addressing, sending, taking), what a program has it do (jobs), and how that
+//! goes (sessions, failures).
 
 mod addressing;
 mod cable;

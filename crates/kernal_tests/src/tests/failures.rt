@@ -95,17 +95,18 @@ fn a_first_bit_goes_unseen_where_a_bad_line_comes(rt: HostRuntime) {
     assert!(rt; is_cured(&rt, rt.alloc(), Computer::Pal, Computer::DarkPal, SLOW));
 }
 
-// With nothing to say a drive of the profile never pulls CLOCK, for which TKATN waits for ever.
+// With nothing to say a drive of the profile never pulls CLOCK, for which TKATN waits for ever. A drive that reacts sooner than
+// in 10 isn't even present, as CLOCK comes 18 after ATN.
 #[test]
 fn a_missing_file_hangs(rt: HostRuntime) {
     let alloc = rt.alloc();
     let image = image_with_hello(&rt, alloc);
     for computer in [Computer::DarkPal, Computer::DarkNtsc, Computer::Vic] {
-        for reaction in 1..=60u8 {
+        for reaction in 10..=60u8 {
             let drives = one(&rt, alloc, image.as_slice(), Pace::Profile, reaction);
             let mut host = Host::new(drives, computer, reaction as u32);
             host.misses(8, b"NONE");
-            let hangs = matches!(host.stuck, Some(Wait::Turn));
+            let hangs = matches!(host.stuck, Some(Wait::Turn)) && host.errors == 0;
             assert!(rt; hangs, "reaction {reaction}");
         }
     }

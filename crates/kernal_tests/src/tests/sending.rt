@@ -7,7 +7,7 @@ use cbm_drive::Way::*;
 /// From the end of the CIOUT before, by a call of CIOUT, to DATA's release: BIT, BMI, PHA, JSR, SEI, DATAHI.
 const CALLED: u64 = 53;
 
-/// From the end of the last CIOUT, by the call of UNLISTEN, to DATA's release for the byte that waits: LIST1's beginning, SEI, DATAHI.
+/// From the end of the last CIOUT, by the call of UNLISTEN, to DATA's release for the byte that waits: LIST1, SEI, DATAHI.
 const UNLISTENED: u64 = 67;
 
 /// From DATA's release to the look whether a device is there: RTS, JSR, LDA.
