@@ -48,7 +48,13 @@ while read -r line; do
     echo "\$ $line"
     (cd how_to && PATH=.:$PATH && eval "$line" 2>&1) || echo "status $?"
 done < commands.txt > told.txt
-is "the ten how-tos of the document print what they should" cmp told.txt "$here/how_to.txt"
+# how_to.txt with the numbers over the map, its signs on two lines, and the character set among the words of PUT.
+sed -e 's/^track  sector 0 to 20$/sector 0         1         2\ntrack  012345678901234567890/' \
+    -e "s/^\. free   # used .*/. free   # used   x can't be read\n? lost: no file uses it, but it isn't free   ! used, but marked free/" \
+    -e 's/^      --name <NAME>/&  /; s/^      --type <TYPE>/&  /; s/^  -h, --help         /&  /' \
+    -e 's/^      --replace      replace the file of this name$/      --replace        replace the file of this name\n      --charset <SET>  names as a C64 shows them: upper, as at power up, or lower [default: upper]/' \
+    "$here/how_to.txt" > wanted.txt
+is "the ten how-tos of the document print what they should" cmp told.txt wanted.txt
 is "and take out, put in and make what they say" test "$(cd how_to && echo *)" = "FOLDER disk1541 empty.d64 game.prg hello.d64 hello.g64 hello.prg"
 
 # each command, its refusals too
@@ -137,7 +143,10 @@ case_of "info" 0 "$facts" "" "$disk" info there.d64
 case_of "info of an image with error bytes" 0 any "" "$disk" info bad.d64
 is "tells how many sectors can't be read" grep -q '^unreadable   1$' out.txt
 case_of "map" 0 any "" "$disk" map there.d64
-is "has a line for each track" test "$(wc -l < out.txt)" = 37
+is "has a line for each track, and two over and under them" test "$(wc -l < out.txt)" = 39
+is "of 80 columns at most" test "$(wc -L < out.txt)" -le 80
+is "the sectors' numbers over them" test "$(head -n 2 out.txt)" = "sector 0         1         2
+track  012345678901234567890"
 is "and shows what is used" grep -q '^18     ##\.\.\.' out.txt
 case_of "map of an image with error bytes" 0 any "" "$disk" map bad.d64
 is "shows what can't be read" grep -q '^ 1     \.\.\.x\.' out.txt
@@ -160,6 +169,127 @@ for bad_name in A,B A=B A:B 'A"B'; do
     case_of "copy to $bad_name" 1 "" "$sentence" "$disk" copy there.d64 HELLO "$bad_name"
     case_of "rename to $bad_name" 1 "" "$sentence" "$disk" rename there.d64 HELLO "$bad_name"
 done
+
+# names: a character is the code that its key types, {hh} is any code (D3 is S with SHIFT, C1 to C3 are A to C with SHIFT)
+"$disk" new names.d64 --title "names {c1}" --id "{41}a"
+case_of "put a name with a suit" 0 "" "" "$disk" put names.d64 game.prg --name '♥main'
+case_of "which is the key's code" 0 '{"title": "NAMES ♠", "id": "AA", "dos": "2A", "free": 663, "files": [
+  {"name": "♥MAIN", "petscii": "d34d41494e", "type": "prg", "blocks": 1, "closed": true, "locked": false}]}' "" "$disk" list names.d64 --json
+case_of "and a capital letter in the other set" 0 '0 "names A         " aa 2a
+1    "Smain"            prg  
+663 blocks free.             ' "" "$disk" list names.d64 --charset lower
+case_of "get it as it is shown" 0 any "" "$disk" get names.d64 '♥MAIN'
+is "it is the file" cmp -s out.txt game.prg
+case_of "in either set" 0 any "" "$disk" get names.d64 Smain --charset lower
+case_of "or by numbers, small or capital" 0 any "" "$disk" get names.d64 '{d3}{4D}AIN'
+case_of "which the other case isn't" 1 "" "disk1541: smain: no such file" "$disk" get names.d64 smain --charset lower
+case_of "rename to codes that look like others" 0 "" "" "$disk" rename names.d64 '♥MAIN' '{73}{e1}{ff}{01}_'
+case_of "which are shown as numbers" 0 any "" "$disk" list names.d64 '{73}*'
+is "all but the line at the foot" grep -qF '1    "{73}{e1}{ff}{01}▁"            PRG  ' out.txt
+case_of "the reverse code in a name is shown" 0 "" "" "$disk" copy names.d64 '{73}{e1}{ff}{01}▁' '{12}A'
+case_of "and a name with it isn't that without" 1 "" "disk1541: A: no such file" "$disk" get names.d64 A
+case_of "delete by numbers" 0 "" "" "$disk" delete names.d64 '{73}*'
+case_of "what is left" 0 '0 "NAMES ♠         " AA 2A
+1    "{12}A"               PRG  
+663 BLOCKS FREE.             ' "" "$disk" list names.d64
+case_of "a name that begins with a dash" 0 "" "" "$disk" put names.d64 game.prg --name=-X
+case_of "behind two dashes" 0 any "" "$disk" get names.d64 -- -X
+case_of "rename behind two dashes" 0 "" "" "$disk" rename names.d64 -- -X -Y
+case_of "delete behind two dashes" 0 "" "" "$disk" delete names.d64 -- -Y
+case_of "a name of 17 characters" 1 "" "disk1541: a file's name has at most 16 characters: ABCDEFGHIJKLMNOPQ" "$disk" put names.d64 game.prg --name ABCDEFGHIJKLMNOPQ
+case_of "but of 16 codes" 0 "" "" "$disk" put names.d64 game.prg --name 'ABCDEFGHIJKLMNO{50}'
+cp game.prg a_name_of_18_bytes.prg
+case_of "a host's name of 18 characters" 1 "" "disk1541: a file's name has at most 16 characters: a_name_of_18_bytes" "$disk" put names.d64 a_name_of_18_bytes.prg
+for bad_name in 'A~B' '{4' '{4g}' '{414}' '}'; do
+    case_of "no name: $bad_name" 1 "" "disk1541: no key of a C64 types a character of $bad_name: any byte is typed as {hh}, two hexadecimal digits" "$disk" get names.d64 "$bad_name"
+done
+case_of "a number that divides a command" 1 "" "disk1541: a name can't have \`,\` \`=\` \`:\` or a quotation mark: A{2c}B" "$disk" put names.d64 game.prg --name 'A{2c}B'
+case_of "no such character set" 1 "" "disk1541: both is no character set: take upper or lower" "$disk" list names.d64 --charset both
+# Names of any bytes, on disks that are made here: what list shows of them, and that it is taken back.
+cat > names.py <<'END'
+"""names.py DISK1541 EXAMPLES COMMAND [DISKS]: the names of generated disks as the rule of docs/DISK1541.md says them."""
+import json, os, random, subprocess, sys
+
+sys.path.insert(0, sys.argv[2])
+import generated_disks as disks
+
+SHOWN = disks.SHOWN
+GRAPHICS = {code: SHOWN[code] for code in range(161, 192)}
+UPPER = {code: SHOWN[code] for code in range(32, 96)} | GRAPHICS | {code: SHOWN[code - 96] for code in range(192, 224)}
+LOWER = UPPER | {code: chr(code + 32) for code in range(65, 91)} | {code: chr(code - 128) for code in range(193, 219)}
+LOWER |= {169: "\U0001fb99", 186: "\u2713", 222: "\U0001fb96", 223: "\U0001fb98"}
+KEYS = {"upper": UPPER, "lower": LOWER}
+
+
+def text(name, charset="upper"):
+    return "".join(KEYS[charset].get(code, f"{{{code:02x}}}") for code in name)
+
+
+def line(file):
+    named = " " * (3 - (file.shown > 9) - (file.shown > 99)) + f'"{text(file.name)}"' + " " * (16 - len(file.name))
+    flags = (" " if file.is_closed else "*") + disks.LETTERS[file.kind] + ("<" if file.is_locked else " ")
+    return f"{file.shown} {named}{flags}" + " " * (1 + (file.shown > 9) + (file.shown > 99))
+
+
+def move(tool, files, old_folder, image):
+    wanted = {}
+    for n, (name, file) in enumerate(files):
+        is_said = all(code < 192 and code not in disks.DIVIDES for code in file.name)
+        new = file.name if is_said else f"F{n}".encode()
+        ending = disks.LETTERS[file.kind].lower()
+        tool.run("put", image, os.path.join(old_folder, name), f"--name={text(new)}", "--type", ending)
+        wanted[f"{disks.host_name(new)}.{ending}"] = file.bytes
+    return wanted
+
+
+def any_name(r):
+    return bytes(r.choice([code for code in range(256) if code != 0xA0 and code not in b'*?,=:"']) for _ in range(r.randint(1, 16)))
+
+
+def both_ways(program, seed):
+    """Twelve names of any bytes, in both sets: shown by the rule, and taken back."""
+    r = random.Random(seed)
+    disk = disks.Disk(seed)
+    disk.files = [disks.File(r, name) for name in sorted({any_name(r) for _ in range(12)})]
+    for file in disk.files:
+        file.bytes, file.is_closed, file.is_locked = file.name * 20, True, False
+    disk.taken = {(18, 0)}
+    disk.image[disks.place(18, 0) : disks.place(19, 0)] = bytes(19 * 256)
+    disk.put_directory()
+    disk.put_map()
+    with open("any.d64", "wb") as image:
+        image.write(disk.image)
+    tool = disks.Tool(program, ".")
+    disks.require("list", tool.run("list", "any.d64") == disk.listing(), tool.run("list", "any.d64"))
+    for charset in KEYS:
+        files = json.loads(tool.run("list", "any.d64", "--json", "--charset", charset))["files"]
+        disks.require("JSON", [it["name"] for it in files] == [text(file.name, charset) for file in disk.files])
+        disks.require("bytes", [it["petscii"] for it in files] == [file.name.hex() for file in disk.files])
+    for n, file in enumerate(disk.files):
+        charset = ["upper", "lower"][n % 2]
+        shown = text(file.name, charset)
+        got = subprocess.run([program, "get", "any.d64", "--charset", charset, "--", shown], capture_output=True).stdout
+        disks.require(f"get {shown}", got == file.bytes)
+        tool.run("rename", "any.d64", "--charset", charset, "--", shown, "MOVED")
+        tool.run("copy", "any.d64", "--charset", charset, "--", "MOVED", shown)
+        tool.run("delete", "any.d64", "--charset", charset, "--", "MOVED")
+        tool.run("delete", "any.d64", "--charset", charset, "--", shown)
+        with open("file.bin", "wb") as out:
+            out.write(file.bytes)
+        tool.run("put", "any.d64", "file.bin", "--charset", charset, f"--name={shown}")
+        got = subprocess.run([program, "get", "any.d64", "--charset", charset, "--", shown], capture_output=True).stdout
+        disks.require(f"get {shown} again", got == file.bytes)
+
+
+disks.File.line, disks.move = line, move
+program, command = os.path.realpath(sys.argv[1]), sys.argv[3]
+if command == "disks":
+    sys.argv = [sys.argv[0], program, *sys.argv[4:]]
+    disks.main()
+for seed in range(20):
+    both_ways(program, seed)
+END
+is "names of any bytes, in both sets, taken back" python3 names.py "$disk" "$here" names
 
 # all files
 "$disk" put there.d64 game.prg --name A/B
@@ -210,7 +340,7 @@ many many.g64
 is "progress on a terminal" python3 "$here/on_terminal.py" "$disk" many.d64
 
 # Generated disks: files of many kinds, names and lengths, which go to a new disk of the other format, byte for byte.
-is "$disks generated disks, their files on new ones" python3 "$here/generated_disks.py" "$disk" "$disks"
+is "$disks generated disks, their files on new ones" python3 names.py "$disk" "$here" disks "$disks"
 
 # Disks that were made by commands: files of many lengths, some of them deleted; all that is left goes to a new disk of the other
 # format.
@@ -255,11 +385,54 @@ is "100 disks made by commands, their files on new ones" test $bad = 0
 
 # what goes wrong
 head -c 174847 hello.d64 > short.d64
-case_of "no image of a disk" 2 "" "disk1541: short.d64 is no image of a disk (fault 1 of its format)" "$disk" list short.d64
+case_of "an image that was cut off" 2 "" "disk1541: short.d64 is shorter than any image of a disk: it was cut off, or is none (174847 bytes)" "$disk" list short.d64
+# Files of other formats, by their first bytes or their sizes. Sectors of 256 bytes, and a byte more for each: a D71 has 1,366, a D81
+# 3,200, a D64 of 40 tracks 768, of 42 tracks 802.
+foreign() {
+    case_of "no image: $3" 2 "" "disk1541: foreign.d64 is $3 ($1 bytes)" "$disk" "$2" foreign.d64
+}
+printf 'C64 tape image file' > foreign.d64
+foreign 19 list "a T64, with files of a tape"
+printf 'P64-1541' > foreign.d64
+foreign 8 check "a P64, with the pulses of a disk: make a G64 of it"
+printf 'MNIB-1541-RAW' > foreign.d64
+foreign 13 map "a NIB, with the bytes of tracks: make a G64 of it"
+gzip -c hello.d64 > foreign.d64
+foreign "$(wc -c < foreign.d64)" info "packed by gzip: unpack it first"
+for size in $((1366 * 256)) $((1366 * 257)); do
+    rm foreign.d64 && truncate -s $size foreign.d64
+    foreign $size validate "a D71, the disk of a 1571"
+done
+for size in $((3200 * 256)) $((3200 * 257)); do
+    rm foreign.d64 && truncate -s $size foreign.d64
+    foreign $size list "a D81, the disk of a 1581"
+done
+for size in $((802 * 256)) $((802 * 257)); do
+    rm foreign.d64 && truncate -s $size foreign.d64
+    foreign $size list "a D64 of 42 tracks: 35 and 40 are taken"
+done
+rm foreign.d64 && truncate -s $((768 * 257)) foreign.d64
+foreign $((768 * 257)) list "a D64 of 40 tracks with error bytes: with them 35 are taken"
+rm foreign.d64 && truncate -s 200000 foreign.d64
+foreign 200000 list "no image of a disk: no G64, nor of a D64's size"
+head -c 100000 there.g64 > foreign.d64
+case_of "a G64 that was cut off" 2 "" "disk1541: foreign.d64 is a G64 that can't be used: it is cut off, or a track lies outside of it (fault 5 of its format)" "$disk" list foreign.d64
+case_of "a file that is no image" 2 "" "disk1541: short.d64 is shorter than any image of a disk: it was cut off, or is none (174847 bytes)" "$disk" get short.d64 HELLO
+# What is read has an end: 12 + 8 * 84 + 84 * (2 + 7,928 + 1,982) bytes of an image, 16 MB of a file.
+truncate -s 833293 long.img
+case_of "a file that is longer than any image" 3 "" "disk1541: long.img has more than 833292 bytes: too many to be read here" "$disk" list long.img
+truncate -s 833292 long.img
+case_of "one byte less is read" 2 "" "disk1541: long.img is no image of a disk: no G64, nor of a D64's size (833292 bytes)" "$disk" list long.img
+case_of "an image without an end" 3 "" "disk1541: /dev/zero has more than 833292 bytes: too many to be read here" "$disk" list /dev/zero
+case_of "as standard input, too" 3 "" "disk1541: standard input has more than 833292 bytes: too many to be read here" sh -c "$disk list - < /dev/zero"
+case_of "a file without an end to put" 3 "" "disk1541: /dev/zero has more than 16777216 bytes: too many to be read here" "$disk" put hello.d64 /dev/zero
+truncate -s 16777216 long.img
+case_of "16 MB are read, and the disk is full" 1 "" "disk1541: hello.d64: the disk is full (status 72)" "$disk" put hello.d64 long.img
 case_of "no image" 3 "" any "$disk" list nothing.d64
 case_of "a folder as image" 3 "" any "$disk" list .
-truncate -s 64M big.d64
-case_of "a limit on memory" 3 "" "disk1541: can't read big.d64: out of memory" sh -c "ulimit -v 20000; exec $disk list big.d64"
+# Its 16 MB have a buffer within the limit, and one of twice that, to see that no byte follows, is far beyond: no page of the stack is what
+# is missing, as that would end any program.
+case_of "a limit on memory" 3 "" "disk1541: can't read long.img: out of memory" sh -c "ulimit -v 28000; exec $disk put hello.d64 long.img"
 # Each request for memory is refused in turn: the command ends well, or with 3, one sentence and the image as it was.
 if command -v cc > /dev/null; then
     cc -shared -fPIC -o refusing.so "$here/refusing.c"

@@ -1,3 +1,6 @@
+pub mod FormatLemmas
+pub mod KeyLemmas
+pub mod NameLemmas
 pub mod ReadableLemmas
 pub mod ReadingLemmas
 pub mod PutLemmas

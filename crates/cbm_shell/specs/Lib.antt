@@ -1,4 +1,5 @@
 pub mod Petscii
+pub mod Names
 pub mod Readable
 pub mod Reading
 pub mod Listing
@@ -11,3 +12,4 @@ pub mod Converting
 pub mod Mapping
 pub mod Marking
 pub mod OpenDisk
+pub mod Foreign

@@ -4,6 +4,7 @@ use Rattle.cbm_channel.specs.Machines.{Machine}
 use Rattle.cbm_channel.specs.Codes.{code_number}
 use Rattle.cbm_channel.specs.Calls.{after_open}
 use Rattle.cbm_program.specs.Scripts.{talked}
+use Rattle.cbm_shell.specs.declared.petscii.Charset.{Charset}
 use Rattle.cbm_shell.specs.declared.fault.ShellFault.{ShellFault}
 use Rattle.cbm_shell.specs.declared.fault.ShellFault.TheVariants as fault
 use Rattle.cbm_shell.specs.Readable.{readable}
@@ -26,10 +27,10 @@ pub record IsSent (pattern : List ℕ) (m : Machine) (bytes : List ℕ) : Type 0
   pub fine : code_number (opened pattern m).status.code ≡ 0
   pub same : bytes ≡ sent (opened pattern m)
 
--- The OPEN isn't refused, and these are the lines that the machine sends, made readable.
-pub record IsListed (pattern : List ℕ) (m : Machine) (lines : List ℕ) : Type 0 where
+-- The OPEN isn't refused, and these are the lines that the machine sends, made readable in a character set.
+pub record IsListed (charset : Charset) (pattern : List ℕ) (m : Machine) (lines : List ℕ) : Type 0 where
   pub fine : code_number (opened pattern m).status.code ≡ 0
-  pub same : lines ≡ readable (sent (opened pattern m))
+  pub same : lines ≡ readable charset (sent (opened pattern m))
 
 -- The machine refused the OPEN with this status, or memory ran out.
 abbrev pub IsUnlisted : List ℕ → Machine → ShellFault → Type 0

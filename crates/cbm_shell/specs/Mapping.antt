@@ -88,9 +88,9 @@ unfoldable pub rows_of : Content → (Place → Bool) → ℕ → List ℕ
 rows_of content used zero = []
 rows_of content used (suc n) = rows_of content used n ++ row_of content used (suc n)
 
--- THE PICTURE of a disk that uses so many tracks: a heading, a line for each track, and what the signs mean
+-- THE PICTURE of a disk that uses so many tracks: the sectors' numbers, a line for each track, and what the signs mean
 abbrev pub picture_of : ℕ → Content → List ℕ
 picture_of tracks content =
-    codes "track  sector 0 to 20\n"
+    codes "sector 0         1         2\ntrack  012345678901234567890\n"
     ++ rows_of content (is_among (used_in tracks content (entries_in (directory_of tracks content)))) tracks
-    ++ codes ". free   # used   ? lost: no file uses it, but it isn't free   ! used, but marked free   x can't be read\n"
+    ++ codes ". free   # used   x can't be read\n? lost: no file uses it, but it isn't free   ! used, but marked free\n"

@@ -13,6 +13,7 @@ ghost use Rattle.cbm_shell.specs.Images.{IsOpened, IsSaved, IsOpenFault, IsFaile
 use crate::changing::{Change, changed};
 use crate::fault::ShellFault;
 use crate::listing::{list, raw_list};
+use crate::petscii::Charset;
 use crate::reading::get;
 use cbm_channel::Dos;
 use cbm_d64::D64Disk;
@@ -110,27 +111,33 @@ pub fn file(alloc: Global, image: &[u8], pattern: &[u8]) -> Result<Vec<u8>, Shel
 fn directory_in<I: DiskImage + Drop>(
     alloc: Global,
     image: &[u8],
+    charset: Charset,
     pattern: &[u8],
 ) -> Result<Vec<u8>, ShellFault>
     requires { kind_of image.now ≡ I.kind }
     ensures { let kind = kind_of image.now in (d : Disk) → ImageHolds kind image.now d →
         let m = start d false (tracks_of kind image.now) in
-        MatchResult result (λ v. IsListed pattern.now m v.items) (IsHidden pattern.now m) }
+        MatchResult result (λ v. IsListed charset pattern.now m v.items) (IsHidden pattern.now m) }
 {
     let mut dos = Dos::new(opened::<I>(alloc, image)?);
-    list(alloc, &mut dos, pattern)
+    list(alloc, &mut dos, charset, pattern)
 }
 
-/// The directory of an image as readable text, with the files that match a pattern; an empty pattern asks for all.
-/// Errors: `Image`; `Refused`, with the drive's status; `Memory`.
-pub fn directory(alloc: Global, image: &[u8], pattern: &[u8]) -> Result<Vec<u8>, ShellFault>
+/// The directory of an image as readable text in a character set of a C64, with the files that match a pattern; an empty
+/// pattern asks for all. Errors: `Image`; `Refused`, with the drive's status; `Memory`.
+pub fn directory(
+    alloc: Global,
+    image: &[u8],
+    charset: Charset,
+    pattern: &[u8],
+) -> Result<Vec<u8>, ShellFault>
     ensures { let kind = kind_of image.now in (d : Disk) → ImageHolds kind image.now d →
         let m = start d false (tracks_of kind image.now) in
-        MatchResult result (λ v. IsListed pattern.now m v.items) (IsHidden pattern.now m) }
+        MatchResult result (λ v. IsListed charset pattern.now m v.items) (IsHidden pattern.now m) }
 {
     match kind_of(image) {
-        Kind::D64 => directory_in::<D64Disk>(alloc, image, pattern),
-        Kind::G64 => directory_in::<G64Disk>(alloc, image, pattern),
+        Kind::D64 => directory_in::<D64Disk>(alloc, image, charset, pattern),
+        Kind::G64 => directory_in::<G64Disk>(alloc, image, charset, pattern),
     }
 }
 

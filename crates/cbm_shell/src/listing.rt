@@ -6,6 +6,7 @@ ghost use Rattle.cbm_program.specs.Scripts.{talked};
 ghost use Rattle.cbm_shell.specs.Listing.{list_text, IsSent, IsListed, IsUnlisted};
 
 use crate::fault::ShellFault;
+use crate::petscii::Charset;
 use crate::readable::readable_listing;
 use cbm_channel::Dos;
 use cbm_medium::{Medium, Steady};
@@ -75,16 +76,18 @@ pub fn raw_list<M: Steady>(
 }
 
 /// The directory of a drive's disk as readable text, with the files that match a pattern; an empty pattern asks for all.
-/// Each line has a number, a space and a text in UTF-8. Errors: `Refused` with the drive's status, `Memory`.
+/// Each line has a number, a space and a text in UTF-8, as a character set of a C64 shows it. Errors: `Refused` with the
+/// drive's status, `Memory`.
 pub fn list<M: Steady>(
     alloc: Global,
     dos: &mut Dos<M>,
+    charset: Charset,
     pattern: &[u8],
 ) -> Result<Vec<u8>, ShellFault>
     ensures { (m : Machine) → Stands M.seen dos.old m →
-        MatchResult result (λ v. IsListed pattern.now m v.items) (IsUnlisted pattern.now m) }
+        MatchResult result (λ v. IsListed charset pattern.now m v.items) (IsUnlisted pattern.now m) }
 {
     let bytes = raw_list(alloc, dos, pattern)?;
-    let lines = readable_listing(alloc, bytes.as_slice())?;
+    let lines = readable_listing(alloc, charset, bytes.as_slice())?;
     Ok(lines)
 }

@@ -1,28 +1,36 @@
-//! PETSCII and Unicode.
-ghost use Rattle.std.specs.Prelude.{◌≡◌, ◌≢◌, ◌<◌, ℕ, None, IfSome};
-ghost use Rattle.cbm_shell.specs.Petscii.{char_of};
+//! The characters of a C64's keys.
+ghost use Rattle.std.specs.Prelude.{◌≡◌};
+ghost use Rattle.cbm_shell.specs.Petscii.{key_of, typed, code_of};
 
-/// Codes 0 to 31 control the screen, and are shown as Unicode's pictures of control codes.
-const CONTROLS: [char; 32] = [
-    '\u{2400}', '\u{2401}', '\u{2402}', '\u{2403}', '\u{2404}', '\u{2405}', '\u{2406}', '\u{2407}',
-    '\u{2408}', '\u{2409}', '\u{240a}', '\u{240b}', '\u{240c}', '\u{240d}', '\u{240e}', '\u{240f}',
-    '\u{2410}', '\u{2411}', '\u{2412}', '\u{2413}', '\u{2414}', '\u{2415}', '\u{2416}', '\u{2417}',
-    '\u{2418}', '\u{2419}', '\u{241a}', '\u{241b}', '\u{241c}', '\u{241d}', '\u{241e}', '\u{241f}',
-];
+/// A character set of a C64.
+#[derive(Clone, Copy, Debug, PartialEq, Eq)]
+pub enum Charset {
+    /// That of power up: capital letters and graphics.
+    Upper,
+    /// The other one: small letters, and capital letters by SHIFT.
+    Lower,
+}
 
-/// Codes 32 to 63: digits and punctuation, as in ASCII.
+/// What the tables have for a code that is written by its number, which this begins: control codes, and those that no key
+/// types, as they look like others.
+pub(crate) const BY_NUMBER: char = '{';
+
+/// Codes that are all written by their numbers.
+const NUMBERED: [char; 32] = ['{'; 32];
+
+/// Codes 32 to 63 of both sets: digits and punctuation, as in ASCII.
 const DIGITS: [char; 32] = [
     ' ', '!', '"', '#', '$', '%', '&', '\'', '(', ')', '*', '+', ',', '-', '.', '/', '0', '1', '2',
     '3', '4', '5', '6', '7', '8', '9', ':', ';', '<', '=', '>', '?',
 ];
 
-/// Codes 64 to 95: the letters.
+/// Codes 64 to 95 of the set of power up: the letters.
 const LETTERS: [char; 32] = [
     '@', 'A', 'B', 'C', 'D', 'E', 'F', 'G', 'H', 'I', 'J', 'K', 'L', 'M', 'N', 'O', 'P', 'Q', 'R',
     'S', 'T', 'U', 'V', 'W', 'X', 'Y', 'Z', '[', '£', ']', '↑', '←',
 ];
 
-/// Codes 96 to 127, and 192 to 223 again: lines and suits.
+/// Codes 192 to 223 of the set of power up: lines and suits.
 const LINES: [char; 32] = [
     '─',
     '♠',
@@ -58,12 +66,9 @@ const LINES: [char; 32] = [
     '◥',
 ];
 
-/// Codes 128 to 159 control the screen, and are shown as the replacement character.
-const HIDDEN: [char; 32] = ['\u{fffd}'; 32];
-
-/// Codes 160 to 191, and 224 to 254 again: blocks.
+/// Codes 160 to 191 of the set of power up: blocks. The first is the space that is typed with SHIFT.
 const BLOCKS: [char; 32] = [
-    '\u{a0}',
+    '{',
     '▌',
     '▄',
     '▔',
@@ -97,37 +102,131 @@ const BLOCKS: [char; 32] = [
     '▚',
 ];
 
+/// Codes 64 to 95 of the set with small letters: these.
+const SMALL: [char; 32] = [
+    '@', 'a', 'b', 'c', 'd', 'e', 'f', 'g', 'h', 'i', 'j', 'k', 'l', 'm', 'n', 'o', 'p', 'q', 'r',
+    's', 't', 'u', 'v', 'w', 'x', 'y', 'z', '[', '£', ']', '↑', '←',
+];
+
+/// Codes 160 to 191 of the set with small letters: blocks, a fill and a check mark.
+const FILLS: [char; 32] = [
+    '{',
+    '▌',
+    '▄',
+    '▔',
+    '▁',
+    '▏',
+    '▒',
+    '▕',
+    '\u{1fb8f}',
+    '\u{1fb99}',
+    '\u{1fb87}',
+    '├',
+    '▗',
+    '└',
+    '┐',
+    '▂',
+    '┌',
+    '┴',
+    '┬',
+    '┤',
+    '▎',
+    '▍',
+    '\u{1fb88}',
+    '\u{1fb82}',
+    '\u{1fb83}',
+    '▃',
+    '✓',
+    '▖',
+    '▝',
+    '┘',
+    '▘',
+    '▚',
+];
+
+/// Codes 192 to 223 of the set with small letters: the capital letters, lines and fills.
+const CAPITALS: [char; 32] = [
+    '─',
+    'A',
+    'B',
+    'C',
+    'D',
+    'E',
+    'F',
+    'G',
+    'H',
+    'I',
+    'J',
+    'K',
+    'L',
+    'M',
+    'N',
+    'O',
+    'P',
+    'Q',
+    'R',
+    'S',
+    'T',
+    'U',
+    'V',
+    'W',
+    'X',
+    'Y',
+    'Z',
+    '┼',
+    '\u{1fb8c}',
+    '│',
+    '\u{1fb96}',
+    '\u{1fb98}',
+];
+
 /// The characters of the PETSCII codes, 32 by 32, as a C64 shows them at power up (Unicode, "Symbols for Legacy Computing",
-/// the mapping of the C64's primary set).
+/// the mapping of the C64's primary set). Of codes that look alike that of the key has the character.
 pub const TABLE: [[char; 32]; 8] = [
-    CONTROLS, DIGITS, LETTERS, LINES, HIDDEN, BLOCKS, LINES, BLOCKS,
+    NUMBERED, DIGITS, LETTERS, NUMBERED, NUMBERED, BLOCKS, LINES, NUMBERED,
+];
+
+/// The same in the set with small letters (the mapping of the alternate set).
+pub const LOWER_TABLE: [[char; 32]; 8] = [
+    NUMBERED, DIGITS, SMALL, NUMBERED, NUMBERED, FILLS, CAPITALS, NUMBERED,
 ];
 
 /// How many codes there are.
 const CODES: u16 = 256;
 
-/// The last code, and the code of π, as which it is shown.
-const LAST: u8 = 255;
-
-const PI: u8 = 126;
-
-/// The character that a PETSCII code is shown as.
-pub fn char_of(code: u8) -> char
-    ensures { result ≡ char_of code }
+/// The character of the key that types a code; `{` where the code is written by its number.
+#[tactic(auto, unfolding(crate::specs::Petscii::key_of))]
+pub fn key_of(charset: Charset, code: u8) -> char
+    ensures { result ≡ key_of charset code }
 {
-    let shown = if code == LAST { PI } else { code };
-    TABLE[shown as usize / 32][shown as usize % 32]
+    match charset {
+        Charset::Upper => TABLE[code as usize / 32][code as usize % 32],
+        Charset::Lower => LOWER_TABLE[code as usize / 32][code as usize % 32],
+    }
 }
 
-/// The first PETSCII code that is shown as a character; None where none is.
-pub fn code_of(shown: char) -> Option<u8>
-    ensures some { IfSome result (λ code. char_of code ≡ shown) }
-    ensures first { IfSome result (λ code. (k : ℕ) → k < code → char_of k ≢ shown) }
-    ensures none { result ≡ None → (k : ℕ) → k < 256 → char_of k ≢ shown }
+/// The character of the key that is meant by a character that is typed: at power up small letters are letters, too, and `_`
+/// is the line at the foot of its cell.
+fn typed(charset: Charset, shown: char) -> char
+    ensures { result ≡ typed charset shown }
 {
+    if shown == '_' {
+        return '▁';
+    }
+    match charset {
+        Charset::Upper => shown.to_ascii_uppercase(),
+        Charset::Lower => shown,
+    }
+}
+
+/// The code of the key that types a character; None where no key does.
+pub fn code_of(charset: Charset, shown: char) -> Option<u8>
+    ensures { result ≡ code_of charset shown }
+{
+    let key = typed(charset, shown);
     for number in 0..CODES {
         let code = number as u8;
-        if char_of(code) == shown {
+        if key_of(charset, code) == key {
             return Some(code);
         }
     }

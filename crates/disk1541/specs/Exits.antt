@@ -2,13 +2,15 @@
 use Rattle.std.specs.Prelude.{ℕ}
 use Rattle.cbm_shell.specs.declared.fault.ShellFault.TheVariants as fault
 use Rattle.disk1541.specs.declared.failure.Failure.{Failure}
-use Rattle.disk1541.specs.declared.failure.Failure.TheVariants.{Disk, Read, Write, NoMemory}
+use Rattle.disk1541.specs.declared.failure.Failure.TheVariants.{Foreign, Disk, Read, TooLong, Write, NoMemory}
 
 -- THE EXIT STATUS: 2 where the image is none, 3 where this computer's files or its memory are at fault, else 1.
 abbrev pub exit_status : Failure → ℕ
+exit_status (Foreign name foreign size) = 2
 exit_status (Disk name (fault.Image number)) = 2
 exit_status (Disk name fault.Memory) = 3
 exit_status (Read name kind) = 3
+exit_status (TooLong name most) = 3
 exit_status (Write name kind) = 3
 exit_status NoMemory = 3
 exit_status failure = 1

@@ -1,8 +1,8 @@
 //! The commands.
 use crate::words::{
-    DELETED, FILE, FOLDER, FORMAT, ID, IMAGE, JSON, LOSSY, NAME, NAME_ON_DISK, NEW, OLD, OUT,
-    OUTPUT, RAW, REPLACE_FILE, REPLACE_FILES, REPLACE_IMAGE, REPLACE_NAME, SHOWN, TITLE, TRACKS,
-    TYPE, Word,
+    CHARSET, DELETED, FILE, FOLDER, FORMAT, ID, IMAGE, JSON, LOSSY, NAME, NAME_ON_DISK, NEW, OLD,
+    OUT, OUTPUT, RAW, REPLACE_FILE, REPLACE_FILES, REPLACE_IMAGE, REPLACE_NAME, SHOWN, TITLE,
+    TRACKS, TYPE, Word,
 };
 
 /// What a command does.
@@ -55,13 +55,13 @@ const COMMANDS: &[Command] = &[
         verb: Verb::List,
         name: "list",
         about: "Shows the directory",
-        words: &[IMAGE, SHOWN, RAW, JSON],
+        words: &[IMAGE, SHOWN, RAW, JSON, CHARSET],
     },
     Command {
         verb: Verb::Get,
         name: "get",
         about: "Takes a file out",
-        words: &[IMAGE, NAME, OUTPUT, REPLACE_FILE],
+        words: &[IMAGE, NAME, OUTPUT, REPLACE_FILE, CHARSET],
     },
     Command {
         verb: Verb::GetAll,
@@ -73,7 +73,7 @@ const COMMANDS: &[Command] = &[
         verb: Verb::Info,
         name: "info",
         about: "Tells what the disk is",
-        words: &[IMAGE],
+        words: &[IMAGE, CHARSET],
     },
     Command {
         verb: Verb::Map,
@@ -91,7 +91,7 @@ const COMMANDS: &[Command] = &[
         verb: Verb::New,
         name: "new",
         about: "Makes an image of an empty disk",
-        words: &[IMAGE, TITLE, ID, TRACKS, FORMAT, REPLACE_IMAGE],
+        words: &[IMAGE, TITLE, ID, TRACKS, FORMAT, REPLACE_IMAGE, CHARSET],
     },
     Command {
         verb: Verb::Convert,
@@ -103,25 +103,25 @@ const COMMANDS: &[Command] = &[
         verb: Verb::Put,
         name: "put",
         about: "Puts a file of this computer on the disk",
-        words: &[IMAGE, FILE, NAME_ON_DISK, TYPE, REPLACE_NAME],
+        words: &[IMAGE, FILE, NAME_ON_DISK, TYPE, REPLACE_NAME, CHARSET],
     },
     Command {
         verb: Verb::Copy,
         name: "copy",
         about: "Copies a file under a new name",
-        words: &[IMAGE, OLD, NEW],
+        words: &[IMAGE, OLD, NEW, CHARSET],
     },
     Command {
         verb: Verb::Rename,
         name: "rename",
         about: "Gives a file another name",
-        words: &[IMAGE, OLD, NEW],
+        words: &[IMAGE, OLD, NEW, CHARSET],
     },
     Command {
         verb: Verb::Delete,
         name: "delete",
         about: "Deletes the files that match",
-        words: &[IMAGE, DELETED],
+        words: &[IMAGE, DELETED, CHARSET],
     },
     Command {
         verb: Verb::Validate,

@@ -1,7 +1,7 @@
 //! What went wrong, and the exit status.
-use crate::refusal::tell_refusal;
+use crate::refusal::{tell_foreign, tell_refusal};
 use crate::word_fault::WordFault;
-use cbm_shell::ShellFault;
+use cbm_shell::{Foreign, ShellFault};
 use cbm_volume::Unsound;
 use std::alloc::AllocError;
 use std::io;
@@ -11,8 +11,12 @@ use std::io;
 pub enum Failure<'a> {
     /// A file of this computer can't be read.
     Read(&'a str, io::ErrorKind),
+    /// A file of this computer has more than so many bytes, and isn't read further.
+    TooLong(&'a str, u64),
     /// A file of this computer can't be written.
     Write(&'a str, io::ErrorKind),
+    /// A file of so many bytes is no image of a 1541's disk.
+    Foreign(&'a str, Foreign, usize),
     /// The disk, or the drive, refused it.
     Disk(&'a str, ShellFault),
     /// The disk isn't sound, as a check says.
@@ -61,9 +65,9 @@ impl<'a> Failure<'a> {
         ensures { result ≡ exit_status self.entry }
     {
         match self {
-            Failure::Disk(_, ShellFault::Image(_)) => 2,
+            Failure::Foreign(..) | Failure::Disk(_, ShellFault::Image(_)) => 2,
             Failure::Disk(_, ShellFault::Memory) => 3,
-            Failure::Read(..) | Failure::Write(..) | Failure::NoMemory => 3,
+            Failure::Read(..) | Failure::TooLong(..) | Failure::Write(..) | Failure::NoMemory => 3,
             _ => 1,
         }
     }
@@ -73,6 +77,12 @@ impl<'a> Failure<'a> {
         match self {
             Failure::Read(name, kind) => tell_host(rt, "read", name, kind),
             Failure::Write(name, kind) => tell_host(rt, "write", name, kind),
+            Failure::TooLong(name, most) => {
+                eprintln!(rt;
+                    "disk1541: {name} has more than {most} bytes: too many to be read here"
+                )
+            }
+            Failure::Foreign(name, foreign, size) => tell_foreign(rt, name, foreign, size),
             Failure::Disk(name, fault) => tell_refusal(rt, name, fault),
             Failure::Word(fault) => fault.tell(rt),
             Failure::Unsound(_) | Failure::Told => Ok(()),

@@ -1,5 +1,6 @@
 //! Files of the host, standard input and standard output.
 use crate::failure::{Failure, in_memory};
+use cbm_shell::foreign_of;
 use host_files::Sync;
 use std::alloc::Global;
 use std::fs;
@@ -13,25 +14,62 @@ const PROGRAM: &str = "disk1541";
 /// The word that means standard input or output.
 const STANDARD: &str = "-";
 
-/// Reads standard input to its end.
-fn read_input<'a, R: Runtime + AllocGlobal>(rt: &R) -> Result<Vec<u8>, Failure<'a>> {
-    let mut bytes = Vec::new(rt.alloc());
-    let mut input = rt.reader();
+/// The most bytes of an image: a G64 with its head and tables (684 bytes), and 84 tracks, each of two bytes for its length,
+/// 7,928 bytes, and 1,982 bytes of a map of its speeds.
+const GREATEST_IMAGE: u64 = 833_292;
+
+/// The most bytes of a file that is put on a disk: 16 MB.
+const GREATEST_FILE: u64 = 16_777_216;
+
+/// Reads to the end, where that comes before more than so many bytes.
+fn read_to_end<'a, I: Read + Drop>(
+    alloc: Global,
+    name: &'a str,
+    input: I,
+    most: u64,
+) -> Result<Vec<u8>, Failure<'a>> {
+    let mut bytes = Vec::new(alloc);
+    let mut input = input.take(most.saturating_add(1));
     match input.read_to_end(&mut bytes) {
+        Ok(count) if count as u64 > most => Err(Failure::TooLong(name, most)),
         Ok(_) => Ok(bytes),
-        Err(error) => Err(Failure::Read("standard input", error.kind())),
+        Err(error) => Err(Failure::Read(name, error.kind())),
     }
 }
 
-/// Reads a file of the host, or standard input.
-pub fn read<'a, R: Runtime + AllocGlobal>(rt: &R, name: &'a str) -> Result<Vec<u8>, Failure<'a>> {
+/// Reads a file of the host, or standard input, of at most so many bytes.
+fn read<'a, R: Runtime + AllocGlobal>(
+    rt: &R,
+    name: &'a str,
+    most: u64,
+) -> Result<Vec<u8>, Failure<'a>> {
     if name == STANDARD {
-        return read_input(rt);
+        return read_to_end(rt.alloc(), "standard input", rt.reader(), most);
     }
-    match fs::read(rt, name) {
-        Ok(bytes) => Ok(bytes),
+    match fs::open(rt, name) {
+        Ok(file) => read_to_end(rt.alloc(), name, file, most),
         Err(error) => Err(Failure::Read(name, error.kind())),
     }
+}
+
+/// Reads an image. A file that by its first bytes or its size is none of a 1541's disk is refused.
+pub fn read_image<'a, R: Runtime + AllocGlobal>(
+    rt: &R,
+    name: &'a str,
+) -> Result<Vec<u8>, Failure<'a>> {
+    let bytes = read(rt, name, GREATEST_IMAGE)?;
+    match foreign_of(bytes.as_slice()) {
+        Some(foreign) => Err(Failure::Foreign(name, foreign, bytes.len())),
+        None => Ok(bytes),
+    }
+}
+
+/// Reads a file that is put on a disk.
+pub fn read_file<'a, R: Runtime + AllocGlobal>(
+    rt: &R,
+    name: &'a str,
+) -> Result<Vec<u8>, Failure<'a>> {
+    read(rt, name, GREATEST_FILE)
 }
 
 /// What writing to a name came to.

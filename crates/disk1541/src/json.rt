@@ -1,7 +1,7 @@
 //! The directory as JSON.
-use crate::names::{shown, type_of};
+use crate::names::{type_of, unfilled};
 use cbm_command::matches;
-use cbm_shell::Info;
+use cbm_shell::{Charset, Info, name_text};
 use cbm_volume::Entry;
 use std::alloc::{AllocError, Global};
 
@@ -33,16 +33,15 @@ fn add_codes(text: &mut String, codes: &[u8]) -> Result<(), AllocError> {
 }
 
 /// Adds a name and what codes show.
-fn add_shown(alloc: Global, text: &mut String, name: &str, codes: &[u8]) -> Result<(), AllocError> {
+fn add_shown(
+    alloc: Global,
+    text: &mut String,
+    charset: Charset,
+    name: &str,
+    codes: &[u8],
+) -> Result<(), AllocError> {
     text.push_str(name)?;
-    add_quoted(text, shown(alloc, codes)?.as_str())
-}
-
-/// Adds the disk's title.
-fn add_title(alloc: Global, text: &mut String, title: &[u8]) -> Result<(), AllocError> {
-    text.push_str("\"title\": ")?;
-    let title = shown(alloc, title)?;
-    add_quoted(text, title.as_str().trim_end_matches('\u{a0}'))
+    add_quoted(text, name_text(alloc, charset, codes)?.as_str())
 }
 
 /// Adds how many blocks are free.
@@ -52,14 +51,20 @@ fn add_free(alloc: Global, text: &mut String, free: Option<u16>) -> Result<(), A
 }
 
 /// Adds what the disk's label says.
-fn add_label(alloc: Global, text: &mut String, info: &Info) -> Result<(), AllocError> {
+fn add_label(
+    alloc: Global,
+    text: &mut String,
+    charset: Charset,
+    info: &Info,
+) -> Result<(), AllocError> {
     let Some(label) = info.label else {
         return Ok(());
     };
     let [first, second, _, dos, version] = label.mark;
-    add_title(alloc, text, label.title.as_slice())?;
-    add_shown(alloc, text, ", \"id\": ", &[first, second])?;
-    add_shown(alloc, text, ", \"dos\": ", &[dos, version])?;
+    let title = unfilled(label.title.as_slice());
+    add_shown(alloc, text, charset, "\"title\": ", title)?;
+    add_shown(alloc, text, charset, ", \"id\": ", &[first, second])?;
+    add_shown(alloc, text, charset, ", \"dos\": ", &[dos, version])?;
     add_free(alloc, text, info.free)
 }
 
@@ -75,8 +80,13 @@ fn add_facts(alloc: Global, text: &mut String, entry: &Entry) -> Result<(), Allo
 }
 
 /// Adds a file.
-fn add_file(alloc: Global, text: &mut String, entry: &Entry) -> Result<(), AllocError> {
-    add_shown(alloc, text, "\n  {\"name\": ", entry.name())?;
+fn add_file(
+    alloc: Global,
+    text: &mut String,
+    charset: Charset,
+    entry: &Entry,
+) -> Result<(), AllocError> {
+    add_shown(alloc, text, charset, "\n  {\"name\": ", entry.name())?;
     text.push_str(", \"petscii\": ")?;
     add_codes(text, entry.name())?;
     add_facts(alloc, text, entry)
@@ -86,6 +96,7 @@ fn add_file(alloc: Global, text: &mut String, entry: &Entry) -> Result<(), Alloc
 fn add_files(
     alloc: Global,
     text: &mut String,
+    charset: Charset,
     entries: &[Entry],
     pattern: &[u8],
 ) -> Result<(), AllocError> {
@@ -93,7 +104,7 @@ fn add_files(
     for entry in entries {
         if !entry.is_empty() && matches(pattern, entry.name()) {
             text.push_str(before)?;
-            add_file(alloc, text, entry)?;
+            add_file(alloc, text, charset, entry)?;
             before = ",";
         }
     }
@@ -104,25 +115,27 @@ fn add_files(
 fn add_listing(
     alloc: Global,
     text: &mut String,
+    charset: Charset,
     info: &Info,
     entries: &[Entry],
     pattern: &[u8],
 ) -> Result<(), AllocError> {
     text.push('{')?;
-    add_label(alloc, text, info)?;
+    add_label(alloc, text, charset, info)?;
     text.push_str("\"files\": [")?;
-    add_files(alloc, text, entries, pattern)?;
+    add_files(alloc, text, charset, entries, pattern)?;
     text.push_str("]}\n")
 }
 
 /// The disk's label, and the files that a pattern means.
 pub fn listing(
     alloc: Global,
+    charset: Charset,
     info: &Info,
     entries: &[Entry],
     pattern: &[u8],
 ) -> Result<String, AllocError> {
     let mut text = String::new(alloc);
-    add_listing(alloc, &mut text, info, entries, pattern)?;
+    add_listing(alloc, &mut text, charset, info, entries, pattern)?;
     Ok(text)
 }

@@ -2,7 +2,7 @@
 use crate::failure::Failure;
 use crate::host::is_standard;
 use crate::word_fault::WordFault;
-use cbm_shell::{char_of, code_of};
+use cbm_shell::{Charset, key_of, read_name};
 use cbm_volume::{Entry, FileType};
 use std::alloc::{AllocError, Global};
 use std::path::Path;
@@ -10,24 +10,16 @@ use std::path::Path;
 /// The most bytes of a name on a disk.
 const LONGEST: usize = 16;
 
-/// Adds a name's codes.
-fn add_codes<'a>(codes: &mut Vec<u8>, name: &'a str) -> Result<(), Failure<'a>> {
-    for shown in name.chars() {
-        let Some(code) = code_of(shown.to_ascii_uppercase()) else {
-            return Err(Failure::Word(WordFault::Name(name)));
-        };
-        if codes.push(code).is_err() {
-            return Err(Failure::NoMemory);
-        }
-    }
-    Ok(())
-}
+/// What fills a title behind its end.
+const FILLER: u8 = 0xa0;
 
-/// A name as PETSCII: small letters are the letters of a C64 at power up.
-pub fn petscii<'a>(alloc: Global, name: &'a str) -> Result<Vec<u8>, Failure<'a>> {
-    let mut codes = Vec::new(alloc);
-    add_codes(&mut codes, name)?;
-    Ok(codes)
+/// A name as PETSCII, as it is typed in a character set.
+pub fn petscii<'a>(alloc: Global, charset: Charset, name: &'a str) -> Result<Vec<u8>, Failure<'a>> {
+    match read_name(alloc, charset, name) {
+        Ok(Some(codes)) => Ok(codes),
+        Ok(None) => Err(Failure::Word(WordFault::Name(name))),
+        Err(_) => Err(Failure::NoMemory),
+    }
 }
 
 /// Whether a code divides the words of the drive's commands.
@@ -45,33 +37,50 @@ fn is_divided(codes: &[u8]) -> bool {
     false
 }
 
-/// The name of one file as PETSCII.
-pub fn file_name<'a>(alloc: Global, name: &'a str) -> Result<Vec<u8>, Failure<'a>> {
-    let codes = petscii(alloc, name)?;
-    if is_divided(codes.as_slice()) {
+/// Refuses codes that can't be the name of a file.
+fn require_name<'a>(name: &'a str, codes: &[u8]) -> Result<(), Failure<'a>> {
+    if codes.len() > LONGEST {
+        return Err(Failure::Word(WordFault::LongName(name)));
+    }
+    if is_divided(codes) {
         return Err(Failure::Word(WordFault::Divided(name)));
     }
+    Ok(())
+}
+
+/// The name of one file as PETSCII.
+pub fn file_name<'a>(
+    alloc: Global,
+    charset: Charset,
+    name: &'a str,
+) -> Result<Vec<u8>, Failure<'a>> {
+    let codes = petscii(alloc, charset, name)?;
+    require_name(name, codes.as_slice())?;
     Ok(codes)
 }
 
-/// The name that a file of the host gets on a disk: without its folder and its ending, at most sixteen characters.
-pub fn name_of_file<'a>(alloc: Global, file: &'a str) -> Result<Vec<u8>, Failure<'a>> {
+/// The name that a file of the host gets on a disk: without its folder and its ending.
+pub fn name_of_file<'a>(
+    alloc: Global,
+    charset: Charset,
+    file: &'a str,
+) -> Result<Vec<u8>, Failure<'a>> {
     if is_standard(file) {
         return Err(Failure::Word(WordFault::NoName));
     }
     let stem = Path::new(file).file_stem().unwrap_or(file);
-    let mut name = file_name(alloc, stem)?;
-    name.truncate(LONGEST);
-    Ok(name)
+    file_name(alloc, charset, stem)
 }
 
-/// Codes as text.
-pub fn shown(alloc: Global, codes: &[u8]) -> Result<String, AllocError> {
-    let mut text = String::new(alloc);
-    for code in codes {
-        text.push(char_of(*code))?;
+/// Codes without the fillers at their end.
+pub fn unfilled(codes: &[u8]) -> &[u8] {
+    let mut count: usize = 0;
+    for (place, code) in codes.iter().enumerate() {
+        if *code != FILLER {
+            count = place.saturating_add(1);
+        }
     }
-    Ok(text)
+    codes.get(..count).unwrap_or(codes)
 }
 
 /// How the type of a file is called; None where it is none's.
@@ -85,12 +94,6 @@ pub fn type_of(entry: &Entry) -> Option<&'static str> {
     }
 }
 
-/// Whether a code stands for itself in the name of a host's file: what `put` makes the same code of, but for `/`, `%`
-/// and the codes that control a screen.
-fn is_plain(code: u8) -> bool {
-    matches!(code, 32..=127 | 161..=191) && code != b'/' && code != b'%'
-}
-
 /// A digit of a number to the base 16.
 fn digit(value: u8) -> char {
     match value % 16 {
@@ -99,11 +102,14 @@ fn digit(value: u8) -> char {
     }
 }
 
-/// The character of a host's name for a code, None where a host can't have it: a letter typed with SHIFT is a capital letter.
+/// The character of a host's name for a code, None where a host can't have it: a letter typed with SHIFT is a capital letter,
+/// and a code that looks like another one is shown as that.
 fn host_char(code: u8) -> Option<char> {
     match code {
         193..=218 => Some(char::from(code - 128)),
-        code if is_plain(code) => Some(char_of(code)),
+        b'/' | b'%' => None,
+        32..=95 | 161..=191 => Some(key_of(Charset::Upper, code)),
+        96..=127 => Some(key_of(Charset::Upper, code + 96)),
         _ => None,
     }
 }

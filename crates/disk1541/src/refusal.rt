@@ -1,6 +1,6 @@
 //! Why a disk refused a command, in words.
 use cbm_channel::{Code, Status};
-use cbm_shell::{ShellFault, words};
+use cbm_shell::{Foreign, ShellFault, words};
 use cbm_volume::{Trouble, Unsound};
 use std::io;
 
@@ -45,9 +45,47 @@ fn tell_trouble(rt: &impl Eprint, name: &str, trouble: Trouble) -> io::Result<()
     eprintln!(rt; "disk1541: {name}: track {track}, sector {sector} can't be read (error {code})")
 }
 
-/// Prints that a file is no image.
+/// What is wrong with a G64, by the number of its fault: a file that isn't told to be foreign is refused as a D64 never.
+fn flaw(number: u8) -> &'static str {
+    match number {
+        2 => "its version isn't 0",
+        3 => "its tables haven't 69 to 84 entries",
+        4 => "its greatest track has more than 7928 bytes",
+        5 => "it is cut off, or a track lies outside of it",
+        6 => "a track has no byte, or more than the greatest",
+        8 => "two tracks share bytes",
+        _ => "it is no image of a disk",
+    }
+}
+
+/// Prints what is wrong with a G64.
 fn tell_image(rt: &impl Eprint, name: &str, number: u8) -> io::Result<()> {
-    eprintln!(rt; "disk1541: {name} is no image of a disk (fault {number} of its format)")
+    let text = flaw(number);
+    eprintln!(rt;
+        "disk1541: {name} is a G64 that can't be used: {text} (fault {number} of its format)"
+    )
+}
+
+/// What a file is that is no image of a 1541's disk, and what to do.
+fn told(foreign: Foreign) -> &'static str {
+    match foreign {
+        Foreign::T64 => "a T64, with files of a tape",
+        Foreign::P64 => "a P64, with the pulses of a disk: make a G64 of it",
+        Foreign::Nib => "a NIB, with the bytes of tracks: make a G64 of it",
+        Foreign::Gzip => "packed by gzip: unpack it first",
+        Foreign::D71 => "a D71, the disk of a 1571",
+        Foreign::D81 => "a D81, the disk of a 1581",
+        Foreign::Longest => "a D64 of 42 tracks: 35 and 40 are taken",
+        Foreign::LongWithErrors => "a D64 of 40 tracks with error bytes: with them 35 are taken",
+        Foreign::Short => "shorter than any image of a disk: it was cut off, or is none",
+        Foreign::Unknown => "no image of a disk: no G64, nor of a D64's size",
+    }
+}
+
+/// Prints what a file is that is no image of a 1541's disk.
+pub fn tell_foreign(rt: &impl Eprint, name: &str, foreign: Foreign, size: usize) -> io::Result<()> {
+    let text = told(foreign);
+    eprintln!(rt; "disk1541: {name} is {text} ({size} bytes)")
 }
 
 /// Prints why a disk refused a command.

@@ -34,7 +34,7 @@ use crate::arguments::given;
 use crate::commands::{Verb, verb_of};
 use crate::failure::Failure;
 use crate::progress::Progress;
-use crate::reading::{blank, conversion, directory, host_file, one_file, pair, place};
+use crate::reading::{blank, charset, conversion, directory, host_file, one_file, pair, place};
 use clap::ArgMatches;
 use std::rt::Runtime;
 
@@ -46,19 +46,20 @@ fn perform<'a, R: Runtime + AllocGlobal>(
     progress: Progress,
 ) -> Result<(), Failure<'a>> {
     let image = given(words, "IMAGE");
+    let charset = charset(words)?;
     match verb {
-        Verb::List => show(rt, image, directory(words)),
-        Verb::Get => get(rt, image, &one_file(words)),
+        Verb::List => show(rt, image, directory(words, charset)),
+        Verb::Get => get(rt, image, &one_file(words, charset)),
         Verb::GetAll => get_all(rt, image, place(words), progress),
-        Verb::Info => show(rt, image, View::Facts),
+        Verb::Info => show(rt, image, View::Facts(charset)),
         Verb::Map => show(rt, image, View::Sectors),
         Verb::Check => check(rt, image),
-        Verb::New => make(rt, image, &blank(words)),
+        Verb::New => make(rt, image, &blank(words, charset)),
         Verb::Convert => convert(rt, image, &conversion(words)),
-        Verb::Put => put(rt, image, &host_file(words)),
-        Verb::Copy => rename(rt, image, b"C0:", &pair(words)),
-        Verb::Rename => rename(rt, image, b"R0:", &pair(words)),
-        Verb::Delete => save_edit(rt, image, &Edit::Delete(given(words, "PATTERN"))),
+        Verb::Put => put(rt, image, &host_file(words, charset)),
+        Verb::Copy => rename(rt, image, b"C0:", &pair(words, charset)),
+        Verb::Rename => rename(rt, image, b"R0:", &pair(words, charset)),
+        Verb::Delete => save_edit(rt, image, &Edit::Delete(given(words, "PATTERN"), charset)),
         Verb::Validate => save_edit(rt, image, &Edit::Validate),
     }
 }

@@ -4,8 +4,10 @@ use std::io;
 /// Why a word of the command line is refused.
 #[derive(Clone, Copy)]
 pub enum WordFault<'a> {
-    /// A name has a character that no disk has.
+    /// A name has a character that no key of a C64 types, or a number that isn't whole.
     Name(&'a str),
+    /// A file's name has more than sixteen characters.
+    LongName(&'a str),
     /// A name has one of `,` `=` `:` `"`, which divide the words of the drive's commands.
     Divided(&'a str),
     /// A file from standard input has no name.
@@ -22,6 +24,8 @@ pub enum WordFault<'a> {
     Tracks(&'a str),
     /// A G64 has 35 tracks.
     LongG64,
+    /// A C64 has no such character set.
+    Charset(&'a str),
     /// No image has such a format, or the name doesn't tell it.
     Format(&'a str),
     /// The image has that format already.
@@ -32,7 +36,14 @@ impl<'a> WordFault<'a> {
     /// The sentence: its start, the word, its end.
     fn sentence(self) -> (&'static str, &'a str, &'static str) {
         match self {
-            WordFault::Name(name) => ("a name on a disk can't have a character of ", name, ""),
+            WordFault::Name(name) => {
+                (
+                    "no key of a C64 types a character of ",
+                    name,
+                    ": any byte is typed as {hh}, two hexadecimal digits",
+                )
+            }
+            WordFault::LongName(name) => ("a file's name has at most 16 characters: ", name, ""),
             WordFault::Divided(name) => {
                 (
                     "a name can't have `,` `=` `:` or a quotation mark: ",
@@ -46,6 +57,7 @@ impl<'a> WordFault<'a> {
             WordFault::Title(title) => ("a title has at most 16 characters: ", title, ""),
             WordFault::Id(id) => ("an id has two characters: ", id, ""),
             WordFault::Tracks(tracks) => ("a disk has 35 or 40 tracks, not ", tracks, ""),
+            WordFault::Charset(word) => ("", word, " is no character set: take upper or lower"),
             WordFault::LongG64 => ("a G64 has 35 tracks here, not 40", "", ""),
             WordFault::SameFormat(name) => ("", name, " has that format already"),
             WordFault::Format(word) => {

@@ -71,6 +71,15 @@ pub const SHOWN: Word = Word {
     ..NEEDED
 };
 
+/// The character set of names.
+pub const CHARSET: Word = Word {
+    name: "charset",
+    help: "names as a C64 shows them: upper, as at power up, or lower",
+    value: &["SET"],
+    default: &["upper"],
+    ..OPTION
+};
+
 /// LIST as the drive sends it.
 pub const RAW: Word = Word {
     name: "raw",

@@ -15,11 +15,12 @@ use cbm_volume::{Entry, Volume};
 use itoa::Buffer;
 use std::alloc::{AllocError, Global};
 
-/// The sectors of the picture's first lines, and what its signs mean.
-const HEAD: &[u8] = b"track  sector 0 to 20\n";
+/// The numbers of the sectors, over the picture's lines.
+const HEAD: &[u8] = b"sector 0         1         2\ntrack  012345678901234567890\n";
 
+/// What the picture's signs mean.
 const LEGEND: &[u8] =
-    b". free   # used   ? lost: no file uses it, but it isn't free   ! used, but marked free   x can't be read\n";
+    b". free   # used   x can't be read\n? lost: no file uses it, but it isn't free   ! used, but marked free\n";
 
 /// What a sector is.
 #[derive(Clone, Copy, Debug, PartialEq, Eq)]
@@ -243,7 +244,7 @@ fn add_tracks<M: Medium>(
     Ok(())
 }
 
-/// A line for each track that the disk uses, with a sign for each sector, between a heading and what the signs mean.
+/// A line for each track that the disk uses, with a sign for each sector, between the sectors' numbers and what the signs mean.
 /// Where the directory can't be followed to its end, no file's sectors are used. The one error is `Memory`.
 pub fn picture_of<M: Medium + Drop>(alloc: Global, medium: M) -> Result<Vec<u8>, ShellFault>
     ensures { let now = M.seen medium in

@@ -1,6 +1,6 @@
 //! CHECK: whether the disk is sound.
 use crate::failure::{Failure, in_memory, on_disk};
-use crate::host::{print, read};
+use crate::host::{print, read_image};
 use cbm_volume::Unsound;
 use std::rt::Runtime;
 
@@ -22,7 +22,7 @@ fn checked<'a, R: Runtime + AllocGlobal>(
     rt: &R,
     image: &'a str,
 ) -> Result<Result<(), Unsound>, Failure<'a>> {
-    let bytes = read(rt, image)?;
+    let bytes = read_image(rt, image)?;
     on_disk(image, cbm_shell::check(rt.alloc(), bytes.as_slice()))
 }
 

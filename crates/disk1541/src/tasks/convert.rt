@@ -2,7 +2,7 @@
 use super::losses::tell_lost;
 use crate::failure::{Failure, on_disk};
 use crate::formats::format;
-use crate::host::{read, require_new, write};
+use crate::host::{read_image, require_new, write};
 use crate::word_fault::WordFault;
 use cbm_program::{Kind, kind_of};
 use cbm_shell::Converted;
@@ -65,6 +65,6 @@ pub fn convert<'a, R: Runtime + AllocGlobal>(
     wanted: &Conversion<'a>,
 ) -> Result<(), Failure<'a>> {
     let kind = format(wanted.output, wanted.format)?;
-    let bytes = read(rt, image)?;
+    let bytes = read_image(rt, image)?;
     convert_bytes(rt, image, bytes.as_slice(), wanted, kind)
 }

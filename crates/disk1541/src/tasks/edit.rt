@@ -1,8 +1,8 @@
 //! Changes of an image; DELETE and VALIDATE.
 use crate::failure::{Failure, on_disk};
-use crate::host::{joined, read, write};
+use crate::host::{joined, read_image, write};
 use crate::names::petscii;
-use cbm_shell::Change;
+use cbm_shell::{Change, Charset};
 use host_files::Sync;
 use std::alloc::Global;
 use std::rt::Runtime;
@@ -13,15 +13,15 @@ pub enum Edit<'a, 'c> {
     /// A change by the drive's own commands.
     Change(Change<'c>),
     /// The files that match a pattern are deleted.
-    Delete(&'a str),
+    Delete(&'a str, Charset),
     /// The disk is put in order.
     Validate,
 }
 
-/// The drive's command that deletes the files of a pattern.
-fn text_of<'a>(alloc: Global, pattern: &'a str) -> Result<Vec<u8>, Failure<'a>> {
-    let codes = petscii(alloc, pattern)?;
-    joined(alloc, &[b"S0:", codes.as_slice()])
+/// The drive's command that deletes the files of a pattern, with its return, as a name may end with one.
+fn text_of<'a>(alloc: Global, charset: Charset, pattern: &'a str) -> Result<Vec<u8>, Failure<'a>> {
+    let codes = petscii(alloc, charset, pattern)?;
+    joined(alloc, &[b"S0:", codes.as_slice(), b"\r"])
 }
 
 /// The image without the files that match. Where none does, or those are locked, the drive changes nothing; that is
@@ -30,9 +30,10 @@ fn deleted<'a>(
     alloc: Global,
     image: &'a str,
     bytes: &[u8],
+    charset: Charset,
     pattern: &'a str,
 ) -> Result<Vec<u8>, Failure<'a>> {
-    let text = text_of(alloc, pattern)?;
+    let text = text_of(alloc, charset, pattern)?;
     let change = Change::Command(text.as_slice());
     let changed = on_disk(image, cbm_shell::change(alloc, bytes, &change))?;
     if changed.as_slice() == bytes {
@@ -50,7 +51,7 @@ fn edited<'a>(
 ) -> Result<Vec<u8>, Failure<'a>> {
     match edit {
         Edit::Change(change) => on_disk(image, cbm_shell::change(alloc, bytes, change)),
-        Edit::Delete(pattern) => deleted(alloc, image, bytes, *pattern),
+        Edit::Delete(pattern, charset) => deleted(alloc, image, bytes, *charset, *pattern),
         Edit::Validate => on_disk(image, cbm_shell::validate(alloc, bytes)),
     }
 }
@@ -61,7 +62,7 @@ fn edited_image<'a, R: Runtime + AllocGlobal>(
     image: &'a str,
     edit: &Edit<'a, '_>,
 ) -> Result<Vec<u8>, Failure<'a>> {
-    let bytes = read(rt, image)?;
+    let bytes = read_image(rt, image)?;
     edited(rt.alloc(), image, bytes.as_slice(), edit)
 }
 

@@ -1,7 +1,8 @@
 //! GET: a file out of the image, to a file of the host or to standard output.
 use crate::failure::{Failure, on_disk};
-use crate::host::{read, require_new, write};
+use crate::host::{read_image, require_new, write};
 use crate::names::petscii;
+use cbm_shell::Charset;
 use host_files::Sync;
 use std::alloc::Global;
 use std::rt::Runtime;
@@ -15,12 +16,17 @@ pub struct OneFile<'a> {
     pub output: &'a str,
     /// A file that is there is replaced.
     pub replaces: bool,
+    /// The character set of its name.
+    pub charset: Charset,
 }
 
 /// The bytes of the first file that a name means.
-fn file_of<'a>(alloc: Global, image: &[u8], name: &'a str) -> Result<Vec<u8>, Failure<'a>> {
-    let pattern = petscii(alloc, name)?;
-    on_disk(name, cbm_shell::file(alloc, image, pattern.as_slice()))
+fn file_of<'a>(alloc: Global, image: &[u8], taken: &OneFile<'a>) -> Result<Vec<u8>, Failure<'a>> {
+    let pattern = petscii(alloc, taken.charset, taken.name)?;
+    on_disk(
+        taken.name,
+        cbm_shell::file(alloc, image, pattern.as_slice()),
+    )
 }
 
 /// Takes a file out. One of the host that is there is kept, unless it is to be replaced.
@@ -29,7 +35,7 @@ fn take_out<'a, R: Runtime + AllocGlobal>(
     image: &[u8],
     taken: &OneFile<'a>,
 ) -> Result<(), Failure<'a>> {
-    let file = file_of(rt.alloc(), image, taken.name)?;
+    let file = file_of(rt.alloc(), image, taken)?;
     require_new(rt, taken.output, taken.replaces)?;
     write(rt, taken.output, file.as_slice(), Sync::Later)
 }
@@ -40,6 +46,6 @@ pub fn get<'a, R: Runtime + AllocGlobal>(
     image: &'a str,
     taken: &OneFile<'a>,
 ) -> Result<(), Failure<'a>> {
-    let bytes = read(rt, image)?;
+    let bytes = read_image(rt, image)?;
     take_out(rt, bytes.as_slice(), taken)
 }

@@ -2,7 +2,7 @@
 use super::info::count_files;
 use super::taking::{Names, Place, take};
 use crate::failure::{Failure, on_disk};
-use crate::host::read;
+use crate::host::read_image;
 use crate::progress::Progress;
 use cbm_shell::OpenDisk;
 use cbm_volume::Entry;
@@ -81,6 +81,6 @@ pub fn get_all<'a, R: Runtime + AllocGlobal>(
     place: Place<'a>,
     progress: Progress,
 ) -> Result<(), Failure<'a>> {
-    let bytes = read(rt, image)?;
+    let bytes = read_image(rt, image)?;
     take_image(rt, image, bytes.as_slice(), place, progress)
 }

@@ -1,7 +1,7 @@
 //! INFO: what the disk is.
-use crate::names::shown;
+use crate::names::unfilled;
 use cbm_program::{Kind, kind_of};
-use cbm_shell::{Info, ShellFault};
+use cbm_shell::{Charset, Info, ShellFault, name_text};
 use cbm_volume::{Entry, Unsound};
 use std::alloc::{AllocError, Global};
 
@@ -35,29 +35,34 @@ fn add_line(text: &mut String, name: &str, value: &str) -> Result<(), AllocError
     text.push('\n')
 }
 
-/// The line of the title.
-fn add_title(alloc: Global, text: &mut String, title: &[u8]) -> Result<(), AllocError> {
-    let title = shown(alloc, title)?;
-    let title = title.as_str().trim_end_matches('\u{a0}');
-    add_line(text, "title        ", title)
-}
-
 /// A line of what codes show.
-fn add_shown(alloc: Global, text: &mut String, name: &str, codes: &[u8]) -> Result<(), AllocError> {
-    let codes = shown(alloc, codes)?;
+fn add_shown(
+    alloc: Global,
+    text: &mut String,
+    charset: Charset,
+    name: &str,
+    codes: &[u8],
+) -> Result<(), AllocError> {
+    let codes = name_text(alloc, charset, codes)?;
     add_line(text, name, codes.as_str())
 }
 
 /// The lines of the title, the id and the free blocks.
-fn add_label(alloc: Global, text: &mut String, info: &Info) -> Result<(), AllocError> {
+fn add_label(
+    alloc: Global,
+    text: &mut String,
+    charset: Charset,
+    info: &Info,
+) -> Result<(), AllocError> {
     let Some(label) = info.label else {
         return text.push_str("title        unknown: track 18, sector 0 can't be read\n");
     };
     let [first, second, _, dos, version] = label.mark;
     let free = info.free.unwrap_or(0);
-    add_title(alloc, text, label.title.as_slice())?;
-    add_shown(alloc, text, "id           ", &[first, second])?;
-    add_shown(alloc, text, "DOS          ", &[dos, version])?;
+    let title = unfilled(label.title.as_slice());
+    add_shown(alloc, text, charset, "title        ", title)?;
+    add_shown(alloc, text, charset, "id           ", &[first, second])?;
+    add_shown(alloc, text, charset, "DOS          ", &[dos, version])?;
     text.push_str(format!(in alloc; "blocks free  {free}\n")?.as_str())
 }
 
@@ -102,19 +107,20 @@ fn add_faults(alloc: Global, text: &mut String, info: &Info) -> Result<(), Alloc
 fn add_lines(
     alloc: Global,
     text: &mut String,
+    charset: Charset,
     info: &Info,
     image: &[u8],
 ) -> Result<(), AllocError> {
     add_format(alloc, text, image, info.tracks)?;
-    add_label(alloc, text, info)?;
+    add_label(alloc, text, charset, info)?;
     add_files(alloc, text, image)?;
     add_faults(alloc, text, info)
 }
 
 /// What the disk is, as lines.
-pub fn lines_of(alloc: Global, image: &[u8]) -> Result<Vec<u8>, ShellFault> {
+pub fn lines_of(alloc: Global, charset: Charset, image: &[u8]) -> Result<Vec<u8>, ShellFault> {
     let info = cbm_shell::info(alloc, image)?;
     let mut text = String::new(alloc);
-    add_lines(alloc, &mut text, &info, image)?;
+    add_lines(alloc, &mut text, charset, &info, image)?;
     Ok(text.into_bytes())
 }

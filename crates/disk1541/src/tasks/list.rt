@@ -2,7 +2,7 @@
 use crate::failure::{Failure, on_disk};
 use crate::json::listing;
 use crate::names::petscii;
-use cbm_shell::ShellFault;
+use cbm_shell::{Charset, ShellFault};
 use std::alloc::Global;
 
 /// How the directory is shown.
@@ -17,23 +17,29 @@ pub enum Style {
 }
 
 /// The entries of the directory that a pattern means, as JSON.
-fn as_json(alloc: Global, image: &[u8], pattern: &[u8]) -> Result<Vec<u8>, ShellFault> {
+fn as_json(
+    alloc: Global,
+    image: &[u8],
+    charset: Charset,
+    pattern: &[u8],
+) -> Result<Vec<u8>, ShellFault> {
     let info = cbm_shell::info(alloc, image)?;
     let entries = cbm_shell::entries(alloc, image)?;
-    Ok(listing(alloc, &info, entries.as_slice(), pattern)?.into_bytes())
+    Ok(listing(alloc, charset, &info, entries.as_slice(), pattern)?.into_bytes())
 }
 
 /// The directory in a style.
 fn listed(
     alloc: Global,
     image: &[u8],
+    charset: Charset,
     pattern: &[u8],
     style: Style,
 ) -> Result<Vec<u8>, ShellFault> {
     match style {
-        Style::Lines => cbm_shell::directory(alloc, image, pattern),
+        Style::Lines => cbm_shell::directory(alloc, image, charset, pattern),
         Style::Raw => cbm_shell::raw_directory(alloc, image, pattern),
-        Style::Json => as_json(alloc, image, pattern),
+        Style::Json => as_json(alloc, image, charset, pattern),
     }
 }
 
@@ -42,9 +48,13 @@ pub fn list<'a>(
     alloc: Global,
     image: &'a str,
     bytes: &[u8],
+    charset: Charset,
     pattern: &'a str,
     style: Style,
 ) -> Result<Vec<u8>, Failure<'a>> {
-    let pattern = petscii(alloc, pattern)?;
-    on_disk(image, listed(alloc, bytes, pattern.as_slice(), style))
+    let pattern = petscii(alloc, charset, pattern)?;
+    on_disk(
+        image,
+        listed(alloc, bytes, charset, pattern.as_slice(), style),
+    )
 }

@@ -6,7 +6,7 @@ use crate::formats::{form, format};
 use crate::host::{require_new, write};
 use crate::names::petscii;
 use crate::word_fault::WordFault;
-use cbm_shell::{Form, new_image};
+use cbm_shell::{Charset, Form, new_image};
 use host_files::Sync;
 use std::alloc::Global;
 use std::rt::Runtime;
@@ -27,13 +27,15 @@ pub struct Blank<'a> {
     pub format: Option<&'a str>,
     /// An image that is there is replaced.
     pub replaces: bool,
+    /// The character set of its title and its id.
+    pub charset: Charset,
 }
 
 /// The codes of a title.
-fn title_of<'a>(alloc: Global, title: &'a str) -> Result<Vec<u8>, Failure<'a>>
+fn title_of<'a>(alloc: Global, charset: Charset, title: &'a str) -> Result<Vec<u8>, Failure<'a>>
     ensures { IfOk result (λ v. length v.items ≤ 16) }
 {
-    let codes = petscii(alloc, title)?;
+    let codes = petscii(alloc, charset, title)?;
     if codes.len() > LONGEST {
         return Err(Failure::Word(WordFault::Title(title)));
     }
@@ -41,8 +43,8 @@ fn title_of<'a>(alloc: Global, title: &'a str) -> Result<Vec<u8>, Failure<'a>>
 }
 
 /// The two codes of an id.
-fn id_of<'a>(alloc: Global, id: &'a str) -> Result<[u8; 2], Failure<'a>> {
-    match petscii(alloc, id)?.as_slice() {
+fn id_of<'a>(alloc: Global, charset: Charset, id: &'a str) -> Result<[u8; 2], Failure<'a>> {
+    match petscii(alloc, charset, id)?.as_slice() {
         [first, second] => Ok([*first, *second]),
         _ => Err(Failure::Word(WordFault::Id(id))),
     }
@@ -58,7 +60,7 @@ fn make_titled<'a, R: Runtime + AllocGlobal>(
 ) -> Result<(), Failure<'a>>
     requires { length title.now ≤ 16 }
 {
-    let id = id_of(rt.alloc(), blank.id)?;
+    let id = id_of(rt.alloc(), blank.charset, blank.id)?;
     require_new(rt, image, blank.replaces)?;
     let bytes = in_memory(new_image(rt.alloc(), form, title, id))?;
     write(rt, image, bytes.as_slice(), Sync::Before)
@@ -72,6 +74,6 @@ pub fn make<'a, R: Runtime + AllocGlobal>(
 ) -> Result<(), Failure<'a>> {
     let kind = format(image, blank.format)?;
     let form = form(kind, blank.tracks)?;
-    let title = title_of(rt.alloc(), blank.title)?;
+    let title = title_of(rt.alloc(), blank.charset, blank.title)?;
     make_titled(rt, image, blank, form, title.as_slice())
 }

@@ -1,10 +1,10 @@
 //! PUT: a file of the host into the image.
 use super::edit::{Edit, save_edit};
 use crate::failure::Failure;
-use crate::host::{is_standard, joined, read};
+use crate::host::{is_standard, joined, read_file};
 use crate::names::{file_name, name_of_file};
 use crate::word_fault::WordFault;
-use cbm_shell::Change;
+use cbm_shell::{Change, Charset};
 use std::alloc::Global;
 use std::rt::Runtime;
 
@@ -22,6 +22,8 @@ pub struct HostFile<'a> {
     pub kind: &'a str,
     /// A file of the disk that has the name is replaced.
     pub replaces: bool,
+    /// The character set of its name.
+    pub charset: Charset,
 }
 
 /// The end of the text of an OPEN for a type.
@@ -37,8 +39,8 @@ fn end_of(kind: &str) -> Result<&'static [u8], Failure<'_>> {
 /// The file's name on the disk.
 fn name_of<'a>(alloc: Global, put: &HostFile<'a>) -> Result<Vec<u8>, Failure<'a>> {
     match put.name {
-        Some(name) => file_name(alloc, name),
-        None => name_of_file(alloc, put.file),
+        Some(name) => file_name(alloc, put.charset, name),
+        None => name_of_file(alloc, put.charset, put.file),
     }
 }
 
@@ -64,7 +66,7 @@ fn put_by<'a, R: Runtime + AllocGlobal>(
     file: &'a str,
     text: &[u8],
 ) -> Result<(), Failure<'a>> {
-    let bytes = read(rt, file)?;
+    let bytes = read_file(rt, file)?;
     save_edit(
         rt,
         image,

@@ -2,7 +2,8 @@
 use super::info::lines_of;
 use super::list::{Style, list};
 use crate::failure::{Failure, on_disk};
-use crate::host::{print, read};
+use crate::host::{print, read_image};
+use cbm_shell::Charset;
 use std::alloc::Global;
 use std::rt::Runtime;
 
@@ -10,9 +11,9 @@ use std::rt::Runtime;
 #[derive(Clone, Copy)]
 pub enum View<'a> {
     /// The files of the directory that a pattern means.
-    Directory(&'a str, Style),
+    Directory(&'a str, Style, Charset),
     /// What the disk is.
-    Facts,
+    Facts(Charset),
     /// A picture of its sectors.
     Sectors,
 }
@@ -25,8 +26,10 @@ fn shown<'a>(
     view: View<'a>,
 ) -> Result<Vec<u8>, Failure<'a>> {
     match view {
-        View::Directory(pattern, style) => list(alloc, image, bytes, pattern, style),
-        View::Facts => on_disk(image, lines_of(alloc, bytes)),
+        View::Directory(pattern, style, charset) => {
+            list(alloc, image, bytes, charset, pattern, style)
+        }
+        View::Facts(charset) => on_disk(image, lines_of(alloc, charset, bytes)),
         View::Sectors => on_disk(image, cbm_shell::picture(alloc, bytes)),
     }
 }
@@ -37,7 +40,7 @@ fn shown_image<'a, R: Runtime + AllocGlobal>(
     image: &'a str,
     view: View<'a>,
 ) -> Result<Vec<u8>, Failure<'a>> {
-    let bytes = read(rt, image)?;
+    let bytes = read_image(rt, image)?;
     shown(rt.alloc(), image, bytes.as_slice(), view)
 }
 

@@ -1,7 +1,7 @@
 //! Files that are taken out of an image into a folder.
 use crate::host::{exists, write};
-use crate::names::{host_name, shown, type_of};
-use cbm_shell::{OpenDisk, ShellFault};
+use crate::names::{host_name, type_of};
+use cbm_shell::{Charset, OpenDisk, ShellFault, name_text};
 use cbm_volume::Entry;
 use host_files::Sync;
 use std::alloc::{AllocError, Global};
@@ -128,7 +128,7 @@ fn take_to<R: Runtime + AllocGlobal>(
     path: &PathBuf,
     replaces: bool,
 ) -> Result<bool, AllocError> {
-    let name = shown(rt.alloc(), entry.name())?;
+    let name = name_text(rt.alloc(), Charset::Upper, entry.name())?;
     match bytes_of(rt.alloc(), disk, entry) {
         Ok(bytes) => Ok(save_as(
             rt,

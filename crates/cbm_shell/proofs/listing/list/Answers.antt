@@ -11,4 +11,4 @@ returns-in_err-bytes g c = λ m s.
 pub returns : goal.returns
 returns g c = λ m s.
     let told = c.in_ok-bytes.ensures m s in
-    record { fine = told.fine; same = c.in_ok-lines.ensures ∙ ap readable (c.as_slice.ensures.value ∙ told.same) }
+    record { fine = told.fine; same = c.in_ok-lines.ensures ∙ ap (readable c.args.charset) (c.as_slice.ensures.value ∙ told.same) }

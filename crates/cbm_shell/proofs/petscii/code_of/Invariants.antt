@@ -1,7 +1,7 @@
-use Rattle.std.specs.Prelude.{ℕ, ◌<◌, ◌≢◌}
-use Rattle.cbm_shell.specs.Petscii.{char_of}
+use Rattle.std.proofs.Common.{◌≡◌, ◌-◌}
+use Rattle.cbm_shell.specs.Petscii.{code_from}
 use Rattle.cbm_shell.proofs.petscii.code_of.Given as goal
 
--- none of the codes so far is shown so
+-- the codes that are left make the whole
 abbrev pub invariant-loop-number : goal.invariant-loop-number
-invariant-loop-number l = (k : ℕ) → k < l.number → char_of k ≢ l.shown
+invariant-loop-number l = code_from l.charset l.key (256 - l.number) l.number ≡ code_from l.charset l.key 256 0
