@@ -3,6 +3,9 @@ use crate::failure::Stream;
 use clap::{Arg, ArgAction, Command, Error, value_parser};
 use std::alloc::Global;
 
+/// The program's version.
+const VERSION: &str = "0.2.0";
+
 /// What the command line asks for.
 #[derive(Drop)]
 pub struct Arguments<'a> {
@@ -58,6 +61,7 @@ fn command<'a>(alloc: Global) -> Result<Command<'a>, Error> {
         .help("the drive's number, 8 to 11");
     let command = Command::new(alloc, "drive1541")
         .about("Runs a script of requests on a disk image")
+        .version(VERSION)
         .arg(file(alloc, "IMAGE", "the disk image"))?
         .arg(file(alloc, "SCRIPT", "the requests, a line each"))?
         .arg(file(alloc, "OUT", "where the image goes"))?

@@ -35,12 +35,14 @@ fn without_words(rt: &HostRuntime, error: &io::Error) -> ExitCode {
     ExitCode::from(1)
 }
 
+// What was asked for, as help or the version is, is no fault.
 fn without_arguments(rt: &HostRuntime, error: &clap::Error) -> ExitCode {
     if error.kind() == ErrorKind::OutOfMemory {
         return without_memory(rt);
     }
     let _ = error.print(rt);
-    ExitCode::from(1)
+    let is_asked = error.exit_code() == 0;
+    ExitCode::from(u8::from(!is_asked))
 }
 
 // Memory ran out before the command line was read.
