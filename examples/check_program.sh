@@ -43,7 +43,9 @@ case_of "a directory as script" 3 "file fault: ." "$drive" hello.d64 . none.d64
 case_of "no folder for OUT" 3 "file fault: no/out.d64" "$drive" hello.d64 hello.script no/out.d64
 case_of "a directory as OUT" 3 "file fault: ." "$drive" hello.d64 hello.script .
 case_of "too few words" 1 "" "$drive" hello.d64
-case_of "help" 1 "" "$drive" --help
+case_of "help" 0 "" "$drive" --help
+case_of "the version" 0 "" "$drive" --version
+is "is told" grep -q "^drive1541 [0-9]*\.[0-9]*\.[0-9]*$" out.txt
 case_of "device 12" 1 "" "$drive" hello.d64 hello.script out.d64 --device 12
 case_of "device 9" 0 "" "$drive" hello.d64 hello.script out.d64 --device 9
 printf 'lines\n0 atn pull\n0 clock pull\nend 30\n' > wires.script
