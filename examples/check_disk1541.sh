@@ -48,13 +48,7 @@ while read -r line; do
     echo "\$ $line"
     (cd how_to && PATH=.:$PATH && eval "$line" 2>&1) || echo "status $?"
 done < commands.txt > told.txt
-# how_to.txt with the numbers over the map, its signs on two lines, and the character set among the words of PUT.
-sed -e 's/^track  sector 0 to 20$/sector 0         1         2\ntrack  012345678901234567890/' \
-    -e "s/^\. free   # used .*/. free   # used   x can't be read\n? lost: no file uses it, but it isn't free   ! used, but marked free/" \
-    -e 's/^      --name <NAME>/&  /; s/^      --type <TYPE>/&  /; s/^  -h, --help         /&  /' \
-    -e 's/^      --replace      replace the file of this name$/      --replace        replace the file of this name\n      --charset <SET>  names as a C64 shows them: upper, as at power up, or lower [default: upper]/' \
-    "$here/how_to.txt" > wanted.txt
-is "the ten how-tos of the document print what they should" cmp told.txt wanted.txt
+is "the ten how-tos of the document print what they should" cmp told.txt "$here/how_to.txt"
 is "and take out, put in and make what they say" test "$(cd how_to && echo *)" = "FOLDER disk1541 empty.d64 game.prg hello.d64 hello.g64 hello.prg"
 
 # each command, its refusals too
@@ -205,91 +199,8 @@ for bad_name in 'A~B' '{4' '{4g}' '{414}' '}'; do
 done
 case_of "a number that divides a command" 1 "" "disk1541: a name can't have \`,\` \`=\` \`:\` or a quotation mark: A{2c}B" "$disk" put names.d64 game.prg --name 'A{2c}B'
 case_of "no such character set" 1 "" "disk1541: both is no character set: take upper or lower" "$disk" list names.d64 --charset both
-# Names of any bytes, on disks that are made here: what list shows of them, and that it is taken back.
-cat > names.py <<'END'
-"""names.py DISK1541 EXAMPLES COMMAND [DISKS]: the names of generated disks as the rule of docs/DISK1541.md says them."""
-import json, os, random, subprocess, sys
-
-sys.path.insert(0, sys.argv[2])
-import generated_disks as disks
-
-SHOWN = disks.SHOWN
-GRAPHICS = {code: SHOWN[code] for code in range(161, 192)}
-UPPER = {code: SHOWN[code] for code in range(32, 96)} | GRAPHICS | {code: SHOWN[code - 96] for code in range(192, 224)}
-LOWER = UPPER | {code: chr(code + 32) for code in range(65, 91)} | {code: chr(code - 128) for code in range(193, 219)}
-LOWER |= {169: "\U0001fb99", 186: "\u2713", 222: "\U0001fb96", 223: "\U0001fb98"}
-KEYS = {"upper": UPPER, "lower": LOWER}
-
-
-def text(name, charset="upper"):
-    return "".join(KEYS[charset].get(code, f"{{{code:02x}}}") for code in name)
-
-
-def line(file):
-    named = " " * (3 - (file.shown > 9) - (file.shown > 99)) + f'"{text(file.name)}"' + " " * (16 - len(file.name))
-    flags = (" " if file.is_closed else "*") + disks.LETTERS[file.kind] + ("<" if file.is_locked else " ")
-    return f"{file.shown} {named}{flags}" + " " * (1 + (file.shown > 9) + (file.shown > 99))
-
-
-def move(tool, files, old_folder, image):
-    wanted = {}
-    for n, (name, file) in enumerate(files):
-        is_said = all(code < 192 and code not in disks.DIVIDES for code in file.name)
-        new = file.name if is_said else f"F{n}".encode()
-        ending = disks.LETTERS[file.kind].lower()
-        tool.run("put", image, os.path.join(old_folder, name), f"--name={text(new)}", "--type", ending)
-        wanted[f"{disks.host_name(new)}.{ending}"] = file.bytes
-    return wanted
-
-
-def any_name(r):
-    return bytes(r.choice([code for code in range(256) if code != 0xA0 and code not in b'*?,=:"']) for _ in range(r.randint(1, 16)))
-
-
-def both_ways(program, seed):
-    """Twelve names of any bytes, in both sets: shown by the rule, and taken back."""
-    r = random.Random(seed)
-    disk = disks.Disk(seed)
-    disk.files = [disks.File(r, name) for name in sorted({any_name(r) for _ in range(12)})]
-    for file in disk.files:
-        file.bytes, file.is_closed, file.is_locked = file.name * 20, True, False
-    disk.taken = {(18, 0)}
-    disk.image[disks.place(18, 0) : disks.place(19, 0)] = bytes(19 * 256)
-    disk.put_directory()
-    disk.put_map()
-    with open("any.d64", "wb") as image:
-        image.write(disk.image)
-    tool = disks.Tool(program, ".")
-    disks.require("list", tool.run("list", "any.d64") == disk.listing(), tool.run("list", "any.d64"))
-    for charset in KEYS:
-        files = json.loads(tool.run("list", "any.d64", "--json", "--charset", charset))["files"]
-        disks.require("JSON", [it["name"] for it in files] == [text(file.name, charset) for file in disk.files])
-        disks.require("bytes", [it["petscii"] for it in files] == [file.name.hex() for file in disk.files])
-    for n, file in enumerate(disk.files):
-        charset = ["upper", "lower"][n % 2]
-        shown = text(file.name, charset)
-        got = subprocess.run([program, "get", "any.d64", "--charset", charset, "--", shown], capture_output=True).stdout
-        disks.require(f"get {shown}", got == file.bytes)
-        tool.run("rename", "any.d64", "--charset", charset, "--", shown, "MOVED")
-        tool.run("copy", "any.d64", "--charset", charset, "--", "MOVED", shown)
-        tool.run("delete", "any.d64", "--charset", charset, "--", "MOVED")
-        tool.run("delete", "any.d64", "--charset", charset, "--", shown)
-        with open("file.bin", "wb") as out:
-            out.write(file.bytes)
-        tool.run("put", "any.d64", "file.bin", "--charset", charset, f"--name={shown}")
-        got = subprocess.run([program, "get", "any.d64", "--charset", charset, "--", shown], capture_output=True).stdout
-        disks.require(f"get {shown} again", got == file.bytes)
-
-
-disks.File.line, disks.move = line, move
-program, command = os.path.realpath(sys.argv[1]), sys.argv[3]
-if command == "disks":
-    sys.argv = [sys.argv[0], program, *sys.argv[4:]]
-    disks.main()
-for seed in range(20):
-    both_ways(program, seed)
-END
-is "names of any bytes, in both sets, taken back" python3 names.py "$disk" "$here" names
+# Names of any bytes, on disks that are made there: what list shows of them, and that it is taken back.
+is "names of any bytes, in both sets, taken back" python3 "$here/generated_names.py" "$disk"
 
 # all files
 "$disk" put there.d64 game.prg --name A/B
@@ -340,7 +251,7 @@ many many.g64
 is "progress on a terminal" python3 "$here/on_terminal.py" "$disk" many.d64
 
 # Generated disks: files of many kinds, names and lengths, which go to a new disk of the other format, byte for byte.
-is "$disks generated disks, their files on new ones" python3 names.py "$disk" "$here" disks "$disks"
+is "$disks generated disks, their files on new ones" python3 "$here/generated_disks.py" "$disk" "$disks"
 
 # Disks that were made by commands: files of many lengths, some of them deleted; all that is left goes to a new disk of the other
 # format.

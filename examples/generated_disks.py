@@ -22,6 +22,12 @@ SHOWN = {code: chr(code) for code in range(32, 91)}
 SHOWN |= {91 + n: shown for n, shown in enumerate(MIDDLE)} | {161 + n: shown for n, shown in enumerate(HIGH)}
 # The shifted letters look as the codes 97 to 122 do.
 SHOWN |= {code: SHOWN[code - 96] for code in range(193, 219)}
+# The characters of the keys, in both sets of a C64; any other code is written by its number.
+GRAPHICS = {code: SHOWN[code] for code in range(161, 192)}
+UPPER = {code: SHOWN[code] for code in range(32, 96)} | GRAPHICS | {code: SHOWN[code - 96] for code in range(192, 224)}
+LOWER = UPPER | {code: chr(code + 32) for code in range(65, 91)} | {code: chr(code - 128) for code in range(193, 219)}
+LOWER |= {169: "\U0001fb99", 186: "\u2713", 222: "\U0001fb96", 223: "\U0001fb98"}
+KEYS = {"upper": UPPER, "lower": LOWER}
 LETTERS = {1: "SEQ", 2: "PRG", 3: "USR"}
 # What no command of the drive can say in a name.
 DIVIDES = b',=:"*?@$#'
@@ -50,6 +56,11 @@ def odd_name(r):
     return bytes(r.choice([*range(193, 219), *b"/%.,=:", *range(65, 91)]) for _ in range(r.randint(1, 16)))
 
 
+def text(name, charset="upper"):
+    """A name as it is shown, and typed."""
+    return "".join(KEYS[charset].get(code, f"{{{code:02x}}}") for code in name)
+
+
 def host_name(name):
     """A name among the host's files, without its ending."""
     out = ""
@@ -73,11 +84,10 @@ class File:
         self.shown = blocks_for(len(self.bytes)) if r.randrange(8) else r.randrange(65536)
 
     def line(self):
-        text = "".join(SHOWN[code] for code in self.name)
         gap = " " * (3 - (self.shown > 9) - (self.shown > 99))
-        named = f'{gap}"{text}"' + " " * (16 - len(self.name))
+        named = f'{gap}"{text(self.name)}"' + " " * (16 - len(self.name))
         flags = (" " if self.is_closed else "*") + LETTERS[self.kind] + ("<" if self.is_locked else " ")
-        return f"{self.shown} " + (named + flags).ljust(27)
+        return f"{self.shown} {named}{flags}" + " " * (1 + (self.shown > 9) + (self.shown > 99))
 
 
 class Disk:
@@ -195,9 +205,8 @@ def move(tool, files, old_folder, image):
     for n, (name, file) in enumerate(files):
         is_said = all(code < 192 and code not in DIVIDES for code in file.name)
         new = file.name if is_said else f"F{n}".encode()
-        text = "".join(SHOWN[code] for code in new)
         ending = LETTERS[file.kind].lower()
-        tool.run("put", image, os.path.join(old_folder, name), f"--name={text}", "--type", ending)
+        tool.run("put", image, os.path.join(old_folder, name), f"--name={text(new)}", "--type", ending)
         wanted[f"{host_name(new)}.{ending}"] = file.bytes
     return wanted
 
