@@ -247,6 +247,21 @@ many() {
 many many.d64
 many many.g64
 
+# Eight programs change one image at once, again and again: no file is lost.
+at_once() {
+    round=1
+    while [ $round -le 25 ]; do
+        "$disk" new at_once.d64 --title ONCE --id 64 --replace
+        for k in 1 2 3 4 5 6 7 8; do
+            "$disk" put at_once.d64 game.prg --name "F$k" &
+        done
+        wait
+        [ "$("$disk" list at_once.d64 | grep -c PRG)" = 8 ] || return 1
+        round=$((round + 1))
+    done
+}
+is "eight files put at once, twenty-five times: each is there" at_once
+
 # What a terminal shows of a command that takes long.
 is "progress on a terminal" python3 "$here/on_terminal.py" "$disk" many.d64
 

@@ -7,6 +7,7 @@ mod failure;
 mod formats;
 mod host;
 mod json;
+mod lock;
 mod names;
 mod program;
 mod progress;

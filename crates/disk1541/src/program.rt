@@ -1,6 +1,7 @@
 //! The program: the words of the command line, the command, the exit status.
 use crate::arguments;
 use crate::failure::Failure;
+use crate::lock::lock;
 use crate::progress::Progress;
 use crate::tasks::carry_out;
 use clap::error::ErrorKind;
@@ -18,7 +19,10 @@ pub fn run_program(rt: &HostRuntime) -> ExitCode {
         Ok(line) => line,
         Err(error) => return without_line(rt, &error),
     };
-    match carry_out(rt, &line, progress) {
+    let others_wait = lock(rt, &line);
+    let answer = carry_out(rt, &line, progress);
+    drop(others_wait);
+    match answer {
         Ok(()) => ExitCode::from(0),
         Err(failure) => ended(rt, failure),
     }

@@ -1,0 +1,43 @@
+//! Commands that change images come one after the other.
+use crate::arguments::given;
+use crate::commands::{Verb, verb_of};
+use clap::ArgMatches;
+use std::fs::File;
+use std::path::Path;
+
+/// Whether a command changes its image.
+fn changes(verb: Verb) -> bool {
+    match verb {
+        Verb::Put | Verb::Copy | Verb::Rename | Verb::Delete | Verb::Validate => true,
+        Verb::List | Verb::Get | Verb::GetAll | Verb::Info | Verb::Map | Verb::Check => false,
+        Verb::New | Verb::Convert => false,
+    }
+}
+
+/// The image that the command line changes.
+fn changed_image<'a>(line: &ArgMatches<'a>) -> Option<&'a str> {
+    let (name, words) = line.subcommand()?;
+    if changes(verb_of(name)?) {
+        return Some(given(words, "IMAGE"));
+    }
+    None
+}
+
+/// The folder in which a file is, as it is named.
+fn folder_of(path: &str) -> &str {
+    let folder = Path::new(path).parent().unwrap_or(Path::new(""));
+    if folder.as_str().is_empty() {
+        return ".";
+    }
+    folder.as_str()
+}
+
+/// Waits until no other disk1541 changes an image in the folder of the one that the command line changes. Others wait until
+/// the answer is dropped, or this program ends in whatever way. None where no image is changed, or where the folder can't be
+/// locked.
+pub fn lock(rt: &HostRuntime, line: &ArgMatches<'_>) -> Option<File> {
+    let image = changed_image(line)?;
+    let folder = File::open(rt, folder_of(image)).ok()?;
+    folder.lock().ok()?;
+    Some(folder)
+}
