@@ -394,6 +394,15 @@ cp "$here/hello.d64" unsound.d64
 printf '\025\377\377\037' | dd of=unsound.d64 bs=1 seek=91460 conv=notrunc 2> /dev/null
 case_of "a disk that isn't sound" 1 "track 17, sector 0: the block is in use, but marked free" "" "$disk" check unsound.d64
 cp unsound.d64 before.d64
+head -c 1000 unsound.d64 > cut.d64
+case_of "several images" 4 "hello.d64: sound
+unsound.d64: track 17, sector 0: the block is in use, but marked free
+hello.d64: sound
+2 sound, 1 not, 2 can't be checked" "disk1541: can't read nothing.d64: entity not found
+disk1541: cut.d64 is shorter than any image of a disk: it was cut off, or is none (1000 bytes)" "$disk" check hello.d64 nothing.d64 unsound.d64 cut.d64 hello.d64
+case_of "several sound images" 0 "hello.d64: sound
+hello.d64: sound
+2 sound, 0 not, 0 can't be checked" "" "$disk" check hello.d64 hello.d64
 case_of "isn't changed" 1 "" any "$disk" put unsound.d64 game.prg
 is "at all" cmp -s unsound.d64 before.d64
 case_of "until it is put in order" 0 "" "" "$disk" validate unsound.d64

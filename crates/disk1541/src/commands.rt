@@ -1,8 +1,8 @@
 //! The commands.
 use crate::words::{
-    CHARSET, DELETED, FILE, FOLDER, FORMAT, ID, IMAGE, JSON, LOSSY, NAME, NAME_ON_DISK, NEW, OLD,
-    OUT, OUTPUT, RAW, REPLACE_FILE, REPLACE_FILES, REPLACE_IMAGE, REPLACE_NAME, SHOWN, TITLE,
-    TRACKS, TYPE, Word,
+    CHARSET, DELETED, FILE, FOLDER, FORMAT, ID, IMAGE, IMAGES, JSON, LOSSY, NAME, NAME_ON_DISK,
+    NEW, OLD, OUT, OUTPUT, RAW, REPLACE_FILE, REPLACE_FILES, REPLACE_IMAGE, REPLACE_NAME, SHOWN,
+    TITLE, TRACKS, TYPE, Word,
 };
 
 /// What a command does.
@@ -84,8 +84,8 @@ const COMMANDS: &[Command] = &[
     Command {
         verb: Verb::Check,
         name: "check",
-        about: "Tells whether the disk is sound",
-        words: &[IMAGE],
+        about: "Tells whether disks are sound",
+        words: &[IMAGES],
     },
     Command {
         verb: Verb::New,

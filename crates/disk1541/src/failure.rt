@@ -29,6 +29,8 @@ pub enum Failure<'a> {
     Lossy(&'a str),
     /// A file of that name is there.
     Exists(&'a str),
+    /// Of several images some aren't sound, or are none, as was told one by one.
+    Several,
     /// What went wrong was told file by file.
     Told,
     /// Memory ran out.
@@ -60,7 +62,8 @@ impl<'a> Failure<'a> {
     ghost use Rattle.std.specs.Prelude.{◌≡◌};
     ghost use Rattle.disk1541.specs.Exits.{exit_status};
 
-    /// The exit status: 1 the disk or a name is at fault, 2 the image is none, 3 this computer's files or memory are.
+    /// The exit status: 1 the disk or a name is at fault, 2 the image is none, 3 this computer's files or memory are,
+    /// 4 of several images some are.
     pub fn status(self) -> u8
         ensures { result ≡ exit_status self.entry }
     {
@@ -68,6 +71,7 @@ impl<'a> Failure<'a> {
             Failure::Foreign(..) | Failure::Disk(_, ShellFault::Image(_)) => 2,
             Failure::Disk(_, ShellFault::Memory) => 3,
             Failure::Read(..) | Failure::TooLong(..) | Failure::Write(..) | Failure::NoMemory => 3,
+            Failure::Several => 4,
             _ => 1,
         }
     }
@@ -85,7 +89,7 @@ impl<'a> Failure<'a> {
             Failure::Foreign(name, foreign, size) => tell_foreign(rt, name, foreign, size),
             Failure::Disk(name, fault) => tell_refusal(rt, name, fault),
             Failure::Word(fault) => fault.tell(rt),
-            Failure::Unsound(_) | Failure::Told => Ok(()),
+            Failure::Unsound(_) | Failure::Several | Failure::Told => Ok(()),
             Failure::NoMemory => eprintln!(rt; "disk1541: memory ran out"),
             Failure::Exists(name) => {
                 eprintln!(rt; "disk1541: {name} is there already: take another name, or --replace")

@@ -53,7 +53,7 @@ fn perform<'a, R: Runtime + AllocGlobal>(
         Verb::GetAll => get_all(rt, image, place(words), progress),
         Verb::Info => show(rt, image, View::Facts(charset)),
         Verb::Map => show(rt, image, View::Sectors),
-        Verb::Check => check(rt, image),
+        Verb::Check => check(rt, words.get_strs("IMAGE").unwrap_or(&[])),
         Verb::New => make(rt, image, &blank(words, charset)),
         Verb::Convert => convert(rt, image, &conversion(words)),
         Verb::Put => put(rt, image, &host_file(words, charset)),

@@ -62,6 +62,14 @@ pub const IMAGE: Word = Word {
     ..NEEDED
 };
 
+/// The images that CHECK looks at.
+pub const IMAGES: Word = Word {
+    name: "IMAGE",
+    help: "the disk images",
+    action: ArgAction::Append,
+    ..NEEDED
+};
+
 /// The files that LIST shows.
 pub const SHOWN: Word = Word {
     name: "PATTERN",
