@@ -2,12 +2,12 @@
 
 use cbm_d64::D64Disk;
 use cbm_g64::G64Disk;
-use cbm_medium::{Address, Medium};
+use cbm_medium::Medium;
 use cbm_program::{Options, run};
 use cbm_volume::Volume;
 use std::alloc::Global;
 use std::test::Fail;
-use test_images::{empty_image, place, put};
+use test_images::{empty_image, put};
 
 /// The G64 image of a D64 image of 35 tracks.
 fn circles_of(alloc: Global, image: &[u8], id: [u8; 2]) -> Result<Vec<u8>, Fail> {
@@ -82,40 +82,16 @@ fn prints(alloc: Global, image: &[u8], script: &str, text: &str) -> bool {
     }
 }
 
-/// Writes a sector of another disk.
-fn copy_sector<M: Medium>(disk: &mut M, from: &[u8], track: u8, sector: u8) -> Result<(), Fail> {
-    let mut held = [0; 256];
-    for (to, byte) in held.iter_mut().zip(from.iter().skip(place(track, sector))) {
-        *to = *byte;
-    }
-    let at = Address::new(track, sector).ok_or("no address")?;
-    if at.track() <= disk.tracks() {
-        disk.write(at, &held).map_err(|_| "refused")?;
-    }
-    Ok(())
-}
-
-/// The image of a disk with a closed program HELLO in 17/0.
-fn hello(alloc: Global) -> Result<Vec<u8>, Fail> {
-    let mut image = empty_image(alloc)?;
-    let entry = place(18, 1);
-    put(&mut image, entry.wrapping_add(2), &[0x82, 17, 0]);
-    put(&mut image, entry.wrapping_add(5), &[0xa0; 16]);
-    put(&mut image, entry.wrapping_add(5), b"HELLO");
-    put(&mut image, entry.wrapping_add(30), &[1]);
-    put(&mut image, place(18, 0).wrapping_add(68), &[20, 0xfe]);
-    put(&mut image, place(17, 0), &[0, 4, 1, 2, 3]);
-    Ok(image)
-}
-
-/// The image with the three sectors written that HELLO changes.
-fn with_hello(alloc: Global, image: &[u8]) -> Result<Vec<u8>, Fail> {
-    let hello = hello(alloc)?;
-    let mut circles = G64Disk::from_bytes(alloc, image, false)?;
-    copy_sector(&mut circles, hello.as_slice(), 17, 0)?;
-    copy_sector(&mut circles, hello.as_slice(), 18, 0)?;
-    copy_sector(&mut circles, hello.as_slice(), 18, 1)?;
-    Ok(circles.to_bytes(alloc)?)
+/// The image behind a script that writes the program HELLO.
+fn with_hello(alloc: Global, image: &[u8]) -> Option<Vec<u8>> {
+    let options = Options {
+        device: 8,
+        protected: false,
+        check: false,
+    };
+    let script = "open 1 HELLO\nput 1 \\01\\02\\03\nclose 1\n";
+    let mut printed: Vec<u8> = Vec::new(alloc);
+    run(alloc, script.as_bytes(), &mut printed, image, &options).ok()
 }
 
 /// Whether two images are the same but on the tracks 17 and 18, and on 17 but for the bytes of one block.
@@ -136,7 +112,7 @@ fn differ_in_a_block(new: &[u8], old: &[u8]) -> bool {
 /// Whether a disk with a turned track takes a file.
 fn takes_a_file(alloc: Global) -> Result<bool, Fail> {
     let image = turned_disk(alloc)?;
-    let written = with_hello(alloc, image.as_slice())?;
+    let written = with_hello(alloc, image.as_slice()).ok_or("refused")?;
     let script = "open 0 HELLO\nget 0 9\n";
     let text = "check sound\nget 0 010203 eoi\n";
     Ok(
