@@ -1,8 +1,9 @@
 #!/usr/bin/env python3
-"""reached.py CRATE FUNCTION [-v]: which definitions a contract reaches, and so must be believed by who relies on it.
+"""reached.py CRATE FUNCTION [LABEL ..] [-v]: which definitions a contract reaches, and so must be believed by who relies on it.
 
 Run at the top of the repository. Prints how many definitions of specs/ the contract of a public function of a crate
-reaches, how many lines they have, crate by crate; with -v each by name. A method may be named TYPE::METHOD or METHOD.
+reaches, or those of its clauses that have these labels, and how many lines they have, crate by crate; with -v each by
+name. A method may be named TYPE::METHOD or METHOD.
 Types of the code (declared structs and enums) aren't counted, nor is the standard library."""
 import os
 import re
@@ -98,8 +99,15 @@ class Specs:
         return seen
 
 
-def contract(top, crate, wanted):
-    """The clauses of a function, and the names that its file brings in for them."""
+def clauses(text, labels):
+    """The clauses of a contract that have these labels."""
+    parts = re.split(r"\n(?=\s*(?:requires|ensures)\b)", text)
+    found = [it for it in parts for label in [re.match(r"\s*(?:requires|ensures)\s+(\w+)\s*\{", it)] if label and label[1] in labels]
+    return "\n".join(found) if len(found) >= len({*labels}) else sys.exit(f"no such clause among: {', '.join(labels)}")
+
+
+def contract(top, crate, wanted, *labels):
+    """The clauses of a function, all or those of these labels, and the names that its file brings in for them."""
     wanted = wanted.split("::")[-1]
     for folder, _, files in os.walk(os.path.join(top, "crates", crate, "src")):
         for file in sorted(files):
@@ -107,19 +115,20 @@ def contract(top, crate, wanted):
             start = re.search(rf"pub fn {wanted}\b", text)
             if start:
                 body = re.search(r"\n\s*\{\s*\n|\n\s*\{\}|;\n", text[start.start():])
-                return text[start.start(): start.start() + body.start()], names_used(text.replace("ghost use", "use"))
+                found = text[start.start(): start.start() + body.start()]
+                return clauses(found, labels) if labels else found, names_used(text.replace("ghost use", "use"))
     sys.exit(f"no public function {wanted} in {crate}")
 
 
 def main():
     words = [word for word in sys.argv[1:] if word != "-v"]
-    if len(words) != 2:
+    if len(words) < 2:
         sys.exit(__doc__)
     specs = Specs(".")
     text, (names, files) = contract(".", *words)
     seen = sorted(specs.reached(specs.named(text, None, names, files)))
     lines = {at: len(specs.files[at[0]][0][at[1]]) for at in seen}
-    print(f"{words[0]} {words[1]}: {len(seen)} definitions, {sum(lines.values())} lines")
+    print(f"{' '.join(words)}: {len(seen)} definitions, {sum(lines.values())} lines")
     for crate in sorted({at[0].split(".")[1] for at in seen}):
         here = [at for at in seen if at[0].split(".")[1] == crate]
         print(f"  {crate}: {len(here)} definitions, {sum(lines[at] for at in here)} lines")

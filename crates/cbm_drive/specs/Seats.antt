@@ -1,7 +1,7 @@
 -- The drives of a bus as the code keeps them, and the stations that they stand for.
 use Rattle.std.specs.Prelude.{ℕ, zero, suc, [], ◌∷◌, Some, None, ◌+◌, ◌≡◌, Bool, true, false, List, map}
 use Rattle.std.specs.List.{AllZip}
-use Rattle.cbm_iec.specs.Ports.{port_due}
+use Rattle.cbm_iec.specs.Ports.{port_due, resting}
 use Rattle.cbm_session.specs.Following.{IsInTime}
 use Rattle.cbm_iec.specs.declared.lines.Held.{Held}
 use Rattle.cbm_iec.specs.declared.lines.Lines.{Lines}
@@ -51,6 +51,11 @@ module _ {D : Type 0} where
   abbrev pub AreInTime : ℕ → List (Seated D) → Type 0
   AreInTime t [] = Unit {0}
   AreInTime t (x ∷ xs) = IsInTime t (port_due x.port) × AreInTime t xs
+
+  -- Each of them is as it was switched on: it has no role, nothing is due, and all lines are free as it last saw them.
+  abbrev pub AreResting : List (Seated D) → Type 0
+  AreResting [] = Unit {0}
+  AreResting (x ∷ xs) = (x.port ≡ resting x.port.party) × AreResting xs
 
   -- The drive at a place is due first: sooner than those listed before it, not later than those behind it.
   abbrev pub IsFirstDue : List (Seated D) → ℕ × ℕ → Type 0

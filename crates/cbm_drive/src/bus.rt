@@ -1,11 +1,11 @@
 //! What the drives on a cable do: they are told changes, and one of them reacts.
 
-ghost use Rattle.std.specs.Prelude.{◌≡◌, ◌+◌, ◌<◌, ◌≤◌, ◌^◌, ℕ, List, [], ◌∷◌, ◌++◌, length, map, IfSome, IsSome, MatchOption};
+ghost use Rattle.std.specs.Prelude.{◌≡◌, ◌↔◌, ◌+◌, ◌<◌, ◌≤◌, ◌^◌, ℕ, true, List, [], ◌∷◌, ◌++◌, length, map, IfSome, IsSome, MatchOption};
 ghost use Rattle.std.specs.List.{AllZip};
 ghost use Rattle.cbm_session.specs.Among.{Rest};
 ghost use Rattle.cbm_session.specs.Following.{lines_after};
 ghost use Rattle.cbm_session.specs.Playing.{Station, tell, told_lines};
-ghost use Rattle.cbm_drive.specs.Seats.{Seated, Meets, IsSeat, IsBusAt, own_of, held_by, numbers, IsFirstDue, AreIdle};
+ghost use Rattle.cbm_drive.specs.Seats.{Seated, Meets, IsSeat, IsBusAt, own_of, held_by, numbers, IsFirstDue, AreIdle, AreResting};
 ghost use Rattle.cbm_drive.specs.Playback.{Shown, Playback, IsPlayedBack, played_says, played_step};
 ghost use Rattle.cbm_drive.specs.Recorded.{IsToldBy};
 ghost use Rattle.cbm_drive.specs.Progress.{AreKept, IsNearer};
@@ -77,6 +77,16 @@ pub(crate) fn first_due<D: Machine>(drives: &[Drive<D>]) -> Option<(usize, u64)>
         first = or_sooner(first, place, drive);
     }
     first
+}
+
+/// Whether each of these drives is as it was switched on.
+pub(crate) fn all_rest<D: Machine>(drives: &[Drive<D>]) -> bool
+    ensures { (result ≡ true) ↔ AreResting drives.now }
+{
+    match drives.split_first() {
+        Some((first, rest)) => first.at_rest() && all_rest(rest),
+        None => true,
+    }
 }
 
 /// As `tell_each`, of drives of which there may be none: a drive alone on the cable has nobody to tell.

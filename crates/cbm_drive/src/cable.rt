@@ -1,6 +1,6 @@
 //! A host and drives on one cable.
 
-use crate::bus::{Answer, first_due, react, tell_all};
+use crate::bus::{Answer, all_rest, first_due, react, tell_all};
 use crate::drive::Drive;
 use crate::fault::{PlayFault, first_fault};
 use crate::half::Half;
@@ -30,14 +30,14 @@ impl<D: Machine, const N: usize> Model for Bus<D, N> {
 }
 
 impl<D: Machine, const N: usize> Bus<D, N> {
-    ghost use Rattle.std.specs.Prelude.{◌≡◌, ◌+◌, ◌^◌, ◌<◌, ◌≤◌, ℕ, List, [], ◌++◌, length, map, IfSome, IsSome, is_some, Some, None, MatchBool, Err, IfErr, OnOk, MatchOption, MatchResult};
+    ghost use Rattle.std.specs.Prelude.{◌≡◌, ◌↔◌, ◌+◌, ◌^◌, ◌<◌, ◌≤◌, true, ℕ, List, [], ◌++◌, length, map, IfSome, IsSome, is_some, Some, None, MatchBool, Err, IfErr, OnOk, MatchOption, MatchResult};
     ghost use Rattle.cbm_iec.specs.declared.party.Party.{Party};
     ghost use Rattle.cbm_session.specs.Handed.{AllReact};
     ghost use Rattle.cbm_session.specs.Playing.{Station, tell, drive_events, at_rest};
     ghost use Rattle.cbm_session.specs.Sessions.{AllUnlike, IsBus};
     ghost use Rattle.cbm_drive.specs.Kept.{HasKept};
     ghost use Rattle.cbm_drive.specs.Silence.{AnyShows, AreSilent};
-    ghost use Rattle.cbm_drive.specs.Seats.{AreIdle, AreInTime, IsBusAt, numbers};
+    ghost use Rattle.cbm_drive.specs.Seats.{AreIdle, AreInTime, AreResting, IsBusAt, numbers};
     ghost use Rattle.cbm_drive.specs.Cables.{all_free, IsDueFirst};
     ghost use Rattle.cbm_drive.specs.Halves.{half_alone, SaysHalfAlone};
     ghost use Rattle.cbm_drive.specs.Ordered.{fault_of};
@@ -70,6 +70,20 @@ impl<D: Machine, const N: usize> Bus<D, N> {
     {
         let Bus { drives, .. } = self;
         drives
+    }
+
+    /// Whether all rests, as when it was switched on: the host holds no line, and no drive has a role, a reaction that is due, or
+    /// another's line that it last saw pulled.
+    pub fn at_rest(&self) -> bool
+        ensures { (result ≡ true) ↔ ((self.now.host ≡ all_free) × AreResting self.now.drives) }
+    {
+        let Lines {
+            atn_low,
+            clock_low,
+            data_low,
+        } = self.host;
+        let is_free = !atn_low && !clock_low && !data_low;
+        is_free && all_rest(self.drives.as_slice())
     }
 
     /// When the next reaction is due, in microseconds.

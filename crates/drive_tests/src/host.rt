@@ -6,10 +6,36 @@ use cbm_drive::{Change, Line, Way};
 use std::alloc::Global;
 use std::process::Abort;
 
+/// How long a host waits, in microseconds.
+#[derive(Clone, Copy, Drop)]
+struct Waits {
+    /// From CLOCK's release for a byte to its first bit.
+    start: u64,
+    /// From its own change to DATA's release for a talker's byte, which the talker has offered by then.
+    offer: u64,
+    /// From there to the byte's accept.
+    byte: u64,
+}
+
+/// Long enough for drives that react in 20.
+const USUAL: Waits = Waits {
+    start: 40,
+    offer: 120,
+    byte: 1030,
+};
+
+/// Long enough for drives that react in 60, and not too long for those that react in 1.
+const PATIENT: Waits = Waits {
+    start: 100,
+    offer: 200,
+    byte: 1100,
+};
+
 /// What a host changes, one after the other. One that is out of step leaves out or delays some of its changes, by chance.
 #[derive(Drop)]
 pub struct Host {
     changes: Vec<Change>,
+    waits: Waits,
     now: u64,
     seed: u32,
     often: Option<u32>,
@@ -17,11 +43,21 @@ pub struct Host {
 }
 
 impl Host {
-    /// One that keeps the timing.
+    /// One that keeps the timing of drives that react in 20.
     pub fn new(alloc: Global) -> Host {
+        Host::with(alloc, USUAL)
+    }
+
+    /// One that keeps the timing of every drive.
+    pub fn patient(alloc: Global) -> Host {
+        Host::with(alloc, PATIENT)
+    }
+
+    fn with(alloc: Global, waits: Waits) -> Host {
         let changes = Vec::new(alloc);
         Host {
             changes,
+            waits,
             now: 0,
             seed: 0,
             often: None,
@@ -31,14 +67,10 @@ impl Host {
 
     /// One that is out of step, the oftener the greater the number, which is below 1024.
     pub fn out_of_step(alloc: Global, seed: u32, often: u32) -> Host {
-        let changes = Vec::new(alloc);
-        Host {
-            changes,
-            now: 0,
-            seed,
-            often: Some(often),
-            is_short: false,
-        }
+        let mut host = Host::new(alloc);
+        host.seed = seed;
+        host.often = Some(often);
+        host
     }
 
     /// A number below 32, by chance.
@@ -101,11 +133,11 @@ impl Host {
         self.frames(bytes);
     }
 
-    /// Bytes, each of them ready after 200 and begun 40 later.
+    /// Bytes, each of them ready after 200 and begun 40 later, or later for slow drives.
     fn frames(&mut self, bytes: &[u8]) {
         for byte in bytes {
             self.after(200, Clock, Free);
-            self.after(40, Clock, Pull);
+            self.after(self.waits.start, Clock, Pull);
             self.bits(*byte);
         }
     }
@@ -141,7 +173,12 @@ impl Host {
 
     /// TALK to drive 8 on channel 15, and the turnaround.
     pub fn talk(&mut self, wait: u64) {
-        self.attention(wait, &[0x48, 0x6f]);
+        self.talk_to(wait, 8, 0x6f);
+    }
+
+    /// TALK to a drive with a secondary address, and the turnaround.
+    pub fn talk_to(&mut self, wait: u64, device: u8, secondary: u8) {
+        self.attention(wait, &[0x40 | device, secondary]);
         self.after(100, Data, Pull);
         self.after(0, Atn, Free);
         self.after(20, Clock, Free);
@@ -150,12 +187,12 @@ impl Host {
     /// So many bytes are taken, the last of them with EOI.
     pub fn take(&mut self, bytes: usize) {
         for place in 1..=bytes {
-            self.after(120, Data, Free);
+            self.after(self.waits.offer, Data, Free);
             if place == bytes {
                 self.after(200, Data, Pull);
                 self.after(60, Data, Free);
             }
-            self.after(1030, Data, Pull);
+            self.after(self.waits.byte, Data, Pull);
         }
     }
 
@@ -168,7 +205,12 @@ impl Host {
 
     /// LISTEN to drive 8 with a secondary address, bytes, and UNLISTEN.
     pub fn send(&mut self, secondary: u8, bytes: &[u8]) {
-        self.attention(200, &[0x28, secondary]);
+        self.send_to(8, secondary, bytes);
+    }
+
+    /// LISTEN to a drive with a secondary address, bytes, and UNLISTEN.
+    pub fn send_to(&mut self, device: u8, secondary: u8, bytes: &[u8]) {
+        self.attention(200, &[0x20 | device, secondary]);
         self.after(100, Atn, Free);
         self.frames(bytes);
         self.attention_again(&[0x3f]);

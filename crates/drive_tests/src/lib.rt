@@ -10,6 +10,8 @@ mod disks;
 #[cfg(test)]
 mod drives;
 #[cfg(test)]
+mod files;
+#[cfg(test)]
 mod host;
 #[cfg(test)]
 mod players;

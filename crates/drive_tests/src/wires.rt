@@ -17,15 +17,20 @@ const POWER_UP: &[u8] = b"73,CBM DOS V2.6 1541,00,00\r";
 /// And the one after it.
 pub const BOTH: &[u8] = b"73,CBM DOS V2.6 1541,00,00\r00, OK,00,00\r";
 
-/// Whether drive 8 said these bytes: after its release of CLOCK come eight bits, each to be read when CLOCK is freed.
+/// Whether drive 8 said these bytes.
 pub fn is_said(events: &[Event], wanted: &[u8]) -> bool {
+    is_said_by(8, events, wanted)
+}
+
+/// Whether a drive said these bytes: after its release of CLOCK come eight bits, each to be read when CLOCK is freed.
+pub fn is_said_by(device: u8, events: &[Event], wanted: &[u8]) -> bool {
     let (mut low, mut count, mut byte) = (false, 0u8, 0u8);
     let (mut place, mut same) = (0usize, true);
     for event in events {
         match (event.who, event.change.line, event.change.way) {
             (Who::Host, Atn, Free) => count = 0,
-            (Who::Drive(8), Data, way) => low = way == Pull,
-            (Who::Drive(8), Clock, Free) => {
+            (Who::Drive(who), Data, way) if who == device => low = way == Pull,
+            (Who::Drive(who), Clock, Free) if who == device => {
                 byte = byte / 2 | if low { 0 } else { 128 };
                 count = count.wrapping_add(1) % 9;
                 if count == 0 {

@@ -1,0 +1,4 @@
+mod Parties
+mod Rests
+mod Headline
+mod Again

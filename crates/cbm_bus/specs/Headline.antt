@@ -1,0 +1,48 @@
+-- What is promised of drives with disks under a host: the headline.
+use Rattle.std.specs.Prelude.{ℕ, ◌≡◌, ◌==◌, List, [], ◌∷◌, ◌++◌, map, if◌then◌else◌}
+use Rattle.std.specs.List.{AllZip}
+use Rattle.cbm_iec.specs.declared.event.Event.{Event}
+use Rattle.cbm_iec.specs.declared.line.Change.{Change}
+use Rattle.cbm_iec.specs.declared.party.Party.{Party}
+use Rattle.cbm_medium.specs.Seen.{Seen}
+use Rattle.cbm_channel.specs.Files.{Disk}
+use Rattle.cbm_channel.specs.Machines.{Machine}
+use Rattle.cbm_channel.specs.Standing.{Kept}
+use Rattle.cbm_volume.specs.Holding.{HoldsDisk}
+use Rattle.cbm_session.specs.Playing.{Station, IsKept}
+use Rattle.cbm_session.specs.Timing.{HostKeeps}
+use Rattle.cbm_drive.specs.Cables.{Cabled}
+use Rattle.cbm_drive.specs.Desks.{Desk, DeskStands, desk_step, desk_says}
+use Rattle.cbm_drive.specs.Ordered.{host_changes}
+use Rattle.cbm_drive.specs.Seats.{Seated, IsBusAt}
+
+-- the machine of the drive with this device number; that of a number that none of them has is as it was
+abbrev pub machines_now : List (Station (Desk Machine)) → (ℕ → Desk Machine) → ℕ → Desk Machine
+machines_now [] ms d = ms d
+machines_now (s ∷ ss) ms d = if s.port.party.device == d then s.machine else machines_now ss ms d
+
+module _ {M : Type 0} (seen : M → Seen) where
+  -- the medium in this drive is sound, and means this disk
+  abbrev pub HasDisk : Disk → Seated (Desk (Kept M)) → Type 0
+  HasDisk d x = HoldsDisk (seen x.machine.dos.medium).tracks (seen x.machine.dos.medium).content d
+
+  -- each drive's medium is sound: these are the disks that they mean
+  abbrev pub AreDisks : Cabled (Desk (Kept M)) → Type 0
+  AreDisks b = (ds : List Disk) × AllZip (λ x d. HasDisk d x) b.drives ds
+
+  -- EACH DRIVE REPRESENTS its machine at this moment, in the order of these parties: it has a role, holds lines and waits as the station says.
+  pub record AreAt (bs : List Party) (b : Cabled (Desk (Kept M))) (ss : List (Station (Desk Machine))) : Type 0 where
+    pub parties : map (λ s. s.port.party) ss ≡ bs
+    pub each : IsBusAt (Desk (Kept M)) (Desk Machine) (DeskStands seen) b.host b.drives ss
+
+  -- THE HEADLINE. From rest, with machines ms, these changes of the host were played up to an end, and all that happened was added to the events: the host's changes
+  -- are the list. Each medium is sound and means its machine's disk. Where the host kept the timing, what happened is a beginning of a session in which each byte
+  -- talked is the machine's answer, each machine is where the acts that count lead from ms, and no reaction is late.
+  pub record HasPlayedFiles (bs : List Party) (ms : ℕ → Desk Machine) (end : ℕ) (changes : List Change) (b : Cabled (Desk (Kept M))) (old new : List Event) : Type 0 where
+    pub made : List Event
+    pub now : List (Station (Desk Machine))
+    pub added : new ≡ old ++ made
+    pub hosts : host_changes made ≡ changes
+    pub disks : AllZip (λ x s. HasDisk s.machine.dos.disk x) b.drives now
+    pub session : HostKeeps bs made end → IsKept (Desk Machine) desk_step desk_says bs ms made end now
+    pub stand : AreAt bs b now

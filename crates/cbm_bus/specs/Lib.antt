@@ -1,0 +1,3 @@
+pub mod AnyDisks
+pub mod Powered
+pub mod Headline
