@@ -12,7 +12,7 @@ use std::mem;
 /// The most bytes of a name that are kept: more than a command and a record have.
 const KEPT: usize = 256;
 
-/// A byte comes behind a name, of which the first 256 bytes are kept.
+/// A byte is appended to a name, of which the first 256 bytes are kept.
 fn keep(name: &mut ArrayVec<u8, 256>, byte: u8)
     ensures { name.new.items ≡ take 256 (name.old.items ++ byte ∷ []) }
 {
@@ -21,7 +21,7 @@ fn keep(name: &mut ArrayVec<u8, 256>, byte: u8)
     }
 }
 
-/// How a drive is addressed on the bus: its role, the channel of its secondary address, and what came behind it.
+/// How a drive is addressed on the bus: its role, the channel of its secondary address, and what came after it.
 #[derive(Drop)]
 pub(crate) struct Addressee {
     device: u8,
@@ -135,7 +135,7 @@ impl Addressee {
         }
     }
 
-    /// The role behind a byte in attention.
+    /// The role after a byte in attention.
     fn turn(&mut self, byte: u8)
         ensures { self.new ≡ turned byte self.old }
     {

@@ -1,4 +1,4 @@
-//! What the drives on a cable do: they are told changes, and one of them reacts.
+//! What the drives on a cable do: they see changes, and one of them reacts.
 
 ghost use Rattle.std.specs.Prelude.{◌≡◌, ◌↔◌, ◌+◌, ◌<◌, ◌≤◌, ◌^◌, ℕ, true, List, [], ◌∷◌, ◌++◌, length, map, IfSome, IsSome, MatchOption};
 ghost use Rattle.std.specs.List.{AllZip};
@@ -46,7 +46,7 @@ pub(crate) fn tell_each<D: Machine>(drives: &mut [Drive<D>], moment: u64, wires:
     tell_each(rest, moment, wires);
 }
 
-/// The reaction that is due first among those before a drive and its own, which comes behind theirs of the same moment.
+/// The reaction that is due first among those before a drive and its own, which comes after theirs of the same moment.
 #[inline(always)]
 fn or_sooner<D: Machine>(
     first: Option<(usize, u64)>,
@@ -89,7 +89,7 @@ pub(crate) fn all_rest<D: Machine>(drives: &[Drive<D>]) -> bool
     }
 }
 
-/// As `tell_each`, of drives of which there may be none: a drive alone on the cable has nobody to tell.
+/// As `tell_each`, of drives of which there may be none: a drive alone on the cable has no other.
 #[inline(always)]
 fn tell_others<D: Machine>(drives: &mut [Drive<D>], moment: u64, wires: &Wires)
     requires { moment < 2 ^ 60 }
@@ -107,7 +107,7 @@ fn tell_others<D: Machine>(drives: &mut [Drive<D>], moment: u64, wires: &Wires)
     tell_each(drives, moment, wires);
 }
 
-/// The drives before and behind one that changed these lines are told each change.
+/// The drives listed before and after one that changed these lines see each change.
 fn hear_each<D: Machine>(
     front: &mut [Drive<D>],
     back: &mut [Drive<D>],
@@ -134,7 +134,7 @@ fn hear_each<D: Machine>(
     hear_each(front, back, wires, moment, more);
 }
 
-/// As `hear_each`, of drives of which there may be none: a drive alone on the cable has nobody to tell.
+/// As `hear_each`, of drives of which there may be none: a drive alone on the cable has no other.
 #[inline(always)]
 fn hear_others<D: Machine>(
     front: &mut [Drive<D>],
@@ -159,7 +159,7 @@ fn hear_others<D: Machine>(
     hear_each(front, back, wires, moment, changes);
 }
 
-/// The reaction of the drive at a place, which is due at this moment: all others are told each line that it changes, with
+/// The reaction of the drive at a place, which is due at this moment: all others see each line that it changes, with
 /// what is held then.
 #[inline(always)]
 pub(crate) fn react<D: Machine>(
@@ -175,7 +175,7 @@ pub(crate) fn react<D: Machine>(
         IsFirstDue drives.old (place, moment) →
         IfSome result (λ a.
         HasReacted _ D.State D.stands D.step D.says host moment a.device drives.new a.changes.items ss) }
-    // Of a drive alone, whatever its machine stands for: so it is of the machine that plays back what this one showed.
+    // Also on disks that aren't sound, of a drive alone: so it is of the machine that replays what this one showed.
     ensures recorded { length drives.old ≡ 1 → IsFirstDue drives.old (place, moment) → IfSome result (λ a.
         (trail : List Shown) × ((later : List Shown) (ss : List (Station Playback)) →
         IsBusAt _ Playback (IsPlayedBack D.shows (trail ++ later)) host drives.old ss →
@@ -196,14 +196,14 @@ pub(crate) fn react<D: Machine>(
     Some(Answer { device, changes })
 }
 
-/// The host, which holds these lines, changes one of them: each drive is told, with what all others hold then. Answers
+/// The host, which holds these lines, changes one of them: each drive sees it, with what all others hold then. Answers
 /// what the host holds then.
 pub(crate) fn tell_all<D: Machine>(drives: &mut [Drive<D>], host: Lines, change: Change) -> Lines
     requires { change.moment < 2 ^ 60 }
     ensures host { result ≡ lines_after host change.line change.way }
     ensures told { (ss : List (Station D.State)) → IsBusAt _ D.State D.stands host drives.old ss →
         IsBusAt _ D.State D.stands result drives.new (map (λ s. tell D.State D.step D.says change s) ss) }
-    // Of a drive alone, whatever its machine stands for: so it is of the machine that plays back what this one showed.
+    // Also on disks that aren't sound, of a drive alone: so it is of the machine that replays what this one showed.
     ensures recorded { length drives.old ≡ 1 → (trail : List Shown) × ((later : List Shown) (ss : List (Station Playback)) →
         IsBusAt _ Playback (IsPlayedBack D.shows (trail ++ later)) host drives.old ss →
         IsBusAt _ Playback (IsPlayedBack D.shows later) result drives.new

@@ -94,13 +94,13 @@ impl<D: Machine, const N: usize> Bus<D, N> {
         Some(moment)
     }
 
-    /// The host changes a line: each drive is told, with what all others hold then.
+    /// The host changes a line: each drive sees it, with what all others hold then.
     #[inline(always)]
     pub fn line(&mut self, change: Change)
         requires { change.moment < 2 ^ 60 }
         ensures told { (ss : List (Station D.State)) → IsBusAt _ D.State D.stands self.old.host self.old.drives ss →
             IsBusAt _ D.State D.stands self.new.host self.new.drives (map (λ s. tell D.State D.step D.says change s) ss) }
-        // Of a drive alone, whatever its machine stands for: so it is of the machine that plays back what this one showed.
+        // Also on disks that aren't sound, of a drive alone: so it is of the machine that replays what this one showed.
         ensures recorded { N ≡ 1 → (trail : List Shown) × ((later : List Shown) (ss : List (Station Playback)) →
             IsBusAt _ Playback (IsPlayedBack D.shows (trail ++ later)) self.old.host self.old.drives ss →
             IsBusAt _ Playback (IsPlayedBack D.shows later) self.new.host self.new.drives
@@ -112,7 +112,7 @@ impl<D: Machine, const N: usize> Bus<D, N> {
         self.host = tell_all(self.drives.as_mut_slice(), self.host, change);
     }
 
-    /// The reaction that is due first happens, to be called at the moment that `next_due` answers: all other drives are told
+    /// The reaction that is due first happens, to be called at the moment that `next_due` answers: all other drives see
     /// each line that the drive changes, with what is held then. None where no reaction is due.
     pub fn due(&mut self, moment: u64) -> Option<Answer>
         requires { moment < 2 ^ 60 }
@@ -120,7 +120,7 @@ impl<D: Machine, const N: usize> Bus<D, N> {
             IsBusAt _ D.State D.stands self.old.host self.old.drives ss → IsDueFirst self.old.drives moment →
             IfSome result (λ a. HasReacted _ D.State D.stands D.step D.says self.old.host moment a.device
             self.new.drives a.changes.items ss) }
-        // One reaction less is due at this moment, and none before it, whatever the machines stand for.
+        // One reaction less is due at this moment, and none before it, also on disks that aren't sound.
         ensures nearer { IsDueFirst self.old.drives moment → IsNearer moment self.old.drives self.new.drives }
         ensures none { result ≡ None → AreIdle self.old.drives × (self.new ≡ self.old) }
         ensures idle { AreIdle self.old.drives → result ≡ None }
@@ -154,7 +154,7 @@ impl<D: Machine, const N: usize> Bus<D, N> {
             (HasSettled _ D.State D.stands D.step D.says self.old.host until self.new.drives [] [] n ss)
             (λ r. HasSettled _ D.State D.stands D.step D.says self.old.host (r.0 + 1) self.new.drives []
             (drive_events r.1.device r.1.changes.items) n ss) }
-        // Of a drive alone, whatever its machine stands for: so it is of the machine that plays back what this one showed.
+        // Also on disks that aren't sound, of a drive alone: so it is of the machine that replays what this one showed.
         ensures recorded { N ≡ 1 → (trail : List Shown) × ((later : List Shown) (ss : List (Station Playback)) →
             IsBusAt _ Playback (IsPlayedBack D.shows (trail ++ later)) self.old.host self.old.drives ss →
             ((n until : ℕ) → n ≤ until → limit ≤ until → MatchOption result

@@ -12,7 +12,7 @@ use std::marker::Model;
 /// The drive's DOS on the bus: LISTEN, TALK and secondary addresses become its calls.
 ///
 /// A DOS whose medium never fails by itself (`Steady`) is a machine above the wires: each act leads it from the named-files
-/// machine that it stands for to that machine's next state.
+/// machine that it represents to that machine's next state.
 #[derive(Drop)]
 pub struct Desk<M: Medium> {
     dos: Dos<M>,

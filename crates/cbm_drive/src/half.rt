@@ -2,7 +2,7 @@
 
 use cbm_iec::Held;
 
-/// Half of a bit that a drive said: it changed CLOCK, and perhaps DATA behind it.
+/// Half of a bit that a drive said: it changed CLOCK, and then perhaps DATA.
 #[derive(Clone, Copy, Drop)]
 pub struct Half {
     /// When, in microseconds.

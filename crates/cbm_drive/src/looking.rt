@@ -64,7 +64,7 @@ pub(crate) fn first_shown<D: Machine>(
         (HasSettled _ D.State D.stands D.step D.says host until drives.new [] [] n ss)
         (λ r. HasSettled _ D.State D.stands D.step D.says host (r.0 + 1) drives.new []
         (drive_events r.1.device r.1.changes.items) n ss) }
-    // Of a drive alone, whatever its machine stands for: so it is of the machine that plays back what this one showed.
+    // Also on disks that aren't sound, of a drive alone: so it is of the machine that replays what this one showed.
     ensures recorded { length drives.old ≡ 1 → (trail : List Shown) × ((later : List Shown) (ss : List (Station Playback)) →
         IsBusAt _ Playback (IsPlayedBack D.shows (trail ++ later)) host drives.old ss →
         ((n until : ℕ) → n ≤ until → limit ≤ until → MatchOption result

@@ -98,8 +98,8 @@ impl Player {
             (a : IsAfter _ D.State D.stands D.step D.says self.old bus.old n ss es) → MatchOption result
             (IsStill _ D.State D.stands D.step D.says self.old self.new bus.old bus.new upto a.stations)
             (HasGiven _ D.State D.stands D.step D.says self.new bus.new upto n ss es) }
-        // Whatever the machine stands for: on a bus with one drive there is a list of what it showed behind each act of this
-        // call, and the same holds of the machine that plays it back.
+        // Also on disks that aren't sound, of a drive alone: a record of what it offered after each act of this call, and the
+        // same holds of the machine that replays this record.
         ensures recorded { N ≡ 1 → (trail : List Shown) × ((later : List Shown) (n : ℕ) (ss : List (Station Playback))
             (es : List Event) →
             (a : IsAfter _ Playback (IsPlayedBack D.shows (trail ++ later)) played_step played_says self.old bus.old n ss es) →
@@ -113,7 +113,7 @@ impl Player {
         // A change that waits for that moment or before comes, or a drive's comes before it.
         ensures comes { IfSome self.old.waiting (λ c. c.moment ≤ upto → IsSome result) }
         ensures behind { IfSome result (λ e. IsBehind e.who e.change self.new) }
-        // Whatever the machines stand for, less is left to come behind a change of a drive.
+        // Also on disks that aren't sound, less is left to come after a change of a drive.
         ensures fewer { IfSome result (λ e. IsDrives e.who → (limit : ℕ) → upto < limit →
             at_most limit self.new.second bus.new.drives < at_most limit self.old.second bus.old.drives) }
         ensures taken { self.new.taken ≡ self.old.taken }
@@ -133,7 +133,7 @@ impl Player {
     }
 
     /// The quick way of `next` where a drive alone on the bus says half of a bit, up to a moment, and no change waits: its changes
-    /// come at once, CLOCK's and behind it DATA's, if that changes. None where anything else comes, or nothing, and then the
+    /// come at once, CLOCK's and then DATA's, if that changes. None where anything else comes, or nothing, and then the
     /// player and the drive are as they were.
     #[inline(always)]
     pub fn half<D: Machine, const N: usize>(
@@ -147,7 +147,7 @@ impl Player {
         ensures given { (n : ℕ) (ss : List (Station D.State)) (es : List Event) →
             IsAfter _ D.State D.stands D.step D.says self.old bus.old n ss es → IfSome result (λ h.
             IsAfter _ D.State D.stands D.step D.says self.new bus.new n ss (es ++ half_events h)) }
-        // Whatever the machine stands for: so it is of the machine that plays back what this one shows later.
+        // Also on disks that aren't sound: so it is of the machine that replays what this one shows later.
         ensures recorded { (later : List Shown) (n : ℕ) (ss : List (Station Playback)) (es : List Event) →
             IsAfter _ Playback (IsPlayedBack D.shows later) played_step played_says self.old bus.old n ss es →
             IfSome result (λ h. IsAfter _ Playback (IsPlayedBack D.shows later) played_step played_says self.new bus.new n ss
@@ -161,7 +161,7 @@ impl Player {
         }) }
         ensures moment { IfSome result (λ h. h.moment ≤ upto) }
         ensures clock { IfSome result (λ h. h.now.clock_low ≡ not h.was.clock_low) }
-        // Whatever the machine stands for, less is left to come.
+        // Also on disks that aren't sound, less is left to come.
         ensures fewer { IfSome result (λ h. (limit : ℕ) → upto < limit →
             at_most limit self.new.second bus.new.drives < at_most limit self.old.second bus.old.drives) }
         ensures lasting { numbers D.lasting bus.new.drives ≡ numbers D.lasting bus.old.drives }
@@ -232,8 +232,8 @@ impl Player {
         ensures given { (n : ℕ) (ss : List (Station D.State)) (es : List Event) →
             IsAfter _ D.State D.stands D.step D.says self.old bus.old n ss es →
             IfSome result (HasGiven _ D.State D.stands D.step D.says self.new bus.new change.moment n ss es) × IsSome result }
-        // Whatever the machine stands for: on a bus with one drive there is a list of what it showed behind each act of this
-        // call, and the same holds of the machine that plays it back.
+        // Also on disks that aren't sound, of a drive alone: a record of what it offered after each act of this call, and the
+        // same holds of the machine that replays this record.
         ensures recorded { N ≡ 1 → (trail : List Shown) × ((later : List Shown) (n : ℕ) (ss : List (Station Playback))
             (es : List Event) →
             IsAfter _ Playback (IsPlayedBack D.shows (trail ++ later)) played_step played_says self.old bus.old n ss es →
@@ -245,7 +245,7 @@ impl Player {
         ensures comes { IsSome result }
         ensures second { IsGivenBefore change.moment self.new.second }
         ensures behind { IfSome result (λ e. IsBehind e.who e.change self.new) }
-        // Whatever the machines stand for, less is left to come behind a change of a drive.
+        // Also on disks that aren't sound, less is left to come after a change of a drive.
         ensures fewer { IfSome result (λ e. IsDrives e.who → (limit : ℕ) → change.moment ≤ limit →
             at_most limit self.new.second bus.new.drives < at_most limit self.old.second bus.old.drives) }
         ensures taken { self.new.taken ≡ self.old.taken }
@@ -278,8 +278,8 @@ impl Player {
             (a : IsAfter _ D.State D.stands D.step D.says self.old bus.old n ss es) → MatchOption result
             (IsStill _ D.State D.stands D.step D.says self.old self.new bus.old bus.new upto a.stations)
             (HasGiven _ D.State D.stands D.step D.says self.new bus.new upto n ss es) }
-        // Whatever the machine stands for: on a bus with one drive there is a list of what it showed behind each act of this
-        // call, and the same holds of the machine that plays it back.
+        // Also on disks that aren't sound, of a drive alone: a record of what it offered after each act of this call, and the
+        // same holds of the machine that replays this record.
         ensures recorded { N ≡ 1 → (trail : List Shown) × ((later : List Shown) (n : ℕ) (ss : List (Station Playback))
             (es : List Event) →
             (a : IsAfter _ Playback (IsPlayedBack D.shows (trail ++ later)) played_step played_says self.old bus.old n ss es) →
@@ -291,7 +291,7 @@ impl Player {
         ensures turn { IfSome result (λ e. IsTurnOf e.who e.change self.old.waiting self.new.waiting) }
         ensures waiting { IsWaitingFrom self.new.from self.new.waiting }
         ensures behind { IfSome result (λ e. IsBehind e.who e.change self.new) }
-        // Whatever the machines stand for, less is left to come behind a change of a drive.
+        // Also on disks that aren't sound, less is left to come after a change of a drive.
         ensures fewer { IfSome result (λ e. IsDrives e.who → (limit : ℕ) → upto < limit →
             at_most limit self.new.second bus.new.drives < at_most limit self.old.second bus.old.drives) }
         ensures taken { self.new.taken ≡ self.old.taken }

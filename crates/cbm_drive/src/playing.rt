@@ -30,7 +30,7 @@ fn give(events: &mut Vec<Event>, device: u8, changes: &[Change])
 }
 
 /// The reactions that are due before a limit happen, each in its turn; their changes go to the events. An `Err` is want
-/// of memory, before a reaction: up to it all has happened as it is told.
+/// of memory, before a reaction: up to it all has happened, and is among the events.
 pub(crate) fn settle<D: Machine>(
     drives: &mut [Drive<D>],
     host: Lines,
@@ -58,7 +58,7 @@ pub(crate) fn settle<D: Machine>(
 }
 
 /// The changes of the host and the reactions of the drives come one after the other, up to an end; all go to the events.
-/// An `Err` is want of memory, before a step: up to it all has happened as it is told.
+/// An `Err` is want of memory, before a step: up to it all has happened, and is among the events.
 pub(crate) fn play_on<D: Machine>(
     drives: &mut [Drive<D>],
     host: &mut Lines,

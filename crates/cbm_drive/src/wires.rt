@@ -57,7 +57,7 @@ impl Wires {
         }
     }
 
-    /// What is held behind a change of a drive.
+    /// What is held after a change of a drive.
     pub(crate) fn after(self, line: Line, way: Way) -> Wires
         requires clocks { self.clocks < 2 ^ 60 }
         requires datas { self.datas < 2 ^ 60 }
@@ -79,7 +79,7 @@ impl Wires {
     }
 }
 
-/// One more holds a line behind its pull, one less behind its release.
+/// One more holds a line after its pull, one less after its release.
 fn counted(way: Way, count: usize) -> usize
     requires { count < 2 ^ 60 }
     ensures value { result ≡ counted way count }
@@ -91,7 +91,7 @@ fn counted(way: Way, count: usize) -> usize
     }
 }
 
-/// What the host holds behind its change.
+/// What the host holds after its change.
 pub(crate) fn with_change(lines: Lines, change: Change) -> Lines
     ensures { result ≡ lines_after lines change.line change.way }
 {
