@@ -59,6 +59,12 @@ pub never_broken : (tracks : ℕ) (c : Content) (l : Layout) (d : Disk) (t : Tro
 never_broken tracks c l d t st e = let z = sym (told tracks c l d st).whole ∙ e in (cc)
 
 -- WHAT A SOUND DISK HAS ROOM FOR
+-- how many blocks are free on a sound disk
+pub blocks_mean : (medium : ℕ) (c : Content) (r : Result ℕ Trouble) → IfOk r (λ n. n ≡ number (geometry_of medium c) (is_free_in (map_of c)))
+    → IfErr r (λ t. (c directory_head ≡ Err t.code) × (t.track ≡ 18) × (t.sector ≡ 0)) → (d : Disk) → HoldsDisk medium c d → IsOkAnd r (λ n. n ≡ d.free)
+blocks_mean medium c (Ok n) blocks err d m = blocks ∙ free_of_disk (geometry_of medium c) c m.layout d m.stands
+blocks_mean medium c (Err t) blocks err d m = absurd (map_reads (geometry_of medium c) c m.layout t.code m.stands.sound err.0)
+
 pub room_means : (medium : ℕ) (c : Content) (r : Result Room Trouble) → IfOk r (λ x. x.blocks ≡ number (geometry_of medium c) (is_free_in (map_of c)))
     → IfOk r (λ x. x.slot ≡ (is_some (empty_in 0 (directory_of (geometry_of medium c) c).entries) || is_some (find (is_free_in (map_of c)) directory_order)))
     → IfErr r (λ t. ((c directory_head ≡ Err t.code) × (t.track ≡ 18) × (t.sector ≡ 0)) ⊎ ((directory_of (geometry_of medium c) c).trouble ≡ Some t))

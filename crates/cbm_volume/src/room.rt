@@ -32,6 +32,19 @@ impl<M: Medium> Volume<M> {
         self.medium.protected()
     }
 
+    /// How many blocks are free for files, as the bits of the map count them. The directory isn't read. An `Err` is the
+    /// medium's fault at 18/0.
+    pub fn blocks_free(&self) -> Result<u16, Trouble>
+        ensures blocks { let now = M.seen self.now in IfOk result
+            (λ n. n ≡ number (geometry_of now.tracks now.content) (is_free_in (map_of now.content))) }
+        ensures err { IfErr result (λ t. ((M.seen self.now).content directory_head ≡ Err t.code) × (t.track ≡ 18) ×
+            (t.sector ≡ 0)) }
+        ensures means { (d : Disk) → HoldsDisk (M.seen self.now).tracks (M.seen self.now).content d →
+            IsOkAnd result (λ n. n ≡ d.free) }
+    {
+        free_bits(&self.medium, self.geometry())
+    }
+
     /// What the disk has room for. An `Err` is the medium's fault at 18/0, or what breaks the directory off.
     pub fn room(&self) -> Result<Room, Trouble>
         ensures blocks { let now = M.seen self.now in IfOk result
@@ -45,7 +58,7 @@ impl<M: Medium> Volume<M> {
         ensures means { (d : Disk) → HoldsDisk (M.seen self.now).tracks (M.seen self.now).content d →
             IsOkAnd result (λ r. (r.blocks ≡ d.free) × (r.slot ≡ has_slot d)) }
     {
-        let blocks = free_bits(&self.medium, self.geometry())?;
+        let blocks = self.blocks_free()?;
         let slot = self.has_slot()?;
         Ok(Room { blocks, slot })
     }

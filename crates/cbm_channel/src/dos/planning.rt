@@ -298,7 +298,7 @@ impl<M: Medium> Dos<M> {
     }
 
     /// What the replacement of a found file will do. Errors: 60 it isn't closed or is open on a channel, 63 it is
-    /// locked, 72 no block is free, 26 the disk is protected; or a fault of the map or of the directory.
+    /// locked, 72 no block is free, 26 the disk is protected; or a fault of the map. The directory after the file isn't read.
     fn plan_replace(&self, found: &Found) -> Result<Plan, Status>
         ensures ground { IfErr result (HasGround M.seen self.now.medium) }
         ensures same { IfOk result (λ p. p ≡ planned.ReplaceFile found.now.slot) }
@@ -315,7 +315,7 @@ impl<M: Medium> Dos<M> {
         if found.entry.is_locked() {
             return Err(Status::plain(Code::FileExists));
         }
-        if self.volume().room()?.blocks == 0 {
+        if self.volume().blocks_free()? == 0 {
             return Err(Status::plain(Code::DiskFull));
         }
         if self.volume().is_protected() {
