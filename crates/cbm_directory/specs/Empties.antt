@@ -5,7 +5,7 @@ use Rattle.cbm_medium.specs.Seen.{Seen}
 use Rattle.cbm_medium.specs.declared.fault.Trouble.{Trouble}
 use Rattle.cbm_directory.specs.Entries.{type_byte}
 use Rattle.cbm_directory.specs.Slots.{Listed, directory_of}
-use Rattle.cbm_directory.specs.Growth.{Grows, HasNoRoom, GrowthStopped, IsGrowthRefused}
+use Rattle.cbm_directory.specs.Growth.{Grows, CannotGrow, GrowthStopped, IsGrowthRefused}
 
 -- the number of the first entry of type byte 0, counted from n
 abbrev pub empty_in : ℕ → List (List ℕ) → Option ℕ
@@ -25,7 +25,7 @@ TakesSlot tracks c c' (Some n) =
     (FindsEmpty (directory_of tracks c) (Ok (Some n)) × (c' ≡ c))
     ⊎ (FindsEmpty (directory_of tracks c) (Ok None) × Grows tracks c c' × FindsEmpty (directory_of tracks c') (Ok (Some n)))
 TakesSlot tracks c c' None =
-    FindsEmpty (directory_of tracks c) (Ok None) × HasNoRoom c × (c' ≡ c)
+    FindsEmpty (directory_of tracks c) (Ok None) × CannotGrow tracks c × (c' ≡ c)
 
 -- what is left where the search or the growth was cut short: nothing has changed, or no slot was empty and the growth was stopped, or
 -- the directory grew and breaks off

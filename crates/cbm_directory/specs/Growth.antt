@@ -10,9 +10,9 @@ use Rattle.cbm_bam.specs.Orders.{directory_order}
 use Rattle.cbm_bam.specs.Causes.{HasCause}
 use Rattle.cbm_directory.specs.Entries.{first_directory, HasLink}
 
--- the directory ends with this sector, one of at most eighteen
-abbrev pub IsLastSector : ℕ → Content → Place → Type 0
-IsLastSector tracks c p = (before : List Place) × (Chain tracks c first_directory (before ++ p ∷ []) × (length before < 18))
+-- the directory ends with this sector, and so many stand before it, of at most eighteen in all
+abbrev pub IsLastSector : ℕ → Content → Place → ℕ → Type 0
+IsLastSector tracks c p n = (before : List Place) × (Chain tracks c first_directory (before ++ p ∷ []) × (length before ≡ n) × (n < 18))
 
 -- a new sector of the directory: the last one, whose entries are empty
 abbrev pub new_sector : List ℕ
@@ -22,10 +22,20 @@ new_sector = 0 ∷ 255 ∷ replicate 254 0
 abbrev pub HasNoRoom : Content → Type 0
 HasNoRoom c = find (is_free_in (map_of c)) directory_order ≡ None
 
--- A FREE SECTOR OF TRACK 18 was claimed, written as a new one, and then the last sector links to it.
+-- the directory has eighteen sectors: all of track 18 but the map's
+abbrev pub IsFullDirectory : ℕ → Content → Type 0
+IsFullDirectory tracks c = (sectors : List Place) × (Chain tracks c first_directory sectors × (length sectors ≡ 18))
+
+-- WHY IT CAN'T GROW: the map has no sector of track 18 as free; or, whatever the map says, the directory has as many as there are.
+abbrev pub CannotGrow : ℕ → Content → Type 0
+CannotGrow tracks c = HasNoRoom c ⊎ IsFullDirectory tracks c
+
+-- A FREE SECTOR OF TRACK 18 was claimed, written as a new one, and then the last sector links to it. There were fewer than eighteen.
 pub record Grows (tracks : ℕ) (old new : Content) : Type 0 where
   pub last : Place
-  pub is_last : IsLastSector tracks old last
+  pub before : ℕ
+  pub is_last : IsLastSector tracks old last before
+  pub fewer : before < 17
   pub more : Place
   pub claimed : Content
   pub claims : ClaimsOn18 tracks old claimed more

@@ -35,7 +35,7 @@ pub fn first_empty<M: Medium>(medium: &M, geometry: Geometry) -> Result<Option<u
 }
 
 /// The number of the first empty slot; where none is, the directory grows first. None, with nothing changed, where
-/// track 18 has no free sector. An `Err` is what breaks the directory off, or what refused its growth: it leaves the
+/// track 18 has no free sector, or the directory has eighteen. An `Err` is what breaks the directory off, or what refused its growth: it leaves the
 /// directory as it was, with at most a sector of track 18 claimed, or grown where it breaks off only then.
 pub fn empty_slot<M: Medium>(medium: &mut M, geometry: Geometry) -> Result<Option<u8>, Trouble>
     requires { geometry ≤ (M.seen medium.old).tracks }

@@ -4,25 +4,27 @@ ghost use Rattle.std.specs.Prelude.{◌≡◌, ◌≢◌, ℕ, ◌≤◌, true, 
 ghost use Rattle.cbm_medium.specs.Links.{follow};
 ghost use Rattle.cbm_medium.specs.Seen.{OnlyContent};
 ghost use Rattle.cbm_directory.specs.Entries.{HasLink, first_directory};
-ghost use Rattle.cbm_directory.specs.Growth.{IsLastSector, new_sector, HasNoRoom, Grows, GrowthStopped, IsGrowthRefused};
+ghost use Rattle.cbm_directory.specs.Growth.{IsLastSector, new_sector, CannotGrow, Grows, GrowthStopped, IsGrowthRefused};
 
+use crate::slots::MOST;
 use cbm_bam::claim_directory;
 use cbm_medium::{Address, Geometry, Link, Medium, Trouble, read_linked};
 
 /// The last byte of the link in a directory's last sector (Inside Commodore DOS).
 const ALL_USED: u8 = 0xFF;
 
-/// A sector of the directory, and where it is.
+/// A sector of the directory, where it is, and how many stand before it.
 #[derive(Drop)]
 struct Sector {
     at: Address,
     bytes: [u8; 256],
+    before: u16,
 }
 
 /// The last sector of the directory. An `Err` is what breaks the directory off: 66, 71 or the medium's fault.
 fn last_sector<M: Medium>(medium: &M, geometry: Geometry) -> Result<Sector, Trouble>
     requires { geometry ≤ (M.seen medium.now).tracks }
-    ensures last { IfOk result (λ s. IsLastSector geometry (M.seen medium.now).content s.at) }
+    ensures last { IfOk result (λ s. IsLastSector geometry (M.seen medium.now).content s.at s.before) }
     ensures bytes { IfOk result (λ s. (M.seen medium.now).content s.at ≡ Ok s.bytes) }
     ensures track { IfOk result (λ s. s.at.track ≤ geometry) }
     ensures err { IfErr result (λ t.
@@ -30,13 +32,14 @@ fn last_sector<M: Medium>(medium: &M, geometry: Geometry) -> Result<Sector, Trou
     ensures never_26 { IfErr result (λ t. t.code ≢ 26) }
 {
     let mut at = Link::new(18, 1);
-    let mut left = 18u16;
+    let mut left = MOST;
     loop {
         let bytes = read_linked(medium, geometry, at, left)?;
         let next = Link::of(&bytes);
         if next.is_end() {
             let at = at.address(geometry).unwrap();
-            return Ok(Sector { at, bytes });
+            let before = MOST - left;
+            return Ok(Sector { at, bytes, before });
         }
         at = next;
         left -= 1;
@@ -63,13 +66,13 @@ fn blank() -> [u8; 256]
 }
 
 /// Makes room for eight more entries: claims a free sector of track 18, writes it as the new last sector, then links
-/// the old last sector to it. False, with nothing changed, where track 18 has no free sector. An `Err` leaves the
-/// directory as it was, with at most that sector claimed.
+/// the old last sector to it. False, with nothing changed, where track 18 has no free sector, or the directory has
+/// eighteen, whatever the map says. An `Err` leaves the directory as it was, with at most that sector claimed.
 pub fn grow<M: Medium>(medium: &mut M, geometry: Geometry) -> Result<bool, Trouble>
     requires { geometry ≤ (M.seen medium.old).tracks }
     ensures grown { let old = M.seen medium.old in let new = M.seen medium.new in
         IfOk result (λ done. MatchBool done (Grows geometry old.content new.content)
-        (HasNoRoom old.content × (new.content ≡ old.content))) }
+        (CannotGrow geometry old.content × (new.content ≡ old.content))) }
     ensures stopped { OnErr result
         (GrowthStopped geometry (M.seen medium.old).content (M.seen medium.new).content) }
     ensures cause { IfErr result (IsGrowthRefused geometry (M.seen medium.old) (M.seen medium.new)) }
@@ -77,6 +80,9 @@ pub fn grow<M: Medium>(medium: &mut M, geometry: Geometry) -> Result<bool, Troub
     ensures only { OnlyContent result (M.seen medium.old) (M.seen medium.new) }
 {
     let last = last_sector(medium, geometry)?;
+    if last.before == MOST - 1 {
+        return Ok(false);
+    }
     let Some(at) = claim_directory(medium, geometry)? else {
         return Ok(false);
     };

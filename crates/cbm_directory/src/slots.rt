@@ -6,7 +6,7 @@ use cbm_medium::{Geometry, Link, Medium, Trouble, read_linked};
 use std::marker::Model;
 
 /// The most sectors that a directory has.
-const MOST: u16 = 18;
+pub(crate) const MOST: u16 = 18;
 
 /// The entries in a sector.
 const ENTRIES: u8 = 8;

@@ -13,7 +13,7 @@ use Rattle.cbm_bam.proofs.Counts.{bit_there}
 use Rattle.cbm_chain.specs.Writing.{last_of}
 use Rattle.cbm_directory.specs.Entries.{first_directory, HasLink, entry_of, type_byte}
 use Rattle.cbm_directory.specs.Slots.{directory_of}
-use Rattle.cbm_directory.specs.Growth.{new_sector, Grows}
+use Rattle.cbm_directory.specs.Growth.{new_sector, CannotGrow, Grows}
 use Rattle.cbm_directory.specs.Empties.{FindsEmpty, TakesSlot, SlotStopped}
 use Rattle.cbm_volume.specs.Layouts.{Nobody, TheMap, Directory, OwnedBy, Layout, Stands, own}
 use Rattle.cbm_volume.specs.Layouts as layouts
@@ -29,6 +29,7 @@ use Rattle.cbm_volume.proofs.Rooms.{less_room}
 use Rattle.cbm_volume.proofs.Steps.{one_less, own_elsewhere, Claimed, stands_claim}
 use Rattle.cbm_volume.proofs.Storing.{few, geometry_claimed, geometry_elsewhere}
 use Rattle.cbm_volume.proofs.Untouched.{is_file, KeepsFiles, files_same, files_then, files_written}
+use Rattle.cbm_volume.proofs.FullDirectory.{full_directory}
 use Rattle.cbm_volume.proofs.Vacant.{empty_of, room_of, never_broken}
 
 pub reached_now : (medium : ℕ) (c : Content) (l : Layout) (c1 : Content) (d1 : Disk) (uses : ℕ → Use) → Reached medium c l c1 d1 uses → HoldsNow medium c1 d1 uses
@@ -195,8 +196,11 @@ slot_ready medium c c1 n d uses h (inr k) =
 
 -- there is no place for a name, and nothing has changed
 pub no_slot : (medium : ℕ) (c c1 : Content) (d : Disk) (uses : ℕ → Use) → HoldsNow medium c d uses → TakesSlot (geometry_of medium c) c c1 None → (has_slot d ≡ false) × (c1 ≡ c)
-no_slot medium c c1 d uses h k =
-    (ap (λ (o : Option ℕ). is_some o || nat_lt 0 d.room) (none_in medium c d uses h k.0) ∙ sym (room_of (geometry_of medium c) c h.layout d (few medium c) h.so.stands) ∙ ap is_some k.1, k.2)
+no_slot medium c c1 d uses h k = (ap (λ (o : Option ℕ). is_some o || nat_lt 0 d.room) (none_in medium c d uses h k.0) ∙ none_on_18 k.1, k.2)
+  where
+    none_on_18 : CannotGrow (geometry_of medium c) c → nat_lt 0 d.room ≡ false
+    none_on_18 (inl none) = sym (room_of (geometry_of medium c) c h.layout d (few medium c) h.so.stands) ∙ ap is_some none
+    none_on_18 (inr full) = ap (nat_lt 0) (full_directory (geometry_of medium c) c h.layout d h.so.stands (few medium c) full)
 
 -- ---- stopped on the way
 

@@ -2,7 +2,7 @@ use Rattle.std.proofs.Common.{◌≡◌, ℕ, Bool, Option, None, Ok, subst, Mat
 use Rattle.std.proofs.lemmas.Result.{err_from_is_err_and}
 use Rattle.cbm_medium.specs.Content.{Content}
 use Rattle.cbm_directory.specs.Slots.{directory_of}
-use Rattle.cbm_directory.specs.Growth.{Grows, HasNoRoom}
+use Rattle.cbm_directory.specs.Growth.{Grows, CannotGrow}
 use Rattle.cbm_directory.specs.Empties.{FindsEmpty}
 use Rattle.cbm_directory.proofs.Codes.{directory_never_26, found_never_26}
 use Rattle.cbm_directory.proofs.Emptied.{grown_then, grown_stopped, grown_refused, only_then}
@@ -16,7 +16,7 @@ grows : (g : Over) (c : goal.After-first_empty-2 g) → Grows c.args.geometry (g
 grows g c =
     let old : Content = (g.M.Medium.seen c.args.medium.now).content in
     let new : Content = (g.M.Medium.seen c.grow.new.medium).content in
-    subst (λ (b : Bool). MatchBool b (Grows c.args.geometry old new) (HasNoRoom old × (new ≡ old))) c.if-not-branch.false c.in_ok-grow.ensures.grown
+    subst (λ (b : Bool). MatchBool b (Grows c.args.geometry old new) (CannotGrow c.args.geometry old × (new ≡ old))) c.if-not-branch.false c.in_ok-grow.ensures.grown
 
 pub returns-clause-taken : goal.returns-clause-taken
 returns-clause-taken g c =

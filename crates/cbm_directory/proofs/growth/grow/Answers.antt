@@ -1,11 +1,13 @@
-use Rattle.std.proofs.Common.{◌≡◌, Option, inr, subst, ap, ◌∙◌}
+use Rattle.std.proofs.Common.{◌≡◌, ◌<◌, ℕ, List, Option, inl, inr, sym, subst, ap, ◌∙◌, arith}
 use Rattle.std.specs.Prelude.{MatchOption}
+use Rattle.std.proofs.lemmas.Bool.{cases_lt}
 use Rattle.std.proofs.lemmas.Result.{err_from_is_err_and}
 use Rattle.cbm_medium.specs.Place.{Place, directory_head}
 use Rattle.cbm_medium.specs.Content.{Content, written}
+use Rattle.cbm_medium.specs.Links.{or_nothing, bytes_at}
 use Rattle.cbm_medium.specs.Seen.{Seen}
 use Rattle.cbm_bam.specs.Map.{ClaimsOn18}
-use Rattle.cbm_directory.specs.Entries.{first_directory}
+use Rattle.cbm_directory.specs.Entries.{first_directory, HasLink}
 use Rattle.cbm_directory.proofs.Grown.{refused_before, refused_on, ends_on_disk}
 use Rattle.cbm_directory.proofs.growth.grow.Goals as goal
 use Rattle.cbm_directory.proofs.growth.grow.Given.{Over}
@@ -53,3 +55,27 @@ returns-in_err-write-2-clause-cause g c =
     c.in_ok-at.ensures.only.protected c.in_ok-at.ensures.only.counted
     (refused_on mid (g.M.Medium.seen c.write.new.self) (g.M.Medium.seen c.write-2.new.self) c.in-Some.at c.in_ok-last.last.at c.blank.result c.in_err-write-2.field-0.0.code
     c.in_ok-write.ensures.ok c.in_err-write-2.ensures.err.1.cause)))
+
+-- both were written, and there were fewer than eighteen
+pub returns-clause-grown : goal.returns-clause-grown
+returns-clause-grown g c =
+    let seen = g.M.Medium.seen in
+    let old : Content = (seen c.args.medium.now).content in
+    let mid : Content = (seen c.claim_directory.new.medium).content in
+    let last = c.in_ok-last.last in
+    let bytes : bytes_at old last.at ≡ last.bytes = ap or_nothing c.in_ok-last.ensures.bytes in
+    let most = c.in_ok-last.ensures.last.1.2 in
+    let fewer : last.before < 17 = elim (cases_lt last.before 17) [ inl less ↦ less | inr not_less ↦ absurd (c.if-last.false (omega (arith, not_less, most))) ] in
+    record {
+      last = last.at;
+      before = last.before;
+      is_last = c.in_ok-last.ensures.last;
+      fewer = fewer;
+      more = c.in-Some.at;
+      claimed = mid;
+      claims = subst (λ (o : Option Place). MatchOption o (mid ≡ old) (λ p. ClaimsOn18 c.args.geometry old mid p)) c.in-Some.is c.in_ok-at.ensures.claimed;
+      sector = c.linked-bytes.result;
+      links = subst (λ (b : List ℕ). HasLink b c.linked-bytes.result c.in-Some.at) (sym bytes) c.linked-bytes.ensures;
+      written = ap (λ (s : Seen). s.content) c.in_ok-write-2.ensures.ok
+          ∙ ap (λ (x : Content). written x last.at c.linked-bytes.result) (ap (λ (s : Seen). s.content) c.in_ok-write.ensures.ok ∙ ap (written mid c.in-Some.at) c.blank.ensures);
+    }
