@@ -13,8 +13,8 @@ use Rattle.cbm_session.specs.Playing.{Station}
 use Rattle.cbm_session.specs.Sessions.{Unlike, AllUnlike}
 use Rattle.cbm_drive.specs.Cables.{Cabled, all_free}
 use Rattle.cbm_drive.specs.Desks.{Desk, DeskStands}
-use Rattle.cbm_drive.specs.Seats.{Seated, AreResting, IsSeat}
-use Rattle.cbm_drive.specs.declared.wires.Wires.{Wires}
+use Rattle.cbm_drive.specs.Seats.{Seated, AreResting, IsSeat, held_by}
+use Rattle.cbm_iec.specs.declared.lines.Lines.{Lines}
 use Rattle.cbm_bus.proofs.Rests.{rests}
 use Rattle.cbm_bus.specs.Headline.{AreAt, machines_now}
 use Rattle.cbm_bus.specs.Powered.{ArePowered, IsAtRest}
@@ -36,21 +36,21 @@ finds ms (s ∷ ss) u =
     (ap (λ (b : Bool). if b then s.machine else machines_now ss ms s.port.party.device) (eq-eqb s.port.party.device s.port.party.device refl), finds_behind ms s ss ss u.0 (finds ms ss u.1))
 
 module _ {M : Type 0} (seen : M → Seen) where
-  powered_now : (f : ℕ → Desk Machine) (all : Wires) (xs : List (Seated (Desk (Kept M)))) (ss : List (Station (Desk Machine))) → AllZip (IsSeat (Desk (Kept M)) (Desk Machine) (DeskStands seen) all) xs ss → AreResting xs → Finds f ss
+  powered_now : (f : ℕ → Desk Machine) (h : Lines) (all : List (Seated (Desk (Kept M)))) (xs : List (Seated (Desk (Kept M)))) (ss : List (Station (Desk Machine))) → AllZip (IsSeat (Desk (Kept M)) (Desk Machine) (DeskStands seen) (held_by h all)) xs ss → AreResting xs → Finds f ss
       → ArePowered seen (map (λ s. s.port.party) ss) f xs
-  powered_now f all [] [] h r l = tt
-  powered_now f all [] (s ∷ ss) h r l = absurd h
-  powered_now f all (x ∷ xs) [] h r l = absurd h
-  powered_now f all (x ∷ xs) (s ∷ ss) h r l = (
+  powered_now f l all [] [] h r l = tt
+  powered_now f l all [] (s ∷ ss) h r l = absurd h
+  powered_now f l all (x ∷ xs) [] h r l = absurd h
+  powered_now f l all (x ∷ xs) (s ∷ ss) h r l = (
     record {
       port = r.0 ∙ ap (λ (p : Port). resting p.party) h.0.port;
       machine = subst (λ (m : Desk Machine). DeskStands seen x.machine m) (sym l.0) h.0.machine;
     },
-    powered_now f all xs ss h.1 r.1 l.1,
+    powered_now f l all xs ss h.1 r.1 l.1,
   )
 
   pub rests_again : (bs : List Party) (ms : ℕ → Desk Machine) (b : Cabled (Desk (Kept M))) (ss : List (Station (Desk Machine))) → AllUnlike bs → b.host ≡ all_free → AreResting b.drives → AreAt seen bs b ss → IsAtRest seen bs (machines_now ss ms) b
   rests_again bs ms b ss unlike free rest at_ =
       let mine : AllUnlike (map (λ s. s.port.party) ss) = subst (λ l. AllUnlike l) (sym at_.parties) unlike in
-      let powered = powered_now (machines_now ss ms) _ b.drives ss at_.each rest (finds ms ss mine) in
+      let powered = powered_now (machines_now ss ms) b.host b.drives b.drives ss at_.each rest (finds ms ss mine) in
       subst (λ l. IsAtRest seen l (machines_now ss ms) b) at_.parties (rests seen (machines_now ss ms) (map (λ s. s.port.party) ss) b b.drives refl free powered)

@@ -1,6 +1,7 @@
 -- Drives at rest hold no line, so each of them sees all lines free.
 use Rattle.std.proofs.Common.{◌≡◌, ℕ, ◌+◌, Bool, false, List, [], ◌∷◌, refl, sym, ap, subst, arith}
 use Rattle.std.specs.List.{AllZip}
+use Rattle.cbm_iec.specs.declared.lines.Lines.{Lines}
 use Rattle.cbm_iec.specs.declared.party.Party.{Party}
 use Rattle.cbm_iec.specs.declared.port.Port.{Port}
 use Rattle.cbm_medium.specs.Seen.{Seen}
@@ -10,7 +11,6 @@ use Rattle.cbm_session.specs.Playing.{at_rest, nobody}
 use Rattle.cbm_drive.specs.Cables.{Cabled, all_free}
 use Rattle.cbm_drive.specs.Desks.{Desk, DeskStands, desk_step, desk_says}
 use Rattle.cbm_drive.specs.Seats.{Seated, IsBusAt, IsSeat, IsWithout, bit, total, clock_of, data_of, held_by}
-use Rattle.cbm_drive.specs.declared.wires.Wires.{Wires}
 use Rattle.cbm_bus.specs.Powered.{IsPowered, ArePowered, IsAtRest}
 
 module _ {M : Type 0} (seen : M → Seen) (ms : ℕ → Desk Machine) where
@@ -33,18 +33,18 @@ module _ {M : Type 0} (seen : M → Seen) (ms : ℕ → Desk Machine) where
       omega (arith, one, more)
 
   -- each stands for its station, where nobody holds a line
-  seats : (all : Wires) → all.host ≡ all_free → all.clocks ≡ 0 → all.datas ≡ 0 → (bs : List Party) (xs : List (Seated (Desk (Kept M)))) → ArePowered seen bs ms xs
-      → AllZip (IsSeat (Desk (Kept M)) (Desk Machine) (DeskStands seen) all) xs (at_rest (Desk Machine) desk_step desk_says ms bs)
-  seats all host clocks datas [] [] h = tt
-  seats all host clocks datas [] (x ∷ xs) h = absurd h
-  seats all host clocks datas (b ∷ bs) [] h = absurd h
-  seats all host clocks datas (b ∷ bs) (x ∷ xs) h =
+  seats : (h : Lines) (all : List (Seated (Desk (Kept M)))) → h ≡ all_free → total clock_of all ≡ 0 → total data_of all ≡ 0 → (bs : List Party) (xs : List (Seated (Desk (Kept M)))) → ArePowered seen bs ms xs
+      → AllZip (IsSeat (Desk (Kept M)) (Desk Machine) (DeskStands seen) (held_by h all)) xs (at_rest (Desk Machine) desk_step desk_says ms bs)
+  seats l all host clocks datas [] [] h = tt
+  seats l all host clocks datas [] (x ∷ xs) h = absurd h
+  seats l all host clocks datas (b ∷ bs) [] h = absurd h
+  seats l all host clocks datas (b ∷ bs) (x ∷ xs) h =
       let clock : clock_of x ≡ 0 = ap (λ (p : Port). bit p.own.clock_low) h.0.port in
       let data_ : data_of x ≡ 0 = ap (λ (p : Port). bit p.own.data_low) h.0.port in
-      let rest : IsWithout all x.port.own nobody = record { host = sym host; clocks = omega (arith, clock, clocks); datas = omega (arith, data_, datas) } in
-      (record { port = h.0.port; machine = h.0.machine; rest = rest }, seats all host clocks datas bs xs h.1)
+      let rest : IsWithout (held_by l all) x.port.own nobody = record { host = sym host; clocks = omega (arith, clock, clocks); datas = omega (arith, data_, datas) } in
+      (record { port = h.0.port; machine = h.0.machine; rest = rest }, seats l all host clocks datas bs xs h.1)
 
   pub rests : (bs : List Party) (b : Cabled (Desk (Kept M))) (xs : List (Seated (Desk (Kept M)))) → b.drives ≡ xs → b.host ≡ all_free → ArePowered seen bs ms xs → IsAtRest seen bs ms b
   rests bs b xs drives free h =
       let here : ArePowered seen bs ms b.drives = subst (λ l. ArePowered seen bs ms l) (sym drives) h in
-      seats (held_by b.host b.drives) free (no_clock bs b.drives here) (no_data bs b.drives here) bs b.drives here
+      seats b.host b.drives free (no_clock bs b.drives here) (no_data bs b.drives here) bs b.drives here

@@ -13,7 +13,6 @@ pub struct DiskBus<M: Steady, const N: usize> {
 }
 
 impl<M: Steady, const N: usize> Model for DiskBus<M, N> {
-    ghost use Rattle.std.specs.Prelude.{◌≤◌, length};
     ghost use Rattle.cbm_channel.specs.Standing.{Kept};
     ghost use Rattle.cbm_drive.specs.Cables.{Cabled};
     ghost use Rattle.cbm_drive.specs.Desks as desks;
@@ -21,8 +20,6 @@ impl<M: Steady, const N: usize> Model for DiskBus<M, N> {
     ghost Value = { Cabled (desks.Desk (Kept M)) };
 
     ghost view = { λ b. b.bus };
-
-    ghost invariant = { λ b. length b.bus.drives ≤ 4 };
 }
 
 impl<M: Steady, const N: usize> DiskBus<M, N> {

@@ -3,9 +3,8 @@ ghost use Rattle.std.specs.Prelude.{◌≡◌, ◌<◌, ◌≤◌};
 ghost use Rattle.cbm_channel.specs.Files.{Disk};
 ghost use Rattle.cbm_volume.specs.Holding.{HoldsDisk};
 ghost use Rattle.cbm_bus.specs.Powered.{IsPowered, powered};
-ghost use Rattle.cbm_drive.specs.Desks.{Desk};
 ghost use Rattle.cbm_channel.specs.Machines.{Machine};
-ghost use Rattle.cbm_drive.specs.Desks.{DeskStands};
+ghost use Rattle.cbm_drive.specs.Desks as desks;
 
 use cbm_drive::{Desk, Drive, Party};
 use cbm_medium::Steady;
@@ -26,7 +25,7 @@ pub fn drive_with<M: Steady>(disk: M, party: Party) -> Drive<Desk<M>>
 /// The disk of a drive as it is now. Channels that are open are dropped: a file that is being written stays unclosed.
 pub fn into_disk<M: Steady>(drive: Drive<Desk<M>>) -> M
     ensures same { result ≡ drive.machine.dos.medium }
-    ensures disk { (m : Desk Machine) → DeskStands M.seen drive.machine m →
+    ensures disk { (m : desks.Desk Machine) → desks.DeskStands M.seen drive.machine m →
         HoldsDisk (M.seen result).tracks (M.seen result).content m.dos.disk }
 {
     drive.into_machine().into_medium()
