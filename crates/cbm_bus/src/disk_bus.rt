@@ -57,7 +57,7 @@ impl<M: Steady, const N: usize> DiskBus<M, N> {
     /// each last saw all lines free. Then a next list of changes may be played as the first one was, from the machines that the
     /// drives have by then.
     pub fn at_rest(&self) -> bool
-        ensures { (result ≡ true) ↔ ((self.now.host ≡ all_free) × AreResting self.now.drives) }
+        ensures rests { (result ≡ true) ↔ ((self.now.host ≡ all_free) × AreResting self.now.drives) }
         ensures again { result ≡ true → (bs : List Party) (ms : ℕ → desks.Desk Machine)
             (ss : List (Station (desks.Desk Machine))) → AllUnlike bs → AreAt M.seen bs self.now ss →
             IsAtRest M.seen bs (machines_now ss ms) self.now }

@@ -1,4 +1,4 @@
-//! A drive that is switched off and on, and one that is given another disk.
+// A drive that is switched off and on, and one that is given another disk.
 
 use crate::desk::Desk;
 use crate::drive::Drive;
