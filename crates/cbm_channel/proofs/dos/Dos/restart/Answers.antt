@@ -1,6 +1,15 @@
-use Rattle.std.proofs.Common.{ap, ◌∙◌}
+use Rattle.std.proofs.Common.{ap, sym, subst, ◌∙◌}
+use Rattle.std.specs.Prelude.{None}
+use Rattle.cbm_machine.specs.Machines.{start}
+use Rattle.cbm_channel.specs.Standing.{StandsBy}
 use Rattle.cbm_channel.proofs.Stands.{stands_at_first}
 use Rattle.cbm_channel.proofs.dos.Dos.restart.Goals as goal
 
+-- the disk is the one from before
 pub returns-clause-stands : goal.returns-clause-stands
-returns-clause-stands g c = λ d h. stands_at_first _ _ _ d _ _ c.all_closed.ensures (c.new.ensures ∙ ap (λ x. record { status = x; told = 0 }) c.plain.ensures) h
+returns-clause-stands g c = λ d h.
+    let seen = g.M.Medium.seen in
+    let old = seen c.args.self.now.medium in
+    let told = c.new-self-inside.result in
+    let stands = stands_at_first old.content old.tracks old.protected d c.all_closed-self-inside.result told c.all_closed-self-inside.ensures (c.new-self-inside.ensures ∙ ap (λ x. record { status = x; told = 0 }) c.plain.ensures) h in
+    subst (λ v. StandsBy (seen v).content (seen v).tracks (seen v).protected c.all_closed-self-inside.result told None (start d old.protected old.tracks)) (sym (ap (λ k. k.medium) c.self.view_is)) stands
