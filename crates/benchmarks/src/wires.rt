@@ -105,12 +105,7 @@ fn at_start(alloc: Global) -> Host {
     Host { changes, now: 0 }
 }
 
-fn drive(
-    alloc: Global,
-    device: u8,
-    reaction: u8,
-    pace: Pace,
-) -> io::Result<Drive<Desk<D64Disk>>> {
+fn drive(alloc: Global, device: u8, reaction: u8, pace: Pace) -> io::Result<Drive<Desk<D64Disk>>> {
     if device >= 31 || reaction == 0 {
         return Err(failed());
     }

@@ -16,8 +16,8 @@ use crate::lines::Lines;
 use crate::session::run_requests;
 use crate::wires::{Stage, run_changes};
 use cbm_d64::{D64Disk, D64Fault};
-use cbm_g64::{G64Disk, G64Fault};
 use cbm_drive::Pace;
+use cbm_g64::{G64Disk, G64Fault};
 use cbm_host::Hosted;
 use cbm_medium::Steady;
 use std::alloc::Global;
@@ -126,12 +126,7 @@ impl DiskImage for D64Disk {
         first: Option<Line>,
         writer: &mut W,
     ) -> Result<D64Disk, RunFault> {
-        run_requests(
-            Hosted::with_pace(self, device, pace),
-            lines,
-            first,
-            writer,
-        )
+        run_requests(Hosted::with_pace(self, device, pace), lines, first, writer)
     }
 
     fn save(&self, alloc: Global) -> Result<Vec<u8>, RunFault> {
@@ -170,12 +165,7 @@ impl DiskImage for G64Disk {
         first: Option<Line>,
         writer: &mut W,
     ) -> Result<G64Disk, RunFault> {
-        run_requests(
-            Hosted::with_pace(self, device, pace),
-            lines,
-            first,
-            writer,
-        )
+        run_requests(Hosted::with_pace(self, device, pace), lines, first, writer)
     }
 
     fn save(&self, alloc: Global) -> Result<Vec<u8>, RunFault> {
