@@ -48,6 +48,21 @@ case_of "the version" 0 "" "$drive" --version
 is "is told" grep -q "^drive1541 [0-9]*\.[0-9]*\.[0-9]*$" out.txt
 case_of "device 12" 1 "" "$drive" hello.d64 hello.script out.d64 --device 12
 case_of "device 9" 0 "" "$drive" hello.d64 hello.script out.d64 --device 9
+case_of "a pace that is none" 1 "" "$drive" hello.d64 hello.script out.d64 --pace basic
+case_of "a pace without a word" 1 "" "$drive" hello.d64 hello.script out.d64 --pace
+printf 'open 0 NONE\nget 0 9\nstatus\n' > missing.script
+case_of "a missing file that is asked for" 0 "" "$drive" hello.d64 missing.script out.d64
+is "is told as a closed channel" grep -q "^status 61,FILE NOT OPEN,00,00$" out.txt
+case_of "the same at the profile's pace" 0 "" "$drive" hello.d64 missing.script out.d64 --pace profile
+is "is told so too" grep -q "^status 61,FILE NOT OPEN,00,00$" out.txt
+case_of "the same at a KERNAL's pace" 0 "" "$drive" --pace kernal hello.d64 missing.script out.d64
+is "is told as missing" grep -q "^status 62,FILE NOT FOUND,00,00$" out.txt
+printf 'lines\n0 atn pull\n100 clock pull\n1000 clock free\nend 1100\n' > late.script
+case_of "CLOCK that comes late" 0 "" "$drive" hello.d64 late.script out.d64
+is "is taken for free at the profile's pace" grep -q "^40 8 data free$" out.txt
+case_of "CLOCK that comes late, at a KERNAL's pace" 0 "" "$drive" hello.d64 late.script out.d64 --pace kernal
+printf '0 host atn pull\n20 8 data pull\n100 host clock pull\n1000 host clock free\n1020 8 data free\n' > late.txt
+is "is waited for" cmp -s out.txt late.txt
 printf 'lines\n0 atn pull\n0 clock pull\nend 30\n' > wires.script
 case_of "a script of line changes" 0 "" "$drive" hello.d64 wires.script out.d64 --device 9
 printf '0 host atn pull\n0 host clock pull\n20 9 data pull\n' > wires.txt

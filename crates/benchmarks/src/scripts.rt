@@ -3,7 +3,7 @@ use crate::images::d64;
 use crate::writes::{store, succeeded};
 use cbm_channel::Dos;
 use cbm_medium::Medium;
-use cbm_program::{Options, run};
+use cbm_program::{Options, Pace, run_at};
 use std::alloc::Global;
 use std::io;
 use std::rt::Runtime;
@@ -32,9 +32,15 @@ const WRITABLE: Options = Options {
 };
 
 /// The disk that a script leaves of an image, where it prints so many bytes.
-fn played(alloc: Global, image: &[u8], script: &str, printed: usize) -> io::Result<Vec<u8>> {
+fn played(
+    alloc: Global,
+    pace: Pace,
+    image: &[u8],
+    script: &str,
+    printed: usize,
+) -> io::Result<Vec<u8>> {
     let mut out: Vec<u8> = Vec::new(alloc);
-    let ended = run(alloc, script.as_bytes(), &mut out, image, &WRITABLE);
+    let ended = run_at(alloc, pace, script.as_bytes(), &mut out, image, &WRITABLE);
     if out.len() != printed {
         return Err(failed());
     }
@@ -47,12 +53,12 @@ fn timed(
     alloc: Global,
     name: &str,
     image: &[u8],
-    row: (&str, usize, u32),
+    row: (Pace, &str, usize, u32),
 ) -> io::Result<()> {
-    let (script, printed, turns) = row;
+    let (pace, script, printed, turns) = row;
     let start = Instant::now(rt)?;
     for _ in 0..turns {
-        let _after = played(alloc, image, script, printed)?;
+        let _after = played(alloc, pace, image, script, printed)?;
     }
     report(rt, name, &start, turns)
 }
@@ -83,14 +89,15 @@ pub fn requests(rt: &impl Runtime, alloc: Global) -> io::Result<()> {
     let image = empty_image(alloc)?;
     let hello = played(
         alloc,
+        Pace::Profile,
         image.as_slice(),
         "open 1 HELLO\nput 1 \\01\\02\\03\nclose 1\n",
         0,
     )?;
-    let row = (HELLO, 37, TURNS);
+    let row = (Pace::Profile, HELLO, 37, TURNS);
     timed(rt, alloc, "HELLO read by a script", hello.as_slice(), row)?;
-    let full = played(alloc, image.as_slice(), WRITING, 0)?;
-    let row = (WRITING, 0, LONG_TURNS);
+    let full = played(alloc, Pace::Profile, image.as_slice(), WRITING, 0)?;
+    let row = (Pace::Profile, WRITING, 0, LONG_TURNS);
     timed(
         rt,
         alloc,
@@ -98,11 +105,19 @@ pub fn requests(rt: &impl Runtime, alloc: Global) -> io::Result<()> {
         image.as_slice(),
         row,
     )?;
-    let row = (READING, 337_323, LONG_TURNS);
+    let row = (Pace::Profile, READING, 337_323, LONG_TURNS);
     timed(
         rt,
         alloc,
         "664 blocks read by a script",
+        full.as_slice(),
+        row,
+    )?;
+    let row = (Pace::Kernal, READING, 337_323, LONG_TURNS);
+    timed(
+        rt,
+        alloc,
+        "the same at a KERNAL's pace",
         full.as_slice(),
         row,
     )?;

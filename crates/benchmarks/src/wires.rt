@@ -14,6 +14,12 @@ use std::time::Instant;
 /// How many bytes are sent, or taken.
 const BYTES: u32 = 20_000;
 
+/// From DATA's release to its pull for a byte of a talker that reacts in 20: eight bits, and 50 more.
+const BITS: u64 = 20 + 8 * 120 + 50;
+
+/// The same at a KERNAL's pace.
+const SLOW_BITS: u64 = 20 + 8 * 160 + 50;
+
 /// A moment behind all that is played.
 const END: u64 = 1_000_000_000_000;
 
@@ -84,11 +90,11 @@ impl Host {
         self.after(20, Clock, Free)
     }
 
-    // So many bytes are taken.
-    fn take(&mut self, bytes: u32) -> Result<(), AllocError> {
+    // So many bytes are taken, whose bits take so long with the accept.
+    fn take(&mut self, bytes: u32, bits: u64) -> Result<(), AllocError> {
         for _ in 0..bytes {
             self.after(120, Data, Free)?;
-            self.after(1030, Data, Pull)?;
+            self.after(bits, Data, Pull)?;
         }
         Ok(())
     }
@@ -99,17 +105,17 @@ fn at_start(alloc: Global) -> Host {
     Host { changes, now: 0 }
 }
 
-fn drive(alloc: Global, device: u8, reaction: u8) -> io::Result<Drive<Desk<D64Disk>>> {
+fn drive(alloc: Global, device: u8, reaction: u8, pace: Pace) -> io::Result<Drive<Desk<D64Disk>>> {
     if device >= 31 || reaction == 0 {
         return Err(failed());
     }
     let disk = empty(alloc)?;
     Ok(Drive::new(
-        Desk::new(Dos::new(disk), device),
+        Desk::new(Dos::new(disk), device).with_pace(pace),
         Party {
             device,
             reaction,
-            pace: Pace::Profile,
+            pace,
         },
     ))
 }
@@ -162,7 +168,7 @@ fn streams(
 }
 
 // A file is written, byte by byte, and then read.
-fn files(alloc: Global, devices: &[u8], bytes: u32) -> io::Result<(Host, Host)> {
+fn files(alloc: Global, devices: &[u8], bytes: u32, bits: u64) -> io::Result<(Host, Host)> {
     let mut writing = at_start(alloc);
     writing.listen(devices, 0xf2, b"A,S,W")?;
     let body = vec![in alloc; 0x5a; bytes as usize]?;
@@ -172,27 +178,27 @@ fn files(alloc: Global, devices: &[u8], bytes: u32) -> io::Result<(Host, Host)> 
     reading.now = writing.now.wrapping_add(1000);
     reading.listen(&[0x28], 0xf0, b"A,S,R")?;
     reading.talk()?;
-    reading.take(bytes)?;
+    reading.take(bytes, bits)?;
     Ok((writing, reading))
 }
 
-// A bus with one drive, number 8.
-fn one(alloc: Global) -> io::Result<Bus<Desk<D64Disk>, 1>> {
-    Ok(Bus::new([drive(alloc, 8, 20)?]))
+// A bus with one drive, number 8, of a pace.
+fn one(alloc: Global, pace: Pace) -> io::Result<Bus<Desk<D64Disk>, 1>> {
+    Ok(Bus::new([drive(alloc, 8, 20, pace)?]))
 }
 
 // A bus with four drives of unlike reactions.
 fn four(alloc: Global) -> io::Result<Bus<Desk<D64Disk>, 4>> {
-    let eight = drive(alloc, 8, 1)?;
-    let nine = drive(alloc, 9, 20)?;
-    let ten = drive(alloc, 10, 40)?;
-    let eleven = drive(alloc, 11, 60)?;
+    let eight = drive(alloc, 8, 1, Pace::Profile)?;
+    let nine = drive(alloc, 9, 20, Pace::Profile)?;
+    let ten = drive(alloc, 10, 40, Pace::Profile)?;
+    let eleven = drive(alloc, 11, 60, Pace::Profile)?;
     Ok(Bus::new([eight, nine, ten, eleven]))
 }
 
 // One drive, all changes at once.
 fn one_at_once(rt: &impl Runtime, alloc: Global, writing: &Host, reading: &Host) -> io::Result<()> {
-    let mut bus = one(alloc)?;
+    let mut bus = one(alloc, Pace::Profile)?;
     plays(rt, alloc, "one drive listens", &mut bus, writing)?;
     plays(rt, alloc, "one drive talks", &mut bus, reading)
 }
@@ -204,14 +210,47 @@ fn one_by_player(
     writing: &Host,
     reading: &Host,
 ) -> io::Result<()> {
-    let mut bus = one(alloc)?;
+    let mut bus = one(alloc, Pace::Profile)?;
     streams(rt, "one drive listens, by a player", &mut bus, writing)?;
     streams(rt, "one drive talks, by a player", &mut bus, reading)
 }
 
+// One drive at a KERNAL's pace, the same changes: only the bits of the talker last longer.
+fn one_for_kernal(rt: &impl Runtime, alloc: Global) -> io::Result<()> {
+    let (writing, reading) = files(alloc, &[0x28], BYTES, SLOW_BITS)?;
+    let mut bus = one(alloc, Pace::Kernal)?;
+    plays(
+        rt,
+        alloc,
+        "one drive listens at a KERNAL's pace",
+        &mut bus,
+        &writing,
+    )?;
+    plays(
+        rt,
+        alloc,
+        "one drive talks at a KERNAL's pace",
+        &mut bus,
+        &reading,
+    )?;
+    let mut bus = one(alloc, Pace::Kernal)?;
+    streams(
+        rt,
+        "one drive listens at a KERNAL's pace, by a player",
+        &mut bus,
+        &writing,
+    )?;
+    streams(
+        rt,
+        "one drive talks at a KERNAL's pace, by a player",
+        &mut bus,
+        &reading,
+    )
+}
+
 // Four drives, all changes at once.
 fn four_at_once(rt: &impl Runtime, alloc: Global) -> io::Result<()> {
-    let (writing, reading) = files(alloc, &[0x28, 0x29, 0x2a, 0x2b], BYTES / 4)?;
+    let (writing, reading) = files(alloc, &[0x28, 0x29, 0x2a, 0x2b], BYTES / 4, BITS)?;
     let mut bus = four(alloc)?;
     plays(rt, alloc, "four drives listen", &mut bus, &writing)?;
     plays(rt, alloc, "one of four drives talks", &mut bus, &reading)
@@ -221,8 +260,9 @@ fn four_at_once(rt: &impl Runtime, alloc: Global) -> io::Result<()> {
 pub fn drives(rt: &impl Runtime, alloc: Global) -> io::Result<()> {
     let size = size_of::<Drive<Desk<D64Disk>>>();
     eprintln!(rt; "a drive with a D64: {size} bytes, and its image")?;
-    let (writing, reading) = files(alloc, &[0x28], BYTES)?;
+    let (writing, reading) = files(alloc, &[0x28], BYTES, BITS)?;
     one_at_once(rt, alloc, &writing, &reading)?;
     one_by_player(rt, alloc, &writing, &reading)?;
+    one_for_kernal(rt, alloc)?;
     four_at_once(rt, alloc)
 }

@@ -1,6 +1,7 @@
 // The head of a step: which disk is put in, and how.
 
 use crate::refusals::Refusals;
+use cbm_program::Pace;
 
 /// Where the disk of a step comes from.
 #[derive(Clone, Copy)]
@@ -51,6 +52,8 @@ impl Form {
 pub struct Way {
     /// The drive's number.
     pub device: u8,
+    /// Its pace on the bus.
+    pub pace: Pace,
     pub protected: bool,
     /// The same is asked of a G64.
     pub circles: bool,
@@ -62,9 +65,16 @@ pub struct Way {
 }
 
 impl Way {
-    /// A drive 8 that may be written.
+    /// Whether it can be played so: by the drive's calls there is no pace of a bus.
+    fn is_possible(&self) -> bool {
+        let by_calls = self.calls || !matches!(self.refusals, Refusals::None);
+        self.pace == Pace::Profile || !by_calls
+    }
+
+    /// A drive 8 of the profile's pace that may be written.
     pub const PLAIN: Way = Way {
         device: 8,
+        pace: Pace::Profile,
         protected: false,
         circles: false,
         calls: false,
@@ -82,6 +92,7 @@ impl Way {
             "device 9" => self.device = 9,
             "device 10" => self.device = 10,
             "device 11" => self.device = 11,
+            "pace kernal" => self.pace = Pace::Kernal,
             _ => self.refusals = Refusals::of(word)?,
         }
         Some(())
@@ -111,6 +122,9 @@ impl<'a> Head<'a> {
             if form.add(word).is_none() {
                 way.add(word)?;
             }
+        }
+        if !way.is_possible() {
+            return None;
         }
         Some(Head { start, form, way })
     }

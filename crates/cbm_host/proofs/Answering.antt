@@ -1,6 +1,4 @@
 -- For each machine there is what it says in a request, and the pieces of the request with it.
-use Rattle.cbm_iec.specs.declared.pace.Pace.TheVariants.{Profile}
-use Rattle.cbm_session.specs.Seats.{at_pace}
 use Rattle.std.proofs.Common.{replicate, ◌≡◌, ℕ, zero, suc, ◌+◌, ◌-◌, ◌<◌, ◌≤◌, ◌⊎◌, inl, inr, Bool, true, false, List, [], ◌∷◌, ◌++◌, length, append_assoc, append-nil, Option, Some, None, refl, sym, ap, ◌∙◌, subst, arith, eq-eqb}
 use Rattle.std.specs.Prelude.{if◌then◌else◌}
 use Rattle.cbm_iec.specs.declared.act.Act.TheVariants.{Pulled, Attention, Released, Heard, Said as Spoken, Silent}
@@ -91,14 +89,14 @@ small_bytes [] h = tt
 small_bytes (byte ∷ bytes) h = (h.0, small_bytes bytes h.1)
 
 -- A PLAN OF A REQUEST: pieces that the host performs, allowed for a machine, with what counts in them
-pub record Plan (M : Type 0) (step : M → Act → M) (peek : M → Option (ℕ × Bool)) (small : (m : M) (n : ℕ) (last : Bool) → peek m ≡ Some (n, last) → n < 256) (v : Party) (drive : IsDrive (at_pace Profile v)) (m : M) (start : ℕ) (request : Request) : Type 0 where
+pub record Plan (M : Type 0) (step : M → Act → M) (peek : M → Option (ℕ × Bool)) (small : (m : M) (n : ℕ) (last : Bool) → peek m ≡ Some (n, last) → n < 256) (b : Party) (drive : IsDrive b) (m : M) (start : ℕ) (request : Request) : Type 0 where
   pub pieces : List Piece
   pub marks : Marks
-  pub played : IsPlayed (at_pace Profile v) (rest ((at_pace Profile v) ∷ [])) (engine_at start v.device request) pieces (start + longest)
-  pub counts : Counts M step peek small (at_pace Profile v) drive.some drive.prompt (rest ((at_pace Profile v) ∷ [])) m pieces marks
-  pub acts : acts_from v.device marks ≡ acts_of v.device request (taken_from marks) (last_from false marks)
+  pub played : IsPlayed b (rest (b ∷ [])) (engine_at start b.device request) pieces (start + longest b.pace)
+  pub counts : Counts M step peek small b drive.some drive.prompt (rest (b ∷ [])) m pieces marks
+  pub acts : acts_from b.device marks ≡ acts_of b.device request (taken_from marks) (last_from false marks)
   pub taken : IsTakenBy request (taken_from marks) (last_from false marks)
-  pub fronts : (ms1 ms2 : Marks) → marks ≡ ms1 ++ ms2 → SaysFront M step peek v.device m request (taken_from ms1) (last_from false ms1)
+  pub fronts : (ms1 ms2 : Marks) → marks ≡ ms1 ++ ms2 → SaysFront M step peek b.device m request (taken_from ms1) (last_from false ms1)
 
 -- the bytes that the talker said, and whether the last of them carried EOI
 abbrev pub bytes_of : Said → List ℕ
@@ -123,10 +121,7 @@ module _ (M : Type 0) (step : M → Act → M) (says : M → Option (ℕ × Bool
   abbrev pub all_small : (m : M) (n : ℕ) (last : Bool) → peek m ≡ Some (n, last) → n < 256
   all_small m n last e = subst (λ (o : Option (ℕ × Bool)). Rattle.cbm_session.specs.Playing.IsByte M step peek o) e (Rattle.cbm_host.proofs.Bytewise.are_bytes M step says one (says m))
 
-  module _ (v : Party) (drive : IsDrive (at_pace Profile v)) where
-    abbrev b : Party
-    b = at_pace Profile v
-
+  module _ (b : Party) (drive : IsDrive b) where
     abbrev d : ℕ
     d = b.device
 
@@ -264,7 +259,7 @@ module _ (M : Type 0) (step : M → Act → M) (says : M → Option (ℕ × Bool
         (subst (λ (l : List (ℕ × Bool)). length l ≤ most) same (few_of most s wanted))
 
     -- where bytes are sent none are taken
-    sent_plan : (m : M) (start : ℕ) (request : Request) (second : ℕ) (sent : List ℕ) → 96 ≤ second → second < 256 → AreBytes sent → IsPlayed b (rest (b ∷ [])) (engine_at start d request) (sending b start second sent) (start + longest)
+    sent_plan : (m : M) (start : ℕ) (request : Request) (second : ℕ) (sent : List ℕ) → 96 ≤ second → second < 256 → AreBytes sent → IsPlayed b (rest (b ∷ [])) (engine_at start d request) (sending b start second sent) (start + longest b.pace)
         → ((bytes : List ℕ) (last : Bool) → acts_of d request bytes last ≡ called (listen + d) second ++ (heard sent ++ left_by unlisten))
         → ((bytes : List ℕ) (last : Bool) → (bytes ≡ []) × (last ≡ false) → IsTakenBy request bytes last × SaysFront M step peek d m request bytes last) → PlanOf m start request
     sent_plan m start request second sent high few small played acts none =

@@ -1,6 +1,4 @@
 -- A request on any disk was carried out, for the machine that plays back what the drive showed.
-use Rattle.cbm_iec.specs.declared.pace.Pace.TheVariants.{Profile}
-use Rattle.cbm_session.specs.Seats.{at_pace}
 use Rattle.std.proofs.Common.{◌≡◌, ℕ, ◌+◌, ◌≤◌, Bool, List, [], ◌∷◌, Some, sym, ap, ◌∙◌, arith}
 use Rattle.cbm_drive.specs.Cables.{Cabled}
 use Rattle.cbm_drive.specs.Seats.{IsBusAt}
@@ -21,13 +19,10 @@ use Rattle.cbm_iec.specs.declared.party.Party.{Party}
 use Rattle.cbm_session.specs.Playing.{at_rest}
 use Rattle.cbm_session.specs.Sessions.{IsDrive}
 
-module _ {D : Type 0} (shows : D → Shown) (v : Party) (drive : IsDrive (at_pace Profile v)) (start : ℕ) (request : Request) (channel : channel_of request ≤ 15) (before now : Cabled D) (trail : List Shown) (m : Playback)
-    (began : IsBusAt D Playback (IsPlayedBack shows trail) before.host before.drives (at_rest Playback played_step played_says (λ d. m) ((at_pace Profile v) ∷ []))) where
-  abbrev b : Party
-  b = at_pace Profile v
-
+module _ {D : Type 0} (shows : D → Shown) (b : Party) (drive : IsDrive b) (start : ℕ) (request : Request) (channel : channel_of request ≤ 15) (before now : Cabled D) (trail : List Shown) (m : Playback)
+    (began : IsBusAt D Playback (IsPlayedBack shows trail) before.host before.drives (at_rest Playback played_step played_says (λ d. m) (b ∷ []))) where
   pub carried_anyway : (p : Performing) (old new : List Event) (bytes : List ℕ) (last : Bool) (end : ℕ)
-      → HasPerformed D Playback (IsPlayedBack shows []) played_step played_says (engine_at start b.device request) (start + longest) p now old new bytes last (at_rest Playback played_step played_says (λ d. m) (b ∷ []))
+      → HasPerformed D Playback (IsPlayedBack shows []) played_step played_says (engine_at start b.device request) (start + longest b.pace) p now old new bytes last (at_rest Playback played_step played_says (λ d. m) (b ∷ []))
       → ((t : ℕ) → stage_end p.engine.stage ≡ Some t → t ≤ p.limit → end ≡ t) → IsCarriedOutAnyway shows b start request before now old new bytes last end
   carried_anyway p old new bytes last end h over = record {
     played = m;

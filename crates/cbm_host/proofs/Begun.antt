@@ -4,14 +4,12 @@ use Rattle.cbm_iec.specs.declared.act.Act.TheVariants.{Heard}
 use Rattle.cbm_iec.specs.declared.act.Act.{Act}
 use Rattle.cbm_iec.specs.declared.event.Event.{Event}
 use Rattle.cbm_iec.specs.declared.party.Party.{Party}
-use Rattle.cbm_iec.specs.declared.pace.Pace.TheVariants.{Profile}
 use Rattle.cbm_session.specs.Answers.{Allowed, Run, run}
 use Rattle.cbm_session.specs.Playing.{at_rest, IsMachine}
 use Rattle.cbm_session.specs.Sessions.{rest, IsDrive, IsBus}
 use Rattle.cbm_session.specs.Steps.{Step}
 use Rattle.cbm_drive.specs.Cables.{Cabled}
 use Rattle.cbm_drive.specs.Players.{pending}
-use Rattle.cbm_session.specs.Seats.{at_pace}
 use Rattle.cbm_host.proofs.Answering.{plan}
 use Rattle.cbm_host.proofs.Bytewise.{bytewise}
 use Rattle.cbm_host.proofs.Counted.{marks_of, marks_append, taken_from, last_from, taken_are, last_are}
@@ -63,15 +61,12 @@ module _ (M : Type 0) (step : M → Act → M) (says : M → Option (ℕ × Bool
         let w = taken (most_of Status) (data_on + 15) bytes last short.0 h k in
         record { whole = w.bytes_all; marked = w.marked; behind = _; ran = (tt, (tt, (tt, (tt, all_runs M step says machine m1 w.bytes_all w.marked (left_by untalk) _ w.said (tt, (tt, (tt, refl))))))); taken = w.taken; more = w.more; front = w.front; all = w.all }
 
-module _ (D M : Type 0) (stands : D → M → Type 0) (step : M → Act → M) (says : M → Option (ℕ × Bool)) (machine : IsMachine M step says) (v : Party) (drive : IsDrive (at_pace Profile v)) (ms : ℕ → M) (start : ℕ) (request : Request) (channel : channel_of request ≤ 15) (short : IsShort M step says v.device (ms v.device) request) where
-  abbrev b : Party
-  b = at_pace Profile v
-
+module _ (D M : Type 0) (stands : D → M → Type 0) (step : M → Act → M) (says : M → Option (ℕ × Bool)) (machine : IsMachine M step says) (b : Party) (drive : IsDrive b) (ms : ℕ → M) (start : ℕ) (request : Request) (channel : channel_of request ≤ 15) (short : IsShort M step says b.device (ms b.device) request) where
   is_bus : IsBus (b ∷ [])
   is_bus = record { some = omega arith; few = omega arith; drives = (drive, tt); unlike = (tt, tt) }
 
   -- WHAT CAME SO FAR, whichever byte stands for what is none
-  front : (v : Bool) (p : Performing) (bus : Cabled D) (old new : List Event) (bytes : List ℕ) (last : Bool) → IsPerforming D M stands step says (engine_at start b.device request) (start + longest) p bus old new bytes last (at_rest M step says ms (b ∷ []))
+  front : (v : Bool) (p : Performing) (bus : Cabled D) (old new : List Event) (bytes : List ℕ) (last : Bool) → IsPerforming D M stands step says (engine_at start b.device request) (start + longest b.pace) p bus old new bytes last (at_rest M step says ms (b ∷ []))
       → SaysFront M step (bytewise M step says v) b.device (ms b.device) request bytes last
   front v p bus old new bytes last h =
       let k = plan M step says v machine b drive (ms b.device) start request channel short in
@@ -84,6 +79,6 @@ module _ (D M : Type 0) (stands : D → M → Type 0) (step : M → Act → M) (
       (subst (λ (w : Bool). SaysFront M step (bytewise M step says v) b.device (ms b.device) request (taken_from (marks_of j.done)) w) (sym last_is) (k.fronts (marks_of j.done) (marks_of j.more) parts))
 
   -- A REQUEST UNDER WAY IS BEGUN
-  pub begun : (p : Performing) (bus : Cabled D) (old new : List Event) (bytes : List ℕ) (last : Bool) → IsPerforming D M stands step says (engine_at start b.device request) (start + longest) p bus old new bytes last (at_rest M step says ms (b ∷ []))
+  pub begun : (p : Performing) (bus : Cabled D) (old new : List Event) (bytes : List ℕ) (last : Bool) → IsPerforming D M stands step says (engine_at start b.device request) (start + longest b.pace) p bus old new bytes last (at_rest M step says ms (b ∷ []))
       → IsRequestBegun M step says b.device (ms b.device) request bytes last
   begun p bus old new bytes last h = begun_of M step says machine b.device (ms b.device) request bytes last short (front false p bus old new bytes last h) (front true p bus old new bytes last h)

@@ -10,7 +10,6 @@ use Rattle.cbm_iec.specs.declared.lines.Held.{Held}
 use Rattle.cbm_iec.specs.declared.party.Party.{Party}
 use Rattle.cbm_iec.specs.declared.party.Role.TheVariants.{Absent}
 use Rattle.cbm_iec.specs.declared.port.Port.{Port}
-use Rattle.cbm_iec.specs.declared.pace.Pace.TheVariants.{Profile}
 use Rattle.cbm_session.proofs.headline.FrameBus.{StandsSo}
 use Rattle.cbm_session.proofs.headline.Here.{Here}
 use Rattle.cbm_session.proofs.headline.LawsMet.{keeps}
@@ -24,7 +23,7 @@ use Rattle.cbm_session.specs.Buses.{SideAmong, rest_at, holding}
 use Rattle.cbm_session.specs.Following.{in_attention}
 use Rattle.cbm_session.specs.Pieces.{Piece, Place, Point, Open}
 use Rattle.cbm_session.specs.Playing.{Station, IsLaterDue, nobody, Plays, at_rest, IsMachine, IsKept}
-use Rattle.cbm_session.specs.Seats.{at_pace, lines, Seat}
+use Rattle.cbm_session.specs.Seats.{lines, Seat}
 use Rattle.cbm_session.specs.Sessions.{rest, Splits, session_steps, acts_of, IsDrive, IsBus}
 use Rattle.cbm_session.specs.Steps.{Step, events_of, acts_for}
 use Rattle.cbm_session.specs.Timing.{HostKeeps}
@@ -89,10 +88,7 @@ free_rest b p place host seats =
     ∙ ap (λ (ss : List Seat). record { host = all_free; clocks = holding Clock b.device ss; datas = holding Data b.device ss }) seats
     ∙ Rattle.cbm_session.proofs.among.Sessions.rest_free (b ∷ []) b
 
-module _ (D M : Type 0) (stands : D → M → Type 0) (step : M → Act → M) (says : M → Option (ℕ × Bool)) (machine : IsMachine M step says) (v : Party) (drive : IsDrive (at_pace Profile v)) (ms : ℕ → M) (start : ℕ) (request : Request) (channel : channel_of request ≤ 15) (short : IsShort M step says v.device (ms v.device) request) where
-  abbrev b : Party
-  b = at_pace Profile v
-
+module _ (D M : Type 0) (stands : D → M → Type 0) (step : M → Act → M) (says : M → Option (ℕ × Bool)) (machine : IsMachine M step says) (b : Party) (drive : IsDrive b) (ms : ℕ → M) (start : ℕ) (request : Request) (channel : channel_of request ≤ 15) (short : IsShort M step says b.device (ms b.device) request) where
   abbrev peek : M → Option (ℕ × Bool)
   peek = bytewise M step says false
 
@@ -112,7 +108,7 @@ module _ (D M : Type 0) (stands : D → M → Type 0) (step : M → Act → M) (
   stops_bytes p limit n ss es (Over at) h = tt
 
   -- A REQUEST PERFORMED IS CARRIED OUT, and its end is the engine's.
-  module _ (p : Performing) (bus : Cabled D) (old new : List Event) (bytes : List ℕ) (last : Bool) (h : HasPerformed D M stands step says (engine_at start b.device request) (start + longest) p bus old new bytes last (at_rest M step says ms (b ∷ []))) where
+  module _ (p : Performing) (bus : Cabled D) (old new : List Event) (bytes : List ℕ) (last : Bool) (h : HasPerformed D M stands step says (engine_at start b.device request) (start + longest b.pace) p bus old new bytes last (at_rest M step says ms (b ∷ []))) where
     abbrev ks : List Piece
     ks = the_plan.pieces
 
@@ -128,8 +124,8 @@ module _ (D M : Type 0) (stands : D → M → Type 0) (step : M → Act → M) (
     over : (joint.more ≡ []) × (engine_due p.engine ≡ Over the_plan.played.until)
     over =
         let f = the_plan.played in
-        finished M step (bytewise M step says false) (all_bytes M step says false) b ms is_bus (byte_machine M step says false machine) the_plan.pieces f.linked allowed f.behind f.until f.ending (start + longest) f.soon f.front f.last f.steps f.over h.made h.behind bytes last joint p.engine
-        (goes_bytes M step says false zero (at_rest M step says ms (b ∷ [])) h.made h.behind p.engine h.goes_on) p.player h.from (stops_bytes p.player (start + longest) zero (at_rest M step says ms (b ∷ [])) h.made (engine_due p.engine) h.stops)
+        finished M step (bytewise M step says false) (all_bytes M step says false) b ms is_bus (byte_machine M step says false machine) the_plan.pieces f.linked allowed f.behind f.until f.ending (start + longest b.pace) f.soon f.front f.last f.steps f.over h.made h.behind bytes last joint p.engine
+        (goes_bytes M step says false zero (at_rest M step says ms (b ∷ [])) h.made h.behind p.engine h.goes_on) p.player h.from (stops_bytes p.player (start + longest b.pace) zero (at_rest M step says ms (b ∷ [])) h.made (engine_due p.engine) h.stops)
 
     all_done : session_steps (rest (b ∷ [])) the_plan.pieces ≡ joint.done ++ []
     all_done = joint.all ∙ ap (λ (l : List Step). joint.done ++ l) over.0
@@ -239,7 +235,7 @@ module _ (D M : Type 0) (stands : D → M → Type 0) (step : M → Act → M) (
         kept = subst (λ (v : List (Station M)). IsKept M step says (b ∷ []) ms h.made the_plan.played.until v) (sym one.1 ∙ is_at_rest) (kept_one the_plan.played.until);
         ran = ran;
         taken = subst (λ (v : Bool). IsTakenBy request bytes v) (sym is_last) (subst (λ (l : List ℕ). IsTakenBy request l (last_from false the_plan.marks)) (sym is_taken) the_plan.taken);
-        later = not_before_start b start b.device (start + longest) request the_plan.pieces is_bus the_plan.played;
+        later = not_before_start b start b.device (start + longest b.pace) request the_plan.pieces is_bus the_plan.played;
         soon = the_plan.played.soon;
       };
     }
@@ -251,5 +247,5 @@ module _ (D M : Type 0) (stands : D → M → Type 0) (step : M → Act → M) (
     pub carried_out_then : (end : ℕ) → stage_end p.engine.stage ≡ Some end → HasCarriedOut D M stands step says b ms start request bus old new bytes last end
     carried_out_then end e = let same : the_plan.played.until ≡ end = (let k : Some the_plan.played.until ≡ Some end = sym end_is ∙ e in cc) in subst (λ (n : ℕ). HasCarriedOut D M stands step says b ms start request bus old new bytes last n) same carried_out
 
-    pub carried_soon : (end : ℕ) → stage_end p.engine.stage ≡ Some end → end ≤ start + longest
+    pub carried_soon : (end : ℕ) → stage_end p.engine.stage ≡ Some end → end ≤ start + longest b.pace
     carried_soon end e = (carried_out_then end e).done.soon

@@ -1,6 +1,5 @@
 -- What counts in the pieces of a request.
 use Rattle.cbm_iec.specs.Profile.{bit_time}
-use Rattle.cbm_iec.specs.declared.pace.Pace.TheVariants.{Profile}
 use Rattle.std.proofs.Common.{◌≡◌, ℕ, ◌+◌, ◌≤◌, Bool, true, false, not, List, [], ◌∷◌, ◌++◌, Option, Some, None, refl, ap, ◌∙◌, arith}
 use Rattle.std.specs.Prelude.{if◌then◌else◌}
 use Rattle.cbm_iec.specs.declared.act.Act.TheVariants.{Pulled, Attention, Heard, Said}
@@ -18,7 +17,7 @@ use Rattle.cbm_session.specs.Bits.{where_held, where_free, Cell, cell_steps, cel
 use Rattle.cbm_session.specs.Following.{alone}
 use Rattle.cbm_session.specs.Frames.{Sent, Told, end_of, signal_steps, bit_steps, first_bit, is_last}
 use Rattle.cbm_session.specs.Pieces.{Point, steps_of, PullPiece, Command, Byte}
-use Rattle.cbm_session.specs.Seats.{at_pace, Seat, device, reaction}
+use Rattle.cbm_session.specs.Seats.{Seat, device, reaction}
 use Rattle.cbm_session.specs.Steps.{Mark, Step, Plain, ForEach, For, host, drive, for_one, with_mark, acts_for}
 use Rattle.cbm_host.proofs.Along.{said_with, taken_in, last_in}
 use Rattle.cbm_host.proofs.Frames.{cells_fit}
@@ -157,21 +156,19 @@ pull_marks p s at = ap (λ (l : List Step). marks_of l) (pull_is (alone p s) s a
     go false false false true = refl
     go false false false false = refl
 
-pub command_marks : (p : Point) (s : Seat) (byte ready : ℕ) → 1 ≤ reaction s → let f = frame_for (reaction s) false byte ready in
+pub command_marks : (p : Point) (s : Seat) (byte ready : ℕ) → 1 ≤ reaction s → let f = frame_for s.party false byte ready in
     marks_of (steps_of (alone p s) (Command f)) ≡ (Drive (device s), For (device s) (Attention (byte_of f.cells))) ∷ []
 command_marks p s byte ready some =
-    let f = frame_for (reaction s) false byte ready in
+    let f = frame_for s.party false byte ready in
     ap (λ (l : List Step). marks_of l) (frame_is (ready + reaction s) s (Attention (byte_of f.cells)) f false (omega arith) (cells_fit false 8 byte f.start)) ∙ frame_marks (ready + reaction s) s false (Attention (byte_of f.cells)) f
 
-pub byte_marks : (p : Point) (v : Party) (o : Held) (eoi : Bool) (byte ready : ℕ) → let b = at_pace Profile v in let f = frame_for b.reaction eoi byte ready in
+pub byte_marks : (p : Point) (b : Party) (o : Held) (eoi : Bool) (byte ready : ℕ) → let f = frame_for b eoi byte ready in
     marks_of (steps_of (alone p (seat b Listener o)) (Byte eoi f)) ≡ (Drive b.device, For b.device (Heard (byte_of f.cells) eoi)) ∷ []
-byte_marks p v o false byte ready =
-    let b = at_pace Profile v in
-    let f = frame_for b.reaction false byte ready in
+byte_marks p b o false byte ready =
+    let f = frame_for b false byte ready in
     ap (λ (l : List Step). marks_of l) (frame_is (ready + b.reaction) (seat b Listener o) (Heard (byte_of f.cells) false) f false (omega arith) (cells_fit false 8 byte f.start)) ∙ frame_marks (ready + b.reaction) (seat b Listener o) false (Heard (byte_of f.cells) false) f
-byte_marks p v o true byte ready =
-    let b = at_pace Profile v in
-    let f = frame_for b.reaction true byte ready in
+byte_marks p b o true byte ready =
+    let f = frame_for b true byte ready in
     ap (λ (l : List Step). marks_of l) (frame_is (ready + b.reaction) (seat b Listener o) (Heard (byte_of f.cells) true) f true (omega arith, omega arith) (cells_fit false 8 byte f.start)) ∙ frame_marks (ready + b.reaction) (seat b Listener o) true (Heard (byte_of f.cells) true) f
 
 -- a byte of the talker, and CLOCK's release behind the last one

@@ -6,17 +6,11 @@ use Rattle.std.specs.Prelude.{if◌then◌else◌, ◌==◌}
 use Rattle.cbm_iec.specs.Hearing.{is_same}
 use Rattle.cbm_iec.specs.declared.act.Act.{Act}
 use Rattle.cbm_iec.specs.declared.line.Line.TheVariants.{Data}
-use Rattle.cbm_iec.specs.Profile.{eoi_pulse}
 use Rattle.cbm_iec.specs.declared.line.Way.TheVariants.{Free}
-use Rattle.cbm_iec.specs.declared.lines.Held.{Held}
-use Rattle.cbm_iec.specs.declared.pace.Pace.TheVariants.{Profile}
-use Rattle.cbm_iec.specs.declared.party.Party.{Party}
-use Rattle.cbm_iec.specs.declared.party.Role.{Role}
 use Rattle.cbm_session.proofs.joining.OneDrive.{one_frame}
 use Rattle.cbm_session.specs.Bits.{where_held, Cell, cell_steps, cells_steps, held_after, last_pull, SetFits, CellsFit}
 use Rattle.cbm_session.specs.Frames.{end_of, SentFits}
-use Rattle.cbm_session.proofs.reading.PieceReadings.{seat}
-use Rattle.cbm_session.specs.Seats.{at_pace, Seat, reaction}
+use Rattle.cbm_session.specs.Seats.{Seat, reaction}
 use Rattle.cbm_session.specs.Steps.{Step, host}
 use Rattle.cbm_host.proofs.Composing.{performs_then}
 use Rattle.cbm_host.specs.Engines.{Engined, accepted}
@@ -52,9 +46,9 @@ pub cells_count : (n l t : ℕ) → length (cells_for n l t) ≡ n
 cells_count zero l t = refl
 cells_count (suc n) l t = ap suc (cells_count n (l / 2) (t + phase + phase))
 
-pub frame_fits : (s : Seat) (eoi : Bool) (byte ready : ℕ) → (eoi ≡ true → s.party.pace ≡ Profile) → SentFits (s ∷ []) eoi (frame_for (reaction s) eoi byte ready)
-frame_fits s true byte ready e = let pulse : eoi_pulse s.party.pace ≡ 60 = ap eoi_pulse (e refl) in record { start = omega (arith, pulse); eight = cells_count 8 byte (start_for (reaction s) true ready); cells = cells_fit false 8 byte (start_for (reaction s) true ready) }
-frame_fits s false byte ready e = record { start = (omega arith, omega arith); eight = cells_count 8 byte (start_for (reaction s) false ready); cells = cells_fit false 8 byte (start_for (reaction s) false ready) }
+pub frame_fits : (s : Seat) (eoi : Bool) (byte ready : ℕ) → SentFits (s ∷ []) eoi (frame_for s.party eoi byte ready)
+frame_fits s true byte ready = record { start = omega arith; eight = cells_count 8 byte (start_for s.party true ready); cells = cells_fit false 8 byte (start_for s.party true ready) }
+frame_fits s false byte ready = record { start = (omega arith, omega arith); eight = cells_count 8 byte (start_for s.party false ready); cells = cells_fit false 8 byte (start_for s.party false ready) }
 
 module _ (behind : Behind) (left : List ℕ) (most : ℕ) where
   -- in a frame
@@ -100,15 +94,15 @@ module _ (behind : Behind) (left : List ℕ) (most : ℕ) where
       again)
 
   -- a whole frame, up to the accept
-  pub frame_performs : (s : Seat) (act : Act) (byte ready : ℕ) → let f = frame_for (reaction s) false byte ready in
+  pub frame_performs : (s : Seat) (act : Act) (byte ready : ℕ) → let f = frame_for s.party false byte ready in
       Performs (framing (Readying ready byte false)) (one_frame (ready + reaction s) s false act f) (accepted (end_of f + reaction s) behind (framing Sent))
   frame_performs s act byte ready =
-      let f = frame_for (reaction s) false byte ready in
+      let f = frame_for s.party false byte ready in
       makes refl refl (sees tt (makes refl refl (performs_then (bits_perform 8 false f.start byte) (sees tt (ends refl)))))
 
   -- the last one
-  pub last_performs : (v : Party) (role : Role) (o : Held) (act : Act) (byte ready : ℕ) → let s = seat (at_pace Profile v) role o in let f = frame_for v.reaction true byte ready in
-      Performs (framing (Readying ready byte true)) (one_frame (ready + v.reaction) s true act f) (accepted (end_of f + v.reaction) behind (framing Sent))
-  last_performs v role o act byte ready =
-      let f = frame_for v.reaction true byte ready in
+  pub last_performs : (s : Seat) (act : Act) (byte ready : ℕ) → let f = frame_for s.party true byte ready in
+      Performs (framing (Readying ready byte true)) (one_frame (ready + reaction s) s true act f) (accepted (end_of f + reaction s) behind (framing Sent))
+  last_performs s act byte ready =
+      let f = frame_for s.party true byte ready in
       makes refl refl (sees tt (sees tt (sees tt (makes refl refl (performs_then (bits_perform 8 false f.start byte) (sees tt (ends refl)))))))

@@ -47,7 +47,10 @@ module _ (left : List ℕ) (most : ℕ) (c : Change) (t : ℕ) where
   take_kept line way Awaiting h = absurd cc
   take_kept line way (Listening until) h = absurd cc
   take_kept line way (Gathering came) h = absurd cc
-  take_kept Atn way take h = h
+  take_kept Atn way (Freeing at) h = h
+  take_kept Atn way (Marking at) h = h
+  take_kept Atn way (Unmarking at) h = h
+  take_kept Atn way (Accepting at byte last) h = h
   take_kept Clock Pull (Freeing at) h = h
   take_kept Clock Pull (Marking at) h = h
   take_kept Clock Pull (Unmarking at) h = h
@@ -56,7 +59,8 @@ module _ (left : List ℕ) (most : ℕ) (c : Change) (t : ℕ) where
   take_kept Clock Free (Marking at) h = h
   take_kept Clock Free (Unmarking at) h = h
   take_kept Clock Free (Accepting at byte last) h = h
-  take_kept Data way (Freeing at) h = h
+  take_kept Data Pull (Freeing at) h = h
+  take_kept Data Free (Freeing at) h = h
   take_kept Data way (Marking at) h = h
   take_kept Data way (Unmarking at) h = h
   take_kept Data way (Accepting at byte last) h = h

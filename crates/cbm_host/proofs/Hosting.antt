@@ -1,13 +1,12 @@
 -- A request to a drive with its DOS, from the first event to the end.
-use Rattle.cbm_iec.specs.declared.pace.Pace.TheVariants.{Profile}
-use Rattle.cbm_session.specs.Seats.{at_pace}
+use Rattle.cbm_iec.specs.declared.pace.Pace.{Pace}
 use Rattle.std.proofs.Common.{◌≡◌, ℕ, zero, suc, get_or, replicate, ◌+◌, ◌<◌, ◌≤◌, Bool, false, List, [], ◌∷◌, ◌++◌, append-nil, length, Option, Some, None, refl, sym, ap, ◌∙◌, subst, arith}
 use Rattle.std.specs.Prelude.{MatchOption}
 use Rattle.cbm_medium.specs.Seen.{Seen}
 use Rattle.cbm_channel.specs.Machines.{Machine}
 use Rattle.cbm_channel.specs.Standing.{Kept}
 use Rattle.cbm_drive.specs.Cables.{Cabled, all_free}
-use Rattle.cbm_drive.specs.Desks.{Desk, DeskStands, at_first, desk_step, desk_says}
+use Rattle.cbm_drive.specs.Desks.{Desk, DeskStands, desk_step, desk_says}
 use Rattle.cbm_drive.specs.NextSaid.{is_byte}
 use Rattle.cbm_drive.specs.Players.{at_start}
 use Rattle.cbm_drive.specs.Seats.{Seated, IsBusAt, IsWithout, held_by, numbers}
@@ -25,7 +24,7 @@ use Rattle.cbm_host.specs.Hosted.{IsTaking, HasTaken, Hosting, party_of, resting
 use Rattle.cbm_host.specs.Performed.{IsPerforming, HasPerformed, taken_with, last_with}
 use Rattle.cbm_host.specs.Performers.{Performing, IsGoing, HasStopped, HasNext}
 use Rattle.cbm_host.specs.Requests.{longest}
-use Rattle.cbm_host.specs.Served.{IsModest}
+use Rattle.cbm_host.specs.Served.{IsModest, at_power_up}
 use Rattle.cbm_host.specs.declared.request.Request.{Request}
 use Rattle.cbm_host.specs.declared.request.Request.TheVariants.{Fill}
 use Rattle.cbm_iec.specs.declared.act.Act.{Act}
@@ -88,32 +87,29 @@ module _ (D M : Type 0) (stood stands : D → M → Type 0) (step : M → Act �
 
 -- ---- over the DOS
 
-pub is_drive : (device : ℕ) → 8 ≤ device → device ≤ 11 → IsDrive (party_of device)
-is_drive device low high = record { from = low; upto = high; some = omega arith; prompt = omega arith }
+pub is_drive : (pace : Pace) (device : ℕ) → 8 ≤ device → device ≤ 11 → IsDrive (party_of pace device)
+is_drive pace device low high = record { from = low; upto = high; some = omega arith; prompt = omega arith }
 
 module _ {M : Type 0} (seen : M → Seen) where
-  abbrev Asked : ℕ → Machine → Request → Type 0
-  Asked device m request = IsShort (Desk Machine) desk_step desk_says device (at_first device m) request
-
   -- before the first event
-  pub asked : (h : Hosting (Kept M)) (p : Performing) (m : Machine) (request : Request) → Rests seen h m → p.player ≡ at_start → p.engine ≡ engine_at h.moment h.device request → p.limit ≡ h.moment + longest → IsUnderWay seen h p m request [] false
+  pub asked : (h : Hosting (Kept M)) (p : Performing) (m : Machine) (request : Request) → Rests seen h m → p.player ≡ at_start → p.engine ≡ engine_at h.moment h.device request → p.limit ≡ h.moment + longest h.pace → IsUnderWay seen h p m request [] false
   asked h p m request rests player engine limit = record {
     start = h.moment;
     taking = record {
       made = [];
-      performing = performing_none (Desk (Kept M)) (Desk Machine) (DeskStands seen) desk_step desk_says (λ x d n last s e. is_byte (desk_says d) n last s.1 e) (engine_at h.moment h.device request) (h.moment + longest) p h.bus [] [] false (resting_for h.device m) rests player engine limit refl refl;
+      performing = performing_none (Desk (Kept M)) (Desk Machine) (DeskStands seen) desk_step desk_says (λ x d n last s e. is_byte (desk_says d) n last s.1 e) (engine_at h.moment h.device request) (h.moment + longest h.pace) p h.bus [] [] false (resting_for h.pace h.device m) rests player engine limit refl refl;
     };
   }
 
   -- what the laws of a request say of it
   abbrev pub Begins : Hosting (Kept M) → Performing → Type 0
-  Begins h p = (v : Party) (ms : ℕ → Desk Machine) (start : ℕ) (request : Request) (old new : List Event) (bytes : List ℕ) (last : Bool) → let b = at_pace Profile v in IsDrive b → channel_of request ≤ 15 → IsShort (Desk Machine) desk_step desk_says b.device (ms b.device) request
-      → IsPerforming (Desk (Kept M)) (Desk Machine) (DeskStands seen) desk_step desk_says (engine_at start b.device request) (start + longest) p h.bus old new bytes last (at_rest (Desk Machine) desk_step desk_says ms (b ∷ []))
+  Begins h p = (b : Party) (ms : ℕ → Desk Machine) (start : ℕ) (request : Request) (old new : List Event) (bytes : List ℕ) (last : Bool) → IsDrive b → channel_of request ≤ 15 → IsShort (Desk Machine) desk_step desk_says b.device (ms b.device) request
+      → IsPerforming (Desk (Kept M)) (Desk Machine) (DeskStands seen) desk_step desk_says (engine_at start b.device request) (start + longest b.pace) p h.bus old new bytes last (at_rest (Desk Machine) desk_step desk_says ms (b ∷ []))
       → IsRequestBegun (Desk Machine) desk_step desk_says b.device (ms b.device) request bytes last
 
   abbrev pub CarriesOut : Hosting (Kept M) → Performing → Type 0
-  CarriesOut h p = (v : Party) (ms : ℕ → Desk Machine) (start : ℕ) (request : Request) (old new : List Event) (bytes : List ℕ) (last : Bool) → let b = at_pace Profile v in IsDrive b → channel_of request ≤ 15 → IsShort (Desk Machine) desk_step desk_says b.device (ms b.device) request
-      → HasPerformed (Desk (Kept M)) (Desk Machine) (DeskStands seen) desk_step desk_says (engine_at start b.device request) (start + longest) p h.bus old new bytes last (at_rest (Desk Machine) desk_step desk_says ms (b ∷ []))
+  CarriesOut h p = (b : Party) (ms : ℕ → Desk Machine) (start : ℕ) (request : Request) (old new : List Event) (bytes : List ℕ) (last : Bool) → IsDrive b → channel_of request ≤ 15 → IsShort (Desk Machine) desk_step desk_says b.device (ms b.device) request
+      → HasPerformed (Desk (Kept M)) (Desk Machine) (DeskStands seen) desk_step desk_says (engine_at start b.device request) (start + longest b.pace) p h.bus old new bytes last (at_rest (Desk Machine) desk_step desk_says ms (b ∷ []))
       → (end : ℕ) × (stage_end p.engine.stage ≡ Some end) × HasCarriedOut (Desk (Kept M)) (Desk Machine) (DeskStands seen) desk_step desk_says b ms start request h.bus old new bytes last end
 
   -- the bytes so far are the first ones
@@ -121,8 +117,8 @@ module _ {M : Type 0} (seen : M → Seen) where
       → IsUnderWay seen h p m request bytes last → IsGoingOn seen h p m request bytes last
   going_on h p m request bytes last low high channel modest begins u =
       let t = u.taking in
-      let k = begins (party_of h.device) (λ d. at_first h.device m) u.start request [] t.made bytes last (is_drive h.device low high) channel (is_short h.device request m (omega (arith, high)) channel modest) t.performing in
-      let s = serves h.device request m k.whole k.marked k.behind (omega (arith, high)) channel k.taken k.ran in
+      let k = begins (party_of h.pace h.device) (λ d. at_power_up h.pace h.device m) u.start request [] t.made bytes last (is_drive h.pace h.device low high) channel (is_short h.pace h.device request m (omega (arith, high)) channel modest) t.performing in
+      let s = serves h.pace h.device request m k.whole k.marked k.behind (omega (arith, high)) channel k.taken k.ran in
       record {
         under_way = u;
         first = record { more = k.more; front = sym s.said ∙ k.front; all = λ e. ((k.all e).0, sym s.marked ∙ (k.all e).1) };
@@ -130,13 +126,13 @@ module _ {M : Type 0} (seen : M → Seen) where
 
   -- it was carried out
   pub is_over : (h : Hosting (Kept M)) (p : Performing) (m : Machine) (request : Request) (bytes : List ℕ) (last : Bool) (start : ℕ) → 8 ≤ h.device → h.device ≤ 11 → channel_of request ≤ 15 → IsModest request → CarriesOut h p
-      → HasTaken (Desk (Kept M)) (Desk Machine) (DeskStands seen) desk_step desk_says (engine_at start h.device request) (start + longest) p h.bus bytes last (resting_for h.device m)
+      → HasTaken (Desk (Kept M)) (Desk Machine) (DeskStands seen) desk_step desk_says (engine_at start h.device request) (start + longest h.pace) p h.bus bytes last (resting_for h.pace h.device m)
       → IsOver seen h m request bytes last
   is_over h p m request bytes last start low high channel modest carries t =
-      let k = (carries (party_of h.device) (λ d. at_first h.device m) start request [] t.made bytes last (is_drive h.device low high) channel (is_short h.device request m (omega (arith, high)) channel modest) t.performed).2 in
-      let s = serves h.device request m bytes last k.machine (omega (arith, high)) channel k.done.taken k.done.ran in
+      let k = (carries (party_of h.pace h.device) (λ d. at_power_up h.pace h.device m) start request [] t.made bytes last (is_drive h.pace h.device low high) channel (is_short h.pace h.device request m (omega (arith, high)) channel modest) t.performed).2 in
+      let s = serves h.pace h.device request m bytes last k.machine (omega (arith, high)) channel k.done.taken k.done.ran in
       record {
-        rests = subst (λ (x : Desk Machine). IsBusAt (Desk (Kept M)) (Desk Machine) (DeskStands seen) h.bus.host h.bus.drives (at_rest (Desk Machine) desk_step desk_says (λ d. x) (party_of h.device ∷ []))) s.behind k.now;
+        rests = subst (λ (x : Desk Machine). IsBusAt (Desk (Kept M)) (Desk Machine) (DeskStands seen) h.bus.host h.bus.drives (at_rest (Desk Machine) desk_step desk_says (λ d. x) (party_of h.pace h.device ∷ []))) s.behind k.now;
         said = s.said;
         marked = s.marked;
       }
@@ -147,21 +143,23 @@ module _ {M : Type 0} (seen : M → Seen) where
       (HasTaken (Desk (Kept M)) (Desk Machine) (DeskStands seen) desk_step desk_says e limit q new.bus bytes last ss)
       (λ x. IsTaking (Desk (Kept M)) (Desk Machine) (DeskStands seen) desk_step desk_says e limit q new.bus (bytes ++ x.0 ∷ []) x.1 ss)
 
-  pub taken_on : (old new : Hosting (Kept M)) (p q : Performing) (said : ℕ × Bool) → new.device ≡ old.device → 8 ≤ new.device → new.device ≤ 11 → Takes old new p q (Some said) → Begins new q
+  pub taken_on : (old new : Hosting (Kept M)) (p q : Performing) (said : ℕ × Bool) → new.device ≡ old.device → new.pace ≡ old.pace → 8 ≤ new.device → new.device ≤ 11 → Takes old new p q (Some said) → Begins new q
       → (m : Machine) (request : Request) (bytes : List ℕ) (last : Bool) → channel_of request ≤ 15 → IsModest request → IsUnderWay seen old p m request bytes last → IsGoingOn seen new q m request (bytes ++ said.0 ∷ []) said.1
-  taken_on old new p q said same low high takes begins m request bytes last channel modest u =
+  taken_on old new p q said same paced low high takes begins m request bytes last channel modest u =
       going_on new q m request (bytes ++ said.0 ∷ []) said.1 low high channel modest begins (record {
         start = u.start;
-        taking = subst (λ (d : ℕ). IsTaking (Desk (Kept M)) (Desk Machine) (DeskStands seen) desk_step desk_says (engine_at u.start d request) (u.start + longest) q new.bus (bytes ++ said.0 ∷ []) said.1 (resting_for d m)) (sym same)
-            (takes (engine_at u.start old.device request) (u.start + longest) bytes last (resting_for old.device m) u.taking);
+        taking = subst (λ (d : ℕ). IsTaking (Desk (Kept M)) (Desk Machine) (DeskStands seen) desk_step desk_says (engine_at u.start d request) (u.start + longest new.pace) q new.bus (bytes ++ said.0 ∷ []) said.1 (resting_for new.pace d m)) (sym same)
+            (subst (λ (e : Pace). IsTaking (Desk (Kept M)) (Desk Machine) (DeskStands seen) desk_step desk_says (engine_at u.start old.device request) (u.start + longest e) q new.bus (bytes ++ said.0 ∷ []) said.1 (resting_for e old.device m)) (sym paced)
+            (takes (engine_at u.start old.device request) (u.start + longest old.pace) bytes last (resting_for old.pace old.device m) u.taking));
       })
 
-  pub taken_over : (old new : Hosting (Kept M)) (p q : Performing) → new.device ≡ old.device → 8 ≤ new.device → new.device ≤ 11 → Takes old new p q None → CarriesOut new q
+  pub taken_over : (old new : Hosting (Kept M)) (p q : Performing) → new.device ≡ old.device → new.pace ≡ old.pace → 8 ≤ new.device → new.device ≤ 11 → Takes old new p q None → CarriesOut new q
       → (m : Machine) (request : Request) (bytes : List ℕ) (last : Bool) → channel_of request ≤ 15 → IsModest request → IsUnderWay seen old p m request bytes last → IsOver seen new m request bytes last
-  taken_over old new p q same low high takes carries m request bytes last channel modest u =
+  taken_over old new p q same paced low high takes carries m request bytes last channel modest u =
       is_over new q m request bytes last u.start low high channel modest carries
-      (subst (λ (d : ℕ). HasTaken (Desk (Kept M)) (Desk Machine) (DeskStands seen) desk_step desk_says (engine_at u.start d request) (u.start + longest) q new.bus bytes last (resting_for d m)) (sym same)
-      (takes (engine_at u.start old.device request) (u.start + longest) bytes last (resting_for old.device m) u.taking))
+      (subst (λ (d : ℕ). HasTaken (Desk (Kept M)) (Desk Machine) (DeskStands seen) desk_step desk_says (engine_at u.start d request) (u.start + longest new.pace) q new.bus bytes last (resting_for new.pace d m)) (sym same)
+      (subst (λ (e : Pace). HasTaken (Desk (Kept M)) (Desk Machine) (DeskStands seen) desk_step desk_says (engine_at u.start old.device request) (u.start + longest e) q new.bus bytes last (resting_for e old.device m)) (sym paced)
+      (takes (engine_at u.start old.device request) (u.start + longest old.pace) bytes last (resting_for old.pace old.device m) u.taking)))
 
   -- the same from each machine
   abbrev pub OnByte : Hosting (Kept M) → Hosting (Kept M) → Performing → Performing → ℕ × Bool → Type 0
@@ -174,23 +172,25 @@ module _ {M : Type 0} (seen : M → Seen) where
   OnAsk h p request = (m : Machine) → Rests seen h m → IsUnderWay seen h p m request [] false
 
   -- at power up
-  pub rests_first : (device : ℕ) (m : Machine) (h : Hosting (Kept M)) (x : Seated (Desk (Kept M))) → h.device ≡ device → h.bus.host ≡ all_free → h.bus.drives ≡ x ∷ [] → x.port ≡ resting (party_of device) → DeskStands seen x.machine (at_first device m) → Rests seen h m
-  rests_first device m h x number free one port stands =
-      subst (λ (d : ℕ). IsBusAt (Desk (Kept M)) (Desk Machine) (DeskStands seen) h.bus.host h.bus.drives (resting_for d m)) (sym number)
-      (subst (λ (l : Lines). IsBusAt (Desk (Kept M)) (Desk Machine) (DeskStands seen) l h.bus.drives (resting_for device m)) (sym free)
-      (subst (λ (xs : List (Seated (Desk (Kept M)))). IsBusAt (Desk (Kept M)) (Desk Machine) (DeskStands seen) all_free xs (resting_for device m)) (sym one) seat))
+  pub rests_first : (pace : Pace) (device : ℕ) (m : Machine) (h : Hosting (Kept M)) (x : Seated (Desk (Kept M))) → h.device ≡ device → h.pace ≡ pace → h.bus.host ≡ all_free → h.bus.drives ≡ x ∷ [] → x.port ≡ resting (party_of pace device)
+      → DeskStands seen x.machine (at_power_up pace device m) → Rests seen h m
+  rests_first pace device m h x number paced free one port stands =
+      subst (λ (d : ℕ). IsBusAt (Desk (Kept M)) (Desk Machine) (DeskStands seen) h.bus.host h.bus.drives (resting_for h.pace d m)) (sym number)
+      (subst (λ (e : Pace). IsBusAt (Desk (Kept M)) (Desk Machine) (DeskStands seen) h.bus.host h.bus.drives (resting_for e device m)) (sym paced)
+      (subst (λ (l : Lines). IsBusAt (Desk (Kept M)) (Desk Machine) (DeskStands seen) l h.bus.drives (resting_for pace device m)) (sym free)
+      (subst (λ (xs : List (Seated (Desk (Kept M)))). IsBusAt (Desk (Kept M)) (Desk Machine) (DeskStands seen) all_free xs (resting_for pace device m)) (sym one) seat)))
     where
       rest : IsWithout (held_by all_free (x ∷ [])) x.port.own nobody
       rest = subst (λ (q : Port). IsWithout (held_by all_free ((record { port = q; machine = x.machine }) ∷ [])) q.own nobody) (sym port) (record { host = refl; clocks = refl; datas = refl })
 
-      seat : IsBusAt (Desk (Kept M)) (Desk Machine) (DeskStands seen) all_free (x ∷ []) (resting_for device m)
+      seat : IsBusAt (Desk (Kept M)) (Desk Machine) (DeskStands seen) all_free (x ∷ []) (resting_for pace device m)
       seat = (record { port = port; machine = stands; rest = rest }, tt)
 
   -- the one drive's disk
   pub disk_of : (h : Hosting (Kept M)) (k : M) → length h.bus.drives ≡ 1 → ((x : Seated (Desk (Kept M))) → h.bus.drives ≡ x ∷ [] → k ≡ x.machine.dos.medium) → (m : Machine) → Rests seen h m → HoldsDisk (seen k).tracks (seen k).content m.disk
   disk_of h k one is m rests = by h.bus.drives refl one rests
     where
-      by : (xs : List (Seated (Desk (Kept M)))) → h.bus.drives ≡ xs → length xs ≡ 1 → IsBusAt (Desk (Kept M)) (Desk Machine) (DeskStands seen) h.bus.host xs (resting_for h.device m) → HoldsDisk (seen k).tracks (seen k).content m.disk
+      by : (xs : List (Seated (Desk (Kept M)))) → h.bus.drives ≡ xs → length xs ≡ 1 → IsBusAt (Desk (Kept M)) (Desk Machine) (DeskStands seen) h.bus.host xs (resting_for h.pace h.device m) → HoldsDisk (seen k).tracks (seen k).content m.disk
       by [] e l r = absurd (omega (arith, l))
       by (x ∷ []) e l r = subst (λ (y : M). HoldsDisk (seen y).tracks (seen y).content m.disk) (sym (is x e)) (means_of _ _ _ _ _ _ m r.0.machine.0.0)
       by (x ∷ y ∷ xs) e l r = absurd (omega (arith, l))

@@ -51,8 +51,8 @@ cells_number (suc n) l t h =
     let rest = cells_number n (l / 2) (t + phase + phase) (omega (arith, h)) in
     ap (λ (m : ℕ). (if not (is_low l) then 1 else 0) + 2 * m) rest ∙ low_one l (is_low l) refl
 
-pub frame_byte : (r : ℕ) (eoi : Bool) (byte ready : ℕ) → byte < 256 → byte_of (frame_for r eoi byte ready).cells ≡ byte
-frame_byte r eoi byte ready h = cells_number 8 byte (start_for r eoi ready) h
+pub frame_byte : (b : Party) (eoi : Bool) (byte ready : ℕ) → byte < 256 → byte_of (frame_for b eoi byte ready).cells ≡ byte
+frame_byte b eoi byte ready h = cells_number 8 byte (start_for b eoi ready) h
 
 -- ---- the role that it makes
 
@@ -108,20 +108,17 @@ abbrev pub attending : Party → Role → Bool → ℕ → ℕ → ℕ → Point
 attending b role some pulled accepted since = point b role (lines false true) (Commanding some) (lines true false) pulled None accepted since
 
 module _ (b : Party) (some : 1 ≤ b.reaction) (prompt : b.reaction ≤ 60) (left : List ℕ) (most : ℕ) where
-  abbrev r : ℕ
-  r = b.reaction
-
   -- a byte of an attention
   pub command_then : (role : Role) (first : Bool) (pulled accept since t byte limit : ℕ) (behind : Behind) (ks : List Piece) → byte < 256 → pulled ≤ t → accept ≤ t
-      → IsPlayed b (attending b (role_after b.device byte role) true pulled (accept_for r false byte (t + ready_wait)) since) (accepted (accept_for r false byte (t + ready_wait)) behind (framing behind left most Sent)) ks limit
-      → IsPlayed b (attending b role first pulled accept since) (framing behind left most (Readying (t + ready_wait) byte false)) (Full (Command (frame_for r false byte (t + ready_wait))) ∷ ks) limit
+      → IsPlayed b (attending b (role_after b.device byte role) true pulled (accept_for b false byte (t + ready_wait)) since) (accepted (accept_for b false byte (t + ready_wait)) behind (framing behind left most Sent)) ks limit
+      → IsPlayed b (attending b role first pulled accept since) (framing behind left most (Readying (t + ready_wait) byte false)) (Full (Command (frame_for b false byte (t + ready_wait))) ∷ ks) limit
   command_then role first pulled accept since t byte limit behind ks small p a more =
       let s = seat b role (lines false true) in
-      let f = frame_for r false byte (t + ready_wait) in
-      let e1 = accepted (accept_for r false byte (t + ready_wait)) behind (framing behind left most Sent) in
-      go_on (Full (Command f)) ks limit e1 (commanding, omega (arith, p), omega (arith, a), frame_fits s false byte (t + ready_wait) (λ e. absurd (cc)))
+      let f = frame_for b false byte (t + ready_wait) in
+      let e1 = accepted (accept_for b false byte (t + ready_wait)) behind (framing behind left most Sent) in
+      go_on (Full (Command f)) ks limit e1 (commanding, omega (arith, p), omega (arith, a), frame_fits s false byte (t + ready_wait))
       (command_performed s some prompt left most (attending b role first pulled accept since) byte (t + ready_wait) behind)
-      (subst (λ (n : ℕ). IsPlayed b (attending b (role_after b.device n role) true pulled (accept_for r false byte (t + ready_wait)) since) e1 ks limit) (sym (frame_byte r false byte (t + ready_wait) small)) more)
+      (subst (λ (n : ℕ). IsPlayed b (attending b (role_after b.device n role) true pulled (accept_for b false byte (t + ready_wait)) since) e1 ks limit) (sym (frame_byte b false byte (t + ready_wait) small)) more)
 
   -- ATN's release to nobody, and the end
   pub nobody_then : (role : Role) (pulled accept since limit : ℕ) → role ≡ Absent → accept + 160 ≤ limit
@@ -159,10 +156,10 @@ module _ (b : Party) (some : 1 ≤ b.reaction) (prompt : b.reaction ≤ 60) (lef
   only byte = record { commands = One byte; errand = Leaves }
 
   pub leave_then : (p : Point) (s : Seat) (at byte limit : ℕ) → s.party ≡ b → PullFits (alone p s) at p.place → p.accepted ≤ at → byte < 256 → role_after b.device byte s.role ≡ Absent → at + 720 ≤ limit
-      → IsPlayed b (alone p s) (at_stage left most (Attending at (PullAtn p.host.clock_low p.host.data_low) (only byte))) (leave r at (byte ∷ [])) limit
+      → IsPlayed b (alone p s) (at_stage left most (Attending at (PullAtn p.host.clock_low p.host.data_low) (only byte))) (leave b at (byte ∷ [])) limit
   leave_then p s at byte limit same fits late small absent soon =
-      let accept = accept_for r false byte (at + ready_wait) in
-      let end = cells_end 8 byte (start_for r false (at + ready_wait)) in
-      pull_then p s (only byte) at limit (Full (Command (frame_for r false byte (at + ready_wait))) ∷ Full (ToNobody (accept + turn_wait) (accept + turn_wait)) ∷ []) same fits
+      let accept = accept_for b false byte (at + ready_wait) in
+      let end = cells_end 8 byte (start_for b false (at + ready_wait)) in
+      pull_then p s (only byte) at limit (Full (Command (frame_for b false byte (at + ready_wait))) ∷ Full (ToNobody (accept + turn_wait) (accept + turn_wait)) ∷ []) same fits
       (command_then s.role false at p.accepted at at byte limit (Commanded None Leaves) (Full (ToNobody (accept + turn_wait) (accept + turn_wait)) ∷ []) small (omega arith) late
       (nobody_then (role_after b.device byte s.role) at accept at limit absent (omega (arith, end, prompt, soon))))

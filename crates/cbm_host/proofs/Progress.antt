@@ -20,7 +20,7 @@ use Rattle.cbm_host.specs.Engines.{Engined, at_stage, sending_on, accepted, took
 use Rattle.cbm_host.specs.Progress.{bits_left, frame_left, sends_left, take_left, takes_left, commands_left, errand_left, behind_left, stage_left, engine_left, more_than, left_of, FallsBy}
 use Rattle.cbm_host.specs.Performers.{Performing, engine_behind}
 use Rattle.cbm_host.specs.Sending.{is_low, behind_bit, bits_of, next_bit, frame_change, frame_made, frame_freed, frame_pulled, frame_lined}
-use Rattle.cbm_host.specs.Stages.{commanding, leaving, due_of, take_due, stage_due, turned, stage_passed}
+use Rattle.cbm_host.specs.Stages.{commanding, leaving, due_of, take_due, stage_due, turned, hushed, taking_seen, stage_passed}
 use Rattle.cbm_host.specs.Taking.{take_lined, came_bit}
 use Rattle.cbm_host.specs.declared.commands.Commands.{Commands}
 use Rattle.cbm_host.specs.declared.commands.Commands.TheVariants.{One, Two, Three}
@@ -230,7 +230,23 @@ seen_least c e = by_stage e.stage
         in_turn Clock Pull = omega arith
         in_turn Clock Free = omega arith
         in_turn Data way = omega arith
-    by_stage (Taking take) = let k = take_least c.moment c.line c.way take in omega (arith, k)
+    by_stage (Taking take) = in_take take
+      where
+        -- a byte that doesn't come leaves the last attention
+        freed : (line : Line) (way : Way) (at : ℕ) → stage_left (hushed c line way at) e.left e.most ≤ 5 + takes_left e.most
+        freed Data Free at = omega arith
+        freed Data Pull at = let k = take_least c.moment c.line c.way (Freeing at) in omega (arith, k)
+        freed Atn way at = let k = take_least c.moment c.line c.way (Freeing at) in omega (arith, k)
+        freed Clock way at = let k = take_least c.moment c.line c.way (Freeing at) in omega (arith, k)
+
+        in_take : (take : Take) → stage_left (taking_seen c take) e.left e.most ≤ take_left take + takes_left e.most
+        in_take (Freeing at) = freed c.line c.way at
+        in_take Awaiting = let k = take_least c.moment c.line c.way Awaiting in omega (arith, k)
+        in_take (Listening until) = let k = take_least c.moment c.line c.way (Listening until) in omega (arith, k)
+        in_take (Marking at) = let k = take_least c.moment c.line c.way (Marking at) in omega (arith, k)
+        in_take (Unmarking at) = let k = take_least c.moment c.line c.way (Unmarking at) in omega (arith, k)
+        in_take (Gathering g) = let k = take_least c.moment c.line c.way (Gathering g) in omega (arith, k)
+        in_take (Accepting at byte last) = let k = take_least c.moment c.line c.way (Accepting at byte last) in omega (arith, k)
     by_stage (Ending until) = omega arith
     by_stage (Done at) = omega arith
 

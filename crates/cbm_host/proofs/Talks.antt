@@ -3,18 +3,17 @@ use Rattle.std.proofs.Common.{◌≡◌, ℕ, zero, suc, ◌+◌, ◌*◌, ◌/�
 use Rattle.std.proofs.lemmas.Bool.{ne_eqb, le-leb}
 use Rattle.std.specs.Prelude.{if◌then◌else◌, ◌==◌, nat_lt}
 use Rattle.cbm_iec.specs.Hearing.{with_bit}
+use Rattle.cbm_iec.specs.Profile.{half_bit, bit_time}
 use Rattle.cbm_iec.specs.declared.act.Act.TheVariants.{Said}
 use Rattle.cbm_iec.specs.declared.line.Line.TheVariants.{Clock, Data}
 use Rattle.cbm_iec.specs.declared.line.Way.TheVariants.{Pull, Free}
 use Rattle.cbm_iec.specs.declared.party.Party.{Party}
 use Rattle.cbm_iec.specs.declared.party.Role.{Role}
 use Rattle.cbm_iec.specs.declared.party.Role.TheVariants.{Absent}
-use Rattle.cbm_iec.specs.declared.pace.Pace.TheVariants.{Profile}
 use Rattle.cbm_session.specs.Bits.{data_for, Cell, number_of, bits_of}
 use Rattle.cbm_session.proofs.alone.Frames.{shifted, shifted_is}
 use Rattle.cbm_session.specs.Frames.{bit_steps, signal_steps, first_bit}
 use Rattle.cbm_session.specs.Steps.{Step, host, drive, for_one}
-use Rattle.cbm_session.specs.Seats.{at_pace}
 use Rattle.cbm_host.proofs.Composing.{performs_then}
 use Rattle.cbm_host.specs.Engines.{Engined, taking_on}
 use Rattle.cbm_host.specs.Framed.{bits_for, told_for}
@@ -33,51 +32,48 @@ abbrev pub came_in : ℕ → List Bool → ℕ
 came_in byte [] = byte
 came_in byte (bit ∷ bits) = came_in (with_bit byte (not bit)) bits
 
-module _ (v : Party) (left : List ℕ) (most : ℕ) where
-  abbrev b : Party
-  b = at_pace Profile v
-
+module _ (b : Party) (left : List ℕ) (most : ℕ) where
   abbrev pub taking : Take → Engined
   taking take = record { stage = Taking take; left = left; most = most }
 
   -- a bit comes: CLOCK is pulled, DATA set, CLOCK freed
   bit_seen : (held bit last : Bool) (at count byte : ℕ) (more : List Step) (e2 : Engined) → (count == 8) ≡ false → nat_lt count 8 ≡ true
       → Performs (taking (Gathering (came (count + 1) (with_bit byte (not bit)) (not bit) last))) more e2
-      → Performs (taking (Gathering (came count byte held last))) (drive b.device at Clock Pull ∷ (data_for (λ way. drive b.device at Data way) held bit ++ drive b.device (at + 60) Clock Free ∷ more)) e2
+      → Performs (taking (Gathering (came count byte held last))) (drive b.device at Clock Pull ∷ (data_for (λ way. drive b.device at Data way) held bit ++ drive b.device (at + half_bit b.pace) Clock Free ∷ more)) e2
   bit_seen held bit last at count byte more e2 some few k =
-      sees tt (subst (λ (v : Bool). Performs (taking (if v then Accepting (at + answer_wait) byte last else Gathering (came count byte held last))) (data_for (λ way. drive b.device at Data way) held bit ++ drive b.device (at + 60) Clock Free ∷ more) e2) (sym some)
+      sees tt (subst (λ (v : Bool). Performs (taking (if v then Accepting (at + answer_wait) byte last else Gathering (came count byte held last))) (data_for (λ way. drive b.device at Data way) held bit ++ drive b.device (at + half_bit b.pace) Clock Free ∷ more) e2) (sym some)
       (set held bit))
     where
-      shown : (bit : Bool) → Performs (taking (Gathering (came (count + 1) (with_bit byte (not bit)) (not bit) last))) more e2 → Performs (taking (Gathering (came count byte (not bit) last))) (drive b.device (at + 60) Clock Free ∷ more) e2
+      shown : (bit : Bool) → Performs (taking (Gathering (came (count + 1) (with_bit byte (not bit)) (not bit) last))) more e2 → Performs (taking (Gathering (came count byte (not bit) last))) (drive b.device (at + half_bit b.pace) Clock Free ∷ more) e2
       shown bit k = sees tt (subst (λ (v : Bool). Performs (taking (if v then Gathering (came (count + 1) (with_bit byte (not bit)) (not bit) last) else Gathering (came count byte (not bit) last))) more e2) (sym few) k)
 
       by_bit : (held bit : Bool) → Performs (taking (Gathering (came (count + 1) (with_bit byte (not bit)) (not bit) last))) more e2
-          → Performs (taking (Gathering (came count byte held last))) (data_for (λ way. drive b.device at Data way) held bit ++ drive b.device (at + 60) Clock Free ∷ more) e2
+          → Performs (taking (Gathering (came count byte held last))) (data_for (λ way. drive b.device at Data way) held bit ++ drive b.device (at + half_bit b.pace) Clock Free ∷ more) e2
       by_bit true true k = sees tt (shown true k)
       by_bit false true k = shown true k
       by_bit true false k = shown false k
       by_bit false false k = sees tt (shown false k)
 
-      set : (held bit2 : Bool) → Performs (taking (Gathering (came count byte held last))) (data_for (λ way. drive b.device at Data way) held bit ++ drive b.device (at + 60) Clock Free ∷ more) e2
+      set : (held bit2 : Bool) → Performs (taking (Gathering (came count byte held last))) (data_for (λ way. drive b.device at Data way) held bit ++ drive b.device (at + half_bit b.pace) Clock Free ∷ more) e2
       set held bit2 = by_bit held bit k
 
   -- all bits, and the end of the eighth
   bits_seen : (bits : List Bool) (held last : Bool) (at count byte : ℕ) → count + length bits ≡ 8
-      → Performs (taking (Gathering (came count byte held last))) (bit_steps b at held bits) (taking (Accepting (at + 120 * length bits + answer_wait) (came_in byte bits) last))
+      → Performs (taking (Gathering (came count byte held last))) (bit_steps b at held bits) (taking (Accepting (at + bit_time b.pace * length bits + answer_wait) (came_in byte bits) last))
   bits_seen [] held last at count byte e =
       let eight : count ≡ 8 = omega (arith, e) in
-      let same : at + 120 * 0 ≡ at = omega arith in
-      subst (λ (n : ℕ). Performs (taking (Gathering (came n byte held last))) (bit_steps b at held []) (taking (Accepting (at + 120 * 0 + answer_wait) byte last))) (sym eight)
+      let same : at + bit_time b.pace * 0 ≡ at = omega arith in
+      subst (λ (n : ℕ). Performs (taking (Gathering (came n byte held last))) (bit_steps b at held []) (taking (Accepting (at + bit_time b.pace * 0 + answer_wait) byte last))) (sym eight)
       (subst (λ (n : ℕ). Performs (taking (Gathering (came 8 byte held last))) (bit_steps b at held []) (taking (Accepting (n + answer_wait) byte last))) (sym same) (over held))
     where
       over : (held : Bool) → Performs (taking (Gathering (came 8 byte held last))) (bit_steps b at held []) (taking (Accepting (at + answer_wait) byte last))
       over true = sees tt (sees (omega arith) (ends refl))
       over false = sees tt (ends refl)
   bits_seen (bit ∷ bits) held last at count byte e =
-      let rest = bits_seen bits (not bit) last (at + 120) (count + 1) (with_bit byte (not bit)) (omega (arith, e)) in
-      let same : at + 120 + 120 * length bits ≡ at + 120 * length (bit ∷ bits) = omega arith in
-      let next = subst (λ (n : ℕ). Performs (taking (Gathering (came (count + 1) (with_bit byte (not bit)) (not bit) last))) (bit_steps b (at + 120) (not bit) bits) (taking (Accepting (n + answer_wait) (came_in (with_bit byte (not bit)) bits) last))) same rest in
-      bit_seen held bit last at count byte (bit_steps b (at + 120) (not bit) bits) (taking (Accepting (at + 120 * length (bit ∷ bits) + answer_wait) (came_in (with_bit byte (not bit)) bits) last))
+      let rest = bits_seen bits (not bit) last (at + bit_time b.pace) (count + 1) (with_bit byte (not bit)) (omega (arith, e)) in
+      let same : at + bit_time b.pace + bit_time b.pace * length bits ≡ at + bit_time b.pace * length (bit ∷ bits) = omega arith in
+      let next = subst (λ (n : ℕ). Performs (taking (Gathering (came (count + 1) (with_bit byte (not bit)) (not bit) last))) (bit_steps b (at + bit_time b.pace) (not bit) bits) (taking (Accepting (n + answer_wait) (came_in (with_bit byte (not bit)) bits) last))) same rest in
+      bit_seen held bit last at count byte (bit_steps b (at + bit_time b.pace) (not bit) bits) (taking (Accepting (at + bit_time b.pace * length (bit ∷ bits) + answer_wait) (came_in (with_bit byte (not bit)) bits) last))
       (ne_eqb count 8 (λ (x : count ≡ 8). omega (arith, x, e))) (le-leb (suc count) 8 (omega (arith, e))) next
 
   -- the byte that came is the number of its bits
@@ -107,12 +103,12 @@ module _ (v : Party) (left : List ℕ) (most : ℕ) where
 
   -- the eight bits of a byte, from a moment on, up to the accept
   byte_seen : (last : Bool) (at byte : ℕ) → let n = number_of (bits_for 8 byte) in
-      Performs (taking (Gathering (came 0 0 false last))) (bit_steps b at false (bits_for 8 byte)) (taking (Accepting (at + 8 * 120 + answer_wait) n last))
+      Performs (taking (Gathering (came 0 0 false last))) (bit_steps b at false (bits_for 8 byte)) (taking (Accepting (at + 8 * bit_time b.pace + answer_wait) n last))
   byte_seen last at byte =
       let all = bits_seen (bits_for 8 byte) false last at 0 0 (bits_count 8 byte) in
-      let long : at + 120 * length (bits_for 8 byte) ≡ at + 8 * 120 = ap (λ (n : ℕ). at + 120 * n) (bits_count 8 byte) ∙ omega arith in
+      let long : at + bit_time b.pace * length (bits_for 8 byte) ≡ at + 8 * bit_time b.pace = ap (λ (n : ℕ). at + bit_time b.pace * n) (bits_count 8 byte) ∙ omega arith in
       let same = came_is (bits_for 8 byte) (bits_count 8 byte) in
-      subst (λ (n : ℕ). Performs (taking (Gathering (came 0 0 false last))) (bit_steps b at false (bits_for 8 byte)) (taking (Accepting (at + 8 * 120 + answer_wait) n last))) same
+      subst (λ (n : ℕ). Performs (taking (Gathering (came 0 0 false last))) (bit_steps b at false (bits_for 8 byte)) (taking (Accepting (at + 8 * bit_time b.pace + answer_wait) n last))) same
       (subst (λ (n : ℕ). Performs (taking (Gathering (came 0 0 false last))) (bit_steps b at false (bits_for 8 byte)) (taking (Accepting (n + answer_wait) (came_in 0 (bits_for 8 byte)) last))) long all)
 
   -- the first pull of CLOCK tells that the byte isn't the last
@@ -123,10 +119,10 @@ module _ (v : Party) (left : List ℕ) (most : ℕ) where
 
   -- the accept
   abbrev accept_of : Bool → ℕ → ℕ → List Step
-  accept_of last at byte = for_one b.device (Said (number_of (bits_for 8 byte)) last) (host ((told_for b.reaction last byte at).accept) Data Pull) ∷ []
+  accept_of last at byte = for_one b.device (Said (number_of (bits_for 8 byte)) last) (host ((told_for b last byte at).accept) Data Pull) ∷ []
 
   -- a whole frame of the talker, up to the accept
-  pub told_performed : (last : Bool) (byte at : ℕ) → b.reaction ≤ 60 → let f = told_for b.reaction last byte at in
+  pub told_performed : (last : Bool) (byte at : ℕ) → b.reaction ≤ 60 → let f = told_for b last byte at in
       Performs (taking Awaiting) (drive b.device at Clock Free ∷ host f.free Data Free ∷ (signal_steps f.signal ++ (bit_steps b (first_bit b f) false f.bits ++ accept_of last at byte))) (taking_on f.accept last (record { stage = Taking Awaiting; left = left; most = most }))
   told_performed false byte at prompt =
       let free = at + answer_wait in

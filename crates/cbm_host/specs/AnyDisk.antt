@@ -13,6 +13,7 @@ use Rattle.cbm_host.specs.Requests.{longest}
 use Rattle.cbm_host.specs.Served.{IsModest}
 use Rattle.cbm_host.specs.declared.request.Request.{Request}
 use Rattle.cbm_iec.specs.declared.event.Event.{Event}
+use Rattle.cbm_iec.specs.declared.pace.Pace.{Pace}
 use Rattle.cbm_iec.specs.declared.party.Party.{Party}
 use Rattle.cbm_session.specs.Playing.{at_rest}
 
@@ -41,20 +42,20 @@ module _ {D : Type 0} (shows : D → Shown) where
 -- ---- a request taken byte by byte
 
 module _ {D : Type 0} (shows : D → Shown) where
-  -- A REQUEST IS UNDER WAY since this moment to the drive with this device number, which was at rest, whatever its disk: where a machine plays back what the
-  -- drive showed so far, and then these, it is one to that machine.
-  pub record IsUnderWayAnyway (device start : ℕ) (bus : Cabled D) (p : Performing) (request : Request) : Type 0 where
+  -- A REQUEST IS UNDER WAY since this moment to the drive of this pace and device number, which was at rest, whatever its disk: where a machine plays back what
+  -- the drive showed so far, and then these, it is one to that machine.
+  pub record IsUnderWayAnyway (pace : Pace) (device start : ℕ) (bus : Cabled D) (p : Performing) (request : Request) : Type 0 where
     pub before : Cabled D
-    pub rested : IsAtRest shows (party_of device) before
+    pub rested : IsAtRest shows (party_of pace device) before
     pub trail : List Shown
-    pub goes : (later : List Shown) (m : Playback) → IsBusAt D Playback (IsPlayedBack shows (trail ++ later)) before.host before.drives (at_rest Playback played_step played_says (λ d. m) (party_of device ∷ []))
-        → (bytes : List ℕ) × (last : Bool) × IsTaking D Playback (IsPlayedBack shows later) played_step played_says (engine_at start device request) (start + longest) p bus bytes last (at_rest Playback played_step played_says (λ d. m) (party_of device ∷ []))
+    pub goes : (later : List Shown) (m : Playback) → IsBusAt D Playback (IsPlayedBack shows (trail ++ later)) before.host before.drives (at_rest Playback played_step played_says (λ d. m) (party_of pace device ∷ []))
+        → (bytes : List ℕ) × (last : Bool) × IsTaking D Playback (IsPlayedBack shows later) played_step played_says (engine_at start device request) (start + longest pace) p bus bytes last (at_rest Playback played_step played_says (λ d. m) (party_of pace device ∷ []))
 
   -- IT IS OVER at that moment: where it was a request of at most 200,000 bytes, the drive is at rest again, and the moment isn't before the start.
-  pub record IsOverAnyway (device start : ℕ) (bus : Cabled D) (moment : ℕ) (request : Request) : Type 0 where
-    pub rests : IsModest request → IsAtRest shows (party_of device) bus
+  pub record IsOverAnyway (pace : Pace) (device start : ℕ) (bus : Cabled D) (moment : ℕ) (request : Request) : Type 0 where
+    pub rests : IsModest request → IsAtRest shows (party_of pace device) bus
     pub later : IsModest request → start ≤ moment
 
 -- THE DRIVE RESTS, on any disk.
 abbrev pub RestsAnyway : {K : Type 0} → (Desk K → Shown) → Hosting K → Type 0
-RestsAnyway shows h = IsAtRest shows (party_of h.device) h.bus
+RestsAnyway shows h = IsAtRest shows (party_of h.pace h.device) h.bus

@@ -82,7 +82,7 @@ module _ (M : Type 0) (step : M → Act → M) (says : M → Option (ℕ × Bool
     pub ran : Run M step says (ms b.device) (acts_of b.device request bytes last) machine
     pub taken : IsTakenBy request bytes last
     pub later : start ≤ end
-    pub soon : end ≤ start + longest
+    pub soon : end ≤ start + longest b.pace
 
 module _ (D M : Type 0) (stands : D → M → Type 0) (step : M → Act → M) (says : M → Option (ℕ × Bool)) where
   -- The events were added, and the bus is at rest with the machine that carried out the request, so that another request may come.

@@ -1,11 +1,14 @@
--- The frames of a request with the host's waits: every moment follows from where the frame begins and from the drive's reaction.
+-- The frames of a request with the host's waits: every moment follows from where the frame begins and from the drive's reaction and pace.
 use Rattle.std.specs.Prelude.{ℕ, zero, suc, ◌+◌, ◌*◌, ◌/◌, Bool, not, List, [], ◌∷◌, Option, Some, None, if◌then◌else◌}
 use Rattle.cbm_iec.specs.Profile.{eoi_wait, eoi_pulse, bit_time}
-use Rattle.cbm_iec.specs.declared.pace.Pace.TheVariants.{Profile}
+use Rattle.cbm_iec.specs.declared.party.Party.{Party}
+use Rattle.cbm_iec.specs.declared.pace.Pace.TheVariants.{Profile, Kernal}
+use Rattle.cbm_iec.specs.declared.pace.Pace.{Pace}
 use Rattle.cbm_session.specs.Bits.{Cell}
 use Rattle.cbm_session.specs.Frames.{Sent, Told}
+use Rattle.cbm_session.specs.Pieces.{silent_at}
 use Rattle.cbm_host.specs.Sending.{is_low}
-use Rattle.cbm_host.specs.Waits.{answer_wait, phase, last_wait, last_pulse}
+use Rattle.cbm_host.specs.Waits.{answer_wait, phase, last_wait, last_pulse, silence}
 
 -- so many bits of a byte, the lowest first, from a pull of CLOCK on: DATA is set at the pull, CLOCK is freed a phase later and pulled another one later
 abbrev pub cells_for : ℕ → ℕ → ℕ → List Cell
@@ -13,12 +16,12 @@ cells_for zero left at = []
 cells_for (suc n) left at = record { bit = not (is_low left); set = at; free = at + phase; pull = at + phase + phase } ∷ cells_for n (left / 2) (at + phase + phase)
 
 -- The first bit begins a wait behind T, when the drive has freed DATA; with EOI behind the drive's pulse.
-abbrev pub start_for : ℕ → Bool → ℕ → ℕ
-start_for r eoi ready = (if eoi then ready + r + eoi_wait + (eoi_pulse Profile + r) else ready + r) + answer_wait
+abbrev pub start_for : Party → Bool → ℕ → ℕ
+start_for b eoi ready = (if eoi then ready + b.reaction + eoi_wait + (eoi_pulse b.pace + b.reaction) else ready + b.reaction) + answer_wait
 
--- a byte of the host to a drive that reacts in r
-abbrev pub frame_for : ℕ → Bool → ℕ → ℕ → Sent
-frame_for r eoi byte ready = record { ready = ready; start = start_for r eoi ready; cells = cells_for 8 byte (start_for r eoi ready) }
+-- a byte of the host to a drive
+abbrev pub frame_for : Party → Bool → ℕ → ℕ → Sent
+frame_for b eoi byte ready = record { ready = ready; start = start_for b eoi ready; cells = cells_for 8 byte (start_for b eoi ready) }
 
 -- so many bits of a byte, the lowest first
 abbrev pub bits_for : ℕ → ℕ → List Bool
@@ -34,10 +37,16 @@ abbrev pub told_from : ℕ → Bool → ℕ → ℕ
 told_from r last free = (if last then free + last_wait + last_pulse else free) + r
 
 -- a byte of the talker, which frees CLOCK for it then
-abbrev pub told_for : ℕ → Bool → ℕ → ℕ → Told
-told_for r last byte at = record {
+abbrev pub told_for : Party → Bool → ℕ → ℕ → Told
+told_for b last byte at = record {
   bits = bits_for 8 byte;
   free = at + answer_wait;
   signal = signal_for last (at + answer_wait);
-  accept = told_from r last (at + answer_wait) + 8 * bit_time Profile + answer_wait;
+  accept = told_from b.reaction last (at + answer_wait) + 8 * bit_time b.pace + answer_wait;
 }
+
+-- When the host frees DATA for a talker that has nothing to say, where it freed CLOCK then: it has waited for CLOCK; at a KERNAL's pace it lets go a wait
+-- behind the talker.
+abbrev pub hushed_for : Pace → ℕ → ℕ → ℕ
+hushed_for Profile r clock = clock + silence
+hushed_for Kernal r clock = silent_at Kernal (clock + r) + answer_wait

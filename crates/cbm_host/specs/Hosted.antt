@@ -4,17 +4,17 @@ use Rattle.cbm_medium.specs.Seen.{Seen}
 use Rattle.cbm_channel.specs.Machines.{Machine}
 use Rattle.cbm_channel.specs.Standing.{Kept}
 use Rattle.cbm_drive.specs.Cables.{Cabled}
-use Rattle.cbm_drive.specs.Desks.{Desk, DeskStands, at_first, desk_step, desk_says}
+use Rattle.cbm_drive.specs.Desks.{Desk, DeskStands, desk_step, desk_says}
 use Rattle.cbm_drive.specs.Seats.{IsBusAt, numbers}
 use Rattle.cbm_host.specs.Engines.{Engined, engine_at}
 use Rattle.cbm_host.specs.Performed.{IsPerforming, HasPerformed}
 use Rattle.cbm_host.specs.Performers.{Performing}
 use Rattle.cbm_host.specs.Requests.{longest}
-use Rattle.cbm_host.specs.Served.{served}
+use Rattle.cbm_host.specs.Served.{served, at_power_up}
 use Rattle.cbm_host.specs.declared.request.Request.{Request}
 use Rattle.cbm_iec.specs.declared.act.Act.{Act}
 use Rattle.cbm_iec.specs.declared.event.Event.{Event}
-use Rattle.cbm_iec.specs.declared.pace.Pace.TheVariants.{Profile}
+use Rattle.cbm_iec.specs.declared.pace.Pace.{Pace}
 use Rattle.cbm_iec.specs.declared.party.Party.{Party}
 use Rattle.cbm_session.specs.Playing.{Station, at_rest}
 
@@ -33,19 +33,20 @@ module _ (D M : Type 0) (stands : D → M → Type 0) (step : M → Act → M) (
   abbrev pub TakesOn : Performing → Performing → Cabled D → Cabled D → Type 0
   TakesOn p q b c = (e : Engined) (limit : ℕ) (bytes : List ℕ) (last : Bool) (ss : List (Station M)) → IsTaking e limit p b bytes last ss → IsTaking e limit q c bytes last ss
 
--- the bus, the drive's device number, and when the last request was over
+-- the bus, the drive's device number and pace, and when the last request was over
 pub record Hosting (A : Type 0) : Type 0 where
   pub bus : Cabled (Desk A)
   pub device : ℕ
+  pub pace : Pace
   pub moment : ℕ
 
 -- the drive, which takes 20 microseconds to react
-abbrev pub party_of : ℕ → Party
-party_of device = record { device = device; reaction = 20; pace = Profile }
+abbrev pub party_of : Pace → ℕ → Party
+party_of pace device = record { device = device; reaction = 20; pace = pace }
 
 -- a drive at rest, for a machine
-abbrev pub resting_for : ℕ → Machine → List (Station (Desk Machine))
-resting_for device m = at_rest (Desk Machine) desk_step desk_says (λ d. at_first device m) (party_of device ∷ [])
+abbrev pub resting_for : Pace → ℕ → Machine → List (Station (Desk Machine))
+resting_for pace device m = at_rest (Desk Machine) desk_step desk_says (λ d. at_power_up pace device m) (party_of pace device ∷ [])
 
 -- The bytes so far are the first of these; with EOI they are all of them.
 pub record AreFirst (bytes : List ℕ) (last : Bool) (whole : List ℕ) (marked : Bool) : Type 0 where
@@ -60,20 +61,20 @@ module _ {M : Type 0} (seen : M → Seen) where
 
   -- THE DRIVE RESTS, for a machine: all lines are free, and nothing is due.
   abbrev pub Rests : Hosting (Kept M) → Machine → Type 0
-  Rests h m = IsBusAt (Desk (Kept M)) (Desk Machine) (DeskStands seen) h.bus.host h.bus.drives (resting_for h.device m)
+  Rests h m = IsBusAt (Desk (Kept M)) (Desk Machine) (DeskStands seen) h.bus.host h.bus.drives (resting_for h.pace h.device m)
 
   -- A REQUEST IS UNDER WAY to the drive that rested for a machine, and these bytes were taken.
   pub record IsUnderWay (h : Hosting (Kept M)) (p : Performing) (m : Machine) (request : Request) (bytes : List ℕ) (last : Bool) : Type 0 where
     pub start : ℕ
-    pub taking : IsTaking (Desk (Kept M)) (Desk Machine) (DeskStands seen) desk_step desk_says (engine_at start h.device request) (start + longest) p h.bus bytes last (resting_for h.device m)
+    pub taking : IsTaking (Desk (Kept M)) (Desk Machine) (DeskStands seen) desk_step desk_says (engine_at start h.device request) (start + longest h.pace) p h.bus bytes last (resting_for h.pace h.device m)
 
   -- One more byte was taken: those so far are the first of what the machine says.
   pub record IsGoingOn (h : Hosting (Kept M)) (p : Performing) (m : Machine) (request : Request) (bytes : List ℕ) (last : Bool) : Type 0 where
     pub under_way : IsUnderWay h p m request bytes last
-    pub first : AreFirst bytes last (served request m).bytes (served request m).marked
+    pub first : AreFirst bytes last (served h.pace request m).bytes (served h.pace request m).marked
 
   -- IT IS OVER: the drive rests for the machine that the request leads to, and these are the bytes that it said.
   pub record IsOver (h : Hosting (Kept M)) (m : Machine) (request : Request) (bytes : List ℕ) (last : Bool) : Type 0 where
-    pub rests : Rests h (served request m).machine
-    pub said : bytes ≡ (served request m).bytes
-    pub marked : last ≡ (served request m).marked
+    pub rests : Rests h (served h.pace request m).machine
+    pub said : bytes ≡ (served h.pace request m).bytes
+    pub marked : last ≡ (served h.pace request m).marked

@@ -1,59 +1,60 @@
--- The pieces of a request on the wires, from its first change on, for a drive alone with the host: in the field's words LISTEN or TALK, a secondary
+-- The pieces of a request on the wires, from its first change on, for a drive of either pace alone with the host: in the field's words LISTEN or TALK, a secondary
 -- address, the bytes with EOI on the last, and UNLISTEN or UNTALK.
 use Rattle.std.specs.Prelude.{replicate, ◌≡◌, ◌≤◌, ℕ, ◌+◌, Bool, true, false, List, [], ◌∷◌, ◌++◌, Some, if◌then◌else◌, nat_lt, length}
-use Rattle.cbm_iec.specs.Profile.{next_byte}
-use Rattle.cbm_iec.specs.declared.pace.Pace.TheVariants.{Profile}
+use Rattle.cbm_iec.specs.Profile.{lead, next_byte}
+use Rattle.cbm_iec.specs.declared.pace.Pace.TheVariants.{Profile, Kernal}
+use Rattle.cbm_iec.specs.declared.pace.Pace.{Pace}
 use Rattle.cbm_iec.specs.declared.party.Party.{Party}
 use Rattle.cbm_session.specs.Frames.{end_of}
 use Rattle.cbm_session.specs.Pieces.{Piece, Point, point_after, Open, PullPiece, Command, Byte, ToListener, ToNobody, ToTalker, Nothing, Talk, Full, Cut}
-use Rattle.cbm_session.specs.Seats.{at_pace, lines}
+use Rattle.cbm_session.specs.Seats.{lines}
 use Rattle.cbm_session.specs.Sessions.{rest, Linked, session_steps, IsDrive}
 use Rattle.cbm_session.specs.Steps.{Step, moment_of}
 use Rattle.cbm_iec.specs.declared.party.Role.TheVariants.{Absent}
 use Rattle.cbm_host.specs.Attentions.{listen, unlisten, talk, untalk, data_on, close_on, open_on}
 use Rattle.cbm_host.specs.Engines.{Engined, engine_at, is_last, channel_of, sent_by, most_bytes, most_of}
-use Rattle.cbm_host.specs.Framed.{frame_for, told_for}
+use Rattle.cbm_host.specs.Framed.{frame_for, told_for, hushed_for}
 use Rattle.cbm_host.specs.Performing.{Performs}
-use Rattle.cbm_host.specs.Waits.{ready_wait, answer_wait, phase, turn_wait, silence}
+use Rattle.cbm_host.specs.Waits.{ready_wait, answer_wait, phase, turn_wait}
 use Rattle.cbm_host.specs.declared.request.Request.{Request}
 use Rattle.cbm_host.specs.declared.request.Request.TheVariants.{Open, Put, Fill, Get, Close, Status}
 use Rattle.cbm_host.specs.declared.stage.Stage.TheVariants.{Ending}
 
 -- when the drive accepts a byte of the host for which CLOCK is freed then
-abbrev pub accept_for : ℕ → Bool → ℕ → ℕ → ℕ
-accept_for r eoi byte ready = end_of (frame_for r eoi byte ready) + r
+abbrev pub accept_for : Party → Bool → ℕ → ℕ → ℕ
+accept_for b eoi byte ready = end_of (frame_for b eoi byte ready) + b.reaction
 
 -- the last accept of the bytes of an attention, behind ATN's pull or an accept at t
-abbrev pub commanded : ℕ → ℕ → List ℕ → ℕ
-commanded r t [] = t
-commanded r t (byte ∷ bytes) = commanded r (accept_for r false byte (t + ready_wait)) bytes
+abbrev pub commanded : Party → ℕ → List ℕ → ℕ
+commanded b t [] = t
+commanded b t (byte ∷ bytes) = commanded b (accept_for b false byte (t + ready_wait)) bytes
 
-abbrev pub commands : ℕ → ℕ → List ℕ → List Piece
-commands r t [] = []
-commands r t (byte ∷ bytes) = Full (Command (frame_for r false byte (t + ready_wait))) ∷ commands r (accept_for r false byte (t + ready_wait)) bytes
+abbrev pub commands : Party → ℕ → List ℕ → List Piece
+commands b t [] = []
+commands b t (byte ∷ bytes) = Full (Command (frame_for b false byte (t + ready_wait))) ∷ commands b (accept_for b false byte (t + ready_wait)) bytes
 
 -- AN ATTENTION: ATN's pull and these bytes
-abbrev pub attention : ℕ → ℕ → List ℕ → List Piece
-attention r at bytes = Full (PullPiece at) ∷ commands r at bytes
+abbrev pub attention : Party → ℕ → List ℕ → List Piece
+attention b at bytes = Full (PullPiece at) ∷ commands b at bytes
 
 -- when ATN is freed behind it
-abbrev pub released_for : ℕ → ℕ → List ℕ → ℕ
-released_for r at bytes = commanded r at bytes + turn_wait
+abbrev pub released_for : Party → ℕ → List ℕ → ℕ
+released_for b at bytes = commanded b at bytes + turn_wait
 
 -- THE LAST ATTENTION of a request: nobody listens or talks behind it, and ATN and CLOCK are freed at one moment
-abbrev pub leave : ℕ → ℕ → List ℕ → List Piece
-leave r at bytes = attention r at bytes ++ Full (ToNobody (released_for r at bytes) (released_for r at bytes)) ∷ []
+abbrev pub leave : Party → ℕ → List ℕ → List Piece
+leave b at bytes = attention b at bytes ++ Full (ToNobody (released_for b at bytes) (released_for b at bytes)) ∷ []
 
 -- BYTES TO THE LISTENER, behind ATN's release or an accept at t, with EOI on the last, and UNLISTEN. Where none is left ATN is pulled a wait behind t.
-abbrev pub sent : ℕ → ℕ → ℕ → List ℕ → List Piece
-sent r t wait [] = leave r (t + wait) (unlisten ∷ [])
-sent r t wait (byte ∷ left) = Full (Byte (is_last left) (frame_for r (is_last left) byte (t + ready_wait))) ∷ sent r (accept_for r (is_last left) byte (t + ready_wait)) turn_wait left
+abbrev pub sent : Party → ℕ → ℕ → List ℕ → List Piece
+sent b t wait [] = leave b (t + wait) (unlisten ∷ [])
+sent b t wait (byte ∷ left) = Full (Byte (is_last left) (frame_for b (is_last left) byte (t + ready_wait))) ∷ sent b (accept_for b (is_last left) byte (t + ready_wait)) turn_wait left
 
 abbrev pub sending : Party → ℕ → ℕ → List ℕ → List Piece
 sending b start second bytes =
     let first = (listen + b.device) ∷ second ∷ [] in
-    let at = released_for b.reaction start first in
-    attention b.reaction start first ++ Full (ToListener at) ∷ sent b.reaction at ready_wait bytes
+    let at = released_for b start first in
+    attention b start first ++ Full (ToListener at) ∷ sent b at ready_wait bytes
 
 -- What the talker said: nothing; bytes up to the one with EOI; or as many as were wanted, and behind them this byte waits, the last one or not.
 pub data Said : Type 0 where
@@ -63,36 +64,38 @@ pub data Said : Type 0 where
 
 -- The last byte of the talker, which frees CLOCK for it at that moment, and UNTALK. A drive that reacts soon frees CLOCK before ATN is pulled; a slower
 -- one is cut there.
-abbrev pub at_last : ℕ → ℕ → ℕ → List Piece
-at_last r byte at =
-    let f = told_for r true byte at in
-    (if nat_lt r answer_wait then Full (Talk at f) else Cut (Talk at f) (f.accept + answer_wait)) ∷ leave r (f.accept + answer_wait) (untalk ∷ [])
+abbrev pub at_last : Party → ℕ → ℕ → List Piece
+at_last b byte at =
+    let f = told_for b true byte at in
+    (if nat_lt b.reaction answer_wait then Full (Talk at f) else Cut (Talk at f) (f.accept + answer_wait)) ∷ leave b (f.accept + answer_wait) (untalk ∷ [])
 
-abbrev pub up_to_last : ℕ → ℕ → ℕ → List ℕ → List Piece
-up_to_last r at byte [] = at_last r byte at
-up_to_last r at byte (next ∷ more) = Full (Talk at (told_for r false byte at)) ∷ up_to_last r ((told_for r false byte at).accept + next_byte) next more
+abbrev pub up_to_last : Party → ℕ → ℕ → List ℕ → List Piece
+up_to_last b at byte [] = at_last b byte at
+up_to_last b at byte (next ∷ more) = Full (Talk at (told_for b false byte at)) ∷ up_to_last b ((told_for b false byte at).accept + next_byte) next more
 
 -- The last byte that is wanted: the frame of the next one is cut before it begins.
-abbrev pub at_most : ℕ → ℕ → Bool → ℕ → ℕ → List Piece
-at_most r next last byte at =
-    let f = told_for r false byte at in
+abbrev pub at_most : Party → ℕ → Bool → ℕ → ℕ → List Piece
+at_most b next last byte at =
+    let f = told_for b false byte at in
     let at2 = f.accept + next_byte in
-    Full (Talk at f) ∷ Cut (Talk at2 (told_for r last next at2)) (f.accept + answer_wait) ∷ leave r (f.accept + answer_wait) (untalk ∷ [])
+    Full (Talk at f) ∷ Cut (Talk at2 (told_for b last next at2)) (f.accept + answer_wait) ∷ leave b (f.accept + answer_wait) (untalk ∷ [])
 
-abbrev pub up_to_most : ℕ → ℕ → Bool → ℕ → ℕ → List ℕ → List Piece
-up_to_most r next last at byte [] = at_most r next last byte at
-up_to_most r next last at byte (byte2 ∷ more) = Full (Talk at (told_for r false byte at)) ∷ up_to_most r next last ((told_for r false byte at).accept + next_byte) byte2 more
+abbrev pub up_to_most : Party → ℕ → Bool → ℕ → ℕ → List ℕ → List Piece
+up_to_most b next last at byte [] = at_most b next last byte at
+up_to_most b next last at byte (byte2 ∷ more) = Full (Talk at (told_for b false byte at)) ∷ up_to_most b next last ((told_for b false byte at).accept + next_byte) byte2 more
 
 -- BYTES OF THE TALKER, behind ATN's release at that moment
-abbrev pub turned : ℕ → ℕ → Said → List Piece
-turned r at Mute = Full (Nothing at (at + phase) (Some (at + phase + silence))) ∷ leave r (at + phase + silence + answer_wait) (untalk ∷ [])
-turned r at (UpToLast first more) = Full (ToTalker at (at + phase)) ∷ up_to_last r (at + phase + r + 80) first more
-turned r at (UpToMost first more next last) = Full (ToTalker at (at + phase)) ∷ up_to_most r next last (at + phase + r + 80) first more
+abbrev pub turned : Party → ℕ → Said → List Piece
+turned b at Mute =
+    let freed = hushed_for b.pace b.reaction (at + phase) in
+    Full (Nothing at (at + phase) (Some freed)) ∷ leave b (freed + answer_wait) (untalk ∷ [])
+turned b at (UpToLast first more) = Full (ToTalker at (at + phase)) ∷ up_to_last b (at + phase + b.reaction + lead) first more
+turned b at (UpToMost first more next last) = Full (ToTalker at (at + phase)) ∷ up_to_most b next last (at + phase + b.reaction + lead) first more
 
 abbrev pub taking : Party → ℕ → ℕ → Said → List Piece
 taking b start channel said =
     let first = (talk + b.device) ∷ (data_on + channel) ∷ [] in
-    attention b.reaction start first ++ turned b.reaction (released_for b.reaction start first) said
+    attention b start first ++ turned b (released_for b start first) said
 
 -- THE PIECES OF A REQUEST, by what the talker says
 abbrev pub pieces_of : Party → ℕ → Said → Request → List Piece
@@ -100,7 +103,7 @@ pieces_of b start said (Open channel text) = sending b start (open_on + channel)
 pieces_of b start said (Put channel bytes) = sending b start (data_on + channel) bytes.now
 pieces_of b start said (Fill channel count byte) = sending b start (data_on + channel) (replicate count byte)
 pieces_of b start said (Get channel most) = taking b start channel said
-pieces_of b start said (Close channel) = leave b.reaction start ((listen + b.device) ∷ (close_on + channel) ∷ unlisten ∷ [])
+pieces_of b start said (Close channel) = leave b start ((listen + b.device) ∷ (close_on + channel) ∷ unlisten ∷ [])
 pieces_of b start said Status = taking b start 15 said
 
 -- how many bytes were said
@@ -115,9 +118,10 @@ IsSaidFor most Mute = Unit {0}
 IsSaidFor most (UpToLast first more) = length more + 1 ≤ most
 IsSaidFor most (UpToMost first more next last) = length more + 1 ≡ most
 
--- the longest request, in microseconds
-abbrev pub longest : ℕ
-longest = 250000000
+-- THE LONGEST REQUEST, in microseconds: of 200,000 bytes that a drive says each takes 1,160 at most, at a KERNAL's pace 1,480, with its bits of 160.
+abbrev pub longest : Pace → ℕ
+longest Profile = 250000000
+longest Kernal = 320000000
 
 -- the point of a session behind pieces
 abbrev pub end_point : Point → List Piece → Point
@@ -143,5 +147,5 @@ pub record IsPlayed (b : Party) (p : Point) (e : Engined) (ks : List Piece) (lim
 
 -- EVERY REQUEST is a session of its own, whatever the drive says in it, and the host performs its part of it.
 abbrev pub PlaysRequests : Type 0
-PlaysRequests = (v : Party) (start : ℕ) (said : Said) (request : Request) → let b = at_pace Profile v in IsDrive b → channel_of request ≤ 15 → length (sent_by request) ≤ most_bytes → IsSaidFor (most_of request) said → count_of said ≤ most_bytes
-    → IsPlayed b (rest (b ∷ [])) (engine_at start b.device request) (pieces_of b start said request) (start + longest)
+PlaysRequests = (b : Party) (start : ℕ) (said : Said) (request : Request) → IsDrive b → channel_of request ≤ 15 → length (sent_by request) ≤ most_bytes → IsSaidFor (most_of request) said → count_of said ≤ most_bytes
+    → IsPlayed b (rest (b ∷ [])) (engine_at start b.device request) (pieces_of b start said request) (start + longest b.pace)

@@ -4,8 +4,9 @@ use Rattle.cbm_channel.specs.Statuses.{status_line}
 use Rattle.cbm_channel.specs.Machines.{Machine}
 use Rattle.cbm_channel.specs.Closing.{close}
 use Rattle.cbm_channel.specs.Talking.{peek, taken, talk, listen}
+use Rattle.cbm_iec.specs.declared.pace.Pace.{Pace}
 use Rattle.cbm_channel.specs.Calls.{put, end_put, after_open}
-use Rattle.cbm_drive.specs.Desks.{Desk, at_first}
+use Rattle.cbm_drive.specs.Desks.{Desk, at_first, with_pace, talked_to}
 use Rattle.cbm_host.specs.CarriedOut.{AreBytes}
 use Rattle.cbm_host.specs.Engines.{sent_by, most_bytes}
 use Rattle.cbm_host.specs.declared.request.Request.{Request}
@@ -40,6 +41,10 @@ says (suc n) ch so_far m = elim (peek ch m) [
 abbrev pub talked : ℕ → ℕ → Machine → Said
 talked ch most m = says most ch [] (talk ch m)
 
+-- the same of a drive of this pace: at a KERNAL's an error stays that nobody has begun to read
+abbrev pub talked_at : Pace → ℕ → ℕ → Machine → Said
+talked_at pace ch most m = says most ch [] (talked_to pace ch m)
+
 -- the status line to its end
 abbrev pub status_said : Machine → Said
 status_said m = talked 15 (length (status_line m.status)) m
@@ -48,21 +53,25 @@ status_said m = talked 15 (length (status_line m.status)) m
 abbrev pub unsaid : Machine → Said
 unsaid m = record { bytes = []; marked = false; machine = m }
 
--- EACH REQUEST as calls of the machine
-abbrev pub served : Request → Machine → Said
-served (Open channel text) m = unsaid (after_open channel text.now m)
-served (Put channel bytes) m = unsaid (hear channel bytes.now m)
-served (Fill channel count byte) m = unsaid (hear channel (replicate count byte) m)
-served (Get channel most) m = talked channel most m
-served (Close channel) m = unsaid (close channel m)
-served Status m = status_said m
+-- EACH REQUEST as calls of the machine, at a drive's pace: only what is got may depend on it
+abbrev pub served : Pace → Request → Machine → Said
+served pace (Open channel text) m = unsaid (after_open channel text.now m)
+served pace (Put channel bytes) m = unsaid (hear channel bytes.now m)
+served pace (Fill channel count byte) m = unsaid (hear channel (replicate count byte) m)
+served pace (Get channel most) m = talked_at pace channel most m
+served pace (Close channel) m = unsaid (close channel m)
+served pace Status m = status_said m
+
+-- the desk of a drive of this pace at power up
+abbrev pub at_power_up : Pace → ℕ → Machine → Desk Machine
+at_power_up pace d m = with_pace pace (at_first d m)
 
 -- A DRIVE WITH THIS DEVICE NUMBER SERVED A REQUEST: behind it its desk is as at power up, with the machine that the request leads to, and these are the bytes
 -- that were said, the last with EOI or not.
-pub record IsServed (d : ℕ) (request : Request) (m : Machine) (bytes : List ℕ) (last : Bool) (desk : Desk Machine) : Type 0 where
-  pub behind : desk ≡ at_first d (served request m).machine
-  pub said : bytes ≡ (served request m).bytes
-  pub marked : last ≡ (served request m).marked
+pub record IsServed (pace : Pace) (d : ℕ) (request : Request) (m : Machine) (bytes : List ℕ) (last : Bool) (desk : Desk Machine) : Type 0 where
+  pub behind : desk ≡ at_power_up pace d (served pace request m).machine
+  pub said : bytes ≡ (served pace request m).bytes
+  pub marked : last ≡ (served pace request m).marked
 
 -- A request of at most 200,000 bytes: so many are sent, or one at least and so many at most are wanted. A status is never longer.
 abbrev pub IsModest : Request → Type 0

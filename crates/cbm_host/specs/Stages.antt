@@ -25,7 +25,7 @@ use Rattle.cbm_host.specs.declared.stage.Release.TheVariants.{AtnToNobody, Clock
 use Rattle.cbm_host.specs.declared.stage.Stage.{Stage}
 use Rattle.cbm_host.specs.declared.stage.Stage.TheVariants.{Attending, Framing, Calling, Releasing, Turning, Taking, Ending, Done}
 use Rattle.cbm_host.specs.declared.take.Take.{Take}
-use Rattle.cbm_host.specs.declared.take.Take.TheVariants.{Awaiting, Listening, Marking}
+use Rattle.cbm_host.specs.declared.take.Take.TheVariants.{Awaiting, Freeing, Listening, Marking}
 
 -- the next byte of an attention, behind ATN's pull or an accept at t
 abbrev pub commanding : ℕ → Sequence → Stage
@@ -112,10 +112,19 @@ abbrev pub turned : Line → Way → ℕ → Stage
 turned Clock Pull until = Taking Awaiting
 turned line way until = Turning until
 
+-- Where the talker lets go of DATA, too, before the host does, it has nothing to say: the host does it, and leaves.
+abbrev pub hushed : Change → Line → Way → ℕ → Stage
+hushed c Data Free at = Releasing at DataToSilent
+hushed c line way at = Taking (take_seen c (Freeing at))
+
+abbrev pub taking_seen : Change → Take → Stage
+taking_seen c (Freeing at) = hushed c c.line c.way at
+taking_seen c take = Taking (take_seen c take)
+
 abbrev pub stage_seen : Change → Stage → Stage
 stage_seen c (Framing frame behind) = Framing (frame_seen c frame) behind
 stage_seen c (Turning until) = turned c.line c.way until
-stage_seen c (Taking take) = Taking (take_seen c take)
+stage_seen c (Taking take) = taking_seen c take
 stage_seen c stage = stage
 
 -- ---- the drive changed nothing for as long as the host waits

@@ -26,6 +26,6 @@ last_wait = 200
 abbrev pub last_pulse : ℕ
 last_pulse = 60
 
--- a talker that hasn't pulled CLOCK so long after its release has nothing to say
+-- a talker that hasn't pulled CLOCK so long after its release has nothing to say; at a KERNAL's pace it pulls CLOCK, and lets go of both lines
 abbrev pub silence : ℕ
 silence = 1000

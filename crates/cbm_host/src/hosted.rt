@@ -22,6 +22,7 @@ const FIRST: u64 = 1000;
 pub struct Hosted<M: Steady> {
     bus: Bus<Desk<M>, 1>,
     device: u8,
+    pace: Pace,
     moment: u64,
 }
 
@@ -32,7 +33,7 @@ impl<M: Steady> Model for Hosted<M> {
 
     ghost Value = { Hosting (Kept M) };
 
-    ghost view = { λ h. record { bus = h.bus; device = h.device; moment = h.moment } };
+    ghost view = { λ h. record { bus = h.bus; device = h.device; pace = h.pace; moment = h.moment } };
 
     ghost invariant = { λ h. (8 ≤ h.device) × (h.device ≤ 11) × (length h.bus.drives ≡ 1) };
 }
@@ -48,11 +49,13 @@ impl<M: Steady> Hosted<M> {
     ghost use Rattle.cbm_host.specs.Engines.{channel_of};
     ghost use Rattle.cbm_host.specs.Hosted.{Rests, IsUnderWay, IsGoingOn, IsOver, tracks_on};
     ghost use Rattle.cbm_host.specs.Progress.{left_of};
+    ghost use Rattle.cbm_host.specs.Requests.{longest};
+    ghost use Rattle.cbm_iec.specs.declared.pace.Pace.TheVariants.{Profile};
     ghost use Rattle.cbm_host.specs.Served.{hear, served, IsModest};
     ghost use Rattle.cbm_drive.specs.Desks.{desk_shows};
     ghost use Rattle.cbm_host.specs.AnyDisk.{IsUnderWayAnyway, IsOverAnyway, RestsAnyway};
 
-    /// A drive at power up with this medium and a device number from 8 to 11.
+    /// A drive at power up with this medium and a device number from 8 to 11, at the profile's pace.
     pub fn new(medium: M, device: u8) -> Hosted<M>
         requires low { 8 ≤ device }
         requires high { device ≤ 11 }
@@ -62,16 +65,33 @@ impl<M: Steady> Hosted<M> {
         ensures anyway { RestsAnyway desk_shows result }
         ensures tracks { tracks_on M.seen result ≡ (M.seen medium).tracks ∷ [] }
         ensures moment { result.moment ≡ 1000 }
+        ensures pace { result.pace ≡ Profile }
     {
-        let desk = Desk::at_power_up(medium, device);
+        Hosted::with_pace(medium, device, Pace::Profile)
+    }
+
+    /// The same at this pace.
+    pub fn with_pace(medium: M, device: u8, pace: Pace) -> Hosted<M>
+        requires low { 8 ≤ device }
+        requires high { device ≤ 11 }
+        ensures rests { (d : Disk) → HoldsDisk (M.seen medium).tracks (M.seen medium).content d →
+            Rests M.seen result (start d (M.seen medium).protected (M.seen medium).tracks) }
+        // On any disk:
+        ensures anyway { RestsAnyway desk_shows result }
+        ensures tracks { tracks_on M.seen result ≡ (M.seen medium).tracks ∷ [] }
+        ensures moment { result.moment ≡ 1000 }
+        ensures pace { result.pace ≡ pace }
+    {
+        let desk = Desk::at_power_up(medium, device).with_pace(pace);
         let party = Party {
             device,
             reaction: REACTION,
-            pace: Pace::Profile,
+            pace,
         };
         Hosted {
             bus: Bus::new([Drive::new(desk, party)]),
             device,
+            pace,
             moment: FIRST,
         }
     }
@@ -84,10 +104,10 @@ impl<M: Steady> Hosted<M> {
             IsUnderWay M.seen self.now result m request.entry [] false }
         // On any disk:
         ensures anyway { RestsAnyway desk_shows self.now →
-            IsUnderWayAnyway desk_shows self.now.device self.now.moment self.now.bus result request.entry }
-        ensures limit { result.limit ≡ self.now.moment + 250000000 }
+            IsUnderWayAnyway desk_shows self.now.pace self.now.device self.now.moment self.now.bus result request.entry }
+        ensures limit { result.limit ≡ self.now.moment + longest self.now.pace }
     {
-        Performer::new(self.moment, self.device, request)
+        Performer::with_pace(self.moment, self.device, request, self.pace)
     }
 
     /// Goes on with a request to the next byte that the host takes, and answers it and whether it carries EOI. None where the
@@ -99,10 +119,12 @@ impl<M: Steady> Hosted<M> {
             (λ x. IsGoingOn M.seen self.new performer.new m request (bytes ++ x.0 ∷ []) x.1) }
         // On any disk:
         ensures anyway { (request : Request) (start : ℕ) → channel_of request ≤ 15 →
-            IsUnderWayAnyway desk_shows self.old.device start self.old.bus performer.old request → MatchOption result
-            (IsOverAnyway desk_shows self.new.device start self.new.bus self.new.moment request)
-            (λ x. IsUnderWayAnyway desk_shows self.new.device start self.new.bus performer.new request) }
+            IsUnderWayAnyway desk_shows self.old.pace self.old.device start self.old.bus performer.old request →
+            MatchOption result
+            (IsOverAnyway desk_shows self.new.pace self.new.device start self.new.bus self.new.moment request)
+            (λ x. IsUnderWayAnyway desk_shows self.new.pace self.new.device start self.new.bus performer.new request) }
         ensures device { self.new.device ≡ self.old.device }
+        ensures pace { self.new.pace ≡ self.old.pace }
         // Whatever the drive stands for:
         ensures fewer { IfSome result (λ x. left_of performer.new self.new.bus < left_of performer.old self.old.bus) }
         ensures limit { performer.new.limit ≡ performer.old.limit }
@@ -132,7 +154,8 @@ impl<M: Steady> Hosted<M> {
         // On any disk the drive rests again, and the next request doesn't begin before this one.
         ensures anyway { RestsAnyway desk_shows self.old → RestsAnyway desk_shows self.new }
         ensures later { RestsAnyway desk_shows self.old → self.old.moment ≤ self.new.moment }
-        ensures soon { self.new.moment ≤ self.old.moment + 250000000 }
+        ensures soon { self.new.moment ≤ self.old.moment + longest self.old.pace }
+        ensures pace { self.new.pace ≡ self.old.pace }
         ensures tracks { tracks_on M.seen self.new ≡ tracks_on M.seen self.old }
     {
         self.carry_out(Request::Open(channel, text));
@@ -147,7 +170,8 @@ impl<M: Steady> Hosted<M> {
         // On any disk the drive rests again, and the next request doesn't begin before this one.
         ensures anyway { RestsAnyway desk_shows self.old → RestsAnyway desk_shows self.new }
         ensures later { RestsAnyway desk_shows self.old → self.old.moment ≤ self.new.moment }
-        ensures soon { self.new.moment ≤ self.old.moment + 250000000 }
+        ensures soon { self.new.moment ≤ self.old.moment + longest self.old.pace }
+        ensures pace { self.new.pace ≡ self.old.pace }
         ensures tracks { tracks_on M.seen self.new ≡ tracks_on M.seen self.old }
     {
         self.carry_out(Request::Put(channel, bytes));
@@ -163,7 +187,8 @@ impl<M: Steady> Hosted<M> {
         // On any disk the drive rests again, and the next request doesn't begin before this one.
         ensures anyway { RestsAnyway desk_shows self.old → RestsAnyway desk_shows self.new }
         ensures later { RestsAnyway desk_shows self.old → self.old.moment ≤ self.new.moment }
-        ensures soon { self.new.moment ≤ self.old.moment + 250000000 }
+        ensures soon { self.new.moment ≤ self.old.moment + longest self.old.pace }
+        ensures pace { self.new.pace ≡ self.old.pace }
         ensures tracks { tracks_on M.seen self.new ≡ tracks_on M.seen self.old }
     {
         self.carry_out(Request::Fill(channel, count, byte));
@@ -177,7 +202,8 @@ impl<M: Steady> Hosted<M> {
         // On any disk the drive rests again, and the next request doesn't begin before this one.
         ensures anyway { RestsAnyway desk_shows self.old → RestsAnyway desk_shows self.new }
         ensures later { RestsAnyway desk_shows self.old → self.old.moment ≤ self.new.moment }
-        ensures soon { self.new.moment ≤ self.old.moment + 250000000 }
+        ensures soon { self.new.moment ≤ self.old.moment + longest self.old.pace }
+        ensures pace { self.new.pace ≡ self.old.pace }
         ensures tracks { tracks_on M.seen self.new ≡ tracks_on M.seen self.old }
     {
         self.carry_out(Request::Close(channel));
@@ -188,11 +214,12 @@ impl<M: Steady> Hosted<M> {
         requires moment { self.old.moment < 2 ^ 58 }
         requires channel { channel_of request ≤ 15 }
         ensures rests { (m : Machine) → IsModest request.entry → Rests M.seen self.old m →
-            Rests M.seen self.new (served request.entry m).machine }
+            Rests M.seen self.new (served self.old.pace request.entry m).machine }
         // On any disk:
         ensures anyway { IsModest request.entry → RestsAnyway desk_shows self.old → RestsAnyway desk_shows self.new }
         ensures later { IsModest request.entry → RestsAnyway desk_shows self.old → self.old.moment ≤ self.new.moment }
-        ensures soon { self.new.moment ≤ self.old.moment + 250000000 }
+        ensures soon { self.new.moment ≤ self.old.moment + longest self.old.pace }
+        ensures pace { self.new.pace ≡ self.old.pace }
         ensures tracks { tracks_on M.seen self.new ≡ tracks_on M.seen self.old }
     {
         let mut performer = self.ask(request);

@@ -19,5 +19,5 @@ mod waits;
 pub use done::Done;
 pub use hosted::Hosted;
 pub use performer::Performer;
-pub use performing::perform;
+pub use performing::{perform, perform_at};
 pub use request::Request;

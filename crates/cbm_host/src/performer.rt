@@ -1,13 +1,24 @@
 //! A request played on the bus, event by event.
 
+ghost use Rattle.std.specs.Prelude.{◌≡◌, ◌≤◌};
+ghost use Rattle.cbm_host.specs.Requests.{longest};
+
 use crate::due::Due;
 use crate::engine::Engine;
 use crate::request::Request;
-use cbm_drive::{Bus, Change, Event, Machine, Player, Who};
+use cbm_drive::{Bus, Change, Event, Machine, Pace, Player, Who};
 use std::marker::Model;
 
-/// How long a request takes at most, in microseconds.
-const LONGEST: u64 = 250_000_000;
+/// How long a request to a drive of this pace takes at most, in microseconds.
+fn longest(pace: Pace) -> u64
+    ensures value { result ≡ longest pace }
+    ensures bound { result ≤ 320000000 }
+{
+    match pace {
+        Pace::Profile => 250_000_000,
+        Pace::Kernal => 320_000_000,
+    }
+}
 
 /// Plays a request of the host on a bus with one drive, and gives the events one by one; it takes no memory.
 #[derive(Drop)]
@@ -33,9 +44,8 @@ impl<'a> Performer<'a> {
     ghost use Rattle.std.specs.Prelude.{◌≡◌, ◌+◌, ◌++◌, ◌^◌, ◌<◌, ◌≤◌, ℕ, Bool, List, [], ◌∷◌, None, Some, true, false, IfSome, MatchOption};
     ghost use Rattle.cbm_session.specs.Playing.{Station, at_rest};
     ghost use Rattle.cbm_session.specs.Sessions.{IsDrive};
-    ghost use Rattle.cbm_iec.specs.declared.pace.Pace.TheVariants.{Profile};
     ghost use Rattle.cbm_iec.specs.declared.party.Party.{Party};
-    ghost use Rattle.cbm_session.specs.Seats.{at_pace};
+    ghost use Rattle.cbm_host.specs.Requests.{longest};
     ghost use Rattle.cbm_host.specs.Begun.{IsRequestBegun};
     ghost use Rattle.cbm_host.specs.CarriedOut.{IsShort, HasCarriedOut};
     ghost use Rattle.cbm_host.specs.Performed.{IsPerforming, HasPerformed};
@@ -53,7 +63,8 @@ impl<'a> Performer<'a> {
     ghost use Rattle.cbm_host.specs.declared.due.Due.TheVariants.{Makes, Waits, Hears};
     ghost use Rattle.cbm_host.specs.Recorded.{GoesUpToRecorded, GoesOnRecorded, PlaysRecorded, ComesRecorded, NextRecorded, TakesRecorded};
 
-    /// Before the first event of a request to the drive with this device number; its first change comes at the start.
+    /// Before the first event of a request to the drive with this device number, at the profile's pace; its first change comes
+    /// at the start.
     pub fn new(start: u64, device: u8, request: Request<'a>) -> Performer<'a>
         requires start { start < 2 ^ 58 }
         requires device { device < 31 }
@@ -63,11 +74,24 @@ impl<'a> Performer<'a> {
         ensures byte { result.byte ≡ None }
         ensures limit { result.limit ≡ start + 250000000 }
     {
+        Performer::with_pace(start, device, request, Pace::Profile)
+    }
+
+    /// The same of a request to a drive of this pace: the host does not give it up as long as such a drive may take.
+    pub fn with_pace(start: u64, device: u8, request: Request<'a>, pace: Pace) -> Performer<'a>
+        requires start { start < 2 ^ 58 }
+        requires device { device < 31 }
+        requires channel { channel_of request ≤ 15 }
+        ensures player { result.player ≡ at_start }
+        ensures engine { result.engine ≡ engine_at start device request.entry }
+        ensures byte { result.byte ≡ None }
+        ensures limit { result.limit ≡ start + longest pace }
+    {
         Performer {
             player: Player::new(),
             engine: Engine::new(start, device, request),
             byte: None,
-            limit: start + LONGEST,
+            limit: start + longest(pace),
         }
     }
 
@@ -148,13 +172,13 @@ impl<'a> Performer<'a> {
         }
     }
 
-    /// A law, and nothing is done: where no more events come of a request to a drive at rest, the request was carried out,
-    /// and its end is told.
+    /// A law, and nothing is done: where no more events come of a request to a drive at rest, of either pace, the request was
+    /// carried out, and its end is told.
     pub fn carries_out<D: Machine, const N: usize>(&self, bus: &Bus<D, N>)
-        ensures { (v : Party) (ms : ℕ → D.State) (start : ℕ) (request : Request) (old new : List Event) (bytes : List ℕ)
-            (last : Bool) → let b = at_pace Profile v in IsDrive b → channel_of request ≤ 15 →
+        ensures { (b : Party) (ms : ℕ → D.State) (start : ℕ) (request : Request) (old new : List Event) (bytes : List ℕ)
+            (last : Bool) → IsDrive b → channel_of request ≤ 15 →
             IsShort D.State D.step D.says b.device (ms b.device) request →
-            HasPerformed _ D.State D.stands D.step D.says (engine_at start b.device request) (start + 250000000) self.now
+            HasPerformed _ D.State D.stands D.step D.says (engine_at start b.device request) (start + longest b.pace) self.now
             bus.now old new bytes last (at_rest D.State D.step D.says ms (b ∷ [])) →
             (end : ℕ) × (stage_end self.now.engine.stage ≡ Some end) ×
             HasCarriedOut _ D.State D.stands D.step D.says b ms start request bus.now old new bytes last end }
@@ -163,10 +187,10 @@ impl<'a> Performer<'a> {
     /// A law, and nothing is done: while a request to a drive at rest is under way, the bytes so far are the first of those
     /// that the drive says in it, and with EOI they are all of them.
     pub fn begins<D: Machine, const N: usize>(&self, bus: &Bus<D, N>)
-        ensures { (v : Party) (ms : ℕ → D.State) (start : ℕ) (request : Request) (old new : List Event)
-            (bytes : List ℕ) (last : Bool) → let b = at_pace Profile v in IsDrive b → channel_of request ≤ 15 →
+        ensures { (b : Party) (ms : ℕ → D.State) (start : ℕ) (request : Request) (old new : List Event)
+            (bytes : List ℕ) (last : Bool) → IsDrive b → channel_of request ≤ 15 →
             IsShort D.State D.step D.says b.device (ms b.device) request →
-            IsPerforming _ D.State D.stands D.step D.says (engine_at start b.device request) (start + 250000000)
+            IsPerforming _ D.State D.stands D.step D.says (engine_at start b.device request) (start + longest b.pace)
             self.now bus.now old new bytes last (at_rest D.State D.step D.says ms (b ∷ [])) →
             IsRequestBegun D.State D.step D.says b.device (ms b.device) request bytes last }
     {}

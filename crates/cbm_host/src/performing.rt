@@ -12,6 +12,7 @@ ghost use Rattle.cbm_host.specs.CarriedOut.{IsShort, HasCarriedOut};
 ghost use Rattle.cbm_iec.specs.declared.pace.Pace.TheVariants.{Profile};
 ghost use Rattle.cbm_iec.specs.declared.party.Party.{Party};
 ghost use Rattle.cbm_host.specs.Progress.{left_of};
+ghost use Rattle.cbm_host.specs.Requests.{longest};
 ghost use Rattle.cbm_host.specs.Performed.{IsPerforming, IsCutShort, HasAddedUpTo, HasPerformed};
 ghost use Rattle.cbm_drive.specs.Playback.{Shown, Playback};
 ghost use Rattle.cbm_host.specs.Recorded.{IsPerformingBack, HasPerformedBack, IsCutShortBack};
@@ -20,12 +21,12 @@ ghost use Rattle.cbm_host.specs.AnyDisk.{IsAtRest, IsCarriedOutAnyway, IsCutShor
 use crate::done::Done;
 use crate::performer::Performer;
 use crate::request::Request;
-use cbm_drive::{Bus, Event, Machine, PlayFault};
+use cbm_drive::{Bus, Event, Machine, Pace, PlayFault};
 use std::alloc::{AllocError, Global};
 
-/// Carries out a request on a bus with one drive, at rest: from its first change, at the start, to the moment when it is
-/// over, at most 250,000,000 microseconds later. The events go to `events`. A request of more than 200,000 bytes may be
-/// given up at that moment. Error: want of memory, and then they are a beginning of what happened.
+/// Carries out a request on a bus with one drive, at rest and at the profile's pace: from its first change, at the start, to the
+/// moment when it is over, at most 250,000,000 microseconds later. The events go to `events`. A request of more than 200,000
+/// bytes may be given up at that moment. Error: want of memory, and then they are a beginning of what happened.
 pub fn perform<D: Machine, const N: usize>(
     alloc: Global,
     bus: &mut Bus<D, N>,
@@ -56,7 +57,43 @@ pub fn perform<D: Machine, const N: usize>(
         IfErr result (λ e. (e ≡ Memory) ×
         IsCutShort _ D.State D.stands D.step D.says bus.new events.old.items events.new.items ss) }
 {
-    let mut performer = Performer::new(start, device, request);
+    perform_at(alloc, Pace::Profile, bus, start, device, request, events)
+}
+
+/// The same of a drive at this pace: the request is over at most 250,000,000 microseconds later at the profile's, and 320,000,000
+/// at a KERNAL's.
+pub fn perform_at<D: Machine, const N: usize>(
+    alloc: Global,
+    pace: Pace,
+    bus: &mut Bus<D, N>,
+    start: u64,
+    device: u8,
+    request: Request,
+    events: &mut Vec<Event>,
+) -> Result<Done, PlayFault>
+    requires one { N ≡ 1 }
+    requires start { start < 2 ^ 58 }
+    requires device { device < 31 }
+    requires channel { channel_of request ≤ 15 }
+    ensures carried_out { (b : Party) (ms : ℕ → D.State) → IsDrive b → b.device ≡ device → b.pace ≡ pace →
+        IsShort D.State D.step D.says device (ms device) request.entry →
+        IsBusAt _ D.State D.stands bus.old.host bus.old.drives (at_rest D.State D.step D.says ms (b ∷ [])) →
+        IfOk result (λ done. HasCarriedOut _ D.State D.stands D.step D.says b ms start request.entry bus.new
+        events.old.items events.new.items done.bytes.items done.last done.end) }
+    // On any disk a machine plays back what the drive showed, and for that machine the request was carried out.
+    ensures recorded { (b : Party) → IsDrive b → b.device ≡ device → b.pace ≡ pace → IsAtRest D.shows b bus.old →
+        MatchResult result
+        (λ done. IsCarriedOutAnyway D.shows b start request.entry bus.old bus.new events.old.items events.new.items
+        done.bytes.items done.last done.end)
+        (λ e. IsCutShortAnyway D.shows b bus.old bus.new events.old.items events.new.items) }
+    ensures end { IfOk result (λ done. done.end ≤ start + longest pace) }
+    // Whatever the machine stands for, nothing happens later than that.
+    ensures within { HasAddedUpTo (start + longest pace) events.old.items events.new.items }
+    ensures memory { (ss : List (Station D.State)) → IsBusAt _ D.State D.stands bus.old.host bus.old.drives ss →
+        IfErr result (λ e. (e ≡ Memory) ×
+        IsCutShort _ D.State D.stands D.step D.says bus.new events.old.items events.new.items ss) }
+{
+    let mut performer = Performer::with_pace(start, device, request, pace);
     let mut done = Done {
         bytes: Vec::new(alloc),
         last: false,

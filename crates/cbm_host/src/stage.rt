@@ -275,6 +275,11 @@ impl Stage {
                 behind,
             },
             (Stage::Turning(_), Line::Clock, Way::Pull) => Stage::Taking(Take::Awaiting),
+            // It let go of CLOCK, and now of DATA: it has nothing to say.
+            (Stage::Taking(Take::Freeing(at)), Line::Data, Way::Free) => Stage::Releasing {
+                at,
+                release: Release::DataToSilent,
+            },
             (Stage::Taking(take), _, _) => Stage::Taking(take.seen(change)),
             (other, _, _) => other,
         }

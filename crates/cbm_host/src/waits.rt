@@ -19,5 +19,6 @@ pub(crate) const EOI_WAIT: u64 = 200;
 /// How long DATA is pulled for the answer to EOI.
 pub(crate) const EOI_PULSE: u64 = 60;
 
-/// A talker that hasn't pulled CLOCK so long after its release has nothing to say.
+/// A talker that hasn't pulled CLOCK so long after its release has nothing to say; one at a KERNAL's pace pulls it, and lets go
+/// of both lines.
 pub(crate) const SILENCE: u64 = 1000;

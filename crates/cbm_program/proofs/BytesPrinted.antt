@@ -5,11 +5,12 @@ use Rattle.std.specs.Io.KnownBytes.{Appends}
 use Rattle.std.proofs.lemmas.Grind.{flat_map-append}
 use Rattle.cbm_drive.specs.Machines.{Machine}
 use Rattle.cbm_drive.specs.Standing.{Kept}
+use Rattle.cbm_iec.specs.declared.pace.Pace.{Pace}
 use Rattle.cbm_medium.specs.Seen.{Seen}
 use Rattle.cbm_host.specs.Engines.{channel_of}
 use Rattle.cbm_host.specs.Hosted.{Hosting, AreFirst, Rests, IsUnderWay, IsGoingOn, IsOver}
 use Rattle.cbm_host.specs.Performers.{Performing}
-use Rattle.cbm_host.specs.Served.{Said, served, IsModest}
+use Rattle.cbm_host.specs.Served.{Said, served, talked_at, IsModest}
 use Rattle.cbm_host.specs.declared.request.Request as asks
 use Rattle.cbm_program.specs.Output.{AppendsPart}
 use Rattle.cbm_program.specs.Scripts.{hex, eoi_mark, bytes_text, get_line}
@@ -76,11 +77,24 @@ module _ {M : Type 0} (seen : M → Seen) where
   pub goes_none : (a : Option (List ℕ)) (h : Hosting (Kept M)) (p : Performing) → Goes a a h p h p
   goes_none a h p m request bytes last channel modest g = record { now = bytes; mark = last; going = g; rest = []; text = sym (append-nil (said_text bytes last)); written = appends-nothing a }
 
-  pub goes_on : (a b c : Option (List ℕ)) (h k i : Hosting (Kept M)) (p q r : Performing) (byte : ℕ) (l : Bool) → Goes a b h p k q → OnByte k q i r (byte, l) → Appends b c (unit_text (Some (byte, l))) → Goes a c h p i r
-  goes_on a b c h k i p q r byte l goes next more m request bytes last channel modest g =
+  -- what was said, at a pace that the drive keeps
+  pub first_at : (e : Pace) (h : Hosting (Kept M)) (p : Performing) (m : Machine) (request : asks.Request) (bytes : List ℕ) (last : Bool) → h.pace ≡ e → IsGoingOn seen h p m request bytes last → AreFirst bytes last (served e request m).bytes (served e request m).marked
+  first_at e h p m request bytes last same g = subst (λ (x : Pace). AreFirst bytes last (served x request m).bytes (served x request m).marked) same g.first
+
+  pub record IsOverAt (e : Pace) (h : Hosting (Kept M)) (m : Machine) (request : asks.Request) (bytes : List ℕ) (last : Bool) : Type 0 where
+    pub rests : Rests seen h (served e request m).machine
+    pub said : bytes ≡ (served e request m).bytes
+    pub marked : last ≡ (served e request m).marked
+
+  pub over_at : (e : Pace) (h : Hosting (Kept M)) (m : Machine) (request : asks.Request) (bytes : List ℕ) (last : Bool) → h.pace ≡ e → IsOver seen h m request bytes last → IsOverAt e h m request bytes last
+  over_at e h m request bytes last same o = subst (λ (x : Pace). IsOverAt x h m request bytes last) same (record { rests = o.rests; said = o.said; marked = o.marked })
+
+  pub goes_on : (a b c : Option (List ℕ)) (h k i : Hosting (Kept M)) (p q r : Performing) (byte : ℕ) (l : Bool) → i.pace ≡ k.pace → Goes a b h p k q → OnByte k q i r (byte, l) → Appends b c (unit_text (Some (byte, l))) → Goes a c h p i r
+  goes_on a b c h k i p q r byte l same goes next more m request bytes last channel modest g =
       let o = goes m request bytes last channel modest g in
       let n = next m request o.now o.mark channel modest o.going.under_way in
-      let unmarked = not_last o.now o.mark byte l (served request m).bytes (served request m).marked o.going.first n.first in
+      let first = first_at k.pace i r m request (o.now ++ byte ∷ []) l same n in
+      let unmarked = not_last o.now o.mark byte l (served k.pace request m).bytes (served k.pace request m).marked o.going.first first in
       record {
         now = o.now ++ byte ∷ [];
         mark = l;
@@ -91,13 +105,14 @@ module _ {M : Type 0} (seen : M → Seen) where
       }
 
   -- a byte broke off
-  pub goes_part : (a b c : Option (List ℕ)) (h k i : Hosting (Kept M)) (p q r : Performing) (byte : ℕ) (l : Bool) → Goes a b h p k q → OnByte k q i r (byte, l) → AppendsPart b c (unit_text (Some (byte, l)))
-      → (m : Machine) (request : asks.Request) (bytes : List ℕ) (last : Bool) → channel_of request ≤ 15 → IsModest request → IsGoingOn seen h p m request bytes last → PrintsRestPart a c bytes last (served request m)
-  goes_part a b c h k i p q r byte l goes next part m request bytes last channel modest g =
+  pub goes_part : (a b c : Option (List ℕ)) (h k i : Hosting (Kept M)) (p q r : Performing) (byte : ℕ) (l : Bool) → i.pace ≡ k.pace → k.pace ≡ h.pace → Goes a b h p k q → OnByte k q i r (byte, l) → AppendsPart b c (unit_text (Some (byte, l)))
+      → (m : Machine) (request : asks.Request) (bytes : List ℕ) (last : Bool) → channel_of request ≤ 15 → IsModest request → IsGoingOn seen h p m request bytes last → PrintsRestPart a c bytes last (served h.pace request m)
+  goes_part a b c h k i p q r byte l same paced goes next part m request bytes last channel modest g =
       let o = goes m request bytes last channel modest g in
       let n = next m request o.now o.mark channel modest o.going.under_way in
-      let unmarked = not_last o.now o.mark byte l (served request m).bytes (served request m).marked o.going.first n.first in
-      let more = begins (o.now ++ byte ∷ []) l (served request m).bytes (served request m).marked n.first in
+      let first = first_at h.pace i r m request (o.now ++ byte ∷ []) l (same ∙ paced) n in
+      let unmarked = not_last o.now o.mark byte l (served h.pace request m).bytes (served h.pace request m).marked (first_at h.pace k q m request o.now o.mark paced o.going) first in
+      let more = begins (o.now ++ byte ∷ []) l (served h.pace request m).bytes (served h.pace request m).marked first in
       let unit = unit_text (Some (byte, l)) in
       record {
         rest = (o.rest ++ unit_text (Some (byte, l))) ++ more.0;
@@ -107,12 +122,12 @@ module _ {M : Type 0} (seen : M → Seen) where
       }
 
   -- all bytes came
-  pub goes_over : (a b : Option (List ℕ)) (h k i : Hosting (Kept M)) (p q : Performing) → Goes a b h p k q → OnEnd k q i
-      → (m : Machine) (request : asks.Request) (bytes : List ℕ) (last : Bool) → channel_of request ≤ 15 → IsModest request → IsGoingOn seen h p m request bytes last → Rests seen i (served request m).machine × PrintsRest a b bytes last (served request m)
-  goes_over a b h k i p q goes over m request bytes last channel modest g =
+  pub goes_over : (a b : Option (List ℕ)) (h k i : Hosting (Kept M)) (p q : Performing) → i.pace ≡ h.pace → Goes a b h p k q → OnEnd k q i
+      → (m : Machine) (request : asks.Request) (bytes : List ℕ) (last : Bool) → channel_of request ≤ 15 → IsModest request → IsGoingOn seen h p m request bytes last → Rests seen i (served h.pace request m).machine × PrintsRest a b bytes last (served h.pace request m)
+  goes_over a b h k i p q same goes over m request bytes last channel modest g =
       let o = goes m request bytes last channel modest g in
-      let e = over m request o.now o.mark channel modest o.going.under_way in
-      (e.rests, record { rest = o.rest; whole = ap (λ l. said_text l (served request m).marked) (sym e.said) ∙ ap (λ v. said_text o.now v) (sym e.marked) ∙ o.text; written = o.written })
+      let e = over_at h.pace i m request o.now o.mark same (over m request o.now o.mark channel modest o.going.under_way) in
+      (e.rests, record { rest = o.rest; whole = ap (λ l. said_text l (served h.pace request m).marked) (sym e.said) ∙ ap (λ v. said_text o.now v) (sym e.marked) ∙ o.text; written = o.written })
 
 -- ---- the whole line
 
@@ -153,6 +168,13 @@ line_rest_part a b c d ch x l said f head unit rest =
     (part_before a d (get_head ch (codes " ") ++ said_text said.bytes said.marked) (codes "\n")
     (part_behind a b d (get_head ch (codes " ")) (said_text said.bytes said.marked) head
     (subst (λ t. AppendsPart b d t) (ap (λ t. t ++ rest.rest) (unit_is x l) ∙ sym rest.whole) (part_behind b c d (unit_text (Some (x, l))) rest.rest unit rest.written))))
+
+-- the bytes behind the first, of an answer at one pace as at another
+pub rest_at : (a b : Option (List ℕ)) (x : ℕ) (l : Bool) (channel most : ℕ) (m : Machine) (e f : Pace) → e ≡ f → PrintsRest a b (x ∷ []) l (talked_at e channel most m) → PrintsRest a b (x ∷ []) l (talked_at f channel most m)
+rest_at a b x l channel most m e f same = subst (λ (v : Pace). PrintsRest a b (x ∷ []) l (talked_at v channel most m)) same
+
+pub rest_part_at : (a b : Option (List ℕ)) (x : ℕ) (l : Bool) (channel most : ℕ) (m : Machine) (e f : Pace) → e ≡ f → PrintsRestPart a b (x ∷ []) l (talked_at e channel most m) → PrintsRestPart a b (x ∷ []) l (talked_at f channel most m)
+rest_part_at a b x l channel most m e f same = subst (λ (v : Pace). PrintsRestPart a b (x ∷ []) l (talked_at v channel most m)) same
 
 all_bytes : (a b c d : Option (List ℕ)) (ch x : ℕ) (l : Bool) (said : Said) → Appends a b (get_head ch (codes " ")) → Appends b c (unit_text (Some (x, l))) → PrintsRest c d (x ∷ []) l said → Appends a d (get_head ch (codes " ") ++ said_text said.bytes said.marked)
 all_bytes a b c d ch x l said head unit rest =

@@ -6,7 +6,7 @@ use Rattle.cbm_file.specs.Files.{Bytes, with_slot}
 use Rattle.cbm_drive.specs.Machines.{Machine}
 use Rattle.cbm_file.specs.Changes.{closed_file}
 use Rattle.cbm_program.specs.declared.request.Request.TheVariants.{Get, Close, Status}
-use Rattle.cbm_program.proofs.Words.{open_by, formatted, powered, blank, prints, status_is}
+use Rattle.cbm_program.proofs.Words.{open_by, formatted, powered, blank, prints, prints_for_kernal, status_is}
 
 -- a disk with a program of three bytes
 abbrev pub with_hello : Machine
@@ -31,6 +31,16 @@ closed_says_nothing = refl
 -- a missing file, and the status behind it
 pub missing_file : prints (open_by 0 (codes "NONE") ∷ Status ∷ Status ∷ []) with_hello ≡ status_is (codes "62,FILE NOT FOUND") ++ status_is (codes "00, OK")
 missing_file = refl
+
+-- A computer asks for the bytes of the missing file all the same: at a KERNAL's pace the error stays, at the profile's it is another one.
+pub missing_file_for_kernal : prints_for_kernal (open_by 0 (codes "NONE") ∷ Get 0 9 ∷ Status ∷ Status ∷ []) with_hello
+    ≡ codes "get 0 none\n" ++ status_is (codes "62,FILE NOT FOUND") ++ status_is (codes "00, OK")
+unfolding digits
+missing_file_for_kernal = refl
+
+pub missing_file_asked : prints (open_by 0 (codes "NONE") ∷ Get 0 9 ∷ Status ∷ []) with_hello ≡ codes "get 0 none\n" ++ status_is (codes "61,FILE NOT OPEN")
+unfolding digits
+missing_file_asked = refl
 
 -- the first status is that of power up
 pub first_status : prints (Status ∷ Status ∷ []) blank ≡ status_is (codes "73,CBM DOS V2.6 1541") ++ status_is (codes "00, OK")

@@ -1,4 +1,5 @@
 -- What a line of a script prints.
+use Rattle.cbm_iec.specs.declared.pace.Pace.{Pace}
 use Rattle.std.proofs.Common.{◌≡◌, ℕ, List, [], ◌∷◌, Option, sym, subst, append-nil, Ok, Err}
 use Rattle.std.specs.Prelude.{Result, OnOk, OnErr}
 use Rattle.std.specs.Io.KnownBytes.{Appends, Keeps}
@@ -11,29 +12,29 @@ use Rattle.cbm_program.specs.Output.{Prints, PrintsPart}
 use Rattle.cbm_program.specs.Running.{requests_in}
 use Rattle.cbm_program.proofs.OutputLemmas.{appends-kept, part_before, whole_part}
 
-one-prints : (a b c : Option (List ℕ)) (stood now : Machine → Type 0) (request : Request)
-    → Prints a b stood now (printed_by request) → Keeps b c
-    → Prints a c stood now (printed (request ∷ []))
-one-prints a b c stood now request p k m s =
+one-prints : (pace : Pace) (a b c : Option (List ℕ)) (stood now : Machine → Type 0) (request : Request)
+    → Prints a b stood now (printed_by pace request) → Keeps b c
+    → Prints a c stood now (printed pace (request ∷ []))
+one-prints pace a b c stood now request p k m s =
     let r = p m s in
-    (subst (λ t. Appends a c t) (sym (append-nil (printed_by request m).text)) (appends-kept a b c (printed_by request m).text r.0 k), r.1)
+    (subst (λ t. Appends a c t) (sym (append-nil (printed_by pace request m).text)) (appends-kept a b c (printed_by pace request m).text r.0 k), r.1)
 
 -- what a request prints, and then nothing more
-pub asks-prints : (a b c : Option (List ℕ)) (stood now : Machine → Type 0) (line : Line) (request : Request) → line ≡ Asks request
-    → Prints a b stood now (printed_by request) → Keeps b c
-    → Prints a c stood now (printed (requests_in line))
-asks-prints a b c stood now line request e p k = rw e (one-prints a b c stood now request p k)
+pub asks-prints : (pace : Pace) (a b c : Option (List ℕ)) (stood now : Machine → Type 0) (line : Line) (request : Request) → line ≡ Asks request
+    → Prints a b stood now (printed_by pace request) → Keeps b c
+    → Prints a c stood now (printed pace (requests_in line))
+asks-prints pace a b c stood now line request e p k = rw e (one-prints pace a b c stood now request p k)
 
-pub asks-part : (a b c : Option (List ℕ)) (stood now : Machine → Type 0) (line : Line) (request : Request) → line ≡ Asks request
-    → Prints a b stood now (printed_by request) → Keeps b c
-    → PrintsPart a c stood (printed (requests_in line))
-asks-part a b c stood now line request e p k =
-    rw e (λ m s. whole_part a c (printed (request ∷ []) m).text (one-prints a b c stood now request p k m s).0)
+pub asks-part : (pace : Pace) (a b c : Option (List ℕ)) (stood now : Machine → Type 0) (line : Line) (request : Request) → line ≡ Asks request
+    → Prints a b stood now (printed_by pace request) → Keeps b c
+    → PrintsPart a c stood (printed pace (requests_in line))
+asks-part pace a b c stood now line request e p k =
+    rw e (λ m s. whole_part a c (printed pace (request ∷ []) m).text (one-prints pace a b c stood now request p k m s).0)
 
 -- a request that broke off
-pub asks-broken : (a b : Option (List ℕ)) (stood : Machine → Type 0) (line : Line) (request : Request) → line ≡ Asks request
-    → PrintsPart a b stood (printed_by request) → PrintsPart a b stood (printed (requests_in line))
-asks-broken a b stood line request e p = rw e (λ m s. part_before a b (printed_by request m).text [] (p m s))
+pub asks-broken : (pace : Pace) (a b : Option (List ℕ)) (stood : Machine → Type 0) (line : Line) (request : Request) → line ≡ Asks request
+    → PrintsPart a b stood (printed_by pace request) → PrintsPart a b stood (printed pace (requests_in line))
+asks-broken pace a b stood line request e p = rw e (λ m s. part_before a b (printed_by pace request m).text [] (p m s))
 
 pub if_ok : {A E P : Type 0} (r : Result A E) → P → OnOk r P
 if_ok (Ok a) p = p

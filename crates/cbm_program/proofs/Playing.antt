@@ -1,4 +1,5 @@
 -- A script of line changes that is played, line by line.
+use Rattle.cbm_iec.specs.declared.party.Party.{Party}
 use Rattle.std.proofs.Common.{◌≡◌, ℕ, ◌+◌, ◌≤◌, List, [], ◌∷◌, ◌++◌, Option, Some, None, refl, sym, ap, subst, ◌∙◌, inl, inr, arith, append_assoc, append-nil, length, drop}
 use Rattle.std.specs.Prelude.{IfSome, Result, Ok, Err, codes}
 use Rattle.std.specs.Io.KnownBytes.{Appends, Keeps}
@@ -9,7 +10,7 @@ use Rattle.cbm_iec.specs.declared.port.Port.{Port}
 use Rattle.cbm_medium.specs.Seen.{Seen}
 use Rattle.cbm_session.specs.Following.{IsInTime}
 use Rattle.cbm_session.specs.Playing.{Station, Plays, IsKept, IsLaterDue}
-use Rattle.cbm_session.specs.Sessions.{IsBus}
+use Rattle.cbm_session.specs.Sessions.{IsBus, IsDrive}
 use Rattle.cbm_drive.specs.Machines.{Machine}
 use Rattle.cbm_drive.specs.Standing.{Kept, Stands}
 use Rattle.cbm_drive.specs.Cables.{Cabled}
@@ -25,7 +26,7 @@ use Rattle.cbm_program.specs.Running.{EndsAs}
 use Rattle.cbm_program.specs.Staging.{IsOpen, IsAt, IsBorne, PlaysOn, PlaysPart, Ends, tracks_in}
 use Rattle.cbm_program.specs.TimedReading.{ReadsTimed, LacksTimed, TimedRead, IsBadBehind, BehindRead}
 use Rattle.cbm_program.specs.Timetables.{Timetable, timetable_of, timetable_from, timed_meaning, with_timed, stopped_at, ended_at, latest_if, bad_behind}
-use Rattle.cbm_program.specs.Traces.{PrintsTrace, PrintsTracePart, trace_text, powered, drives_of, machines_of}
+use Rattle.cbm_program.specs.Traces.{PrintsTrace, PrintsTracePart, trace_text, powered, machines_of}
 use Rattle.cbm_program.specs.declared.fault.RunFault.{RunFault}
 use Rattle.cbm_program.specs.declared.fault.RunFault.TheVariants.{Script, Image, Memory, Reading, Writing}
 use Rattle.cbm_program.specs.declared.wires.timed.Timed.{Timed}
@@ -159,13 +160,13 @@ module _ {M : Type 0} (seen : M → Seen) where
 
   -- ---- a beginning of what the input asks
 
-  abbrev pub Begun : Option (List ℕ) → Option (List ℕ) → Option (List ℕ) → ℕ → Turns → Cabled (Desk (Kept M)) → Type 0
-  Begun a b input device p x = IfSome input (λ bytes. PrintsTracePart a b (λ m. IsAt seen p x (powered device m) []) device [] (timetable_of bytes))
+  abbrev pub Begun : Option (List ℕ) → Option (List ℕ) → Option (List ℕ) → Party → Turns → Cabled (Desk (Kept M)) → Type 0
+  Begun a b input drive p x = IfSome input (λ bytes. PrintsTracePart a b (λ m. IsAt seen p x (powered drive m) []) drive [] (timetable_of bytes))
 
   -- of the first changes
-  begun : (a b : Option (List ℕ)) (xs : List ℕ) (device : ℕ) (p : Turns) (x : Cabled (Desk (Kept M))) (done : List Change) (t : Timetable) → timetable_of xs ≡ behind done t → PlaysPart seen a b done p x → Begun a b (Some xs) device p x
-  begun a b xs device p x done t e part m at_ =
-      let h = part (powered device m) [] at_ in (
+  begun : (a b : Option (List ℕ)) (xs : List ℕ) (drive : Party) (p : Turns) (x : Cabled (Desk (Kept M))) (done : List Change) (t : Timetable) → timetable_of xs ≡ behind done t → PlaysPart seen a b done p x → Begun a b (Some xs) drive p x
+  begun a b xs drive p x done t e part m at_ =
+      let h = part (powered drive m) [] at_ in (
         h.made,
         record {
           from = h.from;
@@ -207,25 +208,25 @@ module _ {M : Type 0} (seen : M → Seen) where
       }
 
   -- where the lines so far were played
-  pub timing_begun : (a b input left : Option (List ℕ)) (n from device : ℕ) (p q : Turns) (x y : Cabled (Desk (Kept M))) → Timing a b input left n from p x q y → q.second ≡ None → Begun a b input device p x
-  timing_begun a b None left n from device p q x y t none = tt
-  timing_begun a b (Some xs) None n from device p q x y t none = absurd t.follows
-  timing_begun a b (Some xs) (Some ys) n from device p q x y t none = begun a b xs device p x t.done (timetable_from n from (lines_of ys)) t.follows (part_of a b t.done p q x y none t.played)
+  pub timing_begun : (a b input left : Option (List ℕ)) (n from : ℕ) (drive : Party) (p q : Turns) (x y : Cabled (Desk (Kept M))) → Timing a b input left n from p x q y → q.second ≡ None → Begun a b input drive p x
+  timing_begun a b None left n from drive p q x y t none = tt
+  timing_begun a b (Some xs) None n from drive p q x y t none = absurd t.follows
+  timing_begun a b (Some xs) (Some ys) n from drive p q x y t none = begun a b xs drive p x t.done (timetable_from n from (lines_of ys)) t.follows (part_of a b t.done p q x y none t.played)
 
   -- where a change broke off, and where the end did
-  pub change_begun : (a b c input l k : Option (List ℕ)) (n from device : ℕ) (change : Change) (p q : Turns) (x y : Cabled (Desk (Kept M))) → Timing a b input l n from p x q y → ReadsTimed l k n from (Changes change) → PlaysPart seen b c (change ∷ []) q y → Begun a c input device p x
-  change_begun a b c None l k n from device change p q x y t reads part = tt
-  change_begun a b c (Some xs) None k n from device change p q x y t reads part = absurd t.follows
-  change_begun a b c (Some xs) (Some ys) None n from device change p q x y t reads part = absurd reads
-  change_begun a b c (Some xs) (Some ys) (Some zs) n from device change p q x y t reads part =
-      begun a c xs device p x (t.done ++ change ∷ []) (timetable_from (n + 1) change.moment (lines_of zs)) (follows_change (Some xs) (Some ys) (Some zs) n from t.done change t.follows reads)
+  pub change_begun : (a b c input l k : Option (List ℕ)) (n from : ℕ) (drive : Party) (change : Change) (p q : Turns) (x y : Cabled (Desk (Kept M))) → Timing a b input l n from p x q y → ReadsTimed l k n from (Changes change) → PlaysPart seen b c (change ∷ []) q y → Begun a c input drive p x
+  change_begun a b c None l k n from drive change p q x y t reads part = tt
+  change_begun a b c (Some xs) None k n from drive change p q x y t reads part = absurd t.follows
+  change_begun a b c (Some xs) (Some ys) None n from drive change p q x y t reads part = absurd reads
+  change_begun a b c (Some xs) (Some ys) (Some zs) n from drive change p q x y t reads part =
+      begun a c xs drive p x (t.done ++ change ∷ []) (timetable_from (n + 1) change.moment (lines_of zs)) (follows_change (Some xs) (Some ys) (Some zs) n from t.done change t.follows reads)
       (then_part a b c t.done (change ∷ []) p q x y t.played part)
 
-  pub end_begun : (a b c input l : Option (List ℕ)) (n from device : ℕ) (p q : Turns) (x y : Cabled (Desk (Kept M))) → Timing a b input l n from p x q y → PlaysPart seen b c [] q y → Begun a c input device p x
-  end_begun a b c None l n from device p q x y t part = tt
-  end_begun a b c (Some xs) None n from device p q x y t part = absurd t.follows
-  end_begun a b c (Some xs) (Some ys) n from device p q x y t part =
-      begun a c xs device p x t.done (timetable_from n from (lines_of ys)) t.follows (subst (λ cs. PlaysPart seen a c cs p x) (append-nil t.done) (then_part a b c t.done [] p q x y t.played part))
+  pub end_begun : (a b c input l : Option (List ℕ)) (n from : ℕ) (drive : Party) (p q : Turns) (x y : Cabled (Desk (Kept M))) → Timing a b input l n from p x q y → PlaysPart seen b c [] q y → Begun a c input drive p x
+  end_begun a b c None l n from drive p q x y t part = tt
+  end_begun a b c (Some xs) None n from drive p q x y t part = absurd t.follows
+  end_begun a b c (Some xs) (Some ys) n from drive p q x y t part =
+      begun a c xs drive p x t.done (timetable_from n from (lines_of ys)) t.follows (subst (λ cs. PlaysPart seen a c cs p x) (append-nil t.done) (then_part a b c t.done [] p q x y t.played part))
 
   -- what was played to an end is so too
   pub ended_part : (b c : Option (List ℕ)) (end : ℕ) (q r : Turns) (y z : Cabled (Desk (Kept M))) → Ends seen b c end q y r z → PlaysPart seen b c [] q y
@@ -272,8 +273,8 @@ module _ {M : Type 0} (seen : M → Seen) where
       seated x alone (s ∷ []) h = record { drive = x; station = s; alone = alone; only = refl; port = h.0.port; stands = h.0.machine.0.0 }
       seated x alone (s ∷ t ∷ us) h = absurd h.1
 
-  is_bus : (device : ℕ) → 8 ≤ device → device ≤ 11 → IsBus (drives_of device)
-  is_bus device low high = record { some = omega arith; few = omega arith; drives = (record { from = low; upto = high; some = omega arith; prompt = omega arith }, tt); unlike = (tt, tt) }
+  is_bus : (drive : Party) → IsDrive drive → IsBus (drive ∷ [])
+  is_bus drive one = record { some = omega arith; few = omega arith; drives = (one, tt); unlike = (tt, tt) }
 
   later_all : (end : ℕ) (xs : List (Seated (Desk (Kept M)))) → AreInTime (end + 1) xs → AreLater end xs
   later_all end [] h = tt
@@ -283,16 +284,16 @@ module _ {M : Type 0} (seen : M → Seen) where
       one None k = tt
       one (Some t) k = omega (arith, k)
 
-  abbrev pub Ended : Option (List ℕ) → Option (List ℕ) → Option (List ℕ) → ℕ → Turns → Cabled (Desk (Kept M)) → Cabled (Desk (Kept M)) → Option ℕ → Type 0
-  Ended a b input device p x y bad = IfSome input (λ bytes. ((timetable_of bytes).bad ≡ bad) × PrintsTrace a b (λ m. IsAt seen p x (powered device m) []) (IsBorne seen y) device [] (timetable_of bytes))
+  abbrev pub Ended : Option (List ℕ) → Option (List ℕ) → Option (List ℕ) → Party → Turns → Cabled (Desk (Kept M)) → Cabled (Desk (Kept M)) → Option ℕ → Type 0
+  Ended a b input drive p x y bad = IfSome input (λ bytes. ((timetable_of bytes).bad ≡ bad) × PrintsTrace a b (λ m. IsAt seen p x (powered drive m) []) (IsBorne seen y) drive [] (timetable_of bytes))
 
   -- the input, up to its bad line
-  stopped : (a b : Option (List ℕ)) (xs : List ℕ) (n from device : ℕ) (done : List Change) (f : Desk (Kept M) → ℕ) (p q : Turns) (x y : Cabled (Desk (Kept M))) → length (numbers f y.drives) ≡ 1 → timetable_of xs ≡ behind done (stopped_at n) → latest 0 done ≡ from
-      → PlaysOn seen a b done p x q y → IsOpen q from → Ended a b (Some xs) device p x y (Some n)
-  stopped a b xs n from device done f p q x y one e last on is_open = (
+  stopped : (a b : Option (List ℕ)) (xs : List ℕ) (n from : ℕ) (drive : Party) (done : List Change) (f : Desk (Kept M) → ℕ) (p q : Turns) (x y : Cabled (Desk (Kept M))) → length (numbers f y.drives) ≡ 1 → timetable_of xs ≡ behind done (stopped_at n) → latest 0 done ≡ from
+      → PlaysOn seen a b done p x q y → IsOpen q from → Ended a b (Some xs) drive p x y (Some n)
+  stopped a b xs n from drive done f p q x y one e last on is_open = (
     ap (λ (o : Timetable). o.bad) e,
-    subst (λ (o : Timetable). PrintsTrace a b (λ m. IsAt seen p x (powered device m) []) (IsBorne seen y) device [] o) (sym e) (λ m at_.
-        (let all = on (powered device m) [] at_ in
+    subst (λ (o : Timetable). PrintsTrace a b (λ m. IsAt seen p x (powered drive m) []) (IsBorne seen y) drive [] o) (sym e) (λ m at_.
+        (let all = on (powered drive m) [] at_ in
         let now = all.now in
         let whole : all.made ++ pending q.second ≡ all.made = ap (λ (o : Option Event). all.made ++ pending o) is_open.second ∙ append-nil all.made in
         let own = borne f y now.stations one now.now in (
@@ -300,7 +301,7 @@ module _ {M : Type 0} (seen : M → Seen) where
           own.station,
           record {
             from = now.from;
-            plays = subst (λ (ss : List (Station (Desk Machine))). Plays (Desk Machine) desk_step desk_says 0 (powered device m) all.made now.from ss) own.only (subst (λ (v : List Event). Plays (Desk Machine) desk_step desk_says 0 (powered device m) v now.from now.stations) whole now.plays);
+            plays = subst (λ (ss : List (Station (Desk Machine))). Plays (Desk Machine) desk_step desk_says 0 (powered drive m) all.made now.from ss) own.only (subst (λ (v : List Event). Plays (Desk Machine) desk_step desk_says 0 (powered drive m) v now.from now.stations) whole now.plays);
             hosts = all.hosts ∙ sym (append-nil done);
             within = (let u : latest 0 (done ++ []) ≡ from = ap (latest 0) (append-nil done) ∙ last in let before = now.before in let opened = is_open.from in omega (arith, u, before, opened));
             settled = tt;
@@ -311,18 +312,18 @@ module _ {M : Type 0} (seen : M → Seen) where
         ))),
   )
 
-  pub timing_stopped : (a b input left : Option (List ℕ)) (n from device : ℕ) (f : Desk (Kept M) → ℕ) (p q : Turns) (x y : Cabled (Desk (Kept M))) → length (numbers f y.drives) ≡ 1 → Timing a b input left n from p x q y → LacksTimed left n from → IsOpen q from → Ended a b input device p x y (Some n)
-  timing_stopped a b None left n from device f p q x y one t lacks is_open = tt
-  timing_stopped a b (Some xs) left n from device f p q x y one t lacks is_open = stopped a b xs n from device t.done f p q x y one (stops_at (Some xs) left n from t.done t.follows lacks) t.last t.played is_open
+  pub timing_stopped : (a b input left : Option (List ℕ)) (n from : ℕ) (drive : Party) (f : Desk (Kept M) → ℕ) (p q : Turns) (x y : Cabled (Desk (Kept M))) → length (numbers f y.drives) ≡ 1 → Timing a b input left n from p x q y → LacksTimed left n from → IsOpen q from → Ended a b input drive p x y (Some n)
+  timing_stopped a b None left n from drive f p q x y one t lacks is_open = tt
+  timing_stopped a b (Some xs) left n from drive f p q x y one t lacks is_open = stopped a b xs n from drive t.done f p q x y one (stops_at (Some xs) left n from t.done t.follows lacks) t.last t.played is_open
 
   -- the input, whose end was read
-  finished : (a b c : Option (List ℕ)) (xs : List ℕ) (end device : ℕ) (bad : Option ℕ) (done : List Change) (f : Desk (Kept M) → ℕ) (p q r : Turns) (x y z : Cabled (Desk (Kept M))) → 8 ≤ device → device ≤ 11 → length (numbers f z.drives) ≡ 1
-      → timetable_of xs ≡ behind done (ended_at end bad) → PlaysOn seen a b done p x q y → Ends seen b c end q y r z → Ended a c (Some xs) device p x z bad
-  finished a b c xs end device bad done f p q r x y z low high one e on ends = (
+  finished : (a b c : Option (List ℕ)) (xs : List ℕ) (end : ℕ) (drive : Party) (bad : Option ℕ) (done : List Change) (f : Desk (Kept M) → ℕ) (p q r : Turns) (x y z : Cabled (Desk (Kept M))) → IsDrive drive → length (numbers f z.drives) ≡ 1
+      → timetable_of xs ≡ behind done (ended_at end bad) → PlaysOn seen a b done p x q y → Ends seen b c end q y r z → Ended a c (Some xs) drive p x z bad
+  finished a b c xs end drive bad done f p q r x y z sits one e on ends = (
     ap (λ (o : Timetable). o.bad) e,
-    subst (λ (o : Timetable). PrintsTrace a c (λ m. IsAt seen p x (powered device m) []) (IsBorne seen z) device [] o) (sym e) (λ m at_.
-        (let first = on (powered device m) [] at_ in
-        let all = ends (powered device m) first.made first.now in
+    subst (λ (o : Timetable). PrintsTrace a c (λ m. IsAt seen p x (powered drive m) []) (IsBorne seen z) drive [] o) (sym e) (λ m at_.
+        (let first = on (powered drive m) [] at_ in
+        let all = ends (powered drive m) first.made first.now in
         let trace = first.made ++ all.made in
         let over = all.now in
         let now = over.after in
@@ -333,27 +334,27 @@ module _ {M : Type 0} (seen : M → Seen) where
           own.station,
           record {
             from = now.from;
-            plays = subst (λ (ss : List (Station (Desk Machine))). Plays (Desk Machine) desk_step desk_says 0 (powered device m) trace now.from ss) own.only (subst (λ (v : List Event). Plays (Desk Machine) desk_step desk_says 0 (powered device m) v now.from now.stations) whole now.plays);
+            plays = subst (λ (ss : List (Station (Desk Machine))). Plays (Desk Machine) desk_step desk_says 0 (powered drive m) trace now.from ss) own.only (subst (λ (v : List Event). Plays (Desk Machine) desk_step desk_says 0 (powered drive m) v now.from now.stations) whole now.plays);
             hosts = hosts_on first.made all.made ∙ (λ i. first.hosts i ++ all.hosts i);
             within = (let before = now.before in let from = over.from in omega (arith, before, from));
             settled = subst (λ (o : Port). IsLaterDue end (port_due o)) own.port (subst (λ (us : List (Seated (Desk (Kept M)))). AreLater end us) own.alone later).0;
-            kept = λ timing. subst (λ (ss : List (Station (Desk Machine))). IsKept (Desk Machine) desk_step desk_says (drives_of device) (machines_of device m) trace end ss) own.only
-                (kept_after (Desk (Kept M)) (Desk Machine) (DeskStands seen) desk_step desk_says more_said r z (drives_of device) (machines_of device m) trace end (is_bus device low high) over.second now later timing);
+            kept = λ timing. subst (λ (ss : List (Station (Desk Machine))). IsKept (Desk Machine) desk_step desk_says (drive ∷ []) (machines_of drive m) trace end ss) own.only
+                (kept_after (Desk (Kept M)) (Desk Machine) (DeskStands seen) desk_step desk_says more_said r z (drive ∷ []) (machines_of drive m) trace end (is_bus drive sits) over.second now later timing);
           },
           subst (λ t. Appends a c t) (sym (text_on first.made all.made)) (appends-more a b c (trace_text first.made) (trace_text all.made) first.written all.written),
           (own.drive, own.alone, own.stands),
         ))),
   )
 
-  pub timing_ended : (a b c input l k : Option (List ℕ)) (n from end device : ℕ) (result : Result (Unit {0}) RunFault) (f : Desk (Kept M) → ℕ) (p q r : Turns) (x y z : Cabled (Desk (Kept M))) → 8 ≤ device → device ≤ 11 → length (numbers f z.drives) ≡ 1
-      → Timing a b input l n from p x q y → ReadsTimed l k n from (EndsAt end) → Ends seen b c end q y r z → BehindRead k (n + 1) result → EndsAs result (λ bad. Ended a c input device p x z bad)
-  timing_ended a b c input l k n from end device result f p q r x y z low high one t reads ends read = by result read
+  pub timing_ended : (a b c input l k : Option (List ℕ)) (n from end : ℕ) (drive : Party) (result : Result (Unit {0}) RunFault) (f : Desk (Kept M) → ℕ) (p q r : Turns) (x y z : Cabled (Desk (Kept M))) → IsDrive drive → length (numbers f z.drives) ≡ 1
+      → Timing a b input l n from p x q y → ReadsTimed l k n from (EndsAt end) → Ends seen b c end q y r z → BehindRead k (n + 1) result → EndsAs result (λ bad. Ended a c input drive p x z bad)
+  timing_ended a b c input l k n from end drive result f p q r x y z sits one t reads ends read = by result read
     where
-      over : (o : Option (List ℕ)) (bad : Option ℕ) → EndsBehind o end bad t.done → Ended a c o device p x z bad
+      over : (o : Option (List ℕ)) (bad : Option ℕ) → EndsBehind o end bad t.done → Ended a c o drive p x z bad
       over None bad h = tt
-      over (Some xs) bad h = finished a b c xs end device bad t.done f p q r x y z low high one h t.played ends
+      over (Some xs) bad h = finished a b c xs end drive bad t.done f p q r x y z sits one h t.played ends
 
-      by : (v : Result (Unit {0}) RunFault) → BehindRead k (n + 1) v → EndsAs v (λ bad. Ended a c input device p x z bad)
+      by : (v : Result (Unit {0}) RunFault) → BehindRead k (n + 1) v → EndsAs v (λ bad. Ended a c input drive p x z bad)
       by (Ok u) h = over input None (ends_behind input l k n from end None t.done t.follows reads h)
       by (Err (Script bad)) h = over input (Some bad) (ends_behind input l k n from end (Some bad) t.done t.follows reads h)
       by (Err (Image number)) h = absurd h
@@ -362,14 +363,14 @@ module _ {M : Type 0} (seen : M → Seen) where
       by (Err Writing) h = absurd h
 
   -- a line that can't be had, or is refused
-  pub read_faulted : {A : Type 0} (a b input l k : Option (List ℕ)) (n from device : ℕ) (result : Result A RunFault) (fault : RunFault) (f : Desk (Kept M) → ℕ) (p q : Turns) (x y : Cabled (Desk (Kept M))) → length (numbers f y.drives) ≡ 1 → Timing a b input l n from p x q y → IsOpen q from
-      → TimedRead l k n from (Err fault) → result ≡ Err fault → EndsAs result (λ bad. Ended a b input device p x y bad)
-  read_faulted a b input l k n from device result (Script bad) f p q x y one t is_open h e =
-      subst (λ v. EndsAs v (λ o. Ended a b input device p x y o)) (sym e) (subst (λ i. Ended a b input device p x y (Some i)) (sym h.0) (timing_stopped a b input l n from device f p q x y one t h.1 is_open))
-  read_faulted a b input l k n from device result (Image number) f p q x y one t is_open h e = absurd h
-  read_faulted a b input l k n from device result Memory f p q x y one t is_open h e = absurd h
-  read_faulted a b input l k n from device result Reading f p q x y one t is_open h e = subst (λ v. EndsAs v (λ o. Ended a b input device p x y o)) (sym e) tt
-  read_faulted a b input l k n from device result Writing f p q x y one t is_open h e = absurd h
+  pub read_faulted : {A : Type 0} (a b input l k : Option (List ℕ)) (n from : ℕ) (drive : Party) (result : Result A RunFault) (fault : RunFault) (f : Desk (Kept M) → ℕ) (p q : Turns) (x y : Cabled (Desk (Kept M))) → length (numbers f y.drives) ≡ 1 → Timing a b input l n from p x q y → IsOpen q from
+      → TimedRead l k n from (Err fault) → result ≡ Err fault → EndsAs result (λ bad. Ended a b input drive p x y bad)
+  read_faulted a b input l k n from drive result (Script bad) f p q x y one t is_open h e =
+      subst (λ v. EndsAs v (λ o. Ended a b input drive p x y o)) (sym e) (subst (λ i. Ended a b input drive p x y (Some i)) (sym h.0) (timing_stopped a b input l n from drive f p q x y one t h.1 is_open))
+  read_faulted a b input l k n from drive result (Image number) f p q x y one t is_open h e = absurd h
+  read_faulted a b input l k n from drive result Memory f p q x y one t is_open h e = absurd h
+  read_faulted a b input l k n from drive result Reading f p q x y one t is_open h e = subst (λ v. EndsAs v (λ o. Ended a b input drive p x y o)) (sym e) tt
+  read_faulted a b input l k n from drive result Writing f p q x y one t is_open h e = absurd h
 
 -- the one disk has as many tracks
 pub sole_tracks : {M : Type 0} (seen : M → Seen) (b : Cabled (Desk (Kept M))) (k : M) → length (tracks_in seen b) ≡ 1 → ((x : Seated (Desk (Kept M))) → b.drives ≡ x ∷ [] → k ≡ x.machine.dos.medium) → (seen k).tracks ∷ [] ≡ tracks_in seen b

@@ -1,5 +1,6 @@
 -- A script that runs, line by line.
-use Rattle.std.proofs.Common.{◌≡◌, ℕ, ◌+◌, ◌<◌, List, [], ◌∷◌, ◌++◌, Option, Some, None, refl, ap, sym, ◌∙◌, append_assoc, append-nil, subst}
+use Rattle.cbm_iec.specs.declared.pace.Pace.{Pace}
+use Rattle.std.proofs.Common.{arith, ◌≡◌, ℕ, ◌+◌, ◌<◌, ◌≤◌, List, [], ◌∷◌, ◌++◌, Option, Some, None, refl, ap, sym, ◌∙◌, append_assoc, append-nil, subst}
 use Rattle.std.specs.Prelude.{IfSome, Result, Ok, Err}
 use Rattle.std.specs.Io.KnownBytes.{Appends, IsAtEnd}
 use Rattle.cbm_drive.specs.Machines.{Machine}
@@ -8,6 +9,8 @@ use Rattle.cbm_program.specs.declared.line.Line.{Line}
 use Rattle.cbm_program.specs.declared.line.Line.TheVariants.{Skipped, Asks}
 use Rattle.cbm_program.specs.declared.fault.RunFault.{RunFault}
 use Rattle.cbm_program.specs.declared.fault.RunFault.TheVariants.{Script, Image, Memory, Reading, Writing}
+use Rattle.cbm_host.specs.Requests.{longest}
+use Rattle.cbm_iec.specs.declared.pace.Pace.TheVariants.{Profile, Kernal}
 use Rattle.cbm_program.specs.Lines.{lines_of}
 use Rattle.cbm_program.specs.Scripts.{printed, printed_by}
 use Rattle.cbm_program.specs.Output.{AppendsPart, Prints, PrintsPart}
@@ -16,15 +19,15 @@ use Rattle.cbm_program.proofs.OutputLemmas.{appends-nothing, appends-more, part_
 
 -- ---- requests behind requests
 
-text-append : (xs ys : List Request) (m : Machine) → (printed (xs ++ ys) m).text ≡ (printed xs m).text ++ (printed ys (printed xs m).machine).text
-text-append [] ys m = refl
-text-append (r ∷ xs) ys m =
-    ap (λ t. (printed_by r m).text ++ t) (text-append xs ys (printed_by r m).machine)
-    ∙ sym (append_assoc (printed_by r m).text (printed xs (printed_by r m).machine).text (printed ys (printed (r ∷ xs) m).machine).text)
+text-append : (pace : Pace) (xs ys : List Request) (m : Machine) → (printed pace (xs ++ ys) m).text ≡ (printed pace xs m).text ++ (printed pace ys (printed pace xs m).machine).text
+text-append pace [] ys m = refl
+text-append pace (r ∷ xs) ys m =
+    ap (λ t. (printed_by pace r m).text ++ t) (text-append pace xs ys (printed_by pace r m).machine)
+    ∙ sym (append_assoc (printed_by pace r m).text (printed pace xs (printed_by pace r m).machine).text (printed pace ys (printed pace (r ∷ xs) m).machine).text)
 
-machine-append : (xs ys : List Request) (m : Machine) → (printed (xs ++ ys) m).machine ≡ (printed ys (printed xs m).machine).machine
-machine-append [] ys m = refl
-machine-append (r ∷ xs) ys m = machine-append xs ys (printed_by r m).machine
+machine-append : (pace : Pace) (xs ys : List Request) (m : Machine) → (printed pace (xs ++ ys) m).machine ≡ (printed pace ys (printed pace xs m).machine).machine
+machine-append pace [] ys m = refl
+machine-append pace (r ∷ xs) ys m = machine-append pace xs ys (printed_by pace r m).machine
 
 -- requests in front of what is asked
 abbrev pub behind : List Request → Asked → Asked
@@ -59,17 +62,17 @@ Follows (Some xs) None n done = ⊥
 Follows (Some xs) (Some ys) n done = script_of xs ≡ behind done (asked_from n (lines_of ys))
 
 -- The requests so far are done, and what is left follows them.
-pub record Running (a b input left : Option (List ℕ)) (stood now : Machine → Type 0) (n : ℕ) : Type 0 where
+pub record Running (pace : Pace) (a b input left : Option (List ℕ)) (stood now : Machine → Type 0) (n : ℕ) : Type 0 where
   pub done : List Request
   pub follows : Follows input left n done
-  pub prints : Prints a b stood now (printed done)
+  pub prints : Prints a b stood now (printed pace done)
 
 follows-start : (x : Option (List ℕ)) → Follows x x 1 []
 follows-start None = tt
 follows-start (Some xs) = refl
 
-pub run-start : (a x l : Option (List ℕ)) (stood : Machine → Type 0) → l ≡ x → Running a a x l stood stood 1
-run-start a x l stood e = record {
+pub run-start : (pace : Pace) (a x l : Option (List ℕ)) (stood : Machine → Type 0) → l ≡ x → Running pace a a x l stood stood 1
+run-start pace a x l stood e = record {
   done = [];
   follows = subst (λ o. Follows x o 1 []) (sym e) (follows-start x);
   prints = λ m s. (appends-nothing a, s);
@@ -85,103 +88,103 @@ follows-line (Some xs) (Some ys) (Some zs) n done line f (bytes, e, means) =
     ∙ behind-append done (requests_in line) (asked_from (n + 1) (lines_of zs)))
 
 -- one line more is done
-prints-line : (a b c : Option (List ℕ)) (stood now next : Machine → Type 0) (done requests : List Request)
-    → Prints a b stood now (printed done)
-    → Prints b c now next (printed requests)
-    → Prints a c stood next (printed (done ++ requests))
-prints-line a b c stood now next done requests p q m s =
+prints-line : (pace : Pace) (a b c : Option (List ℕ)) (stood now next : Machine → Type 0) (done requests : List Request)
+    → Prints a b stood now (printed pace done)
+    → Prints b c now next (printed pace requests)
+    → Prints a c stood next (printed pace (done ++ requests))
+prints-line pace a b c stood now next done requests p q m s =
     let first = p m s in
-    let second = q (printed done m).machine first.1 in (
-      subst (λ t. Appends a c t) (sym (text-append done requests m))
-          (appends-more a b c (printed done m).text (printed requests (printed done m).machine).text first.0 second.0),
-      subst (λ x. next x) (sym (machine-append done requests m)) second.1,
+    let second = q (printed pace done m).machine first.1 in (
+      subst (λ t. Appends a c t) (sym (text-append pace done requests m))
+          (appends-more a b c (printed pace done m).text (printed pace requests (printed pace done m).machine).text first.0 second.0),
+      subst (λ x. next x) (sym (machine-append pace done requests m)) second.1,
     )
 
-pub run-line : (a b c x l k : Option (List ℕ)) (stood now next : Machine → Type 0) (n : ℕ) (line : Line) → Running a b x l stood now n → ReadsLine l k n line
-    → Prints b c now next (printed (requests_in line)) → Running a c x k stood next (n + 1)
-run-line a b c x l k stood now next n line r t p = record {
+pub run-line : (pace : Pace) (a b c x l k : Option (List ℕ)) (stood now next : Machine → Type 0) (n : ℕ) (line : Line) → Running pace a b x l stood now n → ReadsLine l k n line
+    → Prints b c now next (printed pace (requests_in line)) → Running pace a c x k stood next (n + 1)
+run-line pace a b c x l k stood now next n line r t p = record {
   done = r.done ++ requests_in line;
   follows = follows-line x l k n r.done line r.follows t;
-  prints = prints-line a b c stood now next r.done (requests_in line) r.prints p;
+  prints = prints-line pace a b c stood now next r.done (requests_in line) r.prints p;
 }
 
 -- ---- what is written is a beginning of what the input prints
 
 -- a beginning of what all the input prints
-abbrev pub Begun : Option (List ℕ) → Option (List ℕ) → Option (List ℕ) → (Machine → Type 0) → Type 0
-Begun a b x stood = IfSome x (λ input. PrintsPart a b stood (printed (script_of input).requests))
+abbrev pub Begun : Pace → Option (List ℕ) → Option (List ℕ) → Option (List ℕ) → (Machine → Type 0) → Type 0
+Begun pace a b x stood = IfSome x (λ input. PrintsPart a b stood (printed pace (script_of input).requests))
 
-begun : (a b : Option (List ℕ)) (stood : Machine → Type 0) (done : List Request) (asked rest : Asked) → asked ≡ behind done rest
-    → PrintsPart a b stood (printed done)
-    → PrintsPart a b stood (printed asked.requests)
-begun a b stood done asked rest e p m s =
+begun : (pace : Pace) (a b : Option (List ℕ)) (stood : Machine → Type 0) (done : List Request) (asked rest : Asked) → asked ≡ behind done rest
+    → PrintsPart a b stood (printed pace done)
+    → PrintsPart a b stood (printed pace asked.requests)
+begun pace a b stood done asked rest e p m s =
     let same : asked.requests ≡ done ++ rest.requests = ap (λ (o : Asked). o.requests) e in
-    subst (λ rs. AppendsPart a b (printed rs m).text) (sym same)
-    (subst (λ t. AppendsPart a b t) (sym (text-append done rest.requests m))
-    (part_before a b (printed done m).text (printed rest.requests (printed done m).machine).text (p m s)))
+    subst (λ rs. AppendsPart a b (printed pace rs m).text) (sym same)
+    (subst (λ t. AppendsPart a b t) (sym (text-append pace done rest.requests m))
+    (part_before a b (printed pace done m).text (printed pace rest.requests (printed pace done m).machine).text (p m s)))
 
-whole : (a b : Option (List ℕ)) (stood now : Machine → Type 0) (requests : List Request) → Prints a b stood now (printed requests) → PrintsPart a b stood (printed requests)
-whole a b stood now requests p m s = whole_part a b (printed requests m).text (p m s).0
+whole : (pace : Pace) (a b : Option (List ℕ)) (stood now : Machine → Type 0) (requests : List Request) → Prints a b stood now (printed pace requests) → PrintsPart a b stood (printed pace requests)
+whole pace a b stood now requests p m s = whole_part a b (printed pace requests m).text (p m s).0
 
-pub run-part : (a b x l : Option (List ℕ)) (stood now : Machine → Type 0) (n : ℕ) → Running a b x l stood now n → Begun a b x stood
-run-part a b None l stood now n r = tt
-run-part a b (Some xs) None stood now n r = absurd r.follows
-run-part a b (Some xs) (Some ys) stood now n r =
-    begun a b stood r.done (script_of xs) (asked_from n (lines_of ys)) r.follows (whole a b stood now r.done r.prints)
+pub run-part : (pace : Pace) (a b x l : Option (List ℕ)) (stood now : Machine → Type 0) (n : ℕ) → Running pace a b x l stood now n → Begun pace a b x stood
+run-part pace a b None l stood now n r = tt
+run-part pace a b (Some xs) None stood now n r = absurd r.follows
+run-part pace a b (Some xs) (Some ys) stood now n r =
+    begun pace a b stood r.done (script_of xs) (asked_from n (lines_of ys)) r.follows (whole pace a b stood now r.done r.prints)
 
-part-line : (a b c : Option (List ℕ)) (stood now : Machine → Type 0) (done requests : List Request)
-    → Prints a b stood now (printed done)
-    → PrintsPart b c now (printed requests)
-    → PrintsPart a c stood (printed (done ++ requests))
-part-line a b c stood now done requests p q m s =
+part-line : (pace : Pace) (a b c : Option (List ℕ)) (stood now : Machine → Type 0) (done requests : List Request)
+    → Prints a b stood now (printed pace done)
+    → PrintsPart b c now (printed pace requests)
+    → PrintsPart a c stood (printed pace (done ++ requests))
+part-line pace a b c stood now done requests p q m s =
     let first = p m s in
-    subst (λ t. AppendsPart a c t) (sym (text-append done requests m))
-    (part_behind a b c (printed done m).text (printed requests (printed done m).machine).text first.0 (q (printed done m).machine first.1))
+    subst (λ t. AppendsPart a c t) (sym (text-append pace done requests m))
+    (part_behind a b c (printed pace done m).text (printed pace requests (printed pace done m).machine).text first.0 (q (printed pace done m).machine first.1))
 
 -- the same where a line's own text broke off
-pub run-broken : (a b c x l k : Option (List ℕ)) (stood now : Machine → Type 0) (n : ℕ) (line : Line) → Running a b x l stood now n → ReadsLine l k n line
-    → PrintsPart b c now (printed (requests_in line)) → Begun a c x stood
-run-broken a b c None l k stood now n line r t p = tt
-run-broken a b c (Some xs) None k stood now n line r t p = absurd r.follows
-run-broken a b c (Some xs) (Some ys) None stood now n line r t p = absurd t
-run-broken a b c (Some xs) (Some ys) (Some zs) stood now n line r t p =
-    begun a c stood (r.done ++ requests_in line) (script_of xs) (asked_from (n + 1) (lines_of zs))
-    (follows-line (Some xs) (Some ys) (Some zs) n r.done line r.follows t) (part-line a b c stood now r.done (requests_in line) r.prints p)
+pub run-broken : (pace : Pace) (a b c x l k : Option (List ℕ)) (stood now : Machine → Type 0) (n : ℕ) (line : Line) → Running pace a b x l stood now n → ReadsLine l k n line
+    → PrintsPart b c now (printed pace (requests_in line)) → Begun pace a c x stood
+run-broken pace a b c None l k stood now n line r t p = tt
+run-broken pace a b c (Some xs) None k stood now n line r t p = absurd r.follows
+run-broken pace a b c (Some xs) (Some ys) None stood now n line r t p = absurd t
+run-broken pace a b c (Some xs) (Some ys) (Some zs) stood now n line r t p =
+    begun pace a c stood (r.done ++ requests_in line) (script_of xs) (asked_from (n + 1) (lines_of zs))
+    (follows-line (Some xs) (Some ys) (Some zs) n r.done line r.follows t) (part-line pace a b c stood now r.done (requests_in line) r.prints p)
 
 -- ---- the run's end: at the script's end, or at a bad line
 
-abbrev pub Ended : Option (List ℕ) → Option (List ℕ) → Option (List ℕ) → (Machine → Type 0) → (Machine → Type 0) → Option ℕ → Type 0
-Ended a b x stood now bad = IfSome x (λ input. ((script_of input).bad ≡ bad)
-    × Prints a b stood now (printed (script_of input).requests))
+abbrev pub Ended : Pace → Option (List ℕ) → Option (List ℕ) → Option (List ℕ) → (Machine → Type 0) → (Machine → Type 0) → Option ℕ → Type 0
+Ended pace a b x stood now bad = IfSome x (λ input. ((script_of input).bad ≡ bad)
+    × Prints a b stood now (printed pace (script_of input).requests))
 
-ended : (a b : Option (List ℕ)) (xs : List ℕ) (stood now : Machine → Type 0) (done : List Request) (bad : Option ℕ) → script_of xs ≡ behind done (refused_at bad)
-    → Prints a b stood now (printed done) → Ended a b (Some xs) stood now bad
-ended a b xs stood now done bad e p = (
+ended : (pace : Pace) (a b : Option (List ℕ)) (xs : List ℕ) (stood now : Machine → Type 0) (done : List Request) (bad : Option ℕ) → script_of xs ≡ behind done (refused_at bad)
+    → Prints a b stood now (printed pace done) → Ended pace a b (Some xs) stood now bad
+ended pace a b xs stood now done bad e p = (
   ap (λ (o : Asked). o.bad) e,
-  subst (λ rs. Prints a b stood now (printed rs)) (sym (ap (λ (o : Asked). o.requests) e ∙ append-nil done)) p,
+  subst (λ rs. Prints a b stood now (printed pace rs)) (sym (ap (λ (o : Asked). o.requests) e ∙ append-nil done)) p,
 )
 
-pub run-end : (a b x l : Option (List ℕ)) (stood now : Machine → Type 0) (n : ℕ) → Running a b x l stood now n → IsAtEnd l → Ended a b x stood now None
-run-end a b None l stood now n r at = tt
-run-end a b (Some xs) None stood now n r at = absurd r.follows
-run-end a b (Some xs) (Some ys) stood now n r at =
-    ended a b xs stood now r.done None (r.follows ∙ ap (λ o. behind r.done o) (ap (λ t. asked_from n (lines_of t)) at ∙ asked-end n)) r.prints
+pub run-end : (pace : Pace) (a b x l : Option (List ℕ)) (stood now : Machine → Type 0) (n : ℕ) → Running pace a b x l stood now n → IsAtEnd l → Ended pace a b x stood now None
+run-end pace a b None l stood now n r at = tt
+run-end pace a b (Some xs) None stood now n r at = absurd r.follows
+run-end pace a b (Some xs) (Some ys) stood now n r at =
+    ended pace a b xs stood now r.done None (r.follows ∙ ap (λ o. behind r.done o) (ap (λ t. asked_from n (lines_of t)) at ∙ asked-end n)) r.prints
 
-run-bad : (a b x l : Option (List ℕ)) (stood now : Machine → Type 0) (n : ℕ) → Running a b x l stood now n → ComesBad l n → Ended a b x stood now (Some n)
-run-bad a b None l stood now n r bad = tt
-run-bad a b (Some xs) None stood now n r bad = absurd r.follows
-run-bad a b (Some xs) (Some ys) stood now n r (line, lines, e, none) =
-    ended a b xs stood now r.done (Some n) (r.follows ∙ ap (λ o. behind r.done o) (ap (λ ls. asked_from n ls) e ∙ asked-bad n line lines none)) r.prints
+run-bad : (pace : Pace) (a b x l : Option (List ℕ)) (stood now : Machine → Type 0) (n : ℕ) → Running pace a b x l stood now n → ComesBad l n → Ended pace a b x stood now (Some n)
+run-bad pace a b None l stood now n r bad = tt
+run-bad pace a b (Some xs) None stood now n r bad = absurd r.follows
+run-bad pace a b (Some xs) (Some ys) stood now n r (line, lines, e, none) =
+    ended pace a b xs stood now r.done (Some n) (r.follows ∙ ap (λ o. behind r.done o) (ap (λ ls. asked_from n ls) e ∙ asked-bad n line lines none)) r.prints
 
 -- a reading that gave no line: the fault that it gave ends the run as it should
-pub faulted : {A : Type 0} (a b x l k : Option (List ℕ)) (stood now : Machine → Type 0) (n : ℕ) (r : Result A RunFault) (f : RunFault) → Running a b x l stood now n
-    → LineRead l k n (Err f) → r ≡ Err f → EndsAs r (λ bad. Ended a b x stood now bad)
-faulted a b x l k stood now n r (Script bad) run h e =
-    subst (λ v. EndsAs v (λ bad. Ended a b x stood now bad)) (sym e) (subst (λ i. Ended a b x stood now (Some i)) (sym h.0) (run-bad a b x l stood now n run h.1))
-faulted a b x l k stood now n r (Image number) run h e = absurd h
-faulted a b x l k stood now n r Memory run h e = absurd h
-faulted a b x l k stood now n r Reading run h e = subst (λ v. EndsAs v (λ bad. Ended a b x stood now bad)) (sym e) tt
-faulted a b x l k stood now n r Writing run h e = absurd h
+pub faulted : {A : Type 0} (pace : Pace) (a b x l k : Option (List ℕ)) (stood now : Machine → Type 0) (n : ℕ) (r : Result A RunFault) (f : RunFault) → Running pace a b x l stood now n
+    → LineRead l k n (Err f) → r ≡ Err f → EndsAs r (λ bad. Ended pace a b x stood now bad)
+faulted pace a b x l k stood now n r (Script bad) run h e =
+    subst (λ v. EndsAs v (λ bad. Ended pace a b x stood now bad)) (sym e) (subst (λ i. Ended pace a b x stood now (Some i)) (sym h.0) (run-bad pace a b x l stood now n run h.1))
+faulted pace a b x l k stood now n r (Image number) run h e = absurd h
+faulted pace a b x l k stood now n r Memory run h e = absurd h
+faulted pace a b x l k stood now n r Reading run h e = subst (λ v. EndsAs v (λ bad. Ended pace a b x stood now bad)) (sym e) tt
+faulted pace a b x l k stood now n r Writing run h e = absurd h
 
 -- a fault of writing says nothing of the end
 pub outside : {A : Type 0} (r : Result A RunFault) (f : RunFault) (P : Option ℕ → Type 0) → r ≡ Err f → IsOfWriting f → EndsAs r P
@@ -189,34 +192,34 @@ outside r f P e h = subst (λ v. EndsAs v P) (sym (e ∙ ap Err h)) tt
 
 -- ---- a run whose next line was read
 
-pub record RunningOn (a b input left : Option (List ℕ)) (stood now : Machine → Type 0) (n : ℕ) (next : Option Line) : Type 0 where
+pub record RunningOn (pace : Pace) (a b input left : Option (List ℕ)) (stood now : Machine → Type 0) (n : ℕ) (next : Option Line) : Type 0 where
   pub before : Option (List ℕ)
-  pub running : Running a b input before stood now n
+  pub running : Running pace a b input before stood now n
   pub read : LineRead before left n (Ok next)
 
-pub on-start : (a input left : Option (List ℕ)) (stood : Machine → Type 0) (next : Option Line) → LineRead input left 1 (Ok next) → RunningOn a a input left stood stood 1 next
-on-start a input left stood next r = record { before = input; running = run-start a input input stood refl; read = r }
+pub on-start : (pace : Pace) (a input left : Option (List ℕ)) (stood : Machine → Type 0) (next : Option Line) → LineRead input left 1 (Ok next) → RunningOn pace a a input left stood stood 1 next
+on-start pace a input left stood next r = record { before = input; running = run-start pace a input input stood refl; read = r }
 
 -- it is carried out, and the one behind it was read
-pub on-line : (a b c input l k : Option (List ℕ)) (stood now next : Machine → Type 0) (n : ℕ) (line : Line) (behind-it : Option Line) → RunningOn a b input l stood now n (Some line) → Prints b c now next (printed (requests_in line))
-    → LineRead l k (n + 1) (Ok behind-it) → RunningOn a c input k stood next (n + 1) behind-it
-on-line a b c input l k stood now next n line behind-it r p read = record { before = l; running = run-line a b c input r.before l stood now next n line r.running r.read.0 p; read = read }
+pub on-line : (pace : Pace) (a b c input l k : Option (List ℕ)) (stood now next : Machine → Type 0) (n : ℕ) (line : Line) (behind-it : Option Line) → RunningOn pace a b input l stood now n (Some line) → Prints b c now next (printed pace (requests_in line))
+    → LineRead l k (n + 1) (Ok behind-it) → RunningOn pace a c input k stood next (n + 1) behind-it
+on-line pace a b c input l k stood now next n line behind-it r p read = record { before = l; running = run-line pace a b c input r.before l stood now next n line r.running r.read.0 p; read = read }
 
 -- it is carried out, and the one behind it can't be had
-pub on-faulted : {A : Type 0} (a b c input l k : Option (List ℕ)) (stood now next : Machine → Type 0) (n : ℕ) (line : Line) (r : Result A RunFault) (f : RunFault) → RunningOn a b input l stood now n (Some line) → Prints b c now next (printed (requests_in line))
-    → LineRead l k (n + 1) (Err f) → r ≡ Err f → EndsAs r (λ bad. Ended a c input stood next bad)
-on-faulted a b c input l k stood now next n line r f o p read e = faulted a c input l k stood next (n + 1) r f (run-line a b c input o.before l stood now next n line o.running o.read.0 p) read e
+pub on-faulted : {A : Type 0} (pace : Pace) (a b c input l k : Option (List ℕ)) (stood now next : Machine → Type 0) (n : ℕ) (line : Line) (r : Result A RunFault) (f : RunFault) → RunningOn pace a b input l stood now n (Some line) → Prints b c now next (printed pace (requests_in line))
+    → LineRead l k (n + 1) (Err f) → r ≡ Err f → EndsAs r (λ bad. Ended pace a c input stood next bad)
+on-faulted pace a b c input l k stood now next n line r f o p read e = faulted pace a c input l k stood next (n + 1) r f (run-line pace a b c input o.before l stood now next n line o.running o.read.0 p) read e
 
-pub on-part : (a b c input l : Option (List ℕ)) (stood now next : Machine → Type 0) (n : ℕ) (line : Line) → RunningOn a b input l stood now n (Some line) → Prints b c now next (printed (requests_in line)) → Begun a c input stood
-on-part a b c input l stood now next n line o p = run-part a c input l stood next (n + 1) (run-line a b c input o.before l stood now next n line o.running o.read.0 p)
+pub on-part : (pace : Pace) (a b c input l : Option (List ℕ)) (stood now next : Machine → Type 0) (n : ℕ) (line : Line) → RunningOn pace a b input l stood now n (Some line) → Prints b c now next (printed pace (requests_in line)) → Begun pace a c input stood
+on-part pace a b c input l stood now next n line o p = run-part pace a c input l stood next (n + 1) (run-line pace a b c input o.before l stood now next n line o.running o.read.0 p)
 
 -- its own text broke off
-pub on-broken : (a b c input l : Option (List ℕ)) (stood now : Machine → Type 0) (n : ℕ) (line : Line) → RunningOn a b input l stood now n (Some line) → PrintsPart b c now (printed (requests_in line)) → Begun a c input stood
-on-broken a b c input l stood now n line o p = run-broken a b c input o.before l stood now n line o.running o.read.0 p
+pub on-broken : (pace : Pace) (a b c input l : Option (List ℕ)) (stood now : Machine → Type 0) (n : ℕ) (line : Line) → RunningOn pace a b input l stood now n (Some line) → PrintsPart b c now (printed pace (requests_in line)) → Begun pace a c input stood
+on-broken pace a b c input l stood now n line o p = run-broken pace a b c input o.before l stood now n line o.running o.read.0 p
 
 -- there is none
-pub on-end : (a b input l : Option (List ℕ)) (stood now : Machine → Type 0) (n : ℕ) → RunningOn a b input l stood now n None → Ended a b input stood now None
-on-end a b input l stood now n o = run-end a b input o.before stood now n o.running o.read
+pub on-end : (pace : Pace) (a b input l : Option (List ℕ)) (stood now : Machine → Type 0) (n : ℕ) → RunningOn pace a b input l stood now n None → Ended pace a b input stood now None
+on-end pace a b input l stood now n o = run-end pace a b input o.before stood now n o.running o.read
 
 -- ---- what the reading of a line says of it
 
@@ -231,3 +234,16 @@ read-channel l k n (Some line) h = h.2
 pub read-few : (l k : Option (List ℕ)) (n : ℕ) (line : Option Line) → LineRead l k n (Ok line) → IfSome line (λ x. n < 1000001)
 read-few l k n None h = tt
 read-few l k n (Some line) h = h.1
+
+-- ---- the pace of a drive that stays at it
+
+pub prints-at : (e f : Pace) (a b : Option (List ℕ)) (stood now : Machine → Type 0) (requests : List Request) → e ≡ f → Prints a b stood now (printed e requests) → Prints a b stood now (printed f requests)
+prints-at e f a b stood now requests same p = subst (λ (x : Pace). Prints a b stood now (printed x requests)) same p
+
+pub part-at : (e f : Pace) (a b : Option (List ℕ)) (stood : Machine → Type 0) (requests : List Request) → e ≡ f → PrintsPart a b stood (printed e requests) → PrintsPart a b stood (printed f requests)
+part-at e f a b stood requests same p = subst (λ (x : Pace). PrintsPart a b stood (printed x requests)) same p
+
+-- no request takes longer
+pub longest_most : (e : Pace) → longest e ≤ 320000000
+longest_most Profile = omega arith
+longest_most Kernal = omega arith

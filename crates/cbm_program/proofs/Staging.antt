@@ -2,7 +2,7 @@
 use Rattle.std.proofs.Common.{◌≡◌, ℕ, ◌≤◌, List, [], ◌∷◌, ◌++◌, Option, Some, None, refl, sym, ap, subst, ◌∙◌, arith, append_assoc, append-nil}
 use Rattle.std.specs.Prelude.{IfSome}
 use Rattle.std.specs.Io.KnownBytes.{Appends}
-use Rattle.cbm_iec.specs.declared.pace.Pace.TheVariants.{Profile}
+use Rattle.cbm_iec.specs.declared.party.Party.{Party}
 use Rattle.cbm_iec.specs.Ports.{resting}
 use Rattle.cbm_iec.specs.declared.event.Event.{Event}
 use Rattle.cbm_iec.specs.declared.event.Who.TheVariants.{Host, Drive}
@@ -15,7 +15,8 @@ use Rattle.cbm_session.specs.Playing.{Station, nobody, stays, Plays}
 use Rattle.cbm_drive.specs.Machines.{Machine}
 use Rattle.cbm_drive.specs.Standing.{Kept}
 use Rattle.cbm_drive.specs.Cables.{Cabled, all_free}
-use Rattle.cbm_drive.specs.Desks.{Desk, DeskStands, at_first, desk_step, desk_says}
+use Rattle.cbm_drive.specs.Desks.{Desk, DeskStands, desk_step, desk_says}
+use Rattle.cbm_host.specs.Served.{at_power_up}
 use Rattle.cbm_drive.specs.Ordered.{host_changes}
 use Rattle.cbm_drive.specs.Players.{Turns, at_start, pending, IsDrives, IsTurnOf, IsGivenBefore, IsSecond, IsFinished}
 use Rattle.cbm_drive.specs.Seats.{Seated, IsBusAt, IsWithout, held_by}
@@ -87,22 +88,22 @@ text_one e = append-nil (event_text e)
 
 module _ {M : Type 0} (seen : M → Seen) where
   -- a drive at power up
-  pub starts_at : (device : ℕ) (m : Machine) (p : Turns) (b : Cabled (Desk (Kept M))) (x : Seated (Desk (Kept M))) → p ≡ at_start → b.host ≡ all_free → b.drives ≡ x ∷ [] → x.port ≡ resting (record { device = device; reaction = 20; pace = Profile }) → DeskStands seen x.machine (at_first device m)
-      → IsAt seen p b (powered device m) []
-  starts_at device m p b x start free one port stands = record {
+  pub starts_at : (drive : Party) (m : Machine) (p : Turns) (b : Cabled (Desk (Kept M))) (x : Seated (Desk (Kept M))) → p ≡ at_start → b.host ≡ all_free → b.drives ≡ x ∷ [] → x.port ≡ resting drive → DeskStands seen x.machine (at_power_up drive.pace drive.device m)
+      → IsAt seen p b (powered drive m) []
+  starts_at drive m p b x start free one port stands = record {
     from = 0;
-    stations = powered device m;
+    stations = powered drive m;
     before = omega arith;
     plays = stays (tt, tt) (ap (λ (q : Turns). pending q.second) start) refl refl;
-    now = subst (λ (h : Lines). IsBusAt (Desk (Kept M)) (Desk Machine) (DeskStands seen) h b.drives (powered device m)) (sym free)
-        (subst (λ (xs : List (Seated (Desk (Kept M)))). IsBusAt (Desk (Kept M)) (Desk Machine) (DeskStands seen) all_free xs (powered device m)) (sym one) seat);
+    now = subst (λ (h : Lines). IsBusAt (Desk (Kept M)) (Desk Machine) (DeskStands seen) h b.drives (powered drive m)) (sym free)
+        (subst (λ (xs : List (Seated (Desk (Kept M)))). IsBusAt (Desk (Kept M)) (Desk Machine) (DeskStands seen) all_free xs (powered drive m)) (sym one) seat);
     second = subst (λ (q : Turns). IsSecond q.from q.second) (sym start) tt;
   }
     where
       rest : IsWithout (held_by all_free (x ∷ [])) x.port.own nobody
       rest = subst (λ (q : Port). IsWithout (held_by all_free ((record { port = q; machine = x.machine }) ∷ [])) q.own nobody) (sym port) (record { host = refl; clocks = refl; datas = refl })
 
-      seat : IsBusAt (Desk (Kept M)) (Desk Machine) (DeskStands seen) all_free (x ∷ []) (powered device m)
+      seat : IsBusAt (Desk (Kept M)) (Desk Machine) (DeskStands seen) all_free (x ∷ []) (powered drive m)
       seat = (record { port = port; machine = stands; rest = rest }, tt)
 
   -- ---- what was played

@@ -1,6 +1,7 @@
 -- From a machine at power up to the run of a script.
+use Rattle.cbm_iec.specs.declared.pace.Pace.{Pace}
 use Rattle.std.proofs.Common.{◌≡◌, ℕ, List, [], Bool, Option, Some, None, refl, sym, subst, ◌∙◌}
-use Rattle.std.specs.Prelude.{IfSome, Result, Ok, Err}
+use Rattle.std.specs.Prelude.{IfSome, IfOk, OnErr, Result, Ok, Err}
 use Rattle.cbm_medium.specs.Content.{Content}
 use Rattle.cbm_volume.specs.Holding.{HoldsDisk}
 use Rattle.cbm_file.specs.Files.{Disk}
@@ -27,32 +28,43 @@ pub among-stands : (tracks : ℕ) (content : Content) (protected : Bool) (stands
     → ((d : Disk) → HoldsDisk tracks content d → stands (start d protected tracks)) → AreAmong (StartsOn tracks content protected) stands
 among-stands tracks content protected stands h m (d, holds, e) = subst (λ x. stands x) (sym e) (h d holds)
 
-prints-among : (a b : Option (List ℕ)) (some all now next : Machine → Type 0) (script : List Request) → AreAmong some all → AreAmong now next
-    → Prints a b all now (printed script) → Prints a b some next (printed script)
-prints-among a b some all now next script is then p m s = let r = p m (is m s) in (r.0, then (printed script m).machine r.1)
+prints-among : (pace : Pace) (a b : Option (List ℕ)) (some all now next : Machine → Type 0) (script : List Request) → AreAmong some all → AreAmong now next
+    → Prints a b all now (printed pace script) → Prints a b some next (printed pace script)
+prints-among pace a b some all now next script is then p m s = let r = p m (is m s) in (r.0, then (printed pace script m).machine r.1)
 
-pub ended-among : (a b x : Option (List ℕ)) (some all now next : Machine → Type 0) (bad : Option ℕ) → AreAmong some all → AreAmong now next
-    → Ended a b x all now bad → Ended a b x some next bad
-ended-among a b None some all now next bad is then e = tt
-ended-among a b (Some xs) some all now next bad is then e = (e.0, prints-among a b some all now next (script_of xs).requests is then e.1)
+pub ended-among : (pace : Pace) (a b x : Option (List ℕ)) (some all now next : Machine → Type 0) (bad : Option ℕ) → AreAmong some all → AreAmong now next
+    → Ended pace a b x all now bad → Ended pace a b x some next bad
+ended-among pace a b None some all now next bad is then e = tt
+ended-among pace a b (Some xs) some all now next bad is then e = (e.0, prints-among pace a b some all now next (script_of xs).requests is then e.1)
 
 -- what a run from such a machine prints, and where it stands then
-abbrev pub Printed : Option (List ℕ) → Option (List ℕ) → Option (List ℕ) → (Machine → Type 0) → (Machine → Type 0) → Type 0
-Printed a b x stood now = IfSome x (λ input. Prints a b stood now (printed (script_of input).requests))
+abbrev pub Printed : Pace → Option (List ℕ) → Option (List ℕ) → Option (List ℕ) → (Machine → Type 0) → (Machine → Type 0) → Type 0
+Printed pace a b x stood now = IfSome x (λ input. Prints a b stood now (printed pace (script_of input).requests))
 
-pub printed-among : (a b x : Option (List ℕ)) (some all now next : Machine → Type 0) → AreAmong some all → AreAmong now next
-    → Printed a b x all now → Printed a b x some next
-printed-among a b None some all now next is then e = tt
-printed-among a b (Some xs) some all now next is then e = prints-among a b some all now next (script_of xs).requests is then e
+pub printed-among : (pace : Pace) (a b x : Option (List ℕ)) (some all now next : Machine → Type 0) → AreAmong some all → AreAmong now next
+    → Printed pace a b x all now → Printed pace a b x some next
+printed-among pace a b None some all now next is then e = tt
+printed-among pace a b (Some xs) some all now next is then e = prints-among pace a b some all now next (script_of xs).requests is then e
 
-pub printed-ended : (a b x : Option (List ℕ)) (some all now next : Machine → Type 0) (bad : Option ℕ) → AreAmong some all → AreAmong now next
-    → Ended a b x all now bad → Printed a b x some next
-printed-ended a b None some all now next bad is then e = tt
-printed-ended a b (Some xs) some all now next bad is then e = prints-among a b some all now next (script_of xs).requests is then e.1
+pub printed-ended : (pace : Pace) (a b x : Option (List ℕ)) (some all now next : Machine → Type 0) (bad : Option ℕ) → AreAmong some all → AreAmong now next
+    → Ended pace a b x all now bad → Printed pace a b x some next
+printed-ended pace a b None some all now next bad is then e = tt
+printed-ended pace a b (Some xs) some all now next bad is then e = prints-among pace a b some all now next (script_of xs).requests is then e.1
 
-pub begun-among : (a b x : Option (List ℕ)) (some all : Machine → Type 0) → AreAmong some all → Begun a b x all → Begun a b x some
-begun-among a b None some all is e = tt
-begun-among a b (Some xs) some all is e = λ m s. e m (is m s)
+pub begun-among : (pace : Pace) (a b x : Option (List ℕ)) (some all : Machine → Type 0) → AreAmong some all → Begun pace a b x all → Begun pace a b x some
+begun-among pace a b None some all is e = tt
+begun-among pace a b (Some xs) some all is e = λ m s. e m (is m s)
+
+-- ---- the same of a drive at the same pace
+
+pub ended-at : {B : Type 0} (e f : Pace) (r : Result B RunFault) (a b x : Option (List ℕ)) (stood now : Machine → Type 0) → e ≡ f → EndsAs r (λ bad. Ended e a b x stood now bad) → EndsAs r (λ bad. Ended f a b x stood now bad)
+ended-at e f r a b x stood now same h = subst (λ (p : Pace). EndsAs r (λ bad. Ended p a b x stood now bad)) same h
+
+pub printed-at : {B : Type 0} (e f : Pace) (r : Result B RunFault) (a b x : Option (List ℕ)) (stood : Machine → Type 0) (now : B → Machine → Type 0) → e ≡ f → IfOk r (λ v. Printed e a b x stood (now v)) → IfOk r (λ v. Printed f a b x stood (now v))
+printed-at e f r a b x stood now same h = subst (λ (p : Pace). IfOk r (λ v. Printed p a b x stood (now v))) same h
+
+pub begun-at : {B : Type 0} (e f : Pace) (r : Result B RunFault) (a b x : Option (List ℕ)) (stood : Machine → Type 0) → e ≡ f → OnErr r (Begun e a b x stood) → OnErr r (Begun f a b x stood)
+begun-at e f r a b x stood same h = subst (λ (p : Pace). OnErr r (Begun p a b x stood)) same h
 
 ends-err : (f : RunFault) (P Q : Option ℕ → Type 0) → EndsBy f P → ((bad : Option ℕ) → P bad → Q bad) → EndsBy f Q
 ends-err (Script line) P Q h w = w (Some line) h
@@ -77,35 +89,35 @@ ends-any (Err Writing) P h = tt
 
 -- ---- behind the line of a check
 
-abbrev pub EndedBehind : Bool → Option (List ℕ) → Option (List ℕ) → Option (List ℕ) → (Machine → Type 0) → (Machine → Type 0) → Option ℕ → Type 0
-EndedBehind checks a b x stood now bad = IfSome x (λ input. ((script_of input).bad ≡ bad)
-    × Prints a b stood now (printed_behind checks (script_of input).requests))
+abbrev pub EndedBehind : Pace → Bool → Option (List ℕ) → Option (List ℕ) → Option (List ℕ) → (Machine → Type 0) → (Machine → Type 0) → Option ℕ → Type 0
+EndedBehind pace checks a b x stood now bad = IfSome x (λ input. ((script_of input).bad ≡ bad)
+    × Prints a b stood now (printed_behind pace checks (script_of input).requests))
 
-abbrev pub PrintedBehind : Bool → Option (List ℕ) → Option (List ℕ) → Option (List ℕ) → (Machine → Type 0) → (Machine → Type 0) → Type 0
-PrintedBehind checks a b x stood now = IfSome x (λ input. Prints a b stood now (printed_behind checks (script_of input).requests))
+abbrev pub PrintedBehind : Pace → Bool → Option (List ℕ) → Option (List ℕ) → Option (List ℕ) → (Machine → Type 0) → (Machine → Type 0) → Type 0
+PrintedBehind pace checks a b x stood now = IfSome x (λ input. Prints a b stood now (printed_behind pace checks (script_of input).requests))
 
-abbrev pub BegunBehind : Bool → Option (List ℕ) → Option (List ℕ) → Option (List ℕ) → (Machine → Type 0) → Type 0
-BegunBehind checks a b x stood = IfSome x (λ input. PrintsPart a b stood (printed_behind checks (script_of input).requests))
+abbrev pub BegunBehind : Pace → Bool → Option (List ℕ) → Option (List ℕ) → Option (List ℕ) → (Machine → Type 0) → Type 0
+BegunBehind pace checks a b x stood = IfSome x (λ input. PrintsPart a b stood (printed_behind pace checks (script_of input).requests))
 
 -- for each machine that stood, the check's line was printed
 abbrev pub Said : Bool → Option (List ℕ) → Option (List ℕ) → (Machine → Type 0) → Type 0
 Said checks a b stood = (m : Machine) → stood m → Appends a b (checked_text checks)
 
-prints-behind : (checks : Bool) (a b c : Option (List ℕ)) (stood now : Machine → Type 0) (script : List Request) → Said checks a b stood
-    → Prints b c stood now (printed script) → Prints a c stood now (printed_behind checks script)
-prints-behind checks a b c stood now script said p m s = let r = p m s in (appends-more a b c (checked_text checks) (printed script m).text (said m s) r.0, r.1)
+prints-behind : (pace : Pace) (checks : Bool) (a b c : Option (List ℕ)) (stood now : Machine → Type 0) (script : List Request) → Said checks a b stood
+    → Prints b c stood now (printed pace script) → Prints a c stood now (printed_behind pace checks script)
+prints-behind pace checks a b c stood now script said p m s = let r = p m s in (appends-more a b c (checked_text checks) (printed pace script m).text (said m s) r.0, r.1)
 
-pub ended-behind : (checks : Bool) (a b c x : Option (List ℕ)) (stood now : Machine → Type 0) (bad : Option ℕ) → Said checks a b stood → Ended b c x stood now bad → EndedBehind checks a c x stood now bad
-ended-behind checks a b c None stood now bad said e = tt
-ended-behind checks a b c (Some xs) stood now bad said e = (e.0, prints-behind checks a b c stood now (script_of xs).requests said e.1)
+pub ended-behind : (pace : Pace) (checks : Bool) (a b c x : Option (List ℕ)) (stood now : Machine → Type 0) (bad : Option ℕ) → Said checks a b stood → Ended pace b c x stood now bad → EndedBehind pace checks a c x stood now bad
+ended-behind pace checks a b c None stood now bad said e = tt
+ended-behind pace checks a b c (Some xs) stood now bad said e = (e.0, prints-behind pace checks a b c stood now (script_of xs).requests said e.1)
 
-pub printed-behind : (checks : Bool) (a b c x : Option (List ℕ)) (stood now : Machine → Type 0) → Said checks a b stood → Printed b c x stood now → PrintedBehind checks a c x stood now
-printed-behind checks a b c None stood now said e = tt
-printed-behind checks a b c (Some xs) stood now said e = prints-behind checks a b c stood now (script_of xs).requests said e
+pub printed-behind : (pace : Pace) (checks : Bool) (a b c x : Option (List ℕ)) (stood now : Machine → Type 0) → Said checks a b stood → Printed pace b c x stood now → PrintedBehind pace checks a c x stood now
+printed-behind pace checks a b c None stood now said e = tt
+printed-behind pace checks a b c (Some xs) stood now said e = prints-behind pace checks a b c stood now (script_of xs).requests said e
 
-pub begun-behind : (checks : Bool) (a b c x : Option (List ℕ)) (stood : Machine → Type 0) → Said checks a b stood → Begun b c x stood → BegunBehind checks a c x stood
-begun-behind checks a b c None stood said e = tt
-begun-behind checks a b c (Some xs) stood said e = λ m s. part_behind a b c (checked_text checks) (printed (script_of xs).requests m).text (said m s) (e m s)
+pub begun-behind : (pace : Pace) (checks : Bool) (a b c x : Option (List ℕ)) (stood : Machine → Type 0) → Said checks a b stood → Begun pace b c x stood → BegunBehind pace checks a c x stood
+begun-behind pace checks a b c None stood said e = tt
+begun-behind pace checks a b c (Some xs) stood said e = λ m s. part_behind a b c (checked_text checks) (printed pace (script_of xs).requests m).text (said m s) (e m s)
 
 -- a check of the disk that a machine at power up has
 pub said-start : (tracks : ℕ) (content : Content) (protected checks : Bool) (a b : Option (List ℕ)) → ((d : Disk) → HoldsDisk tracks content d → Appends a b (checked_text checks))
@@ -113,23 +125,23 @@ pub said-start : (tracks : ℕ) (content : Content) (protected checks : Bool) (a
 said-start tracks content protected checks a b h m (d, holds, e) = h d holds
 
 -- the check's own line broke off
-pub begun-cut : (checks : Bool) (a b x : Option (List ℕ)) (stood : Machine → Type 0) → ((m : Machine) → stood m → AppendsPart a b (checked_text checks)) → BegunBehind checks a b x stood
-begun-cut checks a b None stood h = tt
-begun-cut checks a b (Some xs) stood h = λ m s. part_before a b (checked_text checks) (printed (script_of xs).requests m).text (h m s)
+pub begun-cut : (pace : Pace) (checks : Bool) (a b x : Option (List ℕ)) (stood : Machine → Type 0) → ((m : Machine) → stood m → AppendsPart a b (checked_text checks)) → BegunBehind pace checks a b x stood
+begun-cut pace checks a b None stood h = tt
+begun-cut pace checks a b (Some xs) stood h = λ m s. part_before a b (checked_text checks) (printed pace (script_of xs).requests m).text (h m s)
 
-pub cut-start : (tracks : ℕ) (content : Content) (protected checks : Bool) (a b x : Option (List ℕ)) → ((d : Disk) → HoldsDisk tracks content d → AppendsPart a b (checked_text checks))
-    → BegunBehind checks a b x (StartsOn tracks content protected)
-cut-start tracks content protected checks a b x h = begun-cut checks a b x (StartsOn tracks content protected) (λ m s. h s.0 s.1)
+pub cut-start : (pace : Pace) (tracks : ℕ) (content : Content) (protected checks : Bool) (a b x : Option (List ℕ)) → ((d : Disk) → HoldsDisk tracks content d → AppendsPart a b (checked_text checks))
+    → BegunBehind pace checks a b x (StartsOn tracks content protected)
+cut-start pace tracks content protected checks a b x h = begun-cut pace checks a b x (StartsOn tracks content protected) (λ m s. h s.0 s.1)
 
 -- the same machines
-pub behind-among : (checks : Bool) (a b x : Option (List ℕ)) (some all now next : Machine → Type 0) → AreAmong some all → AreAmong now next
-    → PrintedBehind checks a b x all now → PrintedBehind checks a b x some next
-behind-among checks a b None some all now next is then e = tt
-behind-among checks a b (Some xs) some all now next is then e = λ m s. let r = e m (is m s) in (r.0, then (printed (script_of xs).requests m).machine r.1)
+pub behind-among : (pace : Pace) (checks : Bool) (a b x : Option (List ℕ)) (some all now next : Machine → Type 0) → AreAmong some all → AreAmong now next
+    → PrintedBehind pace checks a b x all now → PrintedBehind pace checks a b x some next
+behind-among pace checks a b None some all now next is then e = tt
+behind-among pace checks a b (Some xs) some all now next is then e = λ m s. let r = e m (is m s) in (r.0, then (printed pace (script_of xs).requests m).machine r.1)
 
-pub begun-behind-among : (checks : Bool) (a b x : Option (List ℕ)) (some all : Machine → Type 0) → AreAmong some all → BegunBehind checks a b x all → BegunBehind checks a b x some
-begun-behind-among checks a b None some all is e = tt
-begun-behind-among checks a b (Some xs) some all is e = λ m s. e m (is m s)
+pub begun-behind-among : (pace : Pace) (checks : Bool) (a b x : Option (List ℕ)) (some all : Machine → Type 0) → AreAmong some all → BegunBehind pace checks a b x all → BegunBehind pace checks a b x some
+begun-behind-among pace checks a b None some all is e = tt
+begun-behind-among pace checks a b (Some xs) some all is e = λ m s. e m (is m s)
 
 -- ---- the same of an image
 
@@ -152,13 +164,13 @@ pub tracks-as : (kind other : Kind) (old new : List ℕ) (tracks after : ℕ) (c
 tracks-as kind other old new tracks after content written same was e is = rw same (is.same_tracks ∙ e ∙ sym was.same_tracks)
 
 -- what was printed whole is a beginning, and so is nothing
-pub behind-begun : (checks : Bool) (a b x : Option (List ℕ)) (stood now : Machine → Type 0) → PrintedBehind checks a b x stood now → BegunBehind checks a b x stood
-behind-begun checks a b None stood now e = tt
-behind-begun checks a b (Some xs) stood now e = λ m s. whole_part a b (printed_behind checks (script_of xs).requests m).text (e m s).0
+pub behind-begun : (pace : Pace) (checks : Bool) (a b x : Option (List ℕ)) (stood now : Machine → Type 0) → PrintedBehind pace checks a b x stood now → BegunBehind pace checks a b x stood
+behind-begun pace checks a b None stood now e = tt
+behind-begun pace checks a b (Some xs) stood now e = λ m s. whole_part a b (printed_behind pace checks (script_of xs).requests m).text (e m s).0
 
-pub nothing-begun : (checks : Bool) (a x : Option (List ℕ)) (stood : Machine → Type 0) → BegunBehind checks a a x stood
-nothing-begun checks a None stood = tt
-nothing-begun checks a (Some xs) stood = λ m s. ([], (printed_behind checks (script_of xs).requests m).text, appends-nothing a, refl)
+pub nothing-begun : (pace : Pace) (checks : Bool) (a x : Option (List ℕ)) (stood : Machine → Type 0) → BegunBehind pace checks a a x stood
+nothing-begun pace checks a None stood = tt
+nothing-begun pace checks a (Some xs) stood = λ m s. ([], (printed_behind pace checks (script_of xs).requests m).text, appends-nothing a, refl)
 
 -- the line of the check of a medium is that of the image
 pub checked-as : (kind other : Kind) (image : List ℕ) (tracks : ℕ) (content : Content) (a b : Option (List ℕ)) → other ≡ kind → IsOf kind image tracks content

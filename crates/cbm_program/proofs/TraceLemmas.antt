@@ -1,4 +1,6 @@
 -- What a script of line changes prints, on the way from a drive to an image.
+use Rattle.cbm_iec.specs.declared.pace.Pace.{Pace}
+use Rattle.cbm_iec.specs.declared.party.Party.{Party}
 use Rattle.std.proofs.Common.{◌≡◌, ℕ, List, [], ◌∷◌, ◌++◌, Bool, true, false, Option, Some, None, refl, sym, ap, subst, ◌∙◌, append-nil}
 use Rattle.std.specs.Prelude.{IfSome, IfErr, OnErr, Result, Ok, Err, codes}
 use Rattle.cbm_session.specs.Playing.{stays}
@@ -42,92 +44,92 @@ no_requests (Some xs) (Some ys) h = ap (λ b. script_if false b xs) (begins xs y
 
 -- ---- traces
 
-abbrev pub Traced : List ℕ → Option (List ℕ) → Option (List ℕ) → Option (List ℕ) → (Machine → Type 0) → (Machine → Type 0) → ℕ → Option ℕ → Type 0
-Traced text a b x stood now device bad = IfSome x (λ input. ((timetable_of input).bad ≡ bad) × PrintsTrace a b stood now device text (timetable_of input))
+abbrev pub Traced : List ℕ → Option (List ℕ) → Option (List ℕ) → Option (List ℕ) → (Machine → Type 0) → (Machine → Type 0) → Party → Option ℕ → Type 0
+Traced text a b x stood now drive bad = IfSome x (λ input. ((timetable_of input).bad ≡ bad) × PrintsTrace a b stood now drive text (timetable_of input))
 
-abbrev pub Left : List ℕ → Option (List ℕ) → Option (List ℕ) → Option (List ℕ) → (Machine → Type 0) → (Machine → Type 0) → ℕ → Type 0
-Left text a b x stood now device = IfSome x (λ input. PrintsTrace a b stood now device text (timetable_of input))
+abbrev pub Left : List ℕ → Option (List ℕ) → Option (List ℕ) → Option (List ℕ) → (Machine → Type 0) → (Machine → Type 0) → Party → Type 0
+Left text a b x stood now drive = IfSome x (λ input. PrintsTrace a b stood now drive text (timetable_of input))
 
-abbrev pub Cut : List ℕ → Option (List ℕ) → Option (List ℕ) → Option (List ℕ) → (Machine → Type 0) → ℕ → Type 0
-Cut text a b x stood device = IfSome x (λ input. PrintsTracePart a b stood device text (timetable_of input))
+abbrev pub Cut : List ℕ → Option (List ℕ) → Option (List ℕ) → Option (List ℕ) → (Machine → Type 0) → Party → Type 0
+Cut text a b x stood drive = IfSome x (λ input. PrintsTracePart a b stood drive text (timetable_of input))
 
-trace-among : (text : List ℕ) (a b : Option (List ℕ)) (some all now next : Machine → Type 0) (device : ℕ) (t : Timetable) → AreAmong some all → AreAmong now next → PrintsTrace a b all now device text t → PrintsTrace a b some next device text t
-trace-among text a b some all now next device t is then p m s = (let r = p m (is m s) in (r.0, r.1, r.2, r.3, then r.1.machine.dos r.4))
+trace-among : (text : List ℕ) (a b : Option (List ℕ)) (some all now next : Machine → Type 0) (drive : Party) (t : Timetable) → AreAmong some all → AreAmong now next → PrintsTrace a b all now drive text t → PrintsTrace a b some next drive text t
+trace-among text a b some all now next drive t is then p m s = (let r = p m (is m s) in (r.0, r.1, r.2, r.3, then r.1.machine.dos r.4))
 
-pub traced-among : (text : List ℕ) (a b x : Option (List ℕ)) (some all now next : Machine → Type 0) (device : ℕ) (bad : Option ℕ) → AreAmong some all → AreAmong now next → Traced text a b x all now device bad → Traced text a b x some next device bad
-traced-among text a b None some all now next device bad is then h = tt
-traced-among text a b (Some xs) some all now next device bad is then h = (h.0, trace-among text a b some all now next device (timetable_of xs) is then h.1)
+pub traced-among : (text : List ℕ) (a b x : Option (List ℕ)) (some all now next : Machine → Type 0) (drive : Party) (bad : Option ℕ) → AreAmong some all → AreAmong now next → Traced text a b x all now drive bad → Traced text a b x some next drive bad
+traced-among text a b None some all now next drive bad is then h = tt
+traced-among text a b (Some xs) some all now next drive bad is then h = (h.0, trace-among text a b some all now next drive (timetable_of xs) is then h.1)
 
-pub left-traced : (text : List ℕ) (a b x : Option (List ℕ)) (some all now next : Machine → Type 0) (device : ℕ) (bad : Option ℕ) → AreAmong some all → AreAmong now next → Traced text a b x all now device bad → Left text a b x some next device
-left-traced text a b None some all now next device bad is then h = tt
-left-traced text a b (Some xs) some all now next device bad is then h = trace-among text a b some all now next device (timetable_of xs) is then h.1
+pub left-traced : (text : List ℕ) (a b x : Option (List ℕ)) (some all now next : Machine → Type 0) (drive : Party) (bad : Option ℕ) → AreAmong some all → AreAmong now next → Traced text a b x all now drive bad → Left text a b x some next drive
+left-traced text a b None some all now next drive bad is then h = tt
+left-traced text a b (Some xs) some all now next drive bad is then h = trace-among text a b some all now next drive (timetable_of xs) is then h.1
 
-pub left-among : (text : List ℕ) (a b x : Option (List ℕ)) (some all now next : Machine → Type 0) (device : ℕ) → AreAmong some all → AreAmong now next → Left text a b x all now device → Left text a b x some next device
-left-among text a b None some all now next device is then h = tt
-left-among text a b (Some xs) some all now next device is then h = trace-among text a b some all now next device (timetable_of xs) is then h
+pub left-among : (text : List ℕ) (a b x : Option (List ℕ)) (some all now next : Machine → Type 0) (drive : Party) → AreAmong some all → AreAmong now next → Left text a b x all now drive → Left text a b x some next drive
+left-among text a b None some all now next drive is then h = tt
+left-among text a b (Some xs) some all now next drive is then h = trace-among text a b some all now next drive (timetable_of xs) is then h
 
-pub cut-among : (text : List ℕ) (a b x : Option (List ℕ)) (some all : Machine → Type 0) (device : ℕ) → AreAmong some all → Cut text a b x all device → Cut text a b x some device
-cut-among text a b None some all device is h = tt
-cut-among text a b (Some xs) some all device is h = λ m s. h m (is m s)
+pub cut-among : (text : List ℕ) (a b x : Option (List ℕ)) (some all : Machine → Type 0) (drive : Party) → AreAmong some all → Cut text a b x all drive → Cut text a b x some drive
+cut-among text a b None some all drive is h = tt
+cut-among text a b (Some xs) some all drive is h = λ m s. h m (is m s)
 
 -- what was printed whole is a beginning, and so is nothing
-pub cut-left : (text : List ℕ) (a b x : Option (List ℕ)) (stood now : Machine → Type 0) (device : ℕ) → Left text a b x stood now device → Cut text a b x stood device
-cut-left text a b None stood now device h = tt
-cut-left text a b (Some xs) stood now device h = λ m s. (let r = h m s in let trace = r.2 in (
+pub cut-left : (text : List ℕ) (a b x : Option (List ℕ)) (stood now : Machine → Type 0) (drive : Party) → Left text a b x stood now drive → Cut text a b x stood drive
+cut-left text a b None stood now drive h = tt
+cut-left text a b (Some xs) stood now drive h = λ m s. (let r = h m s in let trace = r.2 in (
   r.0,
   record { from = trace.from; stations = r.1 ∷ []; plays = trace.plays; rest = []; hosts = append-nil _ ∙ trace.hosts },
   whole_part a b (text ++ trace_text r.0) r.3,
 ))
 
-begun-none : (device : ℕ) (m : Machine) (t : Timetable) → IsTraceBegun device m t []
-begun-none device m t = record { from = 0; stations = powered device m; plays = stays (tt, tt) refl refl refl; rest = t.changes; hosts = refl }
+begun-none : (drive : Party) (m : Machine) (t : Timetable) → IsTraceBegun drive m t []
+begun-none drive m t = record { from = 0; stations = powered drive m; plays = stays (tt, tt) refl refl refl; rest = t.changes; hosts = refl }
 
-pub cut-text : (text : List ℕ) (a b x : Option (List ℕ)) (stood : Machine → Type 0) (device : ℕ) → ((m : Machine) → stood m → AppendsPart a b text) → Cut text a b x stood device
-cut-text text a b None stood device h = tt
-cut-text text a b (Some xs) stood device h = λ m s. ([], begun-none device m (timetable_of xs), part_before a b text [] (h m s))
+pub cut-text : (text : List ℕ) (a b x : Option (List ℕ)) (stood : Machine → Type 0) (drive : Party) → ((m : Machine) → stood m → AppendsPart a b text) → Cut text a b x stood drive
+cut-text text a b None stood drive h = tt
+cut-text text a b (Some xs) stood drive h = λ m s. ([], begun-none drive m (timetable_of xs), part_before a b text [] (h m s))
 
-pub cut-nothing : (text : List ℕ) (a x : Option (List ℕ)) (stood : Machine → Type 0) (device : ℕ) → Cut text a a x stood device
-cut-nothing text a x stood device = cut-text text a a x stood device (λ m s. ([], text, appends-nothing a, refl))
+pub cut-nothing : (text : List ℕ) (a x : Option (List ℕ)) (stood : Machine → Type 0) (drive : Party) → Cut text a a x stood drive
+cut-nothing text a x stood drive = cut-text text a a x stood drive (λ m s. ([], text, appends-nothing a, refl))
 
 -- ---- behind the line of a check
 
-pub traced-behind : (checks : Bool) (a b c x : Option (List ℕ)) (stood now : Machine → Type 0) (device : ℕ) (bad : Option ℕ) → Said checks a b stood → Traced [] b c x stood now device bad → Traced (checked_text checks) a c x stood now device bad
-traced-behind checks a b c None stood now device bad said h = tt
-traced-behind checks a b c (Some xs) stood now device bad said h = (h.0, λ m s. (let r = h.1 m s in (r.0, r.1, r.2, appends-more a b c (checked_text checks) (trace_text r.0) (said m s) r.3, r.4)))
+pub traced-behind : (checks : Bool) (a b c x : Option (List ℕ)) (stood now : Machine → Type 0) (drive : Party) (bad : Option ℕ) → Said checks a b stood → Traced [] b c x stood now drive bad → Traced (checked_text checks) a c x stood now drive bad
+traced-behind checks a b c None stood now drive bad said h = tt
+traced-behind checks a b c (Some xs) stood now drive bad said h = (h.0, λ m s. (let r = h.1 m s in (r.0, r.1, r.2, appends-more a b c (checked_text checks) (trace_text r.0) (said m s) r.3, r.4)))
 
-pub left-behind : (checks : Bool) (a b c x : Option (List ℕ)) (stood now : Machine → Type 0) (device : ℕ) → Said checks a b stood → Left [] b c x stood now device → Left (checked_text checks) a c x stood now device
-left-behind checks a b c None stood now device said h = tt
-left-behind checks a b c (Some xs) stood now device said h = λ m s. (let r = h m s in (r.0, r.1, r.2, appends-more a b c (checked_text checks) (trace_text r.0) (said m s) r.3, r.4))
+pub left-behind : (checks : Bool) (a b c x : Option (List ℕ)) (stood now : Machine → Type 0) (drive : Party) → Said checks a b stood → Left [] b c x stood now drive → Left (checked_text checks) a c x stood now drive
+left-behind checks a b c None stood now drive said h = tt
+left-behind checks a b c (Some xs) stood now drive said h = λ m s. (let r = h m s in (r.0, r.1, r.2, appends-more a b c (checked_text checks) (trace_text r.0) (said m s) r.3, r.4))
 
-pub cut-behind : (checks : Bool) (a b c x : Option (List ℕ)) (stood : Machine → Type 0) (device : ℕ) → Said checks a b stood → Cut [] b c x stood device → Cut (checked_text checks) a c x stood device
-cut-behind checks a b c None stood device said h = tt
-cut-behind checks a b c (Some xs) stood device said h = λ m s. (let r = h m s in (r.0, r.1, part_behind a b c (checked_text checks) (trace_text r.0) (said m s) r.2))
+pub cut-behind : (checks : Bool) (a b c x : Option (List ℕ)) (stood : Machine → Type 0) (drive : Party) → Said checks a b stood → Cut [] b c x stood drive → Cut (checked_text checks) a c x stood drive
+cut-behind checks a b c None stood drive said h = tt
+cut-behind checks a b c (Some xs) stood drive said h = λ m s. (let r = h m s in (r.0, r.1, part_behind a b c (checked_text checks) (trace_text r.0) (said m s) r.2))
 
 -- ---- where the first line can't be had
 
-pub first-ended : {A : Type 0} (a x k : Option (List ℕ)) (stood now : Machine → Type 0) → AreAmong stood now → (r : Result A RunFault) (f : RunFault) → FirstRead x k (Err f) → r ≡ Err f → EndsAs r (λ bad. Ended a a (of_requests x) stood now bad)
-first-ended a x k stood now then r (Script bad) h e =
-    let base : Ended a a x stood stood (Some bad) = faulted {A = Unit {0}} a a x x k stood stood 1 (Err (Script bad)) (Script bad) (run-start a x x stood refl) h.0 refl in
-    subst (λ v. EndsAs v (λ b. Ended a a (of_requests x) stood now b)) (sym e)
-    (ended-among a a (of_requests x) stood stood stood now (Some bad) (λ m s. s) then (subst (λ o. Ended a a o stood stood (Some bad)) (sym (requests_are x h.1)) base))
-first-ended a x k stood now then r (Image n) h e = absurd h
-first-ended a x k stood now then r Memory h e = absurd h
-first-ended a x k stood now then r Reading h e = subst (λ v. EndsAs v (λ b. Ended a a (of_requests x) stood now b)) (sym e) tt
-first-ended a x k stood now then r Writing h e = absurd h
+pub first-ended : {A : Type 0} (pace : Pace) (a x k : Option (List ℕ)) (stood now : Machine → Type 0) → AreAmong stood now → (r : Result A RunFault) (f : RunFault) → FirstRead x k (Err f) → r ≡ Err f → EndsAs r (λ bad. Ended pace a a (of_requests x) stood now bad)
+first-ended pace a x k stood now then r (Script bad) h e =
+    let base : Ended pace a a x stood stood (Some bad) = faulted {A = Unit {0}} pace a a x x k stood stood 1 (Err (Script bad)) (Script bad) (run-start pace a x x stood refl) h.0 refl in
+    subst (λ v. EndsAs v (λ b. Ended pace a a (of_requests x) stood now b)) (sym e)
+    (ended-among pace a a (of_requests x) stood stood stood now (Some bad) (λ m s. s) then (subst (λ o. Ended pace a a o stood stood (Some bad)) (sym (requests_are x h.1)) base))
+first-ended pace a x k stood now then r (Image n) h e = absurd h
+first-ended pace a x k stood now then r Memory h e = absurd h
+first-ended pace a x k stood now then r Reading h e = subst (λ v. EndsAs v (λ b. Ended pace a a (of_requests x) stood now b)) (sym e) tt
+first-ended pace a x k stood now then r Writing h e = absurd h
 
-pub first-of : {A : Type 0} (a y x k : Option (List ℕ)) → y ≡ x → (stood now : Machine → Type 0) → AreAmong stood now → (r : Result A RunFault) (f : RunFault) → FirstRead y k (Err f) → r ≡ Err f → EndsAs r (λ bad. Ended a a (of_requests x) stood now bad)
-first-of a y x k same stood now then r f h e = first-ended a x k stood now then r f (subst (λ o. FirstRead o k (Err f)) same h) e
+pub first-of : {A : Type 0} (pace : Pace) (a y x k : Option (List ℕ)) → y ≡ x → (stood now : Machine → Type 0) → AreAmong stood now → (r : Result A RunFault) (f : RunFault) → FirstRead y k (Err f) → r ≡ Err f → EndsAs r (λ bad. Ended pace a a (of_requests x) stood now bad)
+first-of pace a y x k same stood now then r f h e = first-ended pace a x k stood now then r f (subst (λ o. FirstRead o k (Err f)) same h) e
 
-pub first-traced : {A : Type 0} (a x k : Option (List ℕ)) (stood now : Machine → Type 0) (device : ℕ) (r : Result A RunFault) (f : RunFault) → FirstRead x k (Err f) → r ≡ Err f → EndsAs r (λ bad. Traced [] a a (of_changes x) stood now device bad)
-first-traced a x k stood now device r (Script bad) h e = subst (λ v. EndsAs v (λ b. Traced [] a a (of_changes x) stood now device b)) (sym e) (subst (λ o. Traced [] a a o stood now device (Some bad)) (sym (no_changes x h.1)) tt)
-first-traced a x k stood now device r (Image n) h e = absurd h
-first-traced a x k stood now device r Memory h e = absurd h
-first-traced a x k stood now device r Reading h e = subst (λ v. EndsAs v (λ b. Traced [] a a (of_changes x) stood now device b)) (sym e) tt
-first-traced a x k stood now device r Writing h e = absurd h
+pub first-traced : {A : Type 0} (a x k : Option (List ℕ)) (stood now : Machine → Type 0) (drive : Party) (r : Result A RunFault) (f : RunFault) → FirstRead x k (Err f) → r ≡ Err f → EndsAs r (λ bad. Traced [] a a (of_changes x) stood now drive bad)
+first-traced a x k stood now drive r (Script bad) h e = subst (λ v. EndsAs v (λ b. Traced [] a a (of_changes x) stood now drive b)) (sym e) (subst (λ o. Traced [] a a o stood now drive (Some bad)) (sym (no_changes x h.1)) tt)
+first-traced a x k stood now drive r (Image n) h e = absurd h
+first-traced a x k stood now drive r Memory h e = absurd h
+first-traced a x k stood now drive r Reading h e = subst (λ v. EndsAs v (λ b. Traced [] a a (of_changes x) stood now drive b)) (sym e) tt
+first-traced a x k stood now drive r Writing h e = absurd h
 
-pub nothing-printed : (a x : Option (List ℕ)) (stood : Machine → Type 0) → IfSome x (λ input. PrintsPart a a stood (printed (script_of input).requests))
-nothing-printed a None stood = tt
-nothing-printed a (Some xs) stood = λ m s. ([], (printed (script_of xs).requests m).text, appends-nothing a, refl)
+pub nothing-printed : (pace : Pace) (a x : Option (List ℕ)) (stood : Machine → Type 0) → IfSome x (λ input. PrintsPart a a stood (printed pace (script_of input).requests))
+nothing-printed pace a None stood = tt
+nothing-printed pace a (Some xs) stood = λ m s. ([], (printed pace (script_of xs).requests m).text, appends-nothing a, refl)
 
 -- ---- results
 

@@ -7,6 +7,7 @@ use Rattle.cbm_file.specs.Changes.{closed_file}
 use Rattle.cbm_drive.specs.Running.{new_disk}
 use Rattle.cbm_program.specs.declared.request.Request.{Request}
 use Rattle.cbm_program.specs.declared.request.Request.TheVariants.{Open, Put}
+use Rattle.cbm_iec.specs.declared.pace.Pace.TheVariants.{Profile, Kernal}
 use Rattle.cbm_program.specs.Scripts.{printed}
 
 -- `open CH TEXT`
@@ -37,13 +38,16 @@ protected d = start d true 35
 abbrev pub blank : Machine
 blank = powered (formatted 35)
 
--- what a script prints
+-- what a script prints, of a drive at the profile's pace, and at a KERNAL's
 abbrev pub prints : List Request → Machine → List ℕ
-prints script m = (printed script m).text
+prints script m = (printed Profile script m).text
+
+abbrev pub prints_for_kernal : List Request → Machine → List ℕ
+prints_for_kernal script m = (printed Kernal script m).text
 
 -- the machine behind a script
 abbrev pub behind : List Request → Machine → Machine
-behind script m = (printed script m).machine
+behind script m = (printed Profile script m).machine
 
 -- a file's name, its blocks shown and its blocks held
 abbrev pub summary_of : File → List ℕ × ℕ × ℕ

@@ -7,6 +7,7 @@ use Rattle.cbm_volume.specs.Layouts.{Layout, Sound}
 use Rattle.cbm_volume.specs.check.WholeDisk.{DiskFault}
 use Rattle.cbm_volume.specs.declared.Unsound.{Unsound}
 use Rattle.cbm_drive.specs.Machines.{Machine}
+use Rattle.cbm_iec.specs.declared.pace.Pace.{Pace}
 use Rattle.cbm_program.specs.declared.request.Request.{Request}
 use Rattle.cbm_program.specs.Output.{Grows}
 use Rattle.cbm_program.specs.Scripts.{Printed, printed}
@@ -39,5 +40,5 @@ abbrev pub IsCheckedFirst : ℕ → Content → Option (List ℕ) → Option (Li
 IsCheckedFirst tracks content old new = (between : Option (List ℕ)) × IsCheckPrinted tracks content old between × Grows between new
 
 -- what a script prints, behind the line of the check if one is asked for
-abbrev pub printed_behind : Bool → List Request → Machine → Printed
-printed_behind checks script m = record { text = checked_text checks ++ (printed script m).text; machine = (printed script m).machine }
+abbrev pub printed_behind : Pace → Bool → List Request → Machine → Printed
+printed_behind pace checks script m = record { text = checked_text checks ++ (printed pace script m).text; machine = (printed pace script m).machine }

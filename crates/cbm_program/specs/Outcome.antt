@@ -1,6 +1,8 @@
 -- What a run of a script on an image promises.
 use Rattle.std.specs.Prelude.{ℕ, ◌≡◌, List, Bool, true, Option, Some, Result, Err, IfSome, IfOk, OnErr}
 use Rattle.std.specs.Io.KnownBytes.{Keeps}
+use Rattle.cbm_host.specs.Hosted.{party_of}
+use Rattle.cbm_iec.specs.declared.pace.Pace.{Pace}
 use Rattle.cbm_program.specs.declared.fault.RunFault.{RunFault}
 use Rattle.cbm_program.specs.declared.fault.RunFault.TheVariants.{Image}
 use Rattle.cbm_program.specs.Output.{Grows, Prints, PrintsPart}
@@ -10,28 +12,28 @@ use Rattle.cbm_program.specs.Timetables.{of_requests, of_changes, timetable_of}
 use Rattle.cbm_program.specs.Traces.{PrintsTrace, PrintsTracePart}
 use Rattle.cbm_program.specs.Images.{kind_of, image_fault, tracks_of, content_of, ImageHolds, Begins}
 
--- WHAT A RUN PROMISES on an image of these bytes: `items` are the bytes of the image that it gives back, `input` is what the
+-- WHAT A RUN PROMISES of a drive of this pace on an image of these bytes: `items` are the bytes of the image that it gives back, `input` is what the
 -- reader still had to give, and `old` and `new` are what the writer held before the run and behind it, as far as they are known.
-pub record IsOutcome {A : Type 0} (result : Result A RunFault) (items : A → List ℕ) (image : List ℕ) (protected checks : Bool) (device : ℕ)
+pub record IsOutcome {A : Type 0} (result : Result A RunFault) (items : A → List ℕ) (pace : Pace) (image : List ℕ) (protected checks : Bool) (device : ℕ)
     (input old new : Option (List ℕ)) : Type 0 where
   -- What was written is what a script of requests prints on the image's disk up to its end or its first bad line.
   pub ended : EndsAs result (λ bad. IfSome (of_requests input) (λ bytes. ((script_of bytes).bad ≡ bad)
-      × Prints old new (Begins image protected) (λ _. Unit {0}) (printed_behind checks (script_of bytes).requests)))
+      × Prints old new (Begins image protected) (λ _. Unit {0}) (printed_behind pace checks (script_of bytes).requests)))
   -- The image that is given back holds the disk behind the script, with all that the script wrote.
   pub disk : IfOk result (λ saved. IfSome (of_requests input) (λ bytes. Prints old new (Begins image protected)
-      (λ m. ImageHolds (kind_of image) (items saved) m.disk) (printed_behind checks (script_of bytes).requests)))
+      (λ m. ImageHolds (kind_of image) (items saved) m.disk) (printed_behind pace checks (script_of bytes).requests)))
   -- At a fault a beginning of that was written.
   pub fault : OnErr result (IfSome (of_requests input) (λ bytes.
-      PrintsPart old new (Begins image protected) (printed_behind checks (script_of bytes).requests)))
+      PrintsPart old new (Begins image protected) (printed_behind pace checks (script_of bytes).requests)))
   -- Of a script of line changes the trace of a drive with that disk was written, up to its end or its first bad line.
   pub played : EndsAs result (λ bad. IfSome (of_changes input) (λ bytes. ((timetable_of bytes).bad ≡ bad)
-      × PrintsTrace old new (Begins image protected) (λ _. Unit {0}) device (checked_text checks) (timetable_of bytes)))
+      × PrintsTrace old new (Begins image protected) (λ _. Unit {0}) (party_of pace device) (checked_text checks) (timetable_of bytes)))
   -- The image that is given back holds the disk behind it.
   pub left : IfOk result (λ saved. IfSome (of_changes input) (λ bytes. PrintsTrace old new (Begins image protected)
-      (λ m. ImageHolds (kind_of image) (items saved) m.disk) device (checked_text checks) (timetable_of bytes)))
+      (λ m. ImageHolds (kind_of image) (items saved) m.disk) (party_of pace device) (checked_text checks) (timetable_of bytes)))
   -- At a fault a beginning of such a trace was written.
   pub cut : OnErr result (IfSome (of_changes input) (λ bytes.
-      PrintsTracePart old new (Begins image protected) device (checked_text checks) (timetable_of bytes)))
+      PrintsTracePart old new (Begins image protected) (party_of pace device) (checked_text checks) (timetable_of bytes)))
   -- Of any image the line of the check is printed first, where one is asked for.
   pub checked : checks ≡ true → EndsAs result (λ bad. IsCheckedFirst (tracks_of (kind_of image) image) (content_of (kind_of image) image) old new)
   -- All that is printed is added to what was written.

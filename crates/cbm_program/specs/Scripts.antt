@@ -1,9 +1,10 @@
 -- A script of requests on a machine, and what it prints.
-pub use Rattle.cbm_host.specs.Served.{puts, hear, Said, says, talked, status_said}
+pub use Rattle.cbm_host.specs.Served.{puts, hear, Said, says, talked, talked_at, status_said}
 use Rattle.std.specs.Prelude.{ℕ, ◌+◌, ◌/◌, ◌%◌, nat_lt, Bool, List, [], ◌∷◌, ◌++◌, flat_map, replicate, codes, decimal, if◌then◌else◌}
 use Rattle.cbm_drive.specs.Machines.{Machine}
 use Rattle.cbm_drive.specs.Closing.{close}
 use Rattle.cbm_drive.specs.Calls.{after_open, without_return}
+use Rattle.cbm_iec.specs.declared.pace.Pace.{Pace}
 use Rattle.cbm_program.specs.declared.request.Request.{Request}
 use Rattle.cbm_program.specs.declared.request.Request.TheVariants.{Open, Put, Fill, Get, Close, Status}
 
@@ -43,20 +44,20 @@ get_line ch said = codes "get " ++ decimal ch ++ codes " " ++ bytes_text said.by
 abbrev pub status_text : Said → List ℕ
 status_text said = codes "status " ++ without_return said.bytes ++ codes "\n"
 
--- what a request prints, and the machine behind it
-abbrev pub printed_by : Request → Machine → Printed
-printed_by (Open ch text) m = silent (after_open ch text.items m)
-printed_by (Put ch text) m = silent (hear ch text.items m)
-printed_by (Fill ch n b) m = silent (hear ch (replicate n b) m)
-printed_by (Get ch most) m = record { text = get_line ch (talked ch most m); machine = (talked ch most m).machine }
-printed_by (Close ch) m = silent (close ch m)
-printed_by Status m = record { text = status_text (status_said m); machine = (status_said m).machine }
+-- what a request prints, at the drive's pace, and the machine behind it
+abbrev pub printed_by : Pace → Request → Machine → Printed
+printed_by pace (Open ch text) m = silent (after_open ch text.items m)
+printed_by pace (Put ch text) m = silent (hear ch text.items m)
+printed_by pace (Fill ch n b) m = silent (hear ch (replicate n b) m)
+printed_by pace (Get ch most) m = record { text = get_line ch (talked_at pace ch most m); machine = (talked_at pace ch most m).machine }
+printed_by pace (Close ch) m = silent (close ch m)
+printed_by pace Status m = record { text = status_text (status_said m); machine = (status_said m).machine }
 
 -- one request, and those that follow it
 abbrev pub then_printed : Printed → (Machine → Printed) → Printed
 then_printed first rest = record { text = first.text ++ (rest first.machine).text; machine = (rest first.machine).machine }
 
 -- what a script prints, request by request
-abbrev pub printed : List Request → Machine → Printed
-printed [] m = silent m
-printed (request ∷ script) m = then_printed (printed_by request m) (λ after. printed script after)
+abbrev pub printed : Pace → List Request → Machine → Printed
+printed pace [] m = silent m
+printed pace (request ∷ script) m = then_printed (printed_by pace request m) (λ after. printed pace script after)

@@ -3,6 +3,7 @@ use Rattle.std.specs.Prelude.{Bool, ◌≡◌, ◌≤◌, ℕ, List, [], ◌∷�
 use Rattle.std.specs.Io.KnownBytes.{Appends}
 use Rattle.cbm_iec.specs.declared.event.Event.{Event}
 use Rattle.cbm_iec.specs.declared.line.Change.{Change}
+use Rattle.cbm_iec.specs.declared.party.Party.{Party}
 use Rattle.cbm_medium.specs.Content.{Content}
 use Rattle.cbm_medium.specs.Seen.{Seen}
 use Rattle.cbm_session.specs.Playing.{Station, Plays}
@@ -38,8 +39,8 @@ module _ {M : Type 0} (seen : M → Seen) where
   IsAt p b ss es = IsAfter (Desk (Kept M)) (Desk Machine) (DeskStands seen) desk_step desk_says p b 0 ss es
 
   -- the drive is at power up, with each disk that this content holds
-  abbrev pub StandsOn : ℕ → Content → Bool → ℕ → Turns → Cabled (Desk (Kept M)) → Type 0
-  StandsOn tracks content protected device p b = (d : Disk) → HoldsDisk tracks content d → IsAt p b (powered device (start d protected tracks)) []
+  abbrev pub StandsOn : ℕ → Content → Bool → Party → Turns → Cabled (Desk (Kept M)) → Type 0
+  StandsOn tracks content protected drive p b = (d : Disk) → HoldsDisk tracks content d → IsAt p b (powered drive (start d protected tracks)) []
 
   -- These changes of the host were made, and what came of them; all events were written.
   pub record HasPlayedOn (a b : Option (List ℕ)) (cs : List Change) (p : Turns) (c : Cabled (Desk (Kept M))) (ss : List (Station (Desk Machine))) (es : List Event) : Type 0 where

@@ -1,7 +1,6 @@
 -- What a script of line changes prints: the events of a drive under a host that makes these changes.
 use Rattle.std.specs.Prelude.{◌≡◌, ◌+◌, ◌≤◌, ℕ, List, [], ◌∷◌, ◌++◌, codes, decimal, flat_map, Option, Some, None, IfSome}
 use Rattle.std.specs.Io.KnownBytes.{Appends}
-use Rattle.cbm_iec.specs.declared.pace.Pace.TheVariants.{Profile}
 use Rattle.cbm_iec.specs.Ports.{port_due}
 use Rattle.cbm_iec.specs.declared.event.Event.{Event}
 use Rattle.cbm_iec.specs.declared.event.Who.{Who}
@@ -15,7 +14,8 @@ use Rattle.cbm_iec.specs.declared.party.Party.{Party}
 use Rattle.cbm_session.specs.Playing.{Station, Plays, IsKept, IsLaterDue, at_rest}
 use Rattle.cbm_session.specs.Timing.{HostKeeps}
 use Rattle.cbm_drive.specs.Machines.{Machine}
-use Rattle.cbm_drive.specs.Desks.{Desk, at_first, desk_step, desk_says}
+use Rattle.cbm_drive.specs.Desks.{Desk, desk_step, desk_says}
+use Rattle.cbm_host.specs.Served.{at_power_up}
 use Rattle.cbm_drive.specs.Ordered.{host_changes, latest}
 use Rattle.cbm_program.specs.Output.{AppendsPart}
 use Rattle.cbm_program.specs.Timetables.{Timetable}
@@ -43,20 +43,16 @@ trace_text trace = flat_map event_text trace
 
 -- ---- the drive of a script
 
--- its drive reacts after 20 microseconds
-abbrev pub drives_of : ℕ → List Party
-drives_of device = (record { device = device; reaction = 20; pace = Profile }) ∷ []
-
-abbrev pub machines_of : ℕ → Machine → ℕ → Desk Machine
-machines_of device m d = at_first device m
-
 -- the drive at power up, above it the named-files machine
-abbrev pub powered : ℕ → Machine → List (Station (Desk Machine))
-powered device m = at_rest (Desk Machine) desk_step desk_says (machines_of device m) (drives_of device)
+abbrev pub machines_of : Party → Machine → ℕ → Desk Machine
+machines_of drive m d = at_power_up drive.pace drive.device m
+
+abbrev pub powered : Party → Machine → List (Station (Desk Machine))
+powered drive m = at_rest (Desk Machine) desk_step desk_says (machines_of drive m) (drive ∷ [])
 
 -- From power up these events come, and then the drive stands so.
-abbrev pub IsPlayed : ℕ → Machine → List Event → ℕ → List (Station (Desk Machine)) → Type 0
-IsPlayed device m trace from ss = Plays (Desk Machine) desk_step desk_says 0 (powered device m) trace from ss
+abbrev pub IsPlayed : Party → Machine → List Event → ℕ → List (Station (Desk Machine)) → Type 0
+IsPlayed drive m trace from ss = Plays (Desk Machine) desk_step desk_says 0 (powered drive m) trace from ss
 
 -- A script is played up to its end, the reactions of that moment too. Where its end isn't read it is played up to its last change, and the
 -- reactions of that moment wait.
@@ -64,31 +60,31 @@ abbrev pub until : Timetable → ℕ
 until t = elim t.end [ None ↦ latest 0 t.changes | Some end ↦ end + 1 ]
 
 -- THE TRACE OF A SCRIPT: the events of the drive under a host that makes these changes, and no others.
-pub record IsTrace (device : ℕ) (m : Machine) (t : Timetable) (trace : List Event) (s : Station (Desk Machine)) : Type 0 where
+pub record IsTrace (drive : Party) (m : Machine) (t : Timetable) (trace : List Event) (s : Station (Desk Machine)) : Type 0 where
   pub from : ℕ
-  pub plays : IsPlayed device m trace from (s ∷ [])
+  pub plays : IsPlayed drive m trace from (s ∷ [])
   pub hosts : host_changes trace ≡ t.changes
   pub within : from ≤ until t
   -- nothing is due at the end or before it
   pub settled : IfSome t.end (λ end. IsLaterDue end (port_due s.port))
   -- Where the host keeps the bus's timing this is a beginning of a session: each byte talked is the machine's answer to the bytes sent, and no reaction is late.
-  pub kept : IfSome t.end (λ end. HostKeeps (drives_of device) trace end → IsKept (Desk Machine) desk_step desk_says (drives_of device) (machines_of device m) trace end (s ∷ []))
+  pub kept : IfSome t.end (λ end. HostKeeps (drive ∷ []) trace end → IsKept (Desk Machine) desk_step desk_says (drive ∷ []) (machines_of drive m) trace end (s ∷ []))
 
 -- the events of the drive under some of these changes, the first ones
-pub record IsTraceBegun (device : ℕ) (m : Machine) (t : Timetable) (trace : List Event) : Type 0 where
+pub record IsTraceBegun (drive : Party) (m : Machine) (t : Timetable) (trace : List Event) : Type 0 where
   pub from : ℕ
   pub stations : List (Station (Desk Machine))
-  pub plays : IsPlayed device m trace from stations
+  pub plays : IsPlayed drive m trace from stations
   pub rest : List Change
   pub hosts : host_changes trace ++ rest ≡ t.changes
 
 -- ---- what is written
 
 -- For each machine that stood before, the trace of the script was written behind this text, and the machine above the drive stands now.
-abbrev pub PrintsTrace : Option (List ℕ) → Option (List ℕ) → (Machine → Type 0) → (Machine → Type 0) → ℕ → List ℕ → Timetable → Type 0
-PrintsTrace old new stood stands device text t = (m : Machine) → stood m
-    → (trace : List Event) × (s : Station (Desk Machine)) × IsTrace device m t trace s × Appends old new (text ++ trace_text trace) × stands s.machine.dos
+abbrev pub PrintsTrace : Option (List ℕ) → Option (List ℕ) → (Machine → Type 0) → (Machine → Type 0) → Party → List ℕ → Timetable → Type 0
+PrintsTrace old new stood stands drive text t = (m : Machine) → stood m
+    → (trace : List Event) × (s : Station (Desk Machine)) × IsTrace drive m t trace s × Appends old new (text ++ trace_text trace) × stands s.machine.dos
 
 -- for each machine that stood before, a beginning of what the drive does under the first changes was written
-abbrev pub PrintsTracePart : Option (List ℕ) → Option (List ℕ) → (Machine → Type 0) → ℕ → List ℕ → Timetable → Type 0
-PrintsTracePart old new stood device text t = (m : Machine) → stood m → (trace : List Event) × IsTraceBegun device m t trace × AppendsPart old new (text ++ trace_text trace)
+abbrev pub PrintsTracePart : Option (List ℕ) → Option (List ℕ) → (Machine → Type 0) → Party → List ℕ → Timetable → Type 0
+PrintsTracePart old new stood drive text t = (m : Machine) → stood m → (trace : List Event) × IsTraceBegun drive m t trace × AppendsPart old new (text ++ trace_text trace)

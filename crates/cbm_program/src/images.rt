@@ -1,5 +1,7 @@
 //! Running a script on the disk of an image.
 ghost use Rattle.std.specs.Prelude.{◌≡◌, ◌≢◌, ◌≤◌, ℕ, [], true, IfSome, IfOk, IfErr, OnErr};
+ghost use Rattle.cbm_host.specs.Hosted.{party_of};
+ghost use Rattle.cbm_iec.specs.declared.pace.Pace.TheVariants.{Profile};
 ghost use Rattle.cbm_program.specs.Checking.{printed_behind, checked_text, IsCheckedFirst};
 ghost use Rattle.cbm_program.specs.Output.{Grows, Prints, PrintsPart};
 ghost use Rattle.cbm_program.specs.Running.{script_of, EndsAs};
@@ -14,6 +16,7 @@ use crate::kind::{Kind, kind_of};
 use crate::lines::Lines;
 use crate::numbered::{Beginning, read_first};
 use cbm_d64::D64Disk;
+use cbm_drive::Pace;
 use cbm_g64::G64Disk;
 use cbm_volume::Volume;
 use std::alloc::Global;
@@ -36,11 +39,12 @@ pub struct Options {
     pub check: bool,
 }
 
-/// Runs a script on a drive at power up with this medium, and gives the medium back with what the script wrote. Its first
-/// line says whether it asks for files or changes lines.
+/// Runs a script on a drive of this pace at power up with this medium, and gives the medium back with what the script wrote.
+/// Its first line says whether it asks for files or changes lines.
 fn run_script<M: DiskImage + Drop, R: Read + Drop, W: Write>(
     medium: M,
     device: u8,
+    pace: Pace,
     reader: R,
     writer: &mut W,
 ) -> Result<M, RunFault>
@@ -48,31 +52,31 @@ fn run_script<M: DiskImage + Drop, R: Read + Drop, W: Write>(
     requires last { device ≤ 11 }
     ensures ended { EndsAs result (λ bad. IfSome (of_requests (R.remaining reader)) (λ input.
         ((script_of input).bad ≡ bad) × Prints (W.contents writer.old) (W.contents writer.new)
-        (StartsFrom (M.seen medium)) (λ _. Unit {0}) (printed (script_of input).requests))) }
+        (StartsFrom (M.seen medium)) (λ _. Unit {0}) (printed pace (script_of input).requests))) }
     ensures disk { IfOk result (λ after. IfSome (of_requests (R.remaining reader)) (λ input.
         Prints (W.contents writer.old) (W.contents writer.new) (StartsFrom (M.seen medium)) (KeptBy (M.seen after))
-        (printed (script_of input).requests))) }
+        (printed pace (script_of input).requests))) }
     ensures fault { OnErr result (IfSome (of_requests (R.remaining reader)) (λ input.
         PrintsPart (W.contents writer.old) (W.contents writer.new)
-        (StartsFrom (M.seen medium)) (printed (script_of input).requests))) }
+        (StartsFrom (M.seen medium)) (printed pace (script_of input).requests))) }
     // The same of a script of line changes, with its trace.
     ensures played { EndsAs result (λ bad. IfSome (of_changes (R.remaining reader)) (λ input.
         ((timetable_of input).bad ≡ bad) × PrintsTrace (W.contents writer.old) (W.contents writer.new)
-        (StartsFrom (M.seen medium)) (λ _. Unit {0}) device [] (timetable_of input))) }
+        (StartsFrom (M.seen medium)) (λ _. Unit {0}) (party_of pace device) [] (timetable_of input))) }
     ensures left { IfOk result (λ after. IfSome (of_changes (R.remaining reader)) (λ input.
         PrintsTrace (W.contents writer.old) (W.contents writer.new) (StartsFrom (M.seen medium)) (KeptBy (M.seen after))
-        device [] (timetable_of input))) }
+        (party_of pace device) [] (timetable_of input))) }
     ensures cut { OnErr result (IfSome (of_changes (R.remaining reader)) (λ input.
         PrintsTracePart (W.contents writer.old) (W.contents writer.new)
-        (StartsFrom (M.seen medium)) device [] (timetable_of input))) }
+        (StartsFrom (M.seen medium)) (party_of pace device) [] (timetable_of input))) }
     ensures grows { Grows (W.contents writer.old) (W.contents writer.new) }
     ensures same_tracks { IfOk result (λ after. (M.seen after).tracks ≡ (M.seen medium).tracks) }
     ensures image { IfErr result (λ fault. (n : ℕ) → fault ≢ RunFault.Image n) }
 {
     let mut lines = Lines::new(reader);
     match read_first(&mut lines)? {
-        Beginning::Requests(first) => medium.serve(device, &mut lines, first, writer),
-        Beginning::Changes => medium.play(device, &mut lines, writer),
+        Beginning::Requests(first) => medium.serve(device, pace, &mut lines, first, writer),
+        Beginning::Changes => medium.play(device, pace, &mut lines, writer),
     }
 }
 
@@ -82,6 +86,7 @@ fn run_with<M: DiskImage + Drop, R: Read + Drop, W: Write>(
     medium: M,
     checks: bool,
     device: u8,
+    pace: Pace,
     reader: R,
     writer: &mut W,
 ) -> Result<M, RunFault>
@@ -89,23 +94,23 @@ fn run_with<M: DiskImage + Drop, R: Read + Drop, W: Write>(
     requires last { device ≤ 11 }
     ensures ended { EndsAs result (λ bad. IfSome (of_requests (R.remaining reader)) (λ input.
         ((script_of input).bad ≡ bad) × Prints (W.contents writer.old) (W.contents writer.new)
-        (StartsFrom (M.seen medium)) (λ _. Unit {0}) (printed_behind checks (script_of input).requests))) }
+        (StartsFrom (M.seen medium)) (λ _. Unit {0}) (printed_behind pace checks (script_of input).requests))) }
     ensures disk { IfOk result (λ after. IfSome (of_requests (R.remaining reader)) (λ input.
         Prints (W.contents writer.old) (W.contents writer.new) (StartsFrom (M.seen medium)) (KeptBy (M.seen after))
-        (printed_behind checks (script_of input).requests))) }
+        (printed_behind pace checks (script_of input).requests))) }
     ensures fault { OnErr result (IfSome (of_requests (R.remaining reader)) (λ input.
         PrintsPart (W.contents writer.old) (W.contents writer.new)
-        (StartsFrom (M.seen medium)) (printed_behind checks (script_of input).requests))) }
+        (StartsFrom (M.seen medium)) (printed_behind pace checks (script_of input).requests))) }
     // The same of a script of line changes, with its trace.
     ensures played { EndsAs result (λ bad. IfSome (of_changes (R.remaining reader)) (λ input.
         ((timetable_of input).bad ≡ bad) × PrintsTrace (W.contents writer.old) (W.contents writer.new)
-        (StartsFrom (M.seen medium)) (λ _. Unit {0}) device (checked_text checks) (timetable_of input))) }
+        (StartsFrom (M.seen medium)) (λ _. Unit {0}) (party_of pace device) (checked_text checks) (timetable_of input))) }
     ensures left { IfOk result (λ after. IfSome (of_changes (R.remaining reader)) (λ input.
         PrintsTrace (W.contents writer.old) (W.contents writer.new) (StartsFrom (M.seen medium)) (KeptBy (M.seen after))
-        device (checked_text checks) (timetable_of input))) }
+        (party_of pace device) (checked_text checks) (timetable_of input))) }
     ensures cut { OnErr result (IfSome (of_changes (R.remaining reader)) (λ input.
         PrintsTracePart (W.contents writer.old) (W.contents writer.new)
-        (StartsFrom (M.seen medium)) device (checked_text checks) (timetable_of input))) }
+        (StartsFrom (M.seen medium)) (party_of pace device) (checked_text checks) (timetable_of input))) }
     // Of any medium the line of the check is printed first, where one is asked for.
     ensures checked { checks ≡ true → EndsAs result (λ bad.
         IsCheckedFirst (M.seen medium).tracks (M.seen medium).content (W.contents writer.old) (W.contents writer.new)) }
@@ -115,12 +120,13 @@ fn run_with<M: DiskImage + Drop, R: Read + Drop, W: Write>(
 {
     let volume = Volume::open(medium);
     print_check(&volume, checks, writer)?;
-    run_script(volume.into_medium(), device, reader, writer)
+    run_script(volume.into_medium(), device, pace, reader, writer)
 }
 
-/// Runs a script on the disk of an image of one format.
+/// Runs a script on the disk of an image of one format, with a drive of this pace.
 fn run_image<I: DiskImage + Drop, R: Read + Drop, W: Write>(
     alloc: Global,
+    pace: Pace,
     reader: R,
     writer: &mut W,
     image: &[u8],
@@ -129,16 +135,16 @@ fn run_image<I: DiskImage + Drop, R: Read + Drop, W: Write>(
     requires kind { kind_of image.now ≡ I.kind }
     requires first { 8 ≤ options.now.device }
     requires last { options.now.device ≤ 11 }
-    ensures { IsOutcome result (λ v. v.items) image.now options.now.protected options.now.check options.now.device
+    ensures { IsOutcome result (λ v. v.items) pace image.now options.now.protected options.now.check options.now.device
         (R.remaining reader) (W.contents writer.old) (W.contents writer.new) }
 {
     let disk = I::open(alloc, image, options.protected)?;
-    let disk = run_with(disk, options.check, options.device, reader, writer)?;
+    let disk = run_with(disk, options.check, options.device, pace, reader, writer)?;
     disk.save(alloc)
 }
 
 /// Runs a script on the disk of an image, and gives the image as it is then, with all that the script wrote: of the
-/// same format, and with as many tracks.
+/// same format, and with as many tracks. The drive keeps the profile's pace.
 ///
 /// The image is tested before the script is read, and if a check is asked for, its line is printed first. The script is
 /// read a line at a time, and what a line prints is written before the next one is read. Takes memory for the disk and
@@ -155,11 +161,28 @@ pub fn run<R: Read + Drop, W: Write>(
 ) -> Result<Vec<u8>, RunFault>
     requires first { 8 ≤ options.now.device }
     requires last { options.now.device ≤ 11 }
-    ensures { IsOutcome result (λ v. v.items) image.now options.now.protected options.now.check options.now.device
+    ensures { IsOutcome result (λ v. v.items) Profile image.now options.now.protected options.now.check options.now.device
+        (R.remaining reader) (W.contents writer.old) (W.contents writer.new) }
+{
+    run_at(alloc, Pace::Profile, reader, writer, image, options)
+}
+
+/// The same with a drive of this pace.
+pub fn run_at<R: Read + Drop, W: Write>(
+    alloc: Global,
+    pace: Pace,
+    reader: R,
+    writer: &mut W,
+    image: &[u8],
+    options: &Options,
+) -> Result<Vec<u8>, RunFault>
+    requires first { 8 ≤ options.now.device }
+    requires last { options.now.device ≤ 11 }
+    ensures { IsOutcome result (λ v. v.items) pace image.now options.now.protected options.now.check options.now.device
         (R.remaining reader) (W.contents writer.old) (W.contents writer.new) }
 {
     match kind_of(image) {
-        Kind::D64 => run_image::<D64Disk, R, W>(alloc, reader, writer, image, options),
-        Kind::G64 => run_image::<G64Disk, R, W>(alloc, reader, writer, image, options),
+        Kind::D64 => run_image::<D64Disk, R, W>(alloc, pace, reader, writer, image, options),
+        Kind::G64 => run_image::<G64Disk, R, W>(alloc, pace, reader, writer, image, options),
     }
 }

@@ -15,8 +15,9 @@ mod text;
 mod wires;
 mod word;
 
+pub use cbm_drive::Pace;
 pub use fault::RunFault;
-pub use images::{DiskImage, Options, run};
+pub use images::{DiskImage, Options, run, run_at};
 pub use kind::{Kind, kind_of};
 pub use line::{Line, parse};
 pub use lines::{LineFault, Lines};

@@ -1,6 +1,7 @@
 //! Carrying out the requests of a script, over the wires.
 ghost use Rattle.std.specs.Prelude.{◌≤◌, ◌<◌, ◌^◌, ◌+◌, ◌≡◌, IfErr, OnOk, OnErr};
 ghost use Rattle.cbm_host.specs.Hosted.{Rests, tracks_on};
+ghost use Rattle.cbm_host.specs.Requests.{longest};
 ghost use Rattle.cbm_program.specs.Scripts.{printed, printed_by};
 ghost use Rattle.cbm_program.specs.Output.{Grows, Prints, PrintsPart};
 ghost use Rattle.cbm_program.specs.Running.{IsInRange, LineIsInRange, requests_in, IsOfWriting};
@@ -29,10 +30,11 @@ fn perform<M: Steady, W: Write>(
     requires moment { drive.old.moment < 2 ^ 58 }
     ensures ok { OnOk result (Prints (W.contents writer.old) (W.contents writer.new)
         (Rests M.seen drive.old)
-        (Rests M.seen drive.new) (printed_by request.now)) }
+        (Rests M.seen drive.new) (printed_by drive.old.pace request.now)) }
     ensures err { OnErr result (PrintsPart (W.contents writer.old) (W.contents writer.new)
-        (Rests M.seen drive.old) (printed_by request.now)) }
-    ensures soon { drive.new.moment ≤ drive.old.moment + 250000000 }
+        (Rests M.seen drive.old) (printed_by drive.old.pace request.now)) }
+    ensures soon { drive.new.moment ≤ drive.old.moment + longest drive.old.pace }
+    ensures pace { drive.new.pace ≡ drive.old.pace }
     ensures tracks { tracks_on M.seen drive.new ≡ tracks_on M.seen drive.old }
     ensures grows { Grows (W.contents writer.old) (W.contents writer.new) }
     ensures fault { IfErr result IsOfWriting }
@@ -69,10 +71,11 @@ pub(crate) fn perform_line<M: Steady, W: Write>(
     requires moment { drive.old.moment < 2 ^ 58 }
     ensures ok { OnOk result (Prints (W.contents writer.old) (W.contents writer.new)
         (Rests M.seen drive.old)
-        (Rests M.seen drive.new) (printed (requests_in line.now))) }
+        (Rests M.seen drive.new) (printed drive.old.pace (requests_in line.now))) }
     ensures err { OnErr result (PrintsPart (W.contents writer.old) (W.contents writer.new)
-        (Rests M.seen drive.old) (printed (requests_in line.now))) }
-    ensures soon { drive.new.moment ≤ drive.old.moment + 250000000 }
+        (Rests M.seen drive.old) (printed drive.old.pace (requests_in line.now))) }
+    ensures soon { drive.new.moment ≤ drive.old.moment + longest drive.old.pace }
+    ensures pace { drive.new.pace ≡ drive.old.pace }
     ensures tracks { tracks_on M.seen drive.new ≡ tracks_on M.seen drive.old }
     ensures grows { Grows (W.contents writer.old) (W.contents writer.new) }
     ensures fault { IfErr result IsOfWriting }

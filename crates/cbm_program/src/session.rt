@@ -52,11 +52,11 @@ fn run_on<M: Steady, R: Read, W: Write>(
     ensures ended { (input : Option (List ℕ)) → LineRead input (bytes_left R.remaining lines.old) 1 (Ok first) →
         EndsAs result (λ bad. IfSome input (λ bytes. ((script_of bytes).bad ≡ bad)
         × Prints (W.contents writer.old) (W.contents writer.new) (Rests M.seen drive.old)
-        (Rests M.seen drive.new) (printed (script_of bytes).requests))) }
+        (Rests M.seen drive.new) (printed drive.old.pace (script_of bytes).requests))) }
     // At a fault a beginning of that was written.
     ensures fault { (input : Option (List ℕ)) → LineRead input (bytes_left R.remaining lines.old) 1 (Ok first) →
         OnErr result (IfSome input (λ bytes. PrintsPart (W.contents writer.old) (W.contents writer.new)
-        (Rests M.seen drive.old) (printed (script_of bytes).requests))) }
+        (Rests M.seen drive.old) (printed drive.old.pace (script_of bytes).requests))) }
     ensures tracks { tracks_on M.seen drive.new ≡ tracks_on M.seen drive.old }
     ensures grows { Grows (W.contents writer.old) (W.contents writer.new) }
     ensures image { IfErr result (λ fault. (n : ℕ) → fault ≢ RunFault.Image n) }
@@ -88,20 +88,20 @@ pub(crate) fn run_requests<M: Steady + Drop, R: Read, W: Write>(
         EndsAs result (λ bad. IfSome input (λ bytes. ((script_of bytes).bad ≡ bad)
         × Prints (W.contents writer.old) (W.contents writer.new)
         (StartsOn tracks content protected)
-        (λ _. Unit {0}) (printed (script_of bytes).requests))) }
+        (λ _. Unit {0}) (printed drive.pace (script_of bytes).requests))) }
     ensures disk { (tracks : ℕ) (content : Content) (protected : Bool) (input : Option (List ℕ)) →
         ((d : Disk) → HoldsDisk tracks content d → Rests M.seen drive (start d protected tracks)) →
         LineRead input (bytes_left R.remaining lines.old) 1 (Ok first) →
         IfOk result (λ after. IfSome input (λ bytes. Prints (W.contents writer.old) (W.contents writer.new)
         (StartsOn tracks content protected)
         (λ m. HoldsDisk (M.seen after).tracks (M.seen after).content m.disk)
-        (printed (script_of bytes).requests))) }
+        (printed drive.pace (script_of bytes).requests))) }
     ensures fault { (tracks : ℕ) (content : Content) (protected : Bool) (input : Option (List ℕ)) →
         ((d : Disk) → HoldsDisk tracks content d → Rests M.seen drive (start d protected tracks)) →
         LineRead input (bytes_left R.remaining lines.old) 1 (Ok first) →
         OnErr result (IfSome input (λ bytes. PrintsPart (W.contents writer.old) (W.contents writer.new)
         (StartsOn tracks content protected)
-        (printed (script_of bytes).requests))) }
+        (printed drive.pace (script_of bytes).requests))) }
     ensures grows { Grows (W.contents writer.old) (W.contents writer.new) }
     ensures same_tracks { IfOk result (λ after. (M.seen after).tracks ∷ [] ≡ tracks_on M.seen drive) }
     ensures image { IfErr result (λ fault. (n : ℕ) → fault ≢ RunFault.Image n) }

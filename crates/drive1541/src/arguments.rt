@@ -1,5 +1,6 @@
 //! The words of the command line.
 use crate::failure::Stream;
+use cbm_program::Pace;
 use clap::{Arg, ArgAction, Command, Error, value_parser};
 use std::alloc::Global;
 
@@ -17,6 +18,8 @@ pub struct Arguments<'a> {
     pub out: &'a str,
     /// The drive's number, 8 to 11.
     pub device: u8,
+    /// The pace that it keeps on the bus.
+    pub pace: Pace,
     /// The disk is protected.
     pub is_read_only: bool,
     /// The disk is checked first.
@@ -51,6 +54,14 @@ fn switch<'a>(alloc: Global, name: &'a str, help: &'a str) -> Arg<'a> {
         .help(help)
 }
 
+/// The pace of a word.
+fn pace_called(word: Option<&str>) -> Pace {
+    match word {
+        Some("kernal") => Pace::Kernal,
+        _ => Pace::Profile,
+    }
+}
+
 /// What may stand on the command line.
 fn command<'a>(alloc: Global) -> Result<Command<'a>, Error> {
     let device = Arg::new(alloc, "device")
@@ -59,6 +70,12 @@ fn command<'a>(alloc: Global) -> Result<Command<'a>, Error> {
         .value_parser(value_parser!(u8).range(8..12))
         .default_value("8")
         .help("the drive's number, 8 to 11");
+    let pace = Arg::new(alloc, "pace")
+        .long("pace")
+        .value_name("PACE")
+        .value_parser(["profile", "kernal"].as_slice())
+        .default_value("profile")
+        .help("the drive's times on the bus");
     let command = Command::new(alloc, "drive1541")
         .about("Runs a script of requests on a disk image")
         .version(VERSION)
@@ -66,6 +83,7 @@ fn command<'a>(alloc: Global) -> Result<Command<'a>, Error> {
         .arg(file(alloc, "SCRIPT", "the requests, a line each"))?
         .arg(file(alloc, "OUT", "where the image goes"))?
         .arg(device)?
+        .arg(pace)?
         .arg(switch(alloc, "read-only", "protect the disk"))?
         .arg(switch(alloc, "check", "print first whether the disk is sound"))?;
     Ok(command)
@@ -79,6 +97,7 @@ pub fn parse<'a>(alloc: Global, words: &'a [String]) -> Result<Arguments<'a>, Er
         script: matches.get_str("SCRIPT").unwrap_or(""),
         out: matches.get_str("OUT").unwrap_or(""),
         device: matches.get_one::<u8>("device").unwrap_or(8),
+        pace: pace_called(matches.get_str("pace")),
         is_read_only: matches.get_flag("read-only"),
         is_checked: matches.get_flag("check"),
     })

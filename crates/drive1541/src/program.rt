@@ -1,7 +1,7 @@
 //! The program: what it reads, what it runs, and what it saves.
 use crate::arguments::{self, Arguments};
 use crate::failure::{Failure, Stream, exit_status};
-use cbm_program::{Options, run};
+use cbm_program::{Options, run_at};
 use clap::error::ErrorKind;
 use host_files::save;
 use std::io::{BufWriter, Write};
@@ -79,7 +79,14 @@ fn run_script<R: Runtime + AllocGlobal, S: io::Read + Drop>(
         check: arguments.is_checked,
     };
     let mut output = BufWriter::new(rt.alloc(), io::writer(rt)).map_err(|_| Failure::NoMemory)?;
-    let ended = run(rt.alloc(), script, &mut output, image, &options);
+    let ended = run_at(
+        rt.alloc(),
+        arguments.pace,
+        script,
+        &mut output,
+        image,
+        &options,
+    );
     output.flush().map_err(|_| Failure::File(Stream::Output))?;
     ended.map_err(Failure::of_run)
 }

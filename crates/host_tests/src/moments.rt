@@ -3,7 +3,7 @@
 use crate::wired::Wired;
 use cbm_drive::Line::*;
 use cbm_drive::Way::*;
-use cbm_drive::{Event, Line, Way, Who};
+use cbm_drive::{Event, Line, Pace, Way, Who};
 use cbm_host::Request;
 use std::process::Abort;
 use std::test::Fail;
@@ -191,6 +191,118 @@ fn eoi_has_its_moments(rt: HostRuntime) -> Result<(), Fail> {
             (DRIVE, 2360, Data, Pull),
             (DRIVE, 2420, Data, Free),
             (HOST, 2440, Clock, Pull),
+        ],
+    );
+    Ok(())
+}
+
+// The first byte of the status again, by a drive at a KERNAL's pace: its bits last 160.
+const SLOW_TALK: [(Who, u64, Line, Way); 27] = [
+    (HOST, 2020, Data, Pull),
+    (HOST, 2020, Atn, Free),
+    (HOST, 2040, Clock, Free),
+    (DRIVE, 2060, Clock, Pull),
+    (DRIVE, 2060, Data, Free),
+    (DRIVE, 2140, Clock, Free),
+    (HOST, 2160, Data, Free),
+    (DRIVE, 2180, Clock, Pull),
+    (DRIVE, 2260, Clock, Free),
+    (DRIVE, 2340, Clock, Pull),
+    (DRIVE, 2420, Clock, Free),
+    (DRIVE, 2500, Clock, Pull),
+    (DRIVE, 2580, Clock, Free),
+    (DRIVE, 2660, Clock, Pull),
+    (DRIVE, 2660, Data, Pull),
+    (DRIVE, 2740, Clock, Free),
+    (DRIVE, 2820, Clock, Pull),
+    (DRIVE, 2820, Data, Free),
+    (DRIVE, 2900, Clock, Free),
+    (DRIVE, 2980, Clock, Pull),
+    (DRIVE, 3060, Clock, Free),
+    (DRIVE, 3140, Clock, Pull),
+    (DRIVE, 3140, Data, Pull),
+    (DRIVE, 3220, Clock, Free),
+    (DRIVE, 3300, Clock, Pull),
+    (DRIVE, 3380, Clock, Free),
+    (DRIVE, 3460, Clock, Pull),
+];
+
+#[test]
+fn talk_has_its_moments_at_a_kernals_pace(rt: HostRuntime) -> Result<(), Fail> {
+    let mut wired = Wired::at(&rt, rt.alloc(), Pace::Kernal, 20)?;
+    wired.asks(&rt, rt.alloc(), Request::Status)?;
+    let events = wired.events.as_slice();
+    happen(&rt, events, place_of(events, 2020), &SLOW_TALK);
+    happen(
+        &rt,
+        events,
+        place_of(events, 3480),
+        &[
+            (HOST, 3480, Data, Pull),
+            (DRIVE, 3580, Clock, Free),
+            (HOST, 3600, Data, Free),
+        ],
+    );
+    Ok(())
+}
+
+// A closed channel has nothing to say: the drive pulls CLOCK, and lets go of both lines 80 later; the host sees that, and
+// doesn't wait for its millisecond.
+#[test]
+fn nothing_to_say_has_its_moments_at_a_kernals_pace(rt: HostRuntime) -> Result<(), Fail> {
+    let mut wired = Wired::at(&rt, rt.alloc(), Pace::Kernal, 20)?;
+    let done = wired.asks(&rt, rt.alloc(), Request::Get(0, 1))?;
+    let events = wired.events.as_slice();
+    happen(
+        &rt,
+        events,
+        place_of(events, 2020),
+        &[
+            (HOST, 2020, Data, Pull),
+            (HOST, 2020, Atn, Free),
+            (HOST, 2040, Clock, Free),
+            (DRIVE, 2060, Clock, Pull),
+            (DRIVE, 2140, Clock, Free),
+            (DRIVE, 2140, Data, Free),
+            (HOST, 2160, Data, Free),
+            (HOST, 2180, Atn, Pull),
+            (HOST, 2180, Clock, Pull),
+            (DRIVE, 2200, Data, Pull),
+            (HOST, 2280, Clock, Free),
+        ],
+    );
+    happen(
+        &rt,
+        events,
+        place_of(events, 2720),
+        &[
+            (HOST, 2720, Atn, Free),
+            (HOST, 2720, Clock, Free),
+            (DRIVE, 2740, Data, Free),
+        ],
+    );
+    assert!(&rt; done.bytes.is_empty());
+    assert!(&rt; done.end == 2820);
+    Ok(())
+}
+
+// A byte with EOI to a listener at that pace: its pulse lasts 80.
+#[test]
+fn eoi_has_its_moments_at_a_kernals_pace(rt: HostRuntime) -> Result<(), Fail> {
+    let mut wired = Wired::at(&rt, rt.alloc(), Pace::Kernal, 20)?;
+    wired.asks(&rt, rt.alloc(), Request::Put(15, b"I"))?;
+    let events = wired.events.as_slice();
+    happen(
+        &rt,
+        events,
+        place_of(events, 2020),
+        &[
+            (HOST, 2020, Atn, Free),
+            (HOST, 2120, Clock, Free),
+            (DRIVE, 2140, Data, Free),
+            (DRIVE, 2360, Data, Pull),
+            (DRIVE, 2440, Data, Free),
+            (HOST, 2460, Clock, Pull),
         ],
     );
     Ok(())

@@ -4,6 +4,7 @@ ghost use Rattle.std.specs.Prelude.{◌≤◌};
 ghost use Rattle.cbm_host.specs.Engines.{channel_of};
 
 use crate::wired::{Wired, empty_disk};
+use cbm_drive::Pace;
 use cbm_host::{Hosted, Request};
 use std::alloc::Global;
 use std::process::Abort;
@@ -35,8 +36,18 @@ fn answers(
 // A drive that reacts soon frees CLOCK after its last byte before ATN is pulled; a slower one is cut there.
 #[test]
 fn a_program_is_written_and_read(rt: HostRuntime) -> Result<(), Fail> {
-    for reaction in [1, 19, 20, 21, 60] {
-        let mut wired = Wired::new(&rt, rt.alloc(), reaction)?;
+    for (pace, reaction) in [
+        (Pace::Profile, 1),
+        (Pace::Profile, 19),
+        (Pace::Profile, 20),
+        (Pace::Profile, 21),
+        (Pace::Profile, 60),
+        (Pace::Kernal, 1),
+        (Pace::Kernal, 19),
+        (Pace::Kernal, 20),
+        (Pace::Kernal, 60),
+    ] {
+        let mut wired = Wired::at(&rt, rt.alloc(), pace, reaction)?;
         answers(
             &rt,
             rt.alloc(),
@@ -126,5 +137,27 @@ fn bytes_are_taken_one_by_one(rt: HostRuntime) -> Result<(), Fail> {
     assert!(rt; taken.as_slice() == bytes.as_slice() && marked);
     assert!(rt; taken.as_slice() == done.bytes.as_slice());
     assert!(rt; performer.over() == done.end);
+    Ok(())
+}
+
+// A missing file is asked for all the same, as a KERNAL does: at its pace the status stays that of the OPEN.
+#[test]
+fn the_status_of_a_missing_file_stays(rt: HostRuntime) -> Result<(), Fail> {
+    for (pace, status) in [
+        (Pace::Kernal, b"62,FILE NOT FOUND,00,00\r".as_slice()),
+        (Pace::Profile, b"61,FILE NOT OPEN,00,00\r".as_slice()),
+    ] {
+        let mut wired = Wired::at(&rt, rt.alloc(), pace, 20)?;
+        answers(
+            &rt,
+            rt.alloc(),
+            &mut wired,
+            Request::Open(0, b"NONE"),
+            &[],
+            false,
+        )?;
+        answers(&rt, rt.alloc(), &mut wired, Request::Get(0, 9), &[], false)?;
+        answers(&rt, rt.alloc(), &mut wired, Request::Status, status, true)?;
+    }
     Ok(())
 }

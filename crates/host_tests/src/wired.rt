@@ -3,7 +3,7 @@
 use cbm_channel::Dos;
 use cbm_d64::D64Disk;
 use cbm_drive::{Bus, Desk, Drive, Event, Pace, Party};
-use cbm_host::{Done, Request, perform};
+use cbm_host::{Done, Request, perform, perform_at};
 use std::alloc::Global;
 use std::process::Abort;
 use std::test::Fail;
@@ -19,6 +19,7 @@ pub fn empty_disk(alloc: Global) -> Result<D64Disk, Fail> {
 #[derive(Drop)]
 pub struct Wired {
     bus: Bus<Desk<D64Disk>, 1>,
+    pace: Pace,
     now: u64,
     /// What happened on the wires.
     pub events: Vec<Event>,
@@ -28,20 +29,27 @@ impl Wired {
     ghost use Rattle.std.specs.Prelude.{◌≤◌};
     ghost use Rattle.cbm_host.specs.Engines.{channel_of};
 
-    /// Switched on, with this reaction; its first request comes at 1000.
+    /// Switched on, with this reaction, at the profile's pace; its first request comes at 1000.
     pub fn new(rt: &impl Abort, alloc: Global, reaction: u8) -> Result<Wired, Fail> {
+        Wired::at(rt, alloc, Pace::Profile, reaction)
+    }
+
+    /// The same at this pace.
+    pub fn at(rt: &impl Abort, alloc: Global, pace: Pace, reaction: u8) -> Result<Wired, Fail> {
         assert!(rt; reaction > 0);
         let dos = Dos::new(empty_disk(alloc)?);
         let device = 8;
         let party = Party {
             device,
             reaction,
-            pace: Pace::Profile,
+            pace,
         };
-        let bus = Bus::new([Drive::new(Desk::new(dos, device), party)]);
+        let desk = Desk::new(dos, device).with_pace(pace);
+        let bus = Bus::new([Drive::new(desk, party)]);
         let events = Vec::new(alloc);
         Ok(Wired {
             bus,
+            pace,
             now: 1000,
             events,
         })
@@ -52,7 +60,11 @@ impl Wired {
         requires { channel_of request ≤ 15 }
     {
         assert!(rt; self.now < 1_000_000_000_000);
-        let done = perform(alloc, &mut self.bus, self.now, 8, request, &mut self.events)?;
+        let (bus, events) = (&mut self.bus, &mut self.events);
+        let done = match self.pace {
+            Pace::Profile => perform(alloc, bus, self.now, 8, request, events)?,
+            Pace::Kernal => perform_at(alloc, Pace::Kernal, bus, self.now, 8, request, events)?,
+        };
         self.now = done.end;
         Ok(done)
     }

@@ -4,6 +4,7 @@ ghost use Rattle.std.specs.Io.KnownBytes.{Appends};
 ghost use Rattle.cbm_drive.specs.Machines.{Machine};
 ghost use Rattle.cbm_host.specs.Engines.{channel_of};
 ghost use Rattle.cbm_host.specs.Hosted.{Rests, IsGoingOn, tracks_on};
+ghost use Rattle.cbm_host.specs.Requests.{longest};
 ghost use Rattle.cbm_host.specs.Served.{served, IsModest};
 ghost use Rattle.cbm_host.specs.declared.request.Request as asks;
 ghost use Rattle.cbm_program.specs.declared.request.Request.TheVariants.{Get};
@@ -53,12 +54,13 @@ fn print_bytes<M: Steady, W: Write>(
 ) -> Result<(), RunFault>
     ensures ok { (m : Machine) (request : asks.Request) (bytes : List ℕ) (last : Bool) → channel_of request ≤ 15 →
         IsModest request → IsGoingOn M.seen drive.old performer.old m request bytes last → OnOk result
-        (Rests M.seen drive.new (served request m).machine
-        × PrintsRest (W.contents writer.old) (W.contents writer.new) bytes last (served request m)) }
+        (Rests M.seen drive.new (served drive.old.pace request m).machine
+        × PrintsRest (W.contents writer.old) (W.contents writer.new) bytes last (served drive.old.pace request m)) }
     ensures err { (m : Machine) (request : asks.Request) (bytes : List ℕ) (last : Bool) → channel_of request ≤ 15 →
         IsModest request → IsGoingOn M.seen drive.old performer.old m request bytes last → OnErr result
-        (PrintsRestPart (W.contents writer.old) (W.contents writer.new) bytes last (served request m)) }
+        (PrintsRestPart (W.contents writer.old) (W.contents writer.new) bytes last (served drive.old.pace request m)) }
     ensures soon { drive.old.moment ≤ performer.old.limit → drive.new.moment ≤ performer.old.limit }
+    ensures pace { drive.new.pace ≡ drive.old.pace }
     ensures tracks { tracks_on M.seen drive.new ≡ tracks_on M.seen drive.old }
     ensures grows { Grows (W.contents writer.old) (W.contents writer.new) }
     ensures fault { IfErr result IsOfWriting }
@@ -99,10 +101,11 @@ pub(crate) fn print_get<M: Steady, W: Write>(
     requires few { most ≤ 200000 }
     requires moment { drive.old.moment < 2 ^ 58 }
     ensures ok { OnOk result (Prints (W.contents writer.old) (W.contents writer.new)
-        (Rests M.seen drive.old) (Rests M.seen drive.new) (printed_by (Get channel most))) }
+        (Rests M.seen drive.old) (Rests M.seen drive.new) (printed_by drive.old.pace (Get channel most))) }
     ensures err { OnErr result (PrintsPart (W.contents writer.old) (W.contents writer.new)
-        (Rests M.seen drive.old) (printed_by (Get channel most))) }
-    ensures soon { drive.new.moment ≤ drive.old.moment + 250000000 }
+        (Rests M.seen drive.old) (printed_by drive.old.pace (Get channel most))) }
+    ensures soon { drive.new.moment ≤ drive.old.moment + longest drive.old.pace }
+    ensures pace { drive.new.pace ≡ drive.old.pace }
     ensures tracks { tracks_on M.seen drive.new ≡ tracks_on M.seen drive.old }
     ensures grows { Grows (W.contents writer.old) (W.contents writer.new) }
     ensures fault { IfErr result IsOfWriting }

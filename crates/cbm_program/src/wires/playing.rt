@@ -1,5 +1,6 @@
 //! A script of line changes, from its second line to its end or its first bad line.
 ghost use Rattle.std.specs.Prelude.{Bool, ◌≡◌, ◌≢◌, ◌≤◌, ◌<◌, ◌∷◌, [], ℕ, List, Option, codes, length, IfSome, IfOk, IfErr, OnErr};
+ghost use Rattle.cbm_host.specs.Hosted.{party_of};
 ghost use Rattle.cbm_medium.specs.Content.{Content};
 ghost use Rattle.cbm_volume.specs.Holding.{HoldsDisk};
 ghost use Rattle.cbm_program.specs.Images.{StartsOn};
@@ -18,6 +19,7 @@ use crate::lines::Lines;
 use crate::numbered::next_line;
 use crate::output::flush;
 use arrayvec::ArrayVec;
+use cbm_drive::Pace;
 use cbm_medium::Steady;
 use std::io::{Read, Write};
 
@@ -60,6 +62,7 @@ fn read_behind<R: Read>(
 fn play_on<M: Steady, R: Read, W: Write>(
     stage: &mut Stage<M>,
     device: u8,
+    pace: Pace,
     lines: &mut Lines<R>,
     writer: &mut W,
 ) -> Result<(), RunFault>
@@ -71,12 +74,12 @@ fn play_on<M: Steady, R: Read, W: Write>(
     ensures ended { (input : Option (List ℕ)) → TakesLine input (bytes_left R.remaining lines.old) (codes "lines") →
         EndsAs result (λ bad. IfSome input (λ bytes. ((timetable_of bytes).bad ≡ bad)
         × PrintsTrace (W.contents writer.old) (W.contents writer.new)
-        (λ m. IsAt M.seen stage.old.player stage.old.bus (powered device m) []) (IsBorne M.seen stage.new.bus)
-        device [] (timetable_of bytes))) }
+        (λ m. IsAt M.seen stage.old.player stage.old.bus (powered (party_of pace device) m) []) (IsBorne M.seen stage.new.bus)
+        (party_of pace device) [] (timetable_of bytes))) }
     // At a fault a beginning of that was written.
     ensures fault { (input : Option (List ℕ)) → TakesLine input (bytes_left R.remaining lines.old) (codes "lines") →
         OnErr result (IfSome input (λ bytes. PrintsTracePart (W.contents writer.old) (W.contents writer.new)
-        (λ m. IsAt M.seen stage.old.player stage.old.bus (powered device m) []) device [] (timetable_of bytes))) }
+        (λ m. IsAt M.seen stage.old.player stage.old.bus (powered (party_of pace device) m) []) (party_of pace device) [] (timetable_of bytes))) }
     ensures tracks { tracks_in M.seen stage.new.bus ≡ tracks_in M.seen stage.old.bus }
     ensures grows { Grows (W.contents writer.old) (W.contents writer.new) }
     ensures image { IfErr result (λ fault. (n : ℕ) → fault ≢ RunFault.Image n) }
@@ -102,11 +105,12 @@ fn play_on<M: Steady, R: Read, W: Write>(
     }
 }
 
-/// Plays a script of line changes, behind its first line, on a drive that stands at power up, with a device number from 8 to 11,
-/// and gives its medium back with what came of it.
+/// Plays a script of line changes, behind its first line, on a drive of this pace that stands at power up, with a device number
+/// from 8 to 11, and gives its medium back with what came of it.
 pub(crate) fn run_changes<M: Steady + Drop, R: Read, W: Write>(
     stage: Stage<M>,
     device: u8,
+    pace: Pace,
     lines: &mut Lines<R>,
     writer: &mut W,
 ) -> Result<M, RunFault>
@@ -115,26 +119,26 @@ pub(crate) fn run_changes<M: Steady + Drop, R: Read, W: Write>(
     requires low { 8 ≤ device }
     requires high { device ≤ 11 }
     ensures ended { (tracks : ℕ) (content : Content) (protected : Bool) (input : Option (List ℕ)) →
-        StandsOn M.seen tracks content protected device stage.player stage.bus → TakesLine input (bytes_left R.remaining lines.old) (codes "lines") →
+        StandsOn M.seen tracks content protected (party_of pace device) stage.player stage.bus → TakesLine input (bytes_left R.remaining lines.old) (codes "lines") →
         EndsAs result (λ bad. IfSome input (λ bytes. ((timetable_of bytes).bad ≡ bad)
         × PrintsTrace (W.contents writer.old) (W.contents writer.new)
         (StartsOn tracks content protected)
-        (λ _. Unit {0}) device [] (timetable_of bytes))) }
+        (λ _. Unit {0}) (party_of pace device) [] (timetable_of bytes))) }
     ensures disk { (tracks : ℕ) (content : Content) (protected : Bool) (input : Option (List ℕ)) →
-        StandsOn M.seen tracks content protected device stage.player stage.bus → TakesLine input (bytes_left R.remaining lines.old) (codes "lines") →
+        StandsOn M.seen tracks content protected (party_of pace device) stage.player stage.bus → TakesLine input (bytes_left R.remaining lines.old) (codes "lines") →
         IfOk result (λ after. IfSome input (λ bytes. PrintsTrace (W.contents writer.old) (W.contents writer.new)
         (StartsOn tracks content protected)
-        (λ m. HoldsDisk (M.seen after).tracks (M.seen after).content m.disk) device [] (timetable_of bytes))) }
+        (λ m. HoldsDisk (M.seen after).tracks (M.seen after).content m.disk) (party_of pace device) [] (timetable_of bytes))) }
     ensures fault { (tracks : ℕ) (content : Content) (protected : Bool) (input : Option (List ℕ)) →
-        StandsOn M.seen tracks content protected device stage.player stage.bus → TakesLine input (bytes_left R.remaining lines.old) (codes "lines") →
+        StandsOn M.seen tracks content protected (party_of pace device) stage.player stage.bus → TakesLine input (bytes_left R.remaining lines.old) (codes "lines") →
         OnErr result (IfSome input (λ bytes. PrintsTracePart (W.contents writer.old) (W.contents writer.new)
         (StartsOn tracks content protected)
-        device [] (timetable_of bytes))) }
+        (party_of pace device) [] (timetable_of bytes))) }
     ensures grows { Grows (W.contents writer.old) (W.contents writer.new) }
     ensures same_tracks { IfOk result (λ after. (M.seen after).tracks ∷ [] ≡ tracks_in M.seen stage.bus) }
     ensures image { IfErr result (λ fault. (n : ℕ) → fault ≢ RunFault.Image n) }
 {
     let mut stage = stage;
-    play_on(&mut stage, device, lines, writer)?;
+    play_on(&mut stage, device, pace, lines, writer)?;
     Ok(stage.into_medium())
 }

@@ -4,6 +4,7 @@ ghost use Rattle.cbm_drive.specs.Machines.{Machine};
 ghost use Rattle.cbm_drive.specs.Standing.{Kept};
 ghost use Rattle.cbm_drive.specs.Desks as desks;
 ghost use Rattle.cbm_drive.specs.Seats.{Seated};
+ghost use Rattle.cbm_host.specs.Hosted.{party_of};
 ghost use Rattle.cbm_volume.specs.Holding.{HoldsDisk};
 ghost use Rattle.cbm_program.specs.Output.{Grows};
 ghost use Rattle.cbm_program.specs.Running.{IsOfWriting};
@@ -26,19 +27,19 @@ pub(crate) struct Stage<M: Steady> {
 }
 
 impl<M: Steady> Stage<M> {
-    /// A drive with this medium at power up, with a device number below 31.
-    pub(crate) fn new(medium: M, device: u8) -> Stage<M>
+    /// A drive with this medium at power up, of this pace and with a device number below 31.
+    pub(crate) fn new(medium: M, device: u8, pace: Pace) -> Stage<M>
         requires { device < 31 }
         ensures open { IsOpen result.player 0 }
-        ensures at { StandsOn M.seen (M.seen medium).tracks (M.seen medium).content (M.seen medium).protected device
-            result.player result.bus }
+        ensures at { StandsOn M.seen (M.seen medium).tracks (M.seen medium).content (M.seen medium).protected
+            (party_of pace device) result.player result.bus }
         ensures tracks { tracks_in M.seen result.bus ≡ (M.seen medium).tracks ∷ [] }
     {
-        let desk = Desk::at_power_up(medium, device);
+        let desk = Desk::at_power_up(medium, device).with_pace(pace);
         let party = Party {
             device,
             reaction: REACTION,
-            pace: Pace::Profile,
+            pace,
         };
         Stage {
             bus: Bus::new([Drive::new(desk, party)]),

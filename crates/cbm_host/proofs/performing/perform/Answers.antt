@@ -1,77 +1,10 @@
-use Rattle.std.proofs.Common.{◌+◌, ℕ, Some, [], ◌∷◌, false, refl, sym, ap, ◌∙◌, subst, arith, ◌++◌}
+use Rattle.std.proofs.Common.{refl}
 use Rattle.cbm_iec.specs.declared.pace.Pace.TheVariants.{Profile}
-use Rattle.cbm_session.specs.Playing.{at_rest, IsMachine}
 use Rattle.cbm_session.specs.Seats.{at_pace}
-use Rattle.cbm_host.proofs.CarriedOut.{some_end, carried_soon, carried_out_then}
-use Rattle.cbm_host.proofs.Performed.{performing_none}
 use Rattle.cbm_host.proofs.performing.perform.Goals as goal
-use Rattle.cbm_host.specs.CarriedOut.{IsShort}
-use Rattle.cbm_host.specs.Engines.{engine_at}
-use Rattle.cbm_host.specs.Performed.{HasPerformed}
-use Rattle.cbm_drive.specs.Playback.{Playback, played_says, played_step, IsPlayedBack}
-use Rattle.cbm_drive.specs.PlayedBack.{played_byte}
-use Rattle.cbm_host.proofs.AnyDisk.{rest_played}
-use Rattle.cbm_host.proofs.Anyway.{carried_anyway}
 
-pub returns-in-Ok-clause-carried_out : goal.returns-in-Ok-clause-carried_out
-returns-in-Ok-clause-carried_out g c = λ v ms drive device short bus.
-    let b = at_pace Profile v in
-    let engine = engine_at c.args.start c.args.device c.args.request in
-    let limit = c.args.start + 250000000 in
-    let ss = at_rest g.D.Machine.State g.D.Machine.step g.D.Machine.says ms (b ∷ []) in
-    let h = c.in-Ok.ensures.performed engine limit c.args.events.now.items ss
-    (performing_none _ g.D.Machine.State g.D.Machine.stands g.D.Machine.step g.D.Machine.says g.met.D.Machine.byte engine limit c.new-performer.result c.args.bus.now c.args.events.now.items c.new.result.items false ss bus c.new-performer.ensures.player c.new-performer.ensures.engine
-    c.new-performer.ensures.limit c.new.ensures.items refl) in
-    let h2 = subst (λ (n : ℕ). HasPerformed _ g.D.Machine.State g.D.Machine.stands g.D.Machine.step g.D.Machine.says (engine_at c.args.start n c.args.request) limit c.run.new.performer c.run.new.bus c.args.events.now.items c.run.new.events.items c.run.new.done.bytes.items c.run.new.done.last ss) (sym device) h in
-    let short2 = subst (λ (n : ℕ). IsShort g.D.Machine.State g.D.Machine.step g.D.Machine.says n (ms n) c.args.request) (sym device) short in
-    let machine : IsMachine g.D.Machine.State g.D.Machine.step g.D.Machine.says = record { more = g.met.D.Machine.more } in
-    let end = some_end _ g.D.Machine.State g.D.Machine.stands g.D.Machine.step g.D.Machine.says machine b drive ms c.args.start c.args.request c.requires.channel short2 c.run.new.performer c.run.new.bus c.args.events.now.items c.run.new.events.items c.run.new.done.bytes.items c.run.new.done.last h2 in
-    let soon = carried_soon _ g.D.Machine.State g.D.Machine.stands g.D.Machine.step g.D.Machine.says machine b drive ms c.args.start c.args.request c.requires.channel short2 c.run.new.performer c.run.new.bus c.args.events.now.items c.run.new.events.items c.run.new.done.bytes.items c.run.new.done.last h2 end.0 end.1 in
-    let until = h.until in
-    let over = c.over.ensures.end end.0 end.1 (omega (arith, soon, until)) in
-    carried_out_then _ g.D.Machine.State g.D.Machine.stands g.D.Machine.step g.D.Machine.says machine b drive ms c.args.start c.args.request c.requires.channel short2 c.run.new.performer c.run.new.bus c.args.events.now.items c.run.new.events.items c.run.new.done.bytes.items c.run.new.done.last h2
-    c.over.result (end.1 ∙ ap (λ (t : ℕ). Some t) (sym over))
+pub returns-clause-carried_out : goal.returns-clause-carried_out
+returns-clause-carried_out g c = λ v ms drive device short bus. c.perform_at.ensures.carried_out (at_pace Profile v) ms drive device refl short bus
 
-pub returns-in-Err-clause-memory : goal.returns-in-Err-clause-memory
-returns-in-Err-clause-memory g c = λ ss bus.
-    let engine = engine_at c.args.start c.args.device c.args.request in (
-      refl,
-      c.in-Err.ensures.memory engine (c.args.start + 250000000) c.args.events.now.items ss
-          (performing_none _ g.D.Machine.State g.D.Machine.stands g.D.Machine.step g.D.Machine.says g.met.D.Machine.byte engine (c.args.start + 250000000) c.new-performer.result c.args.bus.now c.args.events.now.items c.new.result.items false ss bus c.new-performer.ensures.player
-          c.new-performer.ensures.engine c.new-performer.ensures.limit c.new.ensures.items refl),
-    )
-
--- ---- on any disk
-
-pub returns-in-Ok-clause-recorded : goal.returns-in-Ok-clause-recorded
-returns-in-Ok-clause-recorded g c = λ v drive device rest.
-    let b = at_pace Profile v in
-    let shows = g.D.Machine.shows in
-    let engine = engine_at c.args.start c.args.device c.args.request in
-    let limit = c.args.start + 250000000 in
-    let run = c.in-Ok.ensures.recorded in
-    let first = rest_played shows b c.args.bus.now (run.0 ++ []) rest in
-    let ss = at_rest Playback played_step played_says (λ d. first.0) (b ∷ []) in
-    let h = run.1 [] engine limit c.args.events.now.items ss
-    (performing_none _ Playback (IsPlayedBack shows (run.0 ++ [])) played_step played_says (played_byte shows (run.0 ++ [])) engine limit c.new-performer.result c.args.bus.now c.args.events.now.items c.new.result.items false ss first.1 c.new-performer.ensures.player c.new-performer.ensures.engine
-    c.new-performer.ensures.limit c.new.ensures.items refl) in
-    let h2 = subst (λ (n : ℕ). HasPerformed _ Playback (IsPlayedBack shows []) played_step played_says (engine_at c.args.start n c.args.request) limit c.run.new.performer c.run.new.bus c.args.events.now.items c.run.new.events.items c.run.new.done.bytes.items c.run.new.done.last ss) (sym device) h in
-    carried_anyway shows b drive c.args.start c.args.request c.requires.channel c.args.bus.now c.run.new.bus (run.0 ++ []) first.0 first.1 c.run.new.performer c.args.events.now.items c.run.new.events.items c.run.new.done.bytes.items c.run.new.done.last c.over.result h2 c.over.ensures.end
-
-pub returns-in-Err-clause-recorded : goal.returns-in-Err-clause-recorded
-returns-in-Err-clause-recorded g c = λ v drive device rest.
-    let b = at_pace Profile v in
-    let shows = g.D.Machine.shows in
-    let engine = engine_at c.args.start c.args.device c.args.request in
-    let limit = c.args.start + 250000000 in
-    let run = c.in-Err.ensures.recorded in
-    let first = rest_played shows b c.args.bus.now (run.0 ++ []) rest in
-    let ss = at_rest Playback played_step played_says (λ d. first.0) (b ∷ []) in
-    record {
-      played = first.0;
-      trail = run.0 ++ [];
-      began = first.1;
-      cut = run.1 [] engine limit c.args.events.now.items ss
-          (performing_none _ Playback (IsPlayedBack shows (run.0 ++ [])) played_step played_says (played_byte shows (run.0 ++ [])) engine limit c.new-performer.result c.args.bus.now c.args.events.now.items c.new.result.items false ss first.1 c.new-performer.ensures.player
-          c.new-performer.ensures.engine c.new-performer.ensures.limit c.new.ensures.items refl);
-    }
+pub returns-clause-recorded : goal.returns-clause-recorded
+returns-clause-recorded g c = λ v drive device rest. c.perform_at.ensures.recorded (at_pace Profile v) drive device refl rest

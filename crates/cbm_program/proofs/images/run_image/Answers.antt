@@ -1,5 +1,6 @@
 use Rattle.std.proofs.Common.{◌∙◌, ap, Err, rules}
 use Rattle.std.proofs.lemmas.Result.{IfOk-weaker, err_from_is_err_and}
+use Rattle.cbm_host.specs.Hosted.{party_of}
 use Rattle.cbm_volume.specs.Holding.{HoldsDisk}
 use Rattle.cbm_program.specs.Images.{kind_of, tracks_of, content_of, StartsOn, ImageHolds}
 use Rattle.cbm_program.specs.Checking.{checked_text}
@@ -13,12 +14,12 @@ pub returns-in_err-disk : goal.returns-in_err-disk
 returns-in_err-disk g c = record {
   ended = (search rules);
   disk = (search rules);
-  fault = if_err c.from_residual.result (nothing-begun c.args.options.now.check _ _
+  fault = if_err c.from_residual.result (nothing-begun c.args.pace c.args.options.now.check _ _
       (StartsOn (tracks_of (kind_of c.args.image.now) c.args.image.now) (content_of (kind_of c.args.image.now) c.args.image.now) c.args.options.now.protected));
   played = (search rules);
   left = (search rules);
   cut = if_err c.from_residual.result (cut-nothing (checked_text c.args.options.now.check) _ _
-      (StartsOn (tracks_of (kind_of c.args.image.now) c.args.image.now) (content_of (kind_of c.args.image.now) c.args.image.now) c.args.options.now.protected) c.args.options.now.device);
+      (StartsOn (tracks_of (kind_of c.args.image.now) c.args.image.now) (content_of (kind_of c.args.image.now) c.args.image.now) c.args.options.now.protected) (party_of c.args.pace c.args.options.now.device));
   checked = (search rules);
   grows = (search rules);
   same_tracks = (search rules);
@@ -40,9 +41,9 @@ returns-in_err-disk-2 g c =
       ended = (search rules);
       disk = (search rules);
       fault = (search rules);
-      played = ends-again _ _ _ _ c.in_err-disk-2.ensures.played (p.1 ∙ ap Err p.2) (λ bad h. traced-among (checked_text c.args.options.now.check) _ _ _ starts all (λ m. Unit {0}) (λ m. Unit {0}) c.args.options.now.device bad among (λ m s. s) h);
+      played = ends-again _ _ _ _ c.in_err-disk-2.ensures.played (p.1 ∙ ap Err p.2) (λ bad h. traced-among (checked_text c.args.options.now.check) _ _ _ starts all (λ m. Unit {0}) (λ m. Unit {0}) (party_of c.args.pace c.args.options.now.device) bad among (λ m s. s) h);
       left = (search rules);
-      cut = if_err c.from_residual-in_err-disk-2.result (cut-among (checked_text c.args.options.now.check) _ _ _ starts all c.args.options.now.device among c.in_err-disk-2.ensures.cut);
+      cut = if_err c.from_residual-in_err-disk-2.result (cut-among (checked_text c.args.options.now.check) _ _ _ starts all (party_of c.args.pace c.args.options.now.device) among c.in_err-disk-2.ensures.cut);
       checked = λ e. ends-again _ _ _ _ (c.in_err-disk-2.ensures.checked e) (p.1 ∙ ap Err p.2)
           (λ bad. checked-as g.I.DiskImage.kind (kind_of c.args.image.now) c.args.image.now (g.I.Medium.seen disk).tracks (g.I.Medium.seen disk).content _ _ c.requires.kind c.in_ok-disk.ensures.ok.0);
       grows = (search rules);
@@ -63,19 +64,19 @@ returns g c =
     c.requires.kind first.0 first.1 in
     record {
       ended = (search rules);
-      disk = IfOk-weaker c.save.result _ _ (λ saved is. behind-among c.args.options.now.check _ _ _ starts all
+      disk = IfOk-weaker c.save.result _ _ (λ saved is. behind-among c.args.pace c.args.options.now.check _ _ _ starts all
           (λ m. HoldsDisk (g.I.Medium.seen after).tracks (g.I.Medium.seen after).content m.disk) (λ m. ImageHolds (kind_of c.args.image.now) saved.items m.disk) among
           (holds-as g.I.DiskImage.kind (kind_of c.args.image.now) saved.items (g.I.Medium.seen after).tracks (g.I.Medium.seen after).content c.requires.kind is)
           c.in_ok-disk-2.ensures.disk) c.save.ensures.ok;
-      fault = if_err c.save.result (begun-behind-among c.args.options.now.check _ _ _ starts all among
-          (behind-begun c.args.options.now.check _ _ _ all (λ m. HoldsDisk (g.I.Medium.seen after).tracks (g.I.Medium.seen after).content m.disk) c.in_ok-disk-2.ensures.disk));
-      played = ends-saved c.save.result _ c.save.ensures.err (traced-among (checked_text c.args.options.now.check) _ _ _ starts all (λ m. Unit {0}) (λ m. Unit {0}) c.args.options.now.device _ among (λ m s. s) c.in_ok-disk-2.ensures.played);
+      fault = if_err c.save.result (begun-behind-among c.args.pace c.args.options.now.check _ _ _ starts all among
+          (behind-begun c.args.pace c.args.options.now.check _ _ _ all (λ m. HoldsDisk (g.I.Medium.seen after).tracks (g.I.Medium.seen after).content m.disk) c.in_ok-disk-2.ensures.disk));
+      played = ends-saved c.save.result _ c.save.ensures.err (traced-among (checked_text c.args.options.now.check) _ _ _ starts all (λ m. Unit {0}) (λ m. Unit {0}) (party_of c.args.pace c.args.options.now.device) _ among (λ m s. s) c.in_ok-disk-2.ensures.played);
       left = IfOk-weaker c.save.result _ _ (λ saved is. left-among (checked_text c.args.options.now.check) _ _ _ starts all
-          (λ m. HoldsDisk (g.I.Medium.seen after).tracks (g.I.Medium.seen after).content m.disk) (λ m. ImageHolds (kind_of c.args.image.now) saved.items m.disk) c.args.options.now.device among
+          (λ m. HoldsDisk (g.I.Medium.seen after).tracks (g.I.Medium.seen after).content m.disk) (λ m. ImageHolds (kind_of c.args.image.now) saved.items m.disk) (party_of c.args.pace c.args.options.now.device) among
           (holds-as g.I.DiskImage.kind (kind_of c.args.image.now) saved.items (g.I.Medium.seen after).tracks (g.I.Medium.seen after).content c.requires.kind is)
           c.in_ok-disk-2.ensures.left) c.save.ensures.ok;
-      cut = if_err c.save.result (cut-among (checked_text c.args.options.now.check) _ _ _ starts all c.args.options.now.device among
-          (cut-left (checked_text c.args.options.now.check) _ _ _ all (λ m. HoldsDisk (g.I.Medium.seen after).tracks (g.I.Medium.seen after).content m.disk) c.args.options.now.device c.in_ok-disk-2.ensures.left));
+      cut = if_err c.save.result (cut-among (checked_text c.args.options.now.check) _ _ _ starts all (party_of c.args.pace c.args.options.now.device) among
+          (cut-left (checked_text c.args.options.now.check) _ _ _ all (λ m. HoldsDisk (g.I.Medium.seen after).tracks (g.I.Medium.seen after).content m.disk) (party_of c.args.pace c.args.options.now.device) c.in_ok-disk-2.ensures.left));
       checked = λ e. ends-any c.save.result _
           (λ bad. checked-as g.I.DiskImage.kind (kind_of c.args.image.now) c.args.image.now (g.I.Medium.seen disk).tracks (g.I.Medium.seen disk).content _ _ c.requires.kind first.0 (c.in_ok-disk-2.ensures.checked e));
       grows = (search rules);

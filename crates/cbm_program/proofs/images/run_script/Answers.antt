@@ -6,6 +6,7 @@ use Rattle.cbm_program.specs.Images.{StartsOn}
 use Rattle.cbm_program.specs.Lines.{bytes_left}
 use Rattle.cbm_program.specs.Running.{EndsAs}
 use Rattle.cbm_program.specs.Timetables.{of_requests, of_changes}
+use Rattle.cbm_host.specs.Hosted.{party_of}
 use Rattle.cbm_volume.specs.Holding.{HoldsDisk}
 use Rattle.cbm_program.specs.declared.numbered.Beginning.TheVariants.{Requests}
 use Rattle.cbm_program.proofs.LinePrints.{if_err}
@@ -20,17 +21,17 @@ returns-in_err-first-clause-ended g c =
     let p = err_from_is_err_and c.from_residual.result c.from_residual.ensures.1 in
     let seen = g.M.Medium.seen c.args.medium in
     let x = g.R.Read.remaining c.args.reader in
-    first-of _ _ x (bytes_left g.R.Read.remaining c.read_first.new.lines) c.new-lines.ensures (StartsOn seen.tracks seen.content seen.protected) (λ m. Unit {0}) (λ m s. tt) c.from_residual.result _ c.in_err-first.ensures.read (p.1 ∙ ap Err p.2)
+    first-of c.args.pace _ _ x (bytes_left g.R.Read.remaining c.read_first.new.lines) c.new-lines.ensures (StartsOn seen.tracks seen.content seen.protected) (λ m. Unit {0}) (λ m s. tt) c.from_residual.result _ c.in_err-first.ensures.read (p.1 ∙ ap Err p.2)
 
 pub returns-in_err-first-clause-fault : goal.returns-in_err-first-clause-fault
 returns-in_err-first-clause-fault g c =
     let seen = g.M.Medium.seen c.args.medium in
-    if_err c.from_residual.result (nothing-printed _ (of_requests (g.R.Read.remaining c.args.reader)) (StartsOn seen.tracks seen.content seen.protected))
+    if_err c.from_residual.result (nothing-printed c.args.pace _ (of_requests (g.R.Read.remaining c.args.reader)) (StartsOn seen.tracks seen.content seen.protected))
 
 pub returns-in_err-first-clause-cut : goal.returns-in_err-first-clause-cut
 returns-in_err-first-clause-cut g c =
     let seen = g.M.Medium.seen c.args.medium in
-    if_err c.from_residual.result (cut-nothing [] _ (of_changes (g.R.Read.remaining c.args.reader)) (StartsOn seen.tracks seen.content seen.protected) c.args.device)
+    if_err c.from_residual.result (cut-nothing [] _ (of_changes (g.R.Read.remaining c.args.reader)) (StartsOn seen.tracks seen.content seen.protected) (party_of c.args.pace c.args.device))
 
 -- a script of requests
 pub returns-in-Requests-clause-ended : goal.returns-in-Requests-clause-ended
@@ -38,7 +39,7 @@ returns-in-Requests-clause-ended g c =
     let seen = g.M.Medium.seen c.args.medium in
     let x = g.R.Read.remaining c.args.reader in
     let read = subst (λ (o : Option (List ℕ)). FirstRead o (bytes_left g.R.Read.remaining c.read_first.new.lines) (Ok (Requests c.in-Requests.first))) c.new-lines.ensures (rw c.in-Requests.is at c.in_ok-first.ensures.read) in
-    subst (λ (o : Option (List ℕ)). EndsAs c.serve.result (λ bad. Ended (g.W.Write.contents c.args.writer.now) (g.W.Write.contents c.serve.new.writer) o (StartsOn seen.tracks seen.content seen.protected) (λ m. Unit {0}) bad)) (sym (requests_are x read.1))
+    subst (λ (o : Option (List ℕ)). EndsAs c.serve.result (λ bad. Ended c.args.pace (g.W.Write.contents c.args.writer.now) (g.W.Write.contents c.serve.new.writer) o (StartsOn seen.tracks seen.content seen.protected) (λ m. Unit {0}) bad)) (sym (requests_are x read.1))
     (c.serve.ensures.ended x read.0)
 
 pub returns-in-Requests-clause-disk : goal.returns-in-Requests-clause-disk
@@ -46,7 +47,7 @@ returns-in-Requests-clause-disk g c =
     let seen = g.M.Medium.seen c.args.medium in
     let x = g.R.Read.remaining c.args.reader in
     let read = subst (λ (o : Option (List ℕ)). FirstRead o (bytes_left g.R.Read.remaining c.read_first.new.lines) (Ok (Requests c.in-Requests.first))) c.new-lines.ensures (rw c.in-Requests.is at c.in_ok-first.ensures.read) in
-    subst (λ (o : Option (List ℕ)). IfOk c.serve.result (λ after. Printed (g.W.Write.contents c.args.writer.now) (g.W.Write.contents c.serve.new.writer) o (StartsOn seen.tracks seen.content seen.protected) (λ m. HoldsDisk (g.M.Medium.seen after).tracks (g.M.Medium.seen after).content m.disk))) (sym (requests_are x read.1))
+    subst (λ (o : Option (List ℕ)). IfOk c.serve.result (λ after. Printed c.args.pace (g.W.Write.contents c.args.writer.now) (g.W.Write.contents c.serve.new.writer) o (StartsOn seen.tracks seen.content seen.protected) (λ m. HoldsDisk (g.M.Medium.seen after).tracks (g.M.Medium.seen after).content m.disk))) (sym (requests_are x read.1))
     (c.serve.ensures.disk x read.0)
 
 pub returns-in-Requests-clause-fault : goal.returns-in-Requests-clause-fault
@@ -55,4 +56,4 @@ returns-in-Requests-clause-fault g c =
     let x = g.R.Read.remaining c.args.reader in
     let starts = StartsOn seen.tracks seen.content seen.protected in
     let read = subst (λ (o : Option (List ℕ)). FirstRead o (bytes_left g.R.Read.remaining c.read_first.new.lines) (Ok (Requests c.in-Requests.first))) c.new-lines.ensures (rw c.in-Requests.is at c.in_ok-first.ensures.read) in
-    err-map c.serve.result _ _ (c.serve.ensures.fault x read.0) (subst (λ (o : Option (List ℕ)). Begun (g.W.Write.contents c.args.writer.now) (g.W.Write.contents c.serve.new.writer) o starts) (sym (requests_are x read.1)))
+    err-map c.serve.result _ _ (c.serve.ensures.fault x read.0) (subst (λ (o : Option (List ℕ)). Begun c.args.pace (g.W.Write.contents c.args.writer.now) (g.W.Write.contents c.serve.new.writer) o starts) (sym (requests_are x read.1)))

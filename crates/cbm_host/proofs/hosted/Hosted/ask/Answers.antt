@@ -3,20 +3,21 @@ use Rattle.cbm_drive.specs.Desks.{desk_shows}
 use Rattle.cbm_host.proofs.Hosting.{asked, OnAsk}
 use Rattle.cbm_host.proofs.hosted.Hosted.ask.Goals as goal
 use Rattle.cbm_host.specs.Hosted.{Hosting}
+use Rattle.cbm_host.specs.Requests.{longest}
 use Rattle.cbm_host.proofs.HostedAnyway.{begun_anyway}
 use Rattle.cbm_host.specs.AnyDisk.{RestsAnyway, IsUnderWayAnyway}
 
 pub returns-clause-under_way : goal.returns-clause-under_way
 returns-clause-under_way g c =
-    let h : Hosting _ = record { bus = c.self.inside.bus; device = c.self.inside.device; moment = c.self.inside.moment } in
-    subst (λ (h : Hosting _). OnAsk g.M.Medium.seen h c.new.result c.args.request) c.self.view_is
-    (λ m r. asked g.M.Medium.seen h c.new.result m c.args.request r c.new.ensures.player c.new.ensures.engine c.new.ensures.limit)
+    let h : Hosting _ = record { bus = c.self.inside.bus; device = c.self.inside.device; pace = c.self.inside.pace; moment = c.self.inside.moment } in
+    subst (λ (h : Hosting _). OnAsk g.M.Medium.seen h c.with_pace.result c.args.request) c.self.view_is
+    (λ m r. asked g.M.Medium.seen h c.with_pace.result m c.args.request r c.with_pace.ensures.player c.with_pace.ensures.engine c.with_pace.ensures.limit)
 
 pub returns-clause-limit : goal.returns-clause-limit
-returns-clause-limit g c = c.new.ensures.limit ∙ ap (λ (h : Hosting _). h.moment + 250000000) c.self.view_is
+returns-clause-limit g c = c.with_pace.ensures.limit ∙ ap (λ (h : Hosting _). h.moment + longest h.pace) c.self.view_is
 
 pub returns-clause-anyway : goal.returns-clause-anyway
 returns-clause-anyway g c =
     let shows = desk_shows in
-    subst (λ (h : Hosting _). RestsAnyway shows h → IsUnderWayAnyway shows h.device h.moment h.bus c.new.result c.args.request) c.self.view_is
-    (λ r. begun_anyway shows c.self.inside.device c.self.inside.moment c.self.inside.bus c.new.result c.args.request r c.new.ensures.player c.new.ensures.engine c.new.ensures.limit)
+    subst (λ (h : Hosting _). RestsAnyway shows h → IsUnderWayAnyway shows h.pace h.device h.moment h.bus c.with_pace.result c.args.request) c.self.view_is
+    (λ r. begun_anyway shows c.self.inside.pace c.self.inside.device c.self.inside.moment c.self.inside.bus c.with_pace.result c.args.request r c.with_pace.ensures.player c.with_pace.ensures.engine c.with_pace.ensures.limit)

@@ -1,8 +1,11 @@
-use Rattle.std.proofs.Common.{◌≤◌, [], ◌∷◌, ◌++◌, false, refl, ◌∙◌, arith}
+use Rattle.std.proofs.Common.{◌≤◌, [], ◌∷◌, ◌++◌, false, refl, ◌∙◌, arith, subst}
+use Rattle.cbm_iec.specs.declared.pace.Pace.{Pace}
+use Rattle.cbm_host.specs.Hosted.{Rests}
+use Rattle.cbm_host.specs.Served.{served}
 use Rattle.cbm_host.proofs.hosted.Hosted.carry_out.Goals as goal
 
 pub bytes-init : goal.bytes-init
-bytes-init g c = record { under_way = λ m k r. ([], false, c.ask-performer.ensures.under_way m r); limit = c.ask-performer.ensures.limit; tracks = refl; device = refl; anyway = λ r. c.ask-performer.ensures.anyway r }
+bytes-init g c = record { under_way = λ m k r. ([], false, c.ask-performer.ensures.under_way m r); limit = c.ask-performer.ensures.limit; tracks = refl; device = refl; pace = refl; anyway = λ r. c.ask-performer.ensures.anyway r }
 
 pub bytes-preserved : goal.bytes-preserved
 bytes-preserved g c = record {
@@ -12,6 +15,7 @@ bytes-preserved g c = record {
   limit = c.take.ensures.limit ∙ c.bytes.invariant.limit;
   tracks = c.take.ensures.tracks ∙ c.bytes.invariant.tracks;
   device = c.take.ensures.device ∙ c.bytes.invariant.device;
+  pace = c.take.ensures.pace ∙ c.bytes.invariant.pace;
   anyway = λ r. c.in-Some.ensures.anyway c.args.request c.args.self.now.moment c.requires.channel (c.bytes.invariant.anyway r);
 }
 
@@ -21,13 +25,17 @@ bytes-smaller g c = c.in-Some.ensures.fewer
 pub returns-clause-rests : goal.returns-clause-rests
 returns-clause-rests g c = λ m k r.
     let u = c.bytes.invariant.under_way m k r in
-    (c.in_default.ensures.taken m c.args.request u.0 u.1 c.requires.channel k u.2).rests
+    let over = c.in_default.ensures.taken m c.args.request u.0 u.1 c.requires.channel k u.2 in
+    subst (λ (e : Pace). Rests g.M.Medium.seen c.take.new.self (served e c.args.request m).machine) (c.take.ensures.pace ∙ c.bytes.invariant.pace) over.rests
 
 pub returns-clause-soon : goal.returns-clause-soon
 returns-clause-soon g c =
     let soon : c.take.new.self.moment ≤ c.bytes.performer.limit = c.in_default.ensures.moment in
     let same = c.bytes.invariant.limit in
     omega (arith, soon, same)
+
+pub returns-clause-pace : goal.returns-clause-pace
+returns-clause-pace g c = c.take.ensures.pace ∙ c.bytes.invariant.pace
 
 pub returns-clause-tracks : goal.returns-clause-tracks
 returns-clause-tracks g c = c.take.ensures.tracks ∙ c.bytes.invariant.tracks

@@ -12,18 +12,18 @@ use Rattle.cbm_host.proofs.HostedAnyway.{goes_on_anyway, over_anyway, OnTakeAnyw
 pub returns-in-Some-clause-taken : goal.returns-in-Some-clause-taken
 returns-in-Some-clause-taken g c =
     let seen = g.M.Medium.seen in
-    let old : Hosting _ = record { bus = c.self.inside.bus; device = c.self.inside.device; moment = c.self.inside.moment } in
-    let new : Hosting _ = record { bus = c.next_byte.new.bus; device = c.self.inside.device; moment = c.self.inside.moment } in
+    let old : Hosting _ = record { bus = c.self.inside.bus; device = c.self.inside.device; pace = c.self.inside.pace; moment = c.self.inside.moment } in
+    let new : Hosting _ = record { bus = c.next_byte.new.bus; device = c.self.inside.device; pace = c.self.inside.pace; moment = c.self.inside.moment } in
     subst (λ (h : Hosting _). OnByte seen h new c.args.performer.now c.next_byte.new.self c.in-Some.said) c.self.view_is
-    (taken_on seen old new c.args.performer.now c.next_byte.new.self c.in-Some.said refl c.self.invariant.0 c.self.invariant.1 c.in-Some.ensures.taken c.begins.ensures)
+    (taken_on seen old new c.args.performer.now c.next_byte.new.self c.in-Some.said refl refl c.self.invariant.0 c.self.invariant.1 c.in-Some.ensures.taken c.begins.ensures)
 
 pub returns-in-None-clause-taken : goal.returns-in-None-clause-taken
 returns-in-None-clause-taken g c =
     let seen = g.M.Medium.seen in
-    let old : Hosting _ = record { bus = c.self.inside.bus; device = c.self.inside.device; moment = c.self.inside.moment } in
-    let new : Hosting _ = record { bus = c.next_byte.new.bus; device = c.self.inside.device; moment = c.over-self-inside.result } in
+    let old : Hosting _ = record { bus = c.self.inside.bus; device = c.self.inside.device; pace = c.self.inside.pace; moment = c.self.inside.moment } in
+    let new : Hosting _ = record { bus = c.next_byte.new.bus; device = c.self.inside.device; pace = c.self.inside.pace; moment = c.over-self-inside.result } in
     subst (λ (h : Hosting _). OnEnd seen h new c.args.performer.now) c.self.view_is
-    (taken_over seen old new c.args.performer.now c.next_byte.new.self refl c.self.invariant.0 c.self.invariant.1 c.in-None.ensures.taken c.carries_out.ensures)
+    (taken_over seen old new c.args.performer.now c.next_byte.new.self refl refl c.self.invariant.0 c.self.invariant.1 c.in-None.ensures.taken c.carries_out.ensures)
 
 pub returns-in-Some-clause-fewer : goal.returns-in-Some-clause-fewer
 returns-in-Some-clause-fewer g c =
@@ -52,17 +52,23 @@ invariant_of-self g c = (c.self.invariant.0, c.self.invariant.1, as_many (λ x. 
 pub returns-in-Some-clause-anyway : goal.returns-in-Some-clause-anyway
 returns-in-Some-clause-anyway g c =
     let shows = desk_shows in
-    subst (λ (h : Hosting _). OnTakeAnyway shows c.self.inside.device h.device h.bus c.next_byte.new.bus c.self.inside.moment c.args.performer.now c.next_byte.new.self (Some c.in-Some.said)) c.self.view_is
-    (λ request start channel u. goes_on_anyway shows c.self.inside.device start c.self.inside.bus c.next_byte.new.bus c.args.performer.now c.next_byte.new.self c.in-Some.said (c.in-Some.ensures.recorded) request u)
+    subst (λ (h : Hosting _). OnTakeAnyway shows c.self.inside.pace c.self.inside.device h.pace h.device h.bus c.next_byte.new.bus c.self.inside.moment c.args.performer.now c.next_byte.new.self (Some c.in-Some.said)) c.self.view_is
+    (λ request start channel u. goes_on_anyway shows c.self.inside.pace c.self.inside.device start c.self.inside.bus c.next_byte.new.bus c.args.performer.now c.next_byte.new.self c.in-Some.said (c.in-Some.ensures.recorded) request u)
 
 pub returns-in-None-clause-anyway : goal.returns-in-None-clause-anyway
 returns-in-None-clause-anyway g c =
     let shows = desk_shows in
-    subst (λ (h : Hosting _). OnTakeAnyway shows c.self.inside.device h.device h.bus c.next_byte.new.bus c.over-self-inside.result c.args.performer.now c.next_byte.new.self None) c.self.view_is
-    (λ request start channel u. over_anyway shows c.self.inside.device start c.over-self-inside.result c.self.inside.bus c.next_byte.new.bus c.args.performer.now c.next_byte.new.self c.self.invariant.0 c.self.invariant.1 c.over-self-inside.ensures.end (c.in-None.ensures.recorded) request channel u)
+    subst (λ (h : Hosting _). OnTakeAnyway shows c.self.inside.pace c.self.inside.device h.pace h.device h.bus c.next_byte.new.bus c.over-self-inside.result c.args.performer.now c.next_byte.new.self None) c.self.view_is
+    (λ request start channel u. over_anyway shows c.self.inside.pace c.self.inside.device start c.over-self-inside.result c.self.inside.bus c.next_byte.new.bus c.args.performer.now c.next_byte.new.self c.self.invariant.0 c.self.invariant.1 c.over-self-inside.ensures.end (c.in-None.ensures.recorded) request channel u)
 
 pub returns-in-Some-clause-device : goal.returns-in-Some-clause-device
 returns-in-Some-clause-device g c = ap (λ (h : Hosting _). h.device) c.self.view_is
 
 pub returns-in-None-clause-device : goal.returns-in-None-clause-device
 returns-in-None-clause-device g c = ap (λ (h : Hosting _). h.device) c.self.view_is
+
+pub returns-in-Some-clause-pace : goal.returns-in-Some-clause-pace
+returns-in-Some-clause-pace g c = ap (λ (h : Hosting _). h.pace) c.self.view_is
+
+pub returns-in-None-clause-pace : goal.returns-in-None-clause-pace
+returns-in-None-clause-pace g c = ap (λ (h : Hosting _). h.pace) c.self.view_is

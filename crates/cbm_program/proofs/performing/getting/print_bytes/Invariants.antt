@@ -10,6 +10,7 @@ invariant-bytes g l = record {
   goes : Goes g.M.Medium.seen (g.W.Write.contents l.fn.writer) (g.W.Write.contents l.writer) l.fn.drive l.fn.performer l.drive l.performer;
   limit : l.performer.limit ≡ l.fn.performer.limit;
   moment : l.drive.moment ≡ l.fn.drive.moment;
+  paced : l.drive.pace ≡ l.fn.drive.pace;
   tracks : tracks_on g.M.Medium.seen l.drive ≡ tracks_on g.M.Medium.seen l.fn.drive;
   grown : Grows (g.W.Write.contents l.fn.writer) (g.W.Write.contents l.writer);
 }

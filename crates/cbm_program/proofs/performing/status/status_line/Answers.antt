@@ -8,6 +8,7 @@ pub bytes-init : goal.bytes-init
 bytes-init g c = record {
   under_way = λ m r. (false, subst (λ (l : List ℕ). IsUnderWay g.M.Medium.seen c.args.drive.now c.ask-performer.result m Status l false) (sym c.new-line.ensures) (c.ask-performer.ensures.under_way m r));
   limit = c.ask-performer.ensures.limit;
+  paced = refl;
   tracks = refl;
 }
 
@@ -18,6 +19,7 @@ bytes-preserved g c = record {
       let k = c.in-Some.ensures.taken m Status c.bytes.line.items u.0 (omega arith) tt u.1 in
       (c.in-Some._last, subst (λ (l : List ℕ). IsUnderWay g.M.Medium.seen c.take.new.self c.take.new.performer m Status l c.in-Some._last) (sym (c.keep.ensures (room m c.bytes.line.items c.in-Some.byte c.in-Some._last k.first))) k.under_way);
   limit = c.take.ensures.limit ∙ c.bytes.invariant.limit;
+  paced = c.take.ensures.pace ∙ c.bytes.invariant.paced;
   tracks = c.take.ensures.tracks ∙ c.bytes.invariant.tracks;
 }
 
@@ -38,3 +40,6 @@ returns-clause-soon g c =
 
 pub returns-clause-tracks : goal.returns-clause-tracks
 returns-clause-tracks g c = c.take.ensures.tracks ∙ c.bytes.invariant.tracks
+
+pub returns-clause-pace : goal.returns-clause-pace
+returns-clause-pace g c = c.take.ensures.pace ∙ c.bytes.invariant.paced

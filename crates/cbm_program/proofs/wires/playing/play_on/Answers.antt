@@ -1,5 +1,7 @@
 use Rattle.std.proofs.Common.{◌∙◌, ◌+◌, ap, length, Err, ℕ, refl, arith}
 use Rattle.std.proofs.lemmas.Result.{err_from_is_err_and}
+use Rattle.cbm_host.proofs.Hosting.{is_drive}
+use Rattle.cbm_host.specs.Hosted.{party_of}
 use Rattle.cbm_program.specs.Lines.{bytes_left}
 use Rattle.cbm_program.specs.declared.wires.staging.Stage.{Stage}
 use Rattle.cbm_program.proofs.LinePrints.{if_err}
@@ -24,18 +26,18 @@ pub returns-in_err-read_timed-clause-ended : goal.returns-in_err-read_timed-clau
 returns-in_err-read_timed-clause-ended g c = λ input t.
     let p = err_from_is_err_and c.from_residual.result c.from_residual.ensures.1 in
     let seen = g.M.Medium.seen in
-    read_faulted seen _ _ input (bytes_left g.R.Read.remaining c.lines.lines) (bytes_left g.R.Read.remaining c.read_timed.new.lines) c.lines.number c.lines.from c.args.device c.from_residual.result _ _ c.args.stage.now.player c.lines.stage.player c.args.stage.now.bus c.lines.stage.bus
+    read_faulted seen _ _ input (bytes_left g.R.Read.remaining c.lines.lines) (bytes_left g.R.Read.remaining c.read_timed.new.lines) c.lines.number c.lines.from (party_of c.args.pace c.args.device) c.from_residual.result _ _ c.args.stage.now.player c.lines.stage.player c.args.stage.now.bus c.lines.stage.bus
     (ap length c.lines.invariant.tracks ∙ c.requires.one) (c.lines.invariant.timing input t) c.lines.invariant.opened c.in_err-read_timed.ensures (p.1 ∙ ap Err p.2)
 
 pub returns-in_err-read_timed-clause-fault : goal.returns-in_err-read_timed-clause-fault
 returns-in_err-read_timed-clause-fault g c = λ input t.
-    if_err c.from_residual.result (timing_begun g.M.Medium.seen _ _ input (bytes_left g.R.Read.remaining c.lines.lines) c.lines.number c.lines.from c.args.device c.args.stage.now.player c.lines.stage.player c.args.stage.now.bus c.lines.stage.bus (c.lines.invariant.timing input t) c.lines.invariant.opened.second)
+    if_err c.from_residual.result (timing_begun g.M.Medium.seen _ _ input (bytes_left g.R.Read.remaining c.lines.lines) c.lines.number c.lines.from (party_of c.args.pace c.args.device) c.args.stage.now.player c.lines.stage.player c.args.stage.now.bus c.lines.stage.bus (c.lines.invariant.timing input t) c.lines.invariant.opened.second)
 
 -- a change broke off
 pub returns-in_err-change-in-Changes-clause-fault : goal.returns-in_err-change-in-Changes-clause-fault
 returns-in_err-change-in-Changes-clause-fault g c = λ input t.
     let read = rw c.in-Changes.is at c.in_ok-read_timed.ensures in
-    if_err c.from_residual-in_err-change-in-Changes.result (change_begun g.M.Medium.seen _ _ _ input (bytes_left g.R.Read.remaining c.lines.lines) (bytes_left g.R.Read.remaining c.read_timed.new.lines) c.lines.number c.lines.from c.args.device c.in-Changes.change
+    if_err c.from_residual-in_err-change-in-Changes.result (change_begun g.M.Medium.seen _ _ _ input (bytes_left g.R.Read.remaining c.lines.lines) (bytes_left g.R.Read.remaining c.read_timed.new.lines) c.lines.number c.lines.from (party_of c.args.pace c.args.device) c.in-Changes.change
     c.args.stage.now.player c.lines.stage.player c.args.stage.now.bus c.lines.stage.bus (c.lines.invariant.timing input t) read.0 c.in_err-change-in-Changes.ensures.err)
 
 pub returns-in_err-change-in-Changes-clause-grows : goal.returns-in_err-change-in-Changes-clause-grows
@@ -45,7 +47,7 @@ pub returns-in_err-flush-in-Changes-clause-fault : goal.returns-in_err-flush-in-
 returns-in_err-flush-in-Changes-clause-fault g c = λ input t.
     let read = rw c.in-Changes.is at c.in_ok-read_timed.ensures in
     let seen = g.M.Medium.seen in
-    if_err c.from_residual-in_err-flush-in-Changes.result (timing_begun seen _ _ input (bytes_left g.R.Read.remaining c.read_timed.new.lines) (c.lines.number + 1) c.in-Changes.change.moment c.args.device c.args.stage.now.player c.change.new.self.player c.args.stage.now.bus c.change.new.self.bus
+    if_err c.from_residual-in_err-flush-in-Changes.result (timing_begun seen _ _ input (bytes_left g.R.Read.remaining c.read_timed.new.lines) (c.lines.number + 1) c.in-Changes.change.moment (party_of c.args.pace c.args.device) c.args.stage.now.player c.change.new.self.player c.args.stage.now.bus c.change.new.self.bus
     (timing_change seen _ _ _ _ input (bytes_left g.R.Read.remaining c.lines.lines) (bytes_left g.R.Read.remaining c.read_timed.new.lines) c.lines.number c.lines.from c.in-Changes.change c.args.stage.now.player c.lines.stage.player c.change.new.self.player c.args.stage.now.bus c.lines.stage.bus c.change.new.self.bus
     (c.lines.invariant.timing input t) read.0 c.in_ok-change-in-Changes.ensures.ok c.flush.ensures.bytes) c.in_ok-change-in-Changes.ensures.open.second)
 
@@ -55,7 +57,7 @@ returns-in_err-flush-in-Changes-clause-grows g c = grows_kept _ _ _ (grows_on _ 
 -- the end broke off
 pub returns-in_err-end-in-Ends-clause-fault : goal.returns-in_err-end-in-Ends-clause-fault
 returns-in_err-end-in-Ends-clause-fault g c = λ input t.
-    if_err c.from_residual-in_err-end-in-Ends.result (end_begun g.M.Medium.seen _ _ _ input (bytes_left g.R.Read.remaining c.lines.lines) c.lines.number c.lines.from c.args.device c.args.stage.now.player c.lines.stage.player c.args.stage.now.bus c.lines.stage.bus (c.lines.invariant.timing input t) c.in_err-end-in-Ends.ensures.err)
+    if_err c.from_residual-in_err-end-in-Ends.result (end_begun g.M.Medium.seen _ _ _ input (bytes_left g.R.Read.remaining c.lines.lines) c.lines.number c.lines.from (party_of c.args.pace c.args.device) c.args.stage.now.player c.lines.stage.player c.args.stage.now.bus c.lines.stage.bus (c.lines.invariant.timing input t) c.in_err-end-in-Ends.ensures.err)
 
 pub returns-in_err-end-in-Ends-clause-grows : goal.returns-in_err-end-in-Ends-clause-grows
 returns-in_err-end-in-Ends-clause-grows g c = grows_on _ _ _ c.lines.invariant.grown c.in_err-end-in-Ends.ensures.grows
@@ -63,7 +65,7 @@ returns-in_err-end-in-Ends-clause-grows g c = grows_on _ _ _ c.lines.invariant.g
 pub returns-in_err-flush-in-Ends-clause-fault : goal.returns-in_err-flush-in-Ends-clause-fault
 returns-in_err-flush-in-Ends-clause-fault g c = λ input t.
     let seen = g.M.Medium.seen in
-    if_err c.from_residual-in_err-flush-in-Ends.result (end_begun seen _ _ _ input (bytes_left g.R.Read.remaining c.lines.lines) c.lines.number c.lines.from c.args.device c.args.stage.now.player c.lines.stage.player c.args.stage.now.bus c.lines.stage.bus (c.lines.invariant.timing input t)
+    if_err c.from_residual-in_err-flush-in-Ends.result (end_begun seen _ _ _ input (bytes_left g.R.Read.remaining c.lines.lines) c.lines.number c.lines.from (party_of c.args.pace c.args.device) c.args.stage.now.player c.lines.stage.player c.args.stage.now.bus c.lines.stage.bus (c.lines.invariant.timing input t)
     (ended_part seen _ _ c.in-Ends.end c.lines.stage.player c.end.new.self.player c.lines.stage.bus c.end.new.self.bus (ends_kept seen _ _ _ c.in-Ends.end c.lines.stage.player c.end.new.self.player c.lines.stage.bus c.end.new.self.bus c.in_ok-end-in-Ends.ensures.ok c.flush-in-Ends.ensures.bytes)))
 
 pub returns-in_err-flush-in-Ends-clause-grows : goal.returns-in_err-flush-in-Ends-clause-grows
@@ -74,14 +76,14 @@ pub returns-in-Ends-clause-ended : goal.returns-in-Ends-clause-ended
 returns-in-Ends-clause-ended g c = λ input t.
     let read = rw c.in-Ends.is at c.in_ok-read_timed.ensures in
     let seen = g.M.Medium.seen in
-    timing_ended seen _ _ _ input (bytes_left g.R.Read.remaining c.lines.lines) (bytes_left g.R.Read.remaining c.read_timed.new.lines) c.lines.number c.lines.from c.in-Ends.end c.args.device c.read_behind.result _ c.args.stage.now.player c.lines.stage.player c.end.new.self.player
-    c.args.stage.now.bus c.lines.stage.bus c.end.new.self.bus c.requires.low c.requires.high (ap length (c.in_ok-end-in-Ends.ensures.tracks ∙ c.lines.invariant.tracks) ∙ c.requires.one) (c.lines.invariant.timing input t) read.0
+    timing_ended seen _ _ _ input (bytes_left g.R.Read.remaining c.lines.lines) (bytes_left g.R.Read.remaining c.read_timed.new.lines) c.lines.number c.lines.from c.in-Ends.end (party_of c.args.pace c.args.device) c.read_behind.result _ c.args.stage.now.player c.lines.stage.player c.end.new.self.player
+    c.args.stage.now.bus c.lines.stage.bus c.end.new.self.bus (is_drive c.args.pace c.args.device c.requires.low c.requires.high) (ap length (c.in_ok-end-in-Ends.ensures.tracks ∙ c.lines.invariant.tracks) ∙ c.requires.one) (c.lines.invariant.timing input t) read.0
     (ends_kept seen _ _ _ c.in-Ends.end c.lines.stage.player c.end.new.self.player c.lines.stage.bus c.end.new.self.bus c.in_ok-end-in-Ends.ensures.ok c.flush-in-Ends.ensures.bytes) c.read_behind.ensures
 
 pub returns-in-Ends-clause-fault : goal.returns-in-Ends-clause-fault
 returns-in-Ends-clause-fault g c = λ input t.
     let seen = g.M.Medium.seen in
-    if_err c.read_behind.result (end_begun seen _ _ _ input (bytes_left g.R.Read.remaining c.lines.lines) c.lines.number c.lines.from c.args.device c.args.stage.now.player c.lines.stage.player c.args.stage.now.bus c.lines.stage.bus (c.lines.invariant.timing input t)
+    if_err c.read_behind.result (end_begun seen _ _ _ input (bytes_left g.R.Read.remaining c.lines.lines) c.lines.number c.lines.from (party_of c.args.pace c.args.device) c.args.stage.now.player c.lines.stage.player c.args.stage.now.bus c.lines.stage.bus (c.lines.invariant.timing input t)
     (ended_part seen _ _ c.in-Ends.end c.lines.stage.player c.end.new.self.player c.lines.stage.bus c.end.new.self.bus (ends_kept seen _ _ _ c.in-Ends.end c.lines.stage.player c.end.new.self.player c.lines.stage.bus c.end.new.self.bus c.in_ok-end-in-Ends.ensures.ok c.flush-in-Ends.ensures.bytes)))
 
 pub returns-in-Ends-clause-grows : goal.returns-in-Ends-clause-grows
