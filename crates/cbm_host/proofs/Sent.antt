@@ -3,7 +3,9 @@ use Rattle.std.proofs.Common.{◌≡◌, ℕ, ◌+◌, ◌*◌, ◌≤◌, Bool,
 use Rattle.cbm_iec.specs.declared.party.Party.{Party}
 use Rattle.cbm_iec.specs.declared.party.Role.TheVariants.{Listener}
 use Rattle.cbm_iec.specs.declared.party.Role.{Role}
-use Rattle.cbm_session.proofs.Paces.{pulse_upto}
+use Rattle.cbm_iec.specs.Profile.{eoi_pulse}
+use Rattle.cbm_iec.specs.declared.pace.Pace.TheVariants.{Profile, Kernal}
+use Rattle.cbm_iec.specs.declared.pace.Pace.{Pace}
 use Rattle.cbm_session.proofs.reading.PieceReadings.{seat}
 use Rattle.cbm_session.specs.Pieces.{Point, Byte, ToListener, Full, Listening}
 use Rattle.cbm_session.specs.Seats.{lines}
@@ -21,6 +23,11 @@ use Rattle.cbm_host.specs.declared.stage.Errand.TheVariants.{Sends}
 -- with a listener, ATN free
 abbrev pub listening : Party → ℕ → ℕ → ℕ → ℕ → Point
 listening b pulled released accepted since = point b Listener (lines false true) Listening (lines true false) pulled (Some released) accepted since
+
+-- a drive's pulse is shorter than a few bits, at either pace
+pulse_upto : (e : Pace) → eoi_pulse e ≤ 80
+pulse_upto Profile = omega arith
+pulse_upto Kernal = omega arith
 
 -- a byte is accepted soon
 pub accepted_soon : (b : Party) (eoi : Bool) (byte ready : ℕ) → b.reaction ≤ 60 → (ready + 340 ≤ accept_for b eoi byte ready) × (accept_for b eoi byte ready ≤ ready + 800)

@@ -15,7 +15,6 @@ use Rattle.cbm_iec.specs.declared.lines.Held.{Held}
 use Rattle.cbm_iec.specs.declared.party.Party.{Party}
 use Rattle.cbm_iec.specs.declared.party.Role.TheVariants.{Talker}
 use Rattle.cbm_iec.specs.declared.party.Role.{Role}
-use Rattle.cbm_session.proofs.Paces.{by_eight}
 use Rattle.cbm_session.proofs.joining.Silents.{silent_from}
 use Rattle.cbm_session.proofs.joining.Merging.{NoneBefore, AllBefore, before_yes, before_no}
 use Rattle.cbm_session.proofs.joining.OneDrive.{one_told, told_is, bits_before}
@@ -84,6 +83,9 @@ bits_none b m at false (false ∷ bits) h = (h, (h, (omega (arith, h), bits_none
 -- a byte of a talker takes no longer, with its reaction and the waits
 abbrev pub byte_time : Pace → ℕ
 byte_time p = 8 * bit_time p + 240
+
+by_eight : (p : Pace) {n : ℕ} → n ≡ 8 → bit_time p * n ≡ bit_time p * 8
+by_eight p e = ap (λ k. bit_time p * k) e
 
 bits_upto : (p : Pace) → bit_time p ≤ 160
 bits_upto Profile = omega arith

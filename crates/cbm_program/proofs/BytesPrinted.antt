@@ -10,7 +10,7 @@ use Rattle.cbm_medium.specs.Seen.{Seen}
 use Rattle.cbm_host.specs.Engines.{channel_of}
 use Rattle.cbm_host.specs.Hosted.{Hosting, AreFirst, Rests, IsUnderWay, IsGoingOn, IsOver}
 use Rattle.cbm_host.specs.Performers.{Performing}
-use Rattle.cbm_host.specs.Served.{Said, served, IsModest}
+use Rattle.cbm_host.specs.Served.{Said, served, talked_at, IsModest}
 use Rattle.cbm_host.specs.declared.request.Request as asks
 use Rattle.cbm_program.specs.Output.{AppendsPart}
 use Rattle.cbm_program.specs.Scripts.{hex, eoi_mark, bytes_text, get_line}
@@ -168,6 +168,13 @@ line_rest_part a b c d ch x l said f head unit rest =
     (part_before a d (get_head ch (codes " ") ++ said_text said.bytes said.marked) (codes "\n")
     (part_behind a b d (get_head ch (codes " ")) (said_text said.bytes said.marked) head
     (subst (λ t. AppendsPart b d t) (ap (λ t. t ++ rest.rest) (unit_is x l) ∙ sym rest.whole) (part_behind b c d (unit_text (Some (x, l))) rest.rest unit rest.written))))
+
+-- the bytes behind the first, of an answer at one pace as at another
+pub rest_at : (a b : Option (List ℕ)) (x : ℕ) (l : Bool) (channel most : ℕ) (m : Machine) (e f : Pace) → e ≡ f → PrintsRest a b (x ∷ []) l (talked_at e channel most m) → PrintsRest a b (x ∷ []) l (talked_at f channel most m)
+rest_at a b x l channel most m e f same = subst (λ (v : Pace). PrintsRest a b (x ∷ []) l (talked_at v channel most m)) same
+
+pub rest_part_at : (a b : Option (List ℕ)) (x : ℕ) (l : Bool) (channel most : ℕ) (m : Machine) (e f : Pace) → e ≡ f → PrintsRestPart a b (x ∷ []) l (talked_at e channel most m) → PrintsRestPart a b (x ∷ []) l (talked_at f channel most m)
+rest_part_at a b x l channel most m e f same = subst (λ (v : Pace). PrintsRestPart a b (x ∷ []) l (talked_at v channel most m)) same
 
 all_bytes : (a b c d : Option (List ℕ)) (ch x : ℕ) (l : Bool) (said : Said) → Appends a b (get_head ch (codes " ")) → Appends b c (unit_text (Some (x, l))) → PrintsRest c d (x ∷ []) l said → Appends a d (get_head ch (codes " ") ++ said_text said.bytes said.marked)
 all_bytes a b c d ch x l said head unit rest =

@@ -1,6 +1,7 @@
 -- The status as it is read to its end.
 use Rattle.std.proofs.Common.{◌≡◌, ◌≢◌, ℕ, zero, suc, ◌+◌, ◌<◌, ◌≤◌, Bool, Option, Some, None, List, [], ◌∷◌, ◌++◌, length, length-append, codes, subst, refl, ap, sym, ◌∙◌, arith, true, false, if◌then◌else◌}
 use Rattle.std.specs.Prelude.{◌==◌}
+use Rattle.std.specs.Io.KnownBytes.{Appends}
 use Rattle.cbm_drive.specs.Calls.{without_return}
 use Rattle.cbm_drive.specs.Machines.{Machine}
 use Rattle.cbm_drive.specs.Statuses.{status_line}
@@ -32,6 +33,9 @@ room m bytes b l f =
     omega (arith, whole, one, most, line)
 
 -- the line as it is printed
+pub status_all : (a b : Option (List ℕ)) (s : Said) (items line : List ℕ) → s.bytes ≡ items → line ≡ codes "status " ++ without_return items ++ codes "\n" → Appends a b line → Appends a b (status_text s)
+status_all a b s items line said is whole = subst (λ t. Appends a b t) (is ∙ ap (λ l. codes "status " ++ without_return l ++ codes "\n") (sym said)) whole
+
 pub status_part : (a b : Option (List ℕ)) (s : Said) (items line : List ℕ) → s.bytes ≡ items → line ≡ codes "status " ++ without_return items ++ codes "\n" → AppendsPart a b line → AppendsPart a b (status_text s)
 status_part a b s items line said is part = subst (λ t. AppendsPart a b t) (is ∙ ap (λ l. codes "status " ++ without_return l ++ codes "\n") (sym said)) part
 

@@ -109,7 +109,7 @@ cut-behind checks a b c (Some xs) stood drive said h = λ m s. (let r = h m s in
 
 pub first-ended : {A : Type 0} (pace : Pace) (a x k : Option (List ℕ)) (stood now : Machine → Type 0) → AreAmong stood now → (r : Result A RunFault) (f : RunFault) → FirstRead x k (Err f) → r ≡ Err f → EndsAs r (λ bad. Ended pace a a (of_requests x) stood now bad)
 first-ended pace a x k stood now then r (Script bad) h e =
-    let base : Ended pace a a x stood stood (Some bad) = faulted pace {A = Unit {0}} a a x x k stood stood 1 (Err (Script bad)) (Script bad) (run-start pace a x x stood refl) h.0 refl in
+    let base : Ended pace a a x stood stood (Some bad) = faulted {A = Unit {0}} pace a a x x k stood stood 1 (Err (Script bad)) (Script bad) (run-start pace a x x stood refl) h.0 refl in
     subst (λ v. EndsAs v (λ b. Ended pace a a (of_requests x) stood now b)) (sym e)
     (ended-among pace a a (of_requests x) stood stood stood now (Some bad) (λ m s. s) then (subst (λ o. Ended pace a a o stood stood (Some bad)) (sym (requests_are x h.1)) base))
 first-ended pace a x k stood now then r (Image n) h e = absurd h

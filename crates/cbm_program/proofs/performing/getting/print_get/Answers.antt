@@ -4,8 +4,7 @@ use Rattle.cbm_host.specs.Hosted.{Rests}
 use Rattle.cbm_host.specs.Served.{talked_at}
 use Rattle.cbm_host.specs.declared.request.Request.TheVariants.{Get}
 use Rattle.cbm_iec.specs.declared.pace.Pace.{Pace}
-use Rattle.cbm_program.specs.Units.{PrintsRest, PrintsRestPart}
-use Rattle.cbm_program.proofs.BytesPrinted.{first_at, over_at, line_none, line_none_part, line_head_part, line_byte_part, line_rest_part, line_all, line_end_part}
+use Rattle.cbm_program.proofs.BytesPrinted.{first_at, over_at, rest_at, rest_part_at, line_none, line_none_part, line_head_part, line_byte_part, line_rest_part, line_all, line_end_part}
 use Rattle.cbm_program.proofs.LinePrints.{if_err}
 use Rattle.cbm_program.proofs.OutputLemmas.{grows_on}
 use Rattle.cbm_program.proofs.performing.getting.print_get.Goals as goal
@@ -47,7 +46,7 @@ returns-in_err-print_bytes-clause-err g c =
     if_err c.from_residual-in_err-print_bytes.result (λ m r.
     let o = c.in-Some.ensures.taken m (Get c.args.channel c.args.most) [] false c.requires.channel (c.requires.some, c.requires.few) (c.ask-performer.ensures.under_way m r) in
     line_rest_part _ _ _ _ c.args.channel c.in-Some.byte c.in-Some.is_last (talked_at c.args.drive.now.pace c.args.channel c.args.most m) (first_at g.M.Medium.seen c.args.drive.now.pace c.take.new.self c.take.new.performer m (Get c.args.channel c.args.most) (c.in-Some.byte ∷ []) c.in-Some.is_last c.take.ensures.pace o) c.in_ok-print_head.ensures.ok c.in_ok-print_byte.ensures.ok
-    (subst (λ (e : Pace). PrintsRestPart _ _ (c.in-Some.byte ∷ []) c.in-Some.is_last (talked_at e c.args.channel c.args.most m)) c.take.ensures.pace
+    (rest_part_at _ _ c.in-Some.byte c.in-Some.is_last c.args.channel c.args.most m _ _ c.take.ensures.pace
     (c.in_err-print_bytes.ensures.err m (Get c.args.channel c.args.most) (c.in-Some.byte ∷ []) c.in-Some.is_last c.requires.channel (c.requires.some, c.requires.few) o)))
 
 -- all is said
@@ -55,17 +54,17 @@ pub returns-clause-ok : goal.returns-clause-ok
 returns-clause-ok g c =
     on_ok_weaker c.print.result (λ end m r.
     let o = c.in-Some.ensures.taken m (Get c.args.channel c.args.most) [] false c.requires.channel (c.requires.some, c.requires.few) (c.ask-performer.ensures.under_way m r) in
-    let rest = subst (λ (e : Pace). Rests g.M.Medium.seen c.print_bytes.new.drive (talked_at e c.args.channel c.args.most m).machine × PrintsRest _ _ (c.in-Some.byte ∷ []) c.in-Some.is_last (talked_at e c.args.channel c.args.most m)) c.take.ensures.pace
-    (c.in_ok-print_bytes.ensures.ok m (Get c.args.channel c.args.most) (c.in-Some.byte ∷ []) c.in-Some.is_last c.requires.channel (c.requires.some, c.requires.few) o) in
-    (line_all _ _ _ _ _ c.args.channel c.in-Some.byte c.in-Some.is_last (talked_at c.args.drive.now.pace c.args.channel c.args.most m) (first_at g.M.Medium.seen c.args.drive.now.pace c.take.new.self c.take.new.performer m (Get c.args.channel c.args.most) (c.in-Some.byte ∷ []) c.in-Some.is_last c.take.ensures.pace o) c.in_ok-print_head.ensures.ok c.in_ok-print_byte.ensures.ok rest.1 end, rest.0)) c.print.ensures.ok
+    let rest = c.in_ok-print_bytes.ensures.ok m (Get c.args.channel c.args.most) (c.in-Some.byte ∷ []) c.in-Some.is_last c.requires.channel (c.requires.some, c.requires.few) o in
+    let all = rest_at _ _ c.in-Some.byte c.in-Some.is_last c.args.channel c.args.most m _ _ c.take.ensures.pace rest.1 in
+    (line_all _ _ _ _ _ c.args.channel c.in-Some.byte c.in-Some.is_last (talked_at c.args.drive.now.pace c.args.channel c.args.most m) (first_at g.M.Medium.seen c.args.drive.now.pace c.take.new.self c.take.new.performer m (Get c.args.channel c.args.most) (c.in-Some.byte ∷ []) c.in-Some.is_last c.take.ensures.pace o) c.in_ok-print_head.ensures.ok c.in_ok-print_byte.ensures.ok all end, subst (λ (e : Pace). Rests g.M.Medium.seen c.print_bytes.new.drive (talked_at e c.args.channel c.args.most m).machine) c.take.ensures.pace rest.0)) c.print.ensures.ok
 
 pub returns-clause-err : goal.returns-clause-err
 returns-clause-err g c =
     on_err_weaker c.print.result (λ part m r.
     let o = c.in-Some.ensures.taken m (Get c.args.channel c.args.most) [] false c.requires.channel (c.requires.some, c.requires.few) (c.ask-performer.ensures.under_way m r) in
-    let rest = subst (λ (e : Pace). Rests g.M.Medium.seen c.print_bytes.new.drive (talked_at e c.args.channel c.args.most m).machine × PrintsRest _ _ (c.in-Some.byte ∷ []) c.in-Some.is_last (talked_at e c.args.channel c.args.most m)) c.take.ensures.pace
-    (c.in_ok-print_bytes.ensures.ok m (Get c.args.channel c.args.most) (c.in-Some.byte ∷ []) c.in-Some.is_last c.requires.channel (c.requires.some, c.requires.few) o) in
-    line_end_part _ _ _ _ _ c.args.channel c.in-Some.byte c.in-Some.is_last (talked_at c.args.drive.now.pace c.args.channel c.args.most m) (first_at g.M.Medium.seen c.args.drive.now.pace c.take.new.self c.take.new.performer m (Get c.args.channel c.args.most) (c.in-Some.byte ∷ []) c.in-Some.is_last c.take.ensures.pace o) c.in_ok-print_head.ensures.ok c.in_ok-print_byte.ensures.ok rest.1 part) c.print.ensures.err
+    let rest = c.in_ok-print_bytes.ensures.ok m (Get c.args.channel c.args.most) (c.in-Some.byte ∷ []) c.in-Some.is_last c.requires.channel (c.requires.some, c.requires.few) o in
+    let all = rest_at _ _ c.in-Some.byte c.in-Some.is_last c.args.channel c.args.most m _ _ c.take.ensures.pace rest.1 in
+    line_end_part _ _ _ _ _ c.args.channel c.in-Some.byte c.in-Some.is_last (talked_at c.args.drive.now.pace c.args.channel c.args.most m) (first_at g.M.Medium.seen c.args.drive.now.pace c.take.new.self c.take.new.performer m (Get c.args.channel c.args.most) (c.in-Some.byte ∷ []) c.in-Some.is_last c.take.ensures.pace o) c.in_ok-print_head.ensures.ok c.in_ok-print_byte.ensures.ok all part) c.print.ensures.err
 
 pub returns-in_err-print_bytes-clause-soon : goal.returns-in_err-print_bytes-clause-soon
 returns-in_err-print_bytes-clause-soon g c =
