@@ -317,9 +317,9 @@ module _ {M : Type 0} (seen : M → Seen) where
   timing_stopped a b (Some xs) left n from drive f p q x y one t lacks is_open = stopped a b xs n from drive t.done f p q x y one (stops_at (Some xs) left n from t.done t.follows lacks) t.last t.played is_open
 
   -- the input, whose end was read
-  finished : (a b c : Option (List ℕ)) (xs : List ℕ) (end : ℕ) (drive : Party) (bad : Option ℕ) (done : List Change) (f : Desk (Kept M) → ℕ) (p q r : Turns) (x y z : Cabled (Desk (Kept M))) → IsDrive drive → length (numbers f z.drives) ≡ 1
-      → timetable_of xs ≡ behind done (ended_at end bad) → PlaysOn seen a b done p x q y → Ends seen b c end q y r z → Ended a c (Some xs) drive p x z bad
-  finished a b c xs end drive bad done f p q r x y z sits one e on ends = (
+  finished : (a b c : Option (List ℕ)) (xs : List ℕ) (end : ℕ) (drive : Party) (done : List Change) (f : Desk (Kept M) → ℕ) (p q r : Turns) (x y z : Cabled (Desk (Kept M))) → IsDrive drive → length (numbers f z.drives) ≡ 1
+      → timetable_of xs ≡ behind done (ended_at end None) → PlaysOn seen a b done p x q y → Ends seen b c end q y r z → Ended a c (Some xs) drive p x z None
+  finished a b c xs end drive done f p q r x y z sits one e on ends = (
     ap (λ (o : Timetable). o.bad) e,
     subst (λ (o : Timetable). PrintsTrace a c (λ m. IsAt seen p x (powered drive m) []) (IsBorne seen z) drive [] o) (sym e) (λ m at_.
         (let first = on (powered drive m) [] at_ in
@@ -346,21 +346,28 @@ module _ {M : Type 0} (seen : M → Seen) where
         ))),
   )
 
-  pub timing_ended : (a b c input l k : Option (List ℕ)) (n from end : ℕ) (drive : Party) (result : Result (Unit {0}) RunFault) (f : Desk (Kept M) → ℕ) (p q r : Turns) (x y z : Cabled (Desk (Kept M))) → IsDrive drive → length (numbers f z.drives) ≡ 1
-      → Timing a b input l n from p x q y → ReadsTimed l k n from (EndsAt end) → Ends seen b c end q y r z → BehindRead k (n + 1) result → EndsAs result (λ bad. Ended a c input drive p x z bad)
-  timing_ended a b c input l k n from end drive result f p q r x y z sits one t reads ends read = by result read
+  -- and the lines after it are all skipped
+  pub timing_ended : (a b c input l k : Option (List ℕ)) (n from end : ℕ) (drive : Party) (f : Desk (Kept M) → ℕ) (p q r : Turns) (x y z : Cabled (Desk (Kept M))) → IsDrive drive → length (numbers f z.drives) ≡ 1
+      → Timing a b input l n from p x q y → ReadsTimed l k n from (EndsAt end) → Ends seen b c end q y r z → IsBadBehind k (n + 1) None → Ended a c input drive p x z None
+  timing_ended a b c input l k n from end drive f p q r x y z sits one t reads ends read = over input (ends_behind input l k n from end None t.done t.follows reads read)
     where
-      over : (o : Option (List ℕ)) (bad : Option ℕ) → EndsBehind o end bad t.done → Ended a c o drive p x z bad
-      over None bad h = tt
-      over (Some xs) bad h = finished a b c xs end drive bad t.done f p q r x y z sits one h t.played ends
+      over : (o : Option (List ℕ)) → EndsBehind o end None t.done → Ended a c o drive p x z None
+      over None h = tt
+      over (Some xs) h = finished a b c xs end drive t.done f p q r x y z sits one h t.played ends
 
-      by : (v : Result (Unit {0}) RunFault) → BehindRead k (n + 1) v → EndsAs v (λ bad. Ended a c input drive p x z bad)
-      by (Ok u) h = over input None (ends_behind input l k n from end None t.done t.follows reads h)
-      by (Err (Script bad)) h = over input (Some bad) (ends_behind input l k n from end (Some bad) t.done t.follows reads h)
-      by (Err (Image number)) h = absurd h
-      by (Err Memory) h = absurd h
-      by (Err Reading) h = tt
-      by (Err Writing) h = absurd h
+  -- a line after it can't be had, or is refused: what was played are the changes
+  pub behind_faulted : {A : Type 0} (a b input l k : Option (List ℕ)) (n from end : ℕ) (drive : Party) (result : Result A RunFault) (fault : RunFault) (f : Desk (Kept M) → ℕ) (p q : Turns) (x y : Cabled (Desk (Kept M))) → length (numbers f y.drives) ≡ 1
+      → Timing a b input l n from p x q y → IsOpen q from → ReadsTimed l k n from (EndsAt end) → BehindRead k (n + 1) (Err fault) → result ≡ Err fault → EndsAs result (λ bad. Ended a b input drive p x y bad)
+  behind_faulted a b input l k n from end drive result (Script bad) f p q x y one t is_open reads h e =
+      subst (λ v. EndsAs v (λ o. Ended a b input drive p x y o)) (sym e) (over input (ends_behind input l k n from end (Some bad) t.done t.follows reads h))
+    where
+      over : (o : Option (List ℕ)) → EndsBehind o end (Some bad) t.done → Ended a b o drive p x y (Some bad)
+      over None g = tt
+      over (Some xs) g = stopped a b xs bad from drive t.done f p q x y one g t.last t.played is_open
+  behind_faulted a b input l k n from end drive result (Image number) f p q x y one t is_open reads h e = absurd h
+  behind_faulted a b input l k n from end drive result Memory f p q x y one t is_open reads h e = absurd h
+  behind_faulted a b input l k n from end drive result Reading f p q x y one t is_open reads h e = subst (λ v. EndsAs v (λ o. Ended a b input drive p x y o)) (sym e) tt
+  behind_faulted a b input l k n from end drive result Writing f p q x y one t is_open reads h e = absurd h
 
   -- a line that can't be had, or is refused
   pub read_faulted : {A : Type 0} (a b input l k : Option (List ℕ)) (n from : ℕ) (drive : Party) (result : Result A RunFault) (fault : RunFault) (f : Desk (Kept M) → ℕ) (p q : Turns) (x y : Cabled (Desk (Kept M))) → length (numbers f y.drives) ≡ 1 → Timing a b input l n from p x q y → IsOpen q from

@@ -46,18 +46,20 @@ unfoldable pub bad_behind : ℕ → List (List ℕ) → Option ℕ
 bad_behind n [] = None
 bad_behind n (line ∷ lines) = if is_skipped (timed_meaning n 0 line) then bad_behind (n + 1) lines else Some n
 
--- the changes up to the end or the first bad line; the end, if it comes before that; and the number of that line
+-- the changes up to the end or the first bad line; the end, if no line is bad; and the number of the bad line
 pub record Timetable : Type 0 where
   pub changes : List Change
   pub end : Option ℕ
   pub bad : Option ℕ
 
--- nothing more; and the end, with the first bad line behind it
+-- nothing more
 abbrev pub stopped_at : ℕ → Timetable
 stopped_at n = record { changes = []; end = None; bad = Some n }
 
+-- the end; but where a line after it is bad, it isn't played up to there
 abbrev pub ended_at : ℕ → Option ℕ → Timetable
-ended_at end bad = record { changes = []; end = Some end; bad = bad }
+ended_at end None = record { changes = []; end = Some end; bad = None }
+ended_at end (Some bad) = stopped_at bad
 
 abbrev pub with_change : Change → Timetable → Timetable
 with_change change rest = record { changes = change ∷ rest.changes; end = rest.end; bad = rest.bad }

@@ -58,7 +58,7 @@ fn read_behind<R: Read>(
 }
 
 /// Plays a script on a drive at power up, behind its first line: a change is made and printed, with what comes before it,
-/// before the next line is read; what comes of the last one is printed when the end was read.
+/// before the next line is read; what comes of the last one is printed when the end and the lines after it were read.
 fn play_on<M: Steady, R: Read, W: Write>(
     stage: &mut Stage<M>,
     device: u8,
@@ -96,9 +96,10 @@ fn play_on<M: Steady, R: Read, W: Write>(
                 from = change.moment;
             }
             Timed::Ends(end) => {
+                read_behind(lines, &mut bytes, number + 1)?;
                 stage.end(end, writer)?;
                 flush(writer)?;
-                return read_behind(lines, &mut bytes, number + 1);
+                return Ok(());
             }
         }
         number += 1;
