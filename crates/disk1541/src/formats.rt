@@ -56,3 +56,8 @@ pub fn form<'a>(kind: Kind, tracks: &'a str) -> Result<Form, Failure<'a>> {
         Kind::G64 => Ok(Form::G64),
     }
 }
+
+/// Whether a file is named as images are.
+pub fn is_image_name(path: &str) -> bool {
+    told_by_name(path).is_some()
+}

@@ -12,7 +12,9 @@ pub enum WordFault<'a> {
     Divided(&'a str),
     /// A file from standard input has no name.
     NoName,
-    /// Standard input is read once, so it isn't image and file.
+    /// One name is given for several files.
+    OneName,
+    /// Standard input is read once, so it isn't image and file, nor two files.
     Twice,
     /// No file has such a type.
     Type(&'a str),
@@ -52,7 +54,8 @@ impl<'a> WordFault<'a> {
                 )
             }
             WordFault::NoName => ("name the file by --name", "", ""),
-            WordFault::Twice => ("`-` is the image or the file, not both", "", ""),
+            WordFault::OneName => ("--name is for one file", "", ""),
+            WordFault::Twice => ("`-` is the image or one file, and stands once", "", ""),
             WordFault::Type(kind) => ("", kind, " is no type of a file: take prg, seq or usr"),
             WordFault::Title(title) => ("a title has at most 16 characters: ", title, ""),
             WordFault::Id(id) => ("an id has two characters: ", id, ""),
