@@ -566,6 +566,70 @@ case_of "and does" 0 "" "" "$disk" validate geos.d64 --force
 case_of "and then is sound" 0 "sound" "" "$disk" check geos.d64
 case_of "and has nothing more to free" 0 "no block and no file would go" "" "$disk" validate geos.d64 --dry-run
 
+# what can be read of damaged files: the first file of an empty disk lies in 17/0, 17/10, 17/20 and so on
+head -c 1000 noise.bin > big.bin
+"$disk" new salvage.d64 --title SALVAGE --id 64
+"$disk" put salvage.d64 big.bin
+"$disk" put salvage.d64 one.prg
+python3 -c 'image = open("salvage.d64", "rb").read()
+errors = bytearray([1]) * 683
+errors[16 * 21 + 10] = 5
+open("checksum.d64", "wb").write(image + errors)
+cut = bytearray(image)
+cut[(16 * 21 + 10) * 256] = 99
+cut[357 * 256 + 256 + 32 + 2] -= 128
+open("cut.d64", "wb").write(cut)'
+case_of "a checksum that is wrong" 1 "" "disk1541: BIG: track 17, sector 10 can't be read (error 23)" "$disk" get checksum.d64 BIG
+case_of "with --salvage" 0 "" 'disk1541: "BIG": 17/10 is taken in spite of its error 23' "$disk" get checksum.d64 BIG --salvage -o saved.bin
+is "gives all bytes" cmp -s saved.bin big.bin
+case_of "a chain that is cut off" 1 "" "disk1541: BIG: track 99, sector 10 can't be read (error 66)" "$disk" get cut.d64 BIG
+case_of "with --salvage" 0 any "disk1541: \"BIG\" is cut off after 508 bytes: track 99, sector 10 can't be read (error 66)" "$disk" get cut.d64 BIG --salvage
+head -c 508 big.bin > begun.bin
+is "gives its beginning" cmp -s out.txt begun.bin
+case_of "a file that was never closed" 1 "" "disk1541: ONE: the file was never closed" "$disk" get cut.d64 ONE
+case_of "with --salvage" 0 one 'disk1541: "ONE" was never closed: 3 bytes are taken' "$disk" get cut.d64 ONE --salvage
+case_of "all of them" 0 "" "disk1541: \"BIG\" is cut off after 508 bytes: track 99, sector 10 can't be read (error 66)
+disk1541: \"ONE\" was never closed: 3 bytes are taken" "$disk" get-all cut.d64 saved --salvage
+is "in their files" cmp -s saved/BIG.prg begun.bin
+is "and with their bytes" test "$(cat saved/ONE.prg)" = one
+case_of "no file to salvage" 1 "" "disk1541: X: no such file" "$disk" get cut.d64 X --salvage
+
+# the bytes of a sector
+case_of "sector" 0 any "" "$disk" sector "$here/hello.d64" 18 1
+is "shows sixteen lines" test "$(wc -l < out.txt)" = 16
+is "with places, bytes and characters" test "$(head -n 1 out.txt)" = "00  00 ff 82 11 00 48 45 4c 4c 4f a0 a0 a0 a0 a0 a0  .....HELLO......"
+case_of "a sector that can't be read" 1 "" "disk1541: checksum.d64: track 17, sector 10 can't be read (error 23)" "$disk" sector checksum.d64 17 10
+case_of "no such sector" 64 "" "disk1541: no disk has such a sector: 21 (tracks are 1 to 40, sectors 0 to 20)" "$disk" sector hello.d64 1 21
+case_of "no such track in the image" 1 "" "disk1541: hello.d64: track 36, sector 0 can't be read (error 66)" "$disk" sector hello.d64 36 0
+case_of "no number" 64 "" "disk1541: no disk has such a sector: x (tracks are 1 to 40, sectors 0 to 20)" "$disk" sector hello.d64 x 0
+
+# the program in its place, its page for man, and completions
+if command -v rt > installed.txt; then
+    is "install" sh -c "'$here/../tools/install' prefix disk1541='$disk' > installed.txt"
+    is "says what it wrote" test "$(grep -c . installed.txt)" = "$(find prefix -type f | wc -l)"
+    case_of "the program runs there" 0 "$hello" "" prefix/bin/disk1541 list "$here/hello.d64"
+    is "licences of what is linked" test -s prefix/share/licenses/yellowadze1541/clap/LICENSE-MIT -a -s prefix/share/licenses/yellowadze1541/sha2/LICENSE-APACHE
+    completed() {
+        bash -c 'source prefix/share/bash-completion/completions/disk1541; COMP_WORDS=("$@"); COMP_CWORD=$(($# - 1)); _disk1541; echo "${COMPREPLY[*]}"' "" "$@"
+    }
+    if command -v bash > /dev/null; then
+        is "commands are completed" test "$(completed disk1541 va)" = validate
+        is "options of a command, too" test "$(completed disk1541 validate --f)" = --force
+        is "and files" test "$(completed disk1541 get ge)" = geos.d64
+    fi
+    if command -v groff > /dev/null; then
+        is "the page for man has no fault" test -z "$(groff -man -Tutf8 -ww prefix/share/man/man1/disk1541.1 2>&1 > page.txt)"
+        is "and says what each command does" grep -q "Takes a file out" page.txt
+    fi
+    ! command -v zsh > /dev/null || is "completions for zsh" zsh -n prefix/share/zsh/site-functions/_disk1541
+    ! command -v fish > /dev/null || is "completions for fish" fish -n prefix/share/fish/vendor_completions.d/disk1541.fish
+fi
+for word in "" $("$disk" --help | sed -n '/^Commands:/,/^$/s/^  \([a-z-]*\) .*/\1/p' | grep -vx help); do
+    "$disk" $word --help > out.txt
+    is "help of ${word:-all commands} has examples and statuses" test "$(grep -c '^Examples:$\|^Exit status: 0 done' out.txt)" = 2
+    is "within 100 columns" test "$(sed -n '/^Examples:/,$p' out.txt | wc -L)" -le 100
+done
+
 # Faults of the host: a sentence, a status, and the image as it was.
 cp "$here/hello.d64" host.d64
 cp host.d64 before.d64

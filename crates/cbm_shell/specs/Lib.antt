@@ -17,3 +17,4 @@ pub mod Geos
 pub mod Freeing
 pub mod Wrapped
 pub mod Locking
+pub mod Salvaging

@@ -17,6 +17,7 @@ mod open_disk;
 mod petscii;
 mod readable;
 mod reading;
+mod salvaging;
 mod wrapped;
 
 pub use changing::Change;
@@ -28,12 +29,13 @@ pub use images::{Order, change, check, directory, file, raw_directory, validate}
 pub use listing::{list, raw_list};
 pub use locking::{lock, retitle};
 pub use looking::{
-    Freed, Geos, Info, Mark, entries, entries_of, file_of, geos_blocks, geos_of, info, info_of,
-    picture, picture_of,
+    Freed, Geos, Info, Mark, entries, entries_of, file_blocks, file_of, geos_blocks, geos_of, info,
+    info_of, picture, picture_of, sector,
 };
 pub use making::{Form, new_image};
 pub use names::{name_text, read_name};
 pub use open_disk::OpenDisk;
 pub use petscii::{Charset, LOWER_TABLE, TABLE, code_of, key_of};
 pub use reading::{Named, get, read_file};
+pub use salvaging::{Salvaged, salvage};
 pub use wrapped::{Wrapped, unwrapped};

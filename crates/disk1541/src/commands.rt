@@ -2,7 +2,8 @@
 use crate::words::{
     CHARSET, DRY_RUN, FILES, FOLDER, FORCE, FORMAT, ID, IMAGE, IMAGES, JSON, LOSSY, MEANT, NAME,
     NAME_ON_DISK, NEW, NEW_TITLE, OLD, ONLY, OUT, OUTPUT, RAW, RECURSIVE, REPLACE_FILE,
-    REPLACE_FILES, REPLACE_IMAGE, REPLACE_NAME, TITLE, TRACKS, TYPE, WANTED, Word,
+    REPLACE_FILES, REPLACE_IMAGE, REPLACE_NAME, SALVAGE, SECTOR, TITLE, TRACK, TRACKS, TYPE,
+    WANTED, Word,
 };
 
 /// What help says at the end: examples, and the exit statuses.
@@ -31,6 +32,8 @@ pub enum Verb {
     Info,
     /// Shows a picture of its sectors.
     Map,
+    /// Shows the bytes of a sector.
+    Sector,
     /// Tells whether it is sound.
     Check,
     /// Shows a sum of its bytes.
@@ -101,16 +104,16 @@ const COMMANDS: &[Command] = &[
         verb: Verb::Get,
         name: "get",
         about: "Takes a file out",
-        words: &[IMAGE, NAME, OUTPUT, REPLACE_FILE, CHARSET],
+        words: &[IMAGE, NAME, OUTPUT, REPLACE_FILE, SALVAGE, CHARSET],
         examples: examples!(
-            "  disk1541 get game.d64 LOADER -o loader.prg\n  disk1541 get game.d64 '{c1}*' > first\n"
+            "  disk1541 get game.d64 LOADER -o loader.prg\n  disk1541 get game.d64 '{c1}*' > first\n  disk1541 get bad.d64 --salvage 'LEVEL*' -o level.bin\n"
         ),
     },
     Command {
         verb: Verb::GetAll,
         name: "get-all",
         about: "Takes all files out, into a folder",
-        words: &[IMAGE, FOLDER, REPLACE_FILES],
+        words: &[IMAGE, FOLDER, REPLACE_FILES, SALVAGE],
         examples: examples!("  disk1541 get-all game.d64 files\n"),
     },
     Command {
@@ -126,6 +129,13 @@ const COMMANDS: &[Command] = &[
         about: "Shows which sectors are free, used, lost",
         words: &[IMAGE],
         examples: examples!("  disk1541 map game.d64\n"),
+    },
+    Command {
+        verb: Verb::Sector,
+        name: "sector",
+        about: "Shows the bytes of a sector",
+        words: &[IMAGE, TRACK, SECTOR],
+        examples: examples!("  disk1541 sector game.d64 18 0\n"),
     },
     Command {
         verb: Verb::Check,

@@ -61,3 +61,18 @@ pub fn form<'a>(kind: Kind, tracks: &'a str) -> Result<Form, Failure<'a>> {
 pub fn is_image_name(path: &str) -> bool {
     told_by_name(path).is_some()
 }
+
+/// How many bytes the sectors of a D64 with error bytes have.
+const OF_35_TRACKS: usize = 174_848;
+
+/// The size of a D64 of 35 tracks with error bytes.
+pub const WITH_ERRORS: usize = 175_531;
+
+/// An image; a D64 with error bytes without them.
+pub fn without_errors(image: &[u8]) -> &[u8] {
+    if image.len() == WITH_ERRORS {
+        &image[..OF_35_TRACKS]
+    } else {
+        image
+    }
+}

@@ -11,7 +11,7 @@ fn changes(verb: Verb) -> bool {
         Verb::Put | Verb::Copy | Verb::Rename | Verb::Delete => true,
         Verb::Lock | Verb::Unlock | Verb::Title | Verb::Validate => true,
         Verb::List | Verb::Find | Verb::Get | Verb::GetAll | Verb::Info => false,
-        Verb::Map | Verb::Check | Verb::Hash | Verb::New | Verb::Convert => false,
+        Verb::Map | Verb::Sector | Verb::Check | Verb::Hash | Verb::New | Verb::Convert => false,
     }
 }
 

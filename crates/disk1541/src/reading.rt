@@ -42,6 +42,7 @@ pub fn one_file<'a>(words: &ArgMatches<'a>, charset: Charset) -> OneFile<'a> {
         output: given(words, "output"),
         replaces: flag(words, "replace"),
         charset,
+        salvages: flag(words, "salvage"),
     }
 }
 
@@ -50,6 +51,7 @@ pub fn place<'a>(words: &ArgMatches<'a>) -> Place<'a> {
     Place {
         folder: given(words, "DIR"),
         replaces: flag(words, "replace"),
+        salvages: flag(words, "salvage"),
     }
 }
 

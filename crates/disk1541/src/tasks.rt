@@ -16,6 +16,8 @@ mod order;
 mod plan;
 mod put;
 mod rename;
+mod salvage;
+mod sector;
 mod sum;
 mod taking;
 mod view;
@@ -38,6 +40,7 @@ pub use self::put::HostFiles;
 use self::put::put;
 pub use self::rename::Pair;
 use self::rename::rename;
+use self::sector::show_sector;
 pub use self::sum::sum_text;
 pub use self::taking::Place;
 pub use self::view::{Answer, Look, Shown, View, answer_of};
@@ -97,6 +100,7 @@ fn perform<'a, R: Runtime + AllocGlobal>(
         Verb::Find => look_with(rt, words, charset, View::Matches),
         Verb::Info => look_with(rt, words, charset, View::Facts),
         Verb::Map => look_with(rt, words, charset, View::Sectors),
+        Verb::Sector => show_sector(rt, image, given(words, "TRACK"), given(words, "SECTOR")),
         Verb::Check => look_with(rt, words, charset, View::Soundness),
         Verb::Hash => look_with(rt, words, charset, View::Sum),
         Verb::Get => get(rt, image, &one_file(words, charset)),

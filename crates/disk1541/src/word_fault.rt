@@ -24,6 +24,8 @@ pub enum WordFault<'a> {
     Id(&'a str),
     /// No disk has so many tracks.
     Tracks(&'a str),
+    /// No disk has a sector of this number or track.
+    Sector(&'a str),
     /// A G64 has 35 tracks.
     LongG64,
     /// A C64 has no such character set.
@@ -61,6 +63,13 @@ impl<'a> WordFault<'a> {
             WordFault::Id(id) => ("an id has two characters: ", id, ""),
             WordFault::Tracks(tracks) => ("a disk has 35 or 40 tracks, not ", tracks, ""),
             WordFault::Charset(word) => ("", word, " is no character set: take upper or lower"),
+            WordFault::Sector(word) => {
+                (
+                    "no disk has such a sector: ",
+                    word,
+                    " (tracks are 1 to 40, sectors 0 to 20)",
+                )
+            }
             WordFault::LongG64 => ("a G64 has 35 tracks here, not 40", "", ""),
             WordFault::SameFormat(name) => ("", name, " has that format already"),
             WordFault::Format(word) => {

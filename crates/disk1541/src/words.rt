@@ -141,6 +141,27 @@ pub const REPLACE_FILE: Word = Word {
     ..FLAG
 };
 
+/// What can be read of damaged files.
+pub const SALVAGE: Word = Word {
+    name: "salvage",
+    help: "take what can be read, also of files that are damaged or were never closed",
+    ..FLAG
+};
+
+/// The track of a sector.
+pub const TRACK: Word = Word {
+    name: "TRACK",
+    help: "its track, from 1 on",
+    ..NEEDED
+};
+
+/// Its number on the track.
+pub const SECTOR: Word = Word {
+    name: "SECTOR",
+    help: "its number on the track, from 0 on",
+    ..NEEDED
+};
+
 /// Where GET-ALL writes the files.
 pub const FOLDER: Word = Word {
     name: "DIR",

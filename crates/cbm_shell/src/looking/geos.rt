@@ -2,7 +2,8 @@
 ghost use Rattle.std.specs.Prelude.{◌≡◌, ◌≤◌};
 ghost use Rattle.cbm_medium.specs.Place.{directory_head};
 ghost use Rattle.cbm_bam.specs.Marks.{is_marked};
-ghost use Rattle.cbm_shell.specs.Mapping.{is_among};
+ghost use Rattle.cbm_volume.specs.Entries.{first_block};
+ghost use Rattle.cbm_shell.specs.Mapping.{chain_of, is_among};
 ghost use Rattle.cbm_shell.specs.Marking.{with_places};
 ghost use Rattle.cbm_shell.specs.Geos.{is_one_chain, is_geos, has_records, geos_of, chains_in, records_of, geos_blocks, in_geos, is_geos_map, border_in, geos_places};
 
@@ -174,5 +175,16 @@ pub(crate) fn geos_blocks<M: Medium>(medium: &M, geometry: Geometry, entry: &Ent
 {
     let mut used = SectorSet::new();
     use_geos(medium, geometry, entry, &mut used);
+    used
+}
+
+/// The blocks of the chain of an entry's file.
+pub(crate) fn chain_blocks<M: Medium>(medium: &M, geometry: Geometry, entry: &Entry) -> SectorSet
+    requires { geometry ≤ (M.seen medium.now).tracks }
+    ensures { is_marked result
+        ≡ is_among (chain_of geometry (M.seen medium.now).content (first_block entry.now)) }
+{
+    let mut used = SectorSet::new();
+    use_chain(medium, geometry, entry.first_block(), &mut used);
     used
 }

@@ -1,12 +1,10 @@
 //! INFO: what the disk is.
+use crate::formats::WITH_ERRORS;
 use crate::names::unfilled;
 use cbm_program::{Kind, kind_of};
 use cbm_shell::{Charset, Info, ShellFault, name_text};
 use cbm_volume::{Entry, Unsound};
 use std::alloc::{AllocError, Global};
-
-/// The size of a D64 of 35 tracks with error bytes.
-const WITH_ERRORS: usize = 175_531;
 
 /// How an image's format is called.
 pub fn format_name(image: &[u8]) -> &'static str {

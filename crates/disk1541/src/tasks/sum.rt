@@ -1,25 +1,11 @@
 //! HASH: a sum of an image's sectors.
 use super::view::Answer;
 use crate::digits::hex;
+use crate::formats::without_errors;
 use cbm_program::{Kind, kind_of};
 use cbm_shell::ShellFault;
 use sha2::{Digest, Sha256};
 use std::alloc::{AllocError, Global};
-
-/// How many bytes the sectors of a D64 with error bytes have.
-const OF_35_TRACKS: usize = 174_848;
-
-/// The size of a D64 with error bytes.
-const WITH_ERRORS: usize = 175_531;
-
-/// A D64 without error bytes.
-fn without_errors(image: &[u8]) -> &[u8] {
-    if image.len() == WITH_ERRORS {
-        &image[..OF_35_TRACKS]
-    } else {
-        image
-    }
-}
 
 /// The sum of a D64.
 fn sum(image: &[u8]) -> [u8; 32] {
