@@ -1,5 +1,5 @@
 -- Blocks of GEOS put into a set, and the blocks that are given back one after another.
-use Rattle.std.proofs.Common.{◌≡◌, ℕ, zero, suc, ◌+◌, ◌*◌, List, [], ◌∷◌, ◌++◌, Bool, true, false, Ok, Err, refl, sym, ap, subst, ◌∙◌, arith, append_assoc, append-nil}
+use Rattle.std.proofs.Common.{◌≡◌, ℕ, zero, suc, ◌+◌, ◌*◌, ◌≤◌, List, [], ◌∷◌, ◌++◌, length, take, inl, inr, Bool, true, false, Ok, Err, refl, sym, ap, subst, ◌∙◌, arith, append_assoc, append-nil}
 use Rattle.std.specs.Prelude.{◌||◌, if◌then◌else◌}
 use Rattle.cbm_medium.specs.Place.{Place, Has, has, sectors_on, directory_head}
 use Rattle.cbm_medium.specs.Content.{Cell, Content}
@@ -146,6 +146,15 @@ pub any_later : (held : Place → Bool) (whole : Bool) (p : Place) (rest left : 
 unfolding is_any
 any_later held whole p rest left begins is before = sym (ap (is_any held) begins ∙ ap (λ b. b || is_any held rest) is) ∙ before
 
-pub any_none : (held : Place → Bool) (left : List Place) → left ≡ [] → is_any held left ≡ false
+pub any_none : (held : Place → Bool) (left : List Place) → length left ≡ 0 → is_any held left ≡ false
 unfolding is_any
-any_none held left e = ap (is_any held) e
+any_none held [] e = refl
+any_none held (p ∷ rest) e = absurd (omega arith)
+
+-- ---- the first of the first
+
+pub take_twice : (m n : ℕ) (xs : List ℕ) → m ≤ n → take m (take n xs) ≡ take m xs
+take_twice zero n xs h = refl
+take_twice (suc m) zero xs h = absurd (omega arith)
+take_twice (suc m) (suc n) [] h = refl
+take_twice (suc m) (suc n) (x ∷ xs) h = ap (λ l. x ∷ l) (take_twice m n xs (omega arith))

@@ -66,8 +66,11 @@ in_geos tracks content [] = []
 in_geos tracks content (e ∷ rest) = geos_blocks tracks content e ++ in_geos tracks content rest
 
 -- A disk that GEOS formatted says so in 18/0 from byte 173 on. The two bytes before that name its border block, which lists files that aren't in the directory.
+abbrev pub is_geos_mark : List ℕ → Bool
+is_geos_mark text = bytes_eq (take 11 text) (codes "GEOS format")
+
 abbrev pub is_geos_map : List ℕ → Bool
-is_geos_map map = bytes_eq (take 11 (drop 173 map)) (codes "GEOS format")
+is_geos_map map = is_geos_mark (drop 173 map)
 
 abbrev pub border_by : Bool → ℕ → Content → List ℕ → List Place
 border_by true tracks content map = chain_of tracks content (place_in map 171)

@@ -68,20 +68,27 @@ fn locked_type(byte: u8, is_locked: bool) -> u8
     byte % 64 + 128 * (byte / 128) + lock_bit(is_locked)
 }
 
+/// The entry of these thirty bytes.
+fn entry_of(bytes: &[u8; 30]) -> Entry
+    ensures { result ≡ bytes.now }
+{
+    let mut sector = [0; 256];
+    sector[2..32].copy_from_slice(bytes);
+    Entry::of(&sector, 0)
+}
+
 /// An entry with that bit so.
 fn locked_entry(entry: &Entry, is_locked: bool) -> Entry
     ensures { result ≡ locked_entry is_locked entry.now }
 {
     let mut bytes = *entry.bytes();
     bytes[0] = locked_type(bytes[0], is_locked);
-    let mut sector = [0; 256];
-    sector[2..32].copy_from_slice(&bytes);
-    Entry::of(&sector, 0)
+    entry_of(&bytes)
 }
 
 /// The disk with the first file changed that matches and isn't locked as it shall be; None where there is none. Errors:
 /// `Trouble`, where the directory breaks off before, or the medium refuses to be written.
-fn locked<M: Medium>(
+fn locked<M: Medium + Drop>(
     volume: Volume<M>,
     pattern: &[u8],
     is_locked: bool,
@@ -174,7 +181,7 @@ fn write_head<M: Medium>(medium: &mut M, head: &[u8; 256]) -> Result<(), ShellFa
 }
 
 /// A disk with another title. Errors: `Trouble`, where 18/0 can't be read or written.
-fn retitled<M: Medium>(volume: Volume<M>, title: &[u8]) -> Result<M, ShellFault>
+fn retitled<M: Medium + Drop>(volume: Volume<M>, title: &[u8]) -> Result<M, ShellFault>
     requires { length title.now ≤ 16 }
     ensures content { IfOk result (λ after. (M.seen after).content ≡ titled title.now (M.seen volume).content) }
     ensures tracks { IfOk result (λ after. (M.seen after).tracks ≡ (M.seen volume).tracks) }

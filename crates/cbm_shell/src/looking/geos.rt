@@ -5,7 +5,7 @@ ghost use Rattle.cbm_bam.specs.Marks.{is_marked};
 ghost use Rattle.cbm_volume.specs.Entries.{first_block};
 ghost use Rattle.cbm_shell.specs.Mapping.{chain_of, is_among};
 ghost use Rattle.cbm_shell.specs.Marking.{with_places};
-ghost use Rattle.cbm_shell.specs.Geos.{is_one_chain, is_geos, has_records, geos_of, chains_in, records_of, geos_blocks, in_geos, is_geos_map, border_in, geos_places};
+ghost use Rattle.cbm_shell.specs.Geos.{is_one_chain, is_geos, has_records, geos_of, chains_in, records_of, geos_blocks, in_geos, is_geos_mark, is_geos_map, border_in, geos_places};
 
 use crate::looking::mapping::use_chain;
 use cbm_bam::SectorSet;
@@ -130,11 +130,18 @@ fn use_all_geos<M: Medium>(medium: &M, geometry: Geometry, entries: &[Entry], us
     }
 }
 
+/// Whether a text begins as GEOS says that it formatted a disk.
+fn is_geos_mark(text: &[u8]) -> bool
+    ensures { result ≡ is_geos_mark text.now }
+{
+    text.starts_with(b"GEOS format")
+}
+
 /// Whether the map of a disk says that GEOS formatted it.
 fn is_geos_map(map: &[u8; 256]) -> bool
     ensures { result ≡ is_geos_map map.now }
 {
-    map[MARK..].starts_with(b"GEOS format")
+    is_geos_mark(&map[MARK..])
 }
 
 /// Puts the border block of a disk that GEOS formatted into the set.

@@ -17,8 +17,8 @@ returns-then-has_records g c =
     (c.use_chain.ensures ∙ ap (λ p. with_places (is_marked c.args.used.now) (chain_of c.args.geometry content p)) c.first_side.ensures)
     (c.use_records.ensures ∙ ap (λ p. with_places (is_marked c.use_chain.new.used) (records_of c.args.geometry content p)) c.first_block.ensures)
 
-pub returns : goal.returns
-returns g c =
+pub returns-else-has_records : goal.returns-else-has_records
+returns-else-has_records g c =
     let content = (g.M.Medium.seen c.args.medium.now).content in
     geos_plain (is_marked c.args.used.now) (is_marked c.use_chain.new.used) c.args.geometry content c.args.entry.now
     (sym c.if-not-is_geos.ensures) (sym c.if-has_records.ensures)
