@@ -22,7 +22,7 @@ pub enum Sync {
 
 /// What is saved.
 #[derive(Clone, Copy)]
-struct Save<'a> {
+struct Saving<'a> {
     program: &'a str,
     bytes: &'a [u8],
     // What the file must still hold, if that matters.
@@ -52,7 +52,7 @@ pub fn save_by<R: Files + AllocGlobal>(
     bytes: &[u8],
     sync: Sync,
 ) -> io::Result<()> {
-    let save = Save {
+    let save = Saving {
         program,
         bytes,
         old: None,
@@ -71,7 +71,7 @@ pub fn replace<R: Files + AllocGlobal>(
     old: &[u8],
     bytes: &[u8],
 ) -> io::Result<bool> {
-    let save = Save {
+    let save = Saving {
         program,
         bytes,
         old: Some(old),
@@ -81,7 +81,7 @@ pub fn replace<R: Files + AllocGlobal>(
 }
 
 /// Saves a file. False where it doesn't hold any more what it must.
-fn save_whole<R: Files + AllocGlobal>(rt: &R, path: &str, save: Save<'_>) -> io::Result<bool> {
+fn save_whole<R: Files + AllocGlobal>(rt: &R, path: &str, save: Saving<'_>) -> io::Result<bool> {
     match fs::metadata(rt, path) {
         Ok(metadata) if metadata.is_file() => {
             let place = end_of_links(rt, path)?;
@@ -128,7 +128,7 @@ fn require_writable<R: Files>(rt: &R, path: Path<'_>) -> io::Result<()> {
 fn save_beside<R: Files + AllocGlobal>(
     rt: &R,
     path: Path<'_>,
-    save: Save<'_>,
+    save: Saving<'_>,
     permissions: Option<Permissions>,
 ) -> io::Result<bool> {
     let program = save.program;
@@ -165,7 +165,7 @@ fn is_in_place(saved: &io::Result<bool>) -> bool {
 // The file beside is whole, and on the host's disk if that is wanted.
 fn fill<R: Files>(
     mut file: R::File,
-    save: Save<'_>,
+    save: Saving<'_>,
     permissions: Option<Permissions>,
 ) -> io::Result<()> {
     file.write_all(save.bytes)?;
@@ -183,7 +183,7 @@ fn put_in_place<R: Files + AllocGlobal>(
     file: R::File,
     new: Path<'_>,
     path: Path<'_>,
-    save: Save<'_>,
+    save: Saving<'_>,
     permissions: Option<Permissions>,
 ) -> io::Result<bool> {
     fill::<R>(file, save, permissions)?;
