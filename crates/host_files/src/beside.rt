@@ -22,11 +22,11 @@ pub enum Sync {
 
 /// What is saved.
 #[derive(Clone, Copy)]
-struct Saving<'a> {
-    program: &'a str,
-    bytes: &'a [u8],
+struct Saving<'p, 'b, 'o> {
+    program: &'p str,
+    bytes: &'b [u8],
     // What the file must still hold, if that matters.
-    old: Option<&'a [u8]>,
+    old: Option<&'o [u8]>,
     sync: Sync,
 }
 
@@ -81,7 +81,11 @@ pub fn replace<R: Files + AllocGlobal>(
 }
 
 /// Saves a file. False where it doesn't hold any more what it must.
-fn save_whole<R: Files + AllocGlobal>(rt: &R, path: &str, save: Saving<'_>) -> io::Result<bool> {
+fn save_whole<R: Files + AllocGlobal>(
+    rt: &R,
+    path: &str,
+    save: Saving<'_, '_, '_>,
+) -> io::Result<bool> {
     match fs::metadata(rt, path) {
         Ok(metadata) if metadata.is_file() => {
             let place = end_of_links(rt, path)?;
@@ -128,7 +132,7 @@ fn require_writable<R: Files>(rt: &R, path: Path<'_>) -> io::Result<()> {
 fn save_beside<R: Files + AllocGlobal>(
     rt: &R,
     path: Path<'_>,
-    save: Saving<'_>,
+    save: Saving<'_, '_, '_>,
     permissions: Option<Permissions>,
 ) -> io::Result<bool> {
     let program = save.program;
@@ -165,7 +169,7 @@ fn is_in_place(saved: &io::Result<bool>) -> bool {
 // The file beside is whole, and on the host's disk if that is wanted.
 fn fill<R: Files>(
     mut file: R::File,
-    save: Saving<'_>,
+    save: Saving<'_, '_, '_>,
     permissions: Option<Permissions>,
 ) -> io::Result<()> {
     file.write_all(save.bytes)?;
@@ -183,7 +187,7 @@ fn put_in_place<R: Files + AllocGlobal>(
     file: R::File,
     new: Path<'_>,
     path: Path<'_>,
-    save: Saving<'_>,
+    save: Saving<'_, '_, '_>,
     permissions: Option<Permissions>,
 ) -> io::Result<bool> {
     fill::<R>(file, save, permissions)?;
