@@ -42,18 +42,19 @@ none='0 "TEST            " AB 2A
 mkdir how_to
 cp "$here/hello.d64" how_to
 printf '\001\010game' > how_to/game.prg
+printf 'level' > how_to/levels.seq
 ln -s "$disk" how_to/disk1541
 sed -n '/^## How to/,/^## Exit/p' "$here/../docs/DISK1541.md" | grep -o '`disk1541 [^`]*`' | tr -d '`' > commands.txt
 while read -r line; do
     echo "\$ $line"
     (cd how_to && PATH=.:$PATH && eval "$line" 2>&1) || echo "status $?"
 done < commands.txt > told.txt
-is "the ten how-tos of the document print what they should" cmp told.txt "$here/how_to.txt"
-is "and take out, put in and make what they say" test "$(cd how_to && echo *)" = "FOLDER disk1541 empty.d64 game.prg hello.d64 hello.g64 hello.prg"
+is "the how-tos of the document print what they should" cmp told.txt "$here/how_to.txt"
+is "and take out, put in and make what they say" test "$(cd how_to && echo *)" = "FOLDER disk1541 empty.d64 game.prg hello.d64 hello.g64 hello.prg levels.seq"
 
 # each command, its refusals too
 case_of "list" 0 "$hello" "" "$disk" list hello.d64
-case_of "list with a pattern" 0 "$none" "" "$disk" list hello.d64 'X*'
+case_of "list with a pattern" 0 "$none" "" "$disk" list hello.d64 --only 'X*'
 printf '\001\002\003' > three.bin
 case_of "get" 0 "" "" "$disk" get hello.d64 HELLO -o hello.prg
 is "the file's bytes" cmp -s hello.prg three.bin
@@ -65,7 +66,7 @@ case_of "what was put is there" 0 any "" "$disk" get hello.d64 GAME -o back.prg
 is "byte for byte" cmp -s game.prg back.prg
 case_of "put again is refused" 1 "" "disk1541: hello.d64: a file of that name is there: take another name, or --replace (status 63)" "$disk" put hello.d64 game.prg
 case_of "put with --replace" 0 "" "" "$disk" put hello.d64 three.bin --name GAME --replace
-case_of "a file that is there is kept" 1 "" "disk1541: back.prg is there already: take another name, or --replace" "$disk" get hello.d64 GAME -o back.prg
+case_of "a file that is there is kept" 3 "" "disk1541: back.prg is there already: take another name, or --replace" "$disk" get hello.d64 GAME -o back.prg
 is "as it was" cmp -s game.prg back.prg
 case_of "or replaced" 0 any "" "$disk" get hello.d64 GAME -o back.prg --replace
 is "by the new bytes" cmp -s three.bin back.prg
@@ -81,7 +82,7 @@ is "and nothing is saved" test "$(stat -c %i hello.d64)" = "$file"
 case_of "check" 0 "sound" "" "$disk" check hello.d64
 case_of "validate" 0 "" "" "$disk" validate hello.d64
 case_of "put a sequential file" 0 "" "" "$disk" put hello.d64 game.prg --name NOTES --type seq
-case_of "which the directory shows" 0 any "" "$disk" list hello.d64 'N*'
+case_of "which the directory shows" 0 any "" "$disk" list hello.d64 --only 'N*'
 is "as SEQ" grep -q '"NOTES"            SEQ' out.txt
 
 # new images
@@ -90,7 +91,7 @@ blank='0 "NEW DISK        " 64 2A
 case_of "new" 0 "" "" "$disk" new empty.d64 --title "New disk" --id 64
 case_of "which is empty" 0 "$blank" "" "$disk" list empty.d64
 case_of "and sound" 0 "sound" "" "$disk" check empty.d64
-case_of "and not made twice" 1 "" "disk1541: empty.d64 is there already: take another name, or --replace" "$disk" new empty.d64 --title x --id 64
+case_of "and not made twice" 3 "" "disk1541: empty.d64 is there already: take another name, or --replace" "$disk" new empty.d64 --title x --id 64
 case_of "without --replace" 0 "" "" "$disk" new empty.d64 --title "New disk" --id 64 --replace
 case_of "new, as a G64" 0 "" "" "$disk" new empty.g64 --title "New disk" --id 64
 case_of "which is as empty" 0 "$blank" "" "$disk" list empty.g64
@@ -98,11 +99,11 @@ case_of "and as sound" 0 "sound" "" "$disk" check empty.g64
 case_of "new, of 40 tracks" 0 "" "" "$disk" new long.d64 --title "New disk" --id 64 --tracks 40
 is "has 196608 bytes" test "$(wc -c < long.d64)" = 196608
 case_of "and is sound" 0 "sound" "" "$disk" check long.d64
-case_of "no G64 of 40 tracks" 1 "" "disk1541: a G64 has 35 tracks here, not 40" "$disk" new long.g64 --title x --id 64 --tracks 40
-case_of "no disk of 36 tracks" 1 "" "disk1541: a disk has 35 or 40 tracks, not 36" "$disk" new x.d64 --title x --id 64 --tracks 36
-case_of "a title that is too long" 1 "" "disk1541: a title has at most 16 characters: ABCDEFGHIJKLMNOPQ" "$disk" new x.d64 --title ABCDEFGHIJKLMNOPQ --id 64
-case_of "an id that is too short" 1 "" "disk1541: an id has two characters: 6" "$disk" new x.d64 --title x --id 6
-case_of "no format" 1 "" "disk1541: x.img tells no format: say --format d64 or --format g64" "$disk" new x.img --title x --id 64
+case_of "no G64 of 40 tracks" 64 "" "disk1541: a G64 has 35 tracks here, not 40" "$disk" new long.g64 --title x --id 64 --tracks 40
+case_of "no disk of 36 tracks" 64 "" "disk1541: a disk has 35 or 40 tracks, not 36" "$disk" new x.d64 --title x --id 64 --tracks 36
+case_of "a title that is too long" 64 "" "disk1541: a title has at most 16 characters: ABCDEFGHIJKLMNOPQ" "$disk" new x.d64 --title ABCDEFGHIJKLMNOPQ --id 64
+case_of "an id that is too short" 64 "" "disk1541: an id has two characters: 6" "$disk" new x.d64 --title x --id 6
+case_of "no format" 64 "" "disk1541: x.img tells no format: say --format d64 or --format g64" "$disk" new x.img --title x --id 64
 case_of "but for --format" 0 "" "" "$disk" new x.img --title x --id 64 --format g64
 is "nothing else was made" test ! -e x.d64 -a ! -e long.g64
 
@@ -112,8 +113,8 @@ case_of "convert" 0 "" "" "$disk" convert there.d64 there.g64
 case_of "the files are there" 0 "$hello" "" "$disk" list there.g64
 case_of "and back" 0 "" "" "$disk" convert there.g64 back.d64
 is "the same image" cmp -s there.d64 back.d64
-case_of "not over another image" 1 "" any "$disk" convert there.g64 back.d64
-case_of "nor to the same format" 1 "" "disk1541: there.g64 has that format already" "$disk" convert there.g64 new.g64
+case_of "not over another image" 3 "" any "$disk" convert there.g64 back.d64
+case_of "nor to the same format" 64 "" "disk1541: there.g64 has that format already" "$disk" convert there.g64 new.g64
 case_of "a disk of 40 tracks" 1 "" "disk1541: long.g64 can't hold the tracks 36 to 40
 disk1541: long.g64 isn't written; --lossy writes it all the same" "$disk" convert long.d64 long.g64
 is "isn't converted" test ! -e long.g64
@@ -144,8 +145,14 @@ track  012345678901234567890"
 is "and shows what is used" grep -q '^18     ##\.\.\.' out.txt
 case_of "map of an image with error bytes" 0 any "" "$disk" map bad.d64
 is "shows what can't be read" grep -q '^ 1     \.\.\.x\.' out.txt
-case_of "list as JSON" 0 '{"title": "TEST", "id": "AB", "dos": "2A", "free": 663, "files": [
-  {"name": "HELLO", "petscii": "48454c4c4f", "type": "prg", "blocks": 1, "closed": true, "locked": false}]}' "" "$disk" list there.d64 --json
+# The file of three bytes, 01 02 03, lies in 17/0: loaded to $0201.
+json='{"image":"there.d64","format":"D64","tracks":35,"label":{"title":"TEST","id":"AB","dos":"2A"},"free":663,"unreadable":0,"sound":true,"flaw":null,"files":[{"name":"HELLO","petscii":"48454c4c4f","type":"prg","closed":true,"locked":false,"blocks":1,"bytes":3,"load":513,"first":{"track":17,"sector":0},"record":null,"geos":null}]}'
+for word in list info check; do
+    case_of "$word as JSON" 0 "$json" "" "$disk" $word there.d64 --json
+done
+case_of "find as JSON" 0 "$json" "" "$disk" find 'H*' there.d64 --json
+case_of "find as JSON without a match" 1 "" "disk1541: no file matches" "$disk" find 'X*' there.d64 --json
+case_of "list as JSON with a pattern" 0 "$(echo "$json" | sed 's/"files":.*/"files":[]}/')" "" "$disk" list there.d64 --only 'X*' --json
 case_of "list as the drive sends it" 0 any "" "$disk" list there.d64 --raw
 is "begins with its address" test "$(head -c 6 out.txt | od -An -tx1 | tr -d ' ')" = 010401010000
 case_of "list of standard input" 0 "$hello" "" "$disk" list - < there.d64
@@ -155,20 +162,21 @@ is "goes to standard output" cmp -s out.txt game.prg
 "$disk" put there.d64 - --name INPUT < game.prg
 case_of "standard input as a file" 0 any "" "$disk" get there.d64 INPUT
 is "has its bytes" cmp -s out.txt game.prg
-case_of "which wants a name" 1 "" "disk1541: name the file by --name" "$disk" put there.d64 -
-case_of "but not twice" 1 "" "disk1541: \`-\` is the image or the file, not both" "$disk" put - - --name TWICE
+case_of "which wants a name" 64 "" "disk1541: name the file by --name" "$disk" put there.d64 -
+case_of "but not twice" 64 "" "disk1541: \`-\` is the image or one file, and stands once" "$disk" put - - --name TWICE
 for bad_name in A,B A=B A:B 'A"B'; do
     sentence="disk1541: a name can't have \`,\` \`=\` \`:\` or a quotation mark: $bad_name"
-    case_of "put as $bad_name" 1 "" "$sentence" "$disk" put there.d64 game.prg --name "$bad_name"
-    case_of "copy to $bad_name" 1 "" "$sentence" "$disk" copy there.d64 HELLO "$bad_name"
-    case_of "rename to $bad_name" 1 "" "$sentence" "$disk" rename there.d64 HELLO "$bad_name"
+    case_of "put as $bad_name" 64 "" "$sentence" "$disk" put there.d64 game.prg --name "$bad_name"
+    case_of "copy to $bad_name" 64 "" "$sentence" "$disk" copy there.d64 HELLO "$bad_name"
+    case_of "rename to $bad_name" 64 "" "$sentence" "$disk" rename there.d64 HELLO "$bad_name"
 done
 
 # names: a character is the code that its key types, {hh} is any code (D3 is S with SHIFT, C1 to C3 are A to C with SHIFT)
 "$disk" new names.d64 --title "names {c1}" --id "{41}a"
 case_of "put a name with a suit" 0 "" "" "$disk" put names.d64 game.prg --name '♥main'
-case_of "which is the key's code" 0 '{"title": "NAMES ♠", "id": "AA", "dos": "2A", "free": 663, "files": [
-  {"name": "♥MAIN", "petscii": "d34d41494e", "type": "prg", "blocks": 1, "closed": true, "locked": false}]}' "" "$disk" list names.d64 --json
+case_of "which is the key's code" 0 any "" "$disk" list names.d64 --json
+is "in JSON, too" grep -qF '"name":"♥MAIN","petscii":"d34d41494e"' out.txt
+is "and the title" grep -qF '"label":{"title":"NAMES ♠","id":"AA","dos":"2A"}' out.txt
 case_of "and a capital letter in the other set" 0 '0 "names A         " aa 2a
 1    "Smain"            prg  
 663 blocks free.             ' "" "$disk" list names.d64 --charset lower
@@ -178,7 +186,7 @@ case_of "in either set" 0 any "" "$disk" get names.d64 Smain --charset lower
 case_of "or by numbers, small or capital" 0 any "" "$disk" get names.d64 '{d3}{4D}AIN'
 case_of "which the other case isn't" 1 "" "disk1541: smain: no such file" "$disk" get names.d64 smain --charset lower
 case_of "rename to codes that look like others" 0 "" "" "$disk" rename names.d64 '♥MAIN' '{73}{e1}{ff}{01}_'
-case_of "which are shown as numbers" 0 any "" "$disk" list names.d64 '{73}*'
+case_of "which are shown as numbers" 0 any "" "$disk" list names.d64 --only '{73}*'
 is "all but the line at the foot" grep -qF '1    "{73}{e1}{ff}{01}▁"            PRG  ' out.txt
 case_of "the reverse code in a name is shown" 0 "" "" "$disk" copy names.d64 '{73}{e1}{ff}{01}▁' '{12}A'
 case_of "and a name with it isn't that without" 1 "" "disk1541: A: no such file" "$disk" get names.d64 A
@@ -190,15 +198,15 @@ case_of "a name that begins with a dash" 0 "" "" "$disk" put names.d64 game.prg 
 case_of "behind two dashes" 0 any "" "$disk" get names.d64 -- -X
 case_of "rename behind two dashes" 0 "" "" "$disk" rename names.d64 -- -X -Y
 case_of "delete behind two dashes" 0 "" "" "$disk" delete names.d64 -- -Y
-case_of "a name of 17 characters" 1 "" "disk1541: a file's name has at most 16 characters: ABCDEFGHIJKLMNOPQ" "$disk" put names.d64 game.prg --name ABCDEFGHIJKLMNOPQ
+case_of "a name of 17 characters" 64 "" "disk1541: a file's name has at most 16 characters: ABCDEFGHIJKLMNOPQ" "$disk" put names.d64 game.prg --name ABCDEFGHIJKLMNOPQ
 case_of "but of 16 codes" 0 "" "" "$disk" put names.d64 game.prg --name 'ABCDEFGHIJKLMNO{50}'
 cp game.prg a_name_of_18_bytes.prg
-case_of "a host's name of 18 characters" 1 "" "disk1541: a file's name has at most 16 characters: a_name_of_18_bytes" "$disk" put names.d64 a_name_of_18_bytes.prg
+case_of "a host's name of 18 characters" 64 "" "disk1541: a file's name has at most 16 characters: a_name_of_18_bytes" "$disk" put names.d64 a_name_of_18_bytes.prg
 for bad_name in 'A~B' '{4' '{4g}' '{414}' '}'; do
-    case_of "no name: $bad_name" 1 "" "disk1541: no key of a C64 types a character of $bad_name: any byte is typed as {hh}, two hexadecimal digits" "$disk" get names.d64 "$bad_name"
+    case_of "no name: $bad_name" 64 "" "disk1541: no key of a C64 types a character of $bad_name: any byte is typed as {hh}, two hexadecimal digits" "$disk" get names.d64 "$bad_name"
 done
-case_of "a number that divides a command" 1 "" "disk1541: a name can't have \`,\` \`=\` \`:\` or a quotation mark: A{2c}B" "$disk" put names.d64 game.prg --name 'A{2c}B'
-case_of "no such character set" 1 "" "disk1541: both is no character set: take upper or lower" "$disk" list names.d64 --charset both
+case_of "a number that divides a command" 64 "" "disk1541: a name can't have \`,\` \`=\` \`:\` or a quotation mark: A{2c}B" "$disk" put names.d64 game.prg --name 'A{2c}B'
+case_of "no such character set" 64 "" "disk1541: both is no character set: take upper or lower" "$disk" list names.d64 --charset both
 # Names of any bytes, on disks that are made there: what list shows of them, and that it is taken back.
 is "names of any bytes, in both sets, taken back" python3 "$here/generated_names.py" "$disk"
 
@@ -380,8 +388,8 @@ if command -v cc > /dev/null; then
     done
 fi
 case_of "no file to put" 3 "" any "$disk" put hello.d64 nothing.prg
-case_of "no such type" 1 "" "disk1541: txt is no type of a file: take prg, seq or usr" "$disk" put hello.d64 game.prg --type txt
-case_of "no command" 1 "" any "$disk"
+case_of "no such type" 64 "" "disk1541: txt is no type of a file: take prg, seq or usr" "$disk" put hello.d64 game.prg --type txt
+case_of "no command" 64 "" any "$disk"
 case_of "help" 0 any "" "$disk" --help
 case_of "version" 0 "disk1541 0.2.0" "" "$disk" --version
 case_of "a full standard output" 3 any any sh -c "$disk list hello.d64 > /dev/full"
@@ -398,15 +406,229 @@ head -c 1000 unsound.d64 > cut.d64
 case_of "several images" 4 "hello.d64: sound
 unsound.d64: track 17, sector 0: the block is in use, but marked free
 hello.d64: sound
-2 sound, 1 not, 2 can't be checked" "disk1541: can't read nothing.d64: entity not found
+5 images: 2 sound, 1 not, 2 no images" "disk1541: can't read nothing.d64: entity not found
 disk1541: cut.d64 is shorter than any image of a disk: it was cut off, or is none (1000 bytes)" "$disk" check hello.d64 nothing.d64 unsound.d64 cut.d64 hello.d64
 case_of "several sound images" 0 "hello.d64: sound
 hello.d64: sound
-2 sound, 0 not, 0 can't be checked" "" "$disk" check hello.d64 hello.d64
+2 images: 2 sound, 0 not, 0 no images" "" "$disk" check hello.d64 hello.d64
 case_of "isn't changed" 1 "" any "$disk" put unsound.d64 game.prg
 is "at all" cmp -s unsound.d64 before.d64
+case_of "nothing would go" 0 "no block and no file would go" "" "$disk" validate unsound.d64 --dry-run
 case_of "until it is put in order" 0 "" "" "$disk" validate unsound.d64
 case_of "and then is sound" 0 "sound" "" "$disk" check unsound.d64
+
+# several images, and folders of them
+mkdir -p disks/more/deep disks/empty
+cp "$here/hello.d64" disks/b.d64
+cp before.d64 disks/more/deep/a.D64
+head -c 1000 hello.d64 > disks/more/cut.d64
+cp there.g64 disks/more/c.g64
+echo text > disks/more/readme.txt
+ln -s ../../disks disks/more/loop
+cut="disk1541: disks/more/cut.d64 is shorter than any image of a disk: it was cut off, or is none (1000 bytes)"
+case_of "check of a folder" 4 "disks/b.d64: sound
+disks/more/c.g64: sound
+disks/more/deep/a.D64: track 17, sector 0: the block is in use, but marked free
+4 images: 2 sound, 1 not, 1 no images" "$cut" "$disk" check -r disks
+case_of "a folder without --recursive" 3 "" "disk1541: can't read disks: is a directory" "$disk" check disks
+case_of "a folder without images" 0 "0 images: 0 sound, 0 not, 0 no images" "" "$disk" check -r disks/empty
+case_of "a folder and an image" 0 "hello.d64: sound
+disks/more/c.g64: sound
+2 images: 2 sound, 0 not, 0 no images" "" "$disk" check -r hello.d64 disks/more/c.g64
+case_of "list of two images" 0 "there.g64:
+$hello
+empty.d64:
+$blank
+2 images: 2 shown, 0 no images" "" "$disk" list there.g64 empty.d64
+case_of "find in a folder" 4 "disks/b.d64: \"HELLO\" prg, 1 blocks
+disks/more/c.g64: \"HELLO\" prg, 1 blocks
+disks/more/deep/a.D64: \"HELLO\" prg, 1 blocks
+4 images: 3 with a match, 0 without, 1 no images" "$cut" "$disk" find -r 'HEL*' disks
+case_of "find in one image" 0 'there.d64: "HELLO" prg, 1 blocks' "" "$disk" find HELLO there.d64
+case_of "find without a match" 1 "" "disk1541: no file matches" "$disk" find X there.d64
+case_of "find of two without a match" 1 "2 images: 0 with a match, 2 without, 0 no images" "disk1541: no file matches" "$disk" find X hello.d64 there.d64
+case_of "check of a folder as JSON" 4 any "$cut" "$disk" check -r disks --json
+is "is a line each, also of what is no image" test "$(cut -d, -f1 out.txt | tr '\n' ' ')" = '{"image":"disks/b.d64" {"image":"disks/more/c.g64" {"image":"disks/more/cut.d64" {"image":"disks/more/deep/a.D64" '
+is "with its status" grep -qx '{"image":"disks/more/cut.d64","status":2}' out.txt
+is "and the flaw" grep -q '"sound":false,"flaw":{"track":17,"sector":0,"number":2,"text":"the block is in use, but marked free"}' out.txt
+is "as JSON that other programs read" python3 -c 'import json; assert len([json.loads(line) for line in open("out.txt")]) == 4'
+case_of "hash" 0 "$(sha256sum hello.d64)" "" "$disk" hash hello.d64
+case_of "hash of the G64 that is made of it" 0 "$(sha256sum < "$here/hello.d64" | cut -d' ' -f1)  there.g64" "" "$disk" hash there.g64
+{ cat there.d64; head -c 683 /dev/zero | tr '\000' '\001'; } > bytes.d64
+case_of "hash of it with error bytes, as JSON" 0 "{\"image\":\"bytes.d64\",\"sha256\":\"$(sha256sum < there.d64 | cut -d' ' -f1)\"}" "" "$disk" hash bytes.d64 --json
+
+# several files are put, all or none
+"$disk" new many_files.d64 --title MANY --id 64
+printf 'one' > one.prg
+printf 'two' > two.SEQ
+printf 'three' > three.usr
+# PC64's head: C64File and a 0, the name in 16 bytes, a 0, the length of records
+{ printf 'C64File\000A {MIXED} NAME\000\000\000\000four'; } > four.s00
+case_of "put of four files" 0 "" "" "$disk" put many_files.d64 one.prg two.SEQ three.usr four.s00
+case_of "are there, with their types" 0 '0 "MANY            " 64 2A
+1    "ONE"              PRG  
+1    "TWO"              SEQ  
+1    "THREE"            USR  
+1    "A {7b}MIXED{7d} NAME"   SEQ  
+660 BLOCKS FREE.             ' "" "$disk" list many_files.d64
+case_of "the one with a head" 0 "four" "" "$disk" get many_files.d64 'A*'
+cp many_files.d64 before.d64
+case_of "one of several that is there" 1 "" "disk1541: two.SEQ can't be put, and so none of the files is
+disk1541: many_files.d64: a file of that name is there: take another name, or --replace (status 63)" "$disk" put many_files.d64 game.prg two.SEQ
+is "puts none" cmp -s many_files.d64 before.d64
+case_of "one name for two files" 64 "" "disk1541: --name is for one file" "$disk" put many_files.d64 one.prg game.prg --name X
+case_of "delete of several" 0 "" "" "$disk" delete many_files.d64 ONE 'T*'
+case_of "leaves the others" 0 any "" "$disk" list many_files.d64
+is "one file" test "$(wc -l < out.txt)" = 3
+cp many_files.d64 before.d64
+case_of "one of several that isn't there" 1 "" "disk1541: nothing is deleted: no file that isn't locked matches X" "$disk" delete many_files.d64 'A*' X
+is "deletes none" cmp -s many_files.d64 before.d64
+
+# locks and titles
+"$disk" new locks.d64 --title LOCKS --id 64
+"$disk" put locks.d64 one.prg two.SEQ three.usr
+case_of "lock" 0 "" "" "$disk" lock locks.d64 ONE 'T*'
+case_of "shows" 0 '0 "LOCKS           " 64 2A
+1    "ONE"              PRG< 
+1    "TWO"              SEQ< 
+1    "THREE"            USR< 
+661 BLOCKS FREE.             ' "" "$disk" list locks.d64
+case_of "and keeps" 1 "" "disk1541: nothing is deleted: no file that isn't locked matches *" "$disk" delete locks.d64 '*'
+cp locks.d64 before.d64
+case_of "lock again" 0 "" "" "$disk" lock locks.d64 '*'
+is "changes nothing" cmp -s locks.d64 before.d64
+case_of "lock of no file" 1 "" "disk1541: no file matches" "$disk" lock locks.d64 X
+case_of "unlock" 0 "" "" "$disk" unlock locks.d64 'T?O'
+case_of "of one" 0 any "" "$disk" list locks.d64
+is "frees it alone" test "$(grep -c '<' out.txt)" = 2
+is "by one bit" test "$(cmp -l before.d64 locks.d64 | wc -l)" = 1
+case_of "so it can be deleted" 0 "" "" "$disk" delete locks.d64 TWO
+case_of "title" 0 "" "" "$disk" title locks.d64 "NEW {c1}"
+case_of "shows" 0 any "" "$disk" list locks.d64
+is "with the old id" test "$(head -n 1 out.txt)" = '0 "NEW ♠           " 64 2A'
+case_of "and the disk is sound" 0 "sound" "" "$disk" check locks.d64
+case_of "a title that is too long" 64 "" "disk1541: a title has at most 16 characters: ABCDEFGHIJKLMNOPQ" "$disk" title locks.d64 ABCDEFGHIJKLMNOPQ
+case_of "no title of a disk that isn't sound" 1 "" any "$disk" title disks/more/deep/a.D64 X
+"$disk" convert many_files.d64 many_files.g64
+case_of "lock and title on a G64" 0 "" "" "$disk" lock many_files.g64 'A*'
+case_of "a G64's title" 0 "" "" "$disk" title many_files.g64 OTHER
+case_of "are there" 0 any "" "$disk" list many_files.g64
+is "both" test "$(sed -n '1p;2p' out.txt)" = '0 "OTHER           " 64 2A
+1    "A {7b}MIXED{7d} NAME"   SEQ< '
+
+# An image that changes while a command has it isn't replaced; leftovers of killed saves are in nobody's way.
+cp "$here/hello.d64" host.d64
+cp many_files.d64 other.d64
+mkfifo pipe
+"$disk" put host.d64 - --name LATE < pipe 2> err.txt &
+{ sleep 1; cp other.d64 host.d64; printf late; } > pipe
+wait $!
+is "an image that was changed meanwhile: status 3" test $? = 3
+is "is told" test "$(cat err.txt)" = "disk1541: host.d64 was changed by something else meanwhile: nothing is saved"
+is "and stays as the other program left it" cmp -s host.d64 other.d64
+is "and nothing is left beside" test ! -e disk1541.0.new
+k=0
+while [ $k -lt 150 ]; do
+    : > disk1541.$k.new
+    k=$((k + 1))
+done
+case_of "put beside 150 leftovers" 0 "" "" "$disk" put host.d64 game.prg
+case_of "is there" 0 "$(cat game.prg)" "" "$disk" get host.d64 GAME
+rm disk1541.*.new
+
+# GEOS: a disk that is made here has LETTER, of records in 1/2, 1/3 and 1/4 with their info in 1/1, and a border block in 1/9.
+python3 "$here/geos_disk.py" geos.d64
+case_of "list of a disk of GEOS" 0 '0 "GEOS            " 64 2A
+5    "LETTER"           USR  
+2    "TOOL"             PRG  
+1    "DRAFT"           *SEQ  
+654 BLOCKS FREE.             
+GEOS "LETTER": document, records (VLIR)
+GEOS "TOOL": application, one sequence' "" "$disk" list geos.d64
+case_of "info of it" 0 any "" "$disk" info geos.d64
+is "tells the files of GEOS, too" test "$(tail -n 2 out.txt)" = 'GEOS "LETTER": document, records (VLIR)
+GEOS "TOOL": application, one sequence'
+case_of "JSON of it" 0 any "" "$disk" list geos.d64 --json
+is "too" grep -q '"name":"LETTER",.*"geos":{"kind":7,"text":"document","records":true}},{"name":"TOOL",.*"geos":{"kind":6,"text":"application","records":false}},{"name":"DRAFT",.*"geos":null}' out.txt
+plan='would free 1/1 1/2 1/3 1/4: blocks of the GEOS file "LETTER"
+would free 1/7: blocks of the GEOS file "TOOL"
+would delete "DRAFT": it was never closed
+would free 1/9 2/5: no file has them'
+refused=$(echo "$plan" | sed '/GEOS/s/$/: refused without --force/')
+cp geos.d64 before.d64
+case_of "what validate would do" 1 "$refused" "disk1541: geos.d64 isn't put in order: GEOS uses these blocks; --force gives them back" "$disk" validate geos.d64 --dry-run
+case_of "which it doesn't" 1 "" "$refused
+disk1541: geos.d64 isn't put in order: GEOS uses these blocks; --force gives them back" "$disk" validate geos.d64
+is "and changes nothing" cmp -s geos.d64 before.d64
+case_of "by force it would" 0 "$plan" "" "$disk" validate geos.d64 --dry-run --force
+is "and still changes nothing" cmp -s geos.d64 before.d64
+case_of "and does" 0 "" "" "$disk" validate geos.d64 --force
+case_of "and then is sound" 0 "sound" "" "$disk" check geos.d64
+case_of "and has nothing more to free" 0 "no block and no file would go" "" "$disk" validate geos.d64 --dry-run
+
+# what can be read of damaged files: the first file of an empty disk lies in 17/0, 17/10, 17/20 and so on
+head -c 1000 noise.bin > big.bin
+"$disk" new salvage.d64 --title SALVAGE --id 64
+"$disk" put salvage.d64 big.bin
+"$disk" put salvage.d64 one.prg
+python3 -c 'image = open("salvage.d64", "rb").read()
+errors = bytearray([1]) * 683
+errors[16 * 21 + 10] = 5
+open("checksum.d64", "wb").write(image + errors)
+cut = bytearray(image)
+cut[(16 * 21 + 10) * 256] = 99
+cut[357 * 256 + 256 + 32 + 2] -= 128
+open("cut.d64", "wb").write(cut)'
+case_of "a checksum that is wrong" 1 "" "disk1541: BIG: track 17, sector 10 can't be read (error 23)" "$disk" get checksum.d64 BIG
+case_of "with --salvage" 0 "" 'disk1541: "BIG": 17/10 is taken in spite of its error 23' "$disk" get checksum.d64 BIG --salvage -o saved.bin
+is "gives all bytes" cmp -s saved.bin big.bin
+case_of "a chain that is cut off" 1 "" "disk1541: BIG: track 99, sector 10 can't be read (error 66)" "$disk" get cut.d64 BIG
+case_of "with --salvage" 0 any "disk1541: \"BIG\" is cut off after 508 bytes: track 99, sector 10 can't be read (error 66)" "$disk" get cut.d64 BIG --salvage
+head -c 508 big.bin > begun.bin
+is "gives its beginning" cmp -s out.txt begun.bin
+case_of "a file that was never closed" 1 "" "disk1541: ONE: the file was never closed" "$disk" get cut.d64 ONE
+case_of "with --salvage" 0 one 'disk1541: "ONE" was never closed: 3 bytes are taken' "$disk" get cut.d64 ONE --salvage
+case_of "all of them" 0 "" "disk1541: \"BIG\" is cut off after 508 bytes: track 99, sector 10 can't be read (error 66)
+disk1541: \"ONE\" was never closed: 3 bytes are taken" "$disk" get-all cut.d64 saved --salvage
+is "in their files" cmp -s saved/BIG.prg begun.bin
+is "and with their bytes" test "$(cat saved/ONE.prg)" = one
+case_of "no file to salvage" 1 "" "disk1541: X: no such file" "$disk" get cut.d64 X --salvage
+
+# the bytes of a sector
+case_of "sector" 0 any "" "$disk" sector "$here/hello.d64" 18 1
+is "shows sixteen lines" test "$(wc -l < out.txt)" = 16
+is "with places, bytes and characters" test "$(head -n 1 out.txt)" = "00  00 ff 82 11 00 48 45 4c 4c 4f a0 a0 a0 a0 a0 a0  .....HELLO......"
+case_of "a sector that can't be read" 1 "" "disk1541: checksum.d64: track 17, sector 10 can't be read (error 23)" "$disk" sector checksum.d64 17 10
+case_of "no such sector" 64 "" "disk1541: no disk has such a sector: 21 (tracks are 1 to 40, sectors 0 to 20)" "$disk" sector hello.d64 1 21
+case_of "no such track in the image" 1 "" "disk1541: hello.d64: track 36, sector 0 can't be read (error 66)" "$disk" sector hello.d64 36 0
+case_of "no number" 64 "" "disk1541: no disk has such a sector: x (tracks are 1 to 40, sectors 0 to 20)" "$disk" sector hello.d64 x 0
+
+# the program in its place, its page for man, and completions
+if command -v rt > installed.txt; then
+    is "install" sh -c "'$here/../tools/install' prefix disk1541='$disk' > installed.txt"
+    is "says what it wrote" test "$(grep -c . installed.txt)" = "$(find prefix -type f | wc -l)"
+    case_of "the program runs there" 0 "$hello" "" prefix/bin/disk1541 list "$here/hello.d64"
+    is "licences of what is linked" test -s prefix/share/licenses/yellowadze1541/clap/LICENSE-MIT -a -s prefix/share/licenses/yellowadze1541/sha2/LICENSE-APACHE
+    completed() {
+        bash -c 'source prefix/share/bash-completion/completions/disk1541; COMP_WORDS=("$@"); COMP_CWORD=$(($# - 1)); _disk1541; echo "${COMPREPLY[*]}"' "" "$@"
+    }
+    if command -v bash > /dev/null; then
+        is "commands are completed" test "$(completed disk1541 va)" = validate
+        is "options of a command, too" test "$(completed disk1541 validate --f)" = --force
+        is "and files" test "$(completed disk1541 get ge)" = geos.d64
+    fi
+    if command -v groff > /dev/null; then
+        is "the page for man has no fault" test -z "$(groff -man -Tutf8 -ww prefix/share/man/man1/disk1541.1 2>&1 > page.txt)"
+        is "and says what each command does" grep -q "Takes a file out" page.txt
+    fi
+    ! command -v zsh > /dev/null || is "completions for zsh" zsh -n prefix/share/zsh/site-functions/_disk1541
+    ! command -v fish > /dev/null || is "completions for fish" fish -n prefix/share/fish/vendor_completions.d/disk1541.fish
+fi
+for word in "" $("$disk" --help | sed -n '/^Commands:/,/^$/s/^  \([a-z-]*\) .*/\1/p' | grep -vx help); do
+    "$disk" $word --help > out.txt
+    is "help of ${word:-all commands} has examples and statuses" test "$(grep -c '^Examples:$\|^Exit status: 0 done' out.txt)" = 2
+    is "within 100 columns" test "$(sed -n '/^Examples:/,$p' out.txt | wc -L)" -le 100
+done
 
 # Faults of the host: a sentence, a status, and the image as it was.
 cp "$here/hello.d64" host.d64
@@ -416,10 +638,10 @@ fault_of() {
     case_of "$@"
     is "the image is as it was" cmp -s host.d64 before.d64
 }
-fault_of "a folder as output" 1 "" "disk1541: folder is there already: take another name, or --replace" "$disk" get host.d64 HELLO -o folder
+fault_of "a folder as output" 3 "" "disk1541: folder is there already: take another name, or --replace" "$disk" get host.d64 HELLO -o folder
 fault_of "a folder as output to be replaced" 3 "" "disk1541: can't write folder: is a directory" "$disk" get host.d64 HELLO -o folder --replace
 fault_of "a folder as file" 3 "" "disk1541: can't read folder: is a directory" "$disk" put host.d64 folder
-fault_of "a folder as new image" 1 "" "disk1541: folder is there already: take another name, or --replace" "$disk" new folder --title x --id 64 --format d64
+fault_of "a folder as new image" 3 "" "disk1541: folder is there already: take another name, or --replace" "$disk" new folder --title x --id 64 --format d64
 fault_of "a folder to be replaced" 3 "" "disk1541: can't write folder: is a directory" "$disk" new folder --title x --id 64 --format d64 --replace
 fault_of "a file as folder" 3 "" "disk1541: can't write three.bin: entity already exists" "$disk" get-all host.d64 three.bin
 fault_of "closed standard output" 3 any "disk1541: can't write standard output: uncategorized error" sh -c "$disk list host.d64 >&-"

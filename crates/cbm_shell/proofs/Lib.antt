@@ -11,6 +11,7 @@ pub mod ImageLemmas
 pub mod ConvertLemmas
 pub mod SectorLemmas
 pub mod MapLemmas
+pub mod GeosLemmas
 pub mod BlankDisks
 pub mod ZeroImages
 pub mod NewImages

@@ -5,6 +5,7 @@ use Rattle.cbm_medium.specs.Seen.{Seen}
 use Rattle.cbm_file.specs.Files.{Disk}
 use Rattle.cbm_file.specs.Changes.{validated}
 use Rattle.cbm_volume.specs.Map.{geometry_of}
+use Rattle.cbm_volume.specs.Holding.{HoldsDisk}
 use Rattle.cbm_volume.specs.Layouts.{Layout, Sound}
 use Rattle.cbm_volume.specs.check.WholeDisk.{DiskFault}
 use Rattle.cbm_volume.specs.declared.Unsound.{Unsound}
@@ -65,6 +66,10 @@ IsHidden pattern m = OrOpenFault (IsUnlisted pattern m)
 abbrev pub IsChecked : ℕ → Content → Result (Unit {0}) Unsound → Type 0
 IsChecked tracks content (Ok _) = (l : Layout) × Sound (geometry_of tracks content) content l
 IsChecked tracks content (Err u) = DiskFault (geometry_of tracks content) content u
+
+-- a disk that VALIDATE leaves as it is
+abbrev pub IsOrderly : ℕ → Content → Type 0
+IsOrderly tracks content = (e : Disk) × HoldsDisk tracks content e × (e ≡ validated e)
 
 -- the image holds a disk that VALIDATE leaves as it is: each file is closed, and each block is free or a file's
 pub record IsInOrder (kind : Kind) (image : List ℕ) : Type 0 where

@@ -13,3 +13,8 @@ pub mod Mapping
 pub mod Marking
 pub mod OpenDisk
 pub mod Foreign
+pub mod Geos
+pub mod Freeing
+pub mod Wrapped
+pub mod Locking
+pub mod Salvaging

@@ -70,7 +70,7 @@ fn apply<M: Steady>(dos: &mut Dos<M>, change: &Change<'_>) -> Result<(), ShellFa
 }
 
 /// Refuses a disk that isn't sound.
-fn require_sound<M: Medium>(volume: &Volume<M>) -> Result<(), ShellFault>
+pub(crate) fn require_sound<M: Medium>(volume: &Volume<M>) -> Result<(), ShellFault>
     ensures sound { let now = M.seen volume.now in
         OnOk result ((l : Layout) × Sound (geometry_of now.tracks now.content) now.content l) }
     ensures exact { let now = M.seen volume.now in (d : Disk) → HoldsDisk now.tracks now.content d → IsOk result }

@@ -8,11 +8,13 @@ ghost use Rattle.cbm_program.specs.Images.{kind_of, tracks_of, content_of, Image
 ghost use Rattle.cbm_shell.specs.Reading.{Gets};
 ghost use Rattle.cbm_shell.specs.Listing.{IsListed, IsSent};
 ghost use Rattle.cbm_shell.specs.Changing.{after_change, IsFine};
-ghost use Rattle.cbm_shell.specs.Images.{IsOpened, IsSaved, IsOpenFault, IsFailed, IsLost, IsHidden, IsChecked, IsInOrder};
+ghost use Rattle.cbm_shell.specs.Images.{IsOpened, IsSaved, IsOpenFault, IsFailed, IsLost, IsHidden, IsChecked, IsOrderly, IsInOrder};
+ghost use Rattle.cbm_shell.specs.Freeing.{AreFreed, IsGivenBack};
 
 use crate::changing::{Change, changed};
 use crate::fault::ShellFault;
 use crate::listing::{list, raw_list};
+use crate::looking::{Freed, freed_by};
 use crate::petscii::Charset;
 use crate::reading::get;
 use cbm_channel::Dos;
@@ -193,22 +195,63 @@ pub fn check(alloc: Global, image: &[u8]) -> Result<Result<(), Unsound>, ShellFa
     }
 }
 
-/// Puts the disk of an image of one format in order.
-fn validate_in<I: DiskImage + Drop>(alloc: Global, image: &[u8]) -> Result<Vec<u8>, ShellFault>
+/// A disk that was put in order.
+#[derive(Drop)]
+pub struct Order {
+    /// Its image.
+    pub image: Vec<u8>,
+    /// The blocks that it gave back.
+    pub freed: Freed,
+}
+
+/// The disk of an image of one format, put in order.
+fn validated<I: DiskImage + Drop>(alloc: Global, image: &[u8]) -> Result<I, ShellFault>
     requires { kind_of image.now ≡ I.kind }
-    ensures { IfOk result (λ v. IsInOrder (kind_of image.now) v.items) }
+    ensures tracks { IfOk result (λ disk. (I.seen disk).tracks ≡ tracks_of (kind_of image.now) image.now) }
+    ensures order { IfOk result (λ disk. IsOrderly (I.seen disk).tracks (I.seen disk).content) }
 {
     let mut volume = Volume::open(opened::<I>(alloc, image)?);
     volume.validate()?;
-    let disk = volume.into_medium();
-    saved(alloc, &disk)
+    Ok(volume.into_medium())
+}
+
+/// The blocks that an image of one format had, and a new disk has free.
+fn given_back<I: DiskImage + Drop>(
+    alloc: Global,
+    image: &[u8],
+    new: &I,
+) -> Result<Freed, ShellFault>
+    requires kind { kind_of image.now ≡ I.kind }
+    requires tracks { (I.seen new.now).tracks ≡ tracks_of (kind_of image.now) image.now }
+    ensures { let kind = kind_of image.now in IfOk result (λ f.
+        AreFreed (geometry_of (tracks_of kind image.now) (content_of kind image.now)) (content_of kind image.now)
+        (I.seen new.now).content f.blocks.items f.takes_geos) }
+{
+    let old = opened::<I>(alloc, image)?;
+    freed_by(alloc, old, new)
+}
+
+/// Puts the disk of an image of one format in order.
+fn validate_in<I: DiskImage + Drop>(alloc: Global, image: &[u8]) -> Result<Order, ShellFault>
+    requires { kind_of image.now ≡ I.kind }
+    ensures order { IfOk result (λ o. IsInOrder (kind_of image.now) o.image.items) }
+    ensures freed { IfOk result (λ o.
+        IsGivenBack (kind_of image.now) image.now o.image.items o.freed.blocks.items o.freed.takes_geos) }
+{
+    let new = validated::<I>(alloc, image)?;
+    let freed = given_back(alloc, image, &new)?;
+    let image = saved(alloc, &new)?;
+    Ok(Order { image, freed })
 }
 
 /// Puts the disk of an image in order, also one that isn't sound: slots of files that were never closed become empty, and
 /// each block is free or a file's. Errors: `Image`; `Trouble`, with what can't be mended first; `Memory`.
-pub fn validate(alloc: Global, image: &[u8]) -> Result<Vec<u8>, ShellFault>
+pub fn validate(alloc: Global, image: &[u8]) -> Result<Order, ShellFault>
     // The new image is sound, and putting it in order again changes nothing.
-    ensures { IfOk result (λ v. IsInOrder (kind_of image.now) v.items) }
+    ensures order { IfOk result (λ o. IsInOrder (kind_of image.now) o.image.items) }
+    // The blocks that it gives back are all told, and whether GEOS uses one of them.
+    ensures freed { IfOk result (λ o.
+        IsGivenBack (kind_of image.now) image.now o.image.items o.freed.blocks.items o.freed.takes_geos) }
 {
     match kind_of(image) {
         Kind::D64 => validate_in::<D64Disk>(alloc, image),

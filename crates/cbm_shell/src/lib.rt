@@ -9,6 +9,7 @@ mod formats;
 mod hearing;
 mod images;
 mod listing;
+mod locking;
 mod looking;
 mod making;
 mod names;
@@ -16,17 +17,25 @@ mod open_disk;
 mod petscii;
 mod readable;
 mod reading;
+mod salvaging;
+mod wrapped;
 
 pub use changing::Change;
 pub use checking::{check_text, unsound_text, words};
 pub use converting::{Converted, Losses, convert};
 pub use fault::ShellFault;
 pub use formats::{Foreign, foreign_of};
-pub use images::{change, check, directory, file, raw_directory, validate};
+pub use images::{Order, change, check, directory, file, raw_directory, validate};
 pub use listing::{list, raw_list};
-pub use looking::{Info, Mark, entries, entries_of, file_of, info, info_of, picture, picture_of};
+pub use locking::{lock, retitle};
+pub use looking::{
+    Freed, Geos, Info, Mark, entries, entries_of, file_blocks, file_of, geos_blocks, geos_of, info,
+    info_of, picture, picture_of, sector,
+};
 pub use making::{Form, new_image};
 pub use names::{name_text, read_name};
 pub use open_disk::OpenDisk;
 pub use petscii::{Charset, LOWER_TABLE, TABLE, code_of, key_of};
 pub use reading::{Named, get, read_file};
+pub use salvaging::{Salvaged, salvage};
+pub use wrapped::{Wrapped, unwrapped};

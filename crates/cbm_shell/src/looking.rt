@@ -1,5 +1,5 @@
 //! Looking into the bytes of an image.
-ghost use Rattle.std.specs.Prelude.{◌≡◌, ℕ, List, None, Some, IfOk, MatchResult};
+ghost use Rattle.std.specs.Prelude.{◌≡◌, ℕ, List, None, Some, IfOk, MatchResult, MatchOption, ◌<◌};
 ghost use Rattle.cbm_file.specs.Files.{Disk};
 ghost use Rattle.cbm_volume.specs.Slots.{directory_of};
 ghost use Rattle.cbm_volume.specs.Map.{geometry_of};
@@ -7,10 +7,15 @@ ghost use Rattle.cbm_volume.specs.Holding.{HasBytes, StandsAt};
 ghost use Rattle.cbm_program.specs.Images.{kind_of, tracks_of, ImageHolds};
 ghost use Rattle.cbm_shell.specs.Converting.{held_by};
 ghost use Rattle.cbm_shell.specs.Images.{IsChecked, OrOpenFault};
-ghost use Rattle.cbm_shell.specs.Mapping.{picture_of};
+ghost use Rattle.cbm_bam.specs.Marks.{is_marked};
+ghost use Rattle.cbm_shell.specs.Geos.{geos_blocks};
+ghost use Rattle.cbm_volume.specs.Entries.{first_block};
+ghost use Rattle.cbm_shell.specs.Mapping.{picture_of, chain_of, is_among};
 ghost use Rattle.cbm_shell.specs.Sectors.{faults_in};
 
 mod facts;
+mod freeing;
+mod geos;
 mod mapping;
 pub(crate) mod sectors;
 mod slots;
@@ -18,11 +23,16 @@ mod slots;
 use crate::fault::ShellFault;
 use crate::images::opened;
 use crate::open_disk::OpenDisk;
+use cbm_bam::SectorSet;
 use cbm_d64::D64Disk;
 use cbm_g64::G64Disk;
+use cbm_medium::Address;
 use cbm_program::{DiskImage, Kind, kind_of};
 use cbm_volume::Entry;
 pub use facts::{Info, info_of};
+pub use freeing::Freed;
+pub(crate) use freeing::freed_by;
+pub use geos::{Geos, geos_of};
 pub use mapping::{Mark, picture_of};
 pub use slots::entries_of;
 use std::alloc::Global;
@@ -101,5 +111,94 @@ pub fn picture(alloc: Global, image: &[u8]) -> Result<Vec<u8>, ShellFault>
     match kind_of(image) {
         Kind::D64 => picture_in::<D64Disk>(alloc, image),
         Kind::G64 => picture_in::<G64Disk>(alloc, image),
+    }
+}
+
+/// The blocks that a file of GEOS in an image of one format has beside its chain.
+fn geos_blocks_in<I: DiskImage + Drop>(
+    alloc: Global,
+    image: &[u8],
+    entry: &Entry,
+) -> Result<SectorSet, ShellFault>
+    requires { kind_of image.now ≡ I.kind }
+    ensures { let content = held_by image.now in IfOk result (λ set. is_marked set
+        ≡ is_among (geos_blocks (geometry_of (tracks_of (kind_of image.now) image.now) content) content entry.now)) }
+{
+    let disk = opened::<I>(alloc, image)?;
+    let geometry = cbm_bam::geometry(&disk);
+    Ok(geos::geos_blocks(&disk, geometry, entry))
+}
+
+/// The blocks that a file of GEOS has beside its chain: that of its info, and those of its records. None of another file.
+/// Errors: `Image`, `Memory`.
+pub fn geos_blocks(alloc: Global, image: &[u8], entry: &Entry) -> Result<SectorSet, ShellFault>
+    ensures { let content = held_by image.now in IfOk result (λ set. is_marked set
+        ≡ is_among (geos_blocks (geometry_of (tracks_of (kind_of image.now) image.now) content) content entry.now)) }
+{
+    match kind_of(image) {
+        Kind::D64 => geos_blocks_in::<D64Disk>(alloc, image, entry),
+        Kind::G64 => geos_blocks_in::<G64Disk>(alloc, image, entry),
+    }
+}
+
+/// The blocks of the chain of a file in an image of one format.
+fn file_blocks_in<I: DiskImage + Drop>(
+    alloc: Global,
+    image: &[u8],
+    entry: &Entry,
+) -> Result<SectorSet, ShellFault>
+    requires { kind_of image.now ≡ I.kind }
+    ensures { let content = held_by image.now in IfOk result (λ set. is_marked set
+        ≡ is_among (chain_of (geometry_of (tracks_of (kind_of image.now) image.now) content) content (first_block entry.now))) }
+{
+    let disk = opened::<I>(alloc, image)?;
+    let geometry = cbm_bam::geometry(&disk);
+    Ok(geos::chain_blocks(&disk, geometry, entry))
+}
+
+/// The blocks of the chain of an entry's file, up to where it ends or breaks off. Errors: `Image`, `Memory`.
+pub fn file_blocks(alloc: Global, image: &[u8], entry: &Entry) -> Result<SectorSet, ShellFault>
+    ensures { let content = held_by image.now in IfOk result (λ set. is_marked set
+        ≡ is_among (chain_of (geometry_of (tracks_of (kind_of image.now) image.now) content) content (first_block entry.now))) }
+{
+    match kind_of(image) {
+        Kind::D64 => file_blocks_in::<D64Disk>(alloc, image, entry),
+        Kind::G64 => file_blocks_in::<G64Disk>(alloc, image, entry),
+    }
+}
+
+/// A sector of an image of one format.
+fn sector_in<I: DiskImage + Drop>(
+    alloc: Global,
+    image: &[u8],
+    at: Address,
+) -> Result<Option<Result<[u8; 256], u8>>, ShellFault>
+    requires { kind_of image.now ≡ I.kind }
+    ensures { IfOk result (λ o. MatchOption o (tracks_of (kind_of image.now) image.now < at.track)
+        (λ cell. held_by image.now at ≡ cell)) }
+{
+    let disk = opened::<I>(alloc, image)?;
+    if at.track() > disk.tracks() {
+        return Ok(None);
+    }
+    match disk.read(at) {
+        Ok(bytes) => Ok(Some(Ok(bytes))),
+        Err(fault) => Ok(Some(Err(fault.code))),
+    }
+}
+
+/// The 256 bytes of a sector, or the code of the fault that stands in their place; None where the image has no such track.
+/// Errors: `Image`, `Memory`.
+pub fn sector(
+    alloc: Global,
+    image: &[u8],
+    at: Address,
+) -> Result<Option<Result<[u8; 256], u8>>, ShellFault>
+    ensures { IfOk result (λ o. MatchOption o (tracks_of (kind_of image.now) image.now < at.track)
+        (λ cell. held_by image.now at ≡ cell)) }
+{
+    match kind_of(image) {
+        Kind::D64 => sector_in::<D64Disk>(alloc, image, at),
+        Kind::G64 => sector_in::<G64Disk>(alloc, image, at),
     }
 }

@@ -1,6 +1,9 @@
 //! The disk of an image, for several looks.
 ghost use Rattle.std.specs.Prelude.{◌≡◌, ℕ, List, None, IfErr, IfOk, MatchResult};
 ghost use Rattle.cbm_file.specs.Files.{Disk};
+ghost use Rattle.cbm_medium.specs.Place.{sector_count};
+ghost use Rattle.cbm_volume.specs.Entries.{first_block};
+ghost use Rattle.cbm_volume.specs.Reading.{held_from};
 ghost use Rattle.cbm_volume.specs.Slots.{directory_of};
 ghost use Rattle.cbm_volume.specs.Map.{geometry_of};
 ghost use Rattle.cbm_volume.specs.Holding.{HasBytes, HoldsDisk, StandsAt};
@@ -12,11 +15,12 @@ use crate::fault::ShellFault;
 use crate::images::opened;
 use crate::looking::entries_of;
 use crate::reading::read_file;
+use crate::salvaging::{Salvaged, salvage};
 use cbm_d64::D64Disk;
 use cbm_g64::G64Disk;
 use cbm_program::{Kind, kind_of};
 use cbm_volume::{Entry, Volume};
-use std::alloc::Global;
+use std::alloc::{AllocError, Global};
 
 /// The disk of an image. It is opened once, however often one looks into it.
 #[derive(Drop)]
@@ -66,6 +70,19 @@ impl OpenDisk {
         match self {
             OpenDisk::D64(volume) => read_file(alloc, volume, entry),
             OpenDisk::G64(volume) => read_file(alloc, volume, entry),
+        }
+    }
+
+    /// What can be read of the file of an entry, closed or not: the bytes of its chain up to where it breaks off, and why it
+    /// does. The one error is want of memory.
+    pub fn salvage(&self, alloc: Global, entry: &Entry) -> Result<Salvaged, AllocError>
+        ensures { let now = shown_by self.now in let tracks = geometry_of now.tracks now.content in
+            IfOk result (λ s. held_from tracks now.content (sector_count tracks) (first_block entry.now)
+            ≡ (record { bytes = s.bytes.items; trouble = s.trouble })) }
+    {
+        match self {
+            OpenDisk::D64(volume) => salvage(alloc, volume, entry),
+            OpenDisk::G64(volume) => salvage(alloc, volume, entry),
         }
     }
 }

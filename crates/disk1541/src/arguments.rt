@@ -1,5 +1,5 @@
 //! The command line, as clap reads it.
-use crate::commands::{Command, commands};
+use crate::commands::{Command, EXAMPLES, commands};
 use crate::words::{Mark, Word};
 use clap::{Arg, ArgMatches, Error};
 use std::alloc::{AllocError, Global};
@@ -41,6 +41,7 @@ fn subcommand<'a>(alloc: Global, command: &Command) -> Result<clap::Command<'a>,
     let args = args(alloc, command.words)?;
     clap::Command::new(alloc, command.name)
         .about(command.about)
+        .after_help(command.examples)
         .args(args)
 }
 
@@ -69,6 +70,7 @@ fn program<'a>(alloc: Global) -> Result<clap::Command<'a>, AllocError> {
     let subcommands = subcommands(alloc)?;
     clap::Command::new(alloc, "disk1541")
         .about("Looks into disk images of the Commodore 1541 and changes them")
+        .after_help(EXAMPLES)
         .version(VERSION)
         .subcommand_required(true)
         .arg_required_else_help(true)
@@ -88,6 +90,11 @@ pub fn given<'a>(words: &ArgMatches<'a>, name: &str) -> &'a str {
 /// A word that may be missing.
 pub fn option<'a>(words: &ArgMatches<'a>, name: &str) -> Option<&'a str> {
     words.get_str(name)
+}
+
+/// The values of a word, of all its uses.
+pub fn values<'a, 'm>(words: &'m ArgMatches<'a>, name: &str) -> &'m [&'a str] {
+    words.get_strs(name).unwrap_or(&[])
 }
 
 /// Whether a word is there.

@@ -1,15 +1,29 @@
 //! The commands.
 use crate::words::{
-    CHARSET, DELETED, FILE, FOLDER, FORMAT, ID, IMAGE, IMAGES, JSON, LOSSY, NAME, NAME_ON_DISK,
-    NEW, OLD, OUT, OUTPUT, RAW, REPLACE_FILE, REPLACE_FILES, REPLACE_IMAGE, REPLACE_NAME, SHOWN,
-    TITLE, TRACKS, TYPE, Word,
+    CHARSET, DRY_RUN, FILES, FOLDER, FORCE, FORMAT, ID, IMAGE, IMAGES, JSON, LOSSY, MEANT, NAME,
+    NAME_ON_DISK, NEW, NEW_TITLE, OLD, ONLY, OUT, OUTPUT, RAW, RECURSIVE, REPLACE_FILE,
+    REPLACE_FILES, REPLACE_IMAGE, REPLACE_NAME, SALVAGE, SECTOR, TITLE, TRACK, TRACKS, TYPE,
+    WANTED, Word,
 };
+
+/// What help says at the end: examples, and the exit statuses.
+macro_rules! examples {
+    ($lines:literal) => {
+        concat!(
+            "Examples:\n",
+            $lines,
+            "\nExit status: 0 done, 1 the disk or the drive said no, 2 no image of a disk, 3 a file of this\ncomputer or its memory, 4 of several images some aren't sound or are none, 64 the command line"
+        )
+    };
+}
 
 /// What a command does.
 #[derive(Clone, Copy)]
 pub enum Verb {
     /// Shows the directory.
     List,
+    /// Shows which images have a file.
+    Find,
     /// Takes a file out.
     Get,
     /// Takes all files out.
@@ -18,13 +32,17 @@ pub enum Verb {
     Info,
     /// Shows a picture of its sectors.
     Map,
+    /// Shows the bytes of a sector.
+    Sector,
     /// Tells whether it is sound.
     Check,
+    /// Shows a sum of its bytes.
+    Hash,
     /// Makes an image of an empty disk.
     New,
     /// Makes the image in the other format.
     Convert,
-    /// Puts a file on the disk.
+    /// Puts files on the disk.
     Put,
     /// Copies a file.
     Copy,
@@ -32,6 +50,12 @@ pub enum Verb {
     Rename,
     /// Deletes files.
     Delete,
+    /// Locks files against DELETE.
+    Lock,
+    /// Frees them.
+    Unlock,
+    /// Gives the disk another title.
+    Title,
     /// Gives lost blocks back.
     Validate,
 }
@@ -47,7 +71,14 @@ pub struct Command {
     pub about: &'static str,
     /// The words that it takes.
     pub words: &'static [Word],
+    /// What its own help says at the end.
+    pub examples: &'static str,
 }
+
+/// What the help of all commands says at the end.
+pub const EXAMPLES: &str = examples!(
+    "  disk1541 list game.d64                  what is on the disk\n  disk1541 get game.d64 'LOADER*' -o loader.prg\n  disk1541 check -r disks/                all images in a folder\n"
+);
 
 /// All commands, in the order of help.
 const COMMANDS: &[Command] = &[
@@ -55,79 +86,146 @@ const COMMANDS: &[Command] = &[
         verb: Verb::List,
         name: "list",
         about: "Shows the directory",
-        words: &[IMAGE, SHOWN, RAW, JSON, CHARSET],
+        words: &[IMAGES, RECURSIVE, ONLY, RAW, JSON, CHARSET],
+        examples: examples!(
+            "  disk1541 list game.d64\n  disk1541 list game.d64 --only 'A*' --charset lower\n  disk1541 list -r disks/ --json\n"
+        ),
+    },
+    Command {
+        verb: Verb::Find,
+        name: "find",
+        about: "Shows which images have a file",
+        words: &[WANTED, IMAGES, RECURSIVE, JSON, CHARSET],
+        examples: examples!(
+            "  disk1541 find 'HISCORE*' *.d64\n  disk1541 find -r 'HISCORE*' disks/\n"
+        ),
     },
     Command {
         verb: Verb::Get,
         name: "get",
         about: "Takes a file out",
-        words: &[IMAGE, NAME, OUTPUT, REPLACE_FILE, CHARSET],
+        words: &[IMAGE, NAME, OUTPUT, REPLACE_FILE, SALVAGE, CHARSET],
+        examples: examples!(
+            "  disk1541 get game.d64 LOADER -o loader.prg\n  disk1541 get game.d64 '{c1}*' > first\n  disk1541 get bad.d64 --salvage 'LEVEL*' -o level.bin\n"
+        ),
     },
     Command {
         verb: Verb::GetAll,
         name: "get-all",
         about: "Takes all files out, into a folder",
-        words: &[IMAGE, FOLDER, REPLACE_FILES],
+        words: &[IMAGE, FOLDER, REPLACE_FILES, SALVAGE],
+        examples: examples!("  disk1541 get-all game.d64 files\n"),
     },
     Command {
         verb: Verb::Info,
         name: "info",
-        about: "Tells what the disk is",
-        words: &[IMAGE, CHARSET],
+        about: "Tells what disks are",
+        words: &[IMAGES, RECURSIVE, JSON, CHARSET],
+        examples: examples!("  disk1541 info game.d64\n  disk1541 info -r disks/ --json\n"),
     },
     Command {
         verb: Verb::Map,
         name: "map",
         about: "Shows which sectors are free, used, lost",
         words: &[IMAGE],
+        examples: examples!("  disk1541 map game.d64\n"),
+    },
+    Command {
+        verb: Verb::Sector,
+        name: "sector",
+        about: "Shows the bytes of a sector",
+        words: &[IMAGE, TRACK, SECTOR],
+        examples: examples!("  disk1541 sector game.d64 18 0\n"),
     },
     Command {
         verb: Verb::Check,
         name: "check",
         about: "Tells whether disks are sound",
-        words: &[IMAGES],
+        words: &[IMAGES, RECURSIVE, JSON],
+        examples: examples!("  disk1541 check game.d64\n  disk1541 check -r disks/\n"),
+    },
+    Command {
+        verb: Verb::Hash,
+        name: "hash",
+        about: "Shows a sum of each image's sectors (SHA-256)",
+        words: &[IMAGES, RECURSIVE, JSON],
+        examples: examples!("  disk1541 hash -r disks/ | sort    equal disks stand together\n"),
     },
     Command {
         verb: Verb::New,
         name: "new",
         about: "Makes an image of an empty disk",
         words: &[IMAGE, TITLE, ID, TRACKS, FORMAT, REPLACE_IMAGE, CHARSET],
+        examples: examples!(
+            "  disk1541 new work.d64 --title WORK --id 64\n  disk1541 new work.g64 --title WORK --id 64\n"
+        ),
     },
     Command {
         verb: Verb::Convert,
         name: "convert",
         about: "Makes a G64 of a D64, or a D64 of a G64",
         words: &[IMAGE, OUT, FORMAT, LOSSY, REPLACE_IMAGE],
+        examples: examples!("  disk1541 convert game.d64 game.g64\n"),
     },
     Command {
         verb: Verb::Put,
         name: "put",
-        about: "Puts a file of this computer on the disk",
-        words: &[IMAGE, FILE, NAME_ON_DISK, TYPE, REPLACE_NAME, CHARSET],
+        about: "Puts files of this computer on the disk",
+        words: &[IMAGE, FILES, NAME_ON_DISK, TYPE, REPLACE_NAME, CHARSET],
+        examples: examples!(
+            "  disk1541 put work.d64 loader.prg levels.seq\n  disk1541 put work.d64 out.bin --name LOADER --replace\n"
+        ),
     },
     Command {
         verb: Verb::Copy,
         name: "copy",
         about: "Copies a file under a new name",
         words: &[IMAGE, OLD, NEW, CHARSET],
+        examples: examples!("  disk1541 copy work.d64 LOADER BACKUP\n"),
     },
     Command {
         verb: Verb::Rename,
         name: "rename",
         about: "Gives a file another name",
         words: &[IMAGE, OLD, NEW, CHARSET],
+        examples: examples!("  disk1541 rename work.d64 LOADER START\n"),
     },
     Command {
         verb: Verb::Delete,
         name: "delete",
         about: "Deletes the files that match",
-        words: &[IMAGE, DELETED, CHARSET],
+        words: &[IMAGE, MEANT, CHARSET],
+        examples: examples!("  disk1541 delete work.d64 BACKUP 'OLD*'\n"),
+    },
+    Command {
+        verb: Verb::Lock,
+        name: "lock",
+        about: "Locks the files that match, so that they can't be deleted",
+        words: &[IMAGE, MEANT, CHARSET],
+        examples: examples!("  disk1541 lock work.d64 START 'LEVEL*'\n"),
+    },
+    Command {
+        verb: Verb::Unlock,
+        name: "unlock",
+        about: "Frees the files that match, so that they can be deleted",
+        words: &[IMAGE, MEANT, CHARSET],
+        examples: examples!("  disk1541 unlock work.d64 '*'\n"),
+    },
+    Command {
+        verb: Verb::Title,
+        name: "title",
+        about: "Gives the disk another title",
+        words: &[IMAGE, NEW_TITLE, CHARSET],
+        examples: examples!("  disk1541 title work.d64 'MY GAME'\n"),
     },
     Command {
         verb: Verb::Validate,
         name: "validate",
-        about: "Gives lost blocks back",
-        words: &[IMAGE],
+        about: "Gives lost blocks back, and deletes files that were never closed",
+        words: &[IMAGE, DRY_RUN, FORCE],
+        examples: examples!(
+            "  disk1541 validate work.d64 --dry-run    what would go\n  disk1541 validate work.d64\n"
+        ),
     },
 ];
 

@@ -29,6 +29,12 @@ pub enum Failure<'a> {
     Lossy(&'a str),
     /// A file of that name is there.
     Exists(&'a str),
+    /// An image was changed while a command had it, so that nothing is saved.
+    Changed(&'a str),
+    /// Putting the disk in order gives back blocks that GEOS uses, as was told.
+    Geos(&'a str),
+    /// No file of an image matches what is looked for.
+    NoMatch,
     /// Of several images some aren't sound, or are none, as was told one by one.
     Several,
     /// What went wrong was told file by file.
@@ -62,8 +68,8 @@ impl<'a> Failure<'a> {
     ghost use Rattle.std.specs.Prelude.{◌≡◌};
     ghost use Rattle.disk1541.specs.Exits.{exit_status};
 
-    /// The exit status: 1 the disk or a name is at fault, 2 the image is none, 3 this computer's files or memory are,
-    /// 4 of several images some are.
+    /// The exit status: 1 the disk or the drive said no, 2 the image is none, 3 this computer's files or memory are at fault,
+    /// 4 of several images some are, 64 the command line is.
     pub fn status(self) -> u8
         ensures { result ≡ exit_status self.entry }
     {
@@ -71,7 +77,9 @@ impl<'a> Failure<'a> {
             Failure::Foreign(..) | Failure::Disk(_, ShellFault::Image(_)) => 2,
             Failure::Disk(_, ShellFault::Memory) => 3,
             Failure::Read(..) | Failure::TooLong(..) | Failure::Write(..) | Failure::NoMemory => 3,
+            Failure::Exists(_) | Failure::Changed(_) => 3,
             Failure::Several => 4,
+            Failure::Word(_) => 64,
             _ => 1,
         }
     }
@@ -91,6 +99,17 @@ impl<'a> Failure<'a> {
             Failure::Word(fault) => fault.tell(rt),
             Failure::Unsound(_) | Failure::Several | Failure::Told => Ok(()),
             Failure::NoMemory => eprintln!(rt; "disk1541: memory ran out"),
+            Failure::NoMatch => eprintln!(rt; "disk1541: no file matches"),
+            Failure::Changed(name) => {
+                eprintln!(rt;
+                    "disk1541: {name} was changed by something else meanwhile: nothing is saved"
+                )
+            }
+            Failure::Geos(name) => {
+                eprintln!(rt;
+                    "disk1541: {name} isn't put in order: GEOS uses these blocks; --force gives them back"
+                )
+            }
             Failure::Exists(name) => {
                 eprintln!(rt; "disk1541: {name} is there already: take another name, or --replace")
             }

@@ -56,3 +56,23 @@ pub fn form<'a>(kind: Kind, tracks: &'a str) -> Result<Form, Failure<'a>> {
         Kind::G64 => Ok(Form::G64),
     }
 }
+
+/// Whether a file is named as images are.
+pub fn is_image_name(path: &str) -> bool {
+    told_by_name(path).is_some()
+}
+
+/// How many bytes the sectors of a D64 with error bytes have.
+const OF_35_TRACKS: usize = 174_848;
+
+/// The size of a D64 of 35 tracks with error bytes.
+pub const WITH_ERRORS: usize = 175_531;
+
+/// An image; a D64 with error bytes without them.
+pub fn without_errors(image: &[u8]) -> &[u8] {
+    if image.len() == WITH_ERRORS {
+        &image[..OF_35_TRACKS]
+    } else {
+        image
+    }
+}

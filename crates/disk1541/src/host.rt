@@ -100,6 +100,24 @@ pub fn write<'a, R: Runtime + AllocGlobal>(
     written(name, host_files::save_by(rt, PROGRAM, name, bytes, sync))
 }
 
+/// Saves an image in place of the one that was read, as `write` does, if that is still there; or writes it to standard
+/// output.
+pub fn replace<'a, R: Runtime + AllocGlobal>(
+    rt: &R,
+    name: &'a str,
+    old: &[u8],
+    new: &[u8],
+) -> Result<(), Failure<'a>> {
+    if name == STANDARD {
+        return print(rt, new);
+    }
+    match host_files::replace(rt, PROGRAM, name, old, new) {
+        Ok(true) => Ok(()),
+        Ok(false) => Err(Failure::Changed(name)),
+        Err(error) => Err(Failure::Write(name, error.kind())),
+    }
+}
+
 /// Whether a name is that of standard input or output.
 pub fn is_standard(name: &str) -> bool {
     name == STANDARD

@@ -8,9 +8,10 @@ use std::path::Path;
 /// Whether a command changes its image.
 fn changes(verb: Verb) -> bool {
     match verb {
-        Verb::Put | Verb::Copy | Verb::Rename | Verb::Delete | Verb::Validate => true,
-        Verb::List | Verb::Get | Verb::GetAll | Verb::Info | Verb::Map | Verb::Check => false,
-        Verb::New | Verb::Convert => false,
+        Verb::Put | Verb::Copy | Verb::Rename | Verb::Delete => true,
+        Verb::Lock | Verb::Unlock | Verb::Title | Verb::Validate => true,
+        Verb::List | Verb::Find | Verb::Get | Verb::GetAll | Verb::Info => false,
+        Verb::Map | Verb::Sector | Verb::Check | Verb::Hash | Verb::New | Verb::Convert => false,
     }
 }
 

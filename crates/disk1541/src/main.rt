@@ -3,16 +3,18 @@
 
 mod arguments;
 mod commands;
+mod digits;
 mod failure;
 mod formats;
 mod host;
-mod json;
+mod kinds;
 mod lock;
 mod names;
 mod program;
 mod progress;
 mod reading;
 mod refusal;
+mod report;
 mod tasks;
 mod word_fault;
 mod words;

@@ -38,7 +38,7 @@ fn is_divided(codes: &[u8]) -> bool {
 }
 
 /// Refuses codes that can't be the name of a file.
-fn require_name<'a>(name: &'a str, codes: &[u8]) -> Result<(), Failure<'a>> {
+pub fn require_name<'a>(name: &'a str, codes: &[u8]) -> Result<(), Failure<'a>> {
     if codes.len() > LONGEST {
         return Err(Failure::Word(WordFault::LongName(name)));
     }

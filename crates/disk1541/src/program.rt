@@ -8,6 +8,9 @@ use clap::error::ErrorKind;
 use std::process::ExitCode;
 use std::{env, io};
 
+/// The exit status where the command line is at fault.
+const COMMAND_LINE: u8 = 64;
+
 /// Carries out the command line, and answers the exit status, also where its sentence can't be written.
 pub fn run_program(rt: &HostRuntime) -> ExitCode {
     let progress = Progress::begin(rt);
@@ -39,7 +42,7 @@ fn without_words(rt: &HostRuntime, error: &io::Error) -> ExitCode {
         return ended(rt, Failure::NoMemory);
     }
     let _ = eprintln!(rt; "disk1541: a word of the command line is no text");
-    ExitCode::from(1)
+    ExitCode::from(COMMAND_LINE)
 }
 
 // What was asked for, as help is, is no fault.
@@ -48,8 +51,10 @@ fn without_line(rt: &HostRuntime, error: &clap::Error) -> ExitCode {
         return ended(rt, Failure::NoMemory);
     }
     let _ = error.print(rt);
-    let is_asked = error.exit_code() == 0;
-    ExitCode::from(u8::from(!is_asked))
+    if error.exit_code() == 0 {
+        return ExitCode::from(0);
+    }
+    ExitCode::from(COMMAND_LINE)
 }
 
 fn words_of(rt: &HostRuntime) -> io::Result<Vec<String>> {

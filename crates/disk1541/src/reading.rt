@@ -1,7 +1,7 @@
 //! The words of a command as plain values.
 use crate::arguments::{flag, given, option};
 use crate::failure::Failure;
-use crate::tasks::{Blank, Conversion, HostFile, OneFile, Pair, Place, Style, View};
+use crate::tasks::{Blank, Conversion, HostFiles, OneFile, Ordering, Pair, Place, View};
 use crate::word_fault::WordFault;
 use cbm_shell::Charset;
 use clap::ArgMatches;
@@ -18,20 +18,21 @@ pub fn charset<'a>(words: &ArgMatches<'a>) -> Result<Charset, Failure<'a>> {
     Ok(Charset::Upper)
 }
 
-/// How LIST shows the directory.
-fn style(words: &ArgMatches<'_>) -> Style {
+/// What LIST shows.
+pub fn listing(words: &ArgMatches<'_>) -> View {
     if flag(words, "raw") {
-        Style::Raw
-    } else if flag(words, "json") {
-        Style::Json
+        View::Sent
     } else {
-        Style::Lines
+        View::Directory
     }
 }
 
-/// What LIST shows.
-pub fn directory<'a>(words: &ArgMatches<'a>, charset: Charset) -> View<'a> {
-    View::Directory(given(words, "PATTERN"), style(words), charset)
+/// The pattern of the files that LIST and FIND are about; all files for other commands.
+pub fn pattern<'a>(words: &ArgMatches<'a>) -> &'a str {
+    match option(words, "only") {
+        Some(pattern) => pattern,
+        None => option(words, "PATTERN").unwrap_or("*"),
+    }
 }
 
 /// The file that GET takes out.
@@ -41,6 +42,7 @@ pub fn one_file<'a>(words: &ArgMatches<'a>, charset: Charset) -> OneFile<'a> {
         output: given(words, "output"),
         replaces: flag(words, "replace"),
         charset,
+        salvages: flag(words, "salvage"),
     }
 }
 
@@ -49,6 +51,7 @@ pub fn place<'a>(words: &ArgMatches<'a>) -> Place<'a> {
     Place {
         folder: given(words, "DIR"),
         replaces: flag(words, "replace"),
+        salvages: flag(words, "salvage"),
     }
 }
 
@@ -74,14 +77,21 @@ pub fn conversion<'a>(words: &ArgMatches<'a>) -> Conversion<'a> {
     }
 }
 
-/// The file that PUT puts on the disk.
-pub fn host_file<'a>(words: &ArgMatches<'a>, charset: Charset) -> HostFile<'a> {
-    HostFile {
-        file: given(words, "FILE"),
+/// How PUT puts files on the disk.
+pub fn host_files<'a>(words: &ArgMatches<'a>, charset: Charset) -> HostFiles<'a> {
+    HostFiles {
         name: option(words, "name"),
-        kind: given(words, "type"),
+        kind: option(words, "type"),
         replaces: flag(words, "replace"),
         charset,
+    }
+}
+
+/// How VALIDATE puts a disk in order.
+pub fn ordering(words: &ArgMatches<'_>) -> Ordering {
+    Ordering {
+        is_dry: flag(words, "dry-run"),
+        is_forced: flag(words, "force"),
     }
 }
 

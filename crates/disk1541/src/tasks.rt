@@ -1,42 +1,90 @@
 //! Carrying out the commands.
-mod check;
 mod convert;
+mod counts;
 mod edit;
+mod find;
+mod folders;
+mod geos;
 mod get;
 mod get_all;
 mod info;
-mod list;
+mod locking;
+mod look;
 mod losses;
 mod make;
+mod order;
+mod plan;
 mod put;
 mod rename;
-mod show;
+mod salvage;
+mod sector;
+mod sum;
 mod taking;
+mod view;
 
-use self::check::check;
 pub use self::convert::Conversion;
 use self::convert::convert;
 use self::edit::{Edit, save_edit};
+pub use self::find::is_meant;
+pub use self::geos::kind_name;
 pub use self::get::OneFile;
 use self::get::get;
 use self::get_all::get_all;
-pub use self::list::Style;
+pub use self::info::format_name;
+use self::look::look_at_all;
 pub use self::make::Blank;
 use self::make::make;
-pub use self::put::HostFile;
+pub use self::order::Ordering;
+use self::order::put_in_order;
+pub use self::put::HostFiles;
 use self::put::put;
 pub use self::rename::Pair;
 use self::rename::rename;
-pub use self::show::View;
-use self::show::show;
+use self::sector::show_sector;
+pub use self::sum::sum_text;
 pub use self::taking::Place;
-use crate::arguments::given;
+pub use self::view::{Answer, Look, Shown, View, answer_of};
+use crate::arguments::{flag, given, values};
 use crate::commands::{Verb, verb_of};
 use crate::failure::Failure;
+use crate::names::petscii;
 use crate::progress::Progress;
-use crate::reading::{blank, charset, conversion, directory, host_file, one_file, pair, place};
+use crate::reading::{
+    blank, charset, conversion, host_files, listing, one_file, ordering, pair, pattern, place,
+};
+use cbm_shell::Charset;
 use clap::ArgMatches;
 use std::rt::Runtime;
+
+/// Carries out a command that looks at images.
+fn look_with<'a, R: Runtime + AllocGlobal>(
+    rt: &R,
+    words: &ArgMatches<'a>,
+    charset: Charset,
+    view: View,
+) -> Result<(), Failure<'a>> {
+    let pattern = petscii(rt.alloc(), charset, pattern(words))?;
+    let look = Look {
+        view,
+        charset,
+        pattern: pattern.as_slice(),
+        is_json: flag(words, "json"),
+        is_recursive: flag(words, "recursive"),
+        is_among: false,
+    };
+    look_at_all(rt, values(words, "IMAGE"), look)
+}
+
+/// Locks the files that are meant, or frees them.
+fn lock_with<'a, R: Runtime + AllocGlobal>(
+    rt: &R,
+    words: &ArgMatches<'a>,
+    charset: Charset,
+    is_locked: bool,
+) -> Result<(), Failure<'a>> {
+    let edit = Edit::Lock(values(words, "PATTERN"), charset, is_locked);
+    save_edit(rt, given(words, "IMAGE"), &edit)
+}
 
 /// Carries out a command with its words.
 fn perform<'a, R: Runtime + AllocGlobal>(
@@ -48,19 +96,30 @@ fn perform<'a, R: Runtime + AllocGlobal>(
     let image = given(words, "IMAGE");
     let charset = charset(words)?;
     match verb {
-        Verb::List => show(rt, image, directory(words, charset)),
+        Verb::List => look_with(rt, words, charset, listing(words)),
+        Verb::Find => look_with(rt, words, charset, View::Matches),
+        Verb::Info => look_with(rt, words, charset, View::Facts),
+        Verb::Map => look_with(rt, words, charset, View::Sectors),
+        Verb::Sector => show_sector(rt, image, given(words, "TRACK"), given(words, "SECTOR")),
+        Verb::Check => look_with(rt, words, charset, View::Soundness),
+        Verb::Hash => look_with(rt, words, charset, View::Sum),
         Verb::Get => get(rt, image, &one_file(words, charset)),
         Verb::GetAll => get_all(rt, image, place(words), progress),
-        Verb::Info => show(rt, image, View::Facts(charset)),
-        Verb::Map => show(rt, image, View::Sectors),
-        Verb::Check => check(rt, words.get_strs("IMAGE").unwrap_or(&[])),
         Verb::New => make(rt, image, &blank(words, charset)),
         Verb::Convert => convert(rt, image, &conversion(words)),
-        Verb::Put => put(rt, image, &host_file(words, charset)),
+        Verb::Put => put(
+            rt,
+            image,
+            values(words, "FILE"),
+            &host_files(words, charset),
+        ),
         Verb::Copy => rename(rt, image, b"C0:", &pair(words, charset)),
         Verb::Rename => rename(rt, image, b"R0:", &pair(words, charset)),
-        Verb::Delete => save_edit(rt, image, &Edit::Delete(given(words, "PATTERN"), charset)),
-        Verb::Validate => save_edit(rt, image, &Edit::Validate),
+        Verb::Delete => save_edit(rt, image, &Edit::Delete(values(words, "PATTERN"), charset)),
+        Verb::Lock => lock_with(rt, words, charset, true),
+        Verb::Unlock => lock_with(rt, words, charset, false),
+        Verb::Title => save_edit(rt, image, &Edit::Title(given(words, "TITLE"), charset)),
+        Verb::Validate => put_in_order(rt, image, ordering(words)),
     }
 }
 

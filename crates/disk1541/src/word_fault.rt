@@ -12,7 +12,9 @@ pub enum WordFault<'a> {
     Divided(&'a str),
     /// A file from standard input has no name.
     NoName,
-    /// Standard input is read once, so it isn't image and file.
+    /// One name is given for several files.
+    OneName,
+    /// Standard input is read once, so it isn't image and file, nor two files.
     Twice,
     /// No file has such a type.
     Type(&'a str),
@@ -22,6 +24,8 @@ pub enum WordFault<'a> {
     Id(&'a str),
     /// No disk has so many tracks.
     Tracks(&'a str),
+    /// No disk has a sector of this number or track.
+    Sector(&'a str),
     /// A G64 has 35 tracks.
     LongG64,
     /// A C64 has no such character set.
@@ -52,12 +56,20 @@ impl<'a> WordFault<'a> {
                 )
             }
             WordFault::NoName => ("name the file by --name", "", ""),
-            WordFault::Twice => ("`-` is the image or the file, not both", "", ""),
+            WordFault::OneName => ("--name is for one file", "", ""),
+            WordFault::Twice => ("`-` is the image or one file, and stands once", "", ""),
             WordFault::Type(kind) => ("", kind, " is no type of a file: take prg, seq or usr"),
             WordFault::Title(title) => ("a title has at most 16 characters: ", title, ""),
             WordFault::Id(id) => ("an id has two characters: ", id, ""),
             WordFault::Tracks(tracks) => ("a disk has 35 or 40 tracks, not ", tracks, ""),
             WordFault::Charset(word) => ("", word, " is no character set: take upper or lower"),
+            WordFault::Sector(word) => {
+                (
+                    "no disk has such a sector: ",
+                    word,
+                    " (tracks are 1 to 40, sectors 0 to 20)",
+                )
+            }
             WordFault::LongG64 => ("a G64 has 35 tracks here, not 40", "", ""),
             WordFault::SameFormat(name) => ("", name, " has that format already"),
             WordFault::Format(word) => {

@@ -62,20 +62,35 @@ pub const IMAGE: Word = Word {
     ..NEEDED
 };
 
-/// The images that CHECK looks at.
+/// The images that are looked at.
 pub const IMAGES: Word = Word {
     name: "IMAGE",
-    help: "the disk images",
+    help: "the disk images; with --recursive also folders",
     action: ArgAction::Append,
     ..NEEDED
 };
 
+/// Images in folders.
+pub const RECURSIVE: Word = Word {
+    name: "recursive",
+    help: "of a folder, all images in it and in its folders: files that end in .d64 or .g64",
+    mark: Mark::Short('r'),
+    ..FLAG
+};
+
 /// The files that LIST shows.
-pub const SHOWN: Word = Word {
+pub const ONLY: Word = Word {
+    name: "only",
+    help: "the files that are meant: `?` for one character, `*` for the rest",
+    value: &["PATTERN"],
+    default: &["*"],
+    ..OPTION
+};
+
+/// The files that FIND looks for.
+pub const WANTED: Word = Word {
     name: "PATTERN",
     help: "the files that are meant: `?` for one character, `*` for the rest",
-    is_needed: false,
-    default: &["*"],
     ..NEEDED
 };
 
@@ -95,10 +110,10 @@ pub const RAW: Word = Word {
     ..FLAG
 };
 
-/// LIST for programs.
+/// What is looked at, for programs.
 pub const JSON: Word = Word {
     name: "json",
-    help: "as JSON, for programs",
+    help: "as JSON, for programs: a line for each image",
     ..FLAG
 };
 
@@ -124,6 +139,27 @@ pub const REPLACE_FILE: Word = Word {
     name: "replace",
     help: "replace the file that is there",
     ..FLAG
+};
+
+/// What can be read of damaged files.
+pub const SALVAGE: Word = Word {
+    name: "salvage",
+    help: "take what can be read, also of files that are damaged or were never closed",
+    ..FLAG
+};
+
+/// The track of a sector.
+pub const TRACK: Word = Word {
+    name: "TRACK",
+    help: "its track, from 1 on",
+    ..NEEDED
+};
+
+/// Its number on the track.
+pub const SECTOR: Word = Word {
+    name: "SECTOR",
+    help: "its number on the track, from 0 on",
+    ..NEEDED
 };
 
 /// Where GET-ALL writes the files.
@@ -194,33 +230,33 @@ pub const LOSSY: Word = Word {
     ..FLAG
 };
 
-/// The file that PUT reads.
-pub const FILE: Word = Word {
+/// The files that PUT reads.
+pub const FILES: Word = Word {
     name: "FILE",
-    help: "the file",
+    help: "the files; all of them are put on the disk, or none",
+    action: ArgAction::Append,
     ..NEEDED
 };
 
-/// Its name on the disk.
+/// The name of the one file on the disk.
 pub const NAME_ON_DISK: Word = Word {
     name: "name",
-    help: "its name on the disk",
+    help: "the one file's name on the disk",
     value: &["NAME"],
     ..OPTION
 };
 
-/// Its type.
+/// The files' type.
 pub const TYPE: Word = Word {
     name: "type",
-    help: "prg, seq or usr",
+    help: "prg, seq or usr; without it the name's ending says so, or else it is prg",
     value: &["TYPE"],
-    default: &["prg"],
     ..OPTION
 };
 
-/// PUT over a file of this name.
+/// PUT over files of these names.
 pub const REPLACE_NAME: Word = Word {
-    help: "replace the file of this name",
+    help: "replace files of these names",
     ..REPLACE_FILE
 };
 
@@ -238,9 +274,31 @@ pub const NEW: Word = Word {
     ..NEEDED
 };
 
-/// The files that DELETE deletes.
-pub const DELETED: Word = Word {
+/// The files that DELETE deletes, LOCK locks and UNLOCK frees.
+pub const MEANT: Word = Word {
     name: "PATTERN",
     help: "the files that are meant",
+    action: ArgAction::Append,
     ..NEEDED
+};
+
+/// The title that TITLE gives.
+pub const NEW_TITLE: Word = Word {
+    name: "TITLE",
+    help: "the new title, up to 16 characters",
+    ..NEEDED
+};
+
+/// VALIDATE without a change.
+pub const DRY_RUN: Word = Word {
+    name: "dry-run",
+    help: "tell what would go, and change nothing",
+    ..FLAG
+};
+
+/// VALIDATE of what GEOS uses.
+pub const FORCE: Word = Word {
+    name: "force",
+    help: "also give back blocks that GEOS uses",
+    ..FLAG
 };

@@ -1,12 +1,12 @@
 //! Saving a file so that half a file is never left.
 use std::fs::{OpenFile, OpenOptions, Permissions};
-use std::io::{ErrorKind, Write};
+use std::io::{ErrorKind, Read, Write};
 use std::path::{Path, PathBuf};
 use std::rt::Files;
 use std::{fs, io};
 
 /// How many names are tried for the file beside.
-const TRIES: u32 = 100;
+const TRIES: u32 = u32::MAX;
 
 /// How many links are followed, as many as the system does.
 const LINKS: u32 = 40;
@@ -18,6 +18,16 @@ pub enum Sync {
     Before,
     /// The system may write them when it likes.
     Later,
+}
+
+/// What is saved.
+#[derive(Clone, Copy)]
+struct Saving<'p, 'b, 'o> {
+    program: &'p str,
+    bytes: &'b [u8],
+    // What the file must still hold, if that matters.
+    old: Option<&'o [u8]>,
+    sync: Sync,
 }
 
 /// Writes the bytes beside the file, and then gives them the file's name. At an `Err` the file is as it was. What is
@@ -42,23 +52,53 @@ pub fn save_by<R: Files + AllocGlobal>(
     bytes: &[u8],
     sync: Sync,
 ) -> io::Result<()> {
+    let save = Saving {
+        program,
+        bytes,
+        old: None,
+        sync,
+    };
+    save_whole(rt, path, save)?;
+    Ok(())
+}
+
+/// As `save`, in place of a file that holds these bytes: where it holds others just before the new ones get its name,
+/// it stays as it is, and the answer is false.
+pub fn replace<R: Files + AllocGlobal>(
+    rt: &R,
+    program: &str,
+    path: &str,
+    old: &[u8],
+    bytes: &[u8],
+) -> io::Result<bool> {
+    let save = Saving {
+        program,
+        bytes,
+        old: Some(old),
+        sync: Sync::Before,
+    };
+    save_whole(rt, path, save)
+}
+
+/// Saves a file. False where it doesn't hold any more what it must.
+fn save_whole<R: Files + AllocGlobal>(
+    rt: &R,
+    path: &str,
+    save: Saving<'_, '_, '_>,
+) -> io::Result<bool> {
     match fs::metadata(rt, path) {
         Ok(metadata) if metadata.is_file() => {
             let place = end_of_links(rt, path)?;
             require_writable(rt, place.as_path())?;
-            save_beside(
-                rt,
-                program,
-                place.as_path(),
-                bytes,
-                Some(metadata.permissions()),
-                sync,
-            )
+            save_beside(rt, place.as_path(), save, Some(metadata.permissions()))
         }
-        Ok(_) => fs::write(rt, path, bytes),
+        Ok(_) => {
+            fs::write(rt, path, save.bytes)?;
+            Ok(true)
+        }
         Err(error) if error.kind() == ErrorKind::NotFound => {
             let place = end_of_links(rt, path)?;
-            save_beside(rt, program, place.as_path(), bytes, None, sync)
+            save_beside(rt, place.as_path(), save, None)
         }
         Err(error) => Err(error),
     }
@@ -88,14 +128,14 @@ fn require_writable<R: Files>(rt: &R, path: Path<'_>) -> io::Result<()> {
     Ok(())
 }
 
+// Numbers go on where files are left by programs that were ended in a save.
 fn save_beside<R: Files + AllocGlobal>(
     rt: &R,
-    program: &str,
     path: Path<'_>,
-    bytes: &[u8],
+    save: Saving<'_, '_, '_>,
     permissions: Option<Permissions>,
-    sync: Sync,
-) -> io::Result<()> {
+) -> io::Result<bool> {
+    let program = save.program;
     for number in 0..TRIES {
         let name = format!(in rt.alloc(); "{program}.{number}.new")?;
         let new = beside(rt, path, name.as_str())?;
@@ -105,8 +145,8 @@ fn save_beside<R: Files + AllocGlobal>(
             .open(rt, new.as_path());
         match file {
             Ok(file) => {
-                let saved = put_in_place(rt, file, new.as_path(), path, bytes, permissions, sync);
-                if saved.is_err() {
+                let saved = put_in_place(rt, file, new.as_path(), path, save, permissions);
+                if !is_in_place(&saved) {
                     let _ = fs::remove_file(rt, new.as_path());
                 }
                 return saved;
@@ -118,21 +158,64 @@ fn save_beside<R: Files + AllocGlobal>(
     Err(io::Error::from(ErrorKind::AlreadyExists))
 }
 
-fn put_in_place<R: Files>(
-    rt: &R,
+// Whether the file beside got the other one's name.
+fn is_in_place(saved: &io::Result<bool>) -> bool {
+    match saved {
+        Ok(is_saved) => *is_saved,
+        Err(_) => false,
+    }
+}
+
+// The file beside is whole, and on the host's disk if that is wanted.
+fn fill<R: Files>(
     mut file: R::File,
-    new: Path<'_>,
-    path: Path<'_>,
-    bytes: &[u8],
+    save: Saving<'_, '_, '_>,
     permissions: Option<Permissions>,
-    sync: Sync,
 ) -> io::Result<()> {
-    file.write_all(bytes)?;
+    file.write_all(save.bytes)?;
     if let Some(permissions) = permissions {
         file.set_permissions(permissions)?;
     }
-    if sync == Sync::Before {
+    if save.sync == Sync::Before {
         file.sync_all()?;
     }
-    fs::rename(rt, new, path)
+    Ok(())
+}
+
+fn put_in_place<R: Files + AllocGlobal>(
+    rt: &R,
+    file: R::File,
+    new: Path<'_>,
+    path: Path<'_>,
+    save: Saving<'_, '_, '_>,
+    permissions: Option<Permissions>,
+) -> io::Result<bool> {
+    fill::<R>(file, save, permissions)?;
+    if !is_as_before(rt, path, save.old)? {
+        return Ok(false);
+    }
+    fs::rename(rt, new, path)?;
+    Ok(true)
+}
+
+// Whether a file holds what it must.
+fn is_as_before<R: Files + AllocGlobal>(
+    rt: &R,
+    path: Path<'_>,
+    old: Option<&[u8]>,
+) -> io::Result<bool> {
+    let Some(old) = old else {
+        return Ok(true);
+    };
+    let file = fs::open(rt, path)?;
+    holds(rt, file, old)
+}
+
+// Whether what is read is these bytes and no more.
+fn holds<R: AllocGlobal, I: Read + Drop>(rt: &R, input: I, bytes: &[u8]) -> io::Result<bool> {
+    let mut read = Vec::new(rt.alloc());
+    let most = (bytes.len() as u64).saturating_add(1);
+    let mut input = input.take(most);
+    input.read_to_end(&mut read)?;
+    Ok(read.as_slice() == bytes)
 }

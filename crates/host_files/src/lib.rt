@@ -3,4 +3,4 @@
 
 mod beside;
 
-pub use beside::{Sync, save, save_by};
+pub use beside::{Sync, replace, save, save_by};

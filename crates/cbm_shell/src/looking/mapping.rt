@@ -76,7 +76,7 @@ fn mark_of<M: Medium>(medium: &M, at: Address, used: &SectorSet, free: bool) -> 
 }
 
 /// Puts the sectors of a chain into the set, up to its end or to what cuts it off.
-fn use_chain<M: Medium>(medium: &M, geometry: Geometry, from: Link, used: &mut SectorSet)
+pub(crate) fn use_chain<M: Medium>(medium: &M, geometry: Geometry, from: Link, used: &mut SectorSet)
     requires { geometry ≤ (M.seen medium.now).tracks }
     ensures { is_marked used.new
         ≡ with_places (is_marked used.old) (chain_of geometry (M.seen medium.now).content from) }
@@ -134,7 +134,7 @@ fn used_sectors<M: Medium>(medium: &M, geometry: Geometry, entries: &[Entry]) ->
 }
 
 /// Whether the map has a sector as free; no sector where 18/0 can't be read.
-fn is_free_at<M: Medium>(medium: &M, geometry: Geometry, at: Address) -> bool
+pub(crate) fn is_free_at<M: Medium>(medium: &M, geometry: Geometry, at: Address) -> bool
     requires { geometry ≤ (M.seen medium.now).tracks }
     ensures { result ≡ free_by ((M.seen medium.now).content directory_head) at }
 {
@@ -216,7 +216,10 @@ fn add_track<M: Medium>(
 }
 
 /// The entries of a disk's directory; none where it can't be followed to its end.
-fn entries_or_none<M: Medium>(alloc: Global, volume: &Volume<M>) -> Result<Vec<Entry>, ShellFault>
+pub(crate) fn entries_or_none<M: Medium>(
+    alloc: Global,
+    volume: &Volume<M>,
+) -> Result<Vec<Entry>, ShellFault>
     ensures { let now = M.seen volume.now in IfOk result (λ v.
         v.items ≡ entries_in (directory_of (geometry_of now.tracks now.content) now.content)) }
 {

@@ -1,9 +1,9 @@
-//! Changes of an image; DELETE and VALIDATE.
-use crate::failure::{Failure, on_disk};
-use crate::host::{joined, read_image, write};
+//! Changes of an image.
+use super::locking::{locked_all, retitled};
+use crate::failure::{Failure, in_memory, on_disk};
+use crate::host::{joined, read_image, replace};
 use crate::names::petscii;
 use cbm_shell::{Change, Charset};
-use host_files::Sync;
 use std::alloc::Global;
 use std::rt::Runtime;
 
@@ -12,10 +12,12 @@ use std::rt::Runtime;
 pub enum Edit<'a, 'c> {
     /// A change by the drive's own commands.
     Change(Change<'c>),
-    /// The files that match a pattern are deleted.
-    Delete(&'a str, Charset),
-    /// The disk is put in order.
-    Validate,
+    /// The files that match the patterns are deleted.
+    Delete(&'c [&'a str], Charset),
+    /// The files that match the patterns are locked, or freed.
+    Lock(&'c [&'a str], Charset, bool),
+    /// The disk gets another title.
+    Title(&'a str, Charset),
 }
 
 /// The drive's command that deletes the files of a pattern, with its return, as a name may end with one.
@@ -42,6 +44,21 @@ fn deleted<'a>(
     Ok(changed)
 }
 
+/// The image without the files that match one of the patterns.
+fn deleted_all<'a>(
+    alloc: Global,
+    image: &'a str,
+    bytes: &[u8],
+    charset: Charset,
+    patterns: &[&'a str],
+) -> Result<Vec<u8>, Failure<'a>> {
+    let mut new = in_memory(Vec::from_slice(alloc, bytes))?;
+    for pattern in patterns {
+        new = deleted(alloc, image, new.as_slice(), charset, *pattern)?;
+    }
+    Ok(new)
+}
+
 /// The new image.
 fn edited<'a>(
     alloc: Global,
@@ -51,19 +68,12 @@ fn edited<'a>(
 ) -> Result<Vec<u8>, Failure<'a>> {
     match edit {
         Edit::Change(change) => on_disk(image, cbm_shell::change(alloc, bytes, change)),
-        Edit::Delete(pattern, charset) => deleted(alloc, image, bytes, *charset, *pattern),
-        Edit::Validate => on_disk(image, cbm_shell::validate(alloc, bytes)),
+        Edit::Delete(patterns, charset) => deleted_all(alloc, image, bytes, *charset, *patterns),
+        Edit::Lock(patterns, charset, is_locked) => {
+            locked_all(alloc, image, bytes, *charset, *patterns, *is_locked)
+        }
+        Edit::Title(title, charset) => retitled(alloc, image, bytes, *charset, *title),
     }
-}
-
-/// The new image of one that is read.
-fn edited_image<'a, R: Runtime + AllocGlobal>(
-    rt: &R,
-    image: &'a str,
-    edit: &Edit<'a, '_>,
-) -> Result<Vec<u8>, Failure<'a>> {
-    let bytes = read_image(rt, image)?;
-    edited(rt.alloc(), image, bytes.as_slice(), edit)
 }
 
 /// Edits an image, and saves it.
@@ -72,6 +82,7 @@ pub fn save_edit<'a, R: Runtime + AllocGlobal>(
     image: &'a str,
     edit: &Edit<'a, '_>,
 ) -> Result<(), Failure<'a>> {
-    let bytes = edited_image(rt, image, edit)?;
-    write(rt, image, bytes.as_slice(), Sync::Before)
+    let old = read_image(rt, image)?;
+    let new = edited(rt.alloc(), image, old.as_slice(), edit)?;
+    replace(rt, image, old.as_slice(), new.as_slice())
 }

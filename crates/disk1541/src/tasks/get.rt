@@ -1,10 +1,10 @@
 //! GET: a file out of the image, to a file of the host or to standard output.
+use super::salvage::salvaged_file;
 use crate::failure::{Failure, on_disk};
 use crate::host::{read_image, require_new, write};
 use crate::names::petscii;
-use cbm_shell::Charset;
+use cbm_shell::{Charset, ShellFault};
 use host_files::Sync;
-use std::alloc::Global;
 use std::rt::Runtime;
 
 /// A file that is taken out.
@@ -18,14 +18,34 @@ pub struct OneFile<'a> {
     pub replaces: bool,
     /// The character set of its name.
     pub charset: Charset,
+    /// What can be read of it is taken.
+    pub salvages: bool,
+}
+
+/// The bytes of the first file that a pattern means, or what can be read of it.
+fn bytes_of<R: Runtime + AllocGlobal>(
+    rt: &R,
+    image: &[u8],
+    pattern: &[u8],
+    salvages: bool,
+) -> Result<Vec<u8>, ShellFault> {
+    if salvages {
+        salvaged_file(rt, image, pattern)
+    } else {
+        cbm_shell::file(rt.alloc(), image, pattern)
+    }
 }
 
 /// The bytes of the first file that a name means.
-fn file_of<'a>(alloc: Global, image: &[u8], taken: &OneFile<'a>) -> Result<Vec<u8>, Failure<'a>> {
-    let pattern = petscii(alloc, taken.charset, taken.name)?;
+fn file_of<'a, R: Runtime + AllocGlobal>(
+    rt: &R,
+    image: &[u8],
+    taken: &OneFile<'a>,
+) -> Result<Vec<u8>, Failure<'a>> {
+    let pattern = petscii(rt.alloc(), taken.charset, taken.name)?;
     on_disk(
         taken.name,
-        cbm_shell::file(alloc, image, pattern.as_slice()),
+        bytes_of(rt, image, pattern.as_slice(), taken.salvages),
     )
 }
 
@@ -35,7 +55,7 @@ fn take_out<'a, R: Runtime + AllocGlobal>(
     image: &[u8],
     taken: &OneFile<'a>,
 ) -> Result<(), Failure<'a>> {
-    let file = file_of(rt.alloc(), image, taken)?;
+    let file = file_of(rt, image, taken)?;
     require_new(rt, taken.output, taken.replaces)?;
     write(rt, taken.output, file.as_slice(), Sync::Later)
 }

@@ -1,7 +1,8 @@
 //! GET-ALL: all files out of the image, to a folder of the host.
 use super::info::count_files;
-use super::taking::{Names, Place, take};
+use super::taking::{Names, Place, Source, take};
 use crate::failure::{Failure, on_disk};
+use crate::formats::without_errors;
 use crate::host::read_image;
 use crate::progress::Progress;
 use cbm_shell::OpenDisk;
@@ -23,7 +24,7 @@ fn make_folder<'a, R: Runtime + AllocGlobal>(rt: &R, folder: &'a str) -> Result<
 /// Takes the files of all entries out, and answers whether all were saved.
 fn take_all<R: Runtime + AllocGlobal>(
     rt: &R,
-    disk: &OpenDisk,
+    source: Source<'_>,
     entries: &[Entry],
     place: Place<'_>,
     progress: Progress,
@@ -36,7 +37,7 @@ fn take_all<R: Runtime + AllocGlobal>(
         if entry.is_empty() {
             continue;
         }
-        let is_saved = take(rt, disk, entry, &mut names, place)?;
+        let is_saved = take(rt, source, entry, &mut names, place)?;
         are_saved = are_saved && is_saved;
         done = done.saturating_add(1);
         progress.tell(rt, done, count);
@@ -48,16 +49,25 @@ fn take_all<R: Runtime + AllocGlobal>(
 /// Takes the files of a disk out.
 fn take_disk<'a, R: Runtime + AllocGlobal>(
     rt: &R,
-    disk: &OpenDisk,
+    source: Source<'_>,
     entries: &[Entry],
     place: Place<'a>,
     progress: Progress,
 ) -> Result<(), Failure<'a>> {
     make_folder(rt, place.folder)?;
-    match take_all(rt, disk, entries, place, progress) {
+    match take_all(rt, source, entries, place, progress) {
         Ok(true) => Ok(()),
         Ok(false) => Err(Failure::Told),
         Err(_) => Err(Failure::NoMemory),
+    }
+}
+
+/// The bytes of which the disk is: without error bytes where what can be read is taken.
+fn opened_bytes<'b>(bytes: &'b [u8], place: Place<'_>) -> &'b [u8] {
+    if place.salvages {
+        without_errors(bytes)
+    } else {
+        bytes
     }
 }
 
@@ -69,9 +79,16 @@ fn take_image<'a, R: Runtime + AllocGlobal>(
     place: Place<'a>,
     progress: Progress,
 ) -> Result<(), Failure<'a>> {
-    let disk = on_disk(image, OpenDisk::open(rt.alloc(), bytes))?;
+    let disk = on_disk(
+        image,
+        OpenDisk::open(rt.alloc(), opened_bytes(bytes, place)),
+    )?;
     let entries = on_disk(image, disk.entries(rt.alloc()))?;
-    take_disk(rt, &disk, entries.as_slice(), place, progress)
+    let source = Source {
+        disk: &disk,
+        image: bytes,
+    };
+    take_disk(rt, source, entries.as_slice(), place, progress)
 }
 
 /// Takes all files out, into a folder.

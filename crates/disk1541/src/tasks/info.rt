@@ -1,15 +1,13 @@
 //! INFO: what the disk is.
+use crate::formats::WITH_ERRORS;
 use crate::names::unfilled;
 use cbm_program::{Kind, kind_of};
 use cbm_shell::{Charset, Info, ShellFault, name_text};
 use cbm_volume::{Entry, Unsound};
 use std::alloc::{AllocError, Global};
 
-/// The size of a D64 of 35 tracks with error bytes.
-const WITH_ERRORS: usize = 175_531;
-
 /// How an image's format is called.
-fn name_of(image: &[u8]) -> &'static str {
+pub fn format_name(image: &[u8]) -> &'static str {
     match kind_of(image) {
         Kind::G64 => "G64",
         Kind::D64 if image.len() == WITH_ERRORS => "D64 with error bytes",
@@ -24,7 +22,7 @@ fn add_format(
     image: &[u8],
     tracks: u8,
 ) -> Result<(), AllocError> {
-    let name = name_of(image);
+    let name = format_name(image);
     text.push_str(format!(in alloc; "format       {name}, {tracks} tracks\n")?.as_str())
 }
 

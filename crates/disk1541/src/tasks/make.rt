@@ -32,7 +32,7 @@ pub struct Blank<'a> {
 }
 
 /// The codes of a title.
-fn title_of<'a>(alloc: Global, charset: Charset, title: &'a str) -> Result<Vec<u8>, Failure<'a>>
+pub fn title_of<'a>(alloc: Global, charset: Charset, title: &'a str) -> Result<Vec<u8>, Failure<'a>>
     ensures { IfOk result (λ v. length v.items ≤ 16) }
 {
     let codes = petscii(alloc, charset, title)?;

@@ -1,4 +1,5 @@
 //! Files that are taken out of an image into a folder.
+use super::salvage::salvaged;
 use crate::host::{exists, write};
 use crate::names::{host_name, type_of};
 use cbm_shell::{Charset, OpenDisk, ShellFault, name_text};
@@ -16,6 +17,8 @@ pub struct Place<'a> {
     pub folder: &'a str,
     /// Files that are there are replaced.
     pub replaces: bool,
+    /// What can be read of the files is taken.
+    pub salvages: bool,
 }
 
 /// The names of the host's files so far, without their numbers.
@@ -82,12 +85,29 @@ fn tell_left(rt: &impl Eprint, name: &str, fault: ShellFault) -> io::Result<()> 
     }
 }
 
-/// The bytes of an entry's file, if it was closed.
-fn bytes_of(alloc: Global, disk: &OpenDisk, entry: &Entry) -> Result<Vec<u8>, ShellFault> {
+/// A disk whose files are taken out, and the image that it is of.
+#[derive(Clone, Copy)]
+pub struct Source<'d> {
+    /// The disk.
+    pub disk: &'d OpenDisk,
+    /// Its image.
+    pub image: &'d [u8],
+}
+
+/// The bytes of an entry's file, if it was closed, or what can be read of it.
+fn bytes_of<R: Runtime + AllocGlobal>(
+    rt: &R,
+    source: Source<'_>,
+    entry: &Entry,
+    salvages: bool,
+) -> Result<Vec<u8>, ShellFault> {
+    if salvages {
+        return salvaged(rt, source.image, source.disk, entry);
+    }
     if !entry.is_closed() {
         return Err(ShellFault::NotClosed);
     }
-    disk.file_of(alloc, entry)
+    source.disk.file_of(rt.alloc(), entry)
 }
 
 /// Tells the name of a host's file where it isn't that of the disk.
@@ -123,19 +143,19 @@ fn save_as<R: Runtime + AllocGlobal>(
 /// Takes the file of an entry out, to a path. Answers whether it was saved.
 fn take_to<R: Runtime + AllocGlobal>(
     rt: &R,
-    disk: &OpenDisk,
+    source: Source<'_>,
     entry: &Entry,
     path: &PathBuf,
-    replaces: bool,
+    place: Place<'_>,
 ) -> Result<bool, AllocError> {
     let name = name_text(rt.alloc(), Charset::Upper, entry.name())?;
-    match bytes_of(rt.alloc(), disk, entry) {
+    match bytes_of(rt, source, entry, place.salvages) {
         Ok(bytes) => Ok(save_as(
             rt,
             path.as_path(),
             name.as_str(),
             bytes.as_slice(),
-            replaces,
+            place.replaces,
         )),
         Err(fault) => {
             let _ = tell_left(rt, name.as_str(), fault);
@@ -147,7 +167,7 @@ fn take_to<R: Runtime + AllocGlobal>(
 /// Takes the file of the next entry out. Answers whether it was saved.
 pub fn take<R: Runtime + AllocGlobal>(
     rt: &R,
-    disk: &OpenDisk,
+    source: Source<'_>,
     entry: &Entry,
     names: &mut Names,
     place: Place<'_>,
@@ -155,5 +175,5 @@ pub fn take<R: Runtime + AllocGlobal>(
     let alloc = rt.alloc();
     let name = names.next(alloc, entry)?;
     let path = Path::new(place.folder).join(alloc, name.as_str())?;
-    take_to(rt, disk, entry, &path, place.replaces)
+    take_to(rt, source, entry, &path, place)
 }

@@ -1,14 +1,18 @@
-use Rattle.std.proofs.Common.{subst, sym, ◌≡◌}
-use Rattle.cbm_file.specs.Files.{Disk}
-use Rattle.cbm_file.specs.Changes.{validated}
-use Rattle.cbm_volume.specs.Holding.{HoldsDisk}
-use Rattle.cbm_program.specs.Images.{kind_of}
+use Rattle.std.proofs.Common.{◌≡◌, List, ℕ, subst, sym, ap, ◌∙◌, Ok}
+use Rattle.cbm_volume.specs.Map.{geometry_of}
+use Rattle.cbm_program.specs.Images.{kind_of, tracks_of, content_of}
+use Rattle.cbm_shell.specs.Freeing.{AreFreed}
 use Rattle.cbm_shell.proofs.ImageLemmas.{in_order}
 use Rattle.cbm_shell.proofs.images.validate_in.Goals as goal
 
-pub returns : goal.returns
-returns g c =
-    let seen = g.I.Medium.seen in
-    let after = subst (λ n. (e : Disk) × HoldsDisk n (seen c.validate.new.self).content e × (e ≡ validated e)) (sym c.validate.ensures.only.tracks) c.in_ok-validate.ensures.sound in
-    in_order (λ v. v.items) g.I.DiskImage.kind (kind_of c.args.image.now) (seen c.into_medium-disk.result) c.saved.result c.requires c.saved.ensures.ok
-    (subst (λ k. (e : Disk) × HoldsDisk (seen k).tracks (seen k).content e × (e ≡ validated e)) (sym c.into_medium-disk.ensures) after)
+pub returns-clause-order : goal.returns-clause-order
+returns-clause-order g c =
+    in_order (λ (v : List ℕ). v) g.I.DiskImage.kind (kind_of c.args.image.now) (g.I.Medium.seen c.in_ok-new.new) (Ok c.in_ok-image.image.items) c.requires
+    c.in_ok-image.ensures.ok c.in_ok-new.ensures.order
+
+pub returns-clause-freed : goal.returns-clause-freed
+returns-clause-freed g c =
+    let kind = kind_of c.args.image.now in
+    let old = content_of kind c.args.image.now in
+    subst (λ t. AreFreed (geometry_of (tracks_of kind c.args.image.now) old) old t c.in_ok-freed.freed.blocks.items c.in_ok-freed.freed.takes_geos)
+    (c.in_ok-image.ensures.ok.same_content ∙ ap (λ k. content_of k c.in_ok-image.image.items) (sym c.requires)) c.in_ok-freed.ensures

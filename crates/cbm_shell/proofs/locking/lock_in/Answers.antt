@@ -1,0 +1,1 @@
+use Rattle.cbm_shell.proofs.locking.lock_in.Goals as goal

@@ -1,0 +1,1 @@
+use Rattle.cbm_shell.proofs.locking.locked.Goals as goal

@@ -1,0 +1,233 @@
+//! Locking files against SCRATCH, and another title: two changes that no command of the drive makes.
+ghost use Rattle.std.specs.Prelude.{◌≡◌, ◌≤◌, ◌++◌, ℕ, Ok, length, take, drop, slice_set, IfOk, OnOk, MatchOption};
+ghost use Rattle.cbm_medium.specs.Place.{directory_head};
+ghost use Rattle.cbm_medium.specs.Content.{written};
+ghost use Rattle.cbm_volume.specs.Map.{geometry_of};
+ghost use Rattle.cbm_volume.specs.Layouts.{Layout, Sound};
+ghost use Rattle.cbm_file.specs.Padding.{padded};
+ghost use Rattle.cbm_program.specs.Images.{kind_of, tracks_of, content_of};
+ghost use Rattle.cbm_shell.specs.Locking.{is_other, lock_bit, locked_type, locked_entry, Locks, AreLocked, with_title, titled};
+
+use crate::changing::require_sound;
+use crate::fault::ShellFault;
+use crate::images::{opened, saved};
+use cbm_command::matches;
+use cbm_d64::D64Disk;
+use cbm_directory::put_slot;
+use cbm_file::padded;
+use cbm_g64::G64Disk;
+use cbm_medium::{Address, Medium, Trouble};
+use cbm_program::{DiskImage, Kind, kind_of};
+use cbm_volume::{Entry, Volume, Wanted};
+use std::alloc::Global;
+use std::ops::Range;
+
+/// Where the title stands in 18/0.
+const TITLE: Range<usize> = 144..160;
+
+/// Whether two answers aren't the same.
+fn is_other(first: bool, second: bool) -> bool
+    ensures { result ≡ is_other first second }
+{
+    match (first, second) {
+        (true, true) | (false, false) => false,
+        (true, false) | (false, true) => true,
+    }
+}
+
+/// A file whose name matches, and that isn't locked as it shall be.
+#[derive(Drop)]
+struct Unlike<'a> {
+    pattern: &'a [u8],
+    is_locked: bool,
+}
+
+impl Wanted for Unlike<'_> {
+    ghost use Rattle.cbm_shell.specs.Locking.{is_unlike};
+
+    ghost wants = { λ s. is_unlike s.pattern.now s.is_locked };
+
+    fn wants(&self, entry: &Entry) -> bool {
+        !entry.is_empty()
+            && matches(self.pattern, entry.name())
+            && is_other(entry.is_locked(), self.is_locked)
+    }
+}
+
+/// The bit of a type byte that says that a file is locked.
+fn lock_bit(is_locked: bool) -> u8
+    ensures { result ≡ lock_bit is_locked }
+{
+    if is_locked { 64 } else { 0 }
+}
+
+/// A type byte with that bit so.
+fn locked_type(byte: u8, is_locked: bool) -> u8
+    ensures { result ≡ locked_type is_locked byte }
+{
+    byte % 64 + 128 * (byte / 128) + lock_bit(is_locked)
+}
+
+/// The entry of these thirty bytes.
+fn entry_of(bytes: &[u8; 30]) -> Entry
+    ensures { result ≡ bytes.now }
+{
+    let mut sector = [0; 256];
+    sector[2..32].copy_from_slice(bytes);
+    Entry::of(&sector, 0)
+}
+
+/// An entry with that bit so.
+fn locked_entry(entry: &Entry, is_locked: bool) -> Entry
+    ensures { result ≡ locked_entry is_locked entry.now }
+{
+    let mut bytes = *entry.bytes();
+    bytes[0] = locked_type(bytes[0], is_locked);
+    entry_of(&bytes)
+}
+
+/// The disk with the first file changed that matches and isn't locked as it shall be; None where there is none. Errors:
+/// `Trouble`, where the directory breaks off before, or the medium refuses to be written.
+fn locked<M: Medium + Drop>(
+    volume: Volume<M>,
+    pattern: &[u8],
+    is_locked: bool,
+) -> Result<Option<M>, ShellFault>
+    ensures tracks { IfOk result (λ o. MatchOption o (Unit {0}) (λ after. (M.seen after).tracks ≡ (M.seen volume).tracks)) }
+    ensures locks { let old = M.seen volume in let tracks = geometry_of old.tracks old.content in
+        IfOk result (λ o. MatchOption o (AreLocked is_locked tracks pattern.now old.content)
+        (λ after. Locks is_locked tracks pattern.now old.content (M.seen after).content)) }
+{
+    let Some((slot, entry)) = volume.find(&Unlike { pattern, is_locked })? else {
+        return Ok(None);
+    };
+    let geometry = volume.geometry();
+    let mut medium = volume.into_medium();
+    put_slot(
+        &mut medium,
+        geometry,
+        slot,
+        &locked_entry(&entry, is_locked),
+    )?;
+    Ok(Some(medium))
+}
+
+/// Locks a file of an image of one format.
+fn lock_in<I: DiskImage + Drop>(
+    alloc: Global,
+    image: &[u8],
+    pattern: &[u8],
+    is_locked: bool,
+) -> Result<Option<Vec<u8>>, ShellFault>
+    requires { kind_of image.now ≡ I.kind }
+    ensures locks { let kind = kind_of image.now in
+        let tracks = geometry_of (tracks_of kind image.now) (content_of kind image.now) in
+        IfOk result (λ o. MatchOption o (AreLocked is_locked tracks pattern.now (content_of kind image.now))
+        (λ v. Locks is_locked tracks pattern.now (content_of kind image.now) (content_of kind v.items))) }
+    ensures sound { let kind = kind_of image.now in
+        let tracks = geometry_of (tracks_of kind image.now) (content_of kind image.now) in
+        OnOk result ((l : Layout) × Sound tracks (content_of kind image.now) l) }
+{
+    let volume = Volume::open(opened::<I>(alloc, image)?);
+    require_sound(&volume)?;
+    let Some(disk) = locked(volume, pattern, is_locked)? else {
+        return Ok(None);
+    };
+    Ok(Some(saved(alloc, &disk)?))
+}
+
+/// Locks the first file of an image against SCRATCH that matches a pattern and isn't locked, or frees the first that is;
+/// None where there is none. Errors: `Image`; `Unsound`; `Trouble`, where the medium can't be written; `Memory`.
+pub fn lock(
+    alloc: Global,
+    image: &[u8],
+    pattern: &[u8],
+    is_locked: bool,
+) -> Result<Option<Vec<u8>>, ShellFault>
+    // One entry is changed, in one bit, and nothing else of the image.
+    ensures locks { let kind = kind_of image.now in
+        let tracks = geometry_of (tracks_of kind image.now) (content_of kind image.now) in
+        IfOk result (λ o. MatchOption o (AreLocked is_locked tracks pattern.now (content_of kind image.now))
+        (λ v. Locks is_locked tracks pattern.now (content_of kind image.now) (content_of kind v.items))) }
+    // An image that isn't sound gives no new one.
+    ensures sound { let kind = kind_of image.now in
+        let tracks = geometry_of (tracks_of kind image.now) (content_of kind image.now) in
+        OnOk result ((l : Layout) × Sound tracks (content_of kind image.now) l) }
+{
+    match kind_of(image) {
+        Kind::D64 => lock_in::<D64Disk>(alloc, image, pattern, is_locked),
+        Kind::G64 => lock_in::<G64Disk>(alloc, image, pattern, is_locked),
+    }
+}
+
+/// Writes a title into the bytes of 18/0.
+fn put_title(head: &mut [u8; 256], title: &[u8])
+    requires { length title.now ≤ 16 }
+    ensures { head.new ≡ with_title title.now head.old }
+{
+    head[TITLE].copy_from_slice(&padded(title));
+}
+
+/// Writes 18/0.
+fn write_head<M: Medium>(medium: &mut M, head: &[u8; 256]) -> Result<(), ShellFault>
+    ensures content { OnOk result ((M.seen medium.new).content ≡ written (M.seen medium.old).content directory_head head.now) }
+    ensures tracks { (M.seen medium.new).tracks ≡ (M.seen medium.old).tracks }
+{
+    let _tracks = medium.tracks();
+    match medium.write(Address::of_map(), head) {
+        Ok(()) => Ok(()),
+        Err(fault) => Err(ShellFault::Trouble(Trouble::from(fault))),
+    }
+}
+
+/// A disk with another title. Errors: `Trouble`, where 18/0 can't be read or written.
+fn retitled<M: Medium + Drop>(volume: Volume<M>, title: &[u8]) -> Result<M, ShellFault>
+    requires { length title.now ≤ 16 }
+    ensures content { IfOk result (λ after. (M.seen after).content ≡ titled title.now (M.seen volume).content) }
+    ensures tracks { IfOk result (λ after. (M.seen after).tracks ≡ (M.seen volume).tracks) }
+{
+    let geometry = volume.geometry();
+    let mut medium = volume.into_medium();
+    let mut head = cbm_bam::read_map(&medium, geometry)?;
+    put_title(&mut head, title);
+    write_head(&mut medium, &head)?;
+    Ok(medium)
+}
+
+/// Gives the disk of an image of one format another title.
+fn retitle_in<I: DiskImage + Drop>(
+    alloc: Global,
+    image: &[u8],
+    title: &[u8],
+) -> Result<Vec<u8>, ShellFault>
+    requires kind { kind_of image.now ≡ I.kind }
+    requires short { length title.now ≤ 16 }
+    ensures title { let kind = kind_of image.now in
+        IfOk result (λ v. content_of kind v.items ≡ titled title.now (content_of kind image.now)) }
+    ensures sound { let kind = kind_of image.now in
+        let tracks = geometry_of (tracks_of kind image.now) (content_of kind image.now) in
+        OnOk result ((l : Layout) × Sound tracks (content_of kind image.now) l) }
+{
+    let volume = Volume::open(opened::<I>(alloc, image)?);
+    require_sound(&volume)?;
+    let disk = retitled(volume, title)?;
+    saved(alloc, &disk)
+}
+
+/// Gives the disk of an image another title, of at most sixteen bytes. Errors: `Image`; `Unsound`; `Trouble`, where 18/0
+/// can't be written; `Memory`.
+pub fn retitle(alloc: Global, image: &[u8], title: &[u8]) -> Result<Vec<u8>, ShellFault>
+    requires { length title.now ≤ 16 }
+    // Sixteen bytes of 18/0 are changed, and nothing else of the image.
+    ensures title { let kind = kind_of image.now in
+        IfOk result (λ v. content_of kind v.items ≡ titled title.now (content_of kind image.now)) }
+    // An image that isn't sound gives no new one.
+    ensures sound { let kind = kind_of image.now in
+        let tracks = geometry_of (tracks_of kind image.now) (content_of kind image.now) in
+        OnOk result ((l : Layout) × Sound tracks (content_of kind image.now) l) }
+{
+    match kind_of(image) {
+        Kind::D64 => retitle_in::<D64Disk>(alloc, image, title),
+        Kind::G64 => retitle_in::<G64Disk>(alloc, image, title),
+    }
+}

@@ -1,0 +1,131 @@
+//! The commands that look into images: one image, several, or those of folders.
+use super::counts::Counts;
+use super::folders::Walk;
+use super::view::{Answer, Look, Shown, lines_of};
+use crate::failure::{Failure, in_memory, on_disk};
+use crate::host::{print, read_image};
+use crate::report::refusal_line;
+use std::path::Path;
+use std::rt::Runtime;
+
+/// What an image shows.
+fn seen<'a, R: Runtime + AllocGlobal>(
+    rt: &R,
+    image: &'a str,
+    look: Look<'_>,
+) -> Result<Shown, Failure<'a>> {
+    let bytes = read_image(rt, image)?;
+    on_disk(image, lines_of(rt.alloc(), image, bytes.as_slice(), look))
+}
+
+/// Looks at the one image of the command line.
+fn look_at_one<'a, R: Runtime + AllocGlobal>(
+    rt: &R,
+    image: &'a str,
+    look: Look<'_>,
+) -> Result<(), Failure<'a>> {
+    let shown = seen(rt, image, look)?;
+    print(rt, shown.text.as_slice())?;
+    match shown.answer {
+        Answer::Fine => Ok(()),
+        Answer::Unsound(unsound) => Err(Failure::Unsound(unsound)),
+        Answer::NoMatch => Err(Failure::NoMatch),
+    }
+}
+
+/// Tells that an image can't be looked at, for people and for programs.
+fn tell_other<'a, R: Runtime + AllocGlobal>(
+    rt: &R,
+    image: &str,
+    failure: Failure<'_>,
+    look: Look<'_>,
+) -> Result<(), Failure<'a>> {
+    let _ = failure.tell(rt);
+    if !look.is_json {
+        return Ok(());
+    }
+    let line = in_memory(refusal_line(rt.alloc(), image, failure.status()))?;
+    print(rt, line.as_slice())
+}
+
+/// Looks at one of several images. Where it can't be read, or is none, that is told, and the next one comes.
+fn look_among<'a, R: Runtime + AllocGlobal>(
+    rt: &R,
+    image: &str,
+    look: Look<'_>,
+    counts: &mut Counts,
+) -> Result<(), Failure<'a>> {
+    match seen(rt, image, look) {
+        Ok(shown) => {
+            counts.add(shown.answer);
+            print(rt, shown.text.as_slice())
+        }
+        Err(Failure::NoMemory) => Err(Failure::NoMemory),
+        Err(failure) => {
+            counts.pass_over();
+            tell_other(rt, image, failure, look)
+        }
+    }
+}
+
+/// Looks at the images of a folder.
+fn look_into<'a, R: Runtime + AllocGlobal>(
+    rt: &R,
+    folder: &str,
+    look: Look<'_>,
+    counts: &mut Counts,
+) -> Result<(), Failure<'a>> {
+    let walk = in_memory(Walk::through(rt, folder))?;
+    for image in walk.images() {
+        look_among(rt, image.as_str(), look, counts)?;
+    }
+    if !walk.is_whole() {
+        counts.pass_over();
+    }
+    Ok(())
+}
+
+/// Looks at one of several images, or at those of a folder.
+fn look_at<'a, R: Runtime + AllocGlobal>(
+    rt: &R,
+    name: &str,
+    look: Look<'_>,
+    counts: &mut Counts,
+) -> Result<(), Failure<'a>> {
+    if look.is_recursive && Path::new(name).is_dir(rt) {
+        return look_into(rt, name, look, counts);
+    }
+    look_among(rt, name, look, counts)
+}
+
+/// Looks at several images, and tells what they came to.
+fn look_at_each<'a, R: Runtime + AllocGlobal>(
+    rt: &R,
+    images: &[&'a str],
+    look: Look<'_>,
+) -> Result<(), Failure<'a>> {
+    let mut counts = Counts::none();
+    for image in images {
+        look_at(rt, *image, look, &mut counts)?;
+    }
+    counts.print(rt, look)?;
+    counts.outcome(look)
+}
+
+/// Looks at images.
+pub fn look_at_all<'a, R: Runtime + AllocGlobal>(
+    rt: &R,
+    images: &[&'a str],
+    look: Look<'_>,
+) -> Result<(), Failure<'a>> {
+    match images {
+        [image] if !look.is_recursive => look_at_one(rt, *image, look),
+        _ => {
+            let look = Look {
+                is_among: true,
+                ..look
+            };
+            look_at_each(rt, images, look)
+        }
+    }
+}
