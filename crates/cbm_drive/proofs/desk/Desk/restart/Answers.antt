@@ -1,5 +1,16 @@
-use Rattle.std.proofs.Common.{refl, sym}
+use Rattle.std.proofs.Common.{sym, subst}
+use Rattle.cbm_channel.specs.Files.{Disk}
+use Rattle.cbm_channel.specs.Machines.{start}
+use Rattle.cbm_channel.specs.Standing.{Kept}
+use Rattle.cbm_volume.specs.Holding.{HoldsDisk}
+use Rattle.cbm_drive.specs.Addressing.{paced, unaddressed}
+use Rattle.cbm_drive.specs.Desks.{Desk, DeskStands}
 use Rattle.cbm_drive.proofs.desk.Desk.restart.Goals as goal
 
 pub returns-clause-stands : goal.returns-clause-stands
-returns-clause-stands g c = λ d h. ((c.restart.ensures.stands d h, sym c.restart-2.ensures), tt)
+returns-clause-stands g c =
+    let seen = g.M.Medium.seen in
+    let now : Desk (Kept _) = record { dos = c.restart.new.self; addressed = c.restart-2.new.self } in
+    subst (λ (was : Desk (Kept _)). (d : Disk) → HoldsDisk (seen was.dos.medium).tracks (seen was.dos.medium).content d
+    → DeskStands seen now (record { dos = start d (seen was.dos.medium).protected (seen was.dos.medium).tracks; addressed = paced was.addressed.pace (unaddressed was.addressed.device) })) c.self.view_is
+    (λ d h. ((c.restart.ensures.stands d h, sym c.restart-2.ensures), tt))
