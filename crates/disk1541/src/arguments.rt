@@ -1,5 +1,5 @@
 //! The command line, as clap reads it.
-use crate::commands::{Command, EXAMPLES, commands};
+use crate::commands::{Command, EXAMPLES, commands, examples_of};
 use crate::words::{Mark, Word};
 use clap::{Arg, ArgMatches, Error};
 use std::alloc::{AllocError, Global};
@@ -41,7 +41,7 @@ fn subcommand<'a>(alloc: Global, command: &Command) -> Result<clap::Command<'a>,
     let args = args(alloc, command.words)?;
     clap::Command::new(alloc, command.name)
         .about(command.about)
-        .after_help(command.examples)
+        .after_help(examples_of(command.verb))
         .args(args)
 }
 
