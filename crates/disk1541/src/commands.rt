@@ -78,8 +78,8 @@ pub const EXAMPLES: &str = examples!(
     "  disk1541 list game.d64                  what is on the disk\n  disk1541 get game.d64 'LOADER*' -o loader.prg\n  disk1541 check -r disks/                all images in a folder\n"
 );
 
-/// All commands, in the order of help.
-const COMMANDS: &[Command] = &[
+/// The commands that look at disks, in the order of help.
+const LOOKING: &[Command] = &[
     Command {
         verb: Verb::List,
         name: "list",
@@ -134,6 +134,10 @@ const COMMANDS: &[Command] = &[
         about: "Shows a sum of each image's sectors (SHA-256)",
         words: &[IMAGES, RECURSIVE, JSON],
     },
+];
+
+/// The commands that make and change disks, in the order of help.
+const CHANGING: &[Command] = &[
     Command {
         verb: Verb::New,
         name: "new",
@@ -196,19 +200,32 @@ const COMMANDS: &[Command] = &[
     },
 ];
 
-/// All commands, in the order of help.
-pub fn commands() -> &'static [Command] {
-    COMMANDS
+/// The commands that look at disks, in the order of help.
+pub fn looking_commands() -> &'static [Command] {
+    LOOKING
 }
 
-/// The command of a name.
-pub fn verb_of(name: &str) -> Option<Verb> {
-    for command in commands() {
+/// The commands that make and change disks, in the order of help.
+pub fn changing_commands() -> &'static [Command] {
+    CHANGING
+}
+
+/// The command of a name among these.
+fn verb_in(commands: &[Command], name: &str) -> Option<Verb> {
+    for command in commands {
         if command.name == name {
             return Some(command.verb);
         }
     }
     None
+}
+
+/// The command of a name.
+pub fn verb_of(name: &str) -> Option<Verb> {
+    match verb_in(looking_commands(), name) {
+        Some(verb) => Some(verb),
+        None => verb_in(changing_commands(), name),
+    }
 }
 
 /// What the help of a command says at the end.
