@@ -1,5 +1,5 @@
 //! The command line, as clap reads it.
-use crate::commands::{Command, EXAMPLES, commands};
+use crate::commands::{Command, EXAMPLES, changing_commands, examples_of, looking_commands};
 use crate::words::{Mark, Word};
 use clap::{Arg, ArgMatches, Error};
 use std::alloc::{AllocError, Global};
@@ -41,7 +41,7 @@ fn subcommand<'a>(alloc: Global, command: &Command) -> Result<clap::Command<'a>,
     let args = args(alloc, command.words)?;
     clap::Command::new(alloc, command.name)
         .about(command.about)
-        .after_help(command.examples)
+        .after_help(examples_of(command.verb))
         .args(args)
 }
 
@@ -56,12 +56,23 @@ fn add_subcommand<'a>(
     Ok(())
 }
 
+/// Adds commands.
+fn add_subcommands<'a>(
+    alloc: Global,
+    subcommands: &mut Vec<clap::Command<'a>>,
+    commands: &[Command],
+) -> Result<(), AllocError> {
+    for command in commands {
+        add_subcommand(alloc, subcommands, command)?;
+    }
+    Ok(())
+}
+
 /// All commands.
 fn subcommands<'a>(alloc: Global) -> Result<Vec<clap::Command<'a>>, AllocError> {
     let mut subcommands = Vec::new(alloc);
-    for command in commands() {
-        add_subcommand(alloc, &mut subcommands, command)?;
-    }
+    add_subcommands(alloc, &mut subcommands, looking_commands())?;
+    add_subcommands(alloc, &mut subcommands, changing_commands())?;
     Ok(subcommands)
 }
 
@@ -90,11 +101,6 @@ pub fn given<'a>(words: &ArgMatches<'a>, name: &str) -> &'a str {
 /// A word that may be missing.
 pub fn option<'a>(words: &ArgMatches<'a>, name: &str) -> Option<&'a str> {
     words.get_str(name)
-}
-
-/// The values of a word, of all its uses.
-pub fn values<'a, 'm>(words: &'m ArgMatches<'a>, name: &str) -> &'m [&'a str] {
-    words.get_strs(name).unwrap_or(&[])
 }
 
 /// Whether a word is there.

@@ -71,8 +71,6 @@ pub struct Command {
     pub about: &'static str,
     /// The words that it takes.
     pub words: &'static [Word],
-    /// What its own help says at the end.
-    pub examples: &'static str,
 }
 
 /// What the help of all commands says at the end.
@@ -80,166 +78,189 @@ pub const EXAMPLES: &str = examples!(
     "  disk1541 list game.d64                  what is on the disk\n  disk1541 get game.d64 'LOADER*' -o loader.prg\n  disk1541 check -r disks/                all images in a folder\n"
 );
 
-/// All commands, in the order of help.
-const COMMANDS: &[Command] = &[
+/// The commands that look at disks, in the order of help.
+const LOOKING: &[Command] = &[
     Command {
         verb: Verb::List,
         name: "list",
         about: "Shows the directory",
         words: &[IMAGES, RECURSIVE, ONLY, RAW, JSON, CHARSET],
-        examples: examples!(
-            "  disk1541 list game.d64\n  disk1541 list game.d64 --only 'A*' --charset lower\n  disk1541 list -r disks/ --json\n"
-        ),
     },
     Command {
         verb: Verb::Find,
         name: "find",
         about: "Shows which images have a file",
         words: &[WANTED, IMAGES, RECURSIVE, JSON, CHARSET],
-        examples: examples!(
-            "  disk1541 find 'HISCORE*' *.d64\n  disk1541 find -r 'HISCORE*' disks/\n"
-        ),
     },
     Command {
         verb: Verb::Get,
         name: "get",
         about: "Takes a file out",
         words: &[IMAGE, NAME, OUTPUT, REPLACE_FILE, SALVAGE, CHARSET],
-        examples: examples!(
-            "  disk1541 get game.d64 LOADER -o loader.prg\n  disk1541 get game.d64 '{c1}*' > first\n  disk1541 get bad.d64 --salvage 'LEVEL*' -o level.bin\n"
-        ),
     },
     Command {
         verb: Verb::GetAll,
         name: "get-all",
         about: "Takes all files out, into a folder",
         words: &[IMAGE, FOLDER, REPLACE_FILES, SALVAGE],
-        examples: examples!("  disk1541 get-all game.d64 files\n"),
     },
     Command {
         verb: Verb::Info,
         name: "info",
         about: "Tells what disks are",
         words: &[IMAGES, RECURSIVE, JSON, CHARSET],
-        examples: examples!("  disk1541 info game.d64\n  disk1541 info -r disks/ --json\n"),
     },
     Command {
         verb: Verb::Map,
         name: "map",
         about: "Shows which sectors are free, used, lost",
         words: &[IMAGE],
-        examples: examples!("  disk1541 map game.d64\n"),
     },
     Command {
         verb: Verb::Sector,
         name: "sector",
         about: "Shows the bytes of a sector",
         words: &[IMAGE, TRACK, SECTOR],
-        examples: examples!("  disk1541 sector game.d64 18 0\n"),
     },
     Command {
         verb: Verb::Check,
         name: "check",
         about: "Tells whether disks are sound",
         words: &[IMAGES, RECURSIVE, JSON],
-        examples: examples!("  disk1541 check game.d64\n  disk1541 check -r disks/\n"),
     },
     Command {
         verb: Verb::Hash,
         name: "hash",
         about: "Shows a sum of each image's sectors (SHA-256)",
         words: &[IMAGES, RECURSIVE, JSON],
-        examples: examples!("  disk1541 hash -r disks/ | sort    equal disks stand together\n"),
     },
+];
+
+/// The commands that make and change disks, in the order of help.
+const CHANGING: &[Command] = &[
     Command {
         verb: Verb::New,
         name: "new",
         about: "Makes an image of an empty disk",
         words: &[IMAGE, TITLE, ID, TRACKS, FORMAT, REPLACE_IMAGE, CHARSET],
-        examples: examples!(
-            "  disk1541 new work.d64 --title WORK --id 64\n  disk1541 new work.g64 --title WORK --id 64\n"
-        ),
     },
     Command {
         verb: Verb::Convert,
         name: "convert",
         about: "Makes a G64 of a D64, or a D64 of a G64",
         words: &[IMAGE, OUT, FORMAT, LOSSY, REPLACE_IMAGE],
-        examples: examples!("  disk1541 convert game.d64 game.g64\n"),
     },
     Command {
         verb: Verb::Put,
         name: "put",
         about: "Puts files of this computer on the disk",
         words: &[IMAGE, FILES, NAME_ON_DISK, TYPE, REPLACE_NAME, CHARSET],
-        examples: examples!(
-            "  disk1541 put work.d64 loader.prg levels.seq\n  disk1541 put work.d64 out.bin --name LOADER --replace\n"
-        ),
     },
     Command {
         verb: Verb::Copy,
         name: "copy",
         about: "Copies a file under a new name",
         words: &[IMAGE, OLD, NEW, CHARSET],
-        examples: examples!("  disk1541 copy work.d64 LOADER BACKUP\n"),
     },
     Command {
         verb: Verb::Rename,
         name: "rename",
         about: "Gives a file another name",
         words: &[IMAGE, OLD, NEW, CHARSET],
-        examples: examples!("  disk1541 rename work.d64 LOADER START\n"),
     },
     Command {
         verb: Verb::Delete,
         name: "delete",
         about: "Deletes the files that match",
         words: &[IMAGE, MEANT, CHARSET],
-        examples: examples!("  disk1541 delete work.d64 BACKUP 'OLD*'\n"),
     },
     Command {
         verb: Verb::Lock,
         name: "lock",
         about: "Locks the files that match, so that they can't be deleted",
         words: &[IMAGE, MEANT, CHARSET],
-        examples: examples!("  disk1541 lock work.d64 START 'LEVEL*'\n"),
     },
     Command {
         verb: Verb::Unlock,
         name: "unlock",
         about: "Frees the files that match, so that they can be deleted",
         words: &[IMAGE, MEANT, CHARSET],
-        examples: examples!("  disk1541 unlock work.d64 '*'\n"),
     },
     Command {
         verb: Verb::Title,
         name: "title",
         about: "Gives the disk another title",
         words: &[IMAGE, NEW_TITLE, CHARSET],
-        examples: examples!("  disk1541 title work.d64 'MY GAME'\n"),
     },
     Command {
         verb: Verb::Validate,
         name: "validate",
         about: "Gives lost blocks back, and deletes files that were never closed",
         words: &[IMAGE, DRY_RUN, FORCE],
-        examples: examples!(
-            "  disk1541 validate work.d64 --dry-run    what would go\n  disk1541 validate work.d64\n"
-        ),
     },
 ];
 
-/// All commands, in the order of help.
-pub fn commands() -> &'static [Command] {
-    COMMANDS
+/// The commands that look at disks, in the order of help.
+pub fn looking_commands() -> &'static [Command] {
+    LOOKING
 }
 
-/// The command of a name.
-pub fn verb_of(name: &str) -> Option<Verb> {
-    for command in commands() {
+/// The commands that make and change disks, in the order of help.
+pub fn changing_commands() -> &'static [Command] {
+    CHANGING
+}
+
+/// The command of a name among these.
+fn verb_in(commands: &[Command], name: &str) -> Option<Verb> {
+    for command in commands {
         if command.name == name {
             return Some(command.verb);
         }
     }
     None
+}
+
+/// The command of a name.
+pub fn verb_of(name: &str) -> Option<Verb> {
+    match verb_in(looking_commands(), name) {
+        Some(verb) => Some(verb),
+        None => verb_in(changing_commands(), name),
+    }
+}
+
+/// What the help of a command says at the end.
+pub fn examples_of(verb: Verb) -> &'static str {
+    match verb {
+        Verb::List => examples!(
+            "  disk1541 list game.d64\n  disk1541 list game.d64 --only 'A*' --charset lower\n  disk1541 list -r disks/ --json\n"
+        ),
+        Verb::Find => examples!(
+            "  disk1541 find 'HISCORE*' *.d64\n  disk1541 find -r 'HISCORE*' disks/\n"
+        ),
+        Verb::Get => examples!(
+            "  disk1541 get game.d64 LOADER -o loader.prg\n  disk1541 get game.d64 '{c1}*' > first\n  disk1541 get bad.d64 --salvage 'LEVEL*' -o level.bin\n"
+        ),
+        Verb::GetAll => examples!("  disk1541 get-all game.d64 files\n"),
+        Verb::Info => examples!("  disk1541 info game.d64\n  disk1541 info -r disks/ --json\n"),
+        Verb::Map => examples!("  disk1541 map game.d64\n"),
+        Verb::Sector => examples!("  disk1541 sector game.d64 18 0\n"),
+        Verb::Check => examples!("  disk1541 check game.d64\n  disk1541 check -r disks/\n"),
+        Verb::Hash => examples!("  disk1541 hash -r disks/ | sort    equal disks stand together\n"),
+        Verb::New => examples!(
+            "  disk1541 new work.d64 --title WORK --id 64\n  disk1541 new work.g64 --title WORK --id 64\n"
+        ),
+        Verb::Convert => examples!("  disk1541 convert game.d64 game.g64\n"),
+        Verb::Put => examples!(
+            "  disk1541 put work.d64 loader.prg levels.seq\n  disk1541 put work.d64 out.bin --name LOADER --replace\n"
+        ),
+        Verb::Copy => examples!("  disk1541 copy work.d64 LOADER BACKUP\n"),
+        Verb::Rename => examples!("  disk1541 rename work.d64 LOADER START\n"),
+        Verb::Delete => examples!("  disk1541 delete work.d64 BACKUP 'OLD*'\n"),
+        Verb::Lock => examples!("  disk1541 lock work.d64 START 'LEVEL*'\n"),
+        Verb::Unlock => examples!("  disk1541 unlock work.d64 '*'\n"),
+        Verb::Title => examples!("  disk1541 title work.d64 'MY GAME'\n"),
+        Verb::Validate => examples!(
+            "  disk1541 validate work.d64 --dry-run    what would go\n  disk1541 validate work.d64\n"
+        ),
+    }
 }

@@ -71,7 +71,7 @@ pub const WITH_ERRORS: usize = 175_531;
 /// An image; a D64 with error bytes without them.
 pub fn without_errors(image: &[u8]) -> &[u8] {
     if image.len() == WITH_ERRORS {
-        &image[..OF_35_TRACKS]
+        image.get(..OF_35_TRACKS).unwrap_or(image)
     } else {
         image
     }

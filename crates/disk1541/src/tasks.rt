@@ -44,7 +44,7 @@ use self::sector::show_sector;
 pub use self::sum::sum_text;
 pub use self::taking::Place;
 pub use self::view::{Answer, Look, Shown, View, answer_of};
-use crate::arguments::{flag, given, values};
+use crate::arguments::{flag, given};
 use crate::commands::{Verb, verb_of};
 use crate::failure::Failure;
 use crate::names::petscii;
@@ -72,7 +72,7 @@ fn look_with<'a, R: Runtime + AllocGlobal>(
         is_recursive: flag(words, "recursive"),
         is_among: false,
     };
-    look_at_all(rt, values(words, "IMAGE"), look)
+    look_at_all(rt, words.get_strs("IMAGE").unwrap_or(&[]), look)
 }
 
 /// Locks the files that are meant, or frees them.
@@ -82,7 +82,7 @@ fn lock_with<'a, R: Runtime + AllocGlobal>(
     charset: Charset,
     is_locked: bool,
 ) -> Result<(), Failure<'a>> {
-    let edit = Edit::Lock(values(words, "PATTERN"), charset, is_locked);
+    let edit = Edit::Lock(words.get_strs("PATTERN").unwrap_or(&[]), charset, is_locked);
     save_edit(rt, given(words, "IMAGE"), &edit)
 }
 
@@ -110,12 +110,16 @@ fn perform<'a, R: Runtime + AllocGlobal>(
         Verb::Put => put(
             rt,
             image,
-            values(words, "FILE"),
+            words.get_strs("FILE").unwrap_or(&[]),
             &host_files(words, charset),
         ),
         Verb::Copy => rename(rt, image, b"C0:", &pair(words, charset)),
         Verb::Rename => rename(rt, image, b"R0:", &pair(words, charset)),
-        Verb::Delete => save_edit(rt, image, &Edit::Delete(values(words, "PATTERN"), charset)),
+        Verb::Delete => save_edit(
+            rt,
+            image,
+            &Edit::Delete(words.get_strs("PATTERN").unwrap_or(&[]), charset),
+        ),
         Verb::Lock => lock_with(rt, words, charset, true),
         Verb::Unlock => lock_with(rt, words, charset, false),
         Verb::Title => save_edit(rt, image, &Edit::Title(given(words, "TITLE"), charset)),
