@@ -1,5 +1,5 @@
 -- Drives that rest again are as they were switched on, each with the machine that it has by then.
-use Rattle.std.proofs.Common.{◌≡◌, ℕ, ◌==◌, ⊥, Bool, true, false, List, [], ◌∷◌, map, refl, sym, ap, ◌∙◌, subst, eq-eqb}
+use Rattle.std.proofs.Common.{◌≡◌, ℕ, Bool, List, [], ◌∷◌, map, refl, sym, ap, ◌∙◌, subst, eq-eqb}
 use Rattle.std.proofs.lemmas.Bool.{ne_eqb}
 use Rattle.std.specs.Prelude.{if◌then◌else◌}
 use Rattle.std.specs.List.{AllZip}
@@ -20,7 +20,7 @@ use Rattle.cbm_bus.specs.Headline.{AreAt, machines_now}
 use Rattle.cbm_bus.specs.Powered.{ArePowered, IsAtRest}
 
 -- each machine is the one that its device number names
-Finds : (ℕ → Desk Machine) → List (Station (Desk Machine)) → Type 0
+abbrev Finds : (ℕ → Desk Machine) → List (Station (Desk Machine)) → Type 0
 Finds f [] = Unit {0}
 Finds f (s ∷ ss) = (f s.port.party.device ≡ s.machine) × Finds f ss
 
@@ -38,15 +38,15 @@ finds ms (s ∷ ss) u =
 module _ {M : Type 0} (seen : M → Seen) where
   powered_now : (f : ℕ → Desk Machine) (h : Lines) (all : List (Seated (Desk (Kept M)))) (xs : List (Seated (Desk (Kept M)))) (ss : List (Station (Desk Machine))) → AllZip (IsSeat (Desk (Kept M)) (Desk Machine) (DeskStands seen) (held_by h all)) xs ss → AreResting xs → Finds f ss
       → ArePowered seen (map (λ s. s.port.party) ss) f xs
-  powered_now f l all [] [] h r l = tt
-  powered_now f l all [] (s ∷ ss) h r l = absurd h
-  powered_now f l all (x ∷ xs) [] h r l = absurd h
-  powered_now f l all (x ∷ xs) (s ∷ ss) h r l = (
+  powered_now f held all [] [] h r l = tt
+  powered_now f held all [] (s ∷ ss) h r l = absurd h
+  powered_now f held all (x ∷ xs) [] h r l = absurd h
+  powered_now f held all (x ∷ xs) (s ∷ ss) h r l = (
     record {
       port = r.0 ∙ ap (λ (p : Port). resting p.party) h.0.port;
       machine = subst (λ (m : Desk Machine). DeskStands seen x.machine m) (sym l.0) h.0.machine;
     },
-    powered_now f l all xs ss h.1 r.1 l.1,
+    powered_now f held all xs ss h.1 r.1 l.1,
   )
 
   pub rests_again : (bs : List Party) (ms : ℕ → Desk Machine) (b : Cabled (Desk (Kept M))) (ss : List (Station (Desk Machine))) → AllUnlike bs → b.host ≡ all_free → AreResting b.drives → AreAt seen bs b ss → IsAtRest seen bs (machines_now ss ms) b

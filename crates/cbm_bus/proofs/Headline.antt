@@ -1,5 +1,5 @@
 -- What a play of drives with disks leaves: each medium holds the disk of the machine that its drive stands for.
-use Rattle.std.proofs.Common.{◌≡◌, ℕ, ◌+◌, Bool, false, List, [], ◌∷◌, ◌++◌, Option, Some, None, refl, sym, subst, ◌∙◌, arith}
+use Rattle.std.proofs.Common.{◌≡◌, ℕ, ◌+◌, Bool, false, List, [], ◌∷◌, Option, Some, None, refl, sym, subst, ◌∙◌, arith}
 use Rattle.std.specs.List.{AllZip}
 use Rattle.std.specs.Prelude.{Result, Ok, Err, OnOk, MatchResult, map}
 use Rattle.cbm_iec.specs.Ports.{port_due}
@@ -10,7 +10,6 @@ use Rattle.cbm_iec.specs.declared.lines.Lines.{Lines}
 use Rattle.cbm_iec.specs.declared.party.Party.{Party}
 use Rattle.cbm_medium.specs.Seen.{Seen}
 use Rattle.cbm_channel.proofs.Stands.{means_of}
-use Rattle.cbm_channel.specs.Files.{Disk}
 use Rattle.cbm_channel.specs.Machines.{Machine}
 use Rattle.cbm_channel.specs.Standing.{Kept}
 use Rattle.cbm_session.proofs.headline.LawsMet.{keeps}

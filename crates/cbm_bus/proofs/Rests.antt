@@ -1,5 +1,5 @@
 -- Drives at rest hold no line, so each of them sees all lines free.
-use Rattle.std.proofs.Common.{◌≡◌, ℕ, ◌+◌, Bool, false, List, [], ◌∷◌, refl, sym, ap, subst, arith}
+use Rattle.std.proofs.Common.{◌≡◌, ℕ, List, [], ◌∷◌, refl, sym, ap, subst, arith}
 use Rattle.std.specs.List.{AllZip}
 use Rattle.cbm_iec.specs.declared.lines.Lines.{Lines}
 use Rattle.cbm_iec.specs.declared.party.Party.{Party}
@@ -10,8 +10,8 @@ use Rattle.cbm_channel.specs.Standing.{Kept}
 use Rattle.cbm_session.specs.Playing.{at_rest, nobody}
 use Rattle.cbm_drive.specs.Cables.{Cabled, all_free}
 use Rattle.cbm_drive.specs.Desks.{Desk, DeskStands, desk_step, desk_says}
-use Rattle.cbm_drive.specs.Seats.{Seated, IsBusAt, IsSeat, IsWithout, bit, total, clock_of, data_of, held_by}
-use Rattle.cbm_bus.specs.Powered.{IsPowered, ArePowered, IsAtRest}
+use Rattle.cbm_drive.specs.Seats.{Seated, IsSeat, IsWithout, bit, total, clock_of, data_of, held_by}
+use Rattle.cbm_bus.specs.Powered.{ArePowered, IsAtRest}
 
 module _ {M : Type 0} (seen : M → Seen) (ms : ℕ → Desk Machine) where
   no_clock : (bs : List Party) (xs : List (Seated (Desk (Kept M)))) → ArePowered seen bs ms xs → total clock_of xs ≡ 0

@@ -1,5 +1,5 @@
 -- What a disk of either format shows: what its own format says.
-use Rattle.std.specs.Prelude.{ℕ, ◌≡◌, ◌<◌, None, refl}
+use Rattle.std.specs.Prelude.{◌≡◌, ◌<◌, None, refl}
 use Rattle.cbm_medium.specs.Place.{Place}
 use Rattle.cbm_medium.specs.Content.{HasFaultCode, header_fault}
 use Rattle.cbm_medium.specs.Seen.{Seen}
