@@ -1,0 +1,4 @@
+pub mod Answers
+pub mod ImageDisks
+pub mod Looking
+pub mod Making
