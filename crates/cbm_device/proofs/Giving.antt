@@ -14,13 +14,13 @@ use Rattle.cbm_device.specs.Making.{IsUnmade}
 
 -- no refusal has the number of what went well
 pub never_fine : (r : Refusal) → number_of r ≡ fine → ⊥
-never_fine Memory e = absurd e
-never_fine Invalid e = absurd e
-never_fine NoRoom e = absurd e
-never_fine Absent e = absurd e
-never_fine NoImage e = absurd e
-never_fine Unsound e = absurd e
-never_fine NoDrive e = absurd e
+never_fine Memory e = absurd cc
+never_fine Invalid e = absurd cc
+never_fine NoRoom e = absurd cc
+never_fine Absent e = absurd cc
+never_fine NoImage e = absurd cc
+never_fine Unsound e = absurd cc
+never_fine NoDrive e = absurd cc
 never_fine (Status code) e = let same = ap nat_abs e in absurd (omega (arith, same))
 
 -- what was made is given, or why nothing was is told
@@ -47,3 +47,11 @@ unmade change m fault.Mistaken h = absurd h
 pub said_so : {A : Type 0} (r : Result A ShellFault) (P : A → Type 0) (Q R : ShellFault → Type 0) → ((f : ShellFault) → Q f → R f) → MatchResult r P Q → MatchResult r P R
 said_so (Ok v) P Q R say h = h
 said_so (Err f) P Q R say h = say f h
+
+-- what is given was made
+pub none_given : {A : Type 0} (items : A → List ℕ) (made : Result A ShellFault) (done : Result (Unit {0}) Refusal) (n : ℤ) (old new : List ℕ) (before needed : ℕ) (R : Type 0) → OnOk made R
+    → MatchResult made (λ v. (needed ≡ length (items v)) × AreGiven (answer done) old new (items v)) (λ f. (done ≡ Err (refusal_of f)) × (new ≡ old) × (needed ≡ before))
+    → n ≡ answer done → n ≡ fine → R
+none_given items (Ok v) done n old new before needed R is given e well = is
+none_given items (Err f) done n old new before needed R is given e well =
+    absurd (never_fine (refusal_of f) (sym (ap (λ d. answer d) given.0) ∙ (sym e ∙ well)))

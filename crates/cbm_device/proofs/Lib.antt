@@ -1,3 +1,2 @@
 pub mod Giving
-pub mod Played
-pub mod Standing
+pub mod Opening

@@ -6,15 +6,15 @@ use Rattle.cbm_volume.specs.Map.{geometry_of}
 use Rattle.cbm_volume.specs.Slots.{Answers, directory_of}
 use Rattle.cbm_medium.specs.declared.fault.Trouble.{Trouble}
 use Rattle.cbm_program.specs.Images.{kind_of, tracks_of, content_of}
-use Rattle.cbm_device.specs.declared.looking.Title.{Title}
+use Rattle.cbm_device.specs.declared.looking.Heading.{Heading}
 use Rattle.cbm_device.specs.declared.refusal.Refusal.{Refusal}
 use Rattle.cbm_device.specs.declared.refusal.Refusal.TheVariants.{Memory, Invalid, NoRoom, Absent, NoImage, Unsound, NoDrive, Status}
 use Rattle.cbm_device.specs.ImageDisks.{IsOpenRefusal}
 
 -- a disk's title, its id with the kind of DOS, and how many blocks are free
-pub record IsTitleOf (d : Disk) (t : Title) : Type 0 where
-  pub title : t.title ≡ d.title
-  pub mark : t.mark ≡ d.mark
+pub record IsTitleOf (d : Disk) (t : Heading) : Type 0 where
+  pub title : t.label.title ≡ d.title
+  pub mark : t.label.mark ≡ d.mark
   pub free : t.free ≡ d.free
 
 -- why there is no title: the image isn't opened, or 18/0 doesn't read

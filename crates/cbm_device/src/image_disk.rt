@@ -102,11 +102,11 @@ impl ImageDisk {
     {
         match kind_of(image) {
             Kind::D64 => Ok(ImageDisk {
-                sectors: Sectors::D64(opened(alloc, image, protected)?),
+                sectors: Sectors::D64(opened::<D64Disk>(alloc, image, protected)?),
                 writes: 0,
             }),
             Kind::G64 => Ok(ImageDisk {
-                sectors: Sectors::G64(opened(alloc, image, protected)?),
+                sectors: Sectors::G64(opened::<G64Disk>(alloc, image, protected)?),
                 writes: 0,
             }),
         }

@@ -7,6 +7,6 @@ mod refusal;
 mod room;
 
 pub use image_disk::{ImageDisk, Sectors};
-pub use looking::{Title, check, entry, sector, title};
+pub use looking::{Heading, check, entry, sector, title};
 pub use refusal::{Refusal, number};
 pub use room::{give, given};

@@ -1,5 +1,5 @@
 //! Looks into an image.
-ghost use Rattle.std.specs.Prelude.{◌≡◌, ℕ, Ok, Some, IfErr, IfOk, IsOkAnd, MatchResult};
+ghost use Rattle.std.specs.Prelude.{◌≡◌, Err, Ok, true, IfErr, IfOk, IsOkAnd, MatchResult};
 ghost use Rattle.cbm_file.specs.Files.{Disk};
 ghost use Rattle.cbm_medium.specs.Place.{directory_head};
 ghost use Rattle.cbm_volume.specs.Holding.{HoldsDisk, StandsAt};
@@ -11,16 +11,14 @@ ghost use Rattle.cbm_device.specs.Looking.{IsTitleOf, IsUntitled, IsNoEntry, IsN
 use crate::image_disk::ImageDisk;
 use crate::refusal::Refusal;
 use cbm_medium::{Address, Medium};
-use cbm_volume::{Entry, Trouble, Unsound, Volume};
+use cbm_volume::{Entry, Label, Trouble, Unsound, Volume};
 use std::alloc::Global;
 
 /// What 18/0 says of a disk.
 #[derive(Clone, Copy, Debug, PartialEq, Eq)]
-pub struct Title {
-    /// Its title, filled up with $A0.
-    pub title: [u8; 16],
-    /// Its id, a $A0, and the kind of DOS.
-    pub mark: [u8; 5],
+pub struct Heading {
+    /// Its title and its mark.
+    pub label: Label,
     /// How many blocks are free for files.
     pub free: u16,
 }
@@ -45,22 +43,18 @@ pub fn check(alloc: Global, image: &[u8]) -> Result<Result<(), Unsound>, Refusal
 }
 
 /// What 18/0 says of a disk, or the medium's fault there.
-fn title_on<M: Medium>(volume: &Volume<M>) -> Result<Title, Trouble>
+fn title_on<M: Medium>(volume: &Volume<M>) -> Result<Heading, Trouble>
     ensures means { (d : Disk) → HoldsDisk (M.seen volume.now).tracks (M.seen volume.now).content d →
         IsOkAnd result (IsTitleOf d) }
     ensures err { IfErr result (λ t. (M.seen volume.now).content directory_head ≡ Err t.code) }
 {
     let label = volume.label()?;
     let free = volume.free()?;
-    Ok(Title {
-        title: label.title,
-        mark: label.mark,
-        free,
-    })
+    Ok(Heading { label, free })
 }
 
 /// What 18/0 says of the disk of an image. Errors: `NoImage`, `Memory`, the fault of 18/0.
-pub fn title(alloc: Global, image: &[u8]) -> Result<Title, Refusal>
+pub fn title(alloc: Global, image: &[u8]) -> Result<Heading, Refusal>
     ensures means { (d : Disk) → ImageHolds (kind_of image.now) image.now d →
         MatchResult result (IsTitleOf d) (IsOpenRefusal image.now) }
     ensures err { IfErr result (IsUntitled image.now) }

@@ -1,4 +1,2 @@
 pub mod Looks
 pub mod Changes
-pub mod Handles
-pub mod Drives

@@ -61,15 +61,19 @@ pub extern "C" fn y1541_image_check(alloc: Global, image: &[u8], first: &mut Pla
 }
 
 /// What 18/0 says of a disk.
-fn shown(title: &cbm_device::Title) -> Title
-    ensures title { result.title ≡ title.now.title }
-    ensures mark { result.mark ≡ title.now.mark }
-    ensures free { result.free ≡ title.now.free }
+fn shown(heading: &cbm_device::Heading) -> Title
+    ensures title { result.title ≡ heading.now.label.title }
+    ensures mark { result.mark ≡ heading.now.label.mark }
+    ensures free { result.free ≡ heading.now.free }
 {
+    let mut title = [0; 16];
+    title.copy_from_slice(&heading.label.title);
+    let mut mark = [0; 5];
+    mark.copy_from_slice(&heading.label.mark);
     Title {
-        free: title.free,
-        title: title.title,
-        mark: title.mark,
+        free: heading.free,
+        title,
+        mark,
     }
 }
 

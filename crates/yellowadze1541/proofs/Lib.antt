@@ -1,4 +1,0 @@
-pub mod Acting
-pub mod Signalling
-pub mod Types
-pub mod Values
