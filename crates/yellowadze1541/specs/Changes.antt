@@ -1,5 +1,5 @@
 -- New images and changes of one, as C is told of them.
-use Rattle.std.specs.Prelude.{ℕ, ℤ, ◌≡◌, List, length}
+use Rattle.std.specs.Prelude.{ℕ, ℤ, ◌≡◌, ◌==◌, if◌then◌else◌, List, length}
 use Rattle.cbm_program.specs.Images.{kind_of}
 use Rattle.cbm_shell.specs.declared.making.Form.{Form}
 use Rattle.cbm_shell.specs.declared.making.Form.TheVariants.{D64, LongD64, G64}
@@ -12,9 +12,7 @@ use Rattle.yellowadze1541.specs.Looks.{flag}
 
 -- the form of a new image, by its number
 abbrev pub form_of : ℕ → Form
-form_of 0 = D64
-form_of 1 = LongD64
-form_of n = G64
+form_of n = if n == 0 then D64 else if n == 1 then LongD64 else G64
 
 -- an argument is out of its range, and nothing has changed
 abbrev pub IsRefusedNew : ℤ → List ℕ → List ℕ → ℕ → ℕ → Type 0

@@ -1,5 +1,5 @@
 //! New images, and changes of one.
-ghost use Rattle.std.specs.Prelude.{◌≡◌, ◌≤◌, ◌<◌, ◌⊎◌, ◌∷◌, [], ℕ, List, false, length, IfOk, IfErr};
+ghost use Rattle.std.specs.Prelude.{◌≡◌, ◌≤◌, ◌<◌, ◌⊎◌, ◌∷◌, [], ℕ, List, false, length, MatchResult};
 ghost use Rattle.cbm_file.specs.Files.{Disk};
 ghost use Rattle.cbm_channel.specs.Machines.{start};
 ghost use Rattle.cbm_volume.specs.Layouts.{Layout, Sound};
@@ -77,8 +77,7 @@ fn form_with(form: u8) -> Form
 /// A new image, with memory's want told as such.
 fn made(alloc: Global, form: Form, title: &[u8], id: [u8; 2]) -> Result<Vec<u8>, ShellFault>
     requires { length title.now ≤ 16 }
-    ensures ok { IfOk result (λ v. IsNew form title.now id v.items) }
-    ensures err { IfErr result IsWantOfMemory }
+    ensures { MatchResult result (λ v. IsNew form title.now id v.items) IsWantOfMemory }
 {
     match new_image(alloc, form, title, id) {
         Ok(image) => Ok(image),
