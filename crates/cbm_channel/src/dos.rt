@@ -6,6 +6,7 @@ use std::marker::Model;
 
 mod closing;
 mod copying;
+mod exchanging;
 mod formatting;
 mod opening;
 mod planning;
