@@ -1,2 +1,4 @@
 pub mod Giving
 pub mod Opening
+pub mod Played
+pub mod Standing

@@ -2,7 +2,14 @@
 #![tactic(auto)]
 
 mod changes;
+mod disks;
+mod drives;
+mod handle;
 mod images;
+mod inner;
+mod plays;
 mod shapes;
 
-pub use shapes::{Entry, Lost, Place, Title};
+pub use handle::Handle;
+pub use inner::Inner;
+pub use shapes::{Entry, Lost, Place, Pulls, Reacted, Signal, Title};
