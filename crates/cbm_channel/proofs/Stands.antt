@@ -30,7 +30,6 @@ use Rattle.cbm_machine.specs.Closing.{forget_text, without_text}
 use Rattle.cbm_machine.specs.Talking.{peek_on, taken, taken_on, next_of_record}
 use Rattle.cbm_machine.specs.Calls.{text_for, is_relative_channel}
 use Rattle.cbm_machine.specs.Told.{Told, told_by, behind_next}
-use Rattle.cbm_channel.specs.Exchanged.{still_telling}
 use Rattle.cbm_channel.specs.Standing.{Kept, Fits, AreFit, ChannelStands, WaitsFor, use_of, uses_of, kept_text, StandsBy, Stands, HasText, HasNoText}
 use Rattle.cbm_channel.specs.Shown.{shown_on, cost_on, writes_on}
 use Rattle.cbm_volume.proofs.Storing.{let_go}
@@ -359,23 +358,6 @@ powered_up c t p d h = record {
 pub stands_at_first : (c : Content) (t : ℕ) (p : Bool) (d : Disk) (chs : List Channel) (told : Told) → chs ≡ replicate 15 code.Closed → told ≡ told_by (machine.start d p t)
     → HoldsDisk t c d → StandsBy c t p chs told None (machine.start d p t)
 stands_at_first c t p d chs told e f h = subst (λ xs. StandsBy c t p xs told None (machine.start d p t)) (sym e) (subst (λ x. StandsBy c t p (replicate 15 code.Closed) x None (machine.start d p t)) (sym f) (powered_up c t p d h))
-
--- the same, where the status is another one
-pub stands_telling : (c : Content) (t : ℕ) (p : Bool) (d : Disk) (chs : List Channel) (told : Told) → chs ≡ replicate 15 code.Closed
-    → HoldsDisk t c d → StandsBy c t p chs told None (still_telling told (machine.start d p t))
-stands_telling c t p d chs told e h = subst (λ xs. StandsBy c t p xs told None (still_telling told (machine.start d p t))) (sym e) (record {
-  holds = s.holds;
-  orderly = s.orderly;
-  same_tracks = s.same_tracks;
-  same_protection = s.same_protection;
-  each = s.each;
-  waits = s.waits;
-  same_told = refl;
-  same_text = s.same_text;
-})
-  where
-    s : StandsBy c t p (replicate 15 code.Closed) (told_by (machine.start d p t)) None (machine.start d p t)
-    s = powered_up c t p d h
 
 -- what holds of each success holds of this one
 pub ok_is : {A E : Type 0} {P : Type 0} (r : Result A E) → IsOk r → OnOk r P → P

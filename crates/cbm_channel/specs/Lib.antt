@@ -12,7 +12,6 @@ pub mod Joined
 pub mod Planned
 pub mod Sought
 pub mod Listing
-pub mod Exchanged
 pub use Rattle.cbm_file.specs.Types
 pub use Rattle.cbm_file.specs.Files
 pub use Rattle.cbm_file.specs.Changes

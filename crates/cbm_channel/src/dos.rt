@@ -6,7 +6,6 @@ use std::marker::Model;
 
 mod closing;
 mod copying;
-mod exchanging;
 mod formatting;
 mod opening;
 mod planning;

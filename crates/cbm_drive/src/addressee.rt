@@ -61,17 +61,6 @@ impl Addressee {
         }
     }
 
-    /// As the drive is switched on again, with its number and its pace.
-    pub(crate) fn restart(&mut self)
-        ensures { self.new ≡ paced self.old.pace (unaddressed self.old.device) }
-    {
-        self.role = Role::Absent;
-        self.channel = None;
-        self.naming = false;
-        self.freed = false;
-        self.name = ArrayVec::new();
-    }
-
     /// It keeps this pace from now on.
     pub(crate) fn keep_pace(&mut self, pace: Pace)
         ensures { self.new ≡ paced pace self.old }

@@ -100,13 +100,10 @@ impl<M: Steady> Desk<M> {
     ghost use Rattle.std.specs.Prelude.{◌≡◌, ◌<◌, ◌≤◌, ℕ, true, false, Some, IfSome, IsSome};
     ghost use Rattle.cbm_iec.specs.Machines.{owes};
     ghost use Rattle.cbm_channel.specs.Standing.{Leads};
-    ghost use Rattle.cbm_channel.specs.Exchanged.{still_telling};
-    ghost use Rattle.cbm_channel.specs.Files.{Disk};
     ghost use Rattle.cbm_channel.specs.Machines as files;
-    ghost use Rattle.cbm_volume.specs.Holding.{HoldsDisk};
-    ghost use Rattle.cbm_drive.specs.Addressing.{unaddressed, paced, attended, waiting, heard, released, secondary_of, channel_of, channel_heard, channel_said, ended, addressed_after};
+    ghost use Rattle.cbm_drive.specs.Addressing.{attended, waiting, heard, released, secondary_of, channel_of, channel_heard, channel_said, ended, addressed_after};
     ghost use Rattle.cbm_drive.specs.Desks as desks;
-    ghost use Rattle.cbm_drive.specs.Desks.{talked_to, seconded, ending, put_to, taken_from, asked, desk_says, desk_shows, DeskStands, IsAlike};
+    ghost use Rattle.cbm_drive.specs.Desks.{talked_to, seconded, ending, put_to, taken_from, asked, desk_says, desk_shows, IsAlike};
 
     /// ATN was pulled: what a listener was sent ends, and the secondary address goes.
     fn pulled(&mut self)
@@ -215,34 +212,6 @@ impl<M: Steady> Desk<M> {
             Act::Said(..) => self.said(),
             Act::Silent => {}
         }
-    }
-
-    /// The drive is switched off and on with its disk.
-    pub(crate) fn restart(&mut self)
-        ensures medium { self.new.dos.medium ≡ self.old.dos.medium }
-        ensures stands { let now = M.seen self.old.dos.medium in let was = self.old.addressed in (d : Disk) →
-            HoldsDisk now.tracks now.content d → DeskStands M.seen self.new (record {
-              dos = files.start d now.protected now.tracks;
-              addressed = paced was.pace (unaddressed was.device);
-            }) }
-    {
-        self.dos.restart();
-        self.addressee.restart();
-    }
-
-    /// Another disk is put in; who is addressed and the status stay.
-    pub(crate) fn insert(&mut self, medium: M)
-    where
-        M: Drop,
-        ensures medium { self.new.dos.medium ≡ medium }
-        ensures stands { let now = M.seen medium in let was = self.old in (d : Disk) →
-            HoldsDisk now.tracks now.content d → DeskStands M.seen self.new (record {
-              dos = still_telling was.dos.told (files.start d now.protected now.tracks);
-              addressed = was.addressed;
-            }) }
-    {
-        self.dos.insert(medium);
-        let _byte = self.shown();
     }
 
     /// The byte that there is to say, and whether it is the last.

@@ -1,7 +1,0 @@
--- A drive that was given another disk.
-use Rattle.cbm_machine.specs.Machines.{Machine}
-use Rattle.cbm_machine.specs.Told.{Told}
-
--- the machine, telling what was told before
-abbrev pub still_telling : Told → Machine → Machine
-still_telling t m = record m { status = t.status; told = t.told }

@@ -1,0 +1,12 @@
+use Rattle.std.proofs.Common.{subst, sym}
+use Rattle.cbm_channel.specs.Machines.{start}
+use Rattle.cbm_drive.specs.Desks.{DeskStands, at_first, with_pace}
+use Rattle.cbm_device.specs.ImageDisks.{seen_of}
+use Rattle.cbm_device.proofs.device.Device.switched_on.Goals as goal
+
+pub returns-clause-stands : goal.returns-clause-stands
+returns-clause-stands c = λ d h.
+    let b = c.args.party in
+    let m = start d (seen_of c.args.disk).protected (seen_of c.args.disk).tracks in
+    subst (λ x. DeskStands seen_of x (with_pace b.pace (at_first b.device m))) (sym c.new.ensures.machine)
+    (c.with_pace-desk.ensures.stands (at_first b.device m) (c.at_power_up.ensures.stands d h))
