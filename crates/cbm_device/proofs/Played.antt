@@ -1,5 +1,6 @@
 -- What a bus with one drive played is what the drive played.
-use Rattle.std.proofs.Common.{◌≡◌, ℕ, ◌+◌, List, [], ◌∷◌, refl, sym, subst}
+use Rattle.std.proofs.Common.{◌≡◌, ℕ, ◌+◌, Bool, true, false, List, [], ◌∷◌, Option, Some, None, refl, sym, subst}
+use Rattle.std.specs.Prelude.{nat_lt, if◌then◌else◌}
 use Rattle.std.specs.List.{AllZip}
 use Rattle.cbm_iec.specs.Ports.{resting}
 use Rattle.cbm_iec.specs.declared.event.Event.{Event}
@@ -13,12 +14,30 @@ use Rattle.cbm_channel.specs.Standing.{Kept}
 use Rattle.cbm_channel.proofs.Stands.{means_of}
 use Rattle.cbm_drive.specs.Cables.{all_free}
 use Rattle.cbm_drive.specs.Desks.{Desk, DeskStands, desk_step, desk_says}
-use Rattle.cbm_drive.specs.Ordered.{host_changes}
+use Rattle.cbm_drive.specs.Ordered.{fault_of, host_changes}
+use Rattle.cbm_drive.specs.declared.fault.PlayFault.{PlayFault}
+use Rattle.cbm_drive.specs.declared.fault.PlayFault.TheVariants.{Backwards, PastEnd, Memory}
 use Rattle.cbm_drive.specs.Played.{HasPlayed}
 use Rattle.cbm_drive.specs.Seats.{Seated, IsBusAt, IsSeat, IsWithout, held_by}
 use Rattle.cbm_volume.specs.Holding.{HoldsDisk}
 use Rattle.cbm_device.specs.ImageDisks.{Counted, seen_of}
 use Rattle.cbm_device.specs.Plays.{HasPlayedAll, IsDiskIn, machine_of, powered}
+
+-- what nothing refutes isn't there
+pub no_fault : (o : Option PlayFault) → ((f : PlayFault) → o ≡ Some f → ⊥) → o ≡ None
+no_fault None k = refl
+no_fault (Some f) k = absurd (k f refl)
+
+by_tests : (n : ℕ) (a b : Bool) (rest : Option PlayFault) → (rest ≡ Some Memory → ⊥) → (if a then Some (Backwards n) else if b then Some (PastEnd n) else rest) ≡ Some Memory → ⊥
+by_tests n true b rest k e = absurd cc
+by_tests n false true rest k e = absurd cc
+by_tests n false false rest k e = k e
+
+-- no list of changes is at fault for want of memory
+pub never_memory : (cs : List Change) (n before end : ℕ) → fault_of n before end cs ≡ Some Memory → ⊥
+never_memory [] n before end e = absurd cc
+never_memory (c ∷ cs) n before end e =
+    by_tests n (nat_lt c.moment before) (nat_lt end c.moment) (fault_of (n + 1) c.moment end cs) (never_memory cs (n + 1) c.moment end) e
 
 abbrev Seat : Type 0
 Seat = Seated (Desk (Kept Counted))

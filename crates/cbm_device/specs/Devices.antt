@@ -1,34 +1,27 @@
 -- A drive on lines, with the disk of an image.
-use Rattle.std.specs.Prelude.{ℕ, ◌≡◌, ◌≤◌, ◌<◌, ◌^◌, ◌⊎◌, max, Bool, false, List, Option, Some, None}
+use Rattle.std.specs.Prelude.{ℕ, ◌≡◌, ◌≤◌, ◌<◌, ◌^◌, ◌⊎◌, Bool, List, Option, Some, None}
 use Rattle.cbm_iec.specs.Machines.{acted}
 use Rattle.cbm_iec.specs.Ports.{port_due, resting, told, told_act, reacted, reaction_act}
-use Rattle.cbm_iec.specs.declared.line.Change.{Change}
 use Rattle.cbm_iec.specs.declared.lines.Lines.{Lines}
 use Rattle.cbm_iec.specs.declared.party.Party.{Party}
 use Rattle.cbm_iec.specs.declared.port.Port.{Port}
 use Rattle.cbm_session.specs.Following.{IsInTime}
 use Rattle.cbm_session.specs.Playing.{IsLaterDue}
 use Rattle.cbm_file.specs.Files.{Disk}
-use Rattle.cbm_channel.specs.Exchanged.{still_telling}
 use Rattle.cbm_channel.specs.Machines.{Machine, start}
 use Rattle.cbm_channel.specs.Standing.{Kept}
-use Rattle.cbm_drive.specs.Addressing.{paced, unaddressed}
 use Rattle.cbm_drive.specs.Desks.{Desk, DeskStands, at_first, with_pace, desk_step, desk_says, desk_shows}
-use Rattle.cbm_drive.specs.Recorded.{ReactsBy}
+use Rattle.cbm_drive.specs.Playback.{IsActed}
 use Rattle.cbm_drive.specs.Seats.{Seated}
 use Rattle.cbm_volume.specs.Holding.{HoldsDisk}
 use Rattle.cbm_program.specs.Images.{kind_of, tracks_of, ImageHolds}
 use Rattle.cbm_device.specs.ImageDisks.{Counted, seen_of, IsDiskOf}
 use Rattle.cbm_device.specs.declared.device.Reaction.{Reaction}
 
--- a drive, the lines of all others as it was told of them last, and when anything last happened
+-- a drive, and when anything last happened
 pub record OnLines : Type 0 where
   pub seat : Seated (Desk (Kept Counted))
-  pub lines : Lines
   pub latest : ℕ
-
-abbrev pub all_free : Lines
-all_free = record { atn_low = false; clock_low = false; data_low = false }
 
 -- a drive has the number 8 to 11, and reacts after 1 to 60 microseconds
 abbrev pub IsOutside : Party → Type 0
@@ -38,7 +31,6 @@ IsOutside b = ((b.device < 8) ⊎ (11 < b.device)) ⊎ ((b.reaction < 1) ⊎ (60
 pub record IsSwitchedOn (image : List ℕ) (protected : Bool) (b : Party) (d : OnLines) : Type 0 where
   pub disk : IsDiskOf image protected d.seat.machine.dos.medium
   pub port : d.seat.port ≡ resting b
-  pub lines : d.lines ≡ all_free
   pub first : d.latest ≡ 0
   pub stands : (x : Disk) → ImageHolds (kind_of image) image x
       → DeskStands seen_of d.seat.machine (with_pace b.pace (at_first b.device (start x protected (tracks_of (kind_of image) image))))
@@ -84,8 +76,7 @@ IsOutOfTime moment d = (2 ^ 60 ≤ moment) ⊎ ((moment < d.latest) ⊎ IsDueBef
 
 -- A DRIVE WAS TOLD OF LINES at a moment.
 pub record HasHeard (moment : ℕ) (others : Lines) (old new : OnLines) : Type 0 where
-  pub port : new.seat.port ≡ port_in_turn moment old.lines others old.seat.port
-  pub lines : new.lines ≡ others
+  pub port : new.seat.port ≡ port_in_turn moment old.seat.port.others others old.seat.port
   pub latest : new.latest ≡ moment
 
 -- ---- reactions
@@ -97,12 +88,11 @@ HasNothingDue moment d = IsLaterDue moment (port_due d.seat.port) ⊎ IsInTime (
 -- THE REACTION THAT WAS DUE HAS HAPPENED, on any disk; and these lines the drive held before and holds since.
 pub record HasReacted (r : Reaction) (old new : OnLines) : Type 0 where
   pub due : port_due old.seat.port ≡ Some r.moment
-  pub changes : List Change
-  pub reacts : ReactsBy desk_shows r.moment old.seat new.seat changes
+  pub port : new.seat.port ≡ reacted r.moment (desk_shows old.seat.machine) old.seat.port
+  pub machine : IsActed desk_shows (reaction_act (desk_shows old.seat.machine) old.seat.port) old.seat.machine new.seat.machine
   pub was : r.was ≡ old.seat.port.own
   pub now : r.now ≡ new.seat.port.own
-  pub lines : new.lines ≡ old.lines
-  pub latest : new.latest ≡ max old.latest r.moment
+  pub latest : new.latest ≡ r.moment
 
 -- the reaction of a drive with a machine that it stands for
 abbrev pub react_at : ℕ → Seated (Desk Machine) → Seated (Desk Machine)
@@ -113,25 +103,18 @@ react_at t s = record {
 
 -- ---- a new start, and another disk
 
--- A DRIVE WAS SWITCHED OFF AND ON with its disk; it takes all lines for free.
-pub record IsRestarted (old new : OnLines) : Type 0 where
+-- A DRIVE WAS SWITCHED OFF AND ON with this disk in it; where that holds a disk of files, it stands for the machine of these, with no channel open.
+pub record HasDisk (disk : Counted) (old new : OnLines) : Type 0 where
   pub port : new.seat.port ≡ resting old.seat.port.party
-  pub disk : new.seat.machine.dos.medium ≡ old.seat.machine.dos.medium
-  pub lines : new.lines ≡ all_free
+  pub inside : new.seat.machine.dos.medium ≡ disk
   pub latest : new.latest ≡ old.latest
-  pub stands : (d : Disk) → HoldsDisk (seen_of old.seat.machine.dos.medium).tracks (seen_of old.seat.machine.dos.medium).content d
-      → DeskStands seen_of new.seat.machine (record {
-        dos = start d (seen_of old.seat.machine.dos.medium).protected (seen_of old.seat.machine.dos.medium).tracks;
-        addressed = paced old.seat.machine.addressed.pace (unaddressed old.seat.machine.addressed.device);
-      })
+  pub stands : (d : Disk) → HoldsDisk (seen_of disk).tracks (seen_of disk).content d
+      → DeskStands seen_of new.seat.machine (with_pace old.seat.port.party.pace (at_first old.seat.port.party.device (start d (seen_of disk).protected (seen_of disk).tracks)))
 
--- THE DISK OF ANOTHER IMAGE is in the drive, which stands for the machine of its files with no channel open, and tells what it told.
-pub record HasAnotherDisk (image : List ℕ) (protected : Bool) (old new : OnLines) : Type 0 where
-  pub disk : IsDiskOf image protected new.seat.machine.dos.medium
-  pub port : new.seat.port ≡ old.seat.port
-  pub lines : new.lines ≡ old.lines
-  pub latest : new.latest ≡ old.latest
-  pub stands : (d : Disk) → ImageHolds (kind_of image) image d → DeskStands seen_of new.seat.machine (record {
-    dos = still_telling old.seat.machine.dos.told (start d protected (tracks_of (kind_of image) image));
-    addressed = old.seat.machine.addressed;
-  })
+-- the same disk
+abbrev pub IsRestarted : OnLines → OnLines → Type 0
+IsRestarted old new = HasDisk old.seat.machine.dos.medium old new
+
+-- the disk of another image
+abbrev pub HasAnotherDisk : List ℕ → Bool → OnLines → OnLines → Type 0
+HasAnotherDisk image protected old new = (disk : Counted) × IsDiskOf image protected disk × HasDisk disk old new

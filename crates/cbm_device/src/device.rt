@@ -1,22 +1,26 @@
 //! A drive on lines, with the disk of an image.
-ghost use Rattle.std.specs.Prelude.{◌≡◌, ◌≤◌, ◌<◌, ◌^◌, ◌⊎◌, Err, OnOk, IfOk, IfErr, MatchBool};
+ghost use Rattle.std.specs.Prelude.{◌≡◌, ◌≤◌, ◌<◌, ◌^◌, ◌⊎◌, ◌++◌, Err, List, ℕ, length, drop, OnOk, OnErr, IfOk, IfErr, MatchBool};
 ghost use Rattle.cbm_file.specs.Files.{Disk};
 ghost use Rattle.cbm_channel.specs.Codes.{code_number};
 ghost use Rattle.cbm_channel.specs.Machines.{Machine, start};
-ghost use Rattle.cbm_iec.specs.Ports.{port_due, resting};
+ghost use Rattle.cbm_iec.specs.Machines.{acted};
+ghost use Rattle.cbm_iec.specs.Ports.{port_due, resting, told, told_act, reacted, reaction_act};
 ghost use Rattle.cbm_session.specs.Following.{IsInTime};
 ghost use Rattle.cbm_drive.specs.Desks as desks;
-ghost use Rattle.cbm_drive.specs.Desks.{DeskStands};
+ghost use Rattle.cbm_drive.specs.Desks.{desk_says, desk_shows, desk_step, DeskStands};
+ghost use Rattle.cbm_drive.specs.Playback.{IsActed};
 ghost use Rattle.cbm_drive.specs.Seats.{Seated};
 ghost use Rattle.cbm_volume.specs.Holding.{HoldsDisk};
-ghost use Rattle.cbm_device.specs.ImageDisks.{seen_of, IsImageOf, IsOpenRefusal};
-ghost use Rattle.cbm_device.specs.Devices.{all_free, tell_in_turn, react_at, IsOutside, IsSwitchedOn, IsOnTime, IsOutOfTime, IsDueBefore, HasHeard, HasReacted, HasNothingDue, IsRestarted, HasAnotherDisk, StandsFor};
+ghost use Rattle.cbm_device.specs.ImageDisks.{no_disk, seen_of, IsImageOf, IsOpenRefusal};
+ghost use Rattle.cbm_device.specs.Devices.{tell_in_turn, react_at, IsOutside, IsSwitchedOn, IsOnTime, IsOutOfTime, IsDueBefore, HasHeard, HasReacted, HasNothingDue, HasDisk, IsRestarted, HasAnotherDisk, StandsFor};
 
 use crate::image_disk::ImageDisk;
 use crate::refusal::Refusal;
-use cbm_drive::{Desk, Drive, Held, Lines, Party};
+use crate::room::give;
+use cbm_drive::{Desk, Held, Lines, Machine, Party, Port};
 use std::alloc::Global;
 use std::marker::Model;
+use std::mem::replace;
 
 /// Moments come before this one, in microseconds.
 const LAST: u64 = 1 << 60;
@@ -26,13 +30,6 @@ const DEVICES: (u8, u8) = (8, 11);
 
 /// The longest reaction, in microseconds.
 const SLOWEST: u8 = 60;
-
-/// All lines free.
-const ALL_FREE: Lines = Lines {
-    atn_low: false,
-    clock_low: false,
-    data_low: false,
-};
 
 /// What a reaction did.
 #[derive(Clone, Copy, Debug, PartialEq, Eq)]
@@ -45,20 +42,49 @@ pub struct Reaction {
     pub now: Held,
 }
 
-/// A drive on lines with the disk of an image. It keeps what it was told of the lines last, and when anything last happened.
+/// A drive on lines with the disk of an image: its port and its DOS. It keeps when anything last happened.
 #[derive(Drop)]
 pub struct Device {
-    drive: Drive<Desk<ImageDisk>>,
-    lines: Lines,
+    port: Port,
+    desk: Desk<ImageDisk>,
     latest: u64,
 }
 
 impl Model for Device {
+    ghost use Rattle.std.specs.Prelude.{◌<◌};
     ghost use Rattle.cbm_device.specs.Devices.{OnLines};
 
     ghost Value = { OnLines };
 
-    ghost view = { λ d. record { seat = d.drive; lines = d.lines; latest = d.latest } };
+    ghost view = { λ d. record { seat = record { port = d.port; machine = d.desk }; latest = d.latest } };
+
+    ghost invariant = { λ d. d.port.party.device < 31 };
+}
+
+/// The DOS of a drive that is switched on with this disk.
+fn powered(disk: ImageDisk, party: Party) -> Desk<ImageDisk>
+    requires { party.device < 31 }
+    ensures disk { result.dos.medium ≡ disk }
+    ensures stands { let now = seen_of disk in (d : Disk) → HoldsDisk now.tracks now.content d →
+        DeskStands seen_of result (desks.with_pace party.pace
+        (desks.at_first party.device (start d now.protected now.tracks))) }
+{
+    Desk::at_power_up(disk, party.device).with_pace(party.pace)
+}
+
+/// The image of a disk goes to the caller's room. Errors: `Memory`, `NoRoom`, `Absent` where there is no disk; then nothing goes there.
+fn give_image(
+    alloc: Global,
+    disk: &ImageDisk,
+    out: &mut [u8],
+    needed: &mut usize,
+) -> Result<(), Refusal>
+    ensures ok { OnOk result ((bytes : List ℕ) × IsImageOf disk.now bytes × (needed.new ≡ length bytes)
+        × (out.new ≡ bytes ++ drop (length bytes) out.old)) }
+    ensures err { OnErr result (out.new ≡ out.old) }
+{
+    let image = disk.save(alloc)?;
+    give(image.as_slice(), out, needed)
 }
 
 impl Device {
@@ -82,26 +108,37 @@ impl Device {
             return Err(Refusal::Invalid);
         }
         let disk = ImageDisk::open(alloc, image, protected)?;
-        Ok(Device::switched_on(disk, party))
+        let desk = powered(disk, party);
+        Ok(Device {
+            port: Port::new(party),
+            desk,
+            latest: 0,
+        })
     }
 
-    /// A drive that is switched on with this disk.
-    fn switched_on(disk: ImageDisk, party: Party) -> Device
-        requires device { party.device < 31 }
-        requires reaction { 1 ≤ party.reaction }
-        ensures disk { result.seat.machine.dos.medium ≡ disk }
-        ensures port { result.seat.port ≡ resting party }
-        ensures lines { result.lines ≡ all_free }
-        ensures first { result.latest ≡ 0 }
-        ensures stands { let now = seen_of disk in (d : Disk) → HoldsDisk now.tracks now.content d →
-            DeskStands seen_of result.seat.machine (desks.with_pace party.pace
-            (desks.at_first party.device (start d now.protected now.tracks))) }
+    /// The others hold these lines from a moment on.
+    #[inline(always)]
+    fn hear(&mut self, moment: u64, others: Lines)
+        requires { moment < 2 ^ 60 }
+        ensures port { self.new.seat.port ≡ told moment others self.old.seat.port }
+        ensures machine { (m : desks.Desk Machine) → DeskStands seen_of self.old.seat.machine m →
+            DeskStands seen_of self.new.seat.machine
+            (acted (desks.Desk Machine) desk_step (told_act others self.old.seat.port) m) }
+        ensures acted { IsActed desk_shows (told_act others self.old.seat.port) self.old.seat.machine self.new.seat.machine }
+        ensures latest { self.new.latest ≡ self.old.latest }
     {
-        let desk = Desk::at_power_up(disk, party.device).with_pace(party.pace);
-        Device {
-            drive: Drive::new(desk, party),
-            lines: ALL_FREE,
-            latest: 0,
+        if let Some(act) = self.port.line(moment, others) {
+            self.desk.act(act);
+        }
+    }
+
+    /// Whether a reaction is due before a moment.
+    fn is_due_before(&self, moment: u64) -> bool
+        ensures { let due = port_due self.now.seat.port in MatchBool result (IsDueBefore moment due) (IsInTime moment due) }
+    {
+        match self.port.next_due() {
+            Some(due) => due < moment,
+            None => false,
         }
     }
 
@@ -111,48 +148,57 @@ impl Device {
         ensures in_time { OnOk result (IsOnTime moment self.old) }
         ensures told { OnOk result (HasHeard moment others self.old self.new) }
         ensures stands { (s : Seated (desks.Desk Machine)) → StandsFor self.old.seat s →
-            OnOk result (StandsFor self.new.seat (tell_in_turn moment self.old.lines others s)) }
+            OnOk result (StandsFor self.new.seat (tell_in_turn moment self.old.seat.port.others others s)) }
         ensures err { IfErr result (λ r. (r ≡ Refusal.Invalid) × IsOutOfTime moment self.old × (self.new ≡ self.old)) }
     {
         if moment >= LAST || moment < self.latest || self.is_due_before(moment) {
             return Err(Refusal::Invalid);
         }
-        let was = self.lines;
-        self.drive.line(
-            moment,
-            Lines {
-                atn_low: others.atn_low,
-                ..was
-            },
-        );
-        self.drive.line(
-            moment,
-            Lines {
-                data_low: was.data_low,
-                ..others
-            },
-        );
-        self.drive.line(moment, others);
-        self.lines = others;
+        let was = self.port.others;
+        let behind_atn = Lines {
+            atn_low: others.atn_low,
+            clock_low: was.clock_low,
+            data_low: was.data_low,
+        };
+        let behind_clock = Lines {
+            atn_low: others.atn_low,
+            clock_low: others.clock_low,
+            data_low: was.data_low,
+        };
+        self.hear(moment, behind_atn);
+        self.hear(moment, behind_clock);
+        self.hear(moment, others);
         self.latest = moment;
         Ok(())
     }
 
-    /// Whether a reaction is due before a moment.
-    fn is_due_before(&self, moment: u64) -> bool
-        ensures { MatchBool result (IsDueBefore moment (port_due self.now.seat.port)) (IsInTime moment (port_due self.now.seat.port)) }
-    {
-        match self.drive.next_due() {
-            Some(due) => due < moment,
-            None => false,
-        }
-    }
-
     /// When the next reaction is due, in microseconds.
+    #[inline(always)]
     pub fn next_due(&self) -> Option<u64>
         ensures { result ≡ port_due self.now.seat.port }
     {
-        self.drive.next_due()
+        self.port.next_due()
+    }
+
+    /// The reaction that is due happens.
+    #[inline(always)]
+    fn react(&mut self, moment: u64)
+        requires { moment < 2 ^ 60 }
+        ensures port { self.new.seat.port ≡ reacted moment (desk_shows self.old.seat.machine) self.old.seat.port }
+        ensures acted { let shown = desk_shows self.old.seat.machine in
+            IsActed desk_shows (reaction_act shown self.old.seat.port) self.old.seat.machine self.new.seat.machine }
+        ensures says { (m : desks.Desk Machine) → DeskStands seen_of self.old.seat.machine m →
+            desk_shows self.old.seat.machine ≡ desk_says m }
+        ensures machine { (m : desks.Desk Machine) → DeskStands seen_of self.old.seat.machine m →
+            DeskStands seen_of self.new.seat.machine
+            (acted (desks.Desk Machine) desk_step (reaction_act (desk_says m) self.old.seat.port) m) }
+        ensures latest { self.new.latest ≡ self.old.latest }
+    {
+        let said = self.desk.peek();
+        let reaction = self.port.due(moment, said);
+        if let Some(act) = reaction.act {
+            self.desk.act(act);
+        }
     }
 
     /// The reaction that is due by a moment happens, when it is due. The one error is `Absent`: none is due by then.
@@ -162,19 +208,19 @@ impl Device {
             IfOk result (λ r. StandsFor self.new.seat (react_at r.moment s)) }
         ensures err { IfErr result (λ r. (r ≡ Refusal.Absent) × HasNothingDue moment self.old × (self.new ≡ self.old)) }
     {
-        let Some(due) = self.drive.next_due() else {
+        let Some(due) = self.port.next_due() else {
             return Err(Refusal::Absent);
         };
         if due > moment || due >= LAST {
             return Err(Refusal::Absent);
         }
-        let was = self.drive.own();
-        let _changes = self.drive.due(due);
-        self.latest = self.latest.max(due);
+        let was = self.port.own;
+        self.react(due);
+        self.latest = due;
         Ok(Reaction {
             moment: due,
             was,
-            now: self.drive.own(),
+            now: self.port.own,
         })
     }
 
@@ -182,7 +228,7 @@ impl Device {
     pub fn pulls(&self) -> Held
         ensures { result ≡ self.now.seat.port.own }
     {
-        self.drive.own()
+        self.port.own
     }
 
     /// The number of the status, which channel 15 tells; nothing of it is taken.
@@ -191,41 +237,59 @@ impl Device {
         ensures code { (d : desks.Desk Machine) → DeskStands seen_of self.now.seat.machine d →
             result ≡ code_number d.dos.status.code }
     {
-        self.drive.machine().dos().status_code()
+        self.desk.dos().status_code()
     }
 
-    /// The image of the disk as it is now. The one error is `Memory`.
-    pub fn image(&self, alloc: Global) -> Result<Vec<u8>, Refusal>
-        ensures ok { IfOk result (λ v. IsImageOf self.now.seat.machine.dos.medium v.items) }
-        ensures err { IfErr result (λ r. r ≡ Refusal.Memory) }
+    /// The drive is switched off, its disk is exchanged for this one, and it is switched on: its lines are free, no channel is open, and
+    /// what was being written isn't closed. It takes all lines for free until it is told of them.
+    fn exchange(&mut self, disk: ImageDisk) -> ImageDisk
+        ensures old { result ≡ self.old.seat.machine.dos.medium }
+        ensures new { HasDisk disk self.old self.new }
     {
-        self.drive.machine().dos().medium().save(alloc)
+        let party = self.port.party;
+        let desk = powered(disk, party);
+        self.port = Port::new(party);
+        replace(&mut self.desk, desk).into_medium()
     }
 
-    /// How often a sector of the disk was written, or all were at once, since it was put in.
-    pub fn writes(&self) -> u64
-        ensures { result ≡ self.now.seat.machine.dos.medium.writes }
-    {
-        self.drive.machine().dos().medium().writes()
-    }
-
-    /// The drive is switched off and on with its disk: no channel is open, what was being written isn't closed, and it takes all lines
-    /// for free until it is told of them.
+    /// The drive is switched off and on with its disk.
     pub fn reset(&mut self)
         ensures { IsRestarted self.old self.new }
     {
-        self.drive.restart();
-        self.lines = ALL_FREE;
+        let disk = self.exchange(ImageDisk::blank());
+        let _blank = self.exchange(disk);
     }
 
-    /// The disk of another image is put in: no channel is open, what was being written isn't closed; the lines and the status stay.
-    /// Errors: `NoImage`, `Memory`, and then the old one stays.
+    /// The drive is switched off and on, with the disk of another image. Errors: `NoImage`, `Memory`, and then nothing has happened.
     pub fn insert(&mut self, alloc: Global, image: &[u8], protected: bool) -> Result<(), Refusal>
         ensures ok { OnOk result (HasAnotherDisk image.now protected self.old self.new) }
         ensures err { IfErr result (λ r. IsOpenRefusal image.now r × (self.new ≡ self.old)) }
     {
         let disk = ImageDisk::open(alloc, image, protected)?;
-        self.drive.insert(disk);
+        let _old = self.exchange(disk);
         Ok(())
+    }
+
+    /// The disk is taken out, and its image goes to the caller's room; the drive is switched off and on with no disk. Errors: `Memory`,
+    /// `NoRoom`, `Absent` where there is none; then the disk is in the drive, which was switched off and on.
+    pub fn eject(
+        &mut self,
+        alloc: Global,
+        out: &mut [u8],
+        needed: &mut usize,
+    ) -> Result<(), Refusal>
+        ensures ok { OnOk result (HasDisk no_disk self.old self.new × ((bytes : List ℕ) ×
+            IsImageOf self.old.seat.machine.dos.medium bytes × (needed.new ≡ length bytes)
+            × (out.new ≡ bytes ++ drop (length bytes) out.old))) }
+        ensures err { OnErr result (IsRestarted self.old self.new × (out.new ≡ out.old)) }
+    {
+        let disk = self.exchange(ImageDisk::blank());
+        match give_image(alloc, &disk, out, needed) {
+            Ok(()) => Ok(()),
+            Err(refusal) => {
+                let _blank = self.exchange(disk);
+                Err(refusal)
+            }
+        }
     }
 }

@@ -4,11 +4,12 @@ ghost use Rattle.cbm_medium.specs.Place.{directory_head};
 ghost use Rattle.cbm_medium.specs.Content.{written, blank, format_refusal};
 ghost use Rattle.cbm_medium.specs.Seen.{with_content, write_refusal, IsRefused};
 ghost use Rattle.cbm_program.specs.Images.{kind_of, image_fault, IsOf};
-ghost use Rattle.cbm_device.specs.ImageDisks.{shown_by, IsDiskOf, IsOpenRefusal, IsImageOf};
+ghost use Rattle.cbm_device.specs.ImageDisks.{no_disk, shown_by, IsDiskOf, IsOpenRefusal, IsImageOf, IsUnsaved};
 
 use crate::refusal::Refusal;
 use cbm_d64::D64Disk;
 use cbm_g64::G64Disk;
+use cbm_medium::codes::WRITE_PROTECT_ON;
 use cbm_medium::{Address, Fault, Medium, Steady};
 use cbm_program::{DiskImage, Kind, RunFault, kind_of};
 use std::alloc::Global;
@@ -21,6 +22,8 @@ pub enum Sectors {
     D64(D64Disk),
     /// Circles of bits.
     G64(G64Disk),
+    /// Of no image: zeros that can't be written, which take no memory. It stands in a drive without a disk.
+    Blank,
 }
 
 /// The disk of an image, and how often it was written.
@@ -76,6 +79,10 @@ fn write_on(sectors: &mut Sectors, at: Address, bytes: &[u8; 256]) -> Result<(),
     match sectors {
         Sectors::D64(disk) => disk.write(at, bytes),
         Sectors::G64(disk) => disk.write(at, bytes),
+        Sectors::Blank => Err(Fault {
+            code: WRITE_PROTECT_ON,
+            at,
+        }),
     }
 }
 
@@ -91,6 +98,10 @@ fn format_on(sectors: &mut Sectors, id: [u8; 2]) -> Result<(), Fault>
     match sectors {
         Sectors::D64(disk) => disk.format(id),
         Sectors::G64(disk) => disk.format(id),
+        Sectors::Blank => Err(Fault {
+            code: WRITE_PROTECT_ON,
+            at: Address::of_map(),
+        }),
     }
 }
 
@@ -112,14 +123,25 @@ impl ImageDisk {
         }
     }
 
-    /// The image of the disk as it is now. The one error is `Memory`.
+    /// No disk: zeros that can't be written.
+    pub fn blank() -> ImageDisk
+        ensures { result ≡ no_disk }
+    {
+        ImageDisk {
+            sectors: Sectors::Blank,
+            writes: 0,
+        }
+    }
+
+    /// The image of the disk as it is now. Errors: `Memory`, `Absent` where there is no disk.
     pub fn save(&self, alloc: Global) -> Result<Vec<u8>, Refusal>
         ensures ok { IfOk result (λ v. IsImageOf self.now v.items) }
-        ensures err { IfErr result (λ r. r ≡ Refusal.Memory) }
+        ensures err { IfErr result (IsUnsaved self.now.sectors) }
     {
         match &self.sectors {
             Sectors::D64(disk) => saved(alloc, disk),
             Sectors::G64(disk) => saved(alloc, disk),
+            Sectors::Blank => Err(Refusal::Absent),
         }
     }
 
@@ -148,6 +170,7 @@ impl Medium for ImageDisk {
         match &self.sectors {
             Sectors::D64(disk) => disk.read(at),
             Sectors::G64(disk) => disk.read(at),
+            Sectors::Blank => Ok([0; 256]),
         }
     }
 
@@ -185,6 +208,7 @@ impl Medium for ImageDisk {
         match &self.sectors {
             Sectors::D64(disk) => disk.tracks(),
             Sectors::G64(disk) => disk.tracks(),
+            Sectors::Blank => 35,
         }
     }
 
@@ -192,6 +216,7 @@ impl Medium for ImageDisk {
         match &self.sectors {
             Sectors::D64(disk) => disk.protected(),
             Sectors::G64(disk) => disk.protected(),
+            Sectors::Blank => true,
         }
     }
 
