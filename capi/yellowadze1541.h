@@ -7,7 +7,7 @@
  * No call blocks, starts a thread, reads a file or a clock, prints, or keeps a pointer of the caller's. The library has no state but its
  * handles: one handle is in one call at a time, and different ones may be in calls of different threads at once.
  * Memory comes from malloc, realloc and free, in the calls marked [m] alone; where they have none the call answers
- * Y1541_NO_MEMORY, and nothing has changed.
+ * Y1541_NO_MEMORY, and nothing has changed (but see y1541_eject).
  */
 #ifndef YELLOWADZE1541_H
 #define YELLOWADZE1541_H
@@ -85,17 +85,15 @@ int32_t y1541_pulls_now(y1541 *d, y1541_pulls *pulls);
  * takes all lines for free until y1541_lines tells it. */
 int32_t y1541_reset(y1541 *d);
 
-/* --- the disk in a drive */
+/* --- the disk in a drive: with each exchange the drive is switched off and on, as by y1541_reset */
 
-/* [m] The image of the disk as it is now, with all that was written; the drive goes on. */
-int32_t y1541_image(y1541 *d, uint8_t *out, size_t room, size_t *needed);
+/* [m] The disk is taken out: its image as it is now, with all that was written. The drive has none then, and reads zeros that can't be
+ * written. Y1541_ABSENT where it has none already. Where the image isn't given (Y1541_NO_ROOM, Y1541_NO_MEMORY), the disk stays in the
+ * drive, which was switched off and on; room for an image of the form that was put in, and 278,234 bytes for a G64, suffices. */
+int32_t y1541_eject(y1541 *d, uint8_t *out, size_t room, size_t *needed);
 
-/* [m] The disk of another image is put in: no channel is open, what was being written isn't closed, lines and status stay. Where it
- * isn't opened, the old one stays. */
+/* [m] The disk of another image is put in, of which the drive makes a copy. Where it isn't opened, nothing has happened. */
 int32_t y1541_insert(y1541 *d, const uint8_t *image, size_t len, uint8_t is_protected);
-
-/* How often a sector was written, or all were at once, since the disk was put in; 0 where d holds no drive. */
-uint64_t y1541_writes(y1541 *d);
 
 /* The number of the status that channel 15 tells, 0 to 74; nothing of it is taken. */
 int32_t y1541_status(y1541 *d);

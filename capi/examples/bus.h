@@ -63,6 +63,13 @@ static void bus_read(bus *b, uint64_t now, uint8_t *clock, uint8_t *data) {
         if (b->drive[i].at) *clock |= b->pulls[i].clock_low, *data |= b->pulls[i].data_low;
 }
 
+/* A drive was switched off and on, by y1541_reset, y1541_insert or y1541_eject: its lines are free, and it is told of all others'. */
+static void bus_switched(bus *b, int i, uint64_t now) {
+    bus_run_to(b, now);
+    b->pulls[i].clock_low = b->pulls[i].data_low = 0;
+    bus_tell_all(b, -1, now);
+}
+
 /* A drive is switched on at the bus: all others' lines are told to it. */
 static int32_t bus_open(bus *b, int i, const uint8_t *image, size_t len, uint8_t device, uint8_t reaction, uint8_t pace, uint64_t now) {
     int32_t said = y1541_open(&b->drive[i], image, len, 0, device, reaction, pace);

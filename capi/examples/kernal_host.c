@@ -63,8 +63,7 @@ int main(int argc, char **argv) {
         expect(said == Y1541_OK, y1541_text(said));
         kernal_init(&k, &b, runs[i].computer, (uint32_t)i);
         jobs(&k, image, len, runs[i].pace == Y1541_KERNAL);
-        expect(y1541_writes(&b.drive[0]) > 0, "writes are counted");
-        expect(y1541_image(&b.drive[0], out, 1 << 20, &needed) == Y1541_OK, "the image");
+        expect(y1541_eject(&b.drive[0], out, 1 << 20, &needed) == Y1541_OK, "the image");
         y1541_place first;
         expect(y1541_image_check(out, needed, &first) == Y1541_OK, "the image is sound");
         y1541_close(&b.drive[0]);

@@ -50,8 +50,8 @@ int main(int argc, char **argv) {
     for (long i = 0; i < 50000000; i++) sum += y1541_next_due(&d);
     printf("next_due: %.1f million a second\n", 50 / (seconds() - begun));
     begun = seconds();
-    for (int i = 0; i < 1000; i++) y1541_image(&d, out, 1 << 20, &needed);
-    printf("image: %.1f microseconds\n", (seconds() - begun) * 1e3);
+    for (int i = 0; i < 1000; i++) y1541_eject(&d, out, 1 << 20, &needed), y1541_insert(&d, image, len, 0);
+    printf("eject and insert: %.1f microseconds\n", (seconds() - begun) * 1e3);
     y1541_close(&d);
     double best = 0;
     for (int i = 0; i < 3; i++) {

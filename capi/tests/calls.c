@@ -18,8 +18,8 @@ static void refused(const uint8_t *image, size_t len) {
     size_t needed = 5;
     expect(y1541_lines(&d, 0, 0, 0, 0) == Y1541_NO_DRIVE && y1541_next_due(&d) == Y1541_NEVER, "no drive: lines");
     expect(y1541_due(&d, 0, &r) == Y1541_NO_DRIVE && r.moment == 7 && y1541_pulls_now(&d, &p) == Y1541_NO_DRIVE && p.clock_low == 7, "no drive: due");
-    expect(y1541_reset(&d) == Y1541_NO_DRIVE && y1541_status(&d) == Y1541_NO_DRIVE && y1541_writes(&d) == 0, "no drive: reset");
-    expect(y1541_image(&d, out, 4, &needed) == Y1541_NO_DRIVE && needed == 5, "no drive: image");
+    expect(y1541_reset(&d) == Y1541_NO_DRIVE && y1541_status(&d) == Y1541_NO_DRIVE, "no drive: reset");
+    expect(y1541_eject(&d, out, 4, &needed) == Y1541_NO_DRIVE && needed == 5, "no drive: eject");
     expect(y1541_insert(&d, image, len, 0) == Y1541_NO_DRIVE, "no drive: insert");
     y1541_close(&d);
     expect(!d.at, "closed none");
@@ -39,9 +39,15 @@ static void refused(const uint8_t *image, size_t len) {
     expect(y1541_due(&d, 1019, &r) == Y1541_ABSENT && r.moment == 7, "too soon");
     expect(y1541_due(&d, 5000, &r) == Y1541_OK && r.moment == 1020 && r.data_low == 1 && r.data_changed == 1 && !r.clock_low && !r.clock_changed, "the reaction to ATN");
     expect(y1541_pulls_now(&d, &p) == Y1541_OK && p.data_low == 1 && !p.clock_low, "DATA is held");
-    expect(y1541_image(&d, out, 4, &needed) == Y1541_NO_ROOM && needed == len && out[0] == 9 && out[3] == 9, "no room for an image");
-    expect(y1541_insert(&d, image, 12, 0) == Y1541_NO_IMAGE, "no other image");
+    expect(y1541_insert(&d, image, 12, 0) == Y1541_NO_IMAGE && y1541_pulls_now(&d, &p) == Y1541_OK && p.data_low == 1, "no other image");
     expect(y1541_reset(&d) == Y1541_OK && y1541_next_due(&d) == Y1541_NEVER && y1541_pulls_now(&d, &p) == Y1541_OK && !p.data_low, "reset");
+    expect(y1541_lines(&d, 1019, 1, 0, 0) == Y1541_INVALID && y1541_lines(&d, 1020, 1, 0, 0) == Y1541_OK, "moments go on");
+    expect(y1541_eject(&d, out, 4, &needed) == Y1541_NO_ROOM && needed == len && out[0] == 9 && out[3] == 9, "no room for an image");
+    expect(y1541_status(&d) == 73 && y1541_next_due(&d) == Y1541_NEVER, "switched off and on");
+    uint8_t *all = malloc(len);
+    expect(y1541_eject(&d, all, len, &needed) == Y1541_OK && needed == len && same_bytes(all, image, len), "the disk comes out");
+    expect(y1541_eject(&d, all, len, &needed) == Y1541_ABSENT, "no disk");
+    free(all);
     y1541_close(&d);
     expect(!d.at, "closed");
     y1541_close(&d);
@@ -85,7 +91,7 @@ static void form_of(uint8_t form, const char *what) {
     kernal_init(&k, &b, PAL, form);
     expect(kernal_load(&k, 8, "PROG", bytes, sizeof bytes) == (long)sizeof program && same_bytes(bytes, program, sizeof program), "LOAD from it");
     expect(kernal_save(&k, 8, "MORE", bytes, 700), "SAVE to it");
-    expect(y1541_image(&b.drive[0], next, ROOM, &needed) == Y1541_OK && y1541_image_check(next, needed, &place) == Y1541_OK, "its image is sound");
+    expect(y1541_eject(&b.drive[0], next, ROOM, &needed) == Y1541_OK && y1541_image_check(next, needed, &place) == Y1541_OK, "its image is sound");
     expect(y1541_image_command(next, needed, (const uint8_t *)"S0:MORE", 7, image, ROOM, &len) == Y1541_OK, "a file is scratched");
     expect(y1541_image_title(image, len, &title) == Y1541_OK && title.free == (form == Y1541_D64_40 ? 748 : 663), "its blocks are free");
     y1541_close(&b.drive[0]);
@@ -120,7 +126,7 @@ static void *runs(void *given) {
         t->wrong += !kernal_save(&k, (uint8_t)(8 + t->seed), name, program, sizeof program);
     }
     y1541_place place;
-    t->wrong += y1541_image(&b.drive[0], image, ROOM, &needed) != Y1541_OK || y1541_image_check(image, needed, &place) != Y1541_OK;
+    t->wrong += y1541_eject(&b.drive[0], image, ROOM, &needed) != Y1541_OK || y1541_image_check(image, needed, &place) != Y1541_OK;
     y1541_close(&b.drive[0]);
     free(bytes), free(image);
     return NULL;

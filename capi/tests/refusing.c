@@ -36,7 +36,17 @@ static int32_t opens(void) {
     return said;
 }
 
-static int32_t saves(void) { return y1541_image(&d, out, ROOM, &needed); }
+/* The disk is taken out and, where it came, put in again. */
+static int32_t ejects(void) {
+    int32_t said = y1541_eject(&d, out, ROOM, &needed);
+    long was = requests, then = refuse;
+    refuse = 0;
+    expect(y1541_status(&d) == 73, "the drive was switched off and on");
+    if (said == Y1541_OK) expect(y1541_insert(&d, image, len, 0) == Y1541_OK, "the disk again");
+    requests = was, refuse = then;
+    return said;
+}
+
 static int32_t inserts(void) { return y1541_insert(&d, image, len, 0); }
 static int32_t checks(void) { y1541_place p; return y1541_image_check(image, len, &p); }
 static int32_t titles(void) { y1541_title t; return y1541_image_title(image, len, &t); }
@@ -52,7 +62,7 @@ static int32_t converts(void) { y1541_lost l; return y1541_image_convert(image, 
 
 static const struct { const char *name; int32_t (*call)(void); } calls[] = {
     {"open", opens}, {"check", checks}, {"title", titles}, {"entry", enters}, {"list", lists}, {"file", files}, {"sector", reads},
-    {"put", puts_file}, {"command", commands}, {"new", makes}, {"new g64", makes_g64}, {"convert", converts}, {"image", saves}, {"insert", inserts},
+    {"put", puts_file}, {"command", commands}, {"new", makes}, {"new g64", makes_g64}, {"convert", converts}, {"eject", ejects}, {"insert", inserts},
 };
 
 /* How many requests a call makes, each of them refused in turn. */

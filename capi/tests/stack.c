@@ -17,7 +17,7 @@ static void lines(void) { y1541_lines(&d, 1000, 1, 0, 0), y1541_lines(&g, 1000, 
 static void next_due(void) { y1541_next_due(&d); }
 static void due(void) { y1541_reacted r; y1541_due(&d, 2000, &r), y1541_due(&g, 2000, &r); }
 static void pulls(void) { y1541_pulls p; y1541_pulls_now(&d, &p); }
-static void saves(void) { y1541_image(&d, out, ROOM, &needed), y1541_image(&g, out, ROOM, &needed); }
+static void ejects(void) { y1541_eject(&d, out, ROOM, &needed), y1541_eject(&g, out, ROOM, &needed); }
 static void inserts(void) { y1541_insert(&d, g64, g64_len, 0), y1541_insert(&g, image, len, 0); }
 static void resets(void) { y1541_reset(&d); }
 static void closes(void) { y1541_close(&d), y1541_close(&g); }
@@ -30,7 +30,7 @@ static void makes(void) { y1541_image_new(2, image, 0, 0, 0, out, ROOM, &needed)
 static void converts(void) { y1541_lost l; y1541_image_convert(image, len, &l, out, ROOM, &needed), y1541_image_convert(g64, g64_len, &l, out, ROOM, &needed); }
 
 static const struct { const char *name; void (*call)(void); } calls[] = {
-    {"open", opens}, {"open a G64", opens_g64}, {"lines", lines}, {"next_due", next_due}, {"due", due}, {"pulls_now", pulls}, {"image", saves}, {"insert", inserts}, {"reset", resets}, {"close", closes},
+    {"open", opens}, {"open a G64", opens_g64}, {"lines", lines}, {"next_due", next_due}, {"due", due}, {"pulls_now", pulls}, {"eject", ejects}, {"insert", inserts}, {"reset", resets}, {"close", closes},
     {"image_check", checks}, {"image_list", lists}, {"image_file", files}, {"image_put", puts_file}, {"image_command", commands}, {"image_new", makes}, {"image_convert", converts},
 };
 

@@ -1,17 +1,20 @@
 -- What C is told of the drive of a handle.
-use Rattle.std.specs.Prelude.{ℕ, ℤ, ◌≡◌, ◌≢◌, ◌≤◌, ◌<◌, ◌^◌, ◌-◌, ◌⊎◌, Bool, true, false, not, ◌==◌, if◌then◌else◌, List, length, Option, Some, None}
+use Rattle.std.specs.Prelude.{ℕ, ℤ, ◌≡◌, ◌≢◌, ◌≤◌, ◌<◌, ◌^◌, ◌-◌, ◌⊎◌, Bool, true, false, not, ◌==◌, if◌then◌else◌, List, ◌++◌, length, drop, Option, Some, None}
 use Rattle.cbm_iec.specs.declared.lines.Held.{Held}
 use Rattle.cbm_iec.specs.declared.lines.Lines.{Lines}
 use Rattle.cbm_iec.specs.declared.pace.Pace.{Pace}
 use Rattle.cbm_iec.specs.declared.pace.Pace.TheVariants.{Profile, Kernal}
 use Rattle.cbm_iec.specs.declared.party.Party.{Party}
 use Rattle.cbm_iec.specs.Ports.{port_due}
+use Rattle.cbm_channel.specs.Machines.{Machine}
+use Rattle.cbm_drive.specs.Desks.{Desk}
+use Rattle.cbm_drive.specs.Seats.{Seated}
 use Rattle.cbm_device.specs.declared.refusal.Refusal.{Refusal}
 use Rattle.cbm_device.specs.declared.refusal.Refusal.TheVariants.{Memory, Invalid, Absent, NoDrive}
 use Rattle.cbm_device.specs.declared.device.Reaction.{Reaction}
-use Rattle.cbm_device.specs.Answers.{fine, number_of, AreGiven}
-use Rattle.cbm_device.specs.Devices.{OnLines, IsOutside, IsSwitchedOn, IsOnTime, IsOutOfTime, HasHeard, HasReacted, HasNothingDue, HasAnotherDisk}
-use Rattle.cbm_device.specs.ImageDisks.{IsImageOf, IsOpenRefusal}
+use Rattle.cbm_device.specs.Answers.{fine, number_of}
+use Rattle.cbm_device.specs.Devices.{OnLines, StandsFor, react_at, tell_in_turn, IsOutside, IsSwitchedOn, IsOnTime, IsOutOfTime, HasHeard, HasReacted, HasNothingDue, HasDisk, HasAnotherDisk, IsRestarted}
+use Rattle.cbm_device.specs.ImageDisks.{no_disk, IsImageOf, IsOpenRefusal}
 use Rattle.yellowadze1541.specs.Looks.{flag}
 use Rattle.yellowadze1541.specs.declared.inner.Inner.{Inner}
 use Rattle.yellowadze1541.specs.declared.shapes.Reacted.{Reacted}
@@ -50,10 +53,12 @@ Opens old new n image protected b pace =
 abbrev pub lines_of : ℕ → ℕ → ℕ → Lines
 lines_of atn clock data_low = record { atn_low = is_set atn; clock_low = is_set clock; data_low = is_set data_low }
 
--- the drive was told of lines, or it isn't the moment for them, and nothing has changed
+-- THE DRIVE IS TOLD OF LINES, and with it each machine that it stands for; or it isn't the moment for them, and nothing has changed.
 abbrev pub Hears : ℕ → Lines → ℤ → OnLines → OnLines → Type 0
 Hears moment others n old new =
-    ((n ≡ fine) × IsOnTime moment old × HasHeard moment others old new) ⊎ ((n ≡ number_of Invalid) × IsOutOfTime moment old × (new ≡ old))
+    ((n ≡ fine) × IsOnTime moment old × HasHeard moment others old new
+    × ((s : Seated (Desk Machine)) → StandsFor old.seat s → StandsFor new.seat (tell_in_turn moment old.seat.port.others others s)))
+    ⊎ ((n ≡ number_of Invalid) × IsOutOfTime moment old × (new ≡ old))
 
 -- a moment, or the greatest number for never
 abbrev pub moment_or_never : Option ℕ → ℕ
@@ -77,21 +82,23 @@ pub record IsTold (r : Reaction) (t : Reacted) : Type 0 where
   pub clock_changed : t.clock_changed ≡ flag (differs r.was.clock_low r.now.clock_low)
   pub data_changed : t.data_changed ≡ flag (differs r.was.data_low r.now.data_low)
 
--- the reaction that was due happened, and C is told of it; or none was due, and nothing has changed
+-- THE REACTION THAT WAS DUE HAPPENED, and that of each machine that the drive stands for, and C is told of it; or none was due, and nothing has changed.
 abbrev pub Reacts : ℕ → ℤ → Reacted → Reacted → OnLines → OnLines → Type 0
 Reacts moment n before told old new =
-    ((n ≡ fine) × ((r : Reaction) × (r.moment ≤ moment) × HasReacted r old new × IsTold r told))
+    ((n ≡ fine) × ((r : Reaction) × (r.moment ≤ moment) × HasReacted r old new × IsTold r told
+    × ((s : Seated (Desk Machine)) → StandsFor old.seat s → StandsFor new.seat (react_at r.moment s))))
     ⊎ ((n ≡ number_of Absent) × HasNothingDue moment old × (new ≡ old) × (told ≡ before))
 
 -- ---- the disk
 
--- THE IMAGE OF THE DISK is given as it is now, or want of memory is told; the drive goes on.
-abbrev pub Saves : ℤ → List ℕ → List ℕ → ℕ → ℕ → OnLines → OnLines → Type 0
-Saves n out out_new before needed old new = (new ≡ old)
-    × (((bytes : List ℕ) × IsImageOf old.seat.machine.dos.medium bytes × (needed ≡ length bytes) × AreGiven n out out_new bytes)
-    ⊎ ((n ≡ number_of Memory) × (out_new ≡ out) × (needed ≡ before)))
+-- THE DISK IS TAKEN OUT: its image is given, and the drive was switched off and on with none; or it isn't given, and the drive was switched off and on with it.
+abbrev pub Ejects : ℤ → List ℕ → List ℕ → ℕ → OnLines → OnLines → Type 0
+Ejects n out out_new needed old new =
+    ((n ≡ fine) × HasDisk no_disk old new
+    × ((bytes : List ℕ) × IsImageOf old.seat.machine.dos.medium bytes × (needed ≡ length bytes) × (out_new ≡ bytes ++ drop (length bytes) out)))
+    ⊎ ((n ≢ fine) × IsRestarted old new × (out_new ≡ out))
 
--- another disk is put in, or the image isn't opened, and the old one stays
+-- another disk is put in, or the image isn't opened, and nothing has changed
 abbrev pub Inserts : ℤ → List ℕ → Bool → OnLines → OnLines → Type 0
 Inserts n image protected old new =
     ((n ≡ fine) × HasAnotherDisk image protected old new) ⊎ ((new ≡ old) × ((r : Refusal) × (n ≡ number_of r) × IsOpenRefusal image r))

@@ -140,8 +140,8 @@ pub extern "C" fn y1541_next_due(alloc: Global, d: &mut Handle) -> u64
 }
 
 /// What C is told of a reaction.
-fn told(reaction: &Reaction) -> Reacted
-    ensures { IsTold reaction.now result }
+fn told(reaction: Reaction) -> Reacted
+    ensures { IsTold reaction result }
 {
     let was = reaction.was;
     let now = reaction.now;
@@ -171,7 +171,7 @@ pub extern "C" fn y1541_due(
     *d = of(inner);
     match done {
         Ok(reaction) => {
-            *reacted = told(&reaction);
+            *reacted = told(reaction);
             0
         }
         Err(refusal) => refusal.number(),

@@ -1,12 +1,12 @@
 //! A drive with the disk of an image, played under a list of timed changes in one call.
-ghost use Rattle.std.specs.Prelude.{◌≡◌, ◌≤◌, ◌<◌, ◌^◌, ◌++◌, ◌∷◌, ◌⊎◌, ◌≢◌, [], ℕ, List, Err, None, Some, length, map, drop, OnOk, IfOk, IfErr, IfSome, IsSome, MatchOption};
+ghost use Rattle.std.specs.Prelude.{◌≡◌, ◌≤◌, ◌<◌, ◌^◌, ◌++◌, ◌∷◌, ◌⊎◌, ◌≢◌, [], ℕ, List, false, Err, None, Some, length, map, drop, OnOk, IfOk, IfErr, IfSome, IsSome, MatchOption};
 ghost use Rattle.cbm_file.specs.Files.{Disk};
 ghost use Rattle.cbm_channel.specs.Machines.{start};
 ghost use Rattle.cbm_iec.specs.declared.line.Change.{Change};
 ghost use Rattle.cbm_drive.specs.Ordered.{fault_of};
 ghost use Rattle.cbm_program.specs.Images.{kind_of, tracks_of, ImageHolds};
 ghost use Rattle.cbm_device.specs.Answers.{fine, AreGiven};
-ghost use Rattle.cbm_device.specs.ImageDisks.{IsImageOf};
+ghost use Rattle.cbm_device.specs.ImageDisks.{IsImageOf, IsUnsaved};
 ghost use Rattle.cbm_device.specs.Plays.{HasPlayedAll};
 ghost use Rattle.yellowadze1541.specs.Drives.{pace_of, party_of};
 ghost use Rattle.yellowadze1541.specs.Signals.{line_with, way_with, change_of, changes_of, number_of_line, number_of_way, number_of_who, signal_of, IsPlay};
@@ -188,7 +188,8 @@ fn told(
     ensures ok { OnOk result ((bytes : List ℕ) × IsImageOf disk.now bytes × (needed.new ≡ length bytes)
         × (count.new ≡ length events.now) × (after.new ≡ bytes ++ drop (length bytes) after.old)
         × (out.new ≡ map signal_of events.now ++ drop (length events.now) out.old)) }
-    ensures err { IfErr result (λ r. ((r ≡ Refusal.NoRoom) ⊎ (r ≡ Refusal.Memory)) × (out.new ≡ out.old) × (after.new ≡ after.old)) }
+    ensures err { IfErr result (λ r. ((r ≡ Refusal.NoRoom) ⊎ IsUnsaved disk.now.sectors r)
+        × (out.new ≡ out.old) × (after.new ≡ after.old)) }
 {
     let signals = signals_of(alloc, events)?;
     let image = disk.save(alloc)?;
