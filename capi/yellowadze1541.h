@@ -46,8 +46,12 @@ enum y1541_form { Y1541_D64_35 = 0, Y1541_D64_40 = 1, Y1541_G64 = 2 };
 /* A drive, or none. All bits zero is none: y1541 d = {0}. Its field is the library's alone; it is never copied. */
 typedef struct y1541 { void *at; } y1541;
 
+/* The lines, as y1541_signal numbers them. */
+enum y1541_line { Y1541_ATN = 0, Y1541_CLOCK = 1, Y1541_DATA = 2 };
+
 typedef struct y1541_pulls { uint8_t clock_low, data_low; } y1541_pulls;
 typedef struct y1541_reacted { uint64_t moment; uint8_t clock_low, data_low, clock_changed, data_changed; } y1541_reacted;
+typedef struct y1541_signal { uint64_t moment; uint8_t who, line, low; } y1541_signal; /* who: 0 the host, else the device */
 typedef struct y1541_place { uint8_t what, track, sector; } y1541_place; /* what: 1 to 9, docs/SCRIPTS.md */
 typedef struct y1541_title { uint16_t free; uint8_t title[16], mark[5]; } y1541_title;
 typedef struct y1541_entry { uint16_t blocks; uint8_t kind, closed, locked, record_length, name[16]; } y1541_entry;
@@ -97,6 +101,15 @@ int32_t y1541_insert(y1541 *d, const uint8_t *image, size_t len, uint8_t is_prot
 
 /* The number of the status that channel 15 tells, 0 to 74; nothing of it is taken. */
 int32_t y1541_status(y1541 *d);
+
+/* --- a whole list of changes in one call, with a drive of its own */
+
+/* [m] A drive is switched on with the disk of an image, and played under these changes of the host (whose `who` doesn't count) up to an end
+ * below 2^59, the reactions due then too: all events in order, the host's and the drive's, and the image as it is then. `count` and `needed`
+ * get how many there are; Y1541_NO_ROOM where a room is too small, and then nothing was written there. Y1541_INVALID where a change goes
+ * back in time, comes after the end or is of no line. */
+int32_t y1541_play(const uint8_t *image, size_t len, uint8_t device, uint8_t reaction, uint8_t pace, const y1541_signal *changes, size_t n, uint64_t end,
+                   y1541_signal *events, size_t events_room, size_t *count, uint8_t *after, size_t after_room, size_t *needed);
 
 /* --- images, with no drive: each call opens the image anew, and changes nothing of the caller's but its out parameters */
 

@@ -105,6 +105,25 @@ static void converted(const uint8_t *image, size_t len) {
     expect(y1541_image_convert(g64, needed, &lost, d64, ROOM, &back) == Y1541_OK && back == len && same_bytes(d64, image, len), "and back");
 }
 
+/* A list of changes in one call: the reaction to ATN at its moment, and what is refused. */
+static void played(const uint8_t *image, size_t len) {
+    static uint8_t after[ROOM];
+    y1541_signal host[] = {{1000, 0, Y1541_ATN, 1}, {1000, 0, Y1541_CLOCK, 1}, {3000, 0, Y1541_ATN, 0}}, events[8];
+    size_t count = 0, needed = 0;
+    expect(y1541_play(image, len, 8, 20, Y1541_PROFILE, host, 3, 4000, events, 8, &count, after, ROOM, &needed) == Y1541_OK && needed == len && same_bytes(after, image, len), "played");
+    expect(count == 5 && events[2].moment == 1020 && events[2].who == 8 && events[2].line == Y1541_DATA && events[2].low == 1, "DATA is pulled 20 after ATN");
+    expect(events[4].moment == 3020 && events[4].who == 8 && events[4].line == Y1541_DATA && events[4].low == 0, "and freed 20 after it");
+    after[0] = 7;
+    expect(y1541_play(image, len, 8, 20, Y1541_PROFILE, host, 3, 4000, events, 4, &count, after, ROOM, &needed) == Y1541_NO_ROOM && count == 5 && after[0] == 7, "no room for events");
+    expect(y1541_play(image, len, 8, 20, Y1541_PROFILE, host, 3, 2999, events, 8, &count, after, ROOM, &needed) == Y1541_INVALID, "past the end");
+    host[2].moment = 999;
+    expect(y1541_play(image, len, 8, 20, Y1541_PROFILE, host, 3, 4000, events, 8, &count, after, ROOM, &needed) == Y1541_INVALID, "back in time");
+    host[2].moment = 3000, host[2].line = 3;
+    expect(y1541_play(image, len, 8, 20, Y1541_PROFILE, host, 3, 4000, events, 8, &count, after, ROOM, &needed) == Y1541_INVALID, "no line");
+    expect(y1541_play(image, len, 7, 20, Y1541_PROFILE, host, 0, 4000, events, 8, &count, after, ROOM, &needed) == Y1541_INVALID, "no device");
+    expect(y1541_play(image, 9, 8, 20, Y1541_PROFILE, host, 0, 4000, events, 8, &count, after, ROOM, &needed) == Y1541_NO_IMAGE, "no image to play");
+}
+
 typedef struct task {
     const uint8_t *image;
     size_t len;
@@ -156,6 +175,7 @@ int main(int argc, char **argv) {
     form_of(Y1541_D64_40, "a D64 of 40 tracks");
     form_of(Y1541_G64, "a G64");
     converted(image, len);
+    played(image, len);
     threads(image, len);
     free(image);
     printf("calls: %d wrong\n", wrong);

@@ -60,9 +60,16 @@ static int32_t makes(void) { return y1541_image_new(0, (const uint8_t *)"T", 1, 
 static int32_t makes_g64(void) { return y1541_image_new(2, (const uint8_t *)"T", 1, 1, 2, out, ROOM, &needed); }
 static int32_t converts(void) { y1541_lost l; return y1541_image_convert(image, len, &l, out, ROOM, &needed); }
 
+static int32_t plays(void) {
+    static const y1541_signal host[] = {{1000, 0, Y1541_ATN, 1}, {3000, 0, Y1541_ATN, 0}};
+    static y1541_signal events[100];
+    size_t count;
+    return y1541_play(image, len, 8, 20, 0, host, 2, 5000, events, 100, &count, out, ROOM, &needed);
+}
+
 static const struct { const char *name; int32_t (*call)(void); } calls[] = {
     {"open", opens}, {"check", checks}, {"title", titles}, {"entry", enters}, {"list", lists}, {"file", files}, {"sector", reads},
-    {"put", puts_file}, {"command", commands}, {"new", makes}, {"new g64", makes_g64}, {"convert", converts}, {"eject", ejects}, {"insert", inserts},
+    {"put", puts_file}, {"command", commands}, {"new", makes}, {"new g64", makes_g64}, {"convert", converts}, {"play", plays}, {"eject", ejects}, {"insert", inserts},
 };
 
 /* How many requests a call makes, each of them refused in turn. */
