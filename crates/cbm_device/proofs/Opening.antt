@@ -12,6 +12,11 @@ pub of_disk : (P : ℕ → Content → Type 0) (image : List ℕ) (protected : B
     → P (tracks_of (kind_of image) image) (content_of (kind_of image) image)
 of_disk P image protected x is h = subst (λ n. P n (content_of (kind_of image) image)) is.same_tracks (subst (λ c. P (seen_of x).tracks c) is.same_content h)
 
+pub to_disk : (P : ℕ → Content → Type 0) (image : List ℕ) (protected : Bool) (x : Counted) → IsDiskOf image protected x
+    → P (tracks_of (kind_of image) image) (content_of (kind_of image) image) → P (seen_of x).tracks (seen_of x).content
+to_disk P image protected x is h =
+    subst (λ n. P n (seen_of x).content) (sym is.same_tracks) (subst (λ c. P (tracks_of (kind_of image) image) c) (sym is.same_content) h)
+
 -- and the disk of an image holds what the image holds
 pub holds_of : (image : List ℕ) (protected : Bool) (x : Counted) (d : Disk) → IsDiskOf image protected x → ImageHolds (kind_of image) image d
     → HoldsDisk (seen_of x).tracks (seen_of x).content d

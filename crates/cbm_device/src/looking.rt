@@ -1,8 +1,10 @@
 //! Looks into an image.
-ghost use Rattle.std.specs.Prelude.{◌≡◌, Err, Ok, true, IfErr, IfOk, IsOkAnd, MatchResult};
+ghost use Rattle.std.specs.Prelude.{◌≡◌, Err, Ok, true, IfErr, IfOk, IsOk, IsOkAnd, MatchResult};
 ghost use Rattle.cbm_file.specs.Files.{Disk};
 ghost use Rattle.cbm_medium.specs.Place.{directory_head};
 ghost use Rattle.cbm_volume.specs.Holding.{HoldsDisk, StandsAt};
+ghost use Rattle.cbm_volume.specs.Layouts.{Layout, Sound};
+ghost use Rattle.cbm_volume.specs.Map.{geometry_of};
 ghost use Rattle.cbm_program.specs.Images.{kind_of, tracks_of, content_of, ImageHolds};
 ghost use Rattle.cbm_shell.specs.Images.{IsChecked};
 ghost use Rattle.cbm_device.specs.ImageDisks.{IsDiskOf, IsOpenRefusal};
@@ -36,6 +38,8 @@ fn volume_of(alloc: Global, image: &[u8]) -> Result<Volume<ImageDisk>, Refusal>
 pub fn check(alloc: Global, image: &[u8]) -> Result<Result<(), Unsound>, Refusal>
     ensures ok { let kind = kind_of image.now in
         IfOk result (IsChecked (tracks_of kind image.now) (content_of kind image.now)) }
+    ensures exact { let kind = kind_of image.now in let content = content_of kind image.now in (l : Layout) →
+        Sound (geometry_of (tracks_of kind image.now) content) content l → IfOk result IsOk }
     ensures err { IfErr result (IsOpenRefusal image.now) }
 {
     let volume = volume_of(alloc, image)?;

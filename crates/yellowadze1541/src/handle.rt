@@ -20,6 +20,8 @@ impl Model for Handle {
     ghost also_owns = { λ h. handle_owns h.at h.value };
 }
 
+unsafe impl Send for Handle {}
+
 /// The handle of a drive.
 pub(crate) fn of(inner: Box<Inner>) -> Handle
     ensures { result.value ≡ Some inner.value }

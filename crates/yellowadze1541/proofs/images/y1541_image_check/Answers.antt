@@ -1,4 +1,5 @@
 use Rattle.std.proofs.Common.{◌≡◌, inl, inr, rules, subst, sym, to_z, of_z, w32}
+use Rattle.std.specs.Prelude.{IsOk}
 use Rattle.cbm_volume.specs.check.WholeDisk.{DiskFault}
 use Rattle.cbm_volume.specs.declared.Unsound.{Unsound}
 use Rattle.cbm_program.specs.Images.{kind_of, tracks_of}
@@ -17,4 +18,7 @@ returns-in-Ok-Err c =
     let is : c.in-Ok-Err.unsound ≡ shown = λ i. record { number = sym told.what i; track = sym told.track i; sector = sym told.sector i } in
     let fault : DiskFault (used_by image) (held_by image) c.in-Ok-Err.unsound =
     subst (λ r. IsChecked (tracks_of (kind_of image) image) (held_by image) r) c.in-Ok-Err.field-0-is c.in-Ok-Err.ensures.ok in
-    inr (inl (same, subst (λ u. DiskFault (used_by image) (held_by image) u) is fault))
+    record {
+      told = inr (inl (same, subst (λ u. DiskFault (used_by image) (held_by image) u) is fault));
+      exact = λ l sound. absurd (let ok = subst (λ r. IsOk r) c.in-Ok-Err.field-0-is (c.in-Ok-Err.ensures.exact l sound) in cc);
+    }
