@@ -5,7 +5,8 @@
  * Y1541_NO_ROOM says that they didn't fit and none was written; a call that gives none leaves `needed` as it was.
  * No pointer is NULL, also beside a length of 0. What a call writes overlaps with nothing else that it is passed.
  * No call blocks, starts a thread, reads a file or a clock, prints, or keeps a pointer of the caller's. The library has no state but its
- * handles: one handle is in one call at a time, and different ones may be in calls of different threads at once.
+ * handles: one handle is in one call at a time, and different ones may be in calls of different threads at once. A handle may go
+ * from one thread to another, which the program orders.
  * Memory comes from malloc, realloc and free, in the calls marked [m] alone; where they have none the call answers
  * Y1541_NO_MEMORY, and nothing has changed (but see y1541_eject).
  */
