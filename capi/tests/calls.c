@@ -1,0 +1,183 @@
+/* The calls with arguments that they refuse, an image of each form, and a thread for each of four drives: calls IMAGE. */
+#include "files.h"
+#include "kernal.h"
+#include <pthread.h>
+
+enum { ROOM = 1 << 20 };
+
+static const uint8_t program[] = {0x01, 0x08, 'A', 0, 0xff, 'Z'};
+
+static int same_bytes(const uint8_t *a, const uint8_t *b, size_t n) { return memcmp(a, b, n) == 0; }
+
+/* No handle, a handle twice, arguments out of their range. */
+static void refused(const uint8_t *image, size_t len) {
+    y1541 d = {0}, before;
+    y1541_reacted r = {7, 7, 7, 7, 7};
+    y1541_pulls p = {7, 7};
+    uint8_t out[4] = {9, 9, 9, 9};
+    size_t needed = 5;
+    expect(y1541_lines(&d, 0, 0, 0, 0) == Y1541_NO_DRIVE && y1541_next_due(&d) == Y1541_NEVER, "no drive: lines");
+    expect(y1541_due(&d, 0, &r) == Y1541_NO_DRIVE && r.moment == 7 && y1541_pulls_now(&d, &p) == Y1541_NO_DRIVE && p.clock_low == 7, "no drive: due");
+    expect(y1541_reset(&d) == Y1541_NO_DRIVE && y1541_status(&d) == Y1541_NO_DRIVE, "no drive: reset");
+    expect(y1541_eject(&d, out, 4, &needed) == Y1541_NO_DRIVE && needed == 5, "no drive: eject");
+    expect(y1541_insert(&d, image, len, 0) == Y1541_NO_DRIVE, "no drive: insert");
+    y1541_close(&d);
+    expect(!d.at, "closed none");
+    static const struct { uint8_t device, reaction, pace; } bad[] = {{7, 20, 0}, {12, 20, 0}, {255, 20, 0}, {8, 0, 0}, {8, 61, 0}, {8, 20, 2}, {8, 20, 255}};
+    for (size_t i = 0; i < sizeof bad / sizeof bad[0]; i++)
+        expect(y1541_open(&d, image, len, 0, bad[i].device, bad[i].reaction, bad[i].pace) == Y1541_INVALID && !d.at, "an argument of open");
+    expect(y1541_open(&d, image, len - 1, 0, 8, 20, 0) == Y1541_NO_IMAGE && !d.at, "no size of a D64");
+    expect(y1541_open(&d, image, 0, 0, 8, 20, 0) == Y1541_NO_IMAGE && !d.at, "no byte");
+    expect(y1541_open(&d, (const uint8_t *)"GCR-1541", 8, 0, 8, 20, 0) == Y1541_NO_IMAGE && !d.at, "a G64's beginning");
+    expect(y1541_open(&d, image, len, 0, 8, 20, 0) == Y1541_OK && d.at, "open");
+    before = d;
+    expect(y1541_open(&d, image, len, 0, 9, 20, 0) == Y1541_NO_DRIVE && d.at == before.at, "open twice");
+    expect(y1541_lines(&d, 1000, 1, 0, 0) == Y1541_OK && y1541_next_due(&d) == 1020, "ATN");
+    expect(y1541_lines(&d, 999, 0, 0, 0) == Y1541_INVALID && y1541_next_due(&d) == 1020, "back in time");
+    expect(y1541_lines(&d, 1021, 0, 0, 0) == Y1541_INVALID && y1541_next_due(&d) == 1020, "past what is due");
+    expect(y1541_lines(&d, (uint64_t)1 << 60, 0, 0, 0) == Y1541_INVALID && y1541_lines(&d, Y1541_NEVER, 0, 0, 0) == Y1541_INVALID, "no moment");
+    expect(y1541_due(&d, 1019, &r) == Y1541_ABSENT && r.moment == 7, "too soon");
+    expect(y1541_due(&d, 5000, &r) == Y1541_OK && r.moment == 1020 && r.data_low == 1 && r.data_changed == 1 && !r.clock_low && !r.clock_changed, "the reaction to ATN");
+    expect(y1541_pulls_now(&d, &p) == Y1541_OK && p.data_low == 1 && !p.clock_low, "DATA is held");
+    expect(y1541_insert(&d, image, 12, 0) == Y1541_NO_IMAGE && y1541_pulls_now(&d, &p) == Y1541_OK && p.data_low == 1, "no other image");
+    expect(y1541_reset(&d) == Y1541_OK && y1541_next_due(&d) == Y1541_NEVER && y1541_pulls_now(&d, &p) == Y1541_OK && !p.data_low, "reset");
+    expect(y1541_lines(&d, 1019, 1, 0, 0) == Y1541_INVALID && y1541_lines(&d, 1020, 1, 0, 0) == Y1541_OK, "moments go on");
+    expect(y1541_eject(&d, out, 4, &needed) == Y1541_NO_ROOM && needed == len && out[0] == 9 && out[3] == 9, "no room for an image");
+    expect(y1541_status(&d) == 73 && y1541_next_due(&d) == Y1541_NEVER, "switched off and on");
+    uint8_t *all = malloc(len);
+    expect(y1541_eject(&d, all, len, &needed) == Y1541_OK && needed == len && same_bytes(all, image, len), "the disk comes out");
+    expect(y1541_eject(&d, all, len, &needed) == Y1541_ABSENT, "no disk");
+    free(all);
+    y1541_close(&d);
+    expect(!d.at, "closed");
+    y1541_close(&d);
+}
+
+/* What is refused of images. */
+static void refused_images(const uint8_t *image, size_t len) {
+    static uint8_t out[ROOM];
+    size_t needed = 5;
+    y1541_place place = {7, 7, 7};
+    y1541_entry entry;
+    y1541_lost lost;
+    memset(out, 9, 16);
+    expect(y1541_image_check(image, 3, &place) == Y1541_NO_IMAGE && place.what == 7, "check of no image");
+    expect(y1541_image_file(image, len, (const uint8_t *)"NONE", 4, out, ROOM, &needed) == Y1541_ABSENT && needed == 5 && out[0] == 9, "no file");
+    expect(y1541_image_file(image, len, (const uint8_t *)"HELLO", 5, out, 2, &needed) == Y1541_NO_ROOM && needed > 2 && out[0] == 9, "no room for a file");
+    expect(y1541_image_entry(image, len, 255, &entry) == Y1541_ABSENT, "past the last slot");
+    expect(y1541_image_sector(image, len, 0, 0, out, 256) == Y1541_ABSENT && y1541_image_sector(image, len, 36, 0, out, 256) == Y1541_ABSENT && y1541_image_sector(image, len, 1, 21, out, 256) == Y1541_ABSENT, "no sector");
+    expect(y1541_image_sector(image, len, 18, 0, out, 255) == Y1541_NO_ROOM && out[0] == 9, "no room for a sector");
+    expect(y1541_image_new(3, out, 0, 0, 0, out + 100, 1, &needed) == Y1541_INVALID && y1541_image_new(0, out, 17, 0, 0, out + 100, 1, &needed) == Y1541_INVALID, "no form, no title");
+    expect(y1541_image_command(image, len, (const uint8_t *)"X", 1, out, ROOM, &needed) == 31, "no command");
+    expect(y1541_image_put(image, len, (const uint8_t *)"HELLO,P,W", 9, program, sizeof program, out, ROOM, &needed) == 63, "a name that is there");
+    expect(y1541_image_convert(image, 1, &lost, out, ROOM, &needed) == Y1541_NO_IMAGE, "no image to convert");
+}
+
+/* A new image of a form: a file is put, found, scratched; a drive with it serves a KERNAL. */
+static void form_of(uint8_t form, const char *what) {
+    static uint8_t image[ROOM], next[ROOM], bytes[70000];
+    size_t len = 0, needed = 0;
+    y1541_title title;
+    y1541_entry entry;
+    y1541_place place;
+    expect(y1541_image_new(form, (const uint8_t *)"FORM", 4, 'I', 'D', image, ROOM, &len) == Y1541_OK, what);
+    expect(y1541_image_check(image, len, &place) == Y1541_OK, "a new image is sound");
+    expect(y1541_image_title(image, len, &title) == Y1541_OK && same_bytes(title.title, (const uint8_t *)"FORM\xa0", 5) && title.mark[0] == 'I' && title.free == (form == Y1541_D64_40 ? 749 : 664), "its title");
+    expect(y1541_image_put(image, len, (const uint8_t *)"PROG,P,W", 8, program, sizeof program, next, ROOM, &needed) == Y1541_OK && needed == len, "a file is put");
+    expect(y1541_image_entry(next, needed, 0, &entry) == Y1541_OK && entry.kind == 2 && entry.closed == 1 && entry.blocks == 1 && same_bytes(entry.name, (const uint8_t *)"PROG\xa0", 5), "its entry");
+    bus b = {0};
+    kernal k;
+    expect(bus_open(&b, 0, next, len, 8, 20, Y1541_KERNAL, 0) == Y1541_OK, "a drive with it");
+    kernal_init(&k, &b, PAL, form);
+    expect(kernal_load(&k, 8, "PROG", bytes, sizeof bytes) == (long)sizeof program && same_bytes(bytes, program, sizeof program), "LOAD from it");
+    expect(kernal_save(&k, 8, "MORE", bytes, 700), "SAVE to it");
+    expect(y1541_eject(&b.drive[0], next, ROOM, &needed) == Y1541_OK && y1541_image_check(next, needed, &place) == Y1541_OK, "its image is sound");
+    expect(y1541_image_command(next, needed, (const uint8_t *)"S0:MORE", 7, image, ROOM, &len) == Y1541_OK, "a file is scratched");
+    expect(y1541_image_title(image, len, &title) == Y1541_OK && title.free == (form == Y1541_D64_40 ? 748 : 663), "its blocks are free");
+    y1541_close(&b.drive[0]);
+}
+
+static void converted(const uint8_t *image, size_t len) {
+    static uint8_t g64[ROOM], d64[ROOM];
+    size_t needed = 0, back = 0;
+    y1541_lost lost;
+    expect(y1541_image_convert(image, len, &lost, g64, ROOM, &needed) == Y1541_OK && !lost.unreadable && !lost.tracks && !lost.errors && !lost.id, "a G64 of a D64");
+    expect(y1541_image_convert(g64, needed, &lost, d64, ROOM, &back) == Y1541_OK && back == len && same_bytes(d64, image, len), "and back");
+}
+
+/* A list of changes in one call: the reaction to ATN at its moment, and what is refused. */
+static void played(const uint8_t *image, size_t len) {
+    static uint8_t after[ROOM];
+    y1541_signal host[] = {{1000, 0, Y1541_ATN, 1}, {1000, 0, Y1541_CLOCK, 1}, {3000, 0, Y1541_ATN, 0}}, events[8];
+    size_t count = 0, needed = 0;
+    expect(y1541_play(image, len, 8, 20, Y1541_PROFILE, host, 3, 4000, events, 8, &count, after, ROOM, &needed) == Y1541_OK && needed == len && same_bytes(after, image, len), "played");
+    expect(count == 5 && events[2].moment == 1020 && events[2].who == 8 && events[2].line == Y1541_DATA && events[2].low == 1, "DATA is pulled 20 after ATN");
+    expect(events[4].moment == 3020 && events[4].who == 8 && events[4].line == Y1541_DATA && events[4].low == 0, "and freed 20 after it");
+    after[0] = 7;
+    expect(y1541_play(image, len, 8, 20, Y1541_PROFILE, host, 3, 4000, events, 4, &count, after, ROOM, &needed) == Y1541_NO_ROOM && count == 5 && after[0] == 7, "no room for events");
+    expect(y1541_play(image, len, 8, 20, Y1541_PROFILE, host, 3, 2999, events, 8, &count, after, ROOM, &needed) == Y1541_INVALID, "past the end");
+    host[2].moment = 999;
+    expect(y1541_play(image, len, 8, 20, Y1541_PROFILE, host, 3, 4000, events, 8, &count, after, ROOM, &needed) == Y1541_INVALID, "back in time");
+    host[2].moment = 3000, host[2].line = 3;
+    expect(y1541_play(image, len, 8, 20, Y1541_PROFILE, host, 3, 4000, events, 8, &count, after, ROOM, &needed) == Y1541_INVALID, "no line");
+    expect(y1541_play(image, len, 7, 20, Y1541_PROFILE, host, 0, 4000, events, 8, &count, after, ROOM, &needed) == Y1541_INVALID, "no device");
+    expect(y1541_play(image, 9, 8, 20, Y1541_PROFILE, host, 0, 4000, events, 8, &count, after, ROOM, &needed) == Y1541_NO_IMAGE, "no image to play");
+}
+
+typedef struct task {
+    const uint8_t *image;
+    size_t len;
+    int seed, wrong;
+} task;
+
+/* A drive of its own for each thread. */
+static void *runs(void *given) {
+    task *t = given;
+    uint8_t *bytes = malloc(70000), *image = malloc(ROOM);
+    size_t needed = 0;
+    bus b = {0};
+    kernal k;
+    t->wrong += bus_open(&b, 0, t->image, t->len, (uint8_t)(8 + t->seed), 20, Y1541_KERNAL, 0) != Y1541_OK;
+    kernal_init(&k, &b, PAL, (uint32_t)t->seed);
+    for (int i = 0; i < 20; i++) {
+        t->wrong += kernal_load(&k, (uint8_t)(8 + t->seed), "HELLO", bytes, 70000) <= 0;
+        char name[] = {'F', (char)('A' + i), 0};
+        t->wrong += !kernal_save(&k, (uint8_t)(8 + t->seed), name, program, sizeof program);
+    }
+    y1541_place place;
+    t->wrong += y1541_eject(&b.drive[0], image, ROOM, &needed) != Y1541_OK || y1541_image_check(image, needed, &place) != Y1541_OK;
+    y1541_close(&b.drive[0]);
+    free(bytes), free(image);
+    return NULL;
+}
+
+static void threads(const uint8_t *image, size_t len) {
+    pthread_t thread[DRIVES];
+    task tasks[DRIVES];
+    for (int i = 0; i < DRIVES; i++) {
+        tasks[i] = (task){image, len, i, 0};
+        if (pthread_create(&thread[i], NULL, runs, &tasks[i])) exit(2);
+    }
+    for (int i = 0; i < DRIVES; i++) {
+        pthread_join(thread[i], NULL);
+        expect(!tasks[i].wrong, "a thread with a drive");
+    }
+}
+
+int main(int argc, char **argv) {
+    if (argc < 2) return fprintf(stderr, "calls IMAGE\n"), 2;
+    size_t len;
+    uint8_t *image = read_file(argv[1], &len);
+    expect(y1541_version() == Y1541_VERSION, "the version");
+    refused(image, len);
+    refused_images(image, len);
+    form_of(Y1541_D64_35, "a D64");
+    form_of(Y1541_D64_40, "a D64 of 40 tracks");
+    form_of(Y1541_G64, "a G64");
+    converted(image, len);
+    played(image, len);
+    threads(image, len);
+    free(image);
+    printf("calls: %d wrong\n", wrong);
+    return wrong != 0;
+}

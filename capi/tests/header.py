@@ -1,0 +1,77 @@
+#!/usr/bin/env python3
+"""header.py HEADER SOURCES: that the C header declares just the functions that the library exports, each with the same parameters and result, and that its
+structs have the fields of the library's."""
+import pathlib, re, sys
+
+TYPES = {"u8": "uint8_t", "u16": "uint16_t", "u32": "uint32_t", "u64": "uint64_t", "i32": "int32_t", "usize": "size_t"}
+NAMES = {"Handle": "y1541"}
+
+
+def c_name(name):
+    return TYPES.get(name) or NAMES.get(name) or "y1541_" + name.lower()
+
+
+def c_parameters(words):
+    """The types of C's parameters for those of an export; a slice is a pointer and a length, and a Global is nothing."""
+    found = []
+    for it in re.split(r",(?![^\[]*\])", words):
+        kind = it.partition(":")[2].strip()
+        if not kind or kind == "Global":
+            continue
+        mutable, inner = kind.startswith("&mut "), kind.removeprefix("&mut ").removeprefix("&")
+        if inner.startswith("["):
+            found += [("" if mutable else "const ") + c_name(inner[1:-1]) + " *", "size_t"]
+        elif kind.startswith("&"):
+            found.append(("" if mutable else "const ") + c_name(inner) + " *")
+        else:
+            found.append(c_name(kind))
+    return found
+
+
+def exports(sources):
+    text = "\n".join(it.read_text("utf-8") for it in sorted(pathlib.Path(sources).rglob("*.rt")))
+    rows = re.findall(r'#\[unsafe\(no_mangle\)\]\s*pub extern "C" fn (\w+)\(([^)]*)\)(?: -> (\w+))?', text)
+    structs = re.findall(r"#\[repr\(C\)\][^{]*pub struct (\w+) \{(.*?)\n\}", text, re.S)
+    functions = {name: (c_name(result) if result else "void", c_parameters(words)) for name, words, result in rows}
+    return functions, {c_name(name): fields_of(body) for name, body in structs}
+
+
+def fields_of(body):
+    found = []
+    for name, kind in re.findall(r"^\s*pub(?:\(crate\))? (\w+): ([^\n]*),$", body, re.M):
+        array = re.fullmatch(r"\[(\w+); (\d+)\]", kind)
+        found.append((name, f"{c_name(array[1])}[{array[2]}]" if array else "void *" if kind.startswith("*mut") else c_name(kind)))
+    return found
+
+
+def declared(header):
+    text = re.sub(r"/\*.*?\*/", "", pathlib.Path(header).read_text("utf-8"), flags=re.S)
+    functions, structs = {}, {}
+    for result, name, words in re.findall(r"^(\w+) (y1541_\w+)\(([^)]*)\);", text, re.M):
+        kinds = [re.sub(r"\s*\w+$", "", it.strip()) if "*" not in it else it.strip()[: it.strip().index("*") + 1] for it in words.split(",")]
+        functions[name] = (result, [] if words == "void" else kinds)
+    for name, body in re.findall(r"typedef struct (\w+) \{(.*?)\}", text, re.S):
+        structs[name] = []
+        for row in filter(None, map(str.strip, body.split(";"))):
+            kind, _, names = row.partition(" ")
+            for it in names.split(","):
+                array = re.fullmatch(r"\s*(\w+)\[(\d+)\]\s*", it)
+                bare = it.strip()
+                structs[name].append((array[1], f"{kind}[{array[2]}]") if array else (bare.lstrip("*"), f"{kind} *" if bare.startswith("*") else kind))
+    return functions, structs
+
+
+def main():
+    have, want = declared(sys.argv[1]), exports(sys.argv[2])
+    wrong = 0
+    for ours, theirs in zip(want, have):
+        for name in sorted({*ours, *theirs}):
+            if ours.get(name) != theirs.get(name):
+                wrong += 1
+                print(f"{name}: the library has {ours.get(name)}, the header {theirs.get(name)}")
+    print(f"header: {len(have[0])} functions and {len(have[1])} structs, {wrong} wrong")
+    return 1 if wrong else 0
+
+
+if __name__ == "__main__":
+    sys.exit(main())

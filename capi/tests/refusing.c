@@ -1,0 +1,106 @@
+/* Memory is refused at the first request, then at the second, and so on: refusing IMAGE. Each call answers Y1541_NO_MEMORY, nothing has changed, and
+ * nothing is lost. It gives the library's three functions itself, in place of heap.c. */
+#include "files.h"
+#include <yellowadze1541.h>
+
+enum { ROOM = 1 << 20 };
+
+struct tried { uint64_t ok; void *at; };
+static long requests, refuse, live;
+
+static struct tried asked(void *was, size_t size, size_t align) {
+    if (++requests == refuse) return (struct tried){0, (void *)align};
+    live += was == NULL;
+    void *at = realloc(was, size ? size : align);
+    if (!at) exit(2);
+    return (struct tried){1, at};
+}
+
+struct tried rattle_alloc(size_t size, size_t align) { return asked(NULL, size, align); }
+
+struct tried rattle_realloc(void *at, size_t kept, size_t size, size_t align) {
+    (void)kept;
+    return asked(at, size, align);
+}
+
+void rattle_dealloc(void *at) { live--, free(at); }
+
+static uint8_t *image, out[ROOM];
+static size_t len, needed;
+static y1541 d;
+
+static int32_t opens(void) {
+    int32_t said = y1541_open(&d, image, len, 0, 8, 20, 0);
+    expect((said == Y1541_OK) == (d.at != NULL), "open says whether there is a drive");
+    y1541_close(&d);
+    return said;
+}
+
+/* The disk is taken out and, where it came, put in again. */
+static int32_t ejects(void) {
+    int32_t said = y1541_eject(&d, out, ROOM, &needed);
+    long was = requests, then = refuse;
+    refuse = 0;
+    expect(y1541_status(&d) == 73, "the drive was switched off and on");
+    if (said == Y1541_OK) expect(y1541_insert(&d, image, len, 0) == Y1541_OK, "the disk again");
+    requests = was, refuse = then;
+    return said;
+}
+
+static int32_t inserts(void) { return y1541_insert(&d, image, len, 0); }
+static int32_t checks(void) { y1541_place p; return y1541_image_check(image, len, &p); }
+static int32_t titles(void) { y1541_title t; return y1541_image_title(image, len, &t); }
+static int32_t enters(void) { y1541_entry e; return y1541_image_entry(image, len, 0, &e); }
+static int32_t lists(void) { return y1541_image_list(image, len, (const uint8_t *)"", 0, out, ROOM, &needed); }
+static int32_t files(void) { return y1541_image_file(image, len, (const uint8_t *)"HELLO", 5, out, ROOM, &needed); }
+static int32_t reads(void) { return y1541_image_sector(image, len, 18, 0, out, ROOM); }
+static int32_t puts_file(void) { return y1541_image_put(image, len, (const uint8_t *)"N,P,W", 5, image, 3000, out, ROOM, &needed); }
+static int32_t commands(void) { return y1541_image_command(image, len, (const uint8_t *)"R0:N=HELLO", 10, out, ROOM, &needed); }
+static int32_t makes(void) { return y1541_image_new(0, (const uint8_t *)"T", 1, 1, 2, out, ROOM, &needed); }
+static int32_t makes_g64(void) { return y1541_image_new(2, (const uint8_t *)"T", 1, 1, 2, out, ROOM, &needed); }
+static int32_t converts(void) { y1541_lost l; return y1541_image_convert(image, len, &l, out, ROOM, &needed); }
+
+static int32_t plays(void) {
+    static const y1541_signal host[] = {{1000, 0, Y1541_ATN, 1}, {3000, 0, Y1541_ATN, 0}};
+    static y1541_signal events[100];
+    size_t count;
+    return y1541_play(image, len, 8, 20, 0, host, 2, 5000, events, 100, &count, out, ROOM, &needed);
+}
+
+static const struct { const char *name; int32_t (*call)(void); } calls[] = {
+    {"open", opens}, {"check", checks}, {"title", titles}, {"entry", enters}, {"list", lists}, {"file", files}, {"sector", reads},
+    {"put", puts_file}, {"command", commands}, {"new", makes}, {"new g64", makes_g64}, {"convert", converts}, {"play", plays}, {"eject", ejects}, {"insert", inserts},
+};
+
+/* How many requests a call makes, each of them refused in turn. */
+static void tries(size_t i, long held) {
+    for (refuse = 1;; refuse++) {
+        requests = 0, needed = 77;
+        int32_t said = calls[i].call();
+        if (live != held) expect(0, "memory is lost");
+        if (requests < refuse) {
+            expect(said == Y1541_OK, calls[i].name);
+            printf("%s: %ld requests\n", calls[i].name, refuse - 1);
+            return;
+        }
+        expect(said == Y1541_NO_MEMORY && needed == 77, calls[i].name);
+    }
+}
+
+int main(int argc, char **argv) {
+    if (argc < 2) return fprintf(stderr, "refusing IMAGE\n"), 2;
+    image = read_file(argv[1], &len);
+    size_t count = sizeof calls / sizeof calls[0];
+    for (size_t i = 0; i < count - 2; i++) tries(i, 0);
+    refuse = 0;
+    expect(y1541_open(&d, image, len, 0, 8, 20, 0) == Y1541_OK, "open");
+    long held = live;
+    for (size_t i = count - 2; i < count; i++) tries(i, held);
+    refuse = 0;
+    expect(y1541_status(&d) == 73 && y1541_lines(&d, 10, 1, 0, 0) == Y1541_OK && y1541_next_due(&d) == 30, "the drive goes on");
+    y1541_close(&d);
+    expect(live == 0, "nothing is left");
+    free(image);
+    printf("refusing: %d wrong\n", wrong);
+    return wrong != 0;
+}

@@ -1,0 +1,80 @@
+#define _XOPEN_SOURCE 700
+/* How much stack each call needs, by a stack that is painted before it: stack IMAGE. Fails where one needs more than docs/LIBRARY.md says. */
+#include "files.h"
+#include <pthread.h>
+#include <yellowadze1541.h>
+
+enum { STACK = 4 << 20, ROOM = 1 << 20, PAINT = 0xa5, MOST = 512 << 10 };
+
+static uint8_t *image, *out, *g64;
+static size_t len, g64_len, needed;
+static y1541 d, g;
+
+static void nothing(void) {}
+static void opens(void) { y1541_open(&d, image, len, 0, 8, 20, 0); }
+static void opens_g64(void) { y1541_open(&g, g64, g64_len, 0, 8, 20, 0); }
+static void lines(void) { y1541_lines(&d, 1000, 1, 0, 0), y1541_lines(&g, 1000, 1, 0, 0); }
+static void next_due(void) { y1541_next_due(&d); }
+static void due(void) { y1541_reacted r; y1541_due(&d, 2000, &r), y1541_due(&g, 2000, &r); }
+static void pulls(void) { y1541_pulls p; y1541_pulls_now(&d, &p); }
+static void ejects(void) { y1541_eject(&d, out, ROOM, &needed), y1541_eject(&g, out, ROOM, &needed); }
+static void inserts(void) { y1541_insert(&d, g64, g64_len, 0), y1541_insert(&g, image, len, 0); }
+static void resets(void) { y1541_reset(&d); }
+static void closes(void) { y1541_close(&d), y1541_close(&g); }
+static void checks(void) { y1541_place p; y1541_image_check(image, len, &p), y1541_image_check(g64, g64_len, &p); }
+static void lists(void) { y1541_image_list(image, len, image, 0, out, ROOM, &needed); }
+static void files(void) { y1541_image_file(image, len, (const uint8_t *)"H*", 2, out, ROOM, &needed); }
+static void puts_file(void) { y1541_image_put(image, len, (const uint8_t *)"N,P,W", 5, image, 3000, out, ROOM, &needed), y1541_image_put(g64, g64_len, (const uint8_t *)"N,P,W", 5, image, 3000, out, ROOM, &needed); }
+static void commands(void) { y1541_image_command(image, len, (const uint8_t *)"V0", 2, out, ROOM, &needed); }
+static void makes(void) { y1541_image_new(2, image, 0, 0, 0, out, ROOM, &needed); }
+static void converts(void) { y1541_lost l; y1541_image_convert(image, len, &l, out, ROOM, &needed), y1541_image_convert(g64, g64_len, &l, out, ROOM, &needed); }
+
+static const struct { const char *name; void (*call)(void); } calls[] = {
+    {"open", opens}, {"open a G64", opens_g64}, {"lines", lines}, {"next_due", next_due}, {"due", due}, {"pulls_now", pulls}, {"eject", ejects}, {"insert", inserts}, {"reset", resets}, {"close", closes},
+    {"image_check", checks}, {"image_list", lists}, {"image_file", files}, {"image_put", puts_file}, {"image_command", commands}, {"image_new", makes}, {"image_convert", converts},
+};
+
+static void *runs(void *call) {
+    (*(void (**)(void))call)();
+    return NULL;
+}
+
+static uint8_t *map(void) {
+    void *at = NULL;
+    return posix_memalign(&at, 4096, STACK) ? NULL : at;
+}
+
+/* How many bytes of a thread's stack were written. */
+static size_t touched(void (*call)(void)) {
+    pthread_t thread;
+    pthread_attr_t how;
+    uint8_t *stack = map();
+    if (!stack) exit(2);
+    memset(stack, PAINT, STACK);
+    pthread_attr_init(&how);
+    pthread_attr_setstack(&how, stack, STACK);
+    if (pthread_create(&thread, &how, runs, &call)) exit(2);
+    pthread_join(thread, NULL);
+    size_t left = 0;
+    while (left < STACK && stack[left] == PAINT) left++;
+    free(stack);
+    return STACK - left;
+}
+
+int main(int argc, char **argv) {
+    if (argc < 2) return fprintf(stderr, "stack IMAGE\n"), 2;
+    y1541_lost lost;
+    image = read_file(argv[1], &len), out = malloc(ROOM), g64 = malloc(ROOM);
+    y1541_image_convert(image, len, &lost, g64, ROOM, &g64_len);
+    size_t none = touched(nothing), most = 0;
+    printf("stack in bytes:");
+    for (size_t i = 0; i < sizeof calls / sizeof calls[0]; i++) {
+        size_t used = touched(calls[i].call) - none;
+        printf(" %s %zu", calls[i].name, used);
+        if (used > most) most = used;
+    }
+    printf("; most %zu\n", most);
+    expect(most <= MOST, "a call needs more stack than is documented");
+    free(image), free(out), free(g64);
+    return wrong != 0;
+}

@@ -1,0 +1,4 @@
+pub mod Exchanged
+pub mod Giving
+pub mod Opening
+pub mod Played

@@ -1,0 +1,120 @@
+-- A drive on lines, with the disk of an image.
+use Rattle.std.specs.Prelude.{ℕ, ◌≡◌, ◌≤◌, ◌<◌, ◌^◌, ◌⊎◌, Bool, List, Option, Some, None}
+use Rattle.cbm_iec.specs.Machines.{acted}
+use Rattle.cbm_iec.specs.Ports.{port_due, resting, told, told_act, reacted, reaction_act}
+use Rattle.cbm_iec.specs.declared.lines.Lines.{Lines}
+use Rattle.cbm_iec.specs.declared.party.Party.{Party}
+use Rattle.cbm_iec.specs.declared.port.Port.{Port}
+use Rattle.cbm_session.specs.Following.{IsInTime}
+use Rattle.cbm_session.specs.Playing.{IsLaterDue}
+use Rattle.cbm_file.specs.Files.{Disk}
+use Rattle.cbm_channel.specs.Machines.{Machine, start}
+use Rattle.cbm_channel.specs.Standing.{Kept}
+use Rattle.cbm_drive.specs.Desks.{Desk, DeskStands, at_first, with_pace, desk_step, desk_says, desk_shows}
+use Rattle.cbm_drive.specs.Playback.{IsActed}
+use Rattle.cbm_drive.specs.Seats.{Seated}
+use Rattle.cbm_volume.specs.Holding.{HoldsDisk}
+use Rattle.cbm_program.specs.Images.{kind_of, tracks_of, ImageHolds}
+use Rattle.cbm_device.specs.ImageDisks.{Counted, seen_of, IsDiskOf}
+use Rattle.cbm_device.specs.declared.device.Reaction.{Reaction}
+
+-- a drive, and when anything last happened
+pub record OnLines : Type 0 where
+  pub seat : Seated (Desk (Kept Counted))
+  pub latest : ℕ
+
+-- a drive has the number 8 to 11, and reacts after 1 to 60 microseconds
+abbrev pub IsOutside : Party → Type 0
+IsOutside b = ((b.device < 8) ⊎ (11 < b.device)) ⊎ ((b.reaction < 1) ⊎ (60 < b.reaction))
+
+-- A DRIVE THAT IS SWITCHED ON with the disk of an image; where that is sound, it stands for the machine of its files.
+pub record IsSwitchedOn (image : List ℕ) (protected : Bool) (b : Party) (d : OnLines) : Type 0 where
+  pub disk : IsDiskOf image protected d.seat.machine.dos.medium
+  pub port : d.seat.port ≡ resting b
+  pub first : d.latest ≡ 0
+  pub stands : (x : Disk) → ImageHolds (kind_of image) image x
+      → DeskStands seen_of d.seat.machine (with_pace b.pace (at_first b.device (start x protected (tracks_of (kind_of image) image))))
+
+-- A drive stands for another one: the same port, and above it the machine of its files.
+abbrev pub StandsFor : Seated (Desk (Kept Counted)) → Seated (Desk Machine) → Type 0
+StandsFor x s = (x.port ≡ s.port) × DeskStands seen_of x.machine s.machine
+
+-- ---- lines that change
+
+-- ATN changes first, then CLOCK, then DATA
+abbrev pub behind_atn : Lines → Lines → Lines
+behind_atn was now = record { atn_low = now.atn_low; clock_low = was.clock_low; data_low = was.data_low }
+
+abbrev pub behind_clock : Lines → Lines → Lines
+behind_clock was now = record { atn_low = now.atn_low; clock_low = now.clock_low; data_low = was.data_low }
+
+-- a port that is told of them in turn
+abbrev pub port_in_turn : ℕ → Lines → Lines → Port → Port
+port_in_turn t was now p = told t now (told t (behind_clock was now) (told t (behind_atn was now) p))
+
+-- and a drive
+abbrev pub tell_lines : ℕ → Lines → Seated (Desk Machine) → Seated (Desk Machine)
+tell_lines t now s = record { port = told t now s.port; machine = acted (Desk Machine) desk_step (told_act now s.port) s.machine }
+
+abbrev pub tell_in_turn : ℕ → Lines → Lines → Seated (Desk Machine) → Seated (Desk Machine)
+tell_in_turn t was now s = tell_lines t now (tell_lines t (behind_clock was now) (tell_lines t (behind_atn was now) s))
+
+-- a reaction is due before a moment
+abbrev pub IsDueBefore : ℕ → Option ℕ → Type 0
+IsDueBefore moment None = ⊥
+IsDueBefore moment (Some t) = t < moment
+
+-- A change may come at this moment: nothing happened later, no reaction is due before, and it is below 2^60.
+pub record IsOnTime (moment : ℕ) (d : OnLines) : Type 0 where
+  pub later : d.latest ≤ moment
+  pub in_time : IsInTime moment (port_due d.seat.port)
+  pub small : moment < 2 ^ 60
+
+-- it may not
+abbrev pub IsOutOfTime : ℕ → OnLines → Type 0
+IsOutOfTime moment d = (2 ^ 60 ≤ moment) ⊎ ((moment < d.latest) ⊎ IsDueBefore moment (port_due d.seat.port))
+
+-- A DRIVE WAS TOLD OF LINES at a moment.
+pub record HasHeard (moment : ℕ) (others : Lines) (old new : OnLines) : Type 0 where
+  pub port : new.seat.port ≡ port_in_turn moment old.seat.port.others others old.seat.port
+  pub latest : new.latest ≡ moment
+
+-- ---- reactions
+
+-- nothing is due by this moment, or only when no moment comes any more
+abbrev pub HasNothingDue : ℕ → OnLines → Type 0
+HasNothingDue moment d = IsLaterDue moment (port_due d.seat.port) ⊎ IsInTime (2 ^ 60) (port_due d.seat.port)
+
+-- THE REACTION THAT WAS DUE HAS HAPPENED, on any disk; and these lines the drive held before and holds since.
+pub record HasReacted (r : Reaction) (old new : OnLines) : Type 0 where
+  pub due : port_due old.seat.port ≡ Some r.moment
+  pub port : new.seat.port ≡ reacted r.moment (desk_shows old.seat.machine) old.seat.port
+  pub machine : IsActed desk_shows (reaction_act (desk_shows old.seat.machine) old.seat.port) old.seat.machine new.seat.machine
+  pub was : r.was ≡ old.seat.port.own
+  pub now : r.now ≡ new.seat.port.own
+  pub latest : new.latest ≡ r.moment
+
+-- the reaction of a drive with a machine that it stands for
+abbrev pub react_at : ℕ → Seated (Desk Machine) → Seated (Desk Machine)
+react_at t s = record {
+  port = reacted t (desk_says s.machine) s.port;
+  machine = acted (Desk Machine) desk_step (reaction_act (desk_says s.machine) s.port) s.machine;
+}
+
+-- ---- a new start, and another disk
+
+-- A DRIVE WAS SWITCHED OFF AND ON with this disk in it; where that holds a disk of files, it stands for the machine of these, with no channel open.
+pub record HasDisk (disk : Counted) (old new : OnLines) : Type 0 where
+  pub port : new.seat.port ≡ resting old.seat.port.party
+  pub inside : new.seat.machine.dos.medium ≡ disk
+  pub latest : new.latest ≡ old.latest
+  pub stands : (d : Disk) → HoldsDisk (seen_of disk).tracks (seen_of disk).content d
+      → DeskStands seen_of new.seat.machine (with_pace old.seat.port.party.pace (at_first old.seat.port.party.device (start d (seen_of disk).protected (seen_of disk).tracks)))
+
+-- the same disk
+abbrev pub IsRestarted : OnLines → OnLines → Type 0
+IsRestarted old new = HasDisk old.seat.machine.dos.medium old new
+
+-- the disk of another image
+abbrev pub HasAnotherDisk : List ℕ → Bool → OnLines → OnLines → Type 0
+HasAnotherDisk image protected old new = (disk : Counted) × IsDiskOf image protected disk × HasDisk disk old new

@@ -1,0 +1,114 @@
+-- The disk of an image in either format, with a count of its writes.
+use Rattle.std.specs.Prelude.{ℕ, ◌<◌, ◌≡◌, Bool, true, List, None, Some, refl}
+use Rattle.cbm_medium.specs.Place.{Place}
+use Rattle.cbm_medium.specs.Content.{HasFaultCode, blank, header_fault}
+use Rattle.cbm_medium.specs.Seen.{Seen}
+use Rattle.cbm_d64.specs.Image as d64
+use Rattle.cbm_d64.specs.Outer.{outer_good}
+use Rattle.cbm_d64.specs.Faults as d64_faults
+use Rattle.cbm_g64.specs.Tracks as g64
+use Rattle.cbm_g64.specs.Outer.{no_outer}
+use Rattle.cbm_g64.specs.Faults as g64_faults
+use Rattle.cbm_program.specs.Images.{kind_of, image_fault, tracks_of, content_of}
+use Rattle.cbm_program.specs.declared.kind.Kind.{Kind}
+use Rattle.cbm_program.specs.declared.kind.Kind.TheVariants as kind
+use Rattle.cbm_device.specs.declared.image_disk.Sectors.{Sectors}
+use Rattle.cbm_device.specs.declared.image_disk.Sectors.TheVariants.{D64, G64, Blank}
+use Rattle.cbm_device.specs.declared.refusal.Refusal.{Refusal}
+use Rattle.cbm_device.specs.declared.refusal.Refusal.TheVariants.{Memory, Invalid, NoRoom, Absent, NoImage, Unsound, NoDrive, Status}
+
+-- what the sectors of a format show
+abbrev pub shown_by : Sectors → Seen
+shown_by (D64 disk) = d64.seen_of disk
+shown_by (G64 disk) = g64.seen_of disk
+shown_by Blank = record { content = blank; tracks = 35; protected = true; failures = 0 }
+
+-- which format that is; of a blank it doesn't count
+abbrev pub format_of : Sectors → Kind
+format_of (D64 disk) = kind.D64
+format_of (G64 disk) = kind.G64
+format_of Blank = kind.D64
+
+-- a disk, and how often it was written
+pub record Counted : Type 0 where
+  pub sectors : Sectors
+  pub writes : ℕ
+
+-- what a disk shows
+abbrev pub seen_of : Counted → Seen
+seen_of d = shown_by d.sectors
+
+-- no disk
+abbrev pub no_disk : Counted
+no_disk = record { sectors = Blank; writes = 0 }
+
+-- THE DISK OF AN IMAGE that has no fault: it shows what the image is, and was never written.
+pub record IsDiskOf (image : List ℕ) (protected : Bool) (d : Counted) : Type 0 where
+  pub accepted : image_fault (kind_of image) image ≡ None
+  pub same_format : format_of d.sectors ≡ kind_of image
+  pub same_tracks : (seen_of d).tracks ≡ tracks_of (kind_of image) image
+  pub same_content : (seen_of d).content ≡ content_of (kind_of image) image
+  pub same_protection : (seen_of d).protected ≡ protected
+  pub unwritten : d.writes ≡ 0
+
+-- why an image isn't opened: it has a fault, or memory runs out
+abbrev pub IsOpenRefusal : List ℕ → Refusal → Type 0
+IsOpenRefusal image Memory = Unit {0}
+IsOpenRefusal image NoImage = (n : ℕ) × (image_fault (kind_of image) image ≡ Some n)
+IsOpenRefusal image Invalid = ⊥
+IsOpenRefusal image NoRoom = ⊥
+IsOpenRefusal image Absent = ⊥
+IsOpenRefusal image Unsound = ⊥
+IsOpenRefusal image NoDrive = ⊥
+IsOpenRefusal image (Status code) = ⊥
+
+-- THE IMAGE OF A DISK as it is now
+pub record IsImageOf (d : Counted) (image : List ℕ) : Type 0 where
+  pub same_tracks : tracks_of (format_of d.sectors) image ≡ (seen_of d).tracks
+  pub same_content : content_of (format_of d.sectors) image ≡ (seen_of d).content
+
+-- there is no disk
+abbrev pub IsBlank : Sectors → Type 0
+IsBlank (D64 disk) = ⊥
+IsBlank (G64 disk) = ⊥
+IsBlank Blank = Unit {0}
+
+-- why a disk gives no image: memory runs out, or there is none
+abbrev pub IsUnsaved : Sectors → Refusal → Type 0
+IsUnsaved s Memory = Unit {0}
+IsUnsaved s Absent = IsBlank s
+IsUnsaved s Invalid = ⊥
+IsUnsaved s NoRoom = ⊥
+IsUnsaved s NoImage = ⊥
+IsUnsaved s Unsound = ⊥
+IsUnsaved s NoDrive = ⊥
+IsUnsaved s (Status code) = ⊥
+
+-- ---- the laws of a medium
+
+codes_on : (s : Sectors) (p : Place) → HasFaultCode ((shown_by s).content p)
+codes_on (D64 disk) p = d64_faults.has_codes disk.bytes p
+codes_on (G64 disk) p = g64_faults.has_codes disk.tracks p
+codes_on Blank p = tt
+
+-- in place of a sector's bytes stands the code of a fault that reading meets
+pub has_codes : (d : Counted) (p : Place) → HasFaultCode ((seen_of d).content p)
+has_codes d p = codes_on d.sectors p
+
+outer_on : (s : Sectors) (p : Place) → (shown_by s).tracks ≡ 40 → 35 < p.track → header_fault ((shown_by s).content p) ≡ None
+outer_on (D64 disk) p = outer_good disk.bytes p
+outer_on (G64 disk) p = no_outer 35 refl (g64.content_of disk.tracks) p
+outer_on Blank p = no_outer 35 refl blank p
+
+-- no sector of the outer tracks has a fault of its header
+pub outer_free : (d : Counted) (p : Place) → (seen_of d).tracks ≡ 40 → 35 < p.track → header_fault ((seen_of d).content p) ≡ None
+outer_free d p = outer_on d.sectors p
+
+steady_on : (s : Sectors) → (shown_by s).failures ≡ 0
+steady_on (D64 disk) = refl
+steady_on (G64 disk) = refl
+steady_on Blank = refl
+
+-- it never fails by itself
+pub never_fails : (d : Counted) → (seen_of d).failures ≡ 0
+never_fails d = steady_on d.sectors

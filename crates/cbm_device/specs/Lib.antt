@@ -1,0 +1,6 @@
+pub mod Answers
+pub mod ImageDisks
+pub mod Looking
+pub mod Making
+pub mod Devices
+pub mod Plays

@@ -1,0 +1,295 @@
+//! A drive on lines, with the disk of an image.
+ghost use Rattle.std.specs.Prelude.{◌≡◌, ◌≤◌, ◌<◌, ◌^◌, ◌⊎◌, ◌++◌, Err, List, ℕ, length, drop, OnOk, OnErr, IfOk, IfErr, MatchBool};
+ghost use Rattle.cbm_file.specs.Files.{Disk};
+ghost use Rattle.cbm_channel.specs.Codes.{code_number};
+ghost use Rattle.cbm_channel.specs.Machines.{Machine, start};
+ghost use Rattle.cbm_iec.specs.Machines.{acted};
+ghost use Rattle.cbm_iec.specs.Ports.{port_due, resting, told, told_act, reacted, reaction_act};
+ghost use Rattle.cbm_session.specs.Following.{IsInTime};
+ghost use Rattle.cbm_drive.specs.Desks as desks;
+ghost use Rattle.cbm_drive.specs.Desks.{desk_says, desk_shows, desk_step, DeskStands};
+ghost use Rattle.cbm_drive.specs.Playback.{IsActed};
+ghost use Rattle.cbm_drive.specs.Seats.{Seated};
+ghost use Rattle.cbm_volume.specs.Holding.{HoldsDisk};
+ghost use Rattle.cbm_device.specs.ImageDisks.{no_disk, seen_of, IsImageOf, IsOpenRefusal};
+ghost use Rattle.cbm_device.specs.Devices.{tell_in_turn, react_at, IsOutside, IsSwitchedOn, IsOnTime, IsOutOfTime, IsDueBefore, HasHeard, HasReacted, HasNothingDue, HasDisk, IsRestarted, HasAnotherDisk, StandsFor};
+
+use crate::image_disk::ImageDisk;
+use crate::refusal::Refusal;
+use crate::room::give;
+use cbm_drive::{Desk, Held, Lines, Machine, Party, Port};
+use std::alloc::Global;
+use std::marker::Model;
+use std::mem::replace;
+
+/// Moments come before this one, in microseconds.
+const LAST: u64 = 1 << 60;
+
+/// The device numbers of a drive, first and last.
+const DEVICES: (u8, u8) = (8, 11);
+
+/// The longest reaction, in microseconds.
+const SLOWEST: u8 = 60;
+
+/// What a reaction did.
+#[derive(Clone, Copy, Debug, PartialEq, Eq)]
+pub struct Reaction {
+    /// When, in microseconds.
+    pub moment: u64,
+    /// The lines that the drive held before.
+    pub was: Held,
+    /// Those that it holds since.
+    pub now: Held,
+}
+
+/// A drive on lines with the disk of an image: its port and its DOS. It keeps when anything last happened.
+#[derive(Drop)]
+pub struct Device {
+    port: Port,
+    desk: Desk<ImageDisk>,
+    latest: u64,
+}
+
+impl Model for Device {
+    ghost use Rattle.std.specs.Prelude.{◌<◌};
+    ghost use Rattle.cbm_device.specs.Devices.{OnLines};
+
+    ghost Value = { OnLines };
+
+    ghost view = { λ d. record { seat = record { port = d.port; machine = d.desk }; latest = d.latest } };
+
+    ghost invariant = { λ d. d.port.party.device < 31 };
+}
+
+/// The DOS of a drive that is switched on with this disk.
+fn powered(disk: ImageDisk, party: Party) -> Desk<ImageDisk>
+    requires { party.device < 31 }
+    ensures disk { result.dos.medium ≡ disk }
+    ensures stands { let now = seen_of disk in (d : Disk) → HoldsDisk now.tracks now.content d →
+        DeskStands seen_of result (desks.with_pace party.pace
+        (desks.at_first party.device (start d now.protected now.tracks))) }
+{
+    Desk::at_power_up(disk, party.device).with_pace(party.pace)
+}
+
+/// The image of a disk goes to the caller's room. Errors: `Memory`, `NoRoom`, `Absent` where there is no disk; then nothing goes there.
+fn give_image(
+    alloc: Global,
+    disk: &ImageDisk,
+    out: &mut [u8],
+    needed: &mut usize,
+) -> Result<(), Refusal>
+    ensures ok { OnOk result ((bytes : List ℕ) × IsImageOf disk.now bytes × (needed.new ≡ length bytes)
+        × (out.new ≡ bytes ++ drop (length bytes) out.old)) }
+    ensures err { OnErr result (out.new ≡ out.old) }
+{
+    let image = disk.save(alloc)?;
+    give(image.as_slice(), out, needed)
+}
+
+impl Device {
+    /// A drive that is switched on with the disk of an image. Errors: `Invalid` where the device number isn't 8 to 11 or the
+    /// reaction not 1 to 60, `NoImage`, `Memory`.
+    pub fn open(
+        alloc: Global,
+        image: &[u8],
+        protected: bool,
+        party: Party,
+    ) -> Result<Device, Refusal>
+        ensures ok { IfOk result (IsSwitchedOn image.now protected party) }
+        ensures outside { IsOutside party → result ≡ Err Refusal.Invalid }
+        ensures err { IfErr result (λ r. ((r ≡ Refusal.Invalid) × IsOutside party) ⊎ IsOpenRefusal image.now r) }
+    {
+        if party.device < DEVICES.0
+            || party.device > DEVICES.1
+            || party.reaction < 1
+            || party.reaction > SLOWEST
+        {
+            return Err(Refusal::Invalid);
+        }
+        let disk = ImageDisk::open(alloc, image, protected)?;
+        let desk = powered(disk, party);
+        Ok(Device {
+            port: Port::new(party),
+            desk,
+            latest: 0,
+        })
+    }
+
+    /// The others hold these lines from a moment on.
+    #[inline(always)]
+    fn hear(&mut self, moment: u64, others: Lines)
+        requires { moment < 2 ^ 60 }
+        ensures port { self.new.seat.port ≡ told moment others self.old.seat.port }
+        ensures machine { (m : desks.Desk Machine) → DeskStands seen_of self.old.seat.machine m →
+            DeskStands seen_of self.new.seat.machine
+            (acted (desks.Desk Machine) desk_step (told_act others self.old.seat.port) m) }
+        ensures acted { IsActed desk_shows (told_act others self.old.seat.port) self.old.seat.machine self.new.seat.machine }
+        ensures latest { self.new.latest ≡ self.old.latest }
+    {
+        if let Some(act) = self.port.line(moment, others) {
+            self.desk.act(act);
+        }
+    }
+
+    /// Whether a reaction is due before a moment.
+    fn is_due_before(&self, moment: u64) -> bool
+        ensures { let due = port_due self.now.seat.port in MatchBool result (IsDueBefore moment due) (IsInTime moment due) }
+    {
+        match self.port.next_due() {
+            Some(due) => due < moment,
+            None => false,
+        }
+    }
+
+    /// From this moment on all others together hold these lines. Where several change, ATN does first, then CLOCK, then DATA. The
+    /// one error is `Invalid`: something happened later already, a reaction is due before, or the moment is none.
+    pub fn lines(&mut self, moment: u64, others: Lines) -> Result<(), Refusal>
+        ensures in_time { OnOk result (IsOnTime moment self.old) }
+        ensures told { OnOk result (HasHeard moment others self.old self.new) }
+        ensures stands { (s : Seated (desks.Desk Machine)) → StandsFor self.old.seat s →
+            OnOk result (StandsFor self.new.seat (tell_in_turn moment self.old.seat.port.others others s)) }
+        ensures err { IfErr result (λ r. (r ≡ Refusal.Invalid) × IsOutOfTime moment self.old × (self.new ≡ self.old)) }
+    {
+        if moment >= LAST || moment < self.latest || self.is_due_before(moment) {
+            return Err(Refusal::Invalid);
+        }
+        let was = self.port.others;
+        let behind_atn = Lines {
+            atn_low: others.atn_low,
+            clock_low: was.clock_low,
+            data_low: was.data_low,
+        };
+        let behind_clock = Lines {
+            atn_low: others.atn_low,
+            clock_low: others.clock_low,
+            data_low: was.data_low,
+        };
+        self.hear(moment, behind_atn);
+        self.hear(moment, behind_clock);
+        self.hear(moment, others);
+        self.latest = moment;
+        Ok(())
+    }
+
+    /// When the next reaction is due, in microseconds.
+    #[inline(always)]
+    pub fn next_due(&self) -> Option<u64>
+        ensures { result ≡ port_due self.now.seat.port }
+    {
+        self.port.next_due()
+    }
+
+    /// The reaction that is due happens.
+    #[inline(always)]
+    fn react(&mut self, moment: u64)
+        requires { moment < 2 ^ 60 }
+        ensures port { self.new.seat.port ≡ reacted moment (desk_shows self.old.seat.machine) self.old.seat.port }
+        ensures acted { let shown = desk_shows self.old.seat.machine in
+            IsActed desk_shows (reaction_act shown self.old.seat.port) self.old.seat.machine self.new.seat.machine }
+        ensures says { (m : desks.Desk Machine) → DeskStands seen_of self.old.seat.machine m →
+            desk_shows self.old.seat.machine ≡ desk_says m }
+        ensures machine { (m : desks.Desk Machine) → DeskStands seen_of self.old.seat.machine m →
+            DeskStands seen_of self.new.seat.machine
+            (acted (desks.Desk Machine) desk_step (reaction_act (desk_says m) self.old.seat.port) m) }
+        ensures latest { self.new.latest ≡ self.old.latest }
+    {
+        let said = self.desk.peek();
+        let reaction = self.port.due(moment, said);
+        if let Some(act) = reaction.act {
+            self.desk.act(act);
+        }
+    }
+
+    /// The reaction that is due by a moment happens, when it is due. The one error is `Absent`: none is due by then.
+    pub fn due(&mut self, moment: u64) -> Result<Reaction, Refusal>
+        ensures ok { IfOk result (λ r. (r.moment ≤ moment) × HasReacted r self.old self.new) }
+        ensures stands { (s : Seated (desks.Desk Machine)) → StandsFor self.old.seat s →
+            IfOk result (λ r. StandsFor self.new.seat (react_at r.moment s)) }
+        ensures err { IfErr result (λ r. (r ≡ Refusal.Absent) × HasNothingDue moment self.old × (self.new ≡ self.old)) }
+    {
+        let Some(due) = self.port.next_due() else {
+            return Err(Refusal::Absent);
+        };
+        if due > moment || due >= LAST {
+            return Err(Refusal::Absent);
+        }
+        let was = self.port.own;
+        self.react(due);
+        self.latest = due;
+        Ok(Reaction {
+            moment: due,
+            was,
+            now: self.port.own,
+        })
+    }
+
+    /// The lines that the drive holds.
+    pub fn pulls(&self) -> Held
+        ensures { result ≡ self.now.seat.port.own }
+    {
+        self.port.own
+    }
+
+    /// The number of the status, which channel 15 tells; nothing of it is taken.
+    pub fn status(&self) -> u8
+        ensures value { result ≡ code_number self.now.seat.machine.dos.told.status.code }
+        ensures code { (d : desks.Desk Machine) → DeskStands seen_of self.now.seat.machine d →
+            result ≡ code_number d.dos.status.code }
+    {
+        self.desk.dos().status_code()
+    }
+
+    /// The drive is switched off, its disk is exchanged for this one, and it is switched on: its lines are free, no channel is open, and
+    /// what was being written isn't closed. It takes all lines for free until it is told of them.
+    fn exchange(&mut self, disk: ImageDisk) -> ImageDisk
+        ensures old { result ≡ self.old.seat.machine.dos.medium }
+        ensures new { HasDisk disk self.old self.new }
+    {
+        let party = self.port.party;
+        let desk = powered(disk, party);
+        self.port = Port::new(party);
+        replace(&mut self.desk, desk).into_medium()
+    }
+
+    /// The drive is switched off and on with its disk.
+    pub fn reset(&mut self)
+        ensures { IsRestarted self.old self.new }
+    {
+        let disk = self.exchange(ImageDisk::blank());
+        let _blank = self.exchange(disk);
+    }
+
+    /// The drive is switched off and on, with the disk of another image. Errors: `NoImage`, `Memory`, and then nothing has happened.
+    pub fn insert(&mut self, alloc: Global, image: &[u8], protected: bool) -> Result<(), Refusal>
+        ensures ok { OnOk result (HasAnotherDisk image.now protected self.old self.new) }
+        ensures err { IfErr result (λ r. IsOpenRefusal image.now r × (self.new ≡ self.old)) }
+    {
+        let disk = ImageDisk::open(alloc, image, protected)?;
+        let _old = self.exchange(disk);
+        Ok(())
+    }
+
+    /// The disk is taken out, and its image goes to the caller's room; the drive is switched off and on with no disk. Errors: `Memory`,
+    /// `NoRoom`, `Absent` where there is none; then the disk is in the drive, which was switched off and on.
+    pub fn eject(
+        &mut self,
+        alloc: Global,
+        out: &mut [u8],
+        needed: &mut usize,
+    ) -> Result<(), Refusal>
+        ensures ok { OnOk result (HasDisk no_disk self.old self.new × ((bytes : List ℕ) ×
+            IsImageOf self.old.seat.machine.dos.medium bytes × (needed.new ≡ length bytes)
+            × (out.new ≡ bytes ++ drop (length bytes) out.old))) }
+        ensures err { OnErr result (IsRestarted self.old self.new × (out.new ≡ out.old)) }
+    {
+        let disk = self.exchange(ImageDisk::blank());
+        match give_image(alloc, &disk, out, needed) {
+            Ok(()) => Ok(()),
+            Err(refusal) => {
+                let _blank = self.exchange(disk);
+                Err(refusal)
+            }
+        }
+    }
+}

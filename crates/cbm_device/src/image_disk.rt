@@ -1,0 +1,232 @@
+//! The disk of an image in either format, with a count of its writes.
+ghost use Rattle.std.specs.Prelude.{◌≡◌, ◌≤◌, None, IfOk, IfErr, IfSome, OnOk};
+ghost use Rattle.cbm_medium.specs.Place.{directory_head};
+ghost use Rattle.cbm_medium.specs.Content.{written, blank, format_refusal};
+ghost use Rattle.cbm_medium.specs.Seen.{with_content, write_refusal, IsRefused};
+ghost use Rattle.cbm_program.specs.Images.{kind_of, image_fault, IsOf};
+ghost use Rattle.cbm_device.specs.ImageDisks.{no_disk, shown_by, IsDiskOf, IsOpenRefusal, IsImageOf, IsUnsaved};
+
+use crate::refusal::Refusal;
+use cbm_d64::D64Disk;
+use cbm_g64::G64Disk;
+use cbm_medium::codes::WRITE_PROTECT_ON;
+use cbm_medium::{Address, Fault, Medium, Steady};
+use cbm_program::{DiskImage, Kind, RunFault, kind_of};
+use std::alloc::Global;
+use std::marker::Model;
+
+/// The sectors of a disk, as its image's format keeps them.
+#[derive(Drop)]
+pub enum Sectors {
+    /// Bytes in the order of track and sector.
+    D64(D64Disk),
+    /// Circles of bits.
+    G64(G64Disk),
+    /// Of no image: zeros that can't be written, which take no memory. It stands in a drive without a disk.
+    Blank,
+}
+
+/// The disk of an image, and how often it was written.
+#[derive(Drop)]
+pub struct ImageDisk {
+    sectors: Sectors,
+    writes: u64,
+}
+
+impl Model for ImageDisk {
+    ghost use Rattle.cbm_device.specs.ImageDisks.{Counted};
+
+    ghost Value = { Counted };
+
+    ghost view = { λ d. record { sectors = d.sectors; writes = d.writes } };
+}
+
+/// The disk of an image of one format.
+fn opened<I: DiskImage>(alloc: Global, image: &[u8], protected: bool) -> Result<I, Refusal>
+    requires { kind_of image.now ≡ I.kind }
+    ensures ok { IfOk result (λ d. IsOf I.kind image.now (I.seen d).tracks (I.seen d).content
+        × ((I.seen d).protected ≡ protected) × (image_fault I.kind image.now ≡ None)) }
+    ensures err { IfErr result (IsOpenRefusal image.now) }
+{
+    match I::open(alloc, image, protected) {
+        Ok(disk) => Ok(disk),
+        Err(RunFault::Image(_)) => Err(Refusal::NoImage),
+        Err(_) => Err(Refusal::Memory),
+    }
+}
+
+/// The image of a disk of one format.
+fn saved<I: DiskImage>(alloc: Global, disk: &I) -> Result<Vec<u8>, Refusal>
+    ensures ok { IfOk result (λ v. IsOf I.kind v.items (I.seen disk.now).tracks (I.seen disk.now).content) }
+    ensures err { IfErr result (λ r. r ≡ Refusal.Memory) }
+{
+    match disk.save(alloc) {
+        Ok(image) => Ok(image),
+        Err(_) => Err(Refusal::Memory),
+    }
+}
+
+/// Writes a sector.
+fn write_on(sectors: &mut Sectors, at: Address, bytes: &[u8; 256]) -> Result<(), Fault>
+    requires { at.track ≤ (shown_by sectors.old).tracks }
+    ensures ok { let old = shown_by sectors.old in
+        OnOk result (shown_by sectors.new ≡ with_content (written old.content at bytes.now) old) }
+    ensures refused { IfSome (write_refusal (shown_by sectors.old) at)
+        (λ code. result ≡ Err (record { code = code; at = at })) }
+    ensures err { IfErr result (λ fault. (fault.at ≡ at)
+        × IsRefused (write_refusal (shown_by sectors.old) at) fault.code (shown_by sectors.old) (shown_by sectors.new)) }
+{
+    match sectors {
+        Sectors::D64(disk) => disk.write(at, bytes),
+        Sectors::G64(disk) => disk.write(at, bytes),
+        Sectors::Blank => Err(Fault {
+            code: WRITE_PROTECT_ON,
+            at,
+        }),
+    }
+}
+
+/// Makes each sector zeros.
+fn format_on(sectors: &mut Sectors, id: [u8; 2]) -> Result<(), Fault>
+    ensures ok { OnOk result (shown_by sectors.new ≡ with_content blank (shown_by sectors.old)) }
+    ensures refused { IfSome (format_refusal (shown_by sectors.old).protected)
+        (λ code. result ≡ Err (record { code = code; at = directory_head })) }
+    ensures err { IfErr result (λ fault. (fault.at ≡ directory_head)
+        × IsRefused (format_refusal (shown_by sectors.old).protected) fault.code (shown_by sectors.old)
+        (shown_by sectors.new)) }
+{
+    match sectors {
+        Sectors::D64(disk) => disk.format(id),
+        Sectors::G64(disk) => disk.format(id),
+        Sectors::Blank => Err(Fault {
+            code: WRITE_PROTECT_ON,
+            at: Address::of_map(),
+        }),
+    }
+}
+
+impl ImageDisk {
+    /// The disk of an image. Errors: `NoImage`, `Memory`.
+    pub fn open(alloc: Global, image: &[u8], protected: bool) -> Result<ImageDisk, Refusal>
+        ensures ok { IfOk result (IsDiskOf image.now protected) }
+        ensures err { IfErr result (IsOpenRefusal image.now) }
+    {
+        match kind_of(image) {
+            Kind::D64 => Ok(ImageDisk {
+                sectors: Sectors::D64(opened::<D64Disk>(alloc, image, protected)?),
+                writes: 0,
+            }),
+            Kind::G64 => Ok(ImageDisk {
+                sectors: Sectors::G64(opened::<G64Disk>(alloc, image, protected)?),
+                writes: 0,
+            }),
+        }
+    }
+
+    /// No disk: zeros that can't be written.
+    pub fn blank() -> ImageDisk
+        ensures { result ≡ no_disk }
+    {
+        ImageDisk {
+            sectors: Sectors::Blank,
+            writes: 0,
+        }
+    }
+
+    /// The image of the disk as it is now. Errors: `Memory`, `Absent` where there is no disk.
+    pub fn save(&self, alloc: Global) -> Result<Vec<u8>, Refusal>
+        ensures ok { IfOk result (λ v. IsImageOf self.now v.items) }
+        ensures err { IfErr result (IsUnsaved self.now.sectors) }
+    {
+        match &self.sectors {
+            Sectors::D64(disk) => saved(alloc, disk),
+            Sectors::G64(disk) => saved(alloc, disk),
+            Sectors::Blank => Err(Refusal::Absent),
+        }
+    }
+
+    /// How often a sector was written, or all were at once.
+    pub fn writes(&self) -> u64
+        ensures { result ≡ self.now.writes }
+    {
+        self.writes
+    }
+}
+
+impl Medium for ImageDisk {
+    ghost use Rattle.std.specs.Prelude.{◌≡◌, ◌≤◌, ◌+◌, ◌^◌, ◌-◌, min, IfErr, IfSome, OnOk, Err};
+    ghost use Rattle.cbm_medium.specs.Place.{directory_head};
+    ghost use Rattle.cbm_medium.specs.Content.{written, blank, format_refusal};
+    ghost use Rattle.cbm_medium.specs.Seen.{with_content, write_refusal, IsRefused};
+    ghost use Rattle.cbm_device.specs.ImageDisks.{seen_of, has_codes, outer_free};
+
+    ghost seen = { seen_of };
+
+    ghost codes = { has_codes };
+
+    ghost outer_headers = { outer_free };
+
+    fn read(&self, at: Address) -> Result<[u8; 256], Fault> {
+        match &self.sectors {
+            Sectors::D64(disk) => disk.read(at),
+            Sectors::G64(disk) => disk.read(at),
+            Sectors::Blank => Ok([0; 256]),
+        }
+    }
+
+    fn write(&mut self, at: Address, bytes: &[u8; 256]) -> Result<(), Fault>
+        requires { at.track ≤ (seen_of self.old).tracks }
+        ensures ok { let old = seen_of self.old in
+            OnOk result (seen_of self.new ≡ with_content (written old.content at bytes.now) old) }
+        ensures refused { IfSome (write_refusal (seen_of self.old) at)
+            (λ code. result ≡ Err (record { code = code; at = at })) }
+        ensures err { IfErr result (λ fault. (fault.at ≡ at)
+            × IsRefused (write_refusal (seen_of self.old) at) fault.code (seen_of self.old) (seen_of self.new)) }
+
+        // It is counted, up to the greatest number.
+        ensures counted { OnOk result (self.new.writes ≡ min (self.old.writes + 1) (2 ^ 64 - 1)) }
+    {
+        write_on(&mut self.sectors, at, bytes)?;
+        self.writes = self.writes.saturating_add(1);
+        Ok(())
+    }
+
+    fn format(&mut self, id: [u8; 2]) -> Result<(), Fault>
+        ensures ok { OnOk result (seen_of self.new ≡ with_content blank (seen_of self.old)) }
+        ensures refused { IfSome (format_refusal (seen_of self.old).protected)
+            (λ code. result ≡ Err (record { code = code; at = directory_head })) }
+        ensures err { IfErr result (λ fault. (fault.at ≡ directory_head)
+            × IsRefused (format_refusal (seen_of self.old).protected) fault.code (seen_of self.old) (seen_of self.new)) }
+        ensures counted { OnOk result (self.new.writes ≡ min (self.old.writes + 1) (2 ^ 64 - 1)) }
+    {
+        format_on(&mut self.sectors, id)?;
+        self.writes = self.writes.saturating_add(1);
+        Ok(())
+    }
+
+    fn tracks(&self) -> u8 {
+        match &self.sectors {
+            Sectors::D64(disk) => disk.tracks(),
+            Sectors::G64(disk) => disk.tracks(),
+            Sectors::Blank => 35,
+        }
+    }
+
+    fn protected(&self) -> bool {
+        match &self.sectors {
+            Sectors::D64(disk) => disk.protected(),
+            Sectors::G64(disk) => disk.protected(),
+            Sectors::Blank => true,
+        }
+    }
+
+    fn failures(&self) -> u64 {
+        0
+    }
+}
+
+impl Steady for ImageDisk {
+    ghost use Rattle.cbm_device.specs.ImageDisks.{never_fails};
+
+    ghost steady = { never_fails };
+}

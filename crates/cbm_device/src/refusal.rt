@@ -1,0 +1,92 @@
+//! Why a call isn't carried out, and the number that says so.
+ghost use Rattle.std.specs.Prelude.{◌≡◌};
+ghost use Rattle.cbm_device.specs.Answers.{number_of, answer};
+
+use cbm_shell::ShellFault;
+use cbm_volume::Trouble;
+
+/// Why a call isn't carried out.
+#[derive(Clone, Copy, Debug, PartialEq, Eq)]
+pub enum Refusal {
+    /// Memory ran out.
+    Memory,
+    /// An argument is out of its range, or comes too late.
+    Invalid,
+    /// The caller's room is too small.
+    NoRoom,
+    /// There is no such file, slot or sector, or nothing is due.
+    Absent,
+    /// The bytes are no image of a disk.
+    NoImage,
+    /// The disk isn't sound, and so isn't changed.
+    Unsound,
+    /// The handle holds no drive, or one already.
+    NoDrive,
+    /// The drive refused it, with this number of its status.
+    Status(u8),
+}
+
+/// The least number of a status that refuses anything.
+const LEAST_STATUS: u8 = 20;
+
+/// The number of a file that was never closed.
+const NOT_CLOSED: u8 = 60;
+
+impl Refusal {
+    /// Its number: below 0 the call's own, from 20 on the drive's status.
+    pub fn number(self) -> i32
+        ensures { result ≡ number_of self }
+    {
+        match self {
+            Refusal::Memory => -1,
+            Refusal::Invalid => -2,
+            Refusal::NoRoom => -3,
+            Refusal::Absent => -4,
+            Refusal::NoImage => -5,
+            Refusal::Unsound => -6,
+            Refusal::NoDrive => -7,
+            Refusal::Status(code) => code.max(LEAST_STATUS) as i32,
+        }
+    }
+}
+
+impl From<ShellFault> for Refusal {
+    ghost use Rattle.std.specs.Prelude.{◌≡◌};
+    ghost use Rattle.cbm_device.specs.Answers.{refusal_of};
+
+    ghost from_gives = { λ fault refusal. refusal ≡ refusal_of fault };
+
+    fn from(fault: ShellFault) -> Refusal {
+        match fault {
+            ShellFault::Memory => Refusal::Memory,
+            ShellFault::Image(_) => Refusal::NoImage,
+            ShellFault::Unsound(_) => Refusal::Unsound,
+            ShellFault::Refused(status) => Refusal::Status(status.code.number()),
+            ShellFault::Trouble(trouble) => Refusal::Status(trouble.code),
+            ShellFault::NotFound => Refusal::Absent,
+            ShellFault::NotClosed => Refusal::Status(NOT_CLOSED),
+            ShellFault::Mistaken => Refusal::NoImage,
+        }
+    }
+}
+
+impl From<Trouble> for Refusal {
+    ghost use Rattle.std.specs.Prelude.{◌≡◌};
+    ghost use Rattle.cbm_device.specs.declared.refusal.Refusal.TheVariants.{Status};
+
+    ghost from_gives = { λ trouble refusal. refusal ≡ Status trouble.code };
+
+    fn from(trouble: Trouble) -> Refusal {
+        Refusal::Status(trouble.code)
+    }
+}
+
+/// What a call answers: 0, or the number of its refusal.
+pub fn number(done: Result<(), Refusal>) -> i32
+    ensures { result ≡ answer done }
+{
+    match done {
+        Ok(()) => 0,
+        Err(refusal) => refusal.number(),
+    }
+}

@@ -1,0 +1,4 @@
+pub mod Acting
+pub mod Signalling
+pub mod Types
+pub mod Values

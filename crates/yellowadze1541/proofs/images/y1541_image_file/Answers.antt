@@ -1,0 +1,13 @@
+use Rattle.std.proofs.Common.{◌≡◌, rules, to_z, of_z, w32}
+use Rattle.cbm_shell.specs.Reading.{Gets}
+use Rattle.cbm_shell.specs.Images.{IsLost}
+use Rattle.cbm_device.specs.Answers.{answer}
+use Rattle.cbm_device.proofs.Giving.{gives}
+use Rattle.yellowadze1541.proofs.images.y1541_image_file.Goals as goal
+
+pub returns : goal.returns
+returns c = λ d h.
+    let n = to_z w32 (of_z w32 c.number.result) in
+    let same : n ≡ answer c.given.result = search rules in
+    gives (λ v. v.items) (Gets d c.args.pattern.now) (IsLost d c.args.pattern.now) c.file.result c.given.result n c.args.out.now c.given.new.out c.args.needed.now
+    c.given.new.needed (c.file.ensures d h) c.given.ensures same

@@ -1,0 +1,16 @@
+use Rattle.std.proofs.Common.{◌≡◌, false, rules, to_z, of_z, w32}
+use Rattle.cbm_channel.specs.Machines.{start}
+use Rattle.cbm_program.specs.Images.{kind_of, tracks_of}
+use Rattle.cbm_shell.specs.Listing.{IsSent}
+use Rattle.cbm_shell.specs.Images.{IsHidden}
+use Rattle.cbm_device.specs.Answers.{answer}
+use Rattle.cbm_device.proofs.Giving.{gives}
+use Rattle.yellowadze1541.proofs.images.y1541_image_list.Goals as goal
+
+pub returns : goal.returns
+returns c = λ d h.
+    let n = to_z w32 (of_z w32 c.number.result) in
+    let same : n ≡ answer c.given.result = search rules in
+    let m = start d false (tracks_of (kind_of c.args.image.now) c.args.image.now) in
+    gives (λ v. v.items) (IsSent c.args.pattern.now m) (IsHidden c.args.pattern.now m) c.raw_directory.result c.given.result n c.args.out.now c.given.new.out c.args.needed.now
+    c.given.new.needed (c.raw_directory.ensures d h) c.given.ensures same

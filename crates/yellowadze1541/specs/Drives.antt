@@ -1,0 +1,104 @@
+-- What C is told of the drive of a handle.
+use Rattle.std.specs.Prelude.{ℕ, ℤ, ◌≡◌, ◌≢◌, ◌≤◌, ◌<◌, ◌^◌, ◌-◌, ◌⊎◌, Bool, true, false, not, ◌==◌, if◌then◌else◌, List, ◌++◌, length, drop, Option, Some, None}
+use Rattle.cbm_iec.specs.declared.lines.Held.{Held}
+use Rattle.cbm_iec.specs.declared.lines.Lines.{Lines}
+use Rattle.cbm_iec.specs.declared.pace.Pace.{Pace}
+use Rattle.cbm_iec.specs.declared.pace.Pace.TheVariants.{Profile, Kernal}
+use Rattle.cbm_iec.specs.declared.party.Party.{Party}
+use Rattle.cbm_iec.specs.Ports.{port_due}
+use Rattle.cbm_channel.specs.Machines.{Machine}
+use Rattle.cbm_drive.specs.Desks.{Desk}
+use Rattle.cbm_drive.specs.Seats.{Seated}
+use Rattle.cbm_device.specs.declared.refusal.Refusal.{Refusal}
+use Rattle.cbm_device.specs.declared.refusal.Refusal.TheVariants.{Memory, Invalid, Absent, NoDrive}
+use Rattle.cbm_device.specs.declared.device.Reaction.{Reaction}
+use Rattle.cbm_device.specs.Answers.{fine, number_of}
+use Rattle.cbm_device.specs.Devices.{OnLines, StandsFor, react_at, tell_in_turn, IsOutside, IsSwitchedOn, IsOnTime, IsOutOfTime, HasHeard, HasReacted, HasNothingDue, HasDisk, HasAnotherDisk, IsRestarted}
+use Rattle.cbm_device.specs.ImageDisks.{no_disk, IsImageOf, IsOpenRefusal}
+use Rattle.yellowadze1541.specs.Looks.{flag}
+use Rattle.yellowadze1541.specs.declared.inner.Inner.{Inner}
+use Rattle.yellowadze1541.specs.declared.shapes.Reacted.{Reacted}
+use Rattle.yellowadze1541.specs.declared.shapes.Pulls.{Pulls}
+
+-- A CALL ON THE DRIVE OF A HANDLE: the handle held one and holds one, of which this is said; or it held none and holds none, and -7 says so.
+abbrev pub Acts : Option Inner → Option Inner → ℤ → (OnLines → OnLines → Type 0) → Type 0
+Acts None None n Does = n ≡ number_of NoDrive
+Acts (Some old) (Some new) n Does = Does old.device new.device
+Acts None (Some new) n Does = ⊥
+Acts (Some old) None n Does = ⊥
+
+-- a number that C passes for yes or no
+abbrev pub is_set : ℕ → Bool
+is_set n = not (n == 0)
+
+-- the pace of a number
+abbrev pub pace_of : ℕ → Pace
+pace_of n = if n == 0 then Profile else Kernal
+
+abbrev pub party_of : ℕ → ℕ → ℕ → Party
+party_of device reaction pace = record { device = device; reaction = reaction; pace = pace_of pace }
+
+-- why a handle isn't opened: it holds a drive, an argument is out of its range, or the image isn't opened
+abbrev pub IsNotOpened : Option Inner → List ℕ → Party → ℕ → Refusal → Type 0
+IsNotOpened old image b pace r =
+    ((r ≡ NoDrive) × (old ≢ None)) ⊎ (((r ≡ Invalid) × (IsOutside b ⊎ (1 < pace))) ⊎ ((r ≡ Memory) ⊎ IsOpenRefusal image r))
+
+-- A HANDLE IS OPENED: it held none, and holds a drive that is switched on with the disk of the image; or a number says why not, and it holds what it held.
+abbrev pub Opens : Option Inner → Option Inner → ℤ → List ℕ → Bool → Party → ℕ → Type 0
+Opens old new n image protected b pace =
+    ((n ≡ fine) × (old ≡ None) × (pace ≤ 1) × ((inner : Inner) × (new ≡ Some inner) × IsSwitchedOn image protected b inner.device))
+    ⊎ ((new ≡ old) × ((r : Refusal) × (n ≡ number_of r) × IsNotOpened old image b pace r))
+
+-- the lines that C says are low
+abbrev pub lines_of : ℕ → ℕ → ℕ → Lines
+lines_of atn clock data_low = record { atn_low = is_set atn; clock_low = is_set clock; data_low = is_set data_low }
+
+-- THE DRIVE IS TOLD OF LINES, and with it each machine that it stands for; or it isn't the moment for them, and nothing has changed.
+abbrev pub Hears : ℕ → Lines → ℤ → OnLines → OnLines → Type 0
+Hears moment others n old new =
+    ((n ≡ fine) × IsOnTime moment old × HasHeard moment others old new
+    × ((s : Seated (Desk Machine)) → StandsFor old.seat s → StandsFor new.seat (tell_in_turn moment old.seat.port.others others s)))
+    ⊎ ((n ≡ number_of Invalid) × IsOutOfTime moment old × (new ≡ old))
+
+-- a moment, or the greatest number for never
+abbrev pub moment_or_never : Option ℕ → ℕ
+moment_or_never None = 2 ^ 64 - 1
+moment_or_never (Some t) = t
+
+-- the lines that a drive holds
+abbrev pub IsHeld : Held → Pulls → Type 0
+IsHeld own p = (p.clock_low ≡ flag own.clock_low) × (p.data_low ≡ flag own.data_low)
+
+-- one of them is another than before
+abbrev pub differs : Bool → Bool → Bool
+differs true b = not b
+differs false b = b
+
+-- what C is told of a reaction
+pub record IsTold (r : Reaction) (t : Reacted) : Type 0 where
+  pub moment : t.moment ≡ r.moment
+  pub clock : t.clock_low ≡ flag r.now.clock_low
+  pub data_low : t.data_low ≡ flag r.now.data_low
+  pub clock_changed : t.clock_changed ≡ flag (differs r.was.clock_low r.now.clock_low)
+  pub data_changed : t.data_changed ≡ flag (differs r.was.data_low r.now.data_low)
+
+-- THE REACTION THAT WAS DUE HAPPENED, and that of each machine that the drive stands for, and C is told of it; or none was due, and nothing has changed.
+abbrev pub Reacts : ℕ → ℤ → Reacted → Reacted → OnLines → OnLines → Type 0
+Reacts moment n before told old new =
+    ((n ≡ fine) × ((r : Reaction) × (r.moment ≤ moment) × HasReacted r old new × IsTold r told
+    × ((s : Seated (Desk Machine)) → StandsFor old.seat s → StandsFor new.seat (react_at r.moment s))))
+    ⊎ ((n ≡ number_of Absent) × HasNothingDue moment old × (new ≡ old) × (told ≡ before))
+
+-- ---- the disk
+
+-- THE DISK IS TAKEN OUT: its image is given, and the drive was switched off and on with none; or it isn't given, and the drive was switched off and on with it.
+abbrev pub Ejects : ℤ → List ℕ → List ℕ → ℕ → OnLines → OnLines → Type 0
+Ejects n out out_new needed old new =
+    ((n ≡ fine) × HasDisk no_disk old new
+    × ((bytes : List ℕ) × IsImageOf old.seat.machine.dos.medium bytes × (needed ≡ length bytes) × (out_new ≡ bytes ++ drop (length bytes) out)))
+    ⊎ ((n ≢ fine) × IsRestarted old new × (out_new ≡ out))
+
+-- another disk is put in, or the image isn't opened, and nothing has changed
+abbrev pub Inserts : ℤ → List ℕ → Bool → OnLines → OnLines → Type 0
+Inserts n image protected old new =
+    ((n ≡ fine) × HasAnotherDisk image protected old new) ⊎ ((new ≡ old) × ((r : Refusal) × (n ≡ number_of r) × IsOpenRefusal image r))

@@ -1,0 +1,5 @@
+pub mod Looks
+pub mod Changes
+pub mod Handles
+pub mod Drives
+pub mod Signals

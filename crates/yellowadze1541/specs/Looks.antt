@@ -1,0 +1,73 @@
+-- What C is told of an image.
+use Rattle.std.specs.Prelude.{ℕ, ℤ, ◌≡◌, ◌⊎◌, ◌+◌, ◌*◌, ◌%◌, Bool, true, false, List, Ok, slice_index, slice_range}
+use Rattle.cbm_file.specs.Files.{Disk}
+use Rattle.cbm_volume.specs.Map.{geometry_of}
+use Rattle.cbm_volume.specs.Layouts.{Layout, Sound}
+use Rattle.cbm_volume.specs.Entries.{type_byte, bit_of, is_closed, width_of}
+use Rattle.cbm_volume.specs.Holding.{StandsAt}
+use Rattle.cbm_volume.specs.check.WholeDisk.{DiskFault}
+use Rattle.cbm_medium.specs.Content.{Content}
+use Rattle.cbm_program.specs.Images.{kind_of, tracks_of, content_of, ImageHolds}
+use Rattle.cbm_device.specs.declared.refusal.Refusal.{Refusal}
+use Rattle.cbm_device.specs.declared.refusal.Refusal.TheVariants.{Unsound}
+use Rattle.cbm_device.specs.Answers.{fine, number_of, AreGiven}
+use Rattle.cbm_device.specs.ImageDisks.{IsOpenRefusal}
+use Rattle.cbm_device.specs.Looking.{IsUntitled, IsNoEntry, IsNoSector}
+use Rattle.yellowadze1541.specs.declared.shapes.Place.{Place}
+use Rattle.yellowadze1541.specs.declared.shapes.Title.{Title}
+use Rattle.yellowadze1541.specs.declared.shapes.Entry.{Entry}
+
+-- the tracks that an image's disk uses, and what its sectors hold
+abbrev pub held_by : List ℕ → Content
+held_by image = content_of (kind_of image) image
+
+abbrev pub used_by : List ℕ → ℕ
+used_by image = geometry_of (tracks_of (kind_of image) image) (held_by image)
+
+-- an image isn't opened, and that is told
+abbrev pub IsRefused : List ℕ → ℤ → Type 0
+IsRefused image n = (r : Refusal) × IsOpenRefusal image r × (n ≡ number_of r)
+
+-- THE CHECK OF AN IMAGE: of one that is opened 0 says exactly that its disk is sound, and -6 what is wrong first.
+pub record IsCheck (image : List ℕ) (n : ℤ) (old new : Place) : Type 0 where
+  pub told : ((n ≡ fine) × (new ≡ old) × ((l : Layout) × Sound (used_by image) (held_by image) l))
+      ⊎ (((n ≡ number_of Unsound) × DiskFault (used_by image) (held_by image) (record { number = new.what; track = new.track; sector = new.sector }))
+      ⊎ ((new ≡ old) × IsRefused image n))
+  pub exact : (l : Layout) → Sound (used_by image) (held_by image) l → (n ≡ fine) ⊎ IsRefused image n
+
+-- a title that says what a disk has
+pub record Says (t : Title) (d : Disk) : Type 0 where
+  pub title : t.title ≡ d.title
+  pub mark : t.mark ≡ d.mark
+  pub free : t.free ≡ d.free
+
+-- THE TITLE OF AN IMAGE: 0 says that it is that of its disk, if this is sound; any other number why there is none, and of a sound one that it isn't opened.
+pub record IsTitle (image : List ℕ) (n : ℤ) (old new : Title) : Type 0 where
+  pub told : (n ≡ fine) ⊎ ((r : Refusal) × IsUntitled image r × (n ≡ number_of r) × (new ≡ old))
+  pub means : (d : Disk) → ImageHolds (kind_of image) image d → ((n ≡ fine) × Says new d) ⊎ ((r : Refusal) × IsOpenRefusal image r × (n ≡ number_of r) × (new ≡ old))
+
+-- 1 for yes, 0 for no
+abbrev pub flag : Bool → ℕ
+flag true = 1
+flag false = 0
+
+-- an entry's thirty bytes, field by field
+pub record Spells (e : List ℕ) (s : Entry) : Type 0 where
+  pub blocks : s.blocks ≡ slice_index e 28 + 256 * slice_index e 29
+  pub kind : s.kind ≡ type_byte e % 16
+  pub closed : s.closed ≡ flag (is_closed e)
+  pub locked : s.locked ≡ flag (bit_of (type_byte e) 6)
+  pub record_length : s.record_length ≡ width_of e
+  pub name : s.name ≡ slice_range e 3 19
+
+-- AN ENTRY OF AN IMAGE: 0 says that it is the one that stands in the slot, any other number why there is none.
+abbrev pub IsEntry : List ℕ → ℕ → ℤ → Entry → Entry → Type 0
+IsEntry image slot n old new =
+    ((e : List ℕ) × StandsAt (tracks_of (kind_of image) image) (held_by image) slot e × (n ≡ fine) × Spells e new)
+    ⊎ ((r : Refusal) × IsNoEntry image slot r × (n ≡ number_of r) × (new ≡ old))
+
+-- A SECTOR OF AN IMAGE: its bytes are given, or any other number says why not.
+abbrev pub IsSector : List ℕ → ℕ → ℕ → ℤ → List ℕ → List ℕ → Type 0
+IsSector image track sector n old new =
+    ((bytes : List ℕ) × (held_by image (record { track = track; sector = sector }) ≡ Ok bytes) × AreGiven n old new bytes)
+    ⊎ ((r : Refusal) × IsNoSector image (record { track = track; sector = sector }) r × (n ≡ number_of r) × (new ≡ old))

@@ -1,0 +1,144 @@
+//! New images, and changes of one.
+ghost use Rattle.std.specs.Prelude.{◌≡◌, ◌≤◌, ◌<◌, ◌⊎◌, ◌∷◌, [], ℕ, List, false, length, MatchResult};
+ghost use Rattle.cbm_file.specs.Files.{Disk};
+ghost use Rattle.cbm_channel.specs.Machines.{start};
+ghost use Rattle.cbm_volume.specs.Layouts.{Layout, Sound};
+ghost use Rattle.cbm_program.specs.Images.{kind_of, tracks_of, ImageHolds};
+ghost use Rattle.cbm_shell.specs.Changing.{IsFine};
+ghost use Rattle.cbm_shell.specs.Making.{IsNew};
+ghost use Rattle.cbm_shell.specs.Converting.{IsConverted, IsConvertFault};
+ghost use Rattle.cbm_device.specs.Answers.{fine, Gives};
+ghost use Rattle.cbm_device.specs.Making.{after_command, after_put, opened_for, IsUnmade, IsWantOfMemory};
+ghost use Rattle.yellowadze1541.specs.Looks.{flag, held_by, used_by};
+ghost use Rattle.yellowadze1541.specs.Changes.{form_of, IsRefusedNew, IsLossOf};
+
+use crate::shapes::{Lost, flag};
+use cbm_device::{Refusal, give, given, number};
+use cbm_shell::{Change, Form, Losses, ShellFault, change, convert, new_image};
+use std::alloc::Global;
+
+/// The longest title.
+const TITLE: usize = 16;
+
+/// A command for the drive, such as `S0:NAME`, is carried out on an image's disk, and the new image is given.
+#[unsafe(no_mangle)]
+pub extern "C" fn y1541_image_command(
+    alloc: Global,
+    image: &[u8],
+    text: &[u8],
+    out: &mut [u8],
+    needed: &mut usize,
+) -> i32
+    ensures made { let kind = kind_of image.now in (d : Disk) → ImageHolds kind image.now d →
+        let m = start d false (tracks_of kind image.now) in let after = after_command text.now m in
+        Gives result out.old out.new needed.old needed.new
+        (λ bytes. IsFine after.status × ImageHolds kind bytes after.disk) (IsUnmade after after) }
+    // A disk that isn't sound isn't changed.
+    ensures sound { result ≡ fine → (l : Layout) × Sound (used_by image.now) (held_by image.now) l }
+{
+    number(given(change(alloc, image, &Change::Command(text)), out, needed))
+}
+
+/// A file is put on an image's disk, as an OPEN with this text, such as `NAME,P,W`, would write it, and the new image is given.
+#[unsafe(no_mangle)]
+pub extern "C" fn y1541_image_put(
+    alloc: Global,
+    image: &[u8],
+    text: &[u8],
+    bytes: &[u8],
+    out: &mut [u8],
+    needed: &mut usize,
+) -> i32
+    ensures made { let kind = kind_of image.now in (d : Disk) → ImageHolds kind image.now d →
+        let m = start d false (tracks_of kind image.now) in let after = after_put text.now bytes.now m in
+        Gives result out.old out.new needed.old needed.new
+        (λ image. IsFine after.status × ImageHolds kind image after.disk) (IsUnmade (opened_for text.now m) after) }
+    ensures sound { result ≡ fine → (l : Layout) × Sound (used_by image.now) (held_by image.now) l }
+{
+    number(given(
+        change(alloc, image, &Change::File(text, bytes)),
+        out,
+        needed,
+    ))
+}
+
+/// The form of a number.
+fn form_with(form: u8) -> Form
+    requires { form < 3 }
+    ensures { result ≡ form_of form }
+{
+    match form {
+        0 => Form::D64,
+        1 => Form::LongD64,
+        _ => Form::G64,
+    }
+}
+
+/// A new image, with memory's want told as such.
+fn made(alloc: Global, form: Form, title: &[u8], id: [u8; 2]) -> Result<Vec<u8>, ShellFault>
+    requires { length title.now ≤ 16 }
+    ensures { MatchResult result (λ v. IsNew form title.now id v.items) IsWantOfMemory }
+{
+    match new_image(alloc, form, title, id) {
+        Ok(image) => Ok(image),
+        Err(_) => Err(ShellFault::Memory),
+    }
+}
+
+/// A new image of an empty disk with a title of at most sixteen bytes and an id. The form is 0 for a D64 of 35 tracks, 1 for one
+/// of 40, 2 for a G64.
+#[unsafe(no_mangle)]
+pub extern "C" fn y1541_image_new(
+    alloc: Global,
+    form: u8,
+    title: &[u8],
+    id0: u8,
+    id1: u8,
+    out: &mut [u8],
+    needed: &mut usize,
+) -> i32
+    ensures made { form < 3 → length title.now ≤ 16 → Gives result out.old out.new needed.old needed.new
+        (IsNew (form_of form) title.now (id0 ∷ id1 ∷ [])) IsWantOfMemory }
+    ensures refused { (2 < form) ⊎ (16 < length title.now) →
+        IsRefusedNew result out.old out.new needed.old needed.new }
+{
+    if form > 2 || title.len() > TITLE {
+        return Refusal::Invalid.number();
+    }
+    number(given(made(alloc, form_with(form), title, [id0, id1]), out, needed))
+}
+
+/// What is lost.
+fn spelled(losses: &Losses) -> Lost
+    ensures unreadable { result.unreadable ≡ length losses.now.unreadable.items }
+    ensures tracks { result.tracks ≡ flag losses.now.more_tracks }
+    ensures errors { result.errors ≡ flag losses.now.error_bytes }
+{
+    Lost {
+        unreadable: losses.unreadable.len(),
+        tracks: flag(losses.more_tracks),
+        errors: flag(losses.error_bytes),
+        id: flag(losses.header_id),
+    }
+}
+
+/// An image of the other format, and what it doesn't hold.
+#[unsafe(no_mangle)]
+pub extern "C" fn y1541_image_convert(
+    alloc: Global,
+    image: &[u8],
+    lost: &mut Lost,
+    out: &mut [u8],
+    needed: &mut usize,
+) -> i32
+    ensures { Gives result out.old out.new needed.old needed.new
+        (λ bytes. IsConverted image.now bytes × IsLossOf image.now lost.new) (λ fault. IsConvertFault image.now fault × (lost.new ≡ lost.old)) }
+{
+    match convert(alloc, image) {
+        Ok(converted) => {
+            *lost = spelled(&converted.lost);
+            number(give(converted.image.as_slice(), out, needed))
+        }
+        Err(fault) => Refusal::from(fault).number(),
+    }
+}

@@ -1,0 +1,202 @@
+//! A drive on lines, behind a handle. Each call takes the drive from its handle, and gives it back there.
+ghost use Rattle.std.specs.Prelude.{◌≡◌, ◌≢◌, ◌⊎◌, ◌-◌, ◌^◌, None, IfErr, IfOk, MatchBool, MatchOption};
+ghost use Rattle.cbm_iec.specs.Ports.{port_due};
+ghost use Rattle.cbm_device.specs.Answers.{fine};
+ghost use Rattle.cbm_device.specs.Devices.{IsOutside, IsSwitchedOn};
+ghost use Rattle.cbm_device.specs.ImageDisks.{IsOpenRefusal};
+ghost use Rattle.yellowadze1541.specs.Drives.{is_set, lines_of, moment_or_never, pace_of, party_of, Acts, Hears, IsHeld, IsTold, Opens, Reacts};
+
+use crate::handle::{Handle, back, empty, of};
+use crate::inner::Inner;
+use crate::shapes::{Pulls, Reacted, flag};
+use cbm_device::{Device, Reaction, Refusal, number};
+use cbm_drive::{Held, Lines, Pace, Party};
+use std::alloc::Global;
+use std::mem::replace;
+
+/// No reaction is due.
+const NEVER: u64 = u64::MAX;
+
+/// A drive for a handle. Errors: `Invalid`, `NoImage`, `Memory`.
+fn opened(alloc: Global, image: &[u8], protected: bool, party: Party) -> Result<Box<Inner>, Refusal>
+    ensures ok { IfOk result (λ b. IsSwitchedOn image.now protected party b.value.device) }
+    ensures err { IfErr result (λ r. ((r ≡ Refusal.Invalid) × IsOutside party) ⊎ ((r ≡ Refusal.Memory) ⊎ IsOpenRefusal image.now r)) }
+{
+    let device = Device::open(alloc, image, protected, party)?;
+    match Box::new(alloc, Inner { device }) {
+        Ok(inner) => Ok(inner),
+        Err(_) => Err(Refusal::Memory),
+    }
+}
+
+/// Whether a handle holds a drive.
+fn holds(alloc: Global, d: &mut Handle) -> bool
+    ensures kept { d.new.value ≡ d.old.value }
+    ensures holds { MatchBool result (d.old.value ≢ None) (d.old.value ≡ None) }
+{
+    match back(alloc, replace(d, empty())) {
+        Some(inner) => {
+            *d = of(inner);
+            true
+        }
+        None => false,
+    }
+}
+
+/// A drive is switched on with the disk of an image, of which it makes a copy: its number is 8 to 11, its reaction 1 to 60, its pace
+/// 0 for hosts that keep the bus profile, or 1 for the KERNAL of a C64 or VIC-20. The handle holds none before.
+#[unsafe(no_mangle)]
+pub extern "C" fn y1541_open(
+    alloc: Global,
+    d: &mut Handle,
+    image: &[u8],
+    protected: u8,
+    device: u8,
+    reaction: u8,
+    pace: u8,
+) -> i32
+    ensures { Opens d.old.value d.new.value result image.now (is_set protected) (party_of device reaction pace) pace }
+{
+    if holds(alloc, d) {
+        return Refusal::NoDrive.number();
+    }
+    if pace > 1 {
+        return Refusal::Invalid.number();
+    }
+    let pace = pace_with(pace);
+    let party = Party {
+        device,
+        reaction,
+        pace,
+    };
+    match opened(alloc, image, protected != 0, party) {
+        Ok(inner) => {
+            *d = of(inner);
+            0
+        }
+        Err(refusal) => refusal.number(),
+    }
+}
+
+/// The pace of a number.
+pub(crate) fn pace_with(number: u8) -> Pace
+    ensures { result ≡ pace_of number }
+{
+    match number {
+        0 => Pace::Profile,
+        _ => Pace::Kernal,
+    }
+}
+
+/// The drive is gone, and its memory given back; the handle holds none.
+#[unsafe(no_mangle)]
+pub extern "C" fn y1541_close(alloc: Global, d: &mut Handle)
+    ensures { d.new.value ≡ None }
+{
+    let _gone = back(alloc, replace(d, empty()));
+}
+
+/// From this moment on all others together hold these lines low; ATN changes first, then CLOCK, then DATA.
+#[unsafe(no_mangle)]
+pub extern "C" fn y1541_lines(
+    alloc: Global,
+    d: &mut Handle,
+    moment: u64,
+    atn_low: u8,
+    clock_low: u8,
+    data_low: u8,
+) -> i32
+    ensures { Acts d.old.value d.new.value result (Hears moment (lines_of atn_low clock_low data_low) result) }
+{
+    let Some(mut inner) = back(alloc, replace(d, empty())) else {
+        return Refusal::NoDrive.number();
+    };
+    let lines = Lines {
+        atn_low: atn_low != 0,
+        clock_low: clock_low != 0,
+        data_low: data_low != 0,
+    };
+    let done = inner.device.lines(moment, lines);
+    *d = of(inner);
+    number(done)
+}
+
+/// When the drive reacts next, in microseconds; the greatest number where it waits for a line, or there is none.
+#[unsafe(no_mangle)]
+pub extern "C" fn y1541_next_due(alloc: Global, d: &mut Handle) -> u64
+    ensures kept { d.new.value ≡ d.old.value }
+    ensures due { MatchOption d.old.value (result ≡ 2 ^ 64 - 1)
+        (λ inner. result ≡ moment_or_never (port_due inner.device.seat.port)) }
+{
+    let Some(inner) = back(alloc, replace(d, empty())) else {
+        return NEVER;
+    };
+    let due = inner.device.next_due();
+    *d = of(inner);
+    match due {
+        Some(moment) => moment,
+        None => NEVER,
+    }
+}
+
+/// What C is told of a reaction.
+fn told(reaction: Reaction) -> Reacted
+    ensures { IsTold reaction result }
+{
+    let was = reaction.was;
+    let now = reaction.now;
+    Reacted {
+        moment: reaction.moment,
+        clock_low: flag(now.clock_low),
+        data_low: flag(now.data_low),
+        clock_changed: flag(was.clock_low != now.clock_low),
+        data_changed: flag(was.data_low != now.data_low),
+    }
+}
+
+/// The reaction that is due by a moment happens, when it is due.
+#[unsafe(no_mangle)]
+pub extern "C" fn y1541_due(
+    alloc: Global,
+    d: &mut Handle,
+    moment: u64,
+    reacted: &mut Reacted,
+) -> i32
+    ensures { Acts d.old.value d.new.value result (Reacts moment result reacted.old reacted.new) }
+{
+    let Some(mut inner) = back(alloc, replace(d, empty())) else {
+        return Refusal::NoDrive.number();
+    };
+    let done = inner.device.due(moment);
+    *d = of(inner);
+    match done {
+        Ok(reaction) => {
+            *reacted = told(reaction);
+            0
+        }
+        Err(refusal) => refusal.number(),
+    }
+}
+
+/// The lines that a drive holds, for C.
+fn shown(held: Held) -> Pulls
+    ensures { IsHeld held result }
+{
+    Pulls {
+        clock_low: flag(held.clock_low),
+        data_low: flag(held.data_low),
+    }
+}
+
+/// The lines that the drive holds low now.
+#[unsafe(no_mangle)]
+pub extern "C" fn y1541_pulls_now(alloc: Global, d: &mut Handle, pulls: &mut Pulls) -> i32
+    ensures { Acts d.old.value d.new.value result (λ old new. (result ≡ fine) × (new ≡ old) × IsHeld old.seat.port.own pulls.new) }
+{
+    let Some(inner) = back(alloc, replace(d, empty())) else {
+        return Refusal::NoDrive.number();
+    };
+    *pulls = shown(inner.device.pulls());
+    *d = of(inner);
+    0
+}
