@@ -48,9 +48,10 @@ sed -n '/^## How to/,/^## Exit/p' "$here/../docs/DISK1541.md" | grep -o '`disk15
 while read -r line; do
     echo "\$ $line"
     (cd how_to && PATH=.:$PATH && eval "$line" 2>&1) || echo "status $?"
-done < commands.txt > told.txt
+done < commands.txt | sed 's/^[0-9a-f]\{64\}  /SUM  /' > told.txt
 is "the how-tos of the document print what they should" cmp told.txt "$here/how_to.txt"
-is "and take out, put in and make what they say" test "$(cd how_to && echo *)" = "FOLDER disk1541 empty.d64 game.prg hello.d64 hello.g64 hello.prg levels.seq"
+is "with equal sums of an image and the one made of it" test "$(cd how_to && ./disk1541 hash hello.d64 hello.g64 | cut -d' ' -f1 | uniq | wc -l)" = 1
+is "and take out, put in and make what they say" test "$(cd how_to && echo *)" = "FOLDER disk1541 empty.d64 game.prg hello.d64 hello.g64 hello.prg levels.seq saved.prg"
 
 # each command, its refusals too
 case_of "list" 0 "$hello" "" "$disk" list hello.d64
