@@ -48,9 +48,10 @@ sed -n '/^## How to/,/^## Exit/p' "$here/../docs/DISK1541.md" | grep -o '`disk15
 while read -r line; do
     echo "\$ $line"
     (cd how_to && PATH=.:$PATH && eval "$line" 2>&1) || echo "status $?"
-done < commands.txt > told.txt
+done < commands.txt | sed 's/^[0-9a-f]\{64\}  /SUM  /' > told.txt
 is "the how-tos of the document print what they should" cmp told.txt "$here/how_to.txt"
-is "and take out, put in and make what they say" test "$(cd how_to && echo *)" = "FOLDER disk1541 empty.d64 game.prg hello.d64 hello.g64 hello.prg levels.seq"
+is "with equal sums of an image and the one made of it" test "$(cd how_to && ./disk1541 hash hello.d64 hello.g64 | cut -d' ' -f1 | uniq | wc -l)" = 1
+is "and take out, put in and make what they say" test "$(cd how_to && echo *)" = "FOLDER disk1541 empty.d64 game.prg hello.d64 hello.g64 hello.prg levels.seq saved.prg"
 
 # each command, its refusals too
 case_of "list" 0 "$hello" "" "$disk" list hello.d64
@@ -566,29 +567,37 @@ case_of "and does" 0 "" "" "$disk" validate geos.d64 --force
 case_of "and then is sound" 0 "sound" "" "$disk" check geos.d64
 case_of "and has nothing more to free" 0 "no block and no file would go" "" "$disk" validate geos.d64 --dry-run
 
-# what can be read of damaged files: the first file of an empty disk lies in 17/0, 17/10, 17/20 and so on
+# what can be read of damaged files: the second block of BIG gets an error byte, or a link to no sector
 head -c 1000 noise.bin > big.bin
 "$disk" new salvage.d64 --title SALVAGE --id 64
 "$disk" put salvage.d64 big.bin
 "$disk" put salvage.d64 one.prg
-python3 -c 'image = open("salvage.d64", "rb").read()
+python3 - "$here" > second.txt << 'END'
+import sys
+sys.path.insert(0, sys.argv[1])
+from generated_disks import place
+image = bytearray(open("salvage.d64", "rb").read())
+first = image[place(18, 1) + 3], image[place(18, 1) + 4]
+second = image[place(*first)], image[place(*first) + 1]
 errors = bytearray([1]) * 683
-errors[16 * 21 + 10] = 5
+errors[place(*second) // 256] = 5
 open("checksum.d64", "wb").write(image + errors)
-cut = bytearray(image)
-cut[(16 * 21 + 10) * 256] = 99
-cut[357 * 256 + 256 + 32 + 2] -= 128
-open("cut.d64", "wb").write(cut)'
-case_of "a checksum that is wrong" 1 "" "disk1541: BIG: track 17, sector 10 can't be read (error 23)" "$disk" get checksum.d64 BIG
-case_of "with --salvage" 0 "" 'disk1541: "BIG": 17/10 is taken in spite of its error 23' "$disk" get checksum.d64 BIG --salvage -o saved.bin
+print(*second, image[place(*second) + 1])
+image[place(*second)] = 99
+image[place(18, 1) + 32 + 2] -= 128
+open("cut.d64", "wb").write(image)
+END
+read -r track sector after < second.txt
+case_of "a checksum that is wrong" 1 "" "disk1541: BIG: track $track, sector $sector can't be read (error 23)" "$disk" get checksum.d64 BIG
+case_of "with --salvage" 0 "" "disk1541: \"BIG\": $track/$sector is taken in spite of its error 23" "$disk" get checksum.d64 BIG --salvage -o saved.bin
 is "gives all bytes" cmp -s saved.bin big.bin
-case_of "a chain that is cut off" 1 "" "disk1541: BIG: track 99, sector 10 can't be read (error 66)" "$disk" get cut.d64 BIG
-case_of "with --salvage" 0 any "disk1541: \"BIG\" is cut off after 508 bytes: track 99, sector 10 can't be read (error 66)" "$disk" get cut.d64 BIG --salvage
+case_of "a chain that is cut off" 1 "" "disk1541: BIG: track 99, sector $after can't be read (error 66)" "$disk" get cut.d64 BIG
+case_of "with --salvage" 0 any "disk1541: \"BIG\" is cut off after 508 bytes: track 99, sector $after can't be read (error 66)" "$disk" get cut.d64 BIG --salvage
 head -c 508 big.bin > begun.bin
 is "gives its beginning" cmp -s out.txt begun.bin
 case_of "a file that was never closed" 1 "" "disk1541: ONE: the file was never closed" "$disk" get cut.d64 ONE
 case_of "with --salvage" 0 one 'disk1541: "ONE" was never closed: 3 bytes are taken' "$disk" get cut.d64 ONE --salvage
-case_of "all of them" 0 "" "disk1541: \"BIG\" is cut off after 508 bytes: track 99, sector 10 can't be read (error 66)
+case_of "all of them" 0 "" "disk1541: \"BIG\" is cut off after 508 bytes: track 99, sector $after can't be read (error 66)
 disk1541: \"ONE\" was never closed: 3 bytes are taken" "$disk" get-all cut.d64 saved --salvage
 is "in their files" cmp -s saved/BIG.prg begun.bin
 is "and with their bytes" test "$(cat saved/ONE.prg)" = one
@@ -598,7 +607,7 @@ case_of "no file to salvage" 1 "" "disk1541: X: no such file" "$disk" get cut.d6
 case_of "sector" 0 any "" "$disk" sector "$here/hello.d64" 18 1
 is "shows sixteen lines" test "$(wc -l < out.txt)" = 16
 is "with places, bytes and characters" test "$(head -n 1 out.txt)" = "00  00 ff 82 11 00 48 45 4c 4c 4f a0 a0 a0 a0 a0 a0  .....HELLO......"
-case_of "a sector that can't be read" 1 "" "disk1541: checksum.d64: track 17, sector 10 can't be read (error 23)" "$disk" sector checksum.d64 17 10
+case_of "a sector that can't be read" 1 "" "disk1541: checksum.d64: track $track, sector $sector can't be read (error 23)" "$disk" sector checksum.d64 "$track" "$sector"
 case_of "no such sector" 64 "" "disk1541: no disk has such a sector: 21 (tracks are 1 to 40, sectors 0 to 20)" "$disk" sector hello.d64 1 21
 case_of "no such track in the image" 1 "" "disk1541: hello.d64: track 36, sector 0 can't be read (error 66)" "$disk" sector hello.d64 36 0
 case_of "no number" 64 "" "disk1541: no disk has such a sector: x (tracks are 1 to 40, sectors 0 to 20)" "$disk" sector hello.d64 x 0

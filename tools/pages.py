@@ -6,8 +6,9 @@ ARGUMENT = re.compile(r" +([<\[][\w-]+[>\]](?:\.\.\.)?) {2,}(.*)")
 COMMAND = re.compile(r"  ([\w-]+) {2,}(.*)")
 
 
-def run(program, *words):
-    return subprocess.run([program, *words], capture_output=True, text=True, check=True).stdout
+def run(name, path, *words):
+    """What a program prints that is called by its name, wherever it lies."""
+    return subprocess.run([name, *words], executable=path, capture_output=True, text=True, check=True).stdout
 
 
 class Option:
@@ -37,16 +38,17 @@ class Help:
                 self.options.append(Option(*it.groups()))
             elif part == "Arguments:" and (it := ARGUMENT.fullmatch(line)):
                 self.arguments.append(it.groups())
-            elif part == "Commands:" and (it := COMMAND.fullmatch(line)) and it[1] != "help":
-                self.commands.append(it.groups())
+            elif part == "Commands:" and (it := COMMAND.fullmatch(line)):
+                # (help is of clap's own)
+                self.commands += [it.groups()] if it[1] != "help" else []
             elif line:
                 raise SystemExit(f"pages: this line of help is none that is known: {line!r}")
 
 
 class Program:
     def __init__(self, name, path):
-        self.name, self.version, self.help = name, run(path, "--version").split()[-1], Help(run(path, "--help"))
-        self.commands = [(name, about, Help(run(path, name, "--help"))) for name, about in self.help.commands]
+        self.name, self.version, self.help = name, run(name, path, "--version").split()[-1], Help(run(name, path, "--help"))
+        self.commands = [(command, about, Help(run(name, path, command, "--help"))) for command, about in self.help.commands]
 
 
 # ---- the page for man
