@@ -4,7 +4,7 @@ ghost use Rattle.cbm_file.specs.Files.{Disk};
 ghost use Rattle.cbm_channel.specs.Codes.{code_number};
 ghost use Rattle.cbm_channel.specs.Machines.{Machine, start};
 ghost use Rattle.cbm_iec.specs.Machines.{acted};
-ghost use Rattle.cbm_iec.specs.Ports.{port_due, resting, told, told_act, reacted, reaction_act};
+ghost use Rattle.cbm_iec.specs.Ports.{port_due, told, told_act, reacted, reaction_act};
 ghost use Rattle.cbm_session.specs.Following.{IsInTime};
 ghost use Rattle.cbm_drive.specs.Desks as desks;
 ghost use Rattle.cbm_drive.specs.Desks.{desk_says, desk_shows, desk_step, DeskStands};

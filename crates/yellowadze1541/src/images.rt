@@ -1,14 +1,12 @@
 //! What is looked for in an image.
-ghost use Rattle.std.specs.Prelude.{◌≡◌, ◌≤◌, ℕ, List, Ok, false, pos};
+ghost use Rattle.std.specs.Prelude.{◌≡◌, Ok, false};
 ghost use Rattle.cbm_file.specs.Files.{Disk};
 ghost use Rattle.cbm_channel.specs.Machines.{start};
-ghost use Rattle.cbm_volume.specs.Map.{geometry_of};
-ghost use Rattle.cbm_volume.specs.Layouts.{Layout, Sound};
-ghost use Rattle.cbm_program.specs.Images.{kind_of, tracks_of, content_of, image_fault, ImageHolds};
+ghost use Rattle.cbm_program.specs.Images.{kind_of, tracks_of, ImageHolds};
 ghost use Rattle.cbm_shell.specs.Reading.{Gets};
 ghost use Rattle.cbm_shell.specs.Listing.{IsSent};
 ghost use Rattle.cbm_shell.specs.Images.{IsLost, IsHidden};
-ghost use Rattle.cbm_device.specs.Answers.{fine, Gives};
+ghost use Rattle.cbm_device.specs.Answers.{Gives};
 ghost use Rattle.yellowadze1541.specs.Looks.{IsCheck, IsTitle, IsEntry, IsSector, Spells};
 
 use crate::shapes::{Entry, Place, Title, flag};

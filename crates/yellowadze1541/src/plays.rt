@@ -1,14 +1,13 @@
 //! A drive with the disk of an image, played under a list of timed changes in one call.
-ghost use Rattle.std.specs.Prelude.{◌≡◌, ◌≤◌, ◌<◌, ◌^◌, ◌++◌, ◌∷◌, ◌⊎◌, ◌≢◌, [], ℕ, List, false, Err, None, Some, length, map, drop, OnOk, IfOk, IfErr, IfSome, IsSome, MatchOption};
+ghost use Rattle.std.specs.Prelude.{◌≡◌, ◌≤◌, ◌<◌, ◌^◌, ◌++◌, ◌⊎◌, ◌≢◌, ℕ, List, false, Err, None, Some, length, map, drop, OnOk, IfOk, IfErr};
 ghost use Rattle.cbm_file.specs.Files.{Disk};
 ghost use Rattle.cbm_channel.specs.Machines.{start};
 ghost use Rattle.cbm_iec.specs.declared.line.Change.{Change};
-ghost use Rattle.cbm_drive.specs.Ordered.{fault_of};
 ghost use Rattle.cbm_program.specs.Images.{kind_of, tracks_of, ImageHolds};
-ghost use Rattle.cbm_device.specs.Answers.{fine, AreGiven};
+ghost use Rattle.cbm_device.specs.Answers.{fine};
 ghost use Rattle.cbm_device.specs.ImageDisks.{IsImageOf, IsUnsaved};
 ghost use Rattle.cbm_device.specs.Plays.{HasPlayedAll};
-ghost use Rattle.yellowadze1541.specs.Drives.{pace_of, party_of};
+ghost use Rattle.yellowadze1541.specs.Drives.{party_of};
 ghost use Rattle.yellowadze1541.specs.Signals.{line_with, way_with, change_of, changes_of, number_of_line, number_of_way, number_of_who, signal_of, IsPlay};
 
 use crate::drives::pace_with;
