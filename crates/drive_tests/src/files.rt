@@ -87,7 +87,7 @@ fn put_all(dos: &mut Dos<D64Disk>, bytes: &[u8]) {
     }
 }
 
-// The empty disk behind the same file written by calls.
+// The empty disk after the same file was written by calls.
 fn written(rt: &impl Abort, alloc: Global, name: &[u8], bytes: &[u8]) -> D64Disk {
     let mut dos = Dos::new(empty_disk(rt, alloc));
     dos.open(2, name);
@@ -133,9 +133,12 @@ fn is_image(rt: &impl Abort, alloc: Global, disk: &AnyDisk, wanted: &D64Disk) ->
     saved(rt, alloc, disk).as_slice() == saved(rt, alloc, wanted).as_slice()
 }
 
-// Both disks behind the work are those that calls leave.
+// Both disks after the work are those that calls leave.
 fn are_written(rt: &impl Abort, alloc: Global, bus: Pair) -> bool {
-    let [first, second] = bus.into_drives();
+    let mut drives = bus.into_drives().into_iter();
+    let (Some(first), Some(second)) = (drives.next(), drives.next()) else {
+        return false;
+    };
     let hello = written(rt, alloc, b"A,S,W", b"HELLO");
     let world = written(rt, alloc, b"B,S,W", b"WORLD");
     is_image(rt, alloc, &into_disk(first), &hello) && are_same_sectors(&into_disk(second), &world)
