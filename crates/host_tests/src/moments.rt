@@ -174,14 +174,11 @@ fn nothing_to_say_has_its_moments(rt: HostRuntime) -> Result<(), Fail> {
     Ok(())
 }
 
-// A byte with EOI to a listener: the drive's pulse is from 200 to 260 and its reaction after DATA's release.
-#[test]
-fn eoi_has_its_moments(rt: HostRuntime) -> Result<(), Fail> {
-    let mut wired = Wired::new(&rt, rt.alloc(), 20)?;
-    wired.asks(&rt, rt.alloc(), Request::Put(15, b"I"))?;
+// Asserts the changes of a byte with EOI to a listener, which frees DATA again and hears CLOCK pulled at these moments.
+fn has_eoi(rt: &impl Abort, wired: &Wired, freed: u64, pulled: u64) {
     let events = wired.events.as_slice();
     happen(
-        &rt,
+        rt,
         events,
         place_of(events, 2020),
         &[
@@ -189,10 +186,18 @@ fn eoi_has_its_moments(rt: HostRuntime) -> Result<(), Fail> {
             (HOST, 2120, Clock, Free),
             (DRIVE, 2140, Data, Free),
             (DRIVE, 2360, Data, Pull),
-            (DRIVE, 2420, Data, Free),
-            (HOST, 2440, Clock, Pull),
+            (DRIVE, freed, Data, Free),
+            (HOST, pulled, Clock, Pull),
         ],
     );
+}
+
+// A byte with EOI to a listener: the drive's pulse is from 200 to 260 and its reaction after DATA's release.
+#[test]
+fn eoi_has_its_moments(rt: HostRuntime) -> Result<(), Fail> {
+    let mut wired = Wired::new(&rt, rt.alloc(), 20)?;
+    wired.asks(&rt, rt.alloc(), Request::Put(15, b"I"))?;
+    has_eoi(&rt, &wired, 2420, 2440);
     Ok(())
 }
 
@@ -291,19 +296,6 @@ fn nothing_to_say_has_its_moments_at_a_kernals_pace(rt: HostRuntime) -> Result<(
 fn eoi_has_its_moments_at_a_kernals_pace(rt: HostRuntime) -> Result<(), Fail> {
     let mut wired = Wired::at(&rt, rt.alloc(), Pace::Kernal, 20)?;
     wired.asks(&rt, rt.alloc(), Request::Put(15, b"I"))?;
-    let events = wired.events.as_slice();
-    happen(
-        &rt,
-        events,
-        place_of(events, 2020),
-        &[
-            (HOST, 2020, Atn, Free),
-            (HOST, 2120, Clock, Free),
-            (DRIVE, 2140, Data, Free),
-            (DRIVE, 2360, Data, Pull),
-            (DRIVE, 2440, Data, Free),
-            (HOST, 2460, Clock, Pull),
-        ],
-    );
+    has_eoi(&rt, &wired, 2440, 2460);
     Ok(())
 }
