@@ -156,7 +156,8 @@ fn both_pulses_of_eoi_are_one(rt: HostRuntime) {
     assert!(rt; made.as_slice().ends_with(PULSES.as_slice()));
 }
 
-const BACK: [Change; 2] = [
+/// A list whose second change goes back in time.
+pub const BACK: [Change; 2] = [
     Change {
         moment: 5,
         line: Atn,

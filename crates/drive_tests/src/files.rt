@@ -1,15 +1,14 @@
 // Two drives with disks on one bus, a D64 beside a G64, one as quick and one as slow as drives are: files are written on both and
 // read again, and each disk is then as calls leave it.
 
+use crate::cables::BACK;
 use crate::disks::{empty_disk, saved};
 use crate::host::Host;
 use crate::wires::is_said_by;
 use cbm_bus::{AnyDisk, DiskBus, drive_with, into_disk};
 use cbm_channel::Dos;
 use cbm_d64::D64Disk;
-use cbm_drive::Line::*;
-use cbm_drive::Way::*;
-use cbm_drive::{Change, Desk, Drive, Event, Pace, Party, PlayFault};
+use cbm_drive::{Desk, Drive, Event, Pace, Party, PlayFault};
 use cbm_g64::G64Disk;
 use cbm_medium::{Address, Medium, sectors_of};
 use std::alloc::Global;
@@ -158,19 +157,6 @@ fn a_d64_stands_beside_a_g64(rt: HostRuntime) {
         assert!(rt; are_written(&rt, rt.alloc(), bus));
     }
 }
-
-const BACK: [Change; 2] = [
-    Change {
-        moment: 5,
-        line: Atn,
-        way: Pull,
-    },
-    Change {
-        moment: 4,
-        line: Clock,
-        way: Pull,
-    },
-];
 
 // A change that goes back in time is told by its place, and nothing is played.
 #[test]
