@@ -46,6 +46,8 @@ impl D64Disk {
     /// The image of the disk, byte for byte that of its file where nobody wrote. Takes memory for it.
     pub fn to_bytes(&self, alloc: Global) -> Result<Vec<u8>, D64Fault>
         ensures ok { IfOk result (λ v. v.items ≡ self.now.bytes) }
+        // It has the size of an image, so that it opens again.
+        ensures size { IfOk result (λ v. IsImageSize (length v.items)) }
         ensures err { IfErr result (λ e. e ≡ D64Fault.Memory) }
     {
         Vec::from_slice(alloc, self.bytes.as_slice()).map_err(|_| D64Fault::Memory)

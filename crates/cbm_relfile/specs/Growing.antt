@@ -1,10 +1,11 @@
 -- A relative file grows by a block: it is claimed, written and linked to, and then a side sector lists it.
-use Rattle.std.specs.Prelude.{ℕ, ◌+◌, ◌-◌, ◌*◌, ◌%◌, ◌<◌, ◌≤◌, ◌≡◌, ◌≢◌, ◌⊎◌, ◌==◌, Bool, if◌then◌else◌, List, [], length, slice_index, Ok, Err, IsOk}
+use Rattle.std.specs.Prelude.{ℕ, ◌+◌, ◌-◌, ◌*◌, ◌%◌, ◌<◌, ◌≤◌, ◌≡◌, ◌≢◌, ◌⊎◌, ◌==◌, Bool, if◌then◌else◌, List, [], length, slice_index, find, Some, Ok, Err, IsOk}
 use Rattle.cbm_medium.specs.Place.{Place, Has, directory_head}
 use Rattle.cbm_medium.specs.Content.{Content, written}
 use Rattle.cbm_medium.specs.Links.{bytes_at, link}
 use Rattle.cbm_medium.specs.Seen.{Seen}
-use Rattle.cbm_bam.specs.Map.{Claims}
+use Rattle.cbm_bam.specs.Map.{map_of, is_free_in, Claims}
+use Rattle.cbm_bam.specs.Orders.{next_order}
 use Rattle.cbm_bam.specs.Causes.{HasCause}
 use Rattle.cbm_relfile.specs.Changing.{IsWriteRefused}
 use Rattle.cbm_relfile.specs.Fresh.{IsFilledFrom, full_end}
@@ -14,11 +15,12 @@ use Rattle.cbm_relfile.specs.SideSectors.{IsEnded}
 abbrev pub fresh_place : ℕ → ℕ → ℕ
 fresh_place w blocks = 254 - 254 * blocks % w
 
--- A FILE OF b FULL DATA BLOCKS HAS ONE MORE: it is claimed and filled with fresh records, and the last one links to it, with fresh
+-- A FILE OF b FULL DATA BLOCKS HAS ONE MORE: the next that is free after the last one is claimed and filled with fresh records, and the last one links to it, with fresh
 -- bytes after its last whole record.
 pub record IsLengthened (tracks : ℕ) (old new : Content) (last : Place) (w b : ℕ) (q : Place) : Type 0 where
   pub one : Content
   pub claims : Claims tracks old one q
+  pub next : find (is_free_in (map_of old)) (next_order tracks last) ≡ Some q
   pub fresh : List ℕ
   pub filled : IsFilledFrom w (b + 1) b 0 [] full_end fresh
   pub sector : List ℕ
@@ -101,10 +103,11 @@ pub record IsNewSide (head : List ℕ) (k w : ℕ) (q t : Place) (new : List ℕ
   pub sector : slice_index new 17 ≡ q.sector
   pub zeros : (i : ℕ) → 18 ≤ i → slice_index new i ≡ 0
 
--- it is claimed and written
+-- it is claimed, the next that is free after the block, and written
 pub record IsSideBegun (tracks : ℕ) (old new : Content) (head : List ℕ) (k w : ℕ) (q t : Place) : Type 0 where
   pub one : Content
   pub claims : Claims tracks old one t
+  pub next : find (is_free_in (map_of old)) (next_order tracks q) ≡ Some t
   pub side : List ℕ
   pub is_new : IsNewSide head k w q t side
   pub written : new ≡ written one t side

@@ -1,9 +1,10 @@
 -- A new relative file: one block of fresh records, and one side sector that lists it.
-use Rattle.std.specs.Prelude.{ℕ, ◌+◌, ◌*◌, ◌/◌, ◌%◌, ◌<◌, ◌≤◌, ◌≡◌, ◌==◌, ◌⊎◌, nat_lt, List, ◌∷◌, ◌++◌, length, replicate, slice_index, if◌then◌else◌, Some}
+use Rattle.std.specs.Prelude.{ℕ, ◌+◌, ◌*◌, ◌/◌, ◌%◌, ◌<◌, ◌≤◌, ◌≡◌, ◌==◌, ◌⊎◌, nat_lt, List, ◌∷◌, ◌++◌, length, replicate, slice_index, find, if◌then◌else◌, Some}
 use Rattle.cbm_medium.specs.Place.{Place, directory_head}
 use Rattle.cbm_medium.specs.Content.{Content, written}
 use Rattle.cbm_medium.specs.Seen.{Seen, write_refusal, HasFailed}
-use Rattle.cbm_bam.specs.Map.{map_of, IsFull, Claims}
+use Rattle.cbm_bam.specs.Map.{map_of, is_free_in, IsFull, Claims}
+use Rattle.cbm_bam.specs.Orders.{first_order, next_order}
 use Rattle.cbm_bam.specs.Causes.{HasCause}
 
 -- the byte at a place of so many fresh records of this width, and 0 behind them
@@ -21,11 +22,13 @@ pub record IsFreshBlock (w : ℕ) (bytes : List ℕ) : Type 0 where
 abbrev pub one_listed : Place → Place → ℕ → List ℕ
 one_listed block side w = 0 ∷ 17 ∷ 0 ∷ w ∷ side.track ∷ side.sector ∷ (replicate 10 0 ++ (block.track ∷ block.sector ∷ replicate 238 0))
 
--- two blocks are claimed, one after the other
+-- two blocks are claimed, one after the other: the first that is free where a first block is looked for, and then after that one
 pub record AreClaimed (tracks : ℕ) (old new : Content) (p q : Place) : Type 0 where
   pub one : Content
   pub first : Claims tracks old one p
   pub second : Claims tracks one new q
+  pub is_first : find (is_free_in (map_of old)) (first_order tracks) ≡ Some p
+  pub is_next : find (is_free_in (map_of one)) (next_order tracks p) ≡ Some q
 
 -- No block is free, or no second one.
 abbrev pub LacksBlocks : ℕ → Content → Content → Type 0

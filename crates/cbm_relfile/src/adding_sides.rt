@@ -1,9 +1,10 @@
 // A side sector more for a file whose side sectors can't list all its blocks.
 
-ghost use Rattle.std.specs.Prelude.{◌≡◌, ◌≢◌, ◌≤◌, ◌<◌, ℕ, List, true, Ok, IfOk, IfErr, IfSome, MatchOption, MatchResult};
+ghost use Rattle.std.specs.Prelude.{◌≡◌, ◌≢◌, ◌≤◌, ◌<◌, ℕ, List, true, find, Some, Ok, IfOk, IfErr, IfSome, MatchOption, MatchResult};
 ghost use Rattle.cbm_medium.specs.Place.{Has};
 ghost use Rattle.cbm_medium.specs.Seen.{OnlyContent};
-ghost use Rattle.cbm_bam.specs.Map.{IsFull, map_of};
+ghost use Rattle.cbm_bam.specs.Map.{IsFull, is_free_in, map_of};
+ghost use Rattle.cbm_bam.specs.Orders.{next_order};
 ghost use Rattle.cbm_relfile.specs.AddingSides.{IsEmptySide, IsEmptyBegun};
 ghost use Rattle.cbm_relfile.specs.Growing.{IsLengthenStopped};
 
@@ -45,6 +46,8 @@ pub fn begin_empty_side<M: Medium>(
         (λ o. MatchOption o (IsFull geometry (map_of old.content) × (new.content ≡ old.content))
         (λ t. IsEmptyBegun geometry old.content new.content head sides file.width t))
         (λ t. IsLengthenStopped geometry old new file.side t.code) }
+    ensures next { IfOk result (λ o. IfSome o (λ t. find (is_free_in (map_of (M.seen medium.old).content))
+        (next_order geometry file.side) ≡ Some t)) }
     ensures bound { IfOk result (λ o. IfSome o (λ t. t.track ≤ geometry)) }
     ensures protection { IfErr result (λ t. t.code ≡ 26 → (M.seen medium.old).protected ≡ true) }
     ensures only { OnlyContent result (M.seen medium.old) (M.seen medium.new) }

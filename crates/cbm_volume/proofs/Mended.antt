@@ -8,7 +8,7 @@ use Rattle.cbm_medium.specs.Content.{Cell, Content, IsWhole, written}
 use Rattle.cbm_medium.specs.Links.{or_nothing}
 use Rattle.cbm_medium.specs.Seen.{Seen, write_refusal, HasFailed}
 use Rattle.cbm_medium.specs.declared.fault.Trouble.{Trouble}
-use Rattle.cbm_medium.proofs.Places.{written_there}
+use Rattle.cbm_medium.proofs.Places.{written_there, written_elsewhere}
 use Rattle.cbm_file.specs.Files.{File, Disk, held_by, held_on, blocks_on}
 use Rattle.cbm_file.specs.Changes.{only_closed, validated}
 use Rattle.cbm_bam.specs.Map.{is_free_in, IsCounted, IsOutside, map_of, geometry_of, tally, number, at}
@@ -24,7 +24,7 @@ use Rattle.cbm_volume.specs.Writers.{Use, Idle, IsUsed, HoldsNow, known, Stopped
 use Rattle.cbm_volume.specs.Holding.{HoldsDisk}
 use Rattle.cbm_volume.specs.Unmendable.{IsUnmendable}
 use Rattle.cbm_volume.specs.Views.{view_of}
-use Rattle.cbm_volume.specs.Sweeps.{IsSweptAs, IsDirectory, IsSwept}
+use Rattle.cbm_volume.specs.Sweeps.{IsSweptAs, IsDirectory, IsSwept, IsPutInOrder, IsPartlyInOrder}
 use Rattle.cbm_volume.specs.check.WholeDisk.{ClaimsInto}
 use Rattle.cbm_volume.proofs.Claimed.{IsClaimedOnce}
 use Rattle.cbm_volume.proofs.ClaimedSound.{layout_of, IsLaidOut, laid_out}
@@ -40,7 +40,7 @@ use Rattle.cbm_volume.proofs.Sweeping.{MaySweep, Sweeps, swept_may, same_may, st
 use Rattle.cbm_volume.proofs.Hindered.{has_head}
 use Rattle.cbm_volume.proofs.Lengths.{directory_length}
 use Rattle.cbm_volume.proofs.Refusals.{write_hindered, hindered_since, by_protection}
-use Rattle.cbm_volume.proofs.Validates.{IsMended, IsLaid, IsWhollyAnew, SweptAll, laid_anew, settled_slot, held_slot, held_same, slots_as, view_sound, apart_from, not_directory, claimed_directory, claimed_reads}
+use Rattle.cbm_volume.proofs.Validates.{IsMended, IsLaid, IsWhollyAnew, SweptAll, laid_anew, settled_slot, held_slot, held_same, slots_as, view_sound, apart_from, not_directory, directory_was, claimed_directory, claimed_reads}
 
 -- ---- the disk that a mended content means
 
@@ -132,6 +132,28 @@ pub is_mended : (medium : ℕ) (c c1 c2 : Content) (old new : List ℕ) (used : 
 is_mended medium c c1 c2 old new used whole claims reads swept anew is =
     let once = checked_once (geometry_of medium c) (view_of (geometry_of medium c) c) claims.0 in
     mended_laid medium c c1 c2 old new once.0 whole reads swept (subst (λ (f : Place → Bool). IsWhollyAnew (geometry_of medium c) old new f) (sym (once.1 ∙ claims.1)) anew) is
+
+-- what is changed, on any content
+pub put_in_order : (medium : ℕ) (c c1 c2 : Content) (old new : List ℕ) (used : Place → Bool) → ((p : Place) → IsWhole (c p)) → ClaimsInto (geometry_of medium c) (view_of (geometry_of medium c) c) used → c directory_head ≡ Ok old
+    → SweptAll (geometry_of medium c) c c1 → IsWhollyAnew (geometry_of medium c) old new used → c2 ≡ written c1 directory_head new → IsPutInOrder (geometry_of medium c) c c2
+put_in_order medium c c1 c2 old new used whole claims reads swept anew is =
+    let tracks : ℕ = geometry_of medium c in
+    let v : Content = view_of tracks c in
+    let once = checked_once tracks v claims.0 in
+    let k : IsClaimedOnce tracks v = once.0 in
+    let laid : IsLaidOut tracks v k = laid_out tracks v k in
+    let l : Layout = layout_of k.directory k.files laid.owner in
+    let w : IsLaid tracks c c2 k laid.owner = laid_anew medium c c1 c2 old new k laid whole swept (subst (λ (f : Place → Bool). IsWhollyAnew tracks old new f) (sym (once.1 ∙ claims.1)) anew) is in
+    let was : IsDirectory tracks c k.directory = directory_was medium c k laid in
+    let all : IsSwept c c1 k.directory 144 = swept k.directory was in
+    record {
+      directory = k.directory;
+      was = was;
+      stays = (w.sound.directory, was.1);
+      slots = w.entries;
+      label = λ i o. ap (λ (x : List ℕ). slice_index x i) (ap or_nothing (ap (λ (x : Content). x directory_head) is ∙ written_there c1 directory_head new)) ∙ anew.recounted.outside i o ∙ sym (ap (λ (x : List ℕ). slice_index x i) (ap or_nothing reads));
+      elsewhere = λ p apart ne. ap (λ (x : Content). x p) is ∙ written_elsewhere c1 directory_head p new (λ e. ne (sym e)) ∙ all.elsewhere p apart;
+    }
 
 pub mended_sound : (medium : ℕ) (c c2 : Content) → IsMended medium c c2 → (e : Disk) × HoldsDisk medium c2 e × (e ≡ validated e)
 mended_sound medium c c2 m = (m.disk, record { layout = m.layout; stands = m.stands }, m.mended)
@@ -259,6 +281,23 @@ ends_mended medium c c1 c2 old new used (Err t) is whole claims reads swept anew
 pub ends_sound : (medium : ℕ) (c c2 : Content) (r : Result (Unit {0}) Trouble) → OnOk r (IsMended medium c c2) → OnOk r ((e : Disk) × HoldsDisk medium c2 e × (e ≡ validated e))
 ends_sound medium c c2 (Ok x) m = mended_sound medium c c2 m
 ends_sound medium c c2 (Err t) m = tt
+
+pub ends_in_order : (medium : ℕ) (c c1 c2 : Content) (old new : List ℕ) (used : Place → Bool) (r : Result (Unit {0}) Trouble) → OnOk r (c2 ≡ written c1 directory_head new) → ((p : Place) → IsWhole (c p))
+    → ClaimsInto (geometry_of medium c) (view_of (geometry_of medium c) c) used → c directory_head ≡ Ok old → SweptAll (geometry_of medium c) c c1 → IsWhollyAnew (geometry_of medium c) old new used → OnOk r (IsPutInOrder (geometry_of medium c) c c2)
+ends_in_order medium c c1 c2 old new used (Ok x) is whole claims reads swept anew = put_in_order medium c c1 c2 old new used whole claims reads swept anew is
+ends_in_order medium c c1 c2 old new used (Err t) is whole claims reads swept anew = tt
+
+-- all slots are swept, and the map is refused
+pub ends_partly : (medium : ℕ) (c c1 c2 : Content) (used : Place → Bool) (r : Result (Unit {0}) Trouble) → OnErr r (c2 ≡ c1) → ClaimsInto (geometry_of medium c) (view_of (geometry_of medium c) c) used → SweptAll (geometry_of medium c) c c1 → OnErr r (IsPartlyInOrder (geometry_of medium c) c c2)
+ends_partly medium c c1 c2 used (Ok x) same claims swept = tt
+ends_partly medium c c1 c2 used (Err t) same claims swept =
+    let d = claimed_directory medium c used claims in
+    inr (d.0, d.1, 144, subst (λ (x : Content). IsSwept c x d.0 144) (sym same) (swept d.0 d.1))
+
+-- a slot is refused
+pub stops_partly : (medium : ℕ) (c c2 : Content) (used : Place → Bool) → ClaimsInto (geometry_of medium c) (view_of (geometry_of medium c) c) used
+    → ((xs : List Place) → IsDirectory (geometry_of medium c) c xs → (k : ℕ) × IsSwept c c2 xs k) → IsPartlyInOrder (geometry_of medium c) c c2
+stops_partly medium c c2 used claims swept = let d = claimed_directory medium c used claims in let w = swept d.0 d.1 in inr (d.0, d.1, w.0, w.1)
 
 pub ends_validated : (medium : ℕ) (c c2 : Content) (r : Result (Unit {0}) Trouble) (d : Disk) (uses : ℕ → Use) → OnOk r (IsMended medium c c2) → HoldsNow medium c d uses → AreIdle uses → OnOk r (HoldsNow medium c2 (validated d) uses)
 ends_validated medium c c2 (Ok x) d uses m h idle = mended_holds medium c c2 d uses m h idle

@@ -124,20 +124,20 @@ flaw_there medium c g code u whole e says f = (
 )
 
 -- the directory of what is claimed is the disk's
-pub claimed_directory : (medium : ℕ) (c : Content) (used : Place → Bool) → ClaimsInto (geometry_of medium c) (view_of (geometry_of medium c) c) used → (xs : List Place) × IsDirectory (geometry_of medium c) c xs
-claimed_directory medium c used claims =
+pub directory_was : (medium : ℕ) (c : Content) (k : IsClaimedOnce (geometry_of medium c) (view_of (geometry_of medium c) c)) (laid : IsLaidOut (geometry_of medium c) (view_of (geometry_of medium c) c) k) → IsDirectory (geometry_of medium c) c k.directory
+directory_was medium c k laid =
     let tracks : ℕ = geometry_of medium c in
     let v : Content = view_of tracks c in
-    let k = (checked_once tracks v claims.0).0 in
-    let laid : IsLaidOut tracks v k = laid_out tracks v k in
     let l : Layout = layout_of k.directory k.files laid.owner in
     let s : Sound tracks v l = laid.sound in (
-      k.directory,
-      (
-        chain_links tracks v c laid.owner Directory (λ p e ok. (view_reads_too tracks c p ok, sym (view_links tracks c p (s.owned.on_18 p e) (directory_not_head tracks v l p s e)))) first_directory k.directory s.owned.directory s.directory,
-        directory_length tracks v l s,
-      ),
+      chain_links tracks v c laid.owner Directory (λ p e ok. (view_reads_too tracks c p ok, sym (view_links tracks c p (s.owned.on_18 p e) (directory_not_head tracks v l p s e)))) first_directory k.directory s.owned.directory s.directory,
+      directory_length tracks v l s,
     )
+
+pub claimed_directory : (medium : ℕ) (c : Content) (used : Place → Bool) → ClaimsInto (geometry_of medium c) (view_of (geometry_of medium c) c) used → (xs : List Place) × IsDirectory (geometry_of medium c) c xs
+claimed_directory medium c used claims =
+    let k = (checked_once (geometry_of medium c) (view_of (geometry_of medium c) c) claims.0).0 in
+    (k.directory, directory_was medium c k (laid_out (geometry_of medium c) (view_of (geometry_of medium c) c) k))
 
 pub claimed_reads : (medium : ℕ) (c : Content) (used : Place → Bool) → ClaimsInto (geometry_of medium c) (view_of (geometry_of medium c) c) used → IsOk (c directory_head)
 claimed_reads medium c used claims = view_reads_too (geometry_of medium c) c directory_head claims.0.map.reads
@@ -218,10 +218,10 @@ laid_anew medium c c1 c2 old new k laid whole swept anew is =
     let v : Content = view_of tracks c in
     let l : Layout = layout_of k.directory k.files laid.owner in
     let s : Sound tracks v l = laid.sound in
-    let chain : Chain tracks c first_directory k.directory =
-    chain_links tracks v c laid.owner Directory (λ p e ok. (view_reads_too tracks c p ok, sym (view_links tracks c p (s.owned.on_18 p e) (directory_not_head tracks v l p s e)))) first_directory k.directory s.owned.directory s.directory in
-    let few_sectors : length k.directory ≤ 18 = directory_length tracks v l s in
-    let w : IsSwept c c1 k.directory 144 = swept k.directory (chain, few_sectors) in
+    let was : IsDirectory tracks c k.directory = directory_was medium c k laid in
+    let chain : Chain tracks c first_directory k.directory = was.0 in
+    let few_sectors : length k.directory ≤ 18 = was.1 in
+    let w : IsSwept c c1 k.directory 144 = swept k.directory was in
     let there : (p : Place) → p ≢ directory_head → c2 p ≡ c1 p = λ p ne. ap (λ (x : Content). x p) is ∙ written_elsewhere c1 directory_head p new (λ e. ne (sym e)) in
     let head : c2 directory_head ≡ Ok new = ap (λ (x : Content). x directory_head) is ∙ written_there c1 directory_head new in
     let of_map : map_of c2 ≡ new = ap or_nothing head in

@@ -1,8 +1,9 @@
 -- Slots that were never closed become empty, one after another.
-use Rattle.std.specs.Prelude.{ℕ, ◌*◌, ◌%◌, ◌<◌, ◌≤◌, ◌⊎◌, ◌≡◌, List, true, false, length, IsOk}
-use Rattle.cbm_medium.specs.Place.{Place}
+use Rattle.std.specs.Prelude.{ℕ, ◌*◌, ◌%◌, ◌<◌, ◌≤◌, ◌⊎◌, ◌≡◌, ◌≢◌, List, true, false, length, slice_index, IsOk}
+use Rattle.cbm_medium.specs.Place.{Place, directory_head}
 use Rattle.cbm_medium.specs.Content.{Content}
 use Rattle.cbm_medium.specs.Links.{Chain, IsApart, bytes_at, link}
+use Rattle.cbm_bam.specs.Map.{IsOutside, map_of}
 use Rattle.cbm_directory.specs.Entries.{type_byte, is_closed, entry_at, sector_of, first_directory}
 use Rattle.cbm_directory.specs.EntryChanges.{Clears}
 use Rattle.cbm_volume.specs.Layouts.{IsWritable}
@@ -29,3 +30,17 @@ abbrev pub SlotSwept : Content → Content → List Place → ℕ → Type 0
 SlotSwept old new directory n =
     ((n < 8 * length directory → IsSweptAs (entry_at old directory n) (entry_at old directory n)) × (new ≡ old))
     ⊎ ((n < 8 * length directory) × (is_closed (entry_at old directory n) ≡ false) × Clears old new (sector_of directory n) (n % 8))
+
+-- WHAT VALIDATE CHANGES, on any disk: of the directory each slot that isn't closed becomes empty, and each closed entry stays, with the
+-- directory's links; of 18/0 the rows of the map alone; and no other sector.
+pub record IsPutInOrder (tracks : ℕ) (old new : Content) : Type 0 where
+  pub directory : List Place
+  pub was : IsDirectory tracks old directory
+  pub stays : IsDirectory tracks new directory
+  pub slots : (n : ℕ) → n < 8 * length directory → IsSweptAs (entry_at old directory n) (entry_at new directory n)
+  pub label : (i : ℕ) → IsOutside tracks i → slice_index (map_of new) i ≡ slice_index (map_of old) i
+  pub elsewhere : (p : Place) → IsApart p directory → p ≢ directory_head → new p ≡ old p
+
+-- What it has changed where a write was refused: nothing, or slots that weren't closed, up to some number.
+abbrev pub IsPartlyInOrder : ℕ → Content → Content → Type 0
+IsPartlyInOrder tracks old new = (new ≡ old) ⊎ ((directory : List Place) × IsDirectory tracks old directory × (k : ℕ) × IsSwept old new directory k)

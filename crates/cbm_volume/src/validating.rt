@@ -13,7 +13,7 @@ ghost use Rattle.cbm_volume.specs.Holding.{HoldsDisk};
 ghost use Rattle.cbm_volume.specs.Opens.{IsHindered};
 ghost use Rattle.cbm_volume.specs.Views.{view_of};
 ghost use Rattle.cbm_volume.specs.Unmendable.{code_at, flaw_code, IsUnmendable};
-ghost use Rattle.cbm_volume.specs.Sweeps.{IsDirectory, IsSwept, SlotSwept};
+ghost use Rattle.cbm_volume.specs.Sweeps.{IsDirectory, IsSwept, SlotSwept, IsPutInOrder, IsPartlyInOrder};
 ghost use Rattle.cbm_volume.specs.Writers.{Use, Idle, HoldsNow, Stopped};
 ghost use Rattle.cbm_volume.specs.check.WholeDisk.{ClaimsInto};
 
@@ -162,6 +162,11 @@ impl<M: Medium> Volume<M> {
         // On any content: the disk is sound, each of its files is closed, and each block is free or a file's.
         ensures sound { let old = M.seen self.old in OnOk result
             ((e : Disk) × HoldsDisk old.tracks (M.seen self.new).content e × (e ≡ validated e)) }
+        // On any content: closed entries, their files and the label stay.
+        ensures in_order { let old = M.seen self.old in OnOk result
+            (IsPutInOrder (geometry_of old.tracks old.content) old.content (M.seen self.new).content) }
+        ensures partly { let old = M.seen self.old in OnErr result
+            (IsPartlyInOrder (geometry_of old.tracks old.content) old.content (M.seen self.new).content) }
         ensures kept { (M.seen self.old).protected ≡ true →
             (M.seen self.new).content ≡ (M.seen self.old).content }
         ensures guarded { let old = M.seen self.old in (d : Disk) (uses : ℕ → Use) →

@@ -9,8 +9,8 @@ use Rattle.cbm_volume.specs.Sweeps.{IsDirectory, IsSwept}
 use Rattle.cbm_volume.specs.check.WholeDisk.{ClaimsInto}
 use Rattle.cbm_volume.proofs.Finishing.{on_err}
 use Rattle.cbm_volume.proofs.Hindered.{handed_on}
-use Rattle.cbm_volume.proofs.Validates.{SweptAll, IsMended}
-use Rattle.cbm_volume.proofs.Mended.{here, IsRefusal, flaw_told, map_read, slot_refused, map_refused, stopped_at, walk_hindered, wholly_anew, ends_mended, ends_sound, ends_validated, ends_stopped, ends_hindered}
+use Rattle.cbm_volume.proofs.Validates.{SweptAll, IsMended, IsWhollyAnew}
+use Rattle.cbm_volume.proofs.Mended.{here, IsRefusal, flaw_told, map_read, slot_refused, map_refused, stopped_at, walk_hindered, wholly_anew, ends_mended, ends_sound, ends_in_order, ends_partly, stops_partly, ends_validated, ends_stopped, ends_hindered}
 use Rattle.cbm_volume.proofs.volume.Volume.validate.Goals as goal
 use Rattle.cbm_volume.proofs.volume.Volume.validate.Given.{Over}
 use Rattle.std.specs.Prelude.{OnOk}
@@ -64,20 +64,41 @@ map_reads g c = ap (λ m. (g.M.Medium.seen m).content directory_head) (sym c.sel
 claimed : (g : Over) (c : goal.After-write_map g) → ClaimsInto (geometry_of (g.M.Medium.seen c.args.self.now).tracks (g.M.Medium.seen c.args.self.now).content) (view_of (geometry_of (g.M.Medium.seen c.args.self.now).tracks (g.M.Medium.seen c.args.self.now).content) (g.M.Medium.seen c.args.self.now).content) (is_marked c.in_ok-used.used)
 claimed g c = subst (λ (s : Seen). ClaimsInto (geometry_of s.tracks s.content) (view_of (geometry_of s.tracks s.content) s.content) (is_marked c.in_ok-used.used)) (ap g.M.Medium.seen c.self.view_is) c.in_ok-used.ensures.ok
 
+anew_wholly : (g : Over) (c : goal.After-write_map g) → IsWhollyAnew (geometry_of (g.M.Medium.seen c.args.self.now).tracks (g.M.Medium.seen c.args.self.now).content) c.in_ok-map.map c.anew.result (is_marked c.in_ok-used.used)
+anew_wholly g c =
+    let old : Seen = g.M.Medium.seen c.args.self.now in
+    wholly_anew (geometry_of old.tracks old.content) c.geometry-geometry.result old.content c.in_ok-map.map c.anew.result (is_marked c.in_ok-used.used) c.geometry-geometry.ensures.value c.geometry-geometry.ensures.whole (map_reads g c)
+    c.anew.ensures.free c.anew.ensures.counted c.anew.ensures.outside c.anew.ensures.length
+
 mended : (g : Over) (c : goal.After-write_map g) → OnOk c.write_map.result (IsMended (g.M.Medium.seen c.args.self.now).tracks (g.M.Medium.seen c.args.self.now).content (g.M.Medium.seen c.write_map.new.medium).content)
 mended g c =
     let old : Seen = g.M.Medium.seen c.args.self.now in
     ends_mended old.tracks old.content (g.M.Medium.seen c.sweep.new.medium).content (g.M.Medium.seen c.write_map.new.medium).content c.in_ok-map.map c.anew.result (is_marked c.in_ok-used.used) c.write_map.result c.write_map.ensures.ok
-    c.geometry-geometry.ensures.whole
-    (claimed g c) (map_reads g c) (all_swept g c)
-    (wholly_anew (geometry_of old.tracks old.content) c.geometry-geometry.result old.content c.in_ok-map.map c.anew.result (is_marked c.in_ok-used.used) c.geometry-geometry.ensures.value c.geometry-geometry.ensures.whole (map_reads g c)
-    c.anew.ensures.free c.anew.ensures.counted c.anew.ensures.outside c.anew.ensures.length)
+    c.geometry-geometry.ensures.whole (claimed g c) (map_reads g c) (all_swept g c) (anew_wholly g c)
 
 pub returns-clause-validated : goal.returns-clause-validated
 returns-clause-validated g c = λ d uses h idle. ends_validated (g.M.Medium.seen c.args.self.now).tracks (g.M.Medium.seen c.args.self.now).content (g.M.Medium.seen c.write_map.new.medium).content c.write_map.result d uses (mended g c) h idle
 
 pub returns-clause-sound : goal.returns-clause-sound
 returns-clause-sound g c = ends_sound (g.M.Medium.seen c.args.self.now).tracks (g.M.Medium.seen c.args.self.now).content (g.M.Medium.seen c.write_map.new.medium).content c.write_map.result (mended g c)
+
+pub returns-clause-in_order : goal.returns-clause-in_order
+returns-clause-in_order g c =
+    let old : Seen = g.M.Medium.seen c.args.self.now in
+    ends_in_order old.tracks old.content (g.M.Medium.seen c.sweep.new.medium).content (g.M.Medium.seen c.write_map.new.medium).content c.in_ok-map.map c.anew.result (is_marked c.in_ok-used.used) c.write_map.result c.write_map.ensures.ok
+    c.geometry-geometry.ensures.whole (claimed g c) (map_reads g c) (all_swept g c) (anew_wholly g c)
+
+pub returns-clause-partly : goal.returns-clause-partly
+returns-clause-partly g c = ends_partly (g.M.Medium.seen c.args.self.now).tracks (g.M.Medium.seen c.args.self.now).content (g.M.Medium.seen c.sweep.new.medium).content (g.M.Medium.seen c.write_map.new.medium).content
+    (is_marked c.in_ok-used.used) c.write_map.result c.write_map.ensures.err (claimed g c) (all_swept g c)
+
+pub returns-in_err-sweep-clause-partly : goal.returns-in_err-sweep-clause-partly
+returns-in_err-sweep-clause-partly g c =
+    let old : Seen = g.M.Medium.seen c.args.self.now in
+    let new : Seen = g.M.Medium.seen c.sweep.new.medium in
+    on_err c.from_residual-in_err-sweep.result (stops_partly old.tracks old.content new.content (is_marked c.in_ok-used.used)
+    (subst (λ (s : Seen). ClaimsInto (geometry_of s.tracks s.content) (view_of (geometry_of s.tracks s.content) s.content) (is_marked c.in_ok-used.used)) (ap g.M.Medium.seen c.self.view_is) c.in_ok-used.ensures.ok)
+    (here (λ m s. (xs : List Place) → IsDirectory m s.content xs → (k : ℕ) × IsSwept s.content new.content xs k) (g.M.Medium.seen c.self.inside.medium) old c.geometry-geometry.result (ap g.M.Medium.seen c.self.view_is) c.geometry-geometry.ensures.value c.in_err-sweep.ensures.stopped))
 
 pub returns-clause-stopped : goal.returns-clause-stopped
 returns-clause-stopped g c = λ d uses h idle. ends_stopped (g.M.Medium.seen c.args.self.now).tracks (g.M.Medium.seen c.args.self.now).content (g.M.Medium.seen c.sweep.new.medium).content (g.M.Medium.seen c.write_map.new.medium).content
