@@ -6,6 +6,7 @@ pub mod Uses
 pub mod Changed
 pub mod Troubles
 pub mod Refused
+pub mod Ordered
 pub mod Scratches
 pub mod Commanding
 pub mod Copies

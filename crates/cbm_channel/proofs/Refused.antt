@@ -13,7 +13,7 @@ use Rattle.cbm_channel.specs.declared.plan.Plan.{Plan}
 use Rattle.cbm_channel.specs.Grounds.{is_refusal}
 use Rattle.cbm_channel.specs.Planned.{plan_writes}
 
-either_way : (P : Code → Type 0) (b : Bool) (x y : Code) → P x → P y → P (if b then x else y)
+pub either_way : (P : Code → Type 0) (b : Bool) (x y : Code) → P x → P y → P (if b then x else y)
 either_way P true x y p q = p
 either_way P false x y p q = q
 

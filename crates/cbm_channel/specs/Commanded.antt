@@ -19,6 +19,7 @@ use Rattle.cbm_machine.specs.Finding.{is_there, found}
 use Rattle.cbm_machine.specs.Running.{may_go, rename, scratch}
 use Rattle.cbm_machine.specs.Calls.{without_return}
 use Rattle.cbm_channel.specs.declared.channel.Channel.{Channel}
+use Rattle.cbm_channel.specs.Standing.{SameBut}
 use Rattle.cbm_channel.specs.Shown.{uses_on}
 
 -- a command came from a text
@@ -68,6 +69,59 @@ open_formats ch text = (ch == 15) && text_formats text
 abbrev pub end_formats : ℕ → Option (ℕ × List ℕ) → Bool
 end_formats ch None = false
 end_formats ch (Some t) = (ch == 15) && ((t.0 == 15) && text_formats t.1)
+
+-- ---- P
+
+-- the channel whose place a command sets
+abbrev pub moved_by : Command → Option ℕ
+moved_by (New name id) = None
+moved_by (Scratch patterns) = None
+moved_by (Rename new old) = None
+moved_by (Copy new olds) = None
+moved_by Validate = None
+moved_by Initialize = None
+moved_by (Position ch k p) = Some ch
+
+-- the same of a command's text
+abbrev pub text_moves : List ℕ → Option ℕ
+text_moves text = elim (command_of (without_return text)) [ Ok command ↦ moved_by command | Err e ↦ None ]
+
+-- the text that is gathered for a channel, when it is ended: a command's, or bytes for the channel's own records
+abbrev pub end_moves : ℕ → Option (ℕ × List ℕ) → Option ℕ
+end_moves ch None = None
+end_moves ch (Some t) = if ch == 15 then (if t.0 == 15 then text_moves t.1 else None) else Some ch
+
+-- all channels but this one, if there is one, are as they were
+abbrev pub AreSameBut : Option ℕ → List Channel → List Channel → Type 0
+AreSameBut None old new = new ≡ old
+AreSameBut (Some ch) old new = SameBut ch old new
+
+-- ---- V
+
+-- it is VALIDATE
+abbrev pub validates : Command → Bool
+validates (New name id) = false
+validates (Scratch patterns) = false
+validates (Rename new old) = false
+validates (Copy new olds) = false
+validates Validate = true
+validates Initialize = false
+validates (Position ch k p) = false
+
+-- the text of a command is
+abbrev pub text_validates : List ℕ → Bool
+text_validates text = elim (command_of (without_return text)) [ Ok command ↦ validates command | Err e ↦ false ]
+
+-- the text of an OPEN is
+abbrev pub open_validates : ℕ → List ℕ → Bool
+open_validates ch text = (ch == 15) && text_validates text
+
+-- the text that is gathered for channel 15 is
+abbrev pub end_validates : ℕ → Option (ℕ × List ℕ) → Bool
+end_validates ch None = false
+end_validates ch (Some t) = (ch == 15) && ((t.0 == 15) && text_validates t.1)
+
+-- ---- N
 
 -- if it is NEW, the medium doesn't fail in it
 abbrev pub FormatsUnfailing : Bool → Type 0 → Type 0

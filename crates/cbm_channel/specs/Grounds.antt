@@ -1,5 +1,5 @@
 -- Where a status comes from, on any disk.
-use Rattle.std.specs.Prelude.{ℕ, ◌≡◌, ◌⊎◌, ◌&&◌, ◌||◌, ◌==◌, nat_lt, Bool, true, false, List, Some, Err}
+use Rattle.std.specs.Prelude.{ℕ, ◌≡◌, ◌≢◌, ◌⊎◌, ◌&&◌, ◌||◌, ◌==◌, nat_lt, Bool, true, false, List, Some, Err}
 use Rattle.std.specs.List.{Contains}
 use Rattle.cbm_medium.specs.Place.{sector_count}
 use Rattle.cbm_medium.specs.Links.{follow}
@@ -8,6 +8,7 @@ use Rattle.cbm_medium.specs.Seen.{Seen, HasFailed}
 use Rattle.cbm_medium.specs.Met.{IsMet}
 use Rattle.cbm_volume.specs.Content.{Content}
 use Rattle.cbm_volume.specs.RecordFaults.{IsMislisted}
+use Rattle.cbm_volume.specs.Sweeps.{IsPutInOrder, IsPartlyInOrder}
 use Rattle.cbm_volume.specs.Map.{geometry_of}
 use Rattle.cbm_volume.specs.Entries.{first_block}
 use Rattle.cbm_volume.specs.Slots.{directory_of}
@@ -103,3 +104,9 @@ is_refusal DriveNotReady = true
 -- WHAT IS REFUSED LEAVES THE DISK: where such a code is told, each sector holds what it held.
 abbrev pub KeepsIfRefused : {M : Type 0} → (M → Seen) → Kept M → Kept M → Type 0
 KeepsIfRefused seen old new = is_refusal new.told.status.code ≡ true → (seen new.medium).content ≡ (seen old.medium).content
+
+-- WHAT V CHANGES, on any disk: where it says 00, what puts the disk in order; else nothing, or slots that weren't closed.
+abbrev pub OrdersDisk : {M : Type 0} → (M → Seen) → Kept M → Kept M → Type 0
+OrdersDisk seen old new =
+    ((new.told.status.code ≡ Fine) × IsPutInOrder (geometry_of (seen old.medium).tracks (seen old.medium).content) (seen old.medium).content (seen new.medium).content)
+    ⊎ ((new.told.status.code ≢ Fine) × IsPartlyInOrder (geometry_of (seen old.medium).tracks (seen old.medium).content) (seen old.medium).content (seen new.medium).content)

@@ -38,6 +38,14 @@ module _ (M : Type 0) (step : M → Act → M) (says : M → Option (ℕ × Bool
     goes : {e e2 : Engined} {es2 : List Event} {bytes2 : List ℕ} {last2 : Bool} (e1 found : Engined) (x : Event) (es : List Event) (bytes : List ℕ) (last : Bool) → Runs e es bytes last e1 → GoesOnFrom M step says 0 ss es e1 found → IsDue x.who x.change found
         → e2 ≡ engine_behind x.who x.change found → es2 ≡ es ++ x ∷ [] → bytes2 ≡ bytes ++ taken_with (byte_with x.who found) → last2 ≡ last_with (byte_with x.who found) last → Runs e es2 bytes2 last2 e2
 
+module _ (M : Type 0) (step : M → Act → M) (says : M → Option (ℕ × Bool)) where
+  -- THE HOST KEPT THE REQUEST'S MOMENTS: these events were added, and the request runs along them, each change of the host when it was due.
+  pub record HasRun (e : Engined) (old new : List Event) (bytes : List ℕ) (last : Bool) (ss : List (Station M)) : Type 0 where
+    pub made : List Event
+    pub added : new ≡ old ++ made
+    pub behind : Engined
+    pub runs : Runs M step says ss e made bytes last behind
+
 module _ (D M : Type 0) (stands : D → M → Type 0) (step : M → Act → M) (says : M → Option (ℕ × Bool)) where
   -- A REQUEST IS UNDER WAY up to a limit: events were added, a play of the bus, and the request runs along it.
   pub record IsPerforming (e : Engined) (limit : ℕ) (p : Performing) (b : Cabled D) (old new : List Event) (bytes : List ℕ) (last : Bool) (ss : List (Station M)) : Type 0 where

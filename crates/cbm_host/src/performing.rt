@@ -7,13 +7,13 @@ ghost use Rattle.cbm_session.specs.Seats.{at_pace};
 ghost use Rattle.cbm_session.specs.Sessions.{IsDrive};
 ghost use Rattle.cbm_drive.specs.Seats.{IsBusAt};
 ghost use Rattle.cbm_drive.specs.declared.fault.PlayFault.TheVariants.{Memory};
-ghost use Rattle.cbm_host.specs.Engines.{Engined, channel_of};
+ghost use Rattle.cbm_host.specs.Engines.{Engined, channel_of, engine_at};
 ghost use Rattle.cbm_host.specs.CarriedOut.{IsShort, HasCarriedOut};
 ghost use Rattle.cbm_iec.specs.declared.pace.Pace.TheVariants.{Profile};
 ghost use Rattle.cbm_iec.specs.declared.party.Party.{Party};
 ghost use Rattle.cbm_host.specs.Progress.{left_of};
 ghost use Rattle.cbm_host.specs.Requests.{longest};
-ghost use Rattle.cbm_host.specs.Performed.{IsPerforming, IsCutShort, HasAddedUpTo, HasPerformed};
+ghost use Rattle.cbm_host.specs.Performed.{IsPerforming, IsCutShort, HasAddedUpTo, HasPerformed, HasRun};
 ghost use Rattle.cbm_drive.specs.Playback.{Shown, Playback};
 ghost use Rattle.cbm_host.specs.Recorded.{IsPerformingBack, HasPerformedBack, IsCutShortBack};
 ghost use Rattle.cbm_host.specs.AnyDisk.{IsAtRest, IsCarriedOutAnyway, IsCutShortAnyway};
@@ -44,6 +44,10 @@ pub fn perform<D: Machine, const N: usize>(
         IsBusAt _ D.State D.stands bus.old.host bus.old.drives (at_rest D.State D.step D.says ms (b ∷ [])) →
         IfOk result (λ done. HasCarriedOut _ D.State D.stands D.step D.says b ms start request.entry bus.new
         events.old.items events.new.items done.bytes.items done.last done.end) }
+    // Each change of the host came at the moment that the request's stages say.
+    ensures moments { (ss : List (Station D.State)) → IsBusAt _ D.State D.stands bus.old.host bus.old.drives ss →
+        IfOk result (λ done. HasRun D.State D.step D.says (engine_at start device request.entry) events.old.items
+        events.new.items done.bytes.items done.last ss) }
     // On any disk a machine plays back what the drive showed, and for that machine the request was carried out.
     ensures recorded { (v : Party) → let b = at_pace Profile v in IsDrive b → b.device ≡ device → IsAtRest D.shows b bus.old →
         MatchResult result
@@ -80,6 +84,10 @@ pub fn perform_at<D: Machine, const N: usize>(
         IsBusAt _ D.State D.stands bus.old.host bus.old.drives (at_rest D.State D.step D.says ms (b ∷ [])) →
         IfOk result (λ done. HasCarriedOut _ D.State D.stands D.step D.says b ms start request.entry bus.new
         events.old.items events.new.items done.bytes.items done.last done.end) }
+    // Each change of the host came at the moment that the request's stages say.
+    ensures moments { (ss : List (Station D.State)) → IsBusAt _ D.State D.stands bus.old.host bus.old.drives ss →
+        IfOk result (λ done. HasRun D.State D.step D.says (engine_at start device request.entry) events.old.items
+        events.new.items done.bytes.items done.last ss) }
     // On any disk a machine plays back what the drive showed, and for that machine the request was carried out.
     ensures recorded { (b : Party) → IsDrive b → b.device ≡ device → b.pace ≡ pace → IsAtRest D.shows b bus.old →
         MatchResult result

@@ -21,4 +21,5 @@ pub mod TimedLines
 pub mod TraceLemmas
 pub mod StartLemmas
 pub mod GcrImages
+pub mod ImageSizes
 pub mod ReadingBack

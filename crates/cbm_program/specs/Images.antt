@@ -58,8 +58,9 @@ KeptBy seen m = HoldsDisk seen.tracks seen.content m.disk
 abbrev pub Begins : List ℕ → Bool → Machine → Type 0
 Begins image protected m = StartsOn (tracks_of (kind_of image) image) (content_of (kind_of image) image) protected m
 
--- a medium of so many tracks and of this content is what an image is
+-- a medium of so many tracks and of this content is what an image is, which has no fault
 pub record IsOf (kind : Kind) (image : List ℕ) (tracks : ℕ) (content : Content) : Type 0 where
+  pub faultless : image_fault kind image ≡ None
   pub same_tracks : tracks_of kind image ≡ tracks
   pub same_content : content_of kind image ≡ content
 

@@ -1,5 +1,5 @@
 -- What a run of a script on an image promises.
-use Rattle.std.specs.Prelude.{ℕ, ◌≡◌, List, Bool, true, Option, Some, Result, Err, IfSome, IfOk, OnErr}
+use Rattle.std.specs.Prelude.{ℕ, ◌≡◌, List, Bool, true, Option, Some, None, Result, Err, IfSome, IfOk, OnErr}
 use Rattle.std.specs.Io.KnownBytes.{Keeps}
 use Rattle.cbm_host.specs.Hosted.{party_of}
 use Rattle.cbm_iec.specs.declared.pace.Pace.{Pace}
@@ -40,6 +40,8 @@ pub record IsOutcome {A : Type 0} (result : Result A RunFault) (items : A → Li
   pub grows : Grows old new
   -- Whatever the script writes, and on any image: the one that is given back has as many tracks.
   pub same_tracks : IfOk result (λ saved. tracks_of (kind_of image) (items saved) ≡ tracks_of (kind_of image) image)
+  -- It has no fault of its format: it opens again.
+  pub opens : IfOk result (λ saved. image_fault (kind_of image) (items saved) ≡ None)
   -- The image is refused by its own fault, before anything is read or written,
   pub refused : IfSome (image_fault (kind_of image) image) (λ n. (result ≡ Err (Image n)) × Keeps old new)
   -- and by no other.

@@ -18,11 +18,11 @@ impl<M: Medium> Dos<M> {
     ghost use Rattle.cbm_machine.specs.Machines.{Machine, say};
     ghost use Rattle.cbm_machine.specs.Plans as plans;
     ghost use Rattle.cbm_channel.specs.declared.channel.Channel.TheVariants.{Closed};
-    ghost use Rattle.cbm_channel.specs.Grounds.{ShowsTrouble, HasTold, IsToldFor, IsFromDirectory, KeepsIfRefused};
+    ghost use Rattle.cbm_channel.specs.Grounds.{ShowsTrouble, HasTold, IsToldFor, IsFromDirectory, KeepsIfRefused, OrdersDisk};
     ghost use Rattle.cbm_channel.specs.Standing.{Stands, SameBut, HaveSameFiles, Fits, uses_of};
     ghost use Rattle.cbm_channel.specs.Going.{GoesFrom, WentFrom, opening_parts, KeepsMedium};
     ghost use Rattle.cbm_channel.specs.Shown.{is_writing_on};
-    ghost use Rattle.cbm_channel.specs.Commanded.{FormatsUnfailing, open_formats};
+    ghost use Rattle.cbm_channel.specs.Commanded.{FormatsUnfailing, open_formats, open_validates, text_moves, AreSameBut};
     ghost use Rattle.cbm_channel.specs.Planned.{PlannedAs, IsOfText, IsOpened, IsSized, is_for_writing, text_writes, plan_writes, disk_opened, begun_by};
 
     /// OPEN: on channel 15 the text is a command, on the others it names a file or asks for the listing. A channel that
@@ -36,6 +36,7 @@ impl<M: Medium> Dos<M> {
         // On any disk:
         ensures others { channel < 15 → SameBut channel self.old.channels self.new.channels }
         ensures channels { channel ≡ 15 → HaveSameFiles self.old.channels self.new.channels }
+        ensures places { channel ≡ 15 → AreSameBut (text_moves text.now) self.old.channels self.new.channels }
         ensures refused { channel < 15 → (self.new.told.status.code ≡ Fine) ⊎
             (slice_index_or self.new.channels channel Closed ≡ Closed) }
         // What isn't for writing, on a channel that isn't written, leaves the medium as it is.
@@ -44,6 +45,8 @@ impl<M: Medium> Dos<M> {
             IsToldFor M.seen self.old self.new × (self.new.medium ≡ self.old.medium) }
         // What is refused, on a channel that isn't written, has changed nothing of the disk.
         ensures spared { is_writing_on channel self.old ≡ false → KeepsIfRefused M.seen self.old self.new }
+        // V leaves closed files as they are.
+        ensures ordered { open_validates channel text.now ≡ true → OrdersDisk M.seen self.old self.new }
         ensures medium { KeepsMedium (M.seen self.old.medium) (M.seen self.new.medium) }
     {
         if channel == 15 {

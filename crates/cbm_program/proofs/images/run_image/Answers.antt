@@ -23,6 +23,7 @@ returns-in_err-disk g c = record {
   checked = (search rules);
   grows = (search rules);
   same_tracks = (search rules);
+  opens = (search rules);
   refused = (search rules);
   cause = (search rules);
 }
@@ -48,6 +49,7 @@ returns-in_err-disk-2 g c =
           (λ bad. checked-as g.I.DiskImage.kind (kind_of c.args.image.now) c.args.image.now (g.I.Medium.seen disk).tracks (g.I.Medium.seen disk).content _ _ c.requires.kind c.in_ok-disk.ensures.ok.0);
       grows = (search rules);
       same_tracks = (search rules);
+      opens = (search rules);
       refused = (search rules);
       cause = (search rules);
     }
@@ -82,6 +84,7 @@ returns g c =
       grows = (search rules);
       same_tracks = IfOk-weaker c.save.result _ _ (λ saved is. tracks-as g.I.DiskImage.kind (kind_of c.args.image.now) c.args.image.now saved.items
           (g.I.Medium.seen disk).tracks (g.I.Medium.seen after).tracks (g.I.Medium.seen disk).content (g.I.Medium.seen after).content c.requires.kind first.0 c.in_ok-disk-2.ensures.same_tracks is) c.save.ensures.ok;
+      opens = IfOk-weaker c.save.result _ _ (λ saved is. rw c.requires.kind is.faultless) c.save.ensures.ok;
       refused = (search rules);
       cause = (search rules);
     }

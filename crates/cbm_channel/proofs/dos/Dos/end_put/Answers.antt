@@ -1,15 +1,16 @@
-use Rattle.std.proofs.Common.{◌≡◌, ◌≤◌, ℕ, List, length, take, sym, ap, subst, ◌∙◌, arith, inl}
-use Rattle.std.specs.Prelude.{◌==◌, ◌&&◌, true, false}
+use Rattle.std.proofs.Common.{◌≡◌, ◌≢◌, ◌≤◌, ℕ, List, length, take, sym, ap, subst, ◌∙◌, arith, inl}
+use Rattle.std.specs.Prelude.{◌==◌, ◌&&◌, true, false, IfSome, MatchOption}
 use Rattle.std.proofs.lemmas.Bool.{eq-eqb}
 use Rattle.cbm_medium.specs.Seen.{HasFailed}
 use Rattle.cbm_machine.specs.Calls.{end_put}
 use Rattle.cbm_machine.specs.Closing.{without_text}
 use Rattle.cbm_machine.specs.Calls.{text_for, command}
-use Rattle.cbm_channel.specs.Commanded.{commands_change, ends_command, text_formats, end_formats}
+use Rattle.cbm_channel.specs.Commanded.{commands_change, ends_command, text_formats, end_formats, text_validates, end_validates}
 use Rattle.cbm_channel.specs.Going.{Passes}
 use Rattle.cbm_channel.proofs.Asked.{below_15, store_command, store_records}
 use Rattle.cbm_channel.proofs.Goings.{record_ends, text_passes}
 use Rattle.cbm_channel.proofs.Texts.{some_kept, command_kept}
+use Rattle.cbm_channel.proofs.Ordered.{OrdersFor, ended_15, not_ended}
 use Rattle.cbm_channel.proofs.Troubles.{told_for}
 use Rattle.cbm_channel.proofs.dos.Dos.end_put.Goals as goal
 
@@ -62,3 +63,20 @@ returns-else-channel-eq15-clause-goes g c = λ m s unfailed.
 
 pub returns-then-channel-eq15-clause-spared : goal.returns-then-channel-eq15-clause-spared
 returns-then-channel-eq15-clause-spared g c = λ none_open is. c.command.ensures.spared is ∙ ap (λ v. (g.M.Medium.seen v).content) c.in-Some.ensures.medium
+
+-- ---- what V changes
+
+pub returns-then-channel-eq15-clause-ordered : goal.returns-then-channel-eq15-clause-ordered
+returns-then-channel-eq15-clause-ordered g c = λ v.
+    let fifteen : (c.args.channel == 15) ≡ true = eq-eqb c.args.channel 15 c.if-channel-eq15.true in
+    let number : (c.in-Some.text.0 == 15) ≡ true = eq-eqb c.in-Some.text.0 15 (c.in-Some.ensures.taken.1 ∙ c.if-channel-eq15.true) in
+    let is : text_validates c.in-Some.text.1 ≡ true =
+    sym (λ i. fifteen i && (number i && text_validates c.in-Some.text.1)) ∙ sym (ap (end_validates c.args.channel) c.in-Some.ensures.taken.0) ∙ v in
+    subst (λ k. OrdersFor g.M.Medium.seen k c.command.new.self.medium c.command.new.self.told) c.in-Some.ensures.medium (c.command.ensures.ordered (ap text_validates c.bytes.ensures ∙ is))
+
+pub returns-else-channel-eq15-clause-ordered : goal.returns-else-channel-eq15-clause-ordered
+returns-else-channel-eq15-clause-ordered g c = λ v. absurd (omega (arith, ended_15 c.args.channel c.args.self.now.text v, c.if-channel-eq15.false))
+
+pub returns-in_default-clause-ordered : goal.returns-in_default-clause-ordered
+returns-in_default-clause-ordered g c = λ v.
+    absurd (not_ended c.args.channel c.args.self.now.text (subst (λ o. MatchOption o (IfSome c.args.self.now.text (λ t. t.0 ≢ c.args.channel)) (λ t. Unit {0})) c.in_default.is c.take_text.ensures.none) v)

@@ -1,4 +1,4 @@
-use Rattle.std.proofs.Common.{◌≡◌, ℕ, false, sym, ap, subst, ◌∙◌, inl, inr, refl}
+use Rattle.std.proofs.Common.{◌≡◌, ℕ, false, sym, ap, subst, ◌∙◌, inl, inr, refl, rules}
 use Rattle.cbm_medium.specs.Seen.{HasFailed}
 use Rattle.cbm_file.specs.Changes.{validated}
 use Rattle.cbm_volume.specs.Writers.{Idle}
@@ -11,6 +11,7 @@ use Rattle.cbm_channel.proofs.Stands.{stood}
 use Rattle.cbm_channel.proofs.Stores.{renamed}
 use Rattle.cbm_channel.proofs.Orders.{not_so}
 use Rattle.cbm_channel.proofs.Refused.{not_refused, refused_26}
+use Rattle.cbm_channel.proofs.Ordered.{trouble_not_fine, fine_ordered, refused_ordered}
 use Rattle.cbm_channel.proofs.dos.Dos.validate.Goals as goal
 
 -- a channel is open
@@ -71,3 +72,20 @@ returns-in-Err-clause-spared g c = λ is.
     ap (λ v. (g.M.Medium.seen v).content) c.set.ensures.medium
     ∙ (c.in-Err.ensures.kept (c.in-Err.ensures.protection (refused_26 c.in-Err.trouble c.from.result _ c.from.ensures c.set.ensures.told is))
     ∙ ap (λ k. (g.M.Medium.seen k.medium).content) c.self.view_is)
+
+-- ---- what is changed
+
+pub returns-then-is_any_open-clause-ordered : goal.returns-then-is_any_open-clause-ordered
+returns-then-is_any_open-clause-ordered g c =
+    let now = g.M.Medium.seen c.args.self.now.medium in
+    refused_ordered g.M.Medium.seen c.args.self.now.medium _ _ now now _ (λ e. absurd cc) refl (search rules) c.say.ensures.told (inl refl)
+
+pub returns-in-Ok-clause-ordered : goal.returns-in-Ok-clause-ordered
+returns-in-Ok-clause-ordered g c =
+    fine_ordered g.M.Medium.seen c.args.self.now.medium _ _ (g.M.Medium.seen c.self.inside.volume) (g.M.Medium.seen c.validate.new.self) (ap (λ k. g.M.Medium.seen k.medium) c.self.view_is) (ap g.M.Medium.seen c.say-in-Ok.ensures.medium)
+    c.say-in-Ok.ensures.told c.in-Ok.ensures.in_order
+
+pub returns-in-Err-clause-ordered : goal.returns-in-Err-clause-ordered
+returns-in-Err-clause-ordered g c =
+    refused_ordered g.M.Medium.seen c.args.self.now.medium _ _ (g.M.Medium.seen c.self.inside.volume) (g.M.Medium.seen c.validate.new.self) _ (trouble_not_fine c.in-Err.trouble c.from.result c.from.ensures) (ap (λ k. g.M.Medium.seen k.medium) c.self.view_is)
+    (ap g.M.Medium.seen c.set.ensures.medium) c.set.ensures.told c.in-Err.ensures.partly
