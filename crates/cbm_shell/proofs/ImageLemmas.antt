@@ -1,5 +1,5 @@
 -- From the bytes of an image to its disk, and back.
-use Rattle.std.proofs.Common.{◌≡◌, ℕ, List, false, sym, ap, subst, ◌∙◌}
+use Rattle.std.proofs.Common.{◌≡◌, ◌⊎◌, ℕ, List, None, false, sym, ap, subst, ◌∙◌, inr}
 use Rattle.std.specs.Prelude.{Result, Ok, Err, MatchResult, IfErr, IfOk, OnOk}
 use Rattle.cbm_medium.specs.Content.{Content}
 use Rattle.cbm_medium.specs.Seen.{Seen}
@@ -12,7 +12,7 @@ use Rattle.cbm_volume.specs.Holding.{HoldsDisk}
 use Rattle.cbm_volume.specs.declared.Unsound.{Unsound}
 use Rattle.cbm_channel.specs.Machines.{start}
 use Rattle.cbm_program.specs.declared.kind.Kind.{Kind}
-use Rattle.cbm_program.specs.Images.{kind_of, tracks_of, content_of, ImageHolds}
+use Rattle.cbm_program.specs.Images.{kind_of, image_fault, tracks_of, content_of, ImageHolds}
 use Rattle.cbm_shell.specs.declared.fault.ShellFault.{ShellFault}
 use Rattle.cbm_shell.specs.declared.fault.ShellFault.TheVariants as fault
 use Rattle.cbm_shell.specs.Images.{IsOpened, IsSaved, IsOpenFault, OrOpenFault, IsChecked, IsInOrder}
@@ -34,9 +34,9 @@ saved_holds kind other image seen d same s h =
     (subst (λ c. HoldsDisk (tracks_of kind image) c d) s.same_content (subst (λ n. HoldsDisk n seen.content d) s.same_tracks h))
 
 -- a fault of opening, or another one
-pub as_open_fault : (image : List ℕ) (P : ShellFault → Type 0) (f : ShellFault) → IsOpenFault image f → OrOpenFault P f
+pub as_open_fault : (image : List ℕ) (P : ShellFault → Type 0) (f : ShellFault) → IsOpenFault image f → OrOpenFault image P f
 as_open_fault image P fault.Memory h = tt
-as_open_fault image P (fault.Image n) h = tt
+as_open_fault image P (fault.Image n) h = h
 as_open_fault image P (fault.Unsound u) h = absurd h
 as_open_fault image P (fault.Refused s) h = absurd h
 as_open_fault image P (fault.Trouble t) h = absurd h
@@ -44,27 +44,27 @@ as_open_fault image P fault.NotFound h = absurd h
 as_open_fault image P fault.NotClosed h = absurd h
 as_open_fault image P fault.Mistaken h = absurd h
 
-pub as_other_fault : (P : ShellFault → Type 0) (f : ShellFault) → P f → OrOpenFault P f
-as_other_fault P fault.Memory h = tt
-as_other_fault P (fault.Image n) h = tt
-as_other_fault P (fault.Unsound u) h = h
-as_other_fault P (fault.Refused s) h = h
-as_other_fault P (fault.Trouble t) h = h
-as_other_fault P fault.NotFound h = h
-as_other_fault P fault.NotClosed h = h
-as_other_fault P fault.Mistaken h = h
+pub as_other_fault : (image : List ℕ) (P : ShellFault → Type 0) (f : ShellFault) → ((n : ℕ) → P (fault.Image n) → ⊥) → P f → OrOpenFault image P f
+as_other_fault image P fault.Memory never h = tt
+as_other_fault image P (fault.Image n) never h = absurd (never n h)
+as_other_fault image P (fault.Unsound u) never h = h
+as_other_fault image P (fault.Refused s) never h = h
+as_other_fault image P (fault.Trouble t) never h = h
+as_other_fault image P fault.NotFound never h = h
+as_other_fault image P fault.NotClosed never h = h
+as_other_fault image P fault.Mistaken never h = h
 
 -- a result whose fault may be one of opening, too
-pub or_open_fault : {A : Type 0} (r : Result A ShellFault) (P : A → Type 0) (Q : ShellFault → Type 0) → MatchResult r P Q → MatchResult r P (OrOpenFault Q)
-or_open_fault (Ok v) P Q h = h
-or_open_fault (Err f) P Q h = as_other_fault Q f h
+pub or_open_fault : {A : Type 0} (image : List ℕ) (r : Result A ShellFault) (P : A → Type 0) (Q : ShellFault → Type 0) → ((n : ℕ) → Q (fault.Image n) → ⊥) → MatchResult r P Q → MatchResult r P (OrOpenFault image Q)
+or_open_fault image (Ok v) P Q never h = h
+or_open_fault image (Err f) P Q never h = as_other_fault image Q f never h
 
 -- the disk is saved, or memory for its image is refused
-pub saved_image : {A : Type 0} (items : A → List ℕ) (kind other : Kind) (seen : Seen) (d : Disk) (Fine : Type 0) (P : ShellFault → Type 0) (r : Result A ShellFault) → other ≡ kind
+pub saved_image : {A : Type 0} (image : List ℕ) (items : A → List ℕ) (kind other : Kind) (seen : Seen) (d : Disk) (Fine : Type 0) (P : ShellFault → Type 0) (r : Result A ShellFault) → other ≡ kind
     → IfOk r (λ v. IsSaved kind (items v) seen) → IfErr r (λ f. f ≡ fault.Memory) → Fine → HoldsDisk seen.tracks seen.content d
-    → MatchResult r (λ v. Fine × ImageHolds other (items v) d) (OrOpenFault P)
-saved_image items kind other seen d Fine P (Ok v) same s m fine h = (fine, saved_holds kind other (items v) seen d same s h)
-saved_image items kind other seen d Fine P (Err f) same s m fine h = subst (λ g. OrOpenFault P g) (sym m) tt
+    → MatchResult r (λ v. Fine × ImageHolds other (items v) d) (OrOpenFault image P)
+saved_image image items kind other seen d Fine P (Ok v) same s m fine h = (fine, saved_holds kind other (items v) seen d same s h)
+saved_image image items kind other seen d Fine P (Err f) same s m fine h = subst (λ g. OrOpenFault image P g) (sym m) tt
 
 -- what holds of a disk's content holds of the image's
 pub sound_image : (image : List ℕ) (seen : Seen) → IsOpened image seen → (l : Layout) × Sound (geometry_of seen.tracks seen.content) seen.content l
@@ -91,7 +91,7 @@ ok_any (Err e) p = tt
 -- the disk that was put in order is saved
 pub in_order : {A : Type 0} (items : A → List ℕ) (kind other : Kind) (seen : Seen) (r : Result A ShellFault) → other ≡ kind → IfOk r (λ v. IsSaved kind (items v) seen)
     → (e : Disk) × HoldsDisk seen.tracks seen.content e × (e ≡ validated e) → IfOk r (λ v. IsInOrder other (items v))
-in_order items kind other seen (Ok v) same s (e, holds, still) = record { disk = e; holds = saved_holds kind other (items v) seen e same s holds; still = still }
+in_order items kind other seen (Ok v) same s (e, holds, still) = record { faultless = subst (λ k. image_fault k (items v) ≡ None) (sym same) s.faultless; disk = e; holds = saved_holds kind other (items v) seen e same s holds; still = still }
 in_order items kind other seen (Err f) same s h = tt
 
 -- what holds of what a disk shows holds of its image
@@ -103,3 +103,13 @@ pub from_image : (P : ℕ → Content → Type 0) (image : List ℕ) (seen : See
     → P (tracks_of (kind_of image) image) (content_of (kind_of image) image) → P seen.tracks seen.content
 from_image P image seen o h =
     subst (λ n. P n seen.content) (sym o.same_tracks) (subst (λ c. P (tracks_of (kind_of image) image) c) (sym o.same_content) h)
+
+-- a fault of what follows the opening
+pub or_other : {A : Type 0} (r : Result A ShellFault) (P Q : ShellFault → Type 0) → IfErr r Q → IfErr r (λ f. P f ⊎ Q f)
+or_other (Ok v) P Q h = tt
+or_other (Err f) P Q h = inr h
+
+-- want of memory is a fault of opening, too
+pub memory_alone : {A : Type 0} (image : List ℕ) (r : Result A ShellFault) → IfErr r (λ f. f ≡ fault.Memory) → IfErr r (IsOpenFault image)
+memory_alone image (Ok v) h = tt
+memory_alone image (Err f) h = subst (λ g. IsOpenFault image g) (sym h) tt

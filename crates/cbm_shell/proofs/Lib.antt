@@ -11,7 +11,16 @@ pub mod ImageLemmas
 pub mod ConvertLemmas
 pub mod SectorLemmas
 pub mod MapLemmas
+pub mod FlawLemmas
+pub mod FlawOrder
+pub mod LostLemmas
 pub mod GeosLemmas
 pub mod BlankDisks
 pub mod ZeroImages
 pub mod NewImages
+pub mod ConvertKinds
+pub mod SwapLemmas
+pub mod RecordLemmas
+pub mod ForgetLemmas
+pub mod UndeleteLemmas
+pub mod SeveralLemmas

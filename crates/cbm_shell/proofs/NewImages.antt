@@ -18,26 +18,21 @@ use Rattle.cbm_program.specs.declared.kind.Kind.{Kind}
 use Rattle.cbm_program.specs.declared.kind.Kind.TheVariants.{D64, G64}
 use Rattle.cbm_program.specs.Images.{kind_of, size_fault, image_fault, tracks_of, ImageHolds}
 use Rattle.cbm_program.specs.Images as images
+use Rattle.cbm_program.proofs.ImageSizes.{right_size}
 use Rattle.cbm_shell.specs.declared.making.Form.{Form}
 use Rattle.cbm_shell.specs.Making.{kind_in, tracks_on, empty_disk, IsBlank, IsEmpty, IsNew}
 use Rattle.cbm_shell.proofs.ZeroImages.{content_zeros}
 
 -- ---- a D64
 
--- an image of one of the three sizes has no fault
-pub right_size : (n : ℕ) → IsImageSize n → size_fault n ≡ None
-right_size n (inl e) = ap size_fault e
-right_size n (inr (inl e)) = ap size_fault e
-right_size n (inr (inr e)) = ap size_fault e
-
-some_track : (n : ℕ) → 1 ≤ tracks_in n
+pub some_track : (n : ℕ) → 1 ≤ tracks_in n
 some_track n = by_test (n == 196608)
   where
     by_test : (b : Bool) → 1 ≤ (if b then 40 else 35)
     by_test true = omega arith
     by_test false = omega arith
 
-bytes_of : (o : Option ℕ) (xs ys : List ℕ) → cell_of o xs ≡ Ok ys → xs ≡ ys
+pub bytes_of : (o : Option ℕ) (xs ys : List ℕ) → cell_of o xs ≡ Ok ys → xs ≡ ys
 bytes_of None xs ys h = cc
 bytes_of (Some code) xs ys h = absurd (cc)
 

@@ -1,5 +1,5 @@
 -- An image of the other format, and what it doesn't hold of the one that it was made from.
-use Rattle.std.specs.Prelude.{ℕ, ◌≡◌, ◌⊎◌, ◌+◌, ◌*◌, ◌%◌, ◌==◌, ◌&&◌, ◌||◌, nat_lt, not, Bool, false, List, [], ◌∷◌, length, slice_index, slice_range, Ok, Err}
+use Rattle.std.specs.Prelude.{ℕ, ◌≡◌, ◌⊎◌, ◌+◌, ◌*◌, ◌%◌, ◌==◌, ◌&&◌, ◌||◌, nat_lt, not, Bool, false, List, [], ◌∷◌, length, take, codes, slice_index, slice_range, Ok, Err}
 use Rattle.cbm_medium.specs.Place.{Place, Has, directory_head}
 use Rattle.cbm_medium.specs.Content.{Cell, Content}
 use Rattle.cbm_medium.specs.declared.fault.Fault.{Fault}
@@ -63,6 +63,10 @@ pub record AreLosses (image : List ℕ) (unreadable : List Fault) (more_tracks e
   pub tracks : more_tracks ≡ has_more_tracks (kind_of image) image
   pub errors : error_bytes ≡ has_error_bytes (kind_of image) image
 
+-- A D64 made of this G64 would be taken for a G64: its first sector begins as a G64's file does.
+abbrev pub IsMistakable : List ℕ → Type 0
+IsMistakable image = (kind_of image ≡ G64) × ((bytes : List ℕ) × (held_by image (record { track = 1; sector = 0 }) ≡ Ok bytes) × (take 8 bytes ≡ codes "GCR-1541"))
+
 -- why an image isn't converted: its own fault or want of memory, or the new one would be taken for one of the old format
 abbrev pub IsConvertFault : List ℕ → ShellFault → Type 0
-IsConvertFault image f = IsOpenFault image f ⊎ (f ≡ fault.Mistaken)
+IsConvertFault image f = IsOpenFault image f ⊎ ((f ≡ fault.Mistaken) × IsMistakable image)

@@ -1,11 +1,12 @@
 -- What is done with the bytes of an image.
-use Rattle.std.specs.Prelude.{ℕ, ◌≡◌, List, false, Some, Result, Ok, Err}
+use Rattle.std.specs.Prelude.{ℕ, ◌≡◌, List, false, Some, None, Result, Ok, Err}
 use Rattle.cbm_medium.specs.Content.{Content}
 use Rattle.cbm_medium.specs.Seen.{Seen}
 use Rattle.cbm_file.specs.Files.{Disk}
 use Rattle.cbm_file.specs.Changes.{validated}
 use Rattle.cbm_volume.specs.Map.{geometry_of}
 use Rattle.cbm_volume.specs.Holding.{HoldsDisk}
+use Rattle.cbm_volume.specs.Sweeps.{IsPutInOrder}
 use Rattle.cbm_volume.specs.Layouts.{Layout, Sound}
 use Rattle.cbm_volume.specs.check.WholeDisk.{DiskFault}
 use Rattle.cbm_volume.specs.declared.Unsound.{Unsound}
@@ -25,8 +26,9 @@ pub record IsOpened (image : List ℕ) (seen : Seen) : Type 0 where
   pub same_content : seen.content ≡ content_of (kind_of image) image
   pub free : seen.protected ≡ false
 
--- an image of this format is what the disk shows
+-- an image of this format is what the disk shows, and opens again
 pub record IsSaved (kind : Kind) (image : List ℕ) (seen : Seen) : Type 0 where
+  pub faultless : image_fault kind image ≡ None
   pub same_tracks : seen.tracks ≡ tracks_of kind image
   pub same_content : seen.content ≡ content_of kind image
 
@@ -41,26 +43,26 @@ IsOpenFault image fault.NotFound = ⊥
 IsOpenFault image fault.NotClosed = ⊥
 IsOpenFault image fault.Mistaken = ⊥
 
--- an image is refused or memory runs out, or else it is this fault
-abbrev pub OrOpenFault : (ShellFault → Type 0) → ShellFault → Type 0
-OrOpenFault P fault.Memory = Unit {0}
-OrOpenFault P (fault.Image n) = Unit {0}
-OrOpenFault P (fault.Unsound u) = P (fault.Unsound u)
-OrOpenFault P (fault.Refused s) = P (fault.Refused s)
-OrOpenFault P (fault.Trouble t) = P (fault.Trouble t)
-OrOpenFault P fault.NotFound = P fault.NotFound
-OrOpenFault P fault.NotClosed = P fault.NotClosed
-OrOpenFault P fault.Mistaken = P fault.Mistaken
+-- an image is refused for its own fault, or memory runs out, or else it is this fault
+abbrev pub OrOpenFault : List ℕ → (ShellFault → Type 0) → ShellFault → Type 0
+OrOpenFault image P fault.Memory = Unit {0}
+OrOpenFault image P (fault.Image n) = image_fault (kind_of image) image ≡ Some n
+OrOpenFault image P (fault.Unsound u) = P (fault.Unsound u)
+OrOpenFault image P (fault.Refused s) = P (fault.Refused s)
+OrOpenFault image P (fault.Trouble t) = P (fault.Trouble t)
+OrOpenFault image P fault.NotFound = P fault.NotFound
+OrOpenFault image P fault.NotClosed = P fault.NotClosed
+OrOpenFault image P fault.Mistaken = P fault.Mistaken
 
 -- why a change gives no image, a file isn't got, or a directory isn't listed
-abbrev pub IsFailed : Change → Machine → ShellFault → Type 0
-IsFailed change m = OrOpenFault (IsUndone change m)
+abbrev pub IsFailed : List ℕ → Change → Machine → ShellFault → Type 0
+IsFailed image change m = OrOpenFault image (IsUndone change m)
 
-abbrev pub IsLost : Disk → List ℕ → ShellFault → Type 0
-IsLost d pattern = OrOpenFault (IsGetFault d pattern)
+abbrev pub IsLost : List ℕ → Disk → List ℕ → ShellFault → Type 0
+IsLost image d pattern = OrOpenFault image (IsGetFault d pattern)
 
-abbrev pub IsHidden : List ℕ → Machine → ShellFault → Type 0
-IsHidden pattern m = OrOpenFault (IsUnlisted pattern m)
+abbrev pub IsHidden : List ℕ → List ℕ → Machine → ShellFault → Type 0
+IsHidden image pattern m = OrOpenFault image (IsUnlisted pattern m)
 
 -- the disk is sound, or this is its first fault
 abbrev pub IsChecked : ℕ → Content → Result (Unit {0}) Unsound → Type 0
@@ -71,8 +73,13 @@ IsChecked tracks content (Err u) = DiskFault (geometry_of tracks content) conten
 abbrev pub IsOrderly : ℕ → Content → Type 0
 IsOrderly tracks content = (e : Disk) × HoldsDisk tracks content e × (e ≡ validated e)
 
--- the image holds a disk that VALIDATE leaves as it is: each file is closed, and each block is free or a file's
+-- the image has no fault, and holds a disk that VALIDATE leaves as it is: each file is closed, and each block is free or a file's
 pub record IsInOrder (kind : Kind) (image : List ℕ) : Type 0 where
+  pub faultless : image_fault kind image ≡ None
   pub disk : Disk
   pub holds : ImageHolds kind image disk
   pub still : disk ≡ validated disk
+
+-- between the images nothing has changed but what VALIDATE changes
+abbrev pub IsImageInOrder : Kind → List ℕ → List ℕ → Type 0
+IsImageInOrder kind old new = IsPutInOrder (geometry_of (tracks_of kind old) (content_of kind old)) (content_of kind old) (content_of kind new)

@@ -18,3 +18,11 @@ pub mod Freeing
 pub mod Wrapped
 pub mod Locking
 pub mod Salvaging
+pub mod Art
+pub mod Swapping
+pub mod Recording
+pub mod Flaws
+pub mod Lost
+pub mod Forgetting
+pub mod Undeleting
+pub mod Several

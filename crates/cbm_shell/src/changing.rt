@@ -36,7 +36,7 @@ pub enum Change<'a> {
 }
 
 /// The status if it tells no error, else the refusal.
-fn told(status: Status) -> Result<(), ShellFault>
+pub(crate) fn told(status: Status) -> Result<(), ShellFault>
     ensures { MatchResult result (λ _. IsFine status) (λ fault. (fault ≡ ShellFault.Refused status) × (20 ≤ code_number status.code)) }
 {
     if status.code.number() < ERRORS {
@@ -84,7 +84,7 @@ pub(crate) fn require_sound<M: Medium>(volume: &Volume<M>) -> Result<(), ShellFa
 
 /// Makes a change on a disk, if it is sound. Errors: `Unsound`, and then nothing was changed; `Refused` with the drive's
 /// status.
-pub(crate) fn changed<M: Steady + Drop>(medium: M, change: &Change<'_>) -> Result<M, ShellFault>
+pub fn changed<M: Steady + Drop>(medium: M, change: &Change<'_>) -> Result<M, ShellFault>
     ensures made { let old = M.seen medium in (d : Disk) → HoldsDisk old.tracks old.content d →
         let m = start d old.protected old.tracks in MatchResult result
         (λ after. IsFine (after_change change.now m).status
@@ -95,6 +95,7 @@ pub(crate) fn changed<M: Steady + Drop>(medium: M, change: &Change<'_>) -> Resul
         OnOk result ((l : Layout) × Sound (geometry_of old.tracks old.content) old.content l) }
     ensures fault { let old = M.seen medium in IfErr result (IsFaultOf old.tracks old.content) }
     ensures same_tracks { IfOk result (λ after. (M.seen after).tracks ≡ (M.seen medium).tracks) }
+    ensures same_protection { IfOk result (λ after. (M.seen after).protected ≡ (M.seen medium).protected) }
 {
     let volume = Volume::open(medium);
     require_sound(&volume)?;

@@ -230,7 +230,7 @@ fn copied<M: Medium>(alloc: Global, medium: &M) -> Result<D64Disk, ShellFault>
 /// The image, if it is one of this format. The one error is `Mistaken`.
 fn settled(image: Vec<u8>, kind: Kind) -> Result<Vec<u8>, ShellFault>
     ensures ok { IfOk result (λ v. (v ≡ image) × (kind_of v.items ≡ kind)) }
-    ensures err { IfErr result (λ fault. fault ≡ ShellFault.Mistaken) }
+    ensures err { IfErr result (λ fault. (fault ≡ ShellFault.Mistaken) × (kind_of image.items ≢ kind)) }
 {
     if kind_of(image.as_slice()) == kind {
         Ok(image)

@@ -1,14 +1,15 @@
 //! What is done with the bytes of an image.
-ghost use Rattle.std.specs.Prelude.{◌≡◌, false, IfErr, IfOk, OnOk, MatchResult};
+ghost use Rattle.std.specs.Prelude.{◌≡◌, None, false, IfErr, IfOk, OnOk, MatchResult};
 ghost use Rattle.cbm_file.specs.Files.{Disk};
 ghost use Rattle.cbm_channel.specs.Machines.{start};
 ghost use Rattle.cbm_volume.specs.Map.{geometry_of};
 ghost use Rattle.cbm_volume.specs.Layouts.{Layout, Sound};
-ghost use Rattle.cbm_program.specs.Images.{kind_of, tracks_of, content_of, ImageHolds};
+ghost use Rattle.cbm_program.specs.Images.{kind_of, image_fault, tracks_of, content_of, ImageHolds};
 ghost use Rattle.cbm_shell.specs.Reading.{Gets};
 ghost use Rattle.cbm_shell.specs.Listing.{IsListed, IsSent};
 ghost use Rattle.cbm_shell.specs.Changing.{after_change, IsFine};
-ghost use Rattle.cbm_shell.specs.Images.{IsOpened, IsSaved, IsOpenFault, IsFailed, IsLost, IsHidden, IsChecked, IsOrderly, IsInOrder};
+ghost use Rattle.cbm_shell.specs.Images.{IsOpened, IsSaved, IsOpenFault, IsFailed, IsLost, IsHidden, IsChecked, IsOrderly, IsInOrder, IsImageInOrder};
+ghost use Rattle.cbm_volume.specs.Sweeps.{IsPutInOrder};
 ghost use Rattle.cbm_shell.specs.Freeing.{AreFreed, IsGivenBack};
 
 use crate::changing::{Change, changed};
@@ -55,10 +56,11 @@ fn change_in<I: DiskImage + Drop>(
     ensures made { let kind = kind_of image.now in (d : Disk) → ImageHolds kind image.now d →
         let m = start d false (tracks_of kind image.now) in MatchResult result
         (λ v. IsFine (after_change change.now m).status × ImageHolds kind v.items (after_change change.now m).disk)
-        (IsFailed change.now m) }
+        (IsFailed image.now change.now m) }
     ensures sound { let kind = kind_of image.now in
         let tracks = geometry_of (tracks_of kind image.now) (content_of kind image.now) in
         OnOk result ((l : Layout) × Sound tracks (content_of kind image.now) l) }
+    ensures opens { IfOk result (λ v. image_fault (kind_of image.now) v.items ≡ None) }
 {
     let disk = opened::<I>(alloc, image)?;
     let disk = changed(disk, change)?;
@@ -71,11 +73,13 @@ pub fn change(alloc: Global, image: &[u8], change: &Change<'_>) -> Result<Vec<u8
     ensures made { let kind = kind_of image.now in (d : Disk) → ImageHolds kind image.now d →
         let m = start d false (tracks_of kind image.now) in MatchResult result
         (λ v. IsFine (after_change change.now m).status × ImageHolds kind v.items (after_change change.now m).disk)
-        (IsFailed change.now m) }
+        (IsFailed image.now change.now m) }
     // An image that isn't sound gives no new one.
     ensures sound { let kind = kind_of image.now in
         let tracks = geometry_of (tracks_of kind image.now) (content_of kind image.now) in
         OnOk result ((l : Layout) × Sound tracks (content_of kind image.now) l) }
+    // The new image opens again.
+    ensures opens { IfOk result (λ v. image_fault (kind_of image.now) v.items ≡ None) }
 {
     match kind_of(image) {
         Kind::D64 => change_in::<D64Disk>(alloc, image, change),
@@ -91,7 +95,7 @@ fn file_in<I: DiskImage + Drop>(
 ) -> Result<Vec<u8>, ShellFault>
     requires { kind_of image.now ≡ I.kind }
     ensures { (d : Disk) → ImageHolds (kind_of image.now) image.now d →
-        MatchResult result (λ v. Gets d pattern.now v.items) (IsLost d pattern.now) }
+        MatchResult result (λ v. Gets d pattern.now v.items) (IsLost image.now d pattern.now) }
 {
     let volume = Volume::open(opened::<I>(alloc, image)?);
     get(alloc, &volume, pattern)
@@ -101,7 +105,7 @@ fn file_in<I: DiskImage + Drop>(
 /// `Memory`.
 pub fn file(alloc: Global, image: &[u8], pattern: &[u8]) -> Result<Vec<u8>, ShellFault>
     ensures { (d : Disk) → ImageHolds (kind_of image.now) image.now d →
-        MatchResult result (λ v. Gets d pattern.now v.items) (IsLost d pattern.now) }
+        MatchResult result (λ v. Gets d pattern.now v.items) (IsLost image.now d pattern.now) }
 {
     match kind_of(image) {
         Kind::D64 => file_in::<D64Disk>(alloc, image, pattern),
@@ -119,7 +123,7 @@ fn directory_in<I: DiskImage + Drop>(
     requires { kind_of image.now ≡ I.kind }
     ensures { let kind = kind_of image.now in (d : Disk) → ImageHolds kind image.now d →
         let m = start d false (tracks_of kind image.now) in
-        MatchResult result (λ v. IsListed charset pattern.now m v.items) (IsHidden pattern.now m) }
+        MatchResult result (λ v. IsListed charset pattern.now m v.items) (IsHidden image.now pattern.now m) }
 {
     let mut dos = Dos::new(opened::<I>(alloc, image)?);
     list(alloc, &mut dos, charset, pattern)
@@ -135,7 +139,7 @@ pub fn directory(
 ) -> Result<Vec<u8>, ShellFault>
     ensures { let kind = kind_of image.now in (d : Disk) → ImageHolds kind image.now d →
         let m = start d false (tracks_of kind image.now) in
-        MatchResult result (λ v. IsListed charset pattern.now m v.items) (IsHidden pattern.now m) }
+        MatchResult result (λ v. IsListed charset pattern.now m v.items) (IsHidden image.now pattern.now m) }
 {
     match kind_of(image) {
         Kind::D64 => directory_in::<D64Disk>(alloc, image, charset, pattern),
@@ -152,7 +156,7 @@ fn raw_directory_in<I: DiskImage + Drop>(
     requires { kind_of image.now ≡ I.kind }
     ensures { let kind = kind_of image.now in (d : Disk) → ImageHolds kind image.now d →
         let m = start d false (tracks_of kind image.now) in
-        MatchResult result (λ v. IsSent pattern.now m v.items) (IsHidden pattern.now m) }
+        MatchResult result (λ v. IsSent pattern.now m v.items) (IsHidden image.now pattern.now m) }
 {
     let mut dos = Dos::new(opened::<I>(alloc, image)?);
     raw_list(alloc, &mut dos, pattern)
@@ -163,7 +167,7 @@ fn raw_directory_in<I: DiskImage + Drop>(
 pub fn raw_directory(alloc: Global, image: &[u8], pattern: &[u8]) -> Result<Vec<u8>, ShellFault>
     ensures { let kind = kind_of image.now in (d : Disk) → ImageHolds kind image.now d →
         let m = start d false (tracks_of kind image.now) in
-        MatchResult result (λ v. IsSent pattern.now m v.items) (IsHidden pattern.now m) }
+        MatchResult result (λ v. IsSent pattern.now m v.items) (IsHidden image.now pattern.now m) }
 {
     match kind_of(image) {
         Kind::D64 => raw_directory_in::<D64Disk>(alloc, image, pattern),
@@ -177,8 +181,9 @@ fn check_in<I: DiskImage + Drop>(
     image: &[u8],
 ) -> Result<Result<(), Unsound>, ShellFault>
     requires { kind_of image.now ≡ I.kind }
-    ensures { let kind = kind_of image.now in
+    ensures ok { let kind = kind_of image.now in
         IfOk result (IsChecked (tracks_of kind image.now) (content_of kind image.now)) }
+    ensures err { IfErr result (IsOpenFault image.now) }
 {
     let volume = Volume::open(opened::<I>(alloc, image)?);
     Ok(volume.check())
@@ -186,8 +191,9 @@ fn check_in<I: DiskImage + Drop>(
 
 /// Whether the disk of an image is sound, or what is wrong with it first. Errors: `Image`, `Memory`.
 pub fn check(alloc: Global, image: &[u8]) -> Result<Result<(), Unsound>, ShellFault>
-    ensures { let kind = kind_of image.now in
+    ensures ok { let kind = kind_of image.now in
         IfOk result (IsChecked (tracks_of kind image.now) (content_of kind image.now)) }
+    ensures err { IfErr result (IsOpenFault image.now) }
 {
     match kind_of(image) {
         Kind::D64 => check_in::<D64Disk>(alloc, image),
@@ -209,6 +215,8 @@ fn validated<I: DiskImage + Drop>(alloc: Global, image: &[u8]) -> Result<I, Shel
     requires { kind_of image.now ≡ I.kind }
     ensures tracks { IfOk result (λ disk. (I.seen disk).tracks ≡ tracks_of (kind_of image.now) image.now) }
     ensures order { IfOk result (λ disk. IsOrderly (I.seen disk).tracks (I.seen disk).content) }
+    ensures changes { let kind = kind_of image.now in let content = content_of kind image.now in IfOk result (λ disk.
+        IsPutInOrder (geometry_of (tracks_of kind image.now) content) content (I.seen disk).content) }
 {
     let mut volume = Volume::open(opened::<I>(alloc, image)?);
     volume.validate()?;
@@ -235,6 +243,7 @@ fn given_back<I: DiskImage + Drop>(
 fn validate_in<I: DiskImage + Drop>(alloc: Global, image: &[u8]) -> Result<Order, ShellFault>
     requires { kind_of image.now ≡ I.kind }
     ensures order { IfOk result (λ o. IsInOrder (kind_of image.now) o.image.items) }
+    ensures changes { IfOk result (λ o. IsImageInOrder (kind_of image.now) image.now o.image.items) }
     ensures freed { IfOk result (λ o.
         IsGivenBack (kind_of image.now) image.now o.image.items o.freed.blocks.items o.freed.takes_geos) }
 {
@@ -249,6 +258,8 @@ fn validate_in<I: DiskImage + Drop>(alloc: Global, image: &[u8]) -> Result<Order
 pub fn validate(alloc: Global, image: &[u8]) -> Result<Order, ShellFault>
     // The new image is sound, and putting it in order again changes nothing.
     ensures order { IfOk result (λ o. IsInOrder (kind_of image.now) o.image.items) }
+    // Closed files, their entries and the title are as they were.
+    ensures changes { IfOk result (λ o. IsImageInOrder (kind_of image.now) image.now o.image.items) }
     // The blocks that it gives back are all told, and whether GEOS uses one of them.
     ensures freed { IfOk result (λ o.
         IsGivenBack (kind_of image.now) image.now o.image.items o.freed.blocks.items o.freed.takes_geos) }

@@ -69,7 +69,7 @@ fn locked_type(byte: u8, is_locked: bool) -> u8
 }
 
 /// The entry of these thirty bytes.
-fn entry_of(bytes: &[u8; 30]) -> Entry
+pub(crate) fn entry_of(bytes: &[u8; 30]) -> Entry
     ensures { result ≡ bytes.now }
 {
     let mut sector = [0; 256];
@@ -78,7 +78,7 @@ fn entry_of(bytes: &[u8; 30]) -> Entry
 }
 
 /// An entry with that bit so.
-fn locked_entry(entry: &Entry, is_locked: bool) -> Entry
+pub(crate) fn locked_entry(entry: &Entry, is_locked: bool) -> Entry
     ensures { result ≡ locked_entry is_locked entry.now }
 {
     let mut bytes = *entry.bytes();
@@ -169,7 +169,7 @@ fn put_title(head: &mut [u8; 256], title: &[u8])
 }
 
 /// Writes 18/0.
-fn write_head<M: Medium>(medium: &mut M, head: &[u8; 256]) -> Result<(), ShellFault>
+pub(crate) fn write_head<M: Medium>(medium: &mut M, head: &[u8; 256]) -> Result<(), ShellFault>
     ensures content { OnOk result ((M.seen medium.new).content ≡ written (M.seen medium.old).content directory_head head.now) }
     ensures tracks { (M.seen medium.new).tracks ≡ (M.seen medium.old).tracks }
 {

@@ -1,12 +1,13 @@
 //! Looking into the bytes of an image.
-ghost use Rattle.std.specs.Prelude.{◌≡◌, ℕ, List, None, Some, IfOk, MatchResult, MatchOption, ◌<◌};
+ghost use Rattle.std.specs.Prelude.{◌≡◌, ◌⊎◌, ℕ, List, None, Some, IfOk, IfErr, MatchResult, MatchOption, ◌<◌};
 ghost use Rattle.cbm_file.specs.Files.{Disk};
 ghost use Rattle.cbm_volume.specs.Slots.{directory_of};
 ghost use Rattle.cbm_volume.specs.Map.{geometry_of};
 ghost use Rattle.cbm_volume.specs.Holding.{HasBytes, StandsAt};
 ghost use Rattle.cbm_program.specs.Images.{kind_of, tracks_of, ImageHolds};
 ghost use Rattle.cbm_shell.specs.Converting.{held_by};
-ghost use Rattle.cbm_shell.specs.Images.{IsChecked, OrOpenFault};
+ghost use Rattle.cbm_shell.specs.Images.{IsChecked, IsOpenFault, OrOpenFault};
+ghost use Rattle.cbm_shell.specs.Reading.{IsReadFault};
 ghost use Rattle.cbm_bam.specs.Marks.{is_marked};
 ghost use Rattle.cbm_shell.specs.Geos.{geos_blocks};
 ghost use Rattle.cbm_volume.specs.Entries.{first_block};
@@ -32,7 +33,9 @@ use cbm_volume::Entry;
 pub use facts::{Info, info_of};
 pub use freeing::Freed;
 pub(crate) use freeing::freed_by;
+pub(crate) use geos::{geos_sectors, use_all_geos, use_border};
 pub use geos::{Geos, geos_of};
+pub(crate) use mapping::{entries_or_none, is_free_at, use_chain, use_file, used_sectors};
 pub use mapping::{Mark, picture_of};
 pub use slots::entries_of;
 use std::alloc::Global;
@@ -40,9 +43,11 @@ use std::alloc::Global;
 /// The entries of an image's directory in order, those of empty slots too. Errors: `Image`; `Trouble` where the directory
 /// can't be followed to its end; `Memory`.
 pub fn entries(alloc: Global, image: &[u8]) -> Result<Vec<Entry>, ShellFault>
-    ensures { let content = held_by image.now in
+    ensures ok { let content = held_by image.now in
         IfOk result (λ v. directory_of (geometry_of (tracks_of (kind_of image.now) image.now) content) content
         ≡ (record { entries = v.items; trouble = None })) }
+    ensures err { let content = held_by image.now in IfErr result (λ fault. IsOpenFault image.now fault ⊎
+        IsReadFault (directory_of (geometry_of (tracks_of (kind_of image.now) image.now) content) content).trouble fault) }
 {
     let disk = OpenDisk::open(alloc, image)?;
     disk.entries(alloc)
@@ -54,7 +59,7 @@ pub fn file_of(alloc: Global, image: &[u8], entry: &Entry) -> Result<Vec<u8>, Sh
     // A closed file without records on a sound disk is got byte for byte.
     ensures { let kind = kind_of image.now in (d : Disk) (n : ℕ) (bytes : List ℕ) → ImageHolds kind image.now d →
         StandsAt (tracks_of kind image.now) (held_by image.now) n entry.now → HasBytes d n bytes →
-        MatchResult result (λ v. v.items ≡ bytes) (OrOpenFault (λ fault. fault ≡ ShellFault.Memory)) }
+        MatchResult result (λ v. v.items ≡ bytes) (OrOpenFault image.now (λ fault. fault ≡ ShellFault.Memory)) }
 {
     let disk = OpenDisk::open(alloc, image)?;
     disk.file_of(alloc, entry)
@@ -65,10 +70,12 @@ fn info_in<I: DiskImage + Drop>(alloc: Global, image: &[u8]) -> Result<Info, She
     requires { kind_of image.now ≡ I.kind }
     ensures faults { IfOk result (λ info. info.unreadable.items
         ≡ faults_in (held_by image.now) (tracks_of (kind_of image.now) image.now)) }
+    ensures tracks { IfOk result (λ info. info.tracks ≡ tracks_of (kind_of image.now) image.now) }
     ensures check { IfOk result (λ info.
         IsChecked (tracks_of (kind_of image.now) image.now) (held_by image.now) info.check) }
     ensures means { (d : Disk) → ImageHolds (kind_of image.now) image.now d →
         IfOk result (λ info. (info.label ≡ Some (record { title = d.title; mark = d.mark })) × (info.free ≡ Some d.free)) }
+    ensures err { IfErr result (IsOpenFault image.now) }
 {
     let disk = opened::<I>(alloc, image)?;
     let info = info_of(alloc, disk)?;
@@ -80,11 +87,13 @@ pub fn info(alloc: Global, image: &[u8]) -> Result<Info, ShellFault>
     // The sectors that don't read, in order.
     ensures faults { IfOk result (λ info. info.unreadable.items
         ≡ faults_in (held_by image.now) (tracks_of (kind_of image.now) image.now)) }
+    ensures tracks { IfOk result (λ info. info.tracks ≡ tracks_of (kind_of image.now) image.now) }
     ensures check { IfOk result (λ info.
         IsChecked (tracks_of (kind_of image.now) image.now) (held_by image.now) info.check) }
     // Of a sound disk the title, the id, and how many blocks are free.
     ensures means { (d : Disk) → ImageHolds (kind_of image.now) image.now d →
         IfOk result (λ info. (info.label ≡ Some (record { title = d.title; mark = d.mark })) × (info.free ≡ Some d.free)) }
+    ensures err { IfErr result (IsOpenFault image.now) }
 {
     match kind_of(image) {
         Kind::D64 => info_in::<D64Disk>(alloc, image),
@@ -95,8 +104,9 @@ pub fn info(alloc: Global, image: &[u8]) -> Result<Info, ShellFault>
 /// A picture of the sectors in an image of one format.
 fn picture_in<I: DiskImage + Drop>(alloc: Global, image: &[u8]) -> Result<Vec<u8>, ShellFault>
     requires { kind_of image.now ≡ I.kind }
-    ensures { let content = held_by image.now in
+    ensures ok { let content = held_by image.now in
         IfOk result (λ v. v.items ≡ picture_of (geometry_of (tracks_of (kind_of image.now) image.now) content) content) }
+    ensures err { IfErr result (IsOpenFault image.now) }
 {
     let disk = opened::<I>(alloc, image)?;
     picture_of(alloc, disk)
@@ -105,8 +115,9 @@ fn picture_in<I: DiskImage + Drop>(alloc: Global, image: &[u8]) -> Result<Vec<u8
 /// A picture of an image's sectors, as lines: a sign for each sector, and what the signs mean. Errors: `Image`, `Memory`.
 pub fn picture(alloc: Global, image: &[u8]) -> Result<Vec<u8>, ShellFault>
     // A sector is shown as used exactly where the directory, its map or a closed file has it.
-    ensures { let content = held_by image.now in
+    ensures ok { let content = held_by image.now in
         IfOk result (λ v. v.items ≡ picture_of (geometry_of (tracks_of (kind_of image.now) image.now) content) content) }
+    ensures err { IfErr result (IsOpenFault image.now) }
 {
     match kind_of(image) {
         Kind::D64 => picture_in::<D64Disk>(alloc, image),
@@ -121,8 +132,9 @@ fn geos_blocks_in<I: DiskImage + Drop>(
     entry: &Entry,
 ) -> Result<SectorSet, ShellFault>
     requires { kind_of image.now ≡ I.kind }
-    ensures { let content = held_by image.now in IfOk result (λ set. is_marked set
+    ensures ok { let content = held_by image.now in IfOk result (λ set. is_marked set
         ≡ is_among (geos_blocks (geometry_of (tracks_of (kind_of image.now) image.now) content) content entry.now)) }
+    ensures err { IfErr result (IsOpenFault image.now) }
 {
     let disk = opened::<I>(alloc, image)?;
     let geometry = cbm_bam::geometry(&disk);
@@ -132,8 +144,9 @@ fn geos_blocks_in<I: DiskImage + Drop>(
 /// The blocks that a file of GEOS has beside its chain: that of its info, and those of its records. None of another file.
 /// Errors: `Image`, `Memory`.
 pub fn geos_blocks(alloc: Global, image: &[u8], entry: &Entry) -> Result<SectorSet, ShellFault>
-    ensures { let content = held_by image.now in IfOk result (λ set. is_marked set
+    ensures ok { let content = held_by image.now in IfOk result (λ set. is_marked set
         ≡ is_among (geos_blocks (geometry_of (tracks_of (kind_of image.now) image.now) content) content entry.now)) }
+    ensures err { IfErr result (IsOpenFault image.now) }
 {
     match kind_of(image) {
         Kind::D64 => geos_blocks_in::<D64Disk>(alloc, image, entry),
@@ -148,8 +161,9 @@ fn file_blocks_in<I: DiskImage + Drop>(
     entry: &Entry,
 ) -> Result<SectorSet, ShellFault>
     requires { kind_of image.now ≡ I.kind }
-    ensures { let content = held_by image.now in IfOk result (λ set. is_marked set
+    ensures ok { let content = held_by image.now in IfOk result (λ set. is_marked set
         ≡ is_among (chain_of (geometry_of (tracks_of (kind_of image.now) image.now) content) content (first_block entry.now))) }
+    ensures err { IfErr result (IsOpenFault image.now) }
 {
     let disk = opened::<I>(alloc, image)?;
     let geometry = cbm_bam::geometry(&disk);
@@ -158,8 +172,9 @@ fn file_blocks_in<I: DiskImage + Drop>(
 
 /// The blocks of the chain of an entry's file, up to where it ends or breaks off. Errors: `Image`, `Memory`.
 pub fn file_blocks(alloc: Global, image: &[u8], entry: &Entry) -> Result<SectorSet, ShellFault>
-    ensures { let content = held_by image.now in IfOk result (λ set. is_marked set
+    ensures ok { let content = held_by image.now in IfOk result (λ set. is_marked set
         ≡ is_among (chain_of (geometry_of (tracks_of (kind_of image.now) image.now) content) content (first_block entry.now))) }
+    ensures err { IfErr result (IsOpenFault image.now) }
 {
     match kind_of(image) {
         Kind::D64 => file_blocks_in::<D64Disk>(alloc, image, entry),
@@ -174,8 +189,9 @@ fn sector_in<I: DiskImage + Drop>(
     at: Address,
 ) -> Result<Option<Result<[u8; 256], u8>>, ShellFault>
     requires { kind_of image.now ≡ I.kind }
-    ensures { IfOk result (λ o. MatchOption o (tracks_of (kind_of image.now) image.now < at.track)
+    ensures ok { IfOk result (λ o. MatchOption o (tracks_of (kind_of image.now) image.now < at.track)
         (λ cell. held_by image.now at ≡ cell)) }
+    ensures err { IfErr result (IsOpenFault image.now) }
 {
     let disk = opened::<I>(alloc, image)?;
     if at.track() > disk.tracks() {
@@ -194,8 +210,9 @@ pub fn sector(
     image: &[u8],
     at: Address,
 ) -> Result<Option<Result<[u8; 256], u8>>, ShellFault>
-    ensures { IfOk result (λ o. MatchOption o (tracks_of (kind_of image.now) image.now < at.track)
+    ensures ok { IfOk result (λ o. MatchOption o (tracks_of (kind_of image.now) image.now < at.track)
         (λ cell. held_by image.now at ≡ cell)) }
+    ensures err { IfErr result (IsOpenFault image.now) }
 {
     match kind_of(image) {
         Kind::D64 => sector_in::<D64Disk>(alloc, image, at),

@@ -10,6 +10,7 @@ ghost use Rattle.cbm_volume.specs.Holding.{HasBytes, HoldsDisk, StandsAt};
 ghost use Rattle.cbm_program.specs.Images.{image_fault, kind_of};
 ghost use Rattle.cbm_shell.specs.Images.{IsOpened, IsOpenFault};
 ghost use Rattle.cbm_shell.specs.OpenDisk.{shown_by};
+ghost use Rattle.cbm_shell.specs.Reading.{IsReadFault};
 
 use crate::fault::ShellFault;
 use crate::images::opened;
@@ -49,9 +50,11 @@ impl OpenDisk {
     /// The entries of its directory in order, those of empty slots too. Errors: `Trouble` where the directory can't be
     /// followed to its end; `Memory`.
     pub fn entries(&self, alloc: Global) -> Result<Vec<Entry>, ShellFault>
-        ensures { let now = shown_by self.now in
+        ensures ok { let now = shown_by self.now in
             IfOk result (λ v. directory_of (geometry_of now.tracks now.content) now.content
             ≡ (record { entries = v.items; trouble = None })) }
+        ensures err { let now = shown_by self.now in
+            IfErr result (IsReadFault (directory_of (geometry_of now.tracks now.content) now.content).trouble) }
     {
         match self {
             OpenDisk::D64(volume) => entries_of(alloc, volume),

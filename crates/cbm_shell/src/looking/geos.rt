@@ -120,7 +120,12 @@ fn use_geos<M: Medium>(medium: &M, geometry: Geometry, entry: &Entry, used: &mut
 }
 
 /// Puts the blocks that the files of GEOS have beside their chains into the set.
-fn use_all_geos<M: Medium>(medium: &M, geometry: Geometry, entries: &[Entry], used: &mut SectorSet)
+pub(crate) fn use_all_geos<M: Medium>(
+    medium: &M,
+    geometry: Geometry,
+    entries: &[Entry],
+    used: &mut SectorSet,
+)
     requires { geometry ≤ (M.seen medium.now).tracks }
     ensures { is_marked used.new
         ≡ with_places (is_marked used.old) (in_geos geometry (M.seen medium.now).content entries.now) }
@@ -145,7 +150,7 @@ fn is_geos_map(map: &[u8; 256]) -> bool
 }
 
 /// Puts the border block of a disk that GEOS formatted into the set.
-fn use_border<M: Medium>(medium: &M, geometry: Geometry, used: &mut SectorSet)
+pub(crate) fn use_border<M: Medium>(medium: &M, geometry: Geometry, used: &mut SectorSet)
     requires { geometry ≤ (M.seen medium.now).tracks }
     ensures { let content = (M.seen medium.now).content in is_marked used.new
         ≡ with_places (is_marked used.old) (border_in geometry content (content directory_head)) }

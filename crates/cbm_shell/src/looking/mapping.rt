@@ -1,5 +1,5 @@
 //! A picture of a disk's sectors.
-ghost use Rattle.std.specs.Prelude.{◌≡◌, ◌≤◌, [], ◌∷◌, ◌++◌, nat_lt, if◌then◌else◌, codes, decimal, IfOk, OnOk};
+ghost use Rattle.std.specs.Prelude.{◌≡◌, ◌≤◌, [], ◌∷◌, ◌++◌, nat_lt, if◌then◌else◌, codes, decimal, IfOk, IfErr, OnOk};
 ghost use Rattle.cbm_medium.specs.Place.{directory_head, sectors_on};
 ghost use Rattle.cbm_volume.specs.Map.{geometry_of};
 ghost use Rattle.cbm_volume.specs.Slots.{directory_of};
@@ -96,7 +96,12 @@ pub(crate) fn use_chain<M: Medium>(medium: &M, geometry: Geometry, from: Link, u
 }
 
 /// Puts the sectors of an entry's file into the set, if it was closed.
-fn use_file<M: Medium>(medium: &M, geometry: Geometry, entry: &Entry, used: &mut SectorSet)
+pub(crate) fn use_file<M: Medium>(
+    medium: &M,
+    geometry: Geometry,
+    entry: &Entry,
+    used: &mut SectorSet,
+)
     requires { geometry ≤ (M.seen medium.now).tracks }
     ensures { is_marked used.new
         ≡ with_places (is_marked used.old) (sectors_of geometry (M.seen medium.now).content entry.now) }
@@ -122,7 +127,11 @@ fn use_files<M: Medium>(medium: &M, geometry: Geometry, entries: &[Entry], used:
 }
 
 /// The sectors that the directory and the closed files use.
-fn used_sectors<M: Medium>(medium: &M, geometry: Geometry, entries: &[Entry]) -> SectorSet
+pub(crate) fn used_sectors<M: Medium>(
+    medium: &M,
+    geometry: Geometry,
+    entries: &[Entry],
+) -> SectorSet
     requires { geometry ≤ (M.seen medium.now).tracks }
     ensures { is_marked result ≡ is_among (used_in geometry (M.seen medium.now).content entries.now) }
 {
@@ -220,8 +229,9 @@ pub(crate) fn entries_or_none<M: Medium>(
     alloc: Global,
     volume: &Volume<M>,
 ) -> Result<Vec<Entry>, ShellFault>
-    ensures { let now = M.seen volume.now in IfOk result (λ v.
+    ensures ok { let now = M.seen volume.now in IfOk result (λ v.
         v.items ≡ entries_in (directory_of (geometry_of now.tracks now.content) now.content)) }
+    ensures err { IfErr result (λ fault. fault ≡ ShellFault.Memory) }
 {
     match entries_of(alloc, volume) {
         Ok(entries) => Ok(entries),
@@ -250,8 +260,9 @@ fn add_tracks<M: Medium>(
 /// A line for each track that the disk uses, with a sign for each sector, between the sectors' numbers and what the signs mean.
 /// Where the directory can't be followed to its end, no file's sectors are used. The one error is `Memory`.
 pub fn picture_of<M: Medium + Drop>(alloc: Global, medium: M) -> Result<Vec<u8>, ShellFault>
-    ensures { let now = M.seen medium in
+    ensures ok { let now = M.seen medium in
         IfOk result (λ v. v.items ≡ picture_of (geometry_of now.tracks now.content) now.content) }
+    ensures err { IfErr result (λ fault. fault ≡ ShellFault.Memory) }
 {
     let volume = Volume::open(medium);
     let geometry = volume.geometry();

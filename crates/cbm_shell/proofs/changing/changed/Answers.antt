@@ -38,3 +38,9 @@ returns-clause-same_tracks g c =
     let seen = g.M.Medium.seen in
     ap (λ k. (seen k).tracks) c.into_medium-2.ensures ∙ c.in_ok-apply.ensures.medium.tracks
     ∙ ap (λ k. (seen k).tracks) (c.new-dos.ensures.medium ∙ c.into_medium.ensures ∙ c.open-volume.ensures)
+
+pub returns-clause-same_protection : goal.returns-clause-same_protection
+returns-clause-same_protection g c =
+    let seen = g.M.Medium.seen in
+    ap (λ k. (seen k).protected) c.into_medium-2.ensures ∙ c.in_ok-apply.ensures.medium.protected
+    ∙ ap (λ k. (seen k).protected) (c.new-dos.ensures.medium ∙ c.into_medium.ensures ∙ c.open-volume.ensures)

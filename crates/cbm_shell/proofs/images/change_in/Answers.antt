@@ -18,8 +18,8 @@ returns-in_err-disk-2-clause-made g c = λ d h.
     let seen = g.I.Medium.seen c.in_ok-disk.disk in
     let opened = c.in_ok-disk.ensures.ok in
     let p = err_from_is_err_and c.from_residual-in_err-disk-2.result c.from_residual-in_err-disk-2.ensures.1 in
-    rw (p.1 ∙ ap Err p.2) (subst (λ m. IsFailed c.args.change.now m c.in_err-disk-2.field-0.0) (same_start c.args.image.now seen d opened)
-    (as_other_fault (IsUndone c.args.change.now (start d seen.protected seen.tracks)) _
+    rw (p.1 ∙ ap Err p.2) (subst (λ m. IsFailed c.args.image.now c.args.change.now m c.in_err-disk-2.field-0.0) (same_start c.args.image.now seen d opened)
+    (as_other_fault c.args.image.now (IsUndone c.args.change.now (start d seen.protected seen.tracks)) _ (λ n h. h)
     (c.in_err-disk-2.ensures.made d (opened_holds c.args.image.now seen d opened h))))
 
 pub returns-clause-made : goal.returns-clause-made
@@ -29,7 +29,7 @@ returns-clause-made g c = λ d h.
     let after = g.I.Medium.seen c.in_ok-disk-2.disk in
     let made = subst (λ m. IsFine (after_change c.args.change.now m).status × HoldsDisk after.tracks after.content (after_change c.args.change.now m).disk)
     (same_start c.args.image.now seen d opened) (c.in_ok-disk-2.ensures.made d (opened_holds c.args.image.now seen d opened h)) in
-    saved_image (λ v. v.items) g.I.DiskImage.kind (kind_of c.args.image.now) after _ _
+    saved_image c.args.image.now (λ v. v.items) g.I.DiskImage.kind (kind_of c.args.image.now) after _ _
     (IsUndone c.args.change.now (start d false (tracks_of (kind_of c.args.image.now) c.args.image.now))) c.saved.result c.requires c.saved.ensures.ok c.saved.ensures.err made.0 made.1
 
 pub returns-clause-sound : goal.returns-clause-sound

@@ -3,8 +3,8 @@ use Rattle.cbm_shell.specs.Images.{IsChecked}
 use Rattle.cbm_shell.proofs.ImageLemmas.{checked_image, as_checked}
 use Rattle.cbm_shell.proofs.images.check_in.Goals as goal
 
-pub returns : goal.returns
-returns g c =
+pub returns-clause-ok : goal.returns-clause-ok
+returns-clause-ok g c =
     let seen = g.I.Medium.seen in
     checked_image c.args.image.now (seen c.in_ok-opened.field-0) c.check.result c.in_ok-opened.ensures.ok
     (subst (λ k. IsChecked (seen k).tracks (seen k).content c.check.result) c.open-volume.ensures (as_checked (seen c.open-volume.result).tracks (seen c.open-volume.result).content c.check.result c.check.ensures.sound c.check.ensures.err))

@@ -1,6 +1,7 @@
 use Rattle.std.proofs.Common.{◌≡◌, List, ℕ, subst, sym, ap, ◌∙◌, Ok}
 use Rattle.cbm_volume.specs.Map.{geometry_of}
 use Rattle.cbm_program.specs.Images.{kind_of, tracks_of, content_of}
+use Rattle.cbm_volume.specs.Sweeps.{IsPutInOrder}
 use Rattle.cbm_shell.specs.Freeing.{AreFreed}
 use Rattle.cbm_shell.proofs.ImageLemmas.{in_order}
 use Rattle.cbm_shell.proofs.images.validate_in.Goals as goal
@@ -16,3 +17,10 @@ returns-clause-freed g c =
     let old = content_of kind c.args.image.now in
     subst (λ t. AreFreed (geometry_of (tracks_of kind c.args.image.now) old) old t c.in_ok-freed.freed.blocks.items c.in_ok-freed.freed.takes_geos)
     (c.in_ok-image.ensures.ok.same_content ∙ ap (λ k. content_of k c.in_ok-image.image.items) (sym c.requires)) c.in_ok-freed.ensures
+
+pub returns-clause-changes : goal.returns-clause-changes
+returns-clause-changes g c =
+    let kind = kind_of c.args.image.now in
+    let old = content_of kind c.args.image.now in
+    subst (λ t. IsPutInOrder (geometry_of (tracks_of kind c.args.image.now) old) old t)
+    (c.in_ok-image.ensures.ok.same_content ∙ ap (λ k. content_of k c.in_ok-image.image.items) (sym c.requires)) c.in_ok-new.ensures.changes

@@ -1,5 +1,9 @@
-use Rattle.std.proofs.Common.{subst, sym, ◌≡◌, ◌∙◌, ap}
+use Rattle.std.proofs.Common.{ℕ, subst, sym, ◌≡◌, ◌∙◌, ap}
+use Rattle.cbm_medium.specs.Content.{Content}
+use Rattle.cbm_volume.specs.Map.{geometry_of}
+use Rattle.cbm_volume.specs.Sweeps.{IsPutInOrder}
 use Rattle.cbm_shell.specs.Images.{IsOrderly}
+use Rattle.cbm_shell.proofs.ImageLemmas.{of_image}
 use Rattle.cbm_shell.proofs.images.validated.Goals as goal
 
 pub returns-clause-tracks : goal.returns-clause-tracks
@@ -12,3 +16,10 @@ returns-clause-order g c =
     let seen = g.I.Medium.seen in
     let after = subst (λ n. IsOrderly n (seen c.validate.new.self).content) (sym c.validate.ensures.only.tracks) c.in_ok-validate.ensures.sound in
     subst (λ k. IsOrderly (seen k).tracks (seen k).content) (sym c.into_medium.ensures) after
+
+pub returns-clause-changes : goal.returns-clause-changes
+returns-clause-changes g c =
+    let seen = g.I.Medium.seen in
+    let after = subst (λ k. IsPutInOrder (geometry_of (seen k).tracks (seen k).content) (seen k).content (seen c.validate.new.self).content) c.open-volume.ensures c.in_ok-validate.ensures.in_order in
+    of_image (λ (n : ℕ) (t : Content). IsPutInOrder (geometry_of n t) t (seen c.into_medium.result).content) c.args.image.now (seen c.in_ok-opened.field-0) c.in_ok-opened.ensures.ok
+    (subst (λ k. IsPutInOrder (geometry_of (seen c.in_ok-opened.field-0).tracks (seen c.in_ok-opened.field-0).content) (seen c.in_ok-opened.field-0).content (seen k).content) (sym c.into_medium.ensures) after)

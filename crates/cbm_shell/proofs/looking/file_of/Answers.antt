@@ -9,6 +9,6 @@ pub returns : goal.returns
 returns c = λ d n bytes h stands has.
     let seen = shown_by c.in_ok-disk.disk in
     let opened = c.in_ok-disk.ensures.ok in
-    or_open_fault c.file_of.result (λ v. v.items ≡ bytes) (λ f. f ≡ fault.Memory)
+    or_open_fault c.args.image.now c.file_of.result (λ v. v.items ≡ bytes) (λ f. f ≡ fault.Memory) (λ n h. absurd (cc))
     (c.file_of.ensures d n bytes (opened_holds c.args.image.now seen d opened h)
     (from_image (λ m t. StandsAt m t n c.args.entry.now) c.args.image.now seen opened stands) has)

@@ -1,4 +1,4 @@
-use Rattle.std.proofs.Common.{◌≡◌}
+use Rattle.std.proofs.Common.{◌≡◌, ◌∙◌}
 use Rattle.cbm_shell.specs.Sectors.{faults_in}
 use Rattle.cbm_shell.specs.Images.{IsChecked}
 use Rattle.cbm_shell.proofs.ImageLemmas.{opened_holds, of_image}
@@ -7,6 +7,9 @@ use Rattle.cbm_shell.proofs.looking.info_in.Goals as goal
 pub returns-clause-faults : goal.returns-clause-faults
 returns-clause-faults g c =
     of_image (λ n t. c.in_ok-info.info.unreadable.items ≡ faults_in t n) c.args.image.now (g.I.Medium.seen c.in_ok-disk.disk) c.in_ok-disk.ensures.ok c.in_ok-info.ensures.faults
+
+pub returns-clause-tracks : goal.returns-clause-tracks
+returns-clause-tracks g c = c.in_ok-info.ensures.tracks ∙ c.in_ok-disk.ensures.ok.same_tracks
 
 pub returns-clause-check : goal.returns-clause-check
 returns-clause-check g c =

@@ -1,0 +1,20 @@
+-- From the disk of an image to the image, where an entry is cleared.
+use Rattle.std.proofs.Common.{◌≡◌, ℕ, List, sym, subst}
+use Rattle.cbm_medium.specs.Content.{Content}
+use Rattle.cbm_medium.specs.Seen.{Seen}
+use Rattle.cbm_volume.specs.Map.{geometry_of}
+use Rattle.cbm_volume.specs.check.WholeDisk.{DiskFault}
+use Rattle.cbm_volume.specs.declared.Unsound.{Unsound}
+use Rattle.cbm_directory.specs.EntryChanges.{ClearsLed}
+use Rattle.cbm_program.specs.declared.kind.Kind.{Kind}
+use Rattle.cbm_program.specs.Images.{kind_of, tracks_of, content_of}
+use Rattle.cbm_shell.specs.Images.{IsOpened}
+use Rattle.cbm_shell.specs.Forgetting.{IsForgotten}
+use Rattle.cbm_shell.proofs.ImageLemmas.{of_image}
+
+pub forgot : (image new : List ℕ) (seen : Seen) (kind : Kind) (slot : ℕ) (u : Unsound) → IsOpened image seen → kind_of image ≡ kind
+    → DiskFault (geometry_of seen.tracks seen.content) seen.content u → ClearsLed (geometry_of seen.tracks seen.content) seen.content (content_of kind new) slot
+    → IsForgotten (geometry_of (tracks_of (kind_of image) image) (content_of (kind_of image) image)) (content_of (kind_of image) image) (content_of (kind_of image) new) slot
+forgot image new seen kind slot u opened same fault cleared =
+    subst (λ (k : Kind). IsForgotten (geometry_of (tracks_of (kind_of image) image) (content_of (kind_of image) image)) (content_of (kind_of image) image) (content_of k new) slot) (sym same)
+    (of_image (λ (n : ℕ) (c : Content). IsForgotten (geometry_of n c) c (content_of kind new) slot) image seen opened (record { fault = u; unsound = fault; cleared = cleared }))

@@ -1,0 +1,21 @@
+-- Entries of the directory that change places.
+use Rattle.std.specs.Prelude.{ℕ, ◌≡◌, List, [], ◌∷◌, Some, Ok}
+use Rattle.cbm_medium.specs.Content.{Content}
+use Rattle.cbm_volume.specs.Entries.{EntersLed}
+use Rattle.cbm_volume.specs.Slots.{Answers, directory_of}
+use Rattle.cbm_shell.specs.declared.swapping.Swap.{Swap}
+
+-- TWO ENTRIES CHANGE PLACES: each slot has the thirty bytes of the other, and nothing else is changed.
+pub record Swaps (tracks : ℕ) (swap : Swap) (old new : Content) : Type 0 where
+  pub one : List ℕ
+  pub other : List ℕ
+  pub at_first : Answers (directory_of tracks old) swap.first (Ok (Some one))
+  pub at_second : Answers (directory_of tracks old) swap.second (Ok (Some other))
+  pub between : Content
+  pub first : EntersLed tracks old between swap.first other
+  pub second : EntersLed tracks between new swap.second one
+
+-- one swap after the other
+abbrev pub AreSwapped : ℕ → List Swap → Content → Content → Type 0
+AreSwapped tracks [] old new = new ≡ old
+AreSwapped tracks (swap ∷ rest) old new = (between : Content) × Swaps tracks swap old between × AreSwapped tracks rest between new

@@ -1,0 +1,65 @@
+-- A deleted file that is given back.
+use Rattle.std.specs.Prelude.{ℕ, ◌≡◌, ◌+◌, ◌&&◌, not, Bool, true, List, [], ◌∷◌, ◌++◌, slice_index, slice_set, Some, Ok}
+use Rattle.cbm_medium.specs.Place.{Place, Has, directory_head}
+use Rattle.cbm_medium.specs.Content.{Content, written}
+use Rattle.cbm_bam.specs.Map.{map_of, is_free_in, IsCounted, IsOutside}
+use Rattle.cbm_file.specs.Types.{type_number}
+use Rattle.cbm_file.specs.declared.file_type.FileType.{FileType}
+use Rattle.cbm_volume.specs.Entries.{type_byte, first_block, EntersLed}
+use Rattle.cbm_volume.specs.Slots.{Answers, directory_of}
+use Rattle.cbm_volume.specs.Map.{geometry_of}
+use Rattle.cbm_volume.specs.Layouts.{Layout, Sound}
+use Rattle.cbm_program.specs.declared.kind.Kind.{Kind}
+use Rattle.cbm_program.specs.Images.{tracks_of, content_of}
+use Rattle.cbm_shell.specs.Mapping.{chain_of, entries_in, free_by, is_among, used_in}
+use Rattle.cbm_shell.specs.Geos.{border_in, in_geos}
+use Rattle.cbm_shell.specs.Lost.{lost_of}
+
+-- the entry with a type, closed, and all else as it was
+abbrev pub restored_entry : FileType → List ℕ → List ℕ
+restored_entry kind e = slice_set e 0 (128 + type_number kind)
+
+-- the entry stands in this slot, and is that of no file
+pub record IsDeleted (tracks : ℕ) (content : Content) (slot : ℕ) (entry : List ℕ) : Type 0 where
+  pub stands : Answers (directory_of tracks content) slot (Ok (Some entry))
+  pub deleted : type_byte entry ≡ 0
+
+-- the map has each of these sectors as free
+unfoldable pub all_free : Content → List Place → Bool
+all_free content [] = true
+all_free content (p ∷ rest) = free_by (content directory_head) p && all_free content rest
+
+-- each block of the entry's chain is free, and none of the disk is lost
+pub record IsClear (tracks : ℕ) (content : Content) (entry : List ℕ) : Type 0 where
+  pub free : all_free content (chain_of tracks content (first_block entry)) ≡ true
+  pub none_lost : lost_of content tracks (directory_of tracks content) ≡ []
+
+-- what is taken on the disk with one chain more: the directory, the files, what GEOS uses, and the chain
+abbrev pub held_with : ℕ → Content → List (List ℕ) → Place → List Place
+held_with tracks content entries from =
+    ((used_in tracks content entries ++ border_in tracks content (content directory_head)) ++ in_geos tracks content entries) ++ chain_of tracks content from
+
+-- the map is written anew, each block is free but these, and what else stands in 18/0 stays
+pub record IsMapAnew (tracks : ℕ) (old new : Content) (held : Place → Bool) : Type 0 where
+  pub map : List ℕ
+  pub written : new ≡ written old directory_head map
+  pub bits : (p : Place) → Has tracks p → is_free_in map p ≡ not (held p)
+  pub counted : IsCounted tracks map
+  pub outside : (i : ℕ) → IsOutside tracks i → slice_index map i ≡ slice_index (map_of old) i
+
+-- the entry has its type, and the map has the chain as taken; nothing else is changed
+pub record IsGivenAgain (tracks : ℕ) (old new : Content) (slot : ℕ) (kind : FileType) (entry : List ℕ) : Type 0 where
+  pub middle : Content
+  pub entered : EntersLed tracks old middle slot (restored_entry kind entry)
+  pub mapped : IsMapAnew tracks middle new (is_among (held_with tracks old (entries_in (directory_of tracks old)) (first_block entry)))
+
+-- THE DELETED FILE in a slot is given back
+pub record IsUndeleted (tracks : ℕ) (old new : Content) (slot : ℕ) (kind : FileType) : Type 0 where
+  pub entry : List ℕ
+  pub deleted : IsDeleted tracks old slot entry
+  pub clear : IsClear tracks old entry
+  pub given : IsGivenAgain tracks old new slot kind entry
+
+-- the disk of an image of this format is sound
+abbrev pub IsSoundImage : Kind → List ℕ → Type 0
+IsSoundImage kind image = (l : Layout) × Sound (geometry_of (tracks_of kind image) (content_of kind image)) (content_of kind image) l

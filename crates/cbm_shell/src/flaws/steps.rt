@@ -1,0 +1,74 @@
+//! A sector of a walk along the disk.
+ghost use Rattle.std.specs.Prelude.{◌≡◌, ◌≤◌, ◌++◌, ◌∷◌, [], true, false, None, IfOk, OnOk, MatchOption};
+ghost use Rattle.cbm_bam.specs.Marks.{is_marked};
+ghost use Rattle.cbm_volume.specs.check.Claims.{is_inside, wrong_at};
+ghost use Rattle.cbm_shell.specs.Flaws.{part_of, flawed, flaw_if, IsStep};
+
+use super::found::{DiskFlaw, Whose, flawed};
+use crate::looking::is_free_at;
+use cbm_bam::SectorSet;
+use cbm_medium::{Address, Geometry, Link, Medium};
+use std::alloc::AllocError;
+
+/// The sector that a link names, where that lies in the part of the disk that is followed.
+fn inside(geometry: Geometry, whose: Whose, at: Link) -> Option<Address>
+    ensures { MatchOption result (is_inside (part_of whose) geometry at ≡ false)
+        (λ a. (a ≡ at) × (is_inside (part_of whose) geometry at ≡ true)) }
+{
+    let address = at.address(geometry)?;
+    if (address.track() == 18) == whose.is_directory() {
+        Some(address)
+    } else {
+        None
+    }
+}
+
+/// Ends a walk with a flaw.
+fn stop(out: &mut Vec<DiskFlaw>, flaw: DiskFlaw) -> Result<Option<[u8; 256]>, AllocError>
+    ensures added { OnOk result (out.new.items ≡ out.old.items ++ flaw ∷ []) }
+    ensures none { IfOk result (λ o. o ≡ None) }
+{
+    out.push(flaw).map_err(AllocError::from)?;
+    Ok(None)
+}
+
+/// Adds that a sector is used and the map has it as free, if it does.
+fn add_free(out: &mut Vec<DiskFlaw>, is_free: bool, flaw: DiskFlaw) -> Result<(), AllocError>
+    ensures { OnOk result (out.new.items ≡ out.old.items ++ flaw_if is_free flaw) }
+{
+    if is_free {
+        out.push(flaw).map_err(AllocError::from)?;
+    }
+    Ok(())
+}
+
+/// Claims the next sector of a walk, unless more than the map is against it, and answers its bytes; None where the walk ends
+/// there. What is wrong is added.
+pub(super) fn step<M: Medium>(
+    medium: &M,
+    geometry: Geometry,
+    whose: Whose,
+    before: u16,
+    at: Link,
+    claimed: &mut SectorSet,
+    out: &mut Vec<DiskFlaw>,
+) -> Result<Option<[u8; 256]>, AllocError>
+    requires { geometry ≤ (M.seen medium.now).tracks }
+    ensures { let content = (M.seen medium.now).content in
+        IfOk result (IsStep (wrong_at (part_of whose) geometry content (is_marked claimed.old) at) (flawed whose before at)
+        content at (is_marked claimed.old) (is_marked claimed.new) out.old.items out.new.items) }
+{
+    let Some(address) = inside(geometry, whose, at) else {
+        return stop(out, flawed(whose, before, at, whose.outside()));
+    };
+    if claimed.has(address) {
+        return stop(out, flawed(whose, before, at, 3));
+    }
+    let Ok(bytes) = medium.read(address) else {
+        return stop(out, flawed(whose, before, at, 9));
+    };
+    let is_free = is_free_at(medium, geometry, address);
+    add_free(out, is_free, flawed(whose, before, at, 2))?;
+    claimed.insert(address);
+    Ok(Some(bytes))
+}

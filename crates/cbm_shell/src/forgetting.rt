@@ -1,0 +1,82 @@
+//! Taking the entry of a file out of the directory of a disk that isn't sound.
+ghost use Rattle.std.specs.Prelude.{◌≡◌, ◌≤◌, IfOk, MatchOption};
+ghost use Rattle.cbm_volume.specs.Map.{geometry_of};
+ghost use Rattle.cbm_volume.specs.Layouts.{Layout, Sound};
+ghost use Rattle.cbm_program.specs.Images.{kind_of, tracks_of, content_of};
+ghost use Rattle.cbm_directory.specs.EntryChanges.{ClearsLed};
+ghost use Rattle.cbm_shell.specs.Forgetting.{IsForgotten};
+
+use crate::fault::ShellFault;
+use crate::images::{opened, saved};
+use cbm_d64::D64Disk;
+use cbm_directory::clear_slot;
+use cbm_g64::G64Disk;
+use cbm_medium::Medium;
+use cbm_program::{DiskImage, Kind, kind_of};
+use cbm_volume::Volume;
+use std::alloc::Global;
+
+/// The disk with the entry in a slot cleared. Errors: `Trouble`, where the directory breaks off before, or the medium refuses
+/// to be written.
+fn cleared<M: Medium + Drop>(volume: Volume<M>, slot: u8) -> Result<M, ShellFault>
+    ensures tracks { IfOk result (λ after. (M.seen after).tracks ≡ (M.seen volume).tracks) }
+    ensures cleared { let old = M.seen volume in
+        IfOk result (λ after. ClearsLed (geometry_of old.tracks old.content) old.content (M.seen after).content slot) }
+{
+    let geometry = volume.geometry();
+    let mut medium = volume.into_medium();
+    clear_slot(&mut medium, geometry, slot)?;
+    Ok(medium)
+}
+
+/// The image of a disk with the entry in a slot cleared.
+fn without_entry<I: DiskImage + Drop>(
+    alloc: Global,
+    volume: Volume<I>,
+    slot: u8,
+) -> Result<Vec<u8>, ShellFault>
+    ensures { let old = I.seen volume in IfOk result (λ v.
+        ClearsLed (geometry_of old.tracks old.content) old.content (content_of I.kind v.items) slot) }
+{
+    let disk = cleared(volume, slot)?;
+    saved(alloc, &disk)
+}
+
+/// Clears an entry of the disk of an image of one format.
+fn forget_in<I: DiskImage + Drop>(
+    alloc: Global,
+    image: &[u8],
+    slot: u8,
+) -> Result<Option<Vec<u8>>, ShellFault>
+    requires { kind_of image.now ≡ I.kind }
+    ensures { let kind = kind_of image.now in
+        let tracks = geometry_of (tracks_of kind image.now) (content_of kind image.now) in
+        IfOk result (λ o. MatchOption o ((l : Layout) × Sound tracks (content_of kind image.now) l)
+        (λ v. IsForgotten tracks (content_of kind image.now) (content_of kind v.items) slot)) }
+{
+    let disk = opened::<I>(alloc, image)?;
+    let volume = Volume::open(disk);
+    match volume.check() {
+        Ok(()) => Ok(None),
+        Err(_) => {
+            let new = without_entry(alloc, volume, slot)?;
+            Ok(Some(new))
+        }
+    }
+}
+
+/// Takes the entry in a slot out of the directory of a disk that isn't sound, locked or not: its type byte is 0 then. Its blocks
+/// stay taken until the disk is put in order. None where the disk is sound: there the drive's own SCRATCH does it. Errors:
+/// `Image`; `Trouble`, where the directory breaks off before the slot, or the medium can't be written; `Memory`.
+pub fn forget(alloc: Global, image: &[u8], slot: u8) -> Result<Option<Vec<u8>>, ShellFault>
+    // One byte of one entry is changed, and nothing else of the image; nothing at all on a sound disk.
+    ensures { let kind = kind_of image.now in
+        let tracks = geometry_of (tracks_of kind image.now) (content_of kind image.now) in
+        IfOk result (λ o. MatchOption o ((l : Layout) × Sound tracks (content_of kind image.now) l)
+        (λ v. IsForgotten tracks (content_of kind image.now) (content_of kind v.items) slot)) }
+{
+    match kind_of(image) {
+        Kind::D64 => forget_in::<D64Disk>(alloc, image, slot),
+        Kind::G64 => forget_in::<G64Disk>(alloc, image, slot),
+    }
+}

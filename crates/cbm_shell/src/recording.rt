@@ -1,0 +1,128 @@
+//! Relative files, made as the drive makes them.
+ghost use Rattle.std.specs.Prelude.{◌≡◌, ◌≤◌, ℕ, map, take, false, MatchResult, IfErr, IfOk, IsOk, OnOk};
+ghost use Rattle.cbm_channel.specs.Codes.{code_number};
+ghost use Rattle.cbm_channel.specs.Machines.{Machine, start};
+ghost use Rattle.cbm_channel.specs.Standing.{Stands, Leads};
+ghost use Rattle.cbm_channel.specs.Going.{KeepsMedium};
+ghost use Rattle.cbm_file.specs.Files.{Disk};
+ghost use Rattle.cbm_volume.specs.Map.{geometry_of};
+ghost use Rattle.cbm_volume.specs.Layouts.{Layout, Sound};
+ghost use Rattle.cbm_volume.specs.Holding.{HoldsDisk};
+ghost use Rattle.cbm_program.specs.Images.{kind_of, tracks_of, content_of, ImageHolds};
+ghost use Rattle.cbm_shell.specs.Changing.{IsFine, IsRefusal};
+ghost use Rattle.cbm_shell.specs.Recording.{hear_all, after_records, IsUnmade, IsUnmadeIn, IsStoppedAt};
+
+use crate::changing::{require_sound, told};
+use crate::fault::ShellFault;
+use crate::hearing::hear;
+use crate::images::{opened, saved};
+use cbm_channel::Dos;
+use cbm_d64::D64Disk;
+use cbm_g64::G64Disk;
+use cbm_medium::{Medium, Steady};
+use cbm_program::{DiskImage, Kind, kind_of};
+use cbm_volume::Volume;
+use std::alloc::Global;
+
+/// The channel on which the file is written.
+const WRITING: u8 = 2;
+
+/// A relative file that is made.
+#[derive(Clone, Copy)]
+pub struct Records<'a> {
+    /// The text of the OPEN that makes it, such as `0:NAME,L,` and a byte, the length of its records.
+    pub text: &'a [u8],
+    /// Its records in order.
+    pub records: &'a [&'a [u8]],
+}
+
+/// Sends the records to a channel, one after another. Errors: `Refused`, with the status after the first that was refused.
+fn hear_each<M: Steady>(dos: &mut Dos<M>, channel: u8, records: &[&[u8]]) -> Result<(), ShellFault>
+    requires { channel ≤ 15 }
+    ensures leads { OnOk result (Leads M.seen dos.old dos.new (hear_all channel (map (λ r. r.now) records.now))) }
+    ensures stopped { (m : Machine) → Stands M.seen dos.old m →
+        IfErr result (IsStoppedAt channel (map (λ r. r.now) records.now) m) }
+    ensures refused { IfErr result IsRefusal }
+    ensures medium { KeepsMedium (M.seen dos.old.medium) (M.seen dos.new.medium) }
+{
+    for record in records {
+        hear(dos, channel, *record);
+        told(dos.status())?;
+    }
+    Ok(())
+}
+
+/// Makes a relative file on a drive. Errors: `Refused`.
+fn record_on<M: Steady>(dos: &mut Dos<M>, file: Records<'_>) -> Result<(), ShellFault>
+    ensures made { (m : Machine) → Stands M.seen dos.old m → MatchResult result
+        (λ _. IsFine (after_records file.entry.text.now (map (λ r. r.now) file.entry.records.now) m).status
+        × Stands M.seen dos.new (after_records file.entry.text.now (map (λ r. r.now) file.entry.records.now) m))
+        (IsUnmade file.entry.text.now (map (λ r. r.now) file.entry.records.now) m) }
+    ensures refused { IfErr result IsRefusal }
+    ensures medium { KeepsMedium (M.seen dos.old.medium) (M.seen dos.new.medium) }
+{
+    dos.open(WRITING, file.text);
+    told(dos.status())?;
+    hear_each(dos, WRITING, file.records)?;
+    dos.close(WRITING);
+    told(dos.status())
+}
+
+/// A disk with a relative file more, if it is sound. Errors: `Unsound`; `Refused`.
+fn recorded<M: Steady + Drop>(medium: M, file: Records<'_>) -> Result<M, ShellFault>
+    ensures made { let old = M.seen medium in (d : Disk) → HoldsDisk old.tracks old.content d →
+        let m = start d old.protected old.tracks in MatchResult result
+        (λ after. IsFine (after_records file.entry.text.now (map (λ r. r.now) file.entry.records.now) m).status
+        × HoldsDisk (M.seen after).tracks (M.seen after).content
+        (after_records file.entry.text.now (map (λ r. r.now) file.entry.records.now) m).disk)
+        (IsUnmade file.entry.text.now (map (λ r. r.now) file.entry.records.now) m) }
+    ensures sound { let old = M.seen medium in
+        OnOk result ((l : Layout) × Sound (geometry_of old.tracks old.content) old.content l) }
+    ensures same_tracks { IfOk result (λ after. (M.seen after).tracks ≡ (M.seen medium).tracks) }
+{
+    let volume = Volume::open(medium);
+    require_sound(&volume)?;
+    let mut dos = Dos::new(volume.into_medium());
+    record_on(&mut dos, file)?;
+    Ok(dos.into_medium())
+}
+
+/// Makes a relative file on the disk of an image of one format.
+fn put_records_in<I: DiskImage + Drop>(
+    alloc: Global,
+    image: &[u8],
+    file: Records<'_>,
+) -> Result<Vec<u8>, ShellFault>
+    requires { kind_of image.now ≡ I.kind }
+    ensures made { let kind = kind_of image.now in (d : Disk) → ImageHolds kind image.now d →
+        let m = start d false (tracks_of kind image.now) in MatchResult result
+        (λ v. IsFine (after_records file.entry.text.now (map (λ r. r.now) file.entry.records.now) m).status
+        × ImageHolds kind v.items (after_records file.entry.text.now (map (λ r. r.now) file.entry.records.now) m).disk)
+        (IsUnmadeIn image.now file.entry.text.now (map (λ r. r.now) file.entry.records.now) m) }
+    ensures sound { let kind = kind_of image.now in
+        let tracks = geometry_of (tracks_of kind image.now) (content_of kind image.now) in
+        OnOk result ((l : Layout) × Sound tracks (content_of kind image.now) l) }
+{
+    let disk = opened::<I>(alloc, image)?;
+    let disk = recorded(disk, file)?;
+    saved(alloc, &disk)
+}
+
+/// Makes a relative file on the disk of an image, and gives the image as it is then. Errors: `Image`; `Unsound`, with what is
+/// wrong first; `Refused`, with the drive's status; `Memory`.
+pub fn put_records(alloc: Global, image: &[u8], file: Records<'_>) -> Result<Vec<u8>, ShellFault>
+    ensures made { let kind = kind_of image.now in (d : Disk) → ImageHolds kind image.now d →
+        let m = start d false (tracks_of kind image.now) in MatchResult result
+        (λ v. IsFine (after_records file.entry.text.now (map (λ r. r.now) file.entry.records.now) m).status
+        × ImageHolds kind v.items (after_records file.entry.text.now (map (λ r. r.now) file.entry.records.now) m).disk)
+        (IsUnmadeIn image.now file.entry.text.now (map (λ r. r.now) file.entry.records.now) m) }
+    // An image that isn't sound gives no new one.
+    ensures sound { let kind = kind_of image.now in
+        let tracks = geometry_of (tracks_of kind image.now) (content_of kind image.now) in
+        OnOk result ((l : Layout) × Sound tracks (content_of kind image.now) l) }
+{
+    match kind_of(image) {
+        Kind::D64 => put_records_in::<D64Disk>(alloc, image, file),
+        Kind::G64 => put_records_in::<G64Disk>(alloc, image, file),
+    }
+}

@@ -1,0 +1,58 @@
+//! Several changes of one disk, one after another.
+ghost use Rattle.std.specs.Prelude.{◌≡◌, false, MatchResult};
+ghost use Rattle.cbm_file.specs.Files.{Disk};
+ghost use Rattle.cbm_volume.specs.Holding.{HoldsDisk};
+ghost use Rattle.cbm_program.specs.Images.{kind_of, tracks_of, ImageHolds};
+ghost use Rattle.cbm_shell.specs.Images.{OrOpenFault};
+ghost use Rattle.cbm_shell.specs.Several.{HoldsAfter, ImageAfter, AreUndone};
+
+use crate::changing::{Change, changed};
+use crate::fault::ShellFault;
+use crate::images::{opened, saved};
+use cbm_d64::D64Disk;
+use cbm_g64::G64Disk;
+use cbm_medium::Steady;
+use cbm_program::{DiskImage, Kind, kind_of};
+use std::alloc::Global;
+
+/// Makes changes on a disk, one after another. Errors: as of the first change that isn't made.
+fn changed_by<M: Steady + Drop>(medium: M, changes: &[Change<'_>]) -> Result<M, ShellFault>
+    ensures { let old = M.seen medium in (d : Disk) → HoldsDisk old.tracks old.content d → MatchResult result
+        (λ after. HoldsAfter changes.now old.protected old.tracks d (M.seen after))
+        (AreUndone changes.now old.protected old.tracks d) }
+{
+    let mut disk = medium;
+    for change in changes {
+        disk = changed(disk, change)?;
+    }
+    Ok(disk)
+}
+
+/// Makes changes on the disk of an image of one format.
+fn changes_in<I: DiskImage + Drop>(
+    alloc: Global,
+    image: &[u8],
+    changes: &[Change<'_>],
+) -> Result<Vec<u8>, ShellFault>
+    requires { kind_of image.now ≡ I.kind }
+    ensures { let kind = kind_of image.now in (d : Disk) → ImageHolds kind image.now d → MatchResult result
+        (λ v. ImageAfter changes.now kind (tracks_of kind image.now) d v.items)
+        (OrOpenFault image.now (AreUndone changes.now false (tracks_of kind image.now) d)) }
+{
+    let disk = opened::<I>(alloc, image)?;
+    let disk = changed_by(disk, changes)?;
+    saved(alloc, &disk)
+}
+
+/// Makes changes on the disk of an image, one after another, and gives the image as it is then: all of them are made, or none.
+/// The image is opened and made anew once. Errors: those of `change`, of the first change that isn't made.
+pub fn changes(alloc: Global, image: &[u8], changes: &[Change<'_>]) -> Result<Vec<u8>, ShellFault>
+    ensures { let kind = kind_of image.now in (d : Disk) → ImageHolds kind image.now d → MatchResult result
+        (λ v. ImageAfter changes.now kind (tracks_of kind image.now) d v.items)
+        (OrOpenFault image.now (AreUndone changes.now false (tracks_of kind image.now) d)) }
+{
+    match kind_of(image) {
+        Kind::D64 => changes_in::<D64Disk>(alloc, image, changes),
+        Kind::G64 => changes_in::<G64Disk>(alloc, image, changes),
+    }
+}

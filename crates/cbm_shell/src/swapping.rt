@@ -1,0 +1,122 @@
+//! Entries of the directory in another order, which no command of the drive makes.
+ghost use Rattle.std.specs.Prelude.{◌≡◌, ◌≤◌, Some, Ok, IfOk, OnOk};
+ghost use Rattle.cbm_volume.specs.Map.{geometry_of};
+ghost use Rattle.cbm_volume.specs.Slots.{Answers, directory_of};
+ghost use Rattle.cbm_volume.specs.Layouts.{Layout, Sound};
+ghost use Rattle.cbm_program.specs.Images.{kind_of, tracks_of, content_of};
+ghost use Rattle.cbm_shell.specs.Swapping.{Swaps, AreSwapped};
+
+use crate::changing::require_sound;
+use crate::fault::ShellFault;
+use crate::images::{opened, saved};
+use cbm_d64::D64Disk;
+use cbm_directory::{put_slot, slot};
+use cbm_g64::G64Disk;
+use cbm_medium::{Geometry, Medium};
+use cbm_program::{DiskImage, Kind, kind_of};
+use cbm_volume::{Entry, Volume};
+use std::alloc::Global;
+
+/// Two slots of the directory whose entries change places, by their numbers from 0 on.
+#[derive(Clone, Copy, Debug, PartialEq, Eq)]
+pub struct Swap {
+    /// The one.
+    pub first: u8,
+    /// The other.
+    pub second: u8,
+}
+
+/// The entry of a slot. Errors: `NotFound`, where the directory has no such slot; `Trouble`.
+pub(crate) fn entry_at<M: Medium>(
+    medium: &M,
+    geometry: Geometry,
+    number: u8,
+) -> Result<Entry, ShellFault>
+    requires { geometry ≤ (M.seen medium.now).tracks }
+    ensures { IfOk result (λ e. Answers (directory_of geometry (M.seen medium.now).content) number (Ok (Some e))) }
+{
+    match slot(medium, geometry, number)? {
+        Some(entry) => Ok(entry),
+        None => Err(ShellFault::NotFound),
+    }
+}
+
+/// Lets two entries change places. Errors: `NotFound`; `Trouble`.
+fn swap_two<M: Medium>(medium: &mut M, geometry: Geometry, swap: Swap) -> Result<(), ShellFault>
+    requires { geometry ≤ (M.seen medium.old).tracks }
+    ensures swaps { OnOk result (Swaps geometry swap (M.seen medium.old).content (M.seen medium.new).content) }
+    ensures tracks { (M.seen medium.new).tracks ≡ (M.seen medium.old).tracks }
+{
+    let first = entry_at(medium, geometry, swap.first)?;
+    let second = entry_at(medium, geometry, swap.second)?;
+    put_slot(medium, geometry, swap.first, &second)?;
+    put_slot(medium, geometry, swap.second, &first)?;
+    Ok(())
+}
+
+/// Lets entries change places, one pair after the other. Errors: `NotFound`; `Trouble`.
+fn swap_each<M: Medium>(
+    medium: &mut M,
+    geometry: Geometry,
+    swaps: &[Swap],
+) -> Result<(), ShellFault>
+    requires { geometry ≤ (M.seen medium.old).tracks }
+    ensures swapped { OnOk result
+        (AreSwapped geometry swaps.now (M.seen medium.old).content (M.seen medium.new).content) }
+    ensures tracks { (M.seen medium.new).tracks ≡ (M.seen medium.old).tracks }
+{
+    for swap in swaps {
+        swap_two(medium, geometry, *swap)?;
+    }
+    Ok(())
+}
+
+/// The disk on which entries have changed places. Errors: `NotFound`; `Trouble`.
+fn swapped<M: Medium + Drop>(volume: Volume<M>, swaps: &[Swap]) -> Result<M, ShellFault>
+    ensures swapped { let old = M.seen volume in IfOk result (λ after.
+        AreSwapped (geometry_of old.tracks old.content) swaps.now old.content (M.seen after).content) }
+    ensures tracks { IfOk result (λ after. (M.seen after).tracks ≡ (M.seen volume).tracks) }
+{
+    let geometry = volume.geometry();
+    let mut medium = volume.into_medium();
+    swap_each(&mut medium, geometry, swaps)?;
+    Ok(medium)
+}
+
+/// Lets entries of an image of one format change places.
+fn swap_in<I: DiskImage + Drop>(
+    alloc: Global,
+    image: &[u8],
+    swaps: &[Swap],
+) -> Result<Vec<u8>, ShellFault>
+    requires { kind_of image.now ≡ I.kind }
+    ensures swapped { let kind = kind_of image.now in
+        let tracks = geometry_of (tracks_of kind image.now) (content_of kind image.now) in
+        IfOk result (λ v. AreSwapped tracks swaps.now (content_of kind image.now) (content_of kind v.items)) }
+    ensures sound { let kind = kind_of image.now in
+        let tracks = geometry_of (tracks_of kind image.now) (content_of kind image.now) in
+        OnOk result ((l : Layout) × Sound tracks (content_of kind image.now) l) }
+{
+    let volume = Volume::open(opened::<I>(alloc, image)?);
+    require_sound(&volume)?;
+    let disk = swapped(volume, swaps)?;
+    saved(alloc, &disk)
+}
+
+/// Lets entries of an image's directory change places, one pair after the other. Errors: `Image`; `Unsound`; `NotFound`,
+/// where the directory has no such slot; `Trouble`, where the medium can't be written; `Memory`.
+pub fn swap_entries(alloc: Global, image: &[u8], swaps: &[Swap]) -> Result<Vec<u8>, ShellFault>
+    // The entries are those that were there, with all their bytes, and nothing else of the image is changed.
+    ensures swapped { let kind = kind_of image.now in
+        let tracks = geometry_of (tracks_of kind image.now) (content_of kind image.now) in
+        IfOk result (λ v. AreSwapped tracks swaps.now (content_of kind image.now) (content_of kind v.items)) }
+    // An image that isn't sound gives no new one.
+    ensures sound { let kind = kind_of image.now in
+        let tracks = geometry_of (tracks_of kind image.now) (content_of kind image.now) in
+        OnOk result ((l : Layout) × Sound tracks (content_of kind image.now) l) }
+{
+    match kind_of(image) {
+        Kind::D64 => swap_in::<D64Disk>(alloc, image, swaps),
+        Kind::G64 => swap_in::<G64Disk>(alloc, image, swaps),
+    }
+}
