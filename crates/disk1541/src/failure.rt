@@ -1,8 +1,8 @@
 //! What went wrong, and the exit status.
-use crate::refusal::{tell_foreign, tell_refusal};
+use crate::refusal::{tell_foreign, tell_refusal, tell_unmendable};
 use crate::word_fault::WordFault;
 use cbm_shell::{Foreign, ShellFault};
-use cbm_volume::Unsound;
+use cbm_volume::{Trouble, Unsound};
 use std::alloc::AllocError;
 use std::io;
 
@@ -23,6 +23,16 @@ pub enum Failure<'a> {
     Unsound(Unsound),
     /// No file that isn't locked matches the pattern, so none was deleted.
     NoneDeleted(&'a str),
+    /// No file at fault matches the pattern, so none was taken out.
+    NoneAtFault(&'a str),
+    /// The disk is sound, so no file of it is at fault.
+    IsSound(&'a str),
+    /// No deleted file matches the pattern.
+    NotDeleted(&'a str),
+    /// A deleted file can't be given back.
+    Overwritten(&'a str),
+    /// The disk can't be put in order, for what is met first.
+    Unmendable(&'a str, Trouble),
     /// A word of the command line can't be used.
     Word(WordFault<'a>),
     /// The new image would lack what was told.
@@ -33,6 +43,16 @@ pub enum Failure<'a> {
     Changed(&'a str),
     /// Putting the disk in order gives back blocks that GEOS uses, as was told.
     Geos(&'a str),
+    /// An image's files are shown, and its title, its id and its free blocks can't be read.
+    Untitled(&'a str),
+    /// A G64 has no such track.
+    NoTrack(&'a str),
+    /// A D64 has sectors, and no circles of bits.
+    NoCircles(&'a str),
+    /// A relative file isn't copied.
+    Records(&'a str),
+    /// What went wrong was told, and ends the program with this status.
+    Ended(u8),
     /// No file of an image matches what is looked for.
     NoMatch,
     /// Of several images some aren't sound, or are none, as was told one by one.
@@ -80,6 +100,7 @@ impl<'a> Failure<'a> {
             Failure::Exists(_) | Failure::Changed(_) => 3,
             Failure::Several => 4,
             Failure::Word(_) => 64,
+            Failure::Ended(status) => status,
             _ => 1,
         }
     }
@@ -98,6 +119,23 @@ impl<'a> Failure<'a> {
             Failure::Disk(name, fault) => tell_refusal(rt, name, fault),
             Failure::Word(fault) => fault.tell(rt),
             Failure::Unsound(_) | Failure::Several | Failure::Told => Ok(()),
+            Failure::Ended(_) => Ok(()),
+            Failure::Untitled(name) => {
+                eprintln!(rt;
+                    "disk1541: {name}: track 18, sector 0 can't be read: the title, the id and how many blocks are free aren't known"
+                )
+            }
+            Failure::NoTrack(name) => eprintln!(rt; "disk1541: {name} has no such track"),
+            Failure::NoCircles(name) => {
+                eprintln!(rt;
+                    "disk1541: {name} is a D64, which has the bytes of sectors, and no sync marks: `sector` shows them"
+                )
+            }
+            Failure::Records(name) => {
+                eprintln!(rt;
+                    "disk1541: {name} is a relative file, which the drive doesn't copy: take it out by `get -o FILE.r00`, and put that by --name"
+                )
+            }
             Failure::NoMemory => eprintln!(rt; "disk1541: memory ran out"),
             Failure::NoMatch => eprintln!(rt; "disk1541: no file matches"),
             Failure::Changed(name) => {
@@ -115,6 +153,21 @@ impl<'a> Failure<'a> {
             }
             Failure::Lossy(name) => {
                 eprintln!(rt; "disk1541: {name} isn't written; --lossy writes it all the same")
+            }
+            Failure::NoneAtFault(pattern) => {
+                eprintln!(rt; "disk1541: nothing is deleted: no file at fault matches {pattern}")
+            }
+            Failure::IsSound(name) => {
+                eprintln!(rt;
+                    "disk1541: {name} is sound: `disk1541 delete` without --force deletes its files"
+                )
+            }
+            Failure::Unmendable(name, trouble) => tell_unmendable(rt, name, trouble),
+            Failure::NotDeleted(name) => eprintln!(rt; "disk1541: no deleted file matches {name}"),
+            Failure::Overwritten(name) => {
+                eprintln!(rt;
+                    "disk1541: {name} isn't given back: a block of it isn't free any more, or blocks of the disk are lost"
+                )
             }
             Failure::NoneDeleted(pattern) => {
                 eprintln!(rt;

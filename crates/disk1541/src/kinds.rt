@@ -29,29 +29,55 @@ pub fn is_wrapped_name(file: &str) -> bool {
     }
 }
 
-/// The end of the text of an OPEN for a type that is said.
-fn said(kind: &str) -> Result<&'static [u8], Failure<'_>> {
+/// Whether a name has the ending of a relative file of PC64: R, and two digits.
+pub fn is_relative_name(file: &str) -> bool {
+    match Path::new(file).extension() {
+        Some(ending) => letter_of(ending) == Some(b'R'),
+        None => false,
+    }
+}
+
+/// How a relative file is called.
+const RELATIVE: &str = "rel";
+
+/// The kind of a file that is put on a disk.
+#[derive(Clone, Copy)]
+pub enum FileKind {
+    /// Bytes one after another, with the end of the text of the OPEN that writes them.
+    Plain(&'static [u8]),
+    /// Records of one length.
+    Relative,
+}
+
+/// The kind for a type that is said.
+fn said(kind: &str) -> Result<FileKind, Failure<'_>> {
+    if kind == RELATIVE {
+        return Ok(FileKind::Relative);
+    }
     for (name, _, end) in &ENDS {
         if *name == kind {
-            return Ok(*end);
+            return Ok(FileKind::Plain(*end));
         }
     }
     Err(Failure::Word(WordFault::Type(kind)))
 }
 
-/// The end of the text of an OPEN for an ending; that of a program where it says none.
-fn told(ending: &str) -> &'static [u8] {
+/// The kind for an ending; that of a program where it says none.
+fn told(ending: &str) -> FileKind {
     let wrapped = letter_of(ending);
+    if RELATIVE.eq_ignore_ascii_case(ending) || wrapped == Some(b'R') {
+        return FileKind::Relative;
+    }
     for (name, letter, end) in &ENDS {
         if name.eq_ignore_ascii_case(ending) || wrapped == Some(*letter) {
-            return *end;
+            return FileKind::Plain(*end);
         }
     }
-    PROGRAM
+    FileKind::Plain(PROGRAM)
 }
 
-/// The end of the text of an OPEN that writes a file: by the type that is said, or by the ending of its name.
-pub fn end_of<'a>(kind: Option<&'a str>, file: &str) -> Result<&'static [u8], Failure<'a>> {
+/// The kind of a file: by the type that is said, or by the ending of its name.
+pub fn kind_of_file<'a>(kind: Option<&'a str>, file: &str) -> Result<FileKind, Failure<'a>> {
     match kind {
         Some(kind) => said(kind),
         None => Ok(told(Path::new(file).extension().unwrap_or(""))),

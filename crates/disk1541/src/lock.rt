@@ -1,7 +1,6 @@
 //! Commands that change images come one after the other.
-use crate::arguments::given;
-use crate::commands::{Verb, verb_of};
 use clap::ArgMatches;
+use disk_commands::{Verb, given, verb_of};
 use std::fs::File;
 use std::path::Path;
 
@@ -9,7 +8,9 @@ use std::path::Path;
 fn changes(verb: Verb) -> bool {
     match verb {
         Verb::Put | Verb::Copy | Verb::Rename | Verb::Delete => true,
-        Verb::Lock | Verb::Unlock | Verb::Title | Verb::Validate => true,
+        Verb::Undelete | Verb::Lock | Verb::Unlock | Verb::Title | Verb::Validate => true,
+        Verb::Sort => true,
+        Verb::Describe | Verb::Build | Verb::Track => false,
         Verb::List | Verb::Find | Verb::Get | Verb::GetAll | Verb::Info => false,
         Verb::Map | Verb::Sector | Verb::Check | Verb::Hash | Verb::New | Verb::Convert => false,
     }

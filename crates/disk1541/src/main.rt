@@ -1,8 +1,6 @@
 //! A tool for disk images: what is on them, files out and in, soundness, formats.
 #![tactic(auto)]
 
-mod arguments;
-mod commands;
 mod digits;
 mod failure;
 mod formats;
@@ -17,7 +15,6 @@ mod refusal;
 mod report;
 mod tasks;
 mod word_fault;
-mod words;
 
 use std::process::ExitCode;
 

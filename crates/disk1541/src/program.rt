@@ -1,5 +1,4 @@
 //! The program: the words of the command line, the command, the exit status.
-use crate::arguments;
 use crate::failure::Failure;
 use crate::lock::lock;
 use crate::progress::Progress;
@@ -18,7 +17,7 @@ pub fn run_program(rt: &HostRuntime) -> ExitCode {
         Ok(words) => words,
         Err(error) => return without_words(rt, &error),
     };
-    let line = match arguments::parse(rt.alloc(), words.as_slice()) {
+    let line = match disk_commands::parse(rt.alloc(), words.as_slice()) {
         Ok(line) => line,
         Err(error) => return without_line(rt, &error),
     };

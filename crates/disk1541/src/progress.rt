@@ -11,6 +11,7 @@ const QUIET: u64 = 500;
 pub struct Progress {
     // None where nobody watches.
     begun: Option<Instant>,
+    is_coloured: bool,
 }
 
 impl Progress {
@@ -21,7 +22,13 @@ impl Progress {
         } else {
             None
         };
-        Progress { begun }
+        let is_coloured = rt.stdout().is_terminal();
+        Progress { begun, is_coloured }
+    }
+
+    /// Whether what is printed goes to a terminal, which has colours.
+    pub fn is_coloured(&self) -> bool {
+        self.is_coloured
     }
 
     /// Whether somebody watches, and has waited for long.

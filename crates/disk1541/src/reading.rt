@@ -1,10 +1,13 @@
 //! The words of a command as plain values.
-use crate::arguments::{flag, given, option};
 use crate::failure::Failure;
-use crate::tasks::{Blank, Conversion, HostFiles, OneFile, Ordering, Pair, Place, View};
+use crate::tasks::{
+    Blank, Build, Conversion, Description, Gone, HostFiles, Mapping, OneFile, Ordering, Pair,
+    Place, View,
+};
 use crate::word_fault::WordFault;
 use cbm_shell::Charset;
 use clap::ArgMatches;
+use disk_commands::{flag, given, option};
 
 /// The character set of a command's names.
 pub fn charset<'a>(words: &ArgMatches<'a>) -> Result<Charset, Failure<'a>> {
@@ -21,9 +24,21 @@ pub fn charset<'a>(words: &ArgMatches<'a>) -> Result<Charset, Failure<'a>> {
 /// What LIST shows.
 pub fn listing(words: &ArgMatches<'_>) -> View {
     if flag(words, "raw") {
-        View::Sent
+        return View::Sent;
+    }
+    if flag(words, "deleted") {
+        View::Deleted
     } else {
         View::Directory
+    }
+}
+
+/// What CHECK shows.
+pub fn checking(words: &ArgMatches<'_>) -> View {
+    if flag(words, "all") {
+        View::Flaws
+    } else {
+        View::Soundness
     }
 }
 
@@ -82,7 +97,17 @@ pub fn host_files<'a>(words: &ArgMatches<'a>, charset: Charset) -> HostFiles<'a>
     HostFiles {
         name: option(words, "name"),
         kind: option(words, "type"),
+        record: option(words, "record"),
         replaces: flag(words, "replace"),
+        charset,
+    }
+}
+
+/// The file that UNDELETE gives back.
+pub fn gone<'a>(words: &ArgMatches<'a>, charset: Charset) -> Gone<'a> {
+    Gone {
+        name: given(words, "NAME"),
+        kind: option(words, "type").unwrap_or("prg"),
         charset,
     }
 }
@@ -101,5 +126,34 @@ pub fn pair<'a>(words: &ArgMatches<'a>, charset: Charset) -> Pair<'a> {
         old: given(words, "OLD"),
         new: given(words, "NEW"),
         charset,
+    }
+}
+
+/// The image that BUILD makes.
+pub fn building<'a>(words: &ArgMatches<'a>, charset: Charset) -> Build<'a> {
+    Build {
+        recipe: given(words, "FILE"),
+        image: given(words, "IMAGE"),
+        replaces: flag(words, "replace"),
+        charset,
+    }
+}
+
+/// How DESCRIBE describes a disk.
+pub fn description<'a>(words: &ArgMatches<'a>, charset: Charset) -> Description<'a> {
+    Description {
+        folder: given(words, "folder"),
+        charset,
+    }
+}
+
+/// How MAP shows a disk.
+pub fn mapping<'a>(words: &ArgMatches<'a>, charset: Charset, is_coloured: bool) -> Mapping<'a> {
+    Mapping {
+        has_files: flag(words, "files"),
+        svg: option(words, "svg"),
+        replaces: flag(words, "replace"),
+        charset,
+        is_coloured,
     }
 }

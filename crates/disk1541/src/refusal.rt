@@ -33,7 +33,7 @@ fn tell_unsound(rt: &impl Eprint, name: &str, unsound: Unsound) -> io::Result<()
     let sector = unsound.sector;
     let what = std::str::from_utf8(words(unsound.number)).unwrap_or("it isn't sound");
     eprintln!(rt;
-        "disk1541: {name} isn't sound, and so isn't changed: track {track}, sector {sector}: {what}; try `disk1541 validate {name}`"
+        "disk1541: {name} isn't sound, and so isn't changed: track {track}, sector {sector}: {what}; `disk1541 check --all {name}` says what mends it"
     )
 }
 
@@ -43,6 +43,16 @@ fn tell_trouble(rt: &impl Eprint, name: &str, trouble: Trouble) -> io::Result<()
     let track = trouble.track;
     let sector = trouble.sector;
     eprintln!(rt; "disk1541: {name}: track {track}, sector {sector} can't be read (error {code})")
+}
+
+/// Prints why a disk can't be put in order, and what to do.
+pub fn tell_unmendable(rt: &impl Eprint, name: &str, trouble: Trouble) -> io::Result<()> {
+    let code = trouble.code;
+    let track = trouble.track;
+    let sector = trouble.sector;
+    eprintln!(rt;
+        "disk1541: {name} can't be put in order: track {track}, sector {sector}, error {code}; `disk1541 check --all {name}` names the files at fault, `disk1541 delete --force` takes them out"
+    )
 }
 
 /// What is wrong with a G64, by the number of its fault: a file that isn't told to be foreign is refused as a D64 never.

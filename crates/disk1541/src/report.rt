@@ -1,13 +1,16 @@
-//! Images as JSON, for programs.
+//! Images for programs: as JSON, and as tables.
+mod table;
+
 use crate::digits::hex;
 use crate::names::{type_of, unfilled};
 use crate::tasks::{
-    Answer, Look, Shown, View, answer_of, format_name, is_meant, kind_name, sum_text,
+    Answer, Look, Shown, View, answer_of, flaw_report, format_name, is_meant, kind_name, sum_text,
 };
 use cbm_shell::{Charset, Geos, Info, OpenDisk, ShellFault, geos_of, name_text, words};
 use cbm_volume::{Entry, FileType, Unsound};
 use serde::Serialize;
 use std::alloc::{AllocError, Global};
+pub use table::{heads, table_lines};
 
 /// A sector.
 #[derive(Drop, Serialize)]
@@ -87,7 +90,7 @@ struct Refused<'a> {
 }
 
 /// A value as a line of JSON.
-fn line<T: Serialize>(alloc: Global, value: &T) -> Result<Vec<u8>, AllocError> {
+pub fn line<T: Serialize>(alloc: Global, value: &T) -> Result<Vec<u8>, AllocError> {
     match serde_json::to_vec(alloc, value) {
         Ok(mut text) => {
             text.extend_from_slice(b"\n")?;
@@ -141,6 +144,12 @@ fn geos_facts(geos: Option<Geos>) -> Option<GeosFacts> {
     })
 }
 
+/// GEOS's type of a file of its own.
+fn geos_kind(entry: &Entry) -> Option<u8> {
+    let geos = geos_of(entry)?;
+    Some(geos.kind)
+}
+
 /// The length of the records of a relative file.
 fn record_of(entry: &Entry) -> Option<u8> {
     if entry.is_relative() {
@@ -187,6 +196,11 @@ fn add_file(
     Ok(())
 }
 
+/// Whether the file of an entry is meant.
+fn files_meant(entry: &Entry, look: Look<'_>) -> bool {
+    is_meant(entry, look.pattern)
+}
+
 /// The files that are meant.
 fn files_of(
     alloc: Global,
@@ -196,7 +210,7 @@ fn files_of(
 ) -> Result<Vec<File>, ShellFault> {
     let mut files = Vec::new(alloc);
     for entry in entries {
-        if is_meant(entry, look.pattern) {
+        if files_meant(entry, look) {
             add_file(alloc, &mut files, disk, entry, look.charset)?;
         }
     }
@@ -275,7 +289,7 @@ fn has_none(look: Look<'_>, files: &Option<Vec<File>>) -> bool {
 }
 
 /// What a look came to.
-fn outcome(look: Look<'_>, info: &Info) -> Answer {
+fn image_answer(look: Look<'_>, info: &Info) -> Answer {
     if look.view == View::Soundness {
         answer_of(&info.check)
     } else {
@@ -301,7 +315,7 @@ fn image_report(
     let text = image_line(alloc, name, image, look, &info, files)?;
     Ok(Shown {
         text,
-        answer: outcome(look, &info),
+        answer: image_answer(look, &info),
     })
 }
 
@@ -328,10 +342,10 @@ pub fn report_line(
     image: &[u8],
     look: Look<'_>,
 ) -> Result<Shown, ShellFault> {
-    if look.view == View::Sum {
-        sum_report(alloc, name, image)
-    } else {
-        image_report(alloc, name, image, look)
+    match look.view {
+        View::Sum => sum_report(alloc, name, image),
+        View::Flaws => flaw_report(alloc, name, image, look),
+        _ => image_report(alloc, name, image, look),
     }
 }
 

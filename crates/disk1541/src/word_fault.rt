@@ -1,6 +1,26 @@
 //! What is wrong with a word of the command line.
 use std::io;
 
+/// What a name can't have, and how any byte is typed.
+const NO_KEY: &str = "no key of a C64 types a character of ";
+
+const ANY_BYTE: &str = ": any byte is typed as {hh}, two hexadecimal digits";
+
+/// What divides the words of the drive's commands.
+const DIVIDING: &str = "a name can't have `,` `=` `:` or a quotation mark: ";
+
+/// How a relative file is put.
+const RECORDS: &str = "a relative file has records: say their length by --record, 1 to 254";
+
+/// How a format is said.
+const FORMATS: &str = " tells no format: say --format d64 or --format g64";
+
+/// Which sectors disks have.
+const SECTORS: &str = " (tracks are 1 to 40, sectors 0 to 20)";
+
+/// What a track may be.
+const TRACKS: &str = " is no track: take 1 to 42, and 17.5 for the half track after 17";
+
 /// Why a word of the command line is refused.
 #[derive(Clone, Copy)]
 pub enum WordFault<'a> {
@@ -18,12 +38,24 @@ pub enum WordFault<'a> {
     Twice,
     /// No file has such a type.
     Type(&'a str),
+    /// A relative file has records of a length that isn't told.
+    Record,
+    /// No record has such a length.
+    RecordLength(&'a str),
+    /// A line of a recipe is no file and no art, or both.
+    Line,
+    /// A text is no recipe of a disk, as was told.
+    Recipe(&'a str),
+    /// No directory is sorted by that.
+    Order(&'a str),
     /// A disk's title has more than sixteen characters.
     Title(&'a str),
     /// A disk's id hasn't two characters.
     Id(&'a str),
     /// No disk has so many tracks.
     Tracks(&'a str),
+    /// No G64 has such a track.
+    Track(&'a str),
     /// No disk has a sector of this number or track.
     Sector(&'a str),
     /// A G64 has 35 tracks.
@@ -40,45 +72,27 @@ impl<'a> WordFault<'a> {
     /// The sentence: its start, the word, its end.
     fn sentence(self) -> (&'static str, &'a str, &'static str) {
         match self {
-            WordFault::Name(name) => {
-                (
-                    "no key of a C64 types a character of ",
-                    name,
-                    ": any byte is typed as {hh}, two hexadecimal digits",
-                )
-            }
+            WordFault::Name(name) => (NO_KEY, name, ANY_BYTE),
             WordFault::LongName(name) => ("a file's name has at most 16 characters: ", name, ""),
-            WordFault::Divided(name) => {
-                (
-                    "a name can't have `,` `=` `:` or a quotation mark: ",
-                    name,
-                    "",
-                )
-            }
+            WordFault::Divided(name) => (DIVIDING, name, ""),
             WordFault::NoName => ("name the file by --name", "", ""),
             WordFault::OneName => ("--name is for one file", "", ""),
             WordFault::Twice => ("`-` is the image or one file, and stands once", "", ""),
-            WordFault::Type(kind) => ("", kind, " is no type of a file: take prg, seq or usr"),
+            WordFault::Type(kind) => ("", kind, " is no type of a file: take prg, seq, usr or rel"),
+            WordFault::Record => (RECORDS, "", ""),
+            WordFault::RecordLength(word) => ("records have 1 to 254 bytes, not ", word, ""),
+            WordFault::Line => ("an entry of a recipe has either `file` or `art`", "", ""),
+            WordFault::Recipe(name) => ("", name, " is no recipe of a disk: nothing is made"),
+            WordFault::Order(word) => { ("", word, " is no order: take name, type or size") }
             WordFault::Title(title) => ("a title has at most 16 characters: ", title, ""),
             WordFault::Id(id) => ("an id has two characters: ", id, ""),
             WordFault::Tracks(tracks) => ("a disk has 35 or 40 tracks, not ", tracks, ""),
             WordFault::Charset(word) => ("", word, " is no character set: take upper or lower"),
-            WordFault::Sector(word) => {
-                (
-                    "no disk has such a sector: ",
-                    word,
-                    " (tracks are 1 to 40, sectors 0 to 20)",
-                )
-            }
+            WordFault::Sector(word) => ("no disk has such a sector: ", word, SECTORS),
+            WordFault::Track(word) => ("", word, TRACKS),
             WordFault::LongG64 => ("a G64 has 35 tracks here, not 40", "", ""),
             WordFault::SameFormat(name) => ("", name, " has that format already"),
-            WordFault::Format(word) => {
-                (
-                    "",
-                    word,
-                    " tells no format: say --format d64 or --format g64",
-                )
-            }
+            WordFault::Format(word) => ("", word, FORMATS),
         }
     }
 

@@ -30,7 +30,9 @@ impl Counts {
     pub fn add(&mut self, answer: Answer) {
         match answer {
             Answer::Fine => self.fine = self.fine.wrapping_add(1),
-            Answer::Unsound(_) | Answer::NoMatch => self.others = self.others.wrapping_add(1),
+            Answer::Unsound(_) | Answer::NoMatch | Answer::Untitled => self.others = self
+                .others
+                .wrapping_add(1),
         }
     }
 
@@ -44,7 +46,7 @@ impl Counts {
         let Counts { fine, others, none } = self;
         let all = fine.wrapping_add(others).wrapping_add(none);
         match view {
-            View::Soundness => {
+            View::Soundness | View::Flaws => {
                 format!(in alloc; "{all} images: {fine} sound, {others} not, {none} no images\n")
             }
             View::Matches => {
@@ -52,7 +54,10 @@ impl Counts {
                     "{all} images: {fine} with a match, {others} without, {none} no images\n"
                 )
             }
-            _ => format!(in alloc; "{all} images: {fine} shown, {none} no images\n"),
+            _ => {
+                let shown = fine.wrapping_add(others);
+                format!(in alloc; "{all} images: {shown} shown, {none} no images\n")
+            }
         }
     }
 
@@ -62,7 +67,7 @@ impl Counts {
         rt: &R,
         look: Look<'_>,
     ) -> Result<(), Failure<'a>> {
-        if look.is_json || matches!(look.view, View::Sum | View::Sent) {
+        if look.is_json || look.is_csv || matches!(look.view, View::Sum | View::Sent) {
             return Ok(());
         }
         let line = in_memory(self.line(rt.alloc(), look.view))?;
@@ -75,7 +80,9 @@ impl Counts {
             return Err(Failure::Several);
         }
         match look.view {
-            View::Soundness if self.others != 0 => Err(Failure::Several),
+            View::Soundness | View::Flaws | View::Directory if self.others != 0 => {
+                Err(Failure::Several)
+            }
             View::Matches if self.fine == 0 => Err(Failure::NoMatch),
             _ => Ok(()),
         }

@@ -1,6 +1,8 @@
 //! GET: a file out of the image, to a file of the host or to standard output.
+use super::relative::packed_for;
 use super::salvage::salvaged_file;
 use crate::failure::{Failure, on_disk};
+use crate::formats::without_errors;
 use crate::host::{read_image, require_new, write};
 use crate::names::petscii;
 use cbm_shell::{Charset, ShellFault};
@@ -36,17 +38,25 @@ fn bytes_of<R: Runtime + AllocGlobal>(
     }
 }
 
-/// The bytes of the first file that a name means.
+/// The file of this computer for the first file that a pattern means.
+fn packed_of<R: Runtime + AllocGlobal>(
+    rt: &R,
+    image: &[u8],
+    pattern: &[u8],
+    taken: &OneFile<'_>,
+) -> Result<Vec<u8>, ShellFault> {
+    let bytes = bytes_of(rt, image, pattern, taken.salvages)?;
+    packed_for(rt, without_errors(image), pattern, taken.output, bytes)
+}
+
+/// The file of this computer for the first file that a name means.
 fn file_of<'a, R: Runtime + AllocGlobal>(
     rt: &R,
     image: &[u8],
     taken: &OneFile<'a>,
 ) -> Result<Vec<u8>, Failure<'a>> {
     let pattern = petscii(rt.alloc(), taken.charset, taken.name)?;
-    on_disk(
-        taken.name,
-        bytes_of(rt, image, pattern.as_slice(), taken.salvages),
-    )
+    on_disk(taken.name, packed_of(rt, image, pattern.as_slice(), taken))
 }
 
 /// Takes a file out. One of the host that is there is kept, unless it is to be replaced.

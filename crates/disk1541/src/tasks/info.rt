@@ -1,4 +1,5 @@
 //! INFO: what the disk is.
+use super::circles::more_tracks;
 use crate::formats::WITH_ERRORS;
 use crate::names::unfilled;
 use cbm_program::{Kind, kind_of};
@@ -24,6 +25,20 @@ fn add_format(
 ) -> Result<(), AllocError> {
     let name = format_name(image);
     text.push_str(format!(in alloc; "format       {name}, {tracks} tracks\n")?.as_str())
+}
+
+/// The line of half tracks and tracks beyond 35, where a G64 has such.
+fn add_more_tracks(alloc: Global, text: &mut String, image: &[u8]) -> Result<(), AllocError> {
+    if kind_of(image) == Kind::D64 {
+        return Ok(());
+    }
+    let names = more_tracks(alloc, image)?;
+    if names.is_empty() {
+        return Ok(());
+    }
+    text.push_str("more tracks ")?;
+    text.push_str(names.as_str())?;
+    text.push('\n')
 }
 
 /// A line.
@@ -110,6 +125,7 @@ fn add_lines(
     image: &[u8],
 ) -> Result<(), AllocError> {
     add_format(alloc, text, image, info.tracks)?;
+    add_more_tracks(alloc, text, image)?;
     add_label(alloc, text, charset, info)?;
     add_files(alloc, text, image)?;
     add_faults(alloc, text, info)

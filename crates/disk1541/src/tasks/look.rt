@@ -4,7 +4,7 @@ use super::folders::Walk;
 use super::view::{Answer, Look, Shown, lines_of};
 use crate::failure::{Failure, in_memory, on_disk};
 use crate::host::{print, read_image};
-use crate::report::refusal_line;
+use crate::report::{heads, refusal_line};
 use std::path::Path;
 use std::rt::Runtime;
 
@@ -30,6 +30,7 @@ fn look_at_one<'a, R: Runtime + AllocGlobal>(
         Answer::Fine => Ok(()),
         Answer::Unsound(unsound) => Err(Failure::Unsound(unsound)),
         Answer::NoMatch => Err(Failure::NoMatch),
+        Answer::Untitled => Err(Failure::Untitled(image)),
     }
 }
 
@@ -58,6 +59,9 @@ fn look_among<'a, R: Runtime + AllocGlobal>(
     match seen(rt, image, look) {
         Ok(shown) => {
             counts.add(shown.answer);
+            if matches!(shown.answer, Answer::Untitled) {
+                let _ = Failure::Untitled(image).tell(rt);
+            }
             print(rt, shown.text.as_slice())
         }
         Err(Failure::NoMemory) => Err(Failure::NoMemory),
@@ -112,12 +116,21 @@ fn look_at_each<'a, R: Runtime + AllocGlobal>(
     counts.outcome(look)
 }
 
+/// Prints the heads of a table's columns.
+fn print_heads<'a, R: Runtime + AllocGlobal>(rt: &R, look: Look<'_>) -> Result<(), Failure<'a>> {
+    if look.is_csv && !look.is_json {
+        print(rt, heads(look.view))?;
+    }
+    Ok(())
+}
+
 /// Looks at images.
 pub fn look_at_all<'a, R: Runtime + AllocGlobal>(
     rt: &R,
     images: &[&'a str],
     look: Look<'_>,
 ) -> Result<(), Failure<'a>> {
+    print_heads(rt, look)?;
     match images {
         [image] if !look.is_recursive => look_at_one(rt, *image, look),
         _ => {

@@ -50,30 +50,38 @@ fn id_of<'a>(alloc: Global, charset: Charset, id: &'a str) -> Result<[u8; 2], Fa
     }
 }
 
-/// Makes an image of an empty disk with a title, if nothing is there.
-fn make_titled<'a, R: Runtime + AllocGlobal>(
-    rt: &R,
-    image: &'a str,
+/// The image of an empty disk with a title.
+fn titled<'a>(
+    alloc: Global,
     blank: &Blank<'a>,
     form: Form,
     title: &[u8],
-) -> Result<(), Failure<'a>>
+) -> Result<Vec<u8>, Failure<'a>>
     requires { length title.now ≤ 16 }
 {
-    let id = id_of(rt.alloc(), blank.charset, blank.id)?;
-    require_new(rt, image, blank.replaces)?;
-    let bytes = in_memory(new_image(rt.alloc(), form, title, id))?;
-    write(rt, image, bytes.as_slice(), Sync::Before)
+    let id = id_of(alloc, blank.charset, blank.id)?;
+    in_memory(new_image(alloc, form, title, id))
 }
 
-/// Makes an image of an empty disk.
+/// The image of an empty disk, for a name that may tell its format.
+pub fn blank_image<'a>(
+    alloc: Global,
+    image: &'a str,
+    blank: &Blank<'a>,
+) -> Result<Vec<u8>, Failure<'a>> {
+    let kind = format(image, blank.format)?;
+    let form = form(kind, blank.tracks)?;
+    let title = title_of(alloc, blank.charset, blank.title)?;
+    titled(alloc, blank, form, title.as_slice())
+}
+
+/// Makes an image of an empty disk, if nothing is there.
 pub fn make<'a, R: Runtime + AllocGlobal>(
     rt: &R,
     image: &'a str,
     blank: &Blank<'a>,
 ) -> Result<(), Failure<'a>> {
-    let kind = format(image, blank.format)?;
-    let form = form(kind, blank.tracks)?;
-    let title = title_of(rt.alloc(), blank.charset, blank.title)?;
-    make_titled(rt, image, blank, form, title.as_slice())
+    let bytes = blank_image(rt.alloc(), image, blank)?;
+    require_new(rt, image, blank.replaces)?;
+    write(rt, image, bytes.as_slice(), Sync::Before)
 }

@@ -2,7 +2,7 @@
 use super::plan::plan_of;
 use crate::failure::{Failure, on_disk};
 use crate::host::{print, read_image, replace};
-use cbm_shell::Order;
+use cbm_shell::{Order, ShellFault};
 use std::rt::Runtime;
 
 /// How a disk is put in order.
@@ -61,6 +61,14 @@ fn save_order<'a, R: Runtime + AllocGlobal>(
     replace(rt, image, old, order.image.as_slice())
 }
 
+/// What putting a disk in order came to.
+fn ordered<'a>(image: &'a str, order: Result<Order, ShellFault>) -> Result<Order, Failure<'a>> {
+    match order {
+        Err(ShellFault::Trouble(trouble)) => Err(Failure::Unmendable(image, trouble)),
+        _ => on_disk(image, order),
+    }
+}
+
 /// Puts the disk of an image in order, and saves it.
 pub fn put_in_order<'a, R: Runtime + AllocGlobal>(
     rt: &R,
@@ -68,6 +76,6 @@ pub fn put_in_order<'a, R: Runtime + AllocGlobal>(
     ordering: Ordering,
 ) -> Result<(), Failure<'a>> {
     let old = read_image(rt, image)?;
-    let order = on_disk(image, cbm_shell::validate(rt.alloc(), old.as_slice()))?;
+    let order = ordered(image, cbm_shell::validate(rt.alloc(), old.as_slice()))?;
     save_order(rt, image, old.as_slice(), &order, ordering)
 }

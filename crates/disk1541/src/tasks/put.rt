@@ -1,11 +1,12 @@
 //! PUT: files of the host into the image.
+use super::stored::{Stored, open_text, with_stored};
 use crate::failure::{Failure, in_memory, on_disk};
-use crate::host::{is_standard, joined, read_file, read_image, replace};
-use crate::kinds::{end_of, is_wrapped_name};
+use crate::host::{is_standard, read_file, read_image, replace};
+use crate::kinds::{FileKind, is_wrapped_name, kind_of_file};
 use crate::names::{file_name, name_of_file, require_name};
 use crate::word_fault::WordFault;
 use cbm_shell::{Change, Charset, unwrapped};
-use std::alloc::Global;
+use std::alloc::{AllocError, Global};
 use std::rt::Runtime;
 
 /// How files of the host are put on the disk.
@@ -15,27 +16,38 @@ pub struct HostFiles<'a> {
     pub name: Option<&'a str>,
     /// The type on the disk, if the ending of the name doesn't say it.
     pub kind: Option<&'a str>,
+    /// The length of the records of relative files, as it was typed.
+    pub record: Option<&'a str>,
     /// Files of the disk that have the names are replaced.
     pub replaces: bool,
     /// The character set of names.
     pub charset: Charset,
 }
 
-/// What is put on the disk of a file: its bytes, and the name that they tell.
+/// What is put on the disk of a file: its bytes, and the name and the length of records that they tell.
 #[derive(Clone, Copy)]
-struct Body<'b> {
-    name: Option<&'b [u8]>,
-    bytes: &'b [u8],
+pub struct Body<'b> {
+    /// The name.
+    pub name: Option<&'b [u8]>,
+    /// The length of its records.
+    pub record: Option<u8>,
+    /// The bytes.
+    pub bytes: &'b [u8],
 }
 
 /// What is put on the disk of a file's bytes.
-fn body_of<'b>(file: &str, bytes: &'b [u8]) -> Body<'b> {
+pub fn body_of<'b>(file: &str, bytes: &'b [u8]) -> Body<'b> {
     match unwrapped(bytes) {
         Some(wrapped) if is_wrapped_name(file) => Body {
             name: Some(wrapped.name),
+            record: Some(wrapped.record_length),
             bytes: wrapped.bytes,
         },
-        _ => Body { name: None, bytes },
+        _ => Body {
+            name: None,
+            record: None,
+            bytes,
+        },
     }
 }
 
@@ -59,17 +71,20 @@ fn name_of<'a>(
     }
 }
 
-/// The text of an OPEN that writes a file.
-fn text_of<'a>(
-    alloc: Global,
-    file: &'a str,
-    put: &HostFiles<'a>,
-    told: Option<&[u8]>,
-) -> Result<Vec<u8>, Failure<'a>> {
-    let end = end_of(put.kind, file)?;
-    let name = name_of(alloc, file, put, told)?;
-    let start: &[u8] = if put.replaces { b"@0:" } else { b"0:" };
-    joined(alloc, &[start, name.as_slice(), end])
+/// The length of records of a word.
+fn record_of(word: &str) -> Result<u8, Failure<'_>> {
+    match word.parse::<u8>() {
+        Ok(length @ 1..=254) => Ok(length),
+        _ => Err(Failure::Word(WordFault::RecordLength(word))),
+    }
+}
+
+/// The length of a file's records, if that is known.
+fn record<'a>(put: &HostFiles<'a>, body: Body<'_>) -> Result<Option<u8>, Failure<'a>> {
+    match put.record {
+        Some(word) => Ok(Some(record_of(word)?)),
+        None => Ok(body.record),
+    }
 }
 
 /// The image with the file of these bytes on it.
@@ -81,9 +96,17 @@ fn put_body<'a>(
     put: &HostFiles<'a>,
     body: Body<'_>,
 ) -> Result<Vec<u8>, Failure<'a>> {
-    let text = text_of(alloc, file, put, body.name)?;
-    let change = Change::File(text.as_slice(), body.bytes);
-    on_disk(image, cbm_shell::change(alloc, old, &change))
+    let kind = kind_of_file(put.kind, file)?;
+    let record = record(put, body)?;
+    let name = name_of(alloc, file, put, body.name)?;
+    let file = Stored {
+        name: name.as_slice(),
+        kind,
+        record,
+        replaces: put.replaces,
+        bytes: body.bytes,
+    };
+    with_stored(alloc, image, old, &file)
 }
 
 /// The image with a file on it.
@@ -109,12 +132,126 @@ fn put_among<'a, R: Runtime + AllocGlobal>(
 ) -> Result<Vec<u8>, Failure<'a>> {
     let new = put_one(rt, image, old, file, put);
     if new.is_err() {
-        let _ = eprintln!(rt; "disk1541: {file} can't be put, and so none of the files is");
+        tell_first(rt, file);
     }
     new
 }
 
-/// The image with all of several files on it.
+/// A file of bytes one after another, with the text of its OPEN; the first of its bytes may be no part of what is put.
+#[derive(Drop)]
+struct Loaded<'a> {
+    file: &'a str,
+    text: Vec<u8>,
+    bytes: Vec<u8>,
+    head: usize,
+}
+
+/// The end of the text of the OPEN that writes a file of bytes; none where the file isn't one.
+fn end_of(put: &HostFiles<'_>, file: &str) -> Option<&'static [u8]> {
+    match kind_of_file(put.kind, file) {
+        Ok(FileKind::Plain(end)) => Some(end),
+        _ => None,
+    }
+}
+
+/// Whether all files are files of bytes.
+fn are_plain(files: &[&str], put: &HostFiles<'_>) -> bool {
+    for file in files {
+        if end_of(put, *file).is_none() {
+            return false;
+        }
+    }
+    true
+}
+
+/// One of several files.
+fn load_one<'a, R: Runtime + AllocGlobal>(
+    rt: &R,
+    file: &'a str,
+    put: &HostFiles<'a>,
+    end: &[u8],
+) -> Result<Loaded<'a>, Failure<'a>> {
+    let bytes = read_file(rt, file)?;
+    let body = body_of(file, bytes.as_slice());
+    let head = bytes.len().saturating_sub(body.bytes.len());
+    let name = name_of(rt.alloc(), file, put, body.name)?;
+    let text = open_text(rt.alloc(), name.as_slice(), put.replaces, end)?;
+    Ok(Loaded {
+        file,
+        text,
+        bytes,
+        head,
+    })
+}
+
+/// Reports which of several files can't be put, as none is put then.
+fn tell_first(rt: &impl Eprint, file: &str) {
+    let _ = eprintln!(rt; "disk1541: {file} can't be put, and so none of the files is");
+}
+
+/// Several files of bytes.
+fn load_all<'a, R: Runtime + AllocGlobal>(
+    rt: &R,
+    files: &[&'a str],
+    put: &HostFiles<'a>,
+) -> Result<Vec<Loaded<'a>>, Failure<'a>> {
+    let mut all = Vec::new(rt.alloc());
+    for file in files {
+        let end = end_of(put, *file).unwrap_or(&[]);
+        let one = load_one(rt, *file, put, end);
+        if one.is_err() {
+            tell_first(rt, *file);
+        }
+        in_memory(all.push(one?).map_err(AllocError::from))?;
+    }
+    Ok(all)
+}
+
+/// How they are put on a disk.
+fn changes_of<'b>(alloc: Global, all: &'b [Loaded<'_>]) -> Result<Vec<Change<'b>>, AllocError> {
+    let mut changes = Vec::new(alloc);
+    for one in all {
+        let bytes = one.bytes.get(one.head..).unwrap_or(&[]);
+        changes
+            .push(Change::File(one.text.as_slice(), bytes))
+            .map_err(AllocError::from)?;
+    }
+    Ok(changes)
+}
+
+/// Reports which of these files can't be put first.
+fn tell_refused<R: Runtime + AllocGlobal>(
+    rt: &R,
+    old: &[u8],
+    all: &[Loaded<'_>],
+    changes: &[Change<'_>],
+) {
+    for (place, one) in all.iter().enumerate() {
+        let begun = changes.get(..place.saturating_add(1)).unwrap_or(changes);
+        if cbm_shell::changes(rt.alloc(), old, begun).is_err() {
+            return tell_first(rt, one.file);
+        }
+    }
+}
+
+/// The image with several files of bytes on it, which is opened once.
+fn put_plain<'a, R: Runtime + AllocGlobal>(
+    rt: &R,
+    image: &'a str,
+    old: &[u8],
+    files: &[&'a str],
+    put: &HostFiles<'a>,
+) -> Result<Vec<u8>, Failure<'a>> {
+    let all = load_all(rt, files, put)?;
+    let changes = in_memory(changes_of(rt.alloc(), all.as_slice()))?;
+    let new = cbm_shell::changes(rt.alloc(), old, changes.as_slice());
+    if new.is_err() {
+        tell_refused(rt, old, all.as_slice(), changes.as_slice());
+    }
+    on_disk(image, new)
+}
+
+/// The image with several files on it, one after another.
 fn put_each<'a, R: Runtime + AllocGlobal>(
     rt: &R,
     image: &'a str,
@@ -139,6 +276,7 @@ fn put_all<'a, R: Runtime + AllocGlobal>(
 ) -> Result<Vec<u8>, Failure<'a>> {
     match files {
         [file] => put_one(rt, image, old, *file, put),
+        _ if are_plain(files, put) => put_plain(rt, image, old, files, put),
         _ => put_each(rt, image, old, files, put),
     }
 }

@@ -1,7 +1,8 @@
 //! COPY and RENAME: a new name, and the old one.
 use super::edit::{Edit, save_edit};
-use crate::failure::Failure;
-use crate::host::joined;
+use super::salvage::first_meant;
+use crate::failure::{Failure, on_disk};
+use crate::host::{joined, read_image, replace};
 use crate::names::file_name;
 use cbm_shell::{Change, Charset};
 use std::alloc::Global;
@@ -28,13 +29,44 @@ fn text_of<'a>(alloc: Global, letter: &[u8], pair: &Pair<'a>) -> Result<Vec<u8>,
     )
 }
 
-/// Gives a file another name, or copies it under one, as the letter says.
+/// Refuses to copy a relative file: the drive's COPY takes bytes one after another.
+fn require_plain<'a, R: Runtime + AllocGlobal>(
+    rt: &R,
+    image: &'a str,
+    bytes: &[u8],
+    pair: &Pair<'a>,
+) -> Result<(), Failure<'a>> {
+    let old = file_name(rt.alloc(), pair.charset, pair.old)?;
+    let entries = on_disk(image, cbm_shell::entries(rt.alloc(), bytes))?;
+    match first_meant(entries.as_slice(), old.as_slice()) {
+        Some(entry) if entry.is_relative() => Err(Failure::Records(pair.old)),
+        _ => Ok(()),
+    }
+}
+
+/// Copies a file under another name.
+pub fn copy<'a, R: Runtime + AllocGlobal>(
+    rt: &R,
+    image: &'a str,
+    pair: &Pair<'a>,
+) -> Result<(), Failure<'a>> {
+    let text = text_of(rt.alloc(), b"C0:", pair)?;
+    let old = read_image(rt, image)?;
+    require_plain(rt, image, old.as_slice(), pair)?;
+    let change = Change::Command(text.as_slice());
+    let new = on_disk(
+        image,
+        cbm_shell::change(rt.alloc(), old.as_slice(), &change),
+    )?;
+    replace(rt, image, old.as_slice(), new.as_slice())
+}
+
+/// Gives a file another name.
 pub fn rename<'a, R: Runtime + AllocGlobal>(
     rt: &R,
     image: &'a str,
-    letter: &[u8],
     pair: &Pair<'a>,
 ) -> Result<(), Failure<'a>> {
-    let text = text_of(rt.alloc(), letter, pair)?;
+    let text = text_of(rt.alloc(), b"R0:", pair)?;
     save_edit(rt, image, &Edit::Change(Change::Command(text.as_slice())))
 }

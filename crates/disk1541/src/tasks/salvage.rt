@@ -77,7 +77,7 @@ pub fn salvaged<R: Runtime + AllocGlobal>(
 }
 
 /// The first file that a pattern means.
-fn first_meant<'e>(entries: &'e [Entry], pattern: &[u8]) -> Option<&'e Entry> {
+pub fn first_meant<'e>(entries: &'e [Entry], pattern: &[u8]) -> Option<&'e Entry> {
     for entry in entries {
         if is_meant(entry, pattern) {
             return Some(entry);

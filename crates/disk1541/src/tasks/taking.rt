@@ -1,4 +1,5 @@
 //! Files that are taken out of an image into a folder.
+use super::relative::{ENDING, packed};
 use super::salvage::salvaged;
 use crate::host::{exists, write};
 use crate::names::{host_name, type_of};
@@ -36,9 +37,9 @@ impl Names {
     }
 
     /// The name of a host's file for the next entry; from the second of one name on it has a number.
-    fn next(&mut self, alloc: Global, entry: &Entry) -> Result<String, AllocError> {
+    pub fn next(&mut self, alloc: Global, entry: &Entry) -> Result<String, AllocError> {
         let base = host_name(alloc, entry.name())?;
-        let end = type_of(entry).unwrap_or("del");
+        let end = ending_of(entry);
         let number = self.enter(format!(in alloc; "{base}.{end}")?)?;
         numbered(alloc, base.as_str(), end, number)
     }
@@ -60,6 +61,14 @@ impl Names {
         }
         count
     }
+}
+
+/// The ending of the name of a host's file: the type, but for relative files, which have PC64's.
+fn ending_of(entry: &Entry) -> &'static str {
+    if entry.is_relative() {
+        return ENDING;
+    }
+    type_of(entry).unwrap_or("del")
 }
 
 /// A name with a number, from 1 on, and an ending.
@@ -110,6 +119,17 @@ fn bytes_of<R: Runtime + AllocGlobal>(
     source.disk.file_of(rt.alloc(), entry)
 }
 
+/// The host's file for an entry's file, if it was closed, or what can be read of it.
+fn file_for<R: Runtime + AllocGlobal>(
+    rt: &R,
+    source: Source<'_>,
+    entry: &Entry,
+    salvages: bool,
+) -> Result<Vec<u8>, ShellFault> {
+    let bytes = bytes_of(rt, source, entry, salvages)?;
+    Ok(packed(rt.alloc(), entry, bytes)?)
+}
+
 /// Tells the name of a host's file where it isn't that of the disk.
 fn tell_name(rt: &impl Eprint, path: Path<'_>, name: &str) -> io::Result<()> {
     let place = path.as_str();
@@ -149,7 +169,7 @@ fn take_to<R: Runtime + AllocGlobal>(
     place: Place<'_>,
 ) -> Result<bool, AllocError> {
     let name = name_text(rt.alloc(), Charset::Upper, entry.name())?;
-    match bytes_of(rt, source, entry, place.salvages) {
+    match file_for(rt, source, entry, place.salvages) {
         Ok(bytes) => Ok(save_as(
             rt,
             path.as_path(),

@@ -1,9 +1,12 @@
 //! What an image shows.
 use super::find::add_matches;
+use super::flaws::add_all_flaws;
 use super::geos::add_geos;
 use super::info;
 use super::sum::add_sum;
-use crate::report::report_line;
+use super::undelete::add_deleted;
+use super::untitled::add_untitled;
+use crate::report::{report_line, table_lines};
 use cbm_shell::{Charset, ShellFault};
 use cbm_volume::Unsound;
 use std::alloc::{AllocError, Global};
@@ -15,14 +18,16 @@ pub enum View {
     Directory,
     /// The directory as the drive sends it.
     Sent,
+    /// The files that were deleted.
+    Deleted,
     /// The files that match.
     Matches,
     /// What the disk is.
     Facts,
-    /// A picture of its sectors.
-    Sectors,
     /// Whether it is sound.
     Soundness,
+    /// All that is wrong with it.
+    Flaws,
     /// A sum of its sectors.
     Sum,
 }
@@ -38,6 +43,8 @@ pub struct Look<'p> {
     pub pattern: &'p [u8],
     /// It is shown for programs.
     pub is_json: bool,
+    /// It is shown for programs, as a table.
+    pub is_csv: bool,
     /// Of folders their images are meant.
     pub is_recursive: bool,
     /// It is one of several images.
@@ -53,6 +60,8 @@ pub enum Answer {
     Unsound(Unsound),
     /// No file matches.
     NoMatch,
+    /// Its files are shown, and 18/0 can't be read.
+    Untitled,
 }
 
 /// What an image shows.
@@ -86,8 +95,10 @@ fn add_directory(
     image: &[u8],
     look: Look<'_>,
 ) -> Result<Answer, ShellFault> {
-    let lines = cbm_shell::directory(alloc, image, look.charset, look.pattern)?;
-    text.extend_from_slice(lines.as_slice())?;
+    match cbm_shell::directory(alloc, image, look.charset, look.pattern) {
+        Ok(lines) => text.extend_from_slice(lines.as_slice())?,
+        Err(fault) => return add_untitled(alloc, text, image, look, fault),
+    }
     add_geos(alloc, text, image, look)?;
     Ok(Answer::Fine)
 }
@@ -122,10 +133,11 @@ fn add_lines(
     match look.view {
         View::Directory => add_directory(alloc, text, image, look),
         View::Sent => add_whole(text, cbm_shell::raw_directory(alloc, image, look.pattern)),
+        View::Deleted => add_deleted(alloc, text, image, look),
         View::Matches => add_matches(alloc, text, name, image, look),
         View::Facts => add_facts(alloc, text, image, look),
-        View::Sectors => add_whole(text, cbm_shell::picture(alloc, image)),
         View::Soundness => add_check(alloc, text, image),
+        View::Flaws => add_all_flaws(alloc, text, image, look),
         View::Sum => add_sum(alloc, text, name, image),
     }
 }
@@ -136,7 +148,7 @@ fn add_heading(text: &mut Vec<u8>, name: &str, look: Look<'_>) -> Result<(), All
         return Ok(());
     }
     let end: &[u8] = match look.view {
-        View::Directory | View::Facts | View::Sectors => b":\n",
+        View::Directory | View::Deleted | View::Facts | View::Flaws => b":\n",
         View::Soundness => b": ",
         View::Sent | View::Matches | View::Sum => return Ok(()),
     };
@@ -166,6 +178,8 @@ pub fn lines_of(
 ) -> Result<Shown, ShellFault> {
     if look.is_json {
         report_line(alloc, name, image, look)
+    } else if look.is_csv {
+        table_lines(alloc, name, image, look)
     } else {
         people_lines(alloc, name, image, look)
     }

@@ -117,6 +117,13 @@ pub const JSON: Word = Word {
     ..FLAG
 };
 
+/// Every flaw of a disk.
+pub const ALL: Word = Word {
+    name: "all",
+    help: "every flaw, the files that have it, and whether it can be mended",
+    ..FLAG
+};
+
 /// The file that GET takes out.
 pub const NAME: Word = Word {
     name: "NAME",
@@ -249,7 +256,7 @@ pub const NAME_ON_DISK: Word = Word {
 /// The files' type.
 pub const TYPE: Word = Word {
     name: "type",
-    help: "prg, seq or usr; without it the name's ending says so, or else it is prg",
+    help: "prg, seq, usr or rel; without it the name's ending says so, or else it is prg",
     value: &["TYPE"],
     ..OPTION
 };
@@ -301,4 +308,86 @@ pub const FORCE: Word = Word {
     name: "force",
     help: "also give back blocks that GEOS uses",
     ..FLAG
+};
+
+/// The length of a relative file's records.
+pub const RECORD: Word = Word {
+    name: "record",
+    help: "the length of a relative file's records, 1 to 254; a file .r00 tells its own",
+    value: &["N"],
+    ..OPTION
+};
+
+/// The recipe that BUILD reads.
+pub const RECIPE: Word = Word {
+    name: "FILE",
+    help: "the recipe, TOML; its files are named from its folder",
+    ..NEEDED
+};
+
+/// The folder of the files that DESCRIBE names.
+pub const FILES_FOLDER: Word = Word {
+    name: "folder",
+    help: "the folder of the files, where get-all puts them",
+    value: &["DIR"],
+    default: &[""],
+    ..OPTION
+};
+
+/// What SORT sorts by.
+pub const BY: Word = Word {
+    name: "by",
+    help: "name, type or size",
+    value: &["ORDER"],
+    default: &["name"],
+    ..OPTION
+};
+
+/// What is looked at, as a table.
+pub const CSV: Word = Word {
+    name: "csv",
+    help: "as a table (CSV), for programs: a line for each file or image, under a line of heads",
+    ..FLAG
+};
+
+/// MAP with the files of the sectors.
+pub const WITH_FILES: Word = Word {
+    name: "files",
+    help: "a letter for each file, and which file it is",
+    ..FLAG
+};
+
+/// MAP as a picture.
+pub const SVG: Word = Word {
+    name: "svg",
+    help: "write a picture instead, as SVG, `-` for standard output",
+    value: &["FILE"],
+    ..OPTION
+};
+
+/// A track, or a half track.
+pub const CIRCLE: Word = Word {
+    name: "TRACK",
+    help: "the track, or a half track as 17.5",
+    ..NEEDED
+};
+
+/// DELETE of files at fault.
+pub const FORCE_FAULT: Word = Word {
+    help: "on a disk that isn't sound: take the files at fault out of the directory; `validate` then puts it in order",
+    ..FORCE
+};
+
+/// LIST of the files that were deleted.
+pub const DELETED: Word = Word {
+    name: "deleted",
+    help: "the files that were deleted: `undelete` gives one back while its blocks are free",
+    ..FLAG
+};
+
+/// The type that UNDELETE gives a file.
+pub const TYPE_AGAIN: Word = Word {
+    help: "prg, seq or usr: its type was lost when it was deleted",
+    default: &["prg"],
+    ..TYPE
 };

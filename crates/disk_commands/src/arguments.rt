@@ -5,7 +5,7 @@ use clap::{Arg, ArgMatches, Error};
 use std::alloc::{AllocError, Global};
 
 /// The program's version.
-const VERSION: &str = "0.2.0";
+const VERSION: &str = "0.3.0";
 
 /// A word without its mark.
 fn unmarked<'a>(alloc: Global, word: &Word) -> Arg<'a> {

@@ -1,9 +1,10 @@
 //! The commands.
 use crate::words::{
-    CHARSET, DRY_RUN, FILES, FOLDER, FORCE, FORMAT, ID, IMAGE, IMAGES, JSON, LOSSY, MEANT, NAME,
-    NAME_ON_DISK, NEW, NEW_TITLE, OLD, ONLY, OUT, OUTPUT, RAW, RECURSIVE, REPLACE_FILE,
-    REPLACE_FILES, REPLACE_IMAGE, REPLACE_NAME, SALVAGE, SECTOR, TITLE, TRACK, TRACKS, TYPE,
-    WANTED, Word,
+    ALL, BY, CHARSET, CIRCLE, CSV, DELETED, DRY_RUN, FILES, FILES_FOLDER, FOLDER, FORCE,
+    FORCE_FAULT, FORMAT, ID, IMAGE, IMAGES, JSON, LOSSY, MEANT, NAME, NAME_ON_DISK, NEW, NEW_TITLE,
+    OLD, ONLY, OUT, OUTPUT, RAW, RECIPE, RECORD, RECURSIVE, REPLACE_FILE, REPLACE_FILES,
+    REPLACE_IMAGE, REPLACE_NAME, SALVAGE, SECTOR, SVG, TITLE, TRACK, TRACKS, TYPE, TYPE_AGAIN,
+    WANTED, WITH_FILES, Word,
 };
 
 /// What help says at the end: examples, and the exit statuses.
@@ -34,12 +35,18 @@ pub enum Verb {
     Map,
     /// Shows the bytes of a sector.
     Sector,
+    /// Shows what stands on a track of a G64.
+    Track,
     /// Tells whether it is sound.
     Check,
     /// Shows a sum of its bytes.
     Hash,
+    /// Shows the recipe of a disk.
+    Describe,
     /// Makes an image of an empty disk.
     New,
+    /// Makes an image of the disk of a recipe.
+    Build,
     /// Makes the image in the other format.
     Convert,
     /// Puts files on the disk.
@@ -50,12 +57,16 @@ pub enum Verb {
     Rename,
     /// Deletes files.
     Delete,
+    /// Gives a deleted file back.
+    Undelete,
     /// Locks files against DELETE.
     Lock,
     /// Frees them.
     Unlock,
     /// Gives the disk another title.
     Title,
+    /// Sorts the directory.
+    Sort,
     /// Gives lost blocks back.
     Validate,
 }
@@ -84,13 +95,13 @@ const LOOKING: &[Command] = &[
         verb: Verb::List,
         name: "list",
         about: "Shows the directory",
-        words: &[IMAGES, RECURSIVE, ONLY, RAW, JSON, CHARSET],
+        words: &[IMAGES, RECURSIVE, ONLY, RAW, DELETED, JSON, CSV, CHARSET],
     },
     Command {
         verb: Verb::Find,
         name: "find",
         about: "Shows which images have a file",
-        words: &[WANTED, IMAGES, RECURSIVE, JSON, CHARSET],
+        words: &[WANTED, IMAGES, RECURSIVE, JSON, CSV, CHARSET],
     },
     Command {
         verb: Verb::Get,
@@ -108,13 +119,13 @@ const LOOKING: &[Command] = &[
         verb: Verb::Info,
         name: "info",
         about: "Tells what disks are",
-        words: &[IMAGES, RECURSIVE, JSON, CHARSET],
+        words: &[IMAGES, RECURSIVE, JSON, CSV, CHARSET],
     },
     Command {
         verb: Verb::Map,
         name: "map",
         about: "Shows which sectors are free, used, lost",
-        words: &[IMAGE],
+        words: &[IMAGE, WITH_FILES, SVG, REPLACE_FILE, CHARSET],
     },
     Command {
         verb: Verb::Sector,
@@ -123,16 +134,28 @@ const LOOKING: &[Command] = &[
         words: &[IMAGE, TRACK, SECTOR],
     },
     Command {
+        verb: Verb::Track,
+        name: "track",
+        about: "Shows the sync marks, headers, blocks and gaps of a G64's track",
+        words: &[IMAGE, CIRCLE],
+    },
+    Command {
         verb: Verb::Check,
         name: "check",
         about: "Tells whether disks are sound",
-        words: &[IMAGES, RECURSIVE, JSON],
+        words: &[IMAGES, RECURSIVE, ALL, JSON, CSV, CHARSET],
     },
     Command {
         verb: Verb::Hash,
         name: "hash",
         about: "Shows a sum of each image's sectors (SHA-256)",
-        words: &[IMAGES, RECURSIVE, JSON],
+        words: &[IMAGES, RECURSIVE, JSON, CSV],
+    },
+    Command {
+        verb: Verb::Describe,
+        name: "describe",
+        about: "Shows the recipe of a disk, as build takes it",
+        words: &[IMAGE, FILES_FOLDER, CHARSET],
     },
 ];
 
@@ -145,6 +168,12 @@ const CHANGING: &[Command] = &[
         words: &[IMAGE, TITLE, ID, TRACKS, FORMAT, REPLACE_IMAGE, CHARSET],
     },
     Command {
+        verb: Verb::Build,
+        name: "build",
+        about: "Makes an image of the disk that a recipe describes",
+        words: &[RECIPE, IMAGE, REPLACE_IMAGE, CHARSET],
+    },
+    Command {
         verb: Verb::Convert,
         name: "convert",
         about: "Makes a G64 of a D64, or a D64 of a G64",
@@ -154,7 +183,15 @@ const CHANGING: &[Command] = &[
         verb: Verb::Put,
         name: "put",
         about: "Puts files of this computer on the disk",
-        words: &[IMAGE, FILES, NAME_ON_DISK, TYPE, REPLACE_NAME, CHARSET],
+        words: &[
+            IMAGE,
+            FILES,
+            NAME_ON_DISK,
+            TYPE,
+            RECORD,
+            REPLACE_NAME,
+            CHARSET,
+        ],
     },
     Command {
         verb: Verb::Copy,
@@ -172,7 +209,13 @@ const CHANGING: &[Command] = &[
         verb: Verb::Delete,
         name: "delete",
         about: "Deletes the files that match",
-        words: &[IMAGE, MEANT, CHARSET],
+        words: &[IMAGE, MEANT, FORCE_FAULT, CHARSET],
+    },
+    Command {
+        verb: Verb::Undelete,
+        name: "undelete",
+        about: "Gives back a file that was deleted",
+        words: &[IMAGE, NAME, TYPE_AGAIN, CHARSET],
     },
     Command {
         verb: Verb::Lock,
@@ -191,6 +234,12 @@ const CHANGING: &[Command] = &[
         name: "title",
         about: "Gives the disk another title",
         words: &[IMAGE, NEW_TITLE, CHARSET],
+    },
+    Command {
+        verb: Verb::Sort,
+        name: "sort",
+        about: "Sorts the directory",
+        words: &[IMAGE, BY],
     },
     Command {
         verb: Verb::Validate,
@@ -232,7 +281,7 @@ pub fn verb_of(name: &str) -> Option<Verb> {
 pub fn examples_of(verb: Verb) -> &'static str {
     match verb {
         Verb::List => examples!(
-            "  disk1541 list game.d64\n  disk1541 list game.d64 --only 'A*' --charset lower\n  disk1541 list -r disks/ --json\n"
+            "  disk1541 list game.d64\n  disk1541 list game.d64 --only 'A*' --charset lower\n  disk1541 list -r disks/ --json\n  disk1541 list -r disks/ --csv > files.csv\n"
         ),
         Verb::Find => examples!(
             "  disk1541 find 'HISCORE*' *.d64\n  disk1541 find -r 'HISCORE*' disks/\n"
@@ -242,10 +291,21 @@ pub fn examples_of(verb: Verb) -> &'static str {
         ),
         Verb::GetAll => examples!("  disk1541 get-all game.d64 files\n"),
         Verb::Info => examples!("  disk1541 info game.d64\n  disk1541 info -r disks/ --json\n"),
-        Verb::Map => examples!("  disk1541 map game.d64\n"),
+        Verb::Map => examples!(
+            "  disk1541 map game.d64\n  disk1541 map game.d64 --files\n  disk1541 map game.d64 --svg game.svg\n"
+        ),
+        Verb::Track => examples!("  disk1541 track game.g64 18\n  disk1541 track game.g64 17.5\n"),
         Verb::Sector => examples!("  disk1541 sector game.d64 18 0\n"),
-        Verb::Check => examples!("  disk1541 check game.d64\n  disk1541 check -r disks/\n"),
+        Verb::Check => examples!(
+            "  disk1541 check game.d64\n  disk1541 check -r disks/\n  disk1541 check --all bad.d64    every flaw, and the files that have it\n"
+        ),
         Verb::Hash => examples!("  disk1541 hash -r disks/ | sort    equal disks stand together\n"),
+        Verb::Describe => examples!(
+            "  disk1541 describe game.d64 > game.toml\n  disk1541 describe game.d64 --folder files > game.toml\n"
+        ),
+        Verb::Build => examples!(
+            "  disk1541 build game.toml game.d64\n  disk1541 build game.toml game.d64 --replace\n"
+        ),
         Verb::New => examples!(
             "  disk1541 new work.d64 --title WORK --id 64\n  disk1541 new work.g64 --title WORK --id 64\n"
         ),
@@ -255,9 +315,15 @@ pub fn examples_of(verb: Verb) -> &'static str {
         ),
         Verb::Copy => examples!("  disk1541 copy work.d64 LOADER BACKUP\n"),
         Verb::Rename => examples!("  disk1541 rename work.d64 LOADER START\n"),
-        Verb::Delete => examples!("  disk1541 delete work.d64 BACKUP 'OLD*'\n"),
+        Verb::Delete => examples!(
+            "  disk1541 delete work.d64 BACKUP 'OLD*'\n  disk1541 delete --force bad.d64 'LEVEL*'    files at fault, where `validate` refuses the disk\n"
+        ),
+        Verb::Undelete => examples!(
+            "  disk1541 list --deleted work.d64    which files were deleted\n  disk1541 undelete work.d64 BACKUP\n"
+        ),
         Verb::Lock => examples!("  disk1541 lock work.d64 START 'LEVEL*'\n"),
         Verb::Unlock => examples!("  disk1541 unlock work.d64 '*'\n"),
+        Verb::Sort => examples!("  disk1541 sort work.d64\n  disk1541 sort work.d64 --by size\n"),
         Verb::Title => examples!("  disk1541 title work.d64 'MY GAME'\n"),
         Verb::Validate => examples!(
             "  disk1541 validate work.d64 --dry-run    what would go\n  disk1541 validate work.d64\n"

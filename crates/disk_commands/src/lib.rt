@@ -1,0 +1,9 @@
+//! The command line of `disk1541`: its commands, the words that they take, and what help says of them.
+#![tactic(auto)]
+
+mod arguments;
+mod commands;
+mod words;
+
+pub use arguments::{flag, given, option, parse};
+pub use commands::{Verb, verb_of};

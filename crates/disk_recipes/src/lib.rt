@@ -1,0 +1,8 @@
+//! Recipes of disks, as TOML: what `disk1541 build` makes, and what `disk1541 describe` writes.
+#![tactic(auto)]
+
+mod fault;
+mod recipe;
+
+pub use fault::RecipeFault;
+pub use recipe::{Line, Recipe, read_recipe, recipe_text};

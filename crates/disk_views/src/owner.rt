@@ -1,0 +1,39 @@
+//! The files that sectors are of.
+use cbm_bam::SectorSet;
+use cbm_medium::Address;
+
+/// The letters of files, in their order.
+const LETTERS: &[u8; 62] = b"ABCDEFGHIJKLMNOPQRSTUVWXYZabcdefghijklmnopqrstuvwxyz0123456789";
+
+/// The letter of all files after these.
+const ONE_MORE: u8 = b'+';
+
+/// A file, and its sectors.
+#[derive(Drop)]
+pub struct Owner {
+    /// Its name, as it is shown.
+    pub name: String,
+    /// How its type is called.
+    pub kind: &'static str,
+    /// Its sectors: those of its chain, its side sectors, and those of its records where GEOS made it.
+    pub sectors: SectorSet,
+}
+
+/// The letter of a file by its number, from 0 on.
+pub fn letter_of(number: usize) -> u8 {
+    match LETTERS.get(number) {
+        Some(letter) => *letter,
+        None => ONE_MORE,
+    }
+}
+
+/// The number of the first of the files that has a sector.
+pub fn owner_at(owners: &[Owner], track: u8, sector: u8) -> Option<usize> {
+    let at = Address::new(track, sector)?;
+    for (number, owner) in owners.iter().enumerate() {
+        if owner.sectors.has(at) {
+            return Some(number);
+        }
+    }
+    None
+}
