@@ -1,16 +1,17 @@
 -- How the program ends.
-use Rattle.std.specs.Prelude.{ℕ, Result, Ok, Err}
+use Rattle.std.specs.Prelude.{ℕ, None, Result, Ok, Err}
 use Rattle.cbm_program.specs.declared.fault.RunFault.{RunFault}
 use Rattle.cbm_program.specs.declared.fault.RunFault.TheVariants.{Script as LineRefused, Image as ImageRefused, Memory, Reading, Writing}
 use Rattle.drive1541.specs.declared.failure.Failure.{Failure}
 use Rattle.drive1541.specs.declared.failure.Failure.TheVariants.{Script, Image, File, NoMemory}
+use Rattle.drive1541.specs.declared.reason.Reason.TheVariants.{Unknown}
 use Rattle.drive1541.specs.declared.failure.Stream.TheVariants.{Script as TheScript, Output}
 
 -- the exit status of a program that ended so
 abbrev pub status_of : Failure → ℕ
-status_of (Script line) = 1
+status_of (Script line reason) = 1
 status_of (Image number) = 2
-status_of (File stream) = 3
+status_of (File stream why) = 3
 status_of NoMemory = 3
 
 -- the same where it may have ended well
@@ -28,8 +29,8 @@ run_status Writing = 3
 
 -- what a run that ended so is told as: reading fails at the script, and writing at standard output
 abbrev pub failure_of : RunFault → Failure
-failure_of (LineRefused line) = Script line
+failure_of (LineRefused line) = Script line Unknown
 failure_of (ImageRefused number) = Image number
 failure_of Memory = NoMemory
-failure_of Reading = File TheScript
-failure_of Writing = File Output
+failure_of Reading = File TheScript None
+failure_of Writing = File Output None

@@ -1,11 +1,11 @@
 //! The words of the command line.
 use crate::failure::Stream;
 use cbm_program::Pace;
-use clap::{Arg, ArgAction, Command, Error, value_parser};
+use clap::{Arg, ArgAction, ArgMatches, Command, Error, value_parser};
 use std::alloc::Global;
 
 /// The program's version.
-const VERSION: &str = "0.2.0";
+const VERSION: &str = "0.3.0";
 
 /// What the command line asks for.
 #[derive(Drop)]
@@ -14,8 +14,8 @@ pub struct Arguments<'a> {
     pub image: &'a str,
     /// The file of the script.
     pub script: &'a str,
-    /// The file that the image is saved to.
-    pub out: &'a str,
+    /// The file that the image is saved to; None where nothing is saved.
+    pub out: Option<&'a str>,
     /// The drive's number, 8 to 11.
     pub device: u8,
     /// The pace that it keeps on the bus.
@@ -26,22 +26,43 @@ pub struct Arguments<'a> {
     pub is_checked: bool,
 }
 
+/// The word that means standard input or standard output.
+const STANDARD: &str = "-";
+
+/// Whether a name means standard input or standard output.
+pub fn is_standard(name: &str) -> bool {
+    name == STANDARD
+}
+
 impl<'a> Arguments<'a> {
+    /// Whether standard input is wanted twice.
+    pub fn reads_twice(&self) -> bool {
+        is_standard(self.image) && is_standard(self.script)
+    }
+
+    /// Whether the image goes to standard output, so that what the script prints goes elsewhere.
+    pub fn prints_image(&self) -> bool {
+        match self.out {
+            Some(out) => is_standard(out),
+            None => false,
+        }
+    }
+
     /// The word of the command line that names a stream, or `output`.
     pub fn name_of(&self, stream: Stream) -> &'a str {
         match stream {
             Stream::Image => self.image,
             Stream::Script => self.script,
-            Stream::Out => self.out,
+            Stream::Out => self.out.unwrap_or(""),
             Stream::Output => "output",
         }
     }
 }
 
 /// A file that the command line names.
-fn file<'a>(alloc: Global, name: &'a str, help: &'a str) -> Arg<'a> {
+fn file<'a>(alloc: Global, name: &'a str, help: &'a str, is_needed: bool) -> Arg<'a> {
     Arg::new(alloc, name)
-        .required(true)
+        .required(is_needed)
         .action(ArgAction::Set)
         .help(help)
 }
@@ -79,26 +100,55 @@ fn command<'a>(alloc: Global) -> Result<Command<'a>, Error> {
     let command = Command::new(alloc, "drive1541")
         .about("Runs a script of requests on a disk image")
         .version(VERSION)
-        .arg(file(alloc, "IMAGE", "the disk image"))?
-        .arg(file(alloc, "SCRIPT", "the requests, a line each"))?
-        .arg(file(alloc, "OUT", "where the image goes"))?
+        .arg(file(
+            alloc,
+            "IMAGE",
+            "the disk image, `-` for standard input",
+            true,
+        ))?
+        .arg(file(
+            alloc,
+            "SCRIPT",
+            "the requests, a line each, `-` for standard input",
+            true,
+        ))?
+        .arg(file(
+            alloc,
+            "OUT",
+            "where the image goes, `-` for standard output; without it nothing is saved",
+            false,
+        ))?
         .arg(device)?
         .arg(pace)?
         .arg(switch(alloc, "read-only", "protect the disk"))?
-        .arg(switch(alloc, "check", "print first whether the disk is sound"))?;
+        .arg(switch(alloc, "check", "print first whether the disk is sound"))?
+        .arg(switch(alloc, "dry-run", "save nothing"))?;
     Ok(command)
 }
 
 /// Reads the command line.
 pub fn parse<'a>(alloc: Global, words: &'a [String]) -> Result<Arguments<'a>, Error> {
     let matches = command(alloc)?.try_get_matches_from(words)?;
-    Ok(Arguments {
+    Ok(arguments_of(&matches))
+}
+
+/// Where the image goes, if anything is saved.
+fn out_of<'a>(matches: &ArgMatches<'a>) -> Option<&'a str> {
+    if matches.get_flag("dry-run") {
+        return None;
+    }
+    matches.get_str("OUT")
+}
+
+/// What the command line asks for.
+fn arguments_of<'a>(matches: &ArgMatches<'a>) -> Arguments<'a> {
+    Arguments {
         image: matches.get_str("IMAGE").unwrap_or(""),
         script: matches.get_str("SCRIPT").unwrap_or(""),
-        out: matches.get_str("OUT").unwrap_or(""),
+        out: out_of(matches),
         device: matches.get_one::<u8>("device").unwrap_or(8),
         pace: pace_called(matches.get_str("pace")),
         is_read_only: matches.get_flag("read-only"),
         is_checked: matches.get_flag("check"),
-    })
+    }
 }

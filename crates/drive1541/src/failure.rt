@@ -3,6 +3,7 @@ ghost use Rattle.std.specs.Prelude.{◌≡◌};
 ghost use Rattle.drive1541.specs.Failure.{exit_status, failure_of, run_status, status_of};
 
 use crate::arguments::Arguments;
+use crate::reason::{Reason, image_words};
 use cbm_program::RunFault;
 use std::io;
 
@@ -22,14 +23,22 @@ pub enum Stream {
 /// Why OUT wasn't written.
 #[derive(Clone, Copy, Debug, PartialEq, Eq)]
 pub enum Failure {
-    /// The line with this number is refused.
-    Script(u32),
+    /// The line with this number is refused, and why.
+    Script(u32, Reason),
     /// The image is refused, by its fault's number.
     Image(u8),
-    /// A file couldn't be read or written.
-    File(Stream),
+    /// A file couldn't be read or written, and why, where that is known.
+    File(Stream, Option<io::ErrorKind>),
     /// Memory ran out.
     NoMemory,
+}
+
+/// Prints which file can't be read or written, and why, where that is known.
+fn tell_file(rt: &impl Eprint, name: &str, why: Option<io::ErrorKind>) -> io::Result<()> {
+    match why {
+        Some(kind) => eprintln!(rt; "file fault: {name}: {kind}"),
+        None => eprintln!(rt; "file fault: {name}"),
+    }
 }
 
 /// The exit status of a program that ended so.
@@ -48,22 +57,33 @@ impl Failure {
         ensures { result ≡ status_of self }
     {
         match self {
-            Failure::Script(_) => 1,
+            Failure::Script(..) => 1,
             Failure::Image(_) => 2,
-            Failure::File(_) | Failure::NoMemory => 3,
+            Failure::File(..) | Failure::NoMemory => 3,
         }
     }
 
     /// Prints the line on standard error.
     pub fn tell(self, rt: &impl Eprint, arguments: &Arguments<'_>) -> io::Result<()> {
         match self {
-            Failure::Script(line) => eprintln!(rt; "script line {line} refused"),
-            Failure::Image(number) => eprintln!(rt; "image refused: {number}"),
-            Failure::File(stream) => {
-                let name = arguments.name_of(stream);
-                eprintln!(rt; "file fault: {name}")
+            Failure::Script(line, reason) => {
+                let words = reason.words();
+                eprintln!(rt; "script line {line} refused: {words}")
             }
+            Failure::Image(number) => {
+                let words = image_words(number);
+                eprintln!(rt; "image refused: {number}: {words}")
+            }
+            Failure::File(stream, why) => tell_file(rt, arguments.name_of(stream), why),
             Failure::NoMemory => eprintln!(rt; "no memory"),
+        }
+    }
+
+    /// The same, with why the line is refused.
+    pub fn because(self, reason: Reason) -> Failure {
+        match self {
+            Failure::Script(line, _) => Failure::Script(line, reason),
+            other => other,
         }
     }
 
@@ -72,7 +92,7 @@ impl Failure {
         if error.kind() == io::ErrorKind::OutOfMemory {
             Failure::NoMemory
         } else {
-            Failure::File(stream)
+            Failure::File(stream, Some(error.kind()))
         }
     }
 
@@ -82,11 +102,11 @@ impl Failure {
         ensures status { status_of result ≡ run_status fault }
     {
         match fault {
-            RunFault::Script(line) => Failure::Script(line),
+            RunFault::Script(line) => Failure::Script(line, Reason::Unknown),
             RunFault::Image(number) => Failure::Image(number),
             RunFault::Memory => Failure::NoMemory,
-            RunFault::Reading => Failure::File(Stream::Script),
-            RunFault::Writing => Failure::File(Stream::Output),
+            RunFault::Reading => Failure::File(Stream::Script, None),
+            RunFault::Writing => Failure::File(Stream::Output, None),
         }
     }
 }

@@ -3,7 +3,9 @@
 
 mod arguments;
 mod failure;
+mod noted;
 mod program;
+mod reason;
 
 use std::process::ExitCode;
 

@@ -1,10 +1,15 @@
 //! The program: what it reads, what it runs, and what it saves.
-use crate::arguments::{self, Arguments};
+ghost use Rattle.std.specs.Prelude.{◌≤◌};
+
+use crate::arguments::{self, Arguments, is_standard};
 use crate::failure::{Failure, Stream, exit_status};
+use crate::noted::Noted;
+use crate::reason::Reason;
 use cbm_program::{Options, run_at};
 use clap::error::ErrorKind;
 use host_files::save;
-use std::io::{BufWriter, Write};
+use std::alloc::Global;
+use std::io::{BufWriter, Read, Write};
 use std::process::ExitCode;
 use std::rt::Runtime;
 use std::{env, fs, io};
@@ -19,6 +24,9 @@ pub fn run_program(rt: &HostRuntime) -> ExitCode {
         Ok(arguments) => arguments,
         Err(error) => return without_arguments(rt, &error),
     };
+    if arguments.reads_twice() {
+        return without_input(rt);
+    }
     let ended = carry_out(rt, &arguments);
     if let Err(failure) = &ended {
         let _ = failure.tell(rt, &arguments);
@@ -45,6 +53,12 @@ fn without_arguments(rt: &HostRuntime, error: &clap::Error) -> ExitCode {
     ExitCode::from(u8::from(!is_asked))
 }
 
+// Standard input is read once.
+fn without_input(rt: &HostRuntime) -> ExitCode {
+    let _ = eprintln!(rt; "error: `-` is IMAGE or SCRIPT, and not both");
+    ExitCode::from(1)
+}
+
 // Memory ran out before the command line was read.
 fn without_memory(rt: &HostRuntime) -> ExitCode {
     let _ = eprintln!(rt; "no memory");
@@ -56,28 +70,110 @@ fn words_of(rt: &HostRuntime) -> io::Result<Vec<String>> {
     Ok(words)
 }
 
-fn carry_out<R: Runtime + AllocGlobal>(rt: &R, arguments: &Arguments<'_>) -> Result<(), Failure> {
-    let image = fs::read(rt, arguments.image).map_err(|e| Failure::of_file(e, Stream::Image))?;
-    let script = fs::open(rt, arguments.script).map_err(|e| Failure::of_file(e, Stream::Script))?;
-    let saved = run_script(rt, script, image.as_slice(), arguments)?;
-    save(rt, "drive1541", arguments.out, saved.as_slice()).map_err(|e| Failure::of_file(
-        e,
-        Stream::Out,
-    ))
+/// Reads to the end.
+fn read_all<I: io::Read + Drop>(alloc: Global, input: I) -> io::Result<Vec<u8>> {
+    let mut input = input;
+    let mut bytes = Vec::new(alloc);
+    input.read_to_end(&mut bytes)?;
+    Ok(bytes)
 }
 
-// What was printed before a fault is written too.
-fn run_script<R: Runtime + AllocGlobal, S: io::Read + Drop>(
+/// Reads the image.
+fn read_image<R: Runtime + AllocGlobal>(rt: &R, name: &str) -> Result<Vec<u8>, Failure> {
+    if !is_standard(name) {
+        return fs::read(rt, name).map_err(|e| Failure::of_file(e, Stream::Image));
+    }
+    read_all(rt.alloc(), rt.reader()).map_err(|e| Failure::of_file(e, Stream::Image))
+}
+
+/// Prints the image.
+fn print_image<R: Runtime>(rt: &R, image: &[u8]) -> Result<(), Failure> {
+    let mut output = io::writer(rt);
+    match output.write_all(image) {
+        Ok(()) => Ok(()),
+        Err(error) => Err(Failure::of_file(error, Stream::Out)),
+    }
+}
+
+/// Saves the image where it goes, if anything is saved.
+fn save_image<R: Runtime + AllocGlobal>(
+    rt: &R,
+    arguments: &Arguments<'_>,
+    image: &[u8],
+) -> Result<(), Failure> {
+    match arguments.out {
+        None => Ok(()),
+        Some(out) if is_standard(out) => print_image(rt, image),
+        Some(out) => save(rt, "drive1541", out, image).map_err(|e| Failure::of_file(
+            e,
+            Stream::Out,
+        )),
+    }
+}
+
+fn carry_out<R: Runtime + AllocGlobal>(rt: &R, arguments: &Arguments<'_>) -> Result<(), Failure> {
+    let image = read_image(rt, arguments.image)?;
+    let saved = run_named(rt, image.as_slice(), arguments)?;
+    save_image(rt, arguments, saved.as_slice())
+}
+
+/// Runs the script of the command line.
+fn run_named<R: Runtime + AllocGlobal>(
+    rt: &R,
+    image: &[u8],
+    arguments: &Arguments<'_>,
+) -> Result<Vec<u8>, Failure> {
+    if is_standard(arguments.script) {
+        return run_read(rt, rt.reader(), image, arguments);
+    }
+    match fs::open(rt, arguments.script) {
+        Ok(script) => run_read(rt, script, image, arguments),
+        Err(error) => Err(Failure::of_file(error, Stream::Script)),
+    }
+}
+
+/// Runs a script, and says why a line is refused.
+fn run_read<R: Runtime + AllocGlobal, S: io::Read + Drop>(
     rt: &R,
     script: S,
     image: &[u8],
     arguments: &Arguments<'_>,
 ) -> Result<Vec<u8>, Failure> {
-    let options = Options {
+    let mut noted = Noted::new(script);
+    let ended = if arguments.prints_image() {
+        run_aside(rt, &mut noted, image, arguments)
+    } else {
+        run_script(rt, &mut noted, image, arguments)
+    };
+    match ended {
+        Err(Failure::Script(line, _)) => {
+            let reason = Reason::of(noted.line(line), noted.is_wires());
+            Err(Failure::Script(line, reason))
+        }
+        ended => ended,
+    }
+}
+
+/// How the disk is run.
+fn options_of(arguments: &Arguments<'_>) -> Options
+    ensures first { 8 ≤ result.device }
+    ensures last { result.device ≤ 11 }
+{
+    Options {
         device: arguments.device.clamp(8, 11),
         protected: arguments.is_read_only,
         check: arguments.is_checked,
-    };
+    }
+}
+
+// What was printed before a fault is written too.
+fn run_script<R: Runtime + AllocGlobal, S: io::Read>(
+    rt: &R,
+    script: &mut Noted<S>,
+    image: &[u8],
+    arguments: &Arguments<'_>,
+) -> Result<Vec<u8>, Failure> {
+    let options = options_of(arguments);
     let mut output = BufWriter::new(rt.alloc(), io::writer(rt)).map_err(|_| Failure::NoMemory)?;
     let ended = run_at(
         rt.alloc(),
@@ -87,6 +183,30 @@ fn run_script<R: Runtime + AllocGlobal, S: io::Read + Drop>(
         image,
         &options,
     );
-    output.flush().map_err(|_| Failure::File(Stream::Output))?;
+    output
+        .flush()
+        .map_err(|_| Failure::File(Stream::Output, None))?;
+    ended.map_err(Failure::of_run)
+}
+
+// As standard output has the image, what the script prints goes to standard error.
+fn run_aside<R: Runtime + AllocGlobal, S: io::Read>(
+    rt: &R,
+    script: &mut Noted<S>,
+    image: &[u8],
+    arguments: &Arguments<'_>,
+) -> Result<Vec<u8>, Failure> {
+    let options = options_of(arguments);
+    let mut output = Vec::new(rt.alloc());
+    let ended = run_at(
+        rt.alloc(),
+        arguments.pace,
+        script,
+        &mut output,
+        image,
+        &options,
+    );
+    let text = std::str::from_utf8(output.as_slice()).unwrap_or("");
+    let _ = eprint!(rt; "{text}");
     ended.map_err(Failure::of_run)
 }
