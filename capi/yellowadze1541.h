@@ -8,7 +8,7 @@
  * handles: one handle is in one call at a time, and different ones may be in calls of different threads at once. A handle may go
  * from one thread to another, which the program orders.
  * Memory comes from malloc, realloc and free, in the calls marked [m] alone; where they have none the call answers
- * Y1541_NO_MEMORY, and nothing has changed (but see y1541_eject).
+ * Y1541_NO_MEMORY, and nothing has changed.
  */
 #ifndef YELLOWADZE1541_H
 #define YELLOWADZE1541_H
@@ -20,8 +20,9 @@
 extern "C" {
 #endif
 
-/* Major, minor, patch: a byte each. A program goes on where y1541_version() >> 16 is the major number that it was compiled with. */
-#define Y1541_VERSION 0x010000u
+/* Major, minor, patch: a byte each. Up to 1.0.0 a program goes on where y1541_version() >> 8 is that which it was compiled with; from then on
+ * where y1541_version() >> 16 is. */
+#define Y1541_VERSION 0x000300u
 
 /* What is below 0. */
 enum y1541_result {
@@ -90,14 +91,22 @@ int32_t y1541_pulls_now(y1541 *d, y1541_pulls *pulls);
  * takes all lines for free until y1541_lines tells it. */
 int32_t y1541_reset(y1541 *d);
 
-/* --- the disk in a drive: with each exchange the drive is switched off and on, as by y1541_reset */
+/* --- the disk in a drive, which goes on */
 
-/* [m] The disk is taken out: its image as it is now, with all that was written. The drive has none then, and reads zeros that can't be
- * written. Y1541_ABSENT where it has none already. Where the image isn't given (Y1541_NO_ROOM, Y1541_NO_MEMORY), the disk stays in the
- * drive, which was switched off and on; room for an image of the form that was put in, and 278,234 bytes for a G64, suffices. */
+/* [m] The image of the disk as it is now, with all that was written, in the format that was put in; a file that is being written stands in it as
+ * on the disk, not closed. Y1541_ABSENT where there is no disk. Room for the image that was put in, and 278,234 bytes for a G64, suffices. */
+int32_t y1541_image(y1541 *d, uint8_t *out, size_t room, size_t *needed);
+
+/* How often a sector of the disk was written (once where all were formatted), since it was put in: where it has grown, the image is worth
+ * saving. It stops at UINT64_MAX. 0 where d holds none. */
+uint64_t y1541_writes(y1541 *d);
+
+/* [m] The disk is taken out, and its image given as by y1541_image; where it isn't given, nothing has happened. The drive has none then, and
+ * reads zeros that can't be written. No channel is open, what was being written isn't closed; its lines and the status stay. */
 int32_t y1541_eject(y1541 *d, uint8_t *out, size_t room, size_t *needed);
 
-/* [m] The disk of another image is put in, of which the drive makes a copy. Where it isn't opened, nothing has happened. */
+/* [m] The disk of another image is put in, of which the drive makes a copy; the one that was in it is gone. Channels, lines and status as by
+ * y1541_eject. Where it isn't opened, nothing has happened. */
 int32_t y1541_insert(y1541 *d, const uint8_t *image, size_t len, uint8_t is_protected);
 
 /* The number of the status that channel 15 tells, 0 to 74; nothing of it is taken. */
@@ -107,8 +116,8 @@ int32_t y1541_status(y1541 *d);
 
 /* [m] A drive is switched on with the disk of an image, and played under these changes of the host (whose `who` doesn't count) up to an end
  * below 2^59, the reactions due then too: all events in order, the host's and the drive's, and the image as it is then. `count` and `needed`
- * get how many there are; Y1541_NO_ROOM where a room is too small, and then nothing was written there. Y1541_INVALID where a change goes
- * back in time, comes after the end or is of no line. */
+ * get how many there are, with Y1541_NO_ROOM too, where a room is too small and neither was written. Y1541_INVALID where a change goes back in
+ * time, comes after the end or is of no line. */
 int32_t y1541_play(const uint8_t *image, size_t len, uint8_t device, uint8_t reaction, uint8_t pace, const y1541_signal *changes, size_t n, uint64_t end,
                    y1541_signal *events, size_t events_room, size_t *count, uint8_t *after, size_t after_room, size_t *needed);
 
@@ -132,10 +141,10 @@ int32_t y1541_image_file(const uint8_t *image, size_t len, const uint8_t *patter
 /* [m] The 256 bytes of a sector, or the status of the fault that stands in their place, 20 to 29. */
 int32_t y1541_image_sector(const uint8_t *image, size_t len, uint8_t track, uint8_t sector, uint8_t *out, size_t room);
 
-/* [m] The image behind a file that was opened with a text such as NAME,P,W, given these bytes, and closed. */
+/* [m] The image after a file was opened with a text such as NAME,P,W, given these bytes, and closed. */
 int32_t y1541_image_put(const uint8_t *image, size_t len, const uint8_t *text, size_t n, const uint8_t *bytes, size_t count, uint8_t *out, size_t room, size_t *needed);
 
-/* [m] The image behind a command for channel 15, such as S0:NAME, R0:NEW=OLD, C0:NEW=OLD, N0:TITLE,ID or V0. */
+/* [m] The image after a command for channel 15, such as S0:NAME, R0:NEW=OLD, C0:NEW=OLD, N0:TITLE,ID or V0. */
 int32_t y1541_image_command(const uint8_t *image, size_t len, const uint8_t *text, size_t n, uint8_t *out, size_t room, size_t *needed);
 
 /* [m] A new image with an empty disk: a y1541_form, a title of at most 16 bytes, and the two bytes of its id. */

@@ -63,7 +63,7 @@ static void bus_read(bus *b, uint64_t now, uint8_t *clock, uint8_t *data) {
         if (b->drive[i].at) *clock |= b->pulls[i].clock_low, *data |= b->pulls[i].data_low;
 }
 
-/* A drive was switched off and on, by y1541_reset, y1541_insert or y1541_eject: its lines are free, and it is told of all others'. */
+/* A drive was switched off and on by y1541_reset: its lines are free, and it is told of all others'. */
 static void bus_switched(bus *b, int i, uint64_t now) {
     bus_run_to(b, now);
     b->pulls[i].clock_low = b->pulls[i].data_low = 0;

@@ -1,5 +1,5 @@
 /* Two drives on one bus beside a computer, as an emulator keeps them (bus.h): emulator_loop IMAGE. HELLO is LOADed from drive 8, SAVEd to drive 9, whose
- * disk is new, and LOADed from there; then drive 9 gets another disk, and is switched off and on. */
+ * disk is new, and LOADed from there; the image of drive 9 is saved, as it was written; then it gets another disk, and is switched off and on. */
 #include "files.h"
 #include "kernal.h"
 
@@ -18,11 +18,10 @@ int main(int argc, char **argv) {
     expect(count > 0, "LOAD from 8");
     expect(count > 0 && kernal_save(&k, 9, "HELLO", hello, (size_t)count), "SAVE to 9");
     expect(kernal_load(&k, 9, "HELLO", again, sizeof again) == count && count > 0 && !memcmp(hello, again, (size_t)count), "LOAD from 9");
-    expect(y1541_eject(&b.drive[1], out, 1 << 20, &needed) == Y1541_OK, "the image of 9");
+    expect(y1541_writes(&b.drive[0]) == 0 && y1541_writes(&b.drive[1]) > 0, "9 is worth saving, and 8 isn't");
+    expect(y1541_image(&b.drive[1], out, 1 << 20, &needed) == Y1541_OK, "the image of 9");
     expect(y1541_image_file(out, needed, (const uint8_t *)"H*", 2, again, sizeof again, &needed) == Y1541_OK && (long)needed == count, "HELLO in it");
-    expect(y1541_insert(&b.drive[1], image, len, 1) == Y1541_OK && y1541_status(&b.drive[1]) == 73, "another disk for 9");
-    bus_switched(&b, 1, moment(&k) + 1);
-    pass(&k, 2000);
+    expect(y1541_insert(&b.drive[1], image, len, 1) == Y1541_OK && y1541_writes(&b.drive[1]) == 0, "another disk for 9");
     expect(kernal_load(&k, 9, "HELLO", again, sizeof again) == count, "LOAD from it");
     expect(y1541_reset(&b.drive[1]) == Y1541_OK && y1541_status(&b.drive[1]) == 73, "9 off and on");
     bus_switched(&b, 1, moment(&k) + 1);

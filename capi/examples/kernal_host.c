@@ -41,8 +41,8 @@ static void jobs(kernal *k, const uint8_t *image, size_t len, int asks_missing) 
     count = kernal_load(k, 8, "NONE", bytes, sizeof bytes);
     expect(count < 0 && !k->stuck && k->status == (KERNAL_EOI | KERNAL_READ_TIMEOUT), "LOAD of no file");
     expect(y1541_status(&k->bus->drive[0]) == 62, "the status by the library");
-    expect(status_is(k, 8, "62,"), "the status behind no file");
-    expect(status_is(k, 8, "00,"), "the status behind the status");
+    expect(status_is(k, 8, "62,"), "the status after no file");
+    expect(status_is(k, 8, "00,"), "the status after the status");
 }
 
 int main(int argc, char **argv) {
@@ -63,7 +63,7 @@ int main(int argc, char **argv) {
         expect(said == Y1541_OK, y1541_text(said));
         kernal_init(&k, &b, runs[i].computer, (uint32_t)i);
         jobs(&k, image, len, runs[i].pace == Y1541_KERNAL);
-        expect(y1541_eject(&b.drive[0], out, 1 << 20, &needed) == Y1541_OK, "the image");
+        expect(y1541_writes(&b.drive[0]) > 0 && y1541_image(&b.drive[0], out, 1 << 20, &needed) == Y1541_OK, "the image");
         y1541_place first;
         expect(y1541_image_check(out, needed, &first) == Y1541_OK, "the image is sound");
         y1541_close(&b.drive[0]);

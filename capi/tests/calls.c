@@ -20,6 +20,7 @@ static void refused(const uint8_t *image, size_t len) {
     expect(y1541_due(&d, 0, &r) == Y1541_NO_DRIVE && r.moment == 7 && y1541_pulls_now(&d, &p) == Y1541_NO_DRIVE && p.clock_low == 7, "no drive: due");
     expect(y1541_reset(&d) == Y1541_NO_DRIVE && y1541_status(&d) == Y1541_NO_DRIVE, "no drive: reset");
     expect(y1541_eject(&d, out, 4, &needed) == Y1541_NO_DRIVE && needed == 5, "no drive: eject");
+    expect(y1541_image(&d, out, 4, &needed) == Y1541_NO_DRIVE && needed == 5 && out[0] == 9 && y1541_writes(&d) == 0, "no drive: image");
     expect(y1541_insert(&d, image, len, 0) == Y1541_NO_DRIVE, "no drive: insert");
     y1541_close(&d);
     expect(!d.at, "closed none");
@@ -42,11 +43,19 @@ static void refused(const uint8_t *image, size_t len) {
     expect(y1541_insert(&d, image, 12, 0) == Y1541_NO_IMAGE && y1541_pulls_now(&d, &p) == Y1541_OK && p.data_low == 1, "no other image");
     expect(y1541_reset(&d) == Y1541_OK && y1541_next_due(&d) == Y1541_NEVER && y1541_pulls_now(&d, &p) == Y1541_OK && !p.data_low, "reset");
     expect(y1541_lines(&d, 1019, 1, 0, 0) == Y1541_INVALID && y1541_lines(&d, 1020, 1, 0, 0) == Y1541_OK, "moments go on");
-    expect(y1541_eject(&d, out, 4, &needed) == Y1541_NO_ROOM && needed == len && out[0] == 9 && out[3] == 9, "no room for an image");
-    expect(y1541_status(&d) == 73 && y1541_next_due(&d) == Y1541_NEVER, "switched off and on");
+    expect(y1541_image(&d, out, 4, &needed) == Y1541_NO_ROOM && needed == len && out[0] == 9 && out[3] == 9, "no room for an image");
+    needed = 5;
+    expect(y1541_eject(&d, out, 4, &needed) == Y1541_NO_ROOM && needed == len && out[0] == 9 && out[3] == 9, "no room for the image that comes out");
     uint8_t *all = malloc(len);
+    expect(y1541_image(&d, all, len, &needed) == Y1541_OK && needed == len && same_bytes(all, image, len) && y1541_writes(&d) == 0, "the image, which wasn't written");
+    memset(all, 0, len);
     expect(y1541_eject(&d, all, len, &needed) == Y1541_OK && needed == len && same_bytes(all, image, len), "the disk comes out");
-    expect(y1541_eject(&d, all, len, &needed) == Y1541_ABSENT, "no disk");
+    needed = 5;
+    expect(y1541_eject(&d, all, len, &needed) == Y1541_ABSENT && y1541_image(&d, all, len, &needed) == Y1541_ABSENT && needed == 5, "no disk");
+    expect(y1541_status(&d) == 73 && y1541_next_due(&d) == 1040, "the drive goes on without a disk");
+    expect(y1541_due(&d, 1040, &r) == Y1541_OK && r.data_low == 1 && y1541_insert(&d, image, len, 0) == Y1541_OK, "a disk again");
+    expect(y1541_pulls_now(&d, &p) == Y1541_OK && p.data_low == 1 && y1541_lines(&d, 1039, 0, 0, 0) == Y1541_INVALID, "its lines and its moments stay");
+    expect(y1541_image(&d, all, len, &needed) == Y1541_OK && same_bytes(all, image, len), "the image again");
     free(all);
     y1541_close(&d);
     expect(!d.at, "closed");
@@ -97,6 +106,48 @@ static void form_of(uint8_t form, const char *what) {
     y1541_close(&b.drive[0]);
 }
 
+/* A disk in a drive that goes on: its image while a file is being written, how often it was written, and another disk in its place. */
+static void exchanged(const uint8_t *image, size_t len, uint8_t form) {
+    static uint8_t disk[ROOM], now[ROOM], other[ROOM], bytes[70000];
+    size_t size = 0, needed = 0, other_size = 0;
+    y1541_entry entry;
+    y1541_place place;
+    bus b = {0};
+    kernal k;
+    expect(y1541_image_new(form, (const uint8_t *)"ONE", 3, '1', 'A', disk, ROOM, &size) == Y1541_OK && y1541_image_new(form, (const uint8_t *)"TWO", 3, '2', 'B', other, ROOM, &other_size) == Y1541_OK, "two disks");
+    expect(bus_open(&b, 0, disk, size, 8, 20, Y1541_KERNAL, 0) == Y1541_OK, "a drive with the first");
+    y1541 *d = &b.drive[0];
+    kernal_init(&k, &b, PAL, form);
+    expect(kernal_load(&k, 8, "$", bytes, sizeof bytes) > 0 && y1541_writes(d) == 0, "what is read isn't written");
+    expect(kernal_open(&k, 8, 2, "LOG,S,W") && kernal_print(&k, 8, 2, program, sizeof program), "a file is being written");
+    uint64_t opened = y1541_writes(d);
+    expect(opened > 0, "its entry is written");
+    expect(y1541_image(d, now, ROOM, &needed) == Y1541_OK && needed == size && y1541_writes(d) == opened, "the image meanwhile");
+    expect(y1541_image_entry(now, needed, 0, &entry) == Y1541_OK && entry.kind == 1 && !entry.closed, "the file isn't closed in it");
+    expect(kernal_print(&k, 8, 2, program, sizeof program) && kernal_close(&k, 8, 2) && y1541_writes(d) > opened, "the drive goes on");
+    expect(y1541_image(d, now, ROOM, &needed) == Y1541_OK && y1541_image_check(now, needed, &place) == Y1541_OK, "a sound image");
+    size_t count = 0;
+    expect(y1541_image_file(now, needed, (const uint8_t *)"LOG", 3, bytes, sizeof bytes, &count) == Y1541_OK && count == 2 * sizeof program && same_bytes(bytes, program, sizeof program) && same_bytes(bytes + sizeof program, program, sizeof program), "the file in it");
+    uint64_t closed = y1541_writes(d);
+    expect(y1541_reset(d) == Y1541_OK && y1541_writes(d) == closed, "a reset puts no other disk in");
+    bus_switched(&b, 0, moment(&k) + 1);
+    pass(&k, 2000);
+    expect(kernal_load(&k, 8, "NONE", bytes, sizeof bytes) < 0 && y1541_status(d) == 62, "no such file");
+    expect(kernal_open(&k, 8, 3, "MORE,S,W") && kernal_print(&k, 8, 3, program, sizeof program) && y1541_status(d) == 0, "another file is begun");
+    expect(kernal_load(&k, 8, "NONE", bytes, sizeof bytes) < 0 && y1541_status(d) == 62, "again no such file");
+    expect(y1541_insert(d, other, other_size, 0) == Y1541_OK && y1541_writes(d) == 0 && y1541_status(d) == 62, "another disk, and the same status");
+    expect(kernal_print(&k, 8, 3, program, sizeof program) && kernal_close(&k, 8, 3) && y1541_writes(d) == 0, "no channel is open any more");
+    expect(y1541_image(d, now, ROOM, &needed) == Y1541_OK && needed == other_size && same_bytes(now, other, other_size), "nothing of the first disk goes to it");
+    long read = kernal_load(&k, 8, "$", bytes, sizeof bytes);
+    expect(read > 0 && y1541_image_list(other, other_size, (const uint8_t *)"", 0, now, ROOM, &needed) == Y1541_OK && (long)needed == read && same_bytes(now, bytes, needed), "its directory");
+    expect(y1541_insert(d, image, len, 1) == Y1541_OK, "a protected one");
+    expect(kernal_open(&k, 8, 2, "NEW,P,W"), "OPEN for writing");
+    expect(y1541_status(d) == 26 && y1541_writes(d) == 0, "it isn't written");
+    expect(y1541_eject(d, now, ROOM, &needed) == Y1541_OK && needed == len && same_bytes(now, image, len), "it comes out as it was");
+    expect(kernal_load(&k, 8, "HELLO", bytes, sizeof bytes) < 0 && y1541_writes(d) == 0, "no file without a disk");
+    y1541_close(d);
+}
+
 static void converted(const uint8_t *image, size_t len) {
     static uint8_t g64[ROOM], d64[ROOM];
     size_t needed = 0, back = 0;
@@ -113,15 +164,18 @@ static void played(const uint8_t *image, size_t len) {
     expect(y1541_play(image, len, 8, 20, Y1541_PROFILE, host, 3, 4000, events, 8, &count, after, ROOM, &needed) == Y1541_OK && needed == len && same_bytes(after, image, len), "played");
     expect(count == 5 && events[2].moment == 1020 && events[2].who == 8 && events[2].line == Y1541_DATA && events[2].low == 1, "DATA is pulled 20 after ATN");
     expect(events[4].moment == 3020 && events[4].who == 8 && events[4].line == Y1541_DATA && events[4].low == 0, "and freed 20 after it");
-    after[0] = 7;
-    expect(y1541_play(image, len, 8, 20, Y1541_PROFILE, host, 3, 4000, events, 4, &count, after, ROOM, &needed) == Y1541_NO_ROOM && count == 5 && after[0] == 7, "no room for events");
+    after[0] = 7, count = needed = 0;
+    expect(y1541_play(image, len, 8, 20, Y1541_PROFILE, host, 3, 4000, events, 4, &count, after, ROOM, &needed) == Y1541_NO_ROOM && count == 5 && needed == len && after[0] == 7, "no room for events");
+    count = needed = 0, events[0].moment = 77;
+    expect(y1541_play(image, len, 8, 20, Y1541_PROFILE, host, 3, 4000, events, 8, &count, after, len - 1, &needed) == Y1541_NO_ROOM && count == 5 && needed == len && after[0] == 7 && events[0].moment == 77, "no room for the image");
+    count = needed = 66;
     expect(y1541_play(image, len, 8, 20, Y1541_PROFILE, host, 3, 2999, events, 8, &count, after, ROOM, &needed) == Y1541_INVALID, "past the end");
     host[2].moment = 999;
     expect(y1541_play(image, len, 8, 20, Y1541_PROFILE, host, 3, 4000, events, 8, &count, after, ROOM, &needed) == Y1541_INVALID, "back in time");
     host[2].moment = 3000, host[2].line = 3;
     expect(y1541_play(image, len, 8, 20, Y1541_PROFILE, host, 3, 4000, events, 8, &count, after, ROOM, &needed) == Y1541_INVALID, "no line");
     expect(y1541_play(image, len, 7, 20, Y1541_PROFILE, host, 0, 4000, events, 8, &count, after, ROOM, &needed) == Y1541_INVALID, "no device");
-    expect(y1541_play(image, 9, 8, 20, Y1541_PROFILE, host, 0, 4000, events, 8, &count, after, ROOM, &needed) == Y1541_NO_IMAGE, "no image to play");
+    expect(y1541_play(image, 9, 8, 20, Y1541_PROFILE, host, 0, 4000, events, 8, &count, after, ROOM, &needed) == Y1541_NO_IMAGE && count == 66 && needed == 66, "no image to play");
 }
 
 typedef struct task {
@@ -174,6 +228,7 @@ int main(int argc, char **argv) {
     form_of(Y1541_D64_35, "a D64");
     form_of(Y1541_D64_40, "a D64 of 40 tracks");
     form_of(Y1541_G64, "a G64");
+    for (uint8_t form = 0; form < 3; form++) exchanged(image, len, form);
     converted(image, len);
     played(image, len);
     threads(image, len);

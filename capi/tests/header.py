@@ -1,6 +1,6 @@
 #!/usr/bin/env python3
-"""header.py HEADER SOURCES: that the C header declares just the functions that the library exports, each with the same parameters and result, and that its
-structs have the fields of the library's."""
+"""header.py HEADER SOURCES: that the C header declares just the functions that the library exports, each with the same parameters and result, that its structs
+have the fields of the library's, and that both have one version, for which CHANGELOG.md has a heading."""
 import pathlib, re, sys
 
 TYPES = {"u8": "uint8_t", "u16": "uint16_t", "u32": "uint32_t", "u64": "uint64_t", "i32": "int32_t", "usize": "size_t"}
@@ -61,6 +61,16 @@ def declared(header):
     return functions, structs
 
 
+def versions(header, sources):
+    """The version of the header, of the library, and of the newest changes."""
+    numbers = []
+    for it, pattern in ((pathlib.Path(header), r"define Y1541_VERSION 0x(\w+)u"), (pathlib.Path(sources) / "images.rt", r"const VERSION: u32 = 0x(\w+);")):
+        number = int(re.search(pattern, it.read_text("utf-8"))[1].replace("_", ""), 16)
+        numbers.append(f"{number >> 16}.{number >> 8 & 255}.{number & 255}")
+    changes = pathlib.Path(sources).parents[2] / "CHANGELOG.md"
+    return [*numbers, re.search(r"^## (\d+\.\d+\.\d+)", changes.read_text("utf-8"), re.M)[1]]
+
+
 def main():
     have, want = declared(sys.argv[1]), exports(sys.argv[2])
     wrong = 0
@@ -69,7 +79,11 @@ def main():
             if ours.get(name) != theirs.get(name):
                 wrong += 1
                 print(f"{name}: the library has {ours.get(name)}, the header {theirs.get(name)}")
-    print(f"header: {len(have[0])} functions and {len(have[1])} structs, {wrong} wrong")
+    numbers = versions(sys.argv[1], sys.argv[2])
+    if len(set(numbers)) > 1:
+        wrong += 1
+        print(f"the header has version {numbers[0]}, the library {numbers[1]}, CHANGELOG.md {numbers[2]}")
+    print(f"header: version {numbers[0]}, {len(have[0])} functions and {len(have[1])} structs, {wrong} wrong")
     return 1 if wrong else 0
 
 

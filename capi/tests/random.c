@@ -57,7 +57,7 @@ static int32_t on_drive(y1541 *d, uint64_t *now) {
     case 2: return by_chance(20) ? 0 : y1541_reset(d);
     case 3:
         room = by_chance(2) ? len : by_chance(1000), out = block(image, 0, 0), out = realloc(out, room ? room : 1);
-        said = y1541_eject(d, out, room, &needed);
+        said = by_chance(4) ? y1541_image(d, out, room, &needed) : y1541_eject(d, out, room, &needed);
         free(out);
         return said;
     case 4:
@@ -67,7 +67,7 @@ static int32_t on_drive(y1541 *d, uint64_t *now) {
         return said;
     case 5:
     case 6: said = y1541_status(d); return said > 0 && said <= 77 ? 0 : said;
-    case 7: return y1541_pulls_now(d, &p);
+    case 7: return y1541_writes(d) < Y1541_NEVER ? y1541_pulls_now(d, &p) : 1;
     case 8: case 9: case 10: case 11: case 12: case 13: case 14: return y1541_due(d, *now + by_chance(300), &r);
     default:
         *now += by_chance(120);

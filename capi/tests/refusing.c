@@ -3,7 +3,7 @@
 #include "files.h"
 #include <yellowadze1541.h>
 
-enum { ROOM = 1 << 20 };
+enum { ROOM = 1 << 20, DRIVES = 3 }; /* DRIVES: the last calls of the table are those on a drive that is open */
 
 struct tried { uint64_t ok; void *at; };
 static long requests, refuse, live;
@@ -36,18 +36,40 @@ static int32_t opens(void) {
     return said;
 }
 
+/* Memory is given while the drive is looked at. */
+static int is_whole(void) {
+    static uint8_t now[ROOM];
+    size_t size = 0;
+    long was = requests, then = refuse;
+    refuse = 0;
+    int is = y1541_status(&d) == 73 && y1541_image(&d, now, ROOM, &size) == Y1541_OK && size == len && !memcmp(now, image, len);
+    requests = was, refuse = then;
+    return is;
+}
+
+static int32_t shows(void) {
+    int32_t said = y1541_image(&d, out, ROOM, &needed);
+    expect(is_whole(), "the drive goes on with its disk");
+    return said;
+}
+
 /* The disk is taken out and, where it came, put in again. */
 static int32_t ejects(void) {
     int32_t said = y1541_eject(&d, out, ROOM, &needed);
     long was = requests, then = refuse;
     refuse = 0;
-    expect(y1541_status(&d) == 73, "the drive was switched off and on");
     if (said == Y1541_OK) expect(y1541_insert(&d, image, len, 0) == Y1541_OK, "the disk again");
     requests = was, refuse = then;
+    expect(is_whole(), "the disk stays where it doesn't come out");
     return said;
 }
 
-static int32_t inserts(void) { return y1541_insert(&d, image, len, 0); }
+static int32_t inserts(void) {
+    int32_t said = y1541_insert(&d, image, len, 0);
+    expect(is_whole(), "a disk is in the drive");
+    return said;
+}
+
 static int32_t checks(void) { y1541_place p; return y1541_image_check(image, len, &p); }
 static int32_t titles(void) { y1541_title t; return y1541_image_title(image, len, &t); }
 static int32_t enters(void) { y1541_entry e; return y1541_image_entry(image, len, 0, &e); }
@@ -69,7 +91,8 @@ static int32_t plays(void) {
 
 static const struct { const char *name; int32_t (*call)(void); } calls[] = {
     {"open", opens}, {"check", checks}, {"title", titles}, {"entry", enters}, {"list", lists}, {"file", files}, {"sector", reads},
-    {"put", puts_file}, {"command", commands}, {"new", makes}, {"new g64", makes_g64}, {"convert", converts}, {"play", plays}, {"eject", ejects}, {"insert", inserts},
+    {"put", puts_file}, {"command", commands}, {"new", makes}, {"new g64", makes_g64}, {"convert", converts}, {"play", plays},
+    {"image", shows}, {"eject", ejects}, {"insert", inserts},
 };
 
 /* How many requests a call makes, each of them refused in turn. */
@@ -91,11 +114,11 @@ int main(int argc, char **argv) {
     if (argc < 2) return fprintf(stderr, "refusing IMAGE\n"), 2;
     image = read_file(argv[1], &len);
     size_t count = sizeof calls / sizeof calls[0];
-    for (size_t i = 0; i < count - 2; i++) tries(i, 0);
+    for (size_t i = 0; i < count - DRIVES; i++) tries(i, 0);
     refuse = 0;
     expect(y1541_open(&d, image, len, 0, 8, 20, 0) == Y1541_OK, "open");
     long held = live;
-    for (size_t i = count - 2; i < count; i++) tries(i, held);
+    for (size_t i = count - DRIVES; i < count; i++) tries(i, held);
     refuse = 0;
     expect(y1541_status(&d) == 73 && y1541_lines(&d, 10, 1, 0, 0) == Y1541_OK && y1541_next_due(&d) == 30, "the drive goes on");
     y1541_close(&d);

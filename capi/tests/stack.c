@@ -1,10 +1,11 @@
 #define _XOPEN_SOURCE 700
-/* How much stack each call needs, by a stack that is painted before it: stack IMAGE. Fails where one needs more than docs/LIBRARY.md says. */
+/* How much stack each call needs, by a stack that is painted before it: stack IMAGE. Fails where one needs more than its row says, which is just above what was
+ * measured (docs/LIBRARY.md). */
 #include "files.h"
 #include <pthread.h>
 #include <yellowadze1541.h>
 
-enum { STACK = 4 << 20, ROOM = 1 << 20, PAINT = 0xa5, MOST = 512 << 10 };
+enum { STACK = 4 << 20, ROOM = 1 << 20, PAINT = 0xa5 };
 
 static uint8_t *image, *out, *g64;
 static size_t len, g64_len, needed;
@@ -17,21 +18,31 @@ static void lines(void) { y1541_lines(&d, 1000, 1, 0, 0), y1541_lines(&g, 1000, 
 static void next_due(void) { y1541_next_due(&d); }
 static void due(void) { y1541_reacted r; y1541_due(&d, 2000, &r), y1541_due(&g, 2000, &r); }
 static void pulls(void) { y1541_pulls p; y1541_pulls_now(&d, &p); }
+static void shows(void) { y1541_image(&d, out, ROOM, &needed), y1541_image(&g, out, ROOM, &needed), y1541_writes(&d), y1541_status(&d); }
 static void ejects(void) { y1541_eject(&d, out, ROOM, &needed), y1541_eject(&g, out, ROOM, &needed); }
 static void inserts(void) { y1541_insert(&d, g64, g64_len, 0), y1541_insert(&g, image, len, 0); }
-static void resets(void) { y1541_reset(&d); }
+static void resets(void) { y1541_reset(&d), y1541_reset(&g); }
 static void closes(void) { y1541_close(&d), y1541_close(&g); }
 static void checks(void) { y1541_place p; y1541_image_check(image, len, &p), y1541_image_check(g64, g64_len, &p); }
 static void lists(void) { y1541_image_list(image, len, image, 0, out, ROOM, &needed); }
 static void files(void) { y1541_image_file(image, len, (const uint8_t *)"H*", 2, out, ROOM, &needed); }
 static void puts_file(void) { y1541_image_put(image, len, (const uint8_t *)"N,P,W", 5, image, 3000, out, ROOM, &needed), y1541_image_put(g64, g64_len, (const uint8_t *)"N,P,W", 5, image, 3000, out, ROOM, &needed); }
 static void commands(void) { y1541_image_command(image, len, (const uint8_t *)"V0", 2, out, ROOM, &needed); }
+static void plays(void) {
+    static const y1541_signal host[] = {{1000, 0, Y1541_ATN, 1}, {3000, 0, Y1541_ATN, 0}};
+    static y1541_signal events[8];
+    size_t count;
+    y1541_play(image, len, 8, 20, Y1541_PROFILE, host, 2, 5000, events, 8, &count, out, ROOM, &needed);
+}
 static void makes(void) { y1541_image_new(2, image, 0, 0, 0, out, ROOM, &needed); }
 static void converts(void) { y1541_lost l; y1541_image_convert(image, len, &l, out, ROOM, &needed), y1541_image_convert(g64, g64_len, &l, out, ROOM, &needed); }
 
-static const struct { const char *name; void (*call)(void); } calls[] = {
-    {"open", opens}, {"open a G64", opens_g64}, {"lines", lines}, {"next_due", next_due}, {"due", due}, {"pulls_now", pulls}, {"eject", ejects}, {"insert", inserts}, {"reset", resets}, {"close", closes},
-    {"image_check", checks}, {"image_list", lists}, {"image_file", files}, {"image_put", puts_file}, {"image_command", commands}, {"image_new", makes}, {"image_convert", converts},
+/* In bytes. */
+static const struct { const char *name; void (*call)(void); size_t most; } calls[] = {
+    {"open", opens, 272000}, {"open a G64", opens_g64, 305000}, {"lines", lines, 1000}, {"next_due", next_due, 1000}, {"due", due, 1000},
+    {"pulls_now", pulls, 1000}, {"image", shows, 2000}, {"eject", ejects, 73000}, {"insert", inserts, 73000}, {"reset", resets, 73000}, {"close", closes, 1000},
+    {"image_check", checks, 36000}, {"image_list", lists, 207000}, {"image_file", files, 4000}, {"image_put", puts_file, 222000},
+    {"image_command", commands, 220000}, {"image_new", makes, 53000}, {"image_convert", converts, 37000}, {"play", plays, 148000},
 };
 
 static void *runs(void *call) {
@@ -66,15 +77,14 @@ int main(int argc, char **argv) {
     y1541_lost lost;
     image = read_file(argv[1], &len), out = malloc(ROOM), g64 = malloc(ROOM);
     y1541_image_convert(image, len, &lost, g64, ROOM, &g64_len);
-    size_t none = touched(nothing), most = 0;
+    size_t none = touched(nothing);
     printf("stack in bytes:");
     for (size_t i = 0; i < sizeof calls / sizeof calls[0]; i++) {
         size_t used = touched(calls[i].call) - none;
         printf(" %s %zu", calls[i].name, used);
-        if (used > most) most = used;
+        if (used > calls[i].most) printf(" (above %zu)", calls[i].most), wrong++;
     }
-    printf("; most %zu\n", most);
-    expect(most <= MOST, "a call needs more stack than is documented");
+    printf("; %d too much\n", wrong);
     free(image), free(out), free(g64);
     return wrong != 0;
 }

@@ -1,16 +1,17 @@
 -- What a call gives to the caller's room, from what was made.
-use Rattle.std.proofs.Common.{◌≡◌, ℕ, ◌∙◌, List, length, ap, subst, sym, inl, inr, arith}
-use Rattle.std.specs.Prelude.{ℤ, pos, nat_abs, Result, Ok, Err, MatchResult, OnOk}
-use Rattle.cbm_channel.specs.Machines.{Machine}
-use Rattle.cbm_shell.specs.declared.changing.Change.{Change}
-use Rattle.cbm_shell.specs.declared.fault.ShellFault.{ShellFault}
-use Rattle.cbm_shell.specs.declared.fault.ShellFault.TheVariants as fault
-use Rattle.cbm_shell.specs.Changing.{begun, after_change}
-use Rattle.cbm_shell.specs.Images.{IsFailed}
+use Rattle.std.proofs.Common.{◌≡◌, ℕ, ◌∙◌, List, Some, length, ap, subst, sym, inl, inr, arith}
+use Rattle.std.specs.Prelude.{ℤ, pos, nat_abs, Result, Ok, Err, IfErr, IfOk, MatchResult}
 use Rattle.cbm_device.specs.declared.refusal.Refusal.{Refusal}
 use Rattle.cbm_device.specs.declared.refusal.Refusal.TheVariants.{Memory, Invalid, NoRoom, Absent, NoImage, Unsound, NoDrive, Status}
-use Rattle.cbm_device.specs.Answers.{fine, number_of, answer, refusal_of, AreGiven, Gives}
+use Rattle.cbm_file.specs.Files.{Disk}
+use Rattle.cbm_channel.specs.Machines.{Machine}
+use Rattle.cbm_volume.specs.Holding.{HoldsDisk}
+use Rattle.cbm_program.specs.Images.{kind_of, content_of, ImageHolds}
+use Rattle.cbm_program.specs.declared.kind.Kind.{Kind}
+use Rattle.cbm_device.specs.Devices.{OnLines, IsImageFrom, IsUnsaved}
+use Rattle.cbm_device.specs.ImageDisks.{Counted, seen_of, IsImageIn}
 use Rattle.cbm_device.specs.Making.{IsUnmade}
+use Rattle.cbm_device.specs.Answers.{fine, number_of, answer, AreGiven, Gives}
 
 -- no refusal has the number of what went well
 pub never_fine : (r : Refusal) → number_of r ≡ fine → ⊥
@@ -23,35 +24,26 @@ never_fine Unsound e = absurd cc
 never_fine NoDrive e = absurd cc
 never_fine (Status code) e = let same = ap nat_abs e in absurd (omega (arith, same))
 
--- what was made is given, or why nothing was is told
-pub gives : {A : Type 0} (items : A → List ℕ) (Are : List ℕ → Type 0) (IsFault : ShellFault → Type 0) (made : Result A ShellFault) (done : Result (Unit {0}) Refusal) (n : ℤ)
-    (old new : List ℕ) (before needed : ℕ) → MatchResult made (λ v. Are (items v)) IsFault
-    → MatchResult made (λ v. (needed ≡ length (items v)) × AreGiven (answer done) old new (items v)) (λ f. (done ≡ Err (refusal_of f)) × (new ≡ old) × (needed ≡ before))
-    → n ≡ answer done → Gives n old new before needed Are IsFault
-gives items Are IsFault (Ok v) done n old new before needed is given e =
+-- what was made is given, or why nothing was is reported
+pub gives : {A : Type 0} (items : A → List ℕ) (Are : List ℕ → Type 0) (Why : Refusal → Type 0) (made : Result A Refusal) (done : Result (Unit {0}) Refusal) (n : ℤ)
+    (old new : List ℕ) (before needed : ℕ) → MatchResult made (λ v. Are (items v)) Why
+    → MatchResult made (λ v. (needed ≡ length (items v)) × AreGiven (answer done) old new (items v)) (λ r. (done ≡ Err r) × (new ≡ old) × (needed ≡ before))
+    → n ≡ answer done → Gives n old new before needed Are Why
+gives items Are Why (Ok v) done n old new before needed is given e =
     inl (items v, is, given.0, subst (λ k. AreGiven k old new (items v)) (sym e) given.1)
-gives items Are IsFault (Err f) done n old new before needed is given e = inr (f, is, e ∙ ap (λ d. answer d) given.0, given.1, given.2)
+gives items Are Why (Err r) done n old new before needed is given e = inr (r, is, e ∙ ap (λ d. answer d) given.0, given.1, given.2)
 
--- why a change isn't made, by the machine behind its OPEN and at its end
-pub unmade : (change : Change) (m : Machine) (f : ShellFault) → IsFailed change m f → IsUnmade (begun change m) (after_change change m) f
-unmade change m fault.Memory h = tt
-unmade change m (fault.Image n) h = tt
-unmade change m (fault.Refused s) h = record { told = h.told; error = h.error }
-unmade change m (fault.Unsound u) h = absurd h
-unmade change m (fault.Trouble t) h = absurd h
-unmade change m fault.NotFound h = absurd h
-unmade change m fault.NotClosed h = absurd h
-unmade change m fault.Mistaken h = absurd h
+-- the image of the disk in a drive was saved, or memory ran out
+pub saved_from : {A : Type 0} (items : A → List ℕ) (r : Result A Refusal) (d : OnLines) (kind : Kind) (disk : Counted) → d.kind ≡ Some kind → disk ≡ d.seat.machine.dos.medium
+    → IfOk r (λ v. IsImageIn kind disk (items v)) → IfErr r (λ why. why ≡ Memory) → MatchResult r (λ v. IsImageFrom d (items v)) (IsUnsaved d.kind)
+saved_from items (Ok v) d kind disk e same ok err = (kind, e, subst (λ k. IsImageIn kind k (items v)) same ok)
+saved_from items (Err why) d kind disk e same ok err = subst (λ q. IsUnsaved d.kind q) (sym err) tt
 
--- a result with its fault said in other words
-pub said_so : {A : Type 0} (r : Result A ShellFault) (P : A → Type 0) (Q R : ShellFault → Type 0) → ((f : ShellFault) → Q f → R f) → MatchResult r P Q → MatchResult r P R
-said_so (Ok v) P Q R say h = h
-said_so (Err f) P Q R say h = say f h
-
--- what is given was made
-pub none_given : {A : Type 0} (items : A → List ℕ) (made : Result A ShellFault) (done : Result (Unit {0}) Refusal) (n : ℤ) (old new : List ℕ) (before needed : ℕ) (R : Type 0) → OnOk made R
-    → MatchResult made (λ v. (needed ≡ length (items v)) × AreGiven (answer done) old new (items v)) (λ f. (done ≡ Err (refusal_of f)) × (new ≡ old) × (needed ≡ before))
-    → n ≡ answer done → n ≡ fine → R
-none_given items (Ok v) done n old new before needed R is given e well = is
-none_given items (Err f) done n old new before needed R is given e well =
-    absurd (never_fine (refusal_of f) (sym (ap (λ d. answer d) given.0) ∙ (sym e ∙ well)))
+-- a disk that was changed was saved, or memory ran out
+pub changed_from : {A : Type 0} (items : A → List ℕ) (r : Result A Refusal) (image : List ℕ) (kind : Kind) (after : Counted) (Fine : Type 0) (e : Disk) (opened ended : Machine)
+    → kind ≡ kind_of image → Fine × HoldsDisk (seen_of after).tracks (seen_of after).content e → IfOk r (λ v. IsImageIn kind after (items v)) → IfErr r (λ why. why ≡ Memory)
+    → MatchResult r (λ v. Fine × ImageHolds (kind_of image) (items v) e) (IsUnmade image opened ended)
+changed_from items (Ok v) image kind after Fine e opened ended same h ok err =
+    let held = subst (λ n. HoldsDisk n (content_of kind (items v)) e) (sym ok.same_tracks) (subst (λ c. HoldsDisk (seen_of after).tracks c e) (sym ok.same_content) h.1) in
+    (h.0, subst (λ k. ImageHolds k (items v) e) same held)
+changed_from items (Err why) image kind after Fine e opened ended same h ok err = subst (λ q. IsUnmade image opened ended q) (sym err) tt

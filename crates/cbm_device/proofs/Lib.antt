@@ -1,4 +1,4 @@
-pub mod Exchanged
 pub mod Giving
 pub mod Opening
 pub mod Played
+pub mod Refusing

@@ -42,8 +42,8 @@ abbrev pub AreGiven : ℤ → List ℕ → List ℕ → List ℕ → Type 0
 AreGiven n old new bytes =
     ((n ≡ fine) × (new ≡ bytes ++ drop (length bytes) old)) ⊎ ((n ≡ number_of NoRoom) × (new ≡ old) × (length old < length bytes))
 
--- A CALL THAT GIVES BYTES: there are such bytes, how many they are is told, and they are given; or there are none for such a fault, and nothing has changed.
-abbrev pub Gives : ℤ → List ℕ → List ℕ → ℕ → ℕ → (List ℕ → Type 0) → (ShellFault → Type 0) → Type 0
-Gives n old new before needed Are IsFault =
+-- A CALL THAT GIVES BYTES: there are such bytes, how many they are is reported, and they are given; or there are none for such a reason, and nothing has changed.
+abbrev pub Gives : ℤ → List ℕ → List ℕ → ℕ → ℕ → (List ℕ → Type 0) → (Refusal → Type 0) → Type 0
+Gives n old new before needed Are Why =
     ((bytes : List ℕ) × Are bytes × (needed ≡ length bytes) × AreGiven n old new bytes)
-    ⊎ ((f : ShellFault) × IsFault f × (n ≡ number_of (refusal_of f)) × (new ≡ old) × (needed ≡ before))
+    ⊎ ((r : Refusal) × Why r × (n ≡ number_of r) × (new ≡ old) × (needed ≡ before))

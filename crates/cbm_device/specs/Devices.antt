@@ -1,5 +1,5 @@
 -- A drive on lines, with the disk of an image.
-use Rattle.std.specs.Prelude.{ℕ, ◌≡◌, ◌≤◌, ◌<◌, ◌^◌, ◌⊎◌, Bool, List, Option, Some, None}
+use Rattle.std.specs.Prelude.{ℕ, ℤ, ◌≡◌, ◌≤◌, ◌<◌, ◌^◌, ◌⊎◌, Bool, List, Option, Some, None}
 use Rattle.cbm_iec.specs.Machines.{acted}
 use Rattle.cbm_iec.specs.Ports.{port_due, resting, told, told_act, reacted, reaction_act}
 use Rattle.cbm_iec.specs.declared.lines.Lines.{Lines}
@@ -10,17 +10,24 @@ use Rattle.cbm_session.specs.Playing.{IsLaterDue}
 use Rattle.cbm_file.specs.Files.{Disk}
 use Rattle.cbm_channel.specs.Machines.{Machine, start}
 use Rattle.cbm_channel.specs.Standing.{Kept}
+use Rattle.cbm_channel.specs.Exchanged.{still_telling}
+use Rattle.cbm_drive.specs.Addressing.{paced, unaddressed}
 use Rattle.cbm_drive.specs.Desks.{Desk, DeskStands, at_first, with_pace, desk_step, desk_says, desk_shows}
 use Rattle.cbm_drive.specs.Playback.{IsActed}
 use Rattle.cbm_drive.specs.Seats.{Seated}
 use Rattle.cbm_volume.specs.Holding.{HoldsDisk}
 use Rattle.cbm_program.specs.Images.{kind_of, tracks_of, ImageHolds}
-use Rattle.cbm_device.specs.ImageDisks.{Counted, seen_of, IsDiskOf}
+use Rattle.cbm_program.specs.declared.kind.Kind.{Kind}
+use Rattle.cbm_device.specs.declared.refusal.Refusal.{Refusal}
+use Rattle.cbm_device.specs.declared.refusal.Refusal.TheVariants.{Memory, Invalid, NoRoom, Absent, NoImage, Unsound, NoDrive, Status}
+use Rattle.cbm_device.specs.Answers.{Gives}
+use Rattle.cbm_device.specs.ImageDisks.{Counted, seen_of, IsDiskOf, IsImageIn}
 use Rattle.cbm_device.specs.declared.device.Reaction.{Reaction}
 
--- a drive, and when anything last happened
+-- a drive, the format of its disk's image, none where it has no disk, and when anything last happened
 pub record OnLines : Type 0 where
   pub seat : Seated (Desk (Kept Counted))
+  pub kind : Option Kind
   pub latest : ℕ
 
 -- a drive has the number 8 to 11, and reacts after 1 to 60 microseconds
@@ -30,7 +37,9 @@ IsOutside b = ((b.device < 8) ⊎ (11 < b.device)) ⊎ ((b.reaction < 1) ⊎ (60
 -- A DRIVE THAT IS SWITCHED ON with the disk of an image; where that is sound, it stands for the machine of its files.
 pub record IsSwitchedOn (image : List ℕ) (protected : Bool) (b : Party) (d : OnLines) : Type 0 where
   pub disk : IsDiskOf image protected d.seat.machine.dos.medium
+  pub kind : d.kind ≡ Some (kind_of image)
   pub port : d.seat.port ≡ resting b
+  pub addressed : d.seat.machine.addressed ≡ paced b.pace (unaddressed b.device)
   pub first : d.latest ≡ 0
   pub stands : (x : Disk) → ImageHolds (kind_of image) image x
       → DeskStands seen_of d.seat.machine (with_pace b.pace (at_first b.device (start x protected (tracks_of (kind_of image) image))))
@@ -42,22 +51,22 @@ StandsFor x s = (x.port ≡ s.port) × DeskStands seen_of x.machine s.machine
 -- ---- lines that change
 
 -- ATN changes first, then CLOCK, then DATA
-abbrev pub behind_atn : Lines → Lines → Lines
-behind_atn was now = record { atn_low = now.atn_low; clock_low = was.clock_low; data_low = was.data_low }
+abbrev pub after_atn : Lines → Lines → Lines
+after_atn was now = record { atn_low = now.atn_low; clock_low = was.clock_low; data_low = was.data_low }
 
-abbrev pub behind_clock : Lines → Lines → Lines
-behind_clock was now = record { atn_low = now.atn_low; clock_low = now.clock_low; data_low = was.data_low }
+abbrev pub after_clock : Lines → Lines → Lines
+after_clock was now = record { atn_low = now.atn_low; clock_low = now.clock_low; data_low = was.data_low }
 
 -- a port that is told of them in turn
 abbrev pub port_in_turn : ℕ → Lines → Lines → Port → Port
-port_in_turn t was now p = told t now (told t (behind_clock was now) (told t (behind_atn was now) p))
+port_in_turn t was now p = told t now (told t (after_clock was now) (told t (after_atn was now) p))
 
 -- and a drive
 abbrev pub tell_lines : ℕ → Lines → Seated (Desk Machine) → Seated (Desk Machine)
 tell_lines t now s = record { port = told t now s.port; machine = acted (Desk Machine) desk_step (told_act now s.port) s.machine }
 
 abbrev pub tell_in_turn : ℕ → Lines → Lines → Seated (Desk Machine) → Seated (Desk Machine)
-tell_in_turn t was now s = tell_lines t now (tell_lines t (behind_clock was now) (tell_lines t (behind_atn was now) s))
+tell_in_turn t was now s = tell_lines t now (tell_lines t (after_clock was now) (tell_lines t (after_atn was now) s))
 
 -- a reaction is due before a moment
 abbrev pub IsDueBefore : ℕ → Option ℕ → Type 0
@@ -77,6 +86,7 @@ IsOutOfTime moment d = (2 ^ 60 ≤ moment) ⊎ ((moment < d.latest) ⊎ IsDueBef
 -- A DRIVE WAS TOLD OF LINES at a moment.
 pub record HasHeard (moment : ℕ) (others : Lines) (old new : OnLines) : Type 0 where
   pub port : new.seat.port ≡ port_in_turn moment old.seat.port.others others old.seat.port
+  pub kind : new.kind ≡ old.kind
   pub latest : new.latest ≡ moment
 
 -- ---- reactions
@@ -92,6 +102,7 @@ pub record HasReacted (r : Reaction) (old new : OnLines) : Type 0 where
   pub machine : IsActed desk_shows (reaction_act (desk_shows old.seat.machine) old.seat.port) old.seat.machine new.seat.machine
   pub was : r.was ≡ old.seat.port.own
   pub now : r.now ≡ new.seat.port.own
+  pub kind : new.kind ≡ old.kind
   pub latest : new.latest ≡ r.moment
 
 -- the reaction of a drive with a machine that it stands for
@@ -103,18 +114,48 @@ react_at t s = record {
 
 -- ---- a new start, and another disk
 
--- A DRIVE WAS SWITCHED OFF AND ON with this disk in it; where that holds a disk of files, it stands for the machine of these, with no channel open.
-pub record HasDisk (disk : Counted) (old new : OnLines) : Type 0 where
+-- A DRIVE WAS SWITCHED OFF AND ON with its disk: it has the same number and pace; where the disk holds one of files, it stands for the machine of these, with
+-- no channel open.
+pub record IsRestarted (old new : OnLines) : Type 0 where
   pub port : new.seat.port ≡ resting old.seat.port.party
-  pub inside : new.seat.machine.dos.medium ≡ disk
+  pub same_disk : new.seat.machine.dos.medium ≡ old.seat.machine.dos.medium
+  pub kind : new.kind ≡ old.kind
   pub latest : new.latest ≡ old.latest
-  pub stands : (d : Disk) → HoldsDisk (seen_of disk).tracks (seen_of disk).content d
-      → DeskStands seen_of new.seat.machine (with_pace old.seat.port.party.pace (at_first old.seat.port.party.device (start d (seen_of disk).protected (seen_of disk).tracks)))
+  pub stands : (d : Disk) → HoldsDisk (seen_of old.seat.machine.dos.medium).tracks (seen_of old.seat.machine.dos.medium).content d
+      → DeskStands seen_of new.seat.machine (with_pace old.seat.machine.addressed.pace
+      (at_first old.seat.machine.addressed.device (start d (seen_of old.seat.machine.dos.medium).protected (seen_of old.seat.machine.dos.medium).tracks)))
 
--- the same disk
-abbrev pub IsRestarted : OnLines → OnLines → Type 0
-IsRestarted old new = HasDisk old.seat.machine.dos.medium old new
+-- A DRIVE THAT GOES ON WAS GIVEN THIS DISK, of an image of this format: what it does on its lines stays; where the disk holds one of files, it stands for the machine of these, with no
+-- channel open, which tells what was told before, and who is addressed stays.
+pub record IsExchanged (disk : Counted) (kind : Option Kind) (old new : OnLines) : Type 0 where
+  pub port : new.seat.port ≡ old.seat.port
+  pub inside : new.seat.machine.dos.medium ≡ disk
+  pub same_kind : new.kind ≡ kind
+  pub latest : new.latest ≡ old.latest
+  pub stands : (d : Disk) → HoldsDisk (seen_of disk).tracks (seen_of disk).content d → DeskStands seen_of new.seat.machine
+      (record { dos = still_telling old.seat.machine.dos.told (start d (seen_of disk).protected (seen_of disk).tracks); addressed = old.seat.machine.addressed })
 
 -- the disk of another image
 abbrev pub HasAnotherDisk : List ℕ → Bool → OnLines → OnLines → Type 0
-HasAnotherDisk image protected old new = (disk : Counted) × IsDiskOf image protected disk × HasDisk disk old new
+HasAnotherDisk image protected old new = (disk : Counted) × IsDiskOf image protected disk × IsExchanged disk (Some (kind_of image)) old new
+
+-- ---- the image of the disk
+
+-- why a drive gives no image: memory runs out, or it has no disk
+abbrev pub IsUnsaved : Option Kind → Refusal → Type 0
+IsUnsaved kind Memory = Unit {0}
+IsUnsaved kind Absent = kind ≡ None
+IsUnsaved kind Invalid = ⊥
+IsUnsaved kind NoRoom = ⊥
+IsUnsaved kind NoImage = ⊥
+IsUnsaved kind Unsound = ⊥
+IsUnsaved kind NoDrive = ⊥
+IsUnsaved kind (Status code) = ⊥
+
+-- an image of the disk in a drive, in its format
+abbrev pub IsImageFrom : OnLines → List ℕ → Type 0
+IsImageFrom d image = (kind : Kind) × (d.kind ≡ Some kind) × IsImageIn kind d.seat.machine.dos.medium image
+
+-- THE IMAGE OF THE DISK IN A DRIVE is given, or a number says why not.
+abbrev pub GivesImage : ℤ → List ℕ → List ℕ → ℕ → ℕ → OnLines → Type 0
+GivesImage n old new before needed d = Gives n old new before needed (IsImageFrom d) (IsUnsaved d.kind)

@@ -9,7 +9,7 @@ use Rattle.cbm_d64.specs.Faults as d64_faults
 use Rattle.cbm_g64.specs.Tracks as g64
 use Rattle.cbm_g64.specs.Outer.{no_outer}
 use Rattle.cbm_g64.specs.Faults as g64_faults
-use Rattle.cbm_program.specs.Images.{kind_of, image_fault, tracks_of, content_of}
+use Rattle.cbm_program.specs.Images.{kind_of, image_fault, tracks_of, content_of, IsOf}
 use Rattle.cbm_program.specs.declared.kind.Kind.{Kind}
 use Rattle.cbm_program.specs.declared.kind.Kind.TheVariants as kind
 use Rattle.cbm_device.specs.declared.image_disk.Sectors.{Sectors}
@@ -62,27 +62,9 @@ IsOpenRefusal image Unsound = ⊥
 IsOpenRefusal image NoDrive = ⊥
 IsOpenRefusal image (Status code) = ⊥
 
--- THE IMAGE OF A DISK as it is now
-pub record IsImageOf (d : Counted) (image : List ℕ) : Type 0 where
-  pub same_tracks : tracks_of (format_of d.sectors) image ≡ (seen_of d).tracks
-  pub same_content : content_of (format_of d.sectors) image ≡ (seen_of d).content
-
--- there is no disk
-abbrev pub IsBlank : Sectors → Type 0
-IsBlank (D64 disk) = ⊥
-IsBlank (G64 disk) = ⊥
-IsBlank Blank = Unit {0}
-
--- why a disk gives no image: memory runs out, or there is none
-abbrev pub IsUnsaved : Sectors → Refusal → Type 0
-IsUnsaved s Memory = Unit {0}
-IsUnsaved s Absent = IsBlank s
-IsUnsaved s Invalid = ⊥
-IsUnsaved s NoRoom = ⊥
-IsUnsaved s NoImage = ⊥
-IsUnsaved s Unsound = ⊥
-IsUnsaved s NoDrive = ⊥
-IsUnsaved s (Status code) = ⊥
+-- THE IMAGE OF A DISK as it is now, in this format
+abbrev pub IsImageIn : Kind → Counted → List ℕ → Type 0
+IsImageIn kind d image = IsOf kind image (seen_of d).tracks (seen_of d).content
 
 -- ---- the laws of a medium
 

@@ -1,11 +1,20 @@
 -- Looks into an image.
-use Rattle.std.specs.Prelude.{ℕ, ◌≡◌, List, Option, Some, None, Result, Ok, Err}
+use Rattle.std.specs.Prelude.{ℕ, ◌≡◌, ◌≢◌, ◌⊎◌, List, Option, Some, None, Result, Ok, Err}
 use Rattle.cbm_medium.specs.Place.{Place, Has, directory_head}
 use Rattle.cbm_file.specs.Files.{Disk}
 use Rattle.cbm_volume.specs.Map.{geometry_of}
 use Rattle.cbm_volume.specs.Slots.{Answers, directory_of}
+use Rattle.cbm_volume.specs.Layouts.{Layout, Sound}
+use Rattle.cbm_volume.specs.check.WholeDisk.{DiskFault}
+use Rattle.cbm_volume.specs.declared.Unsound as unsound
+use Rattle.cbm_channel.specs.declared.Code.TheVariants.{FileNotFound}
+use Rattle.cbm_channel.specs.Codes.{code_number}
+use Rattle.cbm_channel.specs.Finding.{found}
+use Rattle.cbm_channel.specs.Machines.{Machine}
+use Rattle.cbm_shell.specs.Listing.{opened}
+use Rattle.cbm_shell.specs.Reading.{IsUnclosed, HasRecords}
 use Rattle.cbm_medium.specs.declared.fault.Trouble.{Trouble}
-use Rattle.cbm_program.specs.Images.{kind_of, tracks_of, content_of}
+use Rattle.cbm_program.specs.Images.{kind_of, image_fault, tracks_of, content_of}
 use Rattle.cbm_device.specs.declared.looking.Heading.{Heading}
 use Rattle.cbm_device.specs.declared.refusal.Refusal.{Refusal}
 use Rattle.cbm_device.specs.declared.refusal.Refusal.TheVariants.{Memory, Invalid, NoRoom, Absent, NoImage, Unsound, NoDrive, Status}
@@ -53,3 +62,44 @@ IsNoSector image p NoRoom = IsOpenRefusal image NoRoom
 IsNoSector image p NoImage = IsOpenRefusal image NoImage
 IsNoSector image p Unsound = IsOpenRefusal image Unsound
 IsNoSector image p NoDrive = IsOpenRefusal image NoDrive
+
+-- ---- what the drive sends of a disk
+
+-- an image has no fault of its format
+abbrev pub IsAccepted : List ℕ → Type 0
+IsAccepted image = image_fault (kind_of image) image ≡ None
+
+-- a call is refused: an image with a fault for that one, or for want of memory
+abbrev pub IsRefused : List ℕ → Refusal → Type 0
+IsRefused image r = IsAccepted image ⊎ IsOpenRefusal image r
+
+-- the disk of an image is sound
+abbrev pub IsSound : List ℕ → Type 0
+IsSound image = let content = content_of (kind_of image) image in (l : Layout) × Sound (geometry_of (tracks_of (kind_of image) image) content) content l
+
+-- it isn't, and this is wrong with it first
+abbrev pub IsUnsound : List ℕ → Type 0
+IsUnsound image = let content = content_of (kind_of image) image in (u : unsound.Unsound) × DiskFault (geometry_of (tracks_of (kind_of image) image) content) content u
+
+-- why the directory of a sound disk isn't sent: the image isn't opened, memory runs out, or the machine refused it with this status
+abbrev pub IsUnsent : List ℕ → List ℕ → Machine → Refusal → Type 0
+IsUnsent image pattern m (Status code) = (code ≡ code_number (opened pattern m).status.code) × (code_number (opened pattern m).status.code ≢ 0)
+IsUnsent image pattern m Memory = Unit {0}
+IsUnsent image pattern m NoImage = IsOpenRefusal image NoImage
+IsUnsent image pattern m Invalid = ⊥
+IsUnsent image pattern m NoRoom = ⊥
+IsUnsent image pattern m Absent = ⊥
+IsUnsent image pattern m Unsound = ⊥
+IsUnsent image pattern m NoDrive = ⊥
+
+-- why a file of a sound disk isn't got: the image isn't opened, memory runs out, no file matches, or the first one that does was never closed; one with records
+-- may have a sector that doesn't read
+abbrev pub IsUngot : List ℕ → Disk → List ℕ → Refusal → Type 0
+IsUngot image d pattern (Status code) = ((code ≡ 60) × IsUnclosed d pattern) ⊎ HasRecords d pattern
+IsUngot image d pattern Memory = Unit {0}
+IsUngot image d pattern Absent = found d pattern None ≡ Err FileNotFound
+IsUngot image d pattern NoImage = IsOpenRefusal image NoImage
+IsUngot image d pattern Invalid = ⊥
+IsUngot image d pattern NoRoom = ⊥
+IsUngot image d pattern Unsound = ⊥
+IsUngot image d pattern NoDrive = ⊥

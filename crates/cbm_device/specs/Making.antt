@@ -6,37 +6,50 @@ use Rattle.cbm_channel.specs.Machines.{Machine}
 use Rattle.cbm_channel.specs.Closing.{close}
 use Rattle.cbm_channel.specs.Calls.{after_open}
 use Rattle.cbm_program.specs.Scripts.{hear}
-use Rattle.cbm_shell.specs.declared.fault.ShellFault.{ShellFault}
-use Rattle.cbm_shell.specs.declared.fault.ShellFault.TheVariants as fault
+use Rattle.cbm_device.specs.declared.refusal.Refusal.{Refusal}
+use Rattle.cbm_device.specs.declared.refusal.Refusal.TheVariants as why
+use Rattle.cbm_device.specs.ImageDisks.{IsOpenRefusal}
+use Rattle.cbm_device.specs.Looking.{IsRefused, IsUnsound}
 
--- the machine behind an OPEN of channel 2, on which a file is put
+-- the machine after an OPEN of channel 2, on which a file is put
 abbrev pub opened_for : List ℕ → Machine → Machine
 opened_for text m = after_open 2 text m
 
--- the machine behind a command on channel 15
+-- the machine after a command on channel 15
 abbrev pub after_command : List ℕ → Machine → Machine
 after_command text m = after_open 15 text m
 
--- THE MACHINE BEHIND A FILE PUT: it is opened with a text such as `NAME,P,W`, given its bytes, and closed.
+-- THE MACHINE AFTER A FILE WAS PUT: it is opened with a text such as `NAME,P,W`, given its bytes, and closed.
 abbrev pub after_put : List ℕ → List ℕ → Machine → Machine
 after_put text bytes m = close 2 (hear 2 bytes (opened_for text m))
 
--- the drive refused it: this is its status behind the OPEN or at the end, and it tells an error
+-- the drive refused it: this is its status after the OPEN or at the end, and it tells an error
 pub record IsRefusedWith (opened ended : Machine) (s : Status) : Type 0 where
   pub told : (s ≡ opened.status) ⊎ (s ≡ ended.status)
   pub error : 20 ≤ code_number s.code
 
--- why a change gives no image: memory ran out, the image has a fault, or the drive refused it
-abbrev pub IsUnmade : Machine → Machine → ShellFault → Type 0
-IsUnmade opened ended fault.Memory = Unit {0}
-IsUnmade opened ended (fault.Image n) = Unit {0}
-IsUnmade opened ended (fault.Refused s) = IsRefusedWith opened ended s
-IsUnmade opened ended (fault.Unsound u) = ⊥
-IsUnmade opened ended (fault.Trouble t) = ⊥
-IsUnmade opened ended fault.NotFound = ⊥
-IsUnmade opened ended fault.NotClosed = ⊥
-IsUnmade opened ended fault.Mistaken = ⊥
+-- why a sound disk isn't changed: the image isn't opened, memory runs out, or the drive refused it with this status
+abbrev pub IsUnmade : List ℕ → Machine → Machine → Refusal → Type 0
+IsUnmade image opened ended (why.Status code) = (s : Status) × IsRefusedWith opened ended s × (code ≡ code_number s.code)
+IsUnmade image opened ended why.Memory = Unit {0}
+IsUnmade image opened ended why.NoImage = IsOpenRefusal image why.NoImage
+IsUnmade image opened ended why.Invalid = ⊥
+IsUnmade image opened ended why.NoRoom = ⊥
+IsUnmade image opened ended why.Absent = ⊥
+IsUnmade image opened ended why.Unsound = ⊥
+IsUnmade image opened ended why.NoDrive = ⊥
+
+-- why any disk isn't changed: it isn't sound, or as any call is refused
+abbrev pub IsUnchanged : List ℕ → Refusal → Type 0
+IsUnchanged image why.Unsound = IsUnsound image
+IsUnchanged image (why.Status code) = IsRefused image (why.Status code)
+IsUnchanged image why.Memory = IsRefused image why.Memory
+IsUnchanged image why.NoImage = IsRefused image why.NoImage
+IsUnchanged image why.Invalid = IsRefused image why.Invalid
+IsUnchanged image why.NoRoom = IsRefused image why.NoRoom
+IsUnchanged image why.Absent = IsRefused image why.Absent
+IsUnchanged image why.NoDrive = IsRefused image why.NoDrive
 
 -- memory ran out
-abbrev pub IsWantOfMemory : ShellFault → Type 0
-IsWantOfMemory f = f ≡ fault.Memory
+abbrev pub IsWantOfMemory : Refusal → Type 0
+IsWantOfMemory r = r ≡ why.Memory

@@ -1,26 +1,28 @@
 //! A drive on lines, with the disk of an image.
-ghost use Rattle.std.specs.Prelude.{◌≡◌, ◌≤◌, ◌<◌, ◌^◌, ◌⊎◌, ◌++◌, Err, List, ℕ, length, drop, OnOk, OnErr, IfOk, IfErr, MatchBool};
+ghost use Rattle.std.specs.Prelude.{◌≡◌, ◌≤◌, ◌<◌, ◌^◌, ◌⊎◌, None, Err, OnOk, OnErr, IfOk, IfErr, MatchBool};
 ghost use Rattle.cbm_file.specs.Files.{Disk};
 ghost use Rattle.cbm_channel.specs.Codes.{code_number};
 ghost use Rattle.cbm_channel.specs.Machines.{Machine, start};
 ghost use Rattle.cbm_iec.specs.Machines.{acted};
-ghost use Rattle.cbm_iec.specs.Ports.{port_due, told, told_act, reacted, reaction_act};
+ghost use Rattle.cbm_iec.specs.Ports.{port_due, resting, told, told_act, reacted, reaction_act};
 ghost use Rattle.cbm_session.specs.Following.{IsInTime};
+ghost use Rattle.cbm_drive.specs.Addressing.{paced, unaddressed};
 ghost use Rattle.cbm_drive.specs.Desks as desks;
 ghost use Rattle.cbm_drive.specs.Desks.{desk_says, desk_shows, desk_step, DeskStands};
 ghost use Rattle.cbm_drive.specs.Playback.{IsActed};
 ghost use Rattle.cbm_drive.specs.Seats.{Seated};
 ghost use Rattle.cbm_volume.specs.Holding.{HoldsDisk};
-ghost use Rattle.cbm_device.specs.ImageDisks.{no_disk, seen_of, IsImageOf, IsOpenRefusal};
-ghost use Rattle.cbm_device.specs.Devices.{tell_in_turn, react_at, IsOutside, IsSwitchedOn, IsOnTime, IsOutOfTime, IsDueBefore, HasHeard, HasReacted, HasNothingDue, HasDisk, IsRestarted, HasAnotherDisk, StandsFor};
+ghost use Rattle.cbm_device.specs.Answers.{answer};
+ghost use Rattle.cbm_device.specs.ImageDisks.{no_disk, seen_of, IsOpenRefusal};
+ghost use Rattle.cbm_device.specs.Devices.{tell_in_turn, react_at, IsOutside, IsSwitchedOn, IsOnTime, IsOutOfTime, IsDueBefore, HasHeard, HasReacted, HasNothingDue, IsRestarted, IsExchanged, HasAnotherDisk, GivesImage, StandsFor};
 
 use crate::image_disk::ImageDisk;
 use crate::refusal::Refusal;
-use crate::room::give;
-use cbm_drive::{Desk, Held, Lines, Machine, Party, Port};
+use crate::room::given;
+use cbm_drive::{Desk, Drive, Held, Lines, Party};
+use cbm_program::{Kind, kind_of};
 use std::alloc::Global;
 use std::marker::Model;
-use std::mem::replace;
 
 /// Moments come before this one, in microseconds.
 const LAST: u64 = 1 << 60;
@@ -42,49 +44,47 @@ pub struct Reaction {
     pub now: Held,
 }
 
-/// A drive on lines with the disk of an image: its port and its DOS. It keeps when anything last happened.
+/// The lines where nobody pulls one.
+const FREE: Lines = Lines {
+    atn_low: false,
+    clock_low: false,
+    data_low: false,
+};
+
+/// A drive on lines with the disk of an image. It keeps the format of that image, what all others hold, and when anything last
+/// happened.
 #[derive(Drop)]
 pub struct Device {
-    port: Port,
-    desk: Desk<ImageDisk>,
+    drive: Drive<Desk<ImageDisk>>,
+    kind: Option<Kind>,
+    others: Lines,
     latest: u64,
 }
 
 impl Model for Device {
-    ghost use Rattle.std.specs.Prelude.{◌<◌};
+    ghost use Rattle.std.specs.Prelude.{◌≡◌};
     ghost use Rattle.cbm_device.specs.Devices.{OnLines};
 
     ghost Value = { OnLines };
 
-    ghost view = { λ d. record { seat = record { port = d.port; machine = d.desk }; latest = d.latest } };
+    ghost view = { λ d. record { seat = d.drive; kind = d.kind; latest = d.latest } };
 
-    ghost invariant = { λ d. d.port.party.device < 31 };
+    ghost invariant = { λ d. d.others ≡ d.drive.port.others };
 }
 
-/// The DOS of a drive that is switched on with this disk.
-fn powered(disk: ImageDisk, party: Party) -> Desk<ImageDisk>
-    requires { party.device < 31 }
-    ensures disk { result.dos.medium ≡ disk }
+/// A drive that is switched on with this disk.
+fn powered(disk: ImageDisk, party: Party) -> Drive<Desk<ImageDisk>>
+    requires device { party.device < 31 }
+    requires reaction { 1 ≤ party.reaction }
+    ensures port { result.port ≡ resting party }
+    ensures disk { result.machine.dos.medium ≡ disk }
+    ensures addressed { result.machine.addressed ≡ paced party.pace (unaddressed party.device) }
     ensures stands { let now = seen_of disk in (d : Disk) → HoldsDisk now.tracks now.content d →
-        DeskStands seen_of result (desks.with_pace party.pace
+        DeskStands seen_of result.machine (desks.with_pace party.pace
         (desks.at_first party.device (start d now.protected now.tracks))) }
 {
-    Desk::at_power_up(disk, party.device).with_pace(party.pace)
-}
-
-/// The image of a disk goes to the caller's room. Errors: `Memory`, `NoRoom`, `Absent` where there is no disk; then nothing goes there.
-fn give_image(
-    alloc: Global,
-    disk: &ImageDisk,
-    out: &mut [u8],
-    needed: &mut usize,
-) -> Result<(), Refusal>
-    ensures ok { OnOk result ((bytes : List ℕ) × IsImageOf disk.now bytes × (needed.new ≡ length bytes)
-        × (out.new ≡ bytes ++ drop (length bytes) out.old)) }
-    ensures err { OnErr result (out.new ≡ out.old) }
-{
-    let image = disk.save(alloc)?;
-    give(image.as_slice(), out, needed)
+    let desk = Desk::at_power_up(disk, party.device).with_pace(party.pace);
+    Drive::new(desk, party)
 }
 
 impl Device {
@@ -108,10 +108,10 @@ impl Device {
             return Err(Refusal::Invalid);
         }
         let disk = ImageDisk::open(alloc, image, protected)?;
-        let desk = powered(disk, party);
         Ok(Device {
-            port: Port::new(party),
-            desk,
+            drive: powered(disk, party),
+            kind: Some(kind_of(image)),
+            others: FREE,
             latest: 0,
         })
     }
@@ -126,17 +126,17 @@ impl Device {
             (acted (desks.Desk Machine) desk_step (told_act others self.old.seat.port) m) }
         ensures acted { IsActed desk_shows (told_act others self.old.seat.port) self.old.seat.machine self.new.seat.machine }
         ensures latest { self.new.latest ≡ self.old.latest }
+        ensures kind { self.new.kind ≡ self.old.kind }
     {
-        if let Some(act) = self.port.line(moment, others) {
-            self.desk.act(act);
-        }
+        self.drive.line(moment, others);
+        self.others = others;
     }
 
     /// Whether a reaction is due before a moment.
     fn is_due_before(&self, moment: u64) -> bool
         ensures { let due = port_due self.now.seat.port in MatchBool result (IsDueBefore moment due) (IsInTime moment due) }
     {
-        match self.port.next_due() {
+        match self.drive.next_due() {
             Some(due) => due < moment,
             None => false,
         }
@@ -154,19 +154,19 @@ impl Device {
         if moment >= LAST || moment < self.latest || self.is_due_before(moment) {
             return Err(Refusal::Invalid);
         }
-        let was = self.port.others;
-        let behind_atn = Lines {
+        let was = self.others;
+        let after_atn = Lines {
             atn_low: others.atn_low,
             clock_low: was.clock_low,
             data_low: was.data_low,
         };
-        let behind_clock = Lines {
+        let after_clock = Lines {
             atn_low: others.atn_low,
             clock_low: others.clock_low,
             data_low: was.data_low,
         };
-        self.hear(moment, behind_atn);
-        self.hear(moment, behind_clock);
+        self.hear(moment, after_atn);
+        self.hear(moment, after_clock);
         self.hear(moment, others);
         self.latest = moment;
         Ok(())
@@ -177,7 +177,7 @@ impl Device {
     pub fn next_due(&self) -> Option<u64>
         ensures { result ≡ port_due self.now.seat.port }
     {
-        self.port.next_due()
+        self.drive.next_due()
     }
 
     /// The reaction that is due happens.
@@ -188,17 +188,14 @@ impl Device {
         ensures acted { let shown = desk_shows self.old.seat.machine in
             IsActed desk_shows (reaction_act shown self.old.seat.port) self.old.seat.machine self.new.seat.machine }
         ensures says { (m : desks.Desk Machine) → DeskStands seen_of self.old.seat.machine m →
-            desk_shows self.old.seat.machine ≡ desk_says m }
+            self.new.seat.port ≡ reacted moment (desk_says m) self.old.seat.port }
         ensures machine { (m : desks.Desk Machine) → DeskStands seen_of self.old.seat.machine m →
             DeskStands seen_of self.new.seat.machine
             (acted (desks.Desk Machine) desk_step (reaction_act (desk_says m) self.old.seat.port) m) }
         ensures latest { self.new.latest ≡ self.old.latest }
+        ensures kind { self.new.kind ≡ self.old.kind }
     {
-        let said = self.desk.peek();
-        let reaction = self.port.due(moment, said);
-        if let Some(act) = reaction.act {
-            self.desk.act(act);
-        }
+        let _changes = self.drive.due(moment);
     }
 
     /// The reaction that is due by a moment happens, when it is due. The one error is `Absent`: none is due by then.
@@ -208,19 +205,19 @@ impl Device {
             IfOk result (λ r. StandsFor self.new.seat (react_at r.moment s)) }
         ensures err { IfErr result (λ r. (r ≡ Refusal.Absent) × HasNothingDue moment self.old × (self.new ≡ self.old)) }
     {
-        let Some(due) = self.port.next_due() else {
+        let Some(due) = self.drive.next_due() else {
             return Err(Refusal::Absent);
         };
         if due > moment || due >= LAST {
             return Err(Refusal::Absent);
         }
-        let was = self.port.own;
+        let was = self.drive.own();
         self.react(due);
         self.latest = due;
         Ok(Reaction {
             moment: due,
             was,
-            now: self.port.own,
+            now: self.drive.own(),
         })
     }
 
@@ -228,7 +225,7 @@ impl Device {
     pub fn pulls(&self) -> Held
         ensures { result ≡ self.now.seat.port.own }
     {
-        self.port.own
+        self.drive.own()
     }
 
     /// The number of the status, which channel 15 tells; nothing of it is taken.
@@ -237,59 +234,71 @@ impl Device {
         ensures code { (d : desks.Desk Machine) → DeskStands seen_of self.now.seat.machine d →
             result ≡ code_number d.dos.status.code }
     {
-        self.desk.dos().status_code()
+        self.drive.machine().dos().status_code()
     }
 
-    /// The drive is switched off, its disk is exchanged for this one, and it is switched on: its lines are free, no channel is open, and
-    /// what was being written isn't closed. It takes all lines for free until it is told of them.
-    fn exchange(&mut self, disk: ImageDisk) -> ImageDisk
-        ensures old { result ≡ self.old.seat.machine.dos.medium }
-        ensures new { HasDisk disk self.old self.new }
-    {
-        let party = self.port.party;
-        let desk = powered(disk, party);
-        self.port = Port::new(party);
-        replace(&mut self.desk, desk).into_medium()
-    }
-
-    /// The drive is switched off and on with its disk.
+    /// The drive is switched off and on with its disk: its lines are free, no channel is open, and what was being written isn't
+    /// closed. It takes all lines for free until it is told of them.
     pub fn reset(&mut self)
         ensures { IsRestarted self.old self.new }
     {
-        let disk = self.exchange(ImageDisk::blank());
-        let _blank = self.exchange(disk);
+        self.drive.restart();
+        self.others = FREE;
     }
 
-    /// The drive is switched off and on, with the disk of another image. Errors: `NoImage`, `Memory`, and then nothing has happened.
+    /// The disk that is in the drive.
+    fn disk(&self) -> &ImageDisk
+        ensures { result.now ≡ self.now.seat.machine.dos.medium }
+    {
+        self.drive.machine().dos().medium()
+    }
+
+    /// The image of the disk that is in the drive, in the format in which it was put in, goes to the
+    /// caller's room, and how many bytes it has is reported; a file that is being written stands in it as on the disk, not closed.
+    /// Errors: `Memory`, `NoRoom`, `Absent` where there is no disk.
+    pub fn image(&self, alloc: Global, out: &mut [u8], needed: &mut usize) -> Result<(), Refusal>
+        ensures { GivesImage (answer result) out.old out.new needed.old needed.new self.now }
+    {
+        match self.kind {
+            Some(kind) => given(self.disk().save(alloc, kind), out, needed),
+            None => Err(Refusal::Absent),
+        }
+    }
+
+    /// How often a sector of the disk in the drive was written, or all were at once, since it was put in; it stops at 2^64 - 1.
+    pub fn writes(&self) -> u64
+        ensures { result ≡ self.now.seat.machine.dos.medium.writes }
+    {
+        self.disk().writes()
+    }
+
+    /// The disk of another image is put in, while the drive goes on: no channel is open, what was being written isn't closed, and
+    /// its lines and the status stay. Errors: `NoImage`, `Memory`, and then nothing has happened.
     pub fn insert(&mut self, alloc: Global, image: &[u8], protected: bool) -> Result<(), Refusal>
         ensures ok { OnOk result (HasAnotherDisk image.now protected self.old self.new) }
         ensures err { IfErr result (λ r. IsOpenRefusal image.now r × (self.new ≡ self.old)) }
     {
         let disk = ImageDisk::open(alloc, image, protected)?;
-        let _old = self.exchange(disk);
+        self.drive.insert(disk);
+        self.kind = Some(kind_of(image));
         Ok(())
     }
 
-    /// The disk is taken out, and its image goes to the caller's room; the drive is switched off and on with no disk. Errors: `Memory`,
-    /// `NoRoom`, `Absent` where there is none; then the disk is in the drive, which was switched off and on.
+    /// The disk is taken out, while the drive goes on, and its image goes to the caller's room. Errors: `Memory`, `NoRoom`, `Absent`
+    /// where there is none; then nothing has happened.
     pub fn eject(
         &mut self,
         alloc: Global,
         out: &mut [u8],
         needed: &mut usize,
     ) -> Result<(), Refusal>
-        ensures ok { OnOk result (HasDisk no_disk self.old self.new × ((bytes : List ℕ) ×
-            IsImageOf self.old.seat.machine.dos.medium bytes × (needed.new ≡ length bytes)
-            × (out.new ≡ bytes ++ drop (length bytes) out.old))) }
-        ensures err { OnErr result (IsRestarted self.old self.new × (out.new ≡ out.old)) }
+        ensures given { GivesImage (answer result) out.old out.new needed.old needed.new self.old }
+        ensures ok { OnOk result (IsExchanged no_disk None self.old self.new) }
+        ensures err { OnErr result (self.new ≡ self.old) }
     {
-        let disk = self.exchange(ImageDisk::blank());
-        match give_image(alloc, &disk, out, needed) {
-            Ok(()) => Ok(()),
-            Err(refusal) => {
-                let _blank = self.exchange(disk);
-                Err(refusal)
-            }
-        }
+        self.image(alloc, out, needed)?;
+        self.drive.insert(ImageDisk::blank());
+        self.kind = None;
+        Ok(())
     }
 }

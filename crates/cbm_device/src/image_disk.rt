@@ -4,7 +4,7 @@ ghost use Rattle.cbm_medium.specs.Place.{directory_head};
 ghost use Rattle.cbm_medium.specs.Content.{written, blank, format_refusal};
 ghost use Rattle.cbm_medium.specs.Seen.{with_content, write_refusal, IsRefused};
 ghost use Rattle.cbm_program.specs.Images.{kind_of, image_fault, IsOf};
-ghost use Rattle.cbm_device.specs.ImageDisks.{no_disk, shown_by, IsDiskOf, IsOpenRefusal, IsImageOf, IsUnsaved};
+ghost use Rattle.cbm_device.specs.ImageDisks.{no_disk, shown_by, IsDiskOf, IsOpenRefusal, IsImageIn};
 
 use crate::refusal::Refusal;
 use cbm_d64::D64Disk;
@@ -45,7 +45,7 @@ impl Model for ImageDisk {
 fn opened<I: DiskImage>(alloc: Global, image: &[u8], protected: bool) -> Result<I, Refusal>
     requires { kind_of image.now ≡ I.kind }
     ensures ok { IfOk result (λ d. IsOf I.kind image.now (I.seen d).tracks (I.seen d).content
-        × ((I.seen d).protected ≡ protected) × (image_fault I.kind image.now ≡ None)) }
+        × ((I.seen d).protected ≡ protected)) }
     ensures err { IfErr result (IsOpenRefusal image.now) }
 {
     match I::open(alloc, image, protected) {
@@ -107,6 +107,8 @@ fn format_on(sectors: &mut Sectors, id: [u8; 2]) -> Result<(), Fault>
 
 impl ImageDisk {
     /// The disk of an image. Errors: `NoImage`, `Memory`.
+    // (In its caller's frame its tracks would take stack as long as a drive does.)
+    #[inline(never)]
     pub fn open(alloc: Global, image: &[u8], protected: bool) -> Result<ImageDisk, Refusal>
         ensures ok { IfOk result (IsDiskOf image.now protected) }
         ensures err { IfErr result (IsOpenRefusal image.now) }
@@ -133,19 +135,20 @@ impl ImageDisk {
         }
     }
 
-    /// The image of the disk as it is now. Errors: `Memory`, `Absent` where there is no disk.
-    pub fn save(&self, alloc: Global) -> Result<Vec<u8>, Refusal>
-        ensures ok { IfOk result (λ v. IsImageOf self.now v.items) }
-        ensures err { IfErr result (IsUnsaved self.now.sectors) }
+    /// The image of the disk as it is now, in this format. The one error is `Memory`; a disk of the other format, which no write
+    /// makes of it, is refused so, too.
+    pub fn save(&self, alloc: Global, kind: Kind) -> Result<Vec<u8>, Refusal>
+        ensures ok { IfOk result (λ v. IsImageIn kind self.now v.items) }
+        ensures err { IfErr result (λ r. r ≡ Refusal.Memory) }
     {
-        match &self.sectors {
-            Sectors::D64(disk) => saved(alloc, disk),
-            Sectors::G64(disk) => saved(alloc, disk),
-            Sectors::Blank => Err(Refusal::Absent),
+        match (&self.sectors, kind) {
+            (Sectors::D64(disk), Kind::D64) => saved(alloc, disk),
+            (Sectors::G64(disk), Kind::G64) => saved(alloc, disk),
+            _ => Err(Refusal::Memory),
         }
     }
 
-    /// How often a sector was written, or all were at once.
+    /// How often a sector was written, or all were at once; it stops at 2^64 - 1.
     pub fn writes(&self) -> u64
         ensures { result ≡ self.now.writes }
     {

@@ -1,6 +1,7 @@
-//! What stands behind each call of the C library: a drive on lines with the disk of an image, and looks into images.
+//! What each call of the C library does: a drive on lines with the disk of an image, and looks into images.
 #![tactic(auto)]
 
+mod changing;
 mod device;
 mod image_disk;
 mod looking;
@@ -8,9 +9,10 @@ mod playing;
 mod refusal;
 mod room;
 
+pub use changing::change;
 pub use device::{Device, Reaction};
 pub use image_disk::{ImageDisk, Sectors};
-pub use looking::{Heading, check, entry, sector, title};
+pub use looking::{Heading, check, entry, file, list, sector, title};
 pub use playing::play;
 pub use refusal::{Refusal, number};
 pub use room::{give, given};

@@ -1,18 +1,23 @@
 //! Looks into an image.
-ghost use Rattle.std.specs.Prelude.{◌≡◌, Err, Ok, true, IfErr, IfOk, IsOk, IsOkAnd, MatchResult};
+ghost use Rattle.std.specs.Prelude.{◌≡◌, Err, Ok, false, true, IfErr, IfOk, IsOk, IsOkAnd, MatchResult};
 ghost use Rattle.cbm_file.specs.Files.{Disk};
 ghost use Rattle.cbm_medium.specs.Place.{directory_head};
 ghost use Rattle.cbm_volume.specs.Holding.{HoldsDisk, StandsAt};
 ghost use Rattle.cbm_volume.specs.Layouts.{Layout, Sound};
 ghost use Rattle.cbm_volume.specs.Map.{geometry_of};
 ghost use Rattle.cbm_program.specs.Images.{kind_of, tracks_of, content_of, ImageHolds};
+ghost use Rattle.cbm_channel.specs.Machines.{start};
 ghost use Rattle.cbm_shell.specs.Images.{IsChecked};
+ghost use Rattle.cbm_shell.specs.Listing.{IsSent};
+ghost use Rattle.cbm_shell.specs.Reading.{Gets};
 ghost use Rattle.cbm_device.specs.ImageDisks.{IsDiskOf, IsOpenRefusal};
-ghost use Rattle.cbm_device.specs.Looking.{IsTitleOf, IsUntitled, IsNoEntry, IsNoSector};
+ghost use Rattle.cbm_device.specs.Looking.{IsTitleOf, IsUntitled, IsNoEntry, IsNoSector, IsAccepted, IsRefused, IsUnsent, IsUngot};
 
 use crate::image_disk::ImageDisk;
 use crate::refusal::Refusal;
+use cbm_channel::Dos;
 use cbm_medium::{Address, Medium};
+use cbm_shell::{get, raw_list};
 use cbm_volume::{Entry, Label, Trouble, Unsound, Volume};
 use std::alloc::Global;
 
@@ -102,5 +107,36 @@ pub fn sector(alloc: Global, image: &[u8], track: u8, sector: u8) -> Result<[u8;
     match disk.read(at) {
         Ok(bytes) => Ok(bytes),
         Err(fault) => Err(Refusal::Status(fault.code)),
+    }
+}
+
+/// The directory of an image as the drive sends it, a BASIC program, with the files that match a pattern; an empty pattern asks for
+/// all. Errors: `NoImage`, `Memory`, the drive's status.
+pub fn list(alloc: Global, image: &[u8], pattern: &[u8]) -> Result<Vec<u8>, Refusal>
+    ensures sent { let kind = kind_of image.now in (d : Disk) → ImageHolds kind image.now d →
+        let m = start d false (tracks_of kind image.now) in
+        MatchResult result (λ v. IsSent pattern.now m v.items) (IsUnsent image.now pattern.now m) }
+    // Of any disk:
+    ensures refused { MatchResult result (λ _. IsAccepted image.now) (IsRefused image.now) }
+{
+    let mut dos = Dos::new(ImageDisk::open(alloc, image, false)?);
+    match raw_list(alloc, &mut dos, pattern) {
+        Ok(bytes) => Ok(bytes),
+        Err(fault) => Err(Refusal::from(fault)),
+    }
+}
+
+/// The bytes of the first file of an image that matches a pattern, of any type. Errors: `NoImage`, `Memory`, `Absent`; 60 for a file
+/// that was never closed; what breaks the directory or the file off.
+pub fn file(alloc: Global, image: &[u8], pattern: &[u8]) -> Result<Vec<u8>, Refusal>
+    ensures got { (d : Disk) → ImageHolds (kind_of image.now) image.now d →
+        MatchResult result (λ v. Gets d pattern.now v.items) (IsUngot image.now d pattern.now) }
+    // Of any disk:
+    ensures refused { MatchResult result (λ _. IsAccepted image.now) (IsRefused image.now) }
+{
+    let volume = volume_of(alloc, image)?;
+    match get(alloc, &volume, pattern) {
+        Ok(bytes) => Ok(bytes),
+        Err(fault) => Err(Refusal::from(fault)),
     }
 }

@@ -1,11 +1,10 @@
 //! Bytes for the caller's room.
 ghost use Rattle.std.specs.Prelude.{◌≡◌, Err, length, MatchResult};
-ghost use Rattle.cbm_device.specs.Answers.{answer, refusal_of, AreGiven};
+ghost use Rattle.cbm_device.specs.Answers.{answer, AreGiven};
 
 use crate::refusal::Refusal;
-use cbm_shell::ShellFault;
 
-/// Bytes go to the caller's room, and how many they are is told. The one error is `NoRoom`, and then nothing goes there.
+/// Bytes go to the caller's room, and how many they are is reported. The one error is `NoRoom`, and then nothing goes there.
 pub fn give(bytes: &[u8], out: &mut [u8], needed: &mut usize) -> Result<(), Refusal>
     ensures needed { needed.new ≡ length bytes.now }
     ensures given { AreGiven (answer result) out.old out.new bytes.now }
@@ -20,16 +19,16 @@ pub fn give(bytes: &[u8], out: &mut [u8], needed: &mut usize) -> Result<(), Refu
 
 /// What was made goes to the caller's room. Errors: `NoRoom`, and where nothing was made why not.
 pub fn given(
-    made: Result<Vec<u8>, ShellFault>,
+    made: Result<Vec<u8>, Refusal>,
     out: &mut [u8],
     needed: &mut usize,
 ) -> Result<(), Refusal>
     ensures { MatchResult made
         (λ v. (needed.new ≡ length v.items) × AreGiven (answer result) out.old out.new v.items)
-        (λ fault. (result ≡ Err (refusal_of fault)) × (out.new ≡ out.old) × (needed.new ≡ needed.old)) }
+        (λ why. (result ≡ Err why) × (out.new ≡ out.old) × (needed.new ≡ needed.old)) }
 {
     match made {
         Ok(bytes) => give(bytes.as_slice(), out, needed),
-        Err(fault) => Err(Refusal::from(fault)),
+        Err(refusal) => Err(refusal),
     }
 }

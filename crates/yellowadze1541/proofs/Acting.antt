@@ -1,5 +1,5 @@
 -- A call on the drive of a handle.
-use Rattle.std.proofs.Common.{◌≡◌, ◌≢◌, ℕ, List, ◌++◌, length, drop, Bool, Option, Some, None, ap, inl, inr, subst, sym, ◌∙◌}
+use Rattle.std.proofs.Common.{◌≡◌, ℕ, List, Bool, Option, Some, None, ap, inl, inr, subst, sym, ◌∙◌}
 use Rattle.std.specs.Prelude.{ℤ, Result, Ok, Err, OnOk, OnErr, IfErr}
 use Rattle.cbm_iec.specs.declared.lines.Lines.{Lines}
 use Rattle.cbm_channel.specs.Machines.{Machine}
@@ -8,8 +8,8 @@ use Rattle.cbm_drive.specs.Seats.{Seated}
 use Rattle.cbm_device.specs.Answers.{answer, fine, number_of}
 use Rattle.cbm_device.specs.declared.refusal.Refusal.{Refusal}
 use Rattle.cbm_device.specs.declared.refusal.Refusal.TheVariants.{Invalid, NoDrive}
-use Rattle.cbm_device.specs.Devices.{OnLines, StandsFor, tell_in_turn, IsOnTime, IsOutOfTime, HasHeard, HasDisk, HasAnotherDisk, IsRestarted}
-use Rattle.cbm_device.specs.ImageDisks.{no_disk, IsImageOf, IsOpenRefusal}
+use Rattle.cbm_device.specs.Devices.{OnLines, StandsFor, tell_in_turn, IsOnTime, IsOutOfTime, HasHeard, HasAnotherDisk, IsExchanged, GivesImage}
+use Rattle.cbm_device.specs.ImageDisks.{no_disk, IsOpenRefusal}
 use Rattle.cbm_device.proofs.Giving.{never_fine}
 use Rattle.yellowadze1541.specs.declared.inner.Inner.{Inner}
 use Rattle.yellowadze1541.specs.Drives.{Acts, Hears, Ejects, Inserts}
@@ -35,8 +35,8 @@ pub inserts : (done : Result (Unit {0}) Refusal) (n : ℤ) (image : List ℕ) (p
 inserts (Ok v) n image protected old new e ok err = inl (e, ok)
 inserts (Err r) n image protected old new e ok err = inr (err.1, (r, e, err.0))
 
-pub ejects : (done : Result (Unit {0}) Refusal) (n : ℤ) (out out_new : List ℕ) (needed : ℕ) (old new : OnLines) → n ≡ answer done
-    → OnOk done (HasDisk no_disk old new × ((bytes : List ℕ) × IsImageOf old.seat.machine.dos.medium bytes × (needed ≡ length bytes) × (out_new ≡ bytes ++ drop (length bytes) out)))
-    → OnErr done (IsRestarted old new × (out_new ≡ out)) → Ejects n out out_new needed old new
-ejects (Ok v) n out out_new needed old new e ok err = inl (e, ok.0, ok.1)
-ejects (Err r) n out out_new needed old new e ok err = inr ((λ well. absurd (never_fine r (sym e ∙ well))), err.0, err.1)
+pub ejects : (done : Result (Unit {0}) Refusal) (n : ℤ) (out out_new : List ℕ) (before needed : ℕ) (old new : OnLines) → n ≡ answer done
+    → GivesImage (answer done) out out_new before needed old → OnOk done (IsExchanged no_disk None old new) → OnErr done (new ≡ old) → Ejects n out out_new before needed old new
+ejects (Ok v) n out out_new before needed old new e given ok err = (subst (λ k. GivesImage k out out_new before needed old) (sym e) given, inl (e, ok))
+ejects (Err r) n out out_new before needed old new e given ok err =
+    (subst (λ k. GivesImage k out out_new before needed old) (sym e) given, inr ((λ well. absurd (never_fine r (sym e ∙ well))), err))

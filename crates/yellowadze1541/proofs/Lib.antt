@@ -1,4 +1,5 @@
 pub mod Acting
+pub mod Handing
 pub mod Signalling
 pub mod Types
 pub mod Values

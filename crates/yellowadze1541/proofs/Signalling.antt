@@ -6,28 +6,28 @@ use Rattle.cbm_device.specs.declared.refusal.Refusal.{Refusal}
 use Rattle.cbm_device.specs.Answers.{answer, fine}
 use Rattle.cbm_device.proofs.Giving.{never_fine}
 use Rattle.yellowadze1541.specs.declared.shapes.Signal.{Signal}
-use Rattle.yellowadze1541.specs.Signals.{change_of, changes_of, behind_change, behind_all}
+use Rattle.yellowadze1541.specs.Signals.{change_of, changes_of, put_before, all_before}
 
 -- none is known yet
-pub none_known : (o : Option (List Change)) → behind_all [] o ≡ o
+pub none_known : (o : Option (List Change)) → all_before [] o ≡ o
 none_known None = refl
 none_known (Some ds) = refl
 
 -- one more is known
-pub one_known : (cs : List Change) (c : Change) (o : Option Change) (rest : Option (List Change)) → o ≡ Some c → behind_all (cs ++ c ∷ []) rest ≡ behind_all cs (behind_change o rest)
-one_known cs c o rest e = by_rest rest ∙ ap (λ (x : Option Change). behind_all cs (behind_change x rest)) (sym e)
+pub one_known : (cs : List Change) (c : Change) (o : Option Change) (rest : Option (List Change)) → o ≡ Some c → all_before (cs ++ c ∷ []) rest ≡ all_before cs (put_before o rest)
+one_known cs c o rest e = by_rest rest ∙ ap (λ (x : Option Change). all_before cs (put_before x rest)) (sym e)
   where
-    by_rest : (rest : Option (List Change)) → behind_all (cs ++ c ∷ []) rest ≡ behind_all cs (behind_change (Some c) rest)
+    by_rest : (rest : Option (List Change)) → all_before (cs ++ c ∷ []) rest ≡ all_before cs (put_before (Some c) rest)
     by_rest None = refl
     by_rest (Some ds) = ap (λ xs. Some xs) (append_assoc cs (c ∷ []) ds)
 
 -- all are known
-pub all_known : (cs : List Change) → behind_all cs (Some []) ≡ Some cs
+pub all_known : (cs : List Change) → all_before cs (Some []) ≡ Some cs
 all_known cs = ap (λ xs. Some xs) (append-nil cs)
 
 -- one is none
-pub not_known : (cs : List Change) (o : Option Change) (rest : Option (List Change)) → o ≡ None → behind_all cs (behind_change o rest) ≡ None
-not_known cs o rest e = ap (λ (x : Option Change). behind_all cs (behind_change x rest)) e
+pub not_known : (cs : List Change) (o : Option Change) (rest : Option (List Change)) → o ≡ None → all_before cs (put_before o rest) ≡ None
+not_known cs o rest e = ap (λ (x : Option Change). all_before cs (put_before x rest)) e
 
 -- a fact of each value is one of this
 pub of_ok : {A E : Type 0} (r : Result A E) (P Q : A → Type 0) → ((v : A) → P v → Q v) → IfOk r P → IfOk r Q

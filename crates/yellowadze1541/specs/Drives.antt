@@ -1,5 +1,5 @@
 -- What C is told of the drive of a handle.
-use Rattle.std.specs.Prelude.{ℕ, ℤ, ◌≡◌, ◌≢◌, ◌≤◌, ◌<◌, ◌^◌, ◌-◌, ◌⊎◌, Bool, true, false, not, ◌==◌, if◌then◌else◌, List, ◌++◌, length, drop, Option, Some, None}
+use Rattle.std.specs.Prelude.{ℕ, ℤ, ◌≡◌, ◌≢◌, ◌≤◌, ◌<◌, ◌^◌, ◌-◌, ◌⊎◌, Bool, true, false, not, ◌==◌, if◌then◌else◌, List, Option, Some, None}
 use Rattle.cbm_iec.specs.declared.lines.Held.{Held}
 use Rattle.cbm_iec.specs.declared.lines.Lines.{Lines}
 use Rattle.cbm_iec.specs.declared.pace.Pace.{Pace}
@@ -13,8 +13,8 @@ use Rattle.cbm_device.specs.declared.refusal.Refusal.{Refusal}
 use Rattle.cbm_device.specs.declared.refusal.Refusal.TheVariants.{Memory, Invalid, Absent, NoDrive}
 use Rattle.cbm_device.specs.declared.device.Reaction.{Reaction}
 use Rattle.cbm_device.specs.Answers.{fine, number_of}
-use Rattle.cbm_device.specs.Devices.{OnLines, StandsFor, react_at, tell_in_turn, IsOutside, IsSwitchedOn, IsOnTime, IsOutOfTime, HasHeard, HasReacted, HasNothingDue, HasDisk, HasAnotherDisk, IsRestarted}
-use Rattle.cbm_device.specs.ImageDisks.{no_disk, IsImageOf, IsOpenRefusal}
+use Rattle.cbm_device.specs.Devices.{OnLines, StandsFor, react_at, tell_in_turn, IsOutside, IsSwitchedOn, IsOnTime, IsOutOfTime, HasHeard, HasReacted, HasNothingDue, HasAnotherDisk, IsExchanged, GivesImage}
+use Rattle.cbm_device.specs.ImageDisks.{no_disk, IsOpenRefusal}
 use Rattle.yellowadze1541.specs.Looks.{flag}
 use Rattle.yellowadze1541.specs.declared.inner.Inner.{Inner}
 use Rattle.yellowadze1541.specs.declared.shapes.Reacted.{Reacted}
@@ -91,14 +91,16 @@ Reacts moment n before told old new =
 
 -- ---- the disk
 
--- THE DISK IS TAKEN OUT: its image is given, and the drive was switched off and on with none; or it isn't given, and the drive was switched off and on with it.
-abbrev pub Ejects : ℤ → List ℕ → List ℕ → ℕ → OnLines → OnLines → Type 0
-Ejects n out out_new needed old new =
-    ((n ≡ fine) × HasDisk no_disk old new
-    × ((bytes : List ℕ) × IsImageOf old.seat.machine.dos.medium bytes × (needed ≡ length bytes) × (out_new ≡ bytes ++ drop (length bytes) out)))
-    ⊎ ((n ≢ fine) × IsRestarted old new × (out_new ≡ out))
+-- THE IMAGE IS GIVEN, or a number says why not; the drive goes on.
+abbrev pub ShowsImage : ℤ → List ℕ → List ℕ → ℕ → ℕ → OnLines → OnLines → Type 0
+ShowsImage n out out_new before needed old new = GivesImage n out out_new before needed old × (new ≡ old)
 
--- another disk is put in, or the image isn't opened, and nothing has changed
+-- THE DISK IS TAKEN OUT of a drive that goes on, and its image is given; or it isn't given, and nothing has changed.
+abbrev pub Ejects : ℤ → List ℕ → List ℕ → ℕ → ℕ → OnLines → OnLines → Type 0
+Ejects n out out_new before needed old new =
+    GivesImage n out out_new before needed old × (((n ≡ fine) × IsExchanged no_disk None old new) ⊎ ((n ≢ fine) × (new ≡ old)))
+
+-- another disk is put in, while the drive goes on; or the image isn't opened, and nothing has changed
 abbrev pub Inserts : ℤ → List ℕ → Bool → OnLines → OnLines → Type 0
 Inserts n image protected old new =
     ((n ≡ fine) × HasAnotherDisk image protected old new) ⊎ ((new ≡ old) × ((r : Refusal) × (n ≡ number_of r) × IsOpenRefusal image r))

@@ -3,3 +3,4 @@ pub mod Changes
 pub mod Handles
 pub mod Drives
 pub mod Signals
+pub mod Plays

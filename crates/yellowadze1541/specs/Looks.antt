@@ -25,15 +25,15 @@ abbrev pub used_by : List ℕ → ℕ
 used_by image = geometry_of (tracks_of (kind_of image) image) (held_by image)
 
 -- an image isn't opened, and that is told
-abbrev pub IsRefused : List ℕ → ℤ → Type 0
-IsRefused image n = (r : Refusal) × IsOpenRefusal image r × (n ≡ number_of r)
+abbrev pub IsUnopened : List ℕ → ℤ → Type 0
+IsUnopened image n = (r : Refusal) × IsOpenRefusal image r × (n ≡ number_of r)
 
 -- THE CHECK OF AN IMAGE: of one that is opened 0 says exactly that its disk is sound, and -6 what is wrong first.
 pub record IsCheck (image : List ℕ) (n : ℤ) (old new : Place) : Type 0 where
   pub told : ((n ≡ fine) × (new ≡ old) × ((l : Layout) × Sound (used_by image) (held_by image) l))
       ⊎ (((n ≡ number_of Unsound) × DiskFault (used_by image) (held_by image) (record { number = new.what; track = new.track; sector = new.sector }))
-      ⊎ ((new ≡ old) × IsRefused image n))
-  pub exact : (l : Layout) → Sound (used_by image) (held_by image) l → (n ≡ fine) ⊎ IsRefused image n
+      ⊎ ((new ≡ old) × IsUnopened image n))
+  pub exact : (l : Layout) → Sound (used_by image) (held_by image) l → (n ≡ fine) ⊎ IsUnopened image n
 
 -- a title that says what a disk has
 pub record Says (t : Title) (d : Disk) : Type 0 where

@@ -2,23 +2,42 @@
 ghost use Rattle.std.specs.Prelude.{◌≡◌, ◌≤◌, ◌<◌, ◌⊎◌, ◌∷◌, [], false, length, MatchResult};
 ghost use Rattle.cbm_file.specs.Files.{Disk};
 ghost use Rattle.cbm_channel.specs.Machines.{start};
-ghost use Rattle.cbm_volume.specs.Layouts.{Layout, Sound};
 ghost use Rattle.cbm_program.specs.Images.{kind_of, tracks_of, ImageHolds};
-ghost use Rattle.cbm_shell.specs.Changing.{IsFine};
+ghost use Rattle.cbm_shell.specs.Changing.{begun, after_change, IsFine};
 ghost use Rattle.cbm_shell.specs.Making.{IsNew};
 ghost use Rattle.cbm_shell.specs.Converting.{IsConverted, IsConvertFault};
-ghost use Rattle.cbm_device.specs.Answers.{fine, Gives};
-ghost use Rattle.cbm_device.specs.Making.{after_command, after_put, opened_for, IsUnmade, IsWantOfMemory};
-ghost use Rattle.yellowadze1541.specs.Looks.{flag, held_by, used_by};
+ghost use Rattle.cbm_device.specs.Answers.{refusal_of, Gives};
+ghost use Rattle.cbm_device.specs.Looking.{IsAccepted, IsSound};
+ghost use Rattle.cbm_device.specs.Making.{after_command, after_put, opened_for, IsUnmade, IsUnchanged, IsWantOfMemory};
+ghost use Rattle.cbm_shell.specs.declared.fault.ShellFault.{ShellFault};
+ghost use Rattle.yellowadze1541.specs.Looks.{flag};
 ghost use Rattle.yellowadze1541.specs.Changes.{form_of, IsRefusedNew, IsLossOf};
 
 use crate::shapes::{Lost, flag};
-use cbm_device::{Refusal, give, given, number};
-use cbm_shell::{Change, Form, Losses, ShellFault, change, convert, new_image};
+use cbm_device::{Refusal, change, give, given, number};
+use cbm_shell::{Change, Form, Losses, convert, new_image};
 use std::alloc::Global;
 
 /// The longest title.
 const TITLE: usize = 16;
+
+/// A change is made on an image's disk, and the new image is given.
+fn changed(
+    alloc: Global,
+    image: &[u8],
+    wanted: &Change<'_>,
+    out: &mut [u8],
+    needed: &mut usize,
+) -> i32
+    ensures made { let kind = kind_of image.now in (d : Disk) → ImageHolds kind image.now d →
+        let m = start d false (tracks_of kind image.now) in let after = after_change wanted.now m in
+        Gives result out.old out.new needed.old needed.new
+        (λ bytes. IsFine after.status × ImageHolds kind bytes after.disk) (IsUnmade image.now (begun wanted.now m) after) }
+    ensures sound { Gives result out.old out.new needed.old needed.new
+        (λ _. IsAccepted image.now × IsSound image.now) (IsUnchanged image.now) }
+{
+    number(given(change(alloc, image, wanted), out, needed))
+}
 
 /// A command for the drive, such as `S0:NAME`, is carried out on an image's disk, and the new image is given.
 #[unsafe(no_mangle)]
@@ -32,11 +51,12 @@ pub extern "C" fn y1541_image_command(
     ensures made { let kind = kind_of image.now in (d : Disk) → ImageHolds kind image.now d →
         let m = start d false (tracks_of kind image.now) in let after = after_command text.now m in
         Gives result out.old out.new needed.old needed.new
-        (λ bytes. IsFine after.status × ImageHolds kind bytes after.disk) (IsUnmade after after) }
-    // A disk that isn't sound isn't changed.
-    ensures sound { result ≡ fine → (l : Layout) × Sound (used_by image.now) (held_by image.now) l }
+        (λ bytes. IsFine after.status × ImageHolds kind bytes after.disk) (IsUnmade image.now after after) }
+    // Of any disk: one that isn't sound isn't changed.
+    ensures sound { Gives result out.old out.new needed.old needed.new
+        (λ _. IsAccepted image.now × IsSound image.now) (IsUnchanged image.now) }
 {
-    number(given(change(alloc, image, &Change::Command(text)), out, needed))
+    changed(alloc, image, &Change::Command(text), out, needed)
 }
 
 /// A file is put on an image's disk, as an OPEN with this text, such as `NAME,P,W`, would write it, and the new image is given.
@@ -52,14 +72,13 @@ pub extern "C" fn y1541_image_put(
     ensures made { let kind = kind_of image.now in (d : Disk) → ImageHolds kind image.now d →
         let m = start d false (tracks_of kind image.now) in let after = after_put text.now bytes.now m in
         Gives result out.old out.new needed.old needed.new
-        (λ image. IsFine after.status × ImageHolds kind image after.disk) (IsUnmade (opened_for text.now m) after) }
-    ensures sound { result ≡ fine → (l : Layout) × Sound (used_by image.now) (held_by image.now) l }
+        (λ image. IsFine after.status × ImageHolds kind image after.disk)
+        (IsUnmade image.now (opened_for text.now m) after) }
+    // Of any disk: one that isn't sound isn't changed.
+    ensures sound { Gives result out.old out.new needed.old needed.new
+        (λ _. IsAccepted image.now × IsSound image.now) (IsUnchanged image.now) }
 {
-    number(given(
-        change(alloc, image, &Change::File(text, bytes)),
-        out,
-        needed,
-    ))
+    changed(alloc, image, &Change::File(text, bytes), out, needed)
 }
 
 /// The form of a number.
@@ -74,14 +93,14 @@ fn form_with(form: u8) -> Form
     }
 }
 
-/// A new image, with memory's want told as such.
-fn made(alloc: Global, form: Form, title: &[u8], id: [u8; 2]) -> Result<Vec<u8>, ShellFault>
+/// A new image. The one error is `Memory`.
+fn made(alloc: Global, form: Form, title: &[u8], id: [u8; 2]) -> Result<Vec<u8>, Refusal>
     requires { length title.now ≤ 16 }
     ensures { MatchResult result (λ v. IsNew form title.now id v.items) IsWantOfMemory }
 {
     match new_image(alloc, form, title, id) {
         Ok(image) => Ok(image),
-        Err(_) => Err(ShellFault::Memory),
+        Err(_) => Err(Refusal::Memory),
     }
 }
 
@@ -132,7 +151,8 @@ pub extern "C" fn y1541_image_convert(
     needed: &mut usize,
 ) -> i32
     ensures { Gives result out.old out.new needed.old needed.new
-        (λ bytes. IsConverted image.now bytes × IsLossOf image.now lost.new) (λ fault. IsConvertFault image.now fault × (lost.new ≡ lost.old)) }
+        (λ bytes. IsConverted image.now bytes × IsLossOf image.now lost.new)
+        (λ r. (fault : ShellFault) × IsConvertFault image.now fault × (r ≡ refusal_of fault) × (lost.new ≡ lost.old)) }
 {
     match convert(alloc, image) {
         Ok(converted) => {

@@ -1,9 +1,9 @@
-//! The disk in the drive of a handle: taken out, and another one put in.
-ghost use Rattle.std.specs.Prelude.{◌≡◌, pos};
+//! The disk in the drive of a handle: its image, and another one in its place.
+ghost use Rattle.std.specs.Prelude.{◌≡◌, None, pos, MatchOption};
 ghost use Rattle.cbm_channel.specs.Codes.{code_number};
 ghost use Rattle.cbm_device.specs.Answers.{fine};
 ghost use Rattle.cbm_device.specs.Devices.{IsRestarted};
-ghost use Rattle.yellowadze1541.specs.Drives.{is_set, Acts, Ejects, Inserts};
+ghost use Rattle.yellowadze1541.specs.Drives.{is_set, Acts, Ejects, Inserts, ShowsImage};
 
 use crate::handle::{Handle, back, empty, of};
 use cbm_device::{Refusal, number};
@@ -23,8 +23,42 @@ pub extern "C" fn y1541_reset(alloc: Global, d: &mut Handle) -> i32
     0
 }
 
-/// The disk is taken out, and given as its image; the drive is switched off and on with no disk. Where it isn't given, it is in the
-/// drive, which was switched off and on.
+/// The image of the disk that is in the drive, which goes on; a file that is being written stands in it as on the disk, not closed.
+#[unsafe(no_mangle)]
+pub extern "C" fn y1541_image(
+    alloc: Global,
+    d: &mut Handle,
+    out: &mut [u8],
+    needed: &mut usize,
+) -> i32
+    ensures shows { Acts d.old.value d.new.value result (ShowsImage result out.old out.new needed.old needed.new) }
+    ensures none { d.old.value ≡ None → (out.new ≡ out.old) × (needed.new ≡ needed.old) }
+{
+    let Some(inner) = back(alloc, replace(d, empty())) else {
+        return Refusal::NoDrive.number();
+    };
+    let done = inner.device.image(alloc, out, needed);
+    *d = of(inner);
+    number(done)
+}
+
+/// How often a sector of the disk in the drive was written, or all were at once, since it was put in: up to 2^64 - 1, where it
+/// stays. 0 where there is no drive.
+#[unsafe(no_mangle)]
+pub extern "C" fn y1541_writes(alloc: Global, d: &mut Handle) -> u64
+    ensures kept { d.new.value ≡ d.old.value }
+    ensures writes { MatchOption d.old.value (result ≡ 0)
+        (λ inner. result ≡ inner.device.seat.machine.dos.medium.writes) }
+{
+    let Some(inner) = back(alloc, replace(d, empty())) else {
+        return 0;
+    };
+    let writes = inner.device.writes();
+    *d = of(inner);
+    writes
+}
+
+/// The disk is taken out, and given as its image, while the drive goes on. Where it isn't given, it stays in the drive.
 #[unsafe(no_mangle)]
 pub extern "C" fn y1541_eject(
     alloc: Global,
@@ -32,7 +66,8 @@ pub extern "C" fn y1541_eject(
     out: &mut [u8],
     needed: &mut usize,
 ) -> i32
-    ensures { Acts d.old.value d.new.value result (Ejects result out.old out.new needed.new) }
+    ensures ejects { Acts d.old.value d.new.value result (Ejects result out.old out.new needed.old needed.new) }
+    ensures none { d.old.value ≡ None → (out.new ≡ out.old) × (needed.new ≡ needed.old) }
 {
     let Some(mut inner) = back(alloc, replace(d, empty())) else {
         return Refusal::NoDrive.number();
@@ -42,7 +77,7 @@ pub extern "C" fn y1541_eject(
     number(done)
 }
 
-/// The drive is switched off and on with the disk of another image, of which it makes a copy.
+/// The disk of another image, of which the drive makes a copy, is put in, while the drive goes on.
 #[unsafe(no_mangle)]
 pub extern "C" fn y1541_insert(alloc: Global, d: &mut Handle, image: &[u8], protected: u8) -> i32
     ensures { Acts d.old.value d.new.value result (Inserts result image.now (is_set protected)) }

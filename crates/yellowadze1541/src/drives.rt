@@ -1,4 +1,4 @@
-//! A drive on lines, behind a handle. Each call takes the drive from its handle, and gives it back there.
+//! A drive on lines, by its handle. Each call takes the drive from its handle, and gives it back there.
 ghost use Rattle.std.specs.Prelude.{◌≡◌, ◌≢◌, ◌⊎◌, ◌-◌, ◌^◌, None, IfErr, IfOk, MatchBool, MatchOption};
 ghost use Rattle.cbm_iec.specs.Ports.{port_due};
 ghost use Rattle.cbm_device.specs.Answers.{fine};
@@ -162,7 +162,8 @@ pub extern "C" fn y1541_due(
     moment: u64,
     reacted: &mut Reacted,
 ) -> i32
-    ensures { Acts d.old.value d.new.value result (Reacts moment result reacted.old reacted.new) }
+    ensures reacts { Acts d.old.value d.new.value result (Reacts moment result reacted.old reacted.new) }
+    ensures none { d.old.value ≡ None → reacted.new ≡ reacted.old }
 {
     let Some(mut inner) = back(alloc, replace(d, empty())) else {
         return Refusal::NoDrive.number();
@@ -191,7 +192,8 @@ fn shown(held: Held) -> Pulls
 /// The lines that the drive holds low now.
 #[unsafe(no_mangle)]
 pub extern "C" fn y1541_pulls_now(alloc: Global, d: &mut Handle, pulls: &mut Pulls) -> i32
-    ensures { Acts d.old.value d.new.value result (λ old new. (result ≡ fine) × (new ≡ old) × IsHeld old.seat.port.own pulls.new) }
+    ensures held { Acts d.old.value d.new.value result (λ old new. (result ≡ fine) × (new ≡ old) × IsHeld old.seat.port.own pulls.new) }
+    ensures none { d.old.value ≡ None → pulls.new ≡ pulls.old }
 {
     let Some(inner) = back(alloc, replace(d, empty())) else {
         return Refusal::NoDrive.number();

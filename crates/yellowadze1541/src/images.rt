@@ -5,13 +5,12 @@ ghost use Rattle.cbm_channel.specs.Machines.{start};
 ghost use Rattle.cbm_program.specs.Images.{kind_of, tracks_of, ImageHolds};
 ghost use Rattle.cbm_shell.specs.Reading.{Gets};
 ghost use Rattle.cbm_shell.specs.Listing.{IsSent};
-ghost use Rattle.cbm_shell.specs.Images.{IsLost, IsHidden};
 ghost use Rattle.cbm_device.specs.Answers.{Gives};
+ghost use Rattle.cbm_device.specs.Looking.{IsAccepted, IsRefused, IsUnsent, IsUngot};
 ghost use Rattle.yellowadze1541.specs.Looks.{IsCheck, IsTitle, IsEntry, IsSector, Spells};
 
 use crate::shapes::{Entry, Place, Title, flag};
-use cbm_device::{Refusal, give, given, number};
-use cbm_shell::{file, raw_directory};
+use cbm_device::{Refusal, file, give, given, list, number};
 use cbm_volume::Unsound;
 use std::alloc::Global;
 use std::ops::Range;
@@ -20,12 +19,12 @@ use std::ops::Range;
 const NAME: Range<usize> = 3..19;
 
 /// The version of the library: major, minor and patch, a byte each.
-const VERSION: u32 = 0x01_00_00;
+const VERSION: u32 = 0x00_03_00;
 
 /// The version of the library, a byte each for major, minor and patch.
 #[unsafe(no_mangle)]
 pub extern "C" fn y1541_version() -> u32
-    ensures { result ≡ 65536 }
+    ensures { result ≡ 768 }
 {
     VERSION
 }
@@ -129,11 +128,13 @@ pub extern "C" fn y1541_image_list(
     out: &mut [u8],
     needed: &mut usize,
 ) -> i32
-    ensures { let kind = kind_of image.now in (d : Disk) → ImageHolds kind image.now d →
+    ensures sent { let kind = kind_of image.now in (d : Disk) → ImageHolds kind image.now d →
         let m = start d false (tracks_of kind image.now) in
-        Gives result out.old out.new needed.old needed.new (IsSent pattern.now m) (IsHidden pattern.now m) }
+        Gives result out.old out.new needed.old needed.new (IsSent pattern.now m) (IsUnsent image.now pattern.now m) }
+    // Of any disk:
+    ensures refused { Gives result out.old out.new needed.old needed.new (λ _. IsAccepted image.now) (IsRefused image.now) }
 {
-    number(given(raw_directory(alloc, image, pattern), out, needed))
+    number(given(list(alloc, image, pattern), out, needed))
 }
 
 /// The bytes of the first file that matches a pattern, of any type.
@@ -145,8 +146,10 @@ pub extern "C" fn y1541_image_file(
     out: &mut [u8],
     needed: &mut usize,
 ) -> i32
-    ensures { (d : Disk) → ImageHolds (kind_of image.now) image.now d →
-        Gives result out.old out.new needed.old needed.new (Gets d pattern.now) (IsLost d pattern.now) }
+    ensures got { (d : Disk) → ImageHolds (kind_of image.now) image.now d →
+        Gives result out.old out.new needed.old needed.new (Gets d pattern.now) (IsUngot image.now d pattern.now) }
+    // Of any disk:
+    ensures refused { Gives result out.old out.new needed.old needed.new (λ _. IsAccepted image.now) (IsRefused image.now) }
 {
     number(given(file(alloc, image, pattern), out, needed))
 }

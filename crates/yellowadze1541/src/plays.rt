@@ -1,19 +1,16 @@
 //! A drive with the disk of an image, played under a list of timed changes in one call.
-ghost use Rattle.std.specs.Prelude.{◌≡◌, ◌≤◌, ◌<◌, ◌^◌, ◌++◌, ◌⊎◌, ◌≢◌, ℕ, List, false, Err, None, Some, length, map, drop, OnOk, IfOk, IfErr};
-ghost use Rattle.cbm_file.specs.Files.{Disk};
-ghost use Rattle.cbm_channel.specs.Machines.{start};
-ghost use Rattle.cbm_iec.specs.declared.line.Change.{Change};
-ghost use Rattle.cbm_program.specs.Images.{kind_of, tracks_of, ImageHolds};
-ghost use Rattle.cbm_device.specs.Answers.{fine};
-ghost use Rattle.cbm_device.specs.ImageDisks.{IsImageOf, IsUnsaved};
-ghost use Rattle.cbm_device.specs.Plays.{HasPlayedAll};
+ghost use Rattle.std.specs.Prelude.{◌≡◌, ◌≤◌, ◌<◌, ◌^◌, ◌++◌, ◌⊎◌, ℕ, List, Err, None, Some, length, map, drop, OnOk, IfOk, IfErr, MatchResult};
+ghost use Rattle.cbm_device.specs.Answers.{answer};
+ghost use Rattle.cbm_device.specs.ImageDisks.{IsImageIn};
 ghost use Rattle.yellowadze1541.specs.Drives.{party_of};
-ghost use Rattle.yellowadze1541.specs.Signals.{line_with, way_with, change_of, changes_of, number_of_line, number_of_way, number_of_who, signal_of, IsPlay};
+ghost use Rattle.yellowadze1541.specs.Signals.{line_with, way_with, change_of, changes_of, number_of_line, number_of_way, number_of_who, signal_of};
+ghost use Rattle.yellowadze1541.specs.Plays.{rooms, Hands, IsPlayed, IsUnplayed, PlaysAll};
 
 use crate::drives::pace_with;
 use crate::shapes::Signal;
 use cbm_device::{ImageDisk, Refusal, number, play};
 use cbm_drive::{Change, Event, Line, Party, Way, Who};
+use cbm_program::{Kind, kind_of};
 use std::alloc::Global;
 
 /// Ends come before this one, in microseconds.
@@ -152,7 +149,8 @@ fn hand_over(
     Ok(())
 }
 
-/// A drive is switched on with the disk of an image and played under the changes that these signals ask for.
+/// A drive is switched on with the disk of an image and played under the changes that these signals ask for. Errors: `Invalid`, where
+/// a line is none or a change goes back in time or comes after the end; `NoImage`, `Memory`.
 fn played(
     alloc: Global,
     image: &[u8],
@@ -164,34 +162,33 @@ fn played(
     requires device { party.device < 31 }
     requires reaction { 1 ≤ party.reaction }
     requires end { end < 2 ^ 59 }
-    ensures played { (d : Disk) → ImageHolds (kind_of image.now) image.now d → IfOk result (λ disk. (cs : List Change) ×
-        (changes_of signals.now ≡ Some cs) × HasPlayedAll party (start d false (tracks_of (kind_of image.now) image.now)) cs end
-        events.old.items events.new.items disk) }
+    ensures { MatchResult result
+        (λ disk. IsPlayed image.now party signals.now end events.old.items events.new.items disk)
+        (IsUnplayed image.now signals.now end) }
 {
     let changes = changes_of(alloc, signals)?;
     let disk = ImageDisk::open(alloc, image, false)?;
     play(disk, party, changes.as_slice(), end, events)
 }
 
-/// What was played is told: how many events and bytes there are, and all of them, if the caller's rooms are large enough. Errors: `NoRoom`,
-/// `Memory`.
+/// What was played is reported: how many events and bytes there are, and all of them, if the caller's rooms are large enough. Errors:
+/// `NoRoom`; `Memory`, and then nothing is.
 fn told(
     alloc: Global,
     disk: &ImageDisk,
+    kind: Kind,
     events: &[Event],
     out: &mut [Signal],
     count: &mut usize,
     after: &mut [u8],
     needed: &mut usize,
 ) -> Result<(), Refusal>
-    ensures ok { OnOk result ((bytes : List ℕ) × IsImageOf disk.now bytes × (needed.new ≡ length bytes)
-        × (count.new ≡ length events.now) × (after.new ≡ bytes ++ drop (length bytes) after.old)
-        × (out.new ≡ map signal_of events.now ++ drop (length events.now) out.old)) }
-    ensures err { IfErr result (λ r. ((r ≡ Refusal.NoRoom) ⊎ IsUnsaved disk.now.sectors r)
-        × (out.new ≡ out.old) × (after.new ≡ after.old)) }
+    ensures { let old = rooms out.old count.old after.old needed.old in let new = rooms out.new count.new after.new needed.new in
+        ((bytes : List ℕ) × IsImageIn kind disk.now bytes × Hands (answer result) events.now bytes old new)
+        ⊎ ((result ≡ Err Refusal.Memory) × (new ≡ old)) }
 {
     let signals = signals_of(alloc, events)?;
-    let image = disk.save(alloc)?;
+    let image = disk.save(alloc, kind)?;
     *count = signals.len();
     *needed = image.len();
     hand_over(signals.as_slice(), image.as_slice(), out, after)
@@ -213,10 +210,8 @@ pub extern "C" fn y1541_play(
     after: &mut [u8],
     needed: &mut usize,
 ) -> i32
-    ensures played { (d : Disk) → ImageHolds (kind_of image.now) image.now d → result ≡ fine → (cs : List Change) ×
-        (changes_of changes.now ≡ Some cs)
-        × IsPlay image.now (party_of device reaction pace) cs end d out.old out.new after.old after.new }
-    ensures kept { result ≢ fine → (out.new ≡ out.old) × (after.new ≡ after.old) }
+    ensures { PlaysAll result image.now (party_of device reaction pace) pace changes.now end
+        (rooms out.old count.old after.old needed.old) (rooms out.new count.new after.new needed.new) }
 {
     if device < 8 || device > 11 || reaction < 1 || reaction > 60 || pace > 1 || end >= LAST_END {
         return Refusal::Invalid.number();
@@ -229,7 +224,16 @@ pub extern "C" fn y1541_play(
     };
     let mut events = Vec::new(alloc);
     match played(alloc, image, party, changes, end, &mut events) {
-        Ok(disk) => number(told(alloc, &disk, events.as_slice(), out, count, after, needed)),
+        Ok(disk) => number(told(
+            alloc,
+            &disk,
+            kind_of(image),
+            events.as_slice(),
+            out,
+            count,
+            after,
+            needed,
+        )),
         Err(refusal) => refusal.number(),
     }
 }

@@ -1,32 +1,37 @@
-use Rattle.std.proofs.Common.{◌≡◌, List, [], ◌++◌, length, map, drop, false, rules, subst, to_z, of_z, w32}
+use Rattle.std.proofs.Common.{◌≡◌, ◌⊎◌, List, ℕ, [], Err, inl, inr, refl, rules, subst, to_z, of_z, w32}
 use Rattle.cbm_iec.specs.declared.event.Event.{Event}
 use Rattle.cbm_iec.specs.declared.pace.Pace.{Pace}
-use Rattle.cbm_channel.specs.Machines.{start}
-use Rattle.cbm_program.specs.Images.{kind_of, tracks_of}
-use Rattle.cbm_device.specs.Answers.{answer}
-use Rattle.cbm_device.specs.Plays.{HasPlayedAll}
-use Rattle.yellowadze1541.specs.Signals.{signal_of}
-use Rattle.yellowadze1541.proofs.Signalling.{when_fine}
+use Rattle.cbm_program.specs.declared.kind.Kind.{Kind}
+use Rattle.cbm_device.specs.declared.refusal.Refusal.TheVariants.{Invalid, Memory}
+use Rattle.cbm_device.specs.Answers.{answer, number_of}
+use Rattle.cbm_device.specs.ImageDisks.{IsImageIn}
+use Rattle.yellowadze1541.specs.Drives.{party_of}
+use Rattle.yellowadze1541.specs.Plays.{Hands, IsOutOfRange, IsPlayed, Rooms, rooms}
+use Rattle.yellowadze1541.proofs.Handing.{reported}
 use Rattle.yellowadze1541.proofs.plays.y1541_play.Goals as goal
 
-pub returns-in-Ok-clause-played : goal.returns-in-Ok-clause-played
-returns-in-Ok-clause-played c = λ d h well.
+-- an argument is out of its range
+pub returns-then-device-lt8 : goal.returns-then-device-lt8
+returns-then-device-lt8 c =
+    let same : to_z w32 (of_z w32 c.number.result) ≡ number_of Invalid = search rules in
+    let outside : IsOutOfRange (party_of c.args.device c.args.reaction c.args.pace) c.args.pace c.args.end = search rules in
+    inr (Invalid, inl (refl, outside), same, refl)
+
+pub returns-in-Ok : goal.returns-in-Ok
+returns-in-Ok c =
+    let image = c.args.image.now in
+    let done = c.told.result in
     let n = to_z w32 (of_z w32 c.number-in-Ok.result) in
-    let same : n ≡ answer c.told.result = search rules in
-    let gave = when_fine c.told.result n _ same well c.told.ensures.ok in
-    let p = c.in-Ok.ensures.played d h in
+    let same : n ≡ answer done = search rules in
+    let signals = c.args.changes.now in
     let events = c.played.new.events.items in
-    let m = start d false (tracks_of (kind_of c.args.image.now) c.args.image.now) in (
-      p.0,
-      p.1,
-      record {
-        events = events;
-        disk = c.in-Ok.disk;
-        bytes = gave.0;
-        played = subst (λ (pace : Pace). HasPlayedAll (record { device = c.args.device; reaction = c.args.reaction; pace = pace }) m p.0 c.args.end [] events c.in-Ok.disk) c.pace_with-pace.ensures
-            (subst (λ (old : List Event). HasPlayedAll (record { device = c.args.device; reaction = c.args.reaction; pace = c.pace_with-pace.result }) m p.0 c.args.end old events c.in-Ok.disk) c.new-events.ensures.items p.2);
-        told = subst (λ (es : List Event). c.told.new.out ≡ map signal_of es ++ drop (length es) c.args.out.now) c.as_slice.ensures.value gave.5;
-        saved = gave.1;
-        given = gave.4;
-      },
-    )
+    let left = c.in-Ok.disk in
+    let old : Rooms = rooms c.args.out.now c.args.count.now c.args.after.now c.args.needed.now in
+    let new : Rooms = rooms c.told.new.out c.told.new.count c.told.new.after c.told.new.needed in
+    let played = subst (λ (pace : Pace). IsPlayed image (record { device = c.args.device; reaction = c.args.reaction; pace = pace }) signals c.args.end [] events left) c.pace_with-pace.ensures
+    (subst (λ (before : List Event). IsPlayed image (record { device = c.args.device; reaction = c.args.reaction; pace = c.pace_with-pace.result }) signals c.args.end before events left)
+    c.new-events.ensures.items c.in-Ok.ensures) in
+    let told = subst (λ (kind : Kind). ((bytes : List ℕ) × IsImageIn kind left bytes × Hands (answer done) events bytes old new) ⊎ ((done ≡ Err Memory) × (new ≡ old))) c.kind_of.ensures
+    (subst (λ (es : List Event). ((bytes : List ℕ) × IsImageIn c.kind_of.result left bytes × Hands (answer done) es bytes old new) ⊎ ((done ≡ Err Memory) × (new ≡ old)))
+    c.as_slice.ensures.value c.told.ensures) in
+    reported done n image (party_of c.args.device c.args.reaction c.args.pace) c.args.pace signals c.args.end events left old new same played told

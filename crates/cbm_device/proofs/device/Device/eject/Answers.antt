@@ -1,9 +1,11 @@
-use Rattle.cbm_device.proofs.Exchanged.{back_again}
+use Rattle.std.proofs.Common.{None, refl, subst}
+use Rattle.cbm_device.specs.Devices.{OnLines, IsExchanged}
+use Rattle.cbm_device.specs.ImageDisks.{Counted, no_disk}
 use Rattle.cbm_device.proofs.device.Device.eject.Goals as goal
 
-pub returns-in-Err-clause-err : goal.returns-in-Err-clause-err
-returns-in-Err-clause-err c = (
-  back_again c.blank.result c.exchange-disk.result c.args.self.now c.exchange-disk.new.self c.exchange-blank.new.self c.exchange-disk.ensures.new c.exchange-blank.ensures.new
-      c.exchange-disk.ensures.old,
-  c.in-Err.ensures.err,
-)
+pub returns-clause-ok : goal.returns-clause-ok
+returns-clause-ok c =
+    let now : OnLines = record { seat = c.insert.new.self; kind = None; latest = c.self.inside.latest } in
+    subst (λ (o : OnLines). IsExchanged no_disk None o now) c.self.view_is
+    (subst (λ (k : Counted). IsExchanged k None (record { seat = c.self.inside.drive; kind = c.self.inside.kind; latest = c.self.inside.latest }) now) c.blank.ensures
+    (record { port = c.insert.ensures.port; inside = c.insert.ensures.medium; same_kind = refl; latest = refl; stands = c.insert.ensures.stands }))

@@ -1,4 +1,4 @@
-use Rattle.std.proofs.Common.{refl, subst, sym}
+use Rattle.std.proofs.Common.{Some, ap, refl, subst, sym}
 use Rattle.cbm_drive.specs.Desks.{DeskStands, at_first, with_pace}
 use Rattle.cbm_device.specs.ImageDisks.{seen_of, IsDiskOf}
 use Rattle.cbm_device.proofs.Opening.{holds_of, same_start}
@@ -10,12 +10,14 @@ returns-clause-ok c =
     let b = c.args.party in
     let disk = c.in_ok-disk.disk in
     let opened = c.in_ok-disk.ensures.ok in
-    let on = c.powered-desk.ensures in
+    let on = c.powered.ensures in
     record {
       disk = subst (λ x. IsDiskOf image c.args.protected x) (sym on.disk) opened;
-      port = c.new.ensures;
+      kind = ap Some c.kind_of.ensures;
+      port = on.port;
+      addressed = on.addressed;
       first = refl;
       stands = λ d h.
-          subst (λ m. DeskStands seen_of c.powered-desk.result (with_pace b.pace (at_first b.device m))) (same_start image c.args.protected disk d opened)
+          subst (λ m. DeskStands seen_of c.powered.result.machine (with_pace b.pace (at_first b.device m))) (same_start image c.args.protected disk d opened)
           (on.stands d (holds_of image c.args.protected disk d opened h));
     }

@@ -1,8 +1,9 @@
-use Rattle.cbm_device.specs.ImageDisks.{no_disk}
-use Rattle.cbm_device.proofs.Exchanged.{back_again}
+use Rattle.std.proofs.Common.{refl, subst}
+use Rattle.cbm_device.specs.Devices.{OnLines, IsRestarted}
 use Rattle.cbm_device.proofs.device.Device.reset.Goals as goal
 
 pub returns : goal.returns
 returns c =
-    back_again c.blank.result c.exchange-disk.result c.args.self.now c.exchange-disk.new.self c.exchange-blank.new.self c.exchange-disk.ensures.new c.exchange-blank.ensures.new
-    c.exchange-disk.ensures.old
+    let now : OnLines = record { seat = c.restart.new.self; kind = c.self.inside.kind; latest = c.self.inside.latest } in
+    subst (λ (o : OnLines). IsRestarted o now) c.self.view_is
+    (record { port = c.restart.ensures.port; same_disk = c.restart.ensures.medium; kind = refl; latest = refl; stands = λ d h. c.restart.ensures.stands d h })

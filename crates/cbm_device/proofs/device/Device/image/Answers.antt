@@ -1,0 +1,16 @@
+use Rattle.std.proofs.Common.{ap, inr, refl, sym, ◌∙◌}
+use Rattle.cbm_device.specs.Devices.{OnLines, IsImageFrom, IsUnsaved}
+use Rattle.cbm_device.specs.declared.refusal.Refusal.TheVariants.{Absent}
+use Rattle.cbm_device.proofs.Giving.{gives, saved_from}
+use Rattle.cbm_device.proofs.device.Device.image.Goals as goal
+
+pub returns-in-Some : goal.returns-in-Some
+returns-in-Some c =
+    let d = c.args.self.now in
+    let kind = ap (λ (o : OnLines). o.kind) (sym c.self.view_is) ∙ c.in-Some.is in
+    gives (λ v. v.items) (IsImageFrom d) (IsUnsaved d.kind) c.save.result c.given.result _ c.args.out.now c.given.new.out c.args.needed.now c.given.new.needed
+    (saved_from (λ v. v.items) c.save.result d c.in-Some.kind c.disk.result.now kind c.disk.ensures c.save.ensures.ok c.save.ensures.err) c.given.ensures refl
+
+-- there is no disk
+pub returns-in-None : goal.returns-in-None
+returns-in-None c = inr (Absent, ap (λ (o : OnLines). o.kind) (sym c.self.view_is) ∙ c.in-None.is, refl, refl, refl)

@@ -1,0 +1,31 @@
+//! Changes of an image's disk, as the drive makes them.
+ghost use Rattle.std.specs.Prelude.{◌≡◌, false, MatchResult};
+ghost use Rattle.cbm_file.specs.Files.{Disk};
+ghost use Rattle.cbm_channel.specs.Machines.{start};
+ghost use Rattle.cbm_program.specs.Images.{kind_of, tracks_of, ImageHolds};
+ghost use Rattle.cbm_shell.specs.Changing.{begun, after_change, IsFine};
+ghost use Rattle.cbm_device.specs.Looking.{IsAccepted, IsSound};
+ghost use Rattle.cbm_device.specs.Making.{IsUnmade, IsUnchanged};
+
+use crate::image_disk::ImageDisk;
+use crate::refusal::Refusal;
+use cbm_program::kind_of;
+use cbm_shell::{Change, changed};
+use std::alloc::Global;
+
+/// Makes a change on the disk of an image, and gives the image as it is then, in the same format. Errors: `NoImage`, `Memory`,
+/// `Unsound`, the drive's status.
+pub fn change(alloc: Global, image: &[u8], change: &Change<'_>) -> Result<Vec<u8>, Refusal>
+    ensures made { let kind = kind_of image.now in (d : Disk) → ImageHolds kind image.now d →
+        let m = start d false (tracks_of kind image.now) in let after = after_change change.now m in
+        MatchResult result (λ v. IsFine after.status × ImageHolds kind v.items after.disk)
+        (IsUnmade image.now (begun change.now m) after) }
+    // Of any disk: one that isn't sound isn't changed.
+    ensures sound { MatchResult result (λ _. IsAccepted image.now × IsSound image.now) (IsUnchanged image.now) }
+{
+    let disk = ImageDisk::open(alloc, image, false)?;
+    match changed(disk, change) {
+        Ok(disk) => disk.save(alloc, kind_of(image)),
+        Err(fault) => Err(Refusal::from(fault)),
+    }
+}
