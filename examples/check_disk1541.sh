@@ -51,7 +51,8 @@ while read -r line; do
 done < commands.txt | sed 's/^[0-9a-f]\{64\}  /SUM  /' > told.txt
 is "the how-tos of the document print what they should" cmp told.txt "$here/how_to.txt"
 is "with equal sums of an image and the one made of it" test "$(cd how_to && ./disk1541 hash hello.d64 hello.g64 | cut -d' ' -f1 | uniq | wc -l)" = 1
-is "and take out, put in and make what they say" test "$(cd how_to && echo *)" = "FOLDER disk1541 empty.d64 game.prg hello.d64 hello.g64 hello.prg levels.seq saved.prg"
+is "and take out, put in and make what they say" test "$(cd how_to && echo *)" = "FOLDER built.d64 disk1541 empty.d64 game.prg hello.d64 hello.g64 hello.prg hello.svg hello.toml levels.seq parts saved.prg"
+is "a disk built of a recipe has the files" test "$(cd how_to && ./disk1541 list built.d64)" = "$(cd how_to && ./disk1541 list hello.d64)"
 
 # each command, its refusals too
 case_of "list" 0 "$hello" "" "$disk" list hello.d64
@@ -389,10 +390,10 @@ if command -v cc > /dev/null; then
     done
 fi
 case_of "no file to put" 3 "" any "$disk" put hello.d64 nothing.prg
-case_of "no such type" 64 "" "disk1541: txt is no type of a file: take prg, seq or usr" "$disk" put hello.d64 game.prg --type txt
+case_of "no such type" 64 "" "disk1541: txt is no type of a file: take prg, seq, usr or rel" "$disk" put hello.d64 game.prg --type txt
 case_of "no command" 64 "" any "$disk"
 case_of "help" 0 any "" "$disk" --help
-case_of "version" 0 "disk1541 0.2.0" "" "$disk" --version
+case_of "version" 0 "disk1541 0.3.0" "" "$disk" --version
 case_of "a full standard output" 3 any any sh -c "$disk list hello.d64 > /dev/full"
 cp hello.d64 before.d64
 case_of "a limit on the file's size" 3 "" any sh -c "trap '' XFSZ; ulimit -f 100; exec $disk put hello.d64 game.prg --name NEW"
@@ -484,6 +485,177 @@ is "one file" test "$(wc -l < out.txt)" = 3
 cp many_files.d64 before.d64
 case_of "one of several that isn't there" 1 "" "disk1541: nothing is deleted: no file that isn't locked matches X" "$disk" delete many_files.d64 'A*' X
 is "deletes none" cmp -s many_files.d64 before.d64
+
+# recipes: a disk from one, and the recipe of a disk
+mkdir recipes
+printf 'level' > recipes/level.seq
+cat > recipes/game.toml <<X
+title = "My game"
+id = "64"
+
+[[entry]]
+art = "----------------"
+blocks = 0
+
+[[entry]]
+file = "../one.prg"
+name = "HELLO,{c1}{a0},8"
+locked = true
+
+[[entry]]
+art = "{a0}by {c1}"
+blocks = 300
+locked = true
+
+[[entry]]
+file = "level.seq"
+X
+case_of "build" 0 "" "" "$disk" build recipes/game.toml game.d64
+case_of "the disk of the recipe" 0 any "" "$disk" list game.d64
+is "is sound" test "$("$disk" check game.d64)" = sound
+# Each entry of the directory from the rules: type $80 for DEL, $82 and $81 for PRG and SEQ, with $40 where it is locked; the first block; the
+# name, filled up with $a0; nine zeros; the blocks. The first blocks are 17/0 and 17/1, as the drive's own PUT takes them.
+python3 - <<'X'
+def entry(kind, first, name, blocks):
+    return bytes([kind, *first]) + name + b"\xa0" * (16 - len(name)) + bytes(9) + bytes([blocks % 256, blocks // 256])
+wanted = [entry(0x80, (0, 0), b"-" * 16, 0), entry(0xC2, (17, 0), b"HELLO,\xc1\xa0,8", 1),
+          entry(0xC0, (0, 0), b"\xa0BY \xc1", 300), entry(0x81, (17, 1), b"LEVEL", 1)]
+start = 357 * 256 + 256
+open("wanted.bin", "wb").write(b"".join(wanted))
+image = open("game.d64", "rb").read()
+open("found.bin", "wb").write(b"".join(image[start + 32 * k + 2:start + 32 * k + 32] for k in range(4)))
+X
+is "byte for byte in its entries" cmp wanted.bin found.bin
+"$disk" new plain.d64 --title "My game" --id 64
+"$disk" put plain.d64 one.prg --name A
+"$disk" put plain.d64 recipes/level.seq
+# All but the directory's sector 18/1 is what the drive's own commands leave.
+is "and elsewhere what the drive's commands leave" sh -c 'cmp -l plain.d64 game.d64 | awk "{ if (\$1 <= 358 * 256 || \$1 > 359 * 256) exit 1 }"'
+case_of "build again" 3 "" "disk1541: game.d64 is there already: take another name, or --replace" "$disk" build recipes/game.toml game.d64
+cp game.d64 before.d64
+case_of "with --replace" 0 "" "" "$disk" build recipes/game.toml game.d64 --replace
+is "gives the same image" cmp game.d64 before.d64
+case_of "get-all of it" 0 "" any "$disk" get-all game.d64 taken_apart
+case_of "describe" 0 any "" "$disk" describe game.d64 --folder taken_apart
+cp out.txt again.toml
+case_of "and build of that" 0 "" "" "$disk" build again.toml again.d64
+is "gives the disk back" cmp game.d64 again.d64
+case_of "as a G64" 0 "" "" "$disk" build recipes/game.toml game.g64
+case_of "with the same directory" 0 "$("$disk" list game.d64)" "" "$disk" list game.g64
+case_of "from standard input" 0 "" "" sh -c "$disk build - piped.g64 < again.toml"
+is "too" cmp piped.g64 game.g64
+printf 'title = "A"\nid = "AB"\n[[entry]]\nfil = "x"\n' > bad.toml
+case_of "a word that no recipe has" 64 "" 'disk1541: bad.toml: unknown field `fil`
+in `entry`
+disk1541: bad.toml is no recipe of a disk: nothing is made' "$disk" build bad.toml none.d64
+printf 'title = "A"\nid = "AB"\n[[entry]]\nfile = "nothing"\n' > bad.toml
+case_of "a file that isn't there" 3 "" "disk1541: can't read nothing: entity not found" "$disk" build bad.toml none.d64
+printf 'title = "A"\nid = "AB"\n[[entry]]\nlocked = true\n' > bad.toml
+case_of "an entry that is no file and no art" 64 "" 'disk1541: an entry of a recipe has either `file` or `art`' "$disk" build bad.toml none.d64
+case_of "what is no TOML" 64 "" any "$disk" build hello.d64 none.d64
+is "makes nothing" test ! -e none.d64
+(printf 'title = "A"\nid = "AB"\n'; for k in $(seq 145); do printf '[[entry]]\nart = "LINE%s"\n' "$k"; done) > bad.toml
+case_of "145 lines" 1 "" "disk1541: none.d64: the disk is full (status 72)" "$disk" build bad.toml none.d64
+head -n 290 bad.toml > full.toml
+case_of "144 lines" 0 "" "" "$disk" build full.toml full.d64
+is "are listed" test "$("$disk" list full.d64 | grep -c DEL)" = 144
+is "on a sound disk" test "$("$disk" check full.d64)" = sound
+
+# sort
+case_of "sort" 0 "" "" "$disk" sort game.d64
+case_of "by names" 0 any "" "$disk" list game.d64
+# A name ends at its first $a0, so that of the third line of art is none.
+is "from their codes" test "$(sed -n 2,5p out.txt | cut -c1-8 | tr '\n' '|')" = '300  "" |0    "--|1    "HE|1    "LE|'
+case_of "sort by size" 0 "" "" "$disk" sort game.d64 --by size
+is "the least first" test "$("$disk" list game.d64 | sed -n 2,5p | cut -c1-3 | tr '\n' '|')" = '0  |1  |1  |300|'
+case_of "sort by type" 0 "" "" "$disk" sort game.d64 --by type
+is "DEL, SEQ, PRG" test "$("$disk" list game.d64 | grep -o 'DEL\|SEQ\|PRG' | tr '\n' '|')" = 'DEL|DEL|SEQ|PRG|'
+case_of "no such order" 64 "" "disk1541: date is no order: take name, type or size" "$disk" sort game.d64 --by date
+is "the disk is sound" test "$("$disk" check game.d64)" = sound
+"$disk" get-all game.d64 sorted 2> /dev/null
+is "and its files are the same" diff -r taken_apart sorted
+
+# relative files
+"$disk" new records.d64 --title records --id 64
+python3 -c 'import sys; sys.stdout.buffer.write(b"".join(b"record %3d" % k for k in range(30)))' > records.bin
+case_of "put of records without their length" 64 "" "disk1541: a relative file has records: say their length by --record, 1 to 254" "$disk" put records.d64 records.bin --type rel
+case_of "put with a length that is none" 64 "" "disk1541: records have 1 to 254 bytes, not 255" "$disk" put records.d64 records.bin --type rel --record 255
+case_of "put of records" 0 "" "" "$disk" put records.d64 records.bin --type rel --record 10
+# 300 bytes are two blocks, and a side sector: three in all, of 664.
+case_of "which the directory has" 0 '0 "RECORDS         " 64 2A
+3    "RECORDS"          REL  
+661 BLOCKS FREE.             ' "" "$disk" list records.d64
+is "sound" test "$("$disk" check records.d64)" = sound
+case_of "get as a file of PC64" 0 "" "" "$disk" get records.d64 RECORDS -o records.r00
+is "has the head, with the length" test "$(head -c 26 records.r00 | od -An -tx1 | tr -d ' \n')" = 43363446696c6500$(printf RECORDS | od -An -tx1 | tr -d ' \n')000000000000000000000a
+is "the records" sh -c 'head -c 326 records.r00 | tail -c 300 | cmp - records.bin'
+is "and empty ones up to the block's end" test "$(wc -c < records.r00)" = $((26 + 50 * 10))
+case_of "get as the chain has it" 0 any "disk1541: RECORDS has records of 10 bytes, which \`-o FILE.r00\` writes before them" "$disk" get records.d64 RECORDS
+case_of "put of that file" 0 "" "" "$disk" put records.d64 records.r00 --name AGAIN
+case_of "get-all of both" 0 "" "" "$disk" get-all records.d64 both
+is "gives the same records" sh -c 'tail -c +27 both/RECORDS.r00 > 1; tail -c +27 both/AGAIN.r00 | cmp - 1'
+case_of "put over it" 1 "" "disk1541: records.d64: a file of that name is there: take another name, or --replace (status 63)" "$disk" put records.d64 records.r00
+case_of "with --replace" 0 "" "" "$disk" put records.d64 records.r00 --replace
+case_of "copy of a relative file" 1 "" "disk1541: RECORDS is a relative file, which the drive doesn't copy: take it out by \`get -o FILE.r00\`, and put that by --name" "$disk" copy records.d64 RECORDS OTHER
+
+# tables
+case_of "list as a table" 0 "image,name,petscii,type,closed,locked,blocks,bytes,load,track,sector,record,geos
+$here/hello.d64,HELLO,48454c4c4f,prg,true,false,1,3,513,17,0,," "" "$disk" list "$here/hello.d64" --csv
+case_of "info as a table" 0 "image,format,tracks,title,id,dos,free,unreadable,sound,track,sector,number,text
+hello.g64,G64,35,TEST,AB,2A,663,0,true,,,,
+bad.d64,D64 with error bytes,35,TEST,AB,2A,663,1,true,,,," "" sh -c "cp there.g64 x; $disk convert $here/hello.d64 hello.g64 && $disk info hello.g64 bad.d64 --csv"
+case_of "hash as a table" 0 "image,sha256
+hello.g64,$(sha256sum < "$here/hello.d64" | cut -d' ' -f1)" "" "$disk" hash hello.g64 --csv
+case_of "find as a table without a match" 1 "image,name,petscii,type,closed,locked,blocks,bytes,load,track,sector,record,geos" "disk1541: no file matches" "$disk" find X hello.g64 --csv
+
+# pictures
+case_of "map with the files" 0 any "" "$disk" map "$here/hello.d64" --files
+is "has a letter for the block" grep -q '^17     A\.\.\.' out.txt
+is "and which file it is" grep -qx 'A "HELLO" prg' out.txt
+case_of "map with a relative file" 0 any "" "$disk" map records.d64 --files
+is "has its side sector, too" test "$(head -n 37 out.txt | tail -n 35 | tr -cd A | wc -c)" = 3
+case_of "map as a picture" 0 "" "" "$disk" map "$here/hello.d64" --svg hello.svg
+is "has a square for each sector, with its title" python3 -c '
+import xml.etree.ElementTree as tree
+squares = tree.parse("hello.svg").getroot().findall("{http://www.w3.org/2000/svg}rect")
+titles = [square[0].text for square in squares]
+assert len(titles) == 683 and titles.count("17/0 HELLO") == 1 and titles.count("18/0 used") == 1 and "1/0 free" in titles'
+
+# a track of a G64, against another reader of group code: each sync mark with its ones, and what follows it
+"$disk" new track.d64 --title track --id 64
+"$disk" convert track.d64 track.g64
+for k in 1 18 25 35; do
+    python3 "$here/g64_track.py" track.g64 $k > wanted.txt
+    case_of "track $k" 0 "$(cat wanted.txt)" "" "$disk" track track.g64 $k
+done
+python3 - <<'X'
+import struct
+image = bytearray(open("track.g64", "rb").read())
+place = struct.unpack_from("<I", image, 12 + 4 * 32)[0]
+length = struct.unpack_from("<H", image, place)[0]
+whole = image[place:place + 2 + length]
+struct.pack_into("<I", image, 12 + 4 * 33, len(image))
+image += whole
+image[-200] ^= 0x10
+struct.pack_into("<I", image, 12 + 4 * 70, len(image))
+image += bytes([4, 0]) + b"\x55" * 4
+open("half.g64", "wb").write(image)
+X
+python3 "$here/g64_track.py" half.g64 17.5 > wanted.txt
+case_of "a half track, with a bit turned" 0 "$(cat wanted.txt)" "" "$disk" track half.g64 17.5
+case_of "a track without a mark" 0 "track 36: 32 bits
+   bit
+no sync mark" "" "$disk" track half.g64 36
+case_of "info names them" 0 any "" "$disk" info half.g64
+is "in a line" grep -qx 'more tracks  17.5 36' out.txt
+case_of "no such track" 1 "" "disk1541: track.g64 has no such track" "$disk" track track.g64 17.5
+case_of "no such number" 64 "" "disk1541: 43 is no track: take 1 to 42, and 17.5 for the half track after 17" "$disk" track track.g64 43
+case_of "a D64 has no tracks of bits" 1 "" "disk1541: track.d64 is a D64, which has the bytes of sectors, and no sync marks: \`sector\` shows them" "$disk" track track.d64 1
+
+# a disk whose title can't be read: the byte of 18/0 is the 358th of the error bytes
+{ cat "$here/hello.d64"; head -c 357 /dev/zero | tr '\000' '\001'; printf '\005'; head -c 325 /dev/zero | tr '\000' '\001'; } > untitled.d64
+case_of "list of a disk whose title can't be read" 1 '1    "HELLO"            PRG  ' "disk1541: untitled.d64: track 18, sector 0 can't be read: the title, the id and how many blocks are free aren't known" "$disk" list untitled.d64
+case_of "describe of it" 1 "" "disk1541: untitled.d64: track 18, sector 0 can't be read (error 23)" "$disk" describe untitled.d64
 
 # locks and titles
 "$disk" new locks.d64 --title LOCKS --id 64
@@ -602,6 +774,108 @@ disk1541: \"ONE\" was never closed: 3 bytes are taken" "$disk" get-all cut.d64 s
 is "in their files" cmp -s saved/BIG.prg begun.bin
 is "and with their bytes" test "$(cat saved/ONE.prg)" = one
 case_of "no file to salvage" 1 "" "disk1541: X: no such file" "$disk" get cut.d64 X --salvage
+
+# all flaws of the damaged ones: what a chain can't be followed to is lost; of ONE, which was never closed, its block is
+python3 - "$here" > flaws.txt << 'END'
+import sys
+sys.path.insert(0, sys.argv[1])
+from generated_disks import place
+image = bytearray(open("salvage.d64", "rb").read())
+def chain(at):
+    while at[0]:
+        yield at
+        at = image[place(*at)], image[place(*at) + 1]
+big = list(chain((image[place(18, 1) + 3], image[place(18, 1) + 4])))
+one = list(chain((image[place(18, 1) + 32 + 3], image[place(18, 1) + 32 + 4])))
+said = lambda places: " ".join("%d/%d" % it for it in sorted(places))
+print(said(big[2:]))
+print(said(big[2:] + one))
+shared = bytearray(image)
+shared[place(18, 1) + 32 + 3], shared[place(18, 1) + 32 + 4] = big[0]
+open("shared.d64", "wb").write(shared)
+print("%d/%d" % big[0])
+print(said(one))
+free = bytearray(image)
+track, sector = big[3]
+free[place(18, 0) + 4 * track + 1 + sector // 8] |= 1 << sector % 8
+open("free.d64", "wb").write(free)
+print("%d/%d" % big[3])
+print(track)
+END
+{ read -r rest; read -r others; read -r twice; read -r unused; read -r unmarked; read -r uncounted; } < flaws.txt
+case_of "check --all of a sound disk" 0 "sound" "" "$disk" check --all salvage.d64
+case_of "check --all, a sector that doesn't read" 1 "$track/$sector  the block is in use, but can't be read: checksum (error 23), in \"BIG\", 1 of its 4 blocks come before it
+lost: $rest
+can be mended: 2 lost blocks. can't: 1 file" "" "$disk" check --all checksum.d64
+case_of "check --all, a chain that is cut off" 1 "99/$after  a file's chain leads here, where no block of a file can be, in \"BIG\", 2 of its 4 blocks come before it
+lost: $others
+can be mended: 3 lost blocks. can't: 1 file" "" "$disk" check --all cut.d64
+case_of "check --all, a block that is used twice" 1 "$twice  the block is used twice, in \"ONE\", \"BIG\", 0 of its 1 blocks come before it
+lost: $unused
+can be mended: 1 lost block. can't: 1 file" "" "$disk" check --all shared.d64
+case_of "check --all, a block that is free in the map" 1 "$uncounted/0  the count of the track's free blocks isn't the number of blocks marked free
+$unmarked  the block is in use, but marked free, in \"BIG\", 3 of its 4 blocks come before it
+can be mended: the map" "" "$disk" check --all free.d64
+case_of "which validate mends" 0 "" "" "$disk" validate free.d64
+case_of "check --all as JSON" 1 '{"image":"shared.d64","sound":false,"flaws":[{"track":'"${twice%/*}"',"sector":'"${twice#*/}"',"number":3,"text":"the block is used twice","error":null,"files":["ONE","BIG"],"before":0,"mendable":false}],"lost":[{"track":'"${unused%/*}"',"sector":'"${unused#*/}"'}]}' "" "$disk" check --all --json shared.d64
+"$disk" check checksum.d64 > first.txt
+is "check names the first of them" test "$(cat first.txt)" = "track $track, sector $sector: the block is in use, but can't be read"
+case_of "check --all of several" 4 any "" "$disk" check --all salvage.d64 cut.d64
+is "with a line for all" test "$(tail -n 1 out.txt)" = "2 images: 1 sound, 1 not, 0 no images"
+
+# what validate refuses: the file at fault goes out of the directory, and then it doesn't
+cp cut.d64 before.d64
+case_of "validate of a cut chain" 1 "" "disk1541: cut.d64 can't be put in order: track 99, sector $after, error 66; \`disk1541 check --all cut.d64\` names the files at fault, \`disk1541 delete --force\` takes them out" "$disk" validate cut.d64
+case_of "put on it" 1 "" "disk1541: cut.d64 isn't sound, and so isn't changed: track 99, sector $after: a file's chain leads here, where no block of a file can be; \`disk1541 check --all cut.d64\` says what mends it" "$disk" put cut.d64 one.prg --name NEW
+case_of "delete --force of a file without fault" 1 "" "disk1541: nothing is deleted: no file at fault matches ONE" "$disk" delete --force cut.d64 ONE
+is "changes nothing" cmp -s cut.d64 before.d64
+case_of "delete --force" 0 "" "" "$disk" delete --force cut.d64 'B*'
+is "changes one byte, the type of the entry" test "$(cmp -l before.d64 cut.d64 | tr -s ' ' | sed 's/^ //')" = "91651 202 0"
+case_of "then validate puts it in order" 0 "" "" "$disk" validate cut.d64
+case_of "and it is sound" 0 "sound" "" "$disk" check --all cut.d64
+case_of "delete --force on it" 1 "" "disk1541: cut.d64 is sound: \`disk1541 delete\` without --force deletes its files" "$disk" delete --force cut.d64 ONE
+case_of "delete --force of one of two files that share a block" 0 "" "" "$disk" delete --force shared.d64 '*'
+case_of "takes the second one out" 0 "sound
+lost: $unused
+can be mended: 1 lost block" "" "$disk" check --all shared.d64
+case_of "and keeps the first" 0 any "" "$disk" get shared.d64 BIG
+is "byte for byte" cmp -s out.txt big.bin
+
+# a file that was deleted comes back, byte for byte and block for block; but not where a block of it is another's
+"$disk" new gone.d64 --title GONE --id 64
+"$disk" put gone.d64 big.bin one.prg
+cp gone.d64 before.d64
+"$disk" delete gone.d64 BIG
+case_of "list --deleted" 0 '"BIG", 4 blocks' "" "$disk" list --deleted gone.d64
+case_of "undelete" 0 "" "" "$disk" undelete gone.d64 'B*'
+is "gives the image as it was" cmp -s gone.d64 before.d64
+"$disk" delete gone.d64 BIG
+case_of "undelete as a sequential file" 0 "" "" "$disk" undelete gone.d64 BIG --type seq
+is "changes the type alone" test "$(cmp -l before.d64 gone.d64 | tr -s ' ' | sed 's/^ //')" = "91651 202 201"
+case_of "undelete of a file that is there" 1 "" "disk1541: no deleted file matches BIG" "$disk" undelete gone.d64 BIG
+"$disk" delete gone.d64 BIG
+cp gone.d64 lost.d64
+python3 - "$here" << 'END'
+import sys
+sys.path.insert(0, sys.argv[1])
+from generated_disks import place
+image = bytearray(open("lost.d64", "rb").read())
+image[place(18, 0) + 4 * 1] -= 1
+image[place(18, 0) + 4 * 1 + 1] &= 254
+open("lost.d64", "wb").write(image)
+END
+cp lost.d64 before.d64
+case_of "undelete on a disk with a lost block" 1 "" "disk1541: BIG isn't given back: a block of it isn't free any more, or blocks of the disk are lost" "$disk" undelete lost.d64 BIG
+is "changes nothing" cmp -s lost.d64 before.d64
+"$disk" new taken.d64 --title TAKEN --id 64 --replace
+"$disk" put taken.d64 one.prg big.bin
+"$disk" delete taken.d64 ONE BIG
+head -c 30000 noise.bin > many.bin
+"$disk" put taken.d64 many.bin
+cp taken.d64 before.d64
+case_of "undelete of what was written over" 1 "" "disk1541: BIG isn't given back: a block of it isn't free any more, or blocks of the disk are lost" "$disk" undelete taken.d64 BIG
+is "changes nothing" cmp -s taken.d64 before.d64
+case_of "undelete with a type that files don't have" 64 "" "disk1541: rom is no type of a file: take prg, seq, usr or rel" "$disk" undelete gone.d64 BIG --type rom
 
 # the bytes of a sector
 case_of "sector" 0 any "" "$disk" sector "$here/hello.d64" 18 1

@@ -33,16 +33,49 @@ is() {
 
 case_of "done" 0 "" "$drive" hello.d64 hello.script out.d64
 is "OUT equals IMAGE" cmp -s hello.d64 out.d64
-case_of "a bad line" 1 "script line 2 refused" "$drive" hello.d64 bad.script none.d64
+case_of "a bad line" 1 "script line 2 refused: it begins with none of open, put, fill, get, close, status" "$drive" hello.d64 bad.script none.d64
 is "what was printed before it stays" grep -q "^status 73,CBM DOS V2.6 1541,00,00$" out.txt
 is "OUT isn't written" test ! -e none.d64
-case_of "a truncated image" 2 "image refused: 1" "$drive" short.d64 hello.script none.d64
-case_of "no image" 3 "file fault: nothing.d64" "$drive" nothing.d64 hello.script none.d64
-case_of "no script" 3 "file fault: nothing.script" "$drive" hello.d64 nothing.script none.d64
+case_of "a truncated image" 2 "image refused: 1: it is no G64, nor of a D64's size" "$drive" short.d64 hello.script none.d64
+case_of "no image" 3 "file fault: nothing.d64: entity not found" "$drive" nothing.d64 hello.script none.d64
+case_of "no script" 3 "file fault: nothing.script: entity not found" "$drive" hello.d64 nothing.script none.d64
 case_of "a directory as script" 3 "file fault: ." "$drive" hello.d64 . none.d64
-case_of "no folder for OUT" 3 "file fault: no/out.d64" "$drive" hello.d64 hello.script no/out.d64
-case_of "a directory as OUT" 3 "file fault: ." "$drive" hello.d64 hello.script .
+case_of "no folder for OUT" 3 "file fault: no/out.d64: entity not found" "$drive" hello.d64 hello.script no/out.d64
+case_of "a directory as OUT" 3 "file fault: .: is a directory" "$drive" hello.d64 hello.script .
 case_of "too few words" 1 "" "$drive" hello.d64
+# Why a line is refused: each of these is line 2, and the first flaw that it has.
+reason_of() {
+    printf 'status\n%b\nstatus\n' "$1" > reason.script
+    case_of "a line that is refused: $2" 1 "script line 2 refused: $2" "$drive" hello.d64 reason.script none.d64
+}
+reason_of 'get 0 5000\r' "it ends with a carriage return, as lines of DOS do: save the script with line feeds alone, or send it through \`tr -d '\\r'\`"
+reason_of ' status' "it begins with a space: take that away"
+reason_of "status$(printf '%1000d' 0)" "it has more than 1,000 bytes"
+reason_of 'load 0' "it begins with none of open, put, fill, get, close, status"
+reason_of 'open 16 X' "a channel is wanted, 0 to 15, after one space"
+reason_of 'get 0  5' "after the channel get wants a count, 1 to 200000, and fill a count and two hexadecimal digits"
+reason_of 'fill 2 9 XX' "after the channel get wants a count, 1 to 200000, and fill a count and two hexadecimal digits"
+reason_of 'close 2 3' "nothing may stand after this request"
+reason_of 'put 2 a\\b' "its text has a byte that isn't from \$20 to \$7e, or a backslash without two of 0 to 9 and a to f (\\5c is a backslash)"
+printf 'lines\n5 atn pull\n4 atn free\nend 9\n' > early.script
+case_of "a change that comes too early" 1 "script line 3 refused: MOMENT LINE WAY is wanted, as 0 atn pull, not before the moment of the line before, and \`end MOMENT\` last" "$drive" hello.d64 early.script none.d64
+{ for k in $(seq 3000); do echo 'open 0 $'; done; echo 'bad line'; for k in $(seq 3000); do echo status; done; } > long.script
+case_of "a line behind many" 1 "script line 3001 refused: it begins with none of open, put, fill, get, close, status" "$drive" hello.d64 long.script none.d64
+
+# standard input and output, and nothing saved
+case_of "no OUT" 0 "" "$drive" hello.d64 hello.script
+cp out.txt printed.txt
+case_of "a dry run" 0 "" "$drive" hello.d64 hello.script none.d64 --dry-run
+is "prints the same" cmp -s out.txt printed.txt
+is "and saves nothing" test ! -e none.d64
+case_of "a script from standard input" 0 "" sh -c "$drive hello.d64 - < hello.script"
+is "is carried out" cmp -s out.txt printed.txt
+case_of "an image from standard input" 0 "" sh -c "$drive - hello.script piped.d64 < hello.d64"
+is "is taken, and saved" cmp -s hello.d64 piped.d64
+case_of "an image to standard output" 0 "$(cat printed.txt)" "$drive" hello.d64 hello.script -
+is "is there alone" cmp -s hello.d64 out.txt
+case_of "both from standard input" 1 "error: \`-\` is IMAGE or SCRIPT, and not both" "$drive" - - none.d64
+case_of "a bad line of standard input" 1 "script line 1 refused: it begins with a space: take that away" sh -c "echo ' status' | $drive hello.d64 -"
 case_of "help" 0 "" "$drive" --help
 case_of "the version" 0 "" "$drive" --version
 is "is told" grep -q "^drive1541 [0-9]*\.[0-9]*\.[0-9]*$" out.txt
@@ -104,7 +137,7 @@ case_of "a link to a link to nothing as OUT" 0 "" "$drive" hello.d64 hello.scrip
 is "both stay links" test -L first.d64 -a -L folder/second.d64
 is "and the file where they lead is the image" cmp -s hello.d64 new.d64
 ln -s gone/new.d64 lost.d64
-case_of "a link into no folder as OUT" 3 "file fault: lost.d64" "$drive" hello.d64 hello.script lost.d64
+case_of "a link into no folder as OUT" 3 "file fault: lost.d64: entity not found" "$drive" hello.d64 hello.script lost.d64
 is "it stays a link too" test -L lost.d64
 
 long=$(printf '%0251d' 0).d64
@@ -124,13 +157,13 @@ chmod 777 "$work"
 cp "$drive" drive1541
 other=
 if [ "$(id -u)" = 0 ]; then other="setpriv --reuid 65534 --regid 65534 --clear-groups"; fi
-case_of "an OUT that may not be written" 3 "file fault: locked.d64" $other ./drive1541 hello.d64 hello.script locked.d64
+case_of "an OUT that may not be written" 3 "file fault: locked.d64: permission denied" $other ./drive1541 hello.d64 hello.script locked.d64
 is "what it was stays" test "$(cat locked.d64)" = old
 case_of "a new OUT beside it" 0 "" $other ./drive1541 hello.d64 hello.script free.d64
 is "and nothing is left beside them" test ! -e drive1541.0.new
 
 printf old > small.d64
-case_of "a limit on the file's size" 3 "file fault: small.d64" sh -c "trap '' XFSZ; ulimit -f 100; exec $drive hello.d64 hello.script small.d64"
+case_of "a limit on the file's size" 3 "file fault: small.d64: file too large" sh -c "trap '' XFSZ; ulimit -f 100; exec $drive hello.d64 hello.script small.d64"
 is "what OUT was stays" test "$(cat small.d64)" = old
 is "and nothing is left beside" test ! -e drive1541.0.new
 # The image alone is more than the limit, so that it is no page of the stack that isn't there: that would end any program.
@@ -157,6 +190,10 @@ if command -v cc > /dev/null; then
     done
 fi
 case_of "a limit on memory" 3 "no memory" sh -c "ulimit -v 20000; exec $drive big.d64 hello.script none.d64"
+is "each line of standard input is carried out at once" sh -c "(printf 'status\n'; sleep 1; cmp -s seen.txt - <<X || touch late
+status 73,CBM DOS V2.6 1541,00,00
+X
+printf 'status\n') | $drive hello.d64 - > seen.txt && test ! -e late"
 is "each line is seen at once" sh -c "(printf 'status\n'; sleep 1; cmp -s seen.txt - <<X || touch late
 status 73,CBM DOS V2.6 1541,00,00
 X
