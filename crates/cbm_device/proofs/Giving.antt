@@ -6,8 +6,8 @@ use Rattle.cbm_device.specs.declared.refusal.Refusal.TheVariants.{Memory, Invali
 use Rattle.cbm_file.specs.Files.{Disk}
 use Rattle.cbm_channel.specs.Machines.{Machine}
 use Rattle.cbm_volume.specs.Holding.{HoldsDisk}
-use Rattle.cbm_program.specs.Images.{kind_of, content_of, ImageHolds}
-use Rattle.cbm_program.specs.declared.kind.Kind.{Kind}
+use Rattle.cbm_image.specs.Images.{kind_of, content_of, ImageHolds}
+use Rattle.cbm_image.specs.declared.kind.Kind.{Kind}
 use Rattle.cbm_device.specs.Devices.{OnLines, IsImageFrom, IsUnsaved}
 use Rattle.cbm_device.specs.ImageDisks.{Counted, seen_of, IsImageIn}
 use Rattle.cbm_device.specs.Making.{IsUnmade}

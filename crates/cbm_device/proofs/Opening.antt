@@ -4,7 +4,7 @@ use Rattle.cbm_medium.specs.Content.{Content}
 use Rattle.cbm_file.specs.Files.{Disk}
 use Rattle.cbm_channel.specs.Machines.{start}
 use Rattle.cbm_volume.specs.Holding.{HoldsDisk}
-use Rattle.cbm_program.specs.Images.{kind_of, tracks_of, content_of, ImageHolds}
+use Rattle.cbm_image.specs.Images.{kind_of, tracks_of, content_of, ImageHolds}
 use Rattle.cbm_device.specs.ImageDisks.{Counted, seen_of, IsDiskOf}
 
 -- what holds of what the disk shows holds of its image

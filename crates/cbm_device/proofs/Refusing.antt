@@ -5,7 +5,7 @@ use Rattle.cbm_file.specs.Files.{Disk}
 use Rattle.cbm_channel.specs.Codes.{code_number}
 use Rattle.cbm_channel.specs.declared.Status as status
 use Rattle.cbm_channel.specs.Machines.{Machine}
-use Rattle.cbm_program.specs.Images.{kind_of, tracks_of, content_of}
+use Rattle.cbm_image.specs.Images.{kind_of, tracks_of, content_of}
 use Rattle.cbm_shell.specs.declared.changing.Change.{Change}
 use Rattle.cbm_shell.specs.declared.fault.ShellFault.{ShellFault}
 use Rattle.cbm_shell.specs.declared.fault.ShellFault.TheVariants as fault

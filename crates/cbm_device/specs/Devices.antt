@@ -16,8 +16,8 @@ use Rattle.cbm_drive.specs.Desks.{Desk, DeskStands, at_first, with_pace, desk_st
 use Rattle.cbm_drive.specs.Playback.{IsActed}
 use Rattle.cbm_drive.specs.Seats.{Seated}
 use Rattle.cbm_volume.specs.Holding.{HoldsDisk}
-use Rattle.cbm_program.specs.Images.{kind_of, tracks_of, ImageHolds}
-use Rattle.cbm_program.specs.declared.kind.Kind.{Kind}
+use Rattle.cbm_image.specs.Images.{kind_of, tracks_of, ImageHolds}
+use Rattle.cbm_image.specs.declared.kind.Kind.{Kind}
 use Rattle.cbm_device.specs.declared.refusal.Refusal.{Refusal}
 use Rattle.cbm_device.specs.declared.refusal.Refusal.TheVariants.{Memory, Invalid, NoRoom, Absent, NoImage, Unsound, NoDrive, Status}
 use Rattle.cbm_device.specs.Answers.{Gives}

@@ -9,9 +9,9 @@ use Rattle.cbm_d64.specs.Faults as d64_faults
 use Rattle.cbm_g64.specs.Tracks as g64
 use Rattle.cbm_g64.specs.Outer.{no_outer}
 use Rattle.cbm_g64.specs.Faults as g64_faults
-use Rattle.cbm_program.specs.Images.{kind_of, image_fault, tracks_of, content_of, IsOf}
-use Rattle.cbm_program.specs.declared.kind.Kind.{Kind}
-use Rattle.cbm_program.specs.declared.kind.Kind.TheVariants as kind
+use Rattle.cbm_image.specs.Images.{kind_of, image_fault, tracks_of, content_of, IsOf}
+use Rattle.cbm_image.specs.declared.kind.Kind.{Kind}
+use Rattle.cbm_image.specs.declared.kind.Kind.TheVariants as kind
 use Rattle.cbm_device.specs.declared.image_disk.Sectors.{Sectors}
 use Rattle.cbm_device.specs.declared.image_disk.Sectors.TheVariants.{D64, G64, Blank}
 use Rattle.cbm_device.specs.declared.refusal.Refusal.{Refusal}

@@ -14,7 +14,7 @@ use Rattle.cbm_channel.specs.Machines.{Machine}
 use Rattle.cbm_shell.specs.Listing.{opened}
 use Rattle.cbm_shell.specs.Reading.{IsUnclosed, HasRecords}
 use Rattle.cbm_medium.specs.declared.fault.Trouble.{Trouble}
-use Rattle.cbm_program.specs.Images.{kind_of, image_fault, tracks_of, content_of}
+use Rattle.cbm_image.specs.Images.{kind_of, image_fault, tracks_of, content_of}
 use Rattle.cbm_device.specs.declared.looking.Heading.{Heading}
 use Rattle.cbm_device.specs.declared.refusal.Refusal.{Refusal}
 use Rattle.cbm_device.specs.declared.refusal.Refusal.TheVariants.{Memory, Invalid, NoRoom, Absent, NoImage, Unsound, NoDrive, Status}

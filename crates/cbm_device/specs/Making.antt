@@ -5,7 +5,7 @@ use Rattle.cbm_channel.specs.Codes.{code_number}
 use Rattle.cbm_channel.specs.Machines.{Machine}
 use Rattle.cbm_channel.specs.Closing.{close}
 use Rattle.cbm_channel.specs.Calls.{after_open}
-use Rattle.cbm_program.specs.Scripts.{hear}
+use Rattle.cbm_talk.specs.Talks.{hear}
 use Rattle.cbm_device.specs.declared.refusal.Refusal.{Refusal}
 use Rattle.cbm_device.specs.declared.refusal.Refusal.TheVariants as why
 use Rattle.cbm_device.specs.ImageDisks.{IsOpenRefusal}

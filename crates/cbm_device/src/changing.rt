@@ -2,14 +2,14 @@
 ghost use Rattle.std.specs.Prelude.{◌≡◌, false, MatchResult};
 ghost use Rattle.cbm_file.specs.Files.{Disk};
 ghost use Rattle.cbm_channel.specs.Machines.{start};
-ghost use Rattle.cbm_program.specs.Images.{kind_of, tracks_of, ImageHolds};
+ghost use Rattle.cbm_image.specs.Images.{kind_of, tracks_of, ImageHolds};
 ghost use Rattle.cbm_shell.specs.Changing.{begun, after_change, IsFine};
 ghost use Rattle.cbm_device.specs.Looking.{IsAccepted, IsSound};
 ghost use Rattle.cbm_device.specs.Making.{IsUnmade, IsUnchanged};
 
 use crate::image_disk::ImageDisk;
 use crate::refusal::Refusal;
-use cbm_program::kind_of;
+use cbm_image::kind_of;
 use cbm_shell::{Change, changed};
 use std::alloc::Global;
 

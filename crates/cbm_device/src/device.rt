@@ -20,7 +20,7 @@ use crate::image_disk::ImageDisk;
 use crate::refusal::Refusal;
 use crate::room::given;
 use cbm_drive::{Desk, Drive, Held, Lines, Party};
-use cbm_program::{Kind, kind_of};
+use cbm_image::{Kind, kind_of};
 use std::alloc::Global;
 use std::marker::Model;
 

@@ -3,7 +3,7 @@ ghost use Rattle.std.specs.Prelude.{◌≡◌, ◌≤◌, None, IfOk, IfErr, IfS
 ghost use Rattle.cbm_medium.specs.Place.{directory_head};
 ghost use Rattle.cbm_medium.specs.Content.{written, blank, format_refusal};
 ghost use Rattle.cbm_medium.specs.Seen.{with_content, write_refusal, IsRefused};
-ghost use Rattle.cbm_program.specs.Images.{kind_of, image_fault, IsOf};
+ghost use Rattle.cbm_image.specs.Images.{kind_of, image_fault, IsOf};
 ghost use Rattle.cbm_device.specs.ImageDisks.{no_disk, shown_by, IsDiskOf, IsOpenRefusal, IsImageIn};
 
 use crate::refusal::Refusal;
@@ -11,7 +11,7 @@ use cbm_d64::D64Disk;
 use cbm_g64::G64Disk;
 use cbm_medium::codes::WRITE_PROTECT_ON;
 use cbm_medium::{Address, Fault, Medium, Steady};
-use cbm_program::{DiskImage, Kind, RunFault, kind_of};
+use cbm_image::{DiskImage, ImageFault, Kind, kind_of};
 use std::alloc::Global;
 use std::marker::Model;
 
@@ -50,8 +50,8 @@ fn opened<I: DiskImage>(alloc: Global, image: &[u8], protected: bool) -> Result<
 {
     match I::open(alloc, image, protected) {
         Ok(disk) => Ok(disk),
-        Err(RunFault::Image(_)) => Err(Refusal::NoImage),
-        Err(_) => Err(Refusal::Memory),
+        Err(ImageFault::Format(_)) => Err(Refusal::NoImage),
+        Err(ImageFault::Memory) => Err(Refusal::Memory),
     }
 }
 

@@ -21,7 +21,6 @@ pub mod Fronts
 pub mod Answering
 pub mod Settling
 pub mod CarriedOut
-pub mod Spoken
 pub mod Statuses
 pub mod Serving
 pub mod Progress

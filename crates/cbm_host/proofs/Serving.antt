@@ -19,7 +19,7 @@ use Rattle.cbm_drive.specs.Desks.{Desk, talked_to, seconded, desk_step, desk_say
 use Rattle.cbm_drive.specs.declared.secondary.Secondary.{Secondary}
 use Rattle.cbm_drive.specs.declared.secondary.Secondary.TheVariants.{Data, Close as CloseOf, Open as OpenOf}
 use Rattle.cbm_file.specs.Waiting.{shown}
-use Rattle.cbm_host.proofs.Spoken.{says_from, none_said}
+use Rattle.cbm_talk.proofs.Spoken.{says_from, none_said}
 use Rattle.cbm_host.proofs.Statuses.{left_behind, enough, left_short}
 use Rattle.cbm_host.specs.Attentions.{listen as listen_to, unlisten, talk as talk_to, untalk, data_on, open_on}
 use Rattle.cbm_host.specs.CarriedOut.{heard, spoken, said, called, left_by, acts_of, IsTakenUpTo, IsTakenBy, SaysOn, IsShort}

@@ -1,4 +1,5 @@
 -- The status as it is read to its end.
+pub use Rattle.cbm_talk.proofs.Spoken.{says_from}
 use Rattle.std.proofs.Common.{◌≡◌, ℕ, zero, suc, ◌+◌, ◌-◌, ◌≤◌, List, [], ◌∷◌, ◌++◌, length, drop, ap, sym, ◌∙◌, arith, length-drop, drop-drop, true, if◌then◌else◌}
 use Rattle.std.specs.Prelude.{nat_lt}
 use Rattle.cbm_channel.specs.declared.Code.{Code}
@@ -10,7 +11,7 @@ use Rattle.cbm_channel.specs.Machines.{Machine, say}
 use Rattle.cbm_channel.specs.Talking.{taken}
 use Rattle.cbm_file.specs.Waiting.{shown}
 use Rattle.cbm_host.specs.Served.{says}
-use Rattle.cbm_host.proofs.Spoken.{says_from, none_said}
+use Rattle.cbm_talk.proofs.Spoken.{none_said}
 
 text_short : (c : Code) → length (code_text c) ≤ 23
 text_short Fine = omega arith

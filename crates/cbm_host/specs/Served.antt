@@ -1,53 +1,19 @@
 -- What a request asks of the named-files machine of the drive, and what that says.
-use Rattle.std.specs.Prelude.{◌≡◌, ◌≤◌, ℕ, zero, suc, Bool, true, false, List, [], ◌∷◌, ◌++◌, length, replicate, if◌then◌else◌, Some, None}
-use Rattle.cbm_channel.specs.Statuses.{status_line}
+pub use Rattle.cbm_talk.specs.Talks.{puts, hear, Said, says, talked, status_said}
+use Rattle.std.specs.Prelude.{◌≡◌, ◌≤◌, ℕ, Bool, false, List, [], length, replicate}
 use Rattle.cbm_channel.specs.Machines.{Machine}
 use Rattle.cbm_channel.specs.Closing.{close}
-use Rattle.cbm_channel.specs.Talking.{peek, taken, talk, listen}
 use Rattle.cbm_iec.specs.declared.pace.Pace.{Pace}
-use Rattle.cbm_channel.specs.Calls.{put, end_put, after_open}
+use Rattle.cbm_channel.specs.Calls.{after_open}
 use Rattle.cbm_drive.specs.Desks.{Desk, at_first, with_pace, talked_to}
 use Rattle.cbm_host.specs.CarriedOut.{AreBytes}
 use Rattle.cbm_host.specs.Engines.{sent_by, most_bytes}
 use Rattle.cbm_host.specs.declared.request.Request.{Request}
 use Rattle.cbm_host.specs.declared.request.Request.TheVariants.{Open, Put, Fill, Get, Close, Status}
 
--- bytes are put one after another
-abbrev pub puts : ℕ → List ℕ → Machine → Machine
-puts ch [] m = m
-puts ch (b ∷ bytes) m = puts ch bytes (put ch b m)
-
--- a channel listens, takes the bytes, and their end
-abbrev pub hear : ℕ → List ℕ → Machine → Machine
-hear ch bytes m = end_put ch (puts ch bytes (listen ch m))
-
--- what a channel said: the bytes, whether the last of them was marked so, and the machine behind them
-pub record Said : Type 0 where
-  pub bytes : List ℕ
-  pub marked : Bool
-  pub machine : Machine
-
--- Up to so many bytes, behind those so far. The byte that is marked as the last one ends them.
-abbrev pub says : ℕ → ℕ → List ℕ → Machine → Said
-says zero ch so_far m = record { bytes = so_far; marked = false; machine = m }
-says (suc n) ch so_far m = elim (peek ch m) [
-  | None ↦ record { bytes = so_far; marked = false; machine = m }
-  | Some p ↦
-      if p.1 then record { bytes = so_far ++ p.0 ∷ []; marked = true; machine = taken ch m }
-      else says n ch (so_far ++ p.0 ∷ []) (taken ch m)
-]
-
--- a channel talks: up to so many bytes
-abbrev pub talked : ℕ → ℕ → Machine → Said
-talked ch most m = says most ch [] (talk ch m)
-
 -- the same of a drive of this pace: at a KERNAL's an error stays that nobody has begun to read
 abbrev pub talked_at : Pace → ℕ → ℕ → Machine → Said
 talked_at pace ch most m = says most ch [] (talked_to pace ch m)
-
--- the status line to its end
-abbrev pub status_said : Machine → Said
-status_said m = talked 15 (length (status_line m.status)) m
 
 -- nothing is said
 abbrev pub unsaid : Machine → Said

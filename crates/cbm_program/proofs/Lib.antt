@@ -20,6 +20,4 @@ pub mod Playing
 pub mod TimedLines
 pub mod TraceLemmas
 pub mod StartLemmas
-pub mod GcrImages
-pub mod ImageSizes
 pub mod ReadingBack

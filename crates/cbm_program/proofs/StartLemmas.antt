@@ -13,8 +13,9 @@ use Rattle.cbm_program.specs.Scripts.{printed}
 use Rattle.std.specs.Io.KnownBytes.{Appends}
 use Rattle.cbm_program.specs.Output.{AppendsPart, Grows, Prints, PrintsPart}
 use Rattle.cbm_program.specs.Running.{script_of, EndsAs, EndsBy}
-use Rattle.cbm_program.specs.declared.kind.Kind.{Kind}
-use Rattle.cbm_program.specs.Images.{StartsOn, tracks_of, content_of, ImageHolds, IsOf}
+use Rattle.cbm_image.specs.declared.kind.Kind.{Kind}
+use Rattle.cbm_image.specs.Images.{tracks_of, content_of, ImageHolds, IsOf}
+use Rattle.cbm_program.specs.Starts.{StartsOn}
 use Rattle.cbm_program.proofs.OutputLemmas.{appends-nothing, appends-more, part_behind, part_before, whole_part}
 use Rattle.cbm_program.specs.Checking.{checked_text, IsCheckPrinted, IsCheckedFirst, printed_behind}
 use Rattle.cbm_program.proofs.RunLemmas.{Ended, Begun}

@@ -6,8 +6,7 @@ use Rattle.cbm_drive.specs.Calls.{without_return}
 use Rattle.cbm_drive.specs.Machines.{Machine}
 use Rattle.cbm_drive.specs.Statuses.{status_line}
 use Rattle.cbm_drive.specs.Talking.{peek, taken, talk}
-use Rattle.cbm_host.proofs.Spoken.{says_from}
-use Rattle.cbm_host.proofs.Statuses.{line_short}
+use Rattle.cbm_host.proofs.Statuses.{says_from, line_short}
 use Rattle.cbm_host.specs.Hosted.{AreFirst}
 use Rattle.cbm_program.specs.Output.{AppendsPart}
 use Rattle.cbm_program.specs.Scripts.{Said, says, status_said, status_text}

@@ -9,7 +9,7 @@ pub mod Units
 pub mod Running
 pub mod Spelling
 pub mod Checking
-pub mod Images
+pub mod Starts
 pub mod Timed
 pub mod Timetables
 pub mod Beginnings

@@ -10,7 +10,8 @@ use Rattle.cbm_program.specs.Running.{script_of, EndsAs}
 use Rattle.cbm_program.specs.Checking.{printed_behind, checked_text, IsCheckedFirst}
 use Rattle.cbm_program.specs.Timetables.{of_requests, of_changes, timetable_of}
 use Rattle.cbm_program.specs.Traces.{PrintsTrace, PrintsTracePart}
-use Rattle.cbm_program.specs.Images.{kind_of, image_fault, tracks_of, content_of, ImageHolds, Begins}
+use Rattle.cbm_image.specs.Images.{kind_of, image_fault, tracks_of, content_of, ImageHolds}
+use Rattle.cbm_program.specs.Starts.{Begins}
 
 -- WHAT A RUN PROMISES of a drive of this pace on an image of these bytes: `items` are the bytes of the image that it gives back, `input` is what the
 -- reader still had to give, and `old` and `new` are what the writer held before the run and behind it, as far as they are known.

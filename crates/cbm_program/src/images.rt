@@ -1,32 +1,33 @@
 //! Running a script on the disk of an image.
-ghost use Rattle.std.specs.Prelude.{◌≡◌, ◌≢◌, ◌≤◌, ℕ, [], true, IfSome, IfOk, IfErr, OnErr};
+ghost use Rattle.std.specs.Prelude.{◌≡◌, ◌≢◌, ◌≤◌, ℕ, [], true, Err, IfSome, IfOk, IfErr, OnErr};
 ghost use Rattle.cbm_host.specs.Hosted.{party_of};
 ghost use Rattle.cbm_iec.specs.declared.pace.Pace.TheVariants.{Profile};
 ghost use Rattle.cbm_program.specs.Checking.{printed_behind, checked_text, IsCheckedFirst};
 ghost use Rattle.cbm_program.specs.Output.{Grows, Prints, PrintsPart};
 ghost use Rattle.cbm_program.specs.Running.{script_of, EndsAs};
 ghost use Rattle.cbm_program.specs.Scripts.{printed};
-ghost use Rattle.cbm_program.specs.Images.{kind_of, StartsFrom, KeptBy};
+ghost use Rattle.cbm_image.specs.Images.{kind_of, image_fault, IsOf};
+ghost use Rattle.cbm_program.specs.Starts.{StartsFrom, KeptBy, IsRefusal};
 ghost use Rattle.cbm_program.specs.Outcome.{IsOutcome};
 ghost use Rattle.cbm_program.specs.Timetables.{of_requests, of_changes, timetable_of};
 ghost use Rattle.cbm_program.specs.Traces.{PrintsTrace, PrintsTracePart};
 
 use crate::fault::RunFault;
-use crate::kind::{Kind, kind_of};
 use crate::lines::Lines;
 use crate::numbered::{Beginning, read_first};
 use cbm_d64::D64Disk;
 use cbm_drive::Pace;
 use cbm_g64::G64Disk;
+use cbm_image::{DiskImage, ImageFault, Kind, kind_of};
 use cbm_volume::Volume;
 use std::alloc::Global;
 use std::io::{Read, Write};
 
 mod checking;
-mod disk_image;
+mod scripted;
 
 use checking::print_check;
-pub use disk_image::DiskImage;
+use scripted::RunsScripts;
 
 /// How a run is made.
 #[derive(Clone, Copy, Debug, PartialEq, Eq)]
@@ -41,7 +42,7 @@ pub struct Options {
 
 /// Runs a script on a drive of this pace at power up with this medium, and gives the medium back with what the script wrote.
 /// Its first line says whether it asks for files or changes lines.
-fn run_script<M: DiskImage + Drop, R: Read + Drop, W: Write>(
+fn run_script<M: RunsScripts + Drop, R: Read + Drop, W: Write>(
     medium: M,
     device: u8,
     pace: Pace,
@@ -82,7 +83,7 @@ fn run_script<M: DiskImage + Drop, R: Read + Drop, W: Write>(
 
 /// Runs a script on a drive at power up with this medium, behind the line of its check if one is asked for, and gives the medium
 /// back with what the script wrote.
-fn run_with<M: DiskImage + Drop, R: Read + Drop, W: Write>(
+fn run_with<M: RunsScripts + Drop, R: Read + Drop, W: Write>(
     medium: M,
     checks: bool,
     device: u8,
@@ -123,8 +124,30 @@ fn run_with<M: DiskImage + Drop, R: Read + Drop, W: Write>(
     run_script(volume.into_medium(), device, pace, reader, writer)
 }
 
+/// The disk of an image of one format. Errors: `Image` with the number of the format's first fault, or `Memory`.
+fn opened<I: DiskImage>(alloc: Global, image: &[u8], protected: bool) -> Result<I, RunFault>
+    ensures ok { IfOk result (λ d. IsOf I.kind image.now (I.seen d).tracks (I.seen d).content
+        × ((I.seen d).protected ≡ protected)) }
+    ensures refused { IfSome (image_fault I.kind image.now) (λ n. result ≡ Err (RunFault.Image n)) }
+    ensures cause { IfErr result (IsRefusal (image_fault I.kind image.now)) }
+{
+    match I::open(alloc, image, protected) {
+        Ok(disk) => Ok(disk),
+        Err(ImageFault::Format(number)) => Err(RunFault::Image(number)),
+        Err(ImageFault::Memory) => Err(RunFault::Memory),
+    }
+}
+
+/// The image of a disk. The one error is `Memory`.
+fn saved<I: DiskImage>(alloc: Global, disk: &I) -> Result<Vec<u8>, RunFault>
+    ensures ok { IfOk result (λ image. IsOf I.kind image.items (I.seen disk.now).tracks (I.seen disk.now).content) }
+    ensures err { IfErr result (λ fault. fault ≡ RunFault.Memory) }
+{
+    disk.save(alloc).map_err(|_| RunFault::Memory)
+}
+
 /// Runs a script on the disk of an image of one format, with a drive of this pace.
-fn run_image<I: DiskImage + Drop, R: Read + Drop, W: Write>(
+fn run_image<I: RunsScripts + Drop, R: Read + Drop, W: Write>(
     alloc: Global,
     pace: Pace,
     reader: R,
@@ -138,9 +161,9 @@ fn run_image<I: DiskImage + Drop, R: Read + Drop, W: Write>(
     ensures { IsOutcome result (λ v. v.items) pace image.now options.now.protected options.now.check options.now.device
         (R.remaining reader) (W.contents writer.old) (W.contents writer.new) }
 {
-    let disk = I::open(alloc, image, options.protected)?;
+    let disk = opened::<I>(alloc, image, options.protected)?;
     let disk = run_with(disk, options.check, options.device, pace, reader, writer)?;
-    disk.save(alloc)
+    saved(alloc, &disk)
 }
 
 /// Runs a script on the disk of an image, and gives the image as it is then, with all that the script wrote: of the

@@ -3,7 +3,6 @@
 
 mod fault;
 mod images;
-mod kind;
 mod line;
 mod lines;
 mod numbered;
@@ -17,8 +16,7 @@ mod word;
 
 pub use cbm_drive::Pace;
 pub use fault::RunFault;
-pub use images::{DiskImage, Options, run, run_at};
-pub use kind::{Kind, kind_of};
+pub use images::{Options, run, run_at};
 pub use line::{Line, parse};
 pub use lines::{LineFault, Lines};
 pub use request::{Request, Text};

@@ -5,7 +5,7 @@ ghost use Rattle.cbm_file.specs.Files.{Disk};
 ghost use Rattle.cbm_drive.specs.Machines.{start};
 ghost use Rattle.cbm_medium.specs.Content.{Content};
 ghost use Rattle.cbm_volume.specs.Holding.{HoldsDisk};
-ghost use Rattle.cbm_program.specs.Images.{StartsOn};
+ghost use Rattle.cbm_program.specs.Starts.{StartsOn};
 ghost use Rattle.cbm_program.specs.Lines.{bytes_left};
 ghost use Rattle.cbm_program.specs.Scripts.{printed};
 ghost use Rattle.cbm_program.specs.Output.{Grows, Prints, PrintsPart};

@@ -10,9 +10,9 @@ use Rattle.cbm_d64.specs.Image.{content_of, cell_of, code_of, error_at}
 use Rattle.cbm_d64.proofs.Sectors.{content_on_disk}
 use Rattle.cbm_g64.specs.File.{fault_of}
 use Rattle.cbm_g64.specs.Tracks.{or_zeros}
-use Rattle.cbm_program.specs.declared.kind.Kind.{Kind}
-use Rattle.cbm_program.specs.declared.kind.Kind.TheVariants.{D64, G64}
-use Rattle.cbm_program.specs.Images.{kind_of}
+use Rattle.cbm_image.specs.declared.kind.Kind.{Kind}
+use Rattle.cbm_image.specs.declared.kind.Kind.TheVariants.{D64, G64}
+use Rattle.cbm_image.specs.Images.{kind_of}
 use Rattle.cbm_shell.proofs.NewImages.{has_kind, some_track, bytes_of}
 
 -- a new G64 has no fault, and so is none that would be taken for a D64

@@ -6,8 +6,8 @@ use Rattle.cbm_volume.specs.Map.{geometry_of}
 use Rattle.cbm_volume.specs.check.WholeDisk.{DiskFault}
 use Rattle.cbm_volume.specs.declared.Unsound.{Unsound}
 use Rattle.cbm_directory.specs.EntryChanges.{ClearsLed}
-use Rattle.cbm_program.specs.declared.kind.Kind.{Kind}
-use Rattle.cbm_program.specs.Images.{kind_of, tracks_of, content_of}
+use Rattle.cbm_image.specs.declared.kind.Kind.{Kind}
+use Rattle.cbm_image.specs.Images.{kind_of, tracks_of, content_of}
 use Rattle.cbm_shell.specs.Images.{IsOpened}
 use Rattle.cbm_shell.specs.Forgetting.{IsForgotten}
 use Rattle.cbm_shell.proofs.ImageLemmas.{of_image}

@@ -2,9 +2,9 @@
 use Rattle.std.proofs.Common.{◌≡◌, ℕ, List, length, Bool, true, false, Some, None, ap}
 use Rattle.std.specs.Prelude.{if◌then◌else◌}
 use Rattle.std.proofs.lemmas.Bool.{true≢false}
-use Rattle.cbm_program.specs.declared.kind.Kind.{Kind}
-use Rattle.cbm_program.specs.declared.kind.Kind.TheVariants.{D64, G64}
-use Rattle.cbm_program.specs.Images.{image_fault}
+use Rattle.cbm_image.specs.declared.kind.Kind.{Kind}
+use Rattle.cbm_image.specs.declared.kind.Kind.TheVariants.{D64, G64}
+use Rattle.cbm_image.specs.Images.{image_fault}
 use Rattle.cbm_shell.specs.Foreign.{is_ours}
 
 pub refused_first : (kind : Kind) (image : List ℕ) → is_ours kind (length image) ≡ false → image_fault kind image ≡ Some 1

@@ -3,8 +3,6 @@ pub mod KeyLemmas
 pub mod NameLemmas
 pub mod ReadableLemmas
 pub mod ReadingLemmas
-pub mod PutLemmas
-pub mod SayingLemmas
 pub mod GetLemmas
 pub mod ChangeLemmas
 pub mod ImageLemmas

@@ -1,9 +1,9 @@
 -- Files that are no image of a 1541's disk, by their first bytes and their size.
 use Rattle.std.specs.Prelude.{ℕ, ◌==◌, nat_lt, nat_eq, ◌||◌, Bool, true, if◌then◌else◌, List, [], ◌∷◌, length, take, codes, Option, Some, None}
 use Rattle.std.specs.Str.{bytes_eq}
-use Rattle.cbm_program.specs.declared.kind.Kind.{Kind}
-use Rattle.cbm_program.specs.declared.kind.Kind.TheVariants.{D64, G64}
-use Rattle.cbm_program.specs.Images.{kind_of}
+use Rattle.cbm_image.specs.declared.kind.Kind.{Kind}
+use Rattle.cbm_image.specs.declared.kind.Kind.TheVariants.{D64, G64}
+use Rattle.cbm_image.specs.Images.{kind_of}
 use Rattle.cbm_shell.specs.declared.formats.Foreign.{Foreign}
 use Rattle.cbm_shell.specs.declared.formats.Foreign.TheVariants.{T64, P64, Nib, Gzip, D71, D81, Longest, LongWithErrors, Short, Unknown}
 

@@ -4,8 +4,8 @@ use Rattle.cbm_medium.specs.Place.{Place, sectors_on, directory_head}
 use Rattle.cbm_medium.specs.Content.{Content}
 use Rattle.cbm_volume.specs.Map.{geometry_of}
 use Rattle.cbm_volume.specs.Slots.{directory_of}
-use Rattle.cbm_program.specs.declared.kind.Kind.{Kind}
-use Rattle.cbm_program.specs.Images.{tracks_of, content_of}
+use Rattle.cbm_image.specs.declared.kind.Kind.{Kind}
+use Rattle.cbm_image.specs.Images.{tracks_of, content_of}
 use Rattle.cbm_shell.specs.Mapping.{free_by, entries_in, is_among}
 use Rattle.cbm_shell.specs.Geos.{geos_places}
 

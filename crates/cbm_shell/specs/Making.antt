@@ -5,9 +5,9 @@ use Rattle.cbm_medium.specs.Seen.{Seen}
 use Rattle.cbm_file.specs.Files.{Disk, blocks_on}
 use Rattle.cbm_file.specs.Padding.{padded}
 use Rattle.cbm_volume.specs.Holding.{HoldsDisk}
-use Rattle.cbm_program.specs.declared.kind.Kind.{Kind}
-use Rattle.cbm_program.specs.declared.kind.Kind.TheVariants as kind
-use Rattle.cbm_program.specs.Images.{kind_of, image_fault, tracks_of, content_of, ImageHolds}
+use Rattle.cbm_image.specs.declared.kind.Kind.{Kind}
+use Rattle.cbm_image.specs.declared.kind.Kind.TheVariants as kind
+use Rattle.cbm_image.specs.Images.{kind_of, image_fault, tracks_of, content_of, ImageHolds}
 use Rattle.cbm_shell.specs.declared.making.Form.{Form}
 use Rattle.cbm_shell.specs.declared.making.Form.TheVariants as form
 

@@ -5,7 +5,7 @@ use Rattle.cbm_channel.specs.Codes.{code_number}
 use Rattle.cbm_channel.specs.Machines.{Machine}
 use Rattle.cbm_channel.specs.Closing.{close}
 use Rattle.cbm_channel.specs.Calls.{after_open}
-use Rattle.cbm_program.specs.Scripts.{hear}
+use Rattle.cbm_talk.specs.Talks.{hear}
 use Rattle.cbm_shell.specs.declared.fault.ShellFault.{ShellFault}
 use Rattle.cbm_shell.specs.declared.fault.ShellFault.TheVariants as fault
 use Rattle.cbm_shell.specs.Images.{OrOpenFault}

@@ -9,8 +9,8 @@ use Rattle.cbm_volume.specs.Entries.{type_byte, first_block, EntersLed}
 use Rattle.cbm_volume.specs.Slots.{Answers, directory_of}
 use Rattle.cbm_volume.specs.Map.{geometry_of}
 use Rattle.cbm_volume.specs.Layouts.{Layout, Sound}
-use Rattle.cbm_program.specs.declared.kind.Kind.{Kind}
-use Rattle.cbm_program.specs.Images.{tracks_of, content_of}
+use Rattle.cbm_image.specs.declared.kind.Kind.{Kind}
+use Rattle.cbm_image.specs.Images.{tracks_of, content_of}
 use Rattle.cbm_shell.specs.Mapping.{chain_of, entries_in, free_by, is_among, used_in}
 use Rattle.cbm_shell.specs.Geos.{border_in, in_geos}
 use Rattle.cbm_shell.specs.Lost.{lost_of}

@@ -3,7 +3,7 @@
 ghost use Rattle.std.specs.Prelude.{◌≡◌, ◌≤◌, length, IfOk, OnOk, MatchOption};
 ghost use Rattle.cbm_volume.specs.Map.{geometry_of};
 ghost use Rattle.cbm_volume.specs.Layouts.{Layout, Sound};
-ghost use Rattle.cbm_program.specs.Images.{kind_of, tracks_of, content_of};
+ghost use Rattle.cbm_image.specs.Images.{kind_of, tracks_of, content_of};
 ghost use Rattle.cbm_volume.specs.Slots.{Answers, directory_of};
 ghost use Rattle.cbm_shell.specs.Art.{art_entry, dressed_entry, HasEntered, IsDressed, IsFull};
 
@@ -16,7 +16,7 @@ use cbm_d64::D64Disk;
 use cbm_directory::{empty_slot, put_slot};
 use cbm_g64::G64Disk;
 use cbm_medium::{Link, Medium};
-use cbm_program::{DiskImage, Kind, kind_of};
+use cbm_image::{DiskImage, Kind, kind_of};
 use cbm_volume::{Entry, FileType, Volume};
 use std::alloc::Global;
 

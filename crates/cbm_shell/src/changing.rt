@@ -12,9 +12,9 @@ ghost use Rattle.cbm_volume.specs.Holding.{HoldsDisk};
 ghost use Rattle.cbm_shell.specs.Changing.{after_change, IsFine, IsUndone, IsRefusal, IsFaultOf};
 
 use crate::fault::ShellFault;
-use crate::hearing::hear;
 use cbm_channel::{Dos, Status};
 use cbm_medium::{Medium, Steady};
+use cbm_talk::hear;
 use cbm_volume::Volume;
 
 /// The channel of commands.

@@ -5,8 +5,8 @@ ghost use Rattle.cbm_medium.specs.Content.{written};
 ghost use Rattle.cbm_track.specs.Circle.{each_below};
 ghost use Rattle.cbm_d64.specs.Image.{content_of, tracks_in};
 ghost use Rattle.cbm_g64.specs.Tracks.{or_zeros, id_for};
-ghost use Rattle.cbm_program.specs.Images.{kind_of};
-ghost use Rattle.cbm_program.specs.declared.kind.Kind.TheVariants.{D64, G64};
+ghost use Rattle.cbm_image.specs.Images.{kind_of};
+ghost use Rattle.cbm_image.specs.declared.kind.Kind.TheVariants.{D64, G64};
 ghost use Rattle.cbm_shell.specs.Converting.{told_id, held_by, is_plain, has_more_tracks, has_error_bytes, IsConverted, AreLosses, IsConvertFault};
 
 use crate::fault::ShellFault;
@@ -16,7 +16,7 @@ use crate::making::{OF_35_TRACKS, OF_40_TRACKS, zeros};
 use cbm_d64::D64Disk;
 use cbm_g64::G64Disk;
 use cbm_medium::{Address, Fault, Medium, sectors_of};
-use cbm_program::{Kind, kind_of};
+use cbm_image::{Kind, kind_of};
 use cbm_sector::id_of;
 use std::alloc::Global;
 

@@ -2,7 +2,7 @@
 ghost use Rattle.std.specs.Prelude.{◌≡◌, ◌≤◌, IfOk, MatchOption};
 ghost use Rattle.cbm_volume.specs.Map.{geometry_of};
 ghost use Rattle.cbm_volume.specs.Layouts.{Layout, Sound};
-ghost use Rattle.cbm_program.specs.Images.{kind_of, tracks_of, content_of};
+ghost use Rattle.cbm_image.specs.Images.{kind_of, tracks_of, content_of};
 ghost use Rattle.cbm_directory.specs.EntryChanges.{ClearsLed};
 ghost use Rattle.cbm_shell.specs.Forgetting.{IsForgotten};
 
@@ -12,7 +12,7 @@ use cbm_d64::D64Disk;
 use cbm_directory::clear_slot;
 use cbm_g64::G64Disk;
 use cbm_medium::Medium;
-use cbm_program::{DiskImage, Kind, kind_of};
+use cbm_image::{DiskImage, Kind, kind_of};
 use cbm_volume::Volume;
 use std::alloc::Global;
 

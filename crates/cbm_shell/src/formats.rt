@@ -1,9 +1,9 @@
 //! Files that are no image of a 1541's disk, told by their first bytes and their size.
 ghost use Rattle.std.specs.Prelude.{◌≡◌, Some, IfSome};
-ghost use Rattle.cbm_program.specs.Images.{kind_of, image_fault};
+ghost use Rattle.cbm_image.specs.Images.{kind_of, image_fault};
 ghost use Rattle.cbm_shell.specs.Foreign.{is_ours, begun_as, sized_as, or_else, foreign_of};
 
-use cbm_program::{Kind, kind_of};
+use cbm_image::{Kind, kind_of};
 
 /// What a file is that is no image of a 1541's disk.
 #[derive(Clone, Copy, Debug, PartialEq, Eq)]

@@ -4,7 +4,7 @@ ghost use Rattle.cbm_file.specs.Files.{Disk};
 ghost use Rattle.cbm_channel.specs.Machines.{start};
 ghost use Rattle.cbm_volume.specs.Map.{geometry_of};
 ghost use Rattle.cbm_volume.specs.Layouts.{Layout, Sound};
-ghost use Rattle.cbm_program.specs.Images.{kind_of, image_fault, tracks_of, content_of, ImageHolds};
+ghost use Rattle.cbm_image.specs.Images.{kind_of, image_fault, tracks_of, content_of, ImageHolds};
 ghost use Rattle.cbm_shell.specs.Reading.{Gets};
 ghost use Rattle.cbm_shell.specs.Listing.{IsListed, IsSent};
 ghost use Rattle.cbm_shell.specs.Changing.{after_change, IsFine};
@@ -21,7 +21,7 @@ use crate::reading::get;
 use cbm_channel::Dos;
 use cbm_d64::D64Disk;
 use cbm_g64::G64Disk;
-use cbm_program::{DiskImage, Kind, RunFault, kind_of};
+use cbm_image::{DiskImage, ImageFault, Kind, kind_of};
 use cbm_volume::{Unsound, Volume};
 use std::alloc::Global;
 
@@ -33,8 +33,8 @@ pub(crate) fn opened<I: DiskImage>(alloc: Global, image: &[u8]) -> Result<I, She
 {
     match I::open(alloc, image, false) {
         Ok(disk) => Ok(disk),
-        Err(RunFault::Image(number)) => Err(ShellFault::Image(number)),
-        Err(_) => Err(ShellFault::Memory),
+        Err(ImageFault::Format(number)) => Err(ShellFault::Image(number)),
+        Err(ImageFault::Memory) => Err(ShellFault::Memory),
     }
 }
 

@@ -9,7 +9,6 @@ mod fault;
 mod flaws;
 mod forgetting;
 mod formats;
-mod hearing;
 mod images;
 mod listing;
 mod locking;

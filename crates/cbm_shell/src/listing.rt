@@ -2,14 +2,14 @@
 ghost use Rattle.std.specs.Prelude.{◌≡◌, ◌≤◌, ◌++◌, IfOk, OnOk, MatchResult};
 ghost use Rattle.cbm_channel.specs.Machines.{Machine};
 ghost use Rattle.cbm_channel.specs.Standing.{Stands};
-ghost use Rattle.cbm_program.specs.Scripts.{talked};
 ghost use Rattle.cbm_shell.specs.Listing.{list_text, IsSent, IsListed, IsUnlisted};
 
 use crate::fault::ShellFault;
 use crate::petscii::Charset;
 use crate::readable::readable_listing;
 use cbm_channel::Dos;
-use cbm_medium::{Medium, Steady};
+use cbm_medium::Steady;
+use cbm_talk::said;
 use std::alloc::{AllocError, Global};
 
 /// The channel on which the directory is asked for.
@@ -17,32 +17,6 @@ const LISTING: u8 = 0;
 
 /// More bytes than any listing has.
 const MOST: u32 = 5000;
-
-/// What a channel sends, up to so many bytes.
-fn said<M: Medium>(
-    alloc: Global,
-    dos: &mut Dos<M>,
-    channel: u8,
-    most: u32,
-) -> Result<Vec<u8>, AllocError>
-    requires { channel ≤ 15 }
-    ensures { (m : Machine) → Stands M.seen dos.old m →
-        IfOk result (λ v. v.items ≡ (talked channel most m).bytes) }
-{
-    let mut bytes = Vec::new(alloc);
-    dos.talk(channel);
-    'bytes: for done in 0..most {
-        let Some((byte, is_last)) = dos.peek(channel) else {
-            return Ok(bytes);
-        };
-        bytes.push(byte)?;
-        dos.taken(channel);
-        if is_last {
-            return Ok(bytes);
-        }
-    }
-    Ok(bytes)
-}
 
 /// The text that asks for the directory: all of it where the pattern is empty.
 fn list_text(alloc: Global, pattern: &[u8]) -> Result<Vec<u8>, AllocError>

@@ -5,7 +5,7 @@ ghost use Rattle.cbm_medium.specs.Content.{written};
 ghost use Rattle.cbm_volume.specs.Map.{geometry_of};
 ghost use Rattle.cbm_volume.specs.Layouts.{Layout, Sound};
 ghost use Rattle.cbm_file.specs.Padding.{padded};
-ghost use Rattle.cbm_program.specs.Images.{kind_of, tracks_of, content_of};
+ghost use Rattle.cbm_image.specs.Images.{kind_of, tracks_of, content_of};
 ghost use Rattle.cbm_shell.specs.Locking.{is_other, lock_bit, locked_type, locked_entry, Locks, AreLocked, with_title, titled};
 
 use crate::changing::require_sound;
@@ -17,7 +17,7 @@ use cbm_directory::put_slot;
 use cbm_file::padded;
 use cbm_g64::G64Disk;
 use cbm_medium::{Address, Medium, Trouble};
-use cbm_program::{DiskImage, Kind, kind_of};
+use cbm_image::{DiskImage, Kind, kind_of};
 use cbm_volume::{Entry, Volume, Wanted};
 use std::alloc::Global;
 use std::ops::Range;

@@ -1,14 +1,14 @@
 //! New images of empty disks.
 ghost use Rattle.std.specs.Prelude.{◌≡◌, ◌≤◌, false, length, replicate, None, Ok, IfOk};
 ghost use Rattle.cbm_medium.specs.Place.{Place, Has};
-ghost use Rattle.cbm_program.specs.Images.{image_fault, IsOf};
-ghost use Rattle.cbm_program.specs.declared.kind.Kind.TheVariants.{D64, G64};
+ghost use Rattle.cbm_image.specs.Images.{image_fault, IsOf};
+ghost use Rattle.cbm_image.specs.declared.kind.Kind.TheVariants.{D64, G64};
 ghost use Rattle.cbm_shell.specs.Making.{kind_in, tracks_on, IsBlank, IsEmpty, IsNew};
 
 use cbm_d64::D64Disk;
 use cbm_g64::G64Disk;
 use cbm_medium::Steady;
-use cbm_program::{DiskImage, RunFault};
+use cbm_image::{DiskImage, ImageFault};
 use cbm_volume::Volume;
 use std::alloc::{AllocError, Global};
 
@@ -69,7 +69,7 @@ fn opened<I: DiskImage>(alloc: Global, image: &[u8]) -> Result<I, AllocError>
 {
     match I::open(alloc, image, false) {
         Ok(disk) => Ok(disk),
-        Err(RunFault::Memory) => Err(AllocError),
+        Err(ImageFault::Memory) => Err(AllocError),
         Err(_) => unreachable!(),
     }
 }

@@ -7,7 +7,7 @@ ghost use Rattle.cbm_volume.specs.Reading.{held_from};
 ghost use Rattle.cbm_volume.specs.Slots.{directory_of};
 ghost use Rattle.cbm_volume.specs.Map.{geometry_of};
 ghost use Rattle.cbm_volume.specs.Holding.{HasBytes, HoldsDisk, StandsAt};
-ghost use Rattle.cbm_program.specs.Images.{image_fault, kind_of};
+ghost use Rattle.cbm_image.specs.Images.{image_fault, kind_of};
 ghost use Rattle.cbm_shell.specs.Images.{IsOpened, IsOpenFault};
 ghost use Rattle.cbm_shell.specs.OpenDisk.{shown_by};
 ghost use Rattle.cbm_shell.specs.Reading.{IsReadFault};
@@ -19,7 +19,7 @@ use crate::reading::read_file;
 use crate::salvaging::{Salvaged, salvage};
 use cbm_d64::D64Disk;
 use cbm_g64::G64Disk;
-use cbm_program::{Kind, kind_of};
+use cbm_image::{Kind, kind_of};
 use cbm_volume::{Entry, Volume};
 use std::alloc::{AllocError, Global};
 

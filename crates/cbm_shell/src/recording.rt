@@ -8,19 +8,19 @@ ghost use Rattle.cbm_file.specs.Files.{Disk};
 ghost use Rattle.cbm_volume.specs.Map.{geometry_of};
 ghost use Rattle.cbm_volume.specs.Layouts.{Layout, Sound};
 ghost use Rattle.cbm_volume.specs.Holding.{HoldsDisk};
-ghost use Rattle.cbm_program.specs.Images.{kind_of, tracks_of, content_of, ImageHolds};
+ghost use Rattle.cbm_image.specs.Images.{kind_of, tracks_of, content_of, ImageHolds};
 ghost use Rattle.cbm_shell.specs.Changing.{IsFine, IsRefusal};
 ghost use Rattle.cbm_shell.specs.Recording.{hear_all, after_records, IsUnmade, IsUnmadeIn, IsStoppedAt};
 
 use crate::changing::{require_sound, told};
 use crate::fault::ShellFault;
-use crate::hearing::hear;
 use crate::images::{opened, saved};
 use cbm_channel::Dos;
 use cbm_d64::D64Disk;
 use cbm_g64::G64Disk;
 use cbm_medium::{Medium, Steady};
-use cbm_program::{DiskImage, Kind, kind_of};
+use cbm_image::{DiskImage, Kind, kind_of};
+use cbm_talk::hear;
 use cbm_volume::Volume;
 use std::alloc::Global;
 

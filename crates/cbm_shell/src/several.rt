@@ -2,7 +2,7 @@
 ghost use Rattle.std.specs.Prelude.{◌≡◌, false, MatchResult};
 ghost use Rattle.cbm_file.specs.Files.{Disk};
 ghost use Rattle.cbm_volume.specs.Holding.{HoldsDisk};
-ghost use Rattle.cbm_program.specs.Images.{kind_of, tracks_of, ImageHolds};
+ghost use Rattle.cbm_image.specs.Images.{kind_of, tracks_of, ImageHolds};
 ghost use Rattle.cbm_shell.specs.Images.{OrOpenFault};
 ghost use Rattle.cbm_shell.specs.Several.{HoldsAfter, ImageAfter, AreUndone};
 
@@ -12,7 +12,7 @@ use crate::images::{opened, saved};
 use cbm_d64::D64Disk;
 use cbm_g64::G64Disk;
 use cbm_medium::Steady;
-use cbm_program::{DiskImage, Kind, kind_of};
+use cbm_image::{DiskImage, Kind, kind_of};
 use std::alloc::Global;
 
 /// Makes changes on a disk, one after another. Errors: as of the first change that isn't made.

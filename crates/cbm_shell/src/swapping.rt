@@ -3,7 +3,7 @@ ghost use Rattle.std.specs.Prelude.{◌≡◌, ◌≤◌, Some, Ok, IfOk, OnOk};
 ghost use Rattle.cbm_volume.specs.Map.{geometry_of};
 ghost use Rattle.cbm_volume.specs.Slots.{Answers, directory_of};
 ghost use Rattle.cbm_volume.specs.Layouts.{Layout, Sound};
-ghost use Rattle.cbm_program.specs.Images.{kind_of, tracks_of, content_of};
+ghost use Rattle.cbm_image.specs.Images.{kind_of, tracks_of, content_of};
 ghost use Rattle.cbm_shell.specs.Swapping.{Swaps, AreSwapped};
 
 use crate::changing::require_sound;
@@ -13,7 +13,7 @@ use cbm_d64::D64Disk;
 use cbm_directory::{put_slot, slot};
 use cbm_g64::G64Disk;
 use cbm_medium::{Geometry, Medium};
-use cbm_program::{DiskImage, Kind, kind_of};
+use cbm_image::{DiskImage, Kind, kind_of};
 use cbm_volume::{Entry, Volume};
 use std::alloc::Global;
 

@@ -5,7 +5,7 @@ ghost use Rattle.cbm_volume.specs.Map.{geometry_of};
 ghost use Rattle.cbm_volume.specs.Entries.{EntersLed};
 ghost use Rattle.cbm_volume.specs.Layouts.{Layout, Sound};
 ghost use Rattle.cbm_volume.specs.Slots.{directory_of};
-ghost use Rattle.cbm_program.specs.Images.{kind_of, tracks_of, content_of};
+ghost use Rattle.cbm_image.specs.Images.{kind_of, tracks_of, content_of};
 ghost use Rattle.cbm_shell.specs.Mapping.{chain_of, entries_in, is_among};
 ghost use Rattle.cbm_shell.specs.Undeleting.{restored_entry, all_free, held_with, IsDeleted, IsMapAnew, IsClear, IsGivenAgain, IsSoundImage, IsUndeleted};
 ghost use Rattle.cbm_shell.specs.Images.{IsSaved};
@@ -23,7 +23,7 @@ use cbm_d64::D64Disk;
 use cbm_directory::put_slot;
 use cbm_g64::G64Disk;
 use cbm_medium::{Geometry, Link, Medium};
-use cbm_program::{DiskImage, Kind, kind_of};
+use cbm_image::{DiskImage, Kind, kind_of};
 use cbm_volume::{Entry, FileType, Volume};
 use std::alloc::Global;
 

@@ -1,7 +1,7 @@
 //! Formats of images.
 use crate::failure::Failure;
 use crate::word_fault::WordFault;
-use cbm_program::Kind;
+use cbm_image::Kind;
 use cbm_shell::Form;
 use std::path::Path;
 

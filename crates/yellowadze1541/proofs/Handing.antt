@@ -9,7 +9,7 @@ use Rattle.cbm_file.specs.Files.{Disk}
 use Rattle.cbm_channel.specs.Machines.{start}
 use Rattle.cbm_drive.specs.Ordered.{fault_of}
 use Rattle.cbm_drive.specs.declared.fault.PlayFault.{PlayFault}
-use Rattle.cbm_program.specs.Images.{kind_of, tracks_of, ImageHolds}
+use Rattle.cbm_image.specs.Images.{kind_of, tracks_of, ImageHolds}
 use Rattle.cbm_device.specs.declared.refusal.Refusal.{Refusal}
 use Rattle.cbm_device.specs.declared.refusal.Refusal.TheVariants.{Memory, Invalid, NoRoom, Absent, NoImage, Unsound, NoDrive, Status}
 use Rattle.cbm_device.specs.Answers.{answer, number_of}

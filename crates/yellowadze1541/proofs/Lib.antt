@@ -1,4 +1,3 @@
-pub mod Acting
 pub mod Handing
 pub mod Signalling
 pub mod Types

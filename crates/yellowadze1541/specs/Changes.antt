@@ -1,6 +1,6 @@
 -- New images and changes of one, as C is told of them.
 use Rattle.std.specs.Prelude.{ℕ, ℤ, ◌≡◌, ◌==◌, if◌then◌else◌, List, length}
-use Rattle.cbm_program.specs.Images.{kind_of}
+use Rattle.cbm_image.specs.Images.{kind_of}
 use Rattle.cbm_shell.specs.declared.making.Form.{Form}
 use Rattle.cbm_shell.specs.declared.making.Form.TheVariants.{D64, LongD64, G64}
 use Rattle.cbm_shell.specs.Sectors.{faults_in}

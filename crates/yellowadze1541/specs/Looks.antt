@@ -7,7 +7,7 @@ use Rattle.cbm_volume.specs.Entries.{type_byte, bit_of, is_closed, width_of}
 use Rattle.cbm_volume.specs.Holding.{StandsAt}
 use Rattle.cbm_volume.specs.check.WholeDisk.{DiskFault}
 use Rattle.cbm_medium.specs.Content.{Content}
-use Rattle.cbm_program.specs.Images.{kind_of, tracks_of, content_of, ImageHolds}
+use Rattle.cbm_image.specs.Images.{kind_of, tracks_of, content_of, ImageHolds}
 use Rattle.cbm_device.specs.declared.refusal.Refusal.{Refusal}
 use Rattle.cbm_device.specs.declared.refusal.Refusal.TheVariants.{Unsound}
 use Rattle.cbm_device.specs.Answers.{fine, number_of, AreGiven}

@@ -10,7 +10,7 @@ use crate::drives::pace_with;
 use crate::shapes::Signal;
 use cbm_device::{ImageDisk, Refusal, number, play};
 use cbm_drive::{Change, Event, Line, Party, Way, Who};
-use cbm_program::{Kind, kind_of};
+use cbm_image::{Kind, kind_of};
 use std::alloc::Global;
 
 /// Ends come before this one, in microseconds.

@@ -3,7 +3,7 @@ ghost use Rattle.std.specs.Prelude.{Bool, ◌≡◌, ◌≢◌, ◌≤◌, ◌<�
 ghost use Rattle.cbm_host.specs.Hosted.{party_of};
 ghost use Rattle.cbm_medium.specs.Content.{Content};
 ghost use Rattle.cbm_volume.specs.Holding.{HoldsDisk};
-ghost use Rattle.cbm_program.specs.Images.{StartsOn};
+ghost use Rattle.cbm_program.specs.Starts.{StartsOn};
 ghost use Rattle.cbm_program.specs.Lines.{bytes_left, TakesLine};
 ghost use Rattle.cbm_program.specs.Output.{Grows};
 ghost use Rattle.cbm_program.specs.Running.{EndsAs};

@@ -4,7 +4,7 @@ use crate::failure::{Failure, on_disk};
 use crate::formats::format;
 use crate::host::{read_image, require_new, write};
 use crate::word_fault::WordFault;
-use cbm_program::{Kind, kind_of};
+use cbm_image::{Kind, kind_of};
 use cbm_shell::Converted;
 use host_files::Sync;
 use std::rt::Runtime;

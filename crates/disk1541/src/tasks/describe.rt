@@ -5,7 +5,7 @@ use crate::host::{print, read_image};
 use crate::names::unfilled;
 use cbm_channel::FileType;
 use cbm_medium::Address;
-use cbm_program::{Kind, kind_of};
+use cbm_image::{Kind, kind_of};
 use cbm_shell::{Charset, Info, OpenDisk, ShellFault, geos_of, name_text};
 use cbm_volume::{Entry, Label, Trouble};
 use disk_recipes::{Line, Recipe, recipe_text};

@@ -2,7 +2,7 @@
 use super::circles::more_tracks;
 use crate::formats::WITH_ERRORS;
 use crate::names::unfilled;
-use cbm_program::{Kind, kind_of};
+use cbm_image::{Kind, kind_of};
 use cbm_shell::{Charset, Info, ShellFault, name_text};
 use cbm_volume::{Entry, Unsound};
 use std::alloc::{AllocError, Global};

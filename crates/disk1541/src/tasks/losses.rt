@@ -1,5 +1,5 @@
 //! What an image in the other format lacks.
-use cbm_program::Kind;
+use cbm_image::Kind;
 use cbm_shell::Losses;
 use std::io;
 

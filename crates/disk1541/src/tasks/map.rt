@@ -5,7 +5,7 @@ use crate::host::{print, read_image, require_new, write};
 use crate::names::type_of;
 use cbm_bam::SectorSet;
 use cbm_medium::Address;
-use cbm_program::{Kind, kind_of};
+use cbm_image::{Kind, kind_of};
 use cbm_shell::{Charset, ShellFault, file_blocks, geos_blocks, name_text};
 use cbm_volume::Entry;
 use disk_views::{Owner, lettered, svg_of};

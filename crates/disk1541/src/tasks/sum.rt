@@ -2,7 +2,7 @@
 use super::view::Answer;
 use crate::digits::hex;
 use crate::formats::without_errors;
-use cbm_program::{Kind, kind_of};
+use cbm_image::{Kind, kind_of};
 use cbm_shell::ShellFault;
 use sha2::{Digest, Sha256};
 use std::alloc::{AllocError, Global};

@@ -3,7 +3,7 @@ use super::circles::{bytes_of, name_of};
 use crate::failure::{Failure, in_memory};
 use crate::host::{print, read_image};
 use crate::word_fault::WordFault;
-use cbm_program::{Kind, kind_of};
+use cbm_image::{Kind, kind_of};
 use disk_views::track_lines;
 use std::rt::Runtime;
 

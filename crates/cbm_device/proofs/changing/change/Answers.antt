@@ -1,7 +1,7 @@
 use Rattle.std.proofs.Common.{false, subst, sym}
 use Rattle.cbm_channel.specs.Machines.{start}
 use Rattle.cbm_volume.specs.Holding.{HoldsDisk}
-use Rattle.cbm_program.specs.Images.{kind_of, tracks_of}
+use Rattle.cbm_image.specs.Images.{kind_of, tracks_of}
 use Rattle.cbm_shell.specs.Changing.{begun, after_change, IsFaultOf, IsFine, IsUndone}
 use Rattle.cbm_device.specs.ImageDisks.{seen_of}
 use Rattle.cbm_device.specs.Making.{IsUnmade, IsUnchanged}

@@ -1,6 +1,6 @@
 use Rattle.std.proofs.Common.{false, subst, sym}
 use Rattle.cbm_channel.specs.Machines.{start}
-use Rattle.cbm_program.specs.Images.{kind_of, tracks_of}
+use Rattle.cbm_image.specs.Images.{kind_of, tracks_of}
 use Rattle.cbm_shell.specs.Listing.{IsSent, IsUnlisted}
 use Rattle.cbm_device.specs.Looking.{IsUnsent}
 use Rattle.cbm_device.proofs.Opening.{holds_of, same_start}

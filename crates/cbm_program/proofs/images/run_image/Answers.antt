@@ -2,7 +2,8 @@ use Rattle.std.proofs.Common.{◌∙◌, ap, Err, rules}
 use Rattle.std.proofs.lemmas.Result.{IfOk-weaker, err_from_is_err_and}
 use Rattle.cbm_host.specs.Hosted.{party_of}
 use Rattle.cbm_volume.specs.Holding.{HoldsDisk}
-use Rattle.cbm_program.specs.Images.{kind_of, tracks_of, content_of, StartsOn, ImageHolds}
+use Rattle.cbm_image.specs.Images.{kind_of, tracks_of, content_of, ImageHolds}
+use Rattle.cbm_program.specs.Starts.{StartsOn}
 use Rattle.cbm_program.specs.Checking.{checked_text}
 use Rattle.cbm_program.proofs.LinePrints.{if_err}
 use Rattle.cbm_program.proofs.TraceLemmas.{traced-among, left-among, cut-among, cut-left, cut-nothing, ends-saved}
@@ -66,25 +67,25 @@ returns g c =
     c.requires.kind first.0 first.1 in
     record {
       ended = (search rules);
-      disk = IfOk-weaker c.save.result _ _ (λ saved is. behind-among c.args.pace c.args.options.now.check _ _ _ starts all
+      disk = IfOk-weaker c.saved.result _ _ (λ saved is. behind-among c.args.pace c.args.options.now.check _ _ _ starts all
           (λ m. HoldsDisk (g.I.Medium.seen after).tracks (g.I.Medium.seen after).content m.disk) (λ m. ImageHolds (kind_of c.args.image.now) saved.items m.disk) among
           (holds-as g.I.DiskImage.kind (kind_of c.args.image.now) saved.items (g.I.Medium.seen after).tracks (g.I.Medium.seen after).content c.requires.kind is)
-          c.in_ok-disk-2.ensures.disk) c.save.ensures.ok;
-      fault = if_err c.save.result (begun-behind-among c.args.pace c.args.options.now.check _ _ _ starts all among
+          c.in_ok-disk-2.ensures.disk) c.saved.ensures.ok;
+      fault = if_err c.saved.result (begun-behind-among c.args.pace c.args.options.now.check _ _ _ starts all among
           (behind-begun c.args.pace c.args.options.now.check _ _ _ all (λ m. HoldsDisk (g.I.Medium.seen after).tracks (g.I.Medium.seen after).content m.disk) c.in_ok-disk-2.ensures.disk));
-      played = ends-saved c.save.result _ c.save.ensures.err (traced-among (checked_text c.args.options.now.check) _ _ _ starts all (λ m. Unit {0}) (λ m. Unit {0}) (party_of c.args.pace c.args.options.now.device) _ among (λ m s. s) c.in_ok-disk-2.ensures.played);
-      left = IfOk-weaker c.save.result _ _ (λ saved is. left-among (checked_text c.args.options.now.check) _ _ _ starts all
+      played = ends-saved c.saved.result _ c.saved.ensures.err (traced-among (checked_text c.args.options.now.check) _ _ _ starts all (λ m. Unit {0}) (λ m. Unit {0}) (party_of c.args.pace c.args.options.now.device) _ among (λ m s. s) c.in_ok-disk-2.ensures.played);
+      left = IfOk-weaker c.saved.result _ _ (λ saved is. left-among (checked_text c.args.options.now.check) _ _ _ starts all
           (λ m. HoldsDisk (g.I.Medium.seen after).tracks (g.I.Medium.seen after).content m.disk) (λ m. ImageHolds (kind_of c.args.image.now) saved.items m.disk) (party_of c.args.pace c.args.options.now.device) among
           (holds-as g.I.DiskImage.kind (kind_of c.args.image.now) saved.items (g.I.Medium.seen after).tracks (g.I.Medium.seen after).content c.requires.kind is)
-          c.in_ok-disk-2.ensures.left) c.save.ensures.ok;
-      cut = if_err c.save.result (cut-among (checked_text c.args.options.now.check) _ _ _ starts all (party_of c.args.pace c.args.options.now.device) among
+          c.in_ok-disk-2.ensures.left) c.saved.ensures.ok;
+      cut = if_err c.saved.result (cut-among (checked_text c.args.options.now.check) _ _ _ starts all (party_of c.args.pace c.args.options.now.device) among
           (cut-left (checked_text c.args.options.now.check) _ _ _ all (λ m. HoldsDisk (g.I.Medium.seen after).tracks (g.I.Medium.seen after).content m.disk) (party_of c.args.pace c.args.options.now.device) c.in_ok-disk-2.ensures.left));
-      checked = λ e. ends-any c.save.result _
+      checked = λ e. ends-any c.saved.result _
           (λ bad. checked-as g.I.DiskImage.kind (kind_of c.args.image.now) c.args.image.now (g.I.Medium.seen disk).tracks (g.I.Medium.seen disk).content _ _ c.requires.kind first.0 (c.in_ok-disk-2.ensures.checked e));
       grows = (search rules);
-      same_tracks = IfOk-weaker c.save.result _ _ (λ saved is. tracks-as g.I.DiskImage.kind (kind_of c.args.image.now) c.args.image.now saved.items
-          (g.I.Medium.seen disk).tracks (g.I.Medium.seen after).tracks (g.I.Medium.seen disk).content (g.I.Medium.seen after).content c.requires.kind first.0 c.in_ok-disk-2.ensures.same_tracks is) c.save.ensures.ok;
-      opens = IfOk-weaker c.save.result _ _ (λ saved is. rw c.requires.kind is.faultless) c.save.ensures.ok;
+      same_tracks = IfOk-weaker c.saved.result _ _ (λ saved is. tracks-as g.I.DiskImage.kind (kind_of c.args.image.now) c.args.image.now saved.items
+          (g.I.Medium.seen disk).tracks (g.I.Medium.seen after).tracks (g.I.Medium.seen disk).content (g.I.Medium.seen after).content c.requires.kind first.0 c.in_ok-disk-2.ensures.same_tracks is) c.saved.ensures.ok;
+      opens = IfOk-weaker c.saved.result _ _ (λ saved is. rw c.requires.kind is.faultless) c.saved.ensures.ok;
       refused = (search rules);
       cause = (search rules);
     }

@@ -2,7 +2,7 @@ use Rattle.std.proofs.Common.{◌∙◌, [], Err, Option, List, ℕ, sym, ap, su
 use Rattle.std.proofs.lemmas.Result.{err_from_is_err_and}
 use Rattle.std.specs.Prelude.{IfOk, Ok}
 use Rattle.cbm_program.specs.Beginnings.{FirstRead}
-use Rattle.cbm_program.specs.Images.{StartsOn}
+use Rattle.cbm_program.specs.Starts.{StartsOn}
 use Rattle.cbm_program.specs.Lines.{bytes_left}
 use Rattle.cbm_program.specs.Running.{EndsAs}
 use Rattle.cbm_program.specs.Timetables.{of_requests, of_changes}

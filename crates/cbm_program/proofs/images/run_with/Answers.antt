@@ -6,7 +6,7 @@ use Rattle.cbm_file.specs.Files.{Disk}
 use Rattle.cbm_host.specs.Hosted.{party_of}
 use Rattle.cbm_volume.specs.Holding.{HoldsDisk}
 use Rattle.cbm_drive.specs.Machines.{Machine}
-use Rattle.cbm_program.specs.Images.{StartsOn, StartsFrom, KeptBy}
+use Rattle.cbm_program.specs.Starts.{StartsOn, StartsFrom, KeptBy}
 use Rattle.cbm_program.specs.Checking.{checked_text, IsCheckPrinted}
 use Rattle.cbm_program.specs.Output.{AppendsPart}
 use Rattle.cbm_program.specs.Running.{EndsAs}

@@ -2,7 +2,7 @@ use Rattle.std.proofs.Common.{◌∙◌, ap, Err}
 use Rattle.std.proofs.lemmas.Result.{err_from_is_err_and}
 use Rattle.cbm_volume.specs.Holding.{HoldsDisk}
 use Rattle.cbm_host.specs.Hosted.{Rests}
-use Rattle.cbm_program.specs.Images.{StartsOn}
+use Rattle.cbm_program.specs.Starts.{StartsOn}
 use Rattle.cbm_program.proofs.LinePrints.{if_err}
 use Rattle.cbm_program.proofs.StartLemmas.{among-stands, ended-among, printed-ended, begun-among, ends-again}
 use Rattle.cbm_program.proofs.session.run_requests.Goals as goal

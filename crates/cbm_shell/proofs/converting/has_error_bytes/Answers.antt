@@ -1,7 +1,7 @@
 use Rattle.std.proofs.Common.{◌≡◌, ℕ, ◌<◌, List, length, refl, arith, true, false}
 use Rattle.std.proofs.lemmas.Bool.{eq-eqb, ne_eqb}
 use Rattle.cbm_track.proofs.Firsts.{each_from, each_not}
-use Rattle.cbm_program.specs.declared.kind.Kind.TheVariants.{D64}
+use Rattle.cbm_image.specs.declared.kind.Kind.TheVariants.{D64}
 use Rattle.cbm_shell.specs.Converting.{is_good, has_error_bytes}
 use Rattle.cbm_shell.proofs.converting.has_error_bytes.Goals as goal
 

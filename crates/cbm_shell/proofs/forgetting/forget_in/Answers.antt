@@ -3,7 +3,7 @@ use Rattle.cbm_volume.specs.Map.{geometry_of}
 use Rattle.cbm_volume.specs.Layouts.{Layout, Sound}
 use Rattle.cbm_volume.specs.check.WholeDisk.{DiskFault}
 use Rattle.cbm_directory.specs.EntryChanges.{ClearsLed}
-use Rattle.cbm_program.specs.Images.{content_of}
+use Rattle.cbm_image.specs.Images.{content_of}
 use Rattle.cbm_shell.proofs.ImageLemmas.{sound_image}
 use Rattle.cbm_shell.proofs.ForgetLemmas.{forgot}
 use Rattle.cbm_shell.proofs.forgetting.forget_in.Goals as goal

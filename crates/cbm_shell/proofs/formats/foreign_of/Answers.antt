@@ -1,4 +1,4 @@
-use Rattle.cbm_program.specs.Images.{kind_of}
+use Rattle.cbm_image.specs.Images.{kind_of}
 use Rattle.cbm_shell.proofs.FormatLemmas.{refused_first}
 use Rattle.cbm_shell.proofs.formats.foreign_of.Goals as goal
 

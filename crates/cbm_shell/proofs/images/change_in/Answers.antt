@@ -2,7 +2,7 @@ use Rattle.std.proofs.Common.{ap, subst, ◌∙◌, Err, false}
 use Rattle.std.proofs.lemmas.Result.{err_from_is_err_and}
 use Rattle.cbm_channel.specs.Machines.{start}
 use Rattle.cbm_volume.specs.Holding.{HoldsDisk}
-use Rattle.cbm_program.specs.Images.{kind_of, tracks_of}
+use Rattle.cbm_image.specs.Images.{kind_of, tracks_of}
 use Rattle.cbm_shell.specs.Images.{IsFailed}
 use Rattle.cbm_shell.specs.Changing.{after_change, IsFine, IsUndone}
 use Rattle.cbm_shell.proofs.ImageLemmas.{opened_holds, same_start, as_open_fault, as_other_fault, saved_image, sound_image, ok_any}

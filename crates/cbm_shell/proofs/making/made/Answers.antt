@@ -1,6 +1,6 @@
 use Rattle.std.proofs.Common.{List, ℕ, sym, ap, subst, ◌∙◌}
-use Rattle.cbm_program.specs.declared.kind.Kind.{Kind}
-use Rattle.cbm_program.specs.Images.{tracks_of}
+use Rattle.cbm_image.specs.declared.kind.Kind.{Kind}
+use Rattle.cbm_image.specs.Images.{tracks_of}
 use Rattle.cbm_shell.specs.Making.{IsEmpty}
 use Rattle.cbm_shell.proofs.making.made.Goals as goal
 

@@ -1,6 +1,6 @@
 use Rattle.std.proofs.Common.{◌≡◌, false, rules, subst, sym, to_z, of_z, w32}
 use Rattle.cbm_channel.specs.Machines.{start}
-use Rattle.cbm_program.specs.Images.{kind_of, tracks_of, ImageHolds}
+use Rattle.cbm_image.specs.Images.{kind_of, tracks_of, ImageHolds}
 use Rattle.cbm_shell.specs.Changing.{IsFine}
 use Rattle.cbm_device.specs.Answers.{Gives}
 use Rattle.cbm_device.specs.Making.{after_command, IsUnmade}

@@ -2,7 +2,7 @@ use Rattle.std.proofs.Common.{◌≡◌, inl, inr, rules, subst, sym, to_z, of_z
 use Rattle.std.specs.Prelude.{IsOk}
 use Rattle.cbm_volume.specs.check.WholeDisk.{DiskFault}
 use Rattle.cbm_volume.specs.declared.Unsound.{Unsound}
-use Rattle.cbm_program.specs.Images.{kind_of, tracks_of}
+use Rattle.cbm_image.specs.Images.{kind_of, tracks_of}
 use Rattle.cbm_shell.specs.Images.{IsChecked}
 use Rattle.cbm_device.specs.declared.refusal.Refusal.TheVariants as why
 use Rattle.cbm_device.specs.Answers.{number_of}

@@ -1,6 +1,6 @@
 use Rattle.std.proofs.Common.{◌≡◌, false, rules, to_z, of_z, w32}
 use Rattle.cbm_channel.specs.Machines.{start}
-use Rattle.cbm_program.specs.Images.{kind_of, tracks_of}
+use Rattle.cbm_image.specs.Images.{kind_of, tracks_of}
 use Rattle.cbm_shell.specs.Listing.{IsSent}
 use Rattle.cbm_device.specs.Answers.{answer}
 use Rattle.cbm_device.specs.Looking.{IsAccepted, IsRefused, IsUnsent}

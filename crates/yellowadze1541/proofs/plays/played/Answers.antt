@@ -1,6 +1,6 @@
 use Rattle.std.proofs.Common.{Some, false, ap, subst, sym, ◌∙◌}
 use Rattle.cbm_channel.specs.Machines.{start}
-use Rattle.cbm_program.specs.Images.{kind_of, tracks_of}
+use Rattle.cbm_image.specs.Images.{kind_of, tracks_of}
 use Rattle.cbm_device.specs.ImageDisks.{seen_of}
 use Rattle.cbm_device.specs.Plays.{HasPlayedAll}
 use Rattle.cbm_device.proofs.Opening.{holds_of, same_start}

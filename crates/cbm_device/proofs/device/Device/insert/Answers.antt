@@ -1,5 +1,5 @@
 use Rattle.std.proofs.Common.{Some, ap, refl, subst}
-use Rattle.cbm_program.specs.Images.{kind_of}
+use Rattle.cbm_image.specs.Images.{kind_of}
 use Rattle.cbm_device.specs.Devices.{OnLines, IsExchanged}
 use Rattle.cbm_device.proofs.device.Device.insert.Goals as goal
 

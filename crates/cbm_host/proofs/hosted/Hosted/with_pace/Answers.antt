@@ -2,7 +2,7 @@ use Rattle.std.proofs.Common.{◌<◌, refl, sym, subst}
 use Rattle.std.specs.Prelude.{IfSome}
 use Rattle.cbm_channel.specs.Machines.{start}
 use Rattle.cbm_drive.specs.Addressing.{Addressed, channel_said}
-use Rattle.cbm_drive.specs.Desks.{Desk, DeskStands, at_first, with_pace, desk_shows, shown_from}
+use Rattle.cbm_drive.specs.Desks.{Desk, DeskStands, at_first, desk_shows, shown_from}
 use Rattle.cbm_host.proofs.HostedAnyway.{rests_first_anyway}
 use Rattle.cbm_host.proofs.Hosting.{rests_first}
 use Rattle.cbm_host.proofs.hosted.Hosted.with_pace.Goals as goal

@@ -2,7 +2,7 @@ use Rattle.std.proofs.Common.{◌∙◌, [], Err, ap, length}
 use Rattle.std.proofs.lemmas.Result.{err_from_is_err_and}
 use Rattle.cbm_host.specs.Hosted.{party_of}
 use Rattle.cbm_volume.specs.Holding.{HoldsDisk}
-use Rattle.cbm_program.specs.Images.{StartsOn}
+use Rattle.cbm_program.specs.Starts.{StartsOn}
 use Rattle.cbm_program.specs.Staging.{IsAt, IsBorne}
 use Rattle.cbm_program.specs.Traces.{powered}
 use Rattle.cbm_program.proofs.LinePrints.{if_err}

@@ -1,0 +1,2 @@
+pub mod GcrImages
+pub mod ImageSizes

@@ -1,7 +1,0 @@
-use Rattle.cbm_channel.proofs.Steady.{steady_end}
-use Rattle.cbm_shell.proofs.hearing.hear.Goals as goal
-
-pub returns-clause-leads : goal.returns-clause-leads
-returns-clause-leads g c = λ m s.
-    steady_end g.M.Medium.seen g.met.M.Steady.steady c.put_each.new.dos c.end_put.new.self c.args.channel c.end_put.ensures.goes _
-    (c.put_each.ensures.leads _ (c.listen.ensures.leads m s))
