@@ -1,18 +1,25 @@
 -- When a new image would be taken for one of the old format.
 use Rattle.std.proofs.Common.{◌≡◌, ◌≢◌, ℕ, List, Bool, true, false, length, take, refl, sym, ap, subst, ◌∙◌, arith, Ok, Err, None, inl, inr}
-use Rattle.std.specs.Prelude.{codes, if◌then◌else◌, replicate, IfErr, Result}
+use Rattle.std.specs.Prelude.{codes, if◌then◌else◌, not, replicate, unwrap_or, IsTrue, ◌↔◌, [], ◌∷◌}
 use Rattle.std.specs.Str.{bytes_eq}
+use Rattle.std.proofs.lemmas.Bool.{cases_eq}
 use Rattle.std.proofs.lemmas.List.{take-take}
 use Rattle.std.proofs.lemmas.Slice.Eq.{bytes_eq-Decides}
-use Rattle.cbm_medium.specs.Place.{Place, Has}
 use Rattle.cbm_medium.specs.Content.{Cell}
 use Rattle.cbm_d64.specs.Image.{content_of, cell_of, code_of, error_at}
 use Rattle.cbm_d64.proofs.Sectors.{content_on_disk}
 use Rattle.cbm_g64.specs.File.{fault_of}
-use Rattle.cbm_g64.specs.Tracks.{or_zeros}
+use Rattle.cbm_track.specs.Circle.{bits_of, first_below, ten_ones, each_below, begins, bit}
+use Rattle.cbm_sector.specs.Answer.{id_shown, header_at}
+use Rattle.cbm_g64.specs.File.{tracks_in, offset}
+use Rattle.cbm_g64.specs.Image.{IsHeld}
+use Rattle.cbm_g64.specs.NewFile.{base_of}
+use Rattle.cbm_g64.specs.Tracks.{or_zeros, content_of as circles_of, id_for, HasTrack, Disk}
+
 use Rattle.cbm_image.specs.declared.kind.Kind.{Kind}
 use Rattle.cbm_image.specs.declared.kind.Kind.TheVariants.{D64, G64}
-use Rattle.cbm_image.specs.Images.{kind_of}
+use Rattle.cbm_image.specs.Images.{kind_of, content_of as image_content}
+use Rattle.cbm_shell.specs.Converting.{held_by, told_id, HasOtherId}
 use Rattle.cbm_shell.proofs.NewImages.{has_kind, some_track, bytes_of}
 
 -- a new G64 has no fault, and so is none that would be taken for a D64
@@ -38,3 +45,46 @@ first_eight new bytes h =
 pub mistakable : (new : List ℕ) (was : Cell) → content_of new (record { track = 1; sector = 0 }) ≡ or_zeros was → kind_of new ≢ D64 → (bytes : List ℕ) × (was ≡ Ok bytes) × (take 8 bytes ≡ codes "GCR-1541")
 mistakable new (Ok bytes) is other = (bytes, refl, first_eight new bytes is ∙ signed_first new other)
 mistakable new (Err code) is other = absurd (let z = first_eight new (replicate 256 0) is ∙ signed_first new other in cc)
+
+-- ---- the disk of a G64
+
+abbrev pub opened_disk : List ℕ → Disk
+opened_disk image = record { tracks = tracks_in image 35; file = image; formatted = false; protected = false }
+
+-- what a G64's disk shows is what its image holds
+pub opened_holds : (image : List ℕ) (d : Disk) → d ≡ opened_disk image → kind_of image ≡ G64 → circles_of d.tracks ≡ held_by image
+opened_holds image d e k = ap (λ (x : Disk). circles_of x.tracks) e ∙ sym (ap (λ (x : Kind). image_content x image) k)
+
+-- a track that isn't there has no header
+no_header : id_shown (bits_of (0 ∷ [])) ≡ None
+unfolding id_shown first_below ten_ones each_below header_at begins bit
+no_header = refl
+
+pub no_id : (file : List ℕ) (tracks : List (List Bool)) → IsHeld file tracks → offset file 17 ≡ 0 → id_for tracks ≡ 0 ∷ 0 ∷ []
+unfolding id_for
+no_id file tracks h z = ap (λ o. unwrap_or o (0 ∷ 0 ∷ [])) (ap id_shown (h.absent 17 (omega arith) z) ∙ no_header)
+
+-- the id of a disk's headers
+pub id_found : (d : Disk) (id : List ℕ) → d.formatted ≡ false → IsHeld d.file d.tracks → (HasTrack d 18 → id ≡ id_for d.tracks) → ((HasTrack d 18 → ⊥) → id ≡ 0 ∷ 0 ∷ []) → id ≡ id_for d.tracks
+id_found d id f h there missing = elim (cases_eq (offset d.file 17) 0) [
+  | inl z ↦ missing (λ t. t.2 (subst (λ b. offset (base_of b d.file) 17 ≡ 0) (sym f) z)) ∙ sym (no_id d.file d.tracks h z)
+  | inr ne ↦ there (omega arith, omega arith, subst (λ b. offset (base_of b d.file) 17 ≢ 0) (sym f) ne)
+]
+
+-- two lists differ where their bytes do
+pub differ : (b : Bool) (xs ys : List ℕ) → b ≡ not (bytes_eq xs ys) → IsTrue b ↔ (xs ≢ ys)
+differ b xs ys e = subst (λ v. IsTrue v ↔ (xs ≢ ys)) (sym e) (by_test (bytes_eq xs ys) refl)
+  where
+    by_test : (v : Bool) → bytes_eq xs ys ≡ v → IsTrue (not v) ↔ (xs ≢ ys)
+    by_test true s = ((λ f. absurd (cc)), (λ n. absurd (n ((bytes_eq-Decides xs ys).0 s))))
+    by_test false s = ((λ t same. absurd (let q = sym s ∙ (bytes_eq-Decides xs ys).1 same in cc)), (λ n. refl))
+
+-- the headers have another id than 18/0 tells
+pub other_id : (image : List ℕ) (d : Disk) (header told : List ℕ) (b : Bool) → d ≡ opened_disk image → kind_of image ≡ G64 → IsHeld (base_of d.formatted d.file) d.tracks
+    → (HasTrack d 18 → header ≡ id_for d.tracks) → ((HasTrack d 18 → ⊥) → header ≡ 0 ∷ 0 ∷ []) → told ≡ told_id (circles_of d.tracks) → b ≡ not (bytes_eq header told) → IsTrue b ↔ HasOtherId image
+other_id image d header told b e k held there missing tells is =
+    let free : d.formatted ≡ false = ap (λ (x : Disk). x.formatted) e in
+    let found : header ≡ id_for (tracks_in image 35) = id_found d header free (subst (λ f. IsHeld (base_of f d.file) d.tracks) free held) there missing ∙ ap (λ (x : Disk). id_for x.tracks) e in
+    let said : told ≡ told_id (held_by image) = tells ∙ ap told_id (opened_holds image d e k) in
+    let both = differ b header told is in
+    ((λ t. (k, λ same. both.0 t (found ∙ same ∙ sym said))), (λ h. both.1 (λ same. h.1 (sym found ∙ same ∙ said))))

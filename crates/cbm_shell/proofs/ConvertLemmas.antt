@@ -36,9 +36,9 @@ cut_content image e p h =
 
 -- ---- where nothing is lost
 
-pub whole : {A : Type 0} (r : Result A ShellFault) (image : A → List ℕ) (unreadable : A → List Fault) (more errors : A → Bool) (old : List ℕ)
-    → IfOk r (λ c. IsConverted old (image c)) → IfOk r (λ c. AreLosses old (unreadable c) (more c) (errors c))
+pub whole : {A : Type 0} (r : Result A ShellFault) (image : A → List ℕ) (unreadable : A → List Fault) (more errors id : A → Bool) (old : List ℕ)
+    → IfOk r (λ c. IsConverted old (image c)) → IfOk r (λ c. AreLosses old (unreadable c) (more c) (errors c) (id c))
     → IfOk r (λ c. unreadable c ≡ [] → (p : Place) → Has 35 p → held_by (image c) p ≡ held_by old p)
-whole (Ok c) image unreadable more errors old converted lost =
+whole (Ok c) image unreadable more errors id old converted lost =
     λ e p h. converted.kept p h ∙ all_read (held_by old) 35 p (sym lost.faults ∙ e) h.0 h.1 h.2
-whole (Err f) image unreadable more errors old converted lost = tt
+whole (Err f) image unreadable more errors id old converted lost = tt

@@ -1,10 +1,11 @@
 -- An image of the other format, and what it doesn't hold of the one that it was made from.
-use Rattle.std.specs.Prelude.{ℕ, ◌≡◌, ◌⊎◌, ◌+◌, ◌*◌, ◌%◌, ◌==◌, ◌&&◌, ◌||◌, nat_lt, not, Bool, false, List, [], ◌∷◌, length, take, codes, slice_index, slice_range, Ok, Err}
+use Rattle.std.specs.Prelude.{ℕ, ◌≡◌, ◌≢◌, ◌↔◌, ◌⊎◌, IsTrue, ◌+◌, ◌*◌, ◌%◌, ◌==◌, ◌&&◌, ◌||◌, nat_lt, not, Bool, false, List, [], ◌∷◌, length, take, codes, slice_index, slice_range, Ok, Err}
 use Rattle.cbm_medium.specs.Place.{Place, Has, directory_head}
 use Rattle.cbm_medium.specs.Content.{Cell, Content}
 use Rattle.cbm_medium.specs.declared.fault.Fault.{Fault}
 use Rattle.cbm_track.specs.Circle.{each_below}
-use Rattle.cbm_g64.specs.Tracks.{or_zeros}
+use Rattle.cbm_g64.specs.File.{tracks_in}
+use Rattle.cbm_g64.specs.Tracks.{or_zeros, id_for}
 use Rattle.cbm_image.specs.declared.kind.Kind.{Kind}
 use Rattle.cbm_image.specs.declared.kind.Kind.TheVariants.{D64, G64}
 use Rattle.cbm_image.specs.Images.{kind_of, content_of}
@@ -57,11 +58,16 @@ abbrev pub has_error_bytes : Kind → List ℕ → Bool
 has_error_bytes D64 image = (length image == 175531) && not (each_below (is_good image) 683)
 has_error_bytes G64 image = false
 
--- WHAT THE NEW IMAGE LACKS is told: the sectors that don't read, more tracks, error bytes.
-pub record AreLosses (image : List ℕ) (unreadable : List Fault) (more_tracks error_bytes : Bool) : Type 0 where
+-- the headers of a G64's track 18 have another id than 18/0 tells; zeros stand for one that isn't there
+abbrev pub HasOtherId : List ℕ → Type 0
+HasOtherId image = (kind_of image ≡ G64) × (id_for (tracks_in image 35) ≢ told_id (held_by image))
+
+-- WHAT THE NEW IMAGE LACKS is told: the sectors that don't read, more tracks, error bytes, an id that only the headers have.
+pub record AreLosses (image : List ℕ) (unreadable : List Fault) (more_tracks error_bytes header_id : Bool) : Type 0 where
   pub faults : unreadable ≡ faults_in (held_by image) 35
   pub tracks : more_tracks ≡ has_more_tracks (kind_of image) image
   pub errors : error_bytes ≡ has_error_bytes (kind_of image) image
+  pub id : IsTrue header_id ↔ HasOtherId image
 
 -- A D64 made of this G64 would be taken for a G64: its first sector begins as a G64's file does.
 abbrev pub IsMistakable : List ℕ → Type 0

@@ -1,20 +1,22 @@
 //! D64 images as G64 images, and back.
-ghost use Rattle.std.specs.Prelude.{IsTrue, ◌↔◌, ◌≡◌, ◌≢◌, ◌≤◌, ◌<◌, ◌+◌, ◌*◌, ℕ, Ok, [], true, false, length, replicate, slice_index, not, IfOk, IfErr};
+ghost use Rattle.std.specs.Prelude.{IsTrue, ◌↔◌, ◌≡◌, ◌∷◌, ◌≢◌, ◌≤◌, ◌<◌, ◌+◌, ◌*◌, ℕ, Ok, [], true, false, length, replicate, slice_index, not, IfOk, IfErr};
 ghost use Rattle.cbm_medium.specs.Place.{Place, Has, sectors_on};
 ghost use Rattle.cbm_medium.specs.Content.{written};
 ghost use Rattle.cbm_track.specs.Circle.{each_below};
 ghost use Rattle.cbm_d64.specs.Image.{content_of, tracks_in};
-ghost use Rattle.cbm_g64.specs.Tracks.{or_zeros, id_for};
+ghost use Rattle.cbm_g64.specs.File.{tracks_in as circles_in};
+ghost use Rattle.cbm_g64.specs.Tracks.{or_zeros, id_for, HasTrack};
 ghost use Rattle.cbm_image.specs.Images.{kind_of};
 ghost use Rattle.cbm_image.specs.declared.kind.Kind.TheVariants.{D64, G64};
 ghost use Rattle.cbm_shell.specs.Converting.{told_id, held_by, is_plain, has_more_tracks, has_error_bytes, IsConverted, AreLosses, IsConvertFault};
+ghost use Rattle.cbm_shell.specs.Images.{IsOpenFault};
 
 use crate::fault::ShellFault;
 use crate::images::{opened, saved};
 use crate::looking::sectors::faults_in;
 use crate::making::{OF_35_TRACKS, OF_40_TRACKS, zeros};
 use cbm_d64::D64Disk;
-use cbm_g64::G64Disk;
+use cbm_g64::{G64Disk, G64Fault};
 use cbm_medium::{Address, Fault, Medium, sectors_of};
 use cbm_image::{Kind, kind_of};
 use cbm_sector::id_of;
@@ -73,10 +75,31 @@ fn told_id<M: Medium>(medium: &M) -> [u8; 2]
 }
 
 /// The id in the headers of track 18; zeros where it has none.
-fn header_id(disk: &G64Disk) -> [u8; 2] {
+fn header_id(disk: &G64Disk) -> [u8; 2]
+    ensures there { HasTrack disk.now 18 → result ≡ id_for disk.now.tracks }
+    ensures missing { (HasTrack disk.now 18 → ⊥) → result ≡ 0 ∷ 0 ∷ [] }
+{
     match disk.track(DIRECTORY) {
         Some(track) => id_of(track).unwrap_or([0, 0]),
         None => [0, 0],
+    }
+}
+
+/// The disk of a G64. Errors: `Image` with the number of the format's first fault, `Memory`.
+fn circles(alloc: Global, image: &[u8]) -> Result<G64Disk, ShellFault>
+    requires { kind_of image.now ≡ G64 }
+    ensures ok { IfOk result (λ d. d ≡ (record {
+      tracks = circles_in image.now 35;
+      file = image.now;
+      formatted = false;
+      protected = false;
+    })) }
+    ensures err { IfErr result (IsOpenFault image.now) }
+{
+    match G64Disk::from_bytes(alloc, image, false) {
+        Ok(disk) => Ok(disk),
+        Err(G64Fault::Memory) => Err(ShellFault::Memory),
+        Err(fault) => Err(ShellFault::Image(fault.number())),
     }
 }
 
@@ -243,7 +266,8 @@ fn settled(image: Vec<u8>, kind: Kind) -> Result<Vec<u8>, ShellFault>
 fn to_g64(alloc: Global, image: &[u8]) -> Result<Converted, ShellFault>
     requires { kind_of image.now ≡ D64 }
     ensures kept { IfOk result (λ c. IsConverted image.now c.image.items) }
-    ensures told { IfOk result (λ c. AreLosses image.now c.lost.unreadable.items c.lost.more_tracks c.lost.error_bytes) }
+    ensures told { IfOk result (λ c. AreLosses image.now c.lost.unreadable.items c.lost.more_tracks
+        c.lost.error_bytes c.lost.header_id) }
     ensures cause { IfErr result (IsConvertFault image.now) }
 {
     let whole = opened::<D64Disk>(alloc, image)?;
@@ -268,10 +292,11 @@ fn to_g64(alloc: Global, image: &[u8]) -> Result<Converted, ShellFault>
 fn to_d64(alloc: Global, image: &[u8]) -> Result<Converted, ShellFault>
     requires { kind_of image.now ≡ G64 }
     ensures kept { IfOk result (λ c. IsConverted image.now c.image.items) }
-    ensures told { IfOk result (λ c. AreLosses image.now c.lost.unreadable.items c.lost.more_tracks c.lost.error_bytes) }
+    ensures told { IfOk result (λ c. AreLosses image.now c.lost.unreadable.items c.lost.more_tracks
+        c.lost.error_bytes c.lost.header_id) }
     ensures cause { IfErr result (IsConvertFault image.now) }
 {
-    let disk = opened::<G64Disk>(alloc, image)?;
+    let disk = circles(alloc, image)?;
     let lost = Losses {
         unreadable: faults_in(alloc, &disk, TRACKS)?,
         more_tracks: has_more_tracks(image),
@@ -289,7 +314,8 @@ pub fn convert(alloc: Global, image: &[u8]) -> Result<Converted, ShellFault>
     // Each sector that reads is in the new image byte for byte.
     ensures kept { IfOk result (λ c. IsConverted image.now c.image.items) }
     // What the new image can't hold is told.
-    ensures told { IfOk result (λ c. AreLosses image.now c.lost.unreadable.items c.lost.more_tracks c.lost.error_bytes) }
+    ensures told { IfOk result (λ c. AreLosses image.now c.lost.unreadable.items c.lost.more_tracks
+        c.lost.error_bytes c.lost.header_id) }
     // Where all sectors read, the new image holds what the old one does.
     ensures whole { IfOk result (λ c. c.lost.unreadable.items ≡ [] →
         (p : Place) → Has 35 p → held_by c.image.items p ≡ held_by image.now p) }
