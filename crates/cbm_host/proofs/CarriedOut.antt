@@ -1,5 +1,6 @@
 -- A request that was performed from rest was carried out.
 use Rattle.std.proofs.Common.{◌≡◌, ℕ, zero, ◌+◌, ◌≤◌, Bool, false, List, [], ◌∷◌, ◌++◌, append-nil, Option, Some, None, refl, sym, ap, ◌∙◌, subst, arith}
+use Rattle.std.specs.List.{All}
 use Rattle.cbm_iec.specs.Ports.{resting, port_due}
 use Rattle.cbm_iec.specs.declared.act.Act.{Act}
 use Rattle.cbm_iec.specs.declared.event.Event.{Event}
@@ -17,10 +18,12 @@ use Rattle.cbm_session.proofs.headline.Lawful.{rest_here}
 use Rattle.cbm_session.proofs.headline.Premises.{place_in, mute, Stood}
 use Rattle.cbm_session.proofs.reading.OneReading.{one_reading_lem}
 use Rattle.cbm_session.proofs.timing.KeepsTiming.{fronts_keep}
+use Rattle.cbm_session.proofs.timing.SessionOrder.{goes_on}
 use Rattle.cbm_session.specs.Among.{Rest, wires_of}
 use Rattle.cbm_session.specs.Answers.{Allowed, Run}
 use Rattle.cbm_session.specs.Buses.{SideAmong, rest_at, holding}
 use Rattle.cbm_session.specs.Following.{in_attention}
+use Rattle.cbm_session.specs.Laws.{GoesOn}
 use Rattle.cbm_session.specs.Pieces.{Piece, Place, Point, Open}
 use Rattle.cbm_session.specs.Playing.{Station, IsLaterDue, nobody, Plays, at_rest, IsMachine, IsKept}
 use Rattle.cbm_session.specs.Seats.{lines, Seat}
@@ -40,7 +43,8 @@ use Rattle.cbm_host.proofs.Joined.{DriveComes, Comes, comes}
 use Rattle.cbm_host.proofs.Joining.{is_next}
 use Rattle.cbm_host.proofs.Joint.{met, quiet_bytes, goes_bytes}
 use Rattle.cbm_host.proofs.Settling.{Settles, rests, one_settles}
-use Rattle.cbm_host.proofs.Started.{not_before_start}
+use Rattle.cbm_host.proofs.Started.{not_before_start, starts_at}
+use Rattle.cbm_host.proofs.Within.{IsIn, host_first, between}
 use Rattle.cbm_host.specs.CarriedOut as asked
 use Rattle.cbm_host.specs.CarriedOut.{IsTakenBy, IsShort, HasCarriedOut}
 use Rattle.cbm_host.specs.Engines.{engine_at, engine_due, stage_end, channel_of}
@@ -224,6 +228,21 @@ module _ (D M : Type 0) (stands : D → M → Type 0) (step : M → Act → M) (
     end_is : stage_end p.engine.stage ≡ Some the_plan.played.until
     end_is = ended_then p.engine.stage the_plan.played.until over.1
 
+    -- each event lies between the start and the end
+    none_last : (front : List Step) (last : Step) → [] ≡ front ++ last ∷ [] → ⊥
+    none_last [] last e = cc
+    none_last (x ∷ front) last e = cc
+
+    is_within : All (IsIn start the_plan.played.until) h.made
+    is_within = subst (λ (l : List Event). All (IsIn start the_plan.played.until) l) joint.shown (by joint.done (all_done ∙ append-nil joint.done) joint.shown)
+      where
+        by : (done : List Step) → session_steps (rest (b ∷ [])) the_plan.pieces ≡ done → events_of done ≡ h.made → All (IsIn start the_plan.played.until) (events_of done)
+        by [] e s = absurd (none_last the_plan.played.front the_plan.played.last (sym e ∙ the_plan.played.steps))
+        by (x ∷ xs) e s =
+            let host = host_first M step says ms b all_plays x.event (events_of xs) (sym s) in
+            let at_ = starts_at start b.device request the_plan.played.performs refl x xs e host in
+            between start the_plan.played.until x xs the_plan.played.front the_plan.played.last (subst GoesOn e (goes_on (b ∷ []) the_plan.pieces is_bus the_plan.played.linked)) (sym e ∙ the_plan.played.steps) host at_ the_plan.played.over
+
     carried_out : HasCarriedOut D M stands step says b ms start request bus old new bytes last the_plan.played.until
     carried_out = record {
       made = h.made;
@@ -235,6 +254,7 @@ module _ (D M : Type 0) (stands : D → M → Type 0) (step : M → Act → M) (
         kept = subst (λ (v : List (Station M)). IsKept M step says (b ∷ []) ms h.made the_plan.played.until v) (sym one.1 ∙ is_at_rest) (kept_one the_plan.played.until);
         ran = ran;
         taken = subst (λ (v : Bool). IsTakenBy request bytes v) (sym is_last) (subst (λ (l : List ℕ). IsTakenBy request l (last_from false the_plan.marks)) (sym is_taken) the_plan.taken);
+        within = is_within;
         later = not_before_start b start b.device (start + longest b.pace) request the_plan.pieces is_bus the_plan.played;
         soon = the_plan.played.soon;
       };

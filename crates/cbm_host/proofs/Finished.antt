@@ -34,7 +34,7 @@ sooner Host m v n h = h
 sooner (Drive o) m Host n h = omega (arith, h)
 sooner (Drive o) m (Drive u) n h = h
 
-all_upto : (w : Who) (m : ℕ) (front : List Step) (last : Step) → AllAfter w m (front ++ last ∷ []) → m ≤ moment_of last
+pub all_upto : (w : Who) (m : ℕ) (front : List Step) (last : Step) → AllAfter w m (front ++ last ∷ []) → m ≤ moment_of last
 all_upto w m [] last h = sooner w m last.event.who (moment_of last) h.0
 all_upto w m (x ∷ front) last h = all_upto w m front last h.1
 

@@ -17,6 +17,8 @@ pub mod Counted
 pub mod Saying
 pub mod Finished
 pub mod Started
+pub mod Within
+pub mod EndsAt
 pub mod Fronts
 pub mod Answering
 pub mod Settling

@@ -1,6 +1,7 @@
 -- A request isn't over before its first change, which comes at its start.
 use Rattle.std.proofs.Common.{◌≡◌, ℕ, ◌≤◌, List, [], ◌∷◌, ◌++◌, refl, sym, ap, ◌∙◌, subst, arith}
 use Rattle.cbm_iec.specs.Ports.{change_at}
+use Rattle.cbm_iec.specs.declared.event.Who.TheVariants.{Host, Drive}
 use Rattle.cbm_iec.specs.declared.line.Change.{Change}
 use Rattle.cbm_iec.specs.declared.line.Line.TheVariants.{Atn}
 use Rattle.cbm_iec.specs.declared.line.Way.TheVariants.{Pull}
@@ -9,7 +10,7 @@ use Rattle.cbm_session.proofs.timing.SessionOrder.{goes_on}
 use Rattle.cbm_session.specs.Laws.{GoesOn}
 use Rattle.cbm_session.specs.Pieces.{Piece}
 use Rattle.cbm_session.specs.Sessions.{rest, IsBus}
-use Rattle.cbm_session.specs.Steps.{Step, moment_of}
+use Rattle.cbm_session.specs.Steps.{Step, moment_of, event_of}
 use Rattle.cbm_host.proofs.Finished.{upto_last}
 use Rattle.cbm_host.specs.Engines.{Engined, engine_at, engine_due, engine_seen}
 use Rattle.cbm_host.specs.Performing.{Performs, ends, makes, sees, passes}
@@ -49,3 +50,17 @@ not_before_start b start d limit request ks is_bus f =
     let here = h.moment in
     let over = f.over in
     omega (arith, last, here, over)
+
+-- where the host's change is the first step, it comes at the start
+pub starts_at : (start d : ℕ) (request : Request) {e e2 : Engined} {ss : List Step} → Performs e ss e2 → e ≡ engine_at start d request → (x : Step) (xs : List Step) → ss ≡ x ∷ xs → x.event.who ≡ Host → moment_of x ≡ start
+starts_at start d request (ends same) first x xs e host = absurd cc
+starts_at start d request {e} (makes {t} {line} {way} {mark} {ss} due taken h) first x xs e2 host =
+    let k : Makes (change_at t line way) ≡ Makes (change_at start Atn Pull) = sym due ∙ ap engine_due first in
+    let c : change_at t line way ≡ change_at start Atn Pull = cc in
+    let same : record { event = event_of Host t line way; mark = mark } ≡ x = cc in
+    ap moment_of (sym same) ∙ ap (λ (y : Change). y.moment) c
+starts_at start d request (sees {o} {t} {line} {way} {mark} {ss} early h) first x xs e host =
+    let same : record { event = event_of (Drive o) t line way; mark = mark } ≡ x = cc in
+    let no : Drive o ≡ Host = ap (λ (s : Step). s.event.who) same ∙ host in
+    absurd cc
+starts_at start d request (passes u due silent h) first x xs e host = let k : Waits u ≡ Makes (change_at start Atn Pull) = sym due ∙ ap engine_due first in absurd cc

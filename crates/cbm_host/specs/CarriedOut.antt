@@ -1,4 +1,5 @@
 -- A request carried out on a bus with one drive, from rest: what the drive's machine ran, and what the host has of it.
+use Rattle.std.specs.List.{All}
 use Rattle.std.specs.Prelude.{replicate, ◌≡◌, ◌≤◌, ◌<◌, ◌⊎◌, ℕ, ◌+◌, Bool, true, false, List, [], ◌∷◌, ◌++◌, length, Option, Some}
 use Rattle.cbm_iec.specs.declared.act.Act.TheVariants.{Pulled, Attention, Released, Heard, Said, Silent}
 use Rattle.cbm_iec.specs.declared.act.Act.{Act}
@@ -73,7 +74,7 @@ module _ (M : Type 0) (step : M → Act → M) (says : M → Option (ℕ × Bool
   IsShort d m Status = SaysFew (most_of Status) (run M step says m (called (talk + d) (data_on + 15)))
   IsShort d m request = (length (sent_by request) ≤ most_bytes) × AreBytes (sent_by request)
 
-  -- A REQUEST WAS CARRIED OUT, by these events up to this end, which isn't before the start: the host kept the bus's timing; the events are a beginning of
+  -- A REQUEST WAS CARRIED OUT, by these events, none before the start or after this end: the host kept the bus's timing; the events are a beginning of
   -- a session in which each byte said is the machine's answer, and no reaction was late; the machine ran exactly the acts of the request with these bytes;
   -- and with it the bus is at rest.
   pub record IsCarriedOut (b : Party) (ms : ℕ → M) (start : ℕ) (request : Request) (made : List Event) (bytes : List ℕ) (last : Bool) (end : ℕ) (machine : M) : Type 0 where
@@ -81,6 +82,7 @@ module _ (M : Type 0) (step : M → Act → M) (says : M → Option (ℕ × Bool
     pub kept : IsKept M step says (b ∷ []) ms made end (at_rest M step says (λ d. machine) (b ∷ []))
     pub ran : Run M step says (ms b.device) (acts_of b.device request bytes last) machine
     pub taken : IsTakenBy request bytes last
+    pub within : All (λ (e : Event). (start ≤ e.change.moment) × (e.change.moment ≤ end)) made
     pub later : start ≤ end
     pub soon : end ≤ start + longest b.pace
 

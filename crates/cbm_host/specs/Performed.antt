@@ -1,11 +1,13 @@
 -- What came of a request: the events, and the bytes that the host took.
 use Rattle.std.specs.List.{All}
-use Rattle.std.specs.Prelude.{◌≡◌, ◌≤◌, ℕ, Bool, false, List, [], ◌∷◌, ◌++◌, Option, Some, None}
+use Rattle.std.specs.Prelude.{◌≡◌, ◌≤◌, ℕ, min, Bool, false, List, [], ◌∷◌, ◌++◌, Option, Some, None}
 use Rattle.cbm_drive.specs.Cables.{Cabled}
 use Rattle.cbm_drive.specs.Players.{from_behind}
 use Rattle.cbm_drive.specs.Seats.{IsBusAt}
 use Rattle.cbm_host.specs.Engines.{Engined, engine_due}
 use Rattle.cbm_host.specs.Performers.{Performing, GoesOnFrom, Stops, IsDue, engine_behind, byte_with, IsGoing}
+use Rattle.cbm_host.specs.declared.stage.Stage.{Stage}
+use Rattle.cbm_host.specs.declared.stage.Stage.TheVariants.{Ending, Done}
 use Rattle.cbm_iec.specs.declared.act.Act.{Act}
 use Rattle.cbm_iec.specs.declared.event.Event.{Event}
 use Rattle.cbm_session.specs.Playing.{Station, Plays}
@@ -38,13 +40,20 @@ module _ (M : Type 0) (step : M → Act → M) (says : M → Option (ℕ × Bool
     goes : {e e2 : Engined} {es2 : List Event} {bytes2 : List ℕ} {last2 : Bool} (e1 found : Engined) (x : Event) (es : List Event) (bytes : List ℕ) (last : Bool) → Runs e es bytes last e1 → GoesOnFrom M step says 0 ss es e1 found → IsDue x.who x.change found
         → e2 ≡ engine_behind x.who x.change found → es2 ≡ es ++ x ∷ [] → bytes2 ≡ bytes ++ taken_with (byte_with x.who found) → last2 ≡ last_with (byte_with x.who found) last → Runs e es2 bytes2 last2 e2
 
+-- when a request is over whose host is at this stage after its last event: at the end that it waits for, and else at the limit, where it gives up
+abbrev pub over_at : ℕ → Stage → ℕ
+over_at limit (Ending until) = min until limit
+over_at limit (Done until) = min until limit
+over_at limit stage = limit
+
 module _ (M : Type 0) (step : M → Act → M) (says : M → Option (ℕ × Bool)) where
-  -- THE HOST KEPT THE REQUEST'S MOMENTS: these events were added, and the request runs along them, each change of the host when it was due.
-  pub record HasRun (e : Engined) (old new : List Event) (bytes : List ℕ) (last : Bool) (ss : List (Station M)) : Type 0 where
+  -- THE HOST KEPT THE REQUEST'S MOMENTS: these events were added, and the request runs along them, each change of the host when it was due, and to its end.
+  pub record HasRun (e : Engined) (limit : ℕ) (old new : List Event) (bytes : List ℕ) (last : Bool) (end : ℕ) (ss : List (Station M)) : Type 0 where
     pub made : List Event
     pub added : new ≡ old ++ made
     pub behind : Engined
     pub runs : Runs M step says ss e made bytes last behind
+    pub over : end ≡ over_at limit behind.stage
 
 module _ (D M : Type 0) (stands : D → M → Type 0) (step : M → Act → M) (says : M → Option (ℕ × Bool)) where
   -- A REQUEST IS UNDER WAY up to a limit: events were added, a play of the bus, and the request runs along it.

@@ -164,6 +164,7 @@ impl<'a> Performer<'a> {
     pub fn over(&self) -> u64
         ensures limit { result ≤ self.now.limit }
         ensures end { (t : ℕ) → stage_end self.now.engine.stage ≡ Some t → t ≤ self.now.limit → result ≡ t }
+        ensures late { (t : ℕ) → stage_end self.now.engine.stage ≡ Some t → self.now.limit < t → result ≡ self.now.limit }
         ensures given_up { stage_end self.now.engine.stage ≡ None → result ≡ self.now.limit }
     {
         match self.engine.end() {

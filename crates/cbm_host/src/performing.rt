@@ -44,10 +44,10 @@ pub fn perform<D: Machine, const N: usize>(
         IsBusAt _ D.State D.stands bus.old.host bus.old.drives (at_rest D.State D.step D.says ms (b ∷ [])) →
         IfOk result (λ done. HasCarriedOut _ D.State D.stands D.step D.says b ms start request.entry bus.new
         events.old.items events.new.items done.bytes.items done.last done.end) }
-    // Each change of the host came at the moment that the request's stages say.
+    // Each change of the host came at the moment that the request's stages say, and so did the end.
     ensures moments { (ss : List (Station D.State)) → IsBusAt _ D.State D.stands bus.old.host bus.old.drives ss →
-        IfOk result (λ done. HasRun D.State D.step D.says (engine_at start device request.entry) events.old.items
-        events.new.items done.bytes.items done.last ss) }
+        IfOk result (λ done. HasRun D.State D.step D.says (engine_at start device request.entry) (start + 250000000)
+        events.old.items events.new.items done.bytes.items done.last done.end ss) }
     // On any disk a machine plays back what the drive showed, and for that machine the request was carried out.
     ensures recorded { (v : Party) → let b = at_pace Profile v in IsDrive b → b.device ≡ device → IsAtRest D.shows b bus.old →
         MatchResult result
@@ -84,10 +84,10 @@ pub fn perform_at<D: Machine, const N: usize>(
         IsBusAt _ D.State D.stands bus.old.host bus.old.drives (at_rest D.State D.step D.says ms (b ∷ [])) →
         IfOk result (λ done. HasCarriedOut _ D.State D.stands D.step D.says b ms start request.entry bus.new
         events.old.items events.new.items done.bytes.items done.last done.end) }
-    // Each change of the host came at the moment that the request's stages say.
+    // Each change of the host came at the moment that the request's stages say, and so did the end.
     ensures moments { (ss : List (Station D.State)) → IsBusAt _ D.State D.stands bus.old.host bus.old.drives ss →
-        IfOk result (λ done. HasRun D.State D.step D.says (engine_at start device request.entry) events.old.items
-        events.new.items done.bytes.items done.last ss) }
+        IfOk result (λ done. HasRun D.State D.step D.says (engine_at start device request.entry) (start + longest pace)
+        events.old.items events.new.items done.bytes.items done.last done.end ss) }
     // On any disk a machine plays back what the drive showed, and for that machine the request was carried out.
     ensures recorded { (b : Party) → IsDrive b → b.device ≡ device → b.pace ≡ pace → IsAtRest D.shows b bus.old →
         MatchResult result

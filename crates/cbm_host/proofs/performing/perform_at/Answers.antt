@@ -5,8 +5,10 @@ use Rattle.cbm_host.proofs.CarriedOut.{some_end, carried_soon, carried_out_then}
 use Rattle.cbm_host.proofs.Performed.{performing_none}
 use Rattle.cbm_host.proofs.performing.perform_at.Goals as goal
 use Rattle.cbm_host.specs.CarriedOut.{IsShort}
-use Rattle.cbm_host.specs.Engines.{engine_at}
-use Rattle.cbm_host.specs.Performed.{HasPerformed}
+use Rattle.cbm_host.proofs.EndsAt.{over_then}
+use Rattle.cbm_host.specs.Engines.{engine_at, engine_due}
+use Rattle.cbm_host.specs.Performed.{over_at, HasPerformed}
+use Rattle.cbm_host.specs.Performers.{Stops}
 use Rattle.cbm_host.specs.Requests.{longest}
 use Rattle.cbm_drive.specs.Playback.{Playback, played_says, played_step, IsPlayedBack}
 use Rattle.cbm_drive.specs.PlayedBack.{played_byte}
@@ -39,7 +41,15 @@ returns-in-Ok-clause-moments g c = λ ss bus.
     let h = c.in-Ok.ensures.performed engine limit c.args.events.now.items ss
     (performing_none _ g.D.Machine.State g.D.Machine.stands g.D.Machine.step g.D.Machine.says g.met.D.Machine.byte engine limit c.with_pace-performer.result c.args.bus.now c.args.events.now.items c.new.result.items false ss bus c.with_pace-performer.ensures.player c.with_pace-performer.ensures.engine
     c.with_pace-performer.ensures.limit c.new.ensures.items refl) in
-    record { made = h.made; added = h.added; behind = h.behind; runs = h.runs }
+    let stops = subst (λ (l : ℕ). Stops g.D.Machine.State g.D.Machine.step g.D.Machine.says c.run.new.performer.player l 0 ss h.made (engine_due c.run.new.performer.engine)) (sym h.until) h.stops in
+    record {
+      made = h.made;
+      added = h.added;
+      behind = h.behind;
+      runs = h.runs;
+      over = over_then g.D.Machine.State g.D.Machine.step g.D.Machine.says c.run.new.performer.player c.run.new.performer.limit c.over.result 0 ss h.made h.behind c.run.new.performer.engine h.goes_on stops c.over.ensures.end c.over.ensures.late c.over.ensures.given_up
+          ∙ ap (λ (l : ℕ). over_at l h.behind.stage) h.until;
+    }
 
 pub returns-in-Err-clause-memory : goal.returns-in-Err-clause-memory
 returns-in-Err-clause-memory g c = λ ss bus.
