@@ -21,3 +21,6 @@ pub mod TimedLines
 pub mod TraceLemmas
 pub mod StartLemmas
 pub mod ReadingBack
+pub mod Guarded
+pub mod Along
+pub mod GuardedRuns

@@ -10,7 +10,7 @@ use Rattle.cbm_program.specs.declared.request.Request.{Request}
 use Rattle.cbm_program.specs.declared.fault.RunFault.{RunFault}
 use Rattle.cbm_program.specs.declared.fault.RunFault.TheVariants.{Script, Image, Memory, Reading, Writing}
 use Rattle.cbm_program.specs.Scripts.{printed}
-use Rattle.std.specs.Io.KnownBytes.{Appends}
+use Rattle.std.specs.Io.KnownBytes.{Appends, Keeps}
 use Rattle.cbm_program.specs.Output.{AppendsPart, Grows, Prints, PrintsPart}
 use Rattle.cbm_program.specs.Running.{script_of, EndsAs, EndsBy}
 use Rattle.cbm_image.specs.declared.kind.Kind.{Kind}
@@ -140,6 +140,10 @@ pub behind-among : (pace : Pace) (checks : Bool) (a b x : Option (List ℕ)) (so
 behind-among pace checks a b None some all now next is then e = tt
 behind-among pace checks a b (Some xs) some all now next is then e = λ m s. let r = e m (is m s) in (r.0, then (printed pace (script_of xs).requests m).machine r.1)
 
+pub ended-behind-among : (pace : Pace) (checks : Bool) (a b x : Option (List ℕ)) (some all now : Machine → Type 0) (bad : Option ℕ) → AreAmong some all → EndedBehind pace checks a b x all now bad → EndedBehind pace checks a b x some now bad
+ended-behind-among pace checks a b None some all now bad is e = tt
+ended-behind-among pace checks a b (Some xs) some all now bad is e = (e.0, λ m s. e.1 m (is m s))
+
 pub begun-behind-among : (pace : Pace) (checks : Bool) (a b x : Option (List ℕ)) (some all : Machine → Type 0) → AreAmong some all → BegunBehind pace checks a b x all → BegunBehind pace checks a b x some
 begun-behind-among pace checks a b None some all is e = tt
 begun-behind-among pace checks a b (Some xs) some all is e = λ m s. e m (is m s)
@@ -182,3 +186,13 @@ checked-as kind other image tracks content a b same is h = rw same
 -- the check of a medium, and what was printed behind its line
 pub checked-first : (tracks : ℕ) (content : Content) (a b c : Option (List ℕ)) → IsCheckPrinted tracks content a b → Grows b c → IsCheckedFirst tracks content a c
 checked-first tracks content a b c h g = (b, h, g)
+
+-- ---- where memory is lacking
+
+pub keeps-same : (o : Option (List ℕ)) → Keeps o o
+keeps-same None = tt
+keeps-same (Some xs) = refl
+
+-- a run never lacks it
+pub never-lacking : {A : Type 0} (r : Result A RunFault) (f : RunFault) (P : Type 0) → r ≡ Err f → (f ≡ Memory → ⊥) → r ≡ Err Memory → P
+never-lacking r f P e other h = let same : Err f ≡ Err Memory = sym e ∙ h in absurd (other (cc))

@@ -1,5 +1,5 @@
 //! Running a script on the disk of an image.
-ghost use Rattle.std.specs.Prelude.{◌≡◌, ◌≢◌, ◌≤◌, ℕ, [], true, Err, IfSome, IfOk, IfErr, OnErr};
+ghost use Rattle.std.specs.Prelude.{◌≡◌, ◌≢◌, ◌≤◌, ℕ, [], true, false, Err, IfSome, IfOk, IfErr, OnErr};
 ghost use Rattle.cbm_host.specs.Hosted.{party_of};
 ghost use Rattle.cbm_iec.specs.declared.pace.Pace.TheVariants.{Profile};
 ghost use Rattle.cbm_program.specs.Checking.{printed_behind, checked_text, IsCheckedFirst};
@@ -73,6 +73,7 @@ fn run_script<M: RunsScripts + Drop, R: Read + Drop, W: Write>(
     ensures grows { Grows (W.contents writer.old) (W.contents writer.new) }
     ensures same_tracks { IfOk result (λ after. (M.seen after).tracks ≡ (M.seen medium).tracks) }
     ensures image { IfErr result (λ fault. (n : ℕ) → fault ≢ RunFault.Image n) }
+    ensures memory { IfErr result (λ fault. fault ≢ RunFault.Memory) }
 {
     let mut lines = Lines::new(reader);
     match read_first(&mut lines)? {
@@ -118,6 +119,7 @@ fn run_with<M: RunsScripts + Drop, R: Read + Drop, W: Write>(
     ensures grows { Grows (W.contents writer.old) (W.contents writer.new) }
     ensures same_tracks { IfOk result (λ after. (M.seen after).tracks ≡ (M.seen medium).tracks) }
     ensures image { IfErr result (λ fault. (n : ℕ) → fault ≢ RunFault.Image n) }
+    ensures memory { IfErr result (λ fault. fault ≢ RunFault.Memory) }
 {
     let volume = Volume::open(medium);
     print_check(&volume, checks, writer)?;
@@ -138,11 +140,22 @@ fn opened<I: DiskImage>(alloc: Global, image: &[u8], protected: bool) -> Result<
     }
 }
 
-/// The image of a disk. The one error is `Memory`.
-fn saved<I: DiskImage>(alloc: Global, disk: &I) -> Result<Vec<u8>, RunFault>
-    ensures ok { IfOk result (λ image. IsOf I.kind image.items (I.seen disk.now).tracks (I.seen disk.now).content) }
+/// The image after a run: of a protected disk, to which nothing was written, the one that was given; else the disk's as it is
+/// now. The one error is `Memory`.
+fn image_after<I: DiskImage>(
+    alloc: Global,
+    disk: &I,
+    image: &[u8],
+    protected: bool,
+) -> Result<Vec<u8>, RunFault>
+    ensures given { protected ≡ true → IfOk result (λ v. v.items ≡ image.now) }
+    ensures written { protected ≡ false → IfOk result (λ v. IsOf I.kind v.items (I.seen disk.now).tracks
+        (I.seen disk.now).content) }
     ensures err { IfErr result (λ fault. fault ≡ RunFault.Memory) }
 {
+    if protected {
+        return Vec::from_slice(alloc, image).map_err(|_| RunFault::Memory);
+    }
     disk.save(alloc).map_err(|_| RunFault::Memory)
 }
 
@@ -163,11 +176,11 @@ fn run_image<I: RunsScripts + Drop, R: Read + Drop, W: Write>(
 {
     let disk = opened::<I>(alloc, image, options.protected)?;
     let disk = run_with(disk, options.check, options.device, pace, reader, writer)?;
-    saved(alloc, &disk)
+    image_after(alloc, &disk, image, options.protected)
 }
 
 /// Runs a script on the disk of an image, and gives the image as it is then, with all that the script wrote: of the
-/// same format, and with as many tracks. The drive keeps the profile's pace.
+/// same format, and with as many tracks. Of a protected disk it gives the same bytes. The drive keeps the profile's pace.
 ///
 /// The image is tested before the script is read, and if a check is asked for, its line is printed first. The script is
 /// read a line at a time, and what a line prints is written before the next one is read. Takes memory for the disk and

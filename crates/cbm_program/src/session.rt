@@ -60,6 +60,7 @@ fn run_on<M: Steady, R: Read, W: Write>(
     ensures tracks { tracks_on M.seen drive.new ≡ tracks_on M.seen drive.old }
     ensures grows { Grows (W.contents writer.old) (W.contents writer.new) }
     ensures image { IfErr result (λ fault. (n : ℕ) → fault ≢ RunFault.Image n) }
+    ensures memory { IfErr result (λ fault. fault ≢ RunFault.Memory) }
 {
     let mut bytes = ArrayVec::new();
     let mut number = 1;
@@ -105,6 +106,7 @@ pub(crate) fn run_requests<M: Steady + Drop, R: Read, W: Write>(
     ensures grows { Grows (W.contents writer.old) (W.contents writer.new) }
     ensures same_tracks { IfOk result (λ after. (M.seen after).tracks ∷ [] ≡ tracks_on M.seen drive) }
     ensures image { IfErr result (λ fault. (n : ℕ) → fault ≢ RunFault.Image n) }
+    ensures memory { IfErr result (λ fault. fault ≢ RunFault.Memory) }
 {
     let mut drive = drive;
     run_on(&mut drive, lines, first, writer)?;

@@ -46,7 +46,8 @@ pub(crate) trait RunsScripts: DiskImage {
             (StartsFrom (Self.seen self)) (party_of pace device) [] (timetable_of bytes))) }
         ensures grows { Grows (W.contents writer.old) (W.contents writer.new) }
         ensures same_tracks { IfOk result (λ after. (Self.seen after).tracks ≡ (Self.seen self).tracks) }
-        ensures image { IfErr result (λ fault. (n : ℕ) → fault ≢ RunFault.Image n) };
+        ensures image { IfErr result (λ fault. (n : ℕ) → fault ≢ RunFault.Image n) }
+        ensures memory { IfErr result (λ fault. fault ≢ RunFault.Memory) };
 
     /// Carries out a script of requests, behind its first line, on a drive of this pace at power up with this disk and a
     /// device number from 8 to 11, and gives the disk back with what came of it. Errors: `Script`, `Reading` or `Writing`.
@@ -74,7 +75,8 @@ pub(crate) trait RunsScripts: DiskImage {
             (StartsFrom (Self.seen self)) (printed pace (script_of bytes).requests))) }
         ensures grows { Grows (W.contents writer.old) (W.contents writer.new) }
         ensures same_tracks { IfOk result (λ after. (Self.seen after).tracks ≡ (Self.seen self).tracks) }
-        ensures image { IfErr result (λ fault. (n : ℕ) → fault ≢ RunFault.Image n) };
+        ensures image { IfErr result (λ fault. (n : ℕ) → fault ≢ RunFault.Image n) }
+        ensures memory { IfErr result (λ fault. fault ≢ RunFault.Memory) };
 }
 
 impl RunsScripts for D64Disk {

@@ -83,6 +83,7 @@ fn play_on<M: Steady, R: Read, W: Write>(
     ensures tracks { tracks_in M.seen stage.new.bus ≡ tracks_in M.seen stage.old.bus }
     ensures grows { Grows (W.contents writer.old) (W.contents writer.new) }
     ensures image { IfErr result (λ fault. (n : ℕ) → fault ≢ RunFault.Image n) }
+    ensures memory { IfErr result (λ fault. fault ≢ RunFault.Memory) }
 {
     let mut bytes = ArrayVec::new();
     let mut number = 2;
@@ -138,6 +139,7 @@ pub(crate) fn run_changes<M: Steady + Drop, R: Read, W: Write>(
     ensures grows { Grows (W.contents writer.old) (W.contents writer.new) }
     ensures same_tracks { IfOk result (λ after. (M.seen after).tracks ∷ [] ≡ tracks_in M.seen stage.bus) }
     ensures image { IfErr result (λ fault. (n : ℕ) → fault ≢ RunFault.Image n) }
+    ensures memory { IfErr result (λ fault. fault ≢ RunFault.Memory) }
 {
     let mut stage = stage;
     play_on(&mut stage, device, pace, lines, writer)?;
