@@ -1,10 +1,9 @@
 -- A protected machine keeps its disk, whatever it is asked: no channel of it has a file to be written.
-use Rattle.std.proofs.Common.{◌≡◌, ◌≢◌, ℕ, zero, suc, ◌+◌, ◌-◌, ◌<◌, ◌≤◌, ◌⊎◌, inl, inr, Bool, true, false, not, ◌&&◌, ◌||◌, List, [], ◌∷◌, ◌++◌, length, replicate, slice_index_or, slice_set, if◌then◌else◌, nat_lt, ◌==◌, Option, Some, None, is_some, Result, Ok, Err, sum_by, ltb-false, refl, sym, ap, ◌∙◌, subst, arith}
-use Rattle.cbm_file.specs.Files.{File, Disk, Bytes, Records, Body, files, files_from, held_on, held_by, record_length_in}
+use Rattle.std.proofs.Common.{◌≡◌, ℕ, zero, suc, ◌+◌, ◌-◌, ◌≤◌, Bool, true, false, not, ◌&&◌, ◌||◌, List, [], ◌∷◌, ◌++◌, length, replicate, slice_index_or, slice_set, if◌then◌else◌, nat_lt, ◌==◌, Option, Some, None, is_some, Result, Ok, Err, ltb-false, refl, sym, ap, ◌∙◌, subst, arith}
+use Rattle.cbm_file.specs.Files.{File, Disk, Bytes, Records, Body, files, files_from, held_on, record_length_in}
 use Rattle.cbm_command.specs.Refusals.{◌>>=◌, unless}
 use Rattle.cbm_command.specs.declared.command.Command.{Command}
 use Rattle.cbm_command.specs.declared.command.Command.TheVariants.{New, Scratch, Rename, Copy, Validate, Initialize, Position}
-use Rattle.cbm_command.specs.declared.refusal.Refusal.{Refusal}
 use Rattle.cbm_command.specs.declared.opening.Mode.TheVariants.{Read, Write, Append}
 use Rattle.cbm_command.specs.declared.opening.Mode.{Mode}
 use Rattle.cbm_command.specs.declared.opening.Wanted.{Wanted}
@@ -16,14 +15,14 @@ use Rattle.cbm_file.specs.declared.file_type.FileType.{FileType}
 use Rattle.cbm_machine.specs.declared.code.Code.{Code}
 use Rattle.cbm_machine.specs.declared.code.Code.TheVariants.{Fine, FilesScratched, WriteProtected, RecordOverflow, FileTooLarge}
 use Rattle.cbm_machine.specs.Calls.{without_return, command_text, command, after_open, text_for, gather, is_relative_channel, put, store_text, end_put}
-use Rattle.cbm_machine.specs.Closing.{put_on, with_some_byte, finish_on, without_text, finish_channel, close_one, close_all, channel_numbers, close}
+use Rattle.cbm_machine.specs.Closing.{put_on, with_some_byte, finish_on, without_text, close_one, close_all, channel_numbers, close}
 use Rattle.cbm_machine.specs.Finding.{is_kind, is_there, found, body_at}
 use Rattle.cbm_file.specs.Changes.{has_slot}
 use Rattle.cbm_file.specs.declared.file_type.FileType.TheVariants.{Del, Rel}
 use Rattle.cbm_machine.specs.Machines.{Channel, Closed, Reading, Writing, Stopped, Relative, Machine, start, with_channel, channel, say, tell, with_disk, answered, in_writing, in_use}
 use Rattle.cbm_machine.specs.Plans.{Plan, ReadListing, ReadFile, WriteFile, AppendFile, ReplaceFile, OpenRecords, MakeRecords, plan_read, plan_write, plan_append, plan_replace, plan_writing, plan_there, plan_missing, plan_relative, plan_by_mode, plan, act, asked, open_text}
 use Rattle.cbm_machine.specs.Records.{written, grown_to, write_record, record_at, blocks_for, sides_for, with_sized_body, record_count, fresh_record, with_body, with_bytes}
-use Rattle.cbm_machine.specs.Running.{may_go, kept_slots, scratched_disk, scratch, rename_to, rename, source, sources, copied, copy, place, run}
+use Rattle.cbm_machine.specs.Running.{may_go, kept_slots, scratched_disk, scratch, rename_to, sources, copied, place, run}
 use Rattle.cbm_machine.specs.Talking.{taken_on, taken, only_refused, talk_refusal, talk, talk_keeping_error, listen_refusal, listen}
 
 -- the channel has no file to be written

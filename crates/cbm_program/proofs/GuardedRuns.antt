@@ -1,6 +1,5 @@
 -- A run on a protected disk: the machine's disk after it is the one before.
-use Rattle.std.proofs.Common.{◌≡◌, ℕ, zero, suc, Bool, true, false, List, [], ◌∷◌, ◌++◌, length, replicate, if◌then◌else◌, Option, Some, None, Result, refl, sym, ap, ◌∙◌, subst}
-use Rattle.std.specs.Prelude.{IfSome}
+use Rattle.std.proofs.Common.{◌≡◌, ℕ, zero, suc, Bool, true, false, List, [], ◌∷◌, ◌++◌, length, replicate, if◌then◌else◌, Option, Some, None, refl, sym, subst}
 use Rattle.cbm_medium.specs.Content.{Content}
 use Rattle.cbm_volume.specs.Holding.{HoldsDisk}
 use Rattle.cbm_file.specs.Files.{Disk}
@@ -14,22 +13,21 @@ use Rattle.cbm_iec.specs.declared.party.Role.TheVariants.{Absent, Listener, Talk
 use Rattle.cbm_machine.specs.Statuses.{status_line}
 use Rattle.cbm_machine.specs.Talking.{peek, talk, taken}
 use Rattle.cbm_drive.specs.Addressing.{secondary_of, channel_heard, channel_said, ended}
-use Rattle.cbm_drive.specs.Desks.{Desk, talked_to, seconded, ending, put_to, taken_from, asked, desk_step, desk_says}
-use Rattle.cbm_drive.specs.Machines.{Machine, start}
+use Rattle.cbm_drive.specs.Desks.{Desk, talked_to, seconded, ending, put_to, taken_from, desk_step, desk_says}
+use Rattle.cbm_drive.specs.Machines.{Machine}
 use Rattle.cbm_drive.specs.declared.ended.Ended.{Ended}
 use Rattle.cbm_drive.specs.declared.ended.Ended.TheVariants.{Name, Bytes}
 use Rattle.cbm_drive.specs.declared.secondary.Secondary.{Secondary}
 use Rattle.cbm_drive.specs.declared.secondary.Secondary.TheVariants.{Data, Close, Open}
 use Rattle.cbm_host.specs.Served as served
 use Rattle.cbm_host.specs.Served.{puts, hear, says, talked_at, status_said}
-use Rattle.cbm_program.proofs.Along.{AllOf, kept_along}
+use Rattle.cbm_program.proofs.Along.{kept_along}
 use Rattle.cbm_program.proofs.Guarded.{IsGuarded, guarded_start, if_both, closes, takes, talks, talks_keeping, listens, puts_one, opens, ends_put}
 use Rattle.cbm_program.proofs.StartLemmas.{PrintedBehind}
 use Rattle.cbm_program.proofs.TraceLemmas.{Left}
 use Rattle.cbm_program.specs.Images.{StartsOn}
 use Rattle.cbm_program.specs.Running.{script_of}
 use Rattle.cbm_program.specs.Scripts.{printed, printed_by}
-use Rattle.cbm_program.specs.Timetables.{timetable_of}
 use Rattle.cbm_program.specs.declared.request.Request as asks
 use Rattle.cbm_program.specs.declared.request.Request.TheVariants as request
 

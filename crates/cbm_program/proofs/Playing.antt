@@ -1,7 +1,7 @@
 -- A script of line changes that is played, line by line.
 use Rattle.cbm_iec.specs.declared.party.Party.{Party}
 use Rattle.std.proofs.Common.{◌≡◌, ℕ, ◌+◌, ◌≤◌, List, [], ◌∷◌, ◌++◌, Option, Some, None, refl, sym, ap, subst, ◌∙◌, inl, inr, arith, append_assoc, append-nil, length, drop}
-use Rattle.std.specs.Prelude.{IfSome, Result, Ok, Err, codes}
+use Rattle.std.specs.Prelude.{IfSome, Result, Err, codes}
 use Rattle.std.specs.Io.KnownBytes.{Appends, Keeps}
 use Rattle.cbm_iec.specs.Ports.{port_due}
 use Rattle.cbm_iec.specs.declared.event.Event.{Event}
@@ -26,13 +26,13 @@ use Rattle.cbm_program.specs.Running.{EndsAs}
 use Rattle.cbm_program.specs.Staging.{IsOpen, IsAt, IsBorne, PlaysOn, PlaysPart, Ends, tracks_in}
 use Rattle.cbm_program.specs.TimedReading.{ReadsTimed, LacksTimed, TimedRead, IsBadBehind, BehindRead}
 use Rattle.cbm_program.specs.Timetables.{Timetable, timetable_of, timetable_from, timed_meaning, with_timed, stopped_at, ended_at, latest_if, bad_behind}
-use Rattle.cbm_program.specs.Traces.{PrintsTrace, PrintsTracePart, trace_text, powered, machines_of}
+use Rattle.cbm_program.specs.Traces.{PrintsTrace, PrintsTracePart, trace_text, powered, machines_of, HasWritten, WritesChanges}
 use Rattle.cbm_program.specs.declared.fault.RunFault.{RunFault}
 use Rattle.cbm_program.specs.declared.fault.RunFault.TheVariants.{Script, Image, Memory, Reading, Writing}
 use Rattle.cbm_program.specs.declared.wires.timed.Timed.{Timed}
 use Rattle.cbm_program.specs.declared.wires.timed.Timed.TheVariants.{Skipped, Changes, Ends as EndsAt}
 use Rattle.cbm_program.proofs.OutputLemmas.{appends-more, appends-kept, part_behind, whole_part}
-use Rattle.cbm_program.proofs.Staging.{text_on, hosts_on}
+use Rattle.cbm_program.proofs.Staging.{text_on, hosts_on, none_written, then_written, kept_written}
 
 -- ---- the lines of a timetable
 
@@ -119,6 +119,7 @@ module _ {M : Type 0} (seen : M → Seen) where
     pub follows : Follows input left n from done
     pub last : latest 0 done ≡ from
     pub played : PlaysOn seen a b done p x q y
+    pub wrote : HasWritten a b done
 
   -- before each line
   pub record Loops (p : Turns) (x : Cabled (Desk (Kept M))) (a b first left : Option (List ℕ)) (n from : ℕ) (q : Turns) (y : Cabled (Desk (Kept M))) : Type 0 where
@@ -130,10 +131,10 @@ module _ {M : Type 0} (seen : M → Seen) where
     pub grown : Grows a b
 
   pub timing_start : (a input left : Option (List ℕ)) (p : Turns) (x : Cabled (Desk (Kept M))) → PlaysOn seen a a [] p x p x → TakesLine input left (codes "lines") → Timing a a input left 2 0 p x p x
-  timing_start a input left p x none t = record { done = []; follows = follows_start input left t; last = refl; played = none }
+  timing_start a input left p x none t = record { done = []; follows = follows_start input left t; last = refl; played = none; wrote = none_written a }
 
   pub timing_skipped : (a b input l k : Option (List ℕ)) (n from : ℕ) (p : Turns) (x : Cabled (Desk (Kept M))) (q : Turns) (y : Cabled (Desk (Kept M))) → Timing a b input l n from p x q y → ReadsTimed l k n from Skipped → Timing a b input k (n + 1) from p x q y
-  timing_skipped a b input l k n from p x q y t r = record { done = t.done; follows = follows_skipped input l k n from t.done t.follows r; last = t.last; played = t.played }
+  timing_skipped a b input l k n from p x q y t r = record { done = t.done; follows = follows_skipped input l k n from t.done t.follows r; last = t.last; played = t.played; wrote = t.wrote }
 
   then_on : (a b c : Option (List ℕ)) (cs ds : List Change) (p q r : Turns) (x y z : Cabled (Desk (Kept M))) → PlaysOn seen a b cs p x q y → PlaysOn seen b c ds q y r z → PlaysOn seen a c (cs ++ ds) p x r z
   then_on a b c cs ds p q r x y z f g ss es h =
@@ -149,13 +150,14 @@ module _ {M : Type 0} (seen : M → Seen) where
   on_kept : (a b c : Option (List ℕ)) (cs : List Change) (p q : Turns) (x y : Cabled (Desk (Kept M))) → PlaysOn seen a b cs p x q y → Keeps b c → PlaysOn seen a c cs p x q y
   on_kept a b c cs p q x y f k ss es h = (let first = f ss es h in record { made = first.made; now = first.now; hosts = first.hosts; written = appends-kept a b c (trace_text first.made) first.written k })
 
-  pub timing_change : (a b c d input l k : Option (List ℕ)) (n from : ℕ) (change : Change) (p q r : Turns) (x y z : Cabled (Desk (Kept M))) → Timing a b input l n from p x q y → ReadsTimed l k n from (Changes change) → PlaysOn seen b c (change ∷ []) q y r z → Keeps c d
+  pub timing_change : (a b c d input l k : Option (List ℕ)) (n from : ℕ) (change : Change) (p q r : Turns) (x y z : Cabled (Desk (Kept M))) → Timing a b input l n from p x q y → ReadsTimed l k n from (Changes change) → PlaysOn seen b c (change ∷ []) q y r z → HasWritten b c (change ∷ []) → Keeps c d
       → Timing a d input k (n + 1) change.moment p x r z
-  timing_change a b c d input l k n from change p q r x y z t reads on kept = record {
+  timing_change a b c d input l k n from change p q r x y z t reads on wrote kept = record {
     done = t.done ++ change ∷ [];
     follows = follows_change input l k n from t.done change t.follows reads;
     last = latest_last 0 t.done change;
     played = on_kept a c d (t.done ++ change ∷ []) p r x z (then_on a b c t.done (change ∷ []) p q r x y z t.played on) kept;
+    wrote = kept_written a c d (t.done ++ change ∷ []) (then_written a b c t.done (change ∷ []) t.wrote wrote) kept;
   }
 
   -- ---- a beginning of what the input asks
@@ -378,6 +380,50 @@ module _ {M : Type 0} (seen : M → Seen) where
   read_faulted a b input l k n from drive result Memory f p q x y one t is_open h e = absurd h
   read_faulted a b input l k n from drive result Reading f p q x y one t is_open h e = subst (λ v. EndsAs v (λ o. Ended a b input drive p x y o)) (sym e) tt
   read_faulted a b input l k n from drive result Writing f p q x y one t is_open h e = absurd h
+
+-- ---- what was written, whatever the drive stands for
+
+-- up to the bad line
+wrote_stopped : (a b : Option (List ℕ)) (xs : List ℕ) (n : ℕ) (done : List Change) → timetable_of xs ≡ behind done (stopped_at n) → HasWritten a b done → WritesChanges (Some xs) a b (Some n)
+wrote_stopped a b xs n done e h = (ap (λ (o : Timetable). o.bad) e, subst (λ (cs : List Change). HasWritten a b cs) (sym (ap (λ (o : Timetable). o.changes) e ∙ append-nil done)) h)
+
+wrote_lacking : (a b input left : Option (List ℕ)) (n from : ℕ) (done : List Change) → Follows input left n from done → LacksTimed left n from → HasWritten a b done → WritesChanges input a b (Some n)
+wrote_lacking a b None left n from done f lacks h = tt
+wrote_lacking a b (Some xs) left n from done f lacks h = wrote_stopped a b xs n done (stops_at (Some xs) left n from done f lacks) h
+
+pub wrote_read : {A : Type 0} {M : Type 0} (seen : M → Seen) (a b input l k : Option (List ℕ)) (n from : ℕ) (result : Result A RunFault) (fault : RunFault) (p q : Turns) (x y : Cabled (Desk (Kept M))) → Timing seen a b input l n from p x q y → TimedRead l k n from (Err fault) → result ≡ Err fault
+    → EndsAs result (λ bad. WritesChanges input a b bad)
+wrote_read seen a b input l k n from result (Script bad) p q x y t h e =
+    subst (λ v. EndsAs v (λ o. WritesChanges input a b o)) (sym e) (subst (λ i. WritesChanges input a b (Some i)) (sym h.0) (wrote_lacking a b input l n from t.done t.follows h.1 t.wrote))
+wrote_read seen a b input l k n from result (Image number) p q x y t h e = absurd h
+wrote_read seen a b input l k n from result Memory p q x y t h e = absurd h
+wrote_read seen a b input l k n from result Reading p q x y t h e = subst (λ v. EndsAs v (λ o. WritesChanges input a b o)) (sym e) tt
+wrote_read seen a b input l k n from result Writing p q x y t h e = absurd h
+
+-- a line after the end can't be had, or is refused
+pub wrote_behind : {A : Type 0} {M : Type 0} (seen : M → Seen) (a b input l k : Option (List ℕ)) (n from end : ℕ) (result : Result A RunFault) (fault : RunFault) (p q : Turns) (x y : Cabled (Desk (Kept M))) → Timing seen a b input l n from p x q y → ReadsTimed l k n from (EndsAt end) → BehindRead k (n + 1) (Err fault)
+    → result ≡ Err fault → EndsAs result (λ bad. WritesChanges input a b bad)
+wrote_behind seen a b input l k n from end result (Script bad) p q x y t reads h e =
+    subst (λ v. EndsAs v (λ o. WritesChanges input a b o)) (sym e) (over input (ends_behind input l k n from end (Some bad) t.done t.follows reads h))
+  where
+    over : (o : Option (List ℕ)) → EndsBehind o end (Some bad) t.done → WritesChanges o a b (Some bad)
+    over None g = tt
+    over (Some xs) g = wrote_stopped a b xs bad t.done g t.wrote
+wrote_behind seen a b input l k n from end result (Image number) p q x y t reads h e = absurd h
+wrote_behind seen a b input l k n from end result Memory p q x y t reads h e = absurd h
+wrote_behind seen a b input l k n from end result Reading p q x y t reads h e = subst (λ v. EndsAs v (λ o. WritesChanges input a b o)) (sym e) tt
+wrote_behind seen a b input l k n from end result Writing p q x y t reads h e = absurd h
+
+-- all was read, and the end written
+pub wrote_ended : {M : Type 0} (seen : M → Seen) (a b c d input l k : Option (List ℕ)) (n from end : ℕ) (p q : Turns) (x y : Cabled (Desk (Kept M))) → Timing seen a b input l n from p x q y → ReadsTimed l k n from (EndsAt end) → HasWritten b c [] → Keeps c d → IsBadBehind k (n + 1) None → WritesChanges input a d None
+wrote_ended seen a b c d input l k n from end p q x y t reads ended kept read = over input (ends_behind input l k n from end None t.done t.follows reads read)
+  where
+    all : HasWritten a d t.done
+    all = kept_written a c d t.done (subst (λ (cs : List Change). HasWritten a c cs) (append-nil t.done) (then_written a b c t.done [] t.wrote ended)) kept
+
+    over : (o : Option (List ℕ)) → EndsBehind o end None t.done → WritesChanges o a d None
+    over None g = tt
+    over (Some xs) g = (ap (λ (o : Timetable). o.bad) g, subst (λ (cs : List Change). HasWritten a d cs) (sym (ap (λ (o : Timetable). o.changes) g ∙ append-nil t.done)) all)
 
 -- the one disk has as many tracks
 pub sole_tracks : {M : Type 0} (seen : M → Seen) (b : Cabled (Desk (Kept M))) (k : M) → length (tracks_in seen b) ≡ 1 → ((x : Seated (Desk (Kept M))) → b.drives ≡ x ∷ [] → k ≡ x.machine.dos.medium) → (seen k).tracks ∷ [] ≡ tracks_in seen b

@@ -1,7 +1,7 @@
 -- A drive under a host whose changes are made one at a time.
 use Rattle.std.proofs.Common.{◌≡◌, ℕ, ◌≤◌, List, [], ◌∷◌, ◌++◌, Option, Some, None, refl, sym, ap, subst, ◌∙◌, arith, append_assoc, append-nil}
 use Rattle.std.specs.Prelude.{IfSome}
-use Rattle.std.specs.Io.KnownBytes.{Appends}
+use Rattle.std.specs.Io.KnownBytes.{Appends, Keeps}
 use Rattle.cbm_iec.specs.declared.party.Party.{Party}
 use Rattle.cbm_iec.specs.Ports.{resting}
 use Rattle.cbm_iec.specs.declared.event.Event.{Event}
@@ -22,8 +22,8 @@ use Rattle.cbm_drive.specs.Players.{Turns, at_start, pending, IsDrives, IsTurnOf
 use Rattle.cbm_drive.specs.Seats.{Seated, IsBusAt, IsWithout, held_by}
 use Rattle.cbm_program.specs.Output.{AppendsPart}
 use Rattle.cbm_program.specs.Staging.{IsAt, HasPlayedOn, HasPlayedPart, PlaysOn, Ends}
-use Rattle.cbm_program.specs.Traces.{trace_text, event_text, powered}
-use Rattle.cbm_program.proofs.OutputLemmas.{appends-nothing, appends-more, part_behind, part_before}
+use Rattle.cbm_program.specs.Traces.{trace_text, event_text, powered, HasWritten}
+use Rattle.cbm_program.proofs.OutputLemmas.{appends-nothing, appends-more, appends-kept, part_behind, part_before}
 
 -- ---- events and their text
 
@@ -85,6 +85,28 @@ what_comes (Some d) c P e h = (let same : d ≡ c = cc in h (subst (λ (x : Chan
 
 text_one : (e : Event) → trace_text (e ∷ []) ≡ event_text e
 text_one e = append-nil (event_text e)
+
+-- ---- events written, whatever the drive stands for
+
+pub none_written : (a : Option (List ℕ)) → HasWritten a a []
+none_written a = record { trace = []; hosts = refl; written = appends-nothing a }
+
+pub event_written : (a b c : Option (List ℕ)) (cs ds : List Change) (e : Event) → HasWritten a b cs → host_changes (e ∷ []) ≡ ds → Appends b c (event_text e) → HasWritten a c (cs ++ ds)
+event_written a b c cs ds e h hosts w = record {
+  trace = h.trace ++ e ∷ [];
+  hosts = hosts_on h.trace (e ∷ []) ∙ (λ i. h.hosts i ++ hosts i);
+  written = subst (λ t. Appends a c t) (sym (text_on h.trace (e ∷ []) ∙ ap (λ t. trace_text h.trace ++ t) (text_one e))) (appends-more a b c (trace_text h.trace) (event_text e) h.written w);
+}
+
+pub then_written : (a b c : Option (List ℕ)) (cs ds : List Change) → HasWritten a b cs → HasWritten b c ds → HasWritten a c (cs ++ ds)
+then_written a b c cs ds h k = record {
+  trace = h.trace ++ k.trace;
+  hosts = hosts_on h.trace k.trace ∙ (λ i. h.hosts i ++ k.hosts i);
+  written = subst (λ t. Appends a c t) (sym (text_on h.trace k.trace)) (appends-more a b c (trace_text h.trace) (trace_text k.trace) h.written k.written);
+}
+
+pub kept_written : (a b c : Option (List ℕ)) (cs : List Change) → HasWritten a b cs → Keeps b c → HasWritten a c cs
+kept_written a b c cs h k = record { trace = h.trace; hosts = h.hosts; written = appends-kept a b c (trace_text h.trace) h.written k }
 
 module _ {M : Type 0} (seen : M → Seen) where
   -- a drive at power up

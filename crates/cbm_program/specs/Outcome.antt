@@ -10,7 +10,7 @@ use Rattle.cbm_program.specs.Output.{Grows, Prints, PrintsPart}
 use Rattle.cbm_program.specs.Running.{script_of, EndsAs}
 use Rattle.cbm_program.specs.Checking.{printed_behind, checked_text, IsCheckedFirst}
 use Rattle.cbm_program.specs.Timetables.{of_requests, of_changes, timetable_of}
-use Rattle.cbm_program.specs.Traces.{PrintsTrace, PrintsTracePart}
+use Rattle.cbm_program.specs.Traces.{PrintsTrace, PrintsTracePart, WritesBehind}
 use Rattle.cbm_image.specs.Images.{kind_of, image_fault, tracks_of, content_of, ImageHolds}
 use Rattle.cbm_program.specs.Starts.{Begins}
 
@@ -44,6 +44,9 @@ pub record IsOutcome {A : Type 0} (result : Result A RunFault) (items : A → Li
   -- At a fault a beginning of such a trace was written.
   pub cut : OnErr result (IfSome (of_changes input) (λ bytes.
       PrintsTracePart old new (Begins image protected) (party_of pace device) (checked_text checks) (timetable_of bytes)))
+  -- Of any image, sound or not: events were written, after the line of the check, and the host's changes among them are the script's, up to its end or its
+  -- first bad line.
+  pub wrote : EndsAs result (λ bad. WritesBehind checks (of_changes input) old new bad)
   -- Of any image the line of the check is printed first, where one is asked for.
   pub checked : checks ≡ true → EndsAs result (λ bad. IsCheckedFirst (tracks_of (kind_of image) image) (content_of (kind_of image) image) old new)
   -- All that is printed is added to what was written.

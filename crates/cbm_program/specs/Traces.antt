@@ -1,5 +1,5 @@
 -- What a script of line changes prints: the events of a drive under a host that makes these changes.
-use Rattle.std.specs.Prelude.{◌≡◌, ◌+◌, ◌≤◌, ℕ, List, [], ◌∷◌, ◌++◌, codes, decimal, flat_map, Option, Some, None, IfSome}
+use Rattle.std.specs.Prelude.{◌≡◌, ◌+◌, ◌≤◌, ℕ, Bool, false, List, [], ◌∷◌, ◌++◌, codes, decimal, flat_map, Option, Some, None, IfSome}
 use Rattle.std.specs.Io.KnownBytes.{Appends}
 use Rattle.cbm_iec.specs.Ports.{port_due}
 use Rattle.cbm_iec.specs.declared.event.Event.{Event}
@@ -17,8 +17,8 @@ use Rattle.cbm_drive.specs.Machines.{Machine}
 use Rattle.cbm_drive.specs.Desks.{Desk, desk_step, desk_says}
 use Rattle.cbm_host.specs.Served.{at_power_up}
 use Rattle.cbm_drive.specs.Ordered.{host_changes, latest}
-use Rattle.cbm_program.specs.Output.{AppendsPart}
-use Rattle.cbm_program.specs.Timetables.{Timetable}
+use Rattle.cbm_program.specs.Output.{AppendsPart, Grows}
+use Rattle.cbm_program.specs.Timetables.{Timetable, timetable_of}
 
 -- ---- an event as a line: `MOMENT WHO LINE WAY`
 
@@ -79,6 +79,20 @@ pub record IsTraceBegun (drive : Party) (m : Machine) (t : Timetable) (trace : L
   pub hosts : host_changes trace ++ rest ≡ t.changes
 
 -- ---- what is written
+
+-- Events were written, whatever the disk: the host's changes among them are these.
+pub record HasWritten (old new : Option (List ℕ)) (cs : List Change) : Type 0 where
+  pub trace : List Event
+  pub hosts : host_changes trace ≡ cs
+  pub written : Appends old new (trace_text trace)
+
+-- the same of the changes of a script that has this first bad line, or none
+abbrev pub WritesChanges : Option (List ℕ) → Option (List ℕ) → Option (List ℕ) → Option ℕ → Type 0
+WritesChanges input old new bad = IfSome input (λ bytes. ((timetable_of bytes).bad ≡ bad) × HasWritten old new (timetable_of bytes).changes)
+
+-- the same after the line of a check, if one is asked for
+abbrev pub WritesBehind : Bool → Option (List ℕ) → Option (List ℕ) → Option (List ℕ) → Option ℕ → Type 0
+WritesBehind checks input old new bad = (between : Option (List ℕ)) × (checks ≡ false → between ≡ old) × Grows old between × WritesChanges input between new bad
 
 -- For each machine that stood before, the trace of the script was written behind this text, and the machine above the drive stands now.
 abbrev pub PrintsTrace : Option (List ℕ) → Option (List ℕ) → (Machine → Type 0) → (Machine → Type 0) → Party → List ℕ → Timetable → Type 0

@@ -10,7 +10,7 @@ ghost use Rattle.cbm_image.specs.Images.{kind_of, image_fault, IsOf};
 ghost use Rattle.cbm_program.specs.Starts.{StartsFrom, KeptBy, IsRefusal};
 ghost use Rattle.cbm_program.specs.Outcome.{IsOutcome};
 ghost use Rattle.cbm_program.specs.Timetables.{of_requests, of_changes, timetable_of};
-ghost use Rattle.cbm_program.specs.Traces.{PrintsTrace, PrintsTracePart};
+ghost use Rattle.cbm_program.specs.Traces.{PrintsTrace, PrintsTracePart, WritesChanges, WritesBehind};
 
 use crate::fault::RunFault;
 use crate::lines::Lines;
@@ -70,6 +70,9 @@ fn run_script<M: RunsScripts + Drop, R: Read + Drop, W: Write>(
     ensures cut { OnErr result (IfSome (of_changes (R.remaining reader)) (λ input.
         PrintsTracePart (W.contents writer.old) (W.contents writer.new)
         (StartsFrom (M.seen medium)) (party_of pace device) [] (timetable_of input))) }
+    // Of any medium the events were written.
+    ensures wrote { EndsAs result (λ bad. WritesChanges (of_changes (R.remaining reader)) (W.contents writer.old)
+        (W.contents writer.new) bad) }
     ensures grows { Grows (W.contents writer.old) (W.contents writer.new) }
     ensures same_tracks { IfOk result (λ after. (M.seen after).tracks ≡ (M.seen medium).tracks) }
     ensures image { IfErr result (λ fault. (n : ℕ) → fault ≢ RunFault.Image n) }
@@ -116,6 +119,8 @@ fn run_with<M: RunsScripts + Drop, R: Read + Drop, W: Write>(
     // Of any medium the line of the check is printed first, where one is asked for.
     ensures checked { checks ≡ true → EndsAs result (λ bad.
         IsCheckedFirst (M.seen medium).tracks (M.seen medium).content (W.contents writer.old) (W.contents writer.new)) }
+    ensures wrote { EndsAs result (λ bad. WritesBehind checks (of_changes (R.remaining reader)) (W.contents writer.old)
+        (W.contents writer.new) bad) }
     ensures grows { Grows (W.contents writer.old) (W.contents writer.new) }
     ensures same_tracks { IfOk result (λ after. (M.seen after).tracks ≡ (M.seen medium).tracks) }
     ensures image { IfErr result (λ fault. (n : ℕ) → fault ≢ RunFault.Image n) }

@@ -1,5 +1,5 @@
 //! Checking a disk before a script runs on it.
-ghost use Rattle.std.specs.Prelude.{◌≡◌, ◌≤◌, true, length, IfErr, OnOk, OnErr};
+ghost use Rattle.std.specs.Prelude.{◌≡◌, ◌≤◌, true, false, length, IfErr, OnOk, OnErr};
 ghost use Rattle.std.specs.Io.KnownBytes.{Appends};
 ghost use Rattle.cbm_file.specs.Files.{Disk};
 ghost use Rattle.cbm_volume.specs.Holding.{HoldsDisk};
@@ -69,6 +69,7 @@ pub(crate) fn print_check<M: Medium, W: Write>(
     ensures said { checks ≡ true →
         OnOk result (IsCheckPrinted (M.seen volume.now).tracks (M.seen volume.now).content (W.contents writer.old)
         (W.contents writer.new)) }
+    ensures none { checks ≡ false → writer.new ≡ writer.old }
     ensures grows { Grows (W.contents writer.old) (W.contents writer.new) }
     ensures fault { IfErr result IsOfWriting }
 {

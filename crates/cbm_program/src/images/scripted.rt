@@ -7,7 +7,7 @@ ghost use Rattle.cbm_program.specs.Output.{Grows, Prints, PrintsPart};
 ghost use Rattle.cbm_program.specs.Running.{script_of, LineRead, LineIsInRange, EndsAs};
 ghost use Rattle.cbm_program.specs.Scripts.{printed};
 ghost use Rattle.cbm_program.specs.Timetables.{timetable_of};
-ghost use Rattle.cbm_program.specs.Traces.{PrintsTrace, PrintsTracePart};
+ghost use Rattle.cbm_program.specs.Traces.{PrintsTrace, PrintsTracePart, WritesChanges};
 
 use crate::fault::RunFault;
 use crate::line::Line;
@@ -44,6 +44,9 @@ pub(crate) trait RunsScripts: DiskImage {
         ensures fault { (input : Option (List ℕ)) → TakesLine input (bytes_left R.remaining lines.old) (codes "lines") →
             OnErr result (IfSome input (λ bytes. PrintsTracePart (W.contents writer.old) (W.contents writer.new)
             (StartsFrom (Self.seen self)) (party_of pace device) [] (timetable_of bytes))) }
+        // Whatever the drive stands for:
+        ensures wrote { (input : Option (List ℕ)) → TakesLine input (bytes_left R.remaining lines.old) (codes "lines") →
+            EndsAs result (λ bad. WritesChanges input (W.contents writer.old) (W.contents writer.new) bad) }
         ensures grows { Grows (W.contents writer.old) (W.contents writer.new) }
         ensures same_tracks { IfOk result (λ after. (Self.seen after).tracks ≡ (Self.seen self).tracks) }
         ensures image { IfErr result (λ fault. (n : ℕ) → fault ≢ RunFault.Image n) }

@@ -10,7 +10,7 @@ ghost use Rattle.cbm_program.specs.Running.{EndsAs};
 ghost use Rattle.cbm_program.specs.Staging.{IsOpen, IsAt, IsBorne, StandsOn, tracks_in};
 ghost use Rattle.cbm_program.specs.TimedReading.{TimedRead, BehindRead};
 ghost use Rattle.cbm_program.specs.Timetables.{timetable_of};
-ghost use Rattle.cbm_program.specs.Traces.{powered, PrintsTrace, PrintsTracePart};
+ghost use Rattle.cbm_program.specs.Traces.{powered, PrintsTrace, PrintsTracePart, WritesChanges};
 
 use super::staging::Stage;
 use super::timed::{Timed, is_skipped, timed_from};
@@ -81,6 +81,9 @@ fn play_on<M: Steady, R: Read, W: Write>(
         OnErr result (IfSome input (λ bytes. PrintsTracePart (W.contents writer.old) (W.contents writer.new)
         (λ m. IsAt M.seen stage.old.player stage.old.bus (powered (party_of pace device) m) []) (party_of pace device) [] (timetable_of bytes))) }
     ensures tracks { tracks_in M.seen stage.new.bus ≡ tracks_in M.seen stage.old.bus }
+    // Whatever the drive stands for:
+    ensures wrote { (input : Option (List ℕ)) → TakesLine input (bytes_left R.remaining lines.old) (codes "lines") →
+        EndsAs result (λ bad. WritesChanges input (W.contents writer.old) (W.contents writer.new) bad) }
     ensures grows { Grows (W.contents writer.old) (W.contents writer.new) }
     ensures image { IfErr result (λ fault. (n : ℕ) → fault ≢ RunFault.Image n) }
     ensures memory { IfErr result (λ fault. fault ≢ RunFault.Memory) }
@@ -136,6 +139,9 @@ pub(crate) fn run_changes<M: Steady + Drop, R: Read, W: Write>(
         OnErr result (IfSome input (λ bytes. PrintsTracePart (W.contents writer.old) (W.contents writer.new)
         (StartsOn tracks content protected)
         (party_of pace device) [] (timetable_of bytes))) }
+    // Whatever the drive stands for:
+    ensures wrote { (input : Option (List ℕ)) → TakesLine input (bytes_left R.remaining lines.old) (codes "lines") →
+        EndsAs result (λ bad. WritesChanges input (W.contents writer.old) (W.contents writer.new) bad) }
     ensures grows { Grows (W.contents writer.old) (W.contents writer.new) }
     ensures same_tracks { IfOk result (λ after. (M.seen after).tracks ∷ [] ≡ tracks_in M.seen stage.bus) }
     ensures image { IfErr result (λ fault. (n : ℕ) → fault ≢ RunFault.Image n) }

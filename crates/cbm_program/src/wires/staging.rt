@@ -8,6 +8,7 @@ ghost use Rattle.cbm_host.specs.Hosted.{party_of};
 ghost use Rattle.cbm_volume.specs.Holding.{HoldsDisk};
 ghost use Rattle.cbm_program.specs.Output.{Grows};
 ghost use Rattle.cbm_program.specs.Running.{IsOfWriting};
+ghost use Rattle.cbm_program.specs.Traces.{HasWritten};
 ghost use Rattle.cbm_program.specs.Staging.{IsOpen, IsBorne, StandsOn, PlaysOn, PlaysPart, Ends, tracks_in};
 
 use super::event::print_event;
@@ -58,6 +59,8 @@ impl<M: Steady> Stage<M> {
         ensures ok { OnOk result (PlaysOn M.seen (W.contents writer.old) (W.contents writer.new) (change ∷ [])
             self.old.player self.old.bus self.new.player self.new.bus) }
         ensures open { OnOk result (IsOpen self.new.player change.moment) }
+        // Whatever the drive stands for:
+        ensures wrote { OnOk result (HasWritten (W.contents writer.old) (W.contents writer.new) (change ∷ [])) }
         ensures err { OnErr result (PlaysPart M.seen (W.contents writer.old) (W.contents writer.new) (change ∷ [])
             self.old.player self.old.bus) }
         ensures tracks { tracks_in M.seen self.new.bus ≡ tracks_in M.seen self.old.bus }
@@ -82,6 +85,8 @@ impl<M: Steady> Stage<M> {
             self.old.player self.old.bus self.new.player self.new.bus) }
         ensures err { OnErr result (PlaysPart M.seen (W.contents writer.old) (W.contents writer.new) []
             self.old.player self.old.bus) }
+        // Whatever the drive stands for:
+        ensures wrote { OnOk result (HasWritten (W.contents writer.old) (W.contents writer.new) []) }
         ensures tracks { tracks_in M.seen self.new.bus ≡ tracks_in M.seen self.old.bus }
         ensures grows { Grows (W.contents writer.old) (W.contents writer.new) }
         ensures fault { IfErr result IsOfWriting }

@@ -23,6 +23,7 @@ returns-in_err-disk g c = record {
   left = (search rules);
   cut = if_err c.from_residual.result (cut-nothing (checked_text c.args.options.now.check) _ _
       (StartsOn (tracks_of (kind_of c.args.image.now) c.args.image.now) (content_of (kind_of c.args.image.now) c.args.image.now) c.args.options.now.protected) (party_of c.args.pace c.args.options.now.device));
+  wrote = (search rules);
   checked = (search rules);
   grows = (search rules);
   guarded = (search rules);
@@ -50,6 +51,7 @@ returns-in_err-disk-2 g c =
       played = ends-again _ _ _ _ c.in_err-disk-2.ensures.played (p.1 ∙ ap Err p.2) (λ bad h. traced-among (checked_text c.args.options.now.check) _ _ _ starts all (λ m. Unit {0}) (λ m. Unit {0}) (party_of c.args.pace c.args.options.now.device) bad among (λ m s. s) h);
       left = (search rules);
       cut = if_err c.from_residual-in_err-disk-2.result (cut-among (checked_text c.args.options.now.check) _ _ _ starts all (party_of c.args.pace c.args.options.now.device) among c.in_err-disk-2.ensures.cut);
+      wrote = ends-again _ _ _ _ c.in_err-disk-2.ensures.wrote (p.1 ∙ ap Err p.2) (λ bad h. h);
       checked = λ e. ends-again _ _ _ _ (c.in_err-disk-2.ensures.checked e) (p.1 ∙ ap Err p.2)
           (λ bad. checked-as g.I.DiskImage.kind (kind_of c.args.image.now) c.args.image.now (g.I.Medium.seen disk).tracks (g.I.Medium.seen disk).content _ _ c.requires.kind c.in_ok-disk.ensures.ok.0);
       grows = (search rules);
@@ -99,6 +101,7 @@ returns g c =
           (c.image_after.ensures.given kept));
       cut = if_err c.image_after.result (cut-among (checked_text c.args.options.now.check) _ _ _ starts all (party_of c.args.pace c.args.options.now.device) among
           (cut-left (checked_text c.args.options.now.check) _ _ _ all (λ m. HoldsDisk (g.I.Medium.seen after).tracks (g.I.Medium.seen after).content m.disk) (party_of c.args.pace c.args.options.now.device) c.in_ok-disk-2.ensures.left));
+      wrote = ends-saved c.image_after.result _ c.image_after.ensures.err c.in_ok-disk-2.ensures.wrote;
       checked = λ e. ends-any c.image_after.result _
           (λ bad. checked-as g.I.DiskImage.kind (kind_of c.args.image.now) c.args.image.now (g.I.Medium.seen disk).tracks (g.I.Medium.seen disk).content _ _ c.requires.kind first.0 (c.in_ok-disk-2.ensures.checked e));
       grows = (search rules);

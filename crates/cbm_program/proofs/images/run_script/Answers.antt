@@ -6,13 +6,14 @@ use Rattle.cbm_program.specs.Starts.{StartsOn}
 use Rattle.cbm_program.specs.Lines.{bytes_left}
 use Rattle.cbm_program.specs.Running.{EndsAs}
 use Rattle.cbm_program.specs.Timetables.{of_requests, of_changes}
+use Rattle.cbm_program.specs.Traces.{WritesChanges}
 use Rattle.cbm_host.specs.Hosted.{party_of}
 use Rattle.cbm_volume.specs.Holding.{HoldsDisk}
-use Rattle.cbm_program.specs.declared.numbered.Beginning.TheVariants.{Requests}
+use Rattle.cbm_program.specs.declared.numbered.Beginning.TheVariants.{Requests, Changes}
 use Rattle.cbm_program.proofs.LinePrints.{if_err}
 use Rattle.cbm_program.proofs.RunLemmas.{Ended, Begun}
-use Rattle.cbm_program.proofs.StartLemmas.{Printed}
-use Rattle.cbm_program.proofs.TraceLemmas.{requests_are, first-of, nothing-printed, cut-nothing, err-map}
+use Rattle.cbm_program.proofs.StartLemmas.{Printed, ends-any}
+use Rattle.cbm_program.proofs.TraceLemmas.{requests_are, changes_are, no_changes, first-wrote, first-of, nothing-printed, cut-nothing, err-map}
 use Rattle.cbm_program.proofs.images.run_script.Goals as goal
 
 -- the first line can't be had, and nothing is written
@@ -57,3 +58,22 @@ returns-in-Requests-clause-fault g c =
     let starts = StartsOn seen.tracks seen.content seen.protected in
     let read = subst (λ (o : Option (List ℕ)). FirstRead o (bytes_left g.R.Read.remaining c.read_first.new.lines) (Ok (Requests c.in-Requests.first))) c.new-lines.ensures (rw c.in-Requests.is at c.in_ok-first.ensures.read) in
     err-map c.serve.result _ _ (c.serve.ensures.fault x read.0) (subst (λ (o : Option (List ℕ)). Begun c.args.pace (g.W.Write.contents c.args.writer.now) (g.W.Write.contents c.serve.new.writer) o starts) (sym (requests_are x read.1)))
+
+-- what was written, whatever the drive stands for
+pub returns-in_err-first-clause-wrote : goal.returns-in_err-first-clause-wrote
+returns-in_err-first-clause-wrote g c =
+    let p = err_from_is_err_and c.from_residual.result c.from_residual.ensures.1 in
+    first-wrote _ _ (g.R.Read.remaining c.args.reader) (bytes_left g.R.Read.remaining c.read_first.new.lines) c.new-lines.ensures c.from_residual.result _ c.in_err-first.ensures.read (p.1 ∙ ap Err p.2)
+
+pub returns-in-Requests-clause-wrote : goal.returns-in-Requests-clause-wrote
+returns-in-Requests-clause-wrote g c =
+    let x = g.R.Read.remaining c.args.reader in
+    let read = subst (λ (o : Option (List ℕ)). FirstRead o (bytes_left g.R.Read.remaining c.read_first.new.lines) (Ok (Requests c.in-Requests.first))) c.new-lines.ensures (rw c.in-Requests.is at c.in_ok-first.ensures.read) in
+    ends-any c.serve.result _ (λ bad. subst (λ (o : Option (List ℕ)). WritesChanges o (g.W.Write.contents c.args.writer.now) (g.W.Write.contents c.serve.new.writer) bad) (sym (no_changes x read.1)) tt)
+
+pub returns-clause-wrote : goal.returns-clause-wrote
+returns-clause-wrote g c =
+    let x = g.R.Read.remaining c.args.reader in
+    let k = bytes_left g.R.Read.remaining c.read_first.new.lines in
+    let read = subst (λ (o : Option (List ℕ)). FirstRead o k (Ok Changes)) c.new-lines.ensures (rw c.in-Changes.is at c.in_ok-first.ensures.read) in
+    subst (λ (o : Option (List ℕ)). EndsAs c.play.result (λ bad. WritesChanges o (g.W.Write.contents c.args.writer.now) (g.W.Write.contents c.play.new.writer) bad)) (sym (changes_are x k read)) (c.play.ensures.wrote x read)

@@ -1,4 +1,4 @@
-use Rattle.std.proofs.Common.{◌∙◌, ◌≡◌, ℕ, List, [], Option, true, subst}
+use Rattle.std.proofs.Common.{◌∙◌, ◌≡◌, ℕ, List, [], Option, true, ap, subst}
 use Rattle.std.proofs.lemmas.Result.{IfOk-weaker}
 use Rattle.std.specs.Io.KnownBytes.{Appends}
 use Rattle.std.specs.Prelude.{IfOk, OnErr}
@@ -105,3 +105,7 @@ returns-clause-checked g c = λ e.
 
 pub returns-clause-grows : goal.returns-clause-grows
 returns-clause-grows g c = grows_on _ _ _ c.in_ok-print_check.ensures.grows c.run_script.ensures.grows
+
+pub returns-clause-wrote : goal.returns-clause-wrote
+returns-clause-wrote g c =
+    ends-map c.run_script.result _ _ c.run_script.ensures.wrote (λ bad h. (between g c, (λ off. ap g.W.Write.contents (c.in_ok-print_check.ensures.none off)), c.in_ok-print_check.ensures.grows, h))

@@ -6,7 +6,7 @@ use Rattle.cbm_program.specs.Lines.{bytes_left}
 use Rattle.cbm_program.specs.declared.wires.staging.Stage.{Stage}
 use Rattle.cbm_program.proofs.LinePrints.{if_err}
 use Rattle.cbm_program.proofs.OutputLemmas.{grows_none, grows_on, grows_kept}
-use Rattle.cbm_program.proofs.Playing.{Loops, joined, timing_start, timing_skipped, timing_change, timing_begun, timing_ended, change_begun, end_begun, ended_part, ends_kept, behind_faulted, read_faulted}
+use Rattle.cbm_program.proofs.Playing.{Loops, joined, timing_start, timing_skipped, timing_change, timing_begun, timing_ended, change_begun, end_begun, ended_part, ends_kept, behind_faulted, read_faulted, wrote_read, wrote_behind, wrote_ended}
 use Rattle.cbm_program.proofs.Staging.{none_played}
 use Rattle.cbm_program.proofs.wires.playing.play_on.Goals.{in-Skipped, in-Changes+in_ok-change-in-Changes+in_ok-flush-in-Changes}
 use Rattle.cbm_program.proofs.wires.playing.play_on.Goals as goal
@@ -33,6 +33,12 @@ pub returns-in_err-read_timed-clause-fault : goal.returns-in_err-read_timed-clau
 returns-in_err-read_timed-clause-fault g c = λ input t.
     if_err c.from_residual.result (timing_begun g.M.Medium.seen _ _ input (bytes_left g.R.Read.remaining c.lines.lines) c.lines.number c.lines.from (party_of c.args.pace c.args.device) c.args.stage.now.player c.lines.stage.player c.args.stage.now.bus c.lines.stage.bus (c.lines.invariant.timing input t) c.lines.invariant.opened.second)
 
+pub returns-in_err-read_timed-clause-wrote : goal.returns-in_err-read_timed-clause-wrote
+returns-in_err-read_timed-clause-wrote g c = λ input t.
+    let p = err_from_is_err_and c.from_residual.result c.from_residual.ensures.1 in
+    wrote_read g.M.Medium.seen _ _ input (bytes_left g.R.Read.remaining c.lines.lines) (bytes_left g.R.Read.remaining c.read_timed.new.lines) c.lines.number c.lines.from c.from_residual.result _ c.args.stage.now.player c.lines.stage.player c.args.stage.now.bus c.lines.stage.bus
+    (c.lines.invariant.timing input t) c.in_err-read_timed.ensures (p.1 ∙ ap Err p.2)
+
 -- a change broke off
 pub returns-in_err-change-in-Changes-clause-fault : goal.returns-in_err-change-in-Changes-clause-fault
 returns-in_err-change-in-Changes-clause-fault g c = λ input t.
@@ -49,7 +55,7 @@ returns-in_err-flush-in-Changes-clause-fault g c = λ input t.
     let seen = g.M.Medium.seen in
     if_err c.from_residual-in_err-flush-in-Changes.result (timing_begun seen _ _ input (bytes_left g.R.Read.remaining c.read_timed.new.lines) (c.lines.number + 1) c.in-Changes.change.moment (party_of c.args.pace c.args.device) c.args.stage.now.player c.change.new.self.player c.args.stage.now.bus c.change.new.self.bus
     (timing_change seen _ _ _ _ input (bytes_left g.R.Read.remaining c.lines.lines) (bytes_left g.R.Read.remaining c.read_timed.new.lines) c.lines.number c.lines.from c.in-Changes.change c.args.stage.now.player c.lines.stage.player c.change.new.self.player c.args.stage.now.bus c.lines.stage.bus c.change.new.self.bus
-    (c.lines.invariant.timing input t) read.0 c.in_ok-change-in-Changes.ensures.ok c.flush.ensures.bytes) c.in_ok-change-in-Changes.ensures.open.second)
+    (c.lines.invariant.timing input t) read.0 c.in_ok-change-in-Changes.ensures.ok c.in_ok-change-in-Changes.ensures.wrote c.flush.ensures.bytes) c.in_ok-change-in-Changes.ensures.open.second)
 
 pub returns-in_err-flush-in-Changes-clause-grows : goal.returns-in_err-flush-in-Changes-clause-grows
 returns-in_err-flush-in-Changes-clause-grows g c = grows_kept _ _ _ (grows_on _ _ _ c.lines.invariant.grown c.in_ok-change-in-Changes.ensures.grows) c.flush.ensures.bytes
@@ -83,7 +89,20 @@ pub returns-in_err-read_behind-in-Ends-clause-fault : goal.returns-in_err-read_b
 returns-in_err-read_behind-in-Ends-clause-fault g c = λ input t.
     if_err c.from_residual-in_err-read_behind-in-Ends.result (timing_begun g.M.Medium.seen _ _ input (bytes_left g.R.Read.remaining c.lines.lines) c.lines.number c.lines.from (party_of c.args.pace c.args.device) c.args.stage.now.player c.lines.stage.player c.args.stage.now.bus c.lines.stage.bus (c.lines.invariant.timing input t) c.lines.invariant.opened.second)
 
+pub returns-in_err-read_behind-in-Ends-clause-wrote : goal.returns-in_err-read_behind-in-Ends-clause-wrote
+returns-in_err-read_behind-in-Ends-clause-wrote g c = λ input t.
+    let read = rw c.in-Ends.is at c.in_ok-read_timed.ensures in
+    let p = err_from_is_err_and c.from_residual-in_err-read_behind-in-Ends.result c.from_residual-in_err-read_behind-in-Ends.ensures.1 in
+    wrote_behind g.M.Medium.seen _ _ input (bytes_left g.R.Read.remaining c.lines.lines) (bytes_left g.R.Read.remaining c.read_timed.new.lines) c.lines.number c.lines.from c.in-Ends.end c.from_residual-in_err-read_behind-in-Ends.result _
+    c.args.stage.now.player c.lines.stage.player c.args.stage.now.bus c.lines.stage.bus (c.lines.invariant.timing input t) read.0 c.in_err-read_behind-in-Ends.ensures (p.1 ∙ ap Err p.2)
+
 -- all was read
+pub returns-in-Ends-clause-wrote : goal.returns-in-Ends-clause-wrote
+returns-in-Ends-clause-wrote g c = λ input t.
+    let read = rw c.in-Ends.is at c.in_ok-read_timed.ensures in
+    wrote_ended g.M.Medium.seen _ _ _ _ input (bytes_left g.R.Read.remaining c.lines.lines) (bytes_left g.R.Read.remaining c.read_timed.new.lines) c.lines.number c.lines.from c.in-Ends.end
+    c.args.stage.now.player c.lines.stage.player c.args.stage.now.bus c.lines.stage.bus (c.lines.invariant.timing input t) read.0 c.in_ok-end-in-Ends.ensures.wrote c.flush-in-Ends.ensures.bytes c.in_ok-read_behind-in-Ends.ensures
+
 pub returns-in-Ends-clause-ended : goal.returns-in-Ends-clause-ended
 returns-in-Ends-clause-ended g c = λ input t.
     let read = rw c.in-Ends.is at c.in_ok-read_timed.ensures in
@@ -114,7 +133,7 @@ lines-preserved g c =
       | in-Changes+in_ok-change-in-Changes+in_ok-flush-in-Changes w ↦ let read = rw w.in-Changes.is at c.in_ok-read_timed.ensures in
           joined goes w.change.new.self c.match-branch-2.stage w.flush.new.writer c.match-branch-2.writer w.in-Changes.change.moment c.match-branch-2.from w.stage-is w.writer-is w.from-is (record {
             timing = λ input t. timing_change seen _ _ _ _ input (left c.lines.lines) (left c.read_timed.new.lines) c.lines.number c.lines.from w.in-Changes.change c.args.stage.now.player c.lines.stage.player w.change.new.self.player c.args.stage.now.bus c.lines.stage.bus w.change.new.self.bus
-                (c.lines.invariant.timing input t) read.0 w.in_ok-change-in-Changes.ensures.ok w.flush.ensures.bytes;
+                (c.lines.invariant.timing input t) read.0 w.in_ok-change-in-Changes.ensures.ok w.in_ok-change-in-Changes.ensures.wrote w.flush.ensures.bytes;
             opened = w.in_ok-change-in-Changes.ensures.open;
             small = read.2;
             few = (let r = read.1 in omega (arith, r));

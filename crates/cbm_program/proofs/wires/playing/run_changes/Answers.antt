@@ -24,6 +24,11 @@ returns-in_err-play_on-clause-fault g c = λ tracks content protected input stan
     let among = among-stands tracks content protected (λ m. IsAt seen c.args.stage.player c.args.stage.bus (powered (party_of c.args.pace c.args.device) m) []) stands in
     if_err c.from_residual.result (cut-among [] _ _ input (StartsOn tracks content protected) _ (party_of c.args.pace c.args.device) among (c.in_err-play_on.ensures.fault input t))
 
+pub returns-in_err-play_on-clause-wrote : goal.returns-in_err-play_on-clause-wrote
+returns-in_err-play_on-clause-wrote g c = λ input t.
+    let p = err_from_is_err_and c.from_residual.result c.from_residual.ensures.1 in
+    ends-again _ _ _ _ (c.in_err-play_on.ensures.wrote input t) (p.1 ∙ ap Err p.2) (λ bad h. h)
+
 pub returns-clause-ended : goal.returns-clause-ended
 returns-clause-ended g c = λ tracks content protected input stands t.
     let seen = g.M.Medium.seen in
