@@ -25,7 +25,7 @@ use Rattle.cbm_program.proofs.Along.{kept_along}
 use Rattle.cbm_program.proofs.Guarded.{IsGuarded, guarded_start, if_both, closes, takes, talks, talks_keeping, listens, puts_one, opens, ends_put}
 use Rattle.cbm_program.proofs.StartLemmas.{PrintedBehind}
 use Rattle.cbm_program.proofs.TraceLemmas.{Left}
-use Rattle.cbm_program.specs.Images.{StartsOn}
+use Rattle.cbm_program.specs.Starts.{StartsOn}
 use Rattle.cbm_program.specs.Running.{script_of}
 use Rattle.cbm_program.specs.Scripts.{printed, printed_by}
 use Rattle.cbm_program.specs.declared.request.Request as asks
