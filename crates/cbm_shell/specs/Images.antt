@@ -64,9 +64,17 @@ IsLost image d pattern = OrOpenFault image (IsGetFault d pattern)
 abbrev pub IsHidden : List ℕ → List ℕ → Machine → ShellFault → Type 0
 IsHidden image pattern m = OrOpenFault image (IsUnlisted pattern m)
 
+-- A DISK IS SOUND: a medium of so many tracks with this content
+abbrev pub IsSoundDisk : ℕ → Content → Type 0
+IsSoundDisk tracks content = (l : Layout) × Sound (geometry_of tracks content) content l
+
+-- the disk of an image of this format is sound
+abbrev pub IsSoundImage : Kind → List ℕ → Type 0
+IsSoundImage kind image = IsSoundDisk (tracks_of kind image) (content_of kind image)
+
 -- the disk is sound, or this is its first fault
 abbrev pub IsChecked : ℕ → Content → Result (Unit {0}) Unsound → Type 0
-IsChecked tracks content (Ok _) = (l : Layout) × Sound (geometry_of tracks content) content l
+IsChecked tracks content (Ok _) = IsSoundDisk tracks content
 IsChecked tracks content (Err u) = DiskFault (geometry_of tracks content) content u
 
 -- a disk that VALIDATE leaves as it is

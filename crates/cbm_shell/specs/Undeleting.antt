@@ -7,10 +7,6 @@ use Rattle.cbm_file.specs.Types.{type_number}
 use Rattle.cbm_file.specs.declared.file_type.FileType.{FileType}
 use Rattle.cbm_volume.specs.Entries.{type_byte, first_block, EntersLed}
 use Rattle.cbm_volume.specs.Slots.{Answers, directory_of}
-use Rattle.cbm_volume.specs.Map.{geometry_of}
-use Rattle.cbm_volume.specs.Layouts.{Layout, Sound}
-use Rattle.cbm_image.specs.declared.kind.Kind.{Kind}
-use Rattle.cbm_image.specs.Images.{tracks_of, content_of}
 use Rattle.cbm_shell.specs.Mapping.{chain_of, entries_in, free_by, is_among, used_in}
 use Rattle.cbm_shell.specs.Geos.{border_in, in_geos}
 use Rattle.cbm_shell.specs.Lost.{lost_of}
@@ -59,7 +55,3 @@ pub record IsUndeleted (tracks : ℕ) (old new : Content) (slot : ℕ) (kind : F
   pub deleted : IsDeleted tracks old slot entry
   pub clear : IsClear tracks old entry
   pub given : IsGivenAgain tracks old new slot kind entry
-
--- the disk of an image of this format is sound
-abbrev pub IsSoundImage : Kind → List ℕ → Type 0
-IsSoundImage kind image = (l : Layout) × Sound (geometry_of (tracks_of kind image) (content_of kind image)) (content_of kind image) l

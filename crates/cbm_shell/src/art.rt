@@ -1,10 +1,10 @@
 //! How the directory looks: lines of art, which are entries without a block, and names, blocks and locks of files. No command
 //! of the drive makes such changes.
-ghost use Rattle.std.specs.Prelude.{◌≡◌, ◌≤◌, length, IfOk, OnOk, MatchOption};
+ghost use Rattle.std.specs.Prelude.{◌≡◌, ◌≤◌, None, length, IfOk, IfSome, OnOk, MatchOption};
 ghost use Rattle.cbm_volume.specs.Map.{geometry_of};
-ghost use Rattle.cbm_volume.specs.Layouts.{Layout, Sound};
-ghost use Rattle.cbm_image.specs.Images.{kind_of, tracks_of, content_of};
+ghost use Rattle.cbm_image.specs.Images.{kind_of, image_fault, tracks_of, content_of};
 ghost use Rattle.cbm_volume.specs.Slots.{Answers, directory_of};
+ghost use Rattle.cbm_shell.specs.Images.{IsSoundImage};
 ghost use Rattle.cbm_shell.specs.Art.{art_entry, dressed_entry, HasEntered, IsDressed, IsFull};
 
 use crate::changing::require_sound;
@@ -71,9 +71,8 @@ fn add_art_in<I: DiskImage + Drop>(
         IfOk result (λ o. MatchOption o (IsFull tracks (content_of kind image.now))
         (λ v. HasEntered tracks (content_of kind image.now) (content_of kind v.items)
         (art_entry looks.entry.name.now looks.entry.blocks looks.entry.is_locked))) }
-    ensures sound { let kind = kind_of image.now in
-        let tracks = geometry_of (tracks_of kind image.now) (content_of kind image.now) in
-        OnOk result ((l : Layout) × Sound tracks (content_of kind image.now) l) }
+    ensures sound { OnOk result (IsSoundImage (kind_of image.now) image.now) }
+    ensures opens { IfOk result (λ o. IfSome o (λ v. image_fault (kind_of image.now) v.items ≡ None)) }
 {
     let volume = Volume::open(opened::<I>(alloc, image)?);
     require_sound(&volume)?;
@@ -95,9 +94,9 @@ pub fn add_art(alloc: Global, image: &[u8], looks: Looks<'_>) -> Result<Option<V
         (λ v. HasEntered tracks (content_of kind image.now) (content_of kind v.items)
         (art_entry looks.entry.name.now looks.entry.blocks looks.entry.is_locked))) }
     // An image that isn't sound gives no new one.
-    ensures sound { let kind = kind_of image.now in
-        let tracks = geometry_of (tracks_of kind image.now) (content_of kind image.now) in
-        OnOk result ((l : Layout) × Sound tracks (content_of kind image.now) l) }
+    ensures sound { OnOk result (IsSoundImage (kind_of image.now) image.now) }
+    // The new image opens again.
+    ensures opens { IfOk result (λ o. IfSome o (λ v. image_fault (kind_of image.now) v.items ≡ None)) }
 {
     match kind_of(image) {
         Kind::D64 => add_art_in::<D64Disk>(alloc, image, looks),
@@ -143,9 +142,8 @@ fn dress_in<I: DiskImage + Drop>(
         let tracks = geometry_of (tracks_of kind image.now) (content_of kind image.now) in
         IfOk result (λ v. IsDressed tracks slot looks.entry.name.now looks.entry.blocks looks.entry.is_locked (content_of kind image.now)
         (content_of kind v.items)) }
-    ensures sound { let kind = kind_of image.now in
-        let tracks = geometry_of (tracks_of kind image.now) (content_of kind image.now) in
-        OnOk result ((l : Layout) × Sound tracks (content_of kind image.now) l) }
+    ensures sound { OnOk result (IsSoundImage (kind_of image.now) image.now) }
+    ensures opens { IfOk result (λ v. image_fault (kind_of image.now) v.items ≡ None) }
 {
     let volume = Volume::open(opened::<I>(alloc, image)?);
     require_sound(&volume)?;
@@ -163,9 +161,9 @@ pub fn dress(alloc: Global, image: &[u8], slot: u8, looks: Looks<'_>) -> Result<
         IfOk result (λ v. IsDressed tracks slot looks.entry.name.now looks.entry.blocks looks.entry.is_locked (content_of kind image.now)
         (content_of kind v.items)) }
     // An image that isn't sound gives no new one.
-    ensures sound { let kind = kind_of image.now in
-        let tracks = geometry_of (tracks_of kind image.now) (content_of kind image.now) in
-        OnOk result ((l : Layout) × Sound tracks (content_of kind image.now) l) }
+    ensures sound { OnOk result (IsSoundImage (kind_of image.now) image.now) }
+    // The new image opens again.
+    ensures opens { IfOk result (λ v. image_fault (kind_of image.now) v.items ≡ None) }
 {
     match kind_of(image) {
         Kind::D64 => dress_in::<D64Disk>(alloc, image, slot, looks),

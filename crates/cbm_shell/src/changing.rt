@@ -6,9 +6,8 @@ ghost use Rattle.cbm_channel.specs.Standing.{Stands};
 ghost use Rattle.cbm_channel.specs.Going.{KeepsMedium};
 ghost use Rattle.cbm_channel.specs.Machines.{start};
 ghost use Rattle.cbm_file.specs.Files.{Disk};
-ghost use Rattle.cbm_volume.specs.Map.{geometry_of};
-ghost use Rattle.cbm_volume.specs.Layouts.{Layout, Sound};
 ghost use Rattle.cbm_volume.specs.Holding.{HoldsDisk};
+ghost use Rattle.cbm_shell.specs.Images.{IsSoundDisk};
 ghost use Rattle.cbm_shell.specs.Changing.{after_change, IsFine, IsUndone, IsRefusal, IsFaultOf};
 
 use crate::fault::ShellFault;
@@ -72,7 +71,7 @@ fn apply<M: Steady>(dos: &mut Dos<M>, change: &Change<'_>) -> Result<(), ShellFa
 /// Refuses a disk that isn't sound.
 pub(crate) fn require_sound<M: Medium>(volume: &Volume<M>) -> Result<(), ShellFault>
     ensures sound { let now = M.seen volume.now in
-        OnOk result ((l : Layout) × Sound (geometry_of now.tracks now.content) now.content l) }
+        OnOk result (IsSoundDisk now.tracks now.content) }
     ensures exact { let now = M.seen volume.now in (d : Disk) → HoldsDisk now.tracks now.content d → IsOk result }
     ensures fault { let now = M.seen volume.now in IfErr result (IsFaultOf now.tracks now.content) }
 {
@@ -92,7 +91,7 @@ pub fn changed<M: Steady + Drop>(medium: M, change: &Change<'_>) -> Result<M, Sh
         (IsUndone change.now m) }
     // Of any disk:
     ensures sound { let old = M.seen medium in
-        OnOk result ((l : Layout) × Sound (geometry_of old.tracks old.content) old.content l) }
+        OnOk result (IsSoundDisk old.tracks old.content) }
     ensures fault { let old = M.seen medium in IfErr result (IsFaultOf old.tracks old.content) }
     ensures same_tracks { IfOk result (λ after. (M.seen after).tracks ≡ (M.seen medium).tracks) }
     ensures same_protection { IfOk result (λ after. (M.seen after).protected ≡ (M.seen medium).protected) }

@@ -1,9 +1,9 @@
 //! Taking the entry of a file out of the directory of a disk that isn't sound.
-ghost use Rattle.std.specs.Prelude.{◌≡◌, ◌≤◌, IfOk, MatchOption};
+ghost use Rattle.std.specs.Prelude.{◌≡◌, ◌≤◌, None, IfOk, IfSome, MatchOption};
 ghost use Rattle.cbm_volume.specs.Map.{geometry_of};
-ghost use Rattle.cbm_volume.specs.Layouts.{Layout, Sound};
-ghost use Rattle.cbm_image.specs.Images.{kind_of, tracks_of, content_of};
+ghost use Rattle.cbm_image.specs.Images.{kind_of, image_fault, tracks_of, content_of};
 ghost use Rattle.cbm_directory.specs.EntryChanges.{ClearsLed};
+ghost use Rattle.cbm_shell.specs.Images.{IsSoundImage};
 ghost use Rattle.cbm_shell.specs.Forgetting.{IsForgotten};
 
 use crate::fault::ShellFault;
@@ -35,8 +35,9 @@ fn without_entry<I: DiskImage + Drop>(
     volume: Volume<I>,
     slot: u8,
 ) -> Result<Vec<u8>, ShellFault>
-    ensures { let old = I.seen volume in IfOk result (λ v.
+    ensures cleared { let old = I.seen volume in IfOk result (λ v.
         ClearsLed (geometry_of old.tracks old.content) old.content (content_of I.kind v.items) slot) }
+    ensures opens { IfOk result (λ v. image_fault I.kind v.items ≡ None) }
 {
     let disk = cleared(volume, slot)?;
     saved(alloc, &disk)
@@ -49,10 +50,11 @@ fn forget_in<I: DiskImage + Drop>(
     slot: u8,
 ) -> Result<Option<Vec<u8>>, ShellFault>
     requires { kind_of image.now ≡ I.kind }
-    ensures { let kind = kind_of image.now in
+    ensures forgotten { let kind = kind_of image.now in
         let tracks = geometry_of (tracks_of kind image.now) (content_of kind image.now) in
-        IfOk result (λ o. MatchOption o ((l : Layout) × Sound tracks (content_of kind image.now) l)
+        IfOk result (λ o. MatchOption o (IsSoundImage kind image.now)
         (λ v. IsForgotten tracks (content_of kind image.now) (content_of kind v.items) slot)) }
+    ensures opens { IfOk result (λ o. IfSome o (λ v. image_fault (kind_of image.now) v.items ≡ None)) }
 {
     let disk = opened::<I>(alloc, image)?;
     let volume = Volume::open(disk);
@@ -70,10 +72,12 @@ fn forget_in<I: DiskImage + Drop>(
 /// `Image`; `Trouble`, where the directory breaks off before the slot, or the medium can't be written; `Memory`.
 pub fn forget(alloc: Global, image: &[u8], slot: u8) -> Result<Option<Vec<u8>>, ShellFault>
     // One byte of one entry is changed, and nothing else of the image; nothing at all on a sound disk.
-    ensures { let kind = kind_of image.now in
+    ensures forgotten { let kind = kind_of image.now in
         let tracks = geometry_of (tracks_of kind image.now) (content_of kind image.now) in
-        IfOk result (λ o. MatchOption o ((l : Layout) × Sound tracks (content_of kind image.now) l)
+        IfOk result (λ o. MatchOption o (IsSoundImage kind image.now)
         (λ v. IsForgotten tracks (content_of kind image.now) (content_of kind v.items) slot)) }
+    // The new image opens again.
+    ensures opens { IfOk result (λ o. IfSome o (λ v. image_fault (kind_of image.now) v.items ≡ None)) }
 {
     match kind_of(image) {
         Kind::D64 => forget_in::<D64Disk>(alloc, image, slot),

@@ -3,12 +3,11 @@ ghost use Rattle.std.specs.Prelude.{◌≡◌, None, false, IfErr, IfOk, OnOk, M
 ghost use Rattle.cbm_file.specs.Files.{Disk};
 ghost use Rattle.cbm_channel.specs.Machines.{start};
 ghost use Rattle.cbm_volume.specs.Map.{geometry_of};
-ghost use Rattle.cbm_volume.specs.Layouts.{Layout, Sound};
 ghost use Rattle.cbm_image.specs.Images.{kind_of, image_fault, tracks_of, content_of, ImageHolds};
 ghost use Rattle.cbm_shell.specs.Reading.{Gets};
 ghost use Rattle.cbm_shell.specs.Listing.{IsListed, IsSent};
 ghost use Rattle.cbm_shell.specs.Changing.{after_change, IsFine};
-ghost use Rattle.cbm_shell.specs.Images.{IsOpened, IsSaved, IsOpenFault, IsFailed, IsLost, IsHidden, IsChecked, IsOrderly, IsInOrder, IsImageInOrder};
+ghost use Rattle.cbm_shell.specs.Images.{IsOpened, IsSaved, IsOpenFault, IsFailed, IsLost, IsSoundImage, IsHidden, IsChecked, IsOrderly, IsInOrder, IsImageInOrder};
 ghost use Rattle.cbm_volume.specs.Sweeps.{IsPutInOrder};
 ghost use Rattle.cbm_shell.specs.Freeing.{AreFreed, IsGivenBack};
 
@@ -57,9 +56,7 @@ fn change_in<I: DiskImage + Drop>(
         let m = start d false (tracks_of kind image.now) in MatchResult result
         (λ v. IsFine (after_change change.now m).status × ImageHolds kind v.items (after_change change.now m).disk)
         (IsFailed image.now change.now m) }
-    ensures sound { let kind = kind_of image.now in
-        let tracks = geometry_of (tracks_of kind image.now) (content_of kind image.now) in
-        OnOk result ((l : Layout) × Sound tracks (content_of kind image.now) l) }
+    ensures sound { OnOk result (IsSoundImage (kind_of image.now) image.now) }
     ensures opens { IfOk result (λ v. image_fault (kind_of image.now) v.items ≡ None) }
 {
     let disk = opened::<I>(alloc, image)?;
@@ -75,9 +72,7 @@ pub fn change(alloc: Global, image: &[u8], change: &Change<'_>) -> Result<Vec<u8
         (λ v. IsFine (after_change change.now m).status × ImageHolds kind v.items (after_change change.now m).disk)
         (IsFailed image.now change.now m) }
     // An image that isn't sound gives no new one.
-    ensures sound { let kind = kind_of image.now in
-        let tracks = geometry_of (tracks_of kind image.now) (content_of kind image.now) in
-        OnOk result ((l : Layout) × Sound tracks (content_of kind image.now) l) }
+    ensures sound { OnOk result (IsSoundImage (kind_of image.now) image.now) }
     // The new image opens again.
     ensures opens { IfOk result (λ v. image_fault (kind_of image.now) v.items ≡ None) }
 {

@@ -1,11 +1,11 @@
 //! Locking files against SCRATCH, and another title: two changes that no command of the drive makes.
-ghost use Rattle.std.specs.Prelude.{◌≡◌, ◌≤◌, ◌++◌, ℕ, Ok, length, take, drop, slice_set, IfOk, OnOk, MatchOption};
+ghost use Rattle.std.specs.Prelude.{◌≡◌, ◌≤◌, ◌++◌, ℕ, None, Ok, length, take, drop, slice_set, IfOk, IfSome, OnOk, MatchOption};
 ghost use Rattle.cbm_medium.specs.Place.{directory_head};
 ghost use Rattle.cbm_medium.specs.Content.{written};
 ghost use Rattle.cbm_volume.specs.Map.{geometry_of};
-ghost use Rattle.cbm_volume.specs.Layouts.{Layout, Sound};
 ghost use Rattle.cbm_file.specs.Padding.{padded};
-ghost use Rattle.cbm_image.specs.Images.{kind_of, tracks_of, content_of};
+ghost use Rattle.cbm_image.specs.Images.{kind_of, image_fault, tracks_of, content_of};
+ghost use Rattle.cbm_shell.specs.Images.{IsSoundImage};
 ghost use Rattle.cbm_shell.specs.Locking.{is_other, lock_bit, locked_type, locked_entry, Locks, AreLocked, with_title, titled};
 
 use crate::changing::require_sound;
@@ -124,9 +124,8 @@ fn lock_in<I: DiskImage + Drop>(
         let tracks = geometry_of (tracks_of kind image.now) (content_of kind image.now) in
         IfOk result (λ o. MatchOption o (AreLocked is_locked tracks pattern.now (content_of kind image.now))
         (λ v. Locks is_locked tracks pattern.now (content_of kind image.now) (content_of kind v.items))) }
-    ensures sound { let kind = kind_of image.now in
-        let tracks = geometry_of (tracks_of kind image.now) (content_of kind image.now) in
-        OnOk result ((l : Layout) × Sound tracks (content_of kind image.now) l) }
+    ensures sound { OnOk result (IsSoundImage (kind_of image.now) image.now) }
+    ensures opens { IfOk result (λ o. IfSome o (λ v. image_fault (kind_of image.now) v.items ≡ None)) }
 {
     let volume = Volume::open(opened::<I>(alloc, image)?);
     require_sound(&volume)?;
@@ -150,9 +149,9 @@ pub fn lock(
         IfOk result (λ o. MatchOption o (AreLocked is_locked tracks pattern.now (content_of kind image.now))
         (λ v. Locks is_locked tracks pattern.now (content_of kind image.now) (content_of kind v.items))) }
     // An image that isn't sound gives no new one.
-    ensures sound { let kind = kind_of image.now in
-        let tracks = geometry_of (tracks_of kind image.now) (content_of kind image.now) in
-        OnOk result ((l : Layout) × Sound tracks (content_of kind image.now) l) }
+    ensures sound { OnOk result (IsSoundImage (kind_of image.now) image.now) }
+    // The new image opens again.
+    ensures opens { IfOk result (λ o. IfSome o (λ v. image_fault (kind_of image.now) v.items ≡ None)) }
 {
     match kind_of(image) {
         Kind::D64 => lock_in::<D64Disk>(alloc, image, pattern, is_locked),
@@ -204,9 +203,8 @@ fn retitle_in<I: DiskImage + Drop>(
     requires short { length title.now ≤ 16 }
     ensures title { let kind = kind_of image.now in
         IfOk result (λ v. content_of kind v.items ≡ titled title.now (content_of kind image.now)) }
-    ensures sound { let kind = kind_of image.now in
-        let tracks = geometry_of (tracks_of kind image.now) (content_of kind image.now) in
-        OnOk result ((l : Layout) × Sound tracks (content_of kind image.now) l) }
+    ensures sound { OnOk result (IsSoundImage (kind_of image.now) image.now) }
+    ensures opens { IfOk result (λ v. image_fault (kind_of image.now) v.items ≡ None) }
 {
     let volume = Volume::open(opened::<I>(alloc, image)?);
     require_sound(&volume)?;
@@ -222,9 +220,9 @@ pub fn retitle(alloc: Global, image: &[u8], title: &[u8]) -> Result<Vec<u8>, She
     ensures title { let kind = kind_of image.now in
         IfOk result (λ v. content_of kind v.items ≡ titled title.now (content_of kind image.now)) }
     // An image that isn't sound gives no new one.
-    ensures sound { let kind = kind_of image.now in
-        let tracks = geometry_of (tracks_of kind image.now) (content_of kind image.now) in
-        OnOk result ((l : Layout) × Sound tracks (content_of kind image.now) l) }
+    ensures sound { OnOk result (IsSoundImage (kind_of image.now) image.now) }
+    // The new image opens again.
+    ensures opens { IfOk result (λ v. image_fault (kind_of image.now) v.items ≡ None) }
 {
     match kind_of(image) {
         Kind::D64 => retitle_in::<D64Disk>(alloc, image, title),

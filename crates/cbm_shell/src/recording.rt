@@ -1,14 +1,13 @@
 //! Relative files, made as the drive makes them.
-ghost use Rattle.std.specs.Prelude.{◌≡◌, ◌≤◌, ℕ, map, take, false, MatchResult, IfErr, IfOk, IsOk, OnOk};
+ghost use Rattle.std.specs.Prelude.{◌≡◌, ◌≤◌, ℕ, None, map, take, false, MatchResult, IfErr, IfOk, IsOk, OnOk};
 ghost use Rattle.cbm_channel.specs.Codes.{code_number};
 ghost use Rattle.cbm_channel.specs.Machines.{Machine, start};
 ghost use Rattle.cbm_channel.specs.Standing.{Stands, Leads};
 ghost use Rattle.cbm_channel.specs.Going.{KeepsMedium};
 ghost use Rattle.cbm_file.specs.Files.{Disk};
-ghost use Rattle.cbm_volume.specs.Map.{geometry_of};
-ghost use Rattle.cbm_volume.specs.Layouts.{Layout, Sound};
 ghost use Rattle.cbm_volume.specs.Holding.{HoldsDisk};
-ghost use Rattle.cbm_image.specs.Images.{kind_of, tracks_of, content_of, ImageHolds};
+ghost use Rattle.cbm_image.specs.Images.{kind_of, image_fault, tracks_of, ImageHolds};
+ghost use Rattle.cbm_shell.specs.Images.{IsSoundDisk, IsSoundImage};
 ghost use Rattle.cbm_shell.specs.Changing.{IsFine, IsRefusal};
 ghost use Rattle.cbm_shell.specs.Recording.{hear_all, after_records, IsUnmade, IsUnmadeIn, IsStoppedAt};
 
@@ -77,7 +76,7 @@ fn recorded<M: Steady + Drop>(medium: M, file: Records<'_>) -> Result<M, ShellFa
         (after_records file.entry.text.now (map (λ r. r.now) file.entry.records.now) m).disk)
         (IsUnmade file.entry.text.now (map (λ r. r.now) file.entry.records.now) m) }
     ensures sound { let old = M.seen medium in
-        OnOk result ((l : Layout) × Sound (geometry_of old.tracks old.content) old.content l) }
+        OnOk result (IsSoundDisk old.tracks old.content) }
     ensures same_tracks { IfOk result (λ after. (M.seen after).tracks ≡ (M.seen medium).tracks) }
 {
     let volume = Volume::open(medium);
@@ -99,9 +98,8 @@ fn put_records_in<I: DiskImage + Drop>(
         (λ v. IsFine (after_records file.entry.text.now (map (λ r. r.now) file.entry.records.now) m).status
         × ImageHolds kind v.items (after_records file.entry.text.now (map (λ r. r.now) file.entry.records.now) m).disk)
         (IsUnmadeIn image.now file.entry.text.now (map (λ r. r.now) file.entry.records.now) m) }
-    ensures sound { let kind = kind_of image.now in
-        let tracks = geometry_of (tracks_of kind image.now) (content_of kind image.now) in
-        OnOk result ((l : Layout) × Sound tracks (content_of kind image.now) l) }
+    ensures sound { OnOk result (IsSoundImage (kind_of image.now) image.now) }
+    ensures opens { IfOk result (λ v. image_fault (kind_of image.now) v.items ≡ None) }
 {
     let disk = opened::<I>(alloc, image)?;
     let disk = recorded(disk, file)?;
@@ -117,9 +115,9 @@ pub fn put_records(alloc: Global, image: &[u8], file: Records<'_>) -> Result<Vec
         × ImageHolds kind v.items (after_records file.entry.text.now (map (λ r. r.now) file.entry.records.now) m).disk)
         (IsUnmadeIn image.now file.entry.text.now (map (λ r. r.now) file.entry.records.now) m) }
     // An image that isn't sound gives no new one.
-    ensures sound { let kind = kind_of image.now in
-        let tracks = geometry_of (tracks_of kind image.now) (content_of kind image.now) in
-        OnOk result ((l : Layout) × Sound tracks (content_of kind image.now) l) }
+    ensures sound { OnOk result (IsSoundImage (kind_of image.now) image.now) }
+    // The new image opens again.
+    ensures opens { IfOk result (λ v. image_fault (kind_of image.now) v.items ≡ None) }
 {
     match kind_of(image) {
         Kind::D64 => put_records_in::<D64Disk>(alloc, image, file),

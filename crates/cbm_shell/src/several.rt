@@ -1,8 +1,8 @@
 //! Several changes of one disk, one after another.
-ghost use Rattle.std.specs.Prelude.{◌≡◌, false, MatchResult};
+ghost use Rattle.std.specs.Prelude.{◌≡◌, None, false, IfOk, MatchResult};
 ghost use Rattle.cbm_file.specs.Files.{Disk};
 ghost use Rattle.cbm_volume.specs.Holding.{HoldsDisk};
-ghost use Rattle.cbm_image.specs.Images.{kind_of, tracks_of, ImageHolds};
+ghost use Rattle.cbm_image.specs.Images.{kind_of, image_fault, tracks_of, ImageHolds};
 ghost use Rattle.cbm_shell.specs.Images.{OrOpenFault};
 ghost use Rattle.cbm_shell.specs.Several.{HoldsAfter, ImageAfter, AreUndone};
 
@@ -35,9 +35,10 @@ fn changes_in<I: DiskImage + Drop>(
     changes: &[Change<'_>],
 ) -> Result<Vec<u8>, ShellFault>
     requires { kind_of image.now ≡ I.kind }
-    ensures { let kind = kind_of image.now in (d : Disk) → ImageHolds kind image.now d → MatchResult result
+    ensures made { let kind = kind_of image.now in (d : Disk) → ImageHolds kind image.now d → MatchResult result
         (λ v. ImageAfter changes.now kind (tracks_of kind image.now) d v.items)
         (OrOpenFault image.now (AreUndone changes.now false (tracks_of kind image.now) d)) }
+    ensures opens { IfOk result (λ v. image_fault (kind_of image.now) v.items ≡ None) }
 {
     let disk = opened::<I>(alloc, image)?;
     let disk = changed_by(disk, changes)?;
@@ -47,9 +48,11 @@ fn changes_in<I: DiskImage + Drop>(
 /// Makes changes on the disk of an image, one after another, and gives the image as it is then: all of them are made, or none.
 /// The image is opened and made anew once. Errors: those of `change`, of the first change that isn't made.
 pub fn changes(alloc: Global, image: &[u8], changes: &[Change<'_>]) -> Result<Vec<u8>, ShellFault>
-    ensures { let kind = kind_of image.now in (d : Disk) → ImageHolds kind image.now d → MatchResult result
+    ensures made { let kind = kind_of image.now in (d : Disk) → ImageHolds kind image.now d → MatchResult result
         (λ v. ImageAfter changes.now kind (tracks_of kind image.now) d v.items)
         (OrOpenFault image.now (AreUndone changes.now false (tracks_of kind image.now) d)) }
+    // The new image opens again.
+    ensures opens { IfOk result (λ v. image_fault (kind_of image.now) v.items ≡ None) }
 {
     match kind_of(image) {
         Kind::D64 => changes_in::<D64Disk>(alloc, image, changes),

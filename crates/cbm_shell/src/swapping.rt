@@ -1,9 +1,9 @@
 //! Entries of the directory in another order, which no command of the drive makes.
-ghost use Rattle.std.specs.Prelude.{◌≡◌, ◌≤◌, Some, Ok, IfOk, OnOk};
+ghost use Rattle.std.specs.Prelude.{◌≡◌, ◌≤◌, Some, None, Ok, IfOk, OnOk};
 ghost use Rattle.cbm_volume.specs.Map.{geometry_of};
 ghost use Rattle.cbm_volume.specs.Slots.{Answers, directory_of};
-ghost use Rattle.cbm_volume.specs.Layouts.{Layout, Sound};
-ghost use Rattle.cbm_image.specs.Images.{kind_of, tracks_of, content_of};
+ghost use Rattle.cbm_image.specs.Images.{kind_of, image_fault, tracks_of, content_of};
+ghost use Rattle.cbm_shell.specs.Images.{IsSoundImage};
 ghost use Rattle.cbm_shell.specs.Swapping.{Swaps, AreSwapped};
 
 use crate::changing::require_sound;
@@ -93,9 +93,8 @@ fn swap_in<I: DiskImage + Drop>(
     ensures swapped { let kind = kind_of image.now in
         let tracks = geometry_of (tracks_of kind image.now) (content_of kind image.now) in
         IfOk result (λ v. AreSwapped tracks swaps.now (content_of kind image.now) (content_of kind v.items)) }
-    ensures sound { let kind = kind_of image.now in
-        let tracks = geometry_of (tracks_of kind image.now) (content_of kind image.now) in
-        OnOk result ((l : Layout) × Sound tracks (content_of kind image.now) l) }
+    ensures sound { OnOk result (IsSoundImage (kind_of image.now) image.now) }
+    ensures opens { IfOk result (λ v. image_fault (kind_of image.now) v.items ≡ None) }
 {
     let volume = Volume::open(opened::<I>(alloc, image)?);
     require_sound(&volume)?;
@@ -111,9 +110,9 @@ pub fn swap_entries(alloc: Global, image: &[u8], swaps: &[Swap]) -> Result<Vec<u
         let tracks = geometry_of (tracks_of kind image.now) (content_of kind image.now) in
         IfOk result (λ v. AreSwapped tracks swaps.now (content_of kind image.now) (content_of kind v.items)) }
     // An image that isn't sound gives no new one.
-    ensures sound { let kind = kind_of image.now in
-        let tracks = geometry_of (tracks_of kind image.now) (content_of kind image.now) in
-        OnOk result ((l : Layout) × Sound tracks (content_of kind image.now) l) }
+    ensures sound { OnOk result (IsSoundImage (kind_of image.now) image.now) }
+    // The new image opens again.
+    ensures opens { IfOk result (λ v. image_fault (kind_of image.now) v.items ≡ None) }
 {
     match kind_of(image) {
         Kind::D64 => swap_in::<D64Disk>(alloc, image, swaps),

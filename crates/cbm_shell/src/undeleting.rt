@@ -1,14 +1,13 @@
 //! Giving back a file that was deleted.
-ghost use Rattle.std.specs.Prelude.{◌≡◌, ◌≤◌, true, Some, Ok, IfOk, OnOk, MatchOption};
+ghost use Rattle.std.specs.Prelude.{◌≡◌, ◌≤◌, true, Some, None, Ok, IfOk, IfSome, OnOk, MatchOption};
 ghost use Rattle.cbm_bam.specs.Marks.{is_marked};
 ghost use Rattle.cbm_volume.specs.Map.{geometry_of};
 ghost use Rattle.cbm_volume.specs.Entries.{EntersLed};
-ghost use Rattle.cbm_volume.specs.Layouts.{Layout, Sound};
 ghost use Rattle.cbm_volume.specs.Slots.{directory_of};
-ghost use Rattle.cbm_image.specs.Images.{kind_of, tracks_of, content_of};
+ghost use Rattle.cbm_image.specs.Images.{kind_of, image_fault, tracks_of, content_of};
 ghost use Rattle.cbm_shell.specs.Mapping.{chain_of, entries_in, is_among};
-ghost use Rattle.cbm_shell.specs.Undeleting.{restored_entry, all_free, held_with, IsDeleted, IsMapAnew, IsClear, IsGivenAgain, IsSoundImage, IsUndeleted};
-ghost use Rattle.cbm_shell.specs.Images.{IsSaved};
+ghost use Rattle.cbm_shell.specs.Undeleting.{restored_entry, all_free, held_with, IsDeleted, IsMapAnew, IsClear, IsGivenAgain, IsUndeleted};
+ghost use Rattle.cbm_shell.specs.Images.{IsSaved, IsSoundDisk, IsSoundImage};
 
 use crate::changing::require_sound;
 use crate::fault::ShellFault;
@@ -179,7 +178,7 @@ fn undeleted<M: Medium + Drop>(
 /// The image of a disk, if that is sound.
 fn sound_image<I: DiskImage + Drop>(alloc: Global, disk: I) -> Result<Vec<u8>, ShellFault>
     ensures saved { IfOk result (λ v. IsSaved I.kind v.items (I.seen disk)) }
-    ensures sound { let now = I.seen disk in OnOk result ((l : Layout) × Sound (geometry_of now.tracks now.content) now.content l) }
+    ensures sound { let now = I.seen disk in OnOk result (IsSoundDisk now.tracks now.content) }
 {
     let volume = Volume::open(disk);
     require_sound(&volume)?;
@@ -199,7 +198,8 @@ fn undelete_in<I: DiskImage + Drop>(
         let tracks = geometry_of (tracks_of format image.now) (content_of format image.now) in
         IfOk result (λ o. MatchOption o (Unit {0}) (λ v.
         IsUndeleted tracks (content_of format image.now) (content_of format v.items) slot kind)) }
-    ensures sound { let format = kind_of image.now in IfOk result (λ o. MatchOption o (Unit {0}) (λ v. IsSoundImage format v.items)) }
+    ensures sound { IfOk result (λ o. IfSome o (λ v. IsSoundImage (kind_of image.now) v.items)) }
+    ensures opens { IfOk result (λ o. IfSome o (λ v. image_fault (kind_of image.now) v.items ≡ None)) }
 {
     let volume = Volume::open(opened::<I>(alloc, image)?);
     require_sound(&volume)?;
@@ -224,8 +224,9 @@ pub fn undelete(
         let tracks = geometry_of (tracks_of format image.now) (content_of format image.now) in
         IfOk result (λ o. MatchOption o (Unit {0}) (λ v.
         IsUndeleted tracks (content_of format image.now) (content_of format v.items) slot kind)) }
-    // The new image is sound.
-    ensures sound { let format = kind_of image.now in IfOk result (λ o. MatchOption o (Unit {0}) (λ v. IsSoundImage format v.items)) }
+    // The new image is sound, and opens again.
+    ensures sound { IfOk result (λ o. IfSome o (λ v. IsSoundImage (kind_of image.now) v.items)) }
+    ensures opens { IfOk result (λ o. IfSome o (λ v. image_fault (kind_of image.now) v.items ≡ None)) }
 {
     match kind_of(image) {
         Kind::D64 => undelete_in::<D64Disk>(alloc, image, slot, kind),

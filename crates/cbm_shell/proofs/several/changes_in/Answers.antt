@@ -7,13 +7,13 @@ use Rattle.cbm_shell.proofs.ImageLemmas.{opened_holds, as_open_fault, as_other_f
 use Rattle.cbm_shell.proofs.SeveralLemmas.{saved_after, never_image}
 use Rattle.cbm_shell.proofs.several.changes_in.Goals as goal
 
-pub returns-in_err-disk : goal.returns-in_err-disk
-returns-in_err-disk g c = λ d h.
+pub returns-in_err-disk-clause-made : goal.returns-in_err-disk-clause-made
+returns-in_err-disk-clause-made g c = λ d h.
     let p = err_from_is_err_and c.from_residual.result c.from_residual.ensures.1 in
     rw (p.1 ∙ ap Err p.2) (as_open_fault c.args.image.now (AreUndone c.args.changes.now false (tracks_of (kind_of c.args.image.now) c.args.image.now) d) _ c.in_err-disk.ensures.err)
 
-pub returns-in_err-disk-2 : goal.returns-in_err-disk-2
-returns-in_err-disk-2 g c = λ d h.
+pub returns-in_err-disk-2-clause-made : goal.returns-in_err-disk-2-clause-made
+returns-in_err-disk-2-clause-made g c = λ d h.
     let seen = g.I.Medium.seen c.in_ok-disk.disk in
     let opened = c.in_ok-disk.ensures.ok in
     let p = err_from_is_err_and c.from_residual-in_err-disk-2.result c.from_residual-in_err-disk-2.ensures.1 in
@@ -22,8 +22,8 @@ returns-in_err-disk-2 g c = λ d h.
     (subst (λ b. AreUndone c.args.changes.now b seen.tracks d c.in_err-disk-2.field-0.0) opened.free
     (c.in_err-disk-2.ensures d (opened_holds c.args.image.now seen d opened h)))))
 
-pub returns : goal.returns
-returns g c = λ d h.
+pub returns-clause-made : goal.returns-clause-made
+returns-clause-made g c = λ d h.
     let seen = g.I.Medium.seen c.in_ok-disk.disk in
     let opened = c.in_ok-disk.ensures.ok in
     let after = g.I.Medium.seen c.in_ok-disk-2.disk in
