@@ -9,6 +9,7 @@ use Rattle.cbm_shell.specs.declared.changing.Change.{Change}
 use Rattle.cbm_shell.specs.declared.fault.ShellFault.{ShellFault}
 use Rattle.cbm_shell.specs.declared.fault.ShellFault.TheVariants as fault
 use Rattle.cbm_shell.specs.Changing.{after_change, IsFine, IsUndone, IsRefusal, IsFaultOf}
+use Rattle.cbm_shell.specs.Editing.{IsUnedited}
 
 -- the status at the end decides
 pub made : (change : Change) (m : Machine) (stands : Machine → Type 0) (r : Result (Unit {0}) ShellFault) (s : Status) → stands (after_change change m)
@@ -16,6 +17,17 @@ pub made : (change : Change) (m : Machine) (stands : Machine → Type 0) (r : Re
     → MatchResult r (λ _. IsFine (after_change change m).status × stands (after_change change m)) (IsUndone change m)
 made change m stands (Ok _) s now e h = (subst IsFine e h, now)
 made change m stands (Err f) s now e h = subst (IsUndone change m) (sym h.0) (record { told = inr e; error = h.1 })
+
+-- a disk that isn't sound isn't changed
+pub unsound_of : (tracks : ℕ) (content : Content) (f : ShellFault) → IsUnedited tracks content ⊥ f → IsFaultOf tracks content f
+unsound_of tracks content (fault.Unsound u) h = h
+unsound_of tracks content fault.Memory h = absurd h
+unsound_of tracks content (fault.Image n) h = absurd h
+unsound_of tracks content (fault.Refused s) h = absurd h
+unsound_of tracks content (fault.Trouble t) h = absurd h
+unsound_of tracks content fault.NotFound h = absurd h
+unsound_of tracks content fault.NotClosed h = absurd h
+unsound_of tracks content fault.Mistaken h = absurd h
 
 -- a refusal isn't for want of soundness
 pub refusal_of : (tracks : ℕ) (content : Content) (f : ShellFault) → IsRefusal f → IsFaultOf tracks content f

@@ -17,6 +17,11 @@ pub mod BlankDisks
 pub mod ZeroImages
 pub mod NewImages
 pub mod ConvertKinds
+pub mod EntryLemmas
+pub mod EditLemmas
+pub mod LockLemmas
+pub mod TitleLemmas
+pub mod SlotLemmas
 pub mod SwapLemmas
 pub mod RecordLemmas
 pub mod ForgetLemmas

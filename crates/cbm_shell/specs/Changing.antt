@@ -44,10 +44,11 @@ IsUndone change m fault.NotFound = ⊥
 IsUndone change m fault.NotClosed = ⊥
 IsUndone change m fault.Mistaken = ⊥
 
--- the fault is that the disk isn't sound, or the machine's
+-- the disk isn't sound, and this is its first fault; or the drive refused the change
 abbrev pub IsFaultOf : ℕ → Content → ShellFault → Type 0
 IsFaultOf tracks content (fault.Unsound u) = DiskFault (geometry_of tracks content) content u
-IsFaultOf tracks content f = Unit {0}
+IsFaultOf tracks content (fault.Refused s) = Unit {0}
+IsFaultOf tracks content f = ⊥
 
 -- the drive refused it
 abbrev pub IsRefusal : ShellFault → Type 0

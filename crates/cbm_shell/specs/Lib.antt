@@ -16,6 +16,7 @@ pub mod Foreign
 pub mod Geos
 pub mod Freeing
 pub mod Wrapped
+pub mod Editing
 pub mod Locking
 pub mod Salvaging
 pub mod Art

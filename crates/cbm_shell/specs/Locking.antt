@@ -1,12 +1,14 @@
 -- Files that are locked against SCRATCH, and the disk's title: two changes that no command of the drive makes.
-use Rattle.std.specs.Prelude.{ℕ, ◌≡◌, ◌+◌, ◌*◌, ◌/◌, ◌%◌, ◌&&◌, Bool, true, false, List, [], ◌∷◌, ◌++◌, take, drop, slice_set, Option, Some, None, Ok}
+use Rattle.std.specs.Prelude.{ℕ, zero, suc, ◌≡◌, ◌+◌, ◌*◌, ◌/◌, ◌%◌, ◌&&◌, Bool, true, false, List, [], ◌∷◌, ◌++◌, take, drop, slice_set, Option, Some, None, Ok, MatchBool}
 use Rattle.cbm_medium.specs.Place.{directory_head}
 use Rattle.cbm_medium.specs.Content.{Content, written}
 use Rattle.cbm_medium.specs.Links.{bytes_at}
 use Rattle.cbm_file.specs.Padding.{padded}
+use Rattle.cbm_file.specs.Files.{Disk}
 use Rattle.cbm_volume.specs.Entries.{type_byte, bit_of, EntersLed}
-use Rattle.cbm_volume.specs.Slots.{Finds, directory_of}
+use Rattle.cbm_volume.specs.Slots.{Answers, Finds, directory_of}
 use Rattle.cbm_channel.specs.Sought.{is_sought}
+use Rattle.cbm_shell.specs.Editing.{HasNoSlot}
 
 -- two answers that aren't the same
 abbrev pub is_other : Bool → Bool → Bool
@@ -42,9 +44,37 @@ pub record Locks (locked : Bool) (tracks : ℕ) (pattern : List ℕ) (old new : 
 abbrev pub AreLocked : Bool → ℕ → List ℕ → Content → Type 0
 AreLocked locked tracks pattern content = Finds (is_unlike pattern locked) (directory_of tracks content) (Ok None)
 
+-- ONE SLOT: the entry of a file that matches, and isn't locked as it shall be, is so; any other stays. Nothing else is changed.
+pub record LocksSlot (locked : Bool) (tracks : ℕ) (pattern : List ℕ) (slot : ℕ) (old new : Content) : Type 0 where
+  pub entry : List ℕ
+  pub stands : Answers (directory_of tracks old) slot (Ok (Some entry))
+  pub entered : MatchBool (is_unlike pattern locked entry) (EntersLed tracks old new slot (locked_entry locked entry)) (new ≡ old)
+
+-- the first so many slots, one after another
+unfoldable pub LocksSlots : Bool → ℕ → List ℕ → ℕ → Content → Content → Type 0
+LocksSlots locked tracks pattern zero old new = new ≡ old
+LocksSlots locked tracks pattern (suc n) old new =
+    (between : Content) × LocksSlots locked tracks pattern n old between × LocksSlot locked tracks pattern n between new
+
+-- EACH FILE THAT MATCHES is locked as it shall be: all slots of the directory
+pub record LocksEach (locked : Bool) (tracks : ℕ) (pattern : List ℕ) (old new : Content) : Type 0 where
+  pub slots : ℕ
+  pub each : LocksSlots locked tracks pattern slots old new
+  pub all : HasNoSlot tracks new slots
+
+-- THE FILES THAT PATTERNS MEAN are locked as they shall be, pattern after pattern
+unfoldable pub LocksAll : List (List ℕ) → Bool → ℕ → Content → Content → Type 0
+LocksAll [] locked tracks old new = new ≡ old
+LocksAll (pattern ∷ rest) locked tracks old new =
+    (between : Content) × LocksEach locked tracks pattern old between × LocksAll rest locked tracks between new
+
 -- 18/0 WITH ANOTHER TITLE, filled up with $A0; its other bytes are as they were
 abbrev pub with_title : List ℕ → List ℕ → List ℕ
 with_title title head = take 144 head ++ (padded title ++ drop 16 (drop 144 head))
 
 abbrev pub titled : List ℕ → Content → Content
 titled title content = written content directory_head (with_title title (bytes_at content directory_head))
+
+-- a disk with another title
+abbrev pub entitled : List ℕ → Disk → Disk
+entitled title d = record d { title = padded title }

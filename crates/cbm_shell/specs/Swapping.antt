@@ -1,9 +1,12 @@
 -- Entries of the directory that change places.
-use Rattle.std.specs.Prelude.{ℕ, ◌≡◌, List, [], ◌∷◌, Some, Ok}
+use Rattle.std.specs.Prelude.{ℕ, ◌≡◌, ◌⊎◌, List, [], ◌∷◌, Some, Ok}
 use Rattle.cbm_medium.specs.Content.{Content}
 use Rattle.cbm_volume.specs.Entries.{EntersLed}
+use Rattle.cbm_volume.specs.Map.{geometry_of}
 use Rattle.cbm_volume.specs.Slots.{Answers, directory_of}
+use Rattle.cbm_image.specs.Images.{kind_of, tracks_of, content_of}
 use Rattle.cbm_shell.specs.declared.swapping.Swap.{Swap}
+use Rattle.cbm_shell.specs.Editing.{HasNoSlot}
 
 -- TWO ENTRIES CHANGE PLACES: each slot has the thirty bytes of the other, and nothing else is changed.
 pub record Swaps (tracks : ℕ) (swap : Swap) (old new : Content) : Type 0 where
@@ -19,3 +22,12 @@ pub record Swaps (tracks : ℕ) (swap : Swap) (old new : Content) : Type 0 where
 abbrev pub AreSwapped : ℕ → List Swap → Content → Content → Type 0
 AreSwapped tracks [] old new = new ≡ old
 AreSwapped tracks (swap ∷ rest) old new = (between : Content) × Swaps tracks swap old between × AreSwapped tracks rest between new
+
+-- ONE OF THE SWAPS names a slot that the directory doesn't have
+abbrev pub MissesSlot : ℕ → Content → List Swap → Type 0
+MissesSlot tracks content [] = ⊥
+MissesSlot tracks content (swap ∷ rest) = HasNoSlot tracks content swap.first ⊎ (HasNoSlot tracks content swap.second ⊎ MissesSlot tracks content rest)
+
+-- the same of an image's disk
+abbrev pub MissesSlotIn : List ℕ → List Swap → Type 0
+MissesSlotIn image swaps = MissesSlot (geometry_of (tracks_of (kind_of image) image) (content_of (kind_of image) image)) (content_of (kind_of image) image) swaps

@@ -1,10 +1,11 @@
 //! How the directory looks: lines of art, which are entries without a block, and names, blocks and locks of files. No command
 //! of the drive makes such changes.
-ghost use Rattle.std.specs.Prelude.{◌≡◌, ◌≤◌, None, length, IfOk, IfSome, OnOk, MatchOption};
+ghost use Rattle.std.specs.Prelude.{◌≡◌, ◌≤◌, None, length, IfOk, IfErr, IfSome, IsOk, OnOk, MatchOption};
 ghost use Rattle.cbm_volume.specs.Map.{geometry_of};
 ghost use Rattle.cbm_image.specs.Images.{kind_of, image_fault, tracks_of, content_of};
 ghost use Rattle.cbm_volume.specs.Slots.{Answers, directory_of};
 ghost use Rattle.cbm_shell.specs.Images.{IsSoundImage};
+ghost use Rattle.cbm_shell.specs.Editing.{CanBeEdited, HasNoSlot, HasNoSlotIn, IsUnedited, IsUneditedIn};
 ghost use Rattle.cbm_shell.specs.Art.{art_entry, dressed_entry, HasEntered, IsDressed, IsFull};
 
 use crate::changing::require_sound;
@@ -15,7 +16,7 @@ use crate::swapping::entry_at;
 use cbm_d64::D64Disk;
 use cbm_directory::{empty_slot, put_slot};
 use cbm_g64::G64Disk;
-use cbm_medium::{Link, Medium};
+use cbm_medium::{Link, Steady};
 use cbm_image::{DiskImage, Kind, kind_of};
 use cbm_volume::{Entry, FileType, Volume};
 use std::alloc::Global;
@@ -42,12 +43,14 @@ fn art_entry(looks: Looks<'_>) -> Entry
 }
 
 /// The disk with an entry in its first empty slot; None where no slot is empty and the directory can't grow. Errors:
-/// `Trouble`, where the directory breaks off before, or the medium refuses to be written.
-fn entered<M: Medium + Drop>(volume: Volume<M>, entry: &Entry) -> Result<Option<M>, ShellFault>
+/// `Trouble`, where the directory breaks off before, or the medium refuses to be written; never on a sound disk that can be
+/// written.
+fn entered<M: Steady + Drop>(volume: Volume<M>, entry: &Entry) -> Result<Option<M>, ShellFault>
     ensures tracks { IfOk result (λ o. MatchOption o (Unit {0}) (λ after. (M.seen after).tracks ≡ (M.seen volume).tracks)) }
     ensures enters { let old = M.seen volume in let tracks = geometry_of old.tracks old.content in
         IfOk result (λ o. MatchOption o (IsFull tracks old.content)
         (λ after. HasEntered tracks old.content (M.seen after).content entry.now)) }
+    ensures never { let old = M.seen volume in CanBeEdited (geometry_of old.tracks old.content) old → IsOk result }
 {
     let geometry = volume.geometry();
     let mut medium = volume.into_medium();
@@ -73,6 +76,7 @@ fn add_art_in<I: DiskImage + Drop>(
         (art_entry looks.entry.name.now looks.entry.blocks looks.entry.is_locked))) }
     ensures sound { OnOk result (IsSoundImage (kind_of image.now) image.now) }
     ensures opens { IfOk result (λ o. IfSome o (λ v. image_fault (kind_of image.now) v.items ≡ None)) }
+    ensures fault { IfErr result (IsUneditedIn image.now ⊥) }
 {
     let volume = Volume::open(opened::<I>(alloc, image)?);
     require_sound(&volume)?;
@@ -83,7 +87,7 @@ fn add_art_in<I: DiskImage + Drop>(
 }
 
 /// Adds a line of art to the directory of an image; None where no slot is empty and the directory can't grow. Errors:
-/// `Image`; `Unsound`; `Trouble`, where the medium can't be written; `Memory`.
+/// `Image`; `Unsound`, with what is wrong first; `Memory`.
 pub fn add_art(alloc: Global, image: &[u8], looks: Looks<'_>) -> Result<Option<Vec<u8>>, ShellFault>
     requires { length looks.name.now ≤ 16 }
     // The first empty slot has the entry, and nothing else of the image is changed, but that the directory has grown
@@ -97,6 +101,7 @@ pub fn add_art(alloc: Global, image: &[u8], looks: Looks<'_>) -> Result<Option<V
     ensures sound { OnOk result (IsSoundImage (kind_of image.now) image.now) }
     // The new image opens again.
     ensures opens { IfOk result (λ o. IfSome o (λ v. image_fault (kind_of image.now) v.items ≡ None)) }
+    ensures fault { IfErr result (IsUneditedIn image.now ⊥) }
 {
     match kind_of(image) {
         Kind::D64 => add_art_in::<D64Disk>(alloc, image, looks),
@@ -115,12 +120,15 @@ fn dressed_entry(entry: &Entry, looks: Looks<'_>) -> Entry
     entry_of(&bytes)
 }
 
-/// The disk on which the entry of a slot looks so. Errors: `NotFound`, where the directory has no such slot; `Trouble`.
-fn dressed<M: Medium + Drop>(volume: Volume<M>, slot: u8, looks: Looks<'_>) -> Result<M, ShellFault>
+/// The disk on which the entry of a slot looks so. Errors: `NotFound`, where the directory has no such slot; `Trouble`, but never
+/// on a sound disk that can be written.
+fn dressed<M: Steady + Drop>(volume: Volume<M>, slot: u8, looks: Looks<'_>) -> Result<M, ShellFault>
     requires { length looks.name.now ≤ 16 }
     ensures tracks { IfOk result (λ after. (M.seen after).tracks ≡ (M.seen volume).tracks) }
     ensures dressed { let old = M.seen volume in IfOk result (λ after. IsDressed (geometry_of old.tracks old.content) slot
         looks.entry.name.now looks.entry.blocks looks.entry.is_locked old.content (M.seen after).content) }
+    ensures fault { let old = M.seen volume in let tracks = geometry_of old.tracks old.content in CanBeEdited tracks old →
+        IfErr result (IsUnedited old.tracks old.content (HasNoSlot tracks old.content slot)) }
 {
     let geometry = volume.geometry();
     let mut medium = volume.into_medium();
@@ -144,6 +152,7 @@ fn dress_in<I: DiskImage + Drop>(
         (content_of kind v.items)) }
     ensures sound { OnOk result (IsSoundImage (kind_of image.now) image.now) }
     ensures opens { IfOk result (λ v. image_fault (kind_of image.now) v.items ≡ None) }
+    ensures fault { IfErr result (IsUneditedIn image.now (HasNoSlotIn image.now slot)) }
 {
     let volume = Volume::open(opened::<I>(alloc, image)?);
     require_sound(&volume)?;
@@ -151,8 +160,8 @@ fn dress_in<I: DiskImage + Drop>(
     saved(alloc, &disk)
 }
 
-/// Lets the entry of a slot look so, by its number from 0 on: name, blocks and lock. Errors: `Image`; `Unsound`; `NotFound`,
-/// where the directory has no such slot; `Trouble`, where the medium can't be written; `Memory`.
+/// Lets the entry of a slot look so, by its number from 0 on: name, blocks and lock. Errors: `Image`; `Unsound`, with what is wrong
+/// first; `NotFound`, where the directory has no such slot; `Memory`.
 pub fn dress(alloc: Global, image: &[u8], slot: u8, looks: Looks<'_>) -> Result<Vec<u8>, ShellFault>
     requires { length looks.name.now ≤ 16 }
     // The entry's name, its number of blocks and its lock are others, and nothing else of the image.
@@ -164,6 +173,7 @@ pub fn dress(alloc: Global, image: &[u8], slot: u8, looks: Looks<'_>) -> Result<
     ensures sound { OnOk result (IsSoundImage (kind_of image.now) image.now) }
     // The new image opens again.
     ensures opens { IfOk result (λ v. image_fault (kind_of image.now) v.items ≡ None) }
+    ensures fault { IfErr result (IsUneditedIn image.now (HasNoSlotIn image.now slot)) }
 {
     match kind_of(image) {
         Kind::D64 => dress_in::<D64Disk>(alloc, image, slot, looks),

@@ -8,6 +8,7 @@ ghost use Rattle.cbm_channel.specs.Machines.{start};
 ghost use Rattle.cbm_file.specs.Files.{Disk};
 ghost use Rattle.cbm_volume.specs.Holding.{HoldsDisk};
 ghost use Rattle.cbm_shell.specs.Images.{IsSoundDisk};
+ghost use Rattle.cbm_shell.specs.Editing.{IsUnedited};
 ghost use Rattle.cbm_shell.specs.Changing.{after_change, IsFine, IsUndone, IsRefusal, IsFaultOf};
 
 use crate::fault::ShellFault;
@@ -73,7 +74,7 @@ pub(crate) fn require_sound<M: Medium>(volume: &Volume<M>) -> Result<(), ShellFa
     ensures sound { let now = M.seen volume.now in
         OnOk result (IsSoundDisk now.tracks now.content) }
     ensures exact { let now = M.seen volume.now in (d : Disk) → HoldsDisk now.tracks now.content d → IsOk result }
-    ensures fault { let now = M.seen volume.now in IfErr result (IsFaultOf now.tracks now.content) }
+    ensures fault { let now = M.seen volume.now in IfErr result (IsUnedited now.tracks now.content ⊥) }
 {
     match volume.check() {
         Ok(()) => Ok(()),

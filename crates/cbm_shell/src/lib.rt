@@ -36,7 +36,7 @@ pub use forgetting::forget;
 pub use formats::{Foreign, foreign_of};
 pub use images::{Order, change, check, directory, file, raw_directory, validate};
 pub use listing::{list, raw_list};
-pub use locking::{lock, retitle};
+pub use locking::{lock, locks, retitle};
 pub use looking::{
     Freed, Geos, Info, Mark, entries, entries_of, file_blocks, file_of, geos_blocks, geos_of, info,
     info_of, picture, picture_of, sector,

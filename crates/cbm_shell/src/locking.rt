@@ -1,12 +1,10 @@
 //! Locking files against SCRATCH, and another title: two changes that no command of the drive makes.
-ghost use Rattle.std.specs.Prelude.{◌≡◌, ◌≤◌, ◌++◌, ℕ, None, Ok, length, take, drop, slice_set, IfOk, IfSome, OnOk, MatchOption};
-ghost use Rattle.cbm_medium.specs.Place.{directory_head};
-ghost use Rattle.cbm_medium.specs.Content.{written};
+ghost use Rattle.std.specs.Prelude.{◌≡◌, None, IfOk, IfErr, IfSome, IsOk, OnOk, MatchOption};
 ghost use Rattle.cbm_volume.specs.Map.{geometry_of};
-ghost use Rattle.cbm_file.specs.Padding.{padded};
 ghost use Rattle.cbm_image.specs.Images.{kind_of, image_fault, tracks_of, content_of};
 ghost use Rattle.cbm_shell.specs.Images.{IsSoundImage};
-ghost use Rattle.cbm_shell.specs.Locking.{is_other, lock_bit, locked_type, locked_entry, Locks, AreLocked, with_title, titled};
+ghost use Rattle.cbm_shell.specs.Editing.{CanBeEdited, IsUneditedIn};
+ghost use Rattle.cbm_shell.specs.Locking.{is_other, is_unlike, lock_bit, locked_type, locked_entry, Locks, AreLocked};
 
 use crate::changing::require_sound;
 use crate::fault::ShellFault;
@@ -14,16 +12,18 @@ use crate::images::{opened, saved};
 use cbm_command::matches;
 use cbm_d64::D64Disk;
 use cbm_directory::put_slot;
-use cbm_file::padded;
 use cbm_g64::G64Disk;
-use cbm_medium::{Address, Medium, Trouble};
+use cbm_medium::Steady;
 use cbm_image::{DiskImage, Kind, kind_of};
 use cbm_volume::{Entry, Volume, Wanted};
 use std::alloc::Global;
-use std::ops::Range;
 
-/// Where the title stands in 18/0.
-const TITLE: Range<usize> = 144..160;
+mod each;
+mod title;
+
+pub use each::locks;
+pub use title::retitle;
+pub(crate) use title::write_head;
 
 /// Whether two answers aren't the same.
 fn is_other(first: bool, second: bool) -> bool
@@ -33,6 +33,15 @@ fn is_other(first: bool, second: bool) -> bool
         (true, true) | (false, false) => false,
         (true, false) | (false, true) => true,
     }
+}
+
+/// Whether an entry is that of a file whose name matches, and that isn't locked as it shall be.
+fn is_unlike(entry: &Entry, pattern: &[u8], is_locked: bool) -> bool
+    ensures { result ≡ is_unlike pattern.now is_locked entry.now }
+{
+    !entry.is_empty()
+        && matches(pattern, entry.name())
+        && is_other(entry.is_locked(), is_locked)
 }
 
 /// A file whose name matches, and that isn't locked as it shall be.
@@ -48,9 +57,7 @@ impl Wanted for Unlike<'_> {
     ghost wants = { λ s. is_unlike s.pattern.now s.is_locked };
 
     fn wants(&self, entry: &Entry) -> bool {
-        !entry.is_empty()
-            && matches(self.pattern, entry.name())
-            && is_other(entry.is_locked(), self.is_locked)
+        is_unlike(entry, self.pattern, self.is_locked)
     }
 }
 
@@ -87,8 +94,9 @@ pub(crate) fn locked_entry(entry: &Entry, is_locked: bool) -> Entry
 }
 
 /// The disk with the first file changed that matches and isn't locked as it shall be; None where there is none. Errors:
-/// `Trouble`, where the directory breaks off before, or the medium refuses to be written.
-fn locked<M: Medium + Drop>(
+/// `Trouble`, where the directory breaks off before, or the medium refuses to be written; never on a sound disk that can be
+/// written.
+fn locked<M: Steady + Drop>(
     volume: Volume<M>,
     pattern: &[u8],
     is_locked: bool,
@@ -97,6 +105,7 @@ fn locked<M: Medium + Drop>(
     ensures locks { let old = M.seen volume in let tracks = geometry_of old.tracks old.content in
         IfOk result (λ o. MatchOption o (AreLocked is_locked tracks pattern.now old.content)
         (λ after. Locks is_locked tracks pattern.now old.content (M.seen after).content)) }
+    ensures never { let old = M.seen volume in CanBeEdited (geometry_of old.tracks old.content) old → IsOk result }
 {
     let Some((slot, entry)) = volume.find(&Unlike { pattern, is_locked })? else {
         return Ok(None);
@@ -125,7 +134,9 @@ fn lock_in<I: DiskImage + Drop>(
         IfOk result (λ o. MatchOption o (AreLocked is_locked tracks pattern.now (content_of kind image.now))
         (λ v. Locks is_locked tracks pattern.now (content_of kind image.now) (content_of kind v.items))) }
     ensures sound { OnOk result (IsSoundImage (kind_of image.now) image.now) }
+    ensures stays { IfOk result (λ o. IfSome o (λ v. IsSoundImage (kind_of image.now) v.items)) }
     ensures opens { IfOk result (λ o. IfSome o (λ v. image_fault (kind_of image.now) v.items ≡ None)) }
+    ensures fault { IfErr result (IsUneditedIn image.now ⊥) }
 {
     let volume = Volume::open(opened::<I>(alloc, image)?);
     require_sound(&volume)?;
@@ -136,7 +147,7 @@ fn lock_in<I: DiskImage + Drop>(
 }
 
 /// Locks the first file of an image against SCRATCH that matches a pattern and isn't locked, or frees the first that is;
-/// None where there is none. Errors: `Image`; `Unsound`; `Trouble`, where the medium can't be written; `Memory`.
+/// None where there is none. Errors: `Image`; `Unsound`, with what is wrong first; `Memory`.
 pub fn lock(
     alloc: Global,
     image: &[u8],
@@ -150,82 +161,13 @@ pub fn lock(
         (λ v. Locks is_locked tracks pattern.now (content_of kind image.now) (content_of kind v.items))) }
     // An image that isn't sound gives no new one.
     ensures sound { OnOk result (IsSoundImage (kind_of image.now) image.now) }
-    // The new image opens again.
+    // The new image is sound, and opens again.
+    ensures stays { IfOk result (λ o. IfSome o (λ v. IsSoundImage (kind_of image.now) v.items)) }
     ensures opens { IfOk result (λ o. IfSome o (λ v. image_fault (kind_of image.now) v.items ≡ None)) }
+    ensures fault { IfErr result (IsUneditedIn image.now ⊥) }
 {
     match kind_of(image) {
         Kind::D64 => lock_in::<D64Disk>(alloc, image, pattern, is_locked),
         Kind::G64 => lock_in::<G64Disk>(alloc, image, pattern, is_locked),
-    }
-}
-
-/// Writes a title into the bytes of 18/0.
-fn put_title(head: &mut [u8; 256], title: &[u8])
-    requires { length title.now ≤ 16 }
-    ensures { head.new ≡ with_title title.now head.old }
-{
-    head[TITLE].copy_from_slice(&padded(title));
-}
-
-/// Writes 18/0.
-pub(crate) fn write_head<M: Medium>(medium: &mut M, head: &[u8; 256]) -> Result<(), ShellFault>
-    ensures content { OnOk result ((M.seen medium.new).content ≡ written (M.seen medium.old).content directory_head head.now) }
-    ensures tracks { (M.seen medium.new).tracks ≡ (M.seen medium.old).tracks }
-{
-    let _tracks = medium.tracks();
-    match medium.write(Address::of_map(), head) {
-        Ok(()) => Ok(()),
-        Err(fault) => Err(ShellFault::Trouble(Trouble::from(fault))),
-    }
-}
-
-/// A disk with another title. Errors: `Trouble`, where 18/0 can't be read or written.
-fn retitled<M: Medium + Drop>(volume: Volume<M>, title: &[u8]) -> Result<M, ShellFault>
-    requires { length title.now ≤ 16 }
-    ensures content { IfOk result (λ after. (M.seen after).content ≡ titled title.now (M.seen volume).content) }
-    ensures tracks { IfOk result (λ after. (M.seen after).tracks ≡ (M.seen volume).tracks) }
-{
-    let geometry = volume.geometry();
-    let mut medium = volume.into_medium();
-    let mut head = cbm_bam::read_map(&medium, geometry)?;
-    put_title(&mut head, title);
-    write_head(&mut medium, &head)?;
-    Ok(medium)
-}
-
-/// Gives the disk of an image of one format another title.
-fn retitle_in<I: DiskImage + Drop>(
-    alloc: Global,
-    image: &[u8],
-    title: &[u8],
-) -> Result<Vec<u8>, ShellFault>
-    requires kind { kind_of image.now ≡ I.kind }
-    requires short { length title.now ≤ 16 }
-    ensures title { let kind = kind_of image.now in
-        IfOk result (λ v. content_of kind v.items ≡ titled title.now (content_of kind image.now)) }
-    ensures sound { OnOk result (IsSoundImage (kind_of image.now) image.now) }
-    ensures opens { IfOk result (λ v. image_fault (kind_of image.now) v.items ≡ None) }
-{
-    let volume = Volume::open(opened::<I>(alloc, image)?);
-    require_sound(&volume)?;
-    let disk = retitled(volume, title)?;
-    saved(alloc, &disk)
-}
-
-/// Gives the disk of an image another title, of at most sixteen bytes. Errors: `Image`; `Unsound`; `Trouble`, where 18/0
-/// can't be written; `Memory`.
-pub fn retitle(alloc: Global, image: &[u8], title: &[u8]) -> Result<Vec<u8>, ShellFault>
-    requires { length title.now ≤ 16 }
-    // Sixteen bytes of 18/0 are changed, and nothing else of the image.
-    ensures title { let kind = kind_of image.now in
-        IfOk result (λ v. content_of kind v.items ≡ titled title.now (content_of kind image.now)) }
-    // An image that isn't sound gives no new one.
-    ensures sound { OnOk result (IsSoundImage (kind_of image.now) image.now) }
-    // The new image opens again.
-    ensures opens { IfOk result (λ v. image_fault (kind_of image.now) v.items ≡ None) }
-{
-    match kind_of(image) {
-        Kind::D64 => retitle_in::<D64Disk>(alloc, image, title),
-        Kind::G64 => retitle_in::<G64Disk>(alloc, image, title),
     }
 }

@@ -1,10 +1,12 @@
 //! Entries of the directory in another order, which no command of the drive makes.
-ghost use Rattle.std.specs.Prelude.{◌≡◌, ◌≤◌, Some, None, Ok, IfOk, OnOk};
+ghost use Rattle.std.specs.Prelude.{◌≡◌, ◌≤◌, ◌⊎◌, List, false, Some, None, Ok, IfOk, IfErr, OnOk};
+ghost use Rattle.cbm_medium.specs.Place.{Place};
 ghost use Rattle.cbm_volume.specs.Map.{geometry_of};
 ghost use Rattle.cbm_volume.specs.Slots.{Answers, directory_of};
 ghost use Rattle.cbm_image.specs.Images.{kind_of, image_fault, tracks_of, content_of};
 ghost use Rattle.cbm_shell.specs.Images.{IsSoundImage};
-ghost use Rattle.cbm_shell.specs.Swapping.{Swaps, AreSwapped};
+ghost use Rattle.cbm_shell.specs.Editing.{CanBeEdited, HasNoSlot, IsDirectory, IsNoEntry, IsSameMedium, IsUnedited, IsUneditedIn};
+ghost use Rattle.cbm_shell.specs.Swapping.{Swaps, AreSwapped, MissesSlot, MissesSlotIn};
 
 use crate::changing::require_sound;
 use crate::fault::ShellFault;
@@ -12,7 +14,7 @@ use crate::images::{opened, saved};
 use cbm_d64::D64Disk;
 use cbm_directory::{put_slot, slot};
 use cbm_g64::G64Disk;
-use cbm_medium::{Geometry, Medium};
+use cbm_medium::{Geometry, Medium, Steady};
 use cbm_image::{DiskImage, Kind, kind_of};
 use cbm_volume::{Entry, Volume};
 use std::alloc::Global;
@@ -33,7 +35,8 @@ pub(crate) fn entry_at<M: Medium>(
     number: u8,
 ) -> Result<Entry, ShellFault>
     requires { geometry ≤ (M.seen medium.now).tracks }
-    ensures { IfOk result (λ e. Answers (directory_of geometry (M.seen medium.now).content) number (Ok (Some e))) }
+    ensures stands { IfOk result (λ e. Answers (directory_of geometry (M.seen medium.now).content) number (Ok (Some e))) }
+    ensures fault { IfErr result (IsNoEntry geometry (M.seen medium.now).content number) }
 {
     match slot(medium, geometry, number)? {
         Some(entry) => Ok(entry),
@@ -41,11 +44,16 @@ pub(crate) fn entry_at<M: Medium>(
     }
 }
 
-/// Lets two entries change places. Errors: `NotFound`; `Trouble`.
-fn swap_two<M: Medium>(medium: &mut M, geometry: Geometry, swap: Swap) -> Result<(), ShellFault>
+/// Lets two entries change places. Errors: `NotFound`; `Trouble`, but never where the directory can be followed and written.
+fn swap_two<M: Steady>(medium: &mut M, geometry: Geometry, swap: Swap) -> Result<(), ShellFault>
     requires { geometry ≤ (M.seen medium.old).tracks }
     ensures swaps { OnOk result (Swaps geometry swap (M.seen medium.old).content (M.seen medium.new).content) }
-    ensures tracks { (M.seen medium.new).tracks ≡ (M.seen medium.old).tracks }
+    ensures same { IsSameMedium (M.seen medium.old) (M.seen medium.new) }
+    ensures directory { (sectors : List Place) → IsDirectory geometry (M.seen medium.old).content sectors →
+        OnOk result (IsDirectory geometry (M.seen medium.new).content sectors) }
+    ensures fault { let old = M.seen medium.old in (sectors : List Place) → IsDirectory geometry old.content sectors →
+        old.protected ≡ false → IfErr result (λ f. (f ≡ ShellFault.NotFound)
+        × (HasNoSlot geometry old.content swap.first ⊎ HasNoSlot geometry old.content swap.second)) }
 {
     let first = entry_at(medium, geometry, swap.first)?;
     let second = entry_at(medium, geometry, swap.second)?;
@@ -54,8 +62,8 @@ fn swap_two<M: Medium>(medium: &mut M, geometry: Geometry, swap: Swap) -> Result
     Ok(())
 }
 
-/// Lets entries change places, one pair after the other. Errors: `NotFound`; `Trouble`.
-fn swap_each<M: Medium>(
+/// Lets entries change places, one pair after the other. Errors: as of two entries.
+fn swap_each<M: Steady>(
     medium: &mut M,
     geometry: Geometry,
     swaps: &[Swap],
@@ -63,7 +71,9 @@ fn swap_each<M: Medium>(
     requires { geometry ≤ (M.seen medium.old).tracks }
     ensures swapped { OnOk result
         (AreSwapped geometry swaps.now (M.seen medium.old).content (M.seen medium.new).content) }
-    ensures tracks { (M.seen medium.new).tracks ≡ (M.seen medium.old).tracks }
+    ensures same { IsSameMedium (M.seen medium.old) (M.seen medium.new) }
+    ensures fault { let old = M.seen medium.old in (sectors : List Place) → IsDirectory geometry old.content sectors →
+        old.protected ≡ false → IfErr result (λ f. (f ≡ ShellFault.NotFound) × MissesSlot geometry old.content swaps.now) }
 {
     for swap in swaps {
         swap_two(medium, geometry, *swap)?;
@@ -71,11 +81,13 @@ fn swap_each<M: Medium>(
     Ok(())
 }
 
-/// The disk on which entries have changed places. Errors: `NotFound`; `Trouble`.
-fn swapped<M: Medium + Drop>(volume: Volume<M>, swaps: &[Swap]) -> Result<M, ShellFault>
+/// The disk on which entries have changed places. Errors: `NotFound`; `Trouble`, but never on a sound disk that can be written.
+fn swapped<M: Steady + Drop>(volume: Volume<M>, swaps: &[Swap]) -> Result<M, ShellFault>
     ensures swapped { let old = M.seen volume in IfOk result (λ after.
         AreSwapped (geometry_of old.tracks old.content) swaps.now old.content (M.seen after).content) }
     ensures tracks { IfOk result (λ after. (M.seen after).tracks ≡ (M.seen volume).tracks) }
+    ensures fault { let old = M.seen volume in let tracks = geometry_of old.tracks old.content in CanBeEdited tracks old →
+        IfErr result (IsUnedited old.tracks old.content (MissesSlot tracks old.content swaps.now)) }
 {
     let geometry = volume.geometry();
     let mut medium = volume.into_medium();
@@ -95,6 +107,7 @@ fn swap_in<I: DiskImage + Drop>(
         IfOk result (λ v. AreSwapped tracks swaps.now (content_of kind image.now) (content_of kind v.items)) }
     ensures sound { OnOk result (IsSoundImage (kind_of image.now) image.now) }
     ensures opens { IfOk result (λ v. image_fault (kind_of image.now) v.items ≡ None) }
+    ensures fault { IfErr result (IsUneditedIn image.now (MissesSlotIn image.now swaps.now)) }
 {
     let volume = Volume::open(opened::<I>(alloc, image)?);
     require_sound(&volume)?;
@@ -102,8 +115,8 @@ fn swap_in<I: DiskImage + Drop>(
     saved(alloc, &disk)
 }
 
-/// Lets entries of an image's directory change places, one pair after the other. Errors: `Image`; `Unsound`; `NotFound`,
-/// where the directory has no such slot; `Trouble`, where the medium can't be written; `Memory`.
+/// Lets entries of an image's directory change places, one pair after the other. Errors: `Image`; `Unsound`, with what is wrong
+/// first; `NotFound`, where the directory doesn't have one of the slots; `Memory`.
 pub fn swap_entries(alloc: Global, image: &[u8], swaps: &[Swap]) -> Result<Vec<u8>, ShellFault>
     // The entries are those that were there, with all their bytes, and nothing else of the image is changed.
     ensures swapped { let kind = kind_of image.now in
@@ -113,6 +126,7 @@ pub fn swap_entries(alloc: Global, image: &[u8], swaps: &[Swap]) -> Result<Vec<u
     ensures sound { OnOk result (IsSoundImage (kind_of image.now) image.now) }
     // The new image opens again.
     ensures opens { IfOk result (λ v. image_fault (kind_of image.now) v.items ≡ None) }
+    ensures fault { IfErr result (IsUneditedIn image.now (MissesSlotIn image.now swaps.now)) }
 {
     match kind_of(image) {
         Kind::D64 => swap_in::<D64Disk>(alloc, image, swaps),

@@ -21,7 +21,7 @@ use cbm_bam::{SectorSet, anew, read_map};
 use cbm_d64::D64Disk;
 use cbm_directory::put_slot;
 use cbm_g64::G64Disk;
-use cbm_medium::{Geometry, Link, Medium};
+use cbm_medium::{Geometry, Link, Medium, Steady};
 use cbm_image::{DiskImage, Kind, kind_of};
 use cbm_volume::{Entry, FileType, Volume};
 use std::alloc::Global;
@@ -104,7 +104,7 @@ fn restored<M: Medium + Drop>(
 
 /// The disk with its map written anew, in which each block is free but these. Errors: `Trouble`, where 18/0 can't be read or
 /// written.
-fn remapped<M: Medium + Drop>(
+fn remapped<M: Steady + Drop>(
     medium: M,
     geometry: Geometry,
     held: &SectorSet,
@@ -121,7 +121,7 @@ fn remapped<M: Medium + Drop>(
 }
 
 /// The disk with a deleted file given back.
-fn given_again<M: Medium + Drop>(
+fn given_again<M: Steady + Drop>(
     alloc: Global,
     volume: Volume<M>,
     slot: u8,
@@ -156,7 +156,7 @@ fn is_clear<M: Medium>(alloc: Global, volume: &Volume<M>, entry: &Entry) -> Resu
 
 /// The disk with the deleted file in a slot given back; None where there is none, a block of it isn't free any more, or blocks
 /// are lost.
-fn undeleted<M: Medium + Drop>(
+fn undeleted<M: Steady + Drop>(
     alloc: Global,
     volume: Volume<M>,
     slot: u8,

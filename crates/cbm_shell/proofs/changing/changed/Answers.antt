@@ -6,11 +6,21 @@ use Rattle.cbm_channel.specs.Machines.{start}
 use Rattle.cbm_channel.specs.Standing.{Stands}
 use Rattle.cbm_channel.proofs.Stands.{means_of}
 use Rattle.cbm_shell.specs.Changing.{after_change}
+use Rattle.cbm_shell.specs.Editing.{IsUnedited}
+use Rattle.cbm_shell.proofs.ChangeLemmas.{unsound_of}
 use Rattle.cbm_shell.proofs.changing.changed.Goals as goal
 
 pub returns-in_err-require_sound-clause-made : goal.returns-in_err-require_sound-clause-made
 returns-in_err-require_sound-clause-made g c = λ d h.
     let bad = c.in_err-require_sound.ensures.exact d (subst (λ k. HoldsDisk (g.M.Medium.seen k).tracks (g.M.Medium.seen k).content d) (sym c.open-volume.ensures) h) in absurd (cc)
+
+pub returns-in_err-require_sound-clause-fault : goal.returns-in_err-require_sound-clause-fault
+returns-in_err-require_sound-clause-fault g c =
+    let seen = g.M.Medium.seen in
+    let old = seen c.args.medium in
+    let p = err_from_is_err_and c.from_residual.result c.from_residual.ensures.1 in
+    rw (p.1 ∙ ap Err p.2) (unsound_of old.tracks old.content c.in_err-require_sound.field-0.0
+    (subst (λ k. IsUnedited (seen k).tracks (seen k).content ⊥ c.in_err-require_sound.field-0.0) c.open-volume.ensures c.in_err-require_sound.ensures.fault))
 
 pub returns-in_err-apply-clause-made : goal.returns-in_err-apply-clause-made
 returns-in_err-apply-clause-made g c = λ d h.

@@ -1,1 +1,0 @@
-use Rattle.cbm_shell.proofs.locking.retitled.Goals as goal

@@ -1,0 +1,107 @@
+//! Another title.
+ghost use Rattle.std.specs.Prelude.{◌≡◌, ◌≤◌, ◌++◌, ℕ, false, None, length, take, drop, IfOk, IfErr, IsOk, OnOk};
+ghost use Rattle.cbm_medium.specs.Place.{Place, directory_head};
+ghost use Rattle.cbm_medium.specs.Content.{IsWhole, written};
+ghost use Rattle.cbm_file.specs.Padding.{padded};
+ghost use Rattle.cbm_file.specs.Files.{Disk};
+ghost use Rattle.cbm_volume.specs.Map.{geometry_of};
+ghost use Rattle.cbm_image.specs.Images.{kind_of, image_fault, content_of, ImageHolds};
+ghost use Rattle.cbm_shell.specs.Images.{IsSoundImage};
+ghost use Rattle.cbm_shell.specs.Editing.{CanBeEdited, IsUneditedIn};
+ghost use Rattle.cbm_shell.specs.Locking.{with_title, titled, entitled};
+
+use crate::changing::require_sound;
+use crate::fault::ShellFault;
+use crate::images::{opened, saved};
+use cbm_d64::D64Disk;
+use cbm_file::padded;
+use cbm_g64::G64Disk;
+use cbm_medium::{Address, Steady, Trouble};
+use cbm_image::{DiskImage, Kind, kind_of};
+use cbm_volume::Volume;
+use std::alloc::Global;
+use std::ops::Range;
+
+/// Where the title stands in 18/0.
+const TITLE: Range<usize> = 144..160;
+
+/// Writes a title into the bytes of 18/0.
+fn put_title(head: &mut [u8; 256], title: &[u8])
+    requires { length title.now ≤ 16 }
+    ensures { head.new ≡ with_title title.now head.old }
+{
+    head[TITLE].copy_from_slice(&padded(title));
+}
+
+/// Writes 18/0. Errors: `Trouble`, but never where 18/0 reads and can be written.
+pub(crate) fn write_head<M: Steady>(medium: &mut M, head: &[u8; 256]) -> Result<(), ShellFault>
+    ensures content { OnOk result ((M.seen medium.new).content ≡ written (M.seen medium.old).content directory_head head.now) }
+    ensures tracks { (M.seen medium.new).tracks ≡ (M.seen medium.old).tracks }
+    ensures never { let old = M.seen medium.old in
+        IsOk (old.content directory_head) → old.protected ≡ false → IsOk result }
+{
+    let _tracks = medium.tracks();
+    match medium.write(Address::of_map(), head) {
+        Ok(()) => Ok(()),
+        Err(fault) => Err(ShellFault::Trouble(Trouble::from(fault))),
+    }
+}
+
+/// A disk with another title. Errors: `Trouble`, where 18/0 can't be read or written; never on a sound disk that can be written.
+fn retitled<M: Steady + Drop>(volume: Volume<M>, title: &[u8]) -> Result<M, ShellFault>
+    requires { length title.now ≤ 16 }
+    ensures content { IfOk result (λ after. (M.seen after).content ≡ titled title.now (M.seen volume).content) }
+    ensures tracks { IfOk result (λ after. (M.seen after).tracks ≡ (M.seen volume).tracks) }
+    ensures whole { (p : Place) → IsWhole ((M.seen volume).content p) }
+    ensures never { let old = M.seen volume in CanBeEdited (geometry_of old.tracks old.content) old → IsOk result }
+{
+    let geometry = volume.geometry();
+    let mut medium = volume.into_medium();
+    let mut head = cbm_bam::read_map(&medium, geometry)?;
+    put_title(&mut head, title);
+    write_head(&mut medium, &head)?;
+    Ok(medium)
+}
+
+/// Gives the disk of an image of one format another title.
+fn retitle_in<I: DiskImage + Drop>(
+    alloc: Global,
+    image: &[u8],
+    title: &[u8],
+) -> Result<Vec<u8>, ShellFault>
+    requires kind { kind_of image.now ≡ I.kind }
+    requires short { length title.now ≤ 16 }
+    ensures title { let kind = kind_of image.now in
+        IfOk result (λ v. content_of kind v.items ≡ titled title.now (content_of kind image.now)) }
+    ensures sound { OnOk result (IsSoundImage (kind_of image.now) image.now) }
+    ensures made { let kind = kind_of image.now in (d : Disk) → ImageHolds kind image.now d →
+        IfOk result (λ v. ImageHolds kind v.items (entitled title.now d)) }
+    ensures opens { IfOk result (λ v. image_fault (kind_of image.now) v.items ≡ None) }
+    ensures fault { IfErr result (IsUneditedIn image.now ⊥) }
+{
+    let volume = Volume::open(opened::<I>(alloc, image)?);
+    require_sound(&volume)?;
+    let disk = retitled(volume, title)?;
+    saved(alloc, &disk)
+}
+
+/// Gives the disk of an image another title, of at most sixteen bytes. Errors: `Image`; `Unsound`, with what is wrong first;
+/// `Memory`.
+pub fn retitle(alloc: Global, image: &[u8], title: &[u8]) -> Result<Vec<u8>, ShellFault>
+    requires { length title.now ≤ 16 }
+    // Sixteen bytes of 18/0 are changed, and nothing else of the image.
+    ensures title { let kind = kind_of image.now in
+        IfOk result (λ v. content_of kind v.items ≡ titled title.now (content_of kind image.now)) }
+    // An image that isn't sound gives no new one.
+    ensures sound { OnOk result (IsSoundImage (kind_of image.now) image.now) }
+    // The new image is sound, means the old disk with the title, and opens again.
+    ensures made { let kind = kind_of image.now in (d : Disk) → ImageHolds kind image.now d →
+        IfOk result (λ v. ImageHolds kind v.items (entitled title.now d)) }
+    ensures opens { IfOk result (λ v. image_fault (kind_of image.now) v.items ≡ None) }
+    ensures fault { IfErr result (IsUneditedIn image.now ⊥) }
+{
+    match kind_of(image) {
+        Kind::D64 => retitle_in::<D64Disk>(alloc, image, title),
+        Kind::G64 => retitle_in::<G64Disk>(alloc, image, title),
+    }
+}
