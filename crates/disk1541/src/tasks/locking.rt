@@ -3,12 +3,9 @@ use super::find::is_meant;
 use super::make::title_of;
 use crate::failure::{Failure, in_memory, on_disk};
 use crate::names::petscii;
-use cbm_shell::{Charset, lock, retitle};
+use cbm_shell::{Charset, locks, retitle};
 use cbm_volume::Entry;
-use std::alloc::Global;
-
-/// The most files of a disk.
-const FILES: u8 = 144;
+use std::alloc::{AllocError, Global};
 
 /// Whether a pattern means one of the files.
 fn is_any_meant(entries: &[Entry], pattern: &[u8]) -> bool {
@@ -20,51 +17,42 @@ fn is_any_meant(entries: &[Entry], pattern: &[u8]) -> bool {
     false
 }
 
-/// Refuses a pattern that means no file.
-fn require_match<'a>(
+/// The pattern of a word. Refuses one that means no file.
+fn pattern_of<'a>(
     alloc: Global,
-    image: &'a str,
-    bytes: &[u8],
-    pattern: &[u8],
-) -> Result<(), Failure<'a>> {
-    let entries = on_disk(image, cbm_shell::entries(alloc, bytes))?;
-    if is_any_meant(entries.as_slice(), pattern) {
-        return Ok(());
+    entries: &[Entry],
+    charset: Charset,
+    word: &'a str,
+) -> Result<Vec<u8>, Failure<'a>> {
+    let pattern = petscii(alloc, charset, word)?;
+    if is_any_meant(entries, pattern.as_slice()) {
+        return Ok(pattern);
     }
     Err(Failure::NoMatch)
 }
 
-/// The image with each file locked, or freed, that a pattern means.
-fn locked<'a>(
+/// The patterns of words.
+fn patterns_of<'a>(
     alloc: Global,
-    image: &'a str,
-    bytes: &[u8],
-    pattern: &[u8],
-    is_locked: bool,
-) -> Result<Vec<u8>, Failure<'a>> {
-    let mut new = in_memory(Vec::from_slice(alloc, bytes))?;
-    for _ in 0..FILES {
-        let next = on_disk(image, lock(alloc, new.as_slice(), pattern, is_locked))?;
-        let Some(next) = next else {
-            return Ok(new);
-        };
-        new = next;
+    entries: &[Entry],
+    charset: Charset,
+    words: &[&'a str],
+) -> Result<Vec<Vec<u8>>, Failure<'a>> {
+    let mut patterns = Vec::new(alloc);
+    for word in words {
+        let pattern = pattern_of(alloc, entries, charset, *word)?;
+        in_memory(patterns.push(pattern).map_err(AllocError::from))?;
     }
-    Ok(new)
+    Ok(patterns)
 }
 
-/// The image with each file locked, or freed, that a word means.
-fn locked_by<'a>(
-    alloc: Global,
-    image: &'a str,
-    bytes: &[u8],
-    charset: Charset,
-    word: &'a str,
-    is_locked: bool,
-) -> Result<Vec<u8>, Failure<'a>> {
-    let pattern = petscii(alloc, charset, word)?;
-    require_match(alloc, image, bytes, pattern.as_slice())?;
-    locked(alloc, image, bytes, pattern.as_slice(), is_locked)
+/// The bytes of each pattern.
+fn slices_of<'a>(alloc: Global, patterns: &'a [Vec<u8>]) -> Result<Vec<&'a [u8]>, AllocError> {
+    let mut slices = Vec::new(alloc);
+    for pattern in patterns {
+        slices.push(pattern.as_slice())?;
+    }
+    Ok(slices)
 }
 
 /// The image with each file locked, or freed, that one of the words means.
@@ -76,11 +64,10 @@ pub fn locked_all<'a>(
     words: &[&'a str],
     is_locked: bool,
 ) -> Result<Vec<u8>, Failure<'a>> {
-    let mut new = in_memory(Vec::from_slice(alloc, bytes))?;
-    for word in words {
-        new = locked_by(alloc, image, new.as_slice(), charset, *word, is_locked)?;
-    }
-    Ok(new)
+    let entries = on_disk(image, cbm_shell::entries(alloc, bytes))?;
+    let patterns = patterns_of(alloc, entries.as_slice(), charset, words)?;
+    let slices = in_memory(slices_of(alloc, patterns.as_slice()))?;
+    on_disk(image, locks(alloc, bytes, slices.as_slice(), is_locked))
 }
 
 /// The image with another title.
