@@ -1,5 +1,5 @@
 -- A deleted file that is given back.
-use Rattle.std.specs.Prelude.{ℕ, ◌≡◌, ◌+◌, ◌&&◌, not, Bool, true, List, [], ◌∷◌, ◌++◌, slice_index, slice_set, Some, Ok}
+use Rattle.std.specs.Prelude.{ℕ, ◌≡◌, ◌≢◌, ◌⊎◌, ◌==◌, ◌+◌, ◌&&◌, not, Bool, true, false, List, [], ◌∷◌, ◌++◌, slice_index, slice_set, Some, Ok}
 use Rattle.cbm_medium.specs.Place.{Place, Has, directory_head}
 use Rattle.cbm_medium.specs.Content.{Content, written}
 use Rattle.cbm_bam.specs.Map.{map_of, is_free_in, IsCounted, IsOutside}
@@ -10,6 +10,7 @@ use Rattle.cbm_volume.specs.Slots.{Answers, directory_of}
 use Rattle.cbm_shell.specs.Mapping.{chain_of, entries_in, free_by, is_among, used_in}
 use Rattle.cbm_shell.specs.Geos.{border_in, in_geos}
 use Rattle.cbm_shell.specs.Lost.{lost_of}
+use Rattle.cbm_shell.specs.Editing.{HasNoSlot}
 
 -- the entry with a type, closed, and all else as it was
 abbrev pub restored_entry : FileType → List ℕ → List ℕ
@@ -20,6 +21,11 @@ pub record IsDeleted (tracks : ℕ) (content : Content) (slot : ℕ) (entry : Li
   pub stands : Answers (directory_of tracks content) slot (Ok (Some entry))
   pub deleted : type_byte entry ≡ 0
 
+-- the slot has no deleted file: the directory ends before it, or its entry isn't empty
+abbrev pub HasNoDeleted : ℕ → Content → ℕ → Type 0
+HasNoDeleted tracks content slot =
+    HasNoSlot tracks content slot ⊎ ((entry : List ℕ) × Answers (directory_of tracks content) slot (Ok (Some entry)) × ((type_byte entry == 0) ≡ false))
+
 -- the map has each of these sectors as free
 unfoldable pub all_free : Content → List Place → Bool
 all_free content [] = true
@@ -29,6 +35,16 @@ all_free content (p ∷ rest) = free_by (content directory_head) p && all_free c
 pub record IsClear (tracks : ℕ) (content : Content) (entry : List ℕ) : Type 0 where
   pub free : all_free content (chain_of tracks content (first_block entry)) ≡ true
   pub none_lost : lost_of content tracks (directory_of tracks content) ≡ []
+
+-- a block of the entry's chain isn't free, or blocks of the disk are lost
+abbrev pub IsInTheWay : ℕ → Content → List ℕ → Type 0
+IsInTheWay tracks content entry =
+    (all_free content (chain_of tracks content (first_block entry)) ≡ false) ⊎ (lost_of content tracks (directory_of tracks content) ≢ [])
+
+-- WHY NOTHING IS GIVEN BACK: the slot has no deleted file, or something is in its way
+abbrev pub IsNotGiven : ℕ → Content → ℕ → Type 0
+IsNotGiven tracks content slot =
+    HasNoDeleted tracks content slot ⊎ ((entry : List ℕ) × IsDeleted tracks content slot entry × IsInTheWay tracks content entry)
 
 -- what is taken on the disk with one chain more: the directory, the files, what GEOS uses, and the chain
 abbrev pub held_with : ℕ → Content → List (List ℕ) → Place → List Place

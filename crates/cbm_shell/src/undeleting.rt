@@ -1,12 +1,12 @@
 //! Giving back a file that was deleted.
-ghost use Rattle.std.specs.Prelude.{◌≡◌, ◌≤◌, true, Some, None, Ok, IfOk, IfSome, OnOk, MatchOption};
+ghost use Rattle.std.specs.Prelude.{◌≡◌, ◌≤◌, true, Some, None, Ok, IfOk, IfSome, OnOk, MatchBool, MatchOption};
 ghost use Rattle.cbm_bam.specs.Marks.{is_marked};
 ghost use Rattle.cbm_volume.specs.Map.{geometry_of};
 ghost use Rattle.cbm_volume.specs.Entries.{EntersLed};
 ghost use Rattle.cbm_volume.specs.Slots.{directory_of};
 ghost use Rattle.cbm_image.specs.Images.{kind_of, image_fault, tracks_of, content_of};
 ghost use Rattle.cbm_shell.specs.Mapping.{chain_of, entries_in, is_among};
-ghost use Rattle.cbm_shell.specs.Undeleting.{restored_entry, all_free, held_with, IsDeleted, IsMapAnew, IsClear, IsGivenAgain, IsUndeleted};
+ghost use Rattle.cbm_shell.specs.Undeleting.{restored_entry, all_free, held_with, HasNoDeleted, IsDeleted, IsMapAnew, IsClear, IsInTheWay, IsNotGiven, IsGivenAgain, IsUndeleted};
 ghost use Rattle.cbm_shell.specs.Images.{IsSaved, IsSoundDisk, IsSoundImage};
 
 use crate::changing::require_sound;
@@ -35,14 +35,19 @@ fn restored_entry(entry: &Entry, kind: FileType) -> Entry
     entry_of(&bytes)
 }
 
-/// The entry in a slot, if it is that of a deleted file. Errors: `Trouble`, where the directory breaks off before.
+/// The entry in a slot, if it is that of a deleted file; None where it is another, or the directory ends before. Errors:
+/// `Trouble`, where the directory breaks off before.
 fn deleted_entry<M: Medium>(volume: &Volume<M>, slot: u8) -> Result<Option<Entry>, ShellFault>
-    ensures { let now = M.seen volume.now in IfOk result (λ o. MatchOption o (Unit {0})
-        (λ e. IsDeleted (geometry_of now.tracks now.content) now.content slot e)) }
+    ensures { let now = M.seen volume.now in let tracks = geometry_of now.tracks now.content in
+        IfOk result (λ o. MatchOption o (HasNoDeleted tracks now.content slot) (λ e. IsDeleted tracks now.content slot e)) }
 {
-    match volume.slot(slot)? {
-        Some(entry) if entry.is_empty() => Ok(Some(entry)),
-        _ => Ok(None),
+    let Some(entry) = volume.slot(slot)? else {
+        return Ok(None);
+    };
+    if entry.is_empty() {
+        Ok(Some(entry))
+    } else {
+        Ok(None)
     }
 }
 
@@ -146,12 +151,15 @@ fn given_again<M: Steady + Drop>(
 
 /// Whether nothing stands against giving back the file of an entry: each of its blocks is free, and none of the disk is lost.
 fn is_clear<M: Medium>(alloc: Global, volume: &Volume<M>, entry: &Entry) -> Result<bool, ShellFault>
-    ensures { let now = M.seen volume.now in IfOk result (λ b. b ≡ true → IsClear (geometry_of now.tracks now.content) now.content entry.now) }
+    ensures { let now = M.seen volume.now in let tracks = geometry_of now.tracks now.content in
+        IfOk result (λ b. MatchBool b (IsClear tracks now.content entry.now) (IsInTheWay tracks now.content entry.now)) }
 {
-    let lost = lost_of(alloc, volume)?;
     let geometry = volume.geometry();
-    let is_free = is_free_chain(volume.medium(), geometry, entry.first_block());
-    Ok(is_free && lost.is_empty())
+    if !is_free_chain(volume.medium(), geometry, entry.first_block()) {
+        return Ok(false);
+    }
+    let lost = lost_of(alloc, volume)?;
+    Ok(lost.is_empty())
 }
 
 /// The disk with the deleted file in a slot given back; None where there is none, a block of it isn't free any more, or blocks
@@ -162,8 +170,9 @@ fn undeleted<M: Steady + Drop>(
     slot: u8,
     kind: FileType,
 ) -> Result<Option<M>, ShellFault>
-    ensures { let old = M.seen volume in IfOk result (λ o. MatchOption o (Unit {0}) (λ after.
-        ((M.seen after).tracks ≡ old.tracks) × IsUndeleted (geometry_of old.tracks old.content) old.content (M.seen after).content slot kind)) }
+    ensures { let old = M.seen volume in let tracks = geometry_of old.tracks old.content in
+        IfOk result (λ o. MatchOption o (IsNotGiven tracks old.content slot) (λ after.
+        ((M.seen after).tracks ≡ old.tracks) × IsUndeleted tracks old.content (M.seen after).content slot kind)) }
 {
     let Some(entry) = deleted_entry(&volume, slot)? else {
         return Ok(None);
@@ -196,7 +205,7 @@ fn undelete_in<I: DiskImage + Drop>(
     requires { kind_of image.now ≡ I.kind }
     ensures given { let format = kind_of image.now in
         let tracks = geometry_of (tracks_of format image.now) (content_of format image.now) in
-        IfOk result (λ o. MatchOption o (Unit {0}) (λ v.
+        IfOk result (λ o. MatchOption o (IsNotGiven tracks (content_of format image.now) slot) (λ v.
         IsUndeleted tracks (content_of format image.now) (content_of format v.items) slot kind)) }
     ensures sound { IfOk result (λ o. IfSome o (λ v. IsSoundImage (kind_of image.now) v.items)) }
     ensures opens { IfOk result (λ o. IfSome o (λ v. image_fault (kind_of image.now) v.items ≡ None)) }
@@ -219,10 +228,10 @@ pub fn undelete(
     slot: u8,
     kind: FileType,
 ) -> Result<Option<Vec<u8>>, ShellFault>
-    // The entry has its type, the map has its blocks as taken, and nothing else of the image is changed.
+    // The entry has its type, the map has its blocks as taken, and nothing else of the image is changed; None has its reason.
     ensures given { let format = kind_of image.now in
         let tracks = geometry_of (tracks_of format image.now) (content_of format image.now) in
-        IfOk result (λ o. MatchOption o (Unit {0}) (λ v.
+        IfOk result (λ o. MatchOption o (IsNotGiven tracks (content_of format image.now) slot) (λ v.
         IsUndeleted tracks (content_of format image.now) (content_of format v.items) slot kind)) }
     // The new image is sound, and opens again.
     ensures sound { IfOk result (λ o. IfSome o (λ v. IsSoundImage (kind_of image.now) v.items)) }
