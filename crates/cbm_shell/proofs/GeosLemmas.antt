@@ -1,4 +1,4 @@
--- Blocks of GEOS put into a set, and the blocks that are given back one after another.
+-- Blocks of GEOS put into a set, and whether one of a list is in a set.
 use Rattle.std.proofs.Common.{◌≡◌, ℕ, zero, suc, ◌+◌, ◌*◌, ◌≤◌, List, [], ◌∷◌, ◌++◌, length, take, inl, inr, Bool, true, false, Ok, Err, refl, sym, ap, subst, ◌∙◌, arith, append_assoc, append-nil}
 use Rattle.std.specs.Prelude.{◌||◌, if◌then◌else◌}
 use Rattle.cbm_medium.specs.Place.{Place, Has, has, sectors_on, directory_head}
@@ -10,7 +10,7 @@ use Rattle.cbm_volume.specs.Entries.{first_block, first_side}
 use Rattle.cbm_shell.specs.Mapping.{chain_of, is_among}
 use Rattle.cbm_shell.specs.Marking.{with_places}
 use Rattle.cbm_shell.specs.Geos.{is_geos, has_records, chains_in, chains_by, records_of, records_by, blocks_by, geos_blocks, in_geos, is_geos_map, border_by, border_in}
-use Rattle.cbm_shell.specs.Freeing.{is_freed, place_if, freed_on, freed_in, is_any}
+use Rattle.cbm_shell.specs.Freeing.{is_any}
 use Rattle.cbm_shell.proofs.MapLemmas.{with-append, among}
 
 -- ---- the chains that a block lists
@@ -102,39 +102,6 @@ all_geos none border files a b e f g =
 
 pub one_geos : (none files : Place → Bool) (a : List Place) → none ≡ nothing → files ≡ with_places none a → files ≡ is_among a
 one_geos none files a e f = f ∙ ap (λ u. with_places u a) e ∙ among a
-
--- ---- the blocks that are given back
-
-pub freed_on-none : (xs : List Place) (old new : Content) (track : ℕ) → xs ≡ xs ++ freed_on old new track 0
-unfolding freed_on
-freed_on-none xs old new track = sym (append-nil xs)
-
-abbrev here : Content → Content → Place → List Place
-here old new p = place_if (is_freed old new p) p
-
-abbrev at : ℕ → ℕ → Place
-at t s = record { track = t; sector = s }
-
-freed_on-next : (old new : Content) (track n : ℕ) → freed_on old new track (n + 1) ≡ freed_on old new track n ++ here old new (at track n)
-unfolding freed_on
-freed_on-next old new track n = ap (freed_on old new track) (let e : n + 1 ≡ suc n = omega arith in e)
-
-pub freed_on-more : (xs ys zs : List Place) (old new : Content) (track n : ℕ) (p : Place) → ys ≡ xs ++ freed_on old new track n → zs ≡ ys ++ here old new p
-    → p ≡ at track n → zs ≡ xs ++ freed_on old new track (n + 1)
-freed_on-more xs ys zs old new track n p before added same =
-    added ∙ ap (λ q. ys ++ here old new q) same ∙ ap (λ l. l ++ here old new (at track n)) before
-    ∙ append_assoc xs (freed_on old new track n) (here old new (at track n)) ∙ ap (λ l. xs ++ l) (sym (freed_on-next old new track n))
-
-pub freed_in-none : (old new : Content) → [] ≡ freed_in old new 0
-unfolding freed_in
-freed_in-none old new = refl
-
-pub freed_in-more : (xs ys : List Place) (old new : Content) (n : ℕ) → xs ≡ freed_in old new n → ys ≡ xs ++ freed_on old new (n + 1) (sectors_on (n + 1)) → ys ≡ freed_in old new (n + 1)
-unfolding freed_in
-freed_in-more xs ys old new n before added =
-    let next : n + 1 ≡ suc n = omega arith in
-    added ∙ ap (λ (l : List Place). l ++ freed_on old new (n + 1) (sectors_on (n + 1))) before
-    ∙ ap (λ (k : ℕ). freed_in old new n ++ freed_on old new k (sectors_on k)) next ∙ sym (ap (freed_in old new) next)
 
 -- ---- one of them in a set
 

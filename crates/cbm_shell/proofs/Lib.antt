@@ -11,7 +11,7 @@ pub mod SectorLemmas
 pub mod MapLemmas
 pub mod FlawLemmas
 pub mod FlawOrder
-pub mod LostLemmas
+pub mod PassingLemmas
 pub mod GeosLemmas
 pub mod BlankDisks
 pub mod ZeroImages

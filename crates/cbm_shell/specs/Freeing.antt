@@ -1,6 +1,6 @@
 -- The blocks that putting a disk in order gives back.
-use Rattle.std.specs.Prelude.{ℕ, zero, suc, ◌≡◌, ◌&&◌, ◌||◌, not, Bool, true, false, List, [], ◌∷◌, ◌++◌}
-use Rattle.cbm_medium.specs.Place.{Place, sectors_on, directory_head}
+use Rattle.std.specs.Prelude.{ℕ, ◌≡◌, ◌&&◌, ◌||◌, not, Bool, false, List, [], ◌∷◌}
+use Rattle.cbm_medium.specs.Place.{Place, directory_head}
 use Rattle.cbm_medium.specs.Content.{Content}
 use Rattle.cbm_volume.specs.Map.{geometry_of}
 use Rattle.cbm_volume.specs.Slots.{directory_of}
@@ -8,33 +8,20 @@ use Rattle.cbm_image.specs.declared.kind.Kind.{Kind}
 use Rattle.cbm_image.specs.Images.{tracks_of, content_of}
 use Rattle.cbm_shell.specs.Mapping.{free_by, entries_in, is_among}
 use Rattle.cbm_shell.specs.Geos.{geos_places}
+use Rattle.cbm_shell.specs.Passing.{places_in}
 
 -- the new map has a sector as free, and the old one hadn't
 abbrev pub is_freed : Content → Content → Place → Bool
 is_freed old new p = not (free_by (old directory_head) p) && free_by (new directory_head) p
-
-abbrev pub place_if : Bool → Place → List Place
-place_if true p = p ∷ []
-place_if false p = []
-
--- those of the first n sectors of a track
-unfoldable pub freed_on : Content → Content → ℕ → ℕ → List Place
-freed_on old new track zero = []
-freed_on old new track (suc n) = freed_on old new track n ++ place_if (is_freed old new (record { track = track; sector = n })) (record { track = track; sector = n })
-
--- THE BLOCKS GIVEN BACK on the first n tracks, in order of track and sector
-unfoldable pub freed_in : Content → Content → ℕ → List Place
-freed_in old new zero = []
-freed_in old new (suc n) = freed_in old new n ++ freed_on old new (suc n) (sectors_on (suc n))
 
 -- whether one of these sectors is in a set
 unfoldable pub is_any : (Place → Bool) → List Place → Bool
 is_any held [] = false
 is_any held (p ∷ rest) = held p || is_any held rest
 
--- These are the blocks that a change of a disk gives back, and whether GEOS uses one of them.
+-- THESE ARE THE BLOCKS that a change of a disk gives back, and whether GEOS uses one of them.
 pub record AreFreed (tracks : ℕ) (old new : Content) (blocks : List Place) (takes_geos : Bool) : Type 0 where
-  pub all : blocks ≡ freed_in old new tracks
+  pub all : blocks ≡ places_in (is_freed old new) tracks
   pub geos : takes_geos ≡ is_any (is_among (geos_places tracks old (entries_in (directory_of tracks old)))) blocks
 
 -- the same, of the images before and after

@@ -14,6 +14,7 @@ pub mod Marking
 pub mod OpenDisk
 pub mod Foreign
 pub mod Geos
+pub mod Passing
 pub mod Freeing
 pub mod Wrapped
 pub mod Editing

@@ -1,12 +1,12 @@
 -- The blocks that nothing uses, and that aren't free.
-use Rattle.std.specs.Prelude.{ℕ, zero, suc, ◌&&◌, not, Bool, false, List, [], ◌++◌, Option, Some, None, Ok, Err}
+use Rattle.std.specs.Prelude.{ℕ, ◌&&◌, not, Bool, false, List, [], Option, Some, None, Ok, Err}
 use Rattle.cbm_medium.specs.declared.fault.Trouble.{Trouble}
-use Rattle.cbm_medium.specs.Place.{Place, sectors_on, directory_head}
+use Rattle.cbm_medium.specs.Place.{Place, directory_head}
 use Rattle.cbm_medium.specs.Content.{Cell, Content}
 use Rattle.cbm_volume.specs.Slots.{Listed}
 use Rattle.cbm_shell.specs.Mapping.{used_in, free_by, is_among}
 use Rattle.cbm_shell.specs.Geos.{geos_places}
-use Rattle.cbm_shell.specs.Freeing.{place_if}
+use Rattle.cbm_shell.specs.Passing.{places_in}
 
 -- a sector reads, neither the drive's files nor GEOS use it, and the map doesn't have it as free
 abbrev pub is_lost : Cell → Bool → Bool → Bool → Bool
@@ -16,18 +16,8 @@ is_lost (Err code) used geos free = false
 abbrev pub lost_at : Content → (Place → Bool) → (Place → Bool) → Place → Bool
 lost_at content used geos p = is_lost (content p) (used p) (geos p) (free_by (content directory_head) p)
 
--- those of the first n sectors of a track
-unfoldable pub lost_on : Content → (Place → Bool) → (Place → Bool) → ℕ → ℕ → List Place
-lost_on content used geos track zero = []
-lost_on content used geos track (suc n) = lost_on content used geos track n ++ place_if (lost_at content used geos (record { track = track; sector = n })) (record { track = track; sector = n })
-
--- those of the first n tracks
-unfoldable pub lost_in : Content → (Place → Bool) → (Place → Bool) → ℕ → List Place
-lost_in content used geos zero = []
-lost_in content used geos (suc n) = lost_in content used geos n ++ lost_on content used geos (suc n) (sectors_on (suc n))
-
 abbrev pub lost_among : ℕ → Content → List (List ℕ) → List Place
-lost_among tracks content entries = lost_in content (is_among (used_in tracks content entries)) (is_among (geos_places tracks content entries)) tracks
+lost_among tracks content entries = places_in (lost_at content (is_among (used_in tracks content entries)) (is_among (geos_places tracks content entries))) tracks
 
 abbrev pub lost_by : Option Trouble → ℕ → Content → List (List ℕ) → List Place
 lost_by None tracks content entries = lost_among tracks content entries

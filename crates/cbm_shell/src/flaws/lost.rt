@@ -5,8 +5,8 @@ ghost use Rattle.cbm_bam.specs.Marks.{is_marked};
 ghost use Rattle.cbm_volume.specs.Map.{geometry_of};
 ghost use Rattle.cbm_volume.specs.Slots.{directory_of};
 ghost use Rattle.cbm_shell.specs.Mapping.{free_by};
-ghost use Rattle.cbm_shell.specs.Freeing.{place_if};
-ghost use Rattle.cbm_shell.specs.Lost.{is_lost, lost_at, lost_on, lost_in, lost_among, lost_of};
+ghost use Rattle.cbm_shell.specs.Passing.{place_if, places_on, places_in};
+ghost use Rattle.cbm_shell.specs.Lost.{lost_at, lost_among, lost_of};
 
 use crate::fault::ShellFault;
 use crate::looking::{entries_of, geos_sectors, is_free_at, used_sectors};
@@ -55,8 +55,8 @@ fn add_track<M: Medium>(
 ) -> Result<(), AllocError>
     requires room { geometry ≤ (M.seen medium.now).tracks }
     requires track { track ≤ (M.seen medium.now).tracks }
-    ensures { OnOk result (out.new.items
-        ≡ out.old.items ++ lost_on (M.seen medium.now).content (is_marked used.now) (is_marked geos.now) track (sectors_on track)) }
+    ensures { let lost = lost_at (M.seen medium.now).content (is_marked used.now) (is_marked geos.now) in
+        OnOk result (out.new.items ≡ out.old.items ++ places_on lost track (sectors_on track)) }
 {
     for sector in 0..sectors_of(track) {
         match Address::new(track, sector) {
@@ -76,8 +76,8 @@ fn lost_in<M: Medium>(
     geos: &SectorSet,
 ) -> Result<Vec<Address>, AllocError>
     requires { geometry ≤ (M.seen medium.now).tracks }
-    ensures { IfOk result (λ v. v.items
-        ≡ lost_in (M.seen medium.now).content (is_marked used.now) (is_marked geos.now) geometry) }
+    ensures { let lost = lost_at (M.seen medium.now).content (is_marked used.now) (is_marked geos.now) in
+        IfOk result (λ v. v.items ≡ places_in lost geometry) }
 {
     let mut lost = Vec::new(alloc);
     for track in 0..geometry.tracks() {

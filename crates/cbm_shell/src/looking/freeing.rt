@@ -3,7 +3,8 @@ ghost use Rattle.std.specs.Prelude.{◌≡◌, ◌≤◌, ◌++◌, IfOk, OnOk};
 ghost use Rattle.cbm_medium.specs.Place.{sectors_on};
 ghost use Rattle.cbm_bam.specs.Marks.{is_marked};
 ghost use Rattle.cbm_volume.specs.Map.{geometry_of};
-ghost use Rattle.cbm_shell.specs.Freeing.{is_freed, place_if, freed_on, freed_in, is_any, AreFreed};
+ghost use Rattle.cbm_shell.specs.Passing.{place_if, places_on, places_in};
+ghost use Rattle.cbm_shell.specs.Freeing.{is_freed, is_any, AreFreed};
 
 use crate::fault::ShellFault;
 use crate::looking::geos::geos_sectors;
@@ -61,7 +62,7 @@ fn add_freed_on<M: Medium>(
     requires old { geometry ≤ (M.seen old.now).tracks }
     requires new { geometry ≤ (M.seen new.now).tracks }
     ensures { OnOk result (out.new.items
-        ≡ out.old.items ++ freed_on (M.seen old.now).content (M.seen new.now).content track (sectors_on track)) }
+        ≡ out.old.items ++ places_on (is_freed (M.seen old.now).content (M.seen new.now).content) track (sectors_on track)) }
 {
     for sector in 0..sectors_of(track) {
         match Address::new(track, sector) {
@@ -81,7 +82,7 @@ fn freed_in<M: Medium>(
 ) -> Result<Vec<Address>, AllocError>
     requires old { geometry ≤ (M.seen old.now).tracks }
     requires new { geometry ≤ (M.seen new.now).tracks }
-    ensures { IfOk result (λ v. v.items ≡ freed_in (M.seen old.now).content (M.seen new.now).content geometry) }
+    ensures { IfOk result (λ v. v.items ≡ places_in (is_freed (M.seen old.now).content (M.seen new.now).content) geometry) }
 {
     let mut freed = Vec::new(alloc);
     for track in 0..geometry.tracks() {
