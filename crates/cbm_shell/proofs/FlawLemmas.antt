@@ -23,7 +23,10 @@ use Rattle.cbm_shell.specs.Mapping.{free_by, is_among, sectors_of}
 use Rattle.cbm_shell.specs.Marking.{with_places}
 use Rattle.cbm_shell.proofs.MapLemmas.{among}
 use Rattle.cbm_shell.specs.Flaws as flaws
-use Rattle.cbm_shell.specs.Flaws.{part_of, flaw_if, flawed, sides_walk, relative_walk, entry_walk, entries_walk, sector_walk, slots_walk, found_at, chain_flaws, directory_walk, map_flaws, flaws_of, Walked, at_end, cut_off, goes_on, told, met, with_sector, along, chain_from, then_walk, if_whole, header_flaw, header_flaws_on, header_flaws, count_flaw, count_flaws, is_user, slot_if, users_among, IsStep, HasWalked, IsWalked}
+use Rattle.cbm_shell.specs.FlawSteps as steps
+use Rattle.cbm_shell.specs.Flaws.{part_of, flaw_if, flawed, sides_walk, relative_walk, entry_walk, entries_walk, sector_walk, slots_walk, found_at, chain_flaws, directory_walk, map_flaws, flaws_of, Walked, at_end, cut_off, goes_on, told, met, with_sector, along, chain_from, then_walk, if_whole, header_flaw, header_flaws_on, header_flaws, count_flaw, count_flaws}
+use Rattle.cbm_shell.specs.FlawSteps.{IsStep, HasWalked, IsWalked}
+use Rattle.cbm_shell.specs.Users.{is_user, slot_if, users_among}
 
 pub not_true : (b : Bool) → not b ≡ true → b ≡ false
 not_true true e = absurd (cc)
@@ -83,7 +86,7 @@ pub stopped : (w : Option ℕ) (flaw : ℕ → DiskFlaw) (content : Content) (p 
     → IsStep w flaw content p claimed new before after None → (goes_on w ≡ false) × (new ≡ claimed)
 stopped w flaw content p claimed new before after s = go (goes_on w) refl s.next s.claims
   where
-    go : (b : Bool) → goes_on w ≡ b → None ≡ flaws.next_bytes b (bytes_at content p) → new ≡ flaws.claimed_if b claimed p → (goes_on w ≡ false) × (new ≡ claimed)
+    go : (b : Bool) → goes_on w ≡ b → None ≡ steps.next_bytes b (bytes_at content p) → new ≡ steps.claimed_if b claimed p → (goes_on w ≡ false) × (new ≡ claimed)
     go true e n c = absurd (let z = ap is_some n in cc)
     go false e n c = (e, c)
 
@@ -95,7 +98,7 @@ went w flaw content p claimed new before after bytes s = go (goes_on w) refl s.n
     same : (xs ys : List ℕ) → Some xs ≡ Some ys → xs ≡ ys
     same xs ys e = cc
 
-    go : (b : Bool) → goes_on w ≡ b → Some bytes ≡ flaws.next_bytes b (bytes_at content p) → new ≡ flaws.claimed_if b claimed p
+    go : (b : Bool) → goes_on w ≡ b → Some bytes ≡ steps.next_bytes b (bytes_at content p) → new ≡ steps.claimed_if b claimed p
         → (goes_on w ≡ true) × (bytes ≡ bytes_at content p) × (new ≡ with_bit claimed p true)
     go true e n c = (e, same bytes (bytes_at content p) n, c)
     go false e n c = absurd (let z = ap is_some n in cc)

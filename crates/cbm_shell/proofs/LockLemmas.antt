@@ -93,8 +93,12 @@ follow_short tracks content (suc n) p = by_tests (p.track == 0) (has tracks p) (
 pub few_slots : (tracks : ℕ) (content : Content) (n : ℕ) (e : List ℕ) → Answers (directory_of tracks content) n (Ok (Some e)) → n < 144
 unfolding directory_of listed_from
 few_slots tracks content n e h =
-    omega (arith, slice_get_within (all_entries content (follow tracks content 18 first_directory).blocks) n e h, entries_length content (follow tracks content 18 first_directory).blocks,
-    follow_short tracks content 18 first_directory)
+    omega (
+      arith,
+      slice_get_within (all_entries content (follow tracks content 18 first_directory).blocks) n e h,
+      entries_length content (follow tracks content 18 first_directory).blocks,
+      follow_short tracks content 18 first_directory,
+    )
 
 -- ---- what the loops keep
 

@@ -1,11 +1,10 @@
 -- All that is wrong with a disk: what `check` looks at, gone through to its end.
-use Rattle.std.specs.Prelude.{ℕ, zero, suc, ◌+◌, ◌==◌, ◌%◌, ◌&&◌, ◌≡◌, not, nat_lt, if◌then◌else◌, Bool, true, false, List, [], ◌∷◌, ◌++◌, Option, Some, None, Result, Ok, Err}
+use Rattle.std.specs.Prelude.{ℕ, zero, suc, ◌+◌, ◌==◌, ◌%◌, ◌&&◌, not, nat_lt, if◌then◌else◌, Bool, true, false, List, [], ◌∷◌, ◌++◌, Option, Some, None, Result, Ok, Err}
 use Rattle.cbm_medium.specs.Place.{Place, has, sectors_on, directory_head}
 use Rattle.cbm_medium.specs.Content.{Cell, Content}
 use Rattle.cbm_medium.specs.Links.{bytes_at, link}
 use Rattle.cbm_bam.specs.Map.{is_free_in, with_bit, at}
 use Rattle.cbm_volume.specs.Entries.{type_byte, is_closed, is_relative, first_block, first_side, first_directory}
-use Rattle.cbm_volume.specs.Slots.{directory_of}
 use Rattle.cbm_volume.specs.declared.check.unsound.Part.{Part}
 use Rattle.cbm_volume.specs.declared.check.unsound.Part.TheVariants.{OfDirectory, OfFile}
 use Rattle.cbm_volume.specs.declared.Unsound.{Unsound}
@@ -18,26 +17,14 @@ use Rattle.cbm_volume.specs.check.WholeDisk.{only_head}
 use Rattle.cbm_shell.specs.declared.flaws.found.Whose.{Whose}
 use Rattle.cbm_shell.specs.declared.flaws.found.Whose.TheVariants.{Disk, Directory, File}
 use Rattle.cbm_shell.specs.declared.flaws.found.DiskFlaw.{DiskFlaw}
-use Rattle.cbm_shell.specs.Mapping as mapping
 
 -- ---- a flaw
 
 -- the directory lies on its track, the files off it
-abbrev pub is_directory : Whose → Bool
-is_directory Disk = true
-is_directory Directory = true
-is_directory (File slot) = false
-
 abbrev pub part_of : Whose → Part
 part_of Disk = OfDirectory
 part_of Directory = OfDirectory
 part_of (File slot) = OfFile
-
--- the number of a link to elsewhere: 6 of the directory, 4 of a file
-abbrev pub outside_of : Whose → ℕ
-outside_of Disk = 6
-outside_of Directory = 6
-outside_of (File slot) = 4
 
 -- a flaw at a place, where so many sectors of the chain come before it
 abbrev pub flawed : Whose → ℕ → Place → ℕ → DiskFlaw
@@ -211,48 +198,3 @@ flaws_of tracks content = header_flaws content tracks ++ (map_flaws tracks (cont
 abbrev pub first_of : List DiskFlaw → Result (Unit {0}) Unsound
 first_of [] = Ok tt
 first_of (flaw ∷ rest) = Err flaw.what
-
--- ---- what a call adds
-
--- A sector was met: its bytes are answered where the walk goes on, and what is wrong with it is added.
-abbrev pub next_bytes : Bool → List ℕ → Option (List ℕ)
-next_bytes true bytes = Some bytes
-next_bytes false bytes = None
-
-abbrev pub claimed_if : Bool → (Place → Bool) → Place → Place → Bool
-claimed_if true claimed p = with_bit claimed p true
-claimed_if false claimed p = claimed
-
-pub record IsStep (wrong : Option ℕ) (flaw : ℕ → DiskFlaw) (content : Content) (p : Place) (old new : Place → Bool) (before after : List DiskFlaw) (bytes : Option (List ℕ)) : Type 0 where
-  pub next : bytes ≡ next_bytes (goes_on wrong) (bytes_at content p)
-  pub claims : new ≡ claimed_if (goes_on wrong) old p
-  pub adds : after ≡ before ++ told wrong flaw
-
--- A walk was made: what is claimed after it, and what is wrong is added.
-pub record HasWalked (w : Walked) (claimed : Place → Bool) (before after : List DiskFlaw) : Type 0 where
-  pub claims : claimed ≡ w.claimed
-  pub adds : after ≡ before ++ w.flaws
-
--- the same, and whether it came to its end
-pub record IsWalked (w : Walked) (claimed : Place → Bool) (before after : List DiskFlaw) (whole : Bool) : Type 0 where
-  pub claims : claimed ≡ w.claimed
-  pub adds : after ≡ before ++ w.flaws
-  pub ends : whole ≡ w.whole
-
--- ---- the files that use a sector
-
-abbrev pub is_user : ℕ → Content → Place → List ℕ → Bool
-is_user tracks content p e = mapping.is_among (mapping.sectors_of tracks content e) p
-
-abbrev pub slot_if : Bool → ℕ → List ℕ
-slot_if true slot = slot ∷ []
-slot_if false slot = []
-
--- the slots of these entries whose files use it, the first of which has this number
-unfoldable pub users_among : ℕ → Content → Place → ℕ → List (List ℕ) → List ℕ
-users_among tracks content p slot [] = []
-users_among tracks content p slot (e ∷ rest) = slot_if (is_user tracks content p e) slot ++ users_among tracks content p (slot + 1) rest
-
--- THE SLOTS whose closed files use a sector
-abbrev pub users_of : ℕ → Content → Place → List ℕ
-users_of tracks content p = users_among tracks content p 0 (mapping.entries_in (directory_of tracks content))

@@ -24,6 +24,8 @@ pub mod Art
 pub mod Swapping
 pub mod Recording
 pub mod Flaws
+pub mod FlawSteps
+pub mod Users
 pub mod Lost
 pub mod Forgetting
 pub mod Undeleting

@@ -39,9 +39,7 @@ fn is_other(first: bool, second: bool) -> bool
 fn is_unlike(entry: &Entry, pattern: &[u8], is_locked: bool) -> bool
     ensures { result ≡ is_unlike pattern.now is_locked entry.now }
 {
-    !entry.is_empty()
-        && matches(pattern, entry.name())
-        && is_other(entry.is_locked(), is_locked)
+    !entry.is_empty() && matches(pattern, entry.name()) && is_other(entry.is_locked(), is_locked)
 }
 
 /// A file whose name matches, and that isn't locked as it shall be.

@@ -1,7 +1,8 @@
 //! A walk along a chain.
 ghost use Rattle.std.specs.Prelude.{◌≡◌, ◌≤◌, IfOk, length};
 ghost use Rattle.cbm_bam.specs.Marks.{is_marked};
-ghost use Rattle.cbm_shell.specs.Flaws.{chain_from, IsWalked};
+ghost use Rattle.cbm_shell.specs.Flaws.{chain_from};
+ghost use Rattle.cbm_shell.specs.FlawSteps.{IsWalked};
 
 use super::found::{DiskFlaw, Whose};
 use super::steps::step;

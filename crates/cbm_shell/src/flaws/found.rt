@@ -1,6 +1,7 @@
 //! What a flaw of a disk is.
 ghost use Rattle.std.specs.Prelude.{◌≡◌};
-ghost use Rattle.cbm_shell.specs.Flaws.{flawed, is_directory, outside_of};
+ghost use Rattle.cbm_shell.specs.Flaws.{flawed};
+ghost use Rattle.cbm_shell.specs.FlawSteps.{is_directory, outside_of};
 
 use cbm_medium::Link;
 use cbm_volume::Unsound;

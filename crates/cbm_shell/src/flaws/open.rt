@@ -4,7 +4,8 @@ ghost use Rattle.cbm_volume.specs.Map.{geometry_of};
 ghost use Rattle.cbm_volume.specs.Slots.{directory_of};
 ghost use Rattle.cbm_shell.specs.OpenDisk.{shown_by};
 ghost use Rattle.cbm_shell.specs.Images.{IsChecked};
-ghost use Rattle.cbm_shell.specs.Flaws.{first_of, flaws_of, users_of};
+ghost use Rattle.cbm_shell.specs.Flaws.{first_of, flaws_of};
+ghost use Rattle.cbm_shell.specs.Users.{users_of};
 ghost use Rattle.cbm_shell.specs.Lost.{lost_of};
 
 use super::{DiskFlaw, error_at, flaws_of, lost_of, users_of};

@@ -4,7 +4,8 @@ ghost use Rattle.cbm_volume.specs.Entries.{first_side};
 ghost use Rattle.cbm_volume.specs.Map.{geometry_of};
 ghost use Rattle.cbm_volume.specs.check.SideLists.{are_records, behind_first, sides_from};
 ghost use Rattle.cbm_bam.specs.Marks.{is_marked};
-ghost use Rattle.cbm_shell.specs.Flaws.{among, flawed, flaw_if, sides_walk, HasWalked, IsWalked};
+ghost use Rattle.cbm_shell.specs.Flaws.{among, flawed, flaw_if, sides_walk};
+ghost use Rattle.cbm_shell.specs.FlawSteps.{HasWalked, IsWalked};
 
 use super::found::{DiskFlaw, Whose, flawed};
 use super::steps::step;

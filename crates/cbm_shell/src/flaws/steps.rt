@@ -2,7 +2,8 @@
 ghost use Rattle.std.specs.Prelude.{◌≡◌, ◌≤◌, ◌++◌, ◌∷◌, [], true, false, None, IfOk, OnOk, MatchOption};
 ghost use Rattle.cbm_bam.specs.Marks.{is_marked};
 ghost use Rattle.cbm_volume.specs.check.Claims.{is_inside, wrong_at};
-ghost use Rattle.cbm_shell.specs.Flaws.{part_of, flawed, flaw_if, IsStep};
+ghost use Rattle.cbm_shell.specs.Flaws.{part_of, flawed, flaw_if};
+ghost use Rattle.cbm_shell.specs.FlawSteps.{IsStep};
 
 use super::found::{DiskFlaw, Whose, flawed};
 use crate::looking::is_free_at;

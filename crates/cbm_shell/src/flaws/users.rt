@@ -3,7 +3,7 @@ ghost use Rattle.std.specs.Prelude.{◌≡◌, ◌≤◌, ◌++◌, IfOk, OnOk};
 ghost use Rattle.cbm_volume.specs.Map.{geometry_of};
 ghost use Rattle.cbm_volume.specs.Slots.{directory_of};
 ghost use Rattle.cbm_shell.specs.Mapping.{entries_in};
-ghost use Rattle.cbm_shell.specs.Flaws.{slot_if, is_user, users_among, users_of};
+ghost use Rattle.cbm_shell.specs.Users.{slot_if, is_user, users_among, users_of};
 
 use crate::fault::ShellFault;
 use crate::looking::{entries_or_none, use_file};

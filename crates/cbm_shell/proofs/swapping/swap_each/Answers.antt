@@ -30,8 +30,11 @@ returns-in_err-swap_two-clause-fault g c = λ sectors h free.
     let p = err_from_is_err_and c.from_residual.result c.from_residual.ensures.1 in
     let begins = next_off c.args.swaps.now c.loop-swap.swap-index _ c.loop-swap-test.true in
     let none = c.in_err-swap_two.ensures.fault sectors (inv.2 sectors h) (inv.1.protected ∙ free) in
-    rw (p.1 ∙ ap Err p.2) (none.0, inv.3 (subst (λ l. MissesSlot c.args.geometry old.content l) (sym begins)
-    (misses_first c.args.geometry old.content now.content sectors _ (drop (c.loop-swap.swap-index + 1) c.args.swaps.now) h (inv.2 sectors h) none.1)))
+    rw (p.1 ∙ ap Err p.2) (
+      none.0,
+      inv.3 (subst (λ l. MissesSlot c.args.geometry old.content l) (sym begins)
+          (misses_first c.args.geometry old.content now.content sectors _ (drop (c.loop-swap.swap-index + 1) c.args.swaps.now) h (inv.2 sectors h) none.1)),
+    )
 
 pub returns-clause-swapped : goal.returns-clause-swapped
 returns-clause-swapped g c =

@@ -3,7 +3,8 @@ use Rattle.cbm_medium.specs.Links.{bytes_at}
 use Rattle.cbm_bam.specs.Marks.{is_marked}
 use Rattle.cbm_volume.specs.check.Claims.{wrong_at}
 use Rattle.cbm_volume.specs.check.SideLists.{behind_first, sides_from}
-use Rattle.cbm_shell.specs.Flaws.{among, part_of, flawed, told, IsStep}
+use Rattle.cbm_shell.specs.Flaws.{among, part_of, flawed, told}
+use Rattle.cbm_shell.specs.FlawSteps.{IsStep}
 use Rattle.cbm_shell.proofs.FlawLemmas.{stopped, went, among-on, among-off, only, before_walk}
 use Rattle.cbm_shell.proofs.flaws.sides.walk_all.Goals as goal
 

@@ -1,5 +1,5 @@
 use Rattle.std.proofs.Common.{◌≡◌, ◌++◌, drop}
-use Rattle.cbm_shell.specs.Flaws.{users_among}
+use Rattle.cbm_shell.specs.Users.{users_among}
 use Rattle.cbm_shell.proofs.flaws.users.users_among.Given as goal
 
 abbrev pub invariant-loop-entry : goal.invariant-loop-entry

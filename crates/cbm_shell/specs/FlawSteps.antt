@@ -1,0 +1,47 @@
+-- What the calls of the walk that finds a disk's flaws say: whose sectors they follow, what they claim, and what they add.
+use Rattle.std.specs.Prelude.{ℕ, ◌≡◌, Bool, true, false, List, ◌++◌, Option, Some, None}
+use Rattle.cbm_medium.specs.Place.{Place}
+use Rattle.cbm_medium.specs.Content.{Content}
+use Rattle.cbm_medium.specs.Links.{bytes_at}
+use Rattle.cbm_bam.specs.Map.{with_bit}
+use Rattle.cbm_shell.specs.declared.flaws.found.Whose.{Whose}
+use Rattle.cbm_shell.specs.declared.flaws.found.Whose.TheVariants.{Disk, Directory, File}
+use Rattle.cbm_shell.specs.declared.flaws.found.DiskFlaw.{DiskFlaw}
+use Rattle.cbm_shell.specs.Flaws.{Walked, goes_on, told}
+
+-- the directory lies on its track, the files off it
+abbrev pub is_directory : Whose → Bool
+is_directory Disk = true
+is_directory Directory = true
+is_directory (File slot) = false
+
+-- the number of a link to elsewhere: 6 of the directory, 4 of a file
+abbrev pub outside_of : Whose → ℕ
+outside_of Disk = 6
+outside_of Directory = 6
+outside_of (File slot) = 4
+
+-- A sector was met: its bytes are answered where the walk goes on, and what is wrong with it is added.
+abbrev pub next_bytes : Bool → List ℕ → Option (List ℕ)
+next_bytes true bytes = Some bytes
+next_bytes false bytes = None
+
+abbrev pub claimed_if : Bool → (Place → Bool) → Place → Place → Bool
+claimed_if true claimed p = with_bit claimed p true
+claimed_if false claimed p = claimed
+
+pub record IsStep (wrong : Option ℕ) (flaw : ℕ → DiskFlaw) (content : Content) (p : Place) (old new : Place → Bool) (before after : List DiskFlaw) (bytes : Option (List ℕ)) : Type 0 where
+  pub next : bytes ≡ next_bytes (goes_on wrong) (bytes_at content p)
+  pub claims : new ≡ claimed_if (goes_on wrong) old p
+  pub adds : after ≡ before ++ told wrong flaw
+
+-- A walk was made: what is claimed after it, and what is wrong is added.
+pub record HasWalked (w : Walked) (claimed : Place → Bool) (before after : List DiskFlaw) : Type 0 where
+  pub claims : claimed ≡ w.claimed
+  pub adds : after ≡ before ++ w.flaws
+
+-- the same, and whether it came to its end
+pub record IsWalked (w : Walked) (claimed : Place → Bool) (before after : List DiskFlaw) (whole : Bool) : Type 0 where
+  pub claims : claimed ≡ w.claimed
+  pub adds : after ≡ before ++ w.flaws
+  pub ends : whole ≡ w.whole
