@@ -9,9 +9,9 @@ ghost use Rattle.cbm_device.specs.ImageDisks.{no_disk, shown_by, IsDiskOf, IsOpe
 use crate::refusal::Refusal;
 use cbm_d64::D64Disk;
 use cbm_g64::G64Disk;
+use cbm_image::{DiskImage, ImageFault, Kind, kind_of};
 use cbm_medium::codes::WRITE_PROTECT_ON;
 use cbm_medium::{Address, Fault, Medium, Steady};
-use cbm_image::{DiskImage, ImageFault, Kind, kind_of};
 use std::alloc::Global;
 use std::marker::Model;
 

@@ -15,7 +15,6 @@ use Rattle.cbm_g64.specs.File.{tracks_in, offset}
 use Rattle.cbm_g64.specs.Image.{IsHeld}
 use Rattle.cbm_g64.specs.NewFile.{base_of}
 use Rattle.cbm_g64.specs.Tracks.{or_zeros, content_of as circles_of, id_for, HasTrack, Disk}
-
 use Rattle.cbm_image.specs.declared.kind.Kind.{Kind}
 use Rattle.cbm_image.specs.declared.kind.Kind.TheVariants.{D64, G64}
 use Rattle.cbm_image.specs.Images.{kind_of, content_of as image_content}

@@ -1,15 +1,15 @@
 -- An entry of the directory is written, and its file stays where it lies: the disk stays sound.
-use Rattle.std.proofs.Common.{◌≡◌, ◌≢◌, ℕ, zero, suc, ◌+◌, ◌-◌, ◌*◌, ◌/◌, ◌%◌, ◌<◌, ◌≤◌, List, [], ◌∷◌, length, get_or, Bool, true, false, Option, Some, None, Ok, Err, IsOk, refl, sym, ap, subst, ◌∙◌, arith}
-use Rattle.std.specs.Prelude.{◌==◌, if◌then◌else◌, slice_get, slice_index, MatchBool, MatchOption}
-use Rattle.cbm_medium.specs.Place.{Place, Has, has, directory_head}
+use Rattle.std.proofs.Common.{◌≡◌, ◌≢◌, ℕ, zero, suc, ◌/◌, ◌%◌, ◌<◌, List, [], ◌∷◌, length, get_or, Bool, Option, Some, None, Ok, Err, IsOk, refl, sym, ap, subst, ◌∙◌, arith}
+use Rattle.std.specs.Prelude.{◌==◌, if◌then◌else◌, MatchOption}
+use Rattle.cbm_medium.specs.Place.{Place, directory_head}
 use Rattle.cbm_medium.specs.Content.{Cell, Content}
 use Rattle.cbm_medium.specs.Links.{or_nothing, bytes_at, link, Chain}
 use Rattle.cbm_medium.proofs.Places.{written_elsewhere}
 use Rattle.cbm_medium.proofs.Walks.{has_true}
-use Rattle.cbm_directory.specs.Entries.{Enters, EntersLed, led_to, first_directory, type_byte, bit_of, is_closed, is_relative, first_block, first_side, width_of, entry_at, sector_of}
+use Rattle.cbm_directory.specs.Entries.{Enters, EntersLed, led_to, first_directory, type_byte, is_closed, is_relative, first_block, first_side, width_of, entry_at, sector_of}
 use Rattle.cbm_directory.proofs.Placing.{led_on}
 use Rattle.cbm_file.specs.Files.{Disk}
-use Rattle.cbm_volume.specs.Slots.{Answers, directory_of, first_from}
+use Rattle.cbm_volume.specs.Slots.{Answers, directory_of}
 use Rattle.cbm_volume.specs.Blocks.{Blocks, LiesAs, Lies}
 use Rattle.cbm_volume.specs.Layouts.{Layout, slot_count, Sound, Stands}
 use Rattle.cbm_volume.proofs.Listing.{entry_found}

@@ -1,17 +1,16 @@
 -- Walks along the disk, a sector at a time, and the lists of flaws that they make.
-use Rattle.std.proofs.Common.{◌≡◌, ◌≢◌, ℕ, zero, suc, ◌+◌, ◌≤◌, ◌<◌, List, [], ◌∷◌, ◌++◌, length, get_or, drop-cons, Bool, true, false, Option, Some, None, Result, Ok, Err, drop, refl, sym, ap, subst, ◌∙◌, arith, inl, inr, append_assoc, append-nil}
-use Rattle.std.specs.Prelude.{◌==◌, ◌%◌, ◌*◌, ◌&&◌, not, if◌then◌else◌, is_some, IfOk, OnOk}
+use Rattle.std.proofs.Common.{◌≡◌, ◌≢◌, ℕ, suc, ◌+◌, ◌≤◌, ◌<◌, List, [], ◌∷◌, ◌++◌, length, get_or, drop-cons, Bool, true, false, Option, Some, None, Result, Ok, Err, drop, refl, sym, ap, subst, ◌∙◌, arith, append_assoc, append-nil}
+use Rattle.std.specs.Prelude.{◌==◌, ◌%◌, ◌&&◌, not, if◌then◌else◌, is_some, IfOk, OnOk}
 use Rattle.std.proofs.lemmas.Bool.{eq-eqb, ne_eqb}
 use Rattle.std.proofs.lemmas.Nat.Bits.{bit_at-zero}
 use Rattle.cbm_medium.specs.Place.{Place, sectors_on, directory_head}
 use Rattle.cbm_medium.specs.Content.{Cell, Content}
 use Rattle.cbm_medium.specs.Links.{bytes_at, or_nothing, link}
-use Rattle.cbm_medium.proofs.Walks.{bool_cases}
 use Rattle.cbm_bam.specs.Map.{map_of, is_free_in, with_bit}
 use Rattle.cbm_bam.specs.Marks.{nothing}
 use Rattle.cbm_volume.specs.Entries.{first_block, first_side, first_directory}
 use Rattle.cbm_volume.specs.check.Claims.{is_inside, reads, wrong_at}
-use Rattle.cbm_volume.specs.check.SideLists.{are_records, behind_first, sides_from}
+use Rattle.cbm_volume.specs.check.SideLists.{are_records, sides_from}
 use Rattle.cbm_volume.specs.check.SlotWalk.{entries_behind}
 use Rattle.cbm_volume.specs.check.WholeDisk.{only_head}
 use Rattle.cbm_volume.proofs.SlotSteps.{entries_next, entries_end}
@@ -19,7 +18,7 @@ use Rattle.cbm_directory.specs.Entries.{entry_of}
 use Rattle.cbm_shell.specs.declared.flaws.found.Whose.{Whose}
 use Rattle.cbm_shell.specs.declared.flaws.found.Whose.TheVariants.{Directory, File}
 use Rattle.cbm_shell.specs.declared.flaws.found.DiskFlaw.{DiskFlaw}
-use Rattle.cbm_shell.specs.Mapping.{free_by, is_among, sectors_of}
+use Rattle.cbm_shell.specs.Mapping.{free_by, sectors_of}
 use Rattle.cbm_shell.specs.Marking.{with_places}
 use Rattle.cbm_shell.proofs.MapLemmas.{among}
 use Rattle.cbm_shell.specs.Flaws as flaws

@@ -1,7 +1,7 @@
 -- Blocks of GEOS put into a set, and whether one of a list is in a set.
-use Rattle.std.proofs.Common.{◌≡◌, ℕ, zero, suc, ◌+◌, ◌*◌, ◌≤◌, List, [], ◌∷◌, ◌++◌, length, take, inl, inr, Bool, true, false, Ok, Err, refl, sym, ap, subst, ◌∙◌, arith, append_assoc, append-nil}
+use Rattle.std.proofs.Common.{◌≡◌, ℕ, zero, suc, ◌+◌, ◌*◌, ◌≤◌, List, [], ◌∷◌, ◌++◌, length, take, inl, inr, Bool, true, false, Ok, Err, refl, sym, ap, ◌∙◌, arith, append-nil}
 use Rattle.std.specs.Prelude.{◌||◌, if◌then◌else◌}
-use Rattle.cbm_medium.specs.Place.{Place, Has, has, sectors_on, directory_head}
+use Rattle.cbm_medium.specs.Place.{Place, Has, has, directory_head}
 use Rattle.cbm_medium.specs.Content.{Cell, Content}
 use Rattle.cbm_medium.specs.Links.{place_in}
 use Rattle.cbm_medium.proofs.Walks.{true_has, has_true, bool_cases}

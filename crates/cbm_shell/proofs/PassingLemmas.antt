@@ -1,5 +1,5 @@
 -- The sectors that pass a test, a sector and a track at a time.
-use Rattle.std.proofs.Common.{◌≡◌, ℕ, suc, ◌+◌, List, [], ◌∷◌, ◌++◌, Bool, refl, sym, ap, ◌∙◌, arith, append_assoc, append-nil}
+use Rattle.std.proofs.Common.{◌≡◌, ℕ, suc, ◌+◌, List, [], ◌++◌, Bool, refl, sym, ap, ◌∙◌, arith, append_assoc, append-nil}
 use Rattle.cbm_medium.specs.Place.{Place, sectors_on}
 use Rattle.cbm_shell.specs.Passing.{place_if, places_on, places_in}
 

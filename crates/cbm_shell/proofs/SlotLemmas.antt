@@ -1,8 +1,8 @@
 -- Slots of the directory that are looked for and written: of a sound disk that can be written, no trouble comes.
-use Rattle.std.proofs.Common.{◌≡◌, ◌⊎◌, ℕ, zero, suc, ◌+◌, ◌*◌, ◌/◌, ◌%◌, ◌<◌, ◌≤◌, List, [], ◌∷◌, length, get_or, Bool, true, false, Option, Some, None, Result, Ok, Err, IsOk, refl, sym, ap, subst, ◌∙◌, arith, inl, inr}
-use Rattle.std.specs.Prelude.{◌==◌, if◌then◌else◌, slice_get, IfErr}
+use Rattle.std.proofs.Common.{◌≡◌, ℕ, suc, ◌+◌, ◌*◌, ◌%◌, ◌<◌, ◌≤◌, List, [], ◌∷◌, length, Bool, true, false, Some, None, Ok, IsOk, refl, sym, ap, subst, ◌∙◌, arith, inl, inr}
+use Rattle.std.specs.Prelude.{◌==◌, if◌then◌else◌, slice_get}
 use Rattle.std.proofs.lemmas.Option.{slice_get_within}
-use Rattle.cbm_medium.specs.Place.{Place, directory_head}
+use Rattle.cbm_medium.specs.Place.{Place}
 use Rattle.cbm_medium.specs.Content.{Cell, Content}
 use Rattle.cbm_medium.specs.Links.{or_nothing, bytes_at, link, Chain}
 use Rattle.cbm_medium.specs.Seen.{Seen}
@@ -15,14 +15,14 @@ use Rattle.cbm_directory.specs.Entries.{Enters, first_directory, sector_of, type
 use Rattle.cbm_directory.specs.Empties.{FindsEmpty, TakesSlot, IsSlotRefused, empty_in}
 use Rattle.cbm_volume.specs.Map.{geometry_of}
 use Rattle.cbm_volume.specs.Slots.{Listed, Answers, directory_of, listed_in, listed_from, all_entries}
-use Rattle.cbm_volume.specs.Layouts.{Owner, Directory, OwnedBy, Layout, slot_count, Sound}
+use Rattle.cbm_volume.specs.Layouts.{Directory, OwnedBy, Layout, slot_count, Sound}
 use Rattle.cbm_volume.specs.Writers.{Idle, HoldsNow}
 use Rattle.cbm_volume.proofs.Frames.{KeepsLinks, chain_links}
 use Rattle.cbm_volume.proofs.HinderedOpens.{slot_hinders}
 use Rattle.cbm_volume.proofs.Lengths.{directory_length}
 use Rattle.cbm_volume.proofs.Listing.{directory_listed, entries_length}
 use Rattle.cbm_volume.proofs.Meaning.{sound_stands}
-use Rattle.cbm_volume.proofs.OpenedSlots.{SlotReady, slot_ready}
+use Rattle.cbm_volume.proofs.OpenedSlots.{slot_ready}
 use Rattle.cbm_volume.proofs.Refusals.{sector_hindered, sector_reads}
 use Rattle.cbm_shell.specs.declared.fault.ShellFault.{ShellFault}
 use Rattle.cbm_shell.specs.declared.fault.ShellFault.TheVariants as fault

@@ -1,18 +1,17 @@
 -- 18/0 gets another title: the disk is the same but for it.
-use Rattle.std.proofs.Common.{◌≡◌, ◌⊎◌, ℕ, ◌+◌, ◌-◌, ◌*◌, ◌/◌, ◌%◌, ◌<◌, ◌≤◌, List, ◌++◌, length, take, drop, get_or, Bool, true, Result, Ok, Err, IsOk, refl, sym, ap, subst, ◌∙◌, arith, inl, inr, length-append}
-use Rattle.std.specs.Prelude.{◌==◌, ◌&&◌, replicate, slice_range, IfOk}
+use Rattle.std.proofs.Common.{◌≡◌, ◌⊎◌, ℕ, ◌+◌, ◌-◌, ◌*◌, ◌/◌, ◌%◌, ◌<◌, ◌≤◌, List, ◌++◌, length, take, drop, get_or, Bool, Ok, Err, IsOk, refl, sym, ap, subst, ◌∙◌, arith, inl, inr, length-append}
+use Rattle.std.specs.Prelude.{◌==◌, ◌&&◌, replicate, slice_range}
 use Rattle.std.specs.Int.{bit_at}
 use Rattle.std.proofs.lemmas.Bool.{cases_lt, lt-ltb, le-ltb}
 use Rattle.std.proofs.lemmas.List.{length-replicate, length-take, length-drop}
 use Rattle.std.proofs.Math.Seq.{take-append_seam, drop-append_seam}
-use Rattle.cbm_medium.specs.Place.{Place, Has, sectors_on, directory_head}
+use Rattle.cbm_medium.specs.Place.{Place, sectors_on, directory_head}
 use Rattle.cbm_medium.specs.Content.{Cell, Content, IsWhole}
 use Rattle.cbm_medium.specs.Links.{or_nothing, bytes_at}
-use Rattle.cbm_medium.specs.Seen.{Seen}
 use Rattle.cbm_medium.proofs.Places.{written_there}
 use Rattle.cbm_file.specs.Padding.{padded}
 use Rattle.cbm_file.specs.Files.{Disk}
-use Rattle.cbm_bam.specs.Map.{count_index, is_free_in, count_in, tally, summed, free_in, IsCounted, is_wide, tracks_if, geometry, geometry_in, geometry_of, map_of, at}
+use Rattle.cbm_bam.specs.Map.{count_index, is_free_in, count_in, tally, free_in, IsCounted, is_wide, tracks_if, geometry_in, geometry_of, map_of, at}
 use Rattle.cbm_bam.proofs.Bits.{few_sectors}
 use Rattle.cbm_bam.proofs.Counts.{tally_same, summed_same}
 use Rattle.cbm_directory.specs.Entries.{type_byte, entry_at, first_directory}

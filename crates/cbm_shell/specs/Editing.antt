@@ -32,6 +32,8 @@ IsUneditedIn image absent = OrOpenFault image (IsUnedited (tracks_of (kind_of im
 abbrev pub HasNoSlotIn : List ℕ → ℕ → Type 0
 HasNoSlotIn image slot = HasNoSlot (geometry_of (tracks_of (kind_of image) image) (content_of (kind_of image) image)) (content_of (kind_of image) image) slot
 
+-- ---- what private calls say
+
 -- why no entry stands in a slot: the directory ends before it, or breaks off
 abbrev pub IsNoEntry : ℕ → Content → ℕ → ShellFault → Type 0
 IsNoEntry tracks content slot fault.NotFound = HasNoSlot tracks content slot

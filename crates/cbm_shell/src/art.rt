@@ -16,8 +16,8 @@ use crate::swapping::entry_at;
 use cbm_d64::D64Disk;
 use cbm_directory::{empty_slot, put_slot};
 use cbm_g64::G64Disk;
-use cbm_medium::{Link, Steady};
 use cbm_image::{DiskImage, Kind, kind_of};
+use cbm_medium::{Link, Steady};
 use cbm_volume::{Entry, FileType, Volume};
 use std::alloc::Global;
 

@@ -17,8 +17,8 @@ use crate::looking::sectors::faults_in;
 use crate::making::{OF_35_TRACKS, OF_40_TRACKS, zeros};
 use cbm_d64::D64Disk;
 use cbm_g64::{G64Disk, G64Fault};
-use cbm_medium::{Address, Fault, Medium, sectors_of};
 use cbm_image::{Kind, kind_of};
+use cbm_medium::{Address, Fault, Medium, sectors_of};
 use cbm_sector::id_of;
 use std::alloc::Global;
 

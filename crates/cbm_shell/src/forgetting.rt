@@ -11,8 +11,8 @@ use crate::images::{opened, saved};
 use cbm_d64::D64Disk;
 use cbm_directory::clear_slot;
 use cbm_g64::G64Disk;
-use cbm_medium::Medium;
 use cbm_image::{DiskImage, Kind, kind_of};
+use cbm_medium::Medium;
 use cbm_volume::Volume;
 use std::alloc::Global;
 

@@ -13,8 +13,8 @@ use cbm_command::matches;
 use cbm_d64::D64Disk;
 use cbm_directory::put_slot;
 use cbm_g64::G64Disk;
-use cbm_medium::Steady;
 use cbm_image::{DiskImage, Kind, kind_of};
+use cbm_medium::Steady;
 use cbm_volume::{Entry, Volume, Wanted};
 use std::alloc::Global;
 

@@ -7,8 +7,8 @@ ghost use Rattle.cbm_shell.specs.Making.{kind_in, tracks_on, IsBlank, IsEmpty, I
 
 use cbm_d64::D64Disk;
 use cbm_g64::G64Disk;
-use cbm_medium::Steady;
 use cbm_image::{DiskImage, ImageFault};
+use cbm_medium::Steady;
 use cbm_volume::Volume;
 use std::alloc::{AllocError, Global};
 

@@ -11,8 +11,8 @@ use crate::fault::ShellFault;
 use crate::images::{opened, saved};
 use cbm_d64::D64Disk;
 use cbm_g64::G64Disk;
-use cbm_medium::Steady;
 use cbm_image::{DiskImage, Kind, kind_of};
+use cbm_medium::Steady;
 use std::alloc::Global;
 
 /// Makes changes on a disk, one after another. Errors: as of the first change that isn't made.

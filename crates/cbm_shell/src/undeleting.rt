@@ -21,8 +21,8 @@ use cbm_bam::{SectorSet, anew, read_map};
 use cbm_d64::D64Disk;
 use cbm_directory::put_slot;
 use cbm_g64::G64Disk;
-use cbm_medium::{Geometry, Link, Medium, Steady};
 use cbm_image::{DiskImage, Kind, kind_of};
+use cbm_medium::{Geometry, Link, Medium, Steady};
 use cbm_volume::{Entry, FileType, Volume};
 use std::alloc::Global;
 

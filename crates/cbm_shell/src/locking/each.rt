@@ -13,8 +13,8 @@ use crate::images::{opened, saved};
 use cbm_d64::D64Disk;
 use cbm_directory::{put_slot, slot};
 use cbm_g64::G64Disk;
-use cbm_medium::{Geometry, Steady};
 use cbm_image::{DiskImage, Kind, kind_of};
+use cbm_medium::{Geometry, Steady};
 use cbm_volume::Volume;
 use std::alloc::Global;
 

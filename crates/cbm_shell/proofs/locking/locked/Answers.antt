@@ -1,7 +1,6 @@
-use Rattle.std.proofs.Common.{subst, sym, Ok}
+use Rattle.std.proofs.Common.{subst, Ok}
 use Rattle.cbm_volume.specs.Map.{geometry_of}
-use Rattle.cbm_volume.specs.Slots.{Answers, Finds, directory_of}
-use Rattle.cbm_shell.specs.Editing.{CanBeEdited}
+use Rattle.cbm_volume.specs.Slots.{Finds, directory_of}
 use Rattle.cbm_shell.specs.Locking.{is_unlike}
 use Rattle.cbm_shell.proofs.EditLemmas.{whole_directory, put_at}
 use Rattle.cbm_shell.proofs.LockLemmas.{found_stands}

@@ -1,7 +1,6 @@
 use Rattle.std.proofs.Common.{ap, subst, ◌∙◌, Err, false}
 use Rattle.std.proofs.lemmas.Result.{err_from_is_err_and}
 use Rattle.cbm_image.specs.Images.{kind_of, tracks_of}
-use Rattle.cbm_shell.specs.Images.{OrOpenFault}
 use Rattle.cbm_shell.specs.Several.{AreUndone, HoldsAfter}
 use Rattle.cbm_shell.proofs.ImageLemmas.{opened_holds, as_open_fault, as_other_fault}
 use Rattle.cbm_shell.proofs.SeveralLemmas.{saved_after, never_image}

@@ -1,4 +1,4 @@
-use Rattle.std.proofs.Common.{◌<◌, ◌*◌, ap, ◌∙◌, length, inl, inr, Err}
+use Rattle.std.proofs.Common.{ap, ◌∙◌, inl, inr, Err}
 use Rattle.std.proofs.lemmas.Result.{err_from_is_err_and}
 use Rattle.cbm_shell.proofs.SlotLemmas.{not_there, entry_there, entered_directory, put_in_directory}
 use Rattle.cbm_shell.proofs.swapping.swap_two.Goals as goal

@@ -1,8 +1,8 @@
-use Rattle.std.proofs.Common.{rules, ◌≡◌, ℕ, ◌+◌, ◌-◌, ◌∷◌, ◌++◌, [], Option, suc, true, false, sym, ap, subst, ◌∙◌, arith, append-nil, refl}
+use Rattle.std.proofs.Common.{rules, ◌≡◌, ℕ, ◌+◌, ◌-◌, ◌∷◌, ◌++◌, [], Option, true, false, sym, subst, arith, append-nil, refl}
 use Rattle.cbm_medium.specs.Content.{Content}
 use Rattle.cbm_bam.specs.Marks.{is_marked}
 use Rattle.cbm_volume.specs.check.Claims.{wrong_at}
-use Rattle.cbm_shell.specs.Flaws.{along, chain_from, part_of, flawed, told, cut_off}
+use Rattle.cbm_shell.specs.Flaws.{along, part_of, flawed, told, cut_off}
 use Rattle.cbm_shell.specs.FlawSteps.{IsStep}
 use Rattle.cbm_shell.proofs.FlawLemmas.{over, one_more, no_blocks, more_blocks, along-end, along-none, along-on, along-off, stopped, went}
 use Rattle.cbm_shell.proofs.flaws.chains.walk.Given.{Over}

@@ -1,6 +1,6 @@
-use Rattle.std.proofs.Common.{rules, ◌≡◌, ◌∷◌, ◌++◌, [], refl, subst, true, false}
+use Rattle.std.proofs.Common.{rules, ◌≡◌, ◌∷◌, ◌++◌, [], refl, subst}
 use Rattle.cbm_bam.specs.Marks.{is_marked}
-use Rattle.cbm_shell.specs.Flaws.{chain_from, flawed}
+use Rattle.cbm_shell.specs.Flaws.{chain_from}
 use Rattle.cbm_shell.specs.FlawSteps.{IsWalked}
 use Rattle.cbm_shell.proofs.FlawLemmas.{not_true, not_false, relative_none, relative_cut, relative_on}
 use Rattle.cbm_shell.proofs.flaws.files.walk_relative.Goals as goal

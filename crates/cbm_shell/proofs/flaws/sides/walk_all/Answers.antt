@@ -1,4 +1,4 @@
-use Rattle.std.proofs.Common.{◌∷◌, subst, refl, sym, ap, ◌∙◌, false, arith}
+use Rattle.std.proofs.Common.{◌∷◌, subst, refl, sym, ap, false}
 use Rattle.cbm_medium.specs.Links.{bytes_at}
 use Rattle.cbm_bam.specs.Marks.{is_marked}
 use Rattle.cbm_volume.specs.check.Claims.{wrong_at}

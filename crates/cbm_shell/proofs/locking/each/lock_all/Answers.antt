@@ -1,7 +1,6 @@
-use Rattle.std.proofs.Common.{◌+◌, refl, ap, ◌∙◌, List, ℕ, Bor, drop}
+use Rattle.std.proofs.Common.{refl, ap, ◌∙◌, List, ℕ, Bor}
 use Rattle.std.specs.Prelude.{map}
 use Rattle.std.proofs.lemmas.List.{drop_all}
-use Rattle.cbm_shell.specs.Editing.{CanBeEdited}
 use Rattle.cbm_shell.proofs.RecordLemmas.{next_off}
 use Rattle.cbm_shell.proofs.LockLemmas.{locking_begin, locking_on, locking_end, each_sound}
 use Rattle.cbm_shell.proofs.locking.each.lock_all.Goals as goal

@@ -1,4 +1,4 @@
-use Rattle.std.proofs.Common.{◌≡◌, drop}
+use Rattle.std.proofs.Common.{drop}
 use Rattle.std.specs.Prelude.{map}
 use Rattle.cbm_shell.specs.Editing.{CanBeEdited, IsSameMedium}
 use Rattle.cbm_shell.proofs.LockLemmas.{Locking}

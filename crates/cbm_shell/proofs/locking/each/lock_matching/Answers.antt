@@ -1,6 +1,6 @@
-use Rattle.std.proofs.Common.{◌≡◌, ◌+◌, suc, refl, subst, ◌∙◌, arith}
+use Rattle.std.proofs.Common.{◌≡◌, ◌+◌, refl, subst, ◌∙◌, arith}
 use Rattle.std.specs.Prelude.{MatchBool}
-use Rattle.cbm_shell.specs.Editing.{CanBeEdited, HasNoSlot}
+use Rattle.cbm_shell.specs.Editing.{HasNoSlot}
 use Rattle.cbm_shell.specs.Locking.{LocksSlot}
 use Rattle.cbm_shell.proofs.LockLemmas.{slots_begin, slots_on, lock_slots}
 use Rattle.cbm_shell.proofs.locking.each.lock_matching.Goals as goal

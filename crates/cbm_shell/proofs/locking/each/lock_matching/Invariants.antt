@@ -1,4 +1,4 @@
-use Rattle.std.proofs.Common.{◌≡◌, ◌≤◌, ◌-◌}
+use Rattle.std.proofs.Common.{◌≤◌, ◌-◌}
 use Rattle.cbm_shell.specs.Editing.{IsSameMedium}
 use Rattle.cbm_shell.specs.Locking.{LocksSlots}
 use Rattle.cbm_shell.proofs.locking.each.lock_matching.Given as goal

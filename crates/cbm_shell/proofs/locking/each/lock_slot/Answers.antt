@@ -1,4 +1,4 @@
-use Rattle.std.proofs.Common.{subst, Ok, List, ℕ, Option}
+use Rattle.std.proofs.Common.{subst, Ok}
 use Rattle.cbm_volume.specs.Slots.{Answers, directory_of}
 use Rattle.cbm_shell.proofs.EditLemmas.{whole_directory, put_never}
 use Rattle.cbm_shell.proofs.LockLemmas.{few_slots}
