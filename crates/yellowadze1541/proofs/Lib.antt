@@ -1,3 +1,4 @@
+pub mod Flags
 pub mod Handing
 pub mod Signalling
 pub mod Types

@@ -1,10 +1,10 @@
 -- New images and changes of one, as C is told of them.
-use Rattle.std.specs.Prelude.{ℕ, ℤ, ◌≡◌, ◌==◌, if◌then◌else◌, List, length}
+use Rattle.std.specs.Prelude.{ℕ, ℤ, ◌≡◌, ◌↔◌, ◌==◌, if◌then◌else◌, List, length}
 use Rattle.cbm_image.specs.Images.{kind_of}
 use Rattle.cbm_shell.specs.declared.making.Form.{Form}
 use Rattle.cbm_shell.specs.declared.making.Form.TheVariants.{D64, LongD64, G64}
 use Rattle.cbm_shell.specs.Sectors.{faults_in}
-use Rattle.cbm_shell.specs.Converting.{held_by, has_more_tracks, has_error_bytes}
+use Rattle.cbm_shell.specs.Converting.{held_by, has_more_tracks, has_error_bytes, HasOtherId}
 use Rattle.cbm_device.specs.declared.refusal.Refusal.TheVariants.{Invalid}
 use Rattle.cbm_device.specs.Answers.{number_of}
 use Rattle.yellowadze1541.specs.declared.shapes.Lost.{Lost}
@@ -23,3 +23,4 @@ pub record IsLossOf (image : List ℕ) (l : Lost) : Type 0 where
   pub unreadable : l.unreadable ≡ length (faults_in (held_by image) 35)
   pub tracks : l.tracks ≡ flag (has_more_tracks (kind_of image) image)
   pub errors : l.errors ≡ flag (has_error_bytes (kind_of image) image)
+  pub id : (l.id ≡ 1) ↔ HasOtherId image

@@ -132,6 +132,7 @@ fn spelled(losses: &Losses) -> Lost
     ensures unreadable { result.unreadable ≡ length losses.now.unreadable.items }
     ensures tracks { result.tracks ≡ flag losses.now.more_tracks }
     ensures errors { result.errors ≡ flag losses.now.error_bytes }
+    ensures id { result.id ≡ flag losses.now.header_id }
 {
     Lost {
         unreadable: losses.unreadable.len(),
@@ -143,6 +144,7 @@ fn spelled(losses: &Losses) -> Lost
 
 /// An image of the other format, and what it doesn't hold.
 #[unsafe(no_mangle)]
+#[tactic(auto, using(crate::proofs::Flags::says_yes))]
 pub extern "C" fn y1541_image_convert(
     alloc: Global,
     image: &[u8],
