@@ -15,13 +15,13 @@ use Rattle.cbm_image.specs.Images.{kind_of, image_fault, tracks_of, content_of, 
 use Rattle.cbm_program.specs.Starts.{Begins}
 
 -- a script of requests was carried out on the image's disk up to its end or this bad line, and what it prints was written
-abbrev pub IsCarriedOut : Pace → List ℕ → Bool → Bool → Option (List ℕ) → Option (List ℕ) → Option (List ℕ) → Option ℕ → Type 0
-IsCarriedOut pace image protected checks input old new bad = IfSome (of_requests input) (λ bytes. ((script_of bytes).bad ≡ bad)
+abbrev pub IsScriptRun : Pace → List ℕ → Bool → Bool → Option (List ℕ) → Option (List ℕ) → Option (List ℕ) → Option ℕ → Type 0
+IsScriptRun pace image protected checks input old new bad = IfSome (of_requests input) (λ bytes. ((script_of bytes).bad ≡ bad)
     × Prints old new (Begins image protected) (λ _. Unit {0}) (printed_behind pace checks (script_of bytes).requests))
 
 -- a script of line changes was played so, and the trace of a drive with that disk was written
-abbrev pub IsPlayedOut : Party → List ℕ → Bool → Bool → Option (List ℕ) → Option (List ℕ) → Option (List ℕ) → Option ℕ → Type 0
-IsPlayedOut drive image protected checks input old new bad = IfSome (of_changes input) (λ bytes. ((timetable_of bytes).bad ≡ bad)
+abbrev pub IsScriptPlayed : Party → List ℕ → Bool → Bool → Option (List ℕ) → Option (List ℕ) → Option (List ℕ) → Option ℕ → Type 0
+IsScriptPlayed drive image protected checks input old new bad = IfSome (of_changes input) (λ bytes. ((timetable_of bytes).bad ≡ bad)
     × PrintsTrace old new (Begins image protected) (λ _. Unit {0}) drive (checked_text checks) (timetable_of bytes))
 
 -- WHAT A RUN PROMISES of a drive of this pace on an image of these bytes: `items` are the bytes of the image that it gives back, `input` is what the
@@ -29,7 +29,7 @@ IsPlayedOut drive image protected checks input old new bad = IfSome (of_changes 
 pub record IsOutcome {A : Type 0} (result : Result A RunFault) (items : A → List ℕ) (pace : Pace) (image : List ℕ) (protected checks : Bool) (device : ℕ)
     (input old new : Option (List ℕ)) : Type 0 where
   -- What was written is what a script of requests prints on the image's disk up to its end or its first bad line.
-  pub ended : EndsAs result (λ bad. IsCarriedOut pace image protected checks input old new bad)
+  pub ended : EndsAs result (λ bad. IsScriptRun pace image protected checks input old new bad)
   -- The image that is given back holds the disk behind the script, with all that the script wrote.
   pub disk : IfOk result (λ saved. IfSome (of_requests input) (λ bytes. Prints old new (Begins image protected)
       (λ m. ImageHolds (kind_of image) (items saved) m.disk) (printed_behind pace checks (script_of bytes).requests)))
@@ -37,15 +37,15 @@ pub record IsOutcome {A : Type 0} (result : Result A RunFault) (items : A → Li
   pub fault : OnErr result (IfSome (of_requests input) (λ bytes.
       PrintsPart old new (Begins image protected) (printed_behind pace checks (script_of bytes).requests)))
   -- Of a script of line changes the trace of a drive with that disk was written, up to its end or its first bad line.
-  pub played : EndsAs result (λ bad. IsPlayedOut (party_of pace device) image protected checks input old new bad)
+  pub played : EndsAs result (λ bad. IsScriptPlayed (party_of pace device) image protected checks input old new bad)
   -- The image that is given back holds the disk behind it.
   pub left : IfOk result (λ saved. IfSome (of_changes input) (λ bytes. PrintsTrace old new (Begins image protected)
       (λ m. ImageHolds (kind_of image) (items saved) m.disk) (party_of pace device) (checked_text checks) (timetable_of bytes)))
   -- At a fault a beginning of such a trace was written.
   pub cut : OnErr result (IfSome (of_changes input) (λ bytes.
       PrintsTracePart old new (Begins image protected) (party_of pace device) (checked_text checks) (timetable_of bytes)))
-  -- Of any image, sound or not: events were written, after the line of the check, and the host's changes among them are the script's, up to its end or its
-  -- first bad line.
+  -- Of a script of line changes, on any image, sound or not: events were written, after the line of the check, and the host's changes among them are the
+  -- script's, up to its end or its first bad line.
   pub wrote : EndsAs result (λ bad. WritesBehind checks (of_changes input) old new bad)
   -- Of any image the line of the check is printed first, where one is asked for.
   pub checked : checks ≡ true → EndsAs result (λ bad. IsCheckedFirst (tracks_of (kind_of image) image) (content_of (kind_of image) image) old new)
@@ -62,5 +62,5 @@ pub record IsOutcome {A : Type 0} (result : Result A RunFault) (items : A → Li
   -- and by no other.
   pub cause : (n : ℕ) → result ≡ Err (Image n) → image_fault (kind_of image) image ≡ Some n
   -- Memory is lacking for the disk, before anything is read or written, or for the new image, after the whole script; and at no other time.
-  pub memory : result ≡ Err Memory → Keeps old new ⊎ (IsCarriedOut pace image protected checks input old new None
-      × IsPlayedOut (party_of pace device) image protected checks input old new None)
+  pub memory : result ≡ Err Memory → Keeps old new ⊎ (IsScriptRun pace image protected checks input old new None
+      × IsScriptPlayed (party_of pace device) image protected checks input old new None)
