@@ -15,9 +15,9 @@ use Rattle.cbm_volume.specs.check.SlotWalk.{entries_behind}
 use Rattle.cbm_volume.specs.check.WholeDisk.{only_head}
 use Rattle.cbm_volume.proofs.SlotSteps.{entries_next, entries_end}
 use Rattle.cbm_directory.specs.Entries.{entry_of}
-use Rattle.cbm_shell.specs.declared.flaws.found.Whose.{Whose}
-use Rattle.cbm_shell.specs.declared.flaws.found.Whose.TheVariants.{Directory, File}
-use Rattle.cbm_shell.specs.declared.flaws.found.DiskFlaw.{DiskFlaw}
+use Rattle.cbm_shell.specs.declared.broken.flaws.found.Whose.{Whose}
+use Rattle.cbm_shell.specs.declared.broken.flaws.found.Whose.TheVariants.{Directory, File}
+use Rattle.cbm_shell.specs.declared.broken.flaws.found.DiskFlaw.{DiskFlaw}
 use Rattle.cbm_shell.specs.Mapping.{free_by, sectors_of}
 use Rattle.cbm_shell.specs.Marking.{with_places}
 use Rattle.cbm_shell.proofs.MapLemmas.{among}

@@ -21,9 +21,9 @@ use Rattle.cbm_volume.specs.check.SideLists.{ClaimsEach, MeetsAmong, ClaimsSides
 use Rattle.cbm_volume.specs.check.SlotWalk.{entries_in, ClaimsFile, FileFault, ClaimsEntry, EntryFault, ClaimsEntries, EntriesFault, ClaimsSlots, SlotsFault}
 use Rattle.cbm_volume.specs.check.WholeDisk.{only_head, AllWritable, ClaimsDisk, DiskFault}
 use Rattle.cbm_volume.proofs.Claiming.{is_right, inside_has, unclaimed_less}
-use Rattle.cbm_shell.specs.declared.flaws.found.Whose.{Whose}
-use Rattle.cbm_shell.specs.declared.flaws.found.Whose.TheVariants.{Disk, Directory, File}
-use Rattle.cbm_shell.specs.declared.flaws.found.DiskFlaw.{DiskFlaw}
+use Rattle.cbm_shell.specs.declared.broken.flaws.found.Whose.{Whose}
+use Rattle.cbm_shell.specs.declared.broken.flaws.found.Whose.TheVariants.{Disk, Directory, File}
+use Rattle.cbm_shell.specs.declared.broken.flaws.found.DiskFlaw.{DiskFlaw}
 use Rattle.cbm_shell.specs.Flaws as flaws
 use Rattle.cbm_shell.specs.Flaws.{part_of, flaw_if, flawed, Walked, at_end, cut_off, with_sector, goes_on, told, met, along, chain_from, then_walk, if_whole, records_walk, sides_walk, relative_walk, file_walk, entry_walk, entries_walk, bytes_of, found_at, sector_walk, slots_walk, header_flaw, header_flaws_on, header_flaws, count_flaws, map_flaws, directory_walk, chain_flaws, flaws_of, first_of}
 use Rattle.cbm_shell.specs.Images.{IsChecked}

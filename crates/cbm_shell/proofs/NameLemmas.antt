@@ -5,8 +5,8 @@ use Rattle.std.specs.Char.{digit_char}
 use lib.Utf8.{scalars}
 use Rattle.std.proofs.lemmas.Bool.{agree_below_at, cases_eq, or_cases, eq-eqb, ne_eqb, eqb-true, false≢true}
 use Rattle.std.proofs.lemmas.Str.{chars-nil, chars-append, chars-encodes}
-use Rattle.cbm_shell.specs.declared.petscii.Charset.{Charset}
-use Rattle.cbm_shell.specs.declared.petscii.Charset.TheVariants.{Upper, Lower}
+use Rattle.cbm_shell.specs.declared.texts.petscii.Charset.{Charset}
+use Rattle.cbm_shell.specs.declared.texts.petscii.Charset.TheVariants.{Upper, Lower}
 use Rattle.cbm_shell.specs.Petscii.{key_of, code_from, code_of}
 use Rattle.cbm_shell.specs.Names.{numbered, written, shown_as, text_of, byte_of, with_code, codes_of, number_in}
 

@@ -19,7 +19,7 @@ use Rattle.cbm_image.specs.declared.kind.Kind.TheVariants.{D64, G64}
 use Rattle.cbm_image.specs.Images.{kind_of, size_fault, image_fault, tracks_of, ImageHolds}
 use Rattle.cbm_image.specs.Images as images
 use Rattle.cbm_image.proofs.ImageSizes.{right_size}
-use Rattle.cbm_shell.specs.declared.making.Form.{Form}
+use Rattle.cbm_shell.specs.declared.images.making.Form.{Form}
 use Rattle.cbm_shell.specs.Making.{kind_in, tracks_on, empty_disk, IsBlank, IsEmpty, IsNew}
 use Rattle.cbm_shell.proofs.ZeroImages.{content_zeros}
 

@@ -1,7 +1,7 @@
 -- Lines and texts, a code or a line at a time.
 use Rattle.std.proofs.Common.{◌≡◌, ◌≢◌, ℕ, ◌+◌, ◌-◌, ◌*◌, List, [], ◌∷◌, ◌++◌, length, codes, decimal, Bool, true, false, ap, sym, ◌∙◌, append_assoc, append-nil, arith}
 use Rattle.std.specs.Prelude.{◌==◌, if◌then◌else◌}
-use Rattle.cbm_shell.specs.declared.petscii.Charset.{Charset}
+use Rattle.cbm_shell.specs.declared.texts.petscii.Charset.{Charset}
 use Rattle.cbm_shell.specs.Names.{shown_as}
 use Rattle.cbm_shell.specs.Readable.{opened_as, ends, lines, opening, text}
 

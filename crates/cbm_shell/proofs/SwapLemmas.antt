@@ -7,7 +7,7 @@ use Rattle.cbm_volume.specs.Map.{geometry_of}
 use Rattle.cbm_shell.specs.declared.fault.ShellFault.{ShellFault}
 use Rattle.cbm_shell.specs.declared.fault.ShellFault.TheVariants as fault
 use Rattle.cbm_shell.specs.Editing.{HasNoSlot, IsUnedited, CanBeEdited, IsDirectory}
-use Rattle.cbm_shell.specs.declared.swapping.Swap.{Swap}
+use Rattle.cbm_shell.specs.declared.changing.swapping.Swap.{Swap}
 use Rattle.cbm_shell.specs.Swapping.{Swaps, AreSwapped, MissesSlot}
 use Rattle.cbm_shell.proofs.SlotLemmas.{sound_directory, missed_before}
 

@@ -4,9 +4,9 @@ use Rattle.cbm_medium.specs.Place.{Place}
 use Rattle.cbm_medium.specs.Content.{Content}
 use Rattle.cbm_medium.specs.Links.{bytes_at}
 use Rattle.cbm_bam.specs.Map.{with_bit}
-use Rattle.cbm_shell.specs.declared.flaws.found.Whose.{Whose}
-use Rattle.cbm_shell.specs.declared.flaws.found.Whose.TheVariants.{Disk, Directory, File}
-use Rattle.cbm_shell.specs.declared.flaws.found.DiskFlaw.{DiskFlaw}
+use Rattle.cbm_shell.specs.declared.broken.flaws.found.Whose.{Whose}
+use Rattle.cbm_shell.specs.declared.broken.flaws.found.Whose.TheVariants.{Disk, Directory, File}
+use Rattle.cbm_shell.specs.declared.broken.flaws.found.DiskFlaw.{DiskFlaw}
 use Rattle.cbm_shell.specs.Flaws.{Walked, goes_on, told}
 
 -- the directory lies on its track, the files off it

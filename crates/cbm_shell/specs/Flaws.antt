@@ -14,9 +14,9 @@ use Rattle.cbm_volume.specs.check.MapCounts.{is_counted_on}
 use Rattle.cbm_volume.specs.check.SideLists.{sides_from, are_records}
 use Rattle.cbm_volume.specs.check.SlotWalk.{entries_in}
 use Rattle.cbm_volume.specs.check.WholeDisk.{only_head}
-use Rattle.cbm_shell.specs.declared.flaws.found.Whose.{Whose}
-use Rattle.cbm_shell.specs.declared.flaws.found.Whose.TheVariants.{Disk, Directory, File}
-use Rattle.cbm_shell.specs.declared.flaws.found.DiskFlaw.{DiskFlaw}
+use Rattle.cbm_shell.specs.declared.broken.flaws.found.Whose.{Whose}
+use Rattle.cbm_shell.specs.declared.broken.flaws.found.Whose.TheVariants.{Disk, Directory, File}
+use Rattle.cbm_shell.specs.declared.broken.flaws.found.DiskFlaw.{DiskFlaw}
 
 -- ---- a flaw
 

@@ -4,8 +4,8 @@ use Rattle.std.specs.Str.{bytes_eq}
 use Rattle.cbm_image.specs.declared.kind.Kind.{Kind}
 use Rattle.cbm_image.specs.declared.kind.Kind.TheVariants.{D64, G64}
 use Rattle.cbm_image.specs.Images.{kind_of}
-use Rattle.cbm_shell.specs.declared.formats.Foreign.{Foreign}
-use Rattle.cbm_shell.specs.declared.formats.Foreign.TheVariants.{T64, P64, Nib, Gzip, D71, D81, Longest, LongWithErrors, Short, Unknown}
+use Rattle.cbm_shell.specs.declared.images.formats.Foreign.{Foreign}
+use Rattle.cbm_shell.specs.declared.images.formats.Foreign.TheVariants.{T64, P64, Nib, Gzip, D71, D81, Longest, LongWithErrors, Short, Unknown}
 
 -- whether a file of this format and size may be an image of a 1541's disk: a G64, or one of the sizes of a D64
 abbrev pub is_ours : Kind → ℕ → Bool

@@ -4,7 +4,7 @@ use Rattle.cbm_channel.specs.Machines.{Machine}
 use Rattle.cbm_channel.specs.Codes.{code_number}
 use Rattle.cbm_channel.specs.Calls.{after_open}
 use Rattle.cbm_talk.specs.Talks.{talked}
-use Rattle.cbm_shell.specs.declared.petscii.Charset.{Charset}
+use Rattle.cbm_shell.specs.declared.texts.petscii.Charset.{Charset}
 use Rattle.cbm_shell.specs.declared.fault.ShellFault.{ShellFault}
 use Rattle.cbm_shell.specs.declared.fault.ShellFault.TheVariants as fault
 use Rattle.cbm_shell.specs.Readable.{readable}

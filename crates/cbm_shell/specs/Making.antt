@@ -8,8 +8,8 @@ use Rattle.cbm_volume.specs.Holding.{HoldsDisk}
 use Rattle.cbm_image.specs.declared.kind.Kind.{Kind}
 use Rattle.cbm_image.specs.declared.kind.Kind.TheVariants as kind
 use Rattle.cbm_image.specs.Images.{kind_of, image_fault, tracks_of, content_of, ImageHolds}
-use Rattle.cbm_shell.specs.declared.making.Form.{Form}
-use Rattle.cbm_shell.specs.declared.making.Form.TheVariants as form
+use Rattle.cbm_shell.specs.declared.images.making.Form.{Form}
+use Rattle.cbm_shell.specs.declared.images.making.Form.TheVariants as form
 
 -- AN EMPTY DISK of so many tracks, with a title and an id: eight empty slots, and all blocks for files are free
 abbrev pub empty_disk : ℕ → List ℕ → List ℕ → Disk

@@ -2,7 +2,7 @@
 use Rattle.std.specs.Prelude.{ℕ, ◌+◌, ◌*◌, ◌/◌, ◌%◌, ◌==◌, nat_lt, ◌&&◌, if◌then◌else◌, List, [], ◌∷◌, ◌++◌, Option, Some, None}
 use Rattle.std.specs.Char.{digit_char, digit_value}
 use Rattle.std.specs.Str.{encode_utf8_all}
-use Rattle.cbm_shell.specs.declared.petscii.Charset.{Charset}
+use Rattle.cbm_shell.specs.declared.texts.petscii.Charset.{Charset}
 use Rattle.cbm_shell.specs.Petscii.{key_of, code_of}
 
 -- ---- as it is shown

@@ -2,8 +2,8 @@
 use Rattle.cbm_medium.specs.Seen.{Seen}
 use Rattle.cbm_d64.specs.Image as d64
 use Rattle.cbm_g64.specs.Tracks as g64
-use Rattle.cbm_shell.specs.declared.open_disk.OpenDisk.{OpenDisk}
-use Rattle.cbm_shell.specs.declared.open_disk.OpenDisk.TheVariants.{D64, G64}
+use Rattle.cbm_shell.specs.declared.looking.open_disk.OpenDisk.{OpenDisk}
+use Rattle.cbm_shell.specs.declared.looking.open_disk.OpenDisk.TheVariants.{D64, G64}
 
 abbrev pub shown_by : OpenDisk → Seen
 shown_by (D64 disk) = d64.seen_of disk

@@ -1,9 +1,9 @@
 -- The keys of a C64 and the characters that they type.
 use Rattle.std.specs.Prelude.{ℕ, zero, suc, ◌+◌, ◌/◌, ◌%◌, ◌==◌, if◌then◌else◌, List, [], Option, Some, None, slice_index, slice_index_or}
 use Rattle.std.specs.Char.{to_ascii_uppercase}
-use Rattle.cbm_shell.specs.declared.petscii.Charset.{Charset}
-use Rattle.cbm_shell.specs.declared.petscii.Charset.TheVariants.{Upper, Lower}
-use Rattle.cbm_shell.specs.declared.petscii.TheConstants.{TABLE, LOWER_TABLE}
+use Rattle.cbm_shell.specs.declared.texts.petscii.Charset.{Charset}
+use Rattle.cbm_shell.specs.declared.texts.petscii.Charset.TheVariants.{Upper, Lower}
+use Rattle.cbm_shell.specs.declared.texts.petscii.TheConstants.{TABLE, LOWER_TABLE}
 
 -- what a table of eight rows has for a code
 abbrev pub cell : List (List ℕ) → ℕ → ℕ

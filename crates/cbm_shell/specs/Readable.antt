@@ -1,6 +1,6 @@
 -- A directory as the drive sends it, as readable text.
 use Rattle.std.specs.Prelude.{ℕ, ◌+◌, ◌-◌, ◌*◌, List, [], ◌∷◌, ◌++◌, drop, codes, decimal, ◌==◌, ◌&&◌, Bool, if◌then◌else◌}
-use Rattle.cbm_shell.specs.declared.petscii.Charset.{Charset}
+use Rattle.cbm_shell.specs.declared.texts.petscii.Charset.{Charset}
 use Rattle.cbm_shell.specs.Names.{shown_as}
 
 -- the first code of a line's text: that for reverse letters, with which the title begins, isn't shown

@@ -5,7 +5,7 @@ use Rattle.cbm_volume.specs.Entries.{EntersLed}
 use Rattle.cbm_volume.specs.Map.{geometry_of}
 use Rattle.cbm_volume.specs.Slots.{Answers, directory_of}
 use Rattle.cbm_image.specs.Images.{kind_of, tracks_of, content_of}
-use Rattle.cbm_shell.specs.declared.swapping.Swap.{Swap}
+use Rattle.cbm_shell.specs.declared.changing.swapping.Swap.{Swap}
 use Rattle.cbm_shell.specs.Editing.{HasNoSlot}
 
 -- TWO ENTRIES CHANGE PLACES: each slot has the thirty bytes of the other, and nothing else is changed.

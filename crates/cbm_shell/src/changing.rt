@@ -11,11 +11,22 @@ ghost use Rattle.cbm_shell.specs.Images.{IsSoundDisk};
 ghost use Rattle.cbm_shell.specs.Editing.{IsUnedited};
 ghost use Rattle.cbm_shell.specs.Changing.{after_change, IsFine, IsUndone, IsRefusal, IsFaultOf};
 
+pub(crate) mod art;
+pub(crate) mod locking;
+pub(crate) mod recording;
+pub(crate) mod several;
+pub(crate) mod swapping;
+
 use crate::fault::ShellFault;
+pub use art::{Looks, add_art, dress};
 use cbm_channel::{Dos, Status};
 use cbm_medium::{Medium, Steady};
 use cbm_talk::hear;
 use cbm_volume::Volume;
+pub use locking::{lock, locks, retitle};
+pub use recording::{Records, put_records};
+pub use several::changes;
+pub use swapping::{Swap, swap_entries};
 
 /// The channel of commands.
 const COMMANDS: u8 = 15;

@@ -11,18 +11,27 @@ ghost use Rattle.cbm_shell.specs.Images.{IsOpened, IsSaved, IsOpenFault, IsFaile
 ghost use Rattle.cbm_volume.specs.Sweeps.{IsPutInOrder};
 ghost use Rattle.cbm_shell.specs.Freeing.{AreFreed, IsGivenBack};
 
+pub(crate) mod converting;
+pub(crate) mod formats;
+pub(crate) mod making;
+pub(crate) mod wrapped;
+
 use crate::changing::{Change, changed};
 use crate::fault::ShellFault;
-use crate::listing::{list, raw_list};
+use crate::looking::listing::{list, raw_list};
+use crate::looking::reading::get;
 use crate::looking::{Freed, freed_by};
-use crate::petscii::Charset;
-use crate::reading::get;
+use crate::texts::petscii::Charset;
 use cbm_channel::Dos;
 use cbm_d64::D64Disk;
 use cbm_g64::G64Disk;
 use cbm_image::{DiskImage, ImageFault, Kind, kind_of};
 use cbm_volume::{Unsound, Volume};
+pub use converting::{Converted, Losses, convert};
+pub use formats::{Foreign, foreign_of};
+pub use making::{Form, new_image};
 use std::alloc::Global;
+pub use wrapped::{Wrapped, unwrapped};
 
 /// The disk of an image. Errors: `Image` with the number of the format's first fault, `Memory`.
 pub(crate) fn opened<I: DiskImage>(alloc: Global, image: &[u8]) -> Result<I, ShellFault>

@@ -1,8 +1,8 @@
 -- New images and changes of one, as C is told of them.
 use Rattle.std.specs.Prelude.{ℕ, ℤ, ◌≡◌, ◌↔◌, ◌==◌, if◌then◌else◌, List, length}
 use Rattle.cbm_image.specs.Images.{kind_of}
-use Rattle.cbm_shell.specs.declared.making.Form.{Form}
-use Rattle.cbm_shell.specs.declared.making.Form.TheVariants.{D64, LongD64, G64}
+use Rattle.cbm_shell.specs.declared.images.making.Form.{Form}
+use Rattle.cbm_shell.specs.declared.images.making.Form.TheVariants.{D64, LongD64, G64}
 use Rattle.cbm_shell.specs.Sectors.{faults_in}
 use Rattle.cbm_shell.specs.Converting.{held_by, has_more_tracks, has_error_bytes, HasOtherId}
 use Rattle.cbm_device.specs.declared.refusal.Refusal.TheVariants.{Invalid}

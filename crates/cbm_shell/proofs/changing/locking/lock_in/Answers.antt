@@ -1,0 +1,29 @@
+use Rattle.std.proofs.Common.{◌≡◌, ap, subst, ◌∙◌, Err}
+use Rattle.std.specs.Prelude.{MatchOption}
+use Rattle.std.proofs.lemmas.Result.{err_from_is_err_and}
+use Rattle.cbm_volume.specs.Map.{geometry_of}
+use Rattle.cbm_image.specs.Images.{kind_of}
+use Rattle.cbm_shell.specs.Editing.{IsUnedited}
+use Rattle.cbm_shell.specs.Locking.{Locks, AreLocked}
+use Rattle.cbm_shell.proofs.EditLemmas.{edit_unsound, sound_anew, saved_sound}
+use Rattle.cbm_shell.proofs.LockLemmas.{lock_sound}
+use Rattle.cbm_shell.proofs.changing.locking.lock_in.Goals as goal
+
+pub returns-in_err-require_sound-clause-fault : goal.returns-in_err-require_sound-clause-fault
+returns-in_err-require_sound-clause-fault g c =
+    let seen = g.I.Medium.seen in
+    let p = err_from_is_err_and c.from_residual-in_err-require_sound.result c.from_residual-in_err-require_sound.ensures.1 in
+    rw (p.1 ∙ ap Err p.2) (edit_unsound c.args.image.now (seen c.in_ok-opened.field-0) ⊥ c.in_err-require_sound.field-0.0 c.in_ok-opened.ensures.ok
+    (subst (λ k. IsUnedited (seen k).tracks (seen k).content ⊥ c.in_err-require_sound.field-0.0) c.open-volume.ensures c.in_err-require_sound.ensures.fault))
+
+pub returns-clause-stays : goal.returns-clause-stays
+returns-clause-stays g c =
+    let seen = g.I.Medium.seen in
+    let old = seen c.open-volume.result in
+    let new = seen c.in-Some.disk in
+    let tracks = geometry_of old.tracks old.content in
+    let sound = c.in_ok-require_sound.ensures.sound in
+    let locks = subst (λ o. MatchOption o (AreLocked c.args.is_locked tracks c.args.pattern.now old.content) (λ after. Locks c.args.is_locked tracks c.args.pattern.now old.content (seen after).content)) c.in-Some.is c.in_ok-disk.ensures.locks in
+    let same = subst (λ o. MatchOption o (Unit {0}) (λ after. (seen after).tracks ≡ old.tracks)) c.in-Some.is c.in_ok-disk.ensures.tracks in
+    saved_sound g.I.DiskImage.kind (kind_of c.args.image.now) c.in_ok-saved.field-0.items new c.requires c.in_ok-saved.ensures.ok
+    (sound_anew old new same (lock_sound c.args.is_locked tracks c.args.pattern.now old.content new.content sound.0 sound.1 locks))

@@ -1,0 +1,34 @@
+use Rattle.std.proofs.Common.{◌+◌, drop, refl, ap, ◌∙◌, Err}
+use Rattle.std.proofs.lemmas.List.{drop_all}
+use Rattle.std.proofs.lemmas.Result.{err_from_is_err_and}
+use Rattle.cbm_shell.proofs.SeveralLemmas.{begun, one_more, not_made, all_made, next_change}
+use Rattle.cbm_shell.proofs.changing.several.changed_by.Goals as goal
+
+pub loop-change-preserved : goal.loop-change-preserved
+loop-change-preserved g c =
+    let seen = g.M.Medium.seen in
+    let old = seen c.args.medium in
+    let inv = c.loop-change.invariant in (
+      c.in_ok-disk.ensures.same_protection ∙ inv.0,
+      c.in_ok-disk.ensures.same_tracks ∙ inv.1,
+      λ d h. let u = inv.2 d h in
+          one_more (drop c.loop-change.change-index c.args.changes.now) (drop (c.loop-change.change-index + 1) c.args.changes.now) c.args.changes.now _ old.protected old.tracks d
+          (seen c.loop-change.disk) (seen c.in_ok-disk.disk) (next_change c.args.changes.now _ c.loop-change.change-index c.loop-change-test.true) inv.0 inv.1 u (c.in_ok-disk.ensures.made u.disk u.holds),
+    )
+
+pub returns-in_err-disk : goal.returns-in_err-disk
+returns-in_err-disk g c = λ d h.
+    let seen = g.M.Medium.seen in
+    let old = seen c.args.medium in
+    let inv = c.loop-change.invariant in
+    let u = inv.2 d h in
+    let p = err_from_is_err_and c.from_residual.result c.from_residual.ensures.1 in
+    rw (p.1 ∙ ap Err p.2) (not_made (drop c.loop-change.change-index c.args.changes.now) (drop (c.loop-change.change-index + 1) c.args.changes.now) c.args.changes.now _ old.protected old.tracks d
+    (seen c.loop-change.disk) c.in_err-disk.field-0.0 (next_change c.args.changes.now _ c.loop-change.change-index c.loop-change-test.true) inv.0 inv.1 u (c.in_err-disk.ensures.made u.disk u.holds))
+
+pub returns : goal.returns
+returns g c = λ d h.
+    let seen = g.M.Medium.seen in
+    let old = seen c.args.medium in
+    all_made (drop c.loop-change.change-index c.args.changes.now) c.args.changes.now old.protected old.tracks d (seen c.loop-change.disk)
+    (drop_all c.loop-change.change-index c.args.changes.now c.loop-change-test.false) (c.loop-change.invariant.2 d h)

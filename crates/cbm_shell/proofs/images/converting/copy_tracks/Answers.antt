@@ -1,0 +1,18 @@
+use Rattle.std.proofs.Common.{◌∙◌, ◌<◌, ℕ, subst, inl, inr, arith, rules}
+use Rattle.std.proofs.lemmas.Bool.{cases_eq}
+use Rattle.cbm_medium.specs.Place.{sectors_on}
+use Rattle.cbm_shell.proofs.images.converting.copy_tracks.Goals as goal
+
+pub loop-track-preserved : goal.loop-track-preserved
+loop-track-preserved g c = record {
+  here = λ p h l. elim (cases_eq p.track c.loop-track.track) [
+    | inl e ↦ c.copy_track.ensures.here p e (subst (λ (t : ℕ). p.sector < sectors_on t) e h.2)
+    | inr ne ↦ c.copy_track.ensures.others p ne ∙ c.loop-track.invariant.here p h (omega arith)
+  ];
+  later = λ p l. c.copy_track.ensures.others p (λ e. omega arith) ∙ c.loop-track.invariant.later p (omega arith);
+  free = search rules;
+  size = search rules;
+}
+
+pub returns-clause-shown : goal.returns-clause-shown
+returns-clause-shown g c = λ p h. c.loop-track.invariant.here p h (omega (arith, h.1, c.loop-track-test.false))

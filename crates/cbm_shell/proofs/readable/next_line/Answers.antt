@@ -1,5 +1,0 @@
-use Rattle.cbm_shell.proofs.ReadableLemmas.{lines-more}
-use Rattle.cbm_shell.proofs.readable.next_line.Goals as goal
-
-pub returns-clause-line : goal.returns-clause-line
-returns-clause-line c = lines-more c.args.charset _ _ _ _ _ _ _ _ _ c.in_ok-rest.ensures.cases.0 c.in_ok-second.ensures.cases.0 c.in_ok-low.ensures.cases.0 c.in_ok-high.ensures.cases.0 c.if-second-eq0.false

@@ -1,0 +1,8 @@
+//! Disks that are broken, and files that are gone.
+pub(crate) mod flaws;
+pub(crate) mod forgetting;
+pub(crate) mod undeleting;
+
+pub use flaws::{DiskFlaw, Whose, error_at, flaws_of, lost_of, users_of};
+pub use forgetting::forget;
+pub use undeleting::undelete;
