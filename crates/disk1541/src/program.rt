@@ -1,9 +1,9 @@
 //! The program: the words of the command line, the command, the exit status.
-use crate::failure::Failure;
 use crate::lock::lock;
-use crate::progress::Progress;
 use crate::tasks::carry_out;
 use clap::error::ErrorKind;
+use disk_basics::Failure;
+use disk_looks::Progress;
 use std::process::ExitCode;
 use std::{env, io};
 

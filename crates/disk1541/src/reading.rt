@@ -1,13 +1,11 @@
 //! The words of a command as plain values.
-use crate::failure::Failure;
-use crate::tasks::{
-    Blank, Build, Conversion, Description, Gone, HostFiles, Mapping, OneFile, Ordering, Pair,
-    Place, View,
-};
-use crate::word_fault::WordFault;
 use cbm_shell::Charset;
 use clap::ArgMatches;
+use disk_basics::{Failure, WordFault};
+use disk_changes::{Blank, Build, Conversion, Gone, HostFiles, Ordering, Pair};
 use disk_commands::{flag, given, option};
+use disk_looks::{Description, Mapping, OneFile, Place};
+use disk_reports::View;
 
 /// The character set of a command's names.
 pub fn charset<'a>(words: &ArgMatches<'a>) -> Result<Charset, Failure<'a>> {

@@ -1,83 +1,23 @@
 //! Carrying out the commands.
-mod build;
-mod circles;
-mod convert;
 mod counts;
-mod describe;
-mod edit;
-mod find;
-mod flaws;
 mod folders;
-mod force;
-mod geos;
-mod get;
-mod get_all;
-mod info;
-mod locking;
 mod look;
-mod losses;
-mod make;
-mod map;
-mod order;
-mod plan;
-mod put;
-mod relative;
-mod rename;
-mod salvage;
-mod sector;
-mod sort;
-mod stored;
-mod sum;
-mod taking;
-mod track;
-mod undelete;
-mod untitled;
-mod view;
 
-pub use self::build::Build;
-use self::build::build_image;
-pub use self::convert::Conversion;
-use self::convert::convert;
-pub use self::describe::Description;
-use self::describe::describe;
-use self::edit::{Edit, save_edit};
-pub use self::find::is_meant;
-pub use self::flaws::flaw_report;
-use self::force::delete_at_fault;
-pub use self::geos::kind_name;
-pub use self::get::OneFile;
-use self::get::get;
-use self::get_all::get_all;
-pub use self::info::format_name;
 use self::look::look_at_all;
-pub use self::make::Blank;
-use self::make::make;
-pub use self::map::Mapping;
-use self::map::show_map;
-pub use self::order::Ordering;
-use self::order::put_in_order;
-pub use self::put::HostFiles;
-use self::put::put;
-pub use self::rename::Pair;
-use self::rename::{copy, rename};
-use self::sector::show_sector;
-use self::sort::{key_of_word, sort};
-pub use self::sum::sum_text;
-pub use self::taking::Place;
-use self::track::show_track;
-pub use self::undelete::Gone;
-use self::undelete::undelete;
-pub use self::view::{Answer, Look, Shown, View, answer_of};
-use crate::failure::Failure;
-use crate::names::petscii;
-use crate::progress::Progress;
 use crate::reading::{
     blank, building, charset, checking, conversion, description, gone, host_files, listing,
     mapping, one_file, ordering, pair, pattern, place,
 };
 use cbm_shell::Charset;
 use clap::ArgMatches;
+use disk_basics::{Failure, petscii};
+use disk_changes::{
+    Edit, build_image, convert_image, copy, delete_at_fault, key_of_word, make, put, put_in_order,
+    rename, save_edit, sort, undelete_file,
+};
 use disk_commands::{Verb, flag, given, verb_of};
+use disk_looks::{Progress, describe, get, get_all, show_map, show_sector, show_track};
+use disk_reports::{Look, View};
 use std::rt::Runtime;
 
 /// Carries out a command that looks at images.
@@ -146,7 +86,7 @@ fn perform<'a, R: Runtime + AllocGlobal>(
         Verb::Get => get(rt, image, &one_file(words, charset)),
         Verb::GetAll => get_all(rt, image, place(words), progress),
         Verb::New => make(rt, image, &blank(words, charset)),
-        Verb::Convert => convert(rt, image, &conversion(words)),
+        Verb::Convert => convert_image(rt, image, &conversion(words)),
         Verb::Put => put(
             rt,
             image,
@@ -159,7 +99,7 @@ fn perform<'a, R: Runtime + AllocGlobal>(
         Verb::Build => build_image(rt, &building(words, charset)),
         Verb::Sort => sort(rt, image, key_of_word(given(words, "by"))?),
         Verb::Delete => delete_with(rt, words, charset),
-        Verb::Undelete => undelete(rt, image, &gone(words, charset)),
+        Verb::Undelete => undelete_file(rt, image, &gone(words, charset)),
         Verb::Lock => lock_with(rt, words, charset, true),
         Verb::Unlock => lock_with(rt, words, charset, false),
         Verb::Title => save_edit(rt, image, &Edit::Title(given(words, "TITLE"), charset)),

@@ -1,7 +1,6 @@
 //! What several images came to.
-use super::view::{Answer, Look, View};
-use crate::failure::{Failure, in_memory};
-use crate::host::print;
+use disk_basics::{Failure, in_memory, print};
+use disk_reports::{Answer, Look, View};
 use std::alloc::{AllocError, Global};
 use std::rt::Runtime;
 

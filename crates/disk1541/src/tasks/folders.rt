@@ -1,6 +1,6 @@
 //! The images in a folder and in its folders.
-use crate::failure::Failure;
-use crate::formats::is_image_name;
+use disk_basics::Failure;
+use disk_facts::is_image_name;
 use std::alloc::AllocError;
 use std::fs::FileType;
 use std::rt::Runtime;

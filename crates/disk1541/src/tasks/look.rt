@@ -1,10 +1,8 @@
 //! The commands that look into images: one image, several, or those of folders.
 use super::counts::Counts;
 use super::folders::Walk;
-use super::view::{Answer, Look, Shown, lines_of};
-use crate::failure::{Failure, in_memory, on_disk};
-use crate::host::{print, read_image};
-use crate::report::{heads, refusal_line};
+use disk_basics::{Failure, in_memory, on_disk, print, read_image};
+use disk_reports::{Answer, Look, Shown, heads, lines_of, refusal_line};
 use std::path::Path;
 use std::rt::Runtime;
 

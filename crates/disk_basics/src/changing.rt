@@ -1,0 +1,91 @@
+//! The calls of cbm_shell that make and change images. What they promise stands there, and isn't said again, so that no
+//! caller's proof carries it.
+ghost use Rattle.std.specs.Prelude.{◌≤◌, length};
+
+use cbm_shell::{Change, Form, Looks, Order, Records, ShellFault, Swap};
+use cbm_volume::FileType;
+use std::alloc::{AllocError, Global};
+
+/// The image after a change. Errors: `Image`, `Unsound`, `Refused`, `Memory`.
+pub fn change(alloc: Global, image: &[u8], change: &Change<'_>) -> Result<Vec<u8>, ShellFault> {
+    cbm_shell::change(alloc, image, change)
+}
+
+/// The image after several changes. Errors: `Image`, `Unsound`, `Refused`, `Memory`.
+pub fn changes(alloc: Global, image: &[u8], changes: &[Change<'_>]) -> Result<Vec<u8>, ShellFault> {
+    cbm_shell::changes(alloc, image, changes)
+}
+
+/// The image with a relative file. Errors: `Image`, `Unsound`, `Refused`, `Memory`.
+pub fn put_records(alloc: Global, image: &[u8], file: Records<'_>) -> Result<Vec<u8>, ShellFault> {
+    cbm_shell::put_records(alloc, image, file)
+}
+
+/// The image with a line of art in its directory; None where that is full. Errors: `Image`, `Unsound`, `Trouble`, `Memory`.
+pub fn add_art(alloc: Global, image: &[u8], looks: Looks<'_>) -> Result<Option<Vec<u8>>, ShellFault>
+    requires { length looks.name.now ≤ 16 }
+{
+    cbm_shell::add_art(alloc, image, looks)
+}
+
+/// The image whose entry in a slot looks so. Errors: `Image`, `Unsound`, `Trouble`, `Memory`.
+pub fn dress(alloc: Global, image: &[u8], slot: u8, looks: Looks<'_>) -> Result<Vec<u8>, ShellFault>
+    requires { length looks.name.now ≤ 16 }
+{
+    cbm_shell::dress(alloc, image, slot, looks)
+}
+
+/// The image without the entry of a slot, whose file is at fault; None where it isn't. Errors: `Image`, `Trouble`, `Memory`.
+pub fn forget(alloc: Global, image: &[u8], slot: u8) -> Result<Option<Vec<u8>>, ShellFault> {
+    cbm_shell::forget(alloc, image, slot)
+}
+
+/// The image with each file locked, or freed, that one of the patterns means. Errors: `Image`, `Unsound`, `Memory`.
+pub fn locks(
+    alloc: Global,
+    image: &[u8],
+    patterns: &[&[u8]],
+    is_locked: bool,
+) -> Result<Vec<u8>, ShellFault> {
+    cbm_shell::locks(alloc, image, patterns, is_locked)
+}
+
+/// The image with another title, of at most sixteen codes. Errors: `Image`, `Trouble`, `Memory`.
+pub fn retitle(alloc: Global, image: &[u8], title: &[u8]) -> Result<Vec<u8>, ShellFault>
+    requires { length title.now ≤ 16 }
+{
+    cbm_shell::retitle(alloc, image, title)
+}
+
+/// The image with entries that change places. Errors: `Image`, `Unsound`, `Trouble`, `Memory`.
+pub fn swap_entries(alloc: Global, image: &[u8], swaps: &[Swap]) -> Result<Vec<u8>, ShellFault> {
+    cbm_shell::swap_entries(alloc, image, swaps)
+}
+
+/// The image with the deleted file of a slot; None where its blocks aren't free. Errors: `Image`, `Unsound`, `Trouble`,
+/// `Memory`.
+pub fn undelete(
+    alloc: Global,
+    image: &[u8],
+    slot: u8,
+    kind: FileType,
+) -> Result<Option<Vec<u8>>, ShellFault> {
+    cbm_shell::undelete(alloc, image, slot, kind)
+}
+
+/// The image put in order, and what that gave back. Errors: `Image`, `Trouble`, `Memory`.
+pub fn validate(alloc: Global, image: &[u8]) -> Result<Order, ShellFault> {
+    cbm_shell::validate(alloc, image)
+}
+
+/// The image of an empty disk with a title of at most sixteen codes.
+pub fn new_image(
+    alloc: Global,
+    form: Form,
+    title: &[u8],
+    id: [u8; 2],
+) -> Result<Vec<u8>, AllocError>
+    requires { length title.now ≤ 16 }
+{
+    cbm_shell::new_image(alloc, form, title, id)
+}

@@ -1,0 +1,32 @@
+//! Formats of images.
+use crate::failure::Failure;
+use crate::word_fault::WordFault;
+use cbm_image::Kind;
+use cbm_shell::Form;
+use disk_facts::{kind_of_name, kind_of_word};
+
+/// The format of a new image: what `--format` says, or the ending of its name.
+pub fn format<'a>(image: &'a str, word: Option<&'a str>) -> Result<Kind, Failure<'a>> {
+    let (kind, name) = match word {
+        Some(word) => (kind_of_word(word), word),
+        None => (kind_of_name(image), image),
+    };
+    match kind {
+        Some(kind) => Ok(kind),
+        None => Err(Failure::Word(WordFault::Format(name))),
+    }
+}
+
+/// What a new image is.
+pub fn form<'a>(kind: Kind, tracks: &'a str) -> Result<Form, Failure<'a>> {
+    let is_long = tracks == "40";
+    if !is_long && tracks != "35" {
+        return Err(Failure::Word(WordFault::Tracks(tracks)));
+    }
+    match kind {
+        Kind::D64 if is_long => Ok(Form::LongD64),
+        Kind::D64 => Ok(Form::D64),
+        Kind::G64 if is_long => Err(Failure::Word(WordFault::LongG64)),
+        Kind::G64 => Ok(Form::G64),
+    }
+}

@@ -1,0 +1,70 @@
+//! Names on a disk and names of the host's files.
+use crate::calls::read_name;
+use crate::failure::Failure;
+use crate::host::is_standard;
+use crate::word_fault::WordFault;
+use cbm_shell::Charset;
+use std::alloc::Global;
+use std::path::Path;
+
+/// The most bytes of a name on a disk.
+const LONGEST: usize = 16;
+
+/// A name as PETSCII, as it is typed in a character set.
+pub fn petscii<'a>(alloc: Global, charset: Charset, name: &'a str) -> Result<Vec<u8>, Failure<'a>> {
+    match read_name(alloc, charset, name) {
+        Ok(Some(codes)) => Ok(codes),
+        Ok(None) => Err(Failure::Word(WordFault::Name(name))),
+        Err(_) => Err(Failure::NoMemory),
+    }
+}
+
+/// Whether a code divides the words of the drive's commands.
+fn divides(code: u8) -> bool {
+    matches!(code, b',' | b'=' | b':' | b'"')
+}
+
+/// Whether one of the codes does.
+fn is_divided(codes: &[u8]) -> bool {
+    for code in codes {
+        if divides(*code) {
+            return true;
+        }
+    }
+    false
+}
+
+/// Refuses codes that can't be the name of a file.
+pub fn require_name<'a>(name: &'a str, codes: &[u8]) -> Result<(), Failure<'a>> {
+    if codes.len() > LONGEST {
+        return Err(Failure::Word(WordFault::LongName(name)));
+    }
+    if is_divided(codes) {
+        return Err(Failure::Word(WordFault::Divided(name)));
+    }
+    Ok(())
+}
+
+/// The name of one file as PETSCII.
+pub fn file_name<'a>(
+    alloc: Global,
+    charset: Charset,
+    name: &'a str,
+) -> Result<Vec<u8>, Failure<'a>> {
+    let codes = petscii(alloc, charset, name)?;
+    require_name(name, codes.as_slice())?;
+    Ok(codes)
+}
+
+/// The name that a file of the host gets on a disk: without its folder and its ending.
+pub fn name_of_file<'a>(
+    alloc: Global,
+    charset: Charset,
+    file: &'a str,
+) -> Result<Vec<u8>, Failure<'a>> {
+    if is_standard(file) {
+        return Err(Failure::Word(WordFault::NoName));
+    }
+    let stem = Path::new(file).file_stem().unwrap_or(file);
+    file_name(alloc, charset, stem)
+}

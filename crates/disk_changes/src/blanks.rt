@@ -1,0 +1,85 @@
+//! NEW: an image of an empty disk.
+ghost use Rattle.std.specs.Prelude.{◌≤◌, length, IfOk};
+
+use cbm_shell::{Charset, Form};
+use disk_basics::{
+    Failure, WordFault, form, format, in_memory, new_image, petscii, require_new, write,
+};
+use host_files::Sync;
+use std::alloc::Global;
+use std::rt::Runtime;
+
+/// The most characters of a title.
+const LONGEST: usize = 16;
+
+/// An empty disk that is made.
+#[derive(Clone, Copy)]
+pub struct Blank<'a> {
+    /// Its title.
+    pub title: &'a str,
+    /// Its id.
+    pub id: &'a str,
+    /// How many tracks it has.
+    pub tracks: &'a str,
+    /// The word that tells the image's format.
+    pub format: Option<&'a str>,
+    /// An image that is there is replaced.
+    pub replaces: bool,
+    /// The character set of its title and its id.
+    pub charset: Charset,
+}
+
+/// The codes of a title.
+pub fn title_of<'a>(alloc: Global, charset: Charset, title: &'a str) -> Result<Vec<u8>, Failure<'a>>
+    ensures { IfOk result (λ v. length v.items ≤ 16) }
+{
+    let codes = petscii(alloc, charset, title)?;
+    if codes.len() > LONGEST {
+        return Err(Failure::Word(WordFault::Title(title)));
+    }
+    Ok(codes)
+}
+
+/// The two codes of an id.
+fn id_of<'a>(alloc: Global, charset: Charset, id: &'a str) -> Result<[u8; 2], Failure<'a>> {
+    match petscii(alloc, charset, id)?.as_slice() {
+        [first, second] => Ok([*first, *second]),
+        _ => Err(Failure::Word(WordFault::Id(id))),
+    }
+}
+
+/// The image of an empty disk with a title.
+fn titled<'a>(
+    alloc: Global,
+    blank: &Blank<'a>,
+    form: Form,
+    title: &[u8],
+) -> Result<Vec<u8>, Failure<'a>>
+    requires { length title.now ≤ 16 }
+{
+    let id = id_of(alloc, blank.charset, blank.id)?;
+    in_memory(new_image(alloc, form, title, id))
+}
+
+/// The image of an empty disk, for a name that may tell its format.
+pub fn blank_image<'a>(
+    alloc: Global,
+    image: &'a str,
+    blank: &Blank<'a>,
+) -> Result<Vec<u8>, Failure<'a>> {
+    let kind = format(image, blank.format)?;
+    let form = form(kind, blank.tracks)?;
+    let title = title_of(alloc, blank.charset, blank.title)?;
+    titled(alloc, blank, form, title.as_slice())
+}
+
+/// Makes an image of an empty disk, if nothing is there.
+pub fn make<'a, R: Runtime + AllocGlobal>(
+    rt: &R,
+    image: &'a str,
+    blank: &Blank<'a>,
+) -> Result<(), Failure<'a>> {
+    let bytes = blank_image(rt.alloc(), image, blank)?;
+    require_new(rt, image, blank.replaces)?;
+    write(rt, image, bytes.as_slice(), Sync::Before)
+}

@@ -1,0 +1,128 @@
+//! BUILD: an image of the disk that a recipe describes.
+mod bench;
+mod lines;
+mod ordered;
+
+use self::bench::{Bench, told};
+use self::lines::with_lines;
+use crate::blanks::{Blank, blank_image};
+use cbm_shell::Charset;
+use disk_basics::{Failure, WordFault, read_file, require_new, write};
+use disk_facts::is_image_name;
+use disk_recipes::{Recipe, RecipeFault, read_recipe};
+use host_files::Sync;
+use std::path::Path;
+use std::rt::Runtime;
+
+/// An image that is built.
+#[derive(Clone, Copy)]
+pub struct Build<'a> {
+    /// The file of the recipe.
+    pub recipe: &'a str,
+    /// The image.
+    pub image: &'a str,
+    /// An image that is there is replaced.
+    pub replaces: bool,
+    /// The character set of names.
+    pub charset: Charset,
+}
+
+/// The recipe of a text; what is wrong with it is told.
+fn recipe_in<'a, R: Runtime + AllocGlobal>(
+    rt: &R,
+    name: &'a str,
+    text: &str,
+) -> Result<Recipe, Failure<'a>> {
+    match read_recipe(rt.alloc(), text) {
+        Ok(recipe) => Ok(recipe),
+        Err(RecipeFault::Memory) => Err(Failure::NoMemory),
+        Err(fault) => {
+            let _ = eprint!(rt; "disk1541: {name}: {fault}");
+            Err(Failure::Word(WordFault::Recipe(name)))
+        }
+    }
+}
+
+/// Reads a recipe.
+fn recipe_of<'a, R: Runtime + AllocGlobal>(rt: &R, name: &'a str) -> Result<Recipe, Failure<'a>> {
+    let bytes = read_file(rt, name)?;
+    match std::str::from_utf8(bytes.as_slice()) {
+        Ok(text) => recipe_in(rt, name, text),
+        Err(_) => Err(Failure::Word(WordFault::Recipe(name))),
+    }
+}
+
+/// How many tracks a recipe asks for.
+fn tracks_of(recipe: &Recipe) -> &'static str {
+    match recipe.tracks {
+        None | Some(35) => "35",
+        Some(40) => "40",
+        Some(_) => "that many",
+    }
+}
+
+/// The word for the format, where the image's name doesn't tell it.
+fn format_of<'r>(recipe: &'r Recipe, image: &str) -> Option<&'r str> {
+    match &recipe.format {
+        Some(format) if !is_image_name(image) => Some(format.as_str()),
+        _ => None,
+    }
+}
+
+/// The empty disk of a recipe.
+fn blank_of<'r>(recipe: &'r Recipe, image: &str, charset: Charset) -> Blank<'r> {
+    Blank {
+        title: recipe.title.as_str(),
+        id: recipe.id.as_str(),
+        tracks: tracks_of(recipe),
+        format: format_of(recipe, image),
+        replaces: true,
+        charset,
+    }
+}
+
+/// The folder of a recipe, from which its files are named; none for standard input.
+fn folder_of(recipe: &str) -> &str {
+    match Path::new(recipe).parent() {
+        Some(folder) => folder.as_str(),
+        None => "",
+    }
+}
+
+/// The image of the disk that a recipe describes, whose files are in a folder.
+fn built<'r, R: Runtime + AllocGlobal>(
+    rt: &R,
+    recipe: &'r Recipe,
+    image: &'r str,
+    folder: &'r str,
+    charset: Charset,
+) -> Result<Vec<u8>, Failure<'r>> {
+    let blank = blank_image(rt.alloc(), image, &blank_of(recipe, image, charset))?;
+    let bench = Bench {
+        image,
+        folder,
+        charset,
+    };
+    with_lines(rt, bench, recipe.lines.as_slice(), blank)
+}
+
+/// The image of the disk that a recipe describes; what is wrong with its lines is told.
+fn built_of<'a, R: Runtime + AllocGlobal>(
+    rt: &R,
+    build: &Build<'a>,
+) -> Result<Vec<u8>, Failure<'a>> {
+    let recipe = recipe_of(rt, build.recipe)?;
+    let folder = folder_of(build.recipe);
+    let made = built(rt, &recipe, build.image, folder, build.charset);
+    told(rt, made)
+}
+
+/// Builds an image, all of it or nothing.
+pub fn build_image<'a, R: Runtime + AllocGlobal>(
+    rt: &R,
+    build: &Build<'a>,
+) -> Result<(), Failure<'a>> {
+    require_new(rt, build.image, build.replaces)?;
+    let image = built_of(rt, build)?;
+    write(rt, build.image, image.as_slice(), Sync::Before)
+}

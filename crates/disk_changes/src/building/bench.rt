@@ -1,0 +1,56 @@
+//! What the lines of a recipe are built with.
+use cbm_shell::Charset;
+use disk_basics::{Failure, WordFault, in_memory, petscii, read_file};
+use std::path::Path;
+use std::rt::Runtime;
+
+/// The most bytes of a name on a disk.
+const LONGEST: usize = 16;
+
+/// The image that is built, where its files are, and the character set of its names.
+#[derive(Clone, Copy)]
+pub struct Bench<'r> {
+    /// The image.
+    pub image: &'r str,
+    /// The folder of its files.
+    pub folder: &'r str,
+    /// The character set of its names.
+    pub charset: Charset,
+}
+
+/// What was made; a failure is told, as what it names doesn't last.
+pub fn told<'a, 'b, R: Runtime + AllocGlobal, T>(
+    rt: &R,
+    made: Result<T, Failure<'b>>,
+) -> Result<T, Failure<'a>> {
+    match made {
+        Ok(value) => Ok(value),
+        Err(failure) => {
+            let _ = failure.tell(rt);
+            Err(Failure::Ended(failure.status()))
+        }
+    }
+}
+
+/// Reads a file that a recipe names.
+pub fn read_beside<'a, R: Runtime + AllocGlobal>(
+    rt: &R,
+    folder: &str,
+    file: &str,
+) -> Result<Vec<u8>, Failure<'a>> {
+    let path = in_memory(Path::new(folder).join(rt.alloc(), file))?;
+    told(rt, read_file(rt, path.as_path().as_str()))
+}
+
+/// A name of at most sixteen codes, whatever they are.
+pub fn any_name<'r, R: Runtime + AllocGlobal>(
+    rt: &R,
+    charset: Charset,
+    name: &'r str,
+) -> Result<Vec<u8>, Failure<'r>> {
+    let codes = petscii(rt.alloc(), charset, name)?;
+    if codes.len() > LONGEST {
+        return Err(Failure::Word(WordFault::LongName(name)));
+    }
+    Ok(codes)
+}

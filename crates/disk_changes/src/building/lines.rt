@@ -1,0 +1,229 @@
+//! The lines of a recipe: files first, each by the drive's own calls, then lines of art, then their order.
+ghost use Rattle.std.specs.Prelude.{◌≤◌, length};
+
+use super::bench::{Bench, any_name, read_beside};
+use super::ordered::ordered;
+use crate::putting::{Body, body_of};
+use crate::stored::{Stored, with_stored};
+use cbm_channel::{Code, Status};
+use cbm_shell::{Looks, ShellFault};
+use disk_basics::{
+    Failure, WordFault, add_art, dress, entries, in_memory, kind_of_file, name_of_file, on_disk,
+};
+use disk_recipes::Line;
+use std::alloc::Global;
+use std::rt::Runtime;
+
+/// The name under which a file is put before it gets its own, which may be one that no command can say.
+const FOR_NOW: &[u8] = b"\x01\x02\x03";
+
+/// A text that may be missing.
+fn option(text: &Option<String>) -> Option<&str> {
+    match text {
+        Some(text) => Some(text.as_str()),
+        None => None,
+    }
+}
+
+/// The name of a file on the disk: what its line says, what its own bytes say, or one made of the host's file.
+fn name_of<'r, R: Runtime + AllocGlobal>(
+    rt: &R,
+    bench: Bench<'r>,
+    line: &'r Line,
+    file: &'r str,
+    body: Body<'_>,
+) -> Result<Vec<u8>, Failure<'r>> {
+    match (option(&line.name), body.name) {
+        (Some(name), _) => any_name(rt, bench.charset, name),
+        (None, Some(codes)) => in_memory(Vec::from_slice(rt.alloc(), codes)),
+        (None, None) => name_of_file(rt.alloc(), bench.charset, file),
+    }
+}
+
+/// A name of at most sixteen codes, as all are here.
+fn sixteen(name: &[u8]) -> &[u8]
+    ensures { length result.now ≤ 16 }
+{
+    if name.len() > 16 {
+        return &[];
+    }
+    name
+}
+
+/// The number of blocks that the entry of a slot shows.
+fn blocks_at(alloc: std::alloc::Global, image: &[u8], slot: u8) -> Result<u16, ShellFault> {
+    let entries = entries(alloc, image)?;
+    match entries.as_slice().get(usize::from(slot)) {
+        Some(entry) => Ok(entry.blocks()),
+        None => Err(ShellFault::NotFound),
+    }
+}
+
+/// The image whose file in a slot looks as its line says.
+fn dressed<'r, R: Runtime + AllocGlobal>(
+    rt: &R,
+    bench: Bench<'r>,
+    image: &[u8],
+    slot: u8,
+    line: &Line,
+    name: &[u8],
+) -> Result<Vec<u8>, Failure<'r>> {
+    let blocks = match line.blocks {
+        Some(blocks) => blocks,
+        None => on_disk(bench.image, blocks_at(rt.alloc(), image, slot))?,
+    };
+    let looks = Looks {
+        name: sixteen(name),
+        blocks,
+        is_locked: line.locked == Some(true),
+    };
+    on_disk(bench.image, dress(rt.alloc(), image, slot, looks))
+}
+
+/// The length of the records of a line's file, if that is known.
+fn record_of(line: &Line, body: Body<'_>) -> Option<u8> {
+    match line.record {
+        Some(length) => Some(length),
+        None => body.record,
+    }
+}
+
+/// The image with a file in the next slot, under its own name, which looks as its line says.
+fn with_put<'r, R: Runtime + AllocGlobal>(
+    rt: &R,
+    bench: Bench<'r>,
+    old: &[u8],
+    slot: u8,
+    line: &Line,
+    name: &[u8],
+    put: &Stored<'_>,
+) -> Result<Vec<u8>, Failure<'r>> {
+    let new = with_stored(rt.alloc(), bench.image, old, put)?;
+    dressed(rt, bench, new.as_slice(), slot, line, name)
+}
+
+/// The image with the file of a line in the next slot.
+fn with_body<'r, R: Runtime + AllocGlobal>(
+    rt: &R,
+    bench: Bench<'r>,
+    old: &[u8],
+    slot: u8,
+    line: &'r Line,
+    file: &'r str,
+    body: Body<'_>,
+) -> Result<Vec<u8>, Failure<'r>> {
+    let put = Stored {
+        name: FOR_NOW,
+        kind: kind_of_file(option(&line.kind), file)?,
+        record: record_of(line, body),
+        replaces: false,
+        bytes: body.bytes,
+    };
+    let name = name_of(rt, bench, line, file, body)?;
+    with_put(rt, bench, old, slot, line, name.as_slice(), &put)
+}
+
+/// The image with the file of a line in the next slot, read from this computer.
+fn with_file<'r, R: Runtime + AllocGlobal>(
+    rt: &R,
+    bench: Bench<'r>,
+    old: &[u8],
+    slot: u8,
+    line: &'r Line,
+    file: &'r str,
+) -> Result<Vec<u8>, Failure<'r>> {
+    let bytes = read_beside(rt, bench.folder, file)?;
+    with_body(
+        rt,
+        bench,
+        old,
+        slot,
+        line,
+        file,
+        body_of(file, bytes.as_slice()),
+    )
+}
+
+/// The image with a line of art in the next slot.
+fn with_art<'r, R: Runtime + AllocGlobal>(
+    rt: &R,
+    bench: Bench<'r>,
+    old: &[u8],
+    line: &Line,
+    art: &'r str,
+) -> Result<Vec<u8>, Failure<'r>> {
+    let name = any_name(rt, bench.charset, art)?;
+    let looks = Looks {
+        name: sixteen(name.as_slice()),
+        blocks: line.blocks.unwrap_or(0),
+        is_locked: line.locked == Some(true),
+    };
+    match on_disk(bench.image, add_art(rt.alloc(), old, looks))? {
+        Some(new) => Ok(new),
+        None => Err(Failure::Disk(
+            bench.image,
+            ShellFault::Refused(Status {
+                code: Code::DiskFull,
+                first: 0,
+                second: 0,
+            }),
+        )),
+    }
+}
+
+/// The image with all files.
+fn with_files<'r, R: Runtime + AllocGlobal>(
+    rt: &R,
+    bench: Bench<'r>,
+    lines: &'r [Line],
+    blank: Vec<u8>,
+) -> Result<Vec<u8>, Failure<'r>> {
+    let mut image = blank;
+    let mut slot: u8 = 0;
+    for line in lines {
+        if let Some(file) = option(&line.file) {
+            image = with_file(rt, bench, image.as_slice(), slot, line, file)?;
+            slot = slot.saturating_add(1);
+        }
+    }
+    Ok(image)
+}
+
+/// The image with all lines of art.
+fn with_arts<'r, R: Runtime + AllocGlobal>(
+    rt: &R,
+    bench: Bench<'r>,
+    lines: &'r [Line],
+    filled: Vec<u8>,
+) -> Result<Vec<u8>, Failure<'r>> {
+    let mut image = filled;
+    for line in lines {
+        if let Some(art) = option(&line.art) {
+            image = with_art(rt, bench, image.as_slice(), line, art)?;
+        }
+    }
+    Ok(image)
+}
+
+/// Refuses a line that is no file and no art, or both.
+fn require_lines<'a>(lines: &[Line]) -> Result<(), Failure<'a>> {
+    for line in lines {
+        if line.file.is_some() == line.art.is_some() {
+            return Err(Failure::Word(WordFault::Line));
+        }
+    }
+    Ok(())
+}
+
+/// The image with the lines of a recipe in their order.
+pub fn with_lines<'r, R: Runtime + AllocGlobal>(
+    rt: &R,
+    bench: Bench<'r>,
+    lines: &'r [Line],
+    blank: Vec<u8>,
+) -> Result<Vec<u8>, Failure<'r>> {
+    require_lines(lines)?;
+    let filled = with_files(rt, bench, lines, blank)?;
+    let whole = with_arts(rt, bench, lines, filled)?;
+    ordered(rt.alloc(), bench.image, lines, whole.as_slice())
+}

@@ -1,0 +1,86 @@
+//! Changes of an image.
+use crate::locking::{locked_all, retitled};
+use cbm_shell::{Change, Charset};
+use disk_basics::{Failure, change, in_memory, joined, on_disk, petscii, read_image, replace};
+use std::alloc::Global;
+use std::rt::Runtime;
+
+/// What is done with the disk of an image.
+#[derive(Clone, Copy)]
+pub enum Edit<'a, 'c> {
+    /// A change by the drive's own commands.
+    Change(Change<'c>),
+    /// The files that match the patterns are deleted.
+    Delete(&'c [&'a str], Charset),
+    /// The files that match the patterns are locked, or freed.
+    Lock(&'c [&'a str], Charset, bool),
+    /// The disk gets another title.
+    Title(&'a str, Charset),
+}
+
+/// The drive's command that deletes the files of a pattern, with its return, as a name may end with one.
+fn text_of<'a>(alloc: Global, charset: Charset, pattern: &'a str) -> Result<Vec<u8>, Failure<'a>> {
+    let codes = petscii(alloc, charset, pattern)?;
+    joined(alloc, &[b"S0:", codes.as_slice(), b"\r"])
+}
+
+/// The image without the files that match. Where none does, or those are locked, the drive changes nothing; that is
+/// told, and the image isn't saved anew.
+fn deleted<'a>(
+    alloc: Global,
+    image: &'a str,
+    bytes: &[u8],
+    charset: Charset,
+    pattern: &'a str,
+) -> Result<Vec<u8>, Failure<'a>> {
+    let text = text_of(alloc, charset, pattern)?;
+    let command = Change::Command(text.as_slice());
+    let changed = on_disk(image, change(alloc, bytes, &command))?;
+    if changed.as_slice() == bytes {
+        return Err(Failure::NoneDeleted(pattern));
+    }
+    Ok(changed)
+}
+
+/// The image without the files that match one of the patterns.
+fn deleted_all<'a>(
+    alloc: Global,
+    image: &'a str,
+    bytes: &[u8],
+    charset: Charset,
+    patterns: &[&'a str],
+) -> Result<Vec<u8>, Failure<'a>> {
+    let mut new = in_memory(Vec::from_slice(alloc, bytes))?;
+    for pattern in patterns {
+        new = deleted(alloc, image, new.as_slice(), charset, *pattern)?;
+    }
+    Ok(new)
+}
+
+/// The new image.
+fn edited<'a>(
+    alloc: Global,
+    image: &'a str,
+    bytes: &[u8],
+    edit: &Edit<'a, '_>,
+) -> Result<Vec<u8>, Failure<'a>> {
+    match edit {
+        Edit::Change(made) => on_disk(image, change(alloc, bytes, made)),
+        Edit::Delete(patterns, charset) => deleted_all(alloc, image, bytes, *charset, *patterns),
+        Edit::Lock(patterns, charset, is_locked) => {
+            locked_all(alloc, image, bytes, *charset, *patterns, *is_locked)
+        }
+        Edit::Title(title, charset) => retitled(alloc, image, bytes, *charset, *title),
+    }
+}
+
+/// Edits an image, and saves it.
+pub fn save_edit<'a, R: Runtime + AllocGlobal>(
+    rt: &R,
+    image: &'a str,
+    edit: &Edit<'a, '_>,
+) -> Result<(), Failure<'a>> {
+    let old = read_image(rt, image)?;
+    let new = edited(rt.alloc(), image, old.as_slice(), edit)?;
+    replace(rt, image, old.as_slice(), new.as_slice())
+}

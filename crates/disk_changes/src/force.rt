@@ -1,0 +1,132 @@
+//! DELETE --FORCE: files at fault out of the directory of a disk that isn't sound.
+use cbm_shell::{Charset, DiskFlaw, ShellFault};
+use cbm_volume::Entry;
+use disk_basics::{
+    Disk, Failure, check, forget, in_memory, is_mendable, on_disk, petscii, read_image, replace,
+    slots_of,
+};
+use disk_facts::is_meant;
+use std::alloc::Global;
+use std::rt::Runtime;
+
+/// The most files of a disk.
+const FILES: u8 = 144;
+
+/// The first of these slots whose file is meant.
+fn meant_among(entries: &[Entry], slots: &[usize], pattern: &[u8]) -> Option<usize> {
+    for slot in slots {
+        match entries.get(*slot) {
+            Some(entry) if is_meant(entry, pattern) => return Some(*slot),
+            _ => {}
+        }
+    }
+    None
+}
+
+/// The slot of the first file that has one of these flaws and is meant.
+fn meant_at_fault(
+    alloc: Global,
+    disk: &Disk,
+    flaws: &[DiskFlaw],
+    pattern: &[u8],
+) -> Result<Option<usize>, ShellFault> {
+    let entries = disk.entries(alloc)?;
+    for flaw in flaws {
+        if !is_mendable(flaw) {
+            let slots = slots_of(alloc, disk, flaw)?;
+            let meant = meant_among(entries.as_slice(), slots.as_slice(), pattern);
+            if meant.is_some() {
+                return Ok(meant);
+            }
+        }
+    }
+    Ok(None)
+}
+
+/// The slot of the first file at fault that a pattern means.
+fn slot_at_fault(alloc: Global, bytes: &[u8], pattern: &[u8]) -> Result<Option<usize>, ShellFault> {
+    let disk = Disk::open(alloc, bytes)?;
+    let flaws = disk.flaws(alloc)?;
+    meant_at_fault(alloc, &disk, flaws.as_slice(), pattern)
+}
+
+/// The image without the first file at fault that a pattern means; None where none is.
+fn without_one(alloc: Global, bytes: &[u8], pattern: &[u8]) -> Result<Option<Vec<u8>>, ShellFault> {
+    let Some(slot) = slot_at_fault(alloc, bytes, pattern)? else {
+        return Ok(None);
+    };
+    match u8::try_from(slot) {
+        Ok(slot) => forget(alloc, bytes, slot),
+        Err(_) => Ok(None),
+    }
+}
+
+/// The image without the files at fault that a pattern means.
+fn without_meant(
+    alloc: Global,
+    bytes: &[u8],
+    pattern: &[u8],
+) -> Result<Option<Vec<u8>>, ShellFault> {
+    let mut new = without_one(alloc, bytes, pattern)?;
+    for _ in 0..FILES {
+        let Some(now) = &new else {
+            return Ok(new);
+        };
+        match without_one(alloc, now.as_slice(), pattern)? {
+            Some(next) => new = Some(next),
+            None => return Ok(new),
+        }
+    }
+    Ok(new)
+}
+
+/// The image without the files at fault that a word means.
+fn without_word<'a>(
+    alloc: Global,
+    image: &'a str,
+    bytes: &[u8],
+    charset: Charset,
+    word: &'a str,
+) -> Result<Vec<u8>, Failure<'a>> {
+    let pattern = petscii(alloc, charset, word)?;
+    match on_disk(image, without_meant(alloc, bytes, pattern.as_slice()))? {
+        Some(new) => Ok(new),
+        None => Err(Failure::NoneAtFault(word)),
+    }
+}
+
+/// The image without the files at fault that the words mean.
+fn without_words<'a>(
+    alloc: Global,
+    image: &'a str,
+    bytes: &[u8],
+    charset: Charset,
+    words: &[&'a str],
+) -> Result<Vec<u8>, Failure<'a>> {
+    let mut new = in_memory(Vec::from_slice(alloc, bytes))?;
+    for word in words {
+        new = without_word(alloc, image, new.as_slice(), charset, *word)?;
+    }
+    Ok(new)
+}
+
+/// Refuses a disk that is sound.
+fn require_unsound<'a>(alloc: Global, image: &'a str, bytes: &[u8]) -> Result<(), Failure<'a>> {
+    match on_disk(image, check(alloc, bytes))? {
+        Ok(()) => Err(Failure::IsSound(image)),
+        Err(_) => Ok(()),
+    }
+}
+
+/// Takes the files at fault that the words mean out of the directory of an image, and saves it.
+pub fn delete_at_fault<'a, R: Runtime + AllocGlobal>(
+    rt: &R,
+    image: &'a str,
+    words: &[&'a str],
+    charset: Charset,
+) -> Result<(), Failure<'a>> {
+    let old = read_image(rt, image)?;
+    require_unsound(rt.alloc(), image, old.as_slice())?;
+    let new = without_words(rt.alloc(), image, old.as_slice(), charset, words)?;
+    replace(rt, image, old.as_slice(), new.as_slice())
+}

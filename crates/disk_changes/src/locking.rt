@@ -1,0 +1,94 @@
+//! LOCK, UNLOCK and TITLE.
+use crate::blanks::title_of;
+use cbm_shell::Charset;
+use cbm_volume::Entry;
+use disk_basics::{Failure, entries, in_memory, locks, on_disk, petscii, retitle};
+use disk_facts::first_meant;
+use std::alloc::{AllocError, Global};
+
+/// The pattern of a word. Refuses one that means no file.
+fn pattern_of<'a>(
+    alloc: Global,
+    entries: &[Entry],
+    charset: Charset,
+    word: &'a str,
+) -> Result<Vec<u8>, Failure<'a>> {
+    let pattern = petscii(alloc, charset, word)?;
+    if first_meant(entries, pattern.as_slice()).is_some() {
+        return Ok(pattern);
+    }
+    Err(Failure::NoMatch)
+}
+
+/// The patterns of words, of which each means a file.
+fn patterns_of<'a>(
+    alloc: Global,
+    entries: &[Entry],
+    charset: Charset,
+    words: &[&'a str],
+) -> Result<Vec<Vec<u8>>, Failure<'a>> {
+    let mut patterns = Vec::new(alloc);
+    for word in words {
+        let pattern = pattern_of(alloc, entries, charset, *word)?;
+        in_memory(patterns.push(pattern).map_err(AllocError::from))?;
+    }
+    Ok(patterns)
+}
+
+/// The same by the directory of an image.
+fn patterns_on<'a>(
+    alloc: Global,
+    image: &'a str,
+    bytes: &[u8],
+    charset: Charset,
+    words: &[&'a str],
+) -> Result<Vec<Vec<u8>>, Failure<'a>> {
+    let entries = on_disk(image, entries(alloc, bytes))?;
+    patterns_of(alloc, entries.as_slice(), charset, words)
+}
+
+/// The bytes of each pattern.
+fn slices_of<'a>(alloc: Global, patterns: &'a [Vec<u8>]) -> Result<Vec<&'a [u8]>, AllocError> {
+    let mut slices = Vec::new(alloc);
+    for pattern in patterns {
+        slices.push(pattern.as_slice())?;
+    }
+    Ok(slices)
+}
+
+/// The image with each file locked, or freed, that one of the patterns means.
+fn locked_by<'a>(
+    alloc: Global,
+    image: &'a str,
+    bytes: &[u8],
+    patterns: &[Vec<u8>],
+    is_locked: bool,
+) -> Result<Vec<u8>, Failure<'a>> {
+    let slices = in_memory(slices_of(alloc, patterns))?;
+    on_disk(image, locks(alloc, bytes, slices.as_slice(), is_locked))
+}
+
+/// The image with each file locked, or freed, that one of the words means.
+pub fn locked_all<'a>(
+    alloc: Global,
+    image: &'a str,
+    bytes: &[u8],
+    charset: Charset,
+    words: &[&'a str],
+    is_locked: bool,
+) -> Result<Vec<u8>, Failure<'a>> {
+    let patterns = patterns_on(alloc, image, bytes, charset, words)?;
+    locked_by(alloc, image, bytes, patterns.as_slice(), is_locked)
+}
+
+/// The image with another title.
+pub fn retitled<'a>(
+    alloc: Global,
+    image: &'a str,
+    bytes: &[u8],
+    charset: Charset,
+    title: &'a str,
+) -> Result<Vec<u8>, Failure<'a>> {
+    let title = title_of(alloc, charset, title)?;
+    on_disk(image, retitle(alloc, bytes, title.as_slice()))
+}

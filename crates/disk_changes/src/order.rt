@@ -1,0 +1,80 @@
+//! VALIDATE: the disk in order, unless GEOS uses blocks that it would give back.
+use crate::plan::plan_of;
+use cbm_shell::{Order, ShellFault};
+use disk_basics::{Failure, on_disk, print, read_image, replace, validate};
+use std::rt::Runtime;
+
+/// How a disk is put in order.
+#[derive(Clone, Copy)]
+pub struct Ordering {
+    /// It is told what would go, and nothing is changed.
+    pub is_dry: bool,
+    /// Blocks that GEOS uses are given back, too.
+    pub is_forced: bool,
+}
+
+/// Whether a disk isn't put in order.
+fn is_refused(order: &Order, ordering: Ordering) -> bool {
+    order.freed.takes_geos && !ordering.is_forced
+}
+
+/// What there is to say of a refusal.
+fn refusal<'a>(image: &'a str, order: &Order, ordering: Ordering) -> Result<(), Failure<'a>> {
+    if is_refused(order, ordering) {
+        return Err(Failure::Geos(image));
+    }
+    Ok(())
+}
+
+/// Tells what would go, and whether the command is refused.
+fn tell_plan<'a, R: Runtime + AllocGlobal>(
+    rt: &R,
+    image: &'a str,
+    old: &[u8],
+    order: &Order,
+    ordering: Ordering,
+) -> Result<(), Failure<'a>> {
+    let plan = on_disk(
+        image,
+        plan_of(rt.alloc(), old, order, is_refused(order, ordering)),
+    )?;
+    if ordering.is_dry {
+        print(rt, plan.as_bytes())?;
+    } else {
+        let _ = eprint!(rt; "{plan}");
+    }
+    refusal(image, order, ordering)
+}
+
+/// Saves the disk that was put in order, or tells what would go.
+fn save_order<'a, R: Runtime + AllocGlobal>(
+    rt: &R,
+    image: &'a str,
+    old: &[u8],
+    order: &Order,
+    ordering: Ordering,
+) -> Result<(), Failure<'a>> {
+    if ordering.is_dry || is_refused(order, ordering) {
+        return tell_plan(rt, image, old, order, ordering);
+    }
+    replace(rt, image, old, order.image.as_slice())
+}
+
+/// What putting a disk in order came to.
+fn ordered<'a>(image: &'a str, order: Result<Order, ShellFault>) -> Result<Order, Failure<'a>> {
+    match order {
+        Err(ShellFault::Trouble(trouble)) => Err(Failure::Unmendable(image, trouble)),
+        _ => on_disk(image, order),
+    }
+}
+
+/// Puts the disk of an image in order, and saves it.
+pub fn put_in_order<'a, R: Runtime + AllocGlobal>(
+    rt: &R,
+    image: &'a str,
+    ordering: Ordering,
+) -> Result<(), Failure<'a>> {
+    let old = read_image(rt, image)?;
+    let order = ordered(image, validate(rt.alloc(), old.as_slice()))?;
+    save_order(rt, image, old.as_slice(), &order, ordering)
+}

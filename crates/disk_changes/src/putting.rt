@@ -1,0 +1,335 @@
+//! PUT: files of the host into the image.
+use crate::stored::{Stored, open_text, with_stored};
+use cbm_shell::{Change, Charset, unwrapped};
+use disk_basics::{
+    Failure, FileKind, WordFault, changes, file_name, in_memory, is_standard, is_wrapped_name,
+    kind_of_file, name_of_file, on_disk, read_file, read_image, replace, require_name,
+};
+use std::alloc::{AllocError, Global};
+use std::rt::Runtime;
+
+/// How files of the host are put on the disk.
+#[derive(Clone, Copy)]
+pub struct HostFiles<'a> {
+    /// The name on the disk, if that isn't made of where the file is.
+    pub name: Option<&'a str>,
+    /// The type on the disk, if the ending of the name doesn't say it.
+    pub kind: Option<&'a str>,
+    /// The length of the records of relative files, as it was typed.
+    pub record: Option<&'a str>,
+    /// Files of the disk that have the names are replaced.
+    pub replaces: bool,
+    /// The character set of names.
+    pub charset: Charset,
+}
+
+/// What is put on the disk of a file: its bytes, and the name and the length of records that they tell.
+#[derive(Clone, Copy)]
+pub struct Body<'b> {
+    /// The name.
+    pub name: Option<&'b [u8]>,
+    /// The length of its records.
+    pub record: Option<u8>,
+    /// The bytes.
+    pub bytes: &'b [u8],
+}
+
+/// What is put on the disk of a file's bytes.
+pub fn body_of<'b>(file: &str, bytes: &'b [u8]) -> Body<'b> {
+    match unwrapped(bytes) {
+        Some(wrapped) if is_wrapped_name(file) => Body {
+            name: Some(wrapped.name),
+            record: Some(wrapped.record_length),
+            bytes: wrapped.bytes,
+        },
+        _ => Body {
+            name: None,
+            record: None,
+            bytes,
+        },
+    }
+}
+
+/// The name that a file's own bytes tell.
+fn told_name<'a>(alloc: Global, file: &'a str, codes: &[u8]) -> Result<Vec<u8>, Failure<'a>> {
+    require_name(file, codes)?;
+    in_memory(Vec::from_slice(alloc, codes))
+}
+
+/// A file's name on the disk.
+fn name_of<'a>(
+    alloc: Global,
+    file: &'a str,
+    put: &HostFiles<'a>,
+    told: Option<&[u8]>,
+) -> Result<Vec<u8>, Failure<'a>> {
+    match (put.name, told) {
+        (Some(name), _) => file_name(alloc, put.charset, name),
+        (None, Some(codes)) => told_name(alloc, file, codes),
+        (None, None) => name_of_file(alloc, put.charset, file),
+    }
+}
+
+/// The length of records of a word.
+fn record_of(word: &str) -> Result<u8, Failure<'_>> {
+    match word.parse::<u8>() {
+        Ok(length @ 1..=254) => Ok(length),
+        _ => Err(Failure::Word(WordFault::RecordLength(word))),
+    }
+}
+
+/// The length of a file's records, if that is known.
+fn record<'a>(put: &HostFiles<'a>, body: Body<'_>) -> Result<Option<u8>, Failure<'a>> {
+    match put.record {
+        Some(word) => Ok(Some(record_of(word)?)),
+        None => Ok(body.record),
+    }
+}
+
+/// The image with the file of these bytes on it.
+fn put_body<'a>(
+    alloc: Global,
+    image: &'a str,
+    old: &[u8],
+    file: &'a str,
+    put: &HostFiles<'a>,
+    body: Body<'_>,
+) -> Result<Vec<u8>, Failure<'a>> {
+    let kind = kind_of_file(put.kind, file)?;
+    let record = record(put, body)?;
+    let name = name_of(alloc, file, put, body.name)?;
+    let file = Stored {
+        name: name.as_slice(),
+        kind,
+        record,
+        replaces: put.replaces,
+        bytes: body.bytes,
+    };
+    with_stored(alloc, image, old, &file)
+}
+
+/// The image with a file on it.
+fn put_one<'a, R: Runtime + AllocGlobal>(
+    rt: &R,
+    image: &'a str,
+    old: &[u8],
+    file: &'a str,
+    put: &HostFiles<'a>,
+) -> Result<Vec<u8>, Failure<'a>> {
+    let bytes = read_file(rt, file)?;
+    let body = body_of(file, bytes.as_slice());
+    put_body(rt.alloc(), image, old, file, put, body)
+}
+
+/// The image with one of several files on it. The one that can't be put is told, as none is put then.
+fn put_among<'a, R: Runtime + AllocGlobal>(
+    rt: &R,
+    image: &'a str,
+    old: &[u8],
+    file: &'a str,
+    put: &HostFiles<'a>,
+) -> Result<Vec<u8>, Failure<'a>> {
+    let new = put_one(rt, image, old, file, put);
+    if new.is_err() {
+        tell_first(rt, file);
+    }
+    new
+}
+
+/// A file of bytes one after another, with the text of its OPEN; the first of its bytes may be no part of what is put.
+#[derive(Drop)]
+struct Loaded<'a> {
+    file: &'a str,
+    text: Vec<u8>,
+    bytes: Vec<u8>,
+    head: usize,
+}
+
+/// The end of the text of the OPEN that writes a file of bytes; none where the file isn't one.
+fn end_of(put: &HostFiles<'_>, file: &str) -> Option<&'static [u8]> {
+    match kind_of_file(put.kind, file) {
+        Ok(FileKind::Plain(end)) => Some(end),
+        _ => None,
+    }
+}
+
+/// Whether all files are files of bytes.
+fn are_plain(files: &[&str], put: &HostFiles<'_>) -> bool {
+    for file in files {
+        if end_of(put, *file).is_none() {
+            return false;
+        }
+    }
+    true
+}
+
+/// The text of the OPEN that writes one of several files.
+fn text_for<'a>(
+    alloc: Global,
+    file: &'a str,
+    put: &HostFiles<'a>,
+    told: Option<&[u8]>,
+    end: &[u8],
+) -> Result<Vec<u8>, Failure<'a>> {
+    let name = name_of(alloc, file, put, told)?;
+    open_text(alloc, name.as_slice(), put.replaces, end)
+}
+
+/// One of several files.
+fn load_one<'a, R: Runtime + AllocGlobal>(
+    rt: &R,
+    file: &'a str,
+    put: &HostFiles<'a>,
+    end: &[u8],
+) -> Result<Loaded<'a>, Failure<'a>> {
+    let bytes = read_file(rt, file)?;
+    let body = body_of(file, bytes.as_slice());
+    let head = bytes.len().saturating_sub(body.bytes.len());
+    let text = text_for(rt.alloc(), file, put, body.name, end)?;
+    Ok(Loaded {
+        file,
+        text,
+        bytes,
+        head,
+    })
+}
+
+/// Reports which of several files can't be put, as none is put then.
+fn tell_first(rt: &impl Eprint, file: &str) {
+    let _ = eprintln!(rt; "disk1541: {file} can't be put, and so none of the files is");
+}
+
+/// Several files of bytes.
+fn load_all<'a, R: Runtime + AllocGlobal>(
+    rt: &R,
+    files: &[&'a str],
+    put: &HostFiles<'a>,
+) -> Result<Vec<Loaded<'a>>, Failure<'a>> {
+    let mut all = Vec::new(rt.alloc());
+    for file in files {
+        let end = end_of(put, *file).unwrap_or(&[]);
+        let one = load_one(rt, *file, put, end);
+        if one.is_err() {
+            tell_first(rt, *file);
+        }
+        in_memory(all.push(one?).map_err(AllocError::from))?;
+    }
+    Ok(all)
+}
+
+/// How they are put on a disk.
+fn changes_of<'b>(alloc: Global, all: &'b [Loaded<'_>]) -> Result<Vec<Change<'b>>, AllocError> {
+    let mut puts = Vec::new(alloc);
+    for one in all {
+        let bytes = one.bytes.get(one.head..).unwrap_or(&[]);
+        puts.push(Change::File(one.text.as_slice(), bytes))
+            .map_err(AllocError::from)?;
+    }
+    Ok(puts)
+}
+
+/// Reports which of these files can't be put first.
+fn tell_refused<R: Runtime + AllocGlobal>(
+    rt: &R,
+    old: &[u8],
+    all: &[Loaded<'_>],
+    puts: &[Change<'_>],
+) {
+    for (place, one) in all.iter().enumerate() {
+        let begun = puts.get(..place.saturating_add(1)).unwrap_or(puts);
+        if changes(rt.alloc(), old, begun).is_err() {
+            return tell_first(rt, one.file);
+        }
+    }
+}
+
+/// The image with several files of bytes on it, which is opened once.
+fn put_plain<'a, R: Runtime + AllocGlobal>(
+    rt: &R,
+    image: &'a str,
+    old: &[u8],
+    files: &[&'a str],
+    put: &HostFiles<'a>,
+) -> Result<Vec<u8>, Failure<'a>> {
+    let all = load_all(rt, files, put)?;
+    let puts = in_memory(changes_of(rt.alloc(), all.as_slice()))?;
+    let new = changes(rt.alloc(), old, puts.as_slice());
+    if new.is_err() {
+        tell_refused(rt, old, all.as_slice(), puts.as_slice());
+    }
+    on_disk(image, new)
+}
+
+/// The image with several files on it, one after another.
+fn put_each<'a, R: Runtime + AllocGlobal>(
+    rt: &R,
+    image: &'a str,
+    old: &[u8],
+    files: &[&'a str],
+    put: &HostFiles<'a>,
+) -> Result<Vec<u8>, Failure<'a>> {
+    let mut new = in_memory(Vec::from_slice(rt.alloc(), old))?;
+    for file in files {
+        new = put_among(rt, image, new.as_slice(), *file, put)?;
+    }
+    Ok(new)
+}
+
+/// The image with the files on it.
+fn put_all<'a, R: Runtime + AllocGlobal>(
+    rt: &R,
+    image: &'a str,
+    old: &[u8],
+    files: &[&'a str],
+    put: &HostFiles<'a>,
+) -> Result<Vec<u8>, Failure<'a>> {
+    match files {
+        [file] => put_one(rt, image, old, *file, put),
+        _ if are_plain(files, put) => put_plain(rt, image, old, files, put),
+        _ => put_each(rt, image, old, files, put),
+    }
+}
+
+/// Standard input is read once.
+fn require_once<'a>(image: &str, files: &[&str]) -> Result<(), Failure<'a>> {
+    let mut is_read = is_standard(image);
+    for file in files {
+        if is_read && is_standard(*file) {
+            return Err(Failure::Word(WordFault::Twice));
+        }
+        is_read = is_read || is_standard(*file);
+    }
+    Ok(())
+}
+
+/// One name is that of one file.
+fn require_one<'a>(files: &[&str], put: &HostFiles<'a>) -> Result<(), Failure<'a>> {
+    if put.name.is_some() && files.len() > 1 {
+        return Err(Failure::Word(WordFault::OneName));
+    }
+    Ok(())
+}
+
+/// Puts the files on the disk of an image, and saves it.
+fn save_files<'a, R: Runtime + AllocGlobal>(
+    rt: &R,
+    image: &'a str,
+    files: &[&'a str],
+    put: &HostFiles<'a>,
+) -> Result<(), Failure<'a>> {
+    let old = read_image(rt, image)?;
+    let new = put_all(rt, image, old.as_slice(), files, put)?;
+    replace(rt, image, old.as_slice(), new.as_slice())
+}
+
+/// Puts files of the host on the disk, all of them or none.
+pub fn put<'a, R: Runtime + AllocGlobal>(
+    rt: &R,
+    image: &'a str,
+    files: &[&'a str],
+    put: &HostFiles<'a>,
+) -> Result<(), Failure<'a>> {
+    require_once(image, files)?;
+    require_one(files, put)?;
+    save_files(rt, image, files, put)
+}

@@ -1,0 +1,136 @@
+//! A file's bytes on a disk, as a file of its kind.
+use cbm_channel::{Code, Status};
+use cbm_shell::{Change, Records, ShellFault};
+use disk_basics::{
+    Failure, FileKind, WordFault, change, entries, in_memory, joined, on_disk, put_records,
+};
+use std::alloc::{AllocError, Global};
+
+/// A file that is put on a disk.
+#[derive(Clone, Copy)]
+pub struct Stored<'b> {
+    /// Its name.
+    pub name: &'b [u8],
+    /// Its kind.
+    pub kind: FileKind,
+    /// The length of its records, if that is known.
+    pub record: Option<u8>,
+    /// A file of the disk that has the name is replaced.
+    pub replaces: bool,
+    /// Its bytes.
+    pub bytes: &'b [u8],
+}
+
+/// The text of the OPEN that writes a file of bytes.
+pub fn open_text<'a>(
+    alloc: Global,
+    name: &[u8],
+    replaces: bool,
+    end: &[u8],
+) -> Result<Vec<u8>, Failure<'a>> {
+    let start: &[u8] = if replaces { b"@0:" } else { b"0:" };
+    joined(alloc, &[start, name, end])
+}
+
+/// The image with a file of bytes one after another.
+fn plain<'a>(
+    alloc: Global,
+    image: &'a str,
+    old: &[u8],
+    file: &Stored<'_>,
+    end: &[u8],
+) -> Result<Vec<u8>, Failure<'a>> {
+    let text = open_text(alloc, file.name, file.replaces, end)?;
+    let put = Change::File(text.as_slice(), file.bytes);
+    on_disk(image, change(alloc, old, &put))
+}
+
+/// The bytes cut into records; the last one may be shorter.
+fn records_of(alloc: Global, bytes: &[u8], length: u8) -> Result<Vec<&[u8]>, AllocError> {
+    let mut records = Vec::new(alloc);
+    let mut rest = bytes;
+    for _ in 0..bytes.len() {
+        if rest.is_empty() {
+            break;
+        }
+        let (record, behind) = rest.split_at(usize::from(length).min(rest.len()));
+        records.push(record)?;
+        rest = behind;
+    }
+    Ok(records)
+}
+
+/// The image without the files of that name that aren't locked.
+fn without<'a>(
+    alloc: Global,
+    image: &'a str,
+    old: &[u8],
+    name: &[u8],
+) -> Result<Vec<u8>, Failure<'a>> {
+    let text = joined(alloc, &[b"S0:", name, b"\r"])?;
+    let command = Change::Command(text.as_slice());
+    on_disk(image, change(alloc, old, &command))
+}
+
+/// Refuses a name that a file has: the drive's OPEN would take a relative file of it, and write over its records.
+fn require_free(alloc: Global, image: &[u8], name: &[u8]) -> Result<(), ShellFault> {
+    let entries = entries(alloc, image)?;
+    for entry in entries.as_slice() {
+        if !entry.is_empty() && entry.name() == name {
+            return Err(ShellFault::Refused(Status {
+                code: Code::FileExists,
+                first: 0,
+                second: 0,
+            }));
+        }
+    }
+    Ok(())
+}
+
+/// The image with a relative file, where no other one has the name.
+fn with_records<'a>(
+    alloc: Global,
+    image: &'a str,
+    old: &[u8],
+    file: &Stored<'_>,
+    length: u8,
+) -> Result<Vec<u8>, Failure<'a>> {
+    on_disk(image, require_free(alloc, old, file.name))?;
+    let text = joined(alloc, &[b"0:", file.name, b",L,", &[length]])?;
+    let records = in_memory(records_of(alloc, file.bytes, length))?;
+    let made = Records {
+        text: text.as_slice(),
+        records: records.as_slice(),
+    };
+    on_disk(image, put_records(alloc, old, made))
+}
+
+/// The image with a relative file.
+fn relative<'a>(
+    alloc: Global,
+    image: &'a str,
+    old: &[u8],
+    file: &Stored<'_>,
+) -> Result<Vec<u8>, Failure<'a>> {
+    let Some(length @ 1..=254) = file.record else {
+        return Err(Failure::Word(WordFault::Record));
+    };
+    if !file.replaces {
+        return with_records(alloc, image, old, file, length);
+    }
+    let freed = without(alloc, image, old, file.name)?;
+    with_records(alloc, image, freed.as_slice(), file, length)
+}
+
+/// The image with the file on it.
+pub fn with_stored<'a>(
+    alloc: Global,
+    image: &'a str,
+    old: &[u8],
+    file: &Stored<'_>,
+) -> Result<Vec<u8>, Failure<'a>> {
+    match file.kind {
+        FileKind::Plain(end) => plain(alloc, image, old, file, end),
+        FileKind::Relative => relative(alloc, image, old, file),
+    }
+}

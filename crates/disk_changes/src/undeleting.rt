@@ -1,0 +1,80 @@
+//! UNDELETE: a deleted file given back.
+use cbm_command::matches;
+use cbm_shell::Charset;
+use cbm_volume::{Entry, FileType};
+use disk_basics::{Failure, WordFault, entries, on_disk, petscii, read_image, replace, undelete};
+use disk_facts::is_deleted;
+use std::alloc::Global;
+use std::rt::Runtime;
+
+/// A file that is given back.
+#[derive(Clone, Copy)]
+pub struct Gone<'a> {
+    /// Its name, or a pattern.
+    pub name: &'a str,
+    /// Its type.
+    pub kind: &'a str,
+    /// The character set of names.
+    pub charset: Charset,
+}
+
+/// The slot of the first deleted file that matches.
+fn slot_of(entries: &[Entry], pattern: &[u8]) -> Option<u8> {
+    for (slot, entry) in entries.iter().enumerate() {
+        if is_deleted(entry) && matches(pattern, entry.name()) {
+            return u8::try_from(slot).ok();
+        }
+    }
+    None
+}
+
+/// The type of a word.
+fn kind_of(word: &str) -> Result<FileType, Failure<'_>> {
+    match word {
+        "prg" => Ok(FileType::Prg),
+        "seq" => Ok(FileType::Seq),
+        "usr" => Ok(FileType::Usr),
+        _ => Err(Failure::Word(WordFault::Type(word))),
+    }
+}
+
+/// The slot of the deleted file that is meant.
+fn slot_meant<'a>(
+    alloc: Global,
+    image: &'a str,
+    bytes: &[u8],
+    gone: &Gone<'a>,
+) -> Result<u8, Failure<'a>> {
+    let pattern = petscii(alloc, gone.charset, gone.name)?;
+    let entries = on_disk(image, entries(alloc, bytes))?;
+    match slot_of(entries.as_slice(), pattern.as_slice()) {
+        Some(slot) => Ok(slot),
+        None => Err(Failure::NotDeleted(gone.name)),
+    }
+}
+
+/// The image with the file.
+fn given_back<'a>(
+    alloc: Global,
+    image: &'a str,
+    bytes: &[u8],
+    gone: &Gone<'a>,
+) -> Result<Vec<u8>, Failure<'a>> {
+    let kind = kind_of(gone.kind)?;
+    let slot = slot_meant(alloc, image, bytes, gone)?;
+    match on_disk(image, undelete(alloc, bytes, slot, kind))? {
+        Some(new) => Ok(new),
+        None => Err(Failure::Overwritten(gone.name)),
+    }
+}
+
+/// Gives back a deleted file of an image, and saves it.
+pub fn undelete_file<'a, R: Runtime + AllocGlobal>(
+    rt: &R,
+    image: &'a str,
+    gone: &Gone<'a>,
+) -> Result<(), Failure<'a>> {
+    let old = read_image(rt, image)?;
+    let new = given_back(rt.alloc(), image, old.as_slice(), gone)?;
+    replace(rt, image, old.as_slice(), new.as_slice())
+}

@@ -1,0 +1,58 @@
+//! Formats of images.
+use cbm_image::{Kind, kind_of};
+use std::path::Path;
+
+/// The words that tell a format.
+const FORMATS: [(&str, Kind); 4] = [
+    ("d64", Kind::D64),
+    ("D64", Kind::D64),
+    ("g64", Kind::G64),
+    ("G64", Kind::G64),
+];
+
+/// The format that a word tells.
+pub fn kind_of_word(word: &str) -> Option<Kind> {
+    for (name, kind) in &FORMATS {
+        if *name == word {
+            return Some(*kind);
+        }
+    }
+    None
+}
+
+/// The format that an image's name tells by its ending.
+pub fn kind_of_name(image: &str) -> Option<Kind> {
+    match Path::new(image).extension() {
+        Some(ending) => kind_of_word(ending),
+        None => None,
+    }
+}
+
+/// Whether a file is named as images are.
+pub fn is_image_name(path: &str) -> bool {
+    kind_of_name(path).is_some()
+}
+
+/// How many bytes the sectors of a D64 with error bytes have.
+const OF_35_TRACKS: usize = 174_848;
+
+/// The size of a D64 of 35 tracks with error bytes.
+const WITH_ERRORS: usize = 175_531;
+
+/// An image; a D64 with error bytes without them.
+pub fn without_errors(image: &[u8]) -> &[u8] {
+    if image.len() == WITH_ERRORS {
+        image.get(..OF_35_TRACKS).unwrap_or(image)
+    } else {
+        image
+    }
+}
+
+/// How an image's format is called.
+pub fn format_name(image: &[u8]) -> &'static str {
+    match kind_of(image) {
+        Kind::G64 => "G64",
+        Kind::D64 if image.len() == WITH_ERRORS => "D64 with error bytes",
+        Kind::D64 => "D64",
+    }
+}

@@ -1,0 +1,14 @@
+//! What the bytes of an image and of an entry say by themselves, with no disk opened.
+#![tactic(auto)]
+
+mod circles;
+mod digits;
+mod entries;
+mod formats;
+mod geos;
+
+pub use circles::{more_tracks, track_at, track_name};
+pub use digits::hex;
+pub use entries::{count_files, first_meant, is_deleted, is_meant, type_of, unfilled};
+pub use formats::{format_name, is_image_name, kind_of_name, kind_of_word, without_errors};
+pub use geos::kind_name;

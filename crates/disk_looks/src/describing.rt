@@ -1,0 +1,309 @@
+//! DESCRIBE: the recipe of a disk.
+use crate::taking::Names;
+use cbm_channel::FileType;
+use cbm_image::{Kind, kind_of};
+use cbm_medium::Address;
+use cbm_shell::{Charset, Info, ShellFault, geos_of};
+use cbm_volume::{Entry, Label, Trouble};
+use disk_basics::{Disk, Failure, info, name_text, on_disk, print, read_image, sector};
+use disk_facts::unfilled;
+use disk_recipes::{Line, Recipe, recipe_text};
+use std::alloc::{AllocError, Global};
+use std::path::Path;
+use std::rt::Runtime;
+
+/// The bytes of a block that a file has.
+const BLOCK: usize = 254;
+
+/// The blocks that a side sector lists.
+const LISTED: usize = 120;
+
+/// How a disk is described.
+#[derive(Clone, Copy)]
+pub struct Description<'a> {
+    /// The folder of its files.
+    pub folder: &'a str,
+    /// The character set of names.
+    pub charset: Charset,
+}
+
+/// Where a name stands in an entry.
+fn sixteen(entry: &Entry) -> &[u8] {
+    unfilled(entry.bytes().get(3..19).unwrap_or(&[]))
+}
+
+/// Whether an entry is locked, where it is.
+fn lock_of(entry: &Entry) -> Option<bool> {
+    if entry.is_locked() { Some(true) } else { None }
+}
+
+/// A line of art.
+fn art_line(alloc: Global, entry: &Entry, charset: Charset) -> Result<Line, AllocError> {
+    let name = name_text(alloc, charset, sixteen(entry))?;
+    Ok(Line {
+        file: None,
+        name: None,
+        art: Some(name),
+        kind: None,
+        record: None,
+        blocks: Some(entry.blocks()),
+        locked: lock_of(entry),
+    })
+}
+
+/// How many blocks the drive gives a file of so many bytes.
+fn blocks_for(entry: &Entry, bytes: usize) -> usize {
+    let blocks = bytes.div_ceil(BLOCK).max(1);
+    if entry.is_relative() {
+        return blocks.saturating_add(blocks.div_ceil(LISTED));
+    }
+    blocks
+}
+
+/// The number of blocks that is shown, where it isn't the one that a file has.
+fn shown_blocks(entry: &Entry, bytes: usize) -> Option<u16> {
+    if usize::from(entry.blocks()) == blocks_for(entry, bytes) {
+        None
+    } else {
+        Some(entry.blocks())
+    }
+}
+
+/// Where the next entry's file is among the host's files.
+fn path_of(
+    alloc: Global,
+    entry: &Entry,
+    names: &mut Names,
+    folder: &str,
+) -> Result<String, AllocError> {
+    let host = names.next(alloc, entry)?;
+    let path = Path::new(folder).join(alloc, host.as_str())?;
+    String::from_str(alloc, path.as_path().as_str())
+}
+
+/// The line of a file of so many bytes.
+fn file_line(
+    alloc: Global,
+    entry: &Entry,
+    names: &mut Names,
+    description: Description<'_>,
+    bytes: usize,
+) -> Result<Line, AllocError> {
+    let file = path_of(alloc, entry, names, description.folder)?;
+    let name = name_text(alloc, description.charset, sixteen(entry))?;
+    Ok(Line {
+        file: Some(file),
+        name: Some(name),
+        art: None,
+        kind: None,
+        record: None,
+        blocks: shown_blocks(entry, bytes),
+        locked: lock_of(entry),
+    })
+}
+
+/// Whether an entry is a line of art to those who see the directory.
+fn is_art(entry: &Entry) -> bool {
+    matches!(entry.kind(), Some(FileType::Del)) && entry.is_closed()
+}
+
+/// The line of an entry. Errors: `NotClosed`, `Trouble`, where its file can't be built from what `get-all` takes out.
+fn line_of(
+    alloc: Global,
+    disk: &Disk,
+    entry: &Entry,
+    names: &mut Names,
+    description: Description<'_>,
+) -> Result<Line, ShellFault> {
+    if is_art(entry) {
+        return Ok(art_line(alloc, entry, description.charset)?);
+    }
+    if !entry.is_closed() {
+        return Err(ShellFault::NotClosed);
+    }
+    let bytes = disk.file_of(alloc, entry)?;
+    Ok(file_line(alloc, entry, names, description, bytes.len())?)
+}
+
+/// Tells that an entry isn't described, or not all of it.
+fn tell<R: Runtime + AllocGlobal>(rt: &R, entry: &Entry, what: &str) -> Result<(), AllocError> {
+    let name = name_text(rt.alloc(), Charset::Upper, entry.name())?;
+    let _ = eprintln!(rt; "disk1541: \"{name}\" {what}");
+    Ok(())
+}
+
+/// Adds the line of an entry, and answers whether it says all of it.
+fn add_line<R: Runtime + AllocGlobal>(
+    rt: &R,
+    disk: &Disk,
+    entry: &Entry,
+    names: &mut Names,
+    lines: &mut Vec<Line>,
+    description: Description<'_>,
+) -> Result<bool, ShellFault> {
+    match line_of(rt.alloc(), disk, entry, names, description) {
+        Ok(line) => lines.push(line).map_err(AllocError::from)?,
+        Err(ShellFault::Memory) => return Err(ShellFault::Memory),
+        Err(fault) => {
+            let _ = tell_left(rt, entry, fault)?;
+            return Ok(false);
+        }
+    }
+    if geos_of(entry).is_some() {
+        tell(
+            rt,
+            entry,
+            "is GEOS's: its info and its records aren't described",
+        )?;
+        return Ok(false);
+    }
+    Ok(true)
+}
+
+/// Tells that an entry is left out.
+fn tell_left<R: Runtime + AllocGlobal>(
+    rt: &R,
+    entry: &Entry,
+    fault: ShellFault,
+) -> Result<(), AllocError> {
+    match fault {
+        ShellFault::NotClosed => tell(rt, entry, "isn't described: it was never closed"),
+        _ => tell(rt, entry, "isn't described: it can't be read to its end"),
+    }
+}
+
+/// Adds the lines of all entries, and answers whether they say all of them.
+fn add_lines<R: Runtime + AllocGlobal>(
+    rt: &R,
+    disk: &Disk,
+    entries: &[Entry],
+    lines: &mut Vec<Line>,
+    description: Description<'_>,
+) -> Result<bool, ShellFault> {
+    let mut names = Names::new(rt.alloc());
+    let mut is_whole = true;
+    for entry in entries {
+        if !entry.is_empty() {
+            let is_described = add_line(rt, disk, entry, &mut names, lines, description)?;
+            is_whole = is_whole && is_described;
+        }
+    }
+    Ok(is_whole)
+}
+
+/// Why 18/0 can't be read.
+fn trouble_of(alloc: Global, image: &[u8]) -> Result<ShellFault, ShellFault> {
+    let Some(at) = Address::new(18, 0) else {
+        return Ok(ShellFault::NotFound);
+    };
+    match sector(alloc, image, at)? {
+        Some(Err(code)) => Ok(ShellFault::Trouble(Trouble {
+            code,
+            track: 18,
+            sector: 0,
+        })),
+        _ => Ok(ShellFault::NotFound),
+    }
+}
+
+/// What 18/0 says of a disk.
+fn label_of(alloc: Global, image: &[u8], info: &Info) -> Result<Label, ShellFault> {
+    match info.label {
+        Some(label) => Ok(label),
+        None => Err(trouble_of(alloc, image)?),
+    }
+}
+
+/// How an image's format is told.
+fn format_word(image: &[u8]) -> &'static str {
+    match kind_of(image) {
+        Kind::D64 => "d64",
+        Kind::G64 => "g64",
+    }
+}
+
+/// A recipe with no line, of a disk of so many tracks that 18/0 says this of.
+fn labelled(
+    alloc: Global,
+    charset: Charset,
+    label: Label,
+    tracks: u8,
+    word: &str,
+) -> Result<Recipe, AllocError> {
+    let [first, second, _, _, _] = label.mark;
+    let title = name_text(alloc, charset, unfilled(label.title.as_slice()))?;
+    let id = name_text(alloc, charset, &[first, second])?;
+    let format = String::from_str(alloc, word)?;
+    Ok(Recipe {
+        title,
+        id,
+        tracks: Some(tracks),
+        format: Some(format),
+        lines: Vec::new(alloc),
+    })
+}
+
+/// The recipe of a disk, with no line yet.
+fn recipe_of(alloc: Global, image: &[u8], charset: Charset) -> Result<Recipe, ShellFault> {
+    let info = info(alloc, image)?;
+    let label = label_of(alloc, image, &info)?;
+    let recipe = labelled(alloc, charset, label, info.tracks, format_word(image))?;
+    Ok(recipe)
+}
+
+/// The recipe of a disk with these lines.
+fn recipe_with(
+    alloc: Global,
+    image: &[u8],
+    charset: Charset,
+    lines: Vec<Line>,
+) -> Result<Recipe, ShellFault> {
+    let mut recipe = recipe_of(alloc, image, charset)?;
+    recipe.lines = lines;
+    Ok(recipe)
+}
+
+/// The recipe of a disk of these entries, and whether it says all of it.
+fn described_by<R: Runtime + AllocGlobal>(
+    rt: &R,
+    image: &[u8],
+    disk: &Disk,
+    entries: &[Entry],
+    description: Description<'_>,
+) -> Result<(Recipe, bool), ShellFault> {
+    let mut lines = Vec::new(rt.alloc());
+    let is_whole = add_lines(rt, disk, entries, &mut lines, description)?;
+    let recipe = recipe_with(rt.alloc(), image, description.charset, lines)?;
+    Ok((recipe, is_whole))
+}
+
+/// The recipe of a disk, and whether it says all of it.
+fn described<R: Runtime + AllocGlobal>(
+    rt: &R,
+    image: &[u8],
+    description: Description<'_>,
+) -> Result<(Recipe, bool), ShellFault> {
+    let disk = Disk::open(rt.alloc(), image)?;
+    let entries = disk.entries(rt.alloc())?;
+    described_by(rt, image, &disk, entries.as_slice(), description)
+}
+
+/// Prints a recipe.
+fn print_recipe<'a, R: Runtime + AllocGlobal>(rt: &R, recipe: &Recipe) -> Result<(), Failure<'a>> {
+    match recipe_text(rt.alloc(), recipe) {
+        Ok(text) => print(rt, text.as_bytes()),
+        Err(_) => Err(Failure::NoMemory),
+    }
+}
+
+/// Prints the recipe of an image's disk; what it doesn't say of it is told.
+pub fn describe<'a, R: Runtime + AllocGlobal>(
+    rt: &R,
+    image: &'a str,
+    description: Description<'a>,
+) -> Result<(), Failure<'a>> {
+    let bytes = read_image(rt, image)?;
+    let (recipe, is_whole) = on_disk(image, described(rt, bytes.as_slice(), description))?;
+    print_recipe(rt, &recipe)?;
+    if is_whole { Ok(()) } else { Err(Failure::Told) }
+}

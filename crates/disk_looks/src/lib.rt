@@ -1,0 +1,23 @@
+//! The commands of `disk1541` that look at one image, and those that take files out of it.
+#![tactic(auto)]
+
+mod describing;
+mod getting;
+mod map;
+mod naming;
+mod progress;
+mod relative;
+mod salvage;
+mod sector;
+mod taking;
+mod taking_all;
+mod track;
+
+pub use describing::{Description, describe};
+pub use getting::{OneFile, get};
+pub use map::{Mapping, show_map};
+pub use progress::Progress;
+pub use sector::show_sector;
+pub use taking::Place;
+pub use taking_all::get_all;
+pub use track::show_track;

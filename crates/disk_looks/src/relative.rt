@@ -1,0 +1,96 @@
+//! Relative files on this computer: with the head of the emulator PC64, which has the length of their records.
+use cbm_shell::{Charset, ShellFault};
+use cbm_volume::Entry;
+use disk_basics::{entries, is_relative_name, name_text};
+use disk_facts::first_meant;
+use std::alloc::{AllocError, Global};
+use std::io;
+
+/// What the head begins with.
+const BEGINNING: &[u8; 8] = b"C64File\0";
+
+/// How many bytes of the head a name has.
+const NAME: usize = 16;
+
+/// The ending of such a file's name.
+pub const ENDING: &str = "r00";
+
+/// The first of the bytes that are whole records: what follows the last one in its block is none.
+fn whole_records(bytes: &[u8], length: u8) -> &[u8] {
+    match bytes.len().checked_rem(usize::from(length)) {
+        Some(rest) => {
+            let count = bytes.len().saturating_sub(rest);
+            bytes.get(..count).unwrap_or(bytes)
+        }
+        None => bytes,
+    }
+}
+
+/// The head: its beginning, the name in sixteen bytes, a 0, and the length of the records.
+fn head_of(alloc: Global, entry: &Entry) -> Result<Vec<u8>, AllocError> {
+    let mut head = Vec::from_slice(alloc, BEGINNING)?;
+    let name = entry.name();
+    head.extend_from_slice(name)?;
+    for _ in name.len()..NAME {
+        head.push(0)?;
+    }
+    head.push(0)?;
+    head.push(entry.record_length())?;
+    Ok(head)
+}
+
+/// The file of this computer for a relative file of these bytes; those of any other file as they are.
+pub fn packed(alloc: Global, entry: &Entry, bytes: Vec<u8>) -> Result<Vec<u8>, AllocError> {
+    if !entry.is_relative() {
+        return Ok(bytes);
+    }
+    let mut file = head_of(alloc, entry)?;
+    file.extend_from_slice(whole_records(bytes.as_slice(), entry.record_length()))?;
+    Ok(file)
+}
+
+/// Tells the length of the records of a file that is written without a head.
+fn tell_length(rt: &impl Eprint, name: &str, length: u8) -> io::Result<()> {
+    eprintln!(rt;
+        "disk1541: {name} has records of {length} bytes, which `-o FILE.r00` writes before them"
+    )
+}
+
+/// Reports the length of the records of an entry's file, which is written without a head.
+fn tell_records<R: Eprint + AllocGlobal>(rt: &R, entry: &Entry) -> Result<(), AllocError> {
+    let name = name_text(rt.alloc(), Charset::Upper, entry.name())?;
+    let _ = tell_length(rt, name.as_str(), entry.record_length());
+    Ok(())
+}
+
+/// The file of this computer for an entry's file of these bytes, which goes to a file of a name.
+fn packed_as<R: Eprint + AllocGlobal>(
+    rt: &R,
+    entry: &Entry,
+    output: &str,
+    bytes: Vec<u8>,
+) -> Result<Vec<u8>, AllocError> {
+    if is_relative_name(output) {
+        return packed(rt.alloc(), entry, bytes);
+    }
+    if entry.is_relative() {
+        tell_records(rt, entry)?;
+    }
+    Ok(bytes)
+}
+
+/// The file of this computer for the first file that a pattern means: with a head, if it is relative and goes to a file that
+/// is named so. Without one the length of its records is told.
+pub fn packed_for<R: Eprint + AllocGlobal>(
+    rt: &R,
+    image: &[u8],
+    pattern: &[u8],
+    output: &str,
+    bytes: Vec<u8>,
+) -> Result<Vec<u8>, ShellFault> {
+    let entries = entries(rt.alloc(), image)?;
+    match first_meant(entries.as_slice(), pattern) {
+        Some(entry) => Ok(packed_as(rt, entry, output, bytes)?),
+        None => Ok(bytes),
+    }
+}

@@ -1,0 +1,102 @@
+//! GET and GET-ALL of damaged disks: what can be read of a file.
+use cbm_medium::Fault;
+use cbm_shell::{Charset, Salvaged, ShellFault};
+use cbm_volume::Entry;
+use disk_basics::{Disk, file_blocks, info, name_text};
+use disk_facts::{first_meant, without_errors};
+use std::io;
+use std::rt::Runtime;
+
+/// Tells which sectors of a file were taken in spite of their faults.
+fn tell_faults<R: Runtime + AllocGlobal>(
+    rt: &R,
+    image: &[u8],
+    plain: &[u8],
+    entry: &Entry,
+    name: &str,
+) -> Result<(), ShellFault> {
+    let faults = info(rt.alloc(), image)?.unreadable;
+    let blocks = file_blocks(rt.alloc(), plain, entry)?;
+    for fault in faults.as_slice() {
+        if blocks.has(fault.at) {
+            let _ = tell_fault(rt, name, *fault);
+        }
+    }
+    Ok(())
+}
+
+/// Tells which sector was taken in spite of its fault.
+fn tell_fault(rt: &impl Eprint, name: &str, fault: Fault) -> io::Result<()> {
+    let track = fault.at.track();
+    let sector = fault.at.sector();
+    let code = fault.code;
+    eprintln!(rt; "disk1541: \"{name}\": {track}/{sector} is taken in spite of its error {code}")
+}
+
+/// Tells how much of a file was read, and why no more was.
+fn tell_end(rt: &impl Eprint, name: &str, entry: &Entry, salvaged: &Salvaged) -> io::Result<()> {
+    let count = salvaged.bytes.len();
+    if !entry.is_closed() {
+        eprintln!(rt; "disk1541: \"{name}\" was never closed: {count} bytes are taken")?;
+    }
+    let Some(trouble) = salvaged.trouble else {
+        return Ok(());
+    };
+    let track = trouble.track;
+    let sector = trouble.sector;
+    let code = trouble.code;
+    eprintln!(rt;
+        "disk1541: \"{name}\" is cut off after {count} bytes: track {track}, sector {sector} can't be read (error {code})"
+    )
+}
+
+/// Tells what was read of a file.
+fn tell<R: Runtime + AllocGlobal>(
+    rt: &R,
+    image: &[u8],
+    plain: &[u8],
+    entry: &Entry,
+    salvaged: &Salvaged,
+) -> Result<(), ShellFault> {
+    let name = name_text(rt.alloc(), Charset::Upper, entry.name())?;
+    tell_faults(rt, image, plain, entry, name.as_str())?;
+    let _ = tell_end(rt, name.as_str(), entry, salvaged);
+    Ok(())
+}
+
+/// What can be read of an entry's file on a disk without error bytes; what there is to say of it is told.
+pub fn salvaged<R: Runtime + AllocGlobal>(
+    rt: &R,
+    image: &[u8],
+    disk: &Disk,
+    entry: &Entry,
+) -> Result<Vec<u8>, ShellFault> {
+    let salvaged = disk.salvage(rt.alloc(), entry)?;
+    tell(rt, image, without_errors(image), entry, &salvaged)?;
+    Ok(salvaged.bytes)
+}
+
+/// What can be read of the first of the files that a pattern means.
+fn salvaged_among<R: Runtime + AllocGlobal>(
+    rt: &R,
+    image: &[u8],
+    disk: &Disk,
+    entries: &[Entry],
+    pattern: &[u8],
+) -> Result<Vec<u8>, ShellFault> {
+    match first_meant(entries, pattern) {
+        Some(entry) => salvaged(rt, image, disk, entry),
+        None => Err(ShellFault::NotFound),
+    }
+}
+
+/// What can be read of the first file that a pattern means.
+pub fn salvaged_file<R: Runtime + AllocGlobal>(
+    rt: &R,
+    image: &[u8],
+    pattern: &[u8],
+) -> Result<Vec<u8>, ShellFault> {
+    let disk = Disk::open(rt.alloc(), without_errors(image))?;
+    let entries = disk.entries(rt.alloc())?;
+    salvaged_among(rt, image, &disk, entries.as_slice(), pattern)
+}

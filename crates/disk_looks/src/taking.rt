@@ -1,0 +1,206 @@
+//! Files that are taken out of an image into a folder.
+use crate::naming::host_name;
+use crate::relative::{ENDING, packed};
+use crate::salvage::salvaged;
+use cbm_shell::{Charset, ShellFault};
+use cbm_volume::Entry;
+use disk_basics::{Disk, exists, name_text, write};
+use disk_facts::type_of;
+use host_files::Sync;
+use std::alloc::{AllocError, Global};
+use std::io;
+use std::path::{Path, PathBuf};
+use std::rt::Runtime;
+
+/// Where files are written.
+#[derive(Clone, Copy)]
+pub struct Place<'a> {
+    /// The folder.
+    pub folder: &'a str,
+    /// Files that are there are replaced.
+    pub replaces: bool,
+    /// What can be read of the files is taken.
+    pub salvages: bool,
+}
+
+/// The names of the host's files so far, without their numbers.
+#[derive(Drop)]
+pub struct Names {
+    taken: Vec<String>,
+}
+
+impl Names {
+    /// None yet.
+    pub fn new(alloc: Global) -> Names {
+        Names {
+            taken: Vec::new(alloc),
+        }
+    }
+
+    /// The name of a host's file for the next entry; from the second of one name on it has a number.
+    pub fn next(&mut self, alloc: Global, entry: &Entry) -> Result<String, AllocError> {
+        let base = host_name(alloc, entry.name())?;
+        let end = ending_of(entry);
+        let number = self.number_of(alloc, base.as_str(), end)?;
+        numbered(alloc, base.as_str(), end, number)
+    }
+
+    /// Adds a name of a base and an ending, and answers how many so far were the same.
+    fn number_of(&mut self, alloc: Global, base: &str, end: &str) -> Result<usize, AllocError> {
+        let name = format!(in alloc; "{base}.{end}")?;
+        self.enter(name)
+    }
+
+    /// Adds a name, and answers how many so far were the same.
+    fn enter(&mut self, name: String) -> Result<usize, AllocError> {
+        let count = self.count(name.as_str());
+        self.taken.push(name)?;
+        Ok(count)
+    }
+
+    /// How many names so far are this one.
+    fn count(&self, name: &str) -> usize {
+        let mut count: usize = 0;
+        for other in self.taken.as_slice() {
+            if other.as_str() == name {
+                count = count.saturating_add(1);
+            }
+        }
+        count
+    }
+}
+
+/// The ending of the name of a host's file: the type, but for relative files, which have PC64's.
+fn ending_of(entry: &Entry) -> &'static str {
+    if entry.is_relative() {
+        return ENDING;
+    }
+    type_of(entry).unwrap_or("del")
+}
+
+/// A name with a number, from 1 on, and an ending.
+fn numbered(alloc: Global, base: &str, end: &str, number: usize) -> Result<String, AllocError> {
+    if number == 0 {
+        return format!(in alloc; "{base}.{end}");
+    }
+    format!(in alloc; "{base}~{number}.{end}")
+}
+
+/// Tells of a file that isn't taken out.
+fn tell_left(rt: &impl Eprint, name: &str, fault: ShellFault) -> io::Result<()> {
+    match fault {
+        ShellFault::Trouble(trouble) => {
+            let code = trouble.code;
+            let track = trouble.track;
+            let sector = trouble.sector;
+            eprintln!(rt;
+                "disk1541: \"{name}\" isn't taken out: track {track}, sector {sector} can't be read (error {code})"
+            )
+        }
+        _ => eprintln!(rt; "disk1541: \"{name}\" isn't taken out: {fault}"),
+    }
+}
+
+/// A disk whose files are taken out, and the image that it is of.
+#[derive(Clone, Copy)]
+pub struct Source<'d> {
+    /// The disk.
+    pub disk: &'d Disk,
+    /// Its image.
+    pub image: &'d [u8],
+}
+
+/// The bytes of an entry's file, if it was closed, or what can be read of it.
+fn bytes_of<R: Runtime + AllocGlobal>(
+    rt: &R,
+    source: Source<'_>,
+    entry: &Entry,
+    salvages: bool,
+) -> Result<Vec<u8>, ShellFault> {
+    if salvages {
+        return salvaged(rt, source.image, source.disk, entry);
+    }
+    if !entry.is_closed() {
+        return Err(ShellFault::NotClosed);
+    }
+    source.disk.file_of(rt.alloc(), entry)
+}
+
+/// The host's file for an entry's file, if it was closed, or what can be read of it.
+fn file_for<R: Runtime + AllocGlobal>(
+    rt: &R,
+    source: Source<'_>,
+    entry: &Entry,
+    salvages: bool,
+) -> Result<Vec<u8>, ShellFault> {
+    let bytes = bytes_of(rt, source, entry, salvages)?;
+    Ok(packed(rt.alloc(), entry, bytes)?)
+}
+
+/// Tells the name of a host's file where it isn't that of the disk.
+fn tell_name(rt: &impl Eprint, path: Path<'_>, name: &str) -> io::Result<()> {
+    let place = path.as_str();
+    if path.file_stem().unwrap_or(place) == name {
+        return Ok(());
+    }
+    eprintln!(rt; "disk1541: \"{name}\" is written as {place}")
+}
+
+/// Saves a file under a name, and tells the name where it isn't that of the disk. Answers whether it was saved.
+fn save_as<R: Runtime + AllocGlobal>(
+    rt: &R,
+    path: Path<'_>,
+    name: &str,
+    bytes: &[u8],
+    replaces: bool,
+) -> bool {
+    let place = path.as_str();
+    if !replaces && exists(rt, place) {
+        let _ = eprintln!(rt; "disk1541: {place} is there already: --replace replaces it");
+        return false;
+    }
+    if let Err(failure) = write(rt, place, bytes, Sync::Later) {
+        let _ = failure.tell(rt);
+        return false;
+    }
+    let _ = tell_name(rt, path, name);
+    true
+}
+
+/// Takes the file of an entry out, to a path. Answers whether it was saved.
+fn take_to<R: Runtime + AllocGlobal>(
+    rt: &R,
+    source: Source<'_>,
+    entry: &Entry,
+    path: &PathBuf,
+    place: Place<'_>,
+) -> Result<bool, AllocError> {
+    let name = name_text(rt.alloc(), Charset::Upper, entry.name())?;
+    match file_for(rt, source, entry, place.salvages) {
+        Ok(bytes) => Ok(save_as(
+            rt,
+            path.as_path(),
+            name.as_str(),
+            bytes.as_slice(),
+            place.replaces,
+        )),
+        Err(fault) => {
+            let _ = tell_left(rt, name.as_str(), fault);
+            Ok(false)
+        }
+    }
+}
+
+/// Takes the file of the next entry out. Answers whether it was saved.
+pub fn take<R: Runtime + AllocGlobal>(
+    rt: &R,
+    source: Source<'_>,
+    entry: &Entry,
+    names: &mut Names,
+    place: Place<'_>,
+) -> Result<bool, AllocError> {
+    let alloc = rt.alloc();
+    let name = names.next(alloc, entry)?;
+    let path = Path::new(place.folder).join(alloc, name.as_str())?;
+    take_to(rt, source, entry, &path, place)
+}

@@ -1,0 +1,97 @@
+//! GET-ALL: all files out of the image, to a folder of the host.
+use crate::progress::Progress;
+use crate::taking::{Names, Place, Source, take};
+use cbm_volume::Entry;
+use disk_basics::{Disk, Failure, on_disk, read_image};
+use disk_facts::{count_files, without_errors};
+use std::alloc::AllocError;
+use std::fs;
+use std::path::Path;
+use std::rt::Runtime;
+
+/// Makes the folder, if it isn't there.
+fn make_folder<'a, R: Runtime + AllocGlobal>(rt: &R, folder: &'a str) -> Result<(), Failure<'a>> {
+    match fs::create_dir(rt, folder) {
+        Ok(()) => Ok(()),
+        Err(_) if Path::new(folder).is_dir(rt) => Ok(()),
+        Err(error) => Err(Failure::Write(folder, error.kind())),
+    }
+}
+
+/// Takes the files of all entries out, and answers whether all were saved.
+fn take_all<R: Runtime + AllocGlobal>(
+    rt: &R,
+    source: Source<'_>,
+    entries: &[Entry],
+    place: Place<'_>,
+    progress: Progress,
+) -> Result<bool, AllocError> {
+    let mut names = Names::new(rt.alloc());
+    let mut are_saved = true;
+    let mut done: usize = 0;
+    let count = count_files(entries);
+    for entry in entries {
+        if entry.is_empty() {
+            continue;
+        }
+        let is_saved = take(rt, source, entry, &mut names, place)?;
+        are_saved = are_saved && is_saved;
+        done = done.saturating_add(1);
+        progress.tell(rt, done, count);
+    }
+    progress.clear(rt);
+    Ok(are_saved)
+}
+
+/// Takes the files of a disk out.
+fn take_disk<'a, R: Runtime + AllocGlobal>(
+    rt: &R,
+    source: Source<'_>,
+    entries: &[Entry],
+    place: Place<'a>,
+    progress: Progress,
+) -> Result<(), Failure<'a>> {
+    make_folder(rt, place.folder)?;
+    match take_all(rt, source, entries, place, progress) {
+        Ok(true) => Ok(()),
+        Ok(false) => Err(Failure::Told),
+        Err(_) => Err(Failure::NoMemory),
+    }
+}
+
+/// The bytes of which the disk is: without error bytes where what can be read is taken.
+fn opened_bytes<'b>(bytes: &'b [u8], place: Place<'_>) -> &'b [u8] {
+    if place.salvages {
+        without_errors(bytes)
+    } else {
+        bytes
+    }
+}
+
+/// Takes all files of an image out.
+fn take_image<'a, R: Runtime + AllocGlobal>(
+    rt: &R,
+    image: &'a str,
+    bytes: &[u8],
+    place: Place<'a>,
+    progress: Progress,
+) -> Result<(), Failure<'a>> {
+    let disk = on_disk(image, Disk::open(rt.alloc(), opened_bytes(bytes, place)))?;
+    let entries = on_disk(image, disk.entries(rt.alloc()))?;
+    let source = Source {
+        disk: &disk,
+        image: bytes,
+    };
+    take_disk(rt, source, entries.as_slice(), place, progress)
+}
+
+/// Takes all files out, into a folder.
+pub fn get_all<'a, R: Runtime + AllocGlobal>(
+    rt: &R,
+    image: &'a str,
+    place: Place<'a>,
+    progress: Progress,
+) -> Result<(), Failure<'a>> {
+    let bytes = read_image(rt, image)?;
+    take_image(rt, image, bytes.as_slice(), place, progress)
+}

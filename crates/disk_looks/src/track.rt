@@ -1,0 +1,59 @@
+//! TRACK: what stands on a track of a G64.
+use cbm_image::{Kind, kind_of};
+use disk_basics::{Failure, WordFault, in_memory, print, read_image};
+use disk_facts::{track_at, track_name};
+use disk_views::track_lines;
+use std::rt::Runtime;
+
+/// The most tracks of a G64.
+const TRACKS: usize = 42;
+
+/// A track's number among half tracks, from 0 on, by the word for it: `17` or `17.5`.
+fn index_of(word: &str) -> Result<usize, Failure<'_>> {
+    let (digits, half) = match word.strip_suffix(".5") {
+        Some(digits) => (digits, 1usize),
+        None => (word, 0usize),
+    };
+    match digits.parse::<usize>() {
+        Ok(track) if 0 < track && track <= TRACKS => {
+            Ok(
+                track
+                    .saturating_sub(1)
+                    .saturating_mul(2)
+                    .saturating_add(half),
+            )
+        }
+        _ => Err(Failure::Word(WordFault::Track(word))),
+    }
+}
+
+/// Prints what stands on a track.
+fn print_track<'a, R: Runtime + AllocGlobal>(
+    rt: &R,
+    image: &'a str,
+    index: usize,
+    bytes: &[u8],
+) -> Result<(), Failure<'a>> {
+    let name = in_memory(track_name(rt.alloc(), index))?;
+    match in_memory(track_lines(rt.alloc(), name.as_str(), bytes))? {
+        Some(text) => print(rt, text.as_bytes()),
+        None => Err(Failure::NoTrack(image)),
+    }
+}
+
+/// Shows what stands on a track of an image.
+pub fn show_track<'a, R: Runtime + AllocGlobal>(
+    rt: &R,
+    image: &'a str,
+    word: &'a str,
+) -> Result<(), Failure<'a>> {
+    let index = index_of(word)?;
+    let bytes = read_image(rt, image)?;
+    if kind_of(bytes.as_slice()) == Kind::D64 {
+        return Err(Failure::NoCircles(image));
+    }
+    match track_at(bytes.as_slice(), index) {
+        Some(track) => print_track(rt, image, index, track),
+        None => Err(Failure::NoTrack(image)),
+    }
+}

@@ -1,0 +1,37 @@
+//! LIST of the files that were deleted.
+use crate::view::{Answer, Look};
+use cbm_command::matches;
+use cbm_shell::{Charset, ShellFault};
+use cbm_volume::Entry;
+use disk_basics::{entries, name_text};
+use disk_facts::is_deleted;
+use std::alloc::{AllocError, Global};
+
+/// Adds the line of a deleted file.
+fn add_line(
+    alloc: Global,
+    text: &mut Vec<u8>,
+    entry: &Entry,
+    charset: Charset,
+) -> Result<(), AllocError> {
+    let shown = name_text(alloc, charset, entry.name())?;
+    let name = shown.as_str();
+    let blocks = entry.blocks();
+    text.extend_from_slice(format!(in alloc; "\"{name}\", {blocks} blocks\n")?.as_bytes())
+}
+
+/// Adds a line for each deleted file that matches.
+pub fn add_deleted(
+    alloc: Global,
+    text: &mut Vec<u8>,
+    image: &[u8],
+    look: Look<'_>,
+) -> Result<Answer, ShellFault> {
+    let entries = entries(alloc, image)?;
+    for entry in entries.as_slice() {
+        if is_deleted(entry) && matches(look.pattern, entry.name()) {
+            add_line(alloc, text, entry, look.charset)?;
+        }
+    }
+    Ok(Answer::Fine)
+}

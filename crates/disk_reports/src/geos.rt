@@ -1,0 +1,67 @@
+//! The files of GEOS.
+use crate::view::Look;
+use cbm_shell::{Charset, Geos, ShellFault, geos_of};
+use cbm_volume::Entry;
+use disk_basics::{entries, name_text};
+use disk_facts::{is_meant, kind_name};
+use std::alloc::{AllocError, Global};
+
+/// How GEOS calls the structure of a file.
+fn structure_name(geos: Geos) -> &'static str {
+    if geos.has_records {
+        "records (VLIR)"
+    } else {
+        "one sequence"
+    }
+}
+
+/// Adds the line of a file of GEOS.
+fn add_file(
+    alloc: Global,
+    text: &mut Vec<u8>,
+    entry: &Entry,
+    geos: Geos,
+    charset: Charset,
+) -> Result<(), AllocError> {
+    let shown = name_text(alloc, charset, entry.name())?;
+    let name = shown.as_str();
+    let kind = kind_name(geos.kind);
+    let structure = structure_name(geos);
+    let line = format!(in alloc; "GEOS \"{name}\": {kind}, {structure}\n")?;
+    text.extend_from_slice(line.as_bytes())
+}
+
+/// Adds a line for each of these files that GEOS made.
+fn add_files(
+    alloc: Global,
+    text: &mut Vec<u8>,
+    entries: &[Entry],
+    look: Look<'_>,
+) -> Result<(), AllocError> {
+    for entry in entries {
+        match geos_of(entry) {
+            Some(geos) if is_meant(entry, look.pattern) => {
+                add_file(alloc, text, entry, geos, look.charset)?;
+            }
+            _ => {}
+        }
+    }
+    Ok(())
+}
+
+/// Adds a line for each file of GEOS, where the directory can be followed to its end.
+pub fn add_geos(
+    alloc: Global,
+    text: &mut Vec<u8>,
+    image: &[u8],
+    look: Look<'_>,
+) -> Result<(), ShellFault> {
+    match entries(alloc, image) {
+        Ok(entries) => {
+            add_files(alloc, text, entries.as_slice(), look)?;
+            Ok(())
+        }
+        Err(ShellFault::Memory) => Err(ShellFault::Memory),
+        Err(_) => Ok(()),
+    }
+}

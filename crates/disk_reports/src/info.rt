@@ -1,0 +1,119 @@
+//! INFO: what the disk is.
+use cbm_image::{Kind, kind_of};
+use cbm_shell::{Charset, Info, ShellFault};
+use cbm_volume::Unsound;
+use disk_basics::{entries, info, name_text, unsound_text};
+use disk_facts::{count_files, format_name, more_tracks, unfilled};
+use std::alloc::{AllocError, Global};
+
+/// The line of the format.
+fn add_format(
+    alloc: Global,
+    text: &mut String,
+    image: &[u8],
+    tracks: u8,
+) -> Result<(), AllocError> {
+    let name = format_name(image);
+    text.push_str(format!(in alloc; "format       {name}, {tracks} tracks\n")?.as_str())
+}
+
+/// The line of half tracks and tracks beyond 35, where a G64 has such.
+fn add_more_tracks(alloc: Global, text: &mut String, image: &[u8]) -> Result<(), AllocError> {
+    if kind_of(image) == Kind::D64 {
+        return Ok(());
+    }
+    let names = more_tracks(alloc, image)?;
+    if names.is_empty() {
+        return Ok(());
+    }
+    text.push_str("more tracks ")?;
+    text.push_str(names.as_str())?;
+    text.push('\n')
+}
+
+/// A line.
+fn add_line(text: &mut String, name: &str, value: &str) -> Result<(), AllocError> {
+    text.push_str(name)?;
+    text.push_str(value)?;
+    text.push('\n')
+}
+
+/// A line of what codes show.
+fn add_shown(
+    alloc: Global,
+    text: &mut String,
+    charset: Charset,
+    name: &str,
+    codes: &[u8],
+) -> Result<(), AllocError> {
+    let codes = name_text(alloc, charset, codes)?;
+    add_line(text, name, codes.as_str())
+}
+
+/// The lines of the title, the id and the free blocks.
+fn add_label(
+    alloc: Global,
+    text: &mut String,
+    charset: Charset,
+    info: &Info,
+) -> Result<(), AllocError> {
+    let Some(label) = info.label else {
+        return text.push_str("title        unknown: track 18, sector 0 can't be read\n");
+    };
+    let [first, second, _, dos, version] = label.mark;
+    let free = info.free.unwrap_or(0);
+    let title = unfilled(label.title.as_slice());
+    add_shown(alloc, text, charset, "title        ", title)?;
+    add_shown(alloc, text, charset, "id           ", &[first, second])?;
+    add_shown(alloc, text, charset, "DOS          ", &[dos, version])?;
+    text.push_str(format!(in alloc; "blocks free  {free}\n")?.as_str())
+}
+
+/// The line of how many files there are, where the directory can be followed to its end.
+fn add_files(alloc: Global, text: &mut String, image: &[u8]) -> Result<(), AllocError> {
+    let Ok(entries) = entries(alloc, image) else {
+        return Ok(());
+    };
+    let files = count_files(entries.as_slice());
+    text.push_str(format!(in alloc; "files        {files}\n")?.as_str())
+}
+
+/// What is wrong first.
+fn add_unsound(alloc: Global, text: &mut String, unsound: Unsound) -> Result<(), AllocError> {
+    let line = unsound_text(alloc, unsound)?;
+    text.push_str("no: ")?;
+    text.push_str(std::str::from_utf8(line.as_slice()).unwrap_or("\n"))
+}
+
+/// The lines of what is wrong.
+fn add_faults(alloc: Global, text: &mut String, info: &Info) -> Result<(), AllocError> {
+    let count = info.unreadable.len();
+    text.push_str(format!(in alloc; "unreadable   {count}\nsound        ")?.as_str())?;
+    match info.check {
+        Ok(()) => text.push_str("yes\n"),
+        Err(unsound) => add_unsound(alloc, text, unsound),
+    }
+}
+
+/// All lines.
+fn add_lines(
+    alloc: Global,
+    text: &mut String,
+    charset: Charset,
+    info: &Info,
+    image: &[u8],
+) -> Result<(), AllocError> {
+    add_format(alloc, text, image, info.tracks)?;
+    add_more_tracks(alloc, text, image)?;
+    add_label(alloc, text, charset, info)?;
+    add_files(alloc, text, image)?;
+    add_faults(alloc, text, info)
+}
+
+/// What the disk is, as lines.
+pub fn lines_of(alloc: Global, charset: Charset, image: &[u8]) -> Result<Vec<u8>, ShellFault> {
+    let info = info(alloc, image)?;
+    let mut text = String::new(alloc);
+    add_lines(alloc, &mut text, charset, &info, image)?;
+    Ok(text.into_bytes())
+}

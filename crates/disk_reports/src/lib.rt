@@ -1,0 +1,15 @@
+//! What an image shows: lines for people, and JSON and tables for programs.
+#![tactic(auto)]
+
+mod deleted;
+mod find;
+mod flaws;
+mod geos;
+mod info;
+mod report;
+mod sum;
+mod untitled;
+mod view;
+
+pub use report::{heads, refusal_line};
+pub use view::{Answer, Look, Shown, View, lines_of};

@@ -1,0 +1,362 @@
+//! Images for programs: as JSON, and as tables.
+mod table;
+
+use crate::flaws::flaw_report;
+use crate::sum::sum_text;
+use crate::view::{Answer, Look, Shown, View, answer_of};
+use cbm_shell::{Charset, Geos, Info, ShellFault, geos_of, words};
+use cbm_volume::{Entry, FileType, Unsound};
+use disk_basics::{Disk, info, name_text};
+use disk_facts::{format_name, hex, is_meant, kind_name, type_of, unfilled};
+use serde::Serialize;
+use std::alloc::{AllocError, Global};
+pub use table::{heads, table_lines};
+
+/// A sector.
+#[derive(Drop, Serialize)]
+pub struct Sector {
+    /// Its track.
+    pub track: u8,
+    /// Its number on the track.
+    pub sector: u8,
+}
+
+/// What is wrong with a disk first.
+#[derive(Drop, Serialize)]
+struct Flaw {
+    track: u8,
+    sector: u8,
+    number: u8,
+    text: &'static str,
+}
+
+/// What GEOS says of a file.
+#[derive(Drop, Serialize)]
+struct GeosFacts {
+    kind: u8,
+    text: &'static str,
+    records: bool,
+}
+
+/// A file of a disk.
+#[derive(Drop, Serialize)]
+struct File {
+    name: String,
+    petscii: String,
+    #[serde(rename = "type")]
+    kind: &'static str,
+    closed: bool,
+    locked: bool,
+    blocks: u16,
+    bytes: Option<usize>,
+    load: Option<u16>,
+    first: Sector,
+    record: Option<u8>,
+    geos: Option<GeosFacts>,
+}
+
+/// What 18/0 says of a disk.
+#[derive(Drop, Serialize)]
+struct LabelTexts {
+    title: String,
+    id: String,
+    dos: String,
+}
+
+/// An image.
+#[derive(Drop, Serialize)]
+struct Report<'a> {
+    image: &'a str,
+    format: &'static str,
+    tracks: u8,
+    label: Option<LabelTexts>,
+    free: Option<u16>,
+    unreadable: usize,
+    sound: bool,
+    flaw: Option<Flaw>,
+    files: Option<Vec<File>>,
+}
+
+/// The sum of an image.
+#[derive(Drop, Serialize)]
+struct Sum<'a> {
+    image: &'a str,
+    sha256: &'a str,
+}
+
+/// An image that can't be looked at, with the exit status that says why.
+#[derive(Drop, Serialize)]
+struct Refused<'a> {
+    image: &'a str,
+    status: u8,
+}
+
+/// A value as a line of JSON.
+pub fn line<T: Serialize>(alloc: Global, value: &T) -> Result<Vec<u8>, AllocError> {
+    match serde_json::to_vec(alloc, value) {
+        Ok(mut text) => {
+            text.extend_from_slice(b"\n")?;
+            Ok(text)
+        }
+        Err(_) => Err(AllocError),
+    }
+}
+
+/// How long a file is and where it is loaded, where that is known.
+#[derive(Clone, Copy)]
+struct Size {
+    bytes: Option<usize>,
+    load: Option<u16>,
+}
+
+/// The load address of a program.
+fn load_of(entry: &Entry, bytes: &[u8]) -> Option<u16> {
+    match (entry.kind()?, bytes) {
+        (FileType::Prg, [low, high, ..]) => Some(u16::from(*low) + 256 * u16::from(*high)),
+        _ => None,
+    }
+}
+
+/// How long the file of an entry is, where it was closed and can be read.
+fn size_of(alloc: Global, disk: &Disk, entry: &Entry) -> Result<Size, ShellFault> {
+    let unknown = Size {
+        bytes: None,
+        load: None,
+    };
+    if !entry.is_closed() {
+        return Ok(unknown);
+    }
+    match disk.file_of(alloc, entry) {
+        Ok(bytes) => Ok(Size {
+            bytes: Some(bytes.len()),
+            load: load_of(entry, bytes.as_slice()),
+        }),
+        Err(ShellFault::Memory) => Err(ShellFault::Memory),
+        Err(_) => Ok(unknown),
+    }
+}
+
+/// What GEOS says of a file of its own.
+fn geos_facts(geos: Option<Geos>) -> Option<GeosFacts> {
+    let geos = geos?;
+    Some(GeosFacts {
+        kind: geos.kind,
+        text: kind_name(geos.kind),
+        records: geos.has_records,
+    })
+}
+
+/// GEOS's type of a file of its own.
+fn geos_kind(entry: &Entry) -> Option<u8> {
+    let geos = geos_of(entry)?;
+    Some(geos.kind)
+}
+
+/// The length of the records of a relative file.
+fn record_of(entry: &Entry) -> Option<u8> {
+    if entry.is_relative() {
+        Some(entry.record_length())
+    } else {
+        None
+    }
+}
+
+/// A file, with its name and its size.
+fn file_of(alloc: Global, entry: &Entry, charset: Charset, size: Size) -> Result<File, AllocError> {
+    let name = name_text(alloc, charset, entry.name())?;
+    let petscii = hex(alloc, entry.name())?;
+    let first = entry.first_block();
+    Ok(File {
+        name,
+        petscii,
+        kind: type_of(entry).unwrap_or("unknown"),
+        closed: entry.is_closed(),
+        locked: entry.is_locked(),
+        blocks: entry.blocks(),
+        bytes: size.bytes,
+        load: size.load,
+        first: Sector {
+            track: first.track(),
+            sector: first.sector(),
+        },
+        record: record_of(entry),
+        geos: geos_facts(geos_of(entry)),
+    })
+}
+
+/// Adds the file of an entry.
+fn add_file(
+    alloc: Global,
+    files: &mut Vec<File>,
+    disk: &Disk,
+    entry: &Entry,
+    charset: Charset,
+) -> Result<(), ShellFault> {
+    let size = size_of(alloc, disk, entry)?;
+    let file = file_of(alloc, entry, charset, size)?;
+    files.push(file).map_err(AllocError::from)?;
+    Ok(())
+}
+
+/// Whether the file of an entry is meant.
+fn files_meant(entry: &Entry, look: Look<'_>) -> bool {
+    is_meant(entry, look.pattern)
+}
+
+/// The files that are meant.
+fn files_of(
+    alloc: Global,
+    disk: &Disk,
+    entries: &[Entry],
+    look: Look<'_>,
+) -> Result<Vec<File>, ShellFault> {
+    let mut files = Vec::new(alloc);
+    for entry in entries {
+        if files_meant(entry, look) {
+            add_file(alloc, &mut files, disk, entry, look.charset)?;
+        }
+    }
+    Ok(files)
+}
+
+/// The files of a disk that are meant, where its directory can be followed to its end.
+fn files_on(alloc: Global, disk: &Disk, look: Look<'_>) -> Result<Option<Vec<File>>, ShellFault> {
+    match disk.entries(alloc) {
+        Ok(entries) => Ok(Some(files_of(alloc, disk, entries.as_slice(), look)?)),
+        Err(ShellFault::Memory) => Err(ShellFault::Memory),
+        Err(_) => Ok(None),
+    }
+}
+
+/// The files of an image that are meant, where its directory can be followed to its end.
+fn files_in(alloc: Global, image: &[u8], look: Look<'_>) -> Result<Option<Vec<File>>, ShellFault> {
+    let disk = Disk::open(alloc, image)?;
+    files_on(alloc, &disk, look)
+}
+
+/// What 18/0 says of a disk, where it can be read.
+fn label_of(
+    alloc: Global,
+    charset: Charset,
+    info: &Info,
+) -> Result<Option<LabelTexts>, AllocError> {
+    let Some(label) = info.label else {
+        return Ok(None);
+    };
+    let [first, second, _, dos, version] = label.mark;
+    let title = name_text(alloc, charset, unfilled(label.title.as_slice()))?;
+    let id = name_text(alloc, charset, &[first, second])?;
+    let dos = name_text(alloc, charset, &[dos, version])?;
+    Ok(Some(LabelTexts { title, id, dos }))
+}
+
+/// What is wrong with a disk first.
+fn flaw_of(check: &Result<(), Unsound>) -> Option<Flaw> {
+    match check {
+        Ok(()) => None,
+        Err(unsound) => Some(Flaw {
+            track: unsound.track,
+            sector: unsound.sector,
+            number: unsound.number,
+            text: std::str::from_utf8(words(unsound.number)).unwrap_or("it isn't sound"),
+        }),
+    }
+}
+
+/// The line of an image, with what is known of it.
+fn image_line(
+    alloc: Global,
+    name: &str,
+    image: &[u8],
+    look: Look<'_>,
+    info: &Info,
+    files: Option<Vec<File>>,
+) -> Result<Vec<u8>, AllocError> {
+    let label = label_of(alloc, look.charset, info)?;
+    let report = Report {
+        image: name,
+        format: format_name(image),
+        tracks: info.tracks,
+        label,
+        free: info.free,
+        unreadable: info.unreadable.len(),
+        sound: info.check.is_ok(),
+        flaw: flaw_of(&info.check),
+        files,
+    };
+    line(alloc, &report)
+}
+
+/// Whether a search found none of these files.
+fn has_none(look: Look<'_>, files: &Option<Vec<File>>) -> bool {
+    match files {
+        Some(files) => look.view == View::Matches && files.is_empty(),
+        None => look.view == View::Matches,
+    }
+}
+
+/// What a look came to.
+fn image_answer(look: Look<'_>, info: &Info) -> Answer {
+    if look.view == View::Soundness {
+        answer_of(&info.check)
+    } else {
+        Answer::Fine
+    }
+}
+
+/// An image and its files; nothing where a search found none.
+fn image_report(
+    alloc: Global,
+    name: &str,
+    image: &[u8],
+    look: Look<'_>,
+) -> Result<Shown, ShellFault> {
+    let files = files_in(alloc, image, look)?;
+    if has_none(look, &files) {
+        return Ok(Shown {
+            text: Vec::new(alloc),
+            answer: Answer::NoMatch,
+        });
+    }
+    let info = info(alloc, image)?;
+    let text = image_line(alloc, name, image, look, &info, files)?;
+    Ok(Shown {
+        text,
+        answer: image_answer(look, &info),
+    })
+}
+
+/// The sum of an image.
+fn sum_report(alloc: Global, name: &str, image: &[u8]) -> Result<Shown, ShellFault> {
+    let sum = sum_text(alloc, image)?;
+    let text = line(
+        alloc,
+        &Sum {
+            image: name,
+            sha256: sum.as_str(),
+        },
+    )?;
+    Ok(Shown {
+        text,
+        answer: Answer::Fine,
+    })
+}
+
+/// What an image shows to programs: a line of JSON.
+pub fn report_line(
+    alloc: Global,
+    name: &str,
+    image: &[u8],
+    look: Look<'_>,
+) -> Result<Shown, ShellFault> {
+    match look.view {
+        View::Sum => sum_report(alloc, name, image),
+        View::Flaws => flaw_report(alloc, name, image, look),
+        _ => image_report(alloc, name, image, look),
+    }
+}
+
+/// The line of an image that can't be looked at.
+pub fn refusal_line(alloc: Global, image: &str, status: u8) -> Result<Vec<u8>, AllocError> {
+    line(alloc, &Refused { image, status })
+}

@@ -1,0 +1,187 @@
+//! What an image shows.
+use crate::deleted::add_deleted;
+use crate::find::add_matches;
+use crate::flaws::add_all_flaws;
+use crate::geos::add_geos;
+use crate::info::lines_of as info_lines;
+use crate::report::{report_line, table_lines};
+use crate::sum::add_sum;
+use crate::untitled::add_untitled;
+use cbm_shell::{Charset, ShellFault};
+use cbm_volume::Unsound;
+use disk_basics::{check, check_text, directory, raw_directory};
+use std::alloc::{AllocError, Global};
+
+/// What is shown.
+#[derive(Clone, Copy, PartialEq, Eq)]
+pub enum View {
+    /// The directory.
+    Directory,
+    /// The directory as the drive sends it.
+    Sent,
+    /// The files that were deleted.
+    Deleted,
+    /// The files that match.
+    Matches,
+    /// What the disk is.
+    Facts,
+    /// Whether it is sound.
+    Soundness,
+    /// All that is wrong with it.
+    Flaws,
+    /// A sum of its sectors.
+    Sum,
+}
+
+/// How images are looked at.
+#[derive(Clone, Copy)]
+pub struct Look<'p> {
+    /// What is shown of them.
+    pub view: View,
+    /// The character set of names.
+    pub charset: Charset,
+    /// The files that are meant.
+    pub pattern: &'p [u8],
+    /// It is shown for programs.
+    pub is_json: bool,
+    /// It is shown for programs, as a table.
+    pub is_csv: bool,
+    /// Of folders their images are meant.
+    pub is_recursive: bool,
+    /// It is one of several images.
+    pub is_among: bool,
+}
+
+/// What a look at an image came to.
+#[derive(Clone, Copy)]
+pub enum Answer {
+    /// It is as it should be.
+    Fine,
+    /// It isn't sound.
+    Unsound(Unsound),
+    /// No file matches.
+    NoMatch,
+    /// Its files are shown, and 18/0 can't be read.
+    Untitled,
+}
+
+/// What an image shows.
+#[derive(Drop)]
+pub struct Shown {
+    /// Its lines.
+    pub text: Vec<u8>,
+    /// What they come to.
+    pub answer: Answer,
+}
+
+/// Whether a disk is sound, as an answer.
+pub fn answer_of(check: &Result<(), Unsound>) -> Answer {
+    match check {
+        Ok(()) => Answer::Fine,
+        Err(unsound) => Answer::Unsound(*unsound),
+    }
+}
+
+/// Adds whether the disk is sound.
+fn add_check(alloc: Global, text: &mut Vec<u8>, image: &[u8]) -> Result<Answer, ShellFault> {
+    let found = check(alloc, image)?;
+    text.extend_from_slice(check_text(alloc, &found)?.as_slice())?;
+    Ok(answer_of(&found))
+}
+
+/// Adds the directory, and what GEOS has on the disk.
+fn add_directory(
+    alloc: Global,
+    text: &mut Vec<u8>,
+    image: &[u8],
+    look: Look<'_>,
+) -> Result<Answer, ShellFault> {
+    match directory(alloc, image, look.charset, look.pattern) {
+        Ok(lines) => text.extend_from_slice(lines.as_slice())?,
+        Err(fault) => return add_untitled(alloc, text, image, look, fault),
+    }
+    add_geos(alloc, text, image, look)?;
+    Ok(Answer::Fine)
+}
+
+/// Adds what a disk is, and what GEOS has on it.
+fn add_facts(
+    alloc: Global,
+    text: &mut Vec<u8>,
+    image: &[u8],
+    look: Look<'_>,
+) -> Result<Answer, ShellFault> {
+    let lines = info_lines(alloc, look.charset, image)?;
+    text.extend_from_slice(lines.as_slice())?;
+    add_geos(alloc, text, image, look)?;
+    Ok(Answer::Fine)
+}
+
+/// Adds lines that are made whole.
+fn add_whole(text: &mut Vec<u8>, lines: Result<Vec<u8>, ShellFault>) -> Result<Answer, ShellFault> {
+    text.extend_from_slice(lines?.as_slice())?;
+    Ok(Answer::Fine)
+}
+
+/// Adds what an image shows to people.
+fn add_lines(
+    alloc: Global,
+    text: &mut Vec<u8>,
+    name: &str,
+    image: &[u8],
+    look: Look<'_>,
+) -> Result<Answer, ShellFault> {
+    match look.view {
+        View::Directory => add_directory(alloc, text, image, look),
+        View::Sent => add_whole(text, raw_directory(alloc, image, look.pattern)),
+        View::Deleted => add_deleted(alloc, text, image, look),
+        View::Matches => add_matches(alloc, text, name, image, look),
+        View::Facts => add_facts(alloc, text, image, look),
+        View::Soundness => add_check(alloc, text, image),
+        View::Flaws => add_all_flaws(alloc, text, image, look),
+        View::Sum => add_sum(alloc, text, name, image),
+    }
+}
+
+/// Adds the name of one of several images, where its lines don't have it.
+fn add_heading(text: &mut Vec<u8>, name: &str, look: Look<'_>) -> Result<(), AllocError> {
+    if !look.is_among {
+        return Ok(());
+    }
+    let end: &[u8] = match look.view {
+        View::Directory | View::Deleted | View::Facts | View::Flaws => b":\n",
+        View::Soundness => b": ",
+        View::Sent | View::Matches | View::Sum => return Ok(()),
+    };
+    text.extend_from_slice(name.as_bytes())?;
+    text.extend_from_slice(end)
+}
+
+/// What an image shows to people.
+fn people_lines(
+    alloc: Global,
+    name: &str,
+    image: &[u8],
+    look: Look<'_>,
+) -> Result<Shown, ShellFault> {
+    let mut text = Vec::new(alloc);
+    add_heading(&mut text, name, look)?;
+    let answer = add_lines(alloc, &mut text, name, image, look)?;
+    Ok(Shown { text, answer })
+}
+
+/// What an image shows, to people or to programs.
+pub fn lines_of(
+    alloc: Global,
+    name: &str,
+    image: &[u8],
+    look: Look<'_>,
+) -> Result<Shown, ShellFault> {
+    if look.is_json {
+        report_line(alloc, name, image, look)
+    } else if look.is_csv {
+        table_lines(alloc, name, image, look)
+    } else {
+        people_lines(alloc, name, image, look)
+    }
+}
