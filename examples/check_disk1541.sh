@@ -148,7 +148,7 @@ is "and shows what is used" grep -q '^18     ##\.\.\.' out.txt
 case_of "map of an image with error bytes" 0 any "" "$disk" map bad.d64
 is "shows what can't be read" grep -q '^ 1     \.\.\.x\.' out.txt
 # The file of three bytes, 01 02 03, lies in 17/0: loaded to $0201.
-json='{"image":"there.d64","format":"D64","tracks":35,"label":{"title":"TEST","id":"AB","dos":"2A"},"free":663,"unreadable":0,"sound":true,"flaw":null,"files":[{"name":"HELLO","petscii":"48454c4c4f","type":"prg","closed":true,"locked":false,"blocks":1,"bytes":3,"load":513,"first":{"track":17,"sector":0},"record":null,"geos":null}]}'
+json='{"image":"there.d64","format":"D64","tracks":35,"more_tracks":[],"label":{"title":"TEST","id":"AB","dos":"2A"},"free":663,"unreadable":0,"sound":true,"flaw":null,"files":[{"name":"HELLO","petscii":"48454c4c4f","type":"prg","closed":true,"locked":false,"blocks":1,"bytes":3,"load":513,"first":{"track":17,"sector":0},"record":null,"geos":null}]}'
 for word in list info check; do
     case_of "$word as JSON" 0 "$json" "" "$disk" $word there.d64 --json
 done
@@ -648,6 +648,8 @@ case_of "a track without a mark" 0 "track 36: 32 bits
 no sync mark" "" "$disk" track half.g64 36
 case_of "info names them" 0 any "" "$disk" info half.g64
 is "in a line" grep -qx 'more tracks  17.5 36' out.txt
+case_of "and for programs" 0 any "" "$disk" info half.g64 --json
+is "as a list" grep -q '"more_tracks":\["17.5","36"\]' out.txt
 case_of "no such track" 1 "" "disk1541: track.g64 has no such track" "$disk" track track.g64 17.5
 case_of "no such number" 64 "" "disk1541: 43 is no track: take 1 to 42, and 17.5 for the half track after 17" "$disk" track track.g64 43
 case_of "a D64 has no tracks of bits" 1 "" "disk1541: track.d64 is a D64, which has the bytes of sectors, and no sync marks: \`sector\` shows them" "$disk" track track.d64 1

@@ -1,4 +1,5 @@
 //! The tracks of a G64 as they stand in its file.
+use cbm_image::{Kind, kind_of};
 use std::alloc::{AllocError, Global};
 
 /// Where the places of tracks stand in the file.
@@ -58,13 +59,15 @@ fn is_more(image: &[u8], index: usize) -> bool {
     (index % 2 == 1 || index >= BEYOND) && place_of(image, index) != 0
 }
 
-/// The names of half tracks and of tracks beyond 35 that a file has, each after a space.
-pub fn more_tracks(alloc: Global, image: &[u8]) -> Result<String, AllocError> {
-    let mut names = String::new(alloc);
+/// The names of half tracks and of tracks beyond 35 that a G64 has; a D64 has none.
+pub fn more_tracks(alloc: Global, image: &[u8]) -> Result<Vec<String>, AllocError> {
+    let mut names = Vec::new(alloc);
+    if kind_of(image) == Kind::D64 {
+        return Ok(names);
+    }
     for index in 0..count_of(image) {
         if is_more(image, index) {
-            names.push(' ')?;
-            names.push_str(track_name(alloc, index)?.as_str())?;
+            names.push(track_name(alloc, index)?)?;
         }
     }
     Ok(names)

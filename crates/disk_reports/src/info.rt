@@ -1,5 +1,4 @@
 //! INFO: what the disk is.
-use cbm_image::{Kind, kind_of};
 use cbm_shell::{Charset, Info, ShellFault};
 use cbm_volume::Unsound;
 use disk_basics::{entries, info, name_text, unsound_text};
@@ -19,15 +18,15 @@ fn add_format(
 
 /// The line of half tracks and tracks beyond 35, where a G64 has such.
 fn add_more_tracks(alloc: Global, text: &mut String, image: &[u8]) -> Result<(), AllocError> {
-    if kind_of(image) == Kind::D64 {
-        return Ok(());
-    }
     let names = more_tracks(alloc, image)?;
     if names.is_empty() {
         return Ok(());
     }
     text.push_str("more tracks ")?;
-    text.push_str(names.as_str())?;
+    for name in names.as_slice() {
+        text.push(' ')?;
+        text.push_str(name.as_str())?;
+    }
     text.push('\n')
 }
 

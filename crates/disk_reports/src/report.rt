@@ -7,7 +7,7 @@ use crate::view::{Answer, Look, Shown, View, answer_of};
 use cbm_shell::{Charset, Geos, Info, ShellFault, geos_of, words};
 use cbm_volume::{Entry, FileType, Unsound};
 use disk_basics::{Disk, info, name_text};
-use disk_facts::{format_name, hex, is_meant, kind_name, type_of, unfilled};
+use disk_facts::{format_name, hex, is_meant, kind_name, more_tracks, type_of, unfilled};
 use serde::Serialize;
 use std::alloc::{AllocError, Global};
 pub use table::{heads, table_lines};
@@ -69,6 +69,7 @@ struct Report<'a> {
     image: &'a str,
     format: &'static str,
     tracks: u8,
+    more_tracks: Vec<String>,
     label: Option<LabelTexts>,
     free: Option<u16>,
     unreadable: usize,
@@ -273,10 +274,12 @@ fn image_line(
     files: Option<Vec<File>>,
 ) -> Result<Vec<u8>, AllocError> {
     let label = label_of(alloc, look.charset, info)?;
+    let more_tracks = more_tracks(alloc, image)?;
     let report = Report {
         image: name,
         format: format_name(image),
         tracks: info.tracks,
+        more_tracks,
         label,
         free: info.free,
         unreadable: info.unreadable.len(),
