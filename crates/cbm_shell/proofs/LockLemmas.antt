@@ -1,15 +1,15 @@
 -- Files are locked or freed: a sound disk stays sound.
-use Rattle.std.proofs.Common.{◌≡◌, ℕ, zero, suc, ◌+◌, ◌-◌, ◌<◌, ◌≤◌, List, [], ◌∷◌, length, Bool, true, false, Option, Some, Ok, Err, refl, sym, ap, subst, ◌∙◌, arith}
-use Rattle.std.specs.Prelude.{◌==◌, if◌then◌else◌, slice_get, unwrap_or, MatchBool}
+use Rattle.std.proofs.Common.{◌≡◌, ℕ, zero, suc, ◌<◌, ◌≤◌, List, [], ◌∷◌, length, Bool, true, false, Some, Ok, Err, refl, sym, subst, ◌∙◌, arith}
+use Rattle.std.specs.Prelude.{◌==◌, if◌then◌else◌, MatchBool}
 use Rattle.std.proofs.lemmas.Option.{slice_get_within}
 use Rattle.cbm_medium.specs.Place.{Place, has}
 use Rattle.cbm_medium.specs.Content.{Cell, Content}
 use Rattle.cbm_medium.specs.Links.{ended, cut_at, behind, follow, link}
 use Rattle.cbm_directory.specs.Entries.{EntersLed, first_directory}
-use Rattle.cbm_volume.specs.Slots.{Answers, directory_of, listed_from, all_entries, first_from}
+use Rattle.cbm_volume.specs.Slots.{Answers, directory_of, listed_from, all_entries}
 use Rattle.cbm_volume.specs.Layouts.{Layout, Sound}
 use Rattle.cbm_volume.proofs.Listing.{entries_length}
-use Rattle.cbm_shell.specs.Locking.{is_unlike, locked_entry, Locks, LocksSlot, LocksSlots, LocksEach, LocksAll}
+use Rattle.cbm_shell.specs.Locking.{is_unlike, locked_entry, LocksSlot, LocksSlots, LocksEach, LocksAll}
 use Rattle.cbm_shell.proofs.EntryLemmas.{LiesAlike, StaysSound, stays_same, stays_sound}
 
 -- the file of the entry lies where it lay
@@ -42,35 +42,6 @@ locks_sound locked tracks [] c c2 l s h = stays_same tracks c c2 l s h
 locks_sound locked tracks (pattern ∷ rest) c c2 l s h =
     let a = lock_slots locked tracks pattern h.1.slots c h.0 l s h.1.each in
     then_sound tracks c h.0 c2 a (locks_sound locked tracks rest h.0 c2 a.layout a.sound h.2)
-
--- ---- the first file that isn't locked as it shall be
-
--- the entry that was found stands in its slot
-first_stands : (test : List ℕ → Bool) (n : ℕ) (entries : List (List ℕ)) (j : ℕ) (e : List ℕ) → first_from test n entries ≡ Some (j, e) → (n ≤ j) × (slice_get entries (j - n) ≡ Some e)
-first_stands test n [] j e h = absurd (cc)
-first_stands test n (x ∷ entries) j e h = by_test (test x) h (first_stands test (n + 1) entries j e)
-  where
-    by_test : (b : Bool) → (if b then Some (n, x) else first_from test (n + 1) entries) ≡ Some (j, e)
-        → (first_from test (n + 1) entries ≡ Some (j, e) → (n + 1 ≤ j) × (slice_get entries (j - (n + 1)) ≡ Some e)) → (n ≤ j) × (slice_get (x ∷ entries) (j - n) ≡ Some e)
-    by_test true k later =
-        let number : n ≡ j = ap (λ (o : Option (ℕ × List ℕ)). (unwrap_or o (0, [])).0) k in
-        let same : x ≡ e = ap (λ (o : Option (ℕ × List ℕ)). (unwrap_or o (0, [])).1) k in
-        let here : j - n ≡ 0 = omega arith in
-        (omega arith, ap (slice_get (x ∷ entries)) here ∙ ap Some same)
-    by_test false k later =
-        let r = later k in
-        let next : j - n ≡ suc (j - (n + 1)) = omega (arith, r.0) in
-        (omega (arith, r.0), ap (slice_get (x ∷ entries)) next ∙ r.1)
-
-pub found_stands : (test : List ℕ → Bool) (tracks : ℕ) (c : Content) (j : ℕ) (e : List ℕ) → first_from test 0 (directory_of tracks c).entries ≡ Some (j, e) → Answers (directory_of tracks c) j (Ok (Some e))
-found_stands test tracks c j e h =
-    let r = first_stands test 0 (directory_of tracks c).entries j e h in
-    let same : j ≡ j - 0 = omega arith in
-    ap (slice_get (directory_of tracks c).entries) same ∙ r.1
-
-pub lock_sound : (locked : Bool) (tracks : ℕ) (pattern : List ℕ) (c c2 : Content) (l : Layout) → Sound tracks c l → Locks locked tracks pattern c c2 → StaysSound tracks c c2
-lock_sound locked tracks pattern c c2 l s h =
-    stays_sound tracks c c2 l h.slot h.entry (locked_entry locked h.entry) s (found_stands (is_unlike pattern locked) tracks c h.slot h.entry h.first) (locked_alike locked h.entry) h.entered
 
 -- ---- the slots of a directory are few
 

@@ -1,6 +1,6 @@
 -- Records that are sent one after another.
 use Rattle.std.proofs.Common.{◌≡◌, ℕ, suc, ◌+◌, ◌<◌, ◌≤◌, List, [], ◌∷◌, ◌++◌, length, take, drop, drop-cons, get_or, arith, sym, subst, refl, ap, ◌∙◌, append_assoc, append-nil, inl, inr}
-use Rattle.std.specs.Prelude.{map, Result, Ok, Err, MatchResult}
+use Rattle.std.specs.Prelude.{Result, Ok, Err, MatchResult}
 use Rattle.std.proofs.Math.Seq.{take-append_seam}
 use Rattle.cbm_channel.specs.declared.Status.{Status}
 use Rattle.cbm_channel.specs.Codes.{code_number}

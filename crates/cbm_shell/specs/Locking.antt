@@ -6,7 +6,7 @@ use Rattle.cbm_medium.specs.Links.{bytes_at}
 use Rattle.cbm_file.specs.Padding.{padded}
 use Rattle.cbm_file.specs.Files.{Disk}
 use Rattle.cbm_volume.specs.Entries.{type_byte, bit_of, EntersLed}
-use Rattle.cbm_volume.specs.Slots.{Answers, Finds, directory_of}
+use Rattle.cbm_volume.specs.Slots.{Answers, directory_of}
 use Rattle.cbm_channel.specs.Sought.{is_sought}
 use Rattle.cbm_shell.specs.Editing.{HasNoSlot}
 
@@ -32,17 +32,6 @@ locked_type locked type = type % 64 + 128 * (type / 128) + lock_bit locked
 -- an entry with that bit so, and all else as it was
 abbrev pub locked_entry : Bool → List ℕ → List ℕ
 locked_entry locked e = slice_set e 0 (locked_type locked (type_byte e))
-
--- THE FIRST FILE that isn't locked as it shall be is so in the new content, and nothing else is changed.
-pub record Locks (locked : Bool) (tracks : ℕ) (pattern : List ℕ) (old new : Content) : Type 0 where
-  pub slot : ℕ
-  pub entry : List ℕ
-  pub first : Finds (is_unlike pattern locked) (directory_of tracks old) (Ok (Some (slot, entry)))
-  pub entered : EntersLed tracks old new slot (locked_entry locked entry)
-
--- each file that matches is locked as it shall be
-abbrev pub AreLocked : Bool → ℕ → List ℕ → Content → Type 0
-AreLocked locked tracks pattern content = Finds (is_unlike pattern locked) (directory_of tracks content) (Ok None)
 
 -- ONE SLOT: the entry of a file that matches, and isn't locked as it shall be, is so; any other stays. Nothing else is changed.
 pub record LocksSlot (locked : Bool) (tracks : ℕ) (pattern : List ℕ) (slot : ℕ) (old new : Content) : Type 0 where

@@ -41,13 +41,13 @@ pub fn forget(alloc: Global, image: &[u8], slot: u8) -> Result<Option<Vec<u8>>, 
 }
 
 /// The image with each file locked, or freed, that one of the patterns means. Errors: `Image`, `Unsound`, `Memory`.
-pub fn locks(
+pub fn lock(
     alloc: Global,
     image: &[u8],
     patterns: &[&[u8]],
     is_locked: bool,
 ) -> Result<Vec<u8>, ShellFault> {
-    cbm_shell::locks(alloc, image, patterns, is_locked)
+    cbm_shell::lock(alloc, image, patterns, is_locked)
 }
 
 /// The image with another title, of at most sixteen codes. Errors: `Image`, `Trouble`, `Memory`.

@@ -18,7 +18,7 @@ pub use calls::{
     name_text, picture, raw_directory, read_name, sector, unsound_text,
 };
 pub use changing::{
-    add_art, change, changes, dress, forget, locks, new_image, put_records, retitle, swap_entries,
+    add_art, change, changes, dress, forget, lock, new_image, put_records, retitle, swap_entries,
     undelete, validate,
 };
 pub use disk::Disk;

@@ -2,7 +2,7 @@
 use crate::blanks::title_of;
 use cbm_shell::Charset;
 use cbm_volume::Entry;
-use disk_basics::{Failure, entries, in_memory, locks, on_disk, petscii, retitle};
+use disk_basics::{Failure, entries, in_memory, lock, on_disk, petscii, retitle};
 use disk_facts::first_meant;
 use std::alloc::{AllocError, Global};
 
@@ -65,7 +65,7 @@ fn locked_by<'a>(
     is_locked: bool,
 ) -> Result<Vec<u8>, Failure<'a>> {
     let slices = in_memory(slices_of(alloc, patterns))?;
-    on_disk(image, locks(alloc, bytes, slices.as_slice(), is_locked))
+    on_disk(image, lock(alloc, bytes, slices.as_slice(), is_locked))
 }
 
 /// The image with each file locked, or freed, that one of the words means.

@@ -1,27 +1,25 @@
 //! Locking files against SCRATCH, and another title: two changes that no command of the drive makes.
-ghost use Rattle.std.specs.Prelude.{◌≡◌, None, IfOk, IfErr, IfSome, IsOk, OnOk, MatchOption};
+ghost use Rattle.std.specs.Prelude.{◌≡◌, ◌<◌, ◌≤◌, None, true, map, IfOk, IfErr, IsOk, OnOk, MatchBool};
 ghost use Rattle.cbm_volume.specs.Map.{geometry_of};
 ghost use Rattle.cbm_image.specs.Images.{kind_of, image_fault, tracks_of, content_of};
 ghost use Rattle.cbm_shell.specs.Images.{IsSoundImage};
-ghost use Rattle.cbm_shell.specs.Editing.{CanBeEdited, IsUneditedIn};
-ghost use Rattle.cbm_shell.specs.Locking.{is_other, is_unlike, lock_bit, locked_type, locked_entry, Locks, AreLocked};
+ghost use Rattle.cbm_shell.specs.Editing.{CanBeEdited, HasNoSlot, IsSameMedium, IsUneditedIn};
+ghost use Rattle.cbm_shell.specs.Locking.{is_other, is_unlike, lock_bit, locked_type, locked_entry, LocksSlot, LocksEach, LocksAll};
 
 use crate::changing::require_sound;
 use crate::fault::ShellFault;
 use crate::images::{opened, saved};
 use cbm_command::matches;
 use cbm_d64::D64Disk;
-use cbm_directory::put_slot;
+use cbm_directory::{put_slot, slot};
 use cbm_g64::G64Disk;
 use cbm_image::{DiskImage, Kind, kind_of};
-use cbm_medium::Steady;
-use cbm_volume::{Entry, Volume, Wanted};
+use cbm_medium::{Geometry, Steady};
+use cbm_volume::{Entry, Volume};
 use std::alloc::Global;
 
-mod each;
 mod title;
 
-pub use each::locks;
 pub use title::retitle;
 pub(crate) use title::write_head;
 
@@ -40,23 +38,6 @@ fn is_unlike(entry: &Entry, pattern: &[u8], is_locked: bool) -> bool
     ensures { result ≡ is_unlike pattern.now is_locked entry.now }
 {
     !entry.is_empty() && matches(pattern, entry.name()) && is_other(entry.is_locked(), is_locked)
-}
-
-/// A file whose name matches, and that isn't locked as it shall be.
-#[derive(Drop)]
-struct Unlike<'a> {
-    pattern: &'a [u8],
-    is_locked: bool,
-}
-
-impl Wanted for Unlike<'_> {
-    ghost use Rattle.cbm_shell.specs.Locking.{is_unlike};
-
-    ghost wants = { λ s. is_unlike s.pattern.now s.is_locked };
-
-    fn wants(&self, entry: &Entry) -> bool {
-        is_unlike(entry, self.pattern, self.is_locked)
-    }
 }
 
 /// The bit of a type byte that says that a file is locked.
@@ -91,81 +72,132 @@ pub(crate) fn locked_entry(entry: &Entry, is_locked: bool) -> Entry
     entry_of(&bytes)
 }
 
-/// The disk with the first file changed that matches and isn't locked as it shall be; None where there is none. Errors:
-/// `Trouble`, where the directory breaks off before, or the medium refuses to be written; never on a sound disk that can be
-/// written.
-fn locked<M: Steady + Drop>(
-    volume: Volume<M>,
+/// Locks or frees the file in a slot, if its name matches; false where the directory ends before the slot. Errors: `Trouble`,
+/// but never on a sound disk that can be written.
+fn lock_slot<M: Steady>(
+    medium: &mut M,
+    geometry: Geometry,
+    number: u8,
     pattern: &[u8],
     is_locked: bool,
-) -> Result<Option<M>, ShellFault>
-    ensures tracks { IfOk result (λ o. MatchOption o (Unit {0}) (λ after. (M.seen after).tracks ≡ (M.seen volume).tracks)) }
-    ensures locks { let old = M.seen volume in let tracks = geometry_of old.tracks old.content in
-        IfOk result (λ o. MatchOption o (AreLocked is_locked tracks pattern.now old.content)
-        (λ after. Locks is_locked tracks pattern.now old.content (M.seen after).content)) }
-    ensures never { let old = M.seen volume in CanBeEdited (geometry_of old.tracks old.content) old → IsOk result }
+) -> Result<bool, ShellFault>
+    requires { geometry ≤ (M.seen medium.old).tracks }
+    ensures locks { let old = (M.seen medium.old).content in let new = (M.seen medium.new).content in
+        IfOk result (λ b. MatchBool b (LocksSlot is_locked geometry pattern.now number old new)
+        (HasNoSlot geometry old number × (new ≡ old))) }
+    ensures few { IfOk result (λ b. b ≡ true → number < 144) }
+    ensures same { IsSameMedium (M.seen medium.old) (M.seen medium.new) }
+    ensures never { CanBeEdited geometry (M.seen medium.old) → IsOk result }
 {
-    let Some((slot, entry)) = volume.find(&Unlike { pattern, is_locked })? else {
-        return Ok(None);
+    let Some(entry) = slot(medium, geometry, number)? else {
+        return Ok(false);
     };
-    let geometry = volume.geometry();
-    let mut medium = volume.into_medium();
-    put_slot(
-        &mut medium,
-        geometry,
-        slot,
-        &locked_entry(&entry, is_locked),
-    )?;
-    Ok(Some(medium))
+    if is_unlike(&entry, pattern, is_locked) {
+        put_slot(medium, geometry, number, &locked_entry(&entry, is_locked))?;
+    }
+    Ok(true)
 }
 
-/// Locks a file of an image of one format.
+/// Locks or frees each file whose name matches. Errors: `Trouble`, but never on a sound disk that can be written.
+fn lock_matching<M: Steady>(
+    medium: &mut M,
+    geometry: Geometry,
+    pattern: &[u8],
+    is_locked: bool,
+) -> Result<(), ShellFault>
+    requires { geometry ≤ (M.seen medium.old).tracks }
+    ensures locks { OnOk result
+        (LocksEach is_locked geometry pattern.now (M.seen medium.old).content (M.seen medium.new).content) }
+    ensures same { IsSameMedium (M.seen medium.old) (M.seen medium.new) }
+    ensures never { CanBeEdited geometry (M.seen medium.old) → IsOk result }
+{
+    let mut number = 0;
+    'slots: while lock_slot(medium, geometry, number, pattern, is_locked)? {
+        number += 1;
+    }
+    Ok(())
+}
+
+/// Locks or frees the files that patterns mean, pattern after pattern. Errors: `Trouble`, but never on a sound disk that can be
+/// written.
+fn lock_all<M: Steady>(
+    medium: &mut M,
+    geometry: Geometry,
+    patterns: &[&[u8]],
+    is_locked: bool,
+) -> Result<(), ShellFault>
+    requires { geometry ≤ (M.seen medium.old).tracks }
+    ensures locks { OnOk result (LocksAll (map (λ r. r.now) patterns.now) is_locked geometry
+        (M.seen medium.old).content (M.seen medium.new).content) }
+    ensures same { IsSameMedium (M.seen medium.old) (M.seen medium.new) }
+    ensures never { CanBeEdited geometry (M.seen medium.old) → IsOk result }
+{
+    for pattern in patterns {
+        lock_matching(medium, geometry, *pattern, is_locked)?;
+    }
+    Ok(())
+}
+
+/// The disk on which the files are locked or freed that patterns mean.
+fn all_locked<M: Steady + Drop>(
+    volume: Volume<M>,
+    patterns: &[&[u8]],
+    is_locked: bool,
+) -> Result<M, ShellFault>
+    ensures locks { let old = M.seen volume in IfOk result (λ after.
+        LocksAll (map (λ r. r.now) patterns.now) is_locked (geometry_of old.tracks old.content) old.content (M.seen after).content) }
+    ensures tracks { IfOk result (λ after. (M.seen after).tracks ≡ (M.seen volume).tracks) }
+    ensures never { let old = M.seen volume in CanBeEdited (geometry_of old.tracks old.content) old → IsOk result }
+{
+    let geometry = volume.geometry();
+    let mut medium = volume.into_medium();
+    lock_all(&mut medium, geometry, patterns, is_locked)?;
+    Ok(medium)
+}
+
+/// Locks or frees the files of an image of one format that patterns mean.
 fn lock_in<I: DiskImage + Drop>(
     alloc: Global,
     image: &[u8],
-    pattern: &[u8],
+    patterns: &[&[u8]],
     is_locked: bool,
-) -> Result<Option<Vec<u8>>, ShellFault>
+) -> Result<Vec<u8>, ShellFault>
     requires { kind_of image.now ≡ I.kind }
     ensures locks { let kind = kind_of image.now in
-        let tracks = geometry_of (tracks_of kind image.now) (content_of kind image.now) in
-        IfOk result (λ o. MatchOption o (AreLocked is_locked tracks pattern.now (content_of kind image.now))
-        (λ v. Locks is_locked tracks pattern.now (content_of kind image.now) (content_of kind v.items))) }
+        let tracks = geometry_of (tracks_of kind image.now) (content_of kind image.now) in IfOk result (λ v.
+        LocksAll (map (λ r. r.now) patterns.now) is_locked tracks (content_of kind image.now) (content_of kind v.items)) }
     ensures sound { OnOk result (IsSoundImage (kind_of image.now) image.now) }
-    ensures stays { IfOk result (λ o. IfSome o (λ v. IsSoundImage (kind_of image.now) v.items)) }
-    ensures opens { IfOk result (λ o. IfSome o (λ v. image_fault (kind_of image.now) v.items ≡ None)) }
+    ensures stays { IfOk result (λ v. IsSoundImage (kind_of image.now) v.items) }
+    ensures opens { IfOk result (λ v. image_fault (kind_of image.now) v.items ≡ None) }
     ensures fault { IfErr result (IsUneditedIn image.now ⊥) }
 {
     let volume = Volume::open(opened::<I>(alloc, image)?);
     require_sound(&volume)?;
-    let Some(disk) = locked(volume, pattern, is_locked)? else {
-        return Ok(None);
-    };
-    Ok(Some(saved(alloc, &disk)?))
+    let disk = all_locked(volume, patterns, is_locked)?;
+    saved(alloc, &disk)
 }
 
-/// Locks the first file of an image against SCRATCH that matches a pattern and isn't locked, or frees the first that is;
-/// None where there is none. Errors: `Image`; `Unsound`, with what is wrong first; `Memory`.
+/// Locks the files of an image against SCRATCH that one of the patterns means, or frees them. The image is opened and made anew
+/// once. Errors: `Image`; `Unsound`, with what is wrong first; `Memory`.
 pub fn lock(
     alloc: Global,
     image: &[u8],
-    pattern: &[u8],
+    patterns: &[&[u8]],
     is_locked: bool,
-) -> Result<Option<Vec<u8>>, ShellFault>
-    // One entry is changed, in one bit, and nothing else of the image.
+) -> Result<Vec<u8>, ShellFault>
+    // Of each file that matches one bit of its entry is so, and nothing else of the image is changed.
     ensures locks { let kind = kind_of image.now in
-        let tracks = geometry_of (tracks_of kind image.now) (content_of kind image.now) in
-        IfOk result (λ o. MatchOption o (AreLocked is_locked tracks pattern.now (content_of kind image.now))
-        (λ v. Locks is_locked tracks pattern.now (content_of kind image.now) (content_of kind v.items))) }
+        let tracks = geometry_of (tracks_of kind image.now) (content_of kind image.now) in IfOk result (λ v.
+        LocksAll (map (λ r. r.now) patterns.now) is_locked tracks (content_of kind image.now) (content_of kind v.items)) }
     // An image that isn't sound gives no new one.
     ensures sound { OnOk result (IsSoundImage (kind_of image.now) image.now) }
     // The new image is sound, and opens again.
-    ensures stays { IfOk result (λ o. IfSome o (λ v. IsSoundImage (kind_of image.now) v.items)) }
-    ensures opens { IfOk result (λ o. IfSome o (λ v. image_fault (kind_of image.now) v.items ≡ None)) }
+    ensures stays { IfOk result (λ v. IsSoundImage (kind_of image.now) v.items) }
+    ensures opens { IfOk result (λ v. image_fault (kind_of image.now) v.items ≡ None) }
     ensures fault { IfErr result (IsUneditedIn image.now ⊥) }
 {
     match kind_of(image) {
-        Kind::D64 => lock_in::<D64Disk>(alloc, image, pattern, is_locked),
-        Kind::G64 => lock_in::<G64Disk>(alloc, image, pattern, is_locked),
+        Kind::D64 => lock_in::<D64Disk>(alloc, image, patterns, is_locked),
+        Kind::G64 => lock_in::<G64Disk>(alloc, image, patterns, is_locked),
     }
 }

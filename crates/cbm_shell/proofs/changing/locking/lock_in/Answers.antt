@@ -1,12 +1,10 @@
-use Rattle.std.proofs.Common.{◌≡◌, ap, subst, ◌∙◌, Err}
-use Rattle.std.specs.Prelude.{MatchOption}
+use Rattle.std.proofs.Common.{ap, subst, ◌∙◌, Err}
 use Rattle.std.proofs.lemmas.Result.{err_from_is_err_and}
 use Rattle.cbm_volume.specs.Map.{geometry_of}
 use Rattle.cbm_image.specs.Images.{kind_of}
 use Rattle.cbm_shell.specs.Editing.{IsUnedited}
-use Rattle.cbm_shell.specs.Locking.{Locks, AreLocked}
-use Rattle.cbm_shell.proofs.EditLemmas.{edit_unsound, sound_anew, saved_sound}
-use Rattle.cbm_shell.proofs.LockLemmas.{lock_sound}
+use Rattle.cbm_shell.proofs.EditLemmas.{edit_unsound, sound_anew, image_sound}
+use Rattle.cbm_shell.proofs.LockLemmas.{locks_sound}
 use Rattle.cbm_shell.proofs.changing.locking.lock_in.Goals as goal
 
 pub returns-in_err-require_sound-clause-fault : goal.returns-in_err-require_sound-clause-fault
@@ -18,12 +16,8 @@ returns-in_err-require_sound-clause-fault g c =
 
 pub returns-clause-stays : goal.returns-clause-stays
 returns-clause-stays g c =
-    let seen = g.I.Medium.seen in
-    let old = seen c.open-volume.result in
-    let new = seen c.in-Some.disk in
-    let tracks = geometry_of old.tracks old.content in
+    let old = g.I.Medium.seen c.open-volume.result in
+    let new = g.I.Medium.seen c.in_ok-disk.disk in
     let sound = c.in_ok-require_sound.ensures.sound in
-    let locks = subst (λ o. MatchOption o (AreLocked c.args.is_locked tracks c.args.pattern.now old.content) (λ after. Locks c.args.is_locked tracks c.args.pattern.now old.content (seen after).content)) c.in-Some.is c.in_ok-disk.ensures.locks in
-    let same = subst (λ o. MatchOption o (Unit {0}) (λ after. (seen after).tracks ≡ old.tracks)) c.in-Some.is c.in_ok-disk.ensures.tracks in
-    saved_sound g.I.DiskImage.kind (kind_of c.args.image.now) c.in_ok-saved.field-0.items new c.requires c.in_ok-saved.ensures.ok
-    (sound_anew old new same (lock_sound c.args.is_locked tracks c.args.pattern.now old.content new.content sound.0 sound.1 locks))
+    image_sound (λ v. v.items) g.I.DiskImage.kind (kind_of c.args.image.now) new c.saved.result c.requires c.saved.ensures.ok
+    (sound_anew old new c.in_ok-disk.ensures.tracks (locks_sound c.args.is_locked (geometry_of old.tracks old.content) _ old.content new.content sound.0 sound.1 c.in_ok-disk.ensures.locks))

@@ -3,7 +3,7 @@ use Rattle.std.specs.Prelude.{MatchBool}
 use Rattle.cbm_shell.specs.Editing.{HasNoSlot}
 use Rattle.cbm_shell.specs.Locking.{LocksSlot}
 use Rattle.cbm_shell.proofs.LockLemmas.{slots_begin, slots_on, lock_slots}
-use Rattle.cbm_shell.proofs.changing.locking.each.lock_matching.Goals as goal
+use Rattle.cbm_shell.proofs.changing.locking.lock_matching.Goals as goal
 
 pub slots-init : goal.slots-init
 slots-init g c = (slots_begin c.args.is_locked c.args.geometry c.args.pattern.now (g.M.Medium.seen c.args.medium.now).content, record { tracks = refl; protected = refl }, omega arith)

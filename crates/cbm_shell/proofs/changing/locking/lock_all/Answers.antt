@@ -3,7 +3,7 @@ use Rattle.std.specs.Prelude.{map}
 use Rattle.std.proofs.lemmas.List.{drop_all}
 use Rattle.cbm_shell.proofs.RecordLemmas.{next_off}
 use Rattle.cbm_shell.proofs.LockLemmas.{locking_begin, locking_on, locking_end, each_sound}
-use Rattle.cbm_shell.proofs.changing.locking.each.lock_all.Goals as goal
+use Rattle.cbm_shell.proofs.changing.locking.lock_all.Goals as goal
 
 pub loop-pattern-init : goal.loop-pattern-init
 loop-pattern-init g c = (locking_begin c.args.is_locked c.args.geometry _ _ _ refl, record { tracks = refl; protected = refl }, λ can. can)

@@ -2,7 +2,7 @@ use Rattle.std.proofs.Common.{drop}
 use Rattle.std.specs.Prelude.{map}
 use Rattle.cbm_shell.specs.Editing.{CanBeEdited, IsSameMedium}
 use Rattle.cbm_shell.proofs.LockLemmas.{Locking}
-use Rattle.cbm_shell.proofs.changing.locking.each.lock_all.Given as goal
+use Rattle.cbm_shell.proofs.changing.locking.lock_all.Given as goal
 
 -- the patterns that are left, after those before them, are the whole; and the disk can still be written
 abbrev pub invariant-loop-pattern : goal.invariant-loop-pattern

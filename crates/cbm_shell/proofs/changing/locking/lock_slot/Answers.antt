@@ -2,7 +2,7 @@ use Rattle.std.proofs.Common.{subst, Ok}
 use Rattle.cbm_volume.specs.Slots.{Answers, directory_of}
 use Rattle.cbm_shell.proofs.EditLemmas.{whole_directory, put_never}
 use Rattle.cbm_shell.proofs.LockLemmas.{few_slots}
-use Rattle.cbm_shell.proofs.changing.locking.each.lock_slot.Goals as goal
+use Rattle.cbm_shell.proofs.changing.locking.lock_slot.Goals as goal
 
 pub returns-in_err-entry-clause-never : goal.returns-in_err-entry-clause-never
 returns-in_err-entry-clause-never g c = λ can. absurd (whole_directory c.args.geometry (g.M.Medium.seen c.args.medium.now).content can.layout _ can.sound c.in_err-entry.ensures.1)

@@ -1,7 +1,7 @@
 use Rattle.std.proofs.Common.{◌≤◌, ◌-◌}
 use Rattle.cbm_shell.specs.Editing.{IsSameMedium}
 use Rattle.cbm_shell.specs.Locking.{LocksSlots}
-use Rattle.cbm_shell.proofs.changing.locking.each.lock_matching.Given as goal
+use Rattle.cbm_shell.proofs.changing.locking.lock_matching.Given as goal
 
 -- the slots before this one are done
 abbrev pub invariant-slots : goal.invariant-slots
