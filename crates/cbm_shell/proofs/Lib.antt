@@ -20,6 +20,7 @@ pub mod ConvertKinds
 pub mod EntryLemmas
 pub mod EditLemmas
 pub mod LockLemmas
+pub mod ArtLemmas
 pub mod TitleLemmas
 pub mod SlotLemmas
 pub mod SwapLemmas

@@ -13,7 +13,7 @@ use Rattle.cbm_shell.specs.Locking.{is_unlike, locked_entry, LocksSlot, LocksSlo
 use Rattle.cbm_shell.proofs.EntryLemmas.{LiesAlike, StaysSound, stays_same, stays_sound}
 
 -- the file of the entry lies where it lay
-locked_alike : (locked : Bool) (e : List ℕ) → LiesAlike e (locked_entry locked e)
+pub locked_alike : (locked : Bool) (e : List ℕ) → LiesAlike e (locked_entry locked e)
 locked_alike locked [] = record { kind = refl; closed = refl; begins = refl; lists = refl; long = refl }
 locked_alike true (x ∷ rest) = record { kind = omega arith; closed = omega arith; begins = refl; lists = refl; long = refl }
 locked_alike false (x ∷ rest) = record { kind = omega arith; closed = omega arith; begins = refl; lists = refl; long = refl }

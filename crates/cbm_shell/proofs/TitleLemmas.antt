@@ -26,7 +26,7 @@ use Rattle.cbm_shell.specs.Locking.{with_title, titled, entitled}
 
 -- ---- the sector
 
-padded_length : (title : List ℕ) → length title ≤ 16 → length (padded title) ≡ 16
+pub padded_length : (title : List ℕ) → length title ≤ 16 → length (padded title) ≡ 16
 padded_length title h = length-append title (replicate (16 - length title) 160) ∙ omega (arith, length-replicate {A = ℕ} (16 - length title) 160)
 
 -- all but the sixteen bytes of the title is as it was

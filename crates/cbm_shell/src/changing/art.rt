@@ -1,6 +1,8 @@
 //! How the directory looks: lines of art, which are entries without a block, and names, blocks and locks of files. No command
 //! of the drive makes such changes.
 ghost use Rattle.std.specs.Prelude.{◌≡◌, ◌≤◌, None, length, IfOk, IfErr, IfSome, IsOk, OnOk, MatchOption};
+ghost use Rattle.cbm_medium.specs.Place.{Place};
+ghost use Rattle.cbm_medium.specs.Content.{IsWhole};
 ghost use Rattle.cbm_volume.specs.Map.{geometry_of};
 ghost use Rattle.cbm_image.specs.Images.{kind_of, image_fault, tracks_of, content_of};
 ghost use Rattle.cbm_volume.specs.Slots.{Answers, directory_of};
@@ -127,6 +129,7 @@ fn dressed<M: Steady + Drop>(volume: Volume<M>, slot: u8, looks: Looks<'_>) -> R
     ensures tracks { IfOk result (λ after. (M.seen after).tracks ≡ (M.seen volume).tracks) }
     ensures dressed { let old = M.seen volume in IfOk result (λ after. IsDressed (geometry_of old.tracks old.content) slot
         looks.entry.name.now looks.entry.blocks looks.entry.is_locked old.content (M.seen after).content) }
+    ensures whole { (p : Place) → IsWhole ((M.seen volume).content p) }
     ensures fault { let old = M.seen volume in let tracks = geometry_of old.tracks old.content in CanBeEdited tracks old →
         IfErr result (IsUnedited old.tracks old.content (HasNoSlot tracks old.content slot)) }
 {
@@ -151,6 +154,7 @@ fn dress_in<I: DiskImage + Drop>(
         IfOk result (λ v. IsDressed tracks slot looks.entry.name.now looks.entry.blocks looks.entry.is_locked (content_of kind image.now)
         (content_of kind v.items)) }
     ensures sound { OnOk result (IsSoundImage (kind_of image.now) image.now) }
+    ensures stays { IfOk result (λ v. IsSoundImage (kind_of image.now) v.items) }
     ensures opens { IfOk result (λ v. image_fault (kind_of image.now) v.items ≡ None) }
     ensures fault { IfErr result (IsUneditedIn image.now (HasNoSlotIn image.now slot)) }
 {
@@ -171,7 +175,8 @@ pub fn dress(alloc: Global, image: &[u8], slot: u8, looks: Looks<'_>) -> Result<
         (content_of kind v.items)) }
     // An image that isn't sound gives no new one.
     ensures sound { OnOk result (IsSoundImage (kind_of image.now) image.now) }
-    // The new image opens again.
+    // The new image is sound, and opens again.
+    ensures stays { IfOk result (λ v. IsSoundImage (kind_of image.now) v.items) }
     ensures opens { IfOk result (λ v. image_fault (kind_of image.now) v.items ≡ None) }
     ensures fault { IfErr result (IsUneditedIn image.now (HasNoSlotIn image.now slot)) }
 {
