@@ -1,20 +1,25 @@
 -- What a directory shows of its entries is another, and the disk stays sound.
-use Rattle.std.proofs.Common.{◌≡◌, ◌⊎◌, ℕ, ◌+◌, ◌*◌, ◌-◌, ◌/◌, ◌%◌, ◌<◌, ◌≤◌, List, ◌++◌, length, take, drop, set, get_or, Bool, Ok, Err, IsOk, refl, sym, ap, ◌∙◌, arith, inl, inr}
+use Rattle.std.proofs.Common.{◌≡◌, ◌⊎◌, ℕ, ◌+◌, ◌*◌, ◌-◌, ◌/◌, ◌%◌, ◌<◌, ◌≤◌, List, ◌++◌, length, take, drop, set, get_or, Bool, true, false, Ok, Err, IsOk, refl, sym, ap, subst, ◌∙◌, arith, inl, inr}
 use Rattle.std.proofs.lemmas.List.{length-take, length-drop, drop-drop, get_or-set_other}
 use Rattle.cbm_medium.specs.Place.{Place}
 use Rattle.cbm_medium.specs.Content.{Cell, Content, IsWhole}
 use Rattle.cbm_medium.specs.Links.{or_nothing}
 use Rattle.cbm_file.specs.Padding.{padded}
-use Rattle.cbm_directory.specs.Entries.{entry_of, entry_at, sector_of}
+use Rattle.cbm_directory.specs.Entries.{entry_of, entry_at, sector_of, type_byte}
 use Rattle.cbm_directory.specs.EntryChanges.{renamed_entry}
 use Rattle.cbm_directory.proofs.Written.{mid_below, mid_above}
+use Rattle.cbm_volume.specs.Blocks.{Lies, no_blocks}
 use Rattle.cbm_volume.specs.Layouts.{Layout, slot_count, Sound}
+use Rattle.cbm_volume.specs.Map.{geometry_of}
 use Rattle.cbm_volume.proofs.Listing.{entry_found}
 use Rattle.cbm_volume.proofs.Refusals.{sector_reads}
+use Rattle.cbm_volume.proofs.Storing.{geometry_elsewhere}
 use Rattle.cbm_shell.specs.Locking.{locked_entry}
-use Rattle.cbm_shell.specs.Art.{dressed_entry, IsDressed}
-use Rattle.cbm_shell.proofs.EntryLemmas.{LiesAlike, StaysSound, stays_sound}
+use Rattle.cbm_shell.specs.Art.{art_entry, dressed_entry, HasEntered, IsDressed}
+use Rattle.cbm_shell.specs.Images.{IsSoundDisk}
+use Rattle.cbm_shell.proofs.EntryLemmas.{LiesAlike, StaysSound, put_sound, stays_sound}
 use Rattle.cbm_shell.proofs.LockLemmas.{locked_alike}
+use Rattle.cbm_shell.proofs.SlotLemmas.{after_search}
 use Rattle.cbm_shell.proofs.TitleLemmas.{padded_length}
 
 -- ---- thirty bytes
@@ -87,3 +92,20 @@ dressed_sound tracks n name blocks locked c c2 l whole short s h =
     let found = entry_found tracks c l n h.entry s h.there in
     let long : length h.entry ≡ 30 = ap length found.1 ∙ slot_long tracks c l n whole s found.0 in
     stays_sound tracks c c2 l n h.entry (dressed_entry name blocks locked h.entry) s h.there (dressed_alike name blocks locked h.entry long short) h.entered
+
+-- ---- a line of art
+
+-- it is closed, and holds nothing
+art_lies : (tracks : ℕ) (c : Content) (name : List ℕ) (blocks : ℕ) (locked : Bool) → (type_byte (art_entry name blocks locked) % 16 < 5) × Lies tracks c (art_entry name blocks locked) no_blocks
+art_lies tracks c name blocks true = (omega arith, (refl, refl))
+art_lies tracks c name blocks false = (omega arith, (refl, refl))
+
+-- A LINE OF ART STANDS IN THE FIRST EMPTY SLOT, for which the directory may have grown
+pub art_sound : (medium : ℕ) (c c2 : Content) (name : List ℕ) (blocks : ℕ) (locked : Bool) → IsSoundDisk medium c → HasEntered (geometry_of medium c) c c2 (art_entry name blocks locked) → IsSoundDisk medium c2
+art_sound medium c c2 name blocks locked s h =
+    let tracks : ℕ = geometry_of medium c in
+    let r = after_search medium c h.grown h.slot s.0 s.1 h.takes in
+    let lies = art_lies tracks h.grown name blocks locked in
+    let a : StaysSound tracks h.grown c2 = put_sound tracks h.grown c2 r.0 h.slot (art_entry name blocks locked) no_blocks r.1 r.2 lies.0 lies.1 tt tt h.entered in
+    let same : geometry_of medium c2 ≡ tracks = geometry_elsewhere medium h.grown c2 a.head ∙ r.3 in
+    (a.layout, subst (λ (n : ℕ). Sound n c2 a.layout) (sym same) a.sound)

@@ -11,7 +11,7 @@ use Rattle.cbm_directory.proofs.Placing.{led_on}
 use Rattle.cbm_file.specs.Files.{Disk}
 use Rattle.cbm_volume.specs.Slots.{Answers, directory_of}
 use Rattle.cbm_volume.specs.Blocks.{Blocks, LiesAs, Lies}
-use Rattle.cbm_volume.specs.Layouts.{Layout, slot_count, Sound, Stands}
+use Rattle.cbm_volume.specs.Layouts.{DataOf, SideOf, OwnedBy, Layout, slot_count, Sound, Stands}
 use Rattle.cbm_volume.proofs.Listing.{entry_found}
 use Rattle.cbm_volume.proofs.Loose.{sector_owned}
 use Rattle.cbm_volume.proofs.Meaning.{sound_stands}
@@ -59,33 +59,36 @@ pub record StaysSound (tracks : ℕ) (c c2 : Content) : Type 0 where
 pub stays_same : (tracks : ℕ) (c c2 : Content) (l : Layout) → Sound tracks c l → c2 ≡ c → StaysSound tracks c c2
 stays_same tracks c c2 l s e = record { layout = l; sound = subst (λ (x : Content). Sound tracks x l) (sym e) s; head = ap (λ (x : Content). x directory_head) e }
 
-pub stays_sound : (tracks : ℕ) (c c2 : Content) (l : Layout) (n : ℕ) (old new : List ℕ) → Sound tracks c l → Answers (directory_of tracks c) n (Ok (Some old)) → LiesAlike old new → EntersLed tracks c c2 n new → StaysSound tracks c c2
-stays_sound tracks c c2 l n old new s stands alike led = record {
+-- an entry is put into its slot, whose file lies in sectors that are the slot's
+pub put_sound : (tracks : ℕ) (c c2 : Content) (l : Layout) (n : ℕ) (new : List ℕ) (b : Blocks) → Sound tracks c l → n < slot_count l → type_byte new % 16 < 5 → Lies tracks c new b
+    → OwnedBy l.owner (DataOf n) b.data_blocks → OwnedBy l.owner (SideOf n) b.sides → EntersLed tracks c c2 n new → StaysSound tracks c c2
+put_sound tracks c c2 l n new b s room kind lies blocks sides led = record {
   layout = _;
-  sound = (stands_entry tracks c c2 l d.0 n (sector_of l.directory n) new b l.owner d.1 room refl enters kind lies (extends_itself l n s.owned) (s.owned.blocks n room) (s.owned.sides n room) s.free).sound;
+  sound = (stands_entry tracks c c2 l d.0 n (sector_of l.directory n) new b l.owner d.1 room refl enters kind lies (extends_itself l n s.owned) blocks sides s.free).sound;
   head = ap (λ (x : Content). x directory_head) enters.written ∙ written_elsewhere c (sector_of l.directory n) directory_head enters.sector apart;
 }
   where
-    b : Blocks
-    b = l.files n
-
     d : (d : Disk) × Stands tracks c l d
     d = sound_stands tracks c l s
 
+    enters : Enters c c2 (sector_of l.directory n) (n % 8) new
+    enters = entered_there tracks c c2 l n new s room led
+
+    apart : sector_of l.directory n ≢ directory_head
+    apart k = (let z = sym (sector_owned l s.owned n room) ∙ ap l.owner k ∙ s.owned.map in (cc))
+
+-- the same where the old entry says as much of its file
+pub stays_sound : (tracks : ℕ) (c c2 : Content) (l : Layout) (n : ℕ) (old new : List ℕ) → Sound tracks c l → Answers (directory_of tracks c) n (Ok (Some old)) → LiesAlike old new → EntersLed tracks c c2 n new → StaysSound tracks c c2
+stays_sound tracks c c2 l n old new s stands alike led = put_sound tracks c c2 l n new (l.files n) s room kind lies (s.owned.blocks n room) (s.owned.sides n room) led
+  where
     found : (n < slot_count l) × (old ≡ entry_at c l.directory n)
     found = entry_found tracks c l n old s stands
 
     room : n < slot_count l
     room = found.0
 
-    enters : Enters c c2 (sector_of l.directory n) (n % 8) new
-    enters = entered_there tracks c c2 l n new s room led
-
     kind : type_byte new % 16 < 5
     kind = omega (arith, alike.kind, subst (λ (x : List ℕ). type_byte x % 16 < 5) (sym found.1) (s.kinds n room))
 
-    lies : Lies tracks c new b
-    lies = lies_still tracks c old new b alike (subst (λ (x : List ℕ). Lies tracks c x b) (sym found.1) (s.lies n room))
-
-    apart : sector_of l.directory n ≢ directory_head
-    apart k = (let z = sym (sector_owned l s.owned n room) ∙ ap l.owner k ∙ s.owned.map in (cc))
+    lies : Lies tracks c new (l.files n)
+    lies = lies_still tracks c old new (l.files n) alike (subst (λ (x : List ℕ). Lies tracks c x (l.files n)) (sym found.1) (s.lies n room))

@@ -80,18 +80,18 @@ taken_there : (tracks : ℕ) (c : Content) (l : Layout) (n : ℕ) → Sound trac
 taken_there tracks c l n s h =
     omega (arith, empty_within 0 (all_entries c l.directory) n (subst (λ (d : Listed). empty_in 0 d.entries ≡ Some n) (directory_listed tracks c l s) h), entries_length c l.directory)
 
--- the directory after the search: it is as it was, or it has grown
-after_search : (medium : ℕ) (c c1 : Content) (n : ℕ) (l : Layout) → Sound (geometry_of medium c) c l → TakesSlot (geometry_of medium c) c c1 (Some n) → (l1 : Layout) × Sound (geometry_of medium c) c1 l1 × (n < slot_count l1)
+-- the directory after the search: it is as it was, or it has grown; the disk has as many tracks
+pub after_search : (medium : ℕ) (c c1 : Content) (n : ℕ) (l : Layout) → Sound (geometry_of medium c) c l → TakesSlot (geometry_of medium c) c c1 (Some n) → (l1 : Layout) × Sound (geometry_of medium c) c1 l1 × (n < slot_count l1) × (geometry_of medium c1 ≡ geometry_of medium c)
 after_search medium c c1 n l s takes = by_way takes
   where
-    by_way : TakesSlot (geometry_of medium c) c c1 (Some n) → (l1 : Layout) × Sound (geometry_of medium c) c1 l1 × (n < slot_count l1)
+    by_way : TakesSlot (geometry_of medium c) c c1 (Some n) → (l1 : Layout) × Sound (geometry_of medium c) c1 l1 × (n < slot_count l1) × (geometry_of medium c1 ≡ geometry_of medium c)
     by_way (inl k) =
         let s1 : Sound (geometry_of medium c) c1 l = subst (λ (x : Content). Sound (geometry_of medium c) x l) (sym k.1) s in
-        (l, s1, taken_there (geometry_of medium c) c l n s k.0)
+        (l, s1, taken_there (geometry_of medium c) c l n s k.0, ap (λ (x : Content). geometry_of medium x) k.1)
     by_way (inr k) =
         let h = holds_idle medium c l s in
         let r = slot_ready medium c c1 n h.0 (λ m. Idle) h.1 (inr k) in
-        (r.reached.layout, r.reached.so.stands.sound, taken_there (geometry_of medium c) c1 r.reached.layout n r.reached.so.stands.sound k.2)
+        (r.reached.layout, r.reached.so.stands.sound, taken_there (geometry_of medium c) c1 r.reached.layout n r.reached.so.stands.sound k.2, r.reached.same)
 
 put_after : (medium : ℕ) (old between after : Seen) (n : ℕ) (t : Trouble) → CanBeEdited (geometry_of medium old.content) old → TakesSlot (geometry_of medium old.content) old.content between.content (Some n)
     → between.protected ≡ old.protected → between.failures ≡ 0 → after.failures ≡ 0

@@ -77,6 +77,7 @@ fn add_art_in<I: DiskImage + Drop>(
         (λ v. HasEntered tracks (content_of kind image.now) (content_of kind v.items)
         (art_entry looks.entry.name.now looks.entry.blocks looks.entry.is_locked))) }
     ensures sound { OnOk result (IsSoundImage (kind_of image.now) image.now) }
+    ensures stays { IfOk result (λ o. IfSome o (λ v. IsSoundImage (kind_of image.now) v.items)) }
     ensures opens { IfOk result (λ o. IfSome o (λ v. image_fault (kind_of image.now) v.items ≡ None)) }
     ensures fault { IfErr result (IsUneditedIn image.now ⊥) }
 {
@@ -101,7 +102,8 @@ pub fn add_art(alloc: Global, image: &[u8], looks: Looks<'_>) -> Result<Option<V
         (art_entry looks.entry.name.now looks.entry.blocks looks.entry.is_locked))) }
     // An image that isn't sound gives no new one.
     ensures sound { OnOk result (IsSoundImage (kind_of image.now) image.now) }
-    // The new image opens again.
+    // The new image is sound, and opens again.
+    ensures stays { IfOk result (λ o. IfSome o (λ v. IsSoundImage (kind_of image.now) v.items)) }
     ensures opens { IfOk result (λ o. IfSome o (λ v. image_fault (kind_of image.now) v.items ≡ None)) }
     ensures fault { IfErr result (IsUneditedIn image.now ⊥) }
 {
