@@ -1,5 +1,5 @@
 -- An entry of the directory is written, and its file stays where it lies: the disk stays sound.
-use Rattle.std.proofs.Common.{◌≡◌, ◌≢◌, ℕ, zero, suc, ◌/◌, ◌%◌, ◌<◌, List, [], ◌∷◌, length, get_or, Bool, Option, Some, None, Ok, Err, IsOk, refl, sym, ap, subst, ◌∙◌, arith}
+use Rattle.std.proofs.Common.{◌≡◌, ◌≢◌, ℕ, zero, suc, ◌*◌, ◌/◌, ◌%◌, ◌<◌, List, [], ◌∷◌, length, get_or, Bool, Option, Some, None, Ok, Err, IsOk, refl, sym, ap, subst, ◌∙◌, arith}
 use Rattle.std.specs.Prelude.{◌==◌, if◌then◌else◌, MatchOption}
 use Rattle.cbm_medium.specs.Place.{Place, directory_head}
 use Rattle.cbm_medium.specs.Content.{Cell, Content}
@@ -45,10 +45,10 @@ led_along tracks c a (x ∷ rest) (suc i) d h l =
     on (Ok bytes) e ok = led_on tracks (suc i) i c x bytes h.1 e refl ∙ ap (λ (y : Cell). led_to tracks c i (link (or_nothing y))) (sym e)
     on (Err code) e ok = absurd (cc)
 
--- on a sound disk it is written in the sector of its slot
-pub entered_there : (tracks : ℕ) (c c2 : Content) (l : Layout) (n : ℕ) (entry : List ℕ) → Sound tracks c l → n < slot_count l → EntersLed tracks c c2 n entry → Enters c c2 (sector_of l.directory n) (n % 8) entry
-entered_there tracks c c2 l n entry s k h =
-    subst (λ (o : Option Place). MatchOption o (c2 ≡ c) (λ p. Enters c c2 p (n % 8) entry)) (led_along tracks c first_directory l.directory (n / 8) directory_head s.directory (omega arith)) h
+-- it is written in the sector of its slot
+pub entered_in : (tracks : ℕ) (c c2 : Content) (directory : List Place) (n : ℕ) (entry : List ℕ) → Chain tracks c first_directory directory → n < 8 * length directory → EntersLed tracks c c2 n entry → Enters c c2 (sector_of directory n) (n % 8) entry
+entered_in tracks c c2 directory n entry chain k h =
+    subst (λ (o : Option Place). MatchOption o (c2 ≡ c) (λ p. Enters c c2 p (n % 8) entry)) (led_along tracks c first_directory directory (n / 8) directory_head chain (omega arith)) h
 
 -- THE DISK IS SOUND AS IT WAS, and 18/0 is the same
 pub record StaysSound (tracks : ℕ) (c c2 : Content) : Type 0 where
@@ -58,6 +58,10 @@ pub record StaysSound (tracks : ℕ) (c c2 : Content) : Type 0 where
 
 pub stays_same : (tracks : ℕ) (c c2 : Content) (l : Layout) → Sound tracks c l → c2 ≡ c → StaysSound tracks c c2
 stays_same tracks c c2 l s e = record { layout = l; sound = subst (λ (x : Content). Sound tracks x l) (sym e) s; head = ap (λ (x : Content). x directory_head) e }
+
+-- one change after another
+pub then_sound : (tracks : ℕ) (c between c2 : Content) (a : StaysSound tracks c between) → StaysSound tracks between c2 → StaysSound tracks c c2
+then_sound tracks c between c2 a b = record { layout = b.layout; sound = b.sound; head = b.head ∙ a.head }
 
 -- an entry is put into its slot, whose file lies in sectors that are the slot's
 pub put_sound : (tracks : ℕ) (c c2 : Content) (l : Layout) (n : ℕ) (new : List ℕ) (b : Blocks) → Sound tracks c l → n < slot_count l → type_byte new % 16 < 5 → Lies tracks c new b
@@ -72,7 +76,7 @@ put_sound tracks c c2 l n new b s room kind lies blocks sides led = record {
     d = sound_stands tracks c l s
 
     enters : Enters c c2 (sector_of l.directory n) (n % 8) new
-    enters = entered_there tracks c c2 l n new s room led
+    enters = entered_in tracks c c2 l.directory n new s.directory room led
 
     apart : sector_of l.directory n ≢ directory_head
     apart k = (let z = sym (sector_owned l s.owned n room) ∙ ap l.owner k ∙ s.owned.map in (cc))

@@ -24,6 +24,7 @@ pub mod ArtLemmas
 pub mod TitleLemmas
 pub mod SlotLemmas
 pub mod SwapLemmas
+pub mod MoveLemmas
 pub mod RecordLemmas
 pub mod ForgetLemmas
 pub mod UndeleteLemmas

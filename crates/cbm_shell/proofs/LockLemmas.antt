@@ -1,5 +1,5 @@
 -- Files are locked or freed: a sound disk stays sound.
-use Rattle.std.proofs.Common.{◌≡◌, ℕ, zero, suc, ◌<◌, ◌≤◌, List, [], ◌∷◌, length, Bool, true, false, Some, Ok, Err, refl, sym, subst, ◌∙◌, arith}
+use Rattle.std.proofs.Common.{◌≡◌, ℕ, zero, suc, ◌<◌, ◌≤◌, List, [], ◌∷◌, length, Bool, true, false, Some, Ok, Err, refl, sym, subst, arith}
 use Rattle.std.specs.Prelude.{◌==◌, if◌then◌else◌, MatchBool}
 use Rattle.std.proofs.lemmas.Option.{slice_get_within}
 use Rattle.cbm_medium.specs.Place.{Place, has}
@@ -10,7 +10,7 @@ use Rattle.cbm_volume.specs.Slots.{Answers, directory_of, listed_from, all_entri
 use Rattle.cbm_volume.specs.Layouts.{Layout, Sound}
 use Rattle.cbm_volume.proofs.Listing.{entries_length}
 use Rattle.cbm_shell.specs.Locking.{is_unlike, locked_entry, LocksSlot, LocksSlots, LocksEach, LocksAll}
-use Rattle.cbm_shell.proofs.EntryLemmas.{LiesAlike, StaysSound, stays_same, stays_sound}
+use Rattle.cbm_shell.proofs.EntryLemmas.{LiesAlike, StaysSound, stays_same, then_sound, stays_sound}
 
 -- the file of the entry lies where it lay
 pub locked_alike : (locked : Bool) (e : List ℕ) → LiesAlike e (locked_entry locked e)
@@ -24,10 +24,6 @@ lock_step locked tracks pattern n c c2 l s h = by_test (is_unlike pattern locked
     by_test : (b : Bool) → MatchBool b (EntersLed tracks c c2 n (locked_entry locked h.entry)) (c2 ≡ c) → StaysSound tracks c c2
     by_test true k = stays_sound tracks c c2 l n h.entry (locked_entry locked h.entry) s h.stands (locked_alike locked h.entry) k
     by_test false k = stays_same tracks c c2 l s k
-
--- one change after another
-then_sound : (tracks : ℕ) (c between c2 : Content) (a : StaysSound tracks c between) → StaysSound tracks between c2 → StaysSound tracks c c2
-then_sound tracks c between c2 a b = record { layout = b.layout; sound = b.sound; head = b.head ∙ a.head }
 
 pub lock_slots : (locked : Bool) (tracks : ℕ) (pattern : List ℕ) (n : ℕ) (c c2 : Content) (l : Layout) → Sound tracks c l → LocksSlots locked tracks pattern n c c2 → StaysSound tracks c c2
 unfolding LocksSlots

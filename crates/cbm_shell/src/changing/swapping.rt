@@ -106,6 +106,7 @@ fn swap_in<I: DiskImage + Drop>(
         let tracks = geometry_of (tracks_of kind image.now) (content_of kind image.now) in
         IfOk result (λ v. AreSwapped tracks swaps.now (content_of kind image.now) (content_of kind v.items)) }
     ensures sound { OnOk result (IsSoundImage (kind_of image.now) image.now) }
+    ensures stays { IfOk result (λ v. IsSoundImage (kind_of image.now) v.items) }
     ensures opens { IfOk result (λ v. image_fault (kind_of image.now) v.items ≡ None) }
     ensures fault { IfErr result (IsUneditedIn image.now (MissesSlotIn image.now swaps.now)) }
 {
@@ -124,7 +125,8 @@ pub fn swap_entries(alloc: Global, image: &[u8], swaps: &[Swap]) -> Result<Vec<u
         IfOk result (λ v. AreSwapped tracks swaps.now (content_of kind image.now) (content_of kind v.items)) }
     // An image that isn't sound gives no new one.
     ensures sound { OnOk result (IsSoundImage (kind_of image.now) image.now) }
-    // The new image opens again.
+    // The new image is sound, and opens again.
+    ensures stays { IfOk result (λ v. IsSoundImage (kind_of image.now) v.items) }
     ensures opens { IfOk result (λ v. image_fault (kind_of image.now) v.items ≡ None) }
     ensures fault { IfErr result (IsUneditedIn image.now (MissesSlotIn image.now swaps.now)) }
 {
