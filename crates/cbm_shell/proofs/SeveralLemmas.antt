@@ -6,14 +6,13 @@ use Rattle.cbm_file.specs.Files.{Disk}
 use Rattle.cbm_channel.specs.Machines.{start}
 use Rattle.cbm_volume.specs.Holding.{HoldsDisk}
 use Rattle.cbm_image.specs.declared.kind.Kind.{Kind}
-use Rattle.cbm_image.specs.Images.{kind_of, tracks_of, ImageHolds}
 use Rattle.cbm_shell.specs.declared.changing.Change.{Change}
 use Rattle.cbm_shell.specs.declared.fault.ShellFault.{ShellFault}
 use Rattle.cbm_shell.specs.declared.fault.ShellFault.TheVariants as fault
-use Rattle.cbm_shell.specs.Images.{IsOpened, IsSaved, OrOpenFault}
+use Rattle.cbm_shell.specs.Images.{IsSaved, OrOpenFault}
 use Rattle.cbm_shell.specs.Changing.{after_change, IsFine, IsUndone}
 use Rattle.cbm_shell.specs.Several.{AreMade, AreUndone, HoldsAfter, ImageAfter}
-use Rattle.cbm_shell.proofs.ImageLemmas.{saved_holds, as_other_fault}
+use Rattle.cbm_shell.proofs.ImageLemmas.{saved_holds}
 
 pub record UnderWay (left whole : List Change) (protected : Bool) (tracks : ℕ) (d : Disk) (seen : Seen) : Type 0 where
   pub disk : Disk

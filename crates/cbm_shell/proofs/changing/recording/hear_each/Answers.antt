@@ -1,4 +1,4 @@
-use Rattle.std.proofs.Common.{rules, ◌+◌, ◌∙◌, ℕ, List, Err, Bor, ap, refl, drop}
+use Rattle.std.proofs.Common.{rules, ◌∙◌, ℕ, List, Err, Bor, ap, refl}
 use Rattle.std.specs.Prelude.{map}
 use Rattle.std.proofs.lemmas.Result.{err_from_is_err_and}
 use Rattle.cbm_channel.specs.Standing.{Stands}

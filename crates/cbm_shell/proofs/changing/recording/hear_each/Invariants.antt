@@ -1,4 +1,4 @@
-use Rattle.std.proofs.Common.{◌≡◌, drop}
+use Rattle.std.proofs.Common.{drop}
 use Rattle.std.specs.Prelude.{map}
 use Rattle.cbm_channel.specs.Standing.{Stands}
 use Rattle.cbm_channel.specs.Going.{KeepsMedium}

@@ -1,7 +1,7 @@
-use Rattle.std.proofs.Common.{◌+◌, drop, refl, ap, ◌∙◌, Err}
+use Rattle.std.proofs.Common.{◌+◌, drop, ap, ◌∙◌, Err}
 use Rattle.std.proofs.lemmas.List.{drop_all}
 use Rattle.std.proofs.lemmas.Result.{err_from_is_err_and}
-use Rattle.cbm_shell.proofs.SeveralLemmas.{begun, one_more, not_made, all_made, next_change}
+use Rattle.cbm_shell.proofs.SeveralLemmas.{one_more, not_made, all_made, next_change}
 use Rattle.cbm_shell.proofs.changing.several.changed_by.Goals as goal
 
 pub loop-change-preserved : goal.loop-change-preserved
