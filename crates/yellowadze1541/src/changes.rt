@@ -143,8 +143,8 @@ fn spelled(losses: &Losses) -> Lost
 }
 
 /// An image of the other format, and what it doesn't hold.
-#[unsafe(no_mangle)]
 #[tactic(auto, using(crate::proofs::Flags::says_yes))]
+#[unsafe(no_mangle)]
 pub extern "C" fn y1541_image_convert(
     alloc: Global,
     image: &[u8],
