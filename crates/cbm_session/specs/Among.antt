@@ -13,12 +13,13 @@ use Rattle.cbm_iec.specs.declared.port.Port.{Port}
 use Rattle.cbm_session.specs.Following.{lines_after, IsInTime, IsShown, reaction_steps}
 use Rattle.cbm_session.specs.Steps.{Mark, Step, event_of, moment_of, Plain, ForEach, For}
 
--- what the rest of a bus holds: the host its lines, and so many of the other drives CLOCK, so many DATA
+-- what the rest of a bus holds: the lines of the host, and how many of the other drives hold CLOCK, and how many DATA
 pub record Rest : Type 0 where
   pub host : Lines
   pub clocks : ℕ
   pub datas : ℕ
 
+-- whether it is at least one
 abbrev pub some : ℕ → Bool
 some zero = false
 some (suc n) = true
@@ -27,18 +28,19 @@ some (suc n) = true
 abbrev pub wires_of : Rest → Lines
 wires_of r = record { atn_low = r.host.atn_low; clock_low = some r.clocks || r.host.clock_low; data_low = some r.datas || r.host.data_low }
 
--- one more holds a line behind its pull, one less behind its release
+-- one more holds a line after its pull, one less after its release
 abbrev pub counted : Way → ℕ → ℕ
 counted Pull n = suc n
 counted Free zero = zero
 counted Free (suc n) = n
 
--- behind a change of another drive, and of the host
+-- what the rest holds after a change of another drive
 abbrev pub behind_other : Line → Way → Rest → Rest
 behind_other Atn way r = r
 behind_other Clock way r = record { host = r.host; clocks = counted way r.clocks; datas = r.datas }
 behind_other Data way r = record { host = r.host; clocks = r.clocks; datas = counted way r.datas }
 
+-- what the rest holds after a change of the host
 abbrev pub behind_host : Line → Way → Rest → Rest
 behind_host line way r = record { host = lines_after r.host line way; clocks = r.clocks; datas = r.datas }
 
@@ -53,6 +55,7 @@ abbrev pub ComesBehind : ℕ → Who → ℕ → Type 0
 ComesBehind t Host moment = t < moment
 ComesBehind t (Drive o) moment = t ≤ moment
 
+-- the same of the first of these steps
 abbrev pub IsBehind : ℕ → List Step → Type 0
 IsBehind t [] = Unit {0}
 IsBehind t (s ∷ ss) = ComesBehind t s.event.who (moment_of s)

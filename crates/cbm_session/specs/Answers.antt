@@ -9,15 +9,18 @@ use Rattle.cbm_session.specs.Seats.{Seat, device, talker_of}
 use Rattle.cbm_session.specs.Steps.{Step, acts_for}
 
 module _ (M : Type 0) (step : M → Act → M) (peek : M → Option (ℕ × Bool)) where
+  -- an act is the machine's answer: a byte said is the one that it has to say, and silence that it has none; any other act is allowed
   abbrev pub Answers : M → Act → Type 0
   Answers m (Said byte last) = peek m ≡ Some (byte, last)
   Answers m Silent = peek m ≡ None
   Answers m act = Unit {0}
 
+  -- the acts are this machine's answers one after another, and lead it to that one
   abbrev pub Run : M → List Act → M → Type 0
   Run m [] m2 = m2 ≡ m
   Run m (act ∷ acts) m2 = Answers m act × Run (step m act) acts m2
 
+  -- the machine after these acts
   abbrev pub run : M → List Act → M
   run m [] = m
   run m (act ∷ acts) = run (step m act) acts
@@ -29,18 +32,21 @@ module _ (M : Type 0) (step : M → Act → M) (peek : M → Option (ℕ × Bool
   IsAnswer m (Nothing at clock freed) = peek (step m Released) ≡ None
   IsAnswer m w = Unit {0}
 
+  -- the same of a piece, whole or cut
   abbrev pub PieceAnswers : M → Piece → Type 0
   PieceAnswers m (Full w) = IsAnswer m w
   PieceAnswers m (Cut w at) = IsAnswer m w
 
-  -- each drive's machine, behind its acts among these steps
+  -- each drive's machine, after its acts among these steps
   abbrev pub run_each : (ℕ → M) → List Step → ℕ → M
   run_each ms steps d = run (ms d) (acts_for d steps)
 
+  -- each drive's acts among these steps are its machine's answers
   abbrev pub RunEach : List Seat → (ℕ → M) → List Step → Type 0
   RunEach [] ms steps = Unit {0}
   RunEach (s ∷ ss) ms steps = Run (ms (device s)) (acts_for (device s) steps) (run_each ms steps (device s)) × RunEach ss ms steps
 
+  -- each piece is its talker's answer, and the acts in it are the answers of each drive's machine
   abbrev pub Allowed : Point → (ℕ → M) → List Piece → Type 0
   Allowed p ms [] = Unit {0}
   Allowed p ms (k ∷ ks) =

@@ -6,10 +6,11 @@ use Rattle.cbm_iec.specs.declared.line.Way.TheVariants.{Pull, Free}
 use Rattle.cbm_iec.specs.declared.line.Way.{Way}
 use Rattle.cbm_session.specs.Steps.{Step, host}
 
--- a change comes only where it changes something
+-- a release comes only where the line is held
 abbrev pub where_held : Bool → Step → List Step
 where_held held step = if held then step ∷ [] else []
 
+-- a pull comes only where the line isn't held
 abbrev pub where_free : Bool → Step → List Step
 where_free held step = if held then [] else step ∷ []
 
@@ -24,23 +25,26 @@ pub record Cell : Type 0 where
   pub free : ℕ
   pub pull : ℕ
 
+-- the host's changes for one bit: DATA where it changes, then CLOCK freed and pulled
 abbrev pub cell_steps : Bool → Cell → List Step
 cell_steps held c = data_for (λ way. host c.set Data way) held c.bit ++ host c.free Clock Free ∷ host c.pull Clock Pull ∷ []
 
--- eight times, from whether the host holds DATA
+-- the same for one bit after another, from whether the host holds DATA
 abbrev pub cells_steps : Bool → List Cell → List Step
 cells_steps held [] = []
 cells_steps held (c ∷ cs) = cell_steps held c ++ cells_steps (not c.bit) cs
 
+-- whether the host holds DATA after these bits
 abbrev pub held_after : Bool → List Cell → Bool
 held_after held [] = held
 held_after held (c ∷ cs) = held_after (not c.bit) cs
 
+-- the last pull of CLOCK in these bits; where there are none, the one before
 abbrev pub last_pull : ℕ → List Cell → ℕ
 last_pull pull [] = pull
 last_pull pull (c ∷ cs) = last_pull c.pull cs
 
--- DATA is set at the pull or later
+-- DATA is set at the pull of CLOCK or later, and where the bit doesn't change it, at the pull
 abbrev pub SetFits : Bool → Bool → ℕ → ℕ → Type 0
 SetFits true true pull set = pull ≤ set
 SetFits false false pull set = pull ≤ set
@@ -54,18 +58,21 @@ pub record CellFits (held : Bool) (pull : ℕ) (c : Cell) : Type 0 where
   pub settled : c.set + settle ≤ c.free
   pub pulled : c.free + settle ≤ c.pull
 
+-- each bit fits after the pull of the one before it
 abbrev pub CellsFit : Bool → ℕ → List Cell → Type 0
 CellsFit held pull [] = Unit {0}
 CellsFit held pull (c ∷ cs) = CellFits held pull c × CellsFit (not c.bit) c.pull cs
 
--- lowest bit first
+-- the number that bits are, the lowest first
 abbrev pub number_of : List Bool → ℕ
 number_of [] = 0
 number_of (bit ∷ bits) = (if bit then 1 else 0) + 2 * number_of bits
 
+-- the bits of cells
 abbrev pub bits_of : List Cell → List Bool
 bits_of [] = []
 bits_of (c ∷ cs) = c.bit ∷ bits_of cs
 
+-- the number that the bits of cells are
 abbrev pub byte_of : List Cell → ℕ
 byte_of cells = number_of (bits_of cells)

@@ -25,6 +25,7 @@ is_held Atn h = false
 is_held Clock h = h.clock_low
 is_held Data h = h.data_low
 
+-- 1 for a line that is held, 0 for one that isn't
 abbrev pub one_if : Bool → ℕ
 one_if true = 1
 one_if false = zero
@@ -91,7 +92,7 @@ abbrev pub FollowsUpTo : Option (ℕ × Bool) → Port → Point → Piece → T
 FollowsUpTo peek q p k = (c : ℕ) → some_from c (piece_steps p k) ≡ true
     → (r2 : Rest) × ((q2 : Port) × (FollowsAmong peek (rest_at q.party.device p) q (before c (piece_steps p k)) r2 q2 × IsInTime c (port_due q2)))
 
--- The drive follows these pieces one after another among all others. Before each and behind the last it stands as the session has it, and behind each
+-- The drive follows these pieces one after another among all others. Before each and after the last it stands as the session has it, and after each
 -- the others hold what the session says.
 abbrev pub FollowsAllAmong : Port → Point → List Piece → Type 0
 FollowsAllAmong q p [] = StandsThere p q
@@ -100,6 +101,7 @@ FollowsAllAmong q p (k ∷ ks) =
     × ((peek : Option (ℕ × Bool)) → SaysAs q.role k peek
     → FollowsUpTo peek q p k × ((q2 : Port) × (FollowsAmong peek (rest_at q.party.device p) q (piece_steps p k) (rest_at q.party.device (point_after p k)) q2 × FollowsAllAmong q2 (point_after p k) ks)))
 
+-- each of these drives, from rest, follows these pieces among all others
 abbrev pub EachFollows : List Party → Point → List Piece → Type 0
 EachFollows [] p ks = Unit {0}
 EachFollows (b ∷ bs) p ks = FollowsAllAmong (resting b) p ks × EachFollows bs p ks

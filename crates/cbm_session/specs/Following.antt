@@ -26,7 +26,7 @@ use Rattle.cbm_session.specs.Seats.{lines, Seat, device, reaction}
 use Rattle.cbm_session.specs.Sessions.{rest, Linked}
 use Rattle.cbm_session.specs.Steps.{Mark, Step, event_of, host, moment_of, Plain, ForEach, For}
 
--- the lines that the host holds behind a change of one of them
+-- the lines that the host holds after a change of one of them
 abbrev pub lines_after : Lines → Line → Way → Lines
 lines_after l Atn way = record { atn_low = is_pull way; clock_low = l.clock_low; data_low = l.data_low }
 lines_after l Clock way = record { atn_low = l.atn_low; clock_low = is_pull way; data_low = l.data_low }
@@ -42,6 +42,7 @@ abbrev pub IsLaterBy : ℕ → Who → ℕ → Type 0
 IsLaterBy t Host moment = t < moment
 IsLaterBy t (Drive o) moment = Unit {0}
 
+-- the same of the first of these steps
 abbrev pub IsLater : ℕ → List Step → Type 0
 IsLater t [] = Unit {0}
 IsLater t (s ∷ ss) = IsLaterBy t s.event.who (moment_of s)
@@ -52,11 +53,12 @@ Counts Plain told = told ≡ None
 Counts (ForEach act) told = told ≡ Some act
 Counts (For device act) told = told ≡ Some act
 
--- the changes of a reaction as steps; its act counts with the last one
+-- a change of a drive as a step, with the act that counts with it or none
 abbrev pub own_step : ℕ → Change → Option Act → Step
 own_step d c None = record { event = record { who = Drive d; change = c }; mark = Plain }
 own_step d c (Some act) = record { event = record { who = Drive d; change = c }; mark = For d act }
 
+-- the changes of a reaction as steps, two at most; its act counts with the last one
 abbrev pub own_steps : ℕ → List Change → Option Act → List Step
 own_steps d [] act = []
 own_steps d (c ∷ []) act = own_step d c act ∷ []
@@ -85,6 +87,7 @@ pub data Follows (peek : Option (ℕ × Bool)) : Port → List Step → Port →
 abbrev pub alone : Point → Seat → Point
 alone p s = record { place = p.place; seats = s ∷ []; host = p.host; pulled = p.pulled; released = p.released; accepted = p.accepted; since = p.since }
 
+-- whether ATN is pulled at a place
 abbrev pub in_attention : Place → Bool
 in_attention (Commanding some) = true
 in_attention place = false
@@ -121,7 +124,7 @@ Says (Nothing at clock freed) peek = peek ≡ None
 Says (Talk at f) peek = peek ≡ Some (number_of f.bits, is_last f)
 Says w peek = Unit {0}
 
--- a drive that stands at a point follows each piece that fits there, and then stands at the point behind it
+-- a drive that stands at a point follows each piece that fits there, and then stands at the point after it
 abbrev pub FollowsPieces : Type 0
 FollowsPieces = (p : Point) (s : Seat) (w : Whole) (q : Port) (peek : Option (ℕ × Bool)) → 1 ≤ reaction s → reaction s ≤ slowest_reaction → StandsAt (alone p s) s q → Fits (alone p s) w → Says w peek
     → (q2 : Port) × ((s2 : Seat) × (Follows peek q (steps_of (alone p s) w) q2 × ((whole_point (alone p s) w).seats ≡ s2 ∷ []) × StandsAt (whole_point (alone p s) w) s2 q2))

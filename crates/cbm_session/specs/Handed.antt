@@ -60,6 +60,7 @@ abbrev pub ear_told : ℕ → ℕ → Lines → Lines → Role → Option Ear �
 ear_told r moment was now role ear =
     if is_same was.atn_low now.atn_low then ear_lined r moment was now ear else (if now.atn_low then Some (Starting (moment + r)) else ear_freed r moment role ear)
 
+-- a drive that listens, told that all others hold this now
 abbrev pub hears : ℕ → Rest → Hearer → Hearer
 hears moment r h = record { party = h.party; role = h.role; rest = r; ear = ear_told h.party.reaction moment (wires_of h.rest) (wires_of r) h.role h.ear }
 
@@ -67,15 +68,17 @@ hears moment r h = record { party = h.party; role = h.role; rest = r; ear = ear_
 abbrev pub atn_act : Lines → Lines → Option Act
 atn_act was now = if is_same was.atn_low now.atn_low then None else Some (if now.atn_low then Pulled else Released)
 
--- its own reaction: a byte counts with its accept, and in attention makes the role
+-- what a drive that listens waits for after its own reaction
 abbrev pub ear_moved : Pace → ℕ → ℕ → Lines → Option Ear → Option Ear
 ear_moved e r moment others None = None
 ear_moved e r moment others (Some ear) = Some ((ear_row e ear).next r moment others)
 
+-- the act that counts with its own reaction: a byte counts with its accept
 abbrev pub ear_act : Pace → Lines → Option Ear → Option Act
 ear_act e others None = None
 ear_act e others (Some ear) = (ear_row e ear).act others
 
+-- a drive that listens, after its own reaction at this moment; a byte in attention makes its role
 abbrev pub moves : ℕ → Hearer → Hearer
 moves moment h = record {
   party = h.party;
@@ -86,26 +89,28 @@ moves moment h = record {
 
 -- ---- the trace, as a drive sees it
 
--- what the host and the other drives did
+-- an event and those after it; a drive's own is left out
 abbrev pub unless_own : ℕ → Who → Event → List Event → List Event
 unless_own d Host e es = e ∷ es
 unless_own d (Drive o) e es = if nat_eq d o then es else e ∷ es
 
+-- what the host and the other drives did
 abbrev pub others_of : ℕ → List Event → List Event
 others_of d [] = []
 others_of d (e ∷ es) = unless_own d e.who e (others_of d es)
 
--- what all others hold behind an event of theirs
+-- what all others hold after an event of theirs
 abbrev pub rest_behind : Who → Line → Way → Rest → Rest
 rest_behind Host line way r = behind_host line way r
 rest_behind (Drive o) line way r = behind_other line way r
 
+-- whether it is one of these device numbers
 abbrev pub is_one_of : ℕ → List ℕ → Bool
 is_one_of d [] = false
 is_one_of d (x ∷ xs) = nat_eq d x || is_one_of d xs
 
--- A reaction at t comes before this event of another party: at one moment the host is first, then the drives are in the order of the bus. `later` are the
--- devices behind this one in that order.
+-- A reaction at t comes before this event of another party: at one moment the host is first, then the drives are in the order of the bus. `later` are
+-- the devices after this one in that order.
 abbrev pub is_before : List ℕ → ℕ → Who → ℕ → Bool
 is_before later t Host moment = nat_lt t moment
 is_before later t (Drive o) moment = if is_one_of o later then nat_le t moment else nat_lt t moment
@@ -122,6 +127,7 @@ IsQuiet later end (Some t) es = comes_next later end t es ≡ false
 
 -- ---- the acts
 
+-- acts with one before them, or none
 abbrev pub with_act : Option Act → List Act → List Act
 with_act None acts = acts
 with_act (Some act) acts = act ∷ acts
@@ -164,6 +170,7 @@ pub record Voice : Type 0 where
   pub low : Bool
   pub bits : Option (List Bool)
 
+-- what the wires showed at first: nothing
 abbrev pub quiet : Voice
 quiet = record { atn = false; low = false; bits = None }
 
@@ -172,6 +179,7 @@ abbrev pub clocked : Bool → Option (List Bool) → Option (List Bool)
 clocked low None = Some []
 clocked low (Some bits) = Some (bits ++ not low ∷ [])
 
+-- what the wires showed, after a change of the drive's own
 abbrev pub voiced : Line → Way → Voice → Voice
 voiced Atn way v = v
 voiced Clock Pull v = v
@@ -179,16 +187,18 @@ voiced Clock Free v = record { atn = v.atn; low = v.low; bits = clocked v.low v.
 voiced Data Pull v = record { atn = v.atn; low = true; bits = v.bits }
 voiced Data Free v = record { atn = v.atn; low = false; bits = v.bits }
 
--- a change of ATN cuts the byte
+-- what they showed, after a change of the host: one of ATN cuts the byte
 abbrev pub cut_by : Line → Way → Voice → Voice
 cut_by Atn way v = if is_same v.atn (is_pull way) then v else (record { atn = is_pull way; low = v.low; bits = None })
 cut_by Clock way v = v
 cut_by Data way v = v
 
+-- what they showed, after a change of any party: another drive's shows nothing of this one
 abbrev pub voice_by : ℕ → Who → Line → Way → Voice → Voice
 voice_by d Host line way v = cut_by line way v
 voice_by d (Drive o) line way v = if nat_eq d o then voiced line way v else v
 
+-- whether the act is that a byte was taken
 abbrev pub is_said : Act → Bool
 is_said Pulled = false
 is_said (Attention byte) = false
@@ -211,6 +221,7 @@ pub data Says (d : ℕ) : Voice → List Event → List Act → Type 0 where
 
 -- ---- any host
 
+-- each of these drives takes at least one microsecond to react
 abbrev pub AllReact : List Party → Type 0
 AllReact [] = Unit {0}
 AllReact (b ∷ bs) = (1 ≤ b.reaction) × AllReact bs
@@ -223,6 +234,7 @@ module _ (M : Type 0) (step : M → Act → M) (peek : M → Option (ℕ × Bool
     pub says : Says b.device quiet trace (said_of acts)
     pub ran : Run M step peek m acts s.machine
 
+  -- this is so of each drive of a bus and its station, in their order
   abbrev pub AllHanded : ℕ → (ℕ → M) → List Event → List Party → List (Station M) → Type 0
   AllHanded end ms trace [] [] = Unit {0}
   AllHanded end ms trace [] (s ∷ ss) = ⊥

@@ -17,6 +17,7 @@ use Rattle.cbm_session.specs.Frames.{Sent, Told, wire, accept_of, hearing, sendi
 use Rattle.cbm_session.specs.Seats.{at_pace, lines, Seat, device, reaction, is_listener, is_talker, has_listener, has_talker, talker_of, listeners}
 use Rattle.cbm_session.specs.Steps.{Step, host, drive, for_each, for_one, moment_of, merge_all}
 
+-- the eight pieces of a session, each with its moments
 pub data Whole : Type 0 where
   -- the part of an attention up to its first byte: ATN's pull
   PullPiece : (at : ℕ) → Whole
@@ -32,15 +33,17 @@ pub data Whole : Type 0 where
   -- a frame of the drive, which frees CLOCK at that moment
   Talk : (at : ℕ) → (frame : Told) → Whole
 
+-- a piece of a session, whole or cut
 pub data Piece : Type 0 where
   Full : Whole → Piece
   -- a piece of a talking drive that a pull at this moment cuts
   Cut : Whole → (at : ℕ) → Piece
 
+-- where a session stands between two pieces
 pub data Place : Type 0 where
   -- from rest, and after a talk is over
   Open : Place
-  -- in attention, behind a byte or before the first
+  -- in attention, after a byte or before the first
   Commanding : (some : Bool) → Place
   Listening : Place
   -- the drive frees CLOCK at that moment for its next frame
@@ -58,9 +61,10 @@ pub record Point : Type 0 where
   pub released : Option ℕ
   -- the accept of the last byte that the host sent: DATA pulled on the wire, by the fastest that hears it
   pub accepted : ℕ
-  -- no pull comes before: the last event, or the moment behind it where that was a drive's
+  -- no pull comes before: the last event, or the moment after it where that was a drive's
   pub since : ℕ
 
+-- the host's release of DATA, or none
 abbrev pub freed_steps : Option ℕ → List Step
 freed_steps None = []
 freed_steps (Some at) = host at Data Free ∷ []
@@ -80,15 +84,17 @@ host_part p (Talk at f) = taking (talker_of p.seats) f
 abbrev pub let_go : ℕ → Seat → List Step
 let_go at s = drive (device s) (at + reaction s) Data Free ∷ []
 
--- A talker that has nothing to say lets go of DATA; at a KERNAL's pace it pulls CLOCK and holds both lines for a while first. When that is done.
+-- A talker that has nothing to say lets go of DATA; at a KERNAL's pace it pulls CLOCK and holds both lines for a while first.
 abbrev pub silent_part : Pace → ℕ → ℕ → List Step
 silent_part Profile d t = for_one d Silent (drive d t Data Free) ∷ []
 silent_part Kernal d t = drive d t Clock Pull ∷ drive d (t + mute) Clock Free ∷ for_one d Silent (drive d (t + mute) Data Free) ∷ []
 
+-- when it has let go, where its reaction comes at t
 abbrev pub silent_at : Pace → ℕ → ℕ
 silent_at Profile t = t
 silent_at Kernal t = t + mute
 
+-- when it has let go, where the host freed CLOCK at that moment
 abbrev pub silent_end : Party → ℕ → ℕ
 silent_end b clock = silent_at b.pace (clock + b.reaction)
 
@@ -115,14 +121,16 @@ own_part p (Talk at f) s = if is_talker s.role then telling (at_pace (talker_of 
 abbrev pub steps_of : Point → Whole → List Step
 steps_of p w = merge_all (host_part p w) (map (λ s. own_part p w s) p.seats)
 
+-- the steps before a moment
 abbrev pub before : ℕ → List Step → List Step
 before at steps = filter (λ s. nat_lt (moment_of s) at) steps
 
+-- the steps of a piece; of one that is cut, those before the cut
 abbrev pub piece_steps : Point → Piece → List Step
 piece_steps p (Full w) = steps_of p w
 piece_steps p (Cut w at) = before at (steps_of p w)
 
--- bounds
+-- the moment is at least this gap after an earlier one, where there is an earlier one
 abbrev pub AtLeast : ℕ → Option ℕ → ℕ → Type 0
 AtLeast gap None moment = Unit {0}
 AtLeast gap (Some since) moment = since + gap ≤ moment
@@ -132,12 +140,16 @@ abbrev pub gap : List Seat → ℕ
 gap [] = settle
 gap (s ∷ ss) = elim ss [ [] ↦ settle | t ∷ ts ↦ settle_all ]
 
+-- the host may free ATN: a byte was sent in attention, a listener and a talker are there or not as the piece says, and the gap since the last accept
+-- has passed
 pub record MayRelease (p : Point) (listens talks : Bool) (at : ℕ) : Type 0 where
   pub commanding : p.place ≡ Commanding true
   pub listener : has_listener p.seats ≡ listens
   pub talker : has_talker p.seats ≡ talks
   pub gap : p.accepted + gap p.seats ≤ at
 
+-- when the host may pull ATN: where nothing is under way or drives listen, a pause after ATN's release and after what came last; at a cut, at its
+-- moment; at no other place
 abbrev pub PullFits : Point → ℕ → Place → Type 0
 PullFits p at Open = AtLeast pause p.released at × (p.since ≤ at)
 PullFits p at (Commanding some) = ⊥
@@ -145,14 +157,16 @@ PullFits p at Listening = AtLeast pause p.released at × (p.accepted + gap p.sea
 PullFits p at (Leading s) = ⊥
 PullFits p at (Cutting cut) = at ≡ cut
 
--- behind the drive's own release of DATA
+-- where the host frees DATA, it is after the drive's own release
 abbrev pub FreedFits : ℕ → Option ℕ → Type 0
 FreedFits since None = Unit {0}
 FreedFits since (Some at) = since + 1 ≤ at
 
+-- the place is in attention
 pub data IsCommanding : Place → Type 0 where
   commanding : {some : Bool} → IsCommanding (Commanding some)
 
+-- a whole piece may follow at a point, and its moments keep their bounds
 abbrev pub Fits : Point → Whole → Type 0
 Fits p (PullPiece at) = PullFits p at p.place
 Fits p (Command f) = IsCommanding p.place × (p.pulled + pause ≤ f.ready) × (p.accepted + pause ≤ f.ready) × SentFits p.seats false f
@@ -163,7 +177,7 @@ Fits p (ToTalker at clock) = MayRelease p false true at × (at + settle ≤ cloc
 Fits p (Nothing at clock freed) = MayRelease p false true at × (at + settle ≤ clock) × FreedFits (silent_end (talker_of p.seats) clock) freed
 Fits p (Talk at f) = (p.place ≡ Leading at) × ToldFits (talker_of p.seats) at f
 
--- A cut is of a piece of a talking drive, behind the moment at which that begins. A frame begins where the piece before ends.
+-- A cut is of a piece of a talking drive, after the moment at which that begins. A frame begins where the piece before ends.
 abbrev pub CutFits : Point → Whole → ℕ → Type 0
 CutFits p (ToTalker at clock) cut = at + 1 ≤ cut
 CutFits p (Nothing at clock freed) cut = at + 1 ≤ cut
@@ -175,52 +189,58 @@ abbrev pub some_from : ℕ → List Step → Bool
 some_from at [] = false
 some_from at (s ∷ ss) = if nat_le at (moment_of s) then true else some_from at ss
 
+-- a piece may follow at a point; one that is cut could follow whole, is cut where that is allowed, and loses at least its last step
 abbrev pub PieceFits : Point → Piece → Type 0
 PieceFits p (Full w) = Fits p w
 PieceFits p (Cut w at) = Fits p w × CutFits p w at × (some_from at (steps_of p w) ≡ true)
 
--- the lines that a party holds after these steps of its own
+-- whether a change is a pull
 abbrev pub is_pull : Way → Bool
 is_pull Pull = true
 is_pull Free = false
 
+-- the lines that a party holds after these steps of its own
 abbrev pub held_by : Held → List Step → Held
 held_by held [] = held
 held_by held (s ∷ ss) =
     held_by (elim s.event.change.line [ Atn ↦ held | Clock ↦ record held { clock_low = is_pull s.event.change.way } | Data ↦ record held { data_low = is_pull s.event.change.way } ]) ss
 
--- what stands behind a piece
+-- the place after a byte of the talker: open after its last, else the next frame is led
 abbrev pub told_place : Told → Place
 told_place f = if is_last f then Open else Leading (f.accept + next_byte)
 
+-- the moment before which no pull of ATN comes, after a byte of the talker
 abbrev pub told_since : Party → Told → ℕ
 told_since b f = if is_last f then f.accept + b.reaction + 1 else f.accept
 
--- the moment behind the last event of a nothing to say, but for drives without a role
+-- the moment before which no pull of ATN comes, where a talker has nothing to say: just after its answer, or the host's release of DATA
 abbrev pub behind : ℕ → Option ℕ → ℕ
 behind answer None = answer + 1
 behind answer (Some at) = at
 
--- and behind their releases of DATA
+-- the same, and just after the releases of DATA of drives without a role, where ATN is freed at that moment
 abbrev pub behind_all : ℕ → ℕ → List Seat → ℕ
 behind_all at moment [] = moment
 behind_all at moment (s ∷ ss) = elim s.role [ Absent ↦ max (at + reaction s + 1) (behind_all at moment ss) | Listener ↦ behind_all at moment ss | Talker ↦ behind_all at moment ss ]
 
+-- whether there is no moment
 abbrev pub is_none : Option ℕ → Bool
 is_none None = true
 is_none (Some at) = false
 
--- the drives behind a piece, by their roles
+-- a seat with this role and these lines
 abbrev pub seat_with : Role → Held → Seat → Seat
 seat_with role own s = record { party = s.party; role = role; own = own }
 
+-- a drive after a byte in attention: the role that the byte gives it, and DATA held
 abbrev pub obeying : ℕ → Seat → Seat
 obeying byte s = seat_with (role_after (device s) byte s.role) (lines false true) s
 
--- listeners hold DATA, a talker its line, the others nothing
+-- a drive when ATN is free: a listener holds DATA, a talker these lines, the others nothing
 abbrev pub standing : Held → Seat → Seat
 standing talking s = elim s.role [ Absent ↦ seat_with Absent (lines false false) s | Listener ↦ seat_with Listener (lines false true) s | Talker ↦ seat_with Talker talking s ]
 
+-- the point after a whole piece
 abbrev pub whole_point : Point → Whole → Point
 whole_point p (PullPiece at) = record { place = Commanding false; seats = map (λ s. seat_with s.role (lines false true) s) p.seats; host = lines true false; pulled = at; released = None; accepted = p.accepted; since = at }
 whole_point p (Command f) = record { place = Commanding true; seats = map (λ s. obeying (byte_of f.cells) s) p.seats; host = lines true false; pulled = p.pulled; released = None; accepted = accept_of p.seats f; since = p.since }
@@ -255,6 +275,7 @@ whole_point p (Talk at f) = record {
   since = told_since (talker_of p.seats) f;
 }
 
+-- the point after a piece; after one that is cut, each party holds what its own steps before the cut leave, and ATN's pull comes next
 abbrev pub point_after : Point → Piece → Point
 point_after p (Full w) = whole_point p w
 point_after p (Cut w at) = record {

@@ -28,60 +28,71 @@ pub record Station (M : Type 0) : Type 0 where
   pub rest : Rest
   pub machine : M
 
+-- a change of the host as an event
 abbrev pub host_event : Change → Event
 host_event c = record { who = Host; change = c }
 
+-- changes of the drive of this device number as events
 abbrev pub drive_events : ℕ → List Change → List Event
 drive_events d [] = []
 drive_events d (c ∷ cs) = (record { who = Drive d; change = c }) ∷ drive_events d cs
 
+-- no other party holds a line
 abbrev pub nobody : Rest
 nobody = record { host = record { atn_low = false; clock_low = false; data_low = false }; clocks = zero; datas = zero }
 
 module _ (M : Type 0) (step : M → Act → M) (peek : M → Option (ℕ × Bool)) where
-  -- a drive told a change of the host, and one of another drive
+  -- a drive that is told what all others hold now: the change goes to its port, the act that counts with it to its machine
   abbrev pub told_lines : ℕ → Rest → Station M → Station M
   told_lines t r s = record { port = told t (wires_of r) s.port; rest = r; machine = acted M step (told_act (wires_of r) s.port) s.machine }
 
+  -- a drive after a change of the host
   abbrev pub tell : Change → Station M → Station M
   tell c s = told_lines c.moment (behind_host c.line c.way s.rest) s
 
+  -- a drive after a change of another drive
   abbrev pub hear : Change → Station M → Station M
   hear c s = told_lines c.moment (behind_other c.line c.way s.rest) s
 
+  -- a drive after changes of another drive, one after the other
   abbrev pub hear_all : List Change → Station M → Station M
   hear_all [] s = s
   hear_all (c ∷ cs) s = hear_all cs (hear c s)
 
-  -- a drive's reaction that is due, and its changes
+  -- a drive after its reaction that is due at this moment
   abbrev pub react : ℕ → Station M → Station M
   react t s = record { port = reacted t (peek s.machine) s.port; rest = s.rest; machine = acted M step (reaction_act (peek s.machine) s.port) s.machine }
 
+  -- the changes of its lines that this reaction makes
   abbrev pub shown : ℕ → Station M → List Change
   shown t s = reaction_changes t (peek s.machine) s.port
 
+  -- no reaction of these drives is due before a moment
   abbrev pub AllInTime : ℕ → List (Station M) → Type 0
   AllInTime t [] = Unit {0}
   AllInTime t (s ∷ ss) = IsInTime t (port_due s.port) × AllInTime t ss
 
+  -- no reaction of these drives is due at or before a moment
   abbrev pub AllLater : ℕ → List (Station M) → Type 0
   AllLater t [] = Unit {0}
   AllLater t (s ∷ ss) = IsLaterDue t (port_due s.port) × AllLater t ss
 
-  -- the reaction of this drive is due first: sooner than those of the drives before it, not later than those of the drives behind
+  -- the reaction of this drive is due first: sooner than those of the drives before it, not later than those of the drives after it
   pub record IsFirst (t : ℕ) (before : List (Station M)) (o : Station M) (behind : List (Station M)) : Type 0 where
     pub due : port_due o.port ≡ Some t
     pub later : AllLater t before
     pub in_time : AllInTime t behind
 
+  -- the drives after the reaction of one of them: all others have heard its changes
   abbrev pub reacting : ℕ → List (Station M) → Station M → List (Station M) → List (Station M)
   reacting t before o behind = map (λ s. hear_all (shown t o) s) before ++ react t o ∷ map (λ s. hear_all (shown t o) s) behind
 
-  -- what each has to say is a byte
+  -- a machine has a byte to say, or nothing
   abbrev pub IsByte : Option (ℕ × Bool) → Type 0
   IsByte None = Unit {0}
   IsByte (Some x) = x.0 < 256
 
+  -- what each of these drives has to say is a byte
   abbrev pub AllBytes : List (Station M) → Type 0
   AllBytes [] = Unit {0}
   AllBytes (s ∷ ss) = IsByte (peek s.machine) × AllBytes ss
@@ -95,10 +106,11 @@ module _ (M : Type 0) (step : M → Act → M) (peek : M → Option (ℕ × Bool
     reaction : {n n2 : ℕ} {ss ss2 : List (Station M)} {es : List Event} (t : ℕ) (before : List (Station M)) (o : Station M) (behind : List (Station M)) (more : List Event) → AllBytes ss → ss ≡ before ++ o ∷ behind
         → IsFirst t before o behind → es ≡ drive_events o.port.party.device (shown t o) ++ more → Plays (suc t) (reacting t before o behind) more n2 ss2 → Plays n ss es n2 ss2
 
+  -- drives from rest: all lines are free, no drive has a role, nothing is due, and each has its machine
   abbrev pub at_rest : (ℕ → M) → List Party → List (Station M)
   at_rest ms bs = map (λ b. (record { port = resting b; rest = nobody; machine = ms b.device })) bs
 
-  -- what is asked of a machine: behind a byte that isn't the last there is another
+  -- what is asked of a machine: after a byte that isn't the last there is another
   pub record IsMachine : Type 0 where
     pub more : (m : M) (n : ℕ) → peek m ≡ Some (n, false) → (x : ℕ × Bool) × (peek (step m (Said n false)) ≡ Some x)
 

@@ -15,14 +15,16 @@ use Rattle.cbm_session.specs.Seats.{device, reaction}
 use Rattle.cbm_session.specs.Sessions.{rest, Linked, session_steps, acts_of}
 use Rattle.cbm_session.specs.Steps.{event_of, events_of}
 
+-- a drive at the profile's pace, by its device number and its reaction
 abbrev pub party : ℕ → ℕ → Party
 party device reaction = record { device = device; reaction = reaction; pace = Profile }
 
--- bits of 40, DATA set at the pull before
+-- bits of 40 microseconds, DATA set at the pull before
 abbrev pub each_40 : ℕ → List Bool → List Cell
 each_40 at [] = []
 each_40 at (bit ∷ bits) = record { bit = bit; set = at; free = at + 20; pull = at + 40 } ∷ each_40 (at + 40) bits
 
+-- a frame of the host with these bits of 40 microseconds
 abbrev pub sent : ℕ → ℕ → List Bool → Sent
 sent ready start bits = record { ready = ready; start = start; cells = each_40 start bits }
 
@@ -37,6 +39,7 @@ abbrev pub listen_own_pieces : List Piece
 listen_own_pieces =
     Full (PullPiece 0) ∷ Full (Command (sent 1000 1040 (false ∷ false ∷ false ∷ true ∷ false ∷ true ∷ false ∷ false ∷ []))) ∷ Full (ToListener 1400) ∷ []
 
+-- the events of that session
 abbrev pub listen_own_events : List Event
 listen_own_events =
     event_of Host 0 Atn Pull ∷ event_of Host 0 Clock Pull ∷ event_of (Drive 8) 20 Data Pull
@@ -51,6 +54,7 @@ listen_own_events =
     ∷ event_of Host 1360 Data Free ∷ event_of (Drive 8) 1380 Data Pull ∷ event_of Host 1400 Atn Free
     ∷ []
 
+-- the drive is told ATN's pull, the byte 40 in attention, and ATN's release
 abbrev pub ListenOwn : Type 0
 ListenOwn = Tells (party 8 20 ∷ []) listen_own_pieces listen_own_events ((Pulled ∷ Attention 40 ∷ Released ∷ []) ∷ [])
 
@@ -59,6 +63,7 @@ abbrev pub listen_other_pieces : List Piece
 listen_other_pieces =
     Full (PullPiece 0) ∷ Full (Command (sent 1000 1040 (true ∷ false ∷ false ∷ true ∷ false ∷ true ∷ false ∷ false ∷ []))) ∷ Full (ToNobody 1400 1501) ∷ []
 
+-- the events of that session: the drive lets go of DATA after ATN's release
 abbrev pub listen_other_events : List Event
 listen_other_events =
     event_of Host 0 Atn Pull ∷ event_of Host 0 Clock Pull ∷ event_of (Drive 8) 20 Data Pull
@@ -74,14 +79,16 @@ listen_other_events =
     ∷ event_of (Drive 8) 1420 Data Free ∷ event_of Host 1501 Clock Free
     ∷ []
 
+-- the drive is told ATN's pull, the byte 41 in attention, and ATN's release
 abbrev pub ListenOther : Type 0
 ListenOther = Tells (party 8 20 ∷ []) listen_other_pieces listen_other_events ((Pulled ∷ Attention 41 ∷ Released ∷ []) ∷ [])
 
--- TALK to device 8, which says 55; the host frees DATA 120 behind CLOCK, and pulls ATN behind the last pull of CLOCK
+-- TALK to device 8, which says 55; the host frees DATA 20 after the drive frees CLOCK, and pulls ATN just after the last pull of CLOCK
 abbrev pub talk_cut_pieces : List Piece
 talk_cut_pieces =
     Full (PullPiece 0) ∷ Full (Command (sent 100 140 (false ∷ false ∷ false ∷ true ∷ false ∷ false ∷ true ∷ false ∷ []))) ∷ Full (Command (sent 580 620 (true ∷ true ∷ true ∷ true ∷ false ∷ true ∷ true ∷ false ∷ []))) ∷ Full (ToTalker 1020 1040) ∷ Cut (Talk 1140 (record { bits = true ∷ true ∷ true ∷ false ∷ true ∷ true ∷ false ∷ false ∷ []; free = 1160; signal = None; accept = 2240 })) 2141 ∷ Full (PullPiece 2141) ∷ []
 
+-- the events of that session: the drive frees CLOCK and pulls DATA after the cut
 abbrev pub talk_cut_events : List Event
 talk_cut_events =
     event_of Host 0 Atn Pull ∷ event_of Host 0 Clock Pull ∷ event_of (Drive 8) 20 Data Pull
@@ -115,6 +122,7 @@ talk_cut_events =
     ∷ event_of (Drive 8) 2161 Data Pull
     ∷ []
 
+-- the byte isn't taken: the drive is told ATN's pull, the bytes 72 and 111 in attention, ATN's release, and its second pull
 abbrev pub TalkCut : Type 0
 TalkCut = Tells (party 8 20 ∷ []) talk_cut_pieces talk_cut_events ((Pulled ∷ Attention 72 ∷ Attention 111 ∷ Released ∷ Pulled ∷ []) ∷ [])
 
@@ -123,6 +131,7 @@ abbrev pub talk_cut_early_pieces : List Piece
 talk_cut_early_pieces =
     Full (PullPiece 0) ∷ Full (Command (sent 100 140 (false ∷ false ∷ false ∷ true ∷ false ∷ false ∷ true ∷ false ∷ []))) ∷ Full (Command (sent 580 620 (true ∷ true ∷ true ∷ true ∷ false ∷ true ∷ true ∷ false ∷ []))) ∷ Full (ToTalker 1020 1040) ∷ Cut (Talk 1140 (record { bits = true ∷ true ∷ true ∷ false ∷ true ∷ true ∷ false ∷ false ∷ []; free = 1160; signal = None; accept = 2240 })) 1630 ∷ Full (PullPiece 1630) ∷ []
 
+-- the events of that session: half of the byte was shown
 abbrev pub talk_cut_early_events : List Event
 talk_cut_early_events =
     event_of Host 0 Atn Pull ∷ event_of Host 0 Clock Pull ∷ event_of (Drive 8) 20 Data Pull
@@ -151,6 +160,7 @@ talk_cut_early_events =
     ∷ event_of Host 1630 Atn Pull ∷ event_of Host 1630 Clock Pull
     ∷ []
 
+-- the byte isn't taken either: the acts are those of the later cut
 abbrev pub TalkCutEarly : Type 0
 TalkCutEarly = Tells (party 8 20 ∷ []) talk_cut_early_pieces talk_cut_early_events ((Pulled ∷ Attention 72 ∷ Attention 111 ∷ Released ∷ Pulled ∷ []) ∷ [])
 
@@ -159,6 +169,7 @@ abbrev pub two_listeners_pieces : List Piece
 two_listeners_pieces =
     Full (PullPiece 0) ∷ Full (Command (sent 100 180 (false ∷ false ∷ false ∷ true ∷ false ∷ true ∷ false ∷ false ∷ []))) ∷ Full (Command (sent 601 681 (true ∷ false ∷ false ∷ true ∷ false ∷ true ∷ false ∷ false ∷ []))) ∷ Full (ToListener 1062) ∷ Full (Byte true (sent 1162 1543 (true ∷ false ∷ false ∷ false ∷ false ∷ false ∷ true ∷ false ∷ []))) ∷ []
 
+-- the events of that session: each drive pulses on DATA, and the host starts after the slower pulse
 abbrev pub two_listeners_events : List Event
 two_listeners_events =
     event_of Host 0 Atn Pull ∷ event_of Host 0 Clock Pull ∷ event_of (Drive 8) 1 Data Pull
@@ -194,6 +205,7 @@ two_listeners_events =
     ∷ event_of (Drive 9) 1923 Data Pull
     ∷ []
 
+-- both drives are told the bytes 40 and 41 in attention, and hear 65 with EOI
 abbrev pub TwoListeners : Type 0
 TwoListeners = Tells (party 8 1 ∷ party 9 60 ∷ []) two_listeners_pieces two_listeners_events ((Pulled ∷ Attention 40 ∷ Attention 41 ∷ Released ∷ Heard 65 true ∷ []) ∷ (Pulled ∷ Attention 40 ∷ Attention 41 ∷ Released ∷ Heard 65 true ∷ []) ∷ [])
 
@@ -202,12 +214,14 @@ abbrev pub ties_9_8_pieces : List Piece
 ties_9_8_pieces =
     Full (PullPiece 0) ∷ []
 
+-- the events of that session: at one moment device 9 comes first
 abbrev pub ties_9_8_events : List Event
 ties_9_8_events =
     event_of Host 0 Atn Pull ∷ event_of Host 0 Clock Pull ∷ event_of (Drive 9) 20 Data Pull
     ∷ event_of (Drive 8) 20 Data Pull
     ∷ []
 
+-- both drives are told ATN's pull
 abbrev pub Ties98 : Type 0
 Ties98 = Tells (party 9 20 ∷ party 8 20 ∷ []) ties_9_8_pieces ties_9_8_events ((Pulled ∷ []) ∷ (Pulled ∷ []) ∷ [])
 
@@ -216,12 +230,14 @@ abbrev pub ties_8_9_pieces : List Piece
 ties_8_9_pieces =
     Full (PullPiece 0) ∷ []
 
+-- the events of that session: at one moment device 8 comes first
 abbrev pub ties_8_9_events : List Event
 ties_8_9_events =
     event_of Host 0 Atn Pull ∷ event_of Host 0 Clock Pull ∷ event_of (Drive 8) 20 Data Pull
     ∷ event_of (Drive 9) 20 Data Pull
     ∷ []
 
+-- both drives are told ATN's pull
 abbrev pub Ties89 : Type 0
 Ties89 = Tells (party 8 20 ∷ party 9 20 ∷ []) ties_8_9_pieces ties_8_9_events ((Pulled ∷ []) ∷ (Pulled ∷ []) ∷ [])
 
@@ -230,6 +246,7 @@ abbrev pub beside_a_listener_pieces : List Piece
 beside_a_listener_pieces =
     Full (PullPiece 0) ∷ Full (Command (sent 1000 1080 (false ∷ false ∷ false ∷ true ∷ false ∷ true ∷ false ∷ false ∷ []))) ∷ Full (ToListener 1480) ∷ []
 
+-- the events of that session
 abbrev pub beside_a_listener_events : List Event
 beside_a_listener_events =
     event_of Host 0 Atn Pull ∷ event_of Host 0 Clock Pull ∷ event_of (Drive 8) 1 Data Pull
@@ -246,14 +263,16 @@ beside_a_listener_events =
     ∷ event_of (Drive 9) 1540 Data Free
     ∷ []
 
+-- both drives are told ATN's pull, the byte 40 in attention, and ATN's release
 abbrev pub BesideAListener : Type 0
 BesideAListener = Tells (party 8 1 ∷ party 9 60 ∷ []) beside_a_listener_pieces beside_a_listener_events ((Pulled ∷ Attention 40 ∷ Released ∷ []) ∷ (Pulled ∷ Attention 40 ∷ Released ∷ []) ∷ [])
 
--- TALK to 8 with reaction 1, which has nothing to say, beside 9 with reaction 60: a pull cuts before 9 has let go
+-- TALK to 8 with reaction 1, which has nothing to say, beside 9 with reaction 60 and 10 with reaction 20: a pull cuts before 9 has let go
 abbrev pub silent_beside_pieces : List Piece
 silent_beside_pieces =
     Full (PullPiece 0) ∷ Full (Command (sent 100 161 (false ∷ false ∷ false ∷ true ∷ false ∷ false ∷ true ∷ false ∷ []))) ∷ Cut (Nothing 542 562 (Some 564)) 572 ∷ Full (PullPiece 572) ∷ []
 
+-- the events of that session: 8 and 10 let go of DATA, and 9 holds it throughout
 abbrev pub silent_beside_events : List Event
 silent_beside_events =
     event_of Host 0 Atn Pull ∷ event_of Host 0 Clock Pull ∷ event_of (Drive 8) 1 Data Pull
@@ -273,5 +292,6 @@ silent_beside_events =
     ∷ event_of Host 572 Clock Pull ∷ event_of (Drive 8) 573 Data Pull ∷ event_of (Drive 10) 592 Data Pull
     ∷ []
 
+-- 8 is silent; all three are told both pulls of ATN, the byte 72 in attention, and ATN's release
 abbrev pub SilentBeside : Type 0
 SilentBeside = Tells (party 8 1 ∷ party 9 60 ∷ party 10 20 ∷ []) silent_beside_pieces silent_beside_events ((Pulled ∷ Attention 72 ∷ Released ∷ Silent ∷ Pulled ∷ []) ∷ (Pulled ∷ Attention 72 ∷ Released ∷ Pulled ∷ []) ∷ (Pulled ∷ Attention 72 ∷ Released ∷ Pulled ∷ []) ∷ [])

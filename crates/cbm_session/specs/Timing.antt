@@ -8,6 +8,7 @@ use Rattle.cbm_session.specs.Pieces.{Piece}
 use Rattle.cbm_session.specs.Sessions.{Splits, IsBeginning}
 use Rattle.cbm_session.specs.Steps.{Step, moment_of, events_of}
 
+-- whether the host makes the change
 abbrev pub is_host : Who → Bool
 is_host Host = true
 is_host (Drive d) = false
@@ -28,25 +29,29 @@ pub record IsQuiet (bs : List Party) (front : List Event) (e : ℕ) (ks : List P
   pub shown : events_of done ≡ front
   pub quiet : LaterHost e more
 
+-- there is a session among these with this front and no further host change at or before e
 abbrev pub SomeQuiet : List Party → (List Piece → Type 0) → List Event → ℕ → Type 0
 SomeQuiet bs among front e = (ks : List Piece) × ((done : List Step) × ((more : List Step) × (among ks × IsQuiet bs front e ks done more)))
 
--- its next event is a drive change at or before e, which the front lacks
+-- the next event of these is a drive's change at or before e, which the front lacks
 abbrev pub Owes : ℕ → List Step → Type 0
 Owes e [] = ⊥
 Owes e (s ∷ more) = (is_host s.event.who ≡ false) × (moment_of s ≤ e)
 
+-- a drive is late at e: such a session is there, and each one that is there has a drive's change that the front lacks
 pub record IsLateAt (bs : List Party) (among : List Piece → Type 0) (front : List Event) (e : ℕ) : Type 0 where
   pub some : SomeQuiet bs among front e
   pub each : (ks : List Piece) (done more : List Step) → among ks → IsQuiet bs front e ks done more → Owes e more
 
--- at some moment before m, with the part of the trace up to that moment
+-- a drive is late at some moment before m, by the part of the trace up to that moment
 abbrev pub IsLateBefore : List Party → (List Piece → Type 0) → List Event → ℕ → Type 0
 IsLateBefore bs among trace m = (front : List Event) × ((back : List Event) × ((e : ℕ) × ((trace ≡ front ++ back) × ((e < m) × (StartsLater e m back × IsLateAt bs among front e)))))
 
+-- a drive is late at some moment up to the end
 abbrev pub IsLate : List Party → (List Piece → Type 0) → List Event → ℕ → Type 0
 IsLate bs among trace end = IsLateBefore bs among trace (end + 1)
 
+-- all sessions
 abbrev pub any : List Piece → Type 0
 any ks = Unit {0}
 
