@@ -16,23 +16,26 @@ use Rattle.cbm_host.specs.Requests.{longest}
 use Rattle.cbm_host.specs.declared.request.Request.{Request}
 use Rattle.cbm_host.specs.declared.request.Request.TheVariants.{Open, Put, Fill, Get, Close, Status}
 
--- bytes heard, the last with EOI; bytes said, the last with EOI or not; none of them is silence
+-- the acts of bytes heard, the last with EOI
 abbrev pub heard : List ℕ → List Act
 heard [] = []
 heard (byte ∷ left) = Heard byte (is_last left) ∷ heard left
 
+-- the acts of bytes said, of which this is the first, the last with EOI or not
 abbrev pub spoken : Bool → ℕ → List ℕ → List Act
 spoken last byte [] = Said byte last ∷ []
 spoken last byte (next ∷ more) = Said byte false ∷ spoken last next more
 
+-- the acts of bytes said; of none of them silence
 abbrev pub said : List ℕ → Bool → List Act
 said [] last = Silent ∷ []
 said (byte ∷ more) last = spoken last byte more
 
--- an attention of two bytes up to ATN's release, and the one behind the bytes
+-- the acts of an attention of two bytes up to ATN's release
 abbrev pub called : ℕ → ℕ → List Act
 called one two = Pulled ∷ Attention one ∷ Attention two ∷ Released ∷ []
 
+-- the acts of the attention after the bytes, of this byte alone
 abbrev pub left_by : ℕ → List Act
 left_by byte = Pulled ∷ Attention byte ∷ Released ∷ []
 
@@ -49,11 +52,13 @@ acts_of d Status bytes last = called (talk + d) (data_on + 15) ++ (said bytes la
 abbrev pub IsTakenUpTo : ℕ → List ℕ → Bool → Type 0
 IsTakenUpTo most bytes last = (length bytes ≤ most) × (((last ≡ true) × (1 ≤ length bytes)) ⊎ ((last ≡ false) × ((bytes ≡ []) ⊎ (length bytes ≡ most))))
 
+-- the bytes that the host takes in a request: those of a talker so, and of any other request none
 abbrev pub IsTakenBy : Request → List ℕ → Bool → Type 0
 IsTakenBy (Get channel most) bytes last = IsTakenUpTo most bytes last
 IsTakenBy Status bytes last = IsTakenUpTo (most_of Status) bytes last
 IsTakenBy request bytes last = (bytes ≡ []) × (last ≡ false)
 
+-- each of these is a byte
 abbrev pub AreBytes : List ℕ → Type 0
 AreBytes [] = Unit {0}
 AreBytes (byte ∷ bytes) = (byte < 256) × AreBytes bytes
@@ -64,11 +69,11 @@ module _ (M : Type 0) (step : M → Act → M) (says : M → Option (ℕ × Bool
   SaysOn m [] = Unit {0}
   SaysOn m (byte ∷ bytes) = (says m ≡ Some (byte, false)) × SaysOn (step m (Said byte false)) bytes
 
-  -- A REQUEST OF AT MOST 200,000 BYTES: as many are sent; of a talker at least one byte is wanted, and before the host has all that it wants, or EOI, it
-  -- says no more.
+  -- of a talker at least one byte is wanted, and before the host has all that it wants, or EOI, the talker says fewer than 200,000
   abbrev pub SaysFew : ℕ → M → Type 0
   SaysFew most m = (1 ≤ most) × ((bytes : List ℕ) → SaysOn m bytes → length bytes < most → length bytes < most_bytes)
 
+  -- A REQUEST OF AT MOST 200,000 BYTES: no more are sent, or the talker says no more.
   abbrev pub IsShort : ℕ → M → Request → Type 0
   IsShort d m (Get channel most) = SaysFew most (run M step says m (called (talk + d) (data_on + channel)))
   IsShort d m Status = SaysFew (most_of Status) (run M step says m (called (talk + d) (data_on + 15)))

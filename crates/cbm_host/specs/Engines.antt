@@ -1,4 +1,4 @@
--- A request under way: what the host is at, the bytes that are left, and what becomes of it behind each change.
+-- A request under way: what the host is at, the bytes that are left, and what becomes of it after each change.
 use Rattle.std.specs.Prelude.{ℕ, ◌+◌, ◌-◌, Bool, true, false, List, [], ◌∷◌, Option, Some, None, nat_le, ◌||◌, replicate, if◌then◌else◌}
 use Rattle.cbm_iec.specs.declared.line.Change.{Change}
 use Rattle.cbm_iec.specs.declared.line.Line.{Line}
@@ -69,11 +69,13 @@ most_of (Get channel most) = most
 most_of Status = most_bytes
 most_of request = 0
 
+-- a request before its first change, which is at this moment
 abbrev pub engine_at : ℕ → ℕ → Request → Engined
 engine_at start d request = record { stage = Attending start (PullAtn false false) (attention_of d request); left = sent_by request; most = most_of request }
 
 -- ---- what it does next
 
+-- what the host does next in a request
 abbrev pub engine_due : Engined → Due
 engine_due e = stage_due e.stage
 
@@ -82,17 +84,19 @@ abbrev pub taken_in : Take → Option (ℕ × Bool)
 taken_in (Accepting at byte last) = Some (byte, last)
 taken_in take = None
 
+-- the same of what the host is at
 abbrev pub stage_taken : Stage → Option (ℕ × Bool)
 stage_taken (Taking take) = taken_in take
 stage_taken stage = None
 
--- when it was over
+-- when a request was over
 abbrev pub stage_end : Stage → Option ℕ
 stage_end (Done at) = Some at
 stage_end stage = None
 
 -- ---- what becomes of it
 
+-- a request whose host is now at this, with the same bytes left
 abbrev pub at_stage : Stage → Engined → Engined
 at_stage stage e = record { stage = stage; left = e.left; most = e.most }
 
@@ -101,12 +105,12 @@ abbrev pub is_last : List ℕ → Bool
 is_last [] = true
 is_last (byte ∷ left) = false
 
--- The next byte to the listener, behind ATN's release or the accept of the byte before it; where none is left UNLISTEN comes after a wait.
+-- The next byte to the listener, after ATN's release or the accept of the byte before it; where none is left UNLISTEN comes after a wait.
 abbrev pub sending_on : ℕ → ℕ → ℕ → List ℕ → Engined
 sending_on t wait most [] = record { stage = leaving (t + wait) unlisten true false; left = []; most = most }
 sending_on t wait most (byte ∷ left) = record { stage = Framing (Readying (t + ready_wait) byte (is_last left)) Listened; left = left; most = most }
 
--- A byte of the talker was accepted: the next one is awaited; behind the last, or where no more are wanted, UNTALK comes.
+-- A byte of the talker was accepted: the next one is awaited; after the last, or where no more are wanted, UNTALK comes.
 abbrev pub taking_on : ℕ → Bool → Engined → Engined
 taking_on t last e =
     if last || nat_le e.most 1
@@ -119,36 +123,41 @@ accepted t (Commanded (Some commands) errand) e = at_stage (commanding t (record
 accepted t (Commanded None errand) e = at_stage (releasing t errand) e
 accepted t Listened e = sending_on t turn_wait e.most e.left
 
--- behind the host's change that was due, made at t
+-- a request after the host's change in a byte of the talker, made at t
 abbrev pub took : ℕ → Take → Engined → Engined
 took t (Accepting at byte last) e = taking_on t last e
 took t take e = at_stage (Taking (take_made t take)) e
 
+-- the same of what the host is at; a release to a listener sends the first byte
 abbrev pub made_at : ℕ → Stage → Engined → Engined
 made_at t (Calling at) e = sending_on t ready_wait e.most e.left
 made_at t (Taking take) e = took t take e
 made_at t stage e = at_stage (stage_made t stage) e
 
+-- a request after the host's change that was due, made at t
 abbrev pub engine_made : ℕ → Engined → Engined
 engine_made t e = made_at t e.stage e
 
--- behind a change of the drive: a frame that was sent waits for DATA to be pulled
+-- a request after a change of DATA by the drive: a frame that was sent waits for it to be pulled
 abbrev pub heard_data : Change → Way → Frame → Behind → Engined → Engined
 heard_data c Pull Sent behind e = accepted c.moment behind e
 heard_data c way frame behind e = at_stage (Framing (frame_seen c frame) behind) e
 
+-- a request after a change of the drive in a frame of the host
 abbrev pub heard : Change → Line → Frame → Behind → Engined → Engined
 heard c Data frame behind e = heard_data c c.way frame behind e
 heard c line frame behind e = at_stage (Framing (frame_seen c frame) behind) e
 
+-- the same of what the host is at
 abbrev pub seen_at : Change → Stage → Engined → Engined
 seen_at c (Framing frame behind) e = heard c c.line frame behind e
 seen_at c stage e = at_stage (stage_seen c stage) e
 
+-- a request after a change of the drive
 abbrev pub engine_seen : Change → Engined → Engined
 engine_seen c e = seen_at c e.stage e
 
--- behind some, one after the other
+-- a request after changes of the drive, one after the other
 abbrev pub engine_heard : List Change → Engined → Engined
 engine_heard [] e = e
 engine_heard (c ∷ cs) e = engine_heard cs (engine_seen c e)

@@ -10,12 +10,12 @@ use Rattle.cbm_session.specs.Pieces.{silent_at}
 use Rattle.cbm_host.specs.Sending.{is_low}
 use Rattle.cbm_host.specs.Waits.{answer_wait, phase, last_wait, last_pulse, silence}
 
--- so many bits of a byte, the lowest first, from a pull of CLOCK on: DATA is set at the pull, CLOCK is freed a phase later and pulled another one later
+-- this many bits of a byte, the lowest first, from a pull of CLOCK on: DATA is set at the pull, CLOCK is freed a phase later and pulled another one later
 abbrev pub cells_for : ℕ → ℕ → ℕ → List Cell
 cells_for zero left at = []
 cells_for (suc n) left at = record { bit = not (is_low left); set = at; free = at + phase; pull = at + phase + phase } ∷ cells_for n (left / 2) (at + phase + phase)
 
--- The first bit begins a wait behind T, when the drive has freed DATA; with EOI behind the drive's pulse.
+-- The first bit begins a wait after T, when the drive has freed DATA; with EOI after the drive's pulse.
 abbrev pub start_for : Party → Bool → ℕ → ℕ
 start_for b eoi ready = (if eoi then ready + b.reaction + eoi_wait + (eoi_pulse b.pace + b.reaction) else ready + b.reaction) + answer_wait
 
@@ -23,7 +23,7 @@ start_for b eoi ready = (if eoi then ready + b.reaction + eoi_wait + (eoi_pulse 
 abbrev pub frame_for : Party → Bool → ℕ → ℕ → Sent
 frame_for b eoi byte ready = record { ready = ready; start = start_for b eoi ready; cells = cells_for 8 byte (start_for b eoi ready) }
 
--- so many bits of a byte, the lowest first
+-- this many bits of a byte, the lowest first
 abbrev pub bits_for : ℕ → ℕ → List Bool
 bits_for zero left = []
 bits_for (suc n) left = not (is_low left) ∷ bits_for n (left / 2)
@@ -32,7 +32,7 @@ bits_for (suc n) left = not (is_low left) ∷ bits_for n (left / 2)
 abbrev pub signal_for : Bool → ℕ → Option (ℕ × ℕ)
 signal_for last free = if last then Some (free + last_wait, free + last_wait + last_pulse) else None
 
--- the talker's first bit begins its reaction behind the host's last release of DATA
+-- the talker's first bit begins its reaction after the host's last release of DATA
 abbrev pub told_from : ℕ → Bool → ℕ → ℕ
 told_from r last free = (if last then free + last_wait + last_pulse else free) + r
 
@@ -46,7 +46,7 @@ told_for b last byte at = record {
 }
 
 -- When the host frees DATA for a talker that has nothing to say, where it freed CLOCK then: it has waited for CLOCK; at a KERNAL's pace it lets go a wait
--- behind the talker.
+-- after the talker.
 abbrev pub hushed_for : Pace → ℕ → ℕ → ℕ
 hushed_for Profile r clock = clock + silence
 hushed_for Kernal r clock = silent_at Kernal (clock + r) + answer_wait

@@ -3,7 +3,7 @@ use Rattle.std.specs.Prelude.{ℕ, List, replicate}
 use Rattle.cbm_host.specs.declared.left.Left.{Left}
 use Rattle.cbm_host.specs.declared.left.Left.TheVariants.{Bytes, Equal}
 
--- those of a slice, or so many equal ones
+-- the bytes that a request still sends: those of a slice, or as many equal ones as it counts
 abbrev pub bytes_left : Left → List ℕ
 bytes_left (Bytes bytes) = bytes.now
 bytes_left (Equal count byte) = replicate count byte

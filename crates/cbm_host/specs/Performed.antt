@@ -12,16 +12,17 @@ use Rattle.cbm_iec.specs.declared.act.Act.{Act}
 use Rattle.cbm_iec.specs.declared.event.Event.{Event}
 use Rattle.cbm_session.specs.Playing.{Station, Plays}
 
--- the bytes with one that was taken, or none, and whether the last of them carried EOI
+-- the byte that was taken, or none
 abbrev pub taken_with : Option (ℕ × Bool) → List ℕ
 taken_with None = []
 taken_with (Some said) = said.0 ∷ []
 
+-- whether the last byte that was taken carried EOI; where none was taken, as before
 abbrev pub last_with : Option (ℕ × Bool) → Bool → Bool
 last_with None last = last
 last_with (Some said) last = said.1
 
--- from when on the host may change a line behind these events
+-- from when on the host may change a line after these events
 abbrev pub from_last : ℕ → List Event → ℕ
 from_last t [] = t
 from_last t (x ∷ xs) = from_last (from_behind x.who x.change.moment) xs
@@ -65,7 +66,7 @@ module _ (D M : Type 0) (stands : D → M → Type 0) (step : M → Act → M) (
     pub from : p.player.from ≡ from_last 0 made
     pub until : p.limit ≡ limit
 
-  -- MEMORY RAN OUT: of a play of the bus these events were added, and those behind them are lost.
+  -- MEMORY RAN OUT: of a play of the bus these events were added, and those after them are lost.
   pub record IsCutShort (b : Cabled D) (old new : List Event) (ss : List (Station M)) : Type 0 where
     pub made : List Event
     pub lost : List Event

@@ -21,7 +21,7 @@ pub record Performing : Type 0 where
   pub byte : Option (ℕ × Bool)
   pub limit : ℕ
 
--- what waits in the player is what the host does next
+-- the change that is pending in the player is what the host does next
 abbrev pub IsHandedOn : Option Change → Engined → Type 0
 IsHandedOn None e = Unit {0}
 IsHandedOn (Some c) e = engine_due e ≡ Makes c
@@ -31,16 +31,17 @@ abbrev pub IsDue : Who → Change → Engined → Type 0
 IsDue Host c e = engine_due e ≡ Makes c
 IsDue (Drive d) c e = IsBefore c.moment (engine_due e)
 
--- the engine behind an event, and the byte that the host took with it
+-- the engine after an event
 abbrev pub engine_behind : Who → Change → Engined → Engined
 engine_behind Host c e = engine_made c.moment e
 engine_behind (Drive d) c e = engine_seen c e
 
+-- the byte that the host took with an event
 abbrev pub byte_with : Who → Engined → Option (ℕ × Bool)
 byte_with Host e = stage_taken e.stage
 byte_with (Drive d) e = None
 
--- up to when the player may be asked, by what the host does next: its change waits in the player, or it waits for longer
+-- up to when the player may be asked, by what the host does next: its change is pending in the player, or it waits for longer
 abbrev pub IsAsked : ℕ → Option Change → Due → Type 0
 IsAsked upto waiting (Makes c) = (waiting ≡ Some c) × (upto ≤ c.moment)
 IsAsked upto waiting (Waits until) = upto < until
@@ -52,7 +53,7 @@ abbrev pub IsRefused : Turns → ℕ → Change → Type 0
 IsRefused p limit c = (limit < c.moment) ⊎ (c.moment < p.from)
 
 module _ (M : Type 0) (step : M → Act → M) (says : M → Option (ℕ × Bool)) where
-  -- BEHIND THESE EVENTS NO DRIVE CHANGES A LINE before a moment, if the host changes none.
+  -- AFTER THESE EVENTS NO DRIVE CHANGES A LINE before a moment, if the host changes none.
   pub record IsQuietUntil (t n : ℕ) (ss : List (Station M)) (es : List Event) : Type 0 where
     pub second : Option Event
     pub from : ℕ
@@ -61,7 +62,7 @@ module _ (M : Type 0) (step : M → Act → M) (says : M → Option (ℕ × Bool
     pub later : IfSome second (λ e. t ≤ e.change.moment)
     pub silent : second ≡ None → AreSilent M step says t stations
 
-  -- the engine behind these events: as it was with the last of them, or, where the host waited and nothing came by then, behind the wait
+  -- the engine after these events: as it was with the last of them, or, where the host waited and nothing came by then, as it is after the wait
   abbrev pub GoesOnFrom : ℕ → List (Station M) → List Event → Engined → Engined → Type 0
   GoesOnFrom n ss es old e = (e ≡ old) ⊎ ((until : ℕ) × (engine_due old ≡ Waits until) × (e ≡ engine_passed old) × IsQuietUntil until n ss es)
 
@@ -73,7 +74,7 @@ module _ (M : Type 0) (step : M → Act → M) (says : M → Option (ℕ × Bool
   Stops p limit n ss es (Over at) = Unit {0}
 
 module _ (D M : Type 0) (stands : D → M → Type 0) (step : M → Act → M) (says : M → Option (ℕ × Bool)) where
-  -- THESE EVENTS CAME: they are a play of the bus from these stations, and what waits in the player is what the host does next.
+  -- THESE EVENTS CAME: they are a play of the bus from these stations, and the change pending in the player is what the host does next.
   pub record IsGoing (p : Performing) (b : Cabled D) (n : ℕ) (ss : List (Station M)) (es : List Event) : Type 0 where
     pub after : IsAfter D M stands step says p.player b n ss es
     pub handed : IsHandedOn p.player.waiting p.engine
@@ -119,7 +120,7 @@ module _ (D M : Type 0) (stands : D → M → Type 0) (step : M → Act → M) (
     pub from : new.player.from ≡ from_behind e.who e.change.moment
     pub limit : new.limit ≡ old.limit
 
-  -- WHERE A REQUEST GOES ON: behind all events that came so far one more comes, or none comes, and why.
+  -- WHERE A REQUEST GOES ON: after all events that came so far one more comes, or none comes, and why.
   abbrev pub GoesOn : Performing → Performing → Cabled D → Cabled D → Option Event → Type 0
   GoesOn old new b c result = (n : ℕ) (ss : List (Station M)) (es : List Event) → IsGoing old b n ss es → MatchOption result (HasStopped old new c n ss es) (HasCome old new c n ss es)
 

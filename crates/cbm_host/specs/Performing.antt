@@ -23,6 +23,7 @@ abbrev pub IsSilentBy : ℕ → Who → ℕ → Type 0
 IsSilentBy until Host moment = Unit {0}
 IsSilentBy until (Drive o) moment = until ≤ moment
 
+-- the first of these steps isn't one of the drive before this moment
 abbrev pub IsSilent : ℕ → List Step → Type 0
 IsSilent until [] = ⊥
 IsSilent until (s ∷ ss) = IsSilentBy until s.event.who (moment_of s)

@@ -27,11 +27,11 @@ use Rattle.cbm_host.specs.declared.take.Take.TheVariants.{Awaiting, Freeing, Lis
 
 -- ---- the host's changes that are still to come at most
 
--- of so many bits: DATA, and CLOCK twice, for each; and DATA's release
+-- the host's changes for this many bits: DATA, and CLOCK twice, for each; and DATA's release
 abbrev pub bits_left : ℕ → ℕ
 bits_left count = 3 * count + 1
 
--- of a byte to the drive
+-- the host's changes left of a byte to the drive, at most
 abbrev pub frame_left : Frame → ℕ
 frame_left (Readying at byte eoi) = 27
 frame_left (Ready byte eoi) = 26
@@ -44,11 +44,11 @@ frame_left (Hiding at b) = 1 + bits_left (b.count - 1)
 frame_left (Clearing at) = 1
 frame_left Sent = 0
 
--- of bytes to it, with the last attention behind them
+-- the host's changes for bytes to the drive, with the last attention after them, at most
 abbrev pub sends_left : List ℕ → ℕ
 sends_left left = 27 * length left + 32
 
--- of a byte of the drive
+-- the host's changes left of a byte of the drive, at most
 abbrev pub take_left : Take → ℕ
 take_left Awaiting = 5
 take_left (Freeing at) = 5
@@ -58,31 +58,35 @@ take_left (Unmarking at) = 2
 take_left (Gathering c) = 1
 take_left (Accepting at byte last) = 1
 
--- of those behind it, with the last attention
+-- the host's changes for the bytes after it, with the last attention, at most
 abbrev pub takes_left : ℕ → ℕ
 takes_left most = 5 * (most - 1) + 32
 
+-- the host's changes for the bytes of an attention, at most
 abbrev pub commands_left : Commands → ℕ
 commands_left (One a) = 27
 commands_left (Two a b) = 54
 commands_left (Three a b c) = 81
 
--- of what follows an attention, with these bytes to be sent and so many wanted
+-- the host's changes for what follows an attention, with these bytes to be sent and this many wanted, at most
 abbrev pub errand_left : Errand → List ℕ → ℕ → ℕ
 errand_left Sends left most = 1 + sends_left left
 errand_left Takes left most = 8 + takes_left most
 errand_left Leaves left most = 2
 
+-- the host's changes for what follows a byte to the drive, at most
 abbrev pub behind_left : Behind → List ℕ → ℕ → ℕ
 behind_left (Commanded None errand) left most = errand_left errand left most
 behind_left (Commanded (Some commands) errand) left most = commands_left commands + errand_left errand left most
 behind_left Listened left most = sends_left left
 
+-- the host's changes left of ATN's pull and of what goes with it, at most
 abbrev pub pulls_left : Pulls → ℕ
 pulls_left (PullAtn clock data_low) = 3
 pulls_left (PullClock data_low) = 2
 pulls_left FreeData = 1
 
+-- the host's changes left of ATN's release, of what goes with it and of what follows, at most
 abbrev pub release_left : Release → List ℕ → ℕ → ℕ
 release_left AtnToNobody left most = 2
 release_left ClockToNobody left most = 1
@@ -91,6 +95,7 @@ release_left AtnToTalker left most = 7 + takes_left most
 release_left ClockToTalker left most = 6 + takes_left most
 release_left DataToSilent left most = 33
 
+-- the host's changes left at what the host is at and after it, at most
 abbrev pub stage_left : Stage → List ℕ → ℕ → ℕ
 stage_left (Attending at p a) left most = pulls_left p + (commands_left a.commands + errand_left a.errand left most)
 stage_left (Framing frame behind) left most = frame_left frame + behind_left behind left most
@@ -101,12 +106,13 @@ stage_left (Taking take) left most = take_left take + takes_left most
 stage_left (Ending until) left most = 0
 stage_left (Done at) left most = 0
 
+-- the host's changes left of a request, at most
 abbrev pub engine_left : Engined → ℕ
 engine_left e = stage_left e.stage e.left e.most
 
 -- ---- and those of the drive
 
--- more than may come of so many drives between two changes of the host
+-- more than may come of this many drives between two changes of the host
 abbrev pub more_than : ℕ → ℕ → ℕ
 more_than limit drives = 10 * limit + 2 * drives + 2
 

@@ -1,4 +1,4 @@
--- What the drive showed behind each act of a call, on any disk: where a machine plays that back, and then what it shows later, the call is one of that machine.
+-- What the drive showed after each act of a call, on any disk: where a machine plays that back, and then what it shows later, the call is one of that machine.
 use Rattle.std.specs.Prelude.{◌≡◌, ℕ, Bool, List, [], ◌∷◌, ◌++◌, Option, MatchOption}
 use Rattle.cbm_drive.specs.Cables.{Cabled}
 use Rattle.cbm_drive.specs.Players.{IsStill}
@@ -12,11 +12,12 @@ use Rattle.cbm_iec.specs.declared.line.Change.{Change}
 use Rattle.cbm_session.specs.Playing.{Station}
 
 module _ {D : Type 0} (shows : D → Shown) where
-  -- as `GoesUpTo` and `GoesOn`
+  -- as `GoesUpTo`, for a machine that plays back what the drive showed
   abbrev pub GoesUpToRecorded : ℕ → Performing → Performing → Cabled D → Cabled D → Option Event → Type 0
   GoesUpToRecorded upto old new b c result = (trail : List Shown) × ((later : List Shown) (n : ℕ) (ss : List (Station Playback)) (es : List Event) → (g : IsGoing D Playback (IsPlayedBack shows (trail ++ later)) played_step played_says old b n ss es) → IsAsked upto old.player.waiting (engine_due old.engine)
       → MatchOption result ((trail ≡ []) × IsStill D Playback (IsPlayedBack shows later) played_step played_says old.player new.player b c upto g.after.stations) (HasCome D Playback (IsPlayedBack shows later) played_step played_says old new c n ss es))
 
+  -- as `GoesOn`, for a machine that plays back what the drive showed
   abbrev pub GoesOnRecorded : Performing → Performing → Cabled D → Cabled D → Option Event → Type 0
   GoesOnRecorded old new b c result = (trail : List Shown) × ((later : List Shown) (n : ℕ) (ss : List (Station Playback)) (es : List Event) → IsGoing D Playback (IsPlayedBack shows (trail ++ later)) played_step played_says old b n ss es
       → MatchOption result (HasStopped D Playback (IsPlayedBack shows later) played_step played_says old new c n ss es) (HasCome D Playback (IsPlayedBack shows later) played_step played_says old new c n ss es))

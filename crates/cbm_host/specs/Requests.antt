@@ -24,11 +24,12 @@ use Rattle.cbm_host.specs.declared.stage.Stage.TheVariants.{Ending}
 abbrev pub accept_for : Party → Bool → ℕ → ℕ → ℕ
 accept_for b eoi byte ready = end_of (frame_for b eoi byte ready) + b.reaction
 
--- the last accept of the bytes of an attention, behind ATN's pull or an accept at t
+-- the last accept of the bytes of an attention, after ATN's pull or an accept at t
 abbrev pub commanded : Party → ℕ → List ℕ → ℕ
 commanded b t [] = t
 commanded b t (byte ∷ bytes) = commanded b (accept_for b false byte (t + ready_wait)) bytes
 
+-- the frames of the bytes of an attention, after ATN's pull or an accept at t
 abbrev pub commands : Party → ℕ → List ℕ → List Piece
 commands b t [] = []
 commands b t (byte ∷ bytes) = Full (Command (frame_for b false byte (t + ready_wait))) ∷ commands b (accept_for b false byte (t + ready_wait)) bytes
@@ -37,26 +38,27 @@ commands b t (byte ∷ bytes) = Full (Command (frame_for b false byte (t + ready
 abbrev pub attention : Party → ℕ → List ℕ → List Piece
 attention b at bytes = Full (PullPiece at) ∷ commands b at bytes
 
--- when ATN is freed behind it
+-- when ATN is freed after an attention
 abbrev pub released_for : Party → ℕ → List ℕ → ℕ
 released_for b at bytes = commanded b at bytes + turn_wait
 
--- THE LAST ATTENTION of a request: nobody listens or talks behind it, and ATN and CLOCK are freed at one moment
+-- THE LAST ATTENTION of a request: nobody listens or talks after it, and ATN and CLOCK are freed at one moment
 abbrev pub leave : Party → ℕ → List ℕ → List Piece
 leave b at bytes = attention b at bytes ++ Full (ToNobody (released_for b at bytes) (released_for b at bytes)) ∷ []
 
--- BYTES TO THE LISTENER, behind ATN's release or an accept at t, with EOI on the last, and UNLISTEN. Where none is left ATN is pulled a wait behind t.
+-- BYTES TO THE LISTENER, after ATN's release or an accept at t, with EOI on the last, and UNLISTEN. Where none is left ATN is pulled a wait after t.
 abbrev pub sent : Party → ℕ → ℕ → List ℕ → List Piece
 sent b t wait [] = leave b (t + wait) (unlisten ∷ [])
 sent b t wait (byte ∷ left) = Full (Byte (is_last left) (frame_for b (is_last left) byte (t + ready_wait))) ∷ sent b (accept_for b (is_last left) byte (t + ready_wait)) turn_wait left
 
+-- a request that sends: LISTEN and a secondary address in attention, the bytes, and UNLISTEN
 abbrev pub sending : Party → ℕ → ℕ → List ℕ → List Piece
 sending b start second bytes =
     let first = (listen + b.device) ∷ second ∷ [] in
     let at = released_for b start first in
     attention b start first ++ Full (ToListener at) ∷ sent b at ready_wait bytes
 
--- What the talker said: nothing; bytes up to the one with EOI; or as many as were wanted, and behind them this byte waits, the last one or not.
+-- What the talker said: nothing; bytes up to the one with EOI; or as many as were wanted, and after them this byte is pending, the last one or not.
 pub data Said : Type 0 where
   Mute : Said
   UpToLast : (first : ℕ) → (more : List ℕ) → Said
@@ -69,6 +71,7 @@ at_last b byte at =
     let f = told_for b true byte at in
     (if nat_lt b.reaction answer_wait then Full (Talk at f) else Cut (Talk at f) (f.accept + answer_wait)) ∷ leave b (f.accept + answer_wait) (untalk ∷ [])
 
+-- the bytes of the talker up to its last one, and UNTALK
 abbrev pub up_to_last : Party → ℕ → ℕ → List ℕ → List Piece
 up_to_last b at byte [] = at_last b byte at
 up_to_last b at byte (next ∷ more) = Full (Talk at (told_for b false byte at)) ∷ up_to_last b ((told_for b false byte at).accept + next_byte) next more
@@ -80,11 +83,12 @@ at_most b next last byte at =
     let at2 = f.accept + next_byte in
     Full (Talk at f) ∷ Cut (Talk at2 (told_for b last next at2)) (f.accept + answer_wait) ∷ leave b (f.accept + answer_wait) (untalk ∷ [])
 
+-- as many bytes of the talker as are wanted, and UNTALK
 abbrev pub up_to_most : Party → ℕ → Bool → ℕ → ℕ → List ℕ → List Piece
 up_to_most b next last at byte [] = at_most b next last byte at
 up_to_most b next last at byte (byte2 ∷ more) = Full (Talk at (told_for b false byte at)) ∷ up_to_most b next last ((told_for b false byte at).accept + next_byte) byte2 more
 
--- BYTES OF THE TALKER, behind ATN's release at that moment
+-- BYTES OF THE TALKER, after ATN's release at that moment
 abbrev pub turned : Party → ℕ → Said → List Piece
 turned b at Mute =
     let freed = hushed_for b.pace b.reaction (at + phase) in
@@ -92,6 +96,7 @@ turned b at Mute =
 turned b at (UpToLast first more) = Full (ToTalker at (at + phase)) ∷ up_to_last b (at + phase + b.reaction + lead) first more
 turned b at (UpToMost first more next last) = Full (ToTalker at (at + phase)) ∷ up_to_most b next last (at + phase + b.reaction + lead) first more
 
+-- a request that takes: TALK and a secondary address in attention, the turnaround, the bytes, and UNTALK
 abbrev pub taking : Party → ℕ → ℕ → Said → List Piece
 taking b start channel said =
     let first = (talk + b.device) ∷ (data_on + channel) ∷ [] in
@@ -112,7 +117,7 @@ count_of Mute = 0
 count_of (UpToLast first more) = length more + 1
 count_of (UpToMost first more next last) = length more + 1
 
--- where so many are wanted at most
+-- what the talker said is what a request takes that wants this many bytes at most
 abbrev pub IsSaidFor : ℕ → Said → Type 0
 IsSaidFor most Mute = Unit {0}
 IsSaidFor most (UpToLast first more) = length more + 1 ≤ most
@@ -123,13 +128,13 @@ abbrev pub longest : Pace → ℕ
 longest Profile = 250000000
 longest Kernal = 320000000
 
--- the point of a session behind pieces
+-- the point of a session after pieces
 abbrev pub end_point : Point → List Piece → Point
 end_point p [] = p
 end_point p (k ∷ ks) = end_point (point_after p k) ks
 
--- These pieces go on a session from a point to one where all lines are free and the drive has no role, and the host performs its part of them, from its
--- engine at that point until it only waits for the end, which is behind the last step and not later than a limit.
+-- These pieces go on a session from a point to one where all lines are free and the drive has no role, and the host performs its part of them, from
+-- its engine at that point until it only waits for the end, which is after the last step and not later than a limit.
 pub record IsPlayed (b : Party) (p : Point) (e : Engined) (ks : List Piece) (limit : ℕ) : Type 0 where
   pub linked : Linked p ks
   pub behind : Engined

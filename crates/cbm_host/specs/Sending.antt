@@ -1,4 +1,4 @@
--- A byte of the host on the wires: what it changes next, and what becomes of it behind its own changes and those of who hears.
+-- A byte of the host on the wires: what it changes next, and what becomes of it after its own changes and those of who hears.
 use Rattle.std.specs.Prelude.{ℕ, ◌+◌, ◌-◌, ◌/◌, ◌%◌, ◌==◌, Bool, false, not, Option, Some, None, if◌then◌else◌}
 use Rattle.cbm_iec.specs.Hearing.{is_same}
 use Rattle.cbm_iec.specs.Ports.{change_at}
@@ -20,16 +20,19 @@ bits_of byte = record { left = byte; count = 8; low = false }
 abbrev pub is_low : ℕ → Bool
 is_low left = (left % 2) == 0
 
+-- the bits of a byte after DATA was changed
 abbrev pub toggled : Bits → Bits
 toggled b = record { left = b.left; count = b.count; low = not b.low }
 
+-- the change of DATA that the next bit needs
 abbrev pub toggle : Bits → Way
 toggle b = if b.low then Free else Pull
 
+-- the bits of a byte after one was sent
 abbrev pub behind_bit : Bits → Bits
 behind_bit b = record { left = b.left / 2; count = b.count - 1; low = b.low }
 
--- CLOCK was pulled: DATA is set where the next bit changes it; behind the eighth it is freed where it is held
+-- CLOCK was pulled: DATA is set where the next bit changes it; after the eighth it is freed where it is held
 abbrev pub next_bit : ℕ → Bits → Frame
 next_bit t b =
     if b.count == 0
@@ -46,7 +49,7 @@ frame_change (Hiding at b) = Some (change_at at Clock Pull)
 frame_change (Clearing at) = Some (change_at at Data Free)
 frame_change frame = None
 
--- behind that change, made at t
+-- a byte to the drive after the host's change, made at t
 abbrev pub frame_made : ℕ → Frame → Frame
 frame_made t (Readying at byte eoi) = Ready byte eoi
 frame_made t (Starting at byte) = next_bit t (bits_of byte)
@@ -67,12 +70,13 @@ abbrev pub frame_pulled : Frame → Frame
 frame_pulled (EoiSent byte) = EoiHeard byte
 frame_pulled frame = frame
 
+-- a byte to the drive after a change of a line by who hears
 abbrev pub frame_lined : ℕ → Line → Way → Frame → Frame
 frame_lined t Atn way frame = frame
 frame_lined t Clock way frame = frame
 frame_lined t Data Pull frame = frame_pulled frame
 frame_lined t Data Free frame = frame_freed t frame
 
--- behind a change of who hears
+-- a byte to the drive after a change of who hears
 abbrev pub frame_seen : Change → Frame → Frame
 frame_seen c frame = frame_lined c.moment c.line c.way frame

@@ -32,14 +32,14 @@ served pace Status m = status_said m
 abbrev pub at_power_up : Pace → ℕ → Machine → Desk Machine
 at_power_up pace d m = with_pace pace (at_first d m)
 
--- A DRIVE WITH THIS DEVICE NUMBER SERVED A REQUEST: behind it its desk is as at power up, with the machine that the request leads to, and these are the bytes
+-- A DRIVE WITH THIS DEVICE NUMBER SERVED A REQUEST: after it its desk is as at power up, with the machine that the request leads to, and these are the bytes
 -- that were said, the last with EOI or not.
 pub record IsServed (pace : Pace) (d : ℕ) (request : Request) (m : Machine) (bytes : List ℕ) (last : Bool) (desk : Desk Machine) : Type 0 where
   pub behind : desk ≡ at_power_up pace d (served pace request m).machine
   pub said : bytes ≡ (served pace request m).bytes
   pub marked : last ≡ (served pace request m).marked
 
--- A request of at most 200,000 bytes: so many are sent, or one at least and so many at most are wanted. A status is never longer.
+-- A request of at most 200,000 bytes: no more are sent, or at least one is wanted and no more than that. A status is never longer.
 abbrev pub IsModest : Request → Type 0
 IsModest (Get channel most) = (1 ≤ most) × (most ≤ most_bytes)
 IsModest Status = Unit {0}

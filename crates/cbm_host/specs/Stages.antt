@@ -1,4 +1,4 @@
--- What the host is at on the wires, and what becomes of it behind each change.
+-- What the host is at on the wires, and what becomes of it after each change.
 use Rattle.std.specs.Prelude.{ℕ, ◌+◌, Bool, true, false, Option, Some, None}
 use Rattle.cbm_iec.specs.Ports.{change_at}
 use Rattle.cbm_iec.specs.declared.line.Change.{Change}
@@ -27,11 +27,11 @@ use Rattle.cbm_host.specs.declared.stage.Stage.TheVariants.{Attending, Framing, 
 use Rattle.cbm_host.specs.declared.take.Take.{Take}
 use Rattle.cbm_host.specs.declared.take.Take.TheVariants.{Awaiting, Freeing, Listening, Marking}
 
--- the next byte of an attention, behind ATN's pull or an accept at t
+-- the next byte of an attention, after ATN's pull or an accept at t
 abbrev pub commanding : ℕ → Sequence → Stage
 commanding t a = Framing (Readying (t + ready_wait) (first_of a.commands) false) (Commanded (rest_of a.commands) a.errand)
 
--- ATN's release behind the last accept of an attention, at t
+-- ATN's release after the last accept of an attention, at t
 abbrev pub releasing : ℕ → Errand → Stage
 releasing t Sends = Calling (t + turn_wait)
 releasing t Takes = Releasing (t + turn_wait) DataToTalker
@@ -47,6 +47,7 @@ pull_change at (PullAtn clock_low data_low) = change_at at Atn Pull
 pull_change at (PullClock data_low) = change_at at Clock Pull
 pull_change at FreeData = change_at at Data Free
 
+-- what is still to be changed after one of these changes, or nothing
 abbrev pub behind_pull : Pulls → Option Pulls
 behind_pull (PullAtn false data_low) = Some (PullClock data_low)
 behind_pull (PullAtn true true) = Some FreeData
@@ -55,6 +56,7 @@ behind_pull (PullClock true) = Some FreeData
 behind_pull (PullClock false) = None
 behind_pull FreeData = None
 
+-- what the host is at after one of these changes, made at t: the next of them, or the first byte of the attention
 abbrev pub attended : ℕ → Sequence → Option Pulls → Stage
 attended t a None = commanding t a
 attended t a (Some p) = Attending t p a
@@ -68,6 +70,7 @@ release_change at AtnToTalker = change_at at Atn Free
 release_change at ClockToTalker = change_at at Clock Free
 release_change at DataToSilent = change_at at Data Free
 
+-- what the host is at after a change of ATN's release, made at t
 abbrev pub released : ℕ → Release → Stage
 released t AtnToNobody = Releasing t ClockToNobody
 released t ClockToNobody = Ending (t + ready_wait)
@@ -78,14 +81,17 @@ released t DataToSilent = leaving (t + answer_wait) untalk false false
 
 -- ---- what the host does next
 
+-- the host makes a change, or where there is none it waits for the drive
 abbrev pub due_of : Option Change → Due
 due_of None = Hears
 due_of (Some c) = Makes c
 
+-- what the host does next in a byte of the talker
 abbrev pub take_due : Take → Due
 take_due (Listening until) = Waits until
 take_due take = due_of (take_change take)
 
+-- what the host does next, by what it is at
 abbrev pub stage_due : Stage → Due
 stage_due (Attending at p a) = Makes (pull_change at p)
 stage_due (Framing frame behind) = due_of (frame_change frame)
@@ -96,8 +102,9 @@ stage_due (Taking take) = take_due take
 stage_due (Ending until) = Waits until
 stage_due (Done at) = Over at
 
--- ---- behind its own change, made at t; what comes of a release to a listener, and of an accept, is the engine's
+-- ---- after its own change, made at t; what comes of a release to a listener, and of an accept, is the engine's
 
+-- what the host is at after its own change, made at t
 abbrev pub stage_made : ℕ → Stage → Stage
 stage_made t (Attending at p a) = attended t a (behind_pull p)
 stage_made t (Framing frame behind) = Framing (frame_made t frame) behind
@@ -105,7 +112,7 @@ stage_made t (Releasing at r) = released t r
 stage_made t (Taking take) = Taking (take_made t take)
 stage_made t stage = stage
 
--- ---- behind a change of the drive; what comes of its accept is the engine's
+-- ---- after a change of the drive; what comes of its accept is the engine's
 
 -- the turnaround: the talker pulls CLOCK
 abbrev pub turned : Line → Way → ℕ → Stage
@@ -117,10 +124,12 @@ abbrev pub hushed : Change → Line → Way → ℕ → Stage
 hushed c Data Free at = Releasing at DataToSilent
 hushed c line way at = Taking (take_seen c (Freeing at))
 
+-- what the host is at after a change of the drive in a byte of the talker
 abbrev pub taking_seen : Change → Take → Stage
 taking_seen c (Freeing at) = hushed c c.line c.way at
 taking_seen c take = Taking (take_seen c take)
 
+-- what the host is at after a change of the drive
 abbrev pub stage_seen : Change → Stage → Stage
 stage_seen c (Framing frame behind) = Framing (frame_seen c frame) behind
 stage_seen c (Turning until) = turned c.line c.way until
@@ -129,10 +138,12 @@ stage_seen c stage = stage
 
 -- ---- the drive changed nothing for as long as the host waits
 
+-- a byte of the talker after the wait: where no bit has begun by then, it is the last one and the host answers EOI
 abbrev pub take_passed : Take → Take
 take_passed (Listening until) = Marking until
 take_passed take = take
 
+-- what the host is at after the wait: a talker that hasn't pulled CLOCK has nothing to say, and the end is reached
 abbrev pub stage_passed : Stage → Stage
 stage_passed (Turning until) = Releasing until DataToSilent
 stage_passed (Taking take) = Taking (take_passed take)

@@ -1,4 +1,4 @@
--- A byte of the talker on the wires: what the host changes next, and what becomes of it behind its own changes and the talker's.
+-- A byte of the talker on the wires: what the host changes next, and what becomes of it after its own changes and the talker's.
 use Rattle.std.specs.Prelude.{ℕ, ◌+◌, ◌==◌, nat_lt, Bool, true, false, Option, Some, None, List, [], ◌∷◌, if◌then◌else◌}
 use Rattle.cbm_iec.specs.Hearing.{with_bit}
 use Rattle.cbm_iec.specs.Ports.{change_at}
@@ -29,7 +29,7 @@ take_change (Marking at) = Some (change_at at Data Pull)
 take_change (Accepting at byte last) = Some (change_at at Data Pull)
 take_change take = None
 
--- behind that change, made at t
+-- a byte of the talker after the host's change, made at t
 abbrev pub take_made : ℕ → Take → Take
 take_made t (Freeing at) = Listening (t + last_wait)
 take_made t (Marking at) = Unmarking (t + last_pulse)
@@ -53,17 +53,18 @@ abbrev pub take_set : Bool → Take → Take
 take_set low (Gathering c) = Gathering (record { count = c.count; byte = c.byte; low = low; last = c.last })
 take_set low take = take
 
+-- a byte of the talker after it changed a line
 abbrev pub take_lined : ℕ → Line → Way → Take → Take
 take_lined t Atn way take = take
 take_lined t Clock Pull take = take_pulled t take
 take_lined t Clock Free take = take_freed t take
 take_lined t Data way take = take_set (is_pull way) take
 
--- behind a change of the talker
+-- a byte of the talker after a change of it
 abbrev pub take_seen : Change → Take → Take
 take_seen c take = take_lined c.moment c.line c.way take
 
--- behind some, one after the other
+-- a byte of the talker after changes of it, one after the other
 abbrev pub take_heard : List Change → Take → Take
 take_heard [] take = take
 take_heard (c ∷ cs) take = take_heard cs (take_seen c take)
