@@ -106,16 +106,30 @@ def clauses(text, labels):
     return "\n".join(found) if len(found) >= len({*labels}) else sys.exit(f"no such clause among: {', '.join(labels)}")
 
 
+def head(text):
+    """A function up to its body: signature and clauses. The body's brace stands where the function does, or ends the signature where there is no clause."""
+    lines = text.split("\n")
+    place = lines[0][: len(lines[0]) - len(lines[0].lstrip())]
+    found = []
+    for line in lines:
+        if line.startswith(f"{place}{{"):
+            break
+        found.append(line)
+        if re.search(r"\S\s*\{$", line) and not re.search(r"^\s*(requires|ensures)\b", "\n".join(found), re.M):
+            break
+    return "\n".join(found)
+
+
 def contract(top, crate, wanted, *labels):
     """The clauses of a function, all or those of these labels, and the names that its file brings in for them."""
     wanted = wanted.split("::")[-1]
-    for folder, _, files in os.walk(os.path.join(top, "crates", crate, "src")):
+    for folder, folders, files in os.walk(os.path.join(top, "crates", crate, "src")):
+        folders.sort()
         for file in sorted(files):
             text = open(os.path.join(folder, file), encoding="utf-8").read()
-            start = re.search(rf"pub fn {wanted}\b", text)
+            start = re.search(rf"^ *pub (?:unsafe )?(?:extern \"C\" )?fn {wanted}\b", text, re.M)
             if start:
-                body = re.search(r"\n\s*\{\s*\n|\n\s*\{\}|;\n", text[start.start():])
-                found = text[start.start(): start.start() + body.start()]
+                found = head(text[start.start():])
                 return clauses(found, labels) if labels else found, names_used(text.replace("ghost use", "use"))
     sys.exit(f"no public function {wanted} in {crate}")
 
@@ -137,4 +151,5 @@ def main():
                 print(f"    {module.rsplit('.', 1)[1]}: {name} ({lines[module, name]})")
 
 
-main()
+if __name__ == "__main__":
+    main()

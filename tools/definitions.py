@@ -1,0 +1,223 @@
+#!/usr/bin/env python3
+"""definitions.py [--check]: makes docs/DEFINITIONS.md below its mark, from the comments in specs/: for each promise that the page speaks of the
+definitions that its contract reaches (tools/reached.py), each with its sentence, once, under the first promise that reaches it. What stands above the
+mark is written by hand and stays. --check changes nothing, and ends with 1 where the page isn't what this makes."""
+import dataclasses, pathlib, re, sys
+
+from reached import Specs, contract, definitions
+
+ROOT = pathlib.Path(__file__).resolve().parent.parent
+PAGE = ROOT / "docs/DEFINITIONS.md"
+MARK = "<!-- What follows is made by tools/definitions.py, and isn't changed by hand. -->\n"
+
+
+@dataclasses.dataclass(frozen=True)
+class Promise:
+    """What is promised, and the functions whose contracts say it: NAME, or NAME:LABEL for one clause of it."""
+
+    text: str
+    crate: str
+    names: tuple[str, ...]
+
+
+# From the lowest layer up; a part of the page is a heading and its promises.
+PARTS = {
+    "Sectors and images": [
+        ("four bytes as five in group code", "cbm_gcr", "encode4 decode5"),
+        ("a track's sync marks, the bytes at a bit, and a write of them", "cbm_track", "next_sync bytes_at overwrite is_clear"),
+        ("a sector's answer, a write to it", "cbm_sector", "read_sector write_sector"),
+        ("following links, and what a write elsewhere leaves of them", "cbm_medium", "chains_are_followed writes_elsewhere_change_no_chain"),
+        ("a D64 image is read, and given back", "cbm_d64", "from_bytes to_bytes"),
+        ("a G64 image is read, and made from sectors", "cbm_g64", "from_bytes from_sectors"),
+    ],
+    "The disk's content": [
+        ("what is free, and which block is claimed next", "cbm_bam", "free_blocks geometry claim_first claim_next claim_directory anew"),
+        ("the bytes of a chain, read and written", "cbm_chain", "peek put finish free_chain chains_hold_what_was_put"),
+        ("the entries of a directory, and changes of one", "cbm_directory", "find empty_slot put_slot clear_slot grow"),
+        ("what an entry's bytes become", "cbm_directory", "fresh closed relative reopened renamed cleared"),
+        ("a record by its side sectors, and how a relative file grows", "cbm_relfile", "read_record rewrite lengthen begin_side claim_two"),
+        ("`check` says yes exactly on sound disks", "cbm_volume", "check"),
+        (
+            "a sound content means one disk, and is the plain list of its sectors",
+            "cbm_volume",
+            "sound_contents_mean_disks contents_mean_one_disk blocks_bound_bytes is_sound_by_its_sectors",
+        ),
+        (
+            "OPEN of a new file and for appending, a byte put, and CLOSE of a replacement, with a stop at any sector write",
+            "cbm_volume",
+            "begin_write begin_append store finish_replacement",
+        ),
+        ("COPY, with a stop at any sector write", "cbm_volume", "copy"),
+        ("a new relative file, a record written in place, and growth, with a stop at any sector write", "cbm_volume", "make_records put_record grow_records"),
+        ("RENAME, SCRATCH, NEW and VALIDATE, with a stop at any sector write", "cbm_volume", "rename scratch new_disk validate"),
+    ],
+    "The drive's DOS": [
+        ("a text of OPEN, of a command", "cbm_command", "parse_open parse_command"),
+        ("a pattern and a name", "cbm_command", "matches"),
+        ("the lines of a directory", "cbm_listing", "begin line finish"),
+        ("the numbers and texts of the status", "cbm_machine", "line taken"),
+        ("an OPEN is the machine's", "cbm_channel", "open"),
+        ("a byte put to a file, and CLOSE, with a stop at any sector write", "cbm_channel", "put close"),
+        ("the end of a text, the next byte, and LISTEN and TALK are the machine's", "cbm_channel", "end_put peek taken listen talk"),
+    ],
+    "The bus": [
+        ("a trace has one reading", "cbm_session", "one_reading"),
+        ("a session's host keeps the timing", "cbm_session", "keeps_timing"),
+        ("worked sessions, by numbers", "cbm_session", "rows"),
+        ("a frame goes in parts, its pulses are one pulse, and all accept", "cbm_session", "is_joined is_one_pulse has_accepted goes_in_parts goes_on"),
+        ("a drive alone with the host follows every session", "cbm_session", "follows_pieces follows_fronts follows_sessions"),
+        ("each drive of a bus follows every session", "cbm_session", "follows_buses"),
+        ("drives under a host that keeps the timing keep to a session", "cbm_session", "keeps_sessions"),
+        ("drives under any host run what the wires hand them", "cbm_session", "hears_one hands_each"),
+        ("a list of changes played, of any machines: a host that keeps the timing gets a session", "cbm_drive", "play:kept"),
+        ("a list of changes played: all that is promised of it", "cbm_drive", "play"),
+        ("the same event by event", "cbm_drive", "next half keeps"),
+        ("the headline: drives with disks, the machine of named files and sound disks in it", "cbm_bus", "play:headline"),
+        ("drives with disks: all that is promised of a list of changes", "cbm_bus", "play at_rest"),
+    ],
+    "A computer's requests": [
+        ("each request of a host is a session", "cbm_host", "plays_requests"),
+        ("a request is carried out, from rest to rest; the bytes of one under way", "cbm_host", "carries_out begins"),
+        ("requests to a drive with its DOS, one after another", "cbm_host", "ask take open put fill close"),
+        ("a request on a bus, whatever the disk", "cbm_host", "perform"),
+        ("bytes to a channel and from it, by calls", "cbm_talk", "hear said"),
+    ],
+    "Scripts": [
+        ("what a script prints on a disk, of requests or of line changes, and the image given back", "cbm_program", "run"),
+        ("the program's exit status", "drive1541", "exit_status of_run"),
+    ],
+    "The tool": [
+        ("an image is opened, its directory listed, files taken out", "cbm_shell", "open list directory get file read_file raw_directory"),
+        ("names as text, and files that are no image", "cbm_shell", "name_text foreign_of unwrapped"),
+        ("the sentences of `check`", "cbm_shell", "check_text unsound_text words"),
+        ("an image is changed by the drive's commands", "cbm_shell", "change changed changes put_records"),
+        ("a new image, and one of the other format", "cbm_shell", "new_image convert"),
+        ("an image is checked, put in order, and looked at", "cbm_shell", "check validate info picture geos_blocks sector file_blocks"),
+        ("entries locked, dressed, swapped; titles and art", "cbm_shell", "lock retitle add_art dress swap_entries"),
+        ("damaged disks: all flaws, what is salvaged, forgotten and given back", "cbm_shell", "flaws users lost salvage forget undelete"),
+    ],
+    "The C library": [
+        ("a drive on lines, with the disk of an image", "cbm_device", "open lines next_due due image insert eject reset status"),
+        ("images by calls, and a bus played", "cbm_device", "check blank list file entry title sector play"),
+        ("what C may pass, and the numbers of refusals", "yellowadze1541", "y1541_open y1541_lines y1541_due y1541_image y1541_play y1541_image_list"),
+    ],
+}
+
+
+def sentences(path):
+    """The sentence of each definition of a file: the comment above it, or that of the definition before it where it has none; and the file's own."""
+    names, found, comment, last = definitions(path), {}, [], ""
+    for line in path.read_text("utf-8").split("\n"):
+        text = line.strip()
+        start = re.match(r"(?:(?:abbrev|unfoldable|pub|record|data) )+([A-Za-z_][\w'-]*)", text)
+        if text.startswith("-- ") and not text.startswith("-- ----"):
+            comment.append(text[3:])
+        elif start and start[1] in names and start[1] not in found and not text.startswith("pub use"):
+            last = " ".join(comment) or last
+            found[start[1]] = last
+            comment = []
+        else:
+            comment = []
+    first = path.read_text("utf-8").split("\n")[0]
+    return found, first[3:] if first.startswith("-- ") else ""
+
+
+class Book:
+    """All definitions, in the order of the crates and of the files in them."""
+
+    def __init__(self):
+        self.specs = Specs(ROOT)
+        crates = [it.split()[0].rstrip(":") for it in (ROOT / "crates.txt").read_text("utf-8").split("\n") if it and it[0] != "#"]
+        self.order, self.sentences, self.titles = {}, {}, {}
+        for module, (found, _, _) in self.specs.files.items():
+            _, crate, _, file = module.split(".", 3)
+            path = ROOT / "crates" / crate / "specs" / (file.replace(".", "/") + ".antt")
+            lines = (ROOT / "crates" / crate / "specs/Lib.antt").read_text("utf-8").split("\n")
+            place = [it.split()[-1] for it in lines if it.startswith("pub mod")]
+            self.sentences[module], self.titles[module] = sentences(path)
+            first = file.split(".")[0]
+            for number, name in enumerate(found):
+                self.order[module, name] = (crates.index(crate), place.index(first) if first in place else len(place), module, number)
+
+    def reached(self, crate, name):
+        """What one contract, or a clause of it, reaches."""
+        function, *labels = name.split(":")
+        text, (names, files) = contract(ROOT, crate, function, *labels)
+        return self.specs.reached(self.specs.named(text, None, names, files))
+
+    def lines(self, found):
+        return sum(len(self.specs.files[module][0][name]) for module, name in found)
+
+    def rows(self, found):
+        """The rows of a table: file by file, the definitions that share a sentence in one row."""
+        before = None
+        groups = []
+        for module, name in sorted(found, key=self.order.get):
+            sentence = self.sentences[module].get(name, "") or self.titles[module]
+            if groups and groups[-1][0] == module and groups[-1][1] == sentence:
+                groups[-1][2].append(name)
+            else:
+                groups.append((module, sentence, [name]))
+        for module, sentence, names in groups:
+            _, crate, _, file = module.split(".", 3)
+            where = "" if module == before else f"{crate} {file.replace('.', '/')}"
+            before = module
+            yield f"| {where} | {', '.join(f'`{it}`' for it in names)} | {sentence.replace('|', chr(92) + '|')} |"
+
+
+def counted(numbers):
+    return ", ".join(f"{it:,}" for it in numbers)
+
+
+def spelled(name):
+    function, *labels = name.split(":")
+    return f"`{function}`" + "".join(f", its clause `{it}`" for it in labels)
+
+
+def made(book):
+    """What stands below the mark."""
+    every = {name: [Promise(text, crate, tuple(names.split())) for text, crate, names in rows] for name, rows in PARTS.items()}
+    reached = {(it, name): book.reached(it.crate, name) for rows in every.values() for it in rows for name in it.names}
+    out = ["", "## How much a promise rests on", "", "| promise | contract | definitions | lines |", "|---|---|---|---|"]
+    for rows in every.values():
+        for it in rows:
+            found = [reached[it, name] for name in it.names]
+            out.append(f"| {it.text} | {it.crate} {', '.join(map(spelled, it.names))} | {counted(map(len, found))} | {counted(map(book.lines, found))} |")
+    seen = set()
+    for part, rows in every.items():
+        out += ["", f"## {part}"]
+        for it in rows:
+            found = set().union(*(reached[it, name] for name in it.names))
+            new, seen = found - seen, seen | found
+            out += ["", f"**{it.text[0].upper() + it.text[1:]}** ({it.crate} {', '.join(map(spelled, it.names))}): " + counts(len(found), len(new))]
+            if new:
+                out += ["", "| where | definition | the rule |", "|---|---|---|", *book.rows(new)]
+    return "\n".join(out) + "\n"
+
+
+def counts(found, new):
+    """How many definitions a promise rests on, and how many of them stand in an earlier table."""
+    if not new:
+        return f"{found} definitions, all of which stand above."
+    return f"{found} definitions" + (f", of which {found - new} stand above." if found > new else ".")
+
+
+def main():
+    if sys.argv[1:] not in ([], ["--check"]):
+        sys.exit(__doc__)
+    page = PAGE.read_text("utf-8")
+    if page.count(MARK) != 1:
+        sys.exit(f"docs/DEFINITIONS.md: the mark must stand in it once: {MARK}")
+    by_hand = page.split(MARK)[0]
+    new = by_hand + MARK + made(Book())
+    if sys.argv[1:] == []:
+        PAGE.write_text(new, "utf-8")
+    elif new != page:
+        line = next((n for n, (a, b) in enumerate(zip(page.split("\n"), new.split("\n")), 1) if a != b), "its end")
+        sys.exit(f"docs/DEFINITIONS.md: from line {line} on it isn't what tools/definitions.py makes of the sources")
+    else:
+        print("the definitions: the page is what the sources say")
+
+
+if __name__ == "__main__":
+    main()
