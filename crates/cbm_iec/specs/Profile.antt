@@ -3,11 +3,11 @@ use Rattle.std.specs.Prelude.{ℕ, ◌+◌, ◌*◌}
 use Rattle.cbm_iec.specs.declared.pace.Pace.TheVariants.{Profile, Kernal}
 use Rattle.cbm_iec.specs.declared.pace.Pace.{Pace}
 
--- a drive reacts in 1 to so many
+-- a drive reacts in 1 to this many microseconds
 abbrev pub slowest_reaction : ℕ
 slowest_reaction = 60
 
--- EOI: a listener's pulse begins so long, and its reaction, after DATA was first free on the wire
+-- EOI: a listener's pulse begins this long, and its reaction, after DATA was first free on the wire
 abbrev pub eoi_wait : ℕ
 eoi_wait = 200
 
@@ -16,7 +16,7 @@ abbrev pub eoi_pulse : Pace → ℕ
 eoi_pulse Profile = 60
 eoi_pulse Kernal = 80
 
--- EOI: so long after DATA was first free on the wire, and its reaction, a listener's pulse has ended
+-- EOI: this long after DATA was first free on the wire, and its reaction, a listener's pulse has ended
 abbrev pub eoi_end : Pace → ℕ
 eoi_end p = eoi_wait + eoi_pulse p
 
@@ -41,7 +41,7 @@ half_bit Kernal = 80
 abbrev pub bit_time : Pace → ℕ
 bit_time p = 2 * half_bit p
 
--- the host: CLOCK and DATA stand at least so long before the next change of CLOCK in a bit; as long from an accept to ATN's change, and from ATN's release to CLOCK's in a turnaround
+-- the host: CLOCK and DATA stand at least this long before the next change of CLOCK in a bit; as long from an accept to ATN's change, from ATN's release to CLOCK's in a turnaround
 abbrev pub settle : ℕ
 settle = 20
 
@@ -53,7 +53,7 @@ settle_all = 60
 abbrev pub pause : ℕ
 pause = 100
 
--- the host: without EOI its first bit begins at most so long after DATA was first free on the wire
+-- the host: without EOI its first bit begins at most this long after DATA was first free on the wire
 abbrev pub latest_start : ℕ
 latest_start = 199
 

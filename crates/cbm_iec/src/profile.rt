@@ -1,6 +1,6 @@
 //! The times of the bus that a drive keeps to, in microseconds.
 
-/// EOI: a listener's pulse begins so long, and its reaction, after DATA was first free on the wire.
+/// EOI: a listener's pulse begins this long, and its reaction, after DATA was first free on the wire.
 pub const EOI_WAIT: u64 = 200;
 
 /// EOI: how long a listener's pulse pulls DATA; and at a KERNAL's pace.
