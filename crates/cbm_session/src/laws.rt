@@ -65,8 +65,8 @@ pub fn keeps_timing()
     ensures drives { FrontsInTime }
 {}
 
-/// A drive alone with the host that stands at a point of a session follows each piece that fits there: told the
-/// host's part, it makes its own part and gives the piece's acts, and it stands at the point behind.
+/// A drive alone with the host, in the state that a session prescribes: given the host's events of any piece that may
+/// come next, it makes exactly its own events and acts of that piece, and is then in the state after it.
 pub fn follows_pieces()
     ensures { FollowsPieces }
 {}
