@@ -12,7 +12,7 @@ use Rattle.cbm_drive.specs.declared.secondary.Secondary.TheVariants.{Data, Close
 use Rattle.cbm_drive.specs.declared.ended.Ended.{Ended}
 use Rattle.cbm_drive.specs.declared.ended.Ended.TheVariants.{Name, Bytes}
 
--- $60 + c asks for bytes on channel c, $E0 + c closes it, and behind $F0 + c comes the name of an OPEN; c is 0 to 15. No other byte is
+-- $60 + c asks for bytes on channel c, $E0 + c closes it, and after $F0 + c comes the name of an OPEN; c is 0 to 15. No other byte is
 -- a secondary address.
 abbrev pub secondary_of : ℕ → Option Secondary
 secondary_of byte =
@@ -63,7 +63,7 @@ channel_said Talker channel = channel
 abbrev pub waiting : Addressed → Addressed
 waiting a = record a { channel = None; naming = false; freed = false; name = [] }
 
--- a secondary address came, and nothing behind it yet
+-- a secondary address came, and nothing after it yet
 abbrev pub given : ℕ → Bool → Addressed → Addressed
 given channel naming a = record a { channel = Some channel; naming = naming; freed = false; name = [] }
 

@@ -19,7 +19,7 @@ use Rattle.cbm_drive.specs.declared.ended.Ended.{Ended}
 use Rattle.cbm_drive.specs.declared.ended.Ended.TheVariants.{Name, Bytes}
 use Rattle.cbm_drive.specs.Addressing.{Addressed, unaddressed, paced, secondary_of, channel_heard, channel_said, addressed_after, ended}
 
--- a DOS, or a machine that it stands for, and how its drive is addressed
+-- a DOS, or a machine that it represents, and how its drive is addressed
 pub record Desk (A : Type 0) : Type 0 where
   pub dos : A
   pub addressed : Addressed
@@ -92,11 +92,11 @@ shown_from (Some channel) k = shown_by channel k
 abbrev pub desk_shows : {M : Type 0} → Desk (Kept M) → Option (ℕ × Bool)
 desk_shows d = shown_from (channel_said d.addressed.role d.addressed.channel) d.dos
 
--- The DOS stands for the machine, and both are addressed alike.
+-- The DOS represents the machine, and both are addressed alike.
 abbrev pub IsAlike : {M : Type 0} → (M → Seen) → Desk (Kept M) → Desk Machine → Type 0
 IsAlike seen x d = Stands seen x.dos d.dos × (d.addressed ≡ x.addressed)
 
--- A DESK STANDS for another one: alike, and what that has to say is a byte.
+-- A DESK REPRESENTS another one: alike, and what that has to say is a byte.
 abbrev pub DeskStands : {M : Type 0} → (M → Seen) → Desk (Kept M) → Desk Machine → Type 0
 DeskStands seen x d = IsAlike seen x d × IfSome (desk_says d) (λ s. s.0 < 256)
 

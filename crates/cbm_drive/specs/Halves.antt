@@ -1,4 +1,4 @@
--- Half of a bit of a byte that a drive says: one reaction, which changes CLOCK, and perhaps DATA behind it.
+-- Half of a bit of a byte that a drive says: one reaction, which changes CLOCK, and perhaps DATA after it.
 use Rattle.std.specs.Prelude.{ℕ, ◌≡◌, ◌<◌, Bool, false, not, ◌&&◌, nat_lt, is_some, List, [], ◌∷◌, Option, Some, None}
 use Rattle.cbm_drive.specs.Cables.{Cabled}
 use Rattle.cbm_drive.specs.Players.{Turns}
@@ -25,7 +25,7 @@ half_alone limit [] = false
 half_alone limit (x ∷ []) = half_before limit x.port
 half_alone limit (x ∷ y ∷ xs) = false
 
--- No change waits, and none is still to be given.
+-- No change is pending, and none is still to be given.
 abbrev pub has_nothing : Turns → Bool
 has_nothing p = not (is_some p.waiting) && not (is_some p.second)
 

@@ -11,7 +11,7 @@ use Rattle.cbm_drive.specs.Seats.{Seated, IsBusAt}
 module _ (D M : Type 0) (stands : D → M → Type 0) (step : M → Act → M) (says : M → Option (ℕ × Bool)) where
   -- THE HEADLINE. These drives, whose machines began as ms, were played up to an end, and what was made was added to the events. Where the host kept the timing,
   -- that is a beginning of a session in which each byte talked is the machine's answer to the bytes sent, and no reaction is late; and each drive now
-  -- stands for the machine that ran exactly the acts that count in it.
+  -- represents the machine that ran exactly the acts that count in it.
   pub record HasKept (bs : List Party) (ms : ℕ → M) (host : Lines) (end : ℕ) (xs : List (Seated D)) (old new : List Event) : Type 0 where
     pub made : List Event
     pub stations : List (Station M)

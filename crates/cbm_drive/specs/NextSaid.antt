@@ -1,4 +1,4 @@
--- Behind a byte that isn't the last there is another, on each channel of the named-files machine.
+-- After a byte that isn't the last there is another, on each channel of the named-files machine.
 use Rattle.std.proofs.Common.{◌≡◌, ℕ, zero, suc, ◌+◌, ◌-◌, ◌<◌, Bool, true, false, List, [], ◌∷◌, length, drop, Option, Some, None, refl, sym, ap, subst, arith, inl, inr}
 use Rattle.std.specs.Prelude.{IfSome, ◌==◌, slice_index_or, if◌then◌else◌}
 use Rattle.std.specs.List.{list_all}
@@ -93,7 +93,7 @@ more_from : (ch : Option ℕ) (n : ℕ) (m : Machine) → peek_from ch m ≡ Som
 more_from None n m e = absurd cc
 more_from (Some ch) n m e = more_taken ch n m e
 
--- BEHIND A BYTE THAT ISN'T THE LAST A DESK HAS ANOTHER.
+-- AFTER A BYTE THAT ISN'T THE LAST A DESK HAS ANOTHER.
 pub more_said : (d : Desk Machine) (n : ℕ) → desk_says d ≡ Some (n, false) → (x : ℕ × Bool) × (desk_says (desk_step d (Said n false)) ≡ Some x)
 more_said d n e = more_from (channel_said d.addressed.role d.addressed.channel) n d.dos e
 

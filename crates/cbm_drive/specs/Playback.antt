@@ -7,7 +7,7 @@ use Rattle.cbm_iec.specs.declared.act.Act.{Act}
 abbrev pub Shown : Type 0
 Shown = Option (ℕ × Bool)
 
--- what it shows now, and behind each act to come; and whether a byte that isn't the last was said, so that there must be another
+-- what it shows now, and after each act to come; and whether a byte that isn't the last was said, so that there must be another
 pub record Playback : Type 0 where
   pub shown : List Shown
   pub owed : Bool
@@ -28,7 +28,7 @@ behind_first (now ∷ later) = later
 abbrev pub played_says : Playback → Shown
 played_says p = says_or p.owed (first_of p.shown)
 
--- behind each act the next is shown
+-- after each act the next is shown
 abbrev pub played_step : Playback → Act → Playback
 played_step p act = record { shown = behind_first p.shown; owed = owes act (played_says p) }
 

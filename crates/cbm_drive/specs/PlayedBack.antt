@@ -1,4 +1,4 @@
--- What plays back a machine is a machine: it says bytes, and behind a byte that isn't the last another one.
+-- What plays back a machine is a machine: it says bytes, and after a byte that isn't the last another one.
 use Rattle.std.proofs.Common.{◌≡◌, ℕ, ◌<◌, Bool, true, false, List, ◌∷◌, ◌++◌, Option, Some, None, refl, sym, ap, subst, ◌∙◌}
 use Rattle.std.specs.Prelude.{IfSome, IsSome}
 use Rattle.cbm_iec.specs.Machines.{acted, goes_on, owes, IsShownBehind}
@@ -18,7 +18,7 @@ more_or : (now : Shown) → (x : ℕ × Bool) × (says_or true now ≡ Some x)
 more_or None = ((0, true), refl)
 more_or (Some said) = (said, refl)
 
--- BEHIND A BYTE THAT ISN'T THE LAST THERE IS ANOTHER.
+-- AFTER A BYTE THAT ISN'T THE LAST THERE IS ANOTHER.
 pub played_more : (p : Playback) (n : ℕ) → played_says p ≡ Some (n, false) → (x : ℕ × Bool) × (played_says (played_step p (Said n false)) ≡ Some x)
 played_more p n e = subst (λ (b : Bool). (x : ℕ × Bool) × (says_or b (first_of (behind_first p.shown)) ≡ Some x)) (sym (ap goes_on e)) (more_or (first_of (behind_first p.shown)))
 
@@ -34,7 +34,7 @@ module _ {D : Type 0} (shows : D → Shown) where
   pub played_byte : (later : List Shown) (x : D) (p : Playback) (n : ℕ) (last : Bool) → IsPlayedBack shows later x p → played_says p ≡ Some (n, last) → n < 256
   played_byte later x p n last h e = subst (λ (o : Shown). IfSome o (λ s. s.0 < 256)) (sym (played_as later x p h) ∙ e) h.byte
 
-  -- HOW IT GOES ON behind an act
+  -- HOW IT GOES ON after an act
   pub played_on : (later : List Shown) (x y : D) (p : Playback) (act : Act) → IsPlayedBack shows (shows y ∷ later) x p → IsShownBehind act (shows x) (shows y) → IsPlayedBack shows later y (played_step p act)
   played_on later x y p act h k = record {
     shown = ap behind_first h.shown;
@@ -42,7 +42,7 @@ module _ {D : Type 0} (shows : D → Shown) where
     byte = k.0;
   }
 
-  -- the same behind an act or none
+  -- the same after an act or none
   pub played_acted : (later : List Shown) (x y : D) (p : Playback) (act : Option Act) → IsPlayedBack shows (recorded shows act y ++ later) x p → IsActed shows act x y → IsPlayedBack shows later y (acted Playback played_step act p)
   played_acted later x y p None h k = subst (λ (z : D). IsPlayedBack shows later z p) (sym k) h
   played_acted later x y p (Some act) h k = played_on later x y p act h k

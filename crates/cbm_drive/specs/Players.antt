@@ -11,7 +11,7 @@ use Rattle.cbm_drive.specs.Progress.{left}
 use Rattle.cbm_drive.specs.Seats.{Seated, AreInTime, IsBusAt}
 use Rattle.cbm_drive.specs.Silence.{AreSilent}
 
--- a player: the host's change that waits for its turn, the second change of a reaction that is still to be given, the moment from which on the host may
+-- a player: the host's change that is pending, the second change of a reaction that is still to be given, the moment from which on the host may
 -- change a line, and how many of its changes were taken
 pub record Turns : Type 0 where
   pub waiting : Option Change
@@ -31,7 +31,7 @@ pending (Some e) = e ∷ []
 abbrev pub at_most : {D : Type 0} → ℕ → Option Event → List (Seated D) → ℕ
 at_most limit second xs = 2 * left limit xs + length (pending second)
 
--- A change that waits gives way to nothing but what comes before it.
+-- A pending change gives way to nothing but what comes before it.
 abbrev pub IsWaitingFrom : ℕ → Option Change → Type 0
 IsWaitingFrom from None = Unit {0}
 IsWaitingFrom from (Some c) = (from ≤ c.moment) × (c.moment < 2 ^ 59)
@@ -45,7 +45,7 @@ IsDrives (Drive d) = Unit {0}
 abbrev pub IsGivenBefore : ℕ → Option Event → Type 0
 IsGivenBefore from second = IfSome second (λ e. IsDrives e.who × (e.change.moment < from))
 
--- from when on the host may change a line behind an event: its own moment, or behind a drive's the one after it
+-- from when on the host may change a line after an event: its own moment, or after a drive's the one after it
 abbrev pub from_behind : Who → ℕ → ℕ
 from_behind Host t = t
 from_behind (Drive d) t = t + 1
@@ -55,18 +55,18 @@ abbrev pub IsSecond : ℕ → Option Event → Type 0
 IsSecond from None = Unit {0}
 IsSecond from (Some e) = IsDrives e.who × (e.change.moment + 1 ≡ from)
 
--- an event of the host is the change that waited; behind one of a drive it still waits
+-- an event of the host is the pending change; after one of a drive that is still pending
 abbrev pub IsTurnOf : Who → Change → Option Change → Option Change → Type 0
 IsTurnOf Host c was now = (was ≡ Some c) × (now ≡ None)
 IsTurnOf (Drive d) c was now = now ≡ was
 
--- Behind a change of the host nothing is still to be given, and its next one may come at that very moment.
+-- After a change of the host nothing is still to be given, and its next one may come at that very moment.
 abbrev pub IsBehind : Who → Change → Turns → Type 0
 IsBehind Host c p = (p.from ≡ c.moment) × (p.second ≡ None)
 IsBehind (Drive d) c p = Unit {0}
 
 module _ (D M : Type 0) (stands : D → M → Type 0) (step : M → Act → M) (says : M → Option (ℕ × Bool)) where
-  -- THESE EVENTS WERE GIVEN: they, and the one that is still to be given, which is of the last reaction, are a play, and the drives stand for the stations behind it.
+  -- THESE EVENTS WERE GIVEN: they, and the one that is still to be given, which is of the last reaction, are a play, and the drives represent the stations after it.
   pub record IsAfter (p : Turns) (b : Cabled D) (n : ℕ) (ss : List (Station M)) (es : List Event) : Type 0 where
     pub from : ℕ
     pub stations : List (Station M)
@@ -89,7 +89,7 @@ module _ (D M : Type 0) (stands : D → M → Type 0) (step : M → Act → M) (
     pub waiting : p.second ≡ None → IfSome p.waiting (λ w. upto < w.moment)
     pub silent : p.second ≡ None → AreSilent M step says (upto + 1) stations
 
-  -- ALL IS OVER up to this moment: nothing is due at it or before, nothing is still to be given, and the host may change a line behind it.
+  -- ALL IS OVER up to this moment: nothing is due at it or before, nothing is still to be given, and the host may change a line after it.
   pub record IsFinished (p : Turns) (b : Cabled D) (upto n : ℕ) (ss : List (Station M)) (es : List Event) : Type 0 where
     pub after : IsAfter p b n ss es
     pub settled : AreInTime (upto + 1) b.drives

@@ -1,4 +1,4 @@
--- What is due behind a change and behind a reaction: nothing before that moment, so that reactions come to an end.
+-- What is due after a change and after a reaction: nothing before that moment, so that reactions come to an end.
 use Rattle.std.specs.Prelude.{ℕ, ◌*◌, ◌+◌, ◌-◌, min, [], ◌∷◌, ◌≡◌, ◌<◌, ◌⊎◌, ◌==◌, Option, Some, None, List, if◌then◌else◌}
 use Rattle.std.specs.List.{AllZip}
 use Rattle.cbm_iec.specs.Ports.{port_due}

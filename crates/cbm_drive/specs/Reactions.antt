@@ -20,12 +20,12 @@ abbrev pub AreAt : ℕ → List Change → Type 0
 AreAt t [] = Unit {0}
 AreAt t (c ∷ cs) = (c.moment ≡ t) × AreAt t cs
 
--- the line is pulled behind such a change
+-- the line is pulled after such a change
 abbrev pub pulls : Way → Bool
 pulls Pull = true
 pulls Free = false
 
--- what all hold behind a drive's change
+-- what all hold after a drive's change
 abbrev pub behind_change : Line → Way → Wires → Wires
 behind_change Atn way all = all
 behind_change Clock way all = record { host = all.host; clocks = counted way all.clocks; datas = all.datas }
@@ -35,7 +35,7 @@ abbrev pub behind_all : List Change → Wires → Wires
 behind_all [] all = all
 behind_all (c ∷ cs) all = behind_all cs (behind_change c.line c.way all)
 
--- what the drive itself holds behind its change
+-- what the drive itself holds after its change
 abbrev pub held_after : Line → Way → Held → Held
 held_after Atn way own = own
 held_after Clock way own = with_clock (pulls way) own
@@ -55,24 +55,24 @@ abbrev pub Toggles : Held → List Change → Type 0
 Toggles own [] = Unit {0}
 Toggles own (c ∷ cs) = IsToggled c.line c.way own × Toggles (held_after c.line c.way own) cs
 
--- These are counted: one drive that holds its own lines, and those before and behind it.
+-- These are counted: one drive that holds its own lines, and those before and after it.
 pub record IsAllOf {D : Type 0} (all : Wires) (own : Held) (front back : List (Seated D)) : Type 0 where
   pub clocks : all.clocks ≡ total clock_of front + (bit own.clock_low + total clock_of back)
   pub datas : all.datas ≡ total data_of front + (bit own.data_low + total data_of back)
 
--- the drives before and behind another one have been told its changes
+-- the drives before and after another one have been told its changes
 pub record HaveHeard (D M : Type 0) (stands : D → M → Type 0) (step : M → Act → M) (says : M → Option (ℕ × Bool)) (all : Wires) (own : Held) (cs : List Change) (front back : List (Seated D)) (bs hs : List (Station M)) : Type 0 where
   pub counts : IsAllOf all own front back
   pub before : AllZip (IsSeat D M stands all) front (map (λ s. hear_all M step says cs s) bs)
   pub behind : AllZip (IsSeat D M stands all) back (map (λ s. hear_all M step says cs s) hs)
 
--- The drives before and behind one that made these changes at this moment hear each of them, where it changed its own lines with them and these counts of
+-- The drives before and after one that made these changes at this moment hear each of them, where it changed its own lines with them and these counts of
 -- who holds a line are true.
 abbrev pub Hear : (D M : Type 0) (stood stands : D → M → Type 0) (step : M → Act → M) (says : M → Option (ℕ × Bool)) → ℕ → List (Seated D) → List (Seated D) → List (Seated D) → List (Seated D) → Wires → List Change → Type 0
 Hear D M stood stands step says t front back front' back' all cs = (own : Held) (bs hs : List (Station M)) → AreAt t cs → Toggles own cs → IsAllOf all own front back → AllZip (IsSeat D M stood all) front bs → AllZip (IsSeat D M stood all) back hs
     → HaveHeard D M stands step says (behind_all cs all) (held_behind cs own) cs front' back' bs hs
 
--- THE REACTION THAT IS DUE FIRST HAS HAPPENED: the drives stand for the stations behind it.
+-- THE REACTION THAT IS DUE FIRST HAS HAPPENED: the drives represent the stations after it.
 pub record HasReacted (D M : Type 0) (stands : D → M → Type 0) (step : M → Act → M) (says : M → Option (ℕ × Bool)) (host : Lines) (t device : ℕ) (xs : List (Seated D)) (cs : List Change) (ss : List (Station M)) : Type 0 where
   pub before : List (Station M)
   pub station : Station M

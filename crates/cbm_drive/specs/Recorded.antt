@@ -1,4 +1,4 @@
--- What a drive does, whatever its machine stands for: by what that shows before, and behind each act.
+-- What a drive does, whatever its machine represents: by what that shows before, and after each act.
 use Rattle.std.specs.Prelude.{ℕ, ◌≡◌, List}
 use Rattle.cbm_iec.specs.Ports.{told, told_act, reacted, reaction_act, reaction_changes}
 use Rattle.cbm_iec.specs.declared.line.Change.{Change}

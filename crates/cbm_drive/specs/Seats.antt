@@ -1,4 +1,4 @@
--- The drives of a bus as the code keeps them, and the stations that they stand for.
+-- The drives of a bus as the code keeps them, and the stations that they represent.
 use Rattle.std.specs.Prelude.{ℕ, zero, suc, [], ◌∷◌, Some, None, ◌+◌, ◌≡◌, Bool, true, false, List, map}
 use Rattle.std.specs.List.{AllZip}
 use Rattle.cbm_iec.specs.Ports.{port_due, resting}
@@ -57,7 +57,7 @@ module _ {D : Type 0} where
   AreResting [] = Unit {0}
   AreResting (x ∷ xs) = (x.port ≡ resting x.port.party) × AreResting xs
 
-  -- The drive at a place is due first: sooner than those listed before it, not later than those behind it.
+  -- The drive at a place is due first: sooner than those listed before it, not later than those after it.
   abbrev pub IsFirstDue : List (Seated D) → ℕ × ℕ → Type 0
   IsFirstDue [] f = ⊥
   IsFirstDue (x ∷ xs) (zero, t) = (port_due x.port ≡ Some t) × AreInTime t xs
@@ -74,16 +74,16 @@ pub record IsWithout (all : Wires) (own : Held) (r : Rest) : Type 0 where
   pub datas : r.datas + bit own.data_low ≡ all.datas
 
 module _ (D M : Type 0) (stands : D → M → Type 0) where
-  -- the drive stands for a station, once this is what all others hold
+  -- the drive represents a station, once this is what all others hold
   pub record Meets (all : Wires) (r : Rest) (x : Seated D) (s : Station M) : Type 0 where
     pub port : x.port ≡ s.port
     pub machine : stands x.machine s.machine
     pub rest : IsWithout all x.port.own r
 
-  -- the drive stands for a station
+  -- the drive represents a station
   abbrev pub IsSeat : Wires → Seated D → Station M → Type 0
   IsSeat all x s = Meets all s.rest x s
 
-  -- THE DRIVES STAND FOR THE STATIONS of a bus, one by one, beside a host that holds these lines.
+  -- THE DRIVES REPRESENT THE STATIONS of a bus, one by one, beside a host that holds these lines.
   abbrev pub IsBusAt : Lines → List (Seated D) → List (Station M) → Type 0
   IsBusAt host xs ss = AllZip (IsSeat (held_by host xs)) xs ss

@@ -7,7 +7,7 @@ use Rattle.cbm_session.specs.Following.{IsInTime}
 use Rattle.cbm_session.specs.Playing.{Station, react, shown}
 
 -- WHETHER A PORT CHANGES A LINE before a limit, with this byte to say, which stays, if nobody else changes one. No: nothing is due before the limit. Yes: what
--- is due shows. Where what is due shows nothing, it is as behind that reaction.
+-- is due shows. Where what is due shows nothing, it is as after that reaction.
 pub data Foretold (limit : ℕ) (peek : Option (ℕ × Bool)) : Bool → Port → Type 0 where
   idle : {p : Port} → IsInTime limit (port_due p) → Foretold limit peek false p
   seen : {p : Port} (t : ℕ) → port_due p ≡ Some t → t < limit → (reaction_changes t peek p ≡ [] → ⊥) → Foretold limit peek true p
@@ -25,7 +25,7 @@ module _ (M : Type 0) (step : M → Act → M) (says : M → Option (ℕ × Bool
   AnyShows limit [] = ⊥
   AnyShows limit (s ∷ ss) = Foreseen limit true s ⊎ AnyShows limit ss
 
-  -- none of them does, as each port with the byte to say now tells already
+  -- none of them does, as each port with the byte to say now shows already
   abbrev pub AreSilent : ℕ → List (Station M) → Type 0
   AreSilent limit [] = Unit {0}
   AreSilent limit (s ∷ ss) = Foretold limit (says s.machine) false s.port × Foreseen limit false s × AreSilent limit ss

@@ -34,7 +34,7 @@ pub(crate) fn tell_each<D: Machine>(drives: &mut [Drive<D>], moment: u64, wires:
         (map (λ s. told_lines D.State D.step D.says moment (f s.rest) s) ss) }
     ensures own { map own_of drives.new ≡ map own_of drives.old }
     ensures kept { AreKept moment drives.old drives.new }
-    // Whatever the machines stand for:
+    // Whatever the machines represent:
     ensures each { AllZip (λ x y. IsToldBy D.shows moment wires.now x y) drives.old drives.new }
     ensures lasting { numbers D.lasting drives.new ≡ numbers D.lasting drives.old }
 {

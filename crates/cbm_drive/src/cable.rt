@@ -105,7 +105,7 @@ impl<D: Machine, const N: usize> Bus<D, N> {
             IsBusAt _ Playback (IsPlayedBack D.shows (trail ++ later)) self.old.host self.old.drives ss →
             IsBusAt _ Playback (IsPlayedBack D.shows later) self.new.host self.new.drives
             (map (λ s. tell Playback played_step played_says change s) ss)) }
-        // What was due is still due, or something later, or nothing, whatever the machines stand for.
+        // What was due is still due, or something later, or nothing, whatever the machines represent.
         ensures kept { AreKept change.moment self.old.drives self.new.drives }
         ensures lasting { numbers D.lasting self.new.drives ≡ numbers D.lasting self.old.drives }
     {
@@ -137,7 +137,7 @@ impl<D: Machine, const N: usize> Bus<D, N> {
         requires { limit < 2 ^ 60 }
         ensures says { (ss : List (Station D.State)) → IsBusAt _ D.State D.stands self.now.host self.now.drives ss →
             MatchBool result (AnyShows D.State D.step D.says limit ss) (AreSilent D.State D.step D.says limit ss) }
-        // Whatever the machines stand for: so it is of those that play back what they show.
+        // Whatever the machines represent: so it is of those that play back what they show.
         ensures recorded { (later : List Shown) (ss : List (Station Playback)) →
             IsBusAt _ Playback (IsPlayedBack D.shows later) self.now.host self.now.drives ss → MatchBool result
             (AnyShows Playback played_step played_says limit ss) (AreSilent Playback played_step played_says limit ss) }
@@ -166,7 +166,7 @@ impl<D: Machine, const N: usize> Bus<D, N> {
         ensures before { IfSome result (λ r. r.0 < limit) }
         ensures shows { IfSome result (λ r. r.1.changes.items ≡ [] → ⊥) }
         ensures settled { result ≡ None → AreInTime limit self.new.drives }
-        // Whatever the machines stand for, before each later limit less is left to happen.
+        // Whatever the machines represent, before each later limit less is left to happen.
         ensures fewer { IfSome result (λ r. (until : ℕ) → limit ≤ until →
             left until self.new.drives < left until self.old.drives) }
         ensures moments { IfSome result (λ r. AreAt r.0 r.1.changes.items) }

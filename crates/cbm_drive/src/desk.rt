@@ -192,7 +192,7 @@ impl<M: Steady> Desk<M> {
             Leads M.seen self.old.dos self.new.dos (taken_from (channel_said a.role a.channel)) }
         ensures addressed { self.new.addressed ≡ self.old.addressed }
         ensures tracks { (M.seen self.new.dos.medium).tracks ≡ (M.seen self.old.dos.medium).tracks }
-        // Behind a byte that isn't the last (EOI) there is another, on any disk.
+        // After a byte that isn't the last (EOI) there is another, on any disk.
         ensures next { (n : ℕ) → desk_shows self.old ≡ Some (n, false) → IsSome (desk_shows self.new) }
     {
         if let Some(channel) = self.addressee.channel_said() {

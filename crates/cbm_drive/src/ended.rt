@@ -1,6 +1,6 @@
-//! What ends where ATN is pulled.
+//! What a pull of ATN ends.
 
-/// What a listener was sent, where ATN is pulled: it ends, on its channel.
+/// What a pull of ATN completes, with its channel: the name of an OPEN, or the bytes sent to a channel.
 #[derive(Clone, Copy, Debug, PartialEq, Eq, Drop)]
 pub enum Ended {
     /// The name of an OPEN.

@@ -39,7 +39,7 @@ pub(crate) fn any_shows<D: Machine>(drives: &[Drive<D>], limit: u64) -> bool
     ensures says { (wires : Wires) (ss : List (Station D.State)) →
         AllZip (IsSeat _ D.State D.stands wires) drives.now ss → MatchBool result
         (AnyShows D.State D.step D.says limit ss) (AreSilent D.State D.step D.says limit ss) }
-    // Whatever the machines stand for: so it is of those that play back what they show.
+    // Whatever the machines represent: so it is of those that play back what they show.
     ensures recorded { (later : List Shown) (wires : Wires) (ss : List (Station Playback)) →
         AllZip (IsSeat _ Playback (IsPlayedBack D.shows later) wires) drives.now ss → MatchBool result
         (AnyShows Playback played_step played_says limit ss) (AreSilent Playback played_step played_says limit ss) }
@@ -75,7 +75,7 @@ pub(crate) fn first_shown<D: Machine>(
     ensures before { IfSome result (λ r. r.0 < limit) }
     ensures shows { IfSome result (λ r. r.1.changes.items ≡ [] → ⊥) }
     ensures settled { result ≡ None → AreInTime limit drives.new }
-    // Whatever the machines stand for, before each later limit less is left to happen.
+    // Whatever the machines represent, before each later limit less is left to happen.
     ensures fewer { IfSome result (λ r. (until : ℕ) → limit ≤ until → left until drives.new < left until drives.old) }
     ensures moments { IfSome result (λ r. AreAt r.0 r.1.changes.items) }
     ensures some { (ss : List (Station D.State)) → IsBusAt _ D.State D.stands host drives.old ss →

@@ -56,7 +56,7 @@ impl Player {
         }
     }
 
-    /// Whether a change waits for its turn.
+    /// Whether a change is pending.
     pub fn waits(&self) -> bool
         ensures { result ≡ is_some self.now.waiting }
     {
@@ -85,7 +85,7 @@ impl Player {
         Ok(())
     }
 
-    /// The next event at a moment or before it. A change that waits comes before reactions of its own moment. None where
+    /// The next event at a moment or before it. A pending change comes before reactions of its own moment. None where
     /// none comes by then, and then the player and the drives are as they were.
     #[inline(always)]
     pub fn next<D: Machine, const N: usize>(
@@ -110,7 +110,7 @@ impl Player {
         ensures turn { IfSome result (λ e. IsTurnOf e.who e.change self.old.waiting self.new.waiting) }
         ensures waiting { IsWaitingFrom self.new.from self.new.waiting }
         ensures second { IfSome result (λ e. IsGivenBefore (upto + 1) self.new.second) }
-        // A change that waits for that moment or before comes, or a drive's comes before it.
+        // A change pending for that moment or before comes, or a drive's comes before it.
         ensures comes { IfSome self.old.waiting (λ c. c.moment ≤ upto → IsSome result) }
         ensures behind { IfSome result (λ e. IsBehind e.who e.change self.new) }
         // Also on disks that aren't sound, less is left to come after a change of a drive.
@@ -132,7 +132,7 @@ impl Player {
         }
     }
 
-    /// The quick way of `next` where a drive alone on the bus says half of a bit, up to a moment, and no change waits: its changes
+    /// The quick way of `next` where a drive alone on the bus says half of a bit, up to a moment, and no change is pending: its changes
     /// come at once, CLOCK's and then DATA's, if that changes. None where anything else comes, or nothing, and then the
     /// player and the drive are as they were.
     #[inline(always)]
@@ -218,7 +218,7 @@ impl Player {
             AreLater end bus.now.drives → HostKeeps bs es end → IsKept D.State D.step D.says bs ms es end a.stations }
     {}
 
-    /// The change that waits, or what a drive shows before it.
+    /// The pending change, or what a drive shows before it.
     #[inline(always)]
     fn turn<D: Machine, const N: usize>(
         &mut self,
@@ -263,7 +263,7 @@ impl Player {
         })
     }
 
-    /// What a drive shows at a moment or before it, where no change waits up to there.
+    /// What a drive shows at a moment or before it, where no change is pending up to there.
     #[inline(always)]
     fn reaction<D: Machine, const N: usize>(
         &mut self,
