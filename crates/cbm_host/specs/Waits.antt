@@ -18,7 +18,7 @@ phase = 20
 abbrev pub turn_wait : ℕ
 turn_wait = 60
 
--- a talker that hasn't begun its byte so long after DATA's release has its last one
+-- a talker that hasn't begun its byte this long after DATA's release has its last one
 abbrev pub last_wait : ℕ
 last_wait = 200
 
@@ -26,6 +26,6 @@ last_wait = 200
 abbrev pub last_pulse : ℕ
 last_pulse = 60
 
--- a talker that hasn't pulled CLOCK so long after its release has nothing to say; at a KERNAL's pace it pulls CLOCK, and lets go of both lines
+-- a talker that hasn't pulled CLOCK this long after its release has nothing to say; at a KERNAL's pace it pulls CLOCK, and lets go of both lines
 abbrev pub silence : ℕ
 silence = 1000

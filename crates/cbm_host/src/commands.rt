@@ -36,7 +36,7 @@ impl Commands {
         }
     }
 
-    /// The bytes behind the next one.
+    /// The bytes after the next one.
     pub(crate) fn rest(self) -> Option<Commands>
         ensures { result ≡ rest_of self }
     {

@@ -86,7 +86,7 @@ impl Frame {
         }
     }
 
-    /// Behind a change of who hears. The accept is the caller's.
+    /// After a change of who hears. The accept is the caller's.
     pub(crate) fn seen(self, change: Change) -> Frame
         requires { change.moment < 2 ^ 60 }
         ensures { result ≡ frame_seen change self }
@@ -141,7 +141,7 @@ impl Bits {
         }
     }
 
-    /// The bits behind the next one.
+    /// The bits after the next one.
     fn behind(self) -> Bits
         ensures { result ≡ behind_bit self }
     {
@@ -152,7 +152,7 @@ impl Bits {
         }
     }
 
-    /// What comes behind a pull of CLOCK: the next bit, or the end of the frame.
+    /// What comes after a pull of CLOCK: the next bit, or the end of the frame.
     fn next(self, moment: u64) -> Frame
         requires { moment < 2 ^ 60 }
         ensures { result ≡ next_bit moment self }

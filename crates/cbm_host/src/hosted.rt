@@ -125,7 +125,7 @@ impl<M: Steady> Hosted<M> {
             (λ x. IsUnderWayAnyway desk_shows self.new.pace self.new.device start self.new.bus performer.new request) }
         ensures device { self.new.device ≡ self.old.device }
         ensures pace { self.new.pace ≡ self.old.pace }
-        // Whatever the drive stands for:
+        // Whatever the drive represents:
         ensures fewer { IfSome result (λ x. left_of performer.new self.new.bus < left_of performer.old self.old.bus) }
         ensures limit { performer.new.limit ≡ performer.old.limit }
         ensures moment { MatchOption result (self.new.moment ≤ performer.old.limit)
@@ -177,7 +177,7 @@ impl<M: Steady> Hosted<M> {
         self.carry_out(Request::Put(channel, bytes));
     }
 
-    /// Sends so many equal bytes to a channel, between LISTEN and UNLISTEN.
+    /// Sends `count` equal bytes to a channel, between LISTEN and UNLISTEN.
     pub fn fill(&mut self, channel: u8, count: u32, byte: u8)
         requires channel { channel ≤ 15 }
         requires short { count ≤ 200000 }

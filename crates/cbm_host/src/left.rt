@@ -9,7 +9,7 @@ ghost use Rattle.cbm_host.specs.Left.{bytes_left};
 pub(crate) enum Left<'a> {
     /// These.
     Bytes(&'a [u8]),
-    /// So many equal ones.
+    /// Equal ones: how many, and which byte.
     Equal(u32, u8),
 }
 

@@ -105,7 +105,7 @@ impl<'a> Performer<'a> {
             (HasNext _ D.State D.stands D.step D.says self.old self.new bus.new n ss es) }
         // On any disk the same holds for a machine that plays back what the drive showed.
         ensures recorded { NextRecorded D.shows self.old self.new bus.old bus.new result }
-        // Whatever the machine stands for, less is left to come behind an event.
+        // Whatever the machine represents, less is left to come after an event.
         ensures fewer { IfSome result (λ e. left_of self.new bus.new < left_of self.old bus.old) }
         ensures within { IfSome result (λ e. e.change.moment ≤ self.old.limit) }
         ensures limit { self.new.limit ≡ self.old.limit }
@@ -174,7 +174,7 @@ impl<'a> Performer<'a> {
     }
 
     /// A law, and nothing is done: where no more events come of a request to a drive at rest, of either pace, the request was
-    /// carried out, and its end is told.
+    /// carried out, and its end is reported.
     pub fn carries_out<D: Machine, const N: usize>(&self, bus: &Bus<D, N>)
         ensures { (b : Party) (ms : ℕ → D.State) (start : ℕ) (request : Request) (old new : List Event) (bytes : List ℕ)
             (last : Bool) → IsDrive b → channel_of request ≤ 15 →
@@ -348,7 +348,7 @@ impl<'a> Performer<'a> {
         self.ask(bus, change.moment)
     }
 
-    /// Hands the host's change that is due to the player, where it doesn't wait there already. False where the player
+    /// Hands the host's change that is due to the player, where it isn't pending there already. False where the player
     /// refuses it, and then nothing has changed.
     #[inline(always)]
     fn hand_on(&mut self, change: Change) -> bool

@@ -55,7 +55,7 @@ pub fn perform<D: Machine, const N: usize>(
         done.bytes.items done.last done.end)
         (λ e. IsCutShortAnyway D.shows b bus.old bus.new events.old.items events.new.items) }
     ensures end { IfOk result (λ done. done.end ≤ start + 250000000) }
-    // Whatever the machine stands for, nothing happens later than that.
+    // Whatever the machine represents, nothing happens later than that.
     ensures within { HasAddedUpTo (start + 250000000) events.old.items events.new.items }
     ensures memory { (ss : List (Station D.State)) → IsBusAt _ D.State D.stands bus.old.host bus.old.drives ss →
         IfErr result (λ e. (e ≡ Memory) ×
@@ -95,7 +95,7 @@ pub fn perform_at<D: Machine, const N: usize>(
         done.bytes.items done.last done.end)
         (λ e. IsCutShortAnyway D.shows b bus.old bus.new events.old.items events.new.items) }
     ensures end { IfOk result (λ done. done.end ≤ start + longest pace) }
-    // Whatever the machine stands for, nothing happens later than that.
+    // Whatever the machine represents, nothing happens later than that.
     ensures within { HasAddedUpTo (start + longest pace) events.old.items events.new.items }
     ensures memory { (ss : List (Station D.State)) → IsBusAt _ D.State D.stands bus.old.host bus.old.drives ss →
         IfErr result (λ e. (e ≡ Memory) ×

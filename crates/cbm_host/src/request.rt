@@ -12,9 +12,9 @@ pub enum Request<'a> {
     Open(u8, &'a [u8]),
     /// These bytes for the channel: LISTEN, $60 + channel, the bytes, UNLISTEN.
     Put(u8, &'a [u8]),
-    /// So many equal bytes for the channel, sent as `Put` sends them; they take no memory.
+    /// Equal bytes for the channel, how many and which, sent as `Put` sends them; they take no memory.
     Fill(u8, u32, u8),
-    /// At most so many bytes of the channel, up to the one with EOI: TALK, $60 + channel, the bytes, UNTALK.
+    /// At most this many bytes of the channel, up to the one with EOI: TALK, $60 + channel, the bytes, UNTALK.
     Get(u8, u32),
     /// CLOSE: LISTEN, $E0 + channel, UNLISTEN.
     Close(u8),

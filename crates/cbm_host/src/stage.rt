@@ -53,13 +53,13 @@ pub(crate) enum Pulls {
 pub(crate) enum Release {
     /// To nobody: ATN is freed.
     AtnToNobody,
-    /// To nobody: CLOCK is freed behind it.
+    /// To nobody: CLOCK is freed after it.
     ClockToNobody,
     /// To a talker: DATA is pulled.
     DataToTalker,
-    /// To a talker: ATN is freed behind it.
+    /// To a talker: ATN is freed after it.
     AtnToTalker,
-    /// To a talker: CLOCK is freed behind that.
+    /// To a talker: CLOCK is freed after that.
     ClockToTalker,
     /// The talker had nothing to say: DATA is freed.
     DataToSilent,
@@ -109,7 +109,7 @@ impl Pulls {
         Change { moment, line, way }
     }
 
-    /// What is still to be changed behind it: only what isn't so already.
+    /// What is still to be changed after it: only what isn't so already.
     fn behind(self) -> Option<Pulls>
         ensures { result ≡ behind_pull self }
     {
@@ -139,7 +139,7 @@ impl Release {
         Change { moment, line, way }
     }
 
-    /// What comes behind it.
+    /// What comes after it.
     fn made(self, moment: u64) -> Stage
         requires { moment < 2 ^ 60 }
         ensures { result ≡ released moment self }
@@ -166,7 +166,7 @@ impl Release {
 }
 
 impl Stage {
-    /// The next byte of an attention, behind ATN's pull or an accept.
+    /// The next byte of an attention, after ATN's pull or an accept.
     pub(crate) fn command(moment: u64, attention: Sequence) -> Stage
         requires { moment < 2 ^ 60 }
         ensures { result ≡ commanding moment attention }
@@ -181,7 +181,7 @@ impl Stage {
         }
     }
 
-    /// ATN's release behind the last accept of an attention.
+    /// ATN's release after the last accept of an attention.
     pub(crate) fn release(moment: u64, errand: Errand) -> Stage
         requires { moment < 2 ^ 60 }
         ensures { result ≡ releasing moment errand }
@@ -233,7 +233,7 @@ impl Stage {
         }
     }
 
-    /// Behind the host's change that was due. What comes of a release to a listener, and of
+    /// After the host's change that was due. What comes of a release to a listener, and of
     /// an accept, is the caller's.
     pub(crate) fn made(self, moment: u64) -> Stage
         requires { moment < 2 ^ 60 }
@@ -264,7 +264,7 @@ impl Stage {
         }
     }
 
-    /// Behind a change of the drive. What comes of its accept is the caller's.
+    /// After a change of the drive. What comes of its accept is the caller's.
     pub(crate) fn seen(self, change: Change) -> Stage
         requires { change.moment < 2 ^ 60 }
         ensures { result ≡ stage_seen change self }

@@ -100,7 +100,7 @@ impl Take {
         })
     }
 
-    /// Behind that change. What comes of the accept is the caller's.
+    /// After that change. What comes of the accept is the caller's.
     pub(crate) fn made(self, moment: u64) -> Take
         requires { moment < 2 ^ 60 }
         ensures { result ≡ take_made moment self }
@@ -113,7 +113,7 @@ impl Take {
         }
     }
 
-    /// Behind a change of the talker.
+    /// After a change of the talker.
     pub(crate) fn seen(self, change: Change) -> Take
         requires { change.moment < 2 ^ 60 }
         ensures { result ≡ take_seen change self }

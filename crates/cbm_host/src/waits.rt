@@ -13,12 +13,12 @@ pub(crate) const PHASE: u64 = 20;
 /// From an accept by the drive to the next change of ATN.
 pub(crate) const TURN: u64 = 60;
 
-/// A talker that hasn't begun its byte so long after DATA's release has EOI to say: this is its last one.
+/// A talker that hasn't begun its byte this long after DATA's release has EOI to say: this is its last one.
 pub(crate) const EOI_WAIT: u64 = 200;
 
 /// How long DATA is pulled for the answer to EOI.
 pub(crate) const EOI_PULSE: u64 = 60;
 
-/// A talker that hasn't pulled CLOCK so long after its release has nothing to say; one at a KERNAL's pace pulls it, and lets go
+/// A talker that hasn't pulled CLOCK this long after its release has nothing to say; one at a KERNAL's pace pulls it, and lets go
 /// of both lines.
 pub(crate) const SILENCE: u64 = 1000;
