@@ -17,7 +17,7 @@ abbrev pub powered : Party → Seen → Disk → Desk Machine
 powered b s d = with_pace b.pace (at_first b.device (start d s.protected s.tracks))
 
 module _ {M : Type 0} (seen : M → Seen) where
-  -- A DRIVE AT REST stands for a machine: it holds no line, nothing is due, and nobody has a role.
+  -- A DRIVE AT REST represents a machine: it holds no line, nothing is due, and nobody has a role.
   pub record IsPowered (b : Party) (m : Desk Machine) (x : Seated (Desk (Kept M))) : Type 0 where
     pub port : x.port ≡ resting b
     pub machine : DeskStands seen x.machine m
