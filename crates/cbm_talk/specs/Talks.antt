@@ -14,13 +14,13 @@ puts ch (b ∷ bytes) m = puts ch bytes (put ch b m)
 abbrev pub hear : ℕ → List ℕ → Machine → Machine
 hear ch bytes m = end_put ch (puts ch bytes (listen ch m))
 
--- what a channel said: the bytes, whether the last of them was marked so, and the machine behind them
+-- what a channel said: the bytes, whether the last of them was marked so, and the machine after them
 pub record Said : Type 0 where
   pub bytes : List ℕ
   pub marked : Bool
   pub machine : Machine
 
--- Up to so many bytes, behind those so far. The byte that is marked as the last one ends them.
+-- Up to this many bytes, after those so far. The byte that is marked as the last one ends them.
 abbrev pub says : ℕ → ℕ → List ℕ → Machine → Said
 says zero ch so_far m = record { bytes = so_far; marked = false; machine = m }
 says (suc n) ch so_far m = elim (peek ch m) [
@@ -30,7 +30,7 @@ says (suc n) ch so_far m = elim (peek ch m) [
       else says n ch (so_far ++ p.0 ∷ []) (taken ch m)
 ]
 
--- a channel talks: up to so many bytes
+-- a channel talks: up to this many bytes
 abbrev pub talked : ℕ → ℕ → Machine → Said
 talked ch most m = says most ch [] (talk ch m)
 

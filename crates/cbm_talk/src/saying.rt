@@ -8,7 +8,7 @@ use cbm_channel::Dos;
 use cbm_medium::Medium;
 use std::alloc::{AllocError, Global};
 
-/// What a channel sends, up to so many bytes. The one error is want of memory.
+/// What a channel sends, at most `most` bytes. The one error is want of memory.
 pub fn said<M: Medium>(
     alloc: Global,
     dos: &mut Dos<M>,
