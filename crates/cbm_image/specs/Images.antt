@@ -40,7 +40,7 @@ content_of G64 image = circles.content_of (g64.tracks_in image 35)
 abbrev pub ImageHolds : Kind → List ℕ → Disk → Type 0
 ImageHolds kind image d = HoldsDisk (tracks_of kind image) (content_of kind image) d
 
--- a medium of so many tracks and of this content is what an image is, which has no fault
+-- a medium of this many tracks and of this content is what an image is, which has no fault
 pub record IsOf (kind : Kind) (image : List ℕ) (tracks : ℕ) (content : Content) : Type 0 where
   pub faultless : image_fault kind image ≡ None
   pub same_tracks : tracks_of kind image ≡ tracks
