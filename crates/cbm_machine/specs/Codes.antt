@@ -83,12 +83,12 @@ code_of_refusal refusal.NoName = NoName
 code_of_refusal refusal.NoChannel = NoChannel
 code_of_refusal refusal.DriveNotReady = DriveNotReady
 
--- the code that stands for a refusal
+-- the code that represents a refusal
 abbrev pub refusal_gives : Refusal → Code → Type 0
 refusal_gives r c = c ≡ code_of_refusal r
 
--- The code that tells a fault of a sector (20 to 29), a link to no sector (66) or a chain that never ends (71).
--- Only a write that a medium refuses by a failure of its own can have another number, which is told as 25.
+-- The code that reports a fault of a sector (20 to 29), a link to no sector (66) or a chain that never ends (71).
+-- Only a write that a medium refuses by a failure of its own can have another number, which is reported as 25.
 abbrev pub code_of_fault : ℕ → Code
 code_of_fault n =
     if n == 20 then NoHeader else

@@ -47,11 +47,11 @@ start disk protected tracks = record {
 abbrev pub at_rest : Machine → Disk
 at_rest m = m.disk
 
--- a new status is told from its beginning
+-- a new status is reported from its beginning
 abbrev pub tell : Status → Machine → Machine
 tell s m = record m { status = s; told = 0 }
 
--- a status with no numbers is told
+-- a status with no numbers is reported
 abbrev pub say : Code → Machine → Machine
 say code m = tell (plain code) m
 
@@ -59,7 +59,7 @@ say code m = tell (plain code) m
 abbrev pub with_disk : Disk → Machine → Machine
 with_disk d m = record m { disk = d }
 
--- the machine with so many free blocks
+-- the machine with this many free blocks
 abbrev pub with_free : ℕ → Machine → Machine
 with_free n m = record m { disk = record m.disk { free = n } }
 
@@ -123,6 +123,6 @@ cost (Writing s bytes blocks full replaces) = 1
 cost (Stopped s) = 1
 cost (Relative s k p) = 2
 
--- with so much more the channels would cost more than three
+-- with this much more the channels would cost more than three
 abbrev pub too_many : ℕ → Machine → Bool
 too_many n m = nat_lt 3 (n + sum_by cost m.channels)

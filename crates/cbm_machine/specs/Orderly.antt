@@ -1,4 +1,4 @@
--- What holds of every machine that a drive stands for.
+-- What holds of every machine that a drive represents.
 use Rattle.std.specs.Prelude.{ℕ, ◌≤◌, ◌≡◌, ◌==◌, Bool, true, false, List, drop, slice_index_or, Some, None}
 use Rattle.cbm_file.specs.Files.{Bytes, Records, File, Disk, file_at}
 use Rattle.cbm_machine.specs.Machines.{Channel, Closed, Reading, Writing, Stopped, Relative}

@@ -44,7 +44,7 @@ plan_write w kind m = unless
     ((is_there m.disk w.name, FileExists) ∷ ((m.disk.free == 0) || not (has_slot m.disk), DiskFull) ∷ (m.protected, WriteProtected) ∷ [])
     (Ok (WriteFile kind w.name))
 
--- bytes are put behind those of the found file
+-- bytes are put after those of the found file
 abbrev pub plan_append : Machine → ℕ × File → Result Plan Code
 plan_append m (s, f) = unless
     ((is_kind Del f || is_kind Rel f, WrongType) ∷ (not f.closed || in_use m s, WriteFileOpen) ∷ (m.protected, WriteProtected) ∷ [])

@@ -8,7 +8,7 @@ use Rattle.cbm_machine.specs.Machines.{Channel, Relative, Machine, with_disk, wi
 pub use Rattle.cbm_file.specs.Records.{zeros, fresh_record, record_count, new_records, record_at, with_bytes, blocks_for, sides_for, with_body, with_sized_body}
 use Rattle.cbm_machine.specs.Finding.{body_at}
 
--- The record is there: the bytes are written, and the place is the next record's first byte. Bytes that did not fit are told.
+-- The record is there: the bytes are written, and the place is the next record's first byte. Bytes that did not fit are reported.
 abbrev pub written : ℕ → ℕ → ℕ → ℕ → List ℕ → Machine → Machine
 written ch s k p bytes m = elim (body_at m.disk s) [
   | Bytes _ ↦ m

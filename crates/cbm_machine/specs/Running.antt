@@ -33,7 +33,7 @@ scratched_disk m ps =
     let d = record m.disk { slots = kept_slots m ps 0 m.disk.slots } in
     record d { free = m.disk.free + (held_on m.disk - held_on d) }
 
--- the count of the files that went is told
+-- the count of the files that went is reported
 abbrev pub scratch : List (List ℕ) → Machine → Result Machine Code
 scratch ps m =
     let d = scratched_disk m ps in
@@ -80,7 +80,7 @@ copy new olds m = unless ((is_there m.disk new, FileExists) ∷ []) (sources m.d
 
 -- ---- P
 
--- A relative channel gets the place; whether the record is there is told.
+-- A relative channel gets the place; whether the record is there is reported.
 abbrev pub place : ℕ → ℕ → ℕ → Channel → Machine → Result Machine Code
 place ch k p (Relative s _ _) m =
     unless ((nat_lt (record_length_in (body_at m.disk s)) p, RecordOverflow) ∷ [])

@@ -22,17 +22,17 @@ comma = 44
 abbrev pub return : ℕ
 return = 13
 
--- what channel 15 tells: the code, the text, two numbers and a return
+-- what channel 15 reports: the code, the text, two numbers and a return
 abbrev pub status_line : Status → List ℕ
 status_line s =
     two_digits (code_number s.code) ++ comma ∷ code_text s.code
     ++ comma ∷ two_digits s.first ++ comma ∷ two_digits s.second ++ return ∷ []
 
--- What a disk answers in place of bytes: the fault, its track and its sector. A protected disk is told with 0 and 0.
+-- What a disk answers in place of bytes: the fault, its track and its sector. A protected disk is reported with 0 and 0.
 abbrev pub trouble_status : Trouble → Status
 trouble_status t =
     if t.code == 26 then plain WriteProtected else record { code = code_of_fault t.code; first = t.track; second = t.sector }
 
--- the status that stands for a trouble
+-- the status that represents a trouble
 abbrev pub trouble_gives : Trouble → Status → Type 0
 trouble_gives t s = s ≡ trouble_status t

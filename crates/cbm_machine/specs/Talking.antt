@@ -39,14 +39,14 @@ taken_on d Closed = Closed
 taken_on d (Writing s bytes blocks full replaces) = Writing s bytes blocks full replaces
 taken_on d (Stopped s) = Stopped s
 
--- The byte that `peek` shows was taken. Behind the last one of a status the status is 00.
+-- The byte that `peek` shows was taken. After the last one of a status the status is 00.
 abbrev pub taken : ℕ → Machine → Machine
 taken ch m =
     if ch == 15
     then (if nat_lt (m.told + 1) (length (status_line m.status)) then record m { told = m.told + 1 } else say Fine m)
     else with_channel ch (taken_on m.disk (channel m ch)) m
 
--- a refusal is told, if there is one
+-- a refusal is reported, if there is one
 abbrev pub only_refused : Option Code → Machine → Machine
 only_refused None m = m
 only_refused (Some code) m = say code m

@@ -1,4 +1,4 @@
--- What channel 15 tells of the status.
+-- What channel 15 reports of the status.
 use Rattle.std.specs.Prelude.{ℕ, ◌+◌, ◌==◌, ◌&&◌, nat_le, nat_lt, Bool, length, drop, if◌then◌else◌, Option}
 use Rattle.cbm_machine.specs.declared.code.Code.TheVariants.{Fine}
 use Rattle.cbm_machine.specs.declared.status.Status.{Status}
@@ -16,7 +16,7 @@ pub record Told : Type 0 where
 abbrev pub next_told : Told → Option (ℕ × Bool)
 next_told t = shown (drop t.told (status_line t.status))
 
--- A byte was taken; behind the last one the status is 00, told from its beginning.
+-- A byte was taken; after the last one the status is 00, reported from its beginning.
 abbrev pub behind_next : Told → Told
 behind_next t =
     if nat_lt (t.told + 1) (length (status_line t.status)) then record t { told = t.told + 1 }
@@ -26,6 +26,6 @@ behind_next t =
 abbrev pub is_unread_error : Told → Bool
 is_unread_error t = (t.told == 0) && nat_le 20 (code_number t.status.code)
 
--- what a machine tells on channel 15
+-- what a machine reports on channel 15
 abbrev pub told_by : Machine → Told
 told_by m = record { status = m.status; told = m.told }
