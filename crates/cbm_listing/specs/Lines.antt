@@ -21,7 +21,7 @@ filler = 0xa0
 abbrev pub low_first : ℕ → List ℕ
 low_first n = n % 256 ∷ n / 256 ∷ []
 
--- a text with spaces behind it, n bytes together
+-- a text with spaces after it, n bytes together
 abbrev pub padded : ℕ → List ℕ → List ℕ
 padded n text = text ++ replicate (n - length text) space
 
@@ -37,11 +37,11 @@ shown_byte c = if c == filler then space else c
 abbrev pub shown_bytes : List ℕ → List ℕ
 shown_bytes bytes = map shown_byte bytes
 
--- The first line, behind the load address 1 4: in reverse letters the title in quotes, then the five bytes of id and version.
+-- The first line, after the load address 1 4: in reverse letters the title in quotes, then the five bytes of id and version.
 abbrev pub title_line : List ℕ → List ℕ → List ℕ
 title_line title mark = 1 ∷ 4 ∷ line 0 (18 ∷ quote ∷ shown_bytes title ++ quote ∷ space ∷ shown_bytes mark)
 
--- so many spaces stand between a number and a name, so that the names stand below one another
+-- this many spaces stand between a number and a name, so that the names stand below one another
 abbrev pub indent_width : ℕ → ℕ
 indent_width n = if nat_lt n 10 then 3 else if nat_lt n 100 then 2 else 1
 
@@ -62,7 +62,7 @@ closed_mark closed = if closed then space else 42
 abbrev pub locked_mark : Bool → ℕ
 locked_mark locked = if locked then 60 else space
 
--- The line of an entry: its blocks, its name up to the first filler in quotes, its type, and a mark before and behind that.
+-- The line of an entry: its blocks, its name up to the first filler in quotes, its type, and a mark before and after that.
 abbrev pub entry_line : ℕ → List ℕ → Option FileType → Bool → Bool → List ℕ
 entry_line blocks name kind closed locked = line blocks (padded 27 (
     indent blocks ++ padded 18 (quote ∷ before_filler name ++ quote ∷ [])
