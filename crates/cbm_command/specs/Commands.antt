@@ -9,7 +9,7 @@ use Rattle.cbm_command.specs.Texts.{comma, colon, equals, drive_digit, is_digit,
 use Rattle.cbm_command.specs.Names.{name_of, is_empty, is_wild}
 use Rattle.cbm_command.specs.Refusals.{◌>>=◌, unless, drive_head}
 
--- The head of a command behind its first byte: letters, and perhaps the drive's digit at the end.
+-- The head of a command after its first byte: letters, and perhaps the drive's digit at the end.
 abbrev pub command_head : List ℕ → Result (Unit {0}) Refusal
 command_head [] = Ok tt
 command_head (c ∷ rest) = if is_letter c then command_head rest else drive_head (c ∷ rest)
@@ -37,7 +37,7 @@ names_in (t ∷ ts) = later_names ts >>= λ ns. Ok (name_of t ∷ ns)
 abbrev pub names_and : List (List ℕ) → Result (List (List ℕ)) Refusal → Result (List (List ℕ)) Refusal
 names_and ns more = more >>= λ ms. Ok (ns ++ ms)
 
--- ---- the rest behind a head and its colon
+-- ---- the rest after a head and its colon
 
 -- N: a name, and perhaps a comma and an id, of which two bytes count
 abbrev pub new_asked : List ℕ → Result Command Refusal
@@ -72,7 +72,7 @@ copy_asked text =
 
 -- ---- the whole text
 
--- a colon is there and the head before it is right: what stands behind it
+-- a colon is there and the head before it is right: what stands after it
 abbrev pub behind_head : List ℕ → Result (List ℕ) Refusal
 behind_head text =
     unless ((not (has colon text), NoName) ∷ []) (command_head (before colon text) >>= λ _. Ok (behind colon text))

@@ -21,13 +21,13 @@ at_in_head (c ∷ rest) =
 
 -- ---- `$`
 
--- one pattern, and no filter of types behind it
+-- one pattern, and no filter of types after it
 abbrev pub pattern_asked : List ℕ → Result Opening Refusal
 pattern_asked text = unless
     ((is_empty (name_of (before comma text)), NoName) ∷ (has comma text || has equals text, Syntax) ∷ [])
     (Ok (Listing (name_of text)))
 
--- behind `$`: perhaps the drive's digit, and perhaps a colon and a pattern
+-- after `$`: perhaps the drive's digit, and perhaps a colon and a pattern
 abbrev pub listing_asked : List ℕ → Result Opening Refusal
 listing_asked text = drive_head (before colon text) >>= λ _.
     if has colon text then pattern_asked (behind colon text) else Ok (Listing (asterisk ∷ []))
@@ -66,7 +66,7 @@ first_byte ((c ∷ p) ∷ ps) = c
 first_byte ([] ∷ []) = 0
 first_byte ([] ∷ p ∷ ps) = comma
 
--- The pieces in order, so that the last of a kind counts. Behind L and its comma stands the record length,
+-- The pieces in order, so that the last of a kind counts. After L and its comma stands the record length,
 -- whatever its byte is, and what follows isn't read.
 abbrev pub with_pieces : List (List ℕ) → Wanted → Result Wanted Refusal
 with_pieces [] w = Ok w
@@ -95,7 +95,7 @@ is_relative w = elim w.kind [ Some Rel ↦ true | _ ↦ false ]
 abbrev pub is_named_whole : Wanted → Bool
 is_named_whole w = elim w.mode [ Write ↦ true | Append ↦ true | Read ↦ is_relative w ]
 
--- A pattern stands for no name that is given whole.
+-- A pattern is no name that is given whole.
 abbrev pub file_named : Wanted → Result Opening Refusal
 file_named w = unless ((is_named_whole w && is_wild w.name, WildName) ∷ []) (Ok (File w))
 
@@ -103,7 +103,7 @@ file_named w = unless ((is_named_whole w && is_wild w.name, WildName) ∷ []) (O
 abbrev pub plain_file : Bool → List ℕ → Wanted
 plain_file at name = record { has_at = at; name = name; mode = Read; kind = None; record_length = 0 }
 
--- a name, and pieces behind commas
+-- a name, and pieces after commas
 abbrev pub file_asked : ℕ → Bool → List ℕ → Result Opening Refusal
 file_asked ch at text =
     let name = name_of (before comma text) in
