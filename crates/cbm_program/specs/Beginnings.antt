@@ -14,7 +14,7 @@ abbrev pub MayNotStand : Option (List ℕ) → ℕ → Type 0
 MayNotStand None n = Unit {0}
 MayNotStand (Some xs) n = (bytes : List ℕ) × (lines : List (List ℕ)) × (lines_of xs ≡ bytes ∷ lines) × (may_stand n bytes ≡ false)
 
--- behind the reading of line n: these are its bytes, or there is none, or why it can't be had
+-- after the reading of line n: these are its bytes, or there is none, or why it can't be had
 abbrev pub BytesRead : Option (List ℕ) → Option (List ℕ) → ℕ → List ℕ → Result Bool RunFault → Type 0
 BytesRead old new n bytes (Ok true) = TakesLine old new bytes × (n < 1000001)
 BytesRead old new n bytes (Ok false) = IsAtEnd old
@@ -34,7 +34,7 @@ abbrev pub BeginsInRange : Beginning → Type 0
 BeginsInRange Changes = Unit {0}
 BeginsInRange (Requests line) = IfSome line LineIsInRange
 
--- behind the reading of the first line: changes follow it, or requests, of which it is the first; or why it can't be had
+-- after the reading of the first line: changes follow it, or requests, of which it is the first; or why it can't be had
 abbrev pub FirstRead : Option (List ℕ) → Option (List ℕ) → Result Beginning RunFault → Type 0
 FirstRead old new (Ok Changes) = TakesLine old new (codes "lines")
 FirstRead old new (Ok (Requests line)) = LineRead old new 1 (Ok line) × NotTimed old

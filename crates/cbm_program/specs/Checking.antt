@@ -29,7 +29,7 @@ check_line (Err u) = unsound_line u
 abbrev pub checked_text : Bool → List ℕ
 checked_text checks = if checks then sound_line else []
 
--- A check was printed, of a medium of so many tracks with this content: the line of a sound disk where it is sound, else that of its fault.
+-- A check was printed, of a medium of this many tracks with this content: the line of a sound disk where it is sound, else that of its fault.
 abbrev pub IsCheckPrinted : ℕ → Content → Option (List ℕ) → Option (List ℕ) → Type 0
 IsCheckPrinted tracks content old new =
     (((l : Layout) × Sound (geometry_of tracks content) content l) × Appends old new sound_line)
@@ -39,6 +39,6 @@ IsCheckPrinted tracks content old new =
 abbrev pub IsCheckedFirst : ℕ → Content → Option (List ℕ) → Option (List ℕ) → Type 0
 IsCheckedFirst tracks content old new = (between : Option (List ℕ)) × IsCheckPrinted tracks content old between × Grows between new
 
--- what a script prints, behind the line of the check if one is asked for
+-- what a script prints, after the line of the check if one is asked for
 abbrev pub printed_behind : Pace → Bool → List Request → Machine → Printed
 printed_behind pace checks script m = record { text = checked_text checks ++ (printed pace script m).text; machine = (printed pace script m).machine }

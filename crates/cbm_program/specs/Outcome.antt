@@ -25,12 +25,12 @@ IsScriptPlayed drive image protected checks input old new bad = IfSome (of_chang
     × PrintsTrace old new (Begins image protected) (λ _. Unit {0}) drive (checked_text checks) (timetable_of bytes))
 
 -- WHAT A RUN PROMISES of a drive of this pace on an image of these bytes: `items` are the bytes of the image that it gives back, `input` is what the
--- reader still had to give, and `old` and `new` are what the writer held before the run and behind it, as far as they are known.
+-- reader still had to give, and `old` and `new` are what the writer held before the run and after it, as far as they are known.
 pub record IsOutcome {A : Type 0} (result : Result A RunFault) (items : A → List ℕ) (pace : Pace) (image : List ℕ) (protected checks : Bool) (device : ℕ)
     (input old new : Option (List ℕ)) : Type 0 where
   -- What was written is what a script of requests prints on the image's disk up to its end or its first bad line.
   pub ended : EndsAs result (λ bad. IsScriptRun pace image protected checks input old new bad)
-  -- The image that is given back holds the disk behind the script, with all that the script wrote.
+  -- The image that is given back holds the disk after the script, with all that the script wrote.
   pub disk : IfOk result (λ saved. IfSome (of_requests input) (λ bytes. Prints old new (Begins image protected)
       (λ m. ImageHolds (kind_of image) (items saved) m.disk) (printed_behind pace checks (script_of bytes).requests)))
   -- At a fault a beginning of that was written.
@@ -38,7 +38,7 @@ pub record IsOutcome {A : Type 0} (result : Result A RunFault) (items : A → Li
       PrintsPart old new (Begins image protected) (printed_behind pace checks (script_of bytes).requests)))
   -- Of a script of line changes the trace of a drive with that disk was written, up to its end or its first bad line.
   pub played : EndsAs result (λ bad. IsScriptPlayed (party_of pace device) image protected checks input old new bad)
-  -- The image that is given back holds the disk behind it.
+  -- The image that is given back holds the disk after it.
   pub left : IfOk result (λ saved. IfSome (of_changes input) (λ bytes. PrintsTrace old new (Begins image protected)
       (λ m. ImageHolds (kind_of image) (items saved) m.disk) (party_of pace device) (checked_text checks) (timetable_of bytes)))
   -- At a fault a beginning of such a trace was written.

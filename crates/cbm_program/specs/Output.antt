@@ -12,10 +12,10 @@ AppendsPart old new bytes = (part : List ℕ) × (rest : List ℕ) × Appends ol
 abbrev pub Grows : Option (List ℕ) → Option (List ℕ) → Type 0
 Grows old new = (more : List ℕ) × Appends old new more
 
--- For each machine that stood before, what it prints was written, and the machine behind that stands now.
+-- For each machine that was represented before, what it prints was written, and the machine after it is represented now.
 abbrev pub Prints : Option (List ℕ) → Option (List ℕ) → (Machine → Type 0) → (Machine → Type 0) → (Machine → Printed) → Type 0
 Prints old new stood stands step = (m : Machine) → stood m → Appends old new (step m).text × stands (step m).machine
 
--- for each machine that stood before, a beginning of what it prints was written
+-- for each machine that was represented before, a beginning of what it prints was written
 abbrev pub PrintsPart : Option (List ℕ) → Option (List ℕ) → (Machine → Type 0) → (Machine → Printed) → Type 0
 PrintsPart old new stood step = (m : Machine) → stood m → AppendsPart old new (step m).text

@@ -43,7 +43,7 @@ asked_of verb channel rest =
     else if bytes_eq verb (codes "close") then close_of channel rest
     else None
 
--- the same of what stands behind that word
+-- the same of what follows that word
 abbrev pub channel_asked : List ℕ → Option (List ℕ) → Option Request
 channel_asked verb None = None
 channel_asked verb (Some words) = option_and_then (λ channel. asked_of verb channel (behind_word words)) (channel_of (first_word words))

@@ -81,7 +81,7 @@ abbrev pub ComesBad : Option (List ℕ) → ℕ → Type 0
 ComesBad None n = Unit {0}
 ComesBad (Some xs) n = (bytes : List ℕ) × (lines : List (List ℕ)) × (lines_of xs ≡ bytes ∷ lines) × (meaning n bytes ≡ None)
 
--- what is behind the reading of line n: the line, the end, or why there is neither
+-- what comes of the reading of line n: the line, the end, or why there is neither
 abbrev pub LineRead : Option (List ℕ) → Option (List ℕ) → ℕ → Result (Option Line) RunFault → Type 0
 LineRead old new n (Ok (Some line)) = ReadsLine old new n line × (n < 1000001) × LineIsInRange line
 LineRead old new n (Ok None) = IsAtEnd old

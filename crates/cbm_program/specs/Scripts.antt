@@ -10,7 +10,7 @@ use Rattle.cbm_program.specs.declared.request.Request.TheVariants.{Open, Put, Fi
 
 -- ---- what is printed
 
--- what requests printed, and the machine behind them
+-- what requests printed, and the machine after them
 pub record Printed : Type 0 where
   pub text : List ℕ
   pub machine : Machine
@@ -44,7 +44,7 @@ get_line ch said = codes "get " ++ decimal ch ++ codes " " ++ bytes_text said.by
 abbrev pub status_text : Said → List ℕ
 status_text said = codes "status " ++ without_return said.bytes ++ codes "\n"
 
--- what a request prints, at the drive's pace, and the machine behind it
+-- what a request prints, at the drive's pace, and the machine after it
 abbrev pub printed_by : Pace → Request → Machine → Printed
 printed_by pace (Open ch text) m = silent (after_open ch text.items m)
 printed_by pace (Put ch text) m = silent (hear ch text.items m)

@@ -26,6 +26,6 @@ escapes (b ∷ bytes) = 92 ∷ hex_digit (b / 16) ∷ hex_digit (b % 16) ∷ esc
 abbrev pub AreBytes : List ℕ → Type 0
 AreBytes bytes = All (λ b. b < 256) bytes
 
--- each byte stands for itself: $20 to $7E but the backslash
+-- each byte is written as itself: $20 to $7E but the backslash
 abbrev pub ArePlain : List ℕ → Type 0
 ArePlain bytes = All (λ b. (b ≢ 92) × (is_plain b ≡ true)) bytes

@@ -19,7 +19,7 @@ use Rattle.cbm_volume.specs.Holding.{HoldsDisk}
 use Rattle.cbm_program.specs.Output.{AppendsPart}
 use Rattle.cbm_program.specs.Traces.{trace_text, powered}
 
--- No change waits, none is still to be given, and the host's next one may come from this moment on.
+-- No change is pending, none is still to be given, and the host's next one may come from this moment on.
 pub record IsOpen (p : Turns) (moment : ℕ) : Type 0 where
   pub waiting : p.waiting ≡ None
   pub second : p.second ≡ None
@@ -30,7 +30,7 @@ module _ {M : Type 0} (seen : M → Seen) where
   abbrev pub tracks_in : Cabled (Desk (Kept M)) → List ℕ
   tracks_in b = numbers (λ x. (seen x.dos.medium).tracks) b.drives
 
-  -- the one drive of this bus stands for a machine
+  -- the one drive of this bus represents a machine
   abbrev pub IsBorne : Cabled (Desk (Kept M)) → Machine → Type 0
   IsBorne b m = (x : Seated (Desk (Kept M))) × (b.drives ≡ x ∷ []) × Stands seen x.machine.dos m
 

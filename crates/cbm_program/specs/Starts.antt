@@ -9,7 +9,7 @@ use Rattle.cbm_image.specs.Images.{kind_of, tracks_of, content_of}
 use Rattle.cbm_program.specs.declared.fault.RunFault.{RunFault}
 use Rattle.cbm_program.specs.declared.fault.RunFault.TheVariants.{Script, Image, Memory, Reading, Writing}
 
--- a machine at power up, with a disk that a medium of so many tracks and of this content holds
+-- a machine at power up, with a disk that a medium of this many tracks and of this content holds
 abbrev pub StartsOn : ℕ → Content → Bool → Machine → Type 0
 StartsOn tracks content protected m = (d : Disk) × HoldsDisk tracks content d × (m ≡ start d protected tracks)
 

@@ -28,12 +28,12 @@ abbrev pub change_with : Option ℕ → Option Line → Option Way → Option Ti
 change_with (Some moment) (Some line) (Some way) = Some (Changes (record { moment = moment; line = line; way = way }))
 change_with moment line way = None
 
--- `LINE WAY` behind a moment
+-- `LINE WAY` after a moment
 abbrev pub change_of : List ℕ → Option (List ℕ) → Option Timed
 change_of first None = None
 change_of first (Some words) = change_with (moment_of first) (line_called (first_word words)) (option_and_then way_called (behind_word words))
 
--- a moment behind `end`
+-- a moment after `end`
 abbrev pub end_of : Option (List ℕ) → Option Timed
 end_of None = None
 end_of (Some word) = option_map Ends (moment_of word)
@@ -53,7 +53,7 @@ timed_behind from (Some Skipped) = Some Skipped
 timed_behind from (Some (Changes change)) = if nat_lt change.moment from then None else Some (Changes change)
 timed_behind from (Some (Ends end)) = if nat_lt end from then None else Some (Ends end)
 
--- a line that is skipped, as one must be behind the end
+-- a line that is skipped, as one must be after the end
 abbrev pub is_skipped : Option Timed → Bool
 is_skipped None = false
 is_skipped (Some Skipped) = true
@@ -66,7 +66,7 @@ IsTimed Skipped = Unit {0}
 IsTimed (Changes change) = change.moment ≤ 1000000000000000
 IsTimed (Ends end) = end ≤ 1000000000000000
 
--- the moment that a line leaves behind it
+-- the moment that holds after a line
 abbrev pub latest : ℕ → Timed → ℕ
 latest from Skipped = from
 latest from (Changes change) = change.moment

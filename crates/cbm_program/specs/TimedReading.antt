@@ -18,7 +18,7 @@ abbrev pub LacksTimed : Option (List ℕ) → ℕ → ℕ → Type 0
 LacksTimed None n from = Unit {0}
 LacksTimed (Some xs) n from = (xs ≡ []) ⊎ ((bytes : List ℕ) × (lines : List (List ℕ)) × (lines_of xs ≡ bytes ∷ lines) × (timed_meaning n from bytes ≡ None))
 
--- behind the reading of line n, which stands behind a moment
+-- after the reading of line n, which follows a moment
 abbrev pub TimedRead : Option (List ℕ) → Option (List ℕ) → ℕ → ℕ → Result Timed RunFault → Type 0
 TimedRead old new n from (Ok timed) = ReadsTimed old new n from timed × (n < 1000001) × IsTimed timed × (from ≤ latest from timed)
 TimedRead old new n from (Err (Script bad)) = (bad ≡ n) × LacksTimed old n from
@@ -27,7 +27,7 @@ TimedRead old new n from (Err Memory) = ⊥
 TimedRead old new n from (Err Reading) = Unit {0}
 TimedRead old new n from (Err Writing) = ⊥
 
--- the first line behind the end that may not stand there, from line n on
+-- the first line after the end that may not stand there, from line n on
 abbrev pub IsBadBehind : Option (List ℕ) → ℕ → Option ℕ → Type 0
 IsBadBehind None n bad = Unit {0}
 IsBadBehind (Some xs) n bad = bad_behind n (lines_of xs) ≡ bad

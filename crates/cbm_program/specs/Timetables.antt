@@ -33,7 +33,7 @@ of_changes (Some bytes) = script_if true (is_timed bytes) bytes
 
 -- ---- its lines
 
--- what line n is behind a moment, None where it is refused
+-- what line n is after a moment, None where it is refused
 abbrev pub timed_if : Bool → ℕ → List ℕ → Option Timed
 timed_if true from line = timed_behind from (timed_of line)
 timed_if false from line = None
@@ -41,7 +41,7 @@ timed_if false from line = None
 abbrev pub timed_meaning : ℕ → ℕ → List ℕ → Option Timed
 timed_meaning n from line = timed_if (may_stand n line) from line
 
--- the first line behind the end that may not stand there, from line n on
+-- the first line after the end that may not stand there, from line n on
 unfoldable pub bad_behind : ℕ → List (List ℕ) → Option ℕ
 bad_behind n [] = None
 bad_behind n (line ∷ lines) = if is_skipped (timed_meaning n 0 line) then bad_behind (n + 1) lines else Some n
@@ -71,16 +71,16 @@ with_timed (Some Skipped) n bad rest = rest
 with_timed (Some (Changes change)) n bad rest = with_change change rest
 with_timed (Some (Ends end)) n bad rest = ended_at end bad
 
--- the moment behind which the next line stands
+-- the moment after which the next line stands
 abbrev pub latest_if : ℕ → Option Timed → ℕ
 latest_if from None = from
 latest_if from (Some timed) = latest from timed
 
--- The lines from line n on, behind a moment. Where no line is the end, the line that is missing is refused.
+-- The lines from line n on, after a moment. Where no line is the end, the line that is missing is refused.
 unfoldable pub timetable_from : ℕ → ℕ → List (List ℕ) → Timetable
 timetable_from n from [] = stopped_at n
 timetable_from n from (line ∷ lines) = with_timed (timed_meaning n from line) n (bad_behind (n + 1) lines) (timetable_from (n + 1) (latest_if from (timed_meaning n from line)) lines)
 
--- what stands behind the first line, `lines`
+-- what follows the first line, `lines`
 abbrev pub timetable_of : List ℕ → Timetable
 timetable_of bytes = timetable_from 2 0 (drop 1 (lines_of bytes))

@@ -55,7 +55,7 @@ abbrev pub IsPlayed : Party → Machine → List Event → ℕ → List (Station
 IsPlayed drive m trace from ss = Plays (Desk Machine) desk_step desk_says 0 (powered drive m) trace from ss
 
 -- A script is played up to its end, the reactions of that moment too. Where its end isn't read it is played up to its last change, and the
--- reactions of that moment wait.
+-- reactions of that moment are still due.
 abbrev pub until : Timetable → ℕ
 until t = elim t.end [ None ↦ latest 0 t.changes | Some end ↦ end + 1 ]
 
@@ -94,7 +94,7 @@ WritesChanges input old new bad = IfSome input (λ bytes. ((timetable_of bytes).
 abbrev pub WritesBehind : Bool → Option (List ℕ) → Option (List ℕ) → Option (List ℕ) → Option ℕ → Type 0
 WritesBehind checks input old new bad = (between : Option (List ℕ)) × (checks ≡ false → between ≡ old) × Grows old between × WritesChanges input between new bad
 
--- For each machine that stood before, the trace of the script was written behind this text, and the machine above the drive stands now.
+-- For each machine that was represented before, the trace of the script was written after this text, and the machine above the drive is represented now.
 abbrev pub PrintsTrace : Option (List ℕ) → Option (List ℕ) → (Machine → Type 0) → (Machine → Type 0) → Party → List ℕ → Timetable → Type 0
 PrintsTrace old new stood stands drive text t = (m : Machine) → stood m
     → (trace : List Event) × (s : Station (Desk Machine)) × IsTrace drive m t trace s × Appends old new (text ++ trace_text trace) × stands s.machine.dos

@@ -18,7 +18,7 @@ said_text bytes marked = flat_map hex bytes ++ eoi_mark marked
 abbrev pub get_head : ℕ → List ℕ → List ℕ
 get_head ch tail = codes "get " ++ decimal ch ++ tail
 
--- Behind these bytes all others of what was said were written,
+-- After these bytes all others of what was said were written,
 pub record PrintsRest (a b : Option (List ℕ)) (bytes : List ℕ) (last : Bool) (said : Said) : Type 0 where
   pub rest : List ℕ
   pub whole : said_text said.bytes said.marked ≡ said_text bytes last ++ rest

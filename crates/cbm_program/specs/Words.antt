@@ -14,7 +14,7 @@ until (Some at) bytes = take at bytes
 abbrev pub first_word : List ℕ → List ℕ
 first_word bytes = until (position is_space bytes) bytes
 
--- what stands behind the first space, if there is one
+-- what follows the first space, if there is one
 abbrev pub behind_word : List ℕ → Option (List ℕ)
 behind_word bytes = option_map (λ at. drop (at + 1) bytes) (position is_space bytes)
 

@@ -85,7 +85,7 @@ fn run_script<M: RunsScripts + Drop, R: Read + Drop, W: Write>(
     }
 }
 
-/// Runs a script on a drive at power up with this medium, behind the line of its check if one is asked for, and gives the medium
+/// Runs a script on a drive at power up with this medium, after the line of its check if one is asked for, and gives the medium
 /// back with what the script wrote.
 fn run_with<M: RunsScripts + Drop, R: Read + Drop, W: Write>(
     medium: M,
@@ -192,7 +192,7 @@ fn run_image<I: RunsScripts + Drop, R: Read + Drop, W: Write>(
 /// for the image.
 ///
 /// Errors: `Image` with the number of the format's first fault, before anything is read or written; `Script` with the
-/// number of the first bad line, behind all that the lines before it print; `Memory`, `Reading` or `Writing`.
+/// number of the first bad line, after all that the lines before it print; `Memory`, `Reading` or `Writing`.
 pub fn run<R: Read + Drop, W: Write>(
     alloc: Global,
     reader: R,

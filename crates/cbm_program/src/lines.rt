@@ -42,7 +42,7 @@ impl<R: Read> Lines<R> {
         }
     }
 
-    /// Reads on where no byte waits.
+    /// Reads on where no byte is pending.
     fn fill(&mut self) -> io::Result<()>
         ensures ok { OnOk result (Keeps (bytes_left R.remaining self.old) (bytes_left R.remaining self.new)) }
         ensures end { OnOk result (self.new.start ≡ self.new.end → IsAtEnd (bytes_left R.remaining self.new)) }

@@ -38,7 +38,7 @@ fn read_line<R: Read>(
     }
 }
 
-/// Runs a script on a drive, behind its first line: carries a line out, and prints what comes of it before the next line
+/// Runs a script on a drive, after its first line: carries a line out, and prints what comes of it before the next line
 /// is read.
 fn run_on<M: Steady, R: Read, W: Write>(
     drive: &mut Hosted<M>,
@@ -73,7 +73,7 @@ fn run_on<M: Steady, R: Read, W: Write>(
     Ok(())
 }
 
-/// Runs a script of requests, behind its first line, on a drive that rests at power up, and gives its medium back with what
+/// Runs a script of requests, after its first line, on a drive that rests at power up, and gives its medium back with what
 /// the script wrote.
 pub(crate) fn run_requests<M: Steady + Drop, R: Read, W: Write>(
     drive: Hosted<M>,

@@ -23,7 +23,7 @@ use std::io::{Read, Write};
 
 /// The disk of an image, on which a drive runs scripts.
 pub(crate) trait RunsScripts: DiskImage {
-    /// Plays a script of line changes, behind its first line, on a drive of this pace at power up with this disk and a device
+    /// Plays a script of line changes, after its first line, on a drive of this pace at power up with this disk and a device
     /// number from 8 to 11, and gives the disk back with what came of it. Errors: `Script`, `Reading` or `Writing`.
     fn play<R: Read, W: Write>(
         self,
@@ -44,7 +44,7 @@ pub(crate) trait RunsScripts: DiskImage {
         ensures fault { (input : Option (List ℕ)) → TakesLine input (bytes_left R.remaining lines.old) (codes "lines") →
             OnErr result (IfSome input (λ bytes. PrintsTracePart (W.contents writer.old) (W.contents writer.new)
             (StartsFrom (Self.seen self)) (party_of pace device) [] (timetable_of bytes))) }
-        // Whatever the drive stands for:
+        // Whatever the drive represents:
         ensures wrote { (input : Option (List ℕ)) → TakesLine input (bytes_left R.remaining lines.old) (codes "lines") →
             EndsAs result (λ bad. WritesChanges input (W.contents writer.old) (W.contents writer.new) bad) }
         ensures grows { Grows (W.contents writer.old) (W.contents writer.new) }
@@ -52,7 +52,7 @@ pub(crate) trait RunsScripts: DiskImage {
         ensures image { IfErr result (λ fault. (n : ℕ) → fault ≢ RunFault.Image n) }
         ensures memory { IfErr result (λ fault. fault ≢ RunFault.Memory) };
 
-    /// Carries out a script of requests, behind its first line, on a drive of this pace at power up with this disk and a
+    /// Carries out a script of requests, after its first line, on a drive of this pace at power up with this disk and a
     /// device number from 8 to 11, and gives the disk back with what came of it. Errors: `Script`, `Reading` or `Writing`.
     fn serve<R: Read, W: Write>(
         self,

@@ -23,7 +23,7 @@ use cbm_drive::Pace;
 use cbm_medium::Steady;
 use std::io::{Read, Write};
 
-/// Reads line `number`, which stands behind a moment, in microseconds. The end must come before the script's own.
+/// Reads line `number`, which follows a moment, in microseconds. The end must come before the script's own.
 fn read_timed<R: Read>(
     lines: &mut Lines<R>,
     bytes: &mut ArrayVec<u8, 1000>,
@@ -38,7 +38,7 @@ fn read_timed<R: Read>(
     timed_from(bytes.as_slice(), from).ok_or(RunFault::Script(number))
 }
 
-/// Reads the lines behind the end, from line `first` on: all of them are skipped.
+/// Reads the lines after the end, from line `first` on: all of them are skipped.
 fn read_behind<R: Read>(
     lines: &mut Lines<R>,
     bytes: &mut ArrayVec<u8, 1000>,
@@ -57,7 +57,7 @@ fn read_behind<R: Read>(
     Ok(())
 }
 
-/// Plays a script on a drive at power up, behind its first line: a change is made and printed, with what comes before it,
+/// Plays a script on a drive at power up, after its first line: a change is made and printed, with what comes before it,
 /// before the next line is read; what comes of the last one is printed when the end and the lines after it were read.
 fn play_on<M: Steady, R: Read, W: Write>(
     stage: &mut Stage<M>,
@@ -70,7 +70,7 @@ fn play_on<M: Steady, R: Read, W: Write>(
     requires one { length (tracks_in M.seen stage.old.bus) ≡ 1 }
     requires low { 8 ≤ device }
     requires high { device ≤ 11 }
-    // Up to its end or its first bad line the script's trace was written, and the drive is in the state behind it.
+    // Up to its end or its first bad line the script's trace was written, and the drive is in the state after it.
     ensures ended { (input : Option (List ℕ)) → TakesLine input (bytes_left R.remaining lines.old) (codes "lines") →
         EndsAs result (λ bad. IfSome input (λ bytes. ((timetable_of bytes).bad ≡ bad)
         × PrintsTrace (W.contents writer.old) (W.contents writer.new)
@@ -81,7 +81,7 @@ fn play_on<M: Steady, R: Read, W: Write>(
         OnErr result (IfSome input (λ bytes. PrintsTracePart (W.contents writer.old) (W.contents writer.new)
         (λ m. IsAt M.seen stage.old.player stage.old.bus (powered (party_of pace device) m) []) (party_of pace device) [] (timetable_of bytes))) }
     ensures tracks { tracks_in M.seen stage.new.bus ≡ tracks_in M.seen stage.old.bus }
-    // Whatever the drive stands for:
+    // Whatever the drive represents:
     ensures wrote { (input : Option (List ℕ)) → TakesLine input (bytes_left R.remaining lines.old) (codes "lines") →
         EndsAs result (λ bad. WritesChanges input (W.contents writer.old) (W.contents writer.new) bad) }
     ensures grows { Grows (W.contents writer.old) (W.contents writer.new) }
@@ -110,7 +110,7 @@ fn play_on<M: Steady, R: Read, W: Write>(
     }
 }
 
-/// Plays a script of line changes, behind its first line, on a drive of this pace that stands at power up, with a device number
+/// Plays a script of line changes, after its first line, on a drive of this pace that stands at power up, with a device number
 /// from 8 to 11, and gives its medium back with what came of it.
 pub(crate) fn run_changes<M: Steady + Drop, R: Read, W: Write>(
     stage: Stage<M>,
@@ -139,7 +139,7 @@ pub(crate) fn run_changes<M: Steady + Drop, R: Read, W: Write>(
         OnErr result (IfSome input (λ bytes. PrintsTracePart (W.contents writer.old) (W.contents writer.new)
         (StartsOn tracks content protected)
         (party_of pace device) [] (timetable_of bytes))) }
-    // Whatever the drive stands for:
+    // Whatever the drive represents:
     ensures wrote { (input : Option (List ℕ)) → TakesLine input (bytes_left R.remaining lines.old) (codes "lines") →
         EndsAs result (λ bad. WritesChanges input (W.contents writer.old) (W.contents writer.new) bad) }
     ensures grows { Grows (W.contents writer.old) (W.contents writer.new) }

@@ -59,7 +59,7 @@ impl<M: Steady> Stage<M> {
         ensures ok { OnOk result (PlaysOn M.seen (W.contents writer.old) (W.contents writer.new) (change ∷ [])
             self.old.player self.old.bus self.new.player self.new.bus) }
         ensures open { OnOk result (IsOpen self.new.player change.moment) }
-        // Whatever the drive stands for:
+        // Whatever the drive represents:
         ensures wrote { OnOk result (HasWritten (W.contents writer.old) (W.contents writer.new) (change ∷ [])) }
         ensures err { OnErr result (PlaysPart M.seen (W.contents writer.old) (W.contents writer.new) (change ∷ [])
             self.old.player self.old.bus) }
@@ -85,7 +85,7 @@ impl<M: Steady> Stage<M> {
             self.old.player self.old.bus self.new.player self.new.bus) }
         ensures err { OnErr result (PlaysPart M.seen (W.contents writer.old) (W.contents writer.new) []
             self.old.player self.old.bus) }
-        // Whatever the drive stands for:
+        // Whatever the drive represents:
         ensures wrote { OnOk result (HasWritten (W.contents writer.old) (W.contents writer.new) []) }
         ensures tracks { tracks_in M.seen self.new.bus ≡ tracks_in M.seen self.old.bus }
         ensures grows { Grows (W.contents writer.old) (W.contents writer.new) }

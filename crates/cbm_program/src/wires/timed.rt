@@ -76,7 +76,7 @@ fn parse_timed(bytes: &[u8]) -> Option<Timed>
     }
 }
 
-/// The same of a line that comes behind a moment: what it asks for doesn't come before it.
+/// The same of a line that comes after a moment: what it asks for doesn't come before it.
 pub(crate) fn timed_from(bytes: &[u8], from: u64) -> Option<Timed>
     ensures value { result ≡ timed_behind from (timed_of bytes.now) }
     ensures moment { IfSome result (λ timed. IsTimed timed × (from ≤ latest from timed)) }
