@@ -14,21 +14,21 @@ use Rattle.cbm_shell.specs.declared.changing.Change.TheVariants.{Command, File}
 use Rattle.cbm_shell.specs.declared.fault.ShellFault.{ShellFault}
 use Rattle.cbm_shell.specs.declared.fault.ShellFault.TheVariants as fault
 
--- the machine behind the OPEN that a change begins with
+-- the machine after the OPEN that a change begins with
 abbrev pub begun : Change → Machine → Machine
 begun (Command text) m = after_open 15 text.now m
 begun (File text bytes) m = after_open 2 text.now m
 
--- THE MACHINE BEHIND A CHANGE: a command is done by its OPEN; a file is opened, given its bytes, and closed.
+-- THE MACHINE AFTER A CHANGE: a command is done by its OPEN; a file is opened, given its bytes, and closed.
 abbrev pub after_change : Change → Machine → Machine
 after_change (Command text) m = begun (Command text) m
 after_change (File text bytes) m = close 2 (hear 2 bytes.now (begun (File text bytes) m))
 
--- a status below 20 tells no error
+-- a status below 20 reports no error
 abbrev pub IsFine : Status → Type 0
 IsFine s = code_number s.code < 20
 
--- The drive refused a change: this is its status behind the OPEN or at the end, and it tells an error.
+-- The drive refused a change: this is its status after the OPEN or at the end, and it reports an error.
 pub record IsRefusedBy (change : Change) (m : Machine) (s : Status) : Type 0 where
   pub told : (s ≡ (begun change m).status) ⊎ (s ≡ (after_change change m).status)
   pub error : 20 ≤ code_number s.code

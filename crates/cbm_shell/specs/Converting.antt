@@ -19,7 +19,7 @@ abbrev pub other : Kind → Kind
 other D64 = G64
 other G64 = D64
 
--- the id that 18/0 tells; zeros where it doesn't read
+-- the id that 18/0 has; zeros where it doesn't read
 abbrev pub id_in : Cell → List ℕ
 id_in (Ok bytes) = slice_range bytes 162 164
 id_in (Err code) = 0 ∷ 0 ∷ []
@@ -58,11 +58,11 @@ abbrev pub has_error_bytes : Kind → List ℕ → Bool
 has_error_bytes D64 image = (length image == 175531) && not (each_below (is_good image) 683)
 has_error_bytes G64 image = false
 
--- the headers of a G64's track 18 have another id than 18/0 tells; zeros stand for one that isn't there
+-- the headers of a G64's track 18 have another id than 18/0 has; zeros stand for one that isn't there
 abbrev pub HasOtherId : List ℕ → Type 0
 HasOtherId image = (kind_of image ≡ G64) × (id_for (tracks_in image 35) ≢ told_id (held_by image))
 
--- WHAT THE NEW IMAGE LACKS is told: the sectors that don't read, more tracks, error bytes, an id that only the headers have.
+-- WHAT THE NEW IMAGE LACKS is reported: the sectors that don't read, more tracks, error bytes, an id that only the headers have.
 pub record AreLosses (image : List ℕ) (unreadable : List Fault) (more_tracks error_bytes header_id : Bool) : Type 0 where
   pub faults : unreadable ≡ faults_in (held_by image) 35
   pub tracks : more_tracks ≡ has_more_tracks (kind_of image) image

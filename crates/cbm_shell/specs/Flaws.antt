@@ -26,7 +26,7 @@ part_of Disk = OfDirectory
 part_of Directory = OfDirectory
 part_of (File slot) = OfFile
 
--- a flaw at a place, where so many sectors of the chain come before it
+-- a flaw at a place, where this many sectors of the chain come before it
 abbrev pub flawed : Whose → ℕ → Place → ℕ → DiskFlaw
 flawed whose before p number = record { what = fault_at number p; whose = whose; before = before }
 
@@ -66,7 +66,7 @@ with_sector flaws p rest = record { blocks = p ∷ rest.blocks; claimed = rest.c
 abbrev pub met : Option ℕ → (ℕ → DiskFlaw) → Place → (Place → Bool) → Walked → Walked
 met wrong flaw p claimed rest = if goes_on wrong then with_sector (told wrong flaw) p rest else cut_off claimed (told wrong flaw)
 
--- A CHAIN from a place on, where so many sectors are left and so many come before: each sector is claimed, and what is wrong with one is reported
+-- A CHAIN from a place on, where this many sectors are left and this many come before: each sector is claimed, and what is wrong with one is reported
 unfoldable pub along : Whose → ℕ → Content → ℕ → ℕ → (Place → Bool) → Place → Walked
 along whose tracks content zero before claimed p = cut_off claimed []
 along whose tracks content (suc left) before claimed p =
@@ -190,7 +190,7 @@ abbrev pub chain_flaws : ℕ → Content → List DiskFlaw
 chain_flaws tracks content =
     (directory_walk tracks content).flaws ++ (slots_walk 0 tracks content (directory_walk tracks content).claimed (directory_walk tracks content).blocks).flaws
 
--- ALL THAT IS WRONG WITH A DISK that uses so many tracks: its headers, its map, its directory, its files
+-- ALL THAT IS WRONG WITH A DISK that uses this many tracks: its headers, its map, its directory, its files
 abbrev pub flaws_of : ℕ → Content → List DiskFlaw
 flaws_of tracks content = header_flaws content tracks ++ (map_flaws tracks (content directory_head) ++ chain_flaws tracks content)
 

@@ -64,7 +64,7 @@ IsLost image d pattern = OrOpenFault image (IsGetFault d pattern)
 abbrev pub IsHidden : List ℕ → List ℕ → Machine → ShellFault → Type 0
 IsHidden image pattern m = OrOpenFault image (IsUnlisted pattern m)
 
--- A DISK IS SOUND: a medium of so many tracks with this content
+-- A DISK IS SOUND: a medium of this many tracks with this content
 abbrev pub IsSoundDisk : ℕ → Content → Type 0
 IsSoundDisk tracks content = (l : Layout) × Sound (geometry_of tracks content) content l
 

@@ -14,7 +14,7 @@ abbrev pub list_text : List ℕ → List ℕ
 list_text [] = codes "$"
 list_text (c ∷ pattern) = codes "$0:" ++ (c ∷ pattern)
 
--- the machine behind that OPEN
+-- the machine after that OPEN
 abbrev pub opened : List ℕ → Machine → Machine
 opened pattern m = after_open 0 (list_text pattern) m
 

@@ -39,7 +39,7 @@ pub record LocksSlot (locked : Bool) (tracks : ℕ) (pattern : List ℕ) (slot :
   pub stands : Answers (directory_of tracks old) slot (Ok (Some entry))
   pub entered : MatchBool (is_unlike pattern locked entry) (EntersLed tracks old new slot (locked_entry locked entry)) (new ≡ old)
 
--- the first so many slots, one after another
+-- the first n slots, one after another
 unfoldable pub LocksSlots : Bool → ℕ → List ℕ → ℕ → Content → Content → Type 0
 LocksSlots locked tracks pattern zero old new = new ≡ old
 LocksSlots locked tracks pattern (suc n) old new =

@@ -11,7 +11,7 @@ use Rattle.cbm_image.specs.Images.{kind_of, image_fault, tracks_of, content_of, 
 use Rattle.cbm_shell.specs.declared.images.making.Form.{Form}
 use Rattle.cbm_shell.specs.declared.images.making.Form.TheVariants as form
 
--- AN EMPTY DISK of so many tracks, with a title and an id: eight empty slots, and all blocks for files are free
+-- AN EMPTY DISK of this many tracks, with a title and an id: eight empty slots, and all blocks for files are free
 abbrev pub empty_disk : ℕ → List ℕ → List ℕ → Disk
 empty_disk tracks title id = record {
   title = padded title;

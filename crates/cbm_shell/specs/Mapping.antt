@@ -88,7 +88,7 @@ unfoldable pub rows_of : Content → (Place → Bool) → ℕ → List ℕ
 rows_of content used zero = []
 rows_of content used (suc n) = rows_of content used n ++ row_of content used (suc n)
 
--- THE PICTURE of a disk that uses so many tracks: the sectors' numbers, a line for each track, and what the signs mean
+-- THE PICTURE of a disk that uses this many tracks: the sectors' numbers, a line for each track, and what the signs mean
 abbrev pub picture_of : ℕ → Content → List ℕ
 picture_of tracks content =
     codes "sector 0         1         2\ntrack  012345678901234567890\n"

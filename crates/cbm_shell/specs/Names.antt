@@ -44,7 +44,7 @@ unfoldable mutual
   codes_of charset [] = Some []
   codes_of charset (first ∷ rest) = if first == 123 then number_in charset rest else with_code (code_of charset first) (codes_of charset rest)
 
-  -- from behind the brace of a number on
+  -- from after the brace of a number on
   pub number_in : Charset → List ℕ → Option (List ℕ)
   number_in charset (high ∷ low ∷ brace ∷ rest) = if brace == 125 then with_code (byte_of high low) (codes_of charset rest) else None
   number_in charset _ = None

@@ -23,7 +23,7 @@ cased Lower shown = shown
 abbrev pub typed : Charset → ℕ → ℕ
 typed charset shown = if shown == 95 then 9601 else cased charset shown
 
--- the first of so many codes from one on whose key has the character
+-- the first of this many codes from one on whose key has the character
 unfoldable pub code_from : Charset → ℕ → ℕ → ℕ → Option ℕ
 code_from charset key zero code = None
 code_from charset key (suc left) code =

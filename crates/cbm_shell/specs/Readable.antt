@@ -7,7 +7,7 @@ use Rattle.cbm_shell.specs.Names.{shown_as}
 abbrev pub opened_as : Charset → ℕ → List ℕ
 opened_as charset code = if code == 18 then [] else shown_as charset code
 
--- whether a code ends a line's text of which so many codes are still sure to come
+-- whether a code ends a line's text of which this many codes are still sure to come
 abbrev pub ends : ℕ → ℕ → Bool
 ends left code = (left == 0) && (code == 0)
 
@@ -27,6 +27,6 @@ unfoldable mutual
   text charset left [] = codes "\n"
   text charset left (code ∷ rest) = if ends left code then codes "\n" ++ lines charset rest else shown_as charset code ++ text charset (left - 1) rest
 
--- the lines behind the load address
+-- the lines after the load address
 abbrev pub readable : Charset → List ℕ → List ℕ
 readable charset bytes = lines charset (drop 2 bytes)

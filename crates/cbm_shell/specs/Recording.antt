@@ -15,7 +15,7 @@ unfoldable pub hear_all : ℕ → List (List ℕ) → Machine → Machine
 hear_all channel [] m = m
 hear_all channel (record_bytes ∷ rest) m = hear_all channel rest (hear channel record_bytes m)
 
--- the channel was refused one of the records: this is the status after it, and it tells an error
+-- the channel was refused one of the records: this is the status after it, and it reports an error
 pub record IsStoppedBy (channel : ℕ) (records : List (List ℕ)) (m : Machine) (s : Status) : Type 0 where
   pub count : ℕ
   pub told : s ≡ (hear_all channel (take count records) m).status
@@ -36,7 +36,7 @@ after_some text records m = hear_all 2 records (opened_with text m)
 abbrev pub after_records : List ℕ → List (List ℕ) → Machine → Machine
 after_records text records m = close 2 (after_some text records m)
 
--- The drive refused it: this is its status after the OPEN, after one of the records, or at the end, and it tells an error.
+-- The drive refused it: this is its status after the OPEN, after one of the records, or at the end, and it reports an error.
 pub record IsRefusedAfter (text : List ℕ) (records : List (List ℕ)) (m : Machine) (s : Status) : Type 0 where
   pub count : ℕ
   pub told : (s ≡ (after_some text (take count records) m).status) ⊎ (s ≡ (after_records text records m).status)

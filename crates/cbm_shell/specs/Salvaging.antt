@@ -1,7 +1,7 @@
 -- What can be read of a file whose chain breaks off.
 use Rattle.std.specs.Prelude.{ℕ, Bool, List, [], ◌∷◌, Option, Some, None}
 
--- the byte that waits, if one does
+-- the pending byte, if there is one
 abbrev pub waiting : Option (ℕ × Bool) → List ℕ
 waiting None = []
 waiting (Some p) = p.0 ∷ []

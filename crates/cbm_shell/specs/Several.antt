@@ -10,7 +10,7 @@ use Rattle.cbm_shell.specs.declared.changing.Change.{Change}
 use Rattle.cbm_shell.specs.declared.fault.ShellFault.{ShellFault}
 use Rattle.cbm_shell.specs.Changing.{after_change, IsFine, IsUndone}
 
--- CHANGES MADE ONE AFTER ANOTHER, each by the machine at power up, lead from a disk to another: none tells an error.
+-- CHANGES MADE ONE AFTER ANOTHER, each by the machine at power up, lead from a disk to another: none reports an error.
 unfoldable pub AreMade : List Change → Bool → ℕ → Disk → Disk → Type 0
 AreMade [] protected tracks d e = e ≡ d
 AreMade (change ∷ rest) protected tracks d e =

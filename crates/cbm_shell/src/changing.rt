@@ -34,7 +34,7 @@ const COMMANDS: u8 = 15;
 /// The channel on which a file is written.
 const WRITING: u8 = 2;
 
-/// The first code of a status that tells an error.
+/// The first code of a status that reports an error.
 const ERRORS: u8 = 20;
 
 /// A change of a disk.
@@ -46,7 +46,7 @@ pub enum Change<'a> {
     File(&'a [u8], &'a [u8]),
 }
 
-/// The status if it tells no error, else the refusal.
+/// The status if it reports no error, else the refusal.
 pub(crate) fn told(status: Status) -> Result<(), ShellFault>
     ensures { MatchResult result (λ _. IsFine status) (λ fault. (fault ≡ ShellFault.Refused status) × (20 ≤ code_number status.code)) }
 {

@@ -264,7 +264,7 @@ pub fn validate(alloc: Global, image: &[u8]) -> Result<Order, ShellFault>
     ensures order { IfOk result (λ o. IsInOrder (kind_of image.now) o.image.items) }
     // Closed files, their entries and the title are as they were.
     ensures changes { IfOk result (λ o. IsImageInOrder (kind_of image.now) image.now o.image.items) }
-    // The blocks that it gives back are all told, and whether GEOS uses one of them.
+    // The blocks that it gives back are all reported, and whether GEOS uses one of them.
     ensures freed { IfOk result (λ o.
         IsGivenBack (kind_of image.now) image.now o.image.items o.freed.blocks.items o.freed.takes_geos) }
 {

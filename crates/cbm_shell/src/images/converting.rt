@@ -40,7 +40,7 @@ pub struct Losses {
     pub more_tracks: bool,
     /// Error bytes of a D64 other than 1, which says that all is well.
     pub error_bytes: bool,
-    /// The id in the headers of a G64, where 18/0 tells another one.
+    /// The id in the headers of a G64, where 18/0 has another one.
     pub header_id: bool,
 }
 
@@ -63,7 +63,7 @@ pub struct Converted {
     pub lost: Losses,
 }
 
-/// The id that 18/0 tells; zeros where it doesn't read.
+/// The id that 18/0 has; zeros where it doesn't read.
 fn told_id<M: Medium>(medium: &M) -> [u8; 2]
     ensures { result ≡ told_id (M.seen medium.now).content }
 {
@@ -309,11 +309,11 @@ fn to_d64(alloc: Global, image: &[u8]) -> Result<Converted, ShellFault>
 }
 
 /// An image of the other format: a D64 as a G64, a G64 as a D64 of 35 tracks. A G64 is formatted under the id that 18/0
-/// tells. Errors: `Image`; `Mistaken`, where the new image would be taken for one of the old format; `Memory`.
+/// has. Errors: `Image`; `Mistaken`, where the new image would be taken for one of the old format; `Memory`.
 pub fn convert(alloc: Global, image: &[u8]) -> Result<Converted, ShellFault>
     // Each sector that reads is in the new image byte for byte.
     ensures kept { IfOk result (λ c. IsConverted image.now c.image.items) }
-    // What the new image can't hold is told.
+    // What the new image can't hold is reported.
     ensures told { IfOk result (λ c. AreLosses image.now c.lost.unreadable.items c.lost.more_tracks
         c.lost.error_bytes c.lost.header_id) }
     // Where all sectors read, the new image holds what the old one does.

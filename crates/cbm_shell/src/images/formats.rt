@@ -1,4 +1,4 @@
-//! Files that are no image of a 1541's disk, told by their first bytes and their size.
+//! Files that are no image of a 1541's disk, known by their first bytes and their size.
 ghost use Rattle.std.specs.Prelude.{◌≡◌, Some, IfSome};
 ghost use Rattle.cbm_image.specs.Images.{kind_of, image_fault};
 ghost use Rattle.cbm_shell.specs.Foreign.{is_ours, begun_as, sized_as, or_else, foreign_of};
@@ -90,7 +90,7 @@ fn or_else(first: Option<Foreign>, second: Foreign) -> Foreign
 /// or has the size of a D64.
 pub fn foreign_of(image: &[u8]) -> Option<Foreign>
     ensures told { result ≡ foreign_of image.now }
-    // What is told so is refused as an image.
+    // What is known so is refused as an image.
     ensures refused { IfSome result (λ _. image_fault (kind_of image.now) image.now ≡ Some 1) }
 {
     if is_ours(kind_of(image), image.len()) {

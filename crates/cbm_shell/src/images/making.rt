@@ -29,7 +29,7 @@ pub enum Form {
     G64,
 }
 
-/// So many zeros.
+/// This many zeros.
 pub(crate) fn zeros(alloc: Global, count: usize) -> Result<Vec<u8>, AllocError>
     ensures { IfOk result (λ v. v.items ≡ replicate count 0) }
 {

@@ -20,7 +20,7 @@ pub struct Salvaged {
     pub trouble: Option<Trouble>,
 }
 
-/// Adds the byte that waits, if one does.
+/// Adds the pending byte, if there is one.
 fn push_waiting(bytes: &mut Vec<u8>, reader: &ChainReader) -> Result<(), AllocError>
     ensures { OnOk result (bytes.new.items ≡ bytes.old.items ++ waiting (shown reader.now.bytes)) }
 {

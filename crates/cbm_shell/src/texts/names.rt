@@ -66,7 +66,7 @@ fn byte_of(high: char, low: char) -> Option<u8>
     Some((16 * high + low) as u8)
 }
 
-/// The code of a number, from behind its brace on, and what follows it; None where the number isn't whole.
+/// The code of a number, from after its brace on, and what follows it; None where the number isn't whole.
 #[tactic(auto, unfolding(crate::specs::Names::number_in))]
 fn number_in(text: &[char]) -> Option<(u8, &[char])>
     ensures read { (charset : Charset) → MatchOption result (number_in charset text.now ≡ None)

@@ -10,7 +10,7 @@ use std::alloc::{AllocError, Global};
 /// The code that makes a C64 show the title in reverse; where it begins a line it isn't shown.
 const REVERSE: u8 = 0x12;
 
-/// How many codes of a line's text are sure to come behind its first: no line of a directory has fewer.
+/// How many codes of a line's text are sure to come after its first: no line of a directory has fewer.
 const SURE: u8 = 24;
 
 /// Adds the first code of a line's text.
@@ -23,14 +23,14 @@ fn open_line(out: &mut String, charset: Charset, code: u8) -> Result<(), AllocEr
     add_code(out, charset, code)
 }
 
-/// Whether a code ends a line's text of which so many codes are still sure to come.
+/// Whether a code ends a line's text of which this many codes are still sure to come.
 fn ends(left: u8, code: u8) -> bool
     ensures { result ≡ ends left code }
 {
     left == 0 && code == 0
 }
 
-/// Adds a new line, and returns what stands behind the line.
+/// Adds a new line, and returns what follows the line.
 fn end_line<'a>(out: &mut String, behind: &'a [u8]) -> Result<&'a [u8], AllocError>
     ensures { IfOk result (λ rest. (string_bytes out.new ≡ string_bytes out.old ++ codes "\n") × (rest.now ≡ behind.now)) }
 {
@@ -38,7 +38,7 @@ fn end_line<'a>(out: &mut String, behind: &'a [u8]) -> Result<&'a [u8], AllocErr
     Ok(behind)
 }
 
-/// Adds the text of a line from behind its first code up to its 0, and a new line. Returns what stands behind the 0.
+/// Adds the text of a line from after its first code up to its 0, and a new line. Returns what follows the 0.
 fn add_text<'a>(out: &mut String, charset: Charset, bytes: &'a [u8]) -> Result<&'a [u8], AllocError>
     ensures text { IfOk result (λ rest.
         string_bytes out.new ++ lines charset rest.now ≡ string_bytes out.old ++ text charset 24 bytes.now) }
@@ -57,7 +57,7 @@ fn add_text<'a>(out: &mut String, charset: Charset, bytes: &'a [u8]) -> Result<&
     end_line(out, rest)
 }
 
-/// Adds the text of a line, and a new line. Returns what stands behind its 0.
+/// Adds the text of a line, and a new line. Returns what follows its 0.
 fn add_line<'a>(out: &mut String, charset: Charset, bytes: &'a [u8]) -> Result<&'a [u8], AllocError>
     ensures text { IfOk result (λ rest.
         string_bytes out.new ++ lines charset rest.now ≡ string_bytes out.old ++ opening charset bytes.now) }
@@ -70,7 +70,7 @@ fn add_line<'a>(out: &mut String, charset: Charset, bytes: &'a [u8]) -> Result<&
     add_text(out, charset, behind)
 }
 
-/// The number of the next line, and what stands behind it; None where the lines end.
+/// The number of the next line, and what follows it; None where the lines end.
 #[tactic(auto, unfolding(crate::specs::Readable::lines))]
 fn next_line(charset: Charset, bytes: &[u8]) -> Option<(u16, &[u8])>
     ensures line { MatchOption result (lines charset bytes.now ≡ [])
