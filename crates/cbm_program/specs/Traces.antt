@@ -99,6 +99,6 @@ abbrev pub PrintsTrace : Option (List ℕ) → Option (List ℕ) → (Machine �
 PrintsTrace old new stood stands drive text t = (m : Machine) → stood m
     → (trace : List Event) × (s : Station (Desk Machine)) × IsTrace drive m t trace s × Appends old new (text ++ trace_text trace) × stands s.machine.dos
 
--- for each machine that stood before, a beginning of what the drive does under the first changes was written
+-- for each machine that was represented before, a beginning of what the drive does under the first changes was written
 abbrev pub PrintsTracePart : Option (List ℕ) → Option (List ℕ) → (Machine → Type 0) → Party → List ℕ → Timetable → Type 0
 PrintsTracePart old new stood drive text t = (m : Machine) → stood m → (trace : List Event) × IsTraceBegun drive m t trace × AppendsPart old new (text ++ trace_text trace)
