@@ -26,7 +26,7 @@ abbrev pub answer : {A : Type 0} → Result A Refusal → ℤ
 answer (Ok v) = fine
 answer (Err r) = number_of r
 
--- what is told of a fault; want of memory comes first, as a format has numbers of its own for it
+-- what is reported of a fault; want of memory comes first, as a format has numbers of its own for it
 abbrev pub refusal_of : ShellFault → Refusal
 refusal_of fault.Memory = Memory
 refusal_of (fault.Image n) = NoImage

@@ -34,7 +34,7 @@ pub record OnLines : Type 0 where
 abbrev pub IsOutside : Party → Type 0
 IsOutside b = ((b.device < 8) ⊎ (11 < b.device)) ⊎ ((b.reaction < 1) ⊎ (60 < b.reaction))
 
--- A DRIVE THAT IS SWITCHED ON with the disk of an image; where that is sound, it stands for the machine of its files.
+-- A DRIVE THAT IS SWITCHED ON with the disk of an image; where that is sound, it represents the machine of its files.
 pub record IsSwitchedOn (image : List ℕ) (protected : Bool) (b : Party) (d : OnLines) : Type 0 where
   pub disk : IsDiskOf image protected d.seat.machine.dos.medium
   pub kind : d.kind ≡ Some (kind_of image)
@@ -44,7 +44,7 @@ pub record IsSwitchedOn (image : List ℕ) (protected : Bool) (b : Party) (d : O
   pub stands : (x : Disk) → ImageHolds (kind_of image) image x
       → DeskStands seen_of d.seat.machine (with_pace b.pace (at_first b.device (start x protected (tracks_of (kind_of image) image))))
 
--- A drive stands for another one: the same port, and above it the machine of its files.
+-- A drive represents another one: the same port, and above it the machine of its files.
 abbrev pub StandsFor : Seated (Desk (Kept Counted)) → Seated (Desk Machine) → Type 0
 StandsFor x s = (x.port ≡ s.port) × DeskStands seen_of x.machine s.machine
 
@@ -105,7 +105,7 @@ pub record HasReacted (r : Reaction) (old new : OnLines) : Type 0 where
   pub kind : new.kind ≡ old.kind
   pub latest : new.latest ≡ r.moment
 
--- the reaction of a drive with a machine that it stands for
+-- the reaction of a drive with a machine that it represents
 abbrev pub react_at : ℕ → Seated (Desk Machine) → Seated (Desk Machine)
 react_at t s = record {
   port = reacted t (desk_says s.machine) s.port;
@@ -114,7 +114,7 @@ react_at t s = record {
 
 -- ---- a new start, and another disk
 
--- A DRIVE WAS SWITCHED OFF AND ON with its disk: it has the same number and pace; where the disk holds one of files, it stands for the machine of these, with
+-- A DRIVE WAS SWITCHED OFF AND ON with its disk: it has the same number and pace; where the disk holds one of files, it represents the machine of these, with
 -- no channel open.
 pub record IsRestarted (old new : OnLines) : Type 0 where
   pub port : new.seat.port ≡ resting old.seat.port.party
@@ -125,8 +125,8 @@ pub record IsRestarted (old new : OnLines) : Type 0 where
       → DeskStands seen_of new.seat.machine (with_pace old.seat.machine.addressed.pace
       (at_first old.seat.machine.addressed.device (start d (seen_of old.seat.machine.dos.medium).protected (seen_of old.seat.machine.dos.medium).tracks)))
 
--- A DRIVE THAT GOES ON WAS GIVEN THIS DISK, of an image of this format: what it does on its lines stays; where the disk holds one of files, it stands for the machine of these, with no
--- channel open, which tells what was told before, and who is addressed stays.
+-- A DRIVE THAT GOES ON WAS GIVEN THIS DISK, of an image of this format: what it does on its lines stays; where the disk holds one of files, it represents the machine of these, with no
+-- channel open, which reports what it reported before, and who is addressed stays.
 pub record IsExchanged (disk : Counted) (kind : Option Kind) (old new : OnLines) : Type 0 where
   pub port : new.seat.port ≡ old.seat.port
   pub inside : new.seat.machine.dos.medium ≡ disk

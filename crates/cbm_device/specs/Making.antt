@@ -23,7 +23,7 @@ after_command text m = after_open 15 text m
 abbrev pub after_put : List ℕ → List ℕ → Machine → Machine
 after_put text bytes m = close 2 (hear 2 bytes (opened_for text m))
 
--- the drive refused it: this is its status after the OPEN or at the end, and it tells an error
+-- the drive refused it: this is its status after the OPEN or at the end, and it reports an error
 pub record IsRefusedWith (opened ended : Machine) (s : Status) : Type 0 where
   pub told : (s ≡ opened.status) ⊎ (s ≡ ended.status)
   pub error : 20 ≤ code_number s.code

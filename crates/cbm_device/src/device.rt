@@ -228,7 +228,7 @@ impl Device {
         self.drive.own()
     }
 
-    /// The number of the status, which channel 15 tells; nothing of it is taken.
+    /// The number of the status, which channel 15 reports; nothing of it is taken.
     pub fn status(&self) -> u8
         ensures value { result ≡ code_number self.now.seat.machine.dos.told.status.code }
         ensures code { (d : desks.Desk Machine) → DeskStands seen_of self.now.seat.machine d →
