@@ -53,7 +53,7 @@ Opens old new n image protected b pace =
 abbrev pub lines_of : ℕ → ℕ → ℕ → Lines
 lines_of atn clock data_low = record { atn_low = is_set atn; clock_low = is_set clock; data_low = is_set data_low }
 
--- THE DRIVE IS TOLD OF LINES, and with it each machine that it stands for; or it isn't the moment for them, and nothing has changed.
+-- THE DRIVE IS TOLD OF LINES, and with it each machine that it represents; or it isn't the moment for them, and nothing has changed.
 abbrev pub Hears : ℕ → Lines → ℤ → OnLines → OnLines → Type 0
 Hears moment others n old new =
     ((n ≡ fine) × IsOnTime moment old × HasHeard moment others old new
@@ -82,7 +82,7 @@ pub record IsTold (r : Reaction) (t : Reacted) : Type 0 where
   pub clock_changed : t.clock_changed ≡ flag (differs r.was.clock_low r.now.clock_low)
   pub data_changed : t.data_changed ≡ flag (differs r.was.data_low r.now.data_low)
 
--- THE REACTION THAT WAS DUE HAPPENED, and that of each machine that the drive stands for, and C is told of it; or none was due, and nothing has changed.
+-- THE REACTION THAT WAS DUE HAPPENED, and that of each machine that the drive represents, and C is told of it; or none was due, and nothing has changed.
 abbrev pub Reacts : ℕ → ℤ → Reacted → Reacted → OnLines → OnLines → Type 0
 Reacts moment n before told old new =
     ((n ≡ fine) × ((r : Reaction) × (r.moment ≤ moment) × HasReacted r old new × IsTold r told

@@ -24,7 +24,7 @@ held_by image = content_of (kind_of image) image
 abbrev pub used_by : List ℕ → ℕ
 used_by image = geometry_of (tracks_of (kind_of image) image) (held_by image)
 
--- an image isn't opened, and that is told
+-- an image isn't opened, and that is reported
 abbrev pub IsUnopened : List ℕ → ℤ → Type 0
 IsUnopened image n = (r : Refusal) × IsOpenRefusal image r × (n ≡ number_of r)
 

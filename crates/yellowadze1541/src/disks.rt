@@ -90,7 +90,7 @@ pub extern "C" fn y1541_insert(alloc: Global, d: &mut Handle, image: &[u8], prot
     number(done)
 }
 
-/// The number of the status that channel 15 tells; nothing of it is taken.
+/// The number of the status that channel 15 reports; nothing of it is taken.
 #[unsafe(no_mangle)]
 pub extern "C" fn y1541_status(alloc: Global, d: &mut Handle) -> i32
     ensures { Acts d.old.value d.new.value result (λ old new.

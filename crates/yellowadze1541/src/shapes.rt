@@ -54,7 +54,7 @@ pub struct Lost {
     pub tracks: u8,
     /// 1 if there are error bytes other than 1, else 0.
     pub errors: u8,
-    /// 1 if the id of the headers is another one than 18/0 tells, else 0.
+    /// 1 if the id of the headers is another one than 18/0 has, else 0.
     pub id: u8,
 }
 
