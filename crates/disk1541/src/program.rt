@@ -30,7 +30,7 @@ pub fn run_program(rt: &HostRuntime) -> ExitCode {
     }
 }
 
-// Tells what went wrong.
+// Reports what went wrong.
 fn ended(rt: &HostRuntime, failure: Failure<'_>) -> ExitCode {
     let _ = failure.tell(rt);
     ExitCode::from(failure.status())

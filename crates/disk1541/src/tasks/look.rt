@@ -32,7 +32,7 @@ fn look_at_one<'a, R: Runtime + AllocGlobal>(
     }
 }
 
-/// Tells that an image can't be looked at, for people and for programs.
+/// Reports that an image can't be looked at, for people and for programs.
 fn tell_other<'a, R: Runtime + AllocGlobal>(
     rt: &R,
     image: &str,
@@ -47,7 +47,7 @@ fn tell_other<'a, R: Runtime + AllocGlobal>(
     print(rt, line.as_slice())
 }
 
-/// Looks at one of several images. Where it can't be read, or is none, that is told, and the next one comes.
+/// Looks at one of several images. Where it can't be read, or is none, that is reported, and the next one comes.
 fn look_among<'a, R: Runtime + AllocGlobal>(
     rt: &R,
     image: &str,
@@ -100,7 +100,7 @@ fn look_at<'a, R: Runtime + AllocGlobal>(
     look_among(rt, name, look, counts)
 }
 
-/// Looks at several images, and tells what they came to.
+/// Looks at several images, and reports what they came to.
 fn look_at_each<'a, R: Runtime + AllocGlobal>(
     rt: &R,
     images: &[&'a str],
