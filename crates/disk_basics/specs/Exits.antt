@@ -4,7 +4,7 @@ use Rattle.cbm_shell.specs.declared.fault.ShellFault.TheVariants as fault
 use Rattle.disk_basics.specs.declared.failure.Failure.{Failure}
 use Rattle.disk_basics.specs.declared.failure.Failure.TheVariants.{Foreign, Disk, Read, TooLong, Write, Exists, Changed, NoMemory, Several, Word, Ended}
 
--- THE EXIT STATUS: 2 where the image is none, 3 where this computer's files or its memory are at fault, 4 where of several images some aren't sound or are none, 64 where the command line is at fault; that of what was told one by one before; else 1.
+-- THE EXIT STATUS: 2 where the image is none, 3 where this computer's files or its memory are at fault, 4 where of several images some aren't sound or are none, 64 where the command line is at fault; that of what was reported one by one; else 1.
 abbrev pub exit_status : Failure → ℕ
 exit_status (Foreign name foreign size) = 2
 exit_status (Disk name (fault.Image number)) = 2

@@ -11,11 +11,11 @@ use std::io;
 pub enum Failure<'a> {
     /// A file of this computer can't be read.
     Read(&'a str, io::ErrorKind),
-    /// A file of this computer has more than so many bytes, and isn't read further.
+    /// A file of this computer has more than this many bytes, and isn't read further.
     TooLong(&'a str, u64),
     /// A file of this computer can't be written.
     Write(&'a str, io::ErrorKind),
-    /// A file of so many bytes is no image of a 1541's disk.
+    /// A file of this many bytes is no image of a 1541's disk.
     Foreign(&'a str, Foreign, usize),
     /// The disk, or the drive, refused it.
     Disk(&'a str, ShellFault),
@@ -35,13 +35,13 @@ pub enum Failure<'a> {
     Unmendable(&'a str, Trouble),
     /// A word of the command line can't be used.
     Word(WordFault<'a>),
-    /// The new image would lack what was told.
+    /// The new image would lack what was reported.
     Lossy(&'a str),
     /// A file of that name is there.
     Exists(&'a str),
     /// An image was changed while a command had it, so that nothing is saved.
     Changed(&'a str),
-    /// Putting the disk in order gives back blocks that GEOS uses, as was told.
+    /// Putting the disk in order gives back blocks that GEOS uses, as was reported.
     Geos(&'a str),
     /// An image's files are shown, and its title, its id and its free blocks can't be read.
     Untitled(&'a str),
@@ -51,13 +51,13 @@ pub enum Failure<'a> {
     NoCircles(&'a str),
     /// A relative file isn't copied.
     Records(&'a str),
-    /// What went wrong was told, and ends the program with this status.
+    /// What went wrong was reported, and ends the program with this status.
     Ended(u8),
     /// No file of an image matches what is looked for.
     NoMatch,
-    /// Of several images some aren't sound, or are none, as was told one by one.
+    /// Of several images some aren't sound, or are none, as was reported one by one.
     Several,
-    /// What went wrong was told file by file.
+    /// What went wrong was reported file by file.
     Told,
     /// Memory ran out.
     NoMemory,

@@ -21,7 +21,7 @@ const GREATEST_IMAGE: u64 = 833_292;
 /// The most bytes of a file that is put on a disk: 16 MB.
 const GREATEST_FILE: u64 = 16_777_216;
 
-/// Reads to the end, where that comes before more than so many bytes.
+/// Reads to the end, where that comes before more than this many bytes.
 fn read_to_end<'a, I: Read + Drop>(
     alloc: Global,
     name: &'a str,
@@ -37,7 +37,7 @@ fn read_to_end<'a, I: Read + Drop>(
     }
 }
 
-/// Reads a file of the host, or standard input, of at most so many bytes.
+/// Reads a file of the host, or standard input, of at most this many bytes.
 fn read<'a, R: Runtime + AllocGlobal>(
     rt: &R,
     name: &'a str,

@@ -55,7 +55,7 @@ pub fn tell_unmendable(rt: &impl Eprint, name: &str, trouble: Trouble) -> io::Re
     )
 }
 
-/// What is wrong with a G64, by the number of its fault: a file that isn't told to be foreign is refused as a D64 never.
+/// What is wrong with a G64, by the number of its fault: a file that isn't known to be foreign is refused as a D64 never.
 fn flaw(number: u8) -> &'static str {
     match number {
         2 => "its version isn't 0",

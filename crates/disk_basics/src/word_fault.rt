@@ -38,13 +38,13 @@ pub enum WordFault<'a> {
     Twice,
     /// No file has such a type.
     Type(&'a str),
-    /// A relative file has records of a length that isn't told.
+    /// A relative file has records of a length that isn't given.
     Record,
     /// No record has such a length.
     RecordLength(&'a str),
     /// A line of a recipe is no file and no art, or both.
     Line,
-    /// A text is no recipe of a disk, as was told.
+    /// A text is no recipe of a disk, as was reported.
     Recipe(&'a str),
     /// No directory is sorted by that.
     Order(&'a str),
@@ -52,7 +52,7 @@ pub enum WordFault<'a> {
     Title(&'a str),
     /// A disk's id hasn't two characters.
     Id(&'a str),
-    /// No disk has so many tracks.
+    /// No disk has this many tracks.
     Tracks(&'a str),
     /// No G64 has such a track.
     Track(&'a str),
@@ -62,7 +62,7 @@ pub enum WordFault<'a> {
     LongG64,
     /// A C64 has no such character set.
     Charset(&'a str),
-    /// No image has such a format, or the name doesn't tell it.
+    /// No image has such a format, or the name doesn't say it.
     Format(&'a str),
     /// The image has that format already.
     SameFormat(&'a str),
