@@ -21,7 +21,7 @@ pub struct Blank<'a> {
     pub id: &'a str,
     /// How many tracks it has.
     pub tracks: &'a str,
-    /// The word that tells the image's format.
+    /// The word that says the image's format.
     pub format: Option<&'a str>,
     /// An image that is there is replaced.
     pub replaces: bool,
@@ -61,7 +61,7 @@ fn titled<'a>(
     in_memory(new_image(alloc, form, title, id))
 }
 
-/// The image of an empty disk, for a name that may tell its format.
+/// The image of an empty disk, for a name that may say its format.
 pub fn blank_image<'a>(
     alloc: Global,
     image: &'a str,

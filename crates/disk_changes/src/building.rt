@@ -27,7 +27,7 @@ pub struct Build<'a> {
     pub charset: Charset,
 }
 
-/// The recipe of a text; what is wrong with it is told.
+/// The recipe of a text; what is wrong with it is reported.
 fn recipe_in<'a, R: Runtime + AllocGlobal>(
     rt: &R,
     name: &'a str,
@@ -61,7 +61,7 @@ fn tracks_of(recipe: &Recipe) -> &'static str {
     }
 }
 
-/// The word for the format, where the image's name doesn't tell it.
+/// The word for the format, where the image's name doesn't say it.
 fn format_of<'r>(recipe: &'r Recipe, image: &str) -> Option<&'r str> {
     match &recipe.format {
         Some(format) if !is_image_name(image) => Some(format.as_str()),
@@ -106,7 +106,7 @@ fn built<'r, R: Runtime + AllocGlobal>(
     with_lines(rt, bench, recipe.lines.as_slice(), blank)
 }
 
-/// The image of the disk that a recipe describes; what is wrong with its lines is told.
+/// The image of the disk that a recipe describes; what is wrong with its lines is reported.
 fn built_of<'a, R: Runtime + AllocGlobal>(
     rt: &R,
     build: &Build<'a>,

@@ -11,7 +11,7 @@ use std::rt::Runtime;
 pub struct Conversion<'a> {
     /// Where it goes.
     pub output: &'a str,
-    /// The word that tells its format.
+    /// The word that says its format.
     pub format: Option<&'a str>,
     /// It may lack something.
     pub is_lossy: bool,
@@ -39,7 +39,7 @@ fn require_other<'a>(image: &'a str, old: Kind, kind: Kind) -> Result<(), Failur
     Ok(())
 }
 
-/// Makes the new image, if it has the other format and nothing is there, and tells what it lacks.
+/// Makes the new image, if it has the other format and nothing is there, and reports what it lacks.
 fn convert_bytes<'a, R: Runtime + AllocGlobal>(
     rt: &R,
     image: &'a str,

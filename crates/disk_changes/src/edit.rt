@@ -25,7 +25,7 @@ fn text_of<'a>(alloc: Global, charset: Charset, pattern: &'a str) -> Result<Vec<
 }
 
 /// The image without the files that match. Where none does, or those are locked, the drive changes nothing; that is
-/// told, and the image isn't saved anew.
+/// reported, and the image isn't saved anew.
 fn deleted<'a>(
     alloc: Global,
     image: &'a str,

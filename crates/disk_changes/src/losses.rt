@@ -3,7 +3,7 @@ use cbm_image::Kind;
 use cbm_shell::Losses;
 use std::io;
 
-/// Tells the sectors that can't be read.
+/// Reports the sectors that can't be read.
 fn tell_unreadable(rt: &impl Eprint, output: &str, lost: &Losses) -> io::Result<()> {
     let Some(first) = lost.unreadable.as_slice().first() else {
         return Ok(());
@@ -17,7 +17,7 @@ fn tell_unreadable(rt: &impl Eprint, output: &str, lost: &Losses) -> io::Result<
     )
 }
 
-/// Tells the tracks that are too many.
+/// Reports the tracks that are too many.
 fn tell_tracks(rt: &impl Eprint, output: &str, old: Kind) -> io::Result<()> {
     match old {
         Kind::D64 => eprintln!(rt; "disk1541: {output} can't hold the tracks 36 to 40"),
@@ -27,7 +27,7 @@ fn tell_tracks(rt: &impl Eprint, output: &str, old: Kind) -> io::Result<()> {
     }
 }
 
-/// Tells what a new image lacks.
+/// Reports what a new image lacks.
 pub fn tell_lost(rt: &impl Eprint, output: &str, lost: &Losses, old: Kind) -> io::Result<()> {
     tell_unreadable(rt, output, lost)?;
     if lost.more_tracks {

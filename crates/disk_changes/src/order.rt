@@ -7,7 +7,7 @@ use std::rt::Runtime;
 /// How a disk is put in order.
 #[derive(Clone, Copy)]
 pub struct Ordering {
-    /// It is told what would go, and nothing is changed.
+    /// What would go is reported, and nothing is changed.
     pub is_dry: bool,
     /// Blocks that GEOS uses are given back, too.
     pub is_forced: bool,
@@ -26,7 +26,7 @@ fn refusal<'a>(image: &'a str, order: &Order, ordering: Ordering) -> Result<(), 
     Ok(())
 }
 
-/// Tells what would go, and whether the command is refused.
+/// Reports what would go, and whether the command is refused.
 fn tell_plan<'a, R: Runtime + AllocGlobal>(
     rt: &R,
     image: &'a str,
@@ -46,7 +46,7 @@ fn tell_plan<'a, R: Runtime + AllocGlobal>(
     refusal(image, order, ordering)
 }
 
-/// Saves the disk that was put in order, or tells what would go.
+/// Saves the disk that was put in order, or reports what would go.
 fn save_order<'a, R: Runtime + AllocGlobal>(
     rt: &R,
     image: &'a str,

@@ -13,7 +13,7 @@ fn add_place(alloc: Global, text: &mut String, at: Address) -> Result<(), AllocE
     text.push_str(format!(in alloc; " {track}/{sector}")?.as_str())
 }
 
-/// Adds those of the sectors that a set has, and puts them into the set of those that were told.
+/// Adds those of the sectors that a set has, and puts them into the set of those that were reported.
 fn add_held(
     alloc: Global,
     text: &mut String,
@@ -30,7 +30,7 @@ fn add_held(
     Ok(())
 }
 
-/// Adds those of the sectors that weren't told.
+/// Adds those of the sectors that weren't reported.
 fn add_untold(
     alloc: Global,
     text: &mut String,

@@ -23,7 +23,7 @@ pub struct HostFiles<'a> {
     pub charset: Charset,
 }
 
-/// What is put on the disk of a file: its bytes, and the name and the length of records that they tell.
+/// What is put on the disk of a file: its bytes, and the name and the length of records that they give.
 #[derive(Clone, Copy)]
 pub struct Body<'b> {
     /// The name.
@@ -50,7 +50,7 @@ pub fn body_of<'b>(file: &str, bytes: &'b [u8]) -> Body<'b> {
     }
 }
 
-/// The name that a file's own bytes tell.
+/// The name that a file's own bytes give.
 fn told_name<'a>(alloc: Global, file: &'a str, codes: &[u8]) -> Result<Vec<u8>, Failure<'a>> {
     require_name(file, codes)?;
     in_memory(Vec::from_slice(alloc, codes))
@@ -121,7 +121,7 @@ fn put_one<'a, R: Runtime + AllocGlobal>(
     put_body(rt.alloc(), image, old, file, put, body)
 }
 
-/// The image with one of several files on it. The one that can't be put is told, as none is put then.
+/// The image with one of several files on it. The one that can't be put is reported, as none is put then.
 fn put_among<'a, R: Runtime + AllocGlobal>(
     rt: &R,
     image: &'a str,

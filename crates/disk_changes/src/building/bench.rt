@@ -18,7 +18,7 @@ pub struct Bench<'r> {
     pub charset: Charset,
 }
 
-/// What was made; a failure is told, as what it names doesn't last.
+/// What was made; a failure is reported, as what it names doesn't last.
 pub fn told<'a, 'b, R: Runtime + AllocGlobal, T>(
     rt: &R,
     made: Result<T, Failure<'b>>,
