@@ -29,7 +29,7 @@ pub enum Verb {
     Get,
     /// Takes all files out.
     GetAll,
-    /// Tells what the disk is.
+    /// Shows what the disk is.
     Info,
     /// Shows a picture of its sectors.
     Map,
@@ -37,7 +37,7 @@ pub enum Verb {
     Sector,
     /// Shows what stands on a track of a G64.
     Track,
-    /// Tells whether it is sound.
+    /// Shows whether it is sound.
     Check,
     /// Shows a sum of its bytes.
     Hash,
