@@ -2,7 +2,7 @@
 use cbm_command::matches;
 use cbm_volume::{Entry, FileType};
 
-/// What fills a title behind its end.
+/// What fills a title after its end.
 const FILLER: u8 = 0xa0;
 
 /// Codes without the fillers at their end.

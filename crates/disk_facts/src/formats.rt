@@ -2,7 +2,7 @@
 use cbm_image::{Kind, kind_of};
 use std::path::Path;
 
-/// The words that tell a format.
+/// The words that say a format.
 const FORMATS: [(&str, Kind); 4] = [
     ("d64", Kind::D64),
     ("D64", Kind::D64),
@@ -10,7 +10,7 @@ const FORMATS: [(&str, Kind); 4] = [
     ("G64", Kind::G64),
 ];
 
-/// The format that a word tells.
+/// The format that a word says.
 pub fn kind_of_word(word: &str) -> Option<Kind> {
     for (name, kind) in &FORMATS {
         if *name == word {
@@ -20,7 +20,7 @@ pub fn kind_of_word(word: &str) -> Option<Kind> {
     None
 }
 
-/// The format that an image's name tells by its ending.
+/// The format that an image's name says by its ending.
 pub fn kind_of_name(image: &str) -> Option<Kind> {
     match Path::new(image).extension() {
         Some(ending) => kind_of_word(ending),
