@@ -51,7 +51,7 @@ fn art_line(alloc: Global, entry: &Entry, charset: Charset) -> Result<Line, Allo
     })
 }
 
-/// How many blocks the drive gives a file of so many bytes.
+/// How many blocks the drive gives a file of this many bytes.
 fn blocks_for(entry: &Entry, bytes: usize) -> usize {
     let blocks = bytes.div_ceil(BLOCK).max(1);
     if entry.is_relative() {
@@ -81,7 +81,7 @@ fn path_of(
     String::from_str(alloc, path.as_path().as_str())
 }
 
-/// The line of a file of so many bytes.
+/// The line of a file of this many bytes.
 fn file_line(
     alloc: Global,
     entry: &Entry,
@@ -125,7 +125,7 @@ fn line_of(
     Ok(file_line(alloc, entry, names, description, bytes.len())?)
 }
 
-/// Tells that an entry isn't described, or not all of it.
+/// Reports that an entry isn't described, or not all of it.
 fn tell<R: Runtime + AllocGlobal>(rt: &R, entry: &Entry, what: &str) -> Result<(), AllocError> {
     let name = name_text(rt.alloc(), Charset::Upper, entry.name())?;
     let _ = eprintln!(rt; "disk1541: \"{name}\" {what}");
@@ -160,7 +160,7 @@ fn add_line<R: Runtime + AllocGlobal>(
     Ok(true)
 }
 
-/// Tells that an entry is left out.
+/// Reports that an entry is left out.
 fn tell_left<R: Runtime + AllocGlobal>(
     rt: &R,
     entry: &Entry,
@@ -214,7 +214,7 @@ fn label_of(alloc: Global, image: &[u8], info: &Info) -> Result<Label, ShellFaul
     }
 }
 
-/// How an image's format is told.
+/// How an image's format is said.
 fn format_word(image: &[u8]) -> &'static str {
     match kind_of(image) {
         Kind::D64 => "d64",
@@ -222,7 +222,7 @@ fn format_word(image: &[u8]) -> &'static str {
     }
 }
 
-/// A recipe with no line, of a disk of so many tracks that 18/0 says this of.
+/// A recipe with no line, of a disk of this many tracks that 18/0 says this of.
 fn labelled(
     alloc: Global,
     charset: Charset,
@@ -296,7 +296,7 @@ fn print_recipe<'a, R: Runtime + AllocGlobal>(rt: &R, recipe: &Recipe) -> Result
     }
 }
 
-/// Prints the recipe of an image's disk; what it doesn't say of it is told.
+/// Prints the recipe of an image's disk; what it doesn't say of it is reported.
 pub fn describe<'a, R: Runtime + AllocGlobal>(
     rt: &R,
     image: &'a str,

@@ -3,10 +3,10 @@ use std::io::IsTerminal;
 use std::rt::Runtime;
 use std::time::{Duration, Instant};
 
-/// A command that takes no longer than this many milliseconds tells nothing.
+/// A command that takes no longer than this many milliseconds reports nothing.
 const QUIET: u64 = 500;
 
-/// Tells people at a terminal how far a command has come, where it takes long.
+/// Shows people at a terminal how far a command has come, where it takes long.
 #[derive(Clone, Copy, Drop)]
 pub struct Progress {
     // None where nobody watches.
@@ -42,14 +42,14 @@ impl Progress {
         }
     }
 
-    /// Tells how many of the files are done. What is printed next stands over it.
+    /// Shows how many of the files are done. What is printed next stands over it.
     pub fn tell<R: Runtime>(&self, rt: &R, done: usize, count: usize) {
         if self.is_due(rt) {
             let _ = eprint!(rt; "{done} of {count} files\r");
         }
     }
 
-    /// Takes away what was told last.
+    /// Takes away what was shown last.
     pub fn clear<R: Runtime>(&self, rt: &R) {
         if self.is_due(rt) {
             let _ = eprint!(rt; "                        \r");

@@ -49,7 +49,7 @@ pub fn packed(alloc: Global, entry: &Entry, bytes: Vec<u8>) -> Result<Vec<u8>, A
     Ok(file)
 }
 
-/// Tells the length of the records of a file that is written without a head.
+/// Reports the length of the records of a file that is written without a head.
 fn tell_length(rt: &impl Eprint, name: &str, length: u8) -> io::Result<()> {
     eprintln!(rt;
         "disk1541: {name} has records of {length} bytes, which `-o FILE.r00` writes before them"
@@ -80,7 +80,7 @@ fn packed_as<R: Eprint + AllocGlobal>(
 }
 
 /// The file of this computer for the first file that a pattern means: with a head, if it is relative and goes to a file that
-/// is named so. Without one the length of its records is told.
+/// is named so. Without one the length of its records is reported.
 pub fn packed_for<R: Eprint + AllocGlobal>(
     rt: &R,
     image: &[u8],

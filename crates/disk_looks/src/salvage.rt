@@ -7,7 +7,7 @@ use disk_facts::{first_meant, without_errors};
 use std::io;
 use std::rt::Runtime;
 
-/// Tells which sectors of a file were taken in spite of their faults.
+/// Reports which sectors of a file were taken in spite of their faults.
 fn tell_faults<R: Runtime + AllocGlobal>(
     rt: &R,
     image: &[u8],
@@ -25,7 +25,7 @@ fn tell_faults<R: Runtime + AllocGlobal>(
     Ok(())
 }
 
-/// Tells which sector was taken in spite of its fault.
+/// Reports which sector was taken in spite of its fault.
 fn tell_fault(rt: &impl Eprint, name: &str, fault: Fault) -> io::Result<()> {
     let track = fault.at.track();
     let sector = fault.at.sector();
@@ -33,7 +33,7 @@ fn tell_fault(rt: &impl Eprint, name: &str, fault: Fault) -> io::Result<()> {
     eprintln!(rt; "disk1541: \"{name}\": {track}/{sector} is taken in spite of its error {code}")
 }
 
-/// Tells how much of a file was read, and why no more was.
+/// Reports how much of a file was read, and why no more was.
 fn tell_end(rt: &impl Eprint, name: &str, entry: &Entry, salvaged: &Salvaged) -> io::Result<()> {
     let count = salvaged.bytes.len();
     if !entry.is_closed() {
@@ -50,7 +50,7 @@ fn tell_end(rt: &impl Eprint, name: &str, entry: &Entry, salvaged: &Salvaged) ->
     )
 }
 
-/// Tells what was read of a file.
+/// Reports what was read of a file.
 fn tell<R: Runtime + AllocGlobal>(
     rt: &R,
     image: &[u8],
@@ -64,7 +64,7 @@ fn tell<R: Runtime + AllocGlobal>(
     Ok(())
 }
 
-/// What can be read of an entry's file on a disk without error bytes; what there is to say of it is told.
+/// What can be read of an entry's file on a disk without error bytes; what there is to say of it is reported.
 pub fn salvaged<R: Runtime + AllocGlobal>(
     rt: &R,
     image: &[u8],

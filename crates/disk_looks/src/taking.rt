@@ -86,7 +86,7 @@ fn numbered(alloc: Global, base: &str, end: &str, number: usize) -> Result<Strin
     format!(in alloc; "{base}~{number}.{end}")
 }
 
-/// Tells of a file that isn't taken out.
+/// Reports a file that isn't taken out.
 fn tell_left(rt: &impl Eprint, name: &str, fault: ShellFault) -> io::Result<()> {
     match fault {
         ShellFault::Trouble(trouble) => {
@@ -137,7 +137,7 @@ fn file_for<R: Runtime + AllocGlobal>(
     Ok(packed(rt.alloc(), entry, bytes)?)
 }
 
-/// Tells the name of a host's file where it isn't that of the disk.
+/// Reports the name of a host's file where it isn't that of the disk.
 fn tell_name(rt: &impl Eprint, path: Path<'_>, name: &str) -> io::Result<()> {
     let place = path.as_str();
     if path.file_stem().unwrap_or(place) == name {
@@ -146,7 +146,7 @@ fn tell_name(rt: &impl Eprint, path: Path<'_>, name: &str) -> io::Result<()> {
     eprintln!(rt; "disk1541: \"{name}\" is written as {place}")
 }
 
-/// Saves a file under a name, and tells the name where it isn't that of the disk. Answers whether it was saved.
+/// Saves a file under a name, and reports the name where it isn't that of the disk. Answers whether it was saved.
 fn save_as<R: Runtime + AllocGlobal>(
     rt: &R,
     path: Path<'_>,
