@@ -30,7 +30,7 @@ pub struct Line {
     pub name: Option<String>,
     /// The line of art that stands there, in place of a file.
     pub art: Option<String>,
-    /// The file's type; told by the ending of the host's file, where it isn't said.
+    /// The file's type; given by the ending of the host's file, where it isn't said.
     #[serde(rename = "type")]
     pub kind: Option<String>,
     /// The length of the records of a relative file.
