@@ -14,7 +14,7 @@ pub fn ones_before(track: &Track, bytes: &[u8], place: u32) -> u32 {
     ones
 }
 
-/// The place so many bits before another one.
+/// The place this many bits before another one.
 pub fn behind(bits: u32, place: u32, count: u32) -> u32 {
     if count <= place {
         place.wrapping_sub(count)

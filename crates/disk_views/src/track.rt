@@ -23,7 +23,7 @@ impl Counts {
     }
 }
 
-/// How a checksum is told.
+/// How a checksum is shown.
 fn checksum_word(is_good: bool) -> &'static str {
     if is_good { "good" } else { "bad" }
 }
