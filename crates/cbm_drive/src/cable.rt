@@ -86,7 +86,7 @@ impl<D: Machine, const N: usize> Bus<D, N> {
         is_free && all_rest(self.drives.as_slice())
     }
 
-    /// When the next reaction is due, in microseconds.
+    /// When the next reaction is due, in microseconds; None where no drive's is.
     pub fn next_due(&self) -> Option<u64>
         ensures { MatchOption result (AreIdle self.now.drives) (IsDueFirst self.now.drives) }
     {
