@@ -146,7 +146,8 @@ impl<'a> Performer<'a> {
         None
     }
 
-    /// The byte of the drive that the last event accepted, and whether it is the last one (EOI).
+    /// The byte of the drive that the last event accepted, and whether it is the last one (EOI); None where it accepted
+    /// none.
     pub fn byte(&self) -> Option<(u8, bool)>
         ensures { result ≡ self.now.byte }
     {

@@ -64,8 +64,8 @@ pub fn perform<D: Machine, const N: usize>(
     perform_at(alloc, Pace::Profile, bus, start, device, request, events)
 }
 
-/// The same of a drive at this pace: the request is over at most 250,000,000 microseconds later at the profile's, and 320,000,000
-/// at a KERNAL's.
+/// The same of a drive at this pace: the request is over at most 250,000,000 microseconds later at the profile's, and
+/// 320,000,000 at a KERNAL's. The one error is want of memory, as of `perform`.
 pub fn perform_at<D: Machine, const N: usize>(
     alloc: Global,
     pace: Pace,
