@@ -208,7 +208,7 @@ pub fn run<R: Read + Drop, W: Write>(
     run_at(alloc, Pace::Profile, reader, writer, image, options)
 }
 
-/// The same with a drive of this pace.
+/// The same with a drive of this pace. Errors: those of `run`.
 pub fn run_at<R: Read + Drop, W: Write>(
     alloc: Global,
     pace: Pace,

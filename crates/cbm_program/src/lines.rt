@@ -31,6 +31,7 @@ pub struct Lines<R> {
 impl<R: Read> Lines<R> {
     ghost use Rattle.cbm_program.specs.Lines.{bytes_left, TakesByte, TakesLine, BeginsTooLong};
 
+    /// The lines of a reader, from which nothing is read yet.
     pub fn new(reader: R) -> Lines<R>
         ensures { bytes_left R.remaining result ≡ R.remaining reader }
     {
