@@ -37,7 +37,7 @@ fn add_place(out: &mut Vec<u8>, track: u8, sector: u8) -> Result<(), AllocError>
     out.extend_from_slice(b": ")
 }
 
-/// What is wrong with a disk, as a line: the place, and what it means.
+/// What is wrong with a disk, as a line: the place, and what it means. The one error is want of memory.
 pub fn unsound_text(alloc: Global, unsound: Unsound) -> Result<Vec<u8>, AllocError>
     ensures { IfOk result (λ v. v.items ≡ unsound_text unsound) }
 {
@@ -48,7 +48,7 @@ pub fn unsound_text(alloc: Global, unsound: Unsound) -> Result<Vec<u8>, AllocErr
     Ok(out)
 }
 
-/// What `check` answers, as a line: `sound`, or what is wrong first, and where.
+/// What `check` answers, as a line: `sound`, or what is wrong first, and where. The one error is want of memory.
 pub fn check_text(alloc: Global, answer: &Result<(), Unsound>) -> Result<Vec<u8>, AllocError>
     ensures { IfOk result (λ v. v.items ≡ check_text answer.now) }
 {

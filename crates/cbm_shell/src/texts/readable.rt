@@ -96,8 +96,8 @@ fn add_number(out: &mut String, number: u16) -> Result<(), AllocError>
     out.push_str(" ")
 }
 
-/// A directory as the drive sends it, a BASIC program, as lines of UTF-8: each has the number, a space, the text in a character
-/// set of a C64, and a new line.
+/// A directory as the drive sends it, a BASIC program, as lines of UTF-8: each has the number, a space, the text in a
+/// character set of a C64, and a new line. The one error is want of memory.
 pub fn readable_listing(
     alloc: Global,
     charset: Charset,
