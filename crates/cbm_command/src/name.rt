@@ -56,14 +56,14 @@ impl Name {
         self.bytes.as_slice()
     }
 
-    /// No byte is left of it.
+    /// Whether no byte of it is left.
     pub fn is_empty(&self) -> bool
         ensures { result ≡ is_empty self.now }
     {
         self.bytes.is_empty()
     }
 
-    /// It is a pattern that may match several names: `*` or `?` stands in it.
+    /// Whether it is a pattern that may match several names: `*` or `?` stands in it.
     pub fn is_wild(&self) -> bool
         ensures { result ≡ is_wild self.now }
     {
