@@ -56,7 +56,7 @@ impl Telling {
         self.told == 0 && self.status.code.number() >= FIRST_ERROR
     }
 
-    /// The next byte of the line, and whether it is the last (EOI).
+    /// The next byte of the line, and whether it is the last (EOI): the line always has one.
     pub fn peek(&self) -> Option<(u8, bool)>
         ensures { result ≡ next_told self.now }
     {
