@@ -172,7 +172,7 @@ impl Device {
         Ok(())
     }
 
-    /// When the next reaction is due, in microseconds.
+    /// When the next reaction is due, in microseconds; None where nothing is due.
     #[inline(always)]
     pub fn next_due(&self) -> Option<u64>
         ensures { result ≡ port_due self.now.seat.port }
