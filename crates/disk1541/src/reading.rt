@@ -7,7 +7,7 @@ use disk_commands::{flag, given, option};
 use disk_looks::{Description, Mapping, OneFile, Place};
 use disk_reports::View;
 
-/// The character set of a command's names.
+/// The character set of a command's names. Errors: `Word`, where a C64 has no such set.
 pub fn charset<'a>(words: &ArgMatches<'a>) -> Result<Charset, Failure<'a>> {
     let word = option(words, "charset").unwrap_or("upper");
     if word == "lower" {

@@ -60,7 +60,7 @@ impl Counts {
         }
     }
 
-    /// Prints it, but for programs.
+    /// Prints it, but for programs. Errors: `Write`, `NoMemory`.
     pub fn print<'a, R: Runtime + AllocGlobal>(
         self,
         rt: &R,
@@ -73,7 +73,8 @@ impl Counts {
         print(rt, line.as_bytes())
     }
 
-    /// What the command comes to.
+    /// What the command comes to. Errors: `Several`, where some images can't be looked at, aren't sound or have no title;
+    /// `NoMatch`, where no image has such a file.
     pub fn outcome<'a>(self, look: Look<'_>) -> Result<(), Failure<'a>> {
         if self.none != 0 {
             return Err(Failure::Several);

@@ -20,7 +20,7 @@ pub struct Walk {
 }
 
 impl Walk {
-    /// The walk through a folder to its end. A folder that can't be read is reported.
+    /// The walk through a folder to its end. A folder that can't be read is reported. The one error is want of memory.
     pub fn through<R: Runtime + AllocGlobal>(rt: &R, folder: &str) -> Result<Walk, AllocError> {
         let mut walk = Walk {
             folders: Vec::new(rt.alloc()),

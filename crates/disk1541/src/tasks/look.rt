@@ -122,7 +122,8 @@ fn print_heads<'a, R: Runtime + AllocGlobal>(rt: &R, look: Look<'_>) -> Result<(
     Ok(())
 }
 
-/// Looks at images.
+/// Looks at images, one or several. Errors: of one image its own; of several `Several` or `NoMatch`, as each that can't
+/// be looked at is reported before; `Write`; `NoMemory`.
 pub fn look_at_all<'a, R: Runtime + AllocGlobal>(
     rt: &R,
     images: &[&'a str],
