@@ -11,12 +11,12 @@ pub fn check(alloc: Global, image: &[u8]) -> Result<Result<(), Unsound>, ShellFa
     cbm_shell::check(alloc, image)
 }
 
-/// What `check` answers, as a line.
+/// What `check` answers, as a line. The one error is want of memory.
 pub fn check_text(alloc: Global, answer: &Result<(), Unsound>) -> Result<Vec<u8>, AllocError> {
     cbm_shell::check_text(alloc, answer)
 }
 
-/// What is wrong, as a line.
+/// What is wrong, as a line. The one error is want of memory.
 pub fn unsound_text(alloc: Global, unsound: Unsound) -> Result<Vec<u8>, AllocError> {
     cbm_shell::unsound_text(alloc, unsound)
 }
@@ -81,12 +81,12 @@ pub fn sector(
     cbm_shell::sector(alloc, image, at)
 }
 
-/// A name as it is shown in a character set.
+/// A name as it is shown in a character set. The one error is want of memory.
 pub fn name_text(alloc: Global, charset: Charset, name: &[u8]) -> Result<String, AllocError> {
     cbm_shell::name_text(alloc, charset, name)
 }
 
-/// A name as PETSCII; None where a character of it is none that is typed.
+/// A name as PETSCII; None where a character of it is none that is typed. The one error is want of memory.
 pub fn read_name(
     alloc: Global,
     charset: Charset,

@@ -78,7 +78,7 @@ pub fn validate(alloc: Global, image: &[u8]) -> Result<Order, ShellFault> {
     cbm_shell::validate(alloc, image)
 }
 
-/// The image of an empty disk with a title of at most sixteen codes.
+/// The image of an empty disk with a title of at most sixteen codes. The one error is want of memory.
 pub fn new_image(
     alloc: Global,
     form: Form,

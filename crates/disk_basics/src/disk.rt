@@ -27,7 +27,7 @@ impl Disk {
         self.disk.file_of(alloc, entry)
     }
 
-    /// What can be read of an entry's file.
+    /// What can be read of an entry's file. The one error is want of memory.
     pub fn salvage(&self, alloc: Global, entry: &Entry) -> Result<Salvaged, AllocError> {
         self.disk.salvage(alloc, entry)
     }

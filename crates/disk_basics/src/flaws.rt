@@ -15,6 +15,7 @@ pub fn is_mendable(flaw: &DiskFlaw) -> bool {
 }
 
 /// The slots of the files that have a flaw: that of the file that was followed first, then the others that use the block.
+/// The one error is `Memory`.
 pub fn slots_of(alloc: Global, disk: &Disk, flaw: &DiskFlaw) -> Result<Vec<usize>, ShellFault> {
     let mut slots = Vec::new(alloc);
     let Whose::File(slot) = flaw.whose else {

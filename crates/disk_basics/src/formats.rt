@@ -5,7 +5,7 @@ use cbm_image::Kind;
 use cbm_shell::Form;
 use disk_facts::{kind_of_name, kind_of_word};
 
-/// The format of a new image: what `--format` says, or the ending of its name.
+/// The format of a new image: what `--format` says, or the ending of its name. Errors: `Word`, where that says none.
 pub fn format<'a>(image: &'a str, word: Option<&'a str>) -> Result<Kind, Failure<'a>> {
     let (kind, name) = match word {
         Some(word) => (kind_of_word(word), word),
@@ -17,7 +17,7 @@ pub fn format<'a>(image: &'a str, word: Option<&'a str>) -> Result<Kind, Failure
     }
 }
 
-/// What a new image is.
+/// What a new image is. Errors: `Word`, where no disk has that many tracks, or no G64.
 pub fn form<'a>(kind: Kind, tracks: &'a str) -> Result<Form, Failure<'a>> {
     let is_long = tracks == "40";
     if !is_long && tracks != "35" {

@@ -52,7 +52,8 @@ fn read<'a, R: Runtime + AllocGlobal>(
     }
 }
 
-/// Reads an image. A file that by its first bytes or its size is none of a 1541's disk is refused.
+/// Reads an image. A file that by its first bytes or its size is none of a 1541's disk is refused. Errors: `Read`;
+/// `TooLong`, for more bytes than an image has; `Foreign`.
 pub fn read_image<'a, R: Runtime + AllocGlobal>(
     rt: &R,
     name: &'a str,
@@ -64,7 +65,7 @@ pub fn read_image<'a, R: Runtime + AllocGlobal>(
     }
 }
 
-/// Reads a file that is put on a disk.
+/// Reads a file that is put on a disk. Errors: `Read`; `TooLong`, for more than 16 MB.
 pub fn read_file<'a, R: Runtime + AllocGlobal>(
     rt: &R,
     name: &'a str,
@@ -80,14 +81,15 @@ fn written(name: &str, answer: io::Result<()>) -> Result<(), Failure<'_>> {
     }
 }
 
-/// Prints bytes on standard output.
+/// Prints bytes on standard output. The one error is `Write`.
 pub fn print<'a, R: Runtime + AllocGlobal>(rt: &R, bytes: &[u8]) -> Result<(), Failure<'a>> {
     let mut output = io::writer(rt);
     written("standard output", output.write_all(bytes))
 }
 
-/// Writes a file whole or not at all, or standard output. A new image is on the host's disk before it takes the place
-/// of the old one; of a file that was taken out the image still has the bytes, so nothing waits for the host's disk.
+/// Writes a file whole or not at all, or standard output. A new image is on the host's disk before it takes the place of
+/// the old one; of a file that was taken out the image still has the bytes, so nothing waits for the host's disk. The one
+/// error is `Write`.
 pub fn write<'a, R: Runtime + AllocGlobal>(
     rt: &R,
     name: &'a str,
@@ -101,7 +103,7 @@ pub fn write<'a, R: Runtime + AllocGlobal>(
 }
 
 /// Saves an image in place of the one that was read, as `write` does, if that is still there; or writes it to standard
-/// output.
+/// output. Errors: `Changed`, where it isn't; `Write`.
 pub fn replace<'a, R: Runtime + AllocGlobal>(
     rt: &R,
     name: &'a str,
@@ -123,7 +125,7 @@ pub fn is_standard(name: &str) -> bool {
     name == STANDARD
 }
 
-/// Refuses to write where a file is already, unless it is to be replaced.
+/// Refuses to write where a file is already, unless it is to be replaced. The one error is `Exists`.
 pub fn require_new<'a, R: Runtime + AllocGlobal>(
     rt: &R,
     name: &'a str,
@@ -140,7 +142,7 @@ pub fn exists<R: Runtime + AllocGlobal>(rt: &R, name: &str) -> bool {
     Path::new(name).exists(rt)
 }
 
-/// A text of parts, each after the one before.
+/// A text of parts, each after the one before. The one error is `NoMemory`.
 pub fn joined<'a>(alloc: Global, parts: &[&[u8]]) -> Result<Vec<u8>, Failure<'a>> {
     let mut text = Vec::new(alloc);
     for part in parts {

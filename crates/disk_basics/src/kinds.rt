@@ -76,7 +76,8 @@ fn told(ending: &str) -> FileKind {
     FileKind::Plain(PROGRAM)
 }
 
-/// The kind of a file: by the type that is said, or by the ending of its name.
+/// The kind of a file: by the type that is said, or by the ending of its name. Errors: `Word`, where the type that is
+/// said is none.
 pub fn kind_of_file<'a>(kind: Option<&'a str>, file: &str) -> Result<FileKind, Failure<'a>> {
     match kind {
         Some(kind) => said(kind),

@@ -10,7 +10,8 @@ use std::path::Path;
 /// The most bytes of a name on a disk.
 const LONGEST: usize = 16;
 
-/// A name as PETSCII, as it is typed in a character set.
+/// A name as PETSCII, as it is typed in a character set. Errors: `Word`, where a character of it is none that is typed;
+/// `NoMemory`.
 pub fn petscii<'a>(alloc: Global, charset: Charset, name: &'a str) -> Result<Vec<u8>, Failure<'a>> {
     match read_name(alloc, charset, name) {
         Ok(Some(codes)) => Ok(codes),
@@ -34,7 +35,8 @@ fn is_divided(codes: &[u8]) -> bool {
     false
 }
 
-/// Refuses codes that can't be the name of a file.
+/// Refuses codes that can't be the name of a file. Errors: `Word`, for more than sixteen of them, or one that divides the
+/// words of a command.
 pub fn require_name<'a>(name: &'a str, codes: &[u8]) -> Result<(), Failure<'a>> {
     if codes.len() > LONGEST {
         return Err(Failure::Word(WordFault::LongName(name)));
@@ -45,7 +47,7 @@ pub fn require_name<'a>(name: &'a str, codes: &[u8]) -> Result<(), Failure<'a>> 
     Ok(())
 }
 
-/// The name of one file as PETSCII.
+/// The name of one file as PETSCII. Errors: those of `petscii` and of `require_name`.
 pub fn file_name<'a>(
     alloc: Global,
     charset: Charset,
@@ -56,7 +58,8 @@ pub fn file_name<'a>(
     Ok(codes)
 }
 
-/// The name that a file of the host gets on a disk: without its folder and its ending.
+/// The name that a file of the host gets on a disk: without its folder and its ending. Errors: `Word` for standard input,
+/// which has no name; those of `file_name`.
 pub fn name_of_file<'a>(
     alloc: Global,
     charset: Charset,
