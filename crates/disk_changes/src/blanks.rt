@@ -29,7 +29,7 @@ pub struct Blank<'a> {
     pub charset: Charset,
 }
 
-/// The codes of a title.
+/// The codes of a title. Errors: those of `petscii`; `Word`, for more than sixteen codes.
 pub fn title_of<'a>(alloc: Global, charset: Charset, title: &'a str) -> Result<Vec<u8>, Failure<'a>>
     ensures { IfOk result (λ v. length v.items ≤ 16) }
 {
@@ -61,7 +61,8 @@ fn titled<'a>(
     in_memory(new_image(alloc, form, title, id))
 }
 
-/// The image of an empty disk, for a name that may say its format.
+/// The image of an empty disk, for a name that may say its format. Errors: `Word`, where the format, the tracks, the
+/// title or the id can't be; `NoMemory`.
 pub fn blank_image<'a>(
     alloc: Global,
     image: &'a str,
@@ -73,7 +74,7 @@ pub fn blank_image<'a>(
     titled(alloc, blank, form, title.as_slice())
 }
 
-/// Makes an image of an empty disk, if nothing is there.
+/// Makes an image of an empty disk, if nothing is there. Errors: those of `blank_image`; `Exists`; `Write`.
 pub fn make<'a, R: Runtime + AllocGlobal>(
     rt: &R,
     image: &'a str,

@@ -117,7 +117,8 @@ fn built_of<'a, R: Runtime + AllocGlobal>(
     told(rt, made)
 }
 
-/// Builds an image, all of it or nothing.
+/// Builds an image, all of it or nothing. Errors: `Exists`; `Read`, `TooLong` or `Word`, where the recipe can't be read
+/// or is none; `Ended`, where its lines can't be built, as is reported; `NoMemory`; `Write`.
 pub fn build_image<'a, R: Runtime + AllocGlobal>(
     rt: &R,
     build: &Build<'a>,

@@ -55,7 +55,8 @@ fn convert_bytes<'a, R: Runtime + AllocGlobal>(
     write_converted(rt, wanted, &new)
 }
 
-/// Makes a G64 of a D64, or a D64 of a G64.
+/// Makes a G64 of a D64, or a D64 of a G64. Errors: `Word`, where no format is said or the image has it already; those of
+/// `read_image`; `Exists`; `Disk`; `Lossy`, where the new image would lack something; `Write`.
 pub fn convert_image<'a, R: Runtime + AllocGlobal>(
     rt: &R,
     image: &'a str,

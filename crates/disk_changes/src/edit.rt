@@ -74,7 +74,9 @@ fn edited<'a>(
     }
 }
 
-/// Edits an image, and saves it.
+/// Edits an image, and saves it. Errors: those of `read_image`; `Word`, where a word can't be typed or is too long;
+/// `NoneDeleted` or `NoMatch`, where a pattern means no file; `Disk`, where the drive or the disk refuses it; `NoMemory`;
+/// those of `replace`.
 pub fn save_edit<'a, R: Runtime + AllocGlobal>(
     rt: &R,
     image: &'a str,

@@ -68,7 +68,8 @@ fn locked_by<'a>(
     on_disk(image, lock(alloc, bytes, slices.as_slice(), is_locked))
 }
 
-/// The image with each file locked, or freed, that one of the words means.
+/// The image with each file locked, or freed, that one of the words means. Errors: those of `petscii`; `NoMatch`, where a
+/// word means no file; `Disk`; `NoMemory`.
 pub fn locked_all<'a>(
     alloc: Global,
     image: &'a str,
@@ -81,7 +82,7 @@ pub fn locked_all<'a>(
     locked_by(alloc, image, bytes, patterns.as_slice(), is_locked)
 }
 
-/// The image with another title.
+/// The image with another title. Errors: those of `title_of`; `Disk`.
 pub fn retitled<'a>(
     alloc: Global,
     image: &'a str,

@@ -68,7 +68,8 @@ fn ordered<'a>(image: &'a str, order: Result<Order, ShellFault>) -> Result<Order
     }
 }
 
-/// Puts the disk of an image in order, and saves it.
+/// Puts the disk of an image in order, and saves it. Errors: those of `read_image`; `Unmendable`, where it can't be put
+/// in order; `Geos`, where that gives back blocks that GEOS uses; `Disk`; those of `replace`.
 pub fn put_in_order<'a, R: Runtime + AllocGlobal>(
     rt: &R,
     image: &'a str,

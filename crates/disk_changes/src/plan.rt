@@ -155,7 +155,8 @@ fn add_lines(
     Ok(())
 }
 
-/// What putting a disk in order takes away: blocks, and files that were never closed.
+/// What putting a disk in order takes away: blocks, and files that were never closed. Errors: `Image`, `Trouble`,
+/// `Memory`.
 pub fn plan_of(
     alloc: Global,
     image: &[u8],

@@ -322,7 +322,9 @@ fn save_files<'a, R: Runtime + AllocGlobal>(
     replace(rt, image, old.as_slice(), new.as_slice())
 }
 
-/// Puts files of the host on the disk, all of them or none.
+/// Puts files of the host on the disk, all of them or none. Errors: `Word`, where standard input is wanted twice, one
+/// name is given for several files, or a name, a type or a length can't be; those of `read_image` and of `read_file`;
+/// `Disk`, where the drive or the disk refuses it; `NoMemory`; those of `replace`.
 pub fn put<'a, R: Runtime + AllocGlobal>(
     rt: &R,
     image: &'a str,

@@ -66,7 +66,8 @@ fn copy_by<'a, R: Runtime + AllocGlobal>(
     replace(rt, image, old.as_slice(), new.as_slice())
 }
 
-/// Copies a file under another name.
+/// Copies a file under another name. Errors: those of `file_name` and of `read_image`; `Records`, where it is a relative
+/// file; `Disk`, where the drive or the disk refuses it; those of `replace`.
 pub fn copy<'a, R: Runtime + AllocGlobal>(
     rt: &R,
     image: &'a str,
@@ -76,7 +77,7 @@ pub fn copy<'a, R: Runtime + AllocGlobal>(
     copy_by(rt, image, text.as_slice(), pair)
 }
 
-/// Gives a file another name.
+/// Gives a file another name. Errors: those of `file_name` and of `save_edit`.
 pub fn rename<'a, R: Runtime + AllocGlobal>(
     rt: &R,
     image: &'a str,

@@ -21,7 +21,7 @@ pub struct Stored<'b> {
     pub bytes: &'b [u8],
 }
 
-/// The text of the OPEN that writes a file of bytes.
+/// The text of the OPEN that writes a file of bytes. The one error is `NoMemory`.
 pub fn open_text<'a>(
     alloc: Global,
     name: &[u8],
@@ -122,7 +122,8 @@ fn relative<'a>(
     with_records(alloc, image, freed.as_slice(), file, length)
 }
 
-/// The image with the file on it.
+/// The image with the file on it. Errors: `Disk`, where the drive or the disk refuses it; `Word`, where the length of
+/// records isn't known; `NoMemory`.
 pub fn with_stored<'a>(
     alloc: Global,
     image: &'a str,

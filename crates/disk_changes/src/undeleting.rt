@@ -68,7 +68,9 @@ fn given_back<'a>(
     }
 }
 
-/// Gives back a deleted file of an image, and saves it.
+/// Gives back a deleted file of an image, and saves it. Errors: those of `read_image` and of `petscii`; `Word`, where the
+/// type is none; `NotDeleted`, where no deleted file matches; `Overwritten`, where its blocks aren't free; `Disk`; those
+/// of `replace`.
 pub fn undelete_file<'a, R: Runtime + AllocGlobal>(
     rt: &R,
     image: &'a str,

@@ -18,7 +18,8 @@ pub struct Bench<'r> {
     pub charset: Charset,
 }
 
-/// What was made; a failure is reported, as what it names doesn't last.
+/// What was made; a failure is reported, as what it names doesn't last. The one error is `Ended`, with the status of the
+/// failure.
 pub fn told<'a, 'b, R: Runtime + AllocGlobal, T>(
     rt: &R,
     made: Result<T, Failure<'b>>,
@@ -32,7 +33,7 @@ pub fn told<'a, 'b, R: Runtime + AllocGlobal, T>(
     }
 }
 
-/// Reads a file that a recipe names.
+/// Reads a file that a recipe names. Errors: `Ended`, where it can't be read, as is reported; `NoMemory`.
 pub fn read_beside<'a, R: Runtime + AllocGlobal>(
     rt: &R,
     folder: &str,
@@ -42,7 +43,7 @@ pub fn read_beside<'a, R: Runtime + AllocGlobal>(
     told(rt, read_file(rt, path.as_path().as_str()))
 }
 
-/// A name of at most sixteen codes, whatever they are.
+/// A name of at most sixteen codes, whatever they are. Errors: those of `petscii`; `Word`, for more than sixteen.
 pub fn any_name<'r, R: Runtime + AllocGlobal>(
     rt: &R,
     charset: Charset,

@@ -215,7 +215,9 @@ fn require_lines<'a>(lines: &[Line]) -> Result<(), Failure<'a>> {
     Ok(())
 }
 
-/// The image with the lines of a recipe in their order.
+/// The image with the lines of a recipe in their order. Errors: `Word`, where a line is no file and no art, or both, or
+/// has a word that can't be used; `Ended`, where a file can't be read; `Disk`, where the drive or the disk refuses it;
+/// `NoMemory`.
 pub fn with_lines<'r, R: Runtime + AllocGlobal>(
     rt: &R,
     bench: Bench<'r>,

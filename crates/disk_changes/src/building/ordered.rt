@@ -43,7 +43,7 @@ fn ordering(alloc: Global, lines: &[Line]) -> Result<Vec<Swap>, AllocError> {
     Ok(swaps)
 }
 
-/// The image with the lines in their order.
+/// The image with the lines in their order. Errors: `Disk`, `NoMemory`.
 pub fn ordered<'a>(
     alloc: Global,
     image: &'a str,
