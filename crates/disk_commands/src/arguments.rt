@@ -88,7 +88,8 @@ fn program<'a>(alloc: Global) -> Result<clap::Command<'a>, AllocError> {
         .subcommands(subcommands)
 }
 
-/// Reads the command line.
+/// Reads the command line. Errors: clap's, for a word that can't stand there, and for help or the
+/// version, which are asked for so.
 pub fn parse<'a>(alloc: Global, words: &'a [String]) -> Result<ArgMatches<'a>, Error> {
     program(alloc)?.try_get_matches_from(words)
 }
@@ -98,7 +99,7 @@ pub fn given<'a>(words: &ArgMatches<'a>, name: &str) -> &'a str {
     words.get_str(name).unwrap_or("")
 }
 
-/// A word that may be missing.
+/// A word that may be missing; None where it is.
 pub fn option<'a>(words: &ArgMatches<'a>, name: &str) -> Option<&'a str> {
     words.get_str(name)
 }

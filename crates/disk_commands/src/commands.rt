@@ -269,7 +269,7 @@ fn verb_in(commands: &[Command], name: &str) -> Option<Verb> {
     None
 }
 
-/// The command of a name.
+/// The command of a name; None where there is none.
 pub fn verb_of(name: &str) -> Option<Verb> {
     match verb_in(looking_commands(), name) {
         Some(verb) => Some(verb),
