@@ -43,7 +43,7 @@ pub fn track_at(image: &[u8], index: usize) -> Option<&[u8]> {
     image.get(from..from.checked_add(low.saturating_add(high.saturating_mul(256)))?)
 }
 
-/// The name of a track by its number among half tracks, from 0 on.
+/// The name of a track by its number among half tracks, from 0 on. The one error is want of memory.
 pub fn track_name(alloc: Global, index: usize) -> Result<String, AllocError> {
     let whole = index / 2;
     let track = whole.saturating_add(1);
@@ -59,7 +59,8 @@ fn is_more(image: &[u8], index: usize) -> bool {
     (index % 2 == 1 || index >= BEYOND) && place_of(image, index) != 0
 }
 
-/// The names of half tracks and of tracks beyond 35 that a G64 has; a D64 has none.
+/// The names of half tracks and of tracks beyond 35 that a G64 has; a D64 has none. The one error
+/// is want of memory.
 pub fn more_tracks(alloc: Global, image: &[u8]) -> Result<Vec<String>, AllocError> {
     let mut names = Vec::new(alloc);
     if kind_of(image) == Kind::D64 {

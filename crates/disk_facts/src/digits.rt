@@ -15,7 +15,7 @@ fn add_byte(text: &mut String, byte: u8) -> Result<(), AllocError> {
     text.push(digit(byte))
 }
 
-/// Bytes, two digits for each.
+/// Bytes, two digits for each. The one error is want of memory.
 pub fn hex(alloc: Global, bytes: &[u8]) -> Result<String, AllocError> {
     let mut text = String::new(alloc);
     for byte in bytes {

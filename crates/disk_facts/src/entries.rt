@@ -32,7 +32,7 @@ pub fn is_meant(entry: &Entry, pattern: &[u8]) -> bool {
     !entry.is_empty() && matches(pattern, entry.name())
 }
 
-/// The first file that a pattern means.
+/// The first file that a pattern means; None where it means none.
 pub fn first_meant<'e>(entries: &'e [Entry], pattern: &[u8]) -> Option<&'e Entry> {
     for entry in entries {
         if is_meant(entry, pattern) {

@@ -10,7 +10,7 @@ const FORMATS: [(&str, Kind); 4] = [
     ("G64", Kind::G64),
 ];
 
-/// The format that a word says.
+/// The format that a word says; None where it says none.
 pub fn kind_of_word(word: &str) -> Option<Kind> {
     for (name, kind) in &FORMATS {
         if *name == word {
@@ -20,7 +20,7 @@ pub fn kind_of_word(word: &str) -> Option<Kind> {
     None
 }
 
-/// The format that an image's name says by its ending.
+/// The format that an image's name says by its ending; None where it says none.
 pub fn kind_of_name(image: &str) -> Option<Kind> {
     match Path::new(image).extension() {
         Some(ending) => kind_of_word(ending),
