@@ -296,7 +296,8 @@ fn print_recipe<'a, R: Runtime + AllocGlobal>(rt: &R, recipe: &Recipe) -> Result
     }
 }
 
-/// Prints the recipe of an image's disk; what it doesn't say of it is reported.
+/// Prints the recipe of an image's disk; what it doesn't say of it is reported. Errors: those of `read_image`; `Disk`;
+/// `Write`; `Told`, where something wasn't said; `NoMemory`.
 pub fn describe<'a, R: Runtime + AllocGlobal>(
     rt: &R,
     image: &'a str,

@@ -68,7 +68,8 @@ fn take_out<'a, R: Runtime + AllocGlobal>(
     write(rt, taken.output, file.as_slice(), Sync::Later)
 }
 
-/// Takes a file out of an image.
+/// Takes a file out of an image. Errors: those of `read_image` and of `petscii`; `Disk`, where the disk has no such file
+/// or it can't be read; `Exists`; `Write`.
 pub fn get<'a, R: Runtime + AllocGlobal>(
     rt: &R,
     image: &'a str,

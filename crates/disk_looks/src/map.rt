@@ -176,7 +176,7 @@ fn show_bytes<'a, R: Runtime + AllocGlobal>(
     show(rt, text, owners.as_slice(), mapping)
 }
 
-/// Shows the sectors of an image.
+/// Shows the sectors of an image. Errors: those of `read_image`; `Disk`; `Exists`; `Write`; `NoMemory`.
 pub fn show_map<'a, R: Runtime + AllocGlobal>(
     rt: &R,
     image: &'a str,

@@ -29,7 +29,8 @@ fn add_escaped(text: &mut String, code: u8) -> Result<(), AllocError> {
     text.push(digit(code))
 }
 
-/// The name of a host's file for a name on a disk, without an ending: codes that a host can't have are `%XX`.
+/// The name of a host's file for a name on a disk, without an ending: codes that a host can't have are `%XX`. The one
+/// error is want of memory.
 pub fn host_name(alloc: Global, name: &[u8]) -> Result<String, AllocError> {
     let mut text = String::new(alloc);
     for (place, code) in name.iter().enumerate() {

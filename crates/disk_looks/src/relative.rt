@@ -39,7 +39,8 @@ fn head_of(alloc: Global, entry: &Entry) -> Result<Vec<u8>, AllocError> {
     Ok(head)
 }
 
-/// The file of this computer for a relative file of these bytes; those of any other file as they are.
+/// The file of this computer for a relative file of these bytes; those of any other file as they are. The one error is
+/// want of memory.
 pub fn packed(alloc: Global, entry: &Entry, bytes: Vec<u8>) -> Result<Vec<u8>, AllocError> {
     if !entry.is_relative() {
         return Ok(bytes);
@@ -79,8 +80,8 @@ fn packed_as<R: Eprint + AllocGlobal>(
     Ok(bytes)
 }
 
-/// The file of this computer for the first file that a pattern means: with a head, if it is relative and goes to a file that
-/// is named so. Without one the length of its records is reported.
+/// The file of this computer for the first file that a pattern means: with a head, if it is relative and goes to a file
+/// that is named so. Without one the length of its records is reported. Errors: `Image`, `Trouble`, `Memory`.
 pub fn packed_for<R: Eprint + AllocGlobal>(
     rt: &R,
     image: &[u8],

@@ -90,7 +90,7 @@ fn salvaged_among<R: Runtime + AllocGlobal>(
     }
 }
 
-/// What can be read of the first file that a pattern means.
+/// What can be read of the first file that a pattern means. Errors: `Image`, `Trouble`, `NotFound`, `Memory`.
 pub fn salvaged_file<R: Runtime + AllocGlobal>(
     rt: &R,
     image: &[u8],

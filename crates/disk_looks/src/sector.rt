@@ -109,7 +109,8 @@ fn show_at<'a, R: Runtime + AllocGlobal>(
     print(rt, lines.as_bytes())
 }
 
-/// Shows the bytes of a sector.
+/// Shows the bytes of a sector. Errors: `Word`, where no disk has such a sector; those of `read_image`; `Disk`, where
+/// this one hasn't, or it doesn't read; `Write`; `NoMemory`.
 pub fn show_sector<'a, R: Runtime + AllocGlobal>(
     rt: &R,
     image: &'a str,

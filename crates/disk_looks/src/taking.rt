@@ -37,7 +37,8 @@ impl Names {
         }
     }
 
-    /// The name of a host's file for the next entry; from the second of one name on it has a number.
+    /// The name of a host's file for the next entry; from the second of one name on it has a number. The one error is
+    /// want of memory.
     pub fn next(&mut self, alloc: Global, entry: &Entry) -> Result<String, AllocError> {
         let base = host_name(alloc, entry.name())?;
         let end = ending_of(entry);
@@ -191,7 +192,7 @@ fn take_to<R: Runtime + AllocGlobal>(
     }
 }
 
-/// Takes the file of the next entry out. Answers whether it was saved.
+/// Takes the file of the next entry out. Answers whether it was saved. The one error is want of memory.
 pub fn take<R: Runtime + AllocGlobal>(
     rt: &R,
     source: Source<'_>,

@@ -85,7 +85,8 @@ fn take_image<'a, R: Runtime + AllocGlobal>(
     take_disk(rt, source, entries.as_slice(), place, progress)
 }
 
-/// Takes all files out, into a folder.
+/// Takes all files out, into a folder. Errors: those of `read_image`; `Disk`; `Write`, where the folder can't be made;
+/// `Told`, where a file wasn't saved, as is reported; `NoMemory`.
 pub fn get_all<'a, R: Runtime + AllocGlobal>(
     rt: &R,
     image: &'a str,

@@ -41,7 +41,8 @@ fn print_track<'a, R: Runtime + AllocGlobal>(
     }
 }
 
-/// Shows what stands on a track of an image.
+/// Shows what stands on a track of an image. Errors: `Word`, where it is no track; those of `read_image`; `NoCircles` for
+/// a D64; `NoTrack`, where the image has none such; `Write`; `NoMemory`.
 pub fn show_track<'a, R: Runtime + AllocGlobal>(
     rt: &R,
     image: &'a str,
