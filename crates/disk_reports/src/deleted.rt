@@ -20,7 +20,7 @@ fn add_line(
     text.extend_from_slice(format!(in alloc; "\"{name}\", {blocks} blocks\n")?.as_bytes())
 }
 
-/// Adds a line for each deleted file that matches.
+/// Adds a line for each deleted file that matches. Errors: `Image`, `Trouble`, `Memory`.
 pub fn add_deleted(
     alloc: Global,
     text: &mut Vec<u8>,

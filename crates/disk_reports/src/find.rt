@@ -26,7 +26,7 @@ fn add_match(
     text.extend_from_slice(line.as_bytes())
 }
 
-/// Adds a line for each file that matches.
+/// Adds a line for each file that matches. Errors: `Image`, `Trouble`, `Memory`.
 pub fn add_matches(
     alloc: Global,
     text: &mut Vec<u8>,

@@ -376,7 +376,8 @@ fn add_findings(
     Ok(())
 }
 
-/// Adds all flaws of the disk of an image, the first of which is the one that `check` names.
+/// Adds all flaws of the disk of an image, the first of which is the one that `check` names. Errors: `Image`, `Trouble`,
+/// `Memory`.
 pub fn add_all_flaws(
     alloc: Global,
     text: &mut Vec<u8>,
@@ -492,7 +493,7 @@ fn shown_flaws(
     Ok(Shown { text, answer })
 }
 
-/// The flaws of the disk of an image as a line of JSON.
+/// The flaws of the disk of an image as a line of JSON. Errors: `Image`, `Trouble`, `Memory`.
 pub fn flaw_report(
     alloc: Global,
     name: &str,

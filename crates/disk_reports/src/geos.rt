@@ -49,7 +49,7 @@ fn add_files(
     Ok(())
 }
 
-/// Adds a line for each file of GEOS, where the directory can be followed to its end.
+/// Adds a line for each file of GEOS, where the directory can be followed to its end. The one error is `Memory`.
 pub fn add_geos(
     alloc: Global,
     text: &mut Vec<u8>,

@@ -109,7 +109,7 @@ fn add_lines(
     add_faults(alloc, text, info)
 }
 
-/// What the disk is, as lines.
+/// What the disk is, as lines. Errors: `Image`, `Memory`.
 pub fn lines_of(alloc: Global, charset: Charset, image: &[u8]) -> Result<Vec<u8>, ShellFault> {
     let info = info(alloc, image)?;
     let mut text = String::new(alloc);

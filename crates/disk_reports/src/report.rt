@@ -92,7 +92,7 @@ struct Refused<'a> {
     status: u8,
 }
 
-/// A value as a line of JSON.
+/// A value as a line of JSON. The one error is want of memory.
 pub fn line<T: Serialize>(alloc: Global, value: &T) -> Result<Vec<u8>, AllocError> {
     match serde_json::to_vec(alloc, value) {
         Ok(mut text) => {
@@ -345,7 +345,7 @@ fn sum_report(alloc: Global, name: &str, image: &[u8]) -> Result<Shown, ShellFau
     })
 }
 
-/// What an image shows to programs: a line of JSON.
+/// What an image shows to programs: a line of JSON. Errors: `Image`, `Trouble`, `Memory`; of a sum `Mistaken`.
 pub fn report_line(
     alloc: Global,
     name: &str,
@@ -359,7 +359,7 @@ pub fn report_line(
     }
 }
 
-/// The line of an image that can't be looked at.
+/// The line of an image that can't be looked at. The one error is want of memory.
 pub fn refusal_line(alloc: Global, image: &str, status: u8) -> Result<Vec<u8>, AllocError> {
     line(alloc, &Refused { image, status })
 }

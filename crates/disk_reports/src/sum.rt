@@ -30,7 +30,7 @@ fn add_line(text: &mut Vec<u8>, sum: &str, name: &str) -> Result<(), AllocError>
     text.extend_from_slice(b"\n")
 }
 
-/// Adds the sum of an image's sectors, and its name.
+/// Adds the sum of an image's sectors, and its name. Errors: `Image`, `Mistaken`, `Memory`.
 pub fn add_sum(
     alloc: Global,
     text: &mut Vec<u8>,

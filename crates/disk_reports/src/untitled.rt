@@ -63,7 +63,8 @@ fn lines_of(alloc: Global, entries: &[Entry], look: Look<'_>) -> Result<String, 
     Ok(text)
 }
 
-/// Adds the files of a directory that the drive doesn't list, where they can be read all the same; else this is why it doesn't.
+/// Adds the files of a directory that the drive doesn't list, where they can be read all the same; else this is why it
+/// doesn't. Errors: that fault; `Memory`.
 pub fn add_untitled(
     alloc: Global,
     text: &mut Vec<u8>,

@@ -170,7 +170,7 @@ fn people_lines(
     Ok(Shown { text, answer })
 }
 
-/// What an image shows, to people or to programs.
+/// What an image shows, to people or to programs. Errors: `Image`, `Refused`, `Trouble`, `Memory`; of a sum `Mistaken`.
 pub fn lines_of(
     alloc: Global,
     name: &str,

@@ -252,7 +252,7 @@ fn sum_table(alloc: Global, name: &str, image: &[u8]) -> Result<Shown, ShellFaul
     })
 }
 
-/// What an image shows to programs: lines of a table.
+/// What an image shows to programs: lines of a table. Errors: `Image`, `Trouble`, `Memory`; of a sum `Mistaken`.
 pub fn table_lines(
     alloc: Global,
     name: &str,
