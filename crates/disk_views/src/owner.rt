@@ -27,7 +27,7 @@ pub fn letter_of(number: usize) -> u8 {
     }
 }
 
-/// The number of the first of the files that has a sector.
+/// The number of the first of the files that has a sector; None where none has it.
 pub fn owner_at(owners: &[Owner], track: u8, sector: u8) -> Option<usize> {
     let at = Address::new(track, sector)?;
     for (number, owner) in owners.iter().enumerate() {
