@@ -49,7 +49,7 @@ at_end claimed = record { blocks = []; claimed = claimed; flaws = []; whole = tr
 abbrev pub cut_off : (Place → Bool) → List DiskFlaw → Walked
 cut_off claimed flaws = record { blocks = []; claimed = claimed; flaws = flaws; whole = false }
 
--- a walk goes on where nothing is wrong, or where the map alone is (2)
+-- a walk goes on where nothing is wrong, or where the BAM alone is (2)
 abbrev pub goes_on : Option ℕ → Bool
 goes_on None = true
 goes_on (Some number) = number == 2
@@ -173,11 +173,11 @@ unfoldable pub count_flaws : List ℕ → ℕ → List DiskFlaw
 count_flaws map zero = []
 count_flaws map (suc n) = count_flaws map n ++ count_flaw map (suc n)
 
--- 18/0 is free in its own map (2)
+-- 18/0 is free in its own BAM (2)
 abbrev pub own_flaw : List ℕ → List DiskFlaw
 own_flaw map = flaw_if (is_free_in map directory_head) (flawed Disk 0 directory_head 2)
 
--- what is wrong with the map: 18/0 doesn't read (9), or these
+-- what is wrong with the BAM: 18/0 doesn't read (9), or these
 abbrev pub map_flaws : ℕ → Cell → List DiskFlaw
 map_flaws tracks (Err code) = flawed Disk 0 directory_head 9 ∷ []
 map_flaws tracks (Ok map) = own_flaw map ++ count_flaws map tracks
@@ -190,7 +190,7 @@ abbrev pub chain_flaws : ℕ → Content → List DiskFlaw
 chain_flaws tracks content =
     (directory_walk tracks content).flaws ++ (slots_walk 0 tracks content (directory_walk tracks content).claimed (directory_walk tracks content).blocks).flaws
 
--- ALL THAT IS WRONG WITH A DISK that uses this many tracks: its headers, its map, its directory, its files
+-- ALL THAT IS WRONG WITH A DISK that uses this many tracks: its headers, its BAM, its directory, its files
 abbrev pub flaws_of : ℕ → Content → List DiskFlaw
 flaws_of tracks content = header_flaws content tracks ++ (map_flaws tracks (content directory_head) ++ chain_flaws tracks content)
 

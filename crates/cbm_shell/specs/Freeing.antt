@@ -10,7 +10,7 @@ use Rattle.cbm_shell.specs.Mapping.{free_by, entries_in, is_among}
 use Rattle.cbm_shell.specs.Geos.{geos_places}
 use Rattle.cbm_shell.specs.Passing.{places_in}
 
--- the new map has a sector as free, and the old one hadn't
+-- the new BAM has a sector as free, and the old one hadn't
 abbrev pub is_freed : Content → Content → Place → Bool
 is_freed old new p = not (free_by (old directory_head) p) && free_by (new directory_head) p
 

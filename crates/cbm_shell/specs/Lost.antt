@@ -8,7 +8,7 @@ use Rattle.cbm_shell.specs.Mapping.{used_in, free_by, is_among}
 use Rattle.cbm_shell.specs.Geos.{geos_places}
 use Rattle.cbm_shell.specs.Passing.{places_in}
 
--- a sector reads, neither the drive's files nor GEOS use it, and the map doesn't have it as free
+-- a sector reads, neither the drive's files nor GEOS use it, and the BAM doesn't have it as free
 abbrev pub is_lost : Cell → Bool → Bool → Bool → Bool
 is_lost (Ok bytes) used geos free = not used && (not geos && not free)
 is_lost (Err code) used geos free = false

@@ -10,7 +10,7 @@ use Rattle.cbm_volume.specs.Slots.{Listed, directory_of}
 use Rattle.cbm_shell.specs.declared.looking.mapping.Mark.{Mark}
 use Rattle.cbm_shell.specs.declared.looking.mapping.Mark.TheVariants.{Free, Used, Lost, Clash, Unreadable}
 
--- a sector by whether it is used and whether the map has it as free
+-- a sector by whether it is used and whether the BAM has it as free
 abbrev pub mark_by : Bool → Bool → Mark
 mark_by true true = Clash
 mark_by true false = Used
@@ -55,7 +55,7 @@ entries_by (Some t) entries = []
 abbrev pub entries_in : Listed → List (List ℕ)
 entries_in listed = entries_by listed.trouble listed.entries
 
--- WHAT IS USED: the map's sector, the directory, the sectors of each closed file
+-- WHAT IS USED: the BAM's sector, the directory, the sectors of each closed file
 abbrev pub used_in : ℕ → Content → List (List ℕ) → List Place
 used_in tracks content entries = chain_of tracks content directory_head ++ (chain_of tracks content first_directory ++ in_files tracks content entries)
 
@@ -65,7 +65,7 @@ is_among (q ∷ rest) p = is_place q p || is_among rest p
 
 -- ---- the picture
 
--- the map has a sector as free; no sector where 18/0 doesn't read
+-- the BAM has a sector as free; no sector where 18/0 doesn't read
 abbrev pub free_by : Cell → Place → Bool
 free_by (Ok map) p = is_free_in map p
 free_by (Err code) p = false

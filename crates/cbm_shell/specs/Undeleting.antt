@@ -26,7 +26,7 @@ abbrev pub HasNoDeleted : ℕ → Content → ℕ → Type 0
 HasNoDeleted tracks content slot =
     HasNoSlot tracks content slot ⊎ ((entry : List ℕ) × Answers (directory_of tracks content) slot (Ok (Some entry)) × ((type_byte entry == 0) ≡ false))
 
--- the map has each of these sectors as free
+-- the BAM has each of these sectors as free
 unfoldable pub all_free : Content → List Place → Bool
 all_free content [] = true
 all_free content (p ∷ rest) = free_by (content directory_head) p && all_free content rest
@@ -51,7 +51,7 @@ abbrev pub held_with : ℕ → Content → List (List ℕ) → Place → List Pl
 held_with tracks content entries from =
     ((used_in tracks content entries ++ border_in tracks content (content directory_head)) ++ in_geos tracks content entries) ++ chain_of tracks content from
 
--- the map is written anew, each block is free but these, and what else stands in 18/0 stays
+-- the BAM is written anew, each block is free but these, and what else stands in 18/0 stays
 pub record IsMapAnew (tracks : ℕ) (old new : Content) (held : Place → Bool) : Type 0 where
   pub map : List ℕ
   pub written : new ≡ written old directory_head map
@@ -59,7 +59,7 @@ pub record IsMapAnew (tracks : ℕ) (old new : Content) (held : Place → Bool) 
   pub counted : IsCounted tracks map
   pub outside : (i : ℕ) → IsOutside tracks i → slice_index map i ≡ slice_index (map_of old) i
 
--- the entry has its type, and the map has the chain as taken; nothing else is changed
+-- the entry has its type, and the BAM has the chain as taken; nothing else is changed
 pub record IsGivenAgain (tracks : ℕ) (old new : Content) (slot : ℕ) (kind : FileType) (entry : List ℕ) : Type 0 where
   pub middle : Content
   pub entered : EntersLed tracks old middle slot (restored_entry kind entry)

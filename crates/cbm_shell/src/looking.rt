@@ -121,7 +121,7 @@ fn picture_in<I: DiskImage + Drop>(alloc: Global, image: &[u8]) -> Result<Vec<u8
 
 /// A picture of an image's sectors, as lines: a sign for each sector, and what the signs mean. Errors: `Image`, `Memory`.
 pub fn picture(alloc: Global, image: &[u8]) -> Result<Vec<u8>, ShellFault>
-    // A sector is shown as used exactly where the directory, its map or a closed file has it.
+    // A sector is shown as used exactly where the directory, its BAM or a closed file has it.
     ensures ok { let content = held_by image.now in
         IfOk result (λ v. v.items ≡ picture_of (geometry_of (tracks_of (kind_of image.now) image.now) content) content) }
     ensures err { IfErr result (IsOpenFault image.now) }

@@ -51,7 +51,7 @@ fn deleted_entry<M: Medium>(volume: &Volume<M>, slot: u8) -> Result<Option<Entry
     }
 }
 
-/// Whether the map has each block of a chain as free, up to its end or to what cuts it off.
+/// Whether the BAM has each block of a chain as free, up to its end or to what cuts it off.
 fn is_free_chain<M: Medium>(medium: &M, geometry: Geometry, from: Link) -> bool
     requires { geometry ≤ (M.seen medium.now).tracks }
     ensures { let content = (M.seen medium.now).content in result ≡ all_free content (chain_of geometry content from) }
@@ -107,7 +107,7 @@ fn restored<M: Medium + Drop>(
     Ok(medium)
 }
 
-/// The disk with its map written anew, in which each block is free but these. Errors: `Trouble`, where 18/0 can't be read or
+/// The disk with its BAM written anew, in which each block is free but these. Errors: `Trouble`, where 18/0 can't be read or
 /// written.
 fn remapped<M: Steady + Drop>(
     medium: M,
@@ -228,7 +228,7 @@ pub fn undelete(
     slot: u8,
     kind: FileType,
 ) -> Result<Option<Vec<u8>>, ShellFault>
-    // The entry has its type, the map has its blocks as taken, and nothing else of the image is changed; None has its reason.
+    // The entry has its type, the BAM has its blocks as taken, and nothing else of the image is changed; None has its reason.
     ensures given { let format = kind_of image.now in
         let tracks = geometry_of (tracks_of format image.now) (content_of format image.now) in
         IfOk result (λ o. MatchOption o (IsNotGiven tracks (content_of format image.now) slot) (λ v.

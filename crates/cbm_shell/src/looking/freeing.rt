@@ -17,13 +17,13 @@ use std::alloc::{AllocError, Global};
 /// The blocks that a change of a disk gives back.
 #[derive(Drop)]
 pub struct Freed {
-    /// They are free in the new map and weren't in the old one; in order of track and sector.
+    /// They are free in the new BAM and weren't in the old one; in order of track and sector.
     pub blocks: Vec<Address>,
     /// Whether GEOS uses one of them.
     pub takes_geos: bool,
 }
 
-/// Whether the new map has a sector as free, and the old one hadn't.
+/// Whether the new BAM has a sector as free, and the old one hadn't.
 fn is_freed<M: Medium>(old: &M, new: &M, geometry: Geometry, at: Address) -> bool
     requires old { geometry ≤ (M.seen old.now).tracks }
     requires new { geometry ≤ (M.seen new.now).tracks }

@@ -142,7 +142,7 @@ fn is_geos_mark(text: &[u8]) -> bool
     text.starts_with(b"GEOS format")
 }
 
-/// Whether the map of a disk says that GEOS formatted it.
+/// Whether the BAM of a disk says that GEOS formatted it.
 fn is_geos_map(map: &[u8; 256]) -> bool
     ensures { result ≡ is_geos_map map.now }
 {

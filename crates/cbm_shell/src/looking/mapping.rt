@@ -25,13 +25,13 @@ const LEGEND: &[u8] =
 /// What a sector is.
 #[derive(Clone, Copy, Debug, PartialEq, Eq)]
 pub enum Mark {
-    /// The map has it as free.
+    /// The BAM has it as free.
     Free,
     /// A closed file or the directory uses it.
     Used,
     /// Nothing uses it, and it isn't free.
     Lost,
-    /// It is used, and the map has it as free.
+    /// It is used, and the BAM has it as free.
     Clash,
     /// It can't be read.
     Unreadable,
@@ -142,7 +142,7 @@ pub(crate) fn used_sectors<M: Medium>(
     used
 }
 
-/// Whether the map has a sector as free; no sector where 18/0 can't be read.
+/// Whether the BAM has a sector as free; no sector where 18/0 can't be read.
 pub(crate) fn is_free_at<M: Medium>(medium: &M, geometry: Geometry, at: Address) -> bool
     requires { geometry ≤ (M.seen medium.now).tracks }
     ensures { result ≡ free_by ((M.seen medium.now).content directory_head) at }

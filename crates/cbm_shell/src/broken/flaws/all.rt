@@ -62,7 +62,7 @@ fn walk_disk<M: Medium>(alloc: Global, volume: &Volume<M>) -> Result<Vec<DiskFla
     Ok(out)
 }
 
-/// All that is wrong with a disk, in the order in which `check` looks: headers, map, directory, files. The errors are `Memory`,
+/// All that is wrong with a disk, in the order in which `check` looks: headers, BAM, directory, files. The errors are `Memory`,
 /// and `Trouble` where a side sector that did read doesn't any more.
 pub fn flaws_of<M: Medium>(alloc: Global, volume: &Volume<M>) -> Result<Vec<DiskFlaw>, ShellFault>
     ensures all { let now = M.seen volume.now in

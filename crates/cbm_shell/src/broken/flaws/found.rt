@@ -9,7 +9,7 @@ use cbm_volume::Unsound;
 /// Whose sectors were followed to a flaw.
 #[derive(Clone, Copy, Debug, PartialEq, Eq)]
 pub enum Whose {
-    /// Nobody's: it is a header or the map.
+    /// Nobody's: it is a header or the BAM.
     Disk,
     /// The directory's.
     Directory,

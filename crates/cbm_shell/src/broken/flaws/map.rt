@@ -1,4 +1,4 @@
-//! The map of a disk.
+//! The BAM of a disk.
 ghost use Rattle.std.specs.Prelude.{◌≡◌, ◌≤◌, ◌++◌, IsOk, OnOk};
 ghost use Rattle.cbm_medium.specs.Place.{directory_head};
 ghost use Rattle.cbm_bam.specs.Map.{map_of};
@@ -10,7 +10,7 @@ use cbm_bam::{is_counted, is_free, read_map};
 use cbm_medium::{Address, Geometry, Link, Medium};
 use std::alloc::AllocError;
 
-/// Adds a flaw of the map at a place, if it has it.
+/// Adds a flaw of the BAM at a place, if it has it.
 fn add_if(out: &mut Vec<DiskFlaw>, is_wrong: bool, at: Link, number: u8) -> Result<(), AllocError>
     ensures { OnOk result (out.new.items ≡ out.old.items ++ flaw_if is_wrong (flawed Disk 0 at number)) }
 {
@@ -54,7 +54,7 @@ fn add_counts<M: Medium>(
     Ok(())
 }
 
-/// Adds that 18/0 is free in its own map, if it is.
+/// Adds that 18/0 is free in its own BAM, if it is.
 fn add_own<M: Medium>(
     medium: &M,
     geometry: Geometry,
@@ -68,7 +68,7 @@ fn add_own<M: Medium>(
     add_if(out, is_wrong, Link::from(Address::of_map()), 2)
 }
 
-/// Adds what is wrong with the map: that 18/0 doesn't read; or else that it is free in itself, and the counts that are wrong.
+/// Adds what is wrong with the BAM: that 18/0 doesn't read; or else that it is free in itself, and the counts that are wrong.
 pub(super) fn add_map<M: Medium>(
     medium: &M,
     geometry: Geometry,

@@ -15,7 +15,7 @@ use cbm_medium::Address;
 use std::alloc::Global;
 
 impl OpenDisk {
-    /// All that is wrong with it, in the order in which `check` looks: headers, map, directory, files. Errors: `Memory`, and
+    /// All that is wrong with it, in the order in which `check` looks: headers, BAM, directory, files. Errors: `Memory`, and
     /// `Trouble` where a side sector that did read doesn't any more.
     pub fn flaws(&self, alloc: Global) -> Result<Vec<DiskFlaw>, ShellFault>
         // A flaw is named only where it is, and none is left out.

@@ -33,7 +33,7 @@ fn stop(out: &mut Vec<DiskFlaw>, flaw: DiskFlaw) -> Result<Option<[u8; 256]>, Al
     Ok(None)
 }
 
-/// Adds that a sector is used and the map has it as free, if it does.
+/// Adds that a sector is used and the BAM has it as free, if it does.
 fn add_free(out: &mut Vec<DiskFlaw>, is_free: bool, flaw: DiskFlaw) -> Result<(), AllocError>
     ensures { OnOk result (out.new.items ≡ out.old.items ++ flaw_if is_free flaw) }
 {
@@ -43,7 +43,7 @@ fn add_free(out: &mut Vec<DiskFlaw>, is_free: bool, flaw: DiskFlaw) -> Result<()
     Ok(())
 }
 
-/// Claims the next sector of a walk, unless more than the map is against it, and answers its bytes; None where the walk ends
+/// Claims the next sector of a walk, unless more than the BAM is against it, and answers its bytes; None where the walk ends
 /// there. What is wrong is added.
 pub(super) fn step<M: Medium>(
     medium: &M,
