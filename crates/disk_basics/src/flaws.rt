@@ -9,7 +9,7 @@ pub fn place_of(flaw: &DiskFlaw) -> Option<Address> {
     Address::new(flaw.what.track, flaw.what.sector)
 }
 
-/// Whether putting the disk in order mends a flaw: it is the map's alone.
+/// Whether putting the disk in order mends a flaw: it is the BAM's alone.
 pub fn is_mendable(flaw: &DiskFlaw) -> bool {
     matches!(flaw.what.number, 1 | 2)
 }
