@@ -236,7 +236,7 @@ fn broken_by(flaws: &[DiskFlaw]) -> Broken {
     broken
 }
 
-/// Whether one of the flaws is the map's alone.
+/// Whether one of the flaws is the BAM's alone.
 fn is_any_mendable(flaws: &[DiskFlaw]) -> bool {
     for flaw in flaws {
         if is_mendable(flaw) {
