@@ -1,7 +1,8 @@
 #!/usr/bin/env python3
 """definitions.py [--check]: makes docs/DEFINITIONS.md below its mark, from the comments in specs/: for each promise that the page speaks of the
 definitions that its contract reaches (tools/reached.py), each with its sentence, once, under the first promise that reaches it. What stands above the
-mark is written by hand and stays. --check changes nothing, and ends with 1 where the page isn't what this makes."""
+mark is written by hand and stays. --check changes nothing, and ends with 1 where the page isn't what this makes.
+In the crates of COMPLETE each definition must have a sentence of its own."""
 import dataclasses, pathlib, re, sys
 
 from reached import Specs, contract, definitions
@@ -104,9 +105,14 @@ PARTS = {
 }
 
 
+# The crates in which each definition has a sentence of its own.
+COMPLETE = ("cbm_session", "cbm_host")
+
+
 def sentences(path):
-    """The sentence of each definition of a file: the comment above it, or that of the definition before it where it has none; and the file's own."""
-    names, found, comment, last = definitions(path), {}, [], ""
+    """The sentence of each definition of a file: the comment above it, or that of the definition before it where it has none; the file's own; and the
+    definitions that have none."""
+    names, found, bare, comment, last = definitions(path), {}, [], [], ""
     for line in path.read_text("utf-8").split("\n"):
         text = line.strip()
         start = re.match(r"(?:(?:abbrev|unfoldable|pub|record|data) )+([A-Za-z_][\w'-]*)", text)
@@ -115,11 +121,12 @@ def sentences(path):
         elif start and start[1] in names and start[1] not in found and not text.startswith("pub use"):
             last = " ".join(comment) or last
             found[start[1]] = last
+            bare += [] if comment else [start[1]]
             comment = []
         else:
             comment = []
     first = path.read_text("utf-8").split("\n")[0]
-    return found, first[3:] if first.startswith("-- ") else ""
+    return found, first[3:] if first.startswith("-- ") else "", bare
 
 
 class Book:
@@ -128,13 +135,14 @@ class Book:
     def __init__(self):
         self.specs = Specs(ROOT)
         crates = [it.split()[0].rstrip(":") for it in (ROOT / "crates.txt").read_text("utf-8").split("\n") if it and it[0] != "#"]
-        self.order, self.sentences, self.titles = {}, {}, {}
+        self.order, self.sentences, self.titles, self.bare = {}, {}, {}, []
         for module, (found, _, _) in self.specs.files.items():
             _, crate, _, file = module.split(".", 3)
             path = ROOT / "crates" / crate / "specs" / (file.replace(".", "/") + ".antt")
             lines = (ROOT / "crates" / crate / "specs/Lib.antt").read_text("utf-8").split("\n")
             place = [it.split()[-1] for it in lines if it.startswith("pub mod")]
-            self.sentences[module], self.titles[module] = sentences(path)
+            self.sentences[module], self.titles[module], bare = sentences(path)
+            self.bare += [f"{path.relative_to(ROOT)}: {it}" for it in bare if crate in COMPLETE]
             first = file.split(".")[0]
             for number, name in enumerate(found):
                 self.order[module, name] = (crates.index(crate), place.index(first) if first in place else len(place), module, number)
@@ -208,8 +216,10 @@ def main():
     page = PAGE.read_text("utf-8")
     if page.count(MARK) != 1:
         sys.exit(f"docs/DEFINITIONS.md: the mark must stand in it once: {MARK}")
-    by_hand = page.split(MARK)[0]
-    new = by_hand + MARK + made(Book())
+    book = Book()
+    if book.bare:
+        sys.exit("definitions without a sentence:\n" + "\n".join(book.bare))
+    new = page.split(MARK)[0] + MARK + made(book)
     if sys.argv[1:] == []:
         PAGE.write_text(new, "utf-8")
     elif new != page:
