@@ -116,6 +116,7 @@ ended_on true naming None = None
 ended_on true true (Some channel) = Some (Name channel)
 ended_on true false (Some channel) = Some (Bytes channel)
 
+-- what a pull of ATN completes, as the drive is addressed now
 abbrev pub ended : Addressed → Option Ended
 ended a = ended_on a.freed a.naming (channel_heard a.role a.channel)
 

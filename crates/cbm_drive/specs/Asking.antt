@@ -7,12 +7,13 @@ use Rattle.cbm_iec.specs.declared.port.Port.{Port}
 use Rattle.cbm_iec.specs.declared.port.Side.TheVariants.{Hearing, Speaking}
 use Rattle.cbm_iec.specs.declared.port.Side.{Side}
 
--- the answer to a turnaround, and the offer of a byte
+-- whether a talker's reaction looks at the byte to say: at the answer to a turnaround and at the offer of a byte
 abbrev pub mouth_asks : Mouth → Bool
 mouth_asks (Answering at) = true
 mouth_asks (Led at) = true
 mouth_asks mouth = false
 
+-- whether a drive's reaction looks at the byte to say
 abbrev pub side_asks : Side → Bool
 side_asks (Hearing ear) = false
 side_asks (Speaking mouth) = mouth_asks mouth

@@ -8,6 +8,7 @@ pub record Cabled (D : Type 0) : Type 0 where
   pub host : Lines
   pub drives : List (Seated D)
 
+-- no line is pulled
 abbrev pub all_free : Lines
 all_free = record { atn_low = false; clock_low = false; data_low = false }
 

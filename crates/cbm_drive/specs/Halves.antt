@@ -12,14 +12,16 @@ use Rattle.cbm_session.specs.Playing.{IsLaterDue, drive_events}
 
 -- ---- whether it comes
 
+-- whether there is a moment, and it is before a limit
 abbrev pub is_before : ℕ → Option ℕ → Bool
 is_before limit None = false
 is_before limit (Some t) = nat_lt t limit
 
--- before a limit, of a drive; and of the only one
+-- whether a drive's next reaction is half of a bit before a limit
 abbrev pub half_before : ℕ → Port → Bool
 half_before limit p = is_before limit (port_due p) && port_half p
 
+-- whether a drive alone on the bus has such a reaction next
 abbrev pub half_alone : {D : Type 0} → ℕ → List (Seated D) → Bool
 half_alone limit [] = false
 half_alone limit (x ∷ []) = half_before limit x.port
@@ -31,10 +33,11 @@ has_nothing p = not (is_some p.waiting) && not (is_some p.second)
 
 -- ---- what it is
 
--- what it changes
+-- the changes of half of a bit, CLOCK's and then DATA's where it changes
 abbrev pub half_lines : Half → List Change
 half_lines h = changes_between h.moment h.was h.now
 
+-- the events of half of a bit
 abbrev pub half_events : Half → List Event
 half_events h = drive_events h.device (half_lines h)
 

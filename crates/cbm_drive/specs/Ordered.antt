@@ -23,11 +23,12 @@ abbrev pub latest : ℕ → List Change → ℕ
 latest t [] = t
 latest t (c ∷ cs) = latest c.moment cs
 
--- the changes of the host among events
+-- changes with one before them, if it is the host's
 abbrev pub with_host : Who → Change → List Change → List Change
 with_host Host c cs = c ∷ cs
 with_host (Drive d) c cs = cs
 
+-- the changes of the host among events
 abbrev pub host_changes : List Event → List Change
 host_changes [] = []
 host_changes (e ∷ es) = with_host e.who e.change (host_changes es)

@@ -17,14 +17,17 @@ abbrev pub says_or : Bool → Shown → Shown
 says_or owed None = if owed then Some (0, true) else None
 says_or owed (Some said) = Some said
 
+-- what is shown first; where nothing is recorded any more, nothing to say
 abbrev pub first_of : List Shown → Shown
 first_of [] = None
 first_of (now ∷ later) = now
 
+-- what is shown after that
 abbrev pub behind_first : List Shown → List Shown
 behind_first [] = []
 behind_first (now ∷ later) = later
 
+-- what a machine that plays back has to say now
 abbrev pub played_says : Playback → Shown
 played_says p = says_or p.owed (first_of p.shown)
 

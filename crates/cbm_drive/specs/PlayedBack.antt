@@ -22,6 +22,7 @@ more_or (Some said) = (said, refl)
 pub played_more : (p : Playback) (n : ℕ) → played_says p ≡ Some (n, false) → (x : ℕ × Bool) × (played_says (played_step p (Said n false)) ≡ Some x)
 played_more p n e = subst (λ (b : Bool). (x : ℕ × Bool) × (says_or b (first_of (behind_first p.shown)) ≡ Some x)) (sym (ap goes_on e)) (more_or (first_of (behind_first p.shown)))
 
+-- what plays back is a machine
 pub played_machine : IsMachine Playback played_step played_says
 played_machine = record { more = played_more }
 

@@ -19,6 +19,7 @@ pub record Turns : Type 0 where
   pub from : ℕ
   pub taken : ℕ
 
+-- a player that was offered nothing and has given nothing
 abbrev pub at_start : Turns
 at_start = record { waiting = None; second = None; from = 0; taken = 0 }
 

@@ -22,21 +22,24 @@ due_at t (Some u) = if t == u then 1 else 0
 abbrev pub due_now : {D : Type 0} → ℕ → List (Seated D) → ℕ
 due_now t xs = total (λ x. due_at t (port_due x.port)) xs
 
--- when the next reaction is due
+-- the sooner of two moments, where there are such
 abbrev pub sooner : Option ℕ → Option ℕ → Option ℕ
 sooner None b = b
 sooner (Some t) None = Some t
 sooner (Some t) (Some u) = Some (min t u)
 
+-- when the next reaction of these drives is due
 abbrev pub soonest : {D : Type 0} → List (Seated D) → Option ℕ
 soonest [] = None
 soonest (x ∷ xs) = sooner (port_due x.port) (soonest xs)
 
--- How long reactions may go on before a limit: there are four drives at most, so each moment has at most four reactions.
+-- How long reactions may go on before a limit, where the next one is due then: there are four drives at most, so each moment has at most four
+-- reactions.
 abbrev pub left_from : {D : Type 0} → ℕ → List (Seated D) → Option ℕ → ℕ
 left_from limit xs None = 0
 left_from limit xs (Some t) = 5 * (limit - t) + due_now t xs
 
+-- how long reactions of these drives may go on before a limit
 abbrev pub left : {D : Type 0} → ℕ → List (Seated D) → ℕ
 left limit xs = left_from limit xs (soonest xs)
 

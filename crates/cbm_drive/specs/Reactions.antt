@@ -25,22 +25,24 @@ abbrev pub pulls : Way → Bool
 pulls Pull = true
 pulls Free = false
 
--- what all hold after a drive's change
+-- what all hold after a change of a drive
 abbrev pub behind_change : Line → Way → Wires → Wires
 behind_change Atn way all = all
 behind_change Clock way all = record { host = all.host; clocks = counted way all.clocks; datas = all.datas }
 behind_change Data way all = record { host = all.host; clocks = all.clocks; datas = counted way all.datas }
 
+-- what all hold after changes of a drive
 abbrev pub behind_all : List Change → Wires → Wires
 behind_all [] all = all
 behind_all (c ∷ cs) all = behind_all cs (behind_change c.line c.way all)
 
--- what the drive itself holds after its change
+-- what a drive holds after a change of its own
 abbrev pub held_after : Line → Way → Held → Held
 held_after Atn way own = own
 held_after Clock way own = with_clock (pulls way) own
 held_after Data way own = with_data (pulls way) own
 
+-- what a drive holds after changes of its own
 abbrev pub held_behind : List Change → Held → Held
 held_behind [] own = own
 held_behind (c ∷ cs) own = held_behind cs (held_after c.line c.way own)
@@ -51,6 +53,7 @@ IsToggled Atn way own = ⊥
 IsToggled Clock way own = own.clock_low ≡ not (pulls way)
 IsToggled Data way own = own.data_low ≡ not (pulls way)
 
+-- each of these changes pulls a line that is free then, or frees one that is held
 abbrev pub Toggles : Held → List Change → Type 0
 Toggles own [] = Unit {0}
 Toggles own (c ∷ cs) = IsToggled c.line c.way own × Toggles (held_after c.line c.way own) cs

@@ -26,12 +26,15 @@ total f [] = 0
 total f (x ∷ xs) = f x + total f xs
 
 module _ {D : Type 0} where
+  -- the lines that a drive holds
   abbrev pub own_of : Seated D → Held
   own_of x = x.port.own
 
+  -- 1 for a drive that holds CLOCK, else 0
   abbrev pub clock_of : Seated D → ℕ
   clock_of x = bit x.port.own.clock_low
 
+  -- 1 for a drive that holds DATA, else 0
   abbrev pub data_of : Seated D → ℕ
   data_of x = bit x.port.own.data_low
 
@@ -39,15 +42,17 @@ module _ {D : Type 0} where
   abbrev pub numbers : (D → ℕ) → List (Seated D) → List ℕ
   numbers number xs = map (λ x. number x.machine) xs
 
-  -- nothing is due; nothing is due at or before this moment; nothing is due before it
+  -- no reaction of these drives is due
   abbrev pub AreIdle : List (Seated D) → Type 0
   AreIdle [] = Unit {0}
   AreIdle (x ∷ xs) = (port_due x.port ≡ None) × AreIdle xs
 
+  -- no reaction of these drives is due at or before a moment
   abbrev pub AreLater : ℕ → List (Seated D) → Type 0
   AreLater t [] = Unit {0}
   AreLater t (x ∷ xs) = IsLaterDue t (port_due x.port) × AreLater t xs
 
+  -- no reaction of these drives is due before a moment
   abbrev pub AreInTime : ℕ → List (Seated D) → Type 0
   AreInTime t [] = Unit {0}
   AreInTime t (x ∷ xs) = IsInTime t (port_due x.port) × AreInTime t xs
