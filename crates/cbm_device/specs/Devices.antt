@@ -50,21 +50,23 @@ StandsFor x s = (x.port ≡ s.port) × DeskStands seen_of x.machine s.machine
 
 -- ---- lines that change
 
--- ATN changes first, then CLOCK, then DATA
+-- the lines after ATN changed, which is the first to change
 abbrev pub after_atn : Lines → Lines → Lines
 after_atn was now = record { atn_low = now.atn_low; clock_low = was.clock_low; data_low = was.data_low }
 
+-- the lines after ATN and CLOCK changed; DATA is the last to change
 abbrev pub after_clock : Lines → Lines → Lines
 after_clock was now = record { atn_low = now.atn_low; clock_low = now.clock_low; data_low = was.data_low }
 
--- a port that is told of them in turn
+-- a port that is told of the changes of ATN, CLOCK and DATA in turn
 abbrev pub port_in_turn : ℕ → Lines → Lines → Port → Port
 port_in_turn t was now p = told t now (told t (after_clock was now) (told t (after_atn was now) p))
 
--- and a drive
+-- a drive that is told of the lines at a moment
 abbrev pub tell_lines : ℕ → Lines → Seated (Desk Machine) → Seated (Desk Machine)
 tell_lines t now s = record { port = told t now s.port; machine = acted (Desk Machine) desk_step (told_act now s.port) s.machine }
 
+-- a drive that is told of the changes of ATN, CLOCK and DATA in turn
 abbrev pub tell_in_turn : ℕ → Lines → Lines → Seated (Desk Machine) → Seated (Desk Machine)
 tell_in_turn t was now s = tell_lines t now (tell_lines t (after_clock was now) (tell_lines t (after_atn was now) s))
 

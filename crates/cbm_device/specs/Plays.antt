@@ -18,6 +18,7 @@ use Rattle.cbm_device.specs.ImageDisks.{Counted, seen_of}
 abbrev pub machine_of : Party → Machine → ℕ → Desk Machine
 machine_of b m device = with_pace b.pace (at_first b.device m)
 
+-- a drive at power up alone on a bus, as a station
 abbrev pub powered : Party → Machine → List (Station (Desk Machine))
 powered b m = at_rest (Desk Machine) desk_step desk_says (machine_of b m) (b ∷ [])
 
