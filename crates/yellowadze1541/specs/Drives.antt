@@ -35,6 +35,7 @@ is_set n = not (n == 0)
 abbrev pub pace_of : ℕ → Pace
 pace_of n = if n == 0 then Profile else Kernal
 
+-- a drive of these numbers
 abbrev pub party_of : ℕ → ℕ → ℕ → Party
 party_of device reaction pace = record { device = device; reaction = reaction; pace = pace_of pace }
 

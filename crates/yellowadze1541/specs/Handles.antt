@@ -11,6 +11,7 @@ use Rattle.yellowadze1541.specs.contracts.inner.Inner.{the_row}
 abbrev pub heap : Global
 heap = record { memory = record { seal = tt } }
 
+-- A HANDLE at null owns nothing; any other one owns the box at its pointer, with a drive in it.
 abbrev pub handle_owns : Ptr → Option the_row.Denot → Fml
 handle_owns null_ptr None = ftrue
 handle_owns null_ptr (Some x) = ffalse

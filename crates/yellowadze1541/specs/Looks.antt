@@ -17,10 +17,11 @@ use Rattle.yellowadze1541.specs.declared.shapes.Place.{Place}
 use Rattle.yellowadze1541.specs.declared.shapes.Title.{Title}
 use Rattle.yellowadze1541.specs.declared.shapes.Entry.{Entry}
 
--- the tracks that an image's disk uses, and what its sectors hold
+-- what the sectors of an image's disk hold
 abbrev pub held_by : List ℕ → Content
 held_by image = content_of (kind_of image) image
 
+-- the tracks that an image's disk uses
 abbrev pub used_by : List ℕ → ℕ
 used_by image = geometry_of (tracks_of (kind_of image) image) (held_by image)
 

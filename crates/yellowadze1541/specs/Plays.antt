@@ -24,6 +24,7 @@ pub record Rooms : Type 0 where
   pub image : List ℕ
   pub needed : ℕ
 
+-- these rooms and these numbers, as one record
 abbrev pub rooms : List Signal → ℕ → List ℕ → ℕ → Rooms
 rooms events count image needed = record { events = events; count = count; image = image; needed = needed }
 

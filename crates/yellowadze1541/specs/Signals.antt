@@ -10,14 +10,15 @@ use Rattle.cbm_iec.specs.declared.line.Way.{Way}
 use Rattle.cbm_iec.specs.declared.line.Way.TheVariants.{Pull, Free}
 use Rattle.yellowadze1541.specs.declared.shapes.Signal.{Signal}
 
--- 0 ATN, 1 CLOCK, 2 DATA
+-- the line of a number: 0 ATN, 1 CLOCK, 2 DATA
 abbrev pub line_with : ℕ → Option Line
 line_with n = if n == 0 then Some Atn else if n == 1 then Some Clock else if n == 2 then Some Data else None
 
--- 0 free, any other number pulled
+-- the way of a number: 0 frees a line, any other one pulls it
 abbrev pub way_with : ℕ → Way
 way_with n = if n == 0 then Free else Pull
 
+-- a change of a line at a moment; none where it is no line
 abbrev pub with_line : ℕ → ℕ → Option Line → Option Change
 with_line moment low None = None
 with_line moment low (Some line) = Some (record { moment = moment; line = line; way = way_with low })
@@ -44,19 +45,22 @@ all_before cs (Some ds) = Some (cs ++ ds)
 
 -- ---- events as signals
 
+-- the number of a line: 0 ATN, 1 CLOCK, 2 DATA
 abbrev pub number_of_line : Line → ℕ
 number_of_line Atn = 0
 number_of_line Clock = 1
 number_of_line Data = 2
 
+-- the number of a way: 0 frees a line, 1 pulls it
 abbrev pub number_of_way : Way → ℕ
 number_of_way Free = 0
 number_of_way Pull = 1
 
--- 0 the host, else the drive's device number
+-- the number of a party: 0 the host, else the drive's device number
 abbrev pub number_of_who : Who → ℕ
 number_of_who Host = 0
 number_of_who (Drive device) = device
 
+-- an event as C is told of it
 abbrev pub signal_of : Event → Signal
 signal_of e = record { moment = e.change.moment; who = number_of_who e.who; line = number_of_line e.change.line; low = number_of_way e.change.way }
