@@ -13,22 +13,27 @@ abbrev pub text_behind : Option (List ℕ) → Option (List ℕ)
 text_behind None = Some []
 text_behind (Some text) = text_of text
 
+-- a fill of a count and a byte, where both are right
 abbrev pub fill_with : ℕ → Option ℕ → Option ℕ → Option Request
 fill_with channel (Some count) (Some byte) = Some (Fill channel count byte)
 fill_with channel _ _ = None
 
+-- a fill asks for a count and a byte
 abbrev pub fill_of : ℕ → Option (List ℕ) → Option Request
 fill_of channel None = None
 fill_of channel (Some words) = fill_with channel (count_of (first_word words)) (option_and_then byte_of (behind_word words))
 
+-- a get asks for a count
 abbrev pub get_of : ℕ → Option (List ℕ) → Option Request
 get_of channel None = None
 get_of channel (Some word) = option_map (λ count. Get channel count) (count_of word)
 
+-- a close asks for nothing more
 abbrev pub close_of : ℕ → Option (List ℕ) → Option Request
 close_of channel None = Some (Close channel)
 close_of channel (Some _) = None
 
+-- a status asks for nothing more
 abbrev pub status_of : Option (List ℕ) → Option Request
 status_of None = Some Status
 status_of (Some _) = None
@@ -43,11 +48,12 @@ asked_of verb channel rest =
     else if bytes_eq verb (codes "close") then close_of channel rest
     else None
 
--- the same of what follows that word
+-- what a request's first word asks of the channel that follows it
 abbrev pub channel_asked : List ℕ → Option (List ℕ) → Option Request
 channel_asked verb None = None
 channel_asked verb (Some words) = option_and_then (λ channel. asked_of verb channel (behind_word words)) (channel_of (first_word words))
 
+-- the request of a line, None where it is refused
 abbrev pub request_of : List ℕ → Option Request
 request_of bytes =
     if bytes_eq (first_word bytes) (codes "status") then status_of (behind_word bytes)

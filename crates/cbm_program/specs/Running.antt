@@ -37,11 +37,12 @@ requests_in (Asks request) = request ∷ []
 abbrev pub may_stand : ℕ → List ℕ → Bool
 may_stand n line = if nat_lt 1000000 n then false else if nat_lt 1000 (length line) then false else true
 
--- what line n is, None where it is refused
+-- what a line is, where it may stand there
 abbrev pub meaning_if : Bool → List ℕ → Option Line
 meaning_if true line = line_of line
 meaning_if false line = None
 
+-- what line n is, None where it is refused
 abbrev pub meaning : ℕ → List ℕ → Option Line
 meaning n line = meaning_if (may_stand n line) line
 
@@ -50,6 +51,7 @@ pub record Asked : Type 0 where
   pub requests : List Request
   pub bad : Option ℕ
 
+-- no request, and this bad line
 abbrev pub refused_at : Option ℕ → Asked
 refused_at bad = record { requests = []; bad = bad }
 

@@ -66,12 +66,14 @@ module _ {M : Type 0} (seen : M → Seen) where
     pub hosts : host_changes made ≡ []
     pub written : Appends a b (trace_text made)
 
-  -- the same wherever the drive stood before
+  -- the drive was played on, wherever it was before
   abbrev pub PlaysOn : Option (List ℕ) → Option (List ℕ) → List Change → Turns → Cabled (Desk (Kept M)) → Turns → Cabled (Desk (Kept M)) → Type 0
   PlaysOn a b cs p x q y = (ss : List (Station (Desk Machine))) (es : List Event) → IsAt p x ss es → HasPlayedOn a b cs q y ss es
 
+  -- the drive was played on for a part of the changes, wherever it was before
   abbrev pub PlaysPart : Option (List ℕ) → Option (List ℕ) → List Change → Turns → Cabled (Desk (Kept M)) → Type 0
   PlaysPart a b cs p x = (ss : List (Station (Desk Machine))) (es : List Event) → IsAt p x ss es → HasPlayedPart a b cs ss es
 
+  -- the drive was played to an end, wherever it was before
   abbrev pub Ends : Option (List ℕ) → Option (List ℕ) → ℕ → Turns → Cabled (Desk (Kept M)) → Turns → Cabled (Desk (Kept M)) → Type 0
   Ends a b end p x q y = (ss : List (Station (Desk Machine))) (es : List Event) → IsAt p x ss es → HasEnded a b end q y ss es

@@ -9,7 +9,7 @@ use Rattle.cbm_program.specs.Words.{first_word, behind_word, moment_of}
 use Rattle.cbm_program.specs.declared.wires.timed.Timed.{Timed}
 use Rattle.cbm_program.specs.declared.wires.timed.Timed.TheVariants.{Skipped, Changes, Ends}
 
--- the names of the lines, and of the ways
+-- the line of a name
 abbrev pub line_called : List ℕ → Option Line
 line_called word =
     if bytes_eq word (codes "atn") then Some Atn
@@ -17,6 +17,7 @@ line_called word =
     else if bytes_eq word (codes "data") then Some Data
     else None
 
+-- the way of a name
 abbrev pub way_called : List ℕ → Option Way
 way_called word =
     if bytes_eq word (codes "pull") then Some Pull
@@ -38,6 +39,7 @@ abbrev pub end_of : Option (List ℕ) → Option Timed
 end_of None = None
 end_of (Some word) = option_map Ends (moment_of word)
 
+-- what a line asks for: the end, or a change
 abbrev pub asked_of : List ℕ → Option Timed
 asked_of bytes = if bytes_eq (first_word bytes) (codes "end") then end_of (behind_word bytes) else change_of (first_word bytes) (behind_word bytes)
 

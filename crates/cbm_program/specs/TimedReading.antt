@@ -32,6 +32,7 @@ abbrev pub IsBadBehind : Option (List ℕ) → ℕ → Option ℕ → Type 0
 IsBadBehind None n bad = Unit {0}
 IsBadBehind (Some xs) n bad = bad_behind n (lines_of xs) ≡ bad
 
+-- what the lines after the end came to: all are skipped, or one may not stand there, or they can't be read
 abbrev pub BehindRead : Option (List ℕ) → ℕ → Result (Unit {0}) RunFault → Type 0
 BehindRead old n (Ok _) = IsBadBehind old n None
 BehindRead old n (Err (Script bad)) = IsBadBehind old n (Some bad)

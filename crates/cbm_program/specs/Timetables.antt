@@ -13,31 +13,35 @@ abbrev pub begins_timed : List (List ℕ) → Bool
 begins_timed [] = false
 begins_timed (line ∷ lines) = bytes_eq line (codes "lines")
 
+-- whether a script is one of line changes
 abbrev pub is_timed : List ℕ → Bool
 is_timed bytes = begins_timed (lines_of bytes)
 
--- the bytes of a script of requests, and of one of line changes, where they are known
+-- the bytes of a script, where it is of the kind that is asked for
 abbrev pub script_if : Bool → Bool → List ℕ → Option (List ℕ)
 script_if true true bytes = Some bytes
 script_if false false bytes = Some bytes
 script_if true false bytes = None
 script_if false true bytes = None
 
+-- the bytes of a script of requests, where they are known
 abbrev pub of_requests : Option (List ℕ) → Option (List ℕ)
 of_requests None = None
 of_requests (Some bytes) = script_if false (is_timed bytes) bytes
 
+-- the bytes of a script of line changes, where they are known
 abbrev pub of_changes : Option (List ℕ) → Option (List ℕ)
 of_changes None = None
 of_changes (Some bytes) = script_if true (is_timed bytes) bytes
 
 -- ---- its lines
 
--- what line n is after a moment, None where it is refused
+-- what a line is after a moment, where it may stand there
 abbrev pub timed_if : Bool → ℕ → List ℕ → Option Timed
 timed_if true from line = timed_behind from (timed_of line)
 timed_if false from line = None
 
+-- what line n is after a moment, None where it is refused
 abbrev pub timed_meaning : ℕ → ℕ → List ℕ → Option Timed
 timed_meaning n from line = timed_if (may_stand n line) from line
 
@@ -61,6 +65,7 @@ abbrev pub ended_at : ℕ → Option ℕ → Timetable
 ended_at end None = record { changes = []; end = Some end; bad = None }
 ended_at end (Some bad) = stopped_at bad
 
+-- a change, and what follows it
 abbrev pub with_change : Change → Timetable → Timetable
 with_change change rest = record { changes = change ∷ rest.changes; end = rest.end; bad = rest.bad }
 

@@ -22,22 +22,27 @@ use Rattle.cbm_program.specs.Timetables.{Timetable, timetable_of}
 
 -- ---- an event as a line: `MOMENT WHO LINE WAY`
 
+-- a party as text: `host`, or the drive's device number
 abbrev pub who_text : Who → List ℕ
 who_text Host = codes "host"
 who_text (Drive device) = decimal device
 
+-- a line's name
 abbrev pub line_text : Line → List ℕ
 line_text Atn = codes "atn"
 line_text Clock = codes "clock"
 line_text Data = codes "data"
 
+-- a way's name
 abbrev pub way_text : Way → List ℕ
 way_text Pull = codes "pull"
 way_text Free = codes "free"
 
+-- an event as a line: the moment, the party, the line and the way
 abbrev pub event_text : Event → List ℕ
 event_text e = decimal e.change.moment ++ codes " " ++ who_text e.who ++ codes " " ++ line_text e.change.line ++ codes " " ++ way_text e.change.way ++ codes "\n"
 
+-- events as lines
 abbrev pub trace_text : List Event → List ℕ
 trace_text trace = flat_map event_text trace
 
@@ -47,6 +52,7 @@ trace_text trace = flat_map event_text trace
 abbrev pub machines_of : Party → Machine → ℕ → Desk Machine
 machines_of drive m d = at_power_up drive.pace drive.device m
 
+-- the drive at power up alone on a bus, above it the machine of named files
 abbrev pub powered : Party → Machine → List (Station (Desk Machine))
 powered drive m = at_rest (Desk Machine) desk_step desk_says (machines_of drive m) (drive ∷ [])
 

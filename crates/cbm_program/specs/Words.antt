@@ -3,9 +3,11 @@ use Rattle.std.specs.Prelude.{ℕ, ◌+◌, ◌-◌, ◌*◌, List, [], ◌∷�
 use Rattle.std.specs.List.{list_all}
 use Rattle.cbm_program.specs.Texts.{is_between, is_hex, hex_value}
 
+-- the code of a space
 abbrev pub is_space : ℕ → Bool
 is_space b = b == 32
 
+-- the bytes before a place, or all
 abbrev pub until : Option ℕ → List ℕ → List ℕ
 until None bytes = bytes
 until (Some at) bytes = take at bytes
@@ -18,9 +20,11 @@ first_word bytes = until (position is_space bytes) bytes
 abbrev pub behind_word : List ℕ → Option (List ℕ)
 behind_word bytes = option_map (λ at. drop (at + 1) bytes) (position is_space bytes)
 
+-- the code of a decimal digit
 abbrev pub is_digit : ℕ → Bool
 is_digit b = is_between 48 57 b
 
+-- the number that decimal digits are
 abbrev pub decimal_value : List ℕ → ℕ
 decimal_value digits = fold (λ n d. 10 * n + (d - 48)) 0 digits
 
@@ -32,9 +36,11 @@ number_of word = if is_between 1 16 (length word) && list_all is_digit word then
 abbrev pub number_within : ℕ → ℕ → List ℕ → Option ℕ
 number_within low high word = option_and_then (λ n. if is_between low high n then Some n else None) (number_of word)
 
+-- the channel of a word, 0 to 15
 abbrev pub channel_of : List ℕ → Option ℕ
 channel_of word = number_within 0 15 word
 
+-- the count of a word, 1 to 200,000
 abbrev pub count_of : List ℕ → Option ℕ
 count_of word = number_within 1 200000 word
 
