@@ -24,6 +24,7 @@ abbrev pub id_in : Cell → List ℕ
 id_in (Ok bytes) = slice_range bytes 162 164
 id_in (Err code) = 0 ∷ 0 ∷ []
 
+-- the id that 18/0 of a content has; zeros where it doesn't read
 abbrev pub told_id : Content → List ℕ
 told_id content = id_in (content directory_head)
 
@@ -38,10 +39,11 @@ pub record IsConverted (old new : List ℕ) : Type 0 where
 
 -- ---- what is lost
 
--- an entry of a G64's table is that of one of the tracks 1 to 35, or has no track
+-- the four bytes at a place of a file are zeros
 abbrev pub is_zero_at : List ℕ → ℕ → Bool
 is_zero_at file i = (slice_index file i == 0) && ((slice_index file (i + 1) == 0) && ((slice_index file (i + 2) == 0) && (slice_index file (i + 3) == 0)))
 
+-- an entry of a G64's table is that of one of the tracks 1 to 35, or has no track
 unfoldable pub is_plain : List ℕ → ℕ → Bool
 is_plain file i = ((i % 2 == 0) && nat_lt i 70) || is_zero_at file (12 + 4 * i)
 
@@ -50,10 +52,11 @@ abbrev pub has_more_tracks : Kind → List ℕ → Bool
 has_more_tracks D64 image = length image == 196608
 has_more_tracks G64 image = not (each_below (is_plain image) (slice_index image 9))
 
--- an image has error bytes, and one of them isn't 1
+-- an error byte of an image is 1
 unfoldable pub is_good : List ℕ → ℕ → Bool
 is_good image i = slice_index image (174848 + i) == 1
 
+-- an image has error bytes, and one of them isn't 1
 abbrev pub has_error_bytes : Kind → List ℕ → Bool
 has_error_bytes D64 image = (length image == 175531) && not (each_below (is_good image) 683)
 has_error_bytes G64 image = false

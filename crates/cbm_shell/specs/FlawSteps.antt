@@ -21,15 +21,17 @@ outside_of Disk = 6
 outside_of Directory = 6
 outside_of (File slot) = 4
 
--- A sector was met: its bytes are answered where the walk goes on, and what is wrong with it is added.
+-- the bytes of a sector that was met, where the walk goes on
 abbrev pub next_bytes : Bool → List ℕ → Option (List ℕ)
 next_bytes true bytes = Some bytes
 next_bytes false bytes = None
 
+-- what is claimed after a sector was met: it too, where the walk goes on
 abbrev pub claimed_if : Bool → (Place → Bool) → Place → Place → Bool
 claimed_if true claimed p = with_bit claimed p true
 claimed_if false claimed p = claimed
 
+-- A sector was met: its bytes are answered where the walk goes on, and what is wrong with it is added.
 pub record IsStep (wrong : Option ℕ) (flaw : ℕ → DiskFlaw) (content : Content) (p : Place) (old new : Place → Bool) (before after : List DiskFlaw) (bytes : Option (List ℕ)) : Type 0 where
   pub next : bytes ≡ next_bytes (goes_on wrong) (bytes_at content p)
   pub claims : new ≡ claimed_if (goes_on wrong) old p

@@ -30,6 +30,7 @@ part_of (File slot) = OfFile
 abbrev pub flawed : Whose → ℕ → Place → ℕ → DiskFlaw
 flawed whose before p number = record { what = fault_at number p; whose = whose; before = before }
 
+-- a flaw, where it is there
 abbrev pub flaw_if : Bool → DiskFlaw → List DiskFlaw
 flaw_if true flaw = flaw ∷ []
 flaw_if false flaw = []
@@ -43,9 +44,11 @@ pub record Walked : Type 0 where
   pub flaws : List DiskFlaw
   pub whole : Bool
 
+-- a walk that has come to its end
 abbrev pub at_end : (Place → Bool) → Walked
 at_end claimed = record { blocks = []; claimed = claimed; flaws = []; whole = true }
 
+-- a walk that ends here for what is wrong
 abbrev pub cut_off : (Place → Bool) → List DiskFlaw → Walked
 cut_off claimed flaws = record { blocks = []; claimed = claimed; flaws = flaws; whole = false }
 
@@ -63,6 +66,7 @@ told (Some number) flaw = flaw number ∷ []
 abbrev pub with_sector : List DiskFlaw → Place → Walked → Walked
 with_sector flaws p rest = record { blocks = p ∷ rest.blocks; claimed = rest.claimed; flaws = flaws ++ rest.flaws; whole = rest.whole }
 
+-- a walk that meets a sector: it goes on, or ends there
 abbrev pub met : Option ℕ → (ℕ → DiskFlaw) → Place → (Place → Bool) → Walked → Walked
 met wrong flaw p claimed rest = if goes_on wrong then with_sector (told wrong flaw) p rest else cut_off claimed (told wrong flaw)
 
@@ -104,6 +108,7 @@ abbrev pub records_walk : Whose → ℕ → Content → List ℕ → (Place → 
 records_walk whose tracks content e claimed =
     record (at_end claimed) { flaws = flaw_if (not (are_records tracks content e)) (flawed whose 0 (first_side e) 7) }
 
+-- the side sectors of a relative file, and then its records
 abbrev pub sides_walk : Whose → ℕ → Content → (Place → Bool) → List ℕ → Walked
 sides_walk whose tracks content claimed e = if_whole (among whose tracks content claimed (sides_from content (first_side e))) (records_walk whose tracks content e)
 
@@ -136,9 +141,11 @@ abbrev pub bytes_of : Cell → Option (List ℕ)
 bytes_of (Ok bytes) = Some bytes
 bytes_of (Err code) = None
 
+-- the bytes of the sector at a place, if the disk has it and it reads
 abbrev pub found_at : ℕ → Content → Place → Option (List ℕ)
 found_at tracks content p = if has tracks p then bytes_of (content p) else None
 
+-- the entries of a sector of the directory, if it reads
 abbrev pub sector_walk : ℕ → ℕ → Content → (Place → Bool) → Place → Option (List ℕ) → Walked
 sector_walk slot tracks content claimed sector (Some bytes) = entries_walk slot tracks content claimed sector (entries_in bytes)
 sector_walk slot tracks content claimed sector None = at_end claimed
@@ -169,6 +176,7 @@ header_flaws content (suc n) = header_flaws content n ++ header_flaws_on content
 abbrev pub count_flaw : List ℕ → ℕ → List DiskFlaw
 count_flaw map t = flaw_if (not (is_counted_on t map)) (flawed Disk 0 (at t 0) 1)
 
+-- the flaws of the counts of the first n tracks
 unfoldable pub count_flaws : List ℕ → ℕ → List DiskFlaw
 count_flaws map zero = []
 count_flaws map (suc n) = count_flaws map n ++ count_flaw map (suc n)
@@ -186,6 +194,7 @@ map_flaws tracks (Ok map) = own_flaw map ++ count_flaws map tracks
 abbrev pub directory_walk : ℕ → Content → Walked
 directory_walk tracks content = chain_from Directory tracks content only_head first_directory
 
+-- what is wrong with the directory, and with the files of its slots
 abbrev pub chain_flaws : ℕ → Content → List DiskFlaw
 chain_flaws tracks content =
     (directory_walk tracks content).flaws ++ (slots_walk 0 tracks content (directory_walk tracks content).claimed (directory_walk tracks content).blocks).flaws

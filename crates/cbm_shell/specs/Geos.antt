@@ -41,6 +41,7 @@ unfoldable pub chains_in : ℕ → Content → List ℕ → ℕ → List Place
 chains_in tracks content block zero = []
 chains_in tracks content block (suc n) = chains_in tracks content block n ++ chain_of tracks content (place_in block (2 * n + 2))
 
+-- the chains that the block in a cell lists, none where it doesn't read
 abbrev pub chains_by : ℕ → Content → Cell → List Place
 chains_by tracks content (Ok block) = chains_in tracks content block 127
 chains_by tracks content (Err code) = []
@@ -49,33 +50,40 @@ chains_by tracks content (Err code) = []
 abbrev pub records_of : ℕ → Content → Place → List Place
 records_of tracks content p = if has tracks p then chains_by tracks content (content p) else []
 
--- THE BLOCKS that a file of GEOS has beside its chain: that of its info, where a relative file has its side sectors, and those of its records
+-- the blocks of a file's records, where GEOS keeps it in records
 abbrev pub records_by : Bool → ℕ → Content → Place → List Place
 records_by true tracks content p = records_of tracks content p
 records_by false tracks content p = []
 
+-- the blocks of an entry's file beside its chain, where GEOS made it: that of its info, where a relative file has its side sectors, and those of its
+-- records
 abbrev pub blocks_by : Bool → ℕ → Content → List ℕ → List Place
 blocks_by true tracks content e = chain_of tracks content (first_side e) ++ records_by (has_records e) tracks content (first_block e)
 blocks_by false tracks content e = []
 
+-- THE BLOCKS that a file of GEOS has beside its chain
 abbrev pub geos_blocks : ℕ → Content → List ℕ → List Place
 geos_blocks tracks content e = blocks_by (is_geos e) tracks content e
 
+-- the blocks that the files of these entries have so
 unfoldable pub in_geos : ℕ → Content → List (List ℕ) → List Place
 in_geos tracks content [] = []
 in_geos tracks content (e ∷ rest) = geos_blocks tracks content e ++ in_geos tracks content rest
 
--- A disk that GEOS formatted says so in 18/0 from byte 173 on. The two bytes before that name its border block, which lists files that aren't in the directory.
+-- a text that begins as GEOS marks a disk
 abbrev pub is_geos_mark : List ℕ → Bool
 is_geos_mark text = bytes_eq (take 11 text) (codes "GEOS format")
 
+-- a disk that GEOS formatted says so in 18/0 from byte 173 on
 abbrev pub is_geos_map : List ℕ → Bool
 is_geos_map map = is_geos_mark (drop 173 map)
 
+-- the border block, where GEOS formatted the disk: the two bytes before that mark name it, and it lists files that aren't in the directory
 abbrev pub border_by : Bool → ℕ → Content → List ℕ → List Place
 border_by true tracks content map = chain_of tracks content (place_in map 171)
 border_by false tracks content map = []
 
+-- the border block that the bytes of 18/0 name; none where they don't read
 abbrev pub border_in : ℕ → Content → Cell → List Place
 border_in tracks content (Ok map) = border_by (is_geos_map map) tracks content map
 border_in tracks content (Err code) = []

@@ -54,13 +54,15 @@ OrOpenFault image P fault.NotFound = P fault.NotFound
 OrOpenFault image P fault.NotClosed = P fault.NotClosed
 OrOpenFault image P fault.Mistaken = P fault.Mistaken
 
--- why a change gives no image, a file isn't got, or a directory isn't listed
+-- why a change gives no image
 abbrev pub IsFailed : List ℕ → Change → Machine → ShellFault → Type 0
 IsFailed image change m = OrOpenFault image (IsUndone change m)
 
+-- why a file isn't got of an image
 abbrev pub IsLost : List ℕ → Disk → List ℕ → ShellFault → Type 0
 IsLost image d pattern = OrOpenFault image (IsGetFault d pattern)
 
+-- why the directory of an image isn't listed
 abbrev pub IsHidden : List ℕ → List ℕ → Machine → ShellFault → Type 0
 IsHidden image pattern m = OrOpenFault image (IsUnlisted pattern m)
 

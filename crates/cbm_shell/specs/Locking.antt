@@ -26,6 +26,7 @@ abbrev pub lock_bit : Bool → ℕ
 lock_bit true = 64
 lock_bit false = 0
 
+-- a type byte with that bit so
 abbrev pub locked_type : Bool → ℕ → ℕ
 locked_type locked type = type % 64 + 128 * (type / 128) + lock_bit locked
 
@@ -61,6 +62,7 @@ LocksAll (pattern ∷ rest) locked tracks old new =
 abbrev pub with_title : List ℕ → List ℕ → List ℕ
 with_title title head = take 144 head ++ (padded title ++ drop 16 (drop 144 head))
 
+-- the content whose 18/0 has another title
 abbrev pub titled : List ℕ → Content → Content
 titled title content = written content directory_head (with_title title (bytes_at content directory_head))
 

@@ -13,12 +13,15 @@ abbrev pub is_lost : Cell → Bool → Bool → Bool → Bool
 is_lost (Ok bytes) used geos free = not used && (not geos && not free)
 is_lost (Err code) used geos free = false
 
+-- a place is lost on a disk, where these places are used, and GEOS uses those
 abbrev pub lost_at : Content → (Place → Bool) → (Place → Bool) → Place → Bool
 lost_at content used geos p = is_lost (content p) (used p) (geos p) (free_by (content directory_head) p)
 
+-- the places that are lost on a disk with these entries
 abbrev pub lost_among : ℕ → Content → List (List ℕ) → List Place
 lost_among tracks content entries = places_in (lost_at content (is_among (used_in tracks content entries)) (is_among (geos_places tracks content entries))) tracks
 
+-- the same; none where the directory meets trouble
 abbrev pub lost_by : Option Trouble → ℕ → Content → List (List ℕ) → List Place
 lost_by None tracks content entries = lost_among tracks content entries
 lost_by (Some t) tracks content entries = []

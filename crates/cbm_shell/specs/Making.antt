@@ -22,12 +22,13 @@ empty_disk tracks title id = record {
   total = blocks_on tracks;
 }
 
--- the format of a new image, and how many tracks it has
+-- the format of a new image
 abbrev pub kind_in : Form → Kind
 kind_in form.D64 = kind.D64
 kind_in form.LongD64 = kind.D64
 kind_in form.G64 = kind.G64
 
+-- how many tracks a new image has
 abbrev pub tracks_on : Form → ℕ
 tracks_on form.D64 = 35
 tracks_on form.LongD64 = 40

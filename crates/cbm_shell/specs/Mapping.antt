@@ -36,22 +36,25 @@ sign_of Unreadable = 120
 unfoldable pub chain_of : ℕ → Content → Place → List Place
 chain_of tracks content a = (follow tracks content (sector_count tracks) a).blocks
 
--- the sectors of the file of an entry, and its side sectors; none where it wasn't closed
+-- the side sectors of the file of an entry
 abbrev pub sides_of : ℕ → Content → List ℕ → List Place
 sides_of tracks content e = if is_relative e then chain_of tracks content (first_side e) else []
 
+-- the sectors of the file of an entry, and its side sectors; none where it wasn't closed
 abbrev pub sectors_of : ℕ → Content → List ℕ → List Place
 sectors_of tracks content e = if is_closed e then chain_of tracks content (first_block e) ++ sides_of tracks content e else []
 
+-- the sectors of the files of these entries
 unfoldable pub in_files : ℕ → Content → List (List ℕ) → List Place
 in_files tracks content [] = []
 in_files tracks content (e ∷ rest) = sectors_of tracks content e ++ in_files tracks content rest
 
--- the entries of a directory; none where it can't be followed to its end
+-- entries, and none where trouble was met on the way
 abbrev pub entries_by : Option Trouble → List (List ℕ) → List (List ℕ)
 entries_by None entries = entries
 entries_by (Some t) entries = []
 
+-- the entries of a directory; none where it can't be followed to its end
 abbrev pub entries_in : Listed → List (List ℕ)
 entries_in listed = entries_by listed.trouble listed.entries
 
@@ -59,6 +62,7 @@ entries_in listed = entries_by listed.trouble listed.entries
 abbrev pub used_in : ℕ → Content → List (List ℕ) → List Place
 used_in tracks content entries = chain_of tracks content directory_head ++ (chain_of tracks content first_directory ++ in_files tracks content entries)
 
+-- the place is one of these
 unfoldable pub is_among : List Place → Place → Bool
 is_among [] p = false
 is_among (q ∷ rest) p = is_place q p || is_among rest p
@@ -70,6 +74,7 @@ abbrev pub free_by : Cell → Place → Bool
 free_by (Ok map) p = is_free_in map p
 free_by (Err code) p = false
 
+-- the sign of the sector at a place
 abbrev pub sign_at : Content → (Place → Bool) → Place → ℕ
 sign_at content used p = sign_of (mark_of (content p) (used p) (free_by (content directory_head) p))
 

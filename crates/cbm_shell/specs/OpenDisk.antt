@@ -5,6 +5,7 @@ use Rattle.cbm_g64.specs.Tracks as g64
 use Rattle.cbm_shell.specs.declared.looking.open_disk.OpenDisk.{OpenDisk}
 use Rattle.cbm_shell.specs.declared.looking.open_disk.OpenDisk.TheVariants.{D64, G64}
 
+-- what the disk of an image shows, by its format
 abbrev pub shown_by : OpenDisk → Seen
 shown_by (D64 disk) = d64.seen_of disk
 shown_by (G64 disk) = g64.seen_of disk

@@ -2,6 +2,7 @@
 use Rattle.std.specs.Prelude.{ℕ, zero, suc, Bool, true, false, List, [], ◌∷◌, ◌++◌}
 use Rattle.cbm_medium.specs.Place.{Place, sectors_on}
 
+-- a place, if it passes
 abbrev pub place_if : Bool → Place → List Place
 place_if true p = p ∷ []
 place_if false p = []

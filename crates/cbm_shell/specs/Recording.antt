@@ -21,14 +21,16 @@ pub record IsStoppedBy (channel : ℕ) (records : List (List ℕ)) (m : Machine)
   pub told : s ≡ (hear_all channel (take count records) m).status
   pub error : 20 ≤ code_number s.code
 
+-- why records aren't taken: the channel was refused one of them
 abbrev pub IsStoppedAt : ℕ → List (List ℕ) → Machine → ShellFault → Type 0
 IsStoppedAt channel records m (fault.Refused s) = IsStoppedBy channel records m s
 IsStoppedAt channel records m f = ⊥
 
--- the machine after the OPEN, and after some of the records
+-- the machine after the OPEN of a relative file
 abbrev pub opened_with : List ℕ → Machine → Machine
 opened_with text m = after_open 2 text m
 
+-- the machine after that OPEN and some of the records
 abbrev pub after_some : List ℕ → List (List ℕ) → Machine → Machine
 after_some text records m = hear_all 2 records (opened_with text m)
 

@@ -23,12 +23,13 @@ AreUndone (change ∷ rest) protected tracks d fault =
     IsUndone change (start d protected tracks) fault
     ⊎ (IsFine (after_change change (start d protected tracks)).status × AreUndone rest protected tracks (after_change change (start d protected tracks)).disk fault)
 
--- what a medium shows, or an image, holds the disk to which they lead
+-- a medium that shows this holds the disk to which changes lead
 pub record HoldsAfter (changes : List Change) (protected : Bool) (tracks : ℕ) (d : Disk) (seen : Seen) : Type 0 where
   pub disk : Disk
   pub made : AreMade changes protected tracks d disk
   pub holds : HoldsDisk seen.tracks seen.content disk
 
+-- an image holds the disk to which changes lead
 pub record ImageAfter (changes : List Change) (kind : Kind) (tracks : ℕ) (d : Disk) (image : List ℕ) : Type 0 where
   pub disk : Disk
   pub made : AreMade changes false tracks d disk

@@ -5,9 +5,11 @@ use Rattle.cbm_medium.specs.Content.{Content}
 use Rattle.cbm_volume.specs.Slots.{directory_of}
 use Rattle.cbm_shell.specs.Mapping.{entries_in, is_among, sectors_of}
 
+-- the file of an entry uses the sector at a place
 abbrev pub is_user : ℕ → Content → Place → List ℕ → Bool
 is_user tracks content p e = is_among (sectors_of tracks content e) p
 
+-- the number of a slot, if its file does
 abbrev pub slot_if : Bool → ℕ → List ℕ
 slot_if true slot = slot ∷ []
 slot_if false slot = []
