@@ -106,7 +106,10 @@ PARTS = {
 
 
 # The crates in which each definition has a sentence of its own.
-COMPLETE = ("cbm_session", "cbm_host")
+COMPLETE = (
+    "cbm_iec cbm_session cbm_drive cbm_bus cbm_host cbm_command cbm_listing cbm_machine cbm_talk cbm_image cbm_program drive1541 cbm_shell disk_basics "
+    "cbm_device yellowadze1541"
+).split()
 
 
 def sentences(path):
