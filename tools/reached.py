@@ -14,7 +14,8 @@ START = re.compile(r"^(?:abbrev |unfoldable )?(?:pub )?(?:record |data )?([A-Za-
 
 
 def definitions(path):
-    """The definitions of a file: each name with its text, without comments. Those of a `module _ .. where` stand deeper."""
+    """The definitions of a file: each name with its text, without comments. Those of a `module _ .. where`
+    and of a `mutual` stand deeper."""
     found, name, depths = {}, None, [0]
     for line in open(path, encoding="utf-8"):
         text = line.rstrip()
@@ -23,7 +24,7 @@ def definitions(path):
         depth = len(text) - len(text.lstrip())
         while depth < depths[-1]:
             depths.pop()
-        if text.lstrip().startswith("module _"):
+        if text.lstrip().startswith("module _") or re.match(r"\s*(abbrev |unfoldable )?mutual$", text):
             depths.append(depth + 2)
             continue
         start = START.match(text.lstrip())
