@@ -220,15 +220,15 @@ def main():
     if page.count(MARK) != 1:
         sys.exit(f"docs/DEFINITIONS.md: the mark must stand in it once: {MARK}")
     book = Book()
-    if book.bare:
-        sys.exit("definitions without a sentence:\n" + "\n".join(book.bare))
     new = page.split(MARK)[0] + MARK + made(book)
     if sys.argv[1:] == []:
         PAGE.write_text(new, "utf-8")
     elif new != page:
         line = next((n for n, (a, b) in enumerate(zip(page.split("\n"), new.split("\n")), 1) if a != b), "its end")
         sys.exit(f"docs/DEFINITIONS.md: from line {line} on it isn't what tools/definitions.py makes of the sources")
-    else:
+    if book.bare:
+        sys.exit("definitions without a sentence:\n" + "\n".join(book.bare))
+    if sys.argv[1:]:
         print("the definitions: the page is what the sources say")
 
 
