@@ -132,6 +132,14 @@ def sentences(path):
     return found, first[3:] if first.startswith("-- ") else "", bare
 
 
+def numbers_of(name, lines):
+    """The number that a definition is, or its numbers case by case."""
+    cases = [re.fullmatch(rf"\s*{re.escape(name)}((?: \w+)?) = (\d+)", it) for it in lines[1:]]
+    if not all(cases) or not 0 < len(cases) < 5:
+        return ""
+    return ": " + ", ".join(f"{it[1].strip()} {int(it[2]):,}".strip() for it in cases)
+
+
 class Book:
     """All definitions, in the order of the crates and of the files in them."""
 
@@ -165,6 +173,7 @@ class Book:
         groups = []
         for module, name in sorted(found, key=self.order.get):
             sentence = self.sentences[module].get(name, "") or self.titles[module]
+            sentence += numbers_of(name, self.specs.files[module][0][name])
             if groups and groups[-1][0] == module and groups[-1][1] == sentence:
                 groups[-1][2].append(name)
             else:
