@@ -137,7 +137,7 @@ def numbers_of(name, lines):
     cases = [re.fullmatch(rf"\s*{re.escape(name)}((?: \w+)?) = (\d+)", it) for it in lines[1:]]
     if not all(cases) or not 0 < len(cases) < 5:
         return ""
-    return ": " + ", ".join(f"{it[1].strip()} {int(it[2]):,}".strip() for it in cases)
+    return ", ".join(f"{it[1].strip().replace('_', 'else')} {int(it[2]):,}".strip() for it in cases)
 
 
 class Book:
@@ -173,7 +173,8 @@ class Book:
         groups = []
         for module, name in sorted(found, key=self.order.get):
             sentence = self.sentences[module].get(name, "") or self.titles[module]
-            sentence += numbers_of(name, self.specs.files[module][0][name])
+            numbers = numbers_of(name, self.specs.files[module][0][name])
+            sentence = f"{sentence.rstrip('.')}: {numbers}" if numbers else sentence
             if groups and groups[-1][0] == module and groups[-1][1] == sentence:
                 groups[-1][2].append(name)
             else:
