@@ -62,7 +62,7 @@ content_of image p =
 
 -- what the disk shows; an image in memory never fails by itself
 abbrev pub seen_of : Image → Seen
-seen_of d = record { content = content_of d.bytes; tracks = tracks_in (length d.bytes); protected = d.protected; failures = 0 }
+seen_of d = record { content = content_of d.bytes; tracks = tracks_in (length d.bytes); protected = d.protected; failures = 0; refused = None; id = None }
 
 -- the error byte of a sector that was written: a fault is mended, and what was good stays, whatever it says of writing
 abbrev pub mended : ℕ → ℕ

@@ -2,7 +2,7 @@ ghost use Rattle.std.specs.Prelude.{refl, ◌≡◌, ◌≢◌, ◌≤◌, ◌�
 ghost use Rattle.cbm_d64.specs.Image.{IsImageSize, IsStored, IsErased, content_of, tracks_in, seen_of, index_of};
 ghost use Rattle.cbm_medium.specs.Place.{directory_head};
 ghost use Rattle.cbm_medium.specs.Content.{written, blank, refusal, format_refusal};
-ghost use Rattle.cbm_medium.specs.Seen.{with_content, write_refusal, IsRefused};
+ghost use Rattle.cbm_medium.specs.Seen.{with_content, formatted_as, write_refusal, IsRefused};
 
 use crate::fault::D64Fault;
 use crate::image::{code_at, erase, index, is_size, sector, store, tracks_in};
@@ -94,7 +94,7 @@ impl Medium for D64Disk {
         ensures refused { IfSome (refusal self.old.protected (content_of self.old.bytes at))
             (λ code. result ≡ Err (record { code = code; at = at })) }
         ensures err { IfErr result (λ fault. (fault.at ≡ at)
-            × IsRefused (write_refusal (seen_of self.old) at) fault.code (seen_of self.old) (seen_of self.new)) }
+            × IsRefused (write_refusal (seen_of self.old) at) fault (seen_of self.old) (seen_of self.new)) }
 
         // What the image holds then, its error bytes too, which the content doesn't show.
         ensures stored { OnOk result (IsStored self.old.bytes self.new.bytes (index_of at) bytes.now) }
@@ -107,12 +107,12 @@ impl Medium for D64Disk {
         Ok(())
     }
 
-    fn format(&mut self, _id: [u8; 2]) -> Result<(), Fault>
-        ensures ok { OnOk result (seen_of self.new ≡ with_content blank (seen_of self.old)) }
+    fn format(&mut self, id: [u8; 2]) -> Result<(), Fault>
+        ensures ok { OnOk result (seen_of self.new ≡ formatted_as id (with_content blank (seen_of self.old))) }
         ensures refused { IfSome (format_refusal self.old.protected)
             (λ code. result ≡ Err (record { code = code; at = directory_head })) }
         ensures err { IfErr result (λ fault. (fault.at ≡ directory_head)
-            × IsRefused (format_refusal self.old.protected) fault.code (seen_of self.old) (seen_of self.new)) }
+            × IsRefused (format_refusal self.old.protected) fault (seen_of self.old) (seen_of self.new)) }
         ensures erased { OnOk result (IsErased self.old.bytes self.new.bytes) }
         ensures unchanged { OnErr result (self.new ≡ self.old) }
     {

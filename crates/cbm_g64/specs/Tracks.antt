@@ -1,4 +1,4 @@
-use Rattle.std.specs.Prelude.{ℕ, ◌≡◌, ◌≢◌, ◌<◌, ◌≤◌, ◌+◌, ◌*◌, ◌-◌, ◌⊎◌, List, [], ◌∷◌, Bool, false, length, if◌then◌else◌, Ok, Err, replicate, slice_index_or, unwrap_or}
+use Rattle.std.specs.Prelude.{ℕ, ◌≡◌, ◌≢◌, ◌<◌, ◌≤◌, ◌+◌, ◌*◌, ◌-◌, ◌⊎◌, List, [], ◌∷◌, Bool, false, length, if◌then◌else◌, Some, None, Ok, Err, replicate, slice_index_or, unwrap_or}
 use Rattle.cbm_medium.specs.Place.{Place, Has, has, sectors_on}
 use Rattle.cbm_medium.specs.Content.{Cell, Content}
 use Rattle.cbm_medium.specs.Seen.{Seen}
@@ -45,7 +45,7 @@ HasTrack d t = (0 < t) × (t ≤ 35) × (offset (base_of d.formatted d.file) (t 
 
 -- what the disk shows: an image has 35 tracks, and a disk in memory never fails by itself
 abbrev pub seen_of : Disk → Seen
-seen_of d = record { content = content_of d.tracks; tracks = 35; protected = d.protected; failures = 0 }
+seen_of d = record { content = content_of d.tracks; tracks = 35; protected = d.protected; failures = 0; refused = None; id = Some (id_for d.tracks) }
 
 -- each track is as formatting writes it
 abbrev pub AreFresh : List ℕ → List (List Bool) → Type 0

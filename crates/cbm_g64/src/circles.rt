@@ -114,6 +114,7 @@ pub(crate) fn format_on(tracks: &mut [IndexedTrack], id: &[u8; 2])
     requires { length tracks.old ≡ 35 }
     ensures fresh { AreFresh id.now tracks.new }
     ensures blank { content_of tracks.new ≡ blank }
+    ensures id { id_for tracks.new ≡ id.now }
 {
     for i in 0..35u8 {
         tracks[i as usize] = IndexedTrack::new(fresh_track(i + 1, *id), i + 1);

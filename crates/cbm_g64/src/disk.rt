@@ -1,7 +1,7 @@
 ghost use Rattle.std.specs.Prelude.{refl, ◌≡◌, ◌≤◌, ◌-◌, ◌⊎◌, ◌↔◌, ℕ, Ok, Err, None, Some, false, true, IfErr, IfOk, IfSome, IsSome, OnErr, OnOk, length};
 ghost use Rattle.cbm_medium.specs.Place.{Has, Place, directory_head};
 ghost use Rattle.cbm_medium.specs.Content.{blank, format_refusal, refusal, written};
-ghost use Rattle.cbm_medium.specs.Seen.{with_content, write_refusal, IsRefused};
+ghost use Rattle.cbm_medium.specs.Seen.{with_content, formatted_as, write_refusal, IsRefused};
 ghost use Rattle.cbm_g64.specs.File.{fault_of, tracks_in};
 ghost use Rattle.cbm_g64.specs.NewFile.{base_of, new_file};
 ghost use Rattle.cbm_g64.specs.Tracks.{bits_at, content_of, id_for, or_zeros, seen_of, AreFilled, AreFresh, AreLaid, HasTrack, IsChanged, IsPut};
@@ -165,7 +165,7 @@ impl Medium for G64Disk {
         ensures refused { IfSome (refusal self.old.protected (content_of self.old.tracks at))
             (λ code. result ≡ Err (record { code = code; at = at })) }
         ensures err { IfErr result (λ fault. (fault.at ≡ at)
-            × IsRefused (write_refusal (seen_of self.old) at) fault.code (seen_of self.old) (seen_of self.new)) }
+            × IsRefused (write_refusal (seen_of self.old) at) fault (seen_of self.old) (seen_of self.new)) }
 
         // What the circles are then, which the content doesn't show.
         ensures changed { OnOk result (IsChanged self.old.tracks self.new.tracks (at.track - 1)) }
@@ -184,11 +184,11 @@ impl Medium for G64Disk {
     }
 
     fn format(&mut self, id: [u8; 2]) -> Result<(), Fault>
-        ensures ok { OnOk result (seen_of self.new ≡ with_content blank (seen_of self.old)) }
+        ensures ok { OnOk result (seen_of self.new ≡ formatted_as id (with_content blank (seen_of self.old))) }
         ensures refused { IfSome (format_refusal self.old.protected)
             (λ code. result ≡ Err (record { code = code; at = directory_head })) }
         ensures err { IfErr result (λ fault. (fault.at ≡ directory_head)
-            × IsRefused (format_refusal self.old.protected) fault.code (seen_of self.old) (seen_of self.new)) }
+            × IsRefused (format_refusal self.old.protected) fault (seen_of self.old) (seen_of self.new)) }
 
         // The tracks are fresh ones, and the image will be a new file.
         ensures fresh { OnOk result (AreFresh id self.new.tracks) }

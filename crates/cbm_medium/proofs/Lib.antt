@@ -1,3 +1,4 @@
 pub mod Places
+pub mod Sequences
 pub mod Walks
 pub mod FaultCodes

@@ -3,12 +3,15 @@ use Rattle.std.specs.Prelude.{ℕ, suc, zero, ◌+◌, ◌-◌, ◌^◌, ◌≡�
 use Rattle.cbm_medium.specs.Place.{Place}
 use Rattle.cbm_medium.specs.Seen.{Seen}
 use Rattle.cbm_medium.specs.declared.fault.Fault.{Fault}
+use Rattle.cbm_medium.specs.declared.fault.Trouble.{Trouble}
 
--- how many writes pass before one is refused, None where all pass; whether all are refused from then on; how often it failed
+-- how many writes pass before one is refused, None where all pass; whether all are refused from then on; how often it failed, and what it
+-- refused last
 pub record Countdown : Type 0 where
   pub passes : Option ℕ
   pub all : Bool
   pub failures : ℕ
+  pub refused : Option Trouble
 
 abbrev pub is_none_left : Option ℕ → Bool
 is_none_left None = false
@@ -28,9 +31,13 @@ one_less (Some (suc n)) = Some n
 abbrev pub passed : Countdown → Countdown
 passed c = record c { passes = one_less c.passes }
 
--- after a write that was refused
-abbrev pub failed : Countdown → Countdown
-failed c = record c { passes = if c.all then c.passes else None; failures = c.failures + 1 }
+-- a write error at a place
+abbrev pub write_error : Place → Trouble
+write_error at = record { code = 25; track = at.track; sector = at.sector }
+
+-- after a write to this place that was refused
+abbrev pub failed : Place → Countdown → Countdown
+failed at c = record c { passes = if c.all then c.passes else None; failures = c.failures + 1; refused = Some (write_error at) }
 
 -- a medium with its countdown
 pub record Watched (M : Type 0) : Type 0 where
@@ -39,16 +46,16 @@ pub record Watched (M : Type 0) : Type 0 where
 
 -- what it shows: what the medium below shows, with its own failures
 abbrev pub seen_by : {M : Type 0} → (M → Seen) → Watched M → Seen
-seen_by seen w = record (seen w.inner) { failures = w.countdown.failures }
+seen_by seen w = record (seen w.inner) { failures = w.countdown.failures; refused = w.countdown.refused }
 
--- the countdown after a write; one that is refused for what the medium shows (why) isn't counted
-abbrev pub after_write : Option ℕ → Countdown → Countdown
-after_write (Some code) c = c
-after_write None c = if is_due c then failed c else passed c
+-- the countdown after a write to a place; one that is refused for what the medium shows (why) isn't counted
+abbrev pub after_write : Option ℕ → Place → Countdown → Countdown
+after_write (Some code) at c = c
+after_write None at c = if is_due c then failed at c else passed c
 
 -- What a write makes of the countdown, and what it answers at this place where the medium shows nothing that refuses it:
 -- 25 where the countdown is due, else Ok.
 pub record CountsDown (why : Option ℕ) (at : Place) (old new : Countdown) (result : Result (Unit {0}) Fault) : Type 0 where
-  pub countdown : new ≡ after_write why old
+  pub countdown : new ≡ after_write why at old
   pub due : why ≡ None → is_due old ≡ true → result ≡ Err (record { code = 25; at = at })
   pub passes : why ≡ None → is_due old ≡ false → result ≡ Ok tt

@@ -1,5 +1,5 @@
 -- What a link meets on any content.
-use Rattle.std.specs.Prelude.{ℕ, ◌≡◌, ◌⊎◌, Bool, false, Err}
+use Rattle.std.specs.Prelude.{ℕ, ◌≡◌, ◌⊎◌, false, Err}
 use Rattle.cbm_medium.specs.Place.{Place, has, Has}
 use Rattle.cbm_medium.specs.Content.{Content}
 use Rattle.cbm_medium.specs.declared.fault.Trouble.{Trouble}

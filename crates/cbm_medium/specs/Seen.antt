@@ -1,18 +1,31 @@
 -- What a medium shows, and what a write leaves of it.
-use Rattle.std.specs.Prelude.{ℕ, Bool, true, Option, Some, Result, OnOk, ◌≡◌, ◌<◌, ◌≤◌, ◌⊎◌}
+use Rattle.std.specs.Prelude.{ℕ, ◌+◌, Bool, true, List, Option, Some, option_map, Result, OnOk, IfErr, ◌≡◌, ◌<◌, ◌≤◌, ◌⊎◌}
 use Rattle.cbm_medium.specs.Place.{Place}
 use Rattle.cbm_medium.specs.Content.{Content, refusal}
+use Rattle.cbm_medium.specs.declared.fault.Fault.{Fault}
+use Rattle.cbm_medium.specs.declared.fault.Trouble.{Trouble}
 
--- what each sector holds, how many tracks there are (35 or 40), whether each write is refused, how often the medium failed by itself
+-- what each sector holds, how many tracks there are (35 or 40), whether each write is refused, how often the medium failed by itself,
+-- what it answered when it did so last, and the id in its headers, none where it keeps none
 pub record Seen : Type 0 where
   pub content : Content
   pub tracks : ℕ
   pub protected : Bool
   pub failures : ℕ
+  pub refused : Option Trouble
+  pub id : Option (List ℕ)
 
 -- the sectors hold something else, and nothing more is new
 abbrev pub with_content : Content → Seen → Seen
 with_content content s = record s { content = content }
+
+-- it was formatted under an id, which is in its headers then, if it keeps one
+abbrev pub formatted_as : List ℕ → Seen → Seen
+formatted_as id s = record s { id = option_map (λ _. id) s.id }
+
+-- a fault as the status line shows it
+abbrev pub trouble_of : Fault → Trouble
+trouble_of f = record { code = f.code; track = f.at.track; sector = f.at.sector }
 
 -- the code that refuses a write to a sector, where the medium has no failure of its own
 abbrev pub write_refusal : Seen → Place → Option ℕ
@@ -22,17 +35,23 @@ write_refusal s at = refusal s.protected (s.content at)
 abbrev pub HasFailed : Seen → Seen → Type 0
 HasFailed old new = old.failures < new.failures
 
--- A write was refused with this code, and changed nothing: for what the medium shows (why), or by a failure of the medium's
--- own, which is counted. The code 26 says that the medium is protected.
-pub record IsRefused (why : Option ℕ) (code : ℕ) (old new : Seen) : Type 0 where
-  pub same : new ≡ record old { failures = new.failures }
-  pub cause : (why ≡ Some code) ⊎ HasFailed old new
+-- A write was refused with this fault, and changed nothing: for what the medium shows (why), or by a failure of the medium's own, which is
+-- counted, one for a write, and kept as what it refused last. The code 26 says that the medium is protected.
+pub record IsRefused (why : Option ℕ) (fault : Fault) (old new : Seen) : Type 0 where
+  pub same : new ≡ record old { failures = new.failures; refused = new.refused }
+  pub cause : (why ≡ Some fault.code) ⊎ HasFailed old new
   pub counted : old.failures ≤ new.failures
-  pub only_protected : code ≡ 26 → old.protected ≡ true
+  pub once : new.failures ≤ old.failures + 1
+  pub own : HasFailed old new → new.refused ≡ Some (trouble_of fault)
+  pub only_protected : fault.code ≡ 26 → old.protected ≡ true
 
--- A call changed at most what the sectors hold: tracks and protection stay, and failures go up only where it answers Err.
-pub record OnlyContent {A E : Type 0} (result : Result A E) (old new : Seen) : Type 0 where
+-- A call changed at most what the sectors hold: tracks, protection and id stay. It makes no write after one that the medium refused by
+-- itself: failures go up by one at most, only where it answers Err, and then that is what the medium refused last.
+pub record OnlyContent {A : Type 0} (result : Result A Trouble) (old new : Seen) : Type 0 where
   pub tracks : new.tracks ≡ old.tracks
   pub protected : new.protected ≡ old.protected
+  pub id : new.id ≡ old.id
   pub counted : old.failures ≤ new.failures
+  pub once : new.failures ≤ old.failures + 1
   pub uncounted : OnOk result (new.failures ≡ old.failures)
+  pub own : IfErr result (λ t. HasFailed old new → new.refused ≡ Some t)

@@ -2,11 +2,11 @@ ghost use Rattle.std.specs.Prelude.{◌≡◌, ◌≤◌, Some, true, OnOk, IfEr
 ghost use Rattle.cbm_medium.specs.Place.{directory_head};
 ghost use Rattle.cbm_medium.specs.Content.{written, blank, format_refusal};
 ghost use Rattle.cbm_medium.specs.Countdown.{is_due, passed, failed, seen_by, CountsDown};
-ghost use Rattle.cbm_medium.specs.Seen.{with_content, write_refusal, IsRefused};
+ghost use Rattle.cbm_medium.specs.Seen.{with_content, formatted_as, write_refusal, IsRefused};
 
 use crate::address::Address;
 use crate::codes::{WRITE_ERROR, WRITE_PROTECT_ON};
-use crate::fault::{Fault, is_of_header};
+use crate::fault::{Fault, Trouble, is_of_header};
 use crate::medium::Medium;
 use crate::steady::Steady;
 use std::marker::Model;
@@ -22,6 +22,7 @@ pub struct Failing<M> {
     passes: Option<u32>,
     all: bool,
     failures: u64,
+    refused: Option<Trouble>,
 }
 
 impl<M> Model for Failing<M> {
@@ -32,7 +33,7 @@ impl<M> Model for Failing<M> {
 
     ghost view = { λ f. record {
       inner = f.inner;
-      countdown = record { passes = f.passes; all = f.all; failures = f.failures };
+      countdown = record { passes = f.passes; all = f.all; failures = f.failures; refused = f.refused };
     } };
 }
 
@@ -41,7 +42,7 @@ impl<M: Steady> Failing<M> {
     pub fn new(inner: M, after: u32, all: bool) -> Failing<M>
         ensures { result ≡ (record {
           inner = inner;
-          countdown = record { passes = Some after; all = all; failures = 0 };
+          countdown = record { passes = Some after; all = all; failures = 0; refused = None };
         }) }
     {
         Failing {
@@ -49,6 +50,7 @@ impl<M: Steady> Failing<M> {
             passes: Some(after),
             all,
             failures: 0,
+            refused: None,
         }
     }
 
@@ -61,6 +63,7 @@ impl<M: Steady> Failing<M> {
             passes: _,
             all: _,
             failures: _,
+            refused: _,
         } = self;
         inner
     }
@@ -80,14 +83,25 @@ impl<M: Steady> Failing<M> {
         };
     }
 
-    fn fail(&mut self)
+    /// Counts a refusal, and answers it.
+    fn fail(&mut self, at: Address) -> Fault
         requires { is_due self.old.countdown ≡ true }
-        ensures { self.new ≡ record self.old { countdown = failed self.old.countdown } }
+        ensures failed { self.new ≡ record self.old { countdown = failed at self.old.countdown } }
+        ensures fault { result ≡ record { code = 25; at = at } }
     {
         if !self.all {
             self.passes = None;
         }
         self.failures += 1;
+        self.refused = Some(Trouble {
+            code: WRITE_ERROR,
+            track: at.track(),
+            sector: at.sector(),
+        });
+        Fault {
+            code: WRITE_ERROR,
+            at,
+        }
     }
 }
 
@@ -109,7 +123,7 @@ impl<M: Steady> Medium for Failing<M> {
         ensures refused { IfSome (write_refusal (M.seen self.old.inner) at)
             (λ code. result ≡ Err (record { code = code; at = at })) }
         ensures err { let old = seen_by M.seen self.old in IfErr result (λ fault. (fault.at ≡ at)
-            × IsRefused (write_refusal old at) fault.code old (seen_by M.seen self.new)) }
+            × IsRefused (write_refusal old at) fault old (seen_by M.seen self.new)) }
         ensures countdown { CountsDown (write_refusal (M.seen self.old.inner) at) at
             self.old.countdown self.new.countdown result }
     {
@@ -129,19 +143,15 @@ impl<M: Steady> Medium for Failing<M> {
         {
             return Err(fault);
         }
-        self.fail();
-        Err(Fault {
-            code: WRITE_ERROR,
-            at,
-        })
+        Err(self.fail(at))
     }
 
     fn format(&mut self, id: [u8; 2]) -> Result<(), Fault>
-        ensures ok { OnOk result (seen_by M.seen self.new ≡ with_content blank (seen_by M.seen self.old)) }
+        ensures ok { OnOk result (seen_by M.seen self.new ≡ formatted_as id (with_content blank (seen_by M.seen self.old))) }
         ensures refused { IfSome (format_refusal (M.seen self.old.inner).protected)
             (λ code. result ≡ Err (record { code = code; at = directory_head })) }
         ensures err { let old = seen_by M.seen self.old in IfErr result (λ fault. (fault.at ≡ directory_head)
-            × IsRefused (format_refusal old.protected) fault.code old (seen_by M.seen self.new)) }
+            × IsRefused (format_refusal old.protected) fault old (seen_by M.seen self.new)) }
         ensures countdown { CountsDown (format_refusal (M.seen self.old.inner).protected) directory_head
             self.old.countdown self.new.countdown result }
     {
@@ -150,11 +160,7 @@ impl<M: Steady> Medium for Failing<M> {
             self.pass();
             return Ok(());
         }
-        self.fail();
-        Err(Fault {
-            code: WRITE_ERROR,
-            at: Address::of_map(),
-        })
+        Err(self.fail(Address::of_map()))
     }
 
     fn tracks(&self) -> u8 {

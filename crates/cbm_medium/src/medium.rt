@@ -1,7 +1,7 @@
 ghost use Rattle.std.specs.Prelude.{◌≡◌, ◌<◌, ◌≤◌, ◌⊎◌, None, true, OnOk, IfOk, IfErr, IfSome};
 ghost use Rattle.cbm_medium.specs.Place.{Place, directory_head};
 ghost use Rattle.cbm_medium.specs.Content.{HasFaultCode, IsWhole, is_fault_code, written, blank, format_refusal, header_fault};
-ghost use Rattle.cbm_medium.specs.Seen.{Seen, with_content, write_refusal, IsRefused};
+ghost use Rattle.cbm_medium.specs.Seen.{Seen, with_content, formatted_as, write_refusal, IsRefused};
 
 use crate::address::Address;
 use crate::fault::Fault;
@@ -12,7 +12,8 @@ use crate::fault::Fault;
 /// by `read` alone, and a write mends it. A protected medium refuses each write with 26, before any other fault.
 /// Every other refusal is a failure of the medium's own, and is counted.
 pub trait Medium {
-    /// What it shows: what each sector holds, its tracks, whether it is protected, how often it failed by itself.
+    /// What it shows: what each sector holds, its tracks, whether it is protected, how often it failed by itself, what
+    /// it refused last by itself, and the id in its headers.
     ghost seen: { Self → Seen };
 
     /// The 256 bytes at an address, or the fault that stands in their place.
@@ -34,15 +35,15 @@ pub trait Medium {
 
         // Any other fault is the medium's own, and is counted; 26 means protection alone, and never a failure.
         ensures err { IfErr result (λ fault. (fault.at ≡ at)
-            × IsRefused (write_refusal (seen self.old) at) fault.code (seen self.old) (seen self.new)) };
+            × IsRefused (write_refusal (seen self.old) at) fault (seen self.old) (seen self.new)) };
 
     /// Makes each sector 256 zeros, under this disk id. An `Err` changes nothing.
     fn format(&mut self, id: [u8; 2]) -> Result<(), Fault>
-        ensures ok { OnOk result (seen self.new ≡ with_content blank (seen self.old)) }
+        ensures ok { OnOk result (seen self.new ≡ formatted_as id (with_content blank (seen self.old))) }
         ensures refused { IfSome (format_refusal (seen self.old).protected)
             (λ code. result ≡ Err (record { code = code; at = directory_head })) }
         ensures err { IfErr result (λ fault. (fault.at ≡ directory_head)
-            × IsRefused (format_refusal (seen self.old).protected) fault.code (seen self.old) (seen self.new)) };
+            × IsRefused (format_refusal (seen self.old).protected) fault (seen self.old) (seen self.new)) };
 
     /// How many tracks it has, 35 or 40; this never changes.
     fn tracks(&self) -> u8

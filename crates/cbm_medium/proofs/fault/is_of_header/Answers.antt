@@ -1,5 +1,4 @@
-use Rattle.std.proofs.Common.{rules, ◌≡◌, ℕ, ◌+◌, ◌-◌, ◌*◌, ◌<◌, ◌≤◌, length, ◌/◌, ◌%◌, Bool, true, false, nat_eq, nat_lt, List, [], ◌∷◌, ◌++◌, slice_index_or, slice_set, bit_and, bit_or, Fits, w8, w32, w64, Bor, MutBor}
-use Rattle.cbm_medium.specs.Content.{is_header_fault}
+use Rattle.std.proofs.Common.{rules}
 use Rattle.cbm_medium.proofs.fault.is_of_header.Goals as goal
 
 pub returns-in_default : goal.returns-in_default
