@@ -33,13 +33,3 @@ grown_stopped tracks c c' (Err t) none grows found = inr (none, inr (grows, foun
 pub grown_refused : (tracks : ℕ) (old new : Seen) (r : Result (Option ℕ) Trouble) → Grows tracks old.content new.content → FindsEmpty (directory_of tracks new.content) r → IfErr r (IsSlotRefused tracks old new)
 grown_refused tracks old new (Ok o) grows found = tt
 grown_refused tracks old new (Err t) grows found = inr (inr (grows, found))
-
--- a call that only reads comes behind one that succeeded
-pub only_then : {A B E : Type 0} (q : Result A E) (r : Result B E) (a : A) (old new : Seen) → q ≡ Ok a → OnlyContent q old new → OnlyContent r old new
-only_then {A} {B} {E} q r a old new e h =
-    let same : new.failures ≡ old.failures = subst (λ (x : Result A E). OnOk x (new.failures ≡ old.failures)) e h.uncounted in
-    record { tracks = h.tracks; protected = h.protected; counted = h.counted; uncounted = on_ok r same }
-  where
-    on_ok : {X : Type 0} (x : Result B E) → X → OnOk x X
-    on_ok (Ok b) k = k
-    on_ok (Err t) k = tt

@@ -3,6 +3,7 @@ use Rattle.std.proofs.Common.{◌≡◌, ◌⊎◌, ℕ, zero, suc, ◌+◌, ◌
 use Rattle.std.proofs.lemmas.Bool.{cases_eq}
 use Rattle.cbm_medium.specs.Place.{Place, Has}
 use Rattle.cbm_medium.specs.Content.{Content}
+use Rattle.cbm_medium.specs.declared.fault.Fault.{Fault}
 use Rattle.cbm_medium.specs.Seen.{Seen, write_refusal, HasFailed, IsRefused}
 use Rattle.std.specs.Prelude.{MatchOption}
 use Rattle.cbm_bam.specs.Map.{IsFull, map_of}
@@ -12,22 +13,22 @@ use Rattle.cbm_relfile.specs.SideSectors.{named_in, Numbered}
 use Rattle.cbm_relfile.proofs.Listed.{at_bytes, named_none, named_some}
 
 -- a write of a sector of the disk is refused
-pub refused_write : (tracks : ℕ) (mid new : Seen) (p : Place) (code : ℕ) → Has tracks p → IsRefused (write_refusal mid p) code mid new → IsWriteRefused tracks mid new code
-refused_write tracks mid new p code has r = by_cause r.cause
+pub refused_write : (tracks : ℕ) (mid new : Seen) (p : Place) (fault : Fault) → Has tracks p → IsRefused (write_refusal mid p) fault mid new → IsWriteRefused tracks mid new fault.code
+refused_write tracks mid new p fault has r = by_cause r.cause
   where
-    by_cause : (write_refusal mid p ≡ Some code) ⊎ HasFailed mid new → IsWriteRefused tracks mid new code
+    by_cause : (write_refusal mid p ≡ Some fault.code) ⊎ HasFailed mid new → IsWriteRefused tracks mid new fault.code
     by_cause (inl e) = inl (p, has, e)
     by_cause (inr f) = inr f
 
-pub stopped_at : (tracks : ℕ) (old mid new : Seen) (last p : Place) (code : ℕ) → IsBegun tracks old.content mid.content → mid.protected ≡ old.protected → old.failures ≤ mid.failures → Has tracks p → IsRefused (write_refusal mid p) code mid new
-    → IsLengthenStopped tracks old new last code
-stopped_at tracks old mid new last p code begun protected counted has r = record {
+pub stopped_at : (tracks : ℕ) (old mid new : Seen) (last p : Place) (fault : Fault) → IsBegun tracks old.content mid.content → mid.protected ≡ old.protected → old.failures ≤ mid.failures → Has tracks p → IsRefused (write_refusal mid p) fault mid new
+    → IsLengthenStopped tracks old new last fault.code
+stopped_at tracks old mid new last p fault begun protected counted has r = record {
   mid = mid;
   before = begun;
   protected = protected;
   counted = counted;
   same = ap (λ (s : Seen). s.content) r.same;
-  cause = inr (inr (refused_write tracks mid new p code has r));
+  cause = inr (inr (refused_write tracks mid new p fault has r));
 }
 
 -- what the call answers where no write is refused

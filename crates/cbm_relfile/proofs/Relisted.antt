@@ -491,10 +491,6 @@ same_bytes a b ys ea eb za zb i low = by_place (cases_lt i (16 + 2 * length ys))
 pub head_names : (tracks : ℕ) (c : Content) (file : Relative) (xs ss : List Place) (t : Place) (head : List ℕ) → IsLaid tracks c file xs ss → t ≡ file.side → c t ≡ Ok head → NamesSides head ss
 head_names tracks c file xs ss t head laid is reads = names_sides c head ss (laid.listed ∙ ap (λ (p : Place). sides_listed (bytes_at c p)) (sym is) ∙ ap (λ (x : Cell). sides_listed (or_nothing x)) reads)
 
--- one call more changed only the content
-pub only_then : {B : Type 0} (x : B) (old mid new : Seen) → OnlyContent {A = Unit {0}} {E = Trouble} (Ok tt) old mid → OnlyContent {A = B} {E = Trouble} (Ok x) mid new → OnlyContent {A = Unit {0}} {E = Trouble} (Ok tt) old new
-only_then x old mid new a b = record { tracks = b.tracks ∙ a.tracks; protected = b.protected ∙ a.protected; counted = omega (arith, a.counted, b.counted); uncounted = b.uncounted ∙ a.uncounted }
-
 -- the same of the call's answer
 pub later_refused : {A : Type 0} (old mid new : Seen) (r : Result A Trouble) (P : Type 0) → mid.protected ≡ old.protected → old.failures ≤ mid.failures → MatchResult r (λ x. P) (λ t. IsSideRefused mid new t.code) → MatchResult r (λ x. P) (λ t. IsSideRefused old new t.code)
 later_refused old mid new (Ok x) P protected counted h = h

@@ -5,7 +5,8 @@ use Rattle.cbm_directory.specs.Slots.{directory_of}
 use Rattle.cbm_directory.specs.Growth.{Grows, CannotGrow}
 use Rattle.cbm_directory.specs.Empties.{FindsEmpty}
 use Rattle.cbm_directory.proofs.Codes.{directory_never_26, found_never_26}
-use Rattle.cbm_directory.proofs.Emptied.{grown_then, grown_stopped, grown_refused, only_then}
+use Rattle.cbm_medium.proofs.Sequences.{only_then}
+use Rattle.cbm_directory.proofs.Emptied.{grown_then, grown_stopped, grown_refused}
 use Rattle.cbm_directory.proofs.empty.empty_slot.Goals as goal
 use Rattle.cbm_directory.proofs.empty.empty_slot.Given.{Over}
 

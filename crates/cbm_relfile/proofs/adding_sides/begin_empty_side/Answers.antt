@@ -19,4 +19,4 @@ returns-in_err-write-clause-begun g c = λ head first holds off.
     (c.in_ok-side.ensures.claimed (subst (λ (p : Place). Has c.args.geometry p) at first) (subst (λ (p : Place). p.track ≢ 18) at off)) in
     refused_by c.from_residual-in_err-write.result (record { code = c.in_err-write.field-0.0.code; track = c.in_err-write.field-0.0.at.track; sector = c.in_err-write.field-0.0.at.sector })
     _ (λ t. IsLengthenStopped c.args.geometry old new c.args.file.side t.code) c.from_residual-in_err-write.ensures.1
-    (stopped_at c.args.geometry old mid new c.args.file.side c.in-Some-2.side c.in_err-write.field-0.0.code (inr (c.in-Some-2.side, mid.content, k, inl (λ i. mid.content))) c.claim_next.ensures.only.protected c.claim_next.ensures.only.counted k.has c.in_err-write.ensures.err.1)
+    (stopped_at c.args.geometry old mid new c.args.file.side c.in-Some-2.side c.in_err-write.field-0.0 (inr (c.in-Some-2.side, mid.content, k, inl (λ i. mid.content))) c.claim_next.ensures.only.protected c.claim_next.ensures.only.counted k.has c.in_err-write.ensures.err.1)

@@ -16,4 +16,4 @@ returns-in_err-write-clause-begun g c = λ head first holds has off.
     let k : Claims c.args.geometry old.content mid.content c.in-Some.side = is_claimed c.args.geometry old.content mid.content c.in_ok-side.field-0 c.in-Some.side c.in-Some.is (c.in_ok-side.ensures.claimed has off) in
     refused_by c.from_residual-in_err-write.result (record { code = c.in_err-write.field-0.0.code; track = c.in_err-write.field-0.0.at.track; sector = c.in_err-write.field-0.0.at.sector })
     (BeginsSide c.args.geometry old.content new.content head c.args.sides c.args.file.width c.args.block) (λ t. IsLengthenStopped c.args.geometry old new c.args.file.side t.code) c.from_residual-in_err-write.ensures.1
-    (stopped_at c.args.geometry old mid new c.args.file.side c.in-Some.side c.in_err-write.field-0.0.code (inr (c.in-Some.side, mid.content, k, inl (λ i. mid.content))) c.claim_next.ensures.only.protected c.claim_next.ensures.only.counted k.has c.in_err-write.ensures.err.1)
+    (stopped_at c.args.geometry old mid new c.args.file.side c.in-Some.side c.in_err-write.field-0.0 (inr (c.in-Some.side, mid.content, k, inl (λ i. mid.content))) c.claim_next.ensures.only.protected c.claim_next.ensures.only.counted k.has c.in_err-write.ensures.err.1)

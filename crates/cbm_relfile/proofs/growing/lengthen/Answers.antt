@@ -17,7 +17,7 @@ returns-in_err-write-clause-lengthened g c = λ has off.
     let k : Claims c.args.geometry old.content mid.content c.in-Some.block = is_claimed c.args.geometry old.content mid.content c.in_ok-block.field-0 c.in-Some.block c.in-Some.is (c.in_ok-block.ensures.claimed has off) in
     refused_by c.from_residual-in_err-write.result (record { code = c.in_err-write.field-0.0.code; track = c.in_err-write.field-0.0.at.track; sector = c.in_err-write.field-0.0.at.sector })
     (LengthensBy c.args.geometry old.content new.content c.args.last c.args.length c.args.blocks) (λ t. IsLengthenStopped c.args.geometry old new c.args.last t.code) c.from_residual-in_err-write.ensures.1
-    (stopped_at c.args.geometry old mid new c.args.last c.in-Some.block c.in_err-write.field-0.0.code (inr (c.in-Some.block, mid.content, k, inl (λ i. mid.content))) c.claim_next.ensures.only.protected c.claim_next.ensures.only.counted k.has c.in_err-write.ensures.err.1)
+    (stopped_at c.args.geometry old mid new c.args.last c.in-Some.block c.in_err-write.field-0.0 (inr (c.in-Some.block, mid.content, k, inl (λ i. mid.content))) c.claim_next.ensures.only.protected c.claim_next.ensures.only.counted k.has c.in_err-write.ensures.err.1)
 
 -- the old last block isn't
 pub returns-in_err-write-2-clause-lengthened : goal.returns-in_err-write-2-clause-lengthened
@@ -32,5 +32,5 @@ returns-in_err-write-2-clause-lengthened g c = λ has off.
     let failures : mid.failures ≡ one.failures = ap (λ (s : Seen). s.failures) c.in_ok-write.ensures.ok in
     refused_by c.from_residual-in_err-write-2.result (record { code = c.in_err-write-2.field-0.0.code; track = c.in_err-write-2.field-0.0.at.track; sector = c.in_err-write-2.field-0.0.at.sector })
     (LengthensBy c.args.geometry old.content new.content c.args.last c.args.length c.args.blocks) (λ t. IsLengthenStopped c.args.geometry old new c.args.last t.code) c.from_residual-in_err-write-2.ensures.1
-    (stopped_at c.args.geometry old mid new c.args.last c.args.last c.in_err-write-2.field-0.0.code (inr (c.in-Some.block, one.content, k, inr (c.fresh_from-fresh.result, block))) protected
+    (stopped_at c.args.geometry old mid new c.args.last c.args.last c.in_err-write-2.field-0.0 (inr (c.in-Some.block, one.content, k, inr (c.fresh_from-fresh.result, block))) protected
     (omega (arith, failures, c.claim_next.ensures.only.counted)) has c.in_err-write-2.ensures.err.1)

@@ -2,12 +2,13 @@ use Rattle.std.proofs.Common.{◌*◌, drop, refl, arith}
 use Rattle.cbm_medium.specs.Seen.{Seen}
 use Rattle.cbm_relfile.specs.Relisting.{IsSideRefused}
 use Rattle.cbm_relfile.proofs.Changed.{refused_by}
-use Rattle.cbm_relfile.proofs.Relisted.{relisting_begins, side_stopped, relisted_one, only_then}
+use Rattle.cbm_medium.proofs.Sequences.{nothing_yet, only_more}
+use Rattle.cbm_relfile.proofs.Relisted.{relisting_begins, side_stopped, relisted_one}
 use Rattle.cbm_relfile.proofs.relisting.relist.Goals as goal
 
 pub loop-number-init : goal.loop-number-init
 loop-number-init g c = (
-  record { tracks = refl; protected = refl; counted = omega arith; uncounted = refl },
+  nothing_yet (g.M.Medium.seen c.args.medium.now),
   λ file xs ss whole laid apart first names l none. relisting_begins c.args.geometry (g.M.Medium.seen c.args.medium.now).content file xs ss c.args.first whole laid first none,
 )
 
@@ -29,7 +30,7 @@ loop-number-preserved g c =
     let mid : Seen = g.M.Medium.seen c.loop-number.medium in
     let new : Seen = g.M.Medium.seen c.write_side.new.medium in
     let i = c.loop-number.invariant in (
-      only_then _ old mid new i.0 c.in_ok-at.ensures.only,
+      only_more _ old mid new i.0 c.in_ok-at.ensures.only,
       λ file xs ss whole laid apart first names l none. (let h = i.1 file xs ss whole laid apart first names l none in
           relisted_one c.args.geometry old.content mid.content new.content file xs ss c.loop-number.number c.loop-number.at c.in_ok-at.at c.args.head.now c.side_named.result apart h (omega (arith, l, c.loop-number-test.true)) names c.side_named.ensures
           (λ has ok. c.in_ok-at.ensures.listed (drop (120 * c.loop-number.number) xs) has ok h.chain)),

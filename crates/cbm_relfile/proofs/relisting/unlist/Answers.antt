@@ -2,12 +2,13 @@ use Rattle.std.proofs.Common.{◌≡◌, ℕ, ◌+◌, ◌-◌, [], refl, subst,
 use Rattle.cbm_medium.specs.Seen.{Seen}
 use Rattle.cbm_relfile.specs.Relisting.{IsSideRefused}
 use Rattle.cbm_relfile.proofs.Changed.{refused_by}
-use Rattle.cbm_relfile.proofs.Relisted.{Unlisting, unlisting_begins, side_stopped, no_blocks, unlisted_one, only_then}
+use Rattle.cbm_medium.proofs.Sequences.{nothing_yet, only_more}
+use Rattle.cbm_relfile.proofs.Relisted.{Unlisting, unlisting_begins, side_stopped, no_blocks, unlisted_one}
 use Rattle.cbm_relfile.proofs.relisting.unlist.Goals as goal
 
 pub loop-passed-init : goal.loop-passed-init
 loop-passed-init g c = (
-  record { tracks = refl; protected = refl; counted = omega arith; uncounted = refl },
+  nothing_yet (g.M.Medium.seen c.args.medium.now),
   λ file xs ss whole laid apart names l. unlisting_begins c.args.geometry (g.M.Medium.seen c.args.medium.now).content file xs ss (c.args.sides - 0) whole laid (omega (arith, l)),
 )
 
@@ -29,7 +30,7 @@ loop-passed-preserved g c =
     let mid : Seen = g.M.Medium.seen c.loop-passed.medium in
     let new : Seen = g.M.Medium.seen c.write_side.new.medium in
     let i = c.loop-passed.invariant in (
-      only_then _ old mid new i.0 c.in_ok-write_side.ensures.only,
+      only_more _ old mid new i.0 c.in_ok-write_side.ensures.only,
       λ file xs ss whole laid apart names l. (let e : c.args.sides - 1 - c.loop-passed.passed ≡ c.args.sides - (c.loop-passed.passed + 1) = omega arith in
           subst (λ (m : ℕ). Unlisting c.args.geometry old.content new.content file xs ss m) e
           (unlisted_one c.args.geometry old.content mid.content new.content file xs ss (c.args.sides - c.loop-passed.passed) (c.args.sides - 1 - c.loop-passed.passed) c.args.head.now c.side_named-side.result apart laid (i.1 file xs ss whole laid apart names l)
