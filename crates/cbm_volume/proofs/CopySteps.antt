@@ -4,7 +4,7 @@ use Rattle.std.specs.Prelude.{min, slice_index_or, OnOk, IsOkAnd, MatchBool, Mat
 use Rattle.std.proofs.lemmas.List.{length-append, append_assoc, append-nil, at_drop_more, drop_all, get_or_past}
 use Rattle.cbm_medium.specs.Place.{Place, sector_count}
 use Rattle.cbm_medium.specs.Content.{Content}
-use Rattle.cbm_medium.specs.Seen.{Seen, OnlyContent}
+use Rattle.cbm_medium.specs.Seen.{Seen}
 use Rattle.cbm_medium.specs.Links.{Followed}
 use Rattle.cbm_medium.specs.declared.fault.Trouble.{Trouble}
 use Rattle.cbm_medium.proofs.Walks.{follow_end}
@@ -42,16 +42,6 @@ handed {A} (Err e) t P Q is h = subst Q (sym is) h
 pub cut_since : (old mid new : Seen) (c : Content) (l : Layout) (d : Disk) (uses : ℕ → Use) (t : Trouble) → mid.tracks ≡ old.tracks → mid.protected ≡ old.protected → old.failures ≤ mid.failures → IsCutShort mid new c l d uses t → IsCutShort old new c l d uses t
 cut_since old mid new c l d uses t same protected counted k =
     (subst (λ (n : ℕ). SlotLost n c l new.content d uses) same k.0, hindered_since old mid new t protected counted k.1)
-
--- nothing but the content is another
-abbrev pub NothingFailed : Seen → Seen → Type 0
-NothingFailed old new = OnlyContent {A = Unit {0}} {E = Trouble} (Ok tt) old new
-
-pub nothing_yet : (s : Seen) → NothingFailed s s
-nothing_yet s = record { tracks = refl; protected = refl; counted = omega arith; uncounted = refl }
-
-pub nothing_more : (x : Unit {0}) (a b c : Seen) → NothingFailed a b → OnlyContent {A = Unit {0}} {E = Trouble} (Ok x) b c → NothingFailed a c
-nothing_more x a b c h k = record { tracks = k.tracks ∙ h.tracks; protected = k.protected ∙ h.protected; counted = omega (arith, h.counted, k.counted); uncounted = k.uncounted ∙ h.uncounted }
 
 -- ---- the blocks are enough
 

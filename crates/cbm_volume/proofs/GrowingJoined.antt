@@ -35,7 +35,7 @@ pub copied_more : (old mid new : Seen) (r : Relative) (geometry s1 i : ℕ) (t :
 copied_more old mid new r geometry s1 i t so same some k c0 d uses n w b s b1 rs q o e h =
     subst (λ (m : ℕ). CopiesBy m mid new r geometry s1 i t (λ p q. p)) same k c0 d uses n w b s b1 rs q o e (so c0 d uses n w b s b1 rs q o e h) some
 
-pub copied_stop : {A E : Type 0} (x : Result A E) (old mid new : Seen) (r : Relative) (geometry s1 i : ℕ) (t : Place) (u : Trouble) → HasCopied old mid r geometry s1 t → OnlyContent x old mid → 0 < i → CopiesBy mid.tracks mid new r geometry s1 i t (λ p q. q u)
+pub copied_stop : {A : Type 0} (x : Result A Trouble) (old mid new : Seen) (r : Relative) (geometry s1 i : ℕ) (t : Place) (u : Trouble) → HasCopied old mid r geometry s1 t → OnlyContent x old mid → 0 < i → CopiesBy mid.tracks mid new r geometry s1 i t (λ p q. q u)
     → (c0 : Content) (d : Disk) (uses : ℕ → Use) (n w b s b1 : ℕ) (rs : List (List ℕ)) (q : Place) (o : HasRecordsOpen old.tracks c0 d uses n w b s rs) → geometry ≡ geometry_of old.tracks c0 → HasSide old.tracks c0 d uses n w b s rs o r old.content b1 s1 q t
     → IsGrowthStopped old new c0 o.holds.layout d uses n w rs u
 copied_stop x old mid new r geometry s1 i t u so only some k c0 d uses n w b s b1 rs q o e h =
@@ -128,10 +128,6 @@ turned_stop old mid new r geometry b1 s1 last count passed b2 s2 last2 s3 last3 
     let now = so c0 d uses n w b s rs o e h room in
     stop_later old mid new c0 o.holds.layout d uses n w rs t same protected counted
     (subst (λ (m : ℕ). OnceBy m mid new r geometry b2 s2 last2 s3 last3 (λ p q. q t)) same k c0 d uses n w b s rs o e now.1 (next_room b1 s1 count passed b2 s2 b s d.free room now.0 at few))
-
--- nothing but the content is another, after one call more
-pub only_more : {A : Type 0} (x : A) (old mid new : Seen) → OnlyContent {A = Unit {0}} {E = Trouble} (Ok tt) old mid → OnlyContent {A = A} {E = Trouble} (Ok x) mid new → OnlyContent {A = Unit {0}} {E = Trouble} (Ok tt) old new
-only_more {A} x old mid new a b = record { tracks = b.tracks ∙ a.tracks; protected = b.protected ∙ a.protected; counted = omega (arith, a.counted, b.counted); uncounted = b.uncounted ∙ a.uncounted }
 
 -- all turns
 abbrev pub BlocksBy : ℕ → Seen → Seen → Relative → ℕ → ℕ → ℕ → Place → ℕ → ℕ → Place → (Type 0 → (Trouble → Type 0) → Type 0) → Type 0

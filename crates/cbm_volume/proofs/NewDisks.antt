@@ -1,12 +1,12 @@
 -- Behind NEW the medium holds the empty disk.
 use Rattle.std.proofs.Common.{◌≡◌, ◌≢◌, ◌⊎◌, ℕ, ◌/◌, ◌%◌, ◌<◌, ◌≤◌, List, [], ◌∷◌, take, drop, get_or, Bool, true, false, Ok, Err, IsOk, refl, sym, ap, subst, ◌∙◌, arith, inl, inr, Option, Some, None, Result}
-use Rattle.std.specs.Prelude.{if◌then◌else◌, not, slice_range, OnOk}
+use Rattle.std.specs.Prelude.{if◌then◌else◌, not, slice_range, OnOk, IsErr}
 use Rattle.std.proofs.lemmas.Bool.{cases_lt, eq-eqb}
 use Rattle.std.proofs.lemmas.List.{get_or-replicate}
 use Rattle.cbm_medium.specs.Place.{Place, directory_head, Has}
 use Rattle.cbm_medium.specs.Content.{Cell, Content, written, blank, header_fault, is_header_fault}
 use Rattle.cbm_medium.specs.Links.{or_nothing, bytes_at, link}
-use Rattle.cbm_medium.specs.Seen.{Seen, with_content}
+use Rattle.cbm_medium.specs.Seen.{Seen, with_content, formatted_as, OnlyContent}
 use Rattle.cbm_medium.specs.declared.fault.Trouble.{Trouble}
 use Rattle.cbm_file.specs.Files.{Disk, blocks_on}
 use Rattle.cbm_file.specs.Changes.{new_disk}
@@ -19,7 +19,7 @@ use Rattle.cbm_volume.specs.Blocks.{no_blocks, LiesAs, file_of}
 use Rattle.cbm_chain.specs.Data.{chain_bytes}
 use Rattle.cbm_volume.specs.Holding.{HoldsDisk}
 use Rattle.cbm_volume.specs.Layouts.{Owner, Nobody, TheMap, Directory, DataOf, SideOf, Layout, IsWritable, Stands, Means, own}
-use Rattle.cbm_volume.specs.NewDisks.{used_by_new, IsEmptied, id_behind, content_under}
+use Rattle.cbm_volume.specs.NewDisks.{used_by_new, IsEmptied, OnlyNew, id_behind, content_under}
 use Rattle.cbm_volume.specs.Writers.{Use, Idle, IsUsed, HoldsNow, writes_slot}
 use Rattle.cbm_medium.proofs.Places.{place_decide}
 use Rattle.cbm_volume.proofs.Listing.{geometry_size}
@@ -211,7 +211,7 @@ blank_writable : (medium : ℕ) (p : Place) → Has medium p → IsWritable (bla
 blank_writable medium p h = tt
 
 -- NEW WITH AN ID, on any content
-pub made_long : (r : Result (Unit {0}) Trouble) (old mid : Seen) (new : Content) (title id : List ℕ) (o : Option (List ℕ)) → mid ≡ with_content blank old → (mid.tracks ≡ 35) ⊎ (mid.tracks ≡ 40) → o ≡ Some id
+pub made_long : (r : Result (Unit {0}) Trouble) (old mid : Seen) (new : Content) (title id : List ℕ) (o : Option (List ℕ)) → mid ≡ formatted_as id (with_content blank old) → (mid.tracks ≡ 35) ⊎ (mid.tracks ≡ 40) → o ≡ Some id
     → OnOk r (IsEmptied mid.tracks title id mid.content new) → (d : Disk) → OnOk r (HoldsDisk old.tracks new (new_disk old.tracks title o d))
 made_long (Err t) old mid new title id o was either some e d = tt
 made_long (Ok x) old mid new title id o was either some e d =
@@ -237,7 +237,29 @@ emptied_short r old new title id o none is h =
     subst (λ (y : Option (List ℕ)). OnOk r (IsEmptied old.tracks title (id_behind y old.content) (content_under y old.content) new)) (sym none) (subst (λ (i : List ℕ). OnOk r (IsEmptied old.tracks title i old.content new)) is h)
 
 -- and with one
-pub emptied_long : (r : Result (Unit {0}) Trouble) (old mid : Seen) (new : Content) (title id : List ℕ) (o : Option (List ℕ)) → mid ≡ with_content blank old → o ≡ Some id → OnOk r (IsEmptied mid.tracks title id mid.content new)
+pub emptied_long : (r : Result (Unit {0}) Trouble) (old mid : Seen) (new : Content) (title id : List ℕ) (o : Option (List ℕ)) → mid ≡ formatted_as id (with_content blank old) → o ≡ Some id → OnOk r (IsEmptied mid.tracks title id mid.content new)
     → OnOk r (IsEmptied old.tracks title (id_behind o old.content) (content_under o old.content) new)
 emptied_long r old mid new title id o was some h =
     subst (λ (y : Option (List ℕ)). OnOk r (IsEmptied old.tracks title (id_behind y old.content) (content_under y old.content) new)) (sym some) (subst (λ (m : Seen). OnOk r (IsEmptied m.tracks title id m.content new)) was h)
+
+-- what else the medium shows after NEW without an id
+pub only_short : (r : Result (Unit {0}) Trouble) (o : Option (List ℕ)) (old new : Seen) → o ≡ None → OnlyContent r old new → OnlyNew r o old new
+only_short r o old new none h = subst (λ (y : Option (List ℕ)). OnlyNew r y old new) (sym none) h
+
+-- and with one, where the format was refused
+pub only_stopped : (r : Result (Unit {0}) Trouble) (id : List ℕ) (o : Option (List ℕ)) (old new : Seen) → o ≡ Some id → IsErr r → OnlyContent r old new → OnlyNew r o old new
+only_stopped r id o old new some err h = subst (λ (y : Option (List ℕ)). OnlyNew r y old new) (sym some) (inr (err, h))
+
+-- or done
+pub only_long : (r : Result (Unit {0}) Trouble) (id : List ℕ) (o : Option (List ℕ)) (old mid new : Seen) → mid ≡ formatted_as id (with_content blank old) → o ≡ Some id → OnlyContent r mid new → OnlyNew r o old new
+only_long r id o old mid new was some h =
+    subst (λ (y : Option (List ℕ)). OnlyNew r y old new) (sym some) (inl (under (subst (λ (s : Seen). OnlyContent r s new) was h)))
+  where
+    under : OnlyContent r (formatted_as id (with_content blank old)) new → OnlyContent r (formatted_as id old) new
+    under k = record { tracks = k.tracks; protected = k.protected; id = k.id; counted = k.counted; once = k.once; uncounted = k.uncounted; own = k.own }
+
+-- tracks and protection stay, and failures are counted
+pub new_keeps : (r : Result (Unit {0}) Trouble) (o : Option (List ℕ)) (old new : Seen) → OnlyNew r o old new → (new.tracks ≡ old.tracks) × (new.protected ≡ old.protected) × (old.failures ≤ new.failures)
+new_keeps r None old new h = (h.tracks, h.protected, h.counted)
+new_keeps r (Some id) old new (inl h) = (h.tracks, h.protected, h.counted)
+new_keeps r (Some id) old new (inr (err, h)) = (h.tracks, h.protected, h.counted)

@@ -178,18 +178,20 @@ pub record AreSwept (tracks : ℕ) (old now : Seen) (n : ℕ) : Type 0 where
   pub same_tracks : now.tracks ≡ old.tracks
   pub same_protection : now.protected ≡ old.protected
   pub same_failures : now.failures ≡ old.failures
+  pub same_id : now.id ≡ old.id
 
 pub begins : (tracks : ℕ) (old : Seen) → AreSwept tracks old old 0
-begins tracks old = record { swept = λ xs h. none_swept old.content xs; same_tracks = refl; same_protection = refl; same_failures = refl }
+begins tracks old = record { swept = λ xs h. none_swept old.content xs; same_tracks = refl; same_protection = refl; same_failures = refl; same_id = refl }
 
 pub goes_on : (tracks : ℕ) (old mid new : Seen) (n m : ℕ) → m ≡ n + 1 → AreSwept tracks old mid n → ((xs : List Place) → IsDirectory tracks mid.content xs → SlotSwept mid.content new.content xs n)
-    → new.tracks ≡ mid.tracks → new.protected ≡ mid.protected → new.failures ≡ mid.failures → AreSwept tracks old new m
-goes_on tracks old mid new n m at s one t p f = record {
+    → new.tracks ≡ mid.tracks → new.protected ≡ mid.protected → new.failures ≡ mid.failures → new.id ≡ mid.id → AreSwept tracks old new m
+goes_on tracks old mid new n m at s one t p f i = record {
   swept = λ xs h. subst (λ (k : ℕ). IsSwept old.content new.content xs k) (sym at)
       (one_swept tracks old.content mid.content new.content xs n h (s.swept xs h) (one xs (same_directory tracks old.content mid.content xs n h (s.swept xs h))));
   same_tracks = t ∙ s.same_tracks;
   same_protection = p ∙ s.same_protection;
   same_failures = f ∙ s.same_failures;
+  same_id = i ∙ s.same_id;
 }
 
 -- where a slot is refused, those before it are swept

@@ -1,7 +1,9 @@
 -- What NEW writes: the map's sector with the title and the id, and an empty first sector of the directory.
-use Rattle.std.specs.Prelude.{ℕ, ◌≡◌, ◌++◌, ◌∷◌, [], List, Bool, true, false, not, replicate, slice_index, slice_range, Option, Some, None}
+use Rattle.std.specs.Prelude.{ℕ, ◌≡◌, ◌++◌, ◌∷◌, [], List, Bool, true, false, not, replicate, slice_index, slice_range, Option, Some, None, Result, IsErr, ◌⊎◌}
 use Rattle.cbm_medium.specs.Place.{Place, Has, directory_head}
 use Rattle.cbm_medium.specs.Content.{Content, written, blank}
+use Rattle.cbm_medium.specs.Seen.{Seen, formatted_as, OnlyContent}
+use Rattle.cbm_medium.specs.declared.fault.Trouble.{Trouble}
 use Rattle.cbm_file.specs.Padding.{padded}
 use Rattle.cbm_bam.specs.Map.{map_of, is_free_in, IsCounted, IsOutside, IsSpare, with_bit}
 use Rattle.cbm_bam.specs.Marks.{nothing}
@@ -45,3 +47,8 @@ id_behind (Some id) old = id
 abbrev pub content_under : Option (List ℕ) → Content → Content
 content_under None old = old
 content_under (Some id) old = blank
+
+-- NEW changes at most what the sectors hold and, where one is given, the id in their headers; a format that was refused leaves the old id.
+abbrev pub OnlyNew : Result (Unit {0}) Trouble → Option (List ℕ) → Seen → Seen → Type 0
+OnlyNew result None old new = OnlyContent result old new
+OnlyNew result (Some id) old new = OnlyContent result (formatted_as id old) new ⊎ (IsErr result × OnlyContent result old new)

@@ -11,7 +11,7 @@ ghost use Rattle.cbm_directory.specs.Entries.{first_directory};
 ghost use Rattle.cbm_directory.specs.Growth.{new_sector};
 ghost use Rattle.cbm_volume.specs.Holding.{HoldsDisk};
 ghost use Rattle.cbm_volume.specs.Layouts.{IsWritable};
-ghost use Rattle.cbm_volume.specs.NewDisks.{used_by_new, new_label, around_map, IsNewHead, IsEmptied, id_behind, content_under};
+ghost use Rattle.cbm_volume.specs.NewDisks.{used_by_new, new_label, around_map, IsNewHead, IsEmptied, OnlyNew, id_behind, content_under};
 ghost use Rattle.cbm_volume.specs.Opens.{IsHindered};
 ghost use Rattle.cbm_volume.specs.Writers.{Use, Idle, HoldsNow};
 
@@ -156,7 +156,7 @@ impl<M: Medium> Volume<M> {
             (M.seen self.new).content ≡ old.content }
         // The code 26 says that the medium is protected, whatever it holds.
         ensures protection { IfErr result (λ t. t.code ≡ 26 → (M.seen self.old).protected ≡ true) }
-        ensures only { OnlyContent result (M.seen self.old) (M.seen self.new) }
+        ensures only { OnlyNew result id (M.seen self.old) (M.seen self.new) }
         ensures cause { let old = M.seen self.old in (d : Disk) (uses : ℕ → Use) →
             HoldsNow old.tracks old.content d uses → IfErr result (IsHindered old (M.seen self.new)) }
     {

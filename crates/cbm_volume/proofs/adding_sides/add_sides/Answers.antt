@@ -1,10 +1,11 @@
 use Rattle.std.proofs.Common.{◌≡◌, ℕ, ◌+◌, ◌-◌, ◌/◌, ◌≤◌, sym, subst, arith}
 use Rattle.std.proofs.Math.Nat.{max-eq_left, max-eq_right}
+use Rattle.cbm_medium.proofs.Sequences.{nothing_yet, only_more}
 use Rattle.cbm_medium.specs.Seen.{Seen}
 use Rattle.cbm_file.specs.Records.{sides_for}
 use Rattle.cbm_volume.specs.AddingSides.{HasSides}
 use Rattle.cbm_volume.specs.Growing.{IsGrowthStopped}
-use Rattle.cbm_volume.proofs.CopySteps.{handed, nothing_yet, nothing_more}
+use Rattle.cbm_volume.proofs.CopySteps.{handed}
 use Rattle.cbm_volume.proofs.SidesAnswers.{OfRoomFor, OfSides, ok_then, stop_then, room_there, some_side}
 use Rattle.cbm_volume.proofs.adding_sides.add_sides.Goals as goal
 
@@ -44,7 +45,7 @@ loop-number-preserved g c =
     let all : ℕ = (c.args.blocks + 119) / 120 in (
       ok_then old mid new c.args.geometry (OfRoomFor c.args.file c.args.sides all) (OfRoomFor c.args.file c.loop-number.number all) (OfRoomFor c.args.file (c.loop-number.number + 1) all) i.1.tracks i.0
           (λ c1 d1 uses1 n1 w1 b1 s1 rs1 o1 e1 h1. (c.in_ok-add_empty.ensures.added c1 d1 uses1 n1 w1 b1 s1 rs1 o1 e1 h1.0 (room_there mid.tracks c1 d1 uses1 n1 w1 b1 s1 rs1 o1 c.args.file mid.content c.loop-number.number all h1 c.loop-number-test.true), h1.1)),
-      nothing_more c.in_ok-add_empty.field-0 old mid new i.1 c.in_ok-add_empty.ensures.only,
+      only_more c.in_ok-add_empty.field-0 old mid new i.1 c.in_ok-add_empty.ensures.only,
       omega (arith, i.2),
     )
 

@@ -1,8 +1,9 @@
 use Rattle.std.proofs.Common.{◌+◌, ◌-◌, arith}
+use Rattle.cbm_medium.proofs.Sequences.{nothing_yet, only_more}
 use Rattle.cbm_medium.specs.Seen.{Seen}
 use Rattle.cbm_relfile.proofs.SidesLinked.{linked_none, linked_more, linked_all}
 use Rattle.cbm_volume.specs.Growing.{IsGrowthStopped}
-use Rattle.cbm_volume.proofs.CopySteps.{handed, nothing_yet, nothing_more}
+use Rattle.cbm_volume.proofs.CopySteps.{handed}
 use Rattle.cbm_volume.proofs.SidesAnswers.{OfEmpty, ok_then, stop_then}
 use Rattle.cbm_volume.proofs.adding_sides.list_in_others.Goals as goal
 
@@ -27,7 +28,7 @@ loop-passed-preserved g c =
     let i = c.loop-passed.invariant in (
       ok_then old mid new c.args.geometry (OfEmpty c.args.file c.args.sides c.args.side) (OfEmpty c.args.file c.args.sides c.args.side) (OfEmpty c.args.file c.args.sides c.args.side) i.1.tracks i.0
           (λ c1 d1 uses1 n1 w1 b1 s1 rs1 o1 e1 h1. c.in_ok-list_side.ensures.copied c1 d1 uses1 n1 w1 b1 s1 rs1 o1 e1 h1 (omega (arith, c.loop-passed-test.true))),
-      nothing_more c.in_ok-list_side.field-0 old mid new i.1 c.in_ok-list_side.ensures.only,
+      only_more c.in_ok-list_side.field-0 old mid new i.1 c.in_ok-list_side.ensures.only,
       omega (arith, i.2),
       λ head. linked_more c.args.geometry old.content mid.content new.content c.args.file.side head (c.args.sides - c.loop-passed.passed) (c.args.sides + 1 - c.loop-passed.passed) (c.args.sides + 1 - (c.loop-passed.passed + 1)) c.args.sides c.args.side
           (omega (arith, c.loop-passed-test.true)) (omega (arith, c.loop-passed-test.true)) (omega (arith, c.loop-passed-test.true)) (omega (arith, c.loop-passed-test.true, i.2)) c.in_ok-list_side.ensures.linked (i.3 head),

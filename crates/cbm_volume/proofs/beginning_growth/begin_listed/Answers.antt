@@ -1,4 +1,5 @@
 use Rattle.std.proofs.Common.{◌≡◌, ℕ, ◌*◌, length, IsOk}
+use Rattle.cbm_medium.proofs.Sequences.{only_after}
 use Rattle.cbm_medium.specs.Content.{Content}
 use Rattle.cbm_medium.specs.Seen.{Seen}
 use Rattle.cbm_chain.specs.Data.{chain_bytes}
@@ -44,3 +45,8 @@ returns-clause-ready g c = λ d uses n w rs o is ready.
     (λ (t : ℕ) (x : Content). (o1 : HasRecordsOpen t x d uses n w c.args.blocks c.args.sides rs) → c.args.file ≡ record { first = first_block (entry_at x o1.holds.layout.directory n); side = first_side (entry_at x o1.holds.layout.directory n); width = w }
     → length (chain_bytes x (o1.holds.layout.files n).data_blocks) ≡ 254 * c.args.blocks → IsOk c.fill_last.result × (new.content ≡ x))
     c.in_ok-list_anew.ensures.only.tracks (c.in_ok-list_anew.ensures.form d uses n w c.args.blocks rs o is ready.form).1 (c.fill_last.ensures.full d uses n w c.args.sides rs) o is ready.full
+
+pub returns-clause-only : goal.returns-clause-only
+returns-clause-only g c =
+    only_after c.list_anew.result c.in_ok-list_anew.field-0 c.fill_last.result (g.M.Medium.seen c.args.medium.now) (g.M.Medium.seen c.list_anew.new.medium) (g.M.Medium.seen c.fill_last.new.medium) c.in_ok-list_anew.was
+    c.list_anew.ensures.only c.fill_last.ensures.only

@@ -1,8 +1,9 @@
 use Rattle.std.proofs.Common.{◌+◌, ◌-◌, arith}
+use Rattle.cbm_medium.proofs.Sequences.{nothing_yet, only_more}
 use Rattle.cbm_medium.specs.Seen.{Seen}
 use Rattle.cbm_relfile.proofs.SidesLinked.{linked_none, linked_more, linked_all}
 use Rattle.cbm_volume.specs.Growing.{IsGrowthStopped}
-use Rattle.cbm_volume.proofs.CopySteps.{handed, nothing_yet, nothing_more}
+use Rattle.cbm_volume.proofs.CopySteps.{handed}
 use Rattle.cbm_volume.proofs.GrowingJoined.{copied_none, copied_more, copied_stop}
 use Rattle.cbm_volume.proofs.growing_blocks.copy_sides.Goals as goal
 
@@ -23,7 +24,7 @@ loop-passed-preserved g c =
     let mid : Seen = g.M.Medium.seen c.loop-passed.medium in
     let new : Seen = g.M.Medium.seen c.copy_side.new.medium in (
       copied_more old mid new c.args.file c.args.geometry c.args.sides (c.args.sides - c.loop-passed.passed) c.args.side c.loop-passed.invariant.0 c.loop-passed.invariant.1.tracks (omega (arith, c.loop-passed-test.true)) c.in_ok-copy_side.ensures.copied,
-      nothing_more c.in_ok-copy_side.field-0 old mid new c.loop-passed.invariant.1 c.in_ok-copy_side.ensures.only,
+      only_more c.in_ok-copy_side.field-0 old mid new c.loop-passed.invariant.1 c.in_ok-copy_side.ensures.only,
       omega (arith, c.loop-passed.invariant.2),
       λ head. linked_more c.args.geometry old.content mid.content new.content c.args.file.side head (c.args.sides - c.loop-passed.passed) (c.args.sides + 1 - c.loop-passed.passed) (c.args.sides + 1 - (c.loop-passed.passed + 1)) c.args.sides c.args.side
           (omega (arith, c.loop-passed-test.true)) (omega (arith, c.loop-passed-test.true)) (omega (arith, c.loop-passed-test.true)) (omega (arith, c.loop-passed-test.true, c.loop-passed.invariant.2)) c.in_ok-copy_side.ensures.linked (c.loop-passed.invariant.3 head),

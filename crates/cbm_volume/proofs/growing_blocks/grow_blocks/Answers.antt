@@ -1,9 +1,10 @@
 use Rattle.std.proofs.Common.{◌≡◌, ◌+◌, ℕ, subst, arith}
+use Rattle.cbm_medium.proofs.Sequences.{nothing_yet, only_more}
 use Rattle.cbm_medium.specs.Seen.{Seen}
 use Rattle.cbm_volume.specs.Growing.{HasGrown, IsGrowthStopped}
 use Rattle.cbm_file.specs.Records.{sides_for}
-use Rattle.cbm_volume.proofs.CopySteps.{handed, nothing_yet}
-use Rattle.cbm_volume.proofs.GrowingJoined.{only_more, turned_none, turned_more, turned_stop}
+use Rattle.cbm_volume.proofs.CopySteps.{handed}
+use Rattle.cbm_volume.proofs.GrowingJoined.{turned_none, turned_more, turned_stop}
 use Rattle.cbm_volume.proofs.growing_blocks.grow_blocks.Goals as goal
 
 pub loop-passed-init : goal.loop-passed-init

@@ -11,4 +11,4 @@ returns-in_err-sweep_slot-clause-cause g c = λ xs h. handed_on c.from_residual.
 
 pub loop-number-preserved : goal.loop-number-preserved
 loop-number-preserved g c = goes_on c.args.geometry (g.M.Medium.seen c.args.medium.now) (g.M.Medium.seen c.loop-number.medium) (g.M.Medium.seen c.sweep_slot.new.medium) c.loop-number.number (c.loop-number.number + 1) refl
-    c.loop-number.invariant c.in_ok-sweep_slot.ensures.swept c.in_ok-sweep_slot.ensures.only.tracks c.in_ok-sweep_slot.ensures.only.protected c.in_ok-sweep_slot.ensures.only.uncounted
+    c.loop-number.invariant c.in_ok-sweep_slot.ensures.swept c.in_ok-sweep_slot.ensures.only.tracks c.in_ok-sweep_slot.ensures.only.protected c.in_ok-sweep_slot.ensures.only.uncounted c.in_ok-sweep_slot.ensures.only.id

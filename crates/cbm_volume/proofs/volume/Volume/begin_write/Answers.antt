@@ -1,4 +1,4 @@
-use Rattle.std.proofs.Common.{◌≡◌, ◌<◌, ◌≤◌, ◌*◌, ◌%◌, ℕ, List, length, Option, Some, None, refl, sym, ap, subst, ◌∙◌, inl, inr, MatchOption, [], false, Ok}
+use Rattle.std.proofs.Common.{◌≡◌, ◌<◌, ◌≤◌, ◌*◌, ◌%◌, ℕ, List, length, Option, Some, None, Err, refl, sym, ap, subst, ◌∙◌, inl, inr, MatchOption, [], false, Ok}
 use Rattle.std.proofs.lemmas.Result.{err_from_is_err_and}
 use Rattle.cbm_medium.specs.Place.{Place, directory_head}
 use Rattle.cbm_medium.specs.Content.{Content}
@@ -12,14 +12,13 @@ use Rattle.cbm_bam.specs.Causes.{HasCause}
 use Rattle.cbm_chain.specs.Writing.{State, begun_at}
 use Rattle.cbm_directory.specs.Entries.{Enters, first_directory, sector_of}
 use Rattle.cbm_directory.specs.Empties.{TakesSlot, SlotStopped, IsSlotRefused}
-use Rattle.cbm_directory.proofs.Emptied.{only_then}
+use Rattle.cbm_medium.proofs.Sequences.{only_then, only_after, only_refused}
 use Rattle.cbm_volume.specs.Opens.{Begins}
 use Rattle.cbm_volume.specs.Writers.{Filling, Use, HoldsNow}
 use Rattle.cbm_volume.proofs.Finishing.{on_err}
 use Rattle.cbm_volume.proofs.Refusals.{sector_hindered, hindered_since, sector_reads}
 use Rattle.cbm_volume.proofs.HinderedOpens.{slot_hinders}
 use Rattle.cbm_volume.proofs.KeptOpens.{nothing_claimed}
-use Rattle.cbm_volume.proofs.OnlyContents.{only_behind, only_failed}
 use Rattle.cbm_volume.proofs.OpenedFiles.{EntersSlot, IsSet, reached_set, files_set, begins, not_full, stopped_at, untouched_by, chain_set, moved}
 use Rattle.cbm_volume.proofs.OpenedSlots.{Reached, reached_same, SlotReady, slot_ready, no_slot, same_files_grown, SlotLost, slot_lost}
 use Rattle.cbm_volume.proofs.Steps.{one_less}
@@ -184,29 +183,39 @@ returns-clause-untouched g c = λ d uses h.
 
 -- ---- only the content changes
 
+claimed_none : (g : Over) (c : goal.After-from_residual-in_err-chain g) → OnlyContent c.begin.result (g.M.Medium.seen c.args.self.now) (g.M.Medium.seen c.begin.new.medium)
+claimed_none g c =
+    only_after c.empty_slot.result c.in_ok-slot.field-0 c.begin.result (g.M.Medium.seen c.args.self.now) (g.M.Medium.seen c.empty_slot.new.medium) (g.M.Medium.seen c.begin.new.medium) c.in_ok-slot.was
+    (subst (λ (x : Seen). OnlyContent c.empty_slot.result x (g.M.Medium.seen c.empty_slot.new.medium)) (ap (λ m. g.M.Medium.seen m) c.self.view_is) c.empty_slot.ensures.only) c.begin.ensures.only
+
+pub returns-in_err-chain-clause-only : goal.returns-in_err-chain-clause-only
+returns-in_err-chain-clause-only g c =
+    let p = err_from_is_err_and c.from_residual-in_err-chain.result c.from_residual-in_err-chain.ensures.1 in
+    only_refused c.begin.result c.from_residual-in_err-chain.result p.0 (g.M.Medium.seen c.args.self.now) (g.M.Medium.seen c.begin.new.medium) (c.in_err-chain.was ∙ ap Err (sym p.2)) p.1 (claimed_none g c)
+
 claimed_refused : (g : Over) (c : goal.After-from_residual-in_err-put_slot g) → OnlyContent c.begin.result (g.M.Medium.seen c.args.self.now) (g.M.Medium.seen c.begin.new.medium)
 claimed_refused g c =
-    only_behind c.empty_slot.result c.in_ok-slot.field-0 c.begin.result (g.M.Medium.seen c.args.self.now) (g.M.Medium.seen c.empty_slot.new.medium) (g.M.Medium.seen c.begin.new.medium) c.in_ok-slot.was
+    only_after c.empty_slot.result c.in_ok-slot.field-0 c.begin.result (g.M.Medium.seen c.args.self.now) (g.M.Medium.seen c.empty_slot.new.medium) (g.M.Medium.seen c.begin.new.medium) c.in_ok-slot.was
     (subst (λ (x : Seen). OnlyContent c.empty_slot.result x (g.M.Medium.seen c.empty_slot.new.medium)) (ap (λ m. g.M.Medium.seen m) c.self.view_is) c.empty_slot.ensures.only) c.begin.ensures.only
 
 put_refused : (g : Over) (c : goal.After-from_residual-in_err-put_slot g) → OnlyContent c.put_slot.result (g.M.Medium.seen c.args.self.now) (g.M.Medium.seen c.put_slot.new.medium)
 put_refused g c =
-    only_behind c.begin.result c.in_ok-chain.field-0 c.put_slot.result (g.M.Medium.seen c.args.self.now) (g.M.Medium.seen c.begin.new.medium) (g.M.Medium.seen c.put_slot.new.medium) c.in_ok-chain.was
+    only_after c.begin.result c.in_ok-chain.field-0 c.put_slot.result (g.M.Medium.seen c.args.self.now) (g.M.Medium.seen c.begin.new.medium) (g.M.Medium.seen c.put_slot.new.medium) c.in_ok-chain.was
     (claimed_refused g c) c.put_slot.ensures.only
 
 pub returns-in_err-put_slot-clause-only : goal.returns-in_err-put_slot-clause-only
 returns-in_err-put_slot-clause-only g c =
     let p = err_from_is_err_and c.from_residual-in_err-put_slot.result c.from_residual-in_err-put_slot.ensures.1 in
-    only_failed c.put_slot.result c.from_residual-in_err-put_slot.result p.0 (g.M.Medium.seen c.args.self.now) (g.M.Medium.seen c.put_slot.new.medium) p.1 (put_refused g c)
+    only_refused c.put_slot.result c.from_residual-in_err-put_slot.result p.0 (g.M.Medium.seen c.args.self.now) (g.M.Medium.seen c.put_slot.new.medium) (c.in_err-put_slot.was ∙ ap Err (sym p.2)) p.1 (put_refused g c)
 
 claimed_entered : (g : Over) (c : goal.After-of_new g) → OnlyContent c.begin.result (g.M.Medium.seen c.args.self.now) (g.M.Medium.seen c.begin.new.medium)
 claimed_entered g c =
-    only_behind c.empty_slot.result c.in_ok-slot.field-0 c.begin.result (g.M.Medium.seen c.args.self.now) (g.M.Medium.seen c.empty_slot.new.medium) (g.M.Medium.seen c.begin.new.medium) c.in_ok-slot.was
+    only_after c.empty_slot.result c.in_ok-slot.field-0 c.begin.result (g.M.Medium.seen c.args.self.now) (g.M.Medium.seen c.empty_slot.new.medium) (g.M.Medium.seen c.begin.new.medium) c.in_ok-slot.was
     (subst (λ (x : Seen). OnlyContent c.empty_slot.result x (g.M.Medium.seen c.empty_slot.new.medium)) (ap (λ m. g.M.Medium.seen m) c.self.view_is) c.empty_slot.ensures.only) c.begin.ensures.only
 
 put_entered : (g : Over) (c : goal.After-of_new g) → OnlyContent c.put_slot.result (g.M.Medium.seen c.args.self.now) (g.M.Medium.seen c.put_slot.new.medium)
 put_entered g c =
-    only_behind c.begin.result c.in_ok-chain.field-0 c.put_slot.result (g.M.Medium.seen c.args.self.now) (g.M.Medium.seen c.begin.new.medium) (g.M.Medium.seen c.put_slot.new.medium) c.in_ok-chain.was
+    only_after c.begin.result c.in_ok-chain.field-0 c.put_slot.result (g.M.Medium.seen c.args.self.now) (g.M.Medium.seen c.begin.new.medium) (g.M.Medium.seen c.put_slot.new.medium) c.in_ok-chain.was
     (claimed_entered g c) c.put_slot.ensures.only
 
 pub returns-clause-only : goal.returns-clause-only

@@ -1,14 +1,14 @@
 use Rattle.std.proofs.Common.{◌≡◌, ap, subst, ◌∙◌, ℕ}
 use Rattle.std.specs.Prelude.{OnOk, IfErr}
 use Rattle.cbm_medium.specs.Content.{blank}
-use Rattle.cbm_medium.specs.Seen.{Seen, with_content}
+use Rattle.cbm_medium.specs.Seen.{Seen, with_content, formatted_as, OnlyContent}
 use Rattle.cbm_file.specs.Files.{Disk}
 use Rattle.cbm_file.specs.Changes.{new_disk}
 use Rattle.cbm_volume.specs.Holding.{HoldsDisk}
 use Rattle.cbm_volume.specs.NewDisks.{IsEmptied, id_behind, content_under}
 use Rattle.cbm_volume.specs.Opens.{IsHindered}
 use Rattle.cbm_volume.specs.Writers.{Use, Idle, HoldsNow}
-use Rattle.cbm_volume.proofs.NewDisks.{no_id, emptied_short, emptied_long, made_short, made_long, made_idle, head_writable, first_writable}
+use Rattle.cbm_volume.proofs.NewDisks.{no_id, emptied_short, emptied_long, made_short, made_long, made_idle, head_writable, first_writable, only_short, only_stopped, only_long}
 use Rattle.cbm_volume.proofs.volume.Volume.new_disk.Goals as goal
 use Rattle.cbm_volume.proofs.volume.Volume.new_disk.Given.{Over}
 
@@ -29,8 +29,8 @@ returns-in_default-clause-cause g c =
     (first_writable (g.M.Medium.seen c.self.inside.medium).tracks (g.M.Medium.seen c.self.inside.medium).content d uses h))
 
 -- a disk that was just formatted
-is_formatted : (g : Over) (c : goal.After-write_new-2 g) → g.M.Medium.seen c.format.new.self ≡ with_content blank (g.M.Medium.seen c.args.self.now)
-is_formatted g c = c.in_ok-format.ensures.ok ∙ ap (λ m. with_content blank (g.M.Medium.seen m)) c.self.view_is
+is_formatted : (g : Over) (c : goal.After-write_new-2 g) → g.M.Medium.seen c.format.new.self ≡ formatted_as c.in-Some.id (with_content blank (g.M.Medium.seen c.args.self.now))
+is_formatted g c = c.in_ok-format.ensures.ok ∙ ap (λ m. formatted_as c.in-Some.id (with_content blank (g.M.Medium.seen m))) c.self.view_is
 
 -- behind a format the medium holds the disk, whatever it held
 formatted : (g : Over) (c : goal.After-write_new-2 g) → (d : Disk)
@@ -57,3 +57,14 @@ pub returns-clause-emptied : goal.returns-clause-emptied
 returns-clause-emptied g c =
     emptied_long c.write_new-2.result (g.M.Medium.seen c.args.self.now) (g.M.Medium.seen c.format.new.self) (g.M.Medium.seen c.write_new-2.new.medium).content c.args.title.now c.in-Some.id c.args.id
     (is_formatted g c) c.in-Some.is c.write_new-2.ensures.emptied
+
+-- ---- nothing else is changed
+
+pub returns-in_default-clause-only : goal.returns-in_default-clause-only
+returns-in_default-clause-only g c =
+    only_short c.write_new.result c.args.id (g.M.Medium.seen c.args.self.now) (g.M.Medium.seen c.write_new.new.medium) (no_id c.args.id c.in_default.not-Some)
+    (subst (λ (s : Seen). OnlyContent c.write_new.result s (g.M.Medium.seen c.write_new.new.medium)) (found g c) c.write_new.ensures.only)
+
+pub returns-clause-only : goal.returns-clause-only
+returns-clause-only g c =
+    only_long c.write_new-2.result c.in-Some.id c.args.id (g.M.Medium.seen c.args.self.now) (g.M.Medium.seen c.format.new.self) (g.M.Medium.seen c.write_new-2.new.medium) (is_formatted g c) c.in-Some.is c.write_new-2.ensures.only

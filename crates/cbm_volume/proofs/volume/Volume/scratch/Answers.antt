@@ -1,10 +1,11 @@
 use Rattle.std.proofs.Common.{◌≡◌, ◌≤◌, ◌<◌, ◌*◌, ℕ, List, length, Option, Some, Ok, Err, Result, refl, ap, sym, subst, ◌∙◌, IfErr}
 use Rattle.std.proofs.lemmas.Result.{err_from_is_err_and}
 use Rattle.std.specs.Prelude.{OnErr}
+use Rattle.cbm_medium.proofs.Sequences.{only_after}
 use Rattle.cbm_medium.specs.Place.{Place, directory_head}
 use Rattle.cbm_medium.specs.Content.{Content}
 use Rattle.cbm_medium.specs.Links.{Chain}
-use Rattle.cbm_medium.specs.Seen.{Seen}
+use Rattle.cbm_medium.specs.Seen.{Seen, OnlyContent}
 use Rattle.cbm_medium.specs.declared.fault.Trouble.{Trouble}
 use Rattle.cbm_bam.specs.Causes.{HasCause}
 use Rattle.cbm_bam.specs.Map.{geometry_of}
@@ -203,3 +204,8 @@ returns-in_err-entry-clause-protection g c =
     let old : Seen = g.M.Medium.seen c.args.self.now in
     let p = err_from_is_err_and c.from_residual.result c.from_residual.ensures.1 in
     rw (p.1, p.2) (λ is. absurd (directory_never_26 (geometry_of old.tracks old.content) old.content c.in_err-entry.field-0.0 (λ q. g.met.M.Medium.codes c.args.self.now q) c.in_err-entry.ensures.answers.1 is))
+
+pub returns-clause-only : goal.returns-clause-only
+returns-clause-only g c =
+    only_after c.clear_slot-2.result c.in_ok-clear_slot.field-0 c.write.result (g.M.Medium.seen c.args.self.now) (g.M.Medium.seen c.clear_slot-2.new.medium) (g.M.Medium.seen c.write.new.medium) c.in_ok-clear_slot.was
+    (subst (λ (s : Seen). OnlyContent c.clear_slot-2.result s (g.M.Medium.seen c.clear_slot-2.new.medium)) (ap (λ m. g.M.Medium.seen m) c.self.view_is) c.clear_slot-2.ensures.only) c.write.ensures.only

@@ -1,6 +1,7 @@
 use Rattle.std.proofs.Common.{ℕ, List, ◌≡◌, ◌≤◌, Ok, ap, refl, sym, subst, ◌∙◌}
+use Rattle.cbm_medium.proofs.Sequences.{only_after}
 use Rattle.cbm_medium.specs.Place.{Place, directory_head}
-use Rattle.cbm_medium.specs.Seen.{Seen}
+use Rattle.cbm_medium.specs.Seen.{Seen, OnlyContent}
 use Rattle.cbm_bam.specs.Map.{geometry_of}
 use Rattle.cbm_bam.specs.Marks.{is_marked}
 use Rattle.cbm_volume.specs.Opens.{IsHindered}
@@ -113,3 +114,8 @@ pub returns-clause-refused : goal.returns-clause-refused
 returns-clause-refused g c = map_refused (g.M.Medium.seen c.args.self.now) (g.M.Medium.seen c.sweep.new.medium) (g.M.Medium.seen c.write_map.new.medium) c.in_ok-map.map (is_marked c.in_ok-used.used) c.write_map.result c.write_map.ensures.cause (map_reads g c) (claimed g c) (all_swept g c)
     (c.sweep.ensures.only.protected ∙ ap (λ m. (g.M.Medium.seen m).protected) c.self.view_is)
     (subst (λ (n : ℕ). n ≤ (g.M.Medium.seen c.sweep.new.medium).failures) (ap (λ m. (g.M.Medium.seen m).failures) c.self.view_is) c.sweep.ensures.only.counted)
+
+pub returns-clause-only : goal.returns-clause-only
+returns-clause-only g c =
+    only_after c.sweep.result c.in_ok-sweep.field-0 c.write_map.result (g.M.Medium.seen c.args.self.now) (g.M.Medium.seen c.sweep.new.medium) (g.M.Medium.seen c.write_map.new.medium) c.in_ok-sweep.was
+    (subst (λ (s : Seen). OnlyContent c.sweep.result s (g.M.Medium.seen c.sweep.new.medium)) (ap (λ m. g.M.Medium.seen m) c.self.view_is) c.sweep.ensures.only) c.write_map.ensures.only
