@@ -4,6 +4,7 @@ use Rattle.std.proofs.lemmas.Bool.{eq-eqb, cases_lt}
 use Rattle.std.proofs.lemmas.Bool.Decides.{eqb_tells}
 use Rattle.std.proofs.lemmas.List.{get_or_past, get_or-set_same, get_or-set_other}
 use Rattle.cbm_medium.specs.Seen.{Seen, OnlyContent}
+use Rattle.cbm_medium.proofs.Sequences.{only_after, only_refused}
 use Rattle.cbm_medium.specs.declared.fault.Trouble.{Trouble}
 use Rattle.cbm_file.specs.Files.{File, Disk, file_at, with_slot}
 use Rattle.cbm_volume.specs.Content.{Content}
@@ -91,21 +92,10 @@ known_keeps d d' channels same = λ k slot f u at shut. (f, known_is (file_at d 
 
 -- ---- calls that change only the content
 
--- no call failed so far
-abbrev pub NothingFailed : Seen → Seen → Type 0
-NothingFailed old new = OnlyContent {A = Unit {0}} {E = Trouble} (Ok tt) old new
-
-pub nothing_yet : (old new : Seen) → new ≡ old → NothingFailed old new
-nothing_yet old new e = record { tracks = ap (λ (s : Seen). s.tracks) e; protected = ap (λ (s : Seen). s.protected) e; counted = omega (arith, ap (λ (s : Seen). s.failures) e); uncounted = ap (λ (s : Seen). s.failures) e }
-
--- one more that did what it should
-pub nothing_more : (x : Unit {0}) (a b c : Seen) → NothingFailed a b → OnlyContent {A = Unit {0}} {E = Trouble} (Ok x) b c → NothingFailed a c
-nothing_more x a b c h k = record { tracks = k.tracks ∙ h.tracks; protected = k.protected ∙ h.protected; counted = omega (arith, h.counted, k.counted); uncounted = k.uncounted ∙ h.uncounted }
-
--- or one that was refused, whose fault is answered
-pub refused_then : (e t : Trouble) (s : Result (Unit {0}) Trouble) (a b c : Seen) → IsErrAnd s (λ x. x ≡ t) → NothingFailed a b → OnlyContent {A = Unit {0}} {E = Trouble} (Err e) b c → OnlyContent s a c
-refused_then e t (Ok x) a b c is h k = absurd is
-refused_then e t (Err x) a b c is h k = record { tracks = k.tracks ∙ h.tracks; protected = k.protected ∙ h.protected; counted = omega (arith, h.counted, k.counted); uncounted = tt }
+-- one call after others that succeeded was refused, and its fault is answered
+pub refused_then : (e : Trouble) (s : Result (Unit {0}) Trouble) (a b c : Seen) → IsErrAnd s (λ x. x ≡ e) → OnlyContent {A = Unit {0}} (Ok tt) a b → OnlyContent {A = Unit {0}} (Err e) b c → OnlyContent s a c
+refused_then e (Ok x) a b c is h k = absurd is
+refused_then e (Err x) a b c is h k = only_refused (Err e) (Err x) x a c (λ i. Err (sym is i)) (λ i. Err x) (only_after (Ok tt) tt (Err e) a b c (λ i. Ok tt) h k)
 
 pub fits_same : (t t' : ℕ) (xs ys : List kept.Channel) → t' ≡ t → ys ≡ xs → AreFit t xs → AreFit t' ys
 fits_same t t' xs ys e f h = subst (λ (x : ℕ). AreFit x ys) (sym e) (subst (AreFit t) (sym f) h)

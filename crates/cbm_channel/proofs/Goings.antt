@@ -29,18 +29,10 @@ pub passes_on : (failed failed' : Type 0) (ch : ℕ) (part : Machine → Machine
 passes_on failed failed' ch part m n f (inl x) = inl x
 passes_on failed failed' ch part m n f (inr x) = inr (f x.0, x.1)
 
-pub all_on : (failed failed' : Type 0) (parts : List (ℕ × (Machine → Machine))) (m n : Machine) → (failed → failed') → PassesAll failed parts m n → PassesAll failed' parts m n
-all_on failed failed' [] m n f h = h
-all_on failed failed' (x ∷ parts) m n f h = (h.0, passes_on failed failed' x.0 x.1 m h.0 f h.1, all_on failed failed' parts h.0 n f h.2)
-
--- one part is a call of one
-pub went_goes : {M : Type 0} (seen : M → Seen) (old new : Kept M) (ch : ℕ) (part : Machine → Machine) → Went seen old new ch part → Goes seen old new ((ch, part) ∷ [])
-went_goes seen old new ch part w m s = let x = w m s in (x.0, (x.0, x.1, refl), x.2)
-
--- one more part behind those
-pub all_more : (failed : Type 0) (parts : List (ℕ × (Machine → Machine))) (ch : ℕ) (part : Machine → Machine) (m k n : Machine) → PassesAll failed parts m k → Passes failed ch part k n → PassesAll failed (parts ++ (ch, part) ∷ []) m n
-all_more failed [] ch part m k n h p = (n, subst (λ y. Passes failed ch part y n) h p, refl)
-all_more failed (x ∷ parts) ch part m k n h p = (h.0, h.1, all_more failed parts ch part h.0 k n h.2 p)
+-- the medium fails no less often after all parts
+pub rises : (a b : Seen) (parts : List (ℕ × (Machine → Machine))) (m n : Machine) → PassesAll a b parts m n → a.failures ≤ b.failures
+rises a b [] m n h = h.1
+rises a b (x ∷ parts) m n h = let more : h.0.failures ≤ b.failures = rises h.0 b parts h.2 n h.4 in omega (arith, h.1, more)
 
 -- a failure early, and late
 pub early : (a b c : Seen) → b.failures ≤ c.failures → HasFailed a b → HasFailed a c
@@ -48,6 +40,20 @@ early a b c le h = omega (arith, h, le)
 
 pub late : (a b c : Seen) → a.failures ≤ b.failures → HasFailed b c → HasFailed a c
 late a b c le h = omega (arith, h, le)
+
+-- one part is a call of one
+pub one_part : (a b : Seen) (ch : ℕ) (part : Machine → Machine) (m n : Machine) → a.failures ≤ b.failures → Passes (HasFailed a b) ch part m n → PassesAll a b ((ch, part) ∷ []) m n
+one_part a b ch part m n le p = (b, le, n, p, (refl, omega arith))
+
+pub went_goes : {M : Type 0} (seen : M → Seen) (old new : Kept M) (ch : ℕ) (part : Machine → Machine) → KeepsMedium (seen old.medium) (seen new.medium) → Went seen old new ch part → Goes seen old new ((ch, part) ∷ [])
+went_goes seen old new ch part k w m s = let x = w m s in (x.0, one_part (seen old.medium) (seen new.medium) ch part m x.0 k.counted x.1, x.2)
+
+-- one more part behind those
+pub all_more : (a b c : Seen) (parts : List (ℕ × (Machine → Machine))) (ch : ℕ) (part : Machine → Machine) (m k n : Machine) → b.failures ≤ c.failures → PassesAll a b parts m k → Passes (HasFailed b c) ch part k n → PassesAll a c (parts ++ (ch, part) ∷ []) m n
+all_more a b c [] ch part m k n le h p =
+    let first : a.failures ≤ b.failures = h.1 in
+    one_part a c ch part m n (omega (arith, first, le)) (passes_on _ _ ch part m n (late a b c first) (subst (λ y. Passes (HasFailed b c) ch part y n) h.0 p))
+all_more a b c (x ∷ parts) ch part m k n le h p = (h.0, h.1, h.2, h.3, all_more h.0 b c parts ch part h.2 k n le h.4 p)
 
 -- ---- CLOSE of a channel
 
@@ -86,7 +92,7 @@ near_some ch (Writing s [] blocks full replaces) m = near_put ch return (Writing
 near_some ch (Writing s (b ∷ bytes) blocks full replaces) m = near_itself ch m
 
 -- a channel that is closed, or takes no more bytes: CLOSE writes nothing
-quiet : (d : Disk) (x : Channel) → (x ≡ Closed) ⊎ ((slot : ℕ) × (x ≡ Stopped slot)) → disk_closed d x ≡ d
+quiet : {W : ℕ → Type 0} (d : Disk) (x : Channel) → (x ≡ Closed) ⊎ ((slot : ℕ) × (x ≡ Stopped slot) × W slot) → disk_closed d x ≡ d
 quiet d x (inl e) = ap (disk_closed d) e
 quiet d x (inr e) = ap (disk_closed d) e.1
 
@@ -166,8 +172,7 @@ module _ {M : Type 0} (seen : M → Seen) (old mid new : Kept M) (parts : List (
       let x = h m s in
       let y = w x.0 x.2 in (
         y.0,
-        all_more _ parts ch part m x.0 y.0 (all_on _ _ parts m x.0 (early (seen old.medium) (seen mid.medium) (seen new.medium) b.counted) x.1)
-            (passes_on _ _ ch part x.0 y.0 (late (seen old.medium) (seen mid.medium) (seen new.medium) a.counted) y.1),
+        all_more (seen old.medium) (seen mid.medium) (seen new.medium) parts ch part m x.0 y.0 b.counted x.1 y.1,
         y.2,
       )
 
@@ -176,22 +181,20 @@ pub leads_went : {M : Type 0} (seen : M → Seen) (old new : Kept M) (ch : ℕ) 
 leads_went seen old new ch part h m s = (part m, inl refl, h m s)
 
 -- CLOSE, and then a part that can't be stopped
-pub close_then : {M : Type 0} (seen : M → Seen) (old mid new : Kept M) (ch : ℕ) (first second : Machine → Machine) (m : Machine) → seen new.medium ≡ seen mid.medium → Went seen old mid ch first → Stands seen old m
-    → ((n : Machine) → Stands seen mid n → Passes (HasFailed (seen old.medium) (seen new.medium)) ch first m n → Stands seen new (second n)) → GoesFrom seen old new ((ch, first) ∷ (ch, second) ∷ []) m
-close_then seen old mid new ch first second m same w s h =
+pub close_then : {M : Type 0} (seen : M → Seen) (old mid new : Kept M) (ch : ℕ) (first second : Machine → Machine) (m : Machine) → KeepsMedium (seen old.medium) (seen mid.medium) → seen new.medium ≡ seen mid.medium → Went seen old mid ch first → Stands seen old m
+    → ((n : Machine) → Stands seen mid n → Stands seen new (second n)) → GoesFrom seen old new ((ch, first) ∷ (ch, second) ∷ []) m
+close_then seen old mid new ch first second m a same w s h =
     let x = w m s in
-    let passes : Passes (HasFailed (seen old.medium) (seen new.medium)) ch first m x.0 =
-    passes_on (HasFailed (seen old.medium) (seen mid.medium)) (HasFailed (seen old.medium) (seen new.medium)) ch first m x.0 (λ f. subst (λ (v : Seen). HasFailed (seen old.medium) v) (sym same) f) x.1 in
-    (second x.0, (x.0, passes, (second x.0, inl refl, refl)), h x.0 x.2 passes)
+    let le : (seen mid.medium).failures ≤ (seen new.medium).failures = omega (arith, ap (λ (v : Seen). v.failures) same) in
+    (second x.0, (seen mid.medium, a.counted, x.0, x.1, one_part (seen mid.medium) (seen new.medium) ch second x.0 (second x.0) le (inl refl)), h x.0 x.2)
 
 -- CLOSE, and then a part that may be stopped
 pub close_begin : {M : Type 0} (seen : M → Seen) (old mid new : Kept M) (ch : ℕ) (first second : Machine → Machine) (m : Machine) → KeepsMedium (seen old.medium) (seen mid.medium) → KeepsMedium (seen mid.medium) (seen new.medium) → Went seen old mid ch first → Stands seen old m
-    → ((n : Machine) → Stands seen mid n → Passes (HasFailed (seen old.medium) (seen new.medium)) ch first m n → WentFrom seen mid new ch second n) → GoesFrom seen old new ((ch, first) ∷ (ch, second) ∷ []) m
+    → ((n : Machine) → Stands seen mid n → WentFrom seen mid new ch second n) → GoesFrom seen old new ((ch, first) ∷ (ch, second) ∷ []) m
 close_begin seen old mid new ch first second m a b w s h =
     let x = w m s in
-    let passes : Passes (HasFailed (seen old.medium) (seen new.medium)) ch first m x.0 = passes_on _ _ ch first m x.0 (early (seen old.medium) (seen mid.medium) (seen new.medium) b.counted) x.1 in
-    let y = h x.0 x.2 passes in
-    (y.0, (x.0, passes, (y.0, passes_on _ _ ch second x.0 y.0 (late (seen old.medium) (seen mid.medium) (seen new.medium) a.counted) y.1, refl)), y.2)
+    let y = h x.0 x.2 in
+    (y.0, (seen mid.medium, a.counted, x.0, x.1, one_part (seen mid.medium) (seen new.medium) ch second x.0 y.0 b.counted y.1), y.2)
 
 pub parts_other : (ch : ℕ) (text : List ℕ) → (ch == 15) ≡ false → opening_parts ch text ≡ (ch, close_one ch) ∷ (ch, open_text ch text) ∷ []
 parts_other ch text e = rw e refl

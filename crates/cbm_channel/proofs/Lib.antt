@@ -30,6 +30,7 @@ pub mod RecordPuts
 pub mod RecordEnds
 pub mod Placings
 pub mod Goings
+pub mod Counted
 pub mod Opens
 pub mod Steady
 pub mod Nexts

@@ -1,5 +1,5 @@
 -- Over a medium that never fails by itself each part of a call is done.
-use Rattle.std.proofs.Common.{◌≡◌, ℕ, Bool, true, false, List, [], ◌∷◌, ◌++◌, refl, subst, arith, inl, inr}
+use Rattle.std.proofs.Common.{◌≡◌, ◌≤◌, ℕ, Bool, true, false, List, [], ◌∷◌, ◌++◌, refl, subst, arith, inl, inr}
 use Rattle.std.specs.Prelude.{◌==◌, if◌then◌else◌}
 use Rattle.cbm_medium.specs.Seen.{Seen, HasFailed}
 use Rattle.cbm_channel.specs.Machines.{Machine}
@@ -8,6 +8,7 @@ use Rattle.cbm_channel.specs.Plans.{open_text}
 use Rattle.cbm_channel.specs.Calls.{put, end_put, command, after_open}
 use Rattle.cbm_channel.specs.Standing.{Kept, Stands, Leads}
 use Rattle.cbm_channel.specs.Commanded.{FormatsUnfailing, open_formats, end_formats}
+use Rattle.cbm_channel.proofs.Goings.{rises}
 use Rattle.cbm_channel.specs.Going.{Passes, PassesAll, closings, closing, opening_parts, GoesFrom, Goes, Ends, EndsFrom}
 
 -- the machine behind all parts
@@ -20,10 +21,12 @@ pub is_done : (failed : Type 0) (ch : ℕ) (part : Machine → Machine) (m n : M
 is_done failed ch part m n never (inl e) = e
 is_done failed ch part m n never (inr stopped) = absurd (never stopped.0)
 
-pub all_done : (failed : Type 0) (parts : List (ℕ × (Machine → Machine))) (m n : Machine) → (failed → ⊥) → PassesAll failed parts m n → n ≡ done parts m
-all_done failed [] m n never e = e
-all_done failed (p ∷ parts) m n never (k, first, rest) =
-    subst (λ x. n ≡ done parts x) (is_done failed p.0 p.1 m k never first) (all_done failed parts k n never rest)
+pub all_done : (a b : Seen) (parts : List (ℕ × (Machine → Machine))) (m n : Machine) → b.failures ≤ a.failures → PassesAll a b parts m n → n ≡ done parts m
+all_done a b [] m n few h = h.0
+all_done a b (p ∷ parts) m n few h =
+    let more : h.0.failures ≤ b.failures = rises h.0 b parts h.2 n h.4 in
+    let first : a.failures ≤ h.0.failures = h.1 in
+    subst (λ x. n ≡ done parts x) (is_done (HasFailed a h.0) p.0 p.1 m h.2 (λ f. omega (arith, f, more, few)) h.3) (all_done h.0 b parts h.2 n (omega (arith, few, first)) h.4)
 
 -- so is the end of what was put
 is_ended : (failed : Type 0) (ch : ℕ) (m n : Machine) → (failed → ⊥) → Ends failed ch m n → n ≡ end_put ch m
@@ -51,7 +54,7 @@ module _ {M : Type 0} (seen : M → Seen) (steady : (k : M) → (seen k).failure
   never h = omega (arith, steady old.medium, steady new.medium, h)
 
   goes_done : (parts : List (ℕ × (Machine → Machine))) (m : Machine) → GoesFrom seen old new parts m → Stands seen new (done parts m)
-  goes_done parts m (n, passed, s) = subst (λ x. Stands seen new x) (all_done _ parts m n never passed) s
+  goes_done parts m (n, passed, s) = subst (λ x. Stands seen new x) (all_done _ _ parts m n (omega (arith, steady old.medium, steady new.medium)) passed) s
 
   -- a byte that is put
   pub steady_put : (ch b : ℕ) → Goes seen old new ((ch, put ch b) ∷ []) → Leads seen old new (put ch b)

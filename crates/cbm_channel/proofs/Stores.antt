@@ -1,7 +1,7 @@
 -- A byte goes to what a channel writes: the drive stands for the machine's next state, or it was stopped.
 use Rattle.std.proofs.Common.{◌≡◌, ℕ, zero, suc, ◌<◌, Bool, true, false, List, [], ◌∷◌, ◌++◌, length, refl, sym, ap, ◌∙◌, subst, arith, inl, inr}
 use Rattle.std.specs.Prelude.{◌==◌, ◌&&◌, not, Option, slice_set, slice_index_or}
-use Rattle.std.proofs.lemmas.Bool.{ne_eqb}
+use Rattle.std.proofs.lemmas.Bool.{ne_eqb, eq-eqb}
 use Rattle.std.proofs.lemmas.List.{get_or-set_same, get_or-set_other}
 use Rattle.cbm_file.specs.Files.{Disk, file_at}
 use Rattle.cbm_medium.specs.declared.fault.Trouble.{Trouble}
@@ -171,7 +171,7 @@ module _ (c : Content) (t : ℕ) (p : Bool) (chs : List kept.Channel) (told : To
           either = λ slot. inl (same slot);
           same_tracks = refl;
           same_protection = refl;
-          own = inr (cut.slot, get_or-set_same m.channels ch (Stopped cut.slot) Closed also);
+          own = inr (cut.slot, get_or-set_same m.channels ch (Stopped cut.slot) Closed also, ap (machine.writes cut.slot) cut.wrote ∙ eq-eqb cut.slot cut.slot refl);
           others = λ i ne. get_or-set_other m.channels ch i (Stopped cut.slot) Closed ne;
           fault = (trouble, e);
         }),

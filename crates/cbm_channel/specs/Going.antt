@@ -1,5 +1,5 @@
 -- Where a call that may write leads: to the machine's next state, or it was stopped at a refused write.
-use Rattle.std.specs.Prelude.{ℕ, ◌+◌, ◌-◌, ◌≤◌, ◌≡◌, ◌≢◌, ◌⊎◌, ◌==◌, if◌then◌else◌, List, [], ◌∷◌, ◌++◌, take, drop, replicate, slice_index_or, Some}
+use Rattle.std.specs.Prelude.{ℕ, zero, suc, ◌+◌, ◌-◌, ◌≤◌, ◌≡◌, ◌≢◌, ◌⊎◌, ◌==◌, if◌then◌else◌, List, [], ◌∷◌, ◌++◌, take, drop, replicate, slice_index_or, Some, true}
 use Rattle.cbm_medium.specs.declared.fault.Trouble.{Trouble}
 use Rattle.cbm_medium.specs.Seen.{Seen, HasFailed}
 use Rattle.cbm_volume.specs.Writers.{IsEither}
@@ -8,7 +8,7 @@ use Rattle.cbm_file.specs.Files.{File, Disk, Records, file_at, with_slot}
 use Rattle.cbm_file.specs.Records.{fresh_record, blocks_for, sides_for}
 use Rattle.cbm_volume.specs.Growth.{filled_up, with_growth}
 use Rattle.cbm_volume.specs.RecordWrites.{new_record, with_record}
-use Rattle.cbm_machine.specs.Machines.{Machine, Closed, Stopped, Relative, channel}
+use Rattle.cbm_machine.specs.Machines.{Machine, Closed, Stopped, Relative, channel, writes}
 use Rattle.cbm_machine.specs.Finding.{body_at}
 use Rattle.cbm_machine.specs.Records.{write_record}
 use Rattle.cbm_machine.specs.Closing.{put_on, with_some_byte, close_one, channel_numbers, without_text}
@@ -17,12 +17,12 @@ use Rattle.cbm_machine.specs.Calls.{command, text_for, end_put}
 use Rattle.cbm_channel.specs.Standing.{Kept, Stands}
 
 -- A PART OF A CALL WAS STOPPED at a write that the medium refused, on the way from one machine to another. Each slot is as before or
--- as after; the channel is closed or takes no more bytes; the other channels are as before; and the fault is told.
+-- as after; the channel is closed, or takes no more bytes for the slot that it wrote; the other channels are as before; and the fault is told.
 pub record IsStopped (ch : ℕ) (before after now : Machine) : Type 0 where
   pub either : (n : ℕ) → IsEither before.disk after.disk now.disk n
   pub same_tracks : now.tracks ≡ before.tracks
   pub same_protection : now.protected ≡ before.protected
-  pub own : (channel now ch ≡ Closed) ⊎ ((slot : ℕ) × (channel now ch ≡ Stopped slot))
+  pub own : (channel now ch ≡ Closed) ⊎ ((slot : ℕ) × (channel now ch ≡ Stopped slot) × (writes slot (channel before ch) ≡ true))
   pub others : (k : ℕ) → k ≢ ch → channel now k ≡ channel before k
   pub fault : (t : Trouble) × (now.status ≡ trouble_status t)
 
@@ -30,10 +30,24 @@ pub record IsStopped (ch : ℕ) (before after now : Machine) : Type 0 where
 abbrev pub Passes : Type 0 → ℕ → (Machine → Machine) → Machine → Machine → Type 0
 Passes failed ch part before now = (now ≡ part before) ⊎ (failed × IsStopped ch before (part before) now)
 
--- the parts of a call one after another, each with its channel
-abbrev pub PassesAll : Type 0 → List (ℕ × (Machine → Machine)) → Machine → Machine → Type 0
-PassesAll failed [] before now = now ≡ before
-PassesAll failed (p ∷ parts) before now = (between : Machine) × Passes failed p.0 p.1 before between × PassesAll failed parts between now
+-- The parts of a call one after another, each with its channel. A part was stopped only where the medium failed in it: of what it showed
+-- between the parts, its failures count.
+abbrev pub PassesAll : Seen → Seen → List (ℕ × (Machine → Machine)) → Machine → Machine → Type 0
+PassesAll old new [] before now = (now ≡ before) × (old.failures ≤ new.failures)
+PassesAll old new (p ∷ parts) before now =
+    (mid : Seen) × (old.failures ≤ mid.failures) × (between : Machine) × Passes (HasFailed old mid) p.0 p.1 before between × PassesAll mid new parts between now
+
+-- WHAT ONE PART MAKES OF THE MEDIUM, on any disk: it refused no write by itself; or it refused one, the part made no other after that, and the
+-- status is what the medium answered.
+abbrev pub IsCounted : {M : Type 0} → (M → Seen) → Kept M → Kept M → Type 0
+IsCounted seen old new =
+    ((seen new.medium).failures ≡ (seen old.medium).failures)
+    ⊎ ((t : Trouble) × ((seen new.medium).failures ≡ (seen old.medium).failures + 1) × ((seen new.medium).refused ≡ Some t) × (new.told.status ≡ trouble_status t))
+
+-- the same of so many parts, one after another
+abbrev pub AreCounted : {M : Type 0} → (M → Seen) → ℕ → Kept M → Kept M → Type 0
+AreCounted seen zero old new = (seen new.medium).failures ≡ (seen old.medium).failures
+AreCounted {M} seen (suc n) old new = (mid : Kept M) × AreCounted seen n old mid × IsCounted seen mid new
 
 -- one part of a call is done from a machine
 abbrev pub WentFrom : {M : Type 0} → (M → Seen) → Kept M → Kept M → ℕ → (Machine → Machine) → Machine → Type 0
@@ -69,7 +83,7 @@ opening_parts ch text = if ch == 15 then (15, command text) ∷ [] else (ch, clo
 
 -- A CALL GOES ON from a machine, part by part, and the drive stands for a machine again.
 abbrev pub GoesFrom : {M : Type 0} → (M → Seen) → Kept M → Kept M → List (ℕ × (Machine → Machine)) → Machine → Type 0
-GoesFrom seen old new parts m = (now : Machine) × PassesAll (HasFailed (seen old.medium) (seen new.medium)) parts m now × Stands seen new now
+GoesFrom seen old new parts m = (now : Machine) × PassesAll (seen old.medium) (seen new.medium) parts m now × Stands seen new now
 
 -- the same from each machine that the drive stood for
 abbrev pub Goes : {M : Type 0} → (M → Seen) → Kept M → Kept M → List (ℕ × (Machine → Machine)) → Type 0

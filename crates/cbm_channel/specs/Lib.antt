@@ -28,3 +28,4 @@ pub use Rattle.cbm_machine.specs.Talking
 pub use Rattle.cbm_machine.specs.Running
 pub use Rattle.cbm_machine.specs.Calls
 pub use Rattle.cbm_machine.specs.Told
+pub mod Opening

@@ -286,6 +286,7 @@ impl Channel {
             IfErr result (IsHindered old (M.seen volume.new)) }
         ensures quiet { is_writing self.old ≡ false →
             (result ≡ Ok true) × (self.new ≡ self.old) × (volume.new ≡ volume.old) }
+        ensures cut { OnErr result (is_writing self.new ≡ false) }
         ensures only { OnlyContent result (M.seen volume.old) (M.seen volume.new) }
     {
         let Channel::Writing(writer, full) = self else {
@@ -330,7 +331,7 @@ impl Channel {
         ensures guarded { (M.seen volume.old).protected ≡ true →
             (M.seen volume.new).content ≡ (M.seen volume.old).content }
         ensures protection { IfErr result (λ t. t.code ≡ 26 → (M.seen volume.old).protected ≡ true) }
-        ensures medium { KeepsMedium (M.seen volume.old) (M.seen volume.new) }
+        ensures medium { OnlyContent result (M.seen volume.old) (M.seen volume.new) }
     {
         match self {
             Channel::Records(on) => on.put(volume, bytes),

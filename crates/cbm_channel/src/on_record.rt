@@ -339,7 +339,7 @@ impl OnRecord {
         ensures guarded { (M.seen volume.old).protected ≡ true →
             (M.seen volume.new).content ≡ (M.seen volume.old).content }
         ensures protection { IfErr result (λ t. t.code ≡ 26 → (M.seen volume.old).protected ≡ true) }
-        ensures medium { KeepsMedium (M.seen volume.old) (M.seen volume.new) }
+        ensures medium { OnlyContent result (M.seen volume.old) (M.seen volume.new) }
     {
         if let Some(written) = self.write(volume, bytes)? {
             return Ok(Some(written));
@@ -373,7 +373,7 @@ impl OnRecord {
         ensures guarded { (M.seen volume.old).protected ≡ true →
             (M.seen volume.new).content ≡ (M.seen volume.old).content }
         ensures protection { IfErr result (λ t. t.code ≡ 26 → (M.seen volume.old).protected ≡ true) }
-        ensures medium { KeepsMedium (M.seen volume.old) (M.seen volume.new) }
+        ensures medium { OnlyContent result (M.seen volume.old) (M.seen volume.new) }
     {
         match self.store(volume, bytes) {
             Ok(Some(written)) => {

@@ -6,13 +6,14 @@ use cbm_volume::Medium;
 
 impl<M: Medium> Dos<M> {
     ghost use Rattle.std.specs.Prelude.{◌≡◌, ◌≤◌, ◌<◌, ◌⊎◌, ℕ, [], ◌∷◌, false, length, slice_index_or, slice_set};
+    ghost use Rattle.cbm_medium.specs.Seen.{HasFailed};
     ghost use Rattle.cbm_channel.specs.declared.channel.Channel.TheVariants.{Closed};
     ghost use Rattle.cbm_machine.specs.Closing.{close_one, finish_channel, without_text};
     ghost use Rattle.cbm_channel.specs.Standing.{Stands, SameBut, Leads};
     ghost use Rattle.cbm_channel.specs.Written.{is_unbegun};
     ghost use Rattle.cbm_channel.specs.Shown.{is_writing_on, IsQuiet};
     ghost use Rattle.cbm_machine.specs.Machines.{Machine, channel as channel_of};
-    ghost use Rattle.cbm_channel.specs.Going.{Goes, Went, some_byte_put, closing, closings, KeepsMedium};
+    ghost use Rattle.cbm_channel.specs.Going.{IsCounted, AreCounted, Goes, Went, some_byte_put, closing, closings, KeepsMedium};
 
     /// CLOSE: the file that is written on the channel is finished, and the channel is closed; on 15 the channels 0 to
     /// 14 are, in order. Where the medium refuses a write, its fault becomes the status.
@@ -26,6 +27,8 @@ impl<M: Medium> Dos<M> {
         ensures quiet { channel < 15 → is_writing_on channel self.old ≡ false → IsQuiet self.old self.new }
         ensures all_quiet { ((k : ℕ) → is_writing_on k self.old ≡ false) → IsQuiet self.old self.new }
         ensures medium { KeepsMedium (M.seen self.old.medium) (M.seen self.new.medium) }
+        ensures counted { channel < 15 → IsCounted M.seen self.old self.new }
+        ensures all_counted { channel ≡ 15 → AreCounted M.seen 15 self.old self.new }
     {
         if channel < 15 {
             self.close_one(channel);
@@ -44,6 +47,7 @@ impl<M: Medium> Dos<M> {
         ensures count { length self.new.channels ≡ 15 }
         ensures quiet { is_writing_on channel self.old ≡ false → IsQuiet self.old self.new }
         ensures medium { KeepsMedium (M.seen self.old.medium) (M.seen self.new.medium) }
+        ensures counted { IsCounted M.seen self.old self.new }
     {
         self.fill(channel);
         self.finish(channel);
@@ -57,6 +61,9 @@ impl<M: Medium> Dos<M> {
         ensures others { SameBut channel self.old.channels self.new.channels }
         ensures quiet { is_writing_on channel self.old ≡ false → self.new ≡ self.old }
         ensures medium { KeepsMedium (M.seen self.old.medium) (M.seen self.new.medium) }
+        ensures cut { HasFailed (M.seen self.old.medium) (M.seen self.new.medium) →
+            is_writing_on channel self.new ≡ false }
+        ensures counted { IsCounted M.seen self.old self.new }
     {
         if self.is_empty(channel) {
             self.store(channel, b'\r');
@@ -80,6 +87,7 @@ impl<M: Medium> Dos<M> {
         ensures count { length self.new.channels ≡ 15 }
         ensures quiet { is_writing_on channel self.old ≡ false → IsQuiet self.old self.new }
         ensures medium { KeepsMedium (M.seen self.old.medium) (M.seen self.new.medium) }
+        ensures counted { IsCounted M.seen self.old self.new }
     {
         if let Err(trouble) = self.channels[channel as usize].finish(&mut self.volume) {
             self.set(Status::from(trouble));
@@ -92,6 +100,7 @@ impl<M: Medium> Dos<M> {
         ensures closed { (k : ℕ) → slice_index_or self.new.channels k Closed ≡ Closed }
         ensures quiet { ((k : ℕ) → is_writing_on k self.old ≡ false) → IsQuiet self.old self.new }
         ensures medium { KeepsMedium (M.seen self.old.medium) (M.seen self.new.medium) }
+        ensures counted { AreCounted M.seen 15 self.old self.new }
     {
         for channel in 0..15 {
             self.close_one(channel);

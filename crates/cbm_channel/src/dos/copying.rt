@@ -40,7 +40,7 @@ impl<M: Medium> Dos<M> {
     ghost use Rattle.cbm_machine.specs.Running.{copy, source, sources};
     ghost use Rattle.cbm_channel.specs.Grounds.{HasGround, is_fault_number, KeepsIfRefused};
     ghost use Rattle.cbm_channel.specs.Standing.{Stands};
-    ghost use Rattle.cbm_channel.specs.Going.{Went, WentFrom, KeepsMedium};
+    ghost use Rattle.cbm_channel.specs.Going.{IsCounted, Went, WentFrom, KeepsMedium};
     ghost use Rattle.cbm_channel.specs.Joined.{SourceAs, AddsSources, IsCopying, RefusesCopy};
 
     /// C: the bytes of the old names' files, one after another, are a new closed file of the first one's type.
@@ -54,6 +54,7 @@ impl<M: Medium> Dos<M> {
         ensures channels { self.new.channels ≡ self.old.channels }
         ensures spared { KeepsIfRefused M.seen self.old self.new }
         ensures medium { KeepsMedium (M.seen self.old.medium) (M.seen self.new.medium) }
+        ensures counted { IsCounted M.seen self.old self.new }
     {
         match self.plan_copy(new, olds) {
             Ok((kind, slots)) => self.copy_slots(new, kind, slots.as_slice()),
@@ -133,6 +134,7 @@ impl<M: Medium> Dos<M> {
         ensures count { length self.new.channels ≡ 15 }
         ensures spared { KeepsIfRefused M.seen self.old self.new }
         ensures medium { KeepsMedium (M.seen self.old.medium) (M.seen self.new.medium) }
+        ensures counted { IsCounted M.seen self.old self.new }
     {
         match self.volume.copy(kind, name.bytes(), slots) {
             Ok(true) => self.say(Code::Fine),

@@ -20,7 +20,8 @@ impl<M: Medium> Dos<M> {
     ghost use Rattle.cbm_channel.specs.declared.channel.Channel.TheVariants.{Closed};
     ghost use Rattle.cbm_channel.specs.Grounds.{ShowsTrouble, HasTold, IsToldFor, IsFromDirectory, KeepsIfRefused, OrdersDisk};
     ghost use Rattle.cbm_channel.specs.Standing.{Stands, SameBut, HaveSameFiles, Fits, uses_of};
-    ghost use Rattle.cbm_channel.specs.Going.{GoesFrom, WentFrom, opening_parts, KeepsMedium};
+    ghost use Rattle.cbm_channel.specs.Going.{IsCounted, GoesFrom, WentFrom, opening_parts, KeepsMedium};
+    ghost use Rattle.cbm_channel.specs.Opening.{ClosesFirst};
     ghost use Rattle.cbm_channel.specs.Shown.{is_writing_on};
     ghost use Rattle.cbm_channel.specs.Commanded.{FormatsUnfailing, open_formats, open_validates, text_moves, AreSameBut};
     ghost use Rattle.cbm_channel.specs.Planned.{PlannedAs, IsOfText, IsOpened, IsSized, is_for_writing, text_writes, plan_writes, disk_opened, begun_by};
@@ -48,6 +49,9 @@ impl<M: Medium> Dos<M> {
         // V leaves closed files as they are.
         ensures ordered { open_validates channel text.now ≡ true → OrdersDisk M.seen self.old self.new }
         ensures medium { KeepsMedium (M.seen self.old.medium) (M.seen self.new.medium) }
+        ensures counted { channel ≡ 15 → IsCounted M.seen self.old self.new }
+        // CLOSE comes first, and what the OPEN itself does is measured from there.
+        ensures closes { channel < 15 → ClosesFirst M.seen channel text.now self.old self.new }
     {
         if channel == 15 {
             self.command(text);
@@ -73,6 +77,7 @@ impl<M: Medium> Dos<M> {
             HasTold M.seen self.old self.new × (self.new.medium ≡ self.old.medium) }
         ensures spared { KeepsIfRefused M.seen self.old self.new }
         ensures medium { KeepsMedium (M.seen self.old.medium) (M.seen self.new.medium) }
+        ensures counted { IsCounted M.seen self.old self.new }
     {
         match self.plan(channel, opening) {
             Ok(plan) => self.act(channel, plan),
@@ -95,6 +100,7 @@ impl<M: Medium> Dos<M> {
         ensures spared { (plan_writes plan ≡ true → (M.seen self.old.medium).protected ≡ false) →
             KeepsIfRefused M.seen self.old self.new }
         ensures medium { KeepsMedium (M.seen self.old.medium) (M.seen self.new.medium) }
+        ensures counted { IsCounted M.seen self.old self.new }
     {
         match self.opened(plan) {
             Ok(Some(opened)) => {

@@ -28,7 +28,7 @@ impl<M: Medium> Dos<M> {
     ghost use Rattle.cbm_channel.specs.Grounds.{HasTold, IsToldFor, KeepsIfRefused, OrdersDisk};
     ghost use Rattle.cbm_channel.specs.Standing.{Stands, SameBut, HaveSameFiles, Leads, HasNoText, HasText};
     ghost use Rattle.cbm_channel.specs.Shown.{is_writing_on, has_records_on, IsQuiet};
-    ghost use Rattle.cbm_channel.specs.Going.{Goes, EndsFrom, RecordsFrom, Went, WentFrom, put_written, KeepsMedium};
+    ghost use Rattle.cbm_channel.specs.Going.{IsCounted, Goes, EndsFrom, RecordsFrom, Went, WentFrom, put_written, KeepsMedium};
     ghost use Rattle.cbm_channel.specs.Commanded.{IsOfCommandText, changes_disk, commands_change, ends_command, FormatsUnfailing, formats, text_formats, end_formats, validates, text_validates, end_validates, moved_by, text_moves, end_moves, AreSameBut};
 
     /// A byte that the host sends to a channel: on 15 it is gathered for a command, on a channel that has records open
@@ -41,6 +41,7 @@ impl<M: Medium> Dos<M> {
         ensures others { SameBut channel self.old.channels self.new.channels }
         ensures quiet { is_writing_on channel self.old ≡ false → IsQuiet self.old self.new }
         ensures medium { KeepsMedium (M.seen self.old.medium) (M.seen self.new.medium) }
+        ensures counted { IsCounted M.seen self.old self.new }
     {
         if channel == 15 {
             self.gather(channel, byte);
@@ -58,6 +59,9 @@ impl<M: Medium> Dos<M> {
         ensures others { SameBut channel self.old.channels self.new.channels }
         ensures quiet { is_writing_on channel self.old ≡ false → IsQuiet self.old self.new }
         ensures medium { KeepsMedium (M.seen self.old.medium) (M.seen self.new.medium) }
+        ensures cut { HasFailed (M.seen self.old.medium) (M.seen self.new.medium) →
+            is_writing_on channel self.new ≡ false }
+        ensures counted { IsCounted M.seen self.old self.new }
     {
         match self.channels[channel as usize].put(&mut self.volume, byte) {
             Ok(true) => {}
@@ -115,6 +119,7 @@ impl<M: Medium> Dos<M> {
         // V leaves closed files as they are.
         ensures ordered { end_validates channel self.old.text ≡ true → OrdersDisk M.seen self.old self.new }
         ensures medium { KeepsMedium (M.seen self.old.medium) (M.seen self.new.medium) }
+        ensures counted { IsCounted M.seen self.old self.new }
     {
         if let Some(text) = self.take_text(channel) {
             if channel == 15 {
@@ -137,6 +142,7 @@ impl<M: Medium> Dos<M> {
         ensures quiet { has_records_on channel self.old ≡ false → self.new ≡ self.old }
         ensures spared { (self.new.told ≡ self.old.told) ⊎ KeepsIfRefused M.seen self.old self.new }
         ensures medium { KeepsMedium (M.seen self.old.medium) (M.seen self.new.medium) }
+        ensures counted { IsCounted M.seen self.old self.new }
     {
         match self.channels[channel as usize].put_record(&mut self.volume, bytes) {
             Ok(Some(false)) => {}
@@ -158,6 +164,7 @@ impl<M: Medium> Dos<M> {
         ensures spared { KeepsIfRefused M.seen self.old self.new }
         ensures ordered { text_validates text.now ≡ true → OrdersDisk M.seen self.old self.new }
         ensures medium { KeepsMedium (M.seen self.old.medium) (M.seen self.new.medium) }
+        ensures counted { IsCounted M.seen self.old self.new }
     {
         let text = without_return(text);
         if text.is_empty() {
@@ -181,6 +188,7 @@ impl<M: Medium> Dos<M> {
         ensures spared { KeepsIfRefused M.seen self.old self.new }
         ensures ordered { validates command.now ≡ true → OrdersDisk M.seen self.old self.new }
         ensures medium { KeepsMedium (M.seen self.old.medium) (M.seen self.new.medium) }
+        ensures counted { IsCounted M.seen self.old self.new }
     {
         match command {
             Command::New(title, id) => self.format(title, *id),

@@ -14,7 +14,7 @@ impl<M: Medium> Dos<M> {
     ghost use Rattle.cbm_machine.specs.Running.{rename};
     ghost use Rattle.cbm_channel.specs.Grounds.{HasGround, KeepsIfRefused};
     ghost use Rattle.cbm_channel.specs.Standing.{Stands};
-    ghost use Rattle.cbm_channel.specs.Going.{Went, WentFrom, KeepsMedium};
+    ghost use Rattle.cbm_channel.specs.Going.{IsCounted, Went, WentFrom, KeepsMedium};
     ghost use Rattle.cbm_channel.specs.Commanded.{IsRenamable, RenamesAs};
 
     /// R: the first file of the old name gets the new one, which ends before its first $A0.
@@ -27,6 +27,7 @@ impl<M: Medium> Dos<M> {
         ensures channels { self.new.channels ≡ self.old.channels }
         ensures spared { KeepsIfRefused M.seen self.old self.new }
         ensures medium { KeepsMedium (M.seen self.old.medium) (M.seen self.new.medium) }
+        ensures counted { IsCounted M.seen self.old self.new }
     {
         match self.plan_rename(new, old) {
             Ok(slot) => self.rename_slot(slot, new),
@@ -64,6 +65,7 @@ impl<M: Medium> Dos<M> {
         ensures count { length self.new.channels ≡ 15 }
         ensures spared { KeepsIfRefused M.seen self.old self.new }
         ensures medium { KeepsMedium (M.seen self.old.medium) (M.seen self.new.medium) }
+        ensures counted { IsCounted M.seen self.old self.new }
     {
         match self.volume.rename(slot, name.bytes()) {
             Ok(()) => self.say(Code::Fine),

@@ -51,7 +51,7 @@ impl<M: Medium> Dos<M> {
     ghost use Rattle.cbm_machine.specs.Running.{scratch};
     ghost use Rattle.cbm_channel.specs.Grounds.{HasGround, KeepsIfRefused};
     ghost use Rattle.cbm_channel.specs.Standing.{Stands, uses_of};
-    ghost use Rattle.cbm_channel.specs.Going.{WentFrom, KeepsMedium};
+    ghost use Rattle.cbm_channel.specs.Going.{IsCounted, WentFrom, KeepsMedium};
     ghost use Rattle.cbm_channel.specs.Commanded.{entries_going, slots_going, all_scratched, CanAllGo, IsGoing, AreUnguarded, RefusesScratch};
 
     /// S: each file that matches a pattern, isn't locked and isn't open goes; 01 tells how many.
@@ -62,6 +62,7 @@ impl<M: Medium> Dos<M> {
         // On any disk: what is refused has changed nothing of it.
         ensures spared { KeepsIfRefused M.seen self.old self.new }
         ensures medium { KeepsMedium (M.seen self.old.medium) (M.seen self.new.medium) }
+        ensures counted { IsCounted M.seen self.old self.new }
     {
         match self.plan_scratch(patterns) {
             Ok(slots) => self.scratch_slots(slots.as_slice()),
@@ -117,6 +118,7 @@ impl<M: Medium> Dos<M> {
         ensures spared { AreUnguarded (M.seen self.old.medium).protected slots.now →
             KeepsIfRefused M.seen self.old self.new }
         ensures medium { KeepsMedium (M.seen self.old.medium) (M.seen self.new.medium) }
+        ensures counted { IsCounted M.seen self.old self.new }
     {
         match self.clear(slots) {
             Ok(()) => self.set(Status {

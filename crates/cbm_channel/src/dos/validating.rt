@@ -12,7 +12,7 @@ impl<M: Medium> Dos<M> {
     ghost use Rattle.cbm_machine.specs.Running.{run};
     ghost use Rattle.cbm_channel.specs.Standing.{Stands};
     ghost use Rattle.cbm_channel.specs.Grounds.{KeepsIfRefused, OrdersDisk};
-    ghost use Rattle.cbm_channel.specs.Going.{Went, KeepsMedium};
+    ghost use Rattle.cbm_channel.specs.Going.{IsCounted, Went, KeepsMedium};
 
     /// V: files that were never closed go, and each block is free or a file's. 60 where a channel is open; where the
     /// disk can't be mended, its flaw is told and nothing is changed.
@@ -24,6 +24,7 @@ impl<M: Medium> Dos<M> {
         ensures spared { KeepsIfRefused M.seen self.old self.new }
         ensures ordered { OrdersDisk M.seen self.old self.new }
         ensures medium { KeepsMedium (M.seen self.old.medium) (M.seen self.new.medium) }
+        ensures counted { IsCounted M.seen self.old self.new }
     {
         if self.is_any_open() {
             self.say(Code::WriteFileOpen);

@@ -1,4 +1,4 @@
-use Rattle.std.proofs.Common.{◌≡◌, take, sym, subst, ◌∙◌, ap, arith, inl, inr}
+use Rattle.std.proofs.Common.{◌≡◌, ◌+◌, refl, take, sym, subst, ◌∙◌, ap, arith, inl, inr}
 use Rattle.std.specs.Prelude.{ℕ, slice_index_or}
 use Rattle.std.proofs.lemmas.Bool.{cases_lt}
 use Rattle.std.proofs.lemmas.Bool.Decides.{eqb_tells}
@@ -6,10 +6,11 @@ use Rattle.cbm_channel.specs.Shown.{is_writing}
 use Rattle.std.proofs.lemmas.List.{get_or_past}
 use Rattle.cbm_channel.specs.declared.channel.Channel.TheVariants.{Closed}
 use Rattle.cbm_machine.specs.Closing.{channel_numbers, close_one}
-use Rattle.cbm_channel.specs.Going.{Goes, closings_of}
+use Rattle.cbm_channel.specs.Going.{Goes, AreCounted, closings_of}
 use Rattle.cbm_channel.proofs.Changed.{closed_next}
 use Rattle.cbm_channel.proofs.Closes.{closings_next}
 use Rattle.cbm_channel.proofs.Goings.{goes_on, keeps_then}
+use Rattle.cbm_channel.proofs.Counted.{counted_more}
 use Rattle.cbm_channel.proofs.dos.Dos.close_all.Goals as goal
 
 pub returns-clause-goes : goal.returns-clause-goes
@@ -45,7 +46,15 @@ loop-channel-preserved g c = (
           | inr other ↦ ap is_writing (c.close_one.ensures.others k other.1) ∙ x.1 k
         ]),
       )),
+  counted_more g.M.Medium.seen c.loop-channel.channel (c.loop-channel.channel + 1) c.args.self.now c.loop-channel.self c.close_one.new.self refl c.loop-channel.invariant.5 c.close_one.ensures.counted,
 )
 
 pub returns-clause-quiet : goal.returns-clause-quiet
 returns-clause-quiet g c = λ none. (c.loop-channel.invariant.4 none).0
+
+-- ---- what it makes of the medium, on any disk
+
+pub returns-clause-counted : goal.returns-clause-counted
+returns-clause-counted g c =
+    let all : c.loop-channel.channel ≡ 15 = omega (arith, c.loop-channel-test.false, c.loop-channel.auto.channel-end) in
+    subst (λ (n : ℕ). AreCounted g.M.Medium.seen n c.args.self.now c.loop-channel.self) all c.loop-channel.invariant.5

@@ -5,6 +5,7 @@ use Rattle.cbm_machine.specs.Closing.{without_text, finish_channel, close_one}
 use Rattle.cbm_channel.specs.declared.channel.Channel.TheVariants.{Closed}
 use Rattle.cbm_channel.specs.Going.{some_byte_put}
 use Rattle.cbm_channel.proofs.Goings.{passes_on, close_passes, closed_at, early, late}
+use Rattle.cbm_channel.proofs.Counted.{counted_to, counted_then}
 use Rattle.cbm_channel.proofs.dos.Dos.close_one.Goals as goal
 
 -- the return, CLOSE and the text are one part
@@ -26,3 +27,10 @@ returns-clause-goes g c = λ m s.
       passes_on (HasFailed a d) (HasFailed a z) c.args.channel (close_one c.args.channel) m (without_text c.args.channel second.0) (λ f. subst (λ (v : Seen). HasFailed a v) last f) all,
       c.forget_text.ensures.leads second.0 second.2,
     )
+
+-- ---- what it makes of the medium, on any disk
+
+pub returns-clause-counted : goal.returns-clause-counted
+returns-clause-counted g c =
+    counted_to g.M.Medium.seen c.args.self.now c.finish.new.self c.forget_text.new.self c.forget_text.ensures.medium c.forget_text.ensures.told
+    (counted_then g.M.Medium.seen c.args.self.now c.fill.new.self c.finish.new.self c.fill.ensures.counted c.finish.ensures.counted (λ failed. c.finish.ensures.quiet (c.fill.ensures.cut failed)))

@@ -12,6 +12,7 @@ use Rattle.cbm_channel.proofs.Goings.{record_ends, text_passes}
 use Rattle.cbm_channel.proofs.Texts.{some_kept, command_kept}
 use Rattle.cbm_channel.proofs.Ordered.{OrdersFor, ended_15, not_ended}
 use Rattle.cbm_channel.proofs.Troubles.{told_for}
+use Rattle.cbm_channel.proofs.Counted.{counted_from}
 use Rattle.cbm_channel.proofs.dos.Dos.end_put.Goals as goal
 
 -- a command
@@ -80,3 +81,11 @@ returns-else-channel-eq15-clause-ordered g c = λ v. absurd (omega (arith, ended
 pub returns-in_default-clause-ordered : goal.returns-in_default-clause-ordered
 returns-in_default-clause-ordered g c = λ v.
     absurd (not_ended c.args.channel c.args.self.now.text (subst (λ o. MatchOption o (IfSome c.args.self.now.text (λ t. t.0 ≢ c.args.channel)) (λ t. Unit {0})) c.in_default.is c.take_text.ensures.none) v)
+
+-- ---- what it makes of the medium, on any disk
+
+pub returns-then-channel-eq15-clause-counted : goal.returns-then-channel-eq15-clause-counted
+returns-then-channel-eq15-clause-counted g c = counted_from g.M.Medium.seen c.args.self.now c.take_text.new.self c.command.new.self c.in-Some.ensures.medium c.command.ensures.counted
+
+pub returns-else-channel-eq15-clause-counted : goal.returns-else-channel-eq15-clause-counted
+returns-else-channel-eq15-clause-counted g c = counted_from g.M.Medium.seen c.args.self.now c.take_text.new.self c.put_record.new.self c.in-Some.ensures.medium c.put_record.ensures.counted

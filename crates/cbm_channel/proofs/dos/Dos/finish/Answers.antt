@@ -1,4 +1,4 @@
-use Rattle.std.proofs.Common.{refl, sym, subst, arith, inl, inr}
+use Rattle.std.proofs.Common.{refl, sym, subst, arith, inl, inr, ap, ◌∙◌}
 use Rattle.std.specs.Prelude.{slice_index_or, slice_set}
 use Rattle.cbm_medium.specs.Seen.{HasFailed}
 use Rattle.cbm_machine.specs.Machines.{channel}
@@ -6,6 +6,7 @@ use Rattle.cbm_machine.specs.Closing.{finish_channel}
 use Rattle.cbm_channel.specs.Standing.{uses_of, StandsBy}
 use Rattle.cbm_channel.proofs.Stands.{stood, stands_at, use_at}
 use Rattle.cbm_channel.proofs.Stores.{finish_done, finish_cut, has_failed, renamed}
+use Rattle.cbm_channel.proofs.Counted.{counted_told}
 use Rattle.cbm_channel.proofs.dos.Dos.finish.Goals as goal
 
 pub returns-in_default-clause-goes : goal.returns-in_default-clause-goes
@@ -38,3 +39,9 @@ returns-in-Err-clause-goes g c = λ m s.
           (subst (λ x. StandsBy (g.M.Medium.seen c.finish.new.volume).content (g.M.Medium.seen c.self.inside.volume).tracks (g.M.Medium.seen c.self.inside.volume).protected (slice_set c.self.inside.channels c.args.channel x) c.self.inside.telling c.self.inside.text next.0)
           (sym c.finish.ensures.is_closed) next.2)),
     )
+
+-- ---- what it makes of the medium, on any disk
+
+pub returns-in-Err-clause-counted : goal.returns-in-Err-clause-counted
+returns-in-Err-clause-counted g c =
+    counted_told g.M.Medium.seen c.args.self.now c.set.new.self c.self.inside.volume c.finish.new.volume (ap (λ k. k.medium) c.self.view_is) c.set.ensures.medium c.finish.result c.in-Err.trouble c.in-Err.is c.finish.ensures.only (ap (λ x. x.status) c.set.ensures.told ∙ c.from.ensures)

@@ -1,15 +1,18 @@
 use Rattle.std.proofs.Common.{◌≡◌, ℕ, true, false, sym, ap, subst, ◌∙◌, inl, refl}
+use Rattle.std.specs.Prelude.{OnOk}
 use Rattle.cbm_medium.specs.Seen.{HasFailed}
 use Rattle.cbm_file.specs.Changes.{new_disk}
 use Rattle.cbm_volume.specs.Writers.{Idle, HoldsNow}
 use Rattle.cbm_machine.specs.Machines.{any_open, say, with_disk}
 use Rattle.cbm_machine.specs.declared.code.Code.TheVariants.{Fine, WriteFileOpen, WriteProtected}
+use Rattle.cbm_volume.proofs.NewDisks.{new_keeps}
 use Rattle.cbm_channel.specs.Standing.{StandsBy, uses_of}
 use Rattle.cbm_channel.proofs.Commanding.{new_open, new_done, new_guarded, new_stands, all_idle}
 use Rattle.cbm_channel.proofs.Opens.{failed_by}
 use Rattle.cbm_channel.proofs.Stands.{stood}
 use Rattle.cbm_channel.proofs.Stores.{renamed}
 use Rattle.cbm_channel.proofs.Refused.{not_refused, refused_26}
+use Rattle.cbm_channel.proofs.Counted.{counted_by, counted_well, new_counts}
 use Rattle.cbm_channel.proofs.dos.Dos.format.Goals as goal
 
 -- a channel is open
@@ -40,10 +43,11 @@ returns-in-Ok-clause-goes g c = λ whole m s.
     let tracks = sym st.same_tracks in
     let holds = subst (λ x. HoldsNow (g.M.Medium.seen here.volume).tracks new.content x (uses_of here.channels m.channels))
     (λ i. new_disk (tracks i) (c.bytes.ensures.value i) c.args.id m.disk) (c.in-Ok.ensures.made m.disk (uses_of here.channels m.channels) st.holds idle) in
-    let next = new_stands _ _ new.content _ here.channels here.telling here.text m st shut c.args.title.now c.args.id holds in (
+    let next = new_stands _ _ new.content _ here.channels here.telling here.text m st shut c.args.title.now c.args.id holds in
+    let kept = new_keeps c.new_disk.result c.args.id (g.M.Medium.seen here.volume) new c.new_disk.ensures.only in (
       say Fine (with_disk (new_disk m.tracks c.args.title.now c.args.id m.disk) m),
       inl (sym (new_done _ _ new.content _ here.channels here.telling here.text m st shut c.args.title.now c.args.id unprotected)),
-      c.say-in-Ok.ensures.leads _ (renamed _ _ _ _ _ _ _ _ _ c.new_disk.ensures.only.tracks c.new_disk.ensures.only.protected next),
+      c.say-in-Ok.ensures.leads _ (renamed _ _ _ _ _ _ _ _ _ kept.0 kept.1 next),
     )
 
 -- a write was refused: that is a failure
@@ -67,3 +71,15 @@ returns-in-Err-clause-spared g c = λ is.
     ap (λ v. (g.M.Medium.seen v).content) c.set.ensures.medium
     ∙ (c.in-Err.ensures.protected (c.in-Err.ensures.protection (refused_26 c.in-Err.trouble c.from.result _ c.from.ensures c.set.ensures.told is))
     ∙ ap (λ k. (g.M.Medium.seen k.medium).content) c.self.view_is)
+
+-- ---- what it makes of the medium, on any disk
+
+pub returns-in-Err-clause-counted : goal.returns-in-Err-clause-counted
+returns-in-Err-clause-counted g c =
+    let k = new_counts c.new_disk.result c.args.id (g.M.Medium.seen c.self.inside.volume) (g.M.Medium.seen c.new_disk.new.self) c.new_disk.ensures.only in
+    counted_by g.M.Medium.seen c.args.self.now c.set.new.self c.self.inside.volume c.new_disk.new.self (ap (λ k. k.medium) c.self.view_is) c.set.ensures.medium c.new_disk.result c.in-Err.trouble c.in-Err.is k.0 k.1 k.2 (ap (λ x. x.status) c.set.ensures.told ∙ c.from.ensures)
+
+pub returns-in-Ok-clause-counted : goal.returns-in-Ok-clause-counted
+returns-in-Ok-clause-counted g c =
+    let k = new_counts c.new_disk.result c.args.id (g.M.Medium.seen c.self.inside.volume) (g.M.Medium.seen c.new_disk.new.self) c.new_disk.ensures.only in
+    counted_well g.M.Medium.seen c.args.self.now c.say-in-Ok.new.self c.self.inside.volume c.new_disk.new.self (ap (λ k. k.medium) c.self.view_is) c.say-in-Ok.ensures.medium (subst (λ x. OnOk x ((g.M.Medium.seen c.new_disk.new.self).failures ≡ (g.M.Medium.seen c.self.inside.volume).failures)) c.in-Ok.is k.3)

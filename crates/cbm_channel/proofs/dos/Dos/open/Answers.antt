@@ -1,6 +1,7 @@
 use Rattle.std.proofs.Common.{◌≡◌, sym, ap, subst, ◌∙◌, arith, refl, inl, inr}
 use Rattle.std.specs.Prelude.{◌==◌, ◌&&◌, true}
 use Rattle.cbm_machine.specs.Codes.{code_number}
+use Rattle.cbm_machine.specs.Calls.{command}
 use Rattle.cbm_channel.specs.Grounds.{is_fault_number, HasGround}
 use Rattle.std.proofs.lemmas.Bool.{eq-eqb}
 use Rattle.cbm_machine.specs.Machines.{say}
@@ -12,7 +13,7 @@ use Rattle.cbm_channel.specs.Planned.{begun_by}
 use Rattle.cbm_channel.proofs.Asked.{below_15}
 use Rattle.cbm_channel.proofs.Stands.{moved}
 use Rattle.cbm_channel.proofs.Planning.{opened_text, refused_text, writes_text, own_refusal}
-use Rattle.cbm_channel.proofs.Goings.{part_same, close_then, close_begin, parts_other, parts_command}
+use Rattle.cbm_channel.proofs.Goings.{part_same, one_part, close_then, close_begin, parts_other, parts_command}
 use Rattle.cbm_channel.proofs.dos.Dos.open.Goals as goal
 
 -- a command
@@ -22,7 +23,7 @@ returns-then-channel-eq15-clause-goes g c = λ m s whole.
     let next = c.command.ensures.goes m s
     (λ e. whole (ap (λ b. b && text_formats c.args.text.now) fifteen ∙ e)) in
     subst (λ parts. GoesFrom g.M.Medium.seen c.args.self.now c.command.new.self parts m) (sym (parts_command c.args.channel c.args.text.now fifteen))
-    (next.0, (next.0, next.1, refl), next.2)
+    (next.0, one_part (g.M.Medium.seen c.args.self.now.medium) (g.M.Medium.seen c.command.new.self.medium) 15 (command c.args.text.now) m next.0 c.command.ensures.medium.counted next.1, next.2)
 
 -- CLOSE, and then OPEN
 pub returns-in-Ok-clause-goes : goal.returns-in-Ok-clause-goes
@@ -31,7 +32,7 @@ returns-in-Ok-clause-goes g c = λ m s whole.
     let is = sym c.parse_open.ensures.value ∙ c.in-Ok.is in
     subst (λ parts. GoesFrom g.M.Medium.seen c.args.self.now c.begin.new.self parts m) (sym (parts_other c.args.channel c.args.text.now other))
     (close_begin g.M.Medium.seen c.args.self.now c.close_one.new.self c.begin.new.self c.args.channel (close_one c.args.channel) (open_text c.args.channel c.args.text.now) m c.close_one.ensures.medium c.begin.ensures.medium c.close_one.ensures.goes s
-    (λ n stands passes.
+    (λ n stands.
     let next = c.begin.ensures.goes n (c.args.channel, c.args.text.now, is) c.close_one.ensures.closed stands in
     (next.0, part_same _ c.args.channel (begun_by c.args.channel c.in-Ok.opening) (open_text c.args.channel c.args.text.now) n next.0 (opened_text c.args.channel c.args.text.now c.in-Ok.opening n is) next.1, next.2)))
 
@@ -40,8 +41,8 @@ returns-in-Err-clause-goes g c = λ m s whole.
     let other = below_15 c.args.channel (omega (arith, c.requires, c.if-channel-eq15.false)) in
     let is = sym c.parse_open.ensures.value ∙ c.in-Err.is in
     subst (λ parts. GoesFrom g.M.Medium.seen c.args.self.now c.say.new.self parts m) (sym (parts_other c.args.channel c.args.text.now other))
-    (close_then g.M.Medium.seen c.args.self.now c.close_one.new.self c.say.new.self c.args.channel (close_one c.args.channel) (open_text c.args.channel c.args.text.now) m (ap g.M.Medium.seen c.say.ensures.medium) c.close_one.ensures.goes s
-    (λ n stands passes. moved _ _ _ _ _ _ _ _ (refused_text c.args.channel c.args.text.now c.in-Err.refusal n is ∙ ap (λ k. say k n) (sym c.from.ensures)) (c.say.ensures.leads n stands)))
+    (close_then g.M.Medium.seen c.args.self.now c.close_one.new.self c.say.new.self c.args.channel (close_one c.args.channel) (open_text c.args.channel c.args.text.now) m c.close_one.ensures.medium (ap g.M.Medium.seen c.say.ensures.medium) c.close_one.ensures.goes s
+    (λ n stands. moved _ _ _ _ _ _ _ _ (refused_text c.args.channel c.args.text.now c.in-Err.refusal n is ∙ ap (λ k. say k n) (sym c.from.ensures)) (c.say.ensures.leads n stands)))
 
 -- ---- what isn't for writing
 
@@ -68,3 +69,42 @@ returns-in-Ok-clause-spared g c = λ none is. c.begin.ensures.spared is ∙ ap (
 
 pub returns-in-Err-clause-spared : goal.returns-in-Err-clause-spared
 returns-in-Err-clause-spared g c = λ none is. ap (λ v. (g.M.Medium.seen v).content) (c.say.ensures.medium ∙ (c.close_one.ensures.quiet none).1)
+
+-- ---- what it makes of the medium, on any disk
+
+pub returns-then-channel-eq15-clause-counted : goal.returns-then-channel-eq15-clause-counted
+returns-then-channel-eq15-clause-counted g c = λ is. c.command.ensures.counted
+
+pub returns-then-channel-eq15-clause-closes : goal.returns-then-channel-eq15-clause-closes
+returns-then-channel-eq15-clause-closes g c = λ lt. absurd (omega (arith, lt, c.if-channel-eq15.true))
+
+pub returns-in-Ok-clause-counted : goal.returns-in-Ok-clause-counted
+returns-in-Ok-clause-counted g c = λ is. absurd (c.if-channel-eq15.false is)
+
+pub returns-in-Ok-clause-closes : goal.returns-in-Ok-clause-closes
+returns-in-Ok-clause-closes g c = λ lt.
+    let other = below_15 c.args.channel (omega (arith, c.requires, c.if-channel-eq15.false)) in
+    let is = sym c.parse_open.ensures.value ∙ c.in-Ok.is in
+    record {
+      closed = c.close_one.new.self;
+      is_closed = c.close_one.ensures.closed;
+      others = c.close_one.ensures.others;
+      close_counted = c.close_one.ensures.counted;
+      quiet = λ reads. c.begin.ensures.quiet (writes_text c.args.channel c.args.text.now c.in-Ok.opening other is reads);
+      spared = c.begin.ensures.spared;
+      counted = c.begin.ensures.counted;
+    }
+
+pub returns-in-Err-clause-counted : goal.returns-in-Err-clause-counted
+returns-in-Err-clause-counted g c = λ is. absurd (c.if-channel-eq15.false is)
+
+pub returns-in-Err-clause-closes : goal.returns-in-Err-clause-closes
+returns-in-Err-clause-closes g c = λ lt. record {
+  closed = c.close_one.new.self;
+  is_closed = c.close_one.ensures.closed;
+  others = c.close_one.ensures.others;
+  close_counted = c.close_one.ensures.counted;
+  quiet = λ reads. (inl (ap (λ x. is_fault_number (code_number x.status.code)) c.say.ensures.told ∙ ap (λ x. is_fault_number (code_number x)) c.from.ensures ∙ own_refusal c.in-Err.refusal), c.say.ensures.medium);
+  spared = λ is. ap (λ v. (g.M.Medium.seen v).content) c.say.ensures.medium;
+  counted = inl (ap (λ k. (g.M.Medium.seen k).failures) c.say.ensures.medium);
+}

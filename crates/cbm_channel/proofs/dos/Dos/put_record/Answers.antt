@@ -6,6 +6,7 @@ use Rattle.cbm_channel.proofs.RecordEnds.{PutsRecord, records_or_not, put_done, 
 use Rattle.cbm_channel.specs.Shown.{has_records}
 use Rattle.cbm_channel.proofs.Stands.{stood}
 use Rattle.cbm_channel.proofs.Stores.{renamed}
+use Rattle.cbm_channel.proofs.Counted.{counted_told}
 use Rattle.cbm_channel.proofs.dos.Dos.put_record.Goals as goal
 
 -- all bytes were written, or the channel has no records
@@ -61,3 +62,9 @@ returns-in-Err-clause-goes g c = λ m text s first.
       | inr k ↦ (let next = put_stopped old new c.self.inside.channels c.self.inside.telling c.self.inside.text m c.args.channel c.requires c.self.invariant st x c.put_record.new.self c.index-self-channel.result refl c.args.bytes.now text first c.put_record.ensures.medium.tracks c.in-Err.trouble c.from.result k.0 k.1 c.from.ensures c.put_record.ensures.guarded c.in-Err.ensures.put in
           (tell c.from.result next.now, elim next.either [ inl e ↦ inl e | inr f ↦ inr (subst (λ v. HasFailed (g.M.Medium.seen v.medium) (g.M.Medium.seen c.set.new.self.medium)) c.self.view_is (subst (λ v. HasFailed old (g.M.Medium.seen v)) (sym c.set.ensures.medium) f.0), f.1) ], c.set.ensures.leads next.now (renamed _ _ _ _ _ _ _ _ _ c.put_record.ensures.medium.tracks c.put_record.ensures.medium.protected next.stands)))
     ]
+
+-- ---- what it makes of the medium, on any disk
+
+pub returns-in-Err-clause-counted : goal.returns-in-Err-clause-counted
+returns-in-Err-clause-counted g c =
+    counted_told g.M.Medium.seen c.args.self.now c.set.new.self c.self.inside.volume c.put_record.new.volume (ap (λ k. k.medium) c.self.view_is) c.set.ensures.medium c.put_record.result c.in-Err.trouble c.in-Err.is c.put_record.ensures.medium (ap (λ x. x.status) c.set.ensures.told ∙ c.from.ensures)

@@ -12,6 +12,7 @@ use Rattle.cbm_channel.proofs.Stores.{renamed}
 use Rattle.cbm_channel.proofs.Orders.{not_so}
 use Rattle.cbm_channel.proofs.Refused.{not_refused, refused_26}
 use Rattle.cbm_channel.proofs.Ordered.{trouble_not_fine, fine_ordered, refused_ordered}
+use Rattle.cbm_channel.proofs.Counted.{counted_told}
 use Rattle.cbm_channel.proofs.dos.Dos.validate.Goals as goal
 
 -- a channel is open
@@ -89,3 +90,9 @@ pub returns-in-Err-clause-ordered : goal.returns-in-Err-clause-ordered
 returns-in-Err-clause-ordered g c =
     refused_ordered g.M.Medium.seen c.args.self.now.medium _ _ (g.M.Medium.seen c.self.inside.volume) (g.M.Medium.seen c.validate.new.self) _ (trouble_not_fine c.in-Err.trouble c.from.result c.from.ensures) (ap (λ k. g.M.Medium.seen k.medium) c.self.view_is)
     (ap g.M.Medium.seen c.set.ensures.medium) c.set.ensures.told c.in-Err.ensures.partly
+
+-- ---- what it makes of the medium, on any disk
+
+pub returns-in-Err-clause-counted : goal.returns-in-Err-clause-counted
+returns-in-Err-clause-counted g c =
+    counted_told g.M.Medium.seen c.args.self.now c.set.new.self c.self.inside.volume c.validate.new.self (ap (λ k. k.medium) c.self.view_is) c.set.ensures.medium c.validate.result c.in-Err.trouble c.in-Err.is c.validate.ensures.only (ap (λ x. x.status) c.set.ensures.told ∙ c.from.ensures)

@@ -1,6 +1,8 @@
-use Rattle.std.proofs.Common.{◌≡◌, subst, inl, Bool, Ok}
+use Rattle.std.proofs.Common.{◌≡◌, ◌∙◌, ap, sym, subst, inl, Bool, Ok, Err}
+use Rattle.std.proofs.lemmas.Result.{err_from_is_err_and}
 use Rattle.std.specs.Prelude.{option_map, IsOkAnd}
 use Rattle.cbm_medium.specs.Seen.{Seen}
+use Rattle.cbm_medium.proofs.Sequences.{only_then, only_after, only_refused}
 use Rattle.cbm_volume.proofs.CopySteps.{handed}
 use Rattle.cbm_channel.specs.Recorded.{IsTextCut}
 use Rattle.cbm_channel.proofs.Asked.{none_of}
@@ -84,3 +86,32 @@ returns-in-Some-2-clause-next g c = λ d uses b s rs can.
     let new : Seen = g.M.Medium.seen c.write-2.new.volume in
     store_next old mid d uses c.args.self.now b s rs c.args.bytes.now can c.write.ensures.only.tracks c.write.ensures.only.protected c.write.ensures.only.counted missing more grows c.grow.ensures.only.tracks c.grow.ensures.only.protected c.grow.ensures.only.counted (λ x z. IsOkAnd x.next (λ y. option_map (λ v. v.items) y ≡ z)) new c.in-Some-2.written
     (λ d2 uses2 b2 s2 rs2 can2. rw c.in-Some-2.is at (c.in_ok-written-2.ensures.next d2 uses2 b2 s2 rs2 can2))
+
+-- ---- what else the medium shows
+
+pub returns-in_err-grow-clause-medium : goal.returns-in_err-grow-clause-medium
+returns-in_err-grow-clause-medium g c =
+    let p = err_from_is_err_and c.from_residual-in_err-grow.result c.from_residual-in_err-grow.ensures.1 in
+    only_refused c.grow.result c.from_residual-in_err-grow.result p.0 (g.M.Medium.seen c.args.volume.now) (g.M.Medium.seen c.grow.new.volume) (c.in_err-grow.was ∙ ap Err (sym p.2)) p.1
+    (only_after c.write.result c.in_ok-written.field-0 c.grow.result (g.M.Medium.seen c.args.volume.now) (g.M.Medium.seen c.write.new.volume) (g.M.Medium.seen c.grow.new.volume) c.in_ok-written.was c.write.ensures.only c.grow.ensures.only)
+
+pub returns-then-not-branch-clause-medium : goal.returns-then-not-branch-clause-medium
+returns-then-not-branch-clause-medium g c = only_then c.grow.result _ c.in_ok-grow.field-0 (g.M.Medium.seen c.args.volume.now) (g.M.Medium.seen c.grow.new.volume) c.in_ok-grow.was
+    (only_after c.write.result c.in_ok-written.field-0 c.grow.result (g.M.Medium.seen c.args.volume.now) (g.M.Medium.seen c.write.new.volume) (g.M.Medium.seen c.grow.new.volume) c.in_ok-written.was c.write.ensures.only c.grow.ensures.only)
+
+pub returns-in_err-written-2-clause-medium : goal.returns-in_err-written-2-clause-medium
+returns-in_err-written-2-clause-medium g c =
+    let p = err_from_is_err_and c.from_residual-in_err-written-2.result c.from_residual-in_err-written-2.ensures.1 in
+    only_refused c.write-2.result c.from_residual-in_err-written-2.result p.0 (g.M.Medium.seen c.args.volume.now) (g.M.Medium.seen c.write-2.new.volume) (c.in_err-written-2.was ∙ ap Err (sym p.2)) p.1
+    (only_after c.grow.result c.in_ok-grow.field-0 c.write-2.result (g.M.Medium.seen c.args.volume.now) (g.M.Medium.seen c.grow.new.volume) (g.M.Medium.seen c.write-2.new.volume) c.in_ok-grow.was
+    (only_after c.write.result c.in_ok-written.field-0 c.grow.result (g.M.Medium.seen c.args.volume.now) (g.M.Medium.seen c.write.new.volume) (g.M.Medium.seen c.grow.new.volume) c.in_ok-written.was c.write.ensures.only c.grow.ensures.only) c.write-2.ensures.only)
+
+pub returns-in-Some-2-clause-medium : goal.returns-in-Some-2-clause-medium
+returns-in-Some-2-clause-medium g c = only_then c.write-2.result _ c.in_ok-written-2.field-0 (g.M.Medium.seen c.args.volume.now) (g.M.Medium.seen c.write-2.new.volume) c.in_ok-written-2.was
+    (only_after c.grow.result c.in_ok-grow.field-0 c.write-2.result (g.M.Medium.seen c.args.volume.now) (g.M.Medium.seen c.grow.new.volume) (g.M.Medium.seen c.write-2.new.volume) c.in_ok-grow.was
+    (only_after c.write.result c.in_ok-written.field-0 c.grow.result (g.M.Medium.seen c.args.volume.now) (g.M.Medium.seen c.write.new.volume) (g.M.Medium.seen c.grow.new.volume) c.in_ok-written.was c.write.ensures.only c.grow.ensures.only) c.write-2.ensures.only)
+
+pub returns-in-None-clause-medium : goal.returns-in-None-clause-medium
+returns-in-None-clause-medium g c = only_then c.write-2.result _ c.in_ok-written-2.field-0 (g.M.Medium.seen c.args.volume.now) (g.M.Medium.seen c.write-2.new.volume) c.in_ok-written-2.was
+    (only_after c.grow.result c.in_ok-grow.field-0 c.write-2.result (g.M.Medium.seen c.args.volume.now) (g.M.Medium.seen c.grow.new.volume) (g.M.Medium.seen c.write-2.new.volume) c.in_ok-grow.was
+    (only_after c.write.result c.in_ok-written.field-0 c.grow.result (g.M.Medium.seen c.args.volume.now) (g.M.Medium.seen c.write.new.volume) (g.M.Medium.seen c.grow.new.volume) c.in_ok-written.was c.write.ensures.only c.grow.ensures.only) c.write-2.ensures.only)
