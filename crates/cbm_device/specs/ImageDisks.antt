@@ -21,7 +21,7 @@ use Rattle.cbm_device.specs.declared.refusal.Refusal.TheVariants.{Memory, Invali
 abbrev pub shown_by : Sectors → Seen
 shown_by (D64 disk) = d64.seen_of disk
 shown_by (G64 disk) = g64.seen_of disk
-shown_by Blank = record { content = blank; tracks = 35; protected = true; failures = 0 }
+shown_by Blank = record { content = blank; tracks = 35; protected = true; failures = 0; refused = None; id = None }
 
 -- which format that is; of a blank it doesn't count
 abbrev pub format_of : Sectors → Kind

@@ -2,7 +2,7 @@
 ghost use Rattle.std.specs.Prelude.{◌≡◌, ◌≤◌, None, IfOk, IfErr, IfSome, OnOk};
 ghost use Rattle.cbm_medium.specs.Place.{directory_head};
 ghost use Rattle.cbm_medium.specs.Content.{written, blank, format_refusal};
-ghost use Rattle.cbm_medium.specs.Seen.{with_content, write_refusal, IsRefused};
+ghost use Rattle.cbm_medium.specs.Seen.{with_content, formatted_as, write_refusal, IsRefused};
 ghost use Rattle.cbm_image.specs.Images.{kind_of, image_fault, IsOf};
 ghost use Rattle.cbm_device.specs.ImageDisks.{no_disk, shown_by, IsDiskOf, IsOpenRefusal, IsImageIn};
 
@@ -74,7 +74,7 @@ fn write_on(sectors: &mut Sectors, at: Address, bytes: &[u8; 256]) -> Result<(),
     ensures refused { IfSome (write_refusal (shown_by sectors.old) at)
         (λ code. result ≡ Err (record { code = code; at = at })) }
     ensures err { IfErr result (λ fault. (fault.at ≡ at)
-        × IsRefused (write_refusal (shown_by sectors.old) at) fault.code (shown_by sectors.old) (shown_by sectors.new)) }
+        × IsRefused (write_refusal (shown_by sectors.old) at) fault (shown_by sectors.old) (shown_by sectors.new)) }
 {
     match sectors {
         Sectors::D64(disk) => disk.write(at, bytes),
@@ -88,11 +88,11 @@ fn write_on(sectors: &mut Sectors, at: Address, bytes: &[u8; 256]) -> Result<(),
 
 /// Makes each sector zeros.
 fn format_on(sectors: &mut Sectors, id: [u8; 2]) -> Result<(), Fault>
-    ensures ok { OnOk result (shown_by sectors.new ≡ with_content blank (shown_by sectors.old)) }
+    ensures ok { OnOk result (shown_by sectors.new ≡ formatted_as id (with_content blank (shown_by sectors.old))) }
     ensures refused { IfSome (format_refusal (shown_by sectors.old).protected)
         (λ code. result ≡ Err (record { code = code; at = directory_head })) }
     ensures err { IfErr result (λ fault. (fault.at ≡ directory_head)
-        × IsRefused (format_refusal (shown_by sectors.old).protected) fault.code (shown_by sectors.old)
+        × IsRefused (format_refusal (shown_by sectors.old).protected) fault (shown_by sectors.old)
         (shown_by sectors.new)) }
 {
     match sectors {
@@ -160,7 +160,7 @@ impl Medium for ImageDisk {
     ghost use Rattle.std.specs.Prelude.{◌≡◌, ◌≤◌, ◌+◌, ◌^◌, ◌-◌, min, IfErr, IfSome, OnOk, Err};
     ghost use Rattle.cbm_medium.specs.Place.{directory_head};
     ghost use Rattle.cbm_medium.specs.Content.{written, blank, format_refusal};
-    ghost use Rattle.cbm_medium.specs.Seen.{with_content, write_refusal, IsRefused};
+    ghost use Rattle.cbm_medium.specs.Seen.{with_content, formatted_as, write_refusal, IsRefused};
     ghost use Rattle.cbm_device.specs.ImageDisks.{seen_of, has_codes, outer_free};
 
     ghost seen = { seen_of };
@@ -184,7 +184,7 @@ impl Medium for ImageDisk {
         ensures refused { IfSome (write_refusal (seen_of self.old) at)
             (λ code. result ≡ Err (record { code = code; at = at })) }
         ensures err { IfErr result (λ fault. (fault.at ≡ at)
-            × IsRefused (write_refusal (seen_of self.old) at) fault.code (seen_of self.old) (seen_of self.new)) }
+            × IsRefused (write_refusal (seen_of self.old) at) fault (seen_of self.old) (seen_of self.new)) }
 
         // It is counted, up to the greatest number.
         ensures counted { OnOk result (self.new.writes ≡ min (self.old.writes + 1) (2 ^ 64 - 1)) }
@@ -195,11 +195,11 @@ impl Medium for ImageDisk {
     }
 
     fn format(&mut self, id: [u8; 2]) -> Result<(), Fault>
-        ensures ok { OnOk result (seen_of self.new ≡ with_content blank (seen_of self.old)) }
+        ensures ok { OnOk result (seen_of self.new ≡ formatted_as id (with_content blank (seen_of self.old))) }
         ensures refused { IfSome (format_refusal (seen_of self.old).protected)
             (λ code. result ≡ Err (record { code = code; at = directory_head })) }
         ensures err { IfErr result (λ fault. (fault.at ≡ directory_head)
-            × IsRefused (format_refusal (seen_of self.old).protected) fault.code (seen_of self.old) (seen_of self.new)) }
+            × IsRefused (format_refusal (seen_of self.old).protected) fault (seen_of self.old) (seen_of self.new)) }
         ensures counted { OnOk result (self.new.writes ≡ min (self.old.writes + 1) (2 ^ 64 - 1)) }
     {
         format_on(&mut self.sectors, id)?;

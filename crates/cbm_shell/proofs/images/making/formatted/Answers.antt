@@ -1,7 +1,8 @@
-use Rattle.std.proofs.Common.{ℕ, ◌≡◌, ◌⊎◌, ap, sym, subst, ◌∙◌}
+use Rattle.std.proofs.Common.{ℕ, ◌≡◌, ◌⊎◌, Some, ap, sym, subst, ◌∙◌}
 use Rattle.cbm_medium.specs.Content.{Content}
 use Rattle.cbm_volume.specs.Holding.{HoldsDisk}
 use Rattle.cbm_volume.specs.Writers.{Idle, HoldsNow}
+use Rattle.cbm_volume.proofs.NewDisks.{new_keeps}
 use Rattle.cbm_shell.specs.Making.{empty_disk}
 use Rattle.cbm_shell.proofs.BlankDisks.{blank_holds, never_hindered}
 use Rattle.cbm_shell.proofs.images.making.formatted.Goals as goal
@@ -22,7 +23,7 @@ returns g c =
     let seen = g.M.Medium.seen in
     let made = c.in-Ok.ensures.formatted (λ e. cc) (empty_disk 35 c.args.title.now c.args.id) in
     record {
-      same_tracks = ap (λ k. (seen k).tracks) c.into_medium.ensures ∙ (c.in-Ok.ensures.only.tracks ∙ ap (λ k. (seen k).tracks) c.open-volume.ensures);
+      same_tracks = ap (λ k. (seen k).tracks) c.into_medium.ensures ∙ ((new_keeps _ (Some c.args.id) (seen c.open-volume.result) (seen c.new_disk.new.self) c.in-Ok.ensures.only).0 ∙ ap (λ k. (seen k).tracks) c.open-volume.ensures);
       holds = subst (λ k. HoldsDisk (seen c.args.medium).tracks (seen k).content (empty_disk (seen c.args.medium).tracks c.args.title.now c.args.id)) (sym c.into_medium.ensures)
           (subst (λ k. HoldsDisk (seen k).tracks (seen c.new_disk.new.self).content (empty_disk (seen k).tracks c.args.title.now c.args.id)) c.open-volume.ensures made);
       first = ap (λ k. (seen k).content (record { track = 1; sector = 0 })) c.into_medium.ensures
