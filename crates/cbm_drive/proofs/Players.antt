@@ -140,9 +140,9 @@ module _ (D M : Type 0) (stands : D → M → Type 0) (step : M → Act → M) (
       (given_shown stood p q b c upto t device n (t + 1) cs ss es e none a s host (omega (arith, from)) from at_ h l, refl)
 
   -- nothing is due any more: all is over
-  pub is_finished : (p q : Turns) (b c : Cabled D) (upto n : ℕ) (ss : List (Station M)) (es : List Event) → p.second ≡ None → q.second ≡ None → q.from ≡ upto + 1 → (a : IsAfter D M stands step says p b n ss es)
+  pub is_finished : (stood : D → M → Type 0) (p q : Turns) (b c : Cabled D) (upto n : ℕ) (ss : List (Station M)) (es : List Event) → p.second ≡ None → q.second ≡ None → q.from ≡ upto + 1 → (a : IsAfter D M stood step says p b n ss es)
       → HasSettled D M stands step says b.host (upto + 1) c.drives [] [] a.from a.stations → c.host ≡ b.host → AreInTime (upto + 1) c.drives → IsFinished D M stands step says q c upto n ss es
-  is_finished p q b c upto n ss es none none_q from a s host in_time = record {
+  is_finished stood p q b c upto n ss es none none_q from a s host in_time = record {
     after = record {
       from = s.from;
       stations = s.stations;

@@ -188,6 +188,14 @@ impl Player {
             IsAfter _ D.State D.stands D.step D.says self.old bus.old n ss es → MatchOption result
             (IsFinished _ D.State D.stands D.step D.says self.new bus.new upto n ss es)
             (λ e. IsAfter _ D.State D.stands D.step D.says self.new bus.new n ss (es ++ e ∷ [])) }
+        // Also on disks that aren't sound, of a drive alone: of the machine that replays what it offered.
+        ensures recorded { N ≡ 1 → (trail : List Shown) × ((later : List Shown) (n : ℕ) (ss : List (Station Playback))
+            (es : List Event) →
+            IsAfter _ Playback (IsPlayedBack D.shows (trail ++ later)) played_step played_says self.old bus.old n ss es →
+            MatchOption result
+            (IsFinished _ Playback (IsPlayedBack D.shows later) played_step played_says self.new bus.new upto n ss es)
+            (λ e. IsAfter _ Playback (IsPlayedBack D.shows later) played_step played_says self.new bus.new n ss
+            (es ++ e ∷ []))) }
         ensures drive { IfSome result (λ e. IsDrives e.who) }
         ensures second { IsGivenBefore (upto + 1) self.new.second }
         ensures from { self.new.from ≤ upto + 1 }
