@@ -1,0 +1,6 @@
+pub mod NumberLemmas
+pub mod ReadingBack
+pub mod LineLemmas
+pub mod ReadingLemmas
+pub mod TraceBack
+pub mod Recorded

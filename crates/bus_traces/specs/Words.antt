@@ -1,0 +1,36 @@
+-- The words of a line of a trace, and the numbers in them.
+use Rattle.std.specs.Prelude.{ℕ, ◌+◌, ◌-◌, ◌*◌, List, length, take, drop, fold, Bool, ◌&&◌, ◌==◌, nat_le, Option, Some, None, option_map, option_and_then, if◌then◌else◌, position}
+use Rattle.std.specs.List.{list_all}
+
+-- a number from low to high, both counted in
+abbrev pub is_between : ℕ → ℕ → ℕ → Bool
+is_between low high n = nat_le low n && nat_le n high
+
+abbrev pub is_space : ℕ → Bool
+is_space b = b == 32
+
+abbrev pub until : Option ℕ → List ℕ → List ℕ
+until None bytes = bytes
+until (Some at) bytes = take at bytes
+
+-- what stands before the first space, or all
+abbrev pub first_word : List ℕ → List ℕ
+first_word bytes = until (position is_space bytes) bytes
+
+-- what stands after the first space, if there is one
+abbrev pub after_word : List ℕ → Option (List ℕ)
+after_word bytes = option_map (λ at. drop (at + 1) bytes) (position is_space bytes)
+
+abbrev pub is_digit : ℕ → Bool
+is_digit b = is_between 48 57 b
+
+abbrev pub decimal_value : List ℕ → ℕ
+decimal_value digits = fold (λ n d. 10 * n + (d - 48)) 0 digits
+
+-- a number of 1 to 16 digits
+abbrev pub number_of : List ℕ → Option ℕ
+number_of word = if is_between 1 16 (length word) && list_all is_digit word then Some (decimal_value word) else None
+
+-- the number, if it is at most so great
+abbrev pub number_upto : ℕ → List ℕ → Option ℕ
+number_upto high word = option_and_then (λ n. if nat_le n high then Some n else None) (number_of word)

@@ -1,0 +1,122 @@
+//! The bytes of a reader, and the numbers of its lines.
+ghost use Rattle.std.specs.Prelude.{◌≡◌, ◌<◌, ◌≤◌, [], ◌∷◌, IfOk, OnOk};
+ghost use Rattle.std.specs.Io.KnownBytes.{Keeps, Consumes, IsAtEnd};
+
+use crate::fault::{Flaw, TraceFault};
+use std::io;
+use std::io::Read;
+
+const BLOCK: usize = 4096;
+
+/// Gives a reader's bytes one at a time, and takes no memory.
+#[derive(Drop)]
+pub(crate) struct Source<R> {
+    reader: R,
+    block: [u8; BLOCK],
+    start: usize,
+    end: usize,
+    line: u64,
+    ghost in_order: { start ≤ end },
+    ghost in_block: { end ≤ 4096 },
+}
+
+/// Whether a byte parts words.
+pub(crate) fn is_blank(byte: u8) -> bool {
+    matches!(byte, b' ' | b'\t' | b'\n' | b'\r')
+}
+
+impl<R: Read> Source<R> {
+    ghost use Rattle.bus_traces.specs.Lines.{bytes_left, TakesByte};
+
+    pub(crate) fn new(reader: R) -> Source<R>
+        ensures { bytes_left R.remaining result ≡ R.remaining reader }
+    {
+        Source {
+            reader,
+            block: [0; BLOCK],
+            start: 0,
+            end: 0,
+            line: 1,
+        }
+    }
+
+    /// Reads on where no byte waits.
+    fn fill(&mut self) -> io::Result<()>
+        ensures ok { OnOk result (Keeps (bytes_left R.remaining self.old) (bytes_left R.remaining self.new)) }
+        ensures end { OnOk result (self.new.start ≡ self.new.end → IsAtEnd (bytes_left R.remaining self.new)) }
+    {
+        if self.start < self.end {
+            return Ok(());
+        }
+        self.start = 0;
+        self.end = 0;
+        self.end = self.reader.read(&mut self.block)?;
+        Ok(())
+    }
+
+    /// The byte that comes next, which stays; None at the end. Error: `Reading`.
+    pub(crate) fn peek(&mut self) -> Result<Option<u8>, TraceFault> {
+        self.fill().map_err(|_| TraceFault::Reading)?;
+        if self.start < self.end {
+            return Ok(Some(self.block[self.start]));
+        }
+        Ok(None)
+    }
+
+    /// Takes the byte that waits.
+    fn take_byte(&mut self) -> u8
+        requires { self.old.start < self.old.end }
+        ensures { Consumes (bytes_left R.remaining self.old) (bytes_left R.remaining self.new) (result ∷ []) }
+    {
+        let byte = self.block[self.start];
+        self.start += 1;
+        byte
+    }
+
+    /// Counts a line that ends.
+    fn count(&mut self, byte: u8)
+        ensures { bytes_left R.remaining self.new ≡ bytes_left R.remaining self.old }
+    {
+        if byte == b'\n' {
+            self.line = self.line.saturating_add(1);
+        }
+    }
+
+    /// Takes the next byte; None at the end. Error: `Reading`.
+    pub(crate) fn next(&mut self) -> Result<Option<u8>, TraceFault>
+        ensures { IfOk result (TakesByte (bytes_left R.remaining self.old) (bytes_left R.remaining self.new)) }
+    {
+        if self.fill().is_err() {
+            return Err(TraceFault::Reading);
+        }
+        if self.start >= self.end {
+            return Ok(None);
+        }
+        let byte = self.take_byte();
+        self.count(byte);
+        Ok(Some(byte))
+    }
+
+    /// The byte that comes after blanks and ends of lines, which stays; None at the end. Error: `Reading`.
+    pub(crate) fn skip_blanks(&mut self) -> Result<Option<u8>, TraceFault> {
+        for _ in 0..u64::MAX {
+            match self.peek()? {
+                Some(byte) if is_blank(byte) => {
+                    self.next()?;
+                }
+                other => return Ok(other),
+            }
+        }
+        Ok(None)
+    }
+
+    /// The number of the line that the next byte stands on, from 1 on.
+    pub(crate) fn line(&self) -> u64 {
+        self.line
+    }
+
+    /// What is wrong with the line that the next byte stands on.
+    pub(crate) fn refused(&self, flaw: Flaw) -> TraceFault {
+        TraceFault::Line(self.line, flaw)
+    }
+}
