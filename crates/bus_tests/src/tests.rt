@@ -3,6 +3,7 @@
 mod attentions;
 mod bits;
 mod bounds;
+mod decided;
 mod judge;
 mod phase;
 mod plays;

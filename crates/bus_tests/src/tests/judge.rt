@@ -1,5 +1,6 @@
 //! The judge of a trace: whether it begins a session, whether the host keeps the timing, and whether a drive is late.
 
+use crate::tests::decided::agrees;
 use crate::tests::reading::{Reading, add};
 use cbm_iec::*;
 use std::alloc::Global;
@@ -112,7 +113,7 @@ impl Judge {
         !self.readings.is_empty()
     }
 
-    /// Judges a trace up to an end.
+    /// Judges a trace up to an end; the judge of `bus_judge` says the same.
     pub fn of(
         rt: &impl Abort,
         alloc: Global,
@@ -120,6 +121,12 @@ impl Judge {
         trace: &[Event],
         end: u64,
     ) -> Judge {
+        let judge = Judge::read(rt, alloc, parties, trace, end);
+        agrees(rt, alloc, parties, trace, end, &judge);
+        judge
+    }
+
+    fn read(rt: &impl Abort, alloc: Global, parties: &[Party], trace: &[Event], end: u64) -> Judge {
         let mut judge = Judge::new(rt, alloc, parties);
         for event in trace {
             if !judge.see(rt, *event) {

@@ -198,12 +198,17 @@ impl Bus {
         self.settle(rt, end + 1)
     }
 
-    // What the plain reader says of the trace up to an end.
-    pub fn judge(&self, rt: &impl Abort, alloc: Global, end: u64) -> Judge {
+    pub fn parties(&self, rt: &impl Abort, alloc: Global) -> Vec<Party> {
         let mut parties = Vec::new(alloc);
         for port in &self.ports {
             add(rt, &mut parties, port.party);
         }
+        parties
+    }
+
+    // What the plain reader says of the trace up to an end.
+    pub fn judge(&self, rt: &impl Abort, alloc: Global, end: u64) -> Judge {
+        let parties = self.parties(rt, alloc);
         Judge::of(rt, alloc, &parties, &self.events, end)
     }
 

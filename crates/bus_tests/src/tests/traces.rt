@@ -1,6 +1,7 @@
 //! Generated hosts, played to one to four drives, with the reader as judge.
 
 use crate::tests::bounds::{BOUNDS, Bound};
+use crate::tests::decided::names;
 use crate::tests::plays::*;
 use crate::tests::reading::{add, after};
 use crate::tests::sessions::*;
@@ -162,7 +163,14 @@ fn check_disturbed(
 }
 
 // A host that is late with a change, up to the moment before it.
-fn check_late(rt: &impl Abort, alloc: Global, flawed: &Session, until: u64, seed: u64) {
+fn check_late(
+    rt: &impl Abort,
+    alloc: Global,
+    flawed: &Session,
+    until: u64,
+    bound: Bound,
+    seed: u64,
+) {
     let changes = ended(rt, alloc, &flawed.changes, until);
     let bus = played(rt, alloc, flawed, &changes, until);
     breaks(
@@ -172,7 +180,8 @@ fn check_late(rt: &impl Abort, alloc: Global, flawed: &Session, until: u64, seed
         until,
         "a change that is due left out in",
         seed,
-    )
+    );
+    names(rt, alloc, &bus, until, bound, seed)
 }
 
 // A host that breaks a bound by 1, and the same before its late change where it is late; how many traces were judged.
@@ -188,9 +197,10 @@ fn check_flawed(
     if let Some((bound, moment, late)) = flawed.broken {
         let bus = played(rt, alloc, &flawed, &flawed.changes, end);
         breaks(rt, alloc, &bus, end, "a bound broken by 1 in", seed);
+        names(rt, alloc, &bus, end, bound, seed);
         add(rt, broken, bound);
         if late {
-            check_late(rt, alloc, &flawed, moment.wrapping_sub(1), seed);
+            check_late(rt, alloc, &flawed, moment.wrapping_sub(1), bound, seed);
             return 2;
         }
         return 1;
@@ -222,28 +232,48 @@ fn check_all(rt: &impl Abort, alloc: Global, first: u64, last: u64) {
     for seed in first..last {
         traces = after(traces, check(rt, alloc, seed, &mut broken));
     }
-    assert!(rt; traces >= 90_000, "{traces} traces");
+    assert!(rt; traces >= 45_000, "{traces} traces");
     for bound in BOUNDS {
         assert!(rt; broken.contains(&bound), "{bound:?} was never broken");
     }
 }
 
 #[test]
-fn first_quarter(rt: HostRuntime) {
-    check_all(&rt, rt.alloc(), 0, 25_000)
+fn first_eighth(rt: HostRuntime) {
+    check_all(&rt, rt.alloc(), 0, 12_500)
 }
 
 #[test]
-fn second_quarter(rt: HostRuntime) {
-    check_all(&rt, rt.alloc(), 25_000, 50_000)
+fn second_eighth(rt: HostRuntime) {
+    check_all(&rt, rt.alloc(), 12_500, 25_000)
 }
 
 #[test]
-fn third_quarter(rt: HostRuntime) {
-    check_all(&rt, rt.alloc(), 50_000, 75_000)
+fn third_eighth(rt: HostRuntime) {
+    check_all(&rt, rt.alloc(), 25_000, 37_500)
 }
 
 #[test]
-fn last_quarter(rt: HostRuntime) {
-    check_all(&rt, rt.alloc(), 75_000, 100_000)
+fn fourth_eighth(rt: HostRuntime) {
+    check_all(&rt, rt.alloc(), 37_500, 50_000)
+}
+
+#[test]
+fn fifth_eighth(rt: HostRuntime) {
+    check_all(&rt, rt.alloc(), 50_000, 62_500)
+}
+
+#[test]
+fn sixth_eighth(rt: HostRuntime) {
+    check_all(&rt, rt.alloc(), 62_500, 75_000)
+}
+
+#[test]
+fn seventh_eighth(rt: HostRuntime) {
+    check_all(&rt, rt.alloc(), 75_000, 87_500)
+}
+
+#[test]
+fn last_eighth(rt: HostRuntime) {
+    check_all(&rt, rt.alloc(), 87_500, 100_000)
 }

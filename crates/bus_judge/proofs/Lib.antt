@@ -1,0 +1,3 @@
+pub mod Points
+pub mod Quiet
+pub mod Standing

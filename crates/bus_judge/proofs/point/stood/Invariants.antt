@@ -1,0 +1,12 @@
+use Rattle.std.proofs.Common.{◌≡◌, ◌≤◌, length, take, map, true, false}
+use Rattle.cbm_session.specs.Pieces as spec
+use Rattle.cbm_session.specs.Seats.{lines}
+use Rattle.cbm_session.specs.Sessions as sessions
+use Rattle.bus_judge.specs.Views.{seats_of}
+use Rattle.bus_judge.proofs.point.stood.Given as goal
+
+abbrev pub invariant-loop-seat : goal.invariant-loop-seat
+invariant-loop-seat l = record {
+  found : seats_of l.found.items ≡ map (λ s. spec.standing l.talking s) (seats_of (take l.seat-index l.seats));
+  few : length l.found.items ≤ l.seat-index;
+}

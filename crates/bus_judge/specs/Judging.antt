@@ -1,0 +1,70 @@
+-- What the judge's state means: pieces from rest up to a point, one under way, and the steps that were seen of both.
+use Rattle.std.specs.Prelude.{◌≡◌, ◌<◌, true, ℕ, List, [], ◌∷◌, ◌++◌, Option, Some, None, take, slice_get}
+use Rattle.bus_judge.specs.declared.judge.Judge.{Judge}
+use Rattle.bus_judge.specs.declared.step.Mark.{Mark as OwnMark}
+use Rattle.bus_judge.specs.declared.step.Step.{Step as OwnStep}
+use Rattle.bus_judge.specs.declared.whole.Whole.{Whole as OwnWhole}
+use Rattle.bus_judge.specs.Views.{point_of, whole_of, mark_of, shown}
+use Rattle.cbm_iec.specs.declared.event.Event.{Event}
+use Rattle.cbm_iec.specs.declared.party.Party.{Party}
+use Rattle.cbm_session.specs.Frames.{is_last}
+use Rattle.cbm_session.specs.Pieces.{Piece, Point, Whole, PieceFits, point_after, Fits, steps_of, ToTalker, Talk}
+use Rattle.cbm_session.specs.Sessions.{rest, session_steps, Begins, acts_of}
+use Rattle.cbm_session.specs.Steps.{Step, events_of}
+use Rattle.cbm_session.specs.Timing.{HostKeeps, IsLate, any}
+
+-- these pieces lead from a point to another
+abbrev pub Leads : Point → List Piece → Point → Type 0
+Leads p [] q = q ≡ p
+Leads p (k ∷ ks) q = PieceFits p k × Leads (point_after p k) ks q
+
+-- the piece under way fits, and these are its steps
+abbrev pub IsUnderWay : Point → Option OwnWhole → List OwnStep → Type 0
+IsUnderWay p None steps = steps ≡ []
+IsUnderWay p (Some w) steps = Fits p (whole_of w) × (shown steps ≡ steps_of p (whole_of w))
+
+-- behind these steps of a session of these drives: pieces up to a point, and so many steps of the one under way
+pub record StandsAt (bs : List Party) (p : Point) (whole : Option OwnWhole) (steps : List OwnStep) (seen : ℕ) (done : List Step) : Type 0 where
+  pub ks : List Piece
+  pub leads : Leads (rest bs) ks p
+  pub under_way : IsUnderWay p whole steps
+  pub steps_done : session_steps (rest bs) ks ++ shown (take seen steps) ≡ done
+
+-- so stands the judge
+abbrev pub Stands : List Party → Judge → List Step → Type 0
+Stands bs j done = StandsAt bs (point_of j.point) j.whole j.steps.items j.seen done
+
+-- a piece is under way
+abbrev pub IsBusy : Judge → Type 0
+IsBusy j = (w : OwnWhole) × (j.whole ≡ Some w)
+
+-- and its next step is this event, with this act
+abbrev pub Awaits : Judge → Event → OwnMark → Type 0
+Awaits j event mark = slice_get j.steps.items j.seen ≡ Some (record { event = event; mark = mark })
+
+-- one more step
+abbrev pub and_then : List Step → Event → OwnMark → List Step
+and_then done event mark = done ++ (record { event = event; mark = mark_of mark } ∷ [])
+
+-- these steps, with their events and acts, begin a session of these drives
+abbrev pub BeginsSo : List Party → List Step → Type 0
+BeginsSo bs done = Begins bs (acts_of bs done) (events_of done)
+
+-- a piece behind which a session may end
+abbrev pub Rests : Whole → Type 0
+Rests (ToTalker at clock) = ⊥
+Rests (Talk at f) = is_last f ≡ true
+Rests w = Unit {0}
+
+abbrev pub RestsIn : Option OwnWhole → Type 0
+RestsIn None = Unit {0}
+RestsIn (Some w) = Rests (whole_of w)
+
+-- the piece under way has nothing more up to that moment
+abbrev pub IsQuietTo : Judge → ℕ → Type 0
+IsQuietTo j moment = elim (slice_get j.steps.items j.seen) [ None ↦ RestsIn j.whole | Some s ↦ moment < s.event.change.moment ]
+
+-- up to that moment the host has kept the timing, and no drive was late
+pub record InTime (bs : List Party) (done : List Step) (moment : ℕ) : Type 0 where
+  pub kept : HostKeeps bs (events_of done) moment
+  pub prompt : IsLate bs any (events_of done) moment → ⊥

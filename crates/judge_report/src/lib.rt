@@ -1,0 +1,15 @@
+//! What the judge says of a trace, in words.
+#![tactic(auto)]
+
+mod fault;
+mod report;
+mod seats;
+mod teller;
+
+pub use bus_judge::Verdict;
+pub use fault::ReportFault;
+pub use report::judge_trace;
+pub use seats::party_of;
+
+#[cfg(test)]
+mod tests;

@@ -1,0 +1,75 @@
+//! The acts of a session, one a line.
+
+use bus_judge::Mark;
+use cbm_iec::{Act, Event, Who};
+use std::io::{self, Write};
+
+/// Prints acts as they come: an attention with its bytes in one line, and each other act in a line. A byte that several
+/// drives heard stands once.
+#[derive(Drop)]
+pub struct Teller {
+    /// An attention's line was begun.
+    attends: bool,
+    /// The host changed a line since a byte of its own was printed.
+    is_fresh: bool,
+}
+
+fn signal(is_last: bool) -> &'static str {
+    if is_last { " eoi" } else { "" }
+}
+
+impl Teller {
+    pub fn new() -> Teller {
+        Teller {
+            attends: false,
+            is_fresh: true,
+        }
+    }
+
+    /// Ends the line that was begun.
+    pub fn end_line<W: Write>(&mut self, output: &mut W) -> io::Result<()> {
+        if self.attends {
+            self.attends = false;
+            output.write_all(b"\n")?;
+        }
+        Ok(())
+    }
+
+    /// An event, and the act that it completes.
+    pub fn tell<W: Write>(&mut self, output: &mut W, event: Event, mark: Mark) -> io::Result<()> {
+        if event.who == Who::Host {
+            self.is_fresh = true;
+        }
+        match mark {
+            Mark::Plain => Ok(()),
+            Mark::ForEach(Act::Pulled) => {
+                self.end_line(output)?;
+                self.attends = true;
+                output.write_all(b"attention")
+            }
+            Mark::ForEach(_) => self.end_line(output),
+            Mark::For(device, act) => self.tell_drive(output, device, act),
+        }
+    }
+
+    fn tell_drive<W: Write>(&mut self, output: &mut W, device: u8, act: Act) -> io::Result<()> {
+        match act {
+            Act::Said(byte, last) => {
+                let signal = signal(last);
+                writeln!(output, "drive {device} {byte:02x}{signal}")
+            }
+            Act::Silent => writeln!(output, "drive {device} has nothing to say"),
+            _ if !self.is_fresh => Ok(()),
+            Act::Attention(byte) => {
+                self.is_fresh = false;
+                write!(output, " {byte:02x}")
+            }
+            Act::Heard(byte, eoi) => {
+                self.is_fresh = false;
+                let signal = signal(eoi);
+                writeln!(output, "host {byte:02x}{signal}")
+            }
+            Act::Pulled | Act::Released => Ok(()),
+        }
+    }
+}

@@ -1,0 +1,136 @@
+//! Traces by lines, and what is said of them.
+
+use crate::{ReportFault, Verdict, judge_trace, party_of};
+use cbm_iec::Party;
+use std::alloc::Global;
+use std::process::Abort;
+use std::str::from_utf8;
+
+/// LISTEN to device 8 with a reaction of 20: the first worked session.
+const LISTEN: &str = "0 host atn pull
+0 host clock pull
+20 8 data pull
+1000 host clock free
+1020 8 data free
+1040 host clock pull
+1040 host data pull
+1060 host clock free
+1080 host clock pull
+1100 host clock free
+1120 host clock pull
+1140 host clock free
+1160 host clock pull
+1160 host data free
+1180 host clock free
+1200 host clock pull
+1200 host data pull
+1220 host clock free
+1240 host clock pull
+1240 host data free
+1260 host clock free
+1280 host clock pull
+1280 host data pull
+1300 host clock free
+1320 host clock pull
+1340 host clock free
+1360 host clock pull
+1360 host data free
+1380 8 data pull
+1400 host atn free
+";
+
+fn said(
+    rt: &impl Abort,
+    alloc: Global,
+    trace: &str,
+    words: &[&str],
+    expected: &str,
+) -> Result<Verdict, ReportFault> {
+    let mut parties: Vec<Party> = Vec::new(alloc);
+    for word in words {
+        let party = party_of(word).expect(rt, "a drive");
+        parties.push(party).ok().expect(rt, "memory");
+    }
+    let mut output: Vec<u8> = Vec::new(alloc);
+    let verdict = judge_trace(trace.as_bytes(), &mut output, &parties);
+    let text = from_utf8(output.as_slice()).ok().expect(rt, "text");
+    assert!(rt; text == expected, "{text}");
+    verdict
+}
+
+#[test]
+fn tells_a_session(rt: HostRuntime) {
+    let expected = "attention 28\na session to 1400 us\n";
+    let verdict = said(&rt, rt.alloc(), LISTEN, &["8:20"], expected);
+    assert!(rt; verdict == Ok(Verdict::Session));
+}
+
+// The start comes 20 after T = 1020; with a drive of reaction 40 T is 1040.
+#[test]
+fn tells_who_broke_it(rt: HostRuntime) {
+    let expected = "attention\n20 us drive 8 data pull: due at 40\n";
+    let verdict = said(&rt, rt.alloc(), LISTEN, &["8:40"], expected);
+    assert!(rt; matches!(verdict, Ok(Verdict::Drive(_))));
+    let late = "0 host atn pull\n0 host clock pull\n20 8 data pull\n99 host clock free\n";
+    let expected = "attention\n99 us host clock free: 99 after ATN's pull, 100 at least\n";
+    let verdict = said(&rt, rt.alloc(), late, &["8:20"], expected);
+    assert!(rt; matches!(verdict, Ok(Verdict::Host(_))));
+}
+
+/// TALK to device 8 with a reaction of 20, which has nothing to say, at a KERNAL's pace: it holds CLOCK for 80.
+const SILENT: &str = "0 host atn pull
+0 host clock pull
+20 8 data pull
+100 host clock free
+120 8 data free
+140 host clock pull
+140 host data pull
+160 host clock free
+180 host clock pull
+200 host clock free
+220 host clock pull
+240 host clock free
+260 host clock pull
+260 host data free
+280 host clock free
+300 host clock pull
+300 host data pull
+320 host clock free
+340 host clock pull
+360 host clock free
+380 host clock pull
+380 host data free
+400 host clock free
+420 host clock pull
+420 host data pull
+440 host clock free
+460 host clock pull
+460 host data free
+480 8 data pull
+560 host data pull
+560 host atn free
+580 host clock free
+600 8 clock pull
+680 8 clock free
+680 8 data free
+";
+
+// At the pace of the profile a talker that pulls CLOCK leads, and frees DATA with it.
+#[test]
+fn keeps_the_drives_pace(rt: HostRuntime) {
+    let expected = "attention 48\ndrive 8 has nothing to say\na session to 680 us\n";
+    let verdict = said(&rt, rt.alloc(), SILENT, &["8:20:kernal"], expected);
+    assert!(rt; verdict == Ok(Verdict::Session));
+    let expected = "attention 48\n600 us drive 8 data free: missing, was due then\n";
+    let verdict = said(&rt, rt.alloc(), SILENT, &["8:20"], expected);
+    assert!(rt; matches!(verdict, Ok(Verdict::Drive(_))));
+}
+
+#[test]
+fn reads_drives(rt: HostRuntime) {
+    assert!(rt; party_of("8").is_none() && party_of("8:").is_none());
+    assert!(rt; party_of("8:20:fast").is_none() && party_of("8:300").is_none());
+    assert!(rt; party_of("9:35:kernal").is_some());
+    let none = said(&rt, rt.alloc(), LISTEN, &["8:0"], "");
+    assert!(rt; none == Err(ReportFault::Drives(bus_judge::NotABus::Reaction)));
+}
