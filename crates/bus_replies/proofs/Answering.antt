@@ -1,0 +1,81 @@
+-- Lines that are answered one by one.
+use Rattle.std.proofs.Common.{◌≡◌, ℕ, List, [], ◌∷◌, ◌++◌, Option, Some, None, Ok, Err, refl, sym, ap, subst, ◌∙◌, append_assoc, append-nil}
+use Rattle.std.specs.Prelude.{Result, OnOk, flat_map}
+use Rattle.std.specs.Io.KnownBytes.{Appends, Keeps}
+use Rattle.cbm_iec.specs.declared.event.Event.{Event}
+use Rattle.cbm_iec.specs.declared.line.Change.{Change}
+use Rattle.bus_traces.specs.Events.{trace_text}
+use Rattle.bus_replies.specs.Plays.{HasGiven}
+use Rattle.bus_replies.specs.Ready.{ready_text}
+use Rattle.bus_replies.specs.Replies.{Reply, reply_text, HasAnswered, HaveAnswered}
+use Rattle.bus_replies.proofs.Giving.{appends-nothing, appends-more}
+
+pub keeps_none : (o : Option (List ℕ)) → Keeps o o
+keeps_none None = tt
+keeps_none (Some xs) = refl
+
+pub keeps_on : (a b c : Option (List ℕ)) → Keeps a b → Keeps b c → Keeps a c
+keeps_on None b c h k = tt
+keeps_on (Some l) None c h k = absurd h
+keeps_on (Some l) (Some m) None h k = absurd k
+keeps_on (Some l) (Some m) (Some n) h k = k ∙ h
+
+pub appends-kept : (a b c : Option (List ℕ)) (xs : List ℕ) → Appends a b xs → Keeps b c → Appends a c xs
+appends-kept None b c xs h k = tt
+appends-kept (Some l) None c xs h k = absurd h
+appends-kept (Some l) (Some m) None xs h k = absurd k
+appends-kept (Some l) (Some m) (Some n) xs h k = k ∙ h
+
+abbrev events_of : List Reply → List Event
+events_of replies = flat_map (λ r. r.events) replies
+
+abbrev text_of : List Reply → List ℕ
+text_of replies = flat_map reply_text replies
+
+events_on : (xs ys : List Reply) → events_of (xs ++ ys) ≡ events_of xs ++ events_of ys
+events_on [] ys = refl
+events_on (x ∷ xs) ys = ap (λ t. x.events ++ t) (events_on xs ys) ∙ sym (append_assoc x.events (events_of xs) (events_of ys))
+
+text_on : (xs ys : List Reply) → text_of (xs ++ ys) ≡ text_of xs ++ text_of ys
+text_on [] ys = refl
+text_on (x ∷ xs) ys = ap (λ t. reply_text x ++ t) (text_on xs ys) ∙ sym (append_assoc (reply_text x) (text_of xs) (text_of ys))
+
+module _ {S Start : Type 0} (gave : S → Start → List Event → Type 0) where
+  -- what was given, and the mark after it
+  pub marked : (a b c : Option (List ℕ)) (cs : List Change) (x y : S) (moment : ℕ) (due : Option ℕ) → HasGiven gave a b cs x y → Appends b c (ready_text moment due) → HasAnswered gave a c cs x y
+  marked a b c cs x y moment due h w = record {
+    reply = record { events = h.events; moment = moment; due = due };
+    leads = h.leads;
+    hosts = h.hosts;
+    written = appends-more a b c (trace_text h.events) (ready_text moment due) h.written w;
+  }
+
+  pub none_answered : (a : Option (List ℕ)) (x : S) → HaveAnswered gave a a x x
+  none_answered a x = record {
+    replies = [];
+    leads = λ s es k. subst (λ v. gave x s v) (sym (append-nil es)) k;
+    written = appends-nothing a;
+  }
+
+  pub kept_answered : (a b c : Option (List ℕ)) (x y : S) → HaveAnswered gave a b x y → Keeps b c → HaveAnswered gave a c x y
+  kept_answered a b c x y h k = record {
+    replies = h.replies;
+    leads = h.leads;
+    written = appends-kept a b c (text_of h.replies) h.written k;
+  }
+
+  pub one_more : (a b c : Option (List ℕ)) (cs : List Change) (x y z : S) → HaveAnswered gave a b x y → HasAnswered gave b c cs y z → HaveAnswered gave a c x z
+  one_more a b c cs x y z h k = record {
+    replies = h.replies ++ k.reply ∷ [];
+    leads = λ s es i. subst (λ v. gave z s v) (append_assoc es (events_of h.replies) k.reply.events ∙ ap (λ v. es ++ v) (sym (events_on h.replies (k.reply ∷ []) ∙ ap (λ v. events_of h.replies ++ v) (append-nil k.reply.events))))
+        (k.leads s (es ++ events_of h.replies) (h.leads s es i));
+    written = subst (λ t. Appends a c t) (sym (text_on h.replies (k.reply ∷ []) ∙ ap (λ t. text_of h.replies ++ t) (append-nil (reply_text k.reply)))) (appends-more a b c (text_of h.replies) (reply_text k.reply) h.written k.written);
+  }
+
+pub on_ok : {A E : Type 0} {P Q : Type 0} (r : Result A E) → OnOk r P → (P → Q) → OnOk r Q
+on_ok (Ok x) h f = f h
+on_ok (Err e) h f = tt
+
+pub known_ok : {A E : Type 0} {P : Type 0} (r : Result A E) → P → OnOk r P
+known_ok (Ok x) p = p
+known_ok (Err e) p = tt

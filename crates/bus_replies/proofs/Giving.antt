@@ -1,0 +1,115 @@
+-- Events that are given and written one by one.
+use Rattle.std.proofs.Common.{◌≡◌, ℕ, List, [], ◌∷◌, ◌++◌, Option, Some, None, refl, sym, ap, subst, ◌∙◌, arith, append_assoc, append-nil}
+use Rattle.std.specs.Prelude.{IfSome, ◌≤◌}
+use Rattle.std.specs.Io.KnownBytes.{Appends, Keeps}
+use Rattle.cbm_iec.specs.declared.event.Event.{Event}
+use Rattle.cbm_iec.specs.declared.event.Who.{Who}
+use Rattle.cbm_iec.specs.declared.event.Who.TheVariants.{Host, Drive}
+use Rattle.cbm_iec.specs.declared.line.Change.{Change}
+use Rattle.bus_traces.specs.Events.{event_text, trace_text}
+use Rattle.bus_replies.specs.Plays.{IsDrives, IsTurnOf, IsFromHost, HasGiven, host_changes}
+
+-- ---- text that was written piece by piece
+
+pub appends-nothing : (o : Option (List ℕ)) → Appends o o []
+appends-nothing None = tt
+appends-nothing (Some xs) = sym (append-nil xs)
+
+pub appends-more : (a b c : Option (List ℕ)) (xs ys : List ℕ) → Appends a b xs → Appends b c ys → Appends a c (xs ++ ys)
+appends-more None b c xs ys h k = tt
+appends-more (Some l) None c xs ys h k = absurd h
+appends-more (Some l) (Some m) None xs ys h k = absurd k
+appends-more (Some l) (Some m) (Some n) xs ys h k = k ∙ (ap (λ t. t ++ ys) h ∙ append_assoc l xs ys)
+
+-- ---- events and their text
+
+pub text_on : (xs ys : List Event) → trace_text (xs ++ ys) ≡ trace_text xs ++ trace_text ys
+text_on [] ys = refl
+text_on (x ∷ xs) ys = ap (λ t. event_text x ++ t) (text_on xs ys) ∙ sym (append_assoc (event_text x) (trace_text xs) (trace_text ys))
+
+pub text_one : (e : Event) → trace_text (e ∷ []) ≡ event_text e
+text_one e = append-nil (event_text e)
+
+pub hosts_on : (xs ys : List Event) → host_changes (xs ++ ys) ≡ host_changes xs ++ host_changes ys
+hosts_on [] ys = refl
+hosts_on (x ∷ xs) ys = one x.who (hosts_on xs ys)
+  where
+    one : (w : Who) → host_changes (xs ++ ys) ≡ host_changes xs ++ host_changes ys → host_changes ((record { who = w; change = x.change }) ∷ (xs ++ ys)) ≡ host_changes ((record { who = w; change = x.change }) ∷ xs) ++ host_changes ys
+    one Host e = ap (λ cs. x.change ∷ cs) e
+    one (Drive d) e = e
+
+-- a change of a drive is none of the host
+pub of_drive : (e : Event) → IsDrives e.who → host_changes (e ∷ []) ≡ []
+of_drive e h = one e.who h
+  where
+    one : (w : Who) → IsDrives w → host_changes ((record { who = w; change = e.change }) ∷ []) ≡ []
+    one Host k = absurd k
+    one (Drive d) k = refl
+
+-- the host's change that waited
+pub of_host : (e : Event) (c : Change) (was now : Option Change) → e.who ≡ Host → was ≡ Some c → IsTurnOf e.who e.change was now → host_changes (e ∷ []) ≡ c ∷ []
+of_host e c was now host waits turn = one e.who host turn
+  where
+    one : (w : Who) → w ≡ Host → IsTurnOf w e.change was now → host_changes ((record { who = w; change = e.change }) ∷ []) ≡ c ∷ []
+    one Host h t = (let same : Some e.change ≡ Some c = sym t.0 ∙ waits in ap (λ (x : Change). x ∷ []) (let z : e.change ≡ c = cc in z))
+    one (Drive d) h t = absurd (cc)
+
+-- it is the host's, and no change waits then
+pub is_hosts : (e : Event) (c : Change) (was now : Option Change) → e.who ≡ Host → was ≡ Some c → IsTurnOf e.who e.change was now → (e.change ≡ c) × (now ≡ None)
+is_hosts e c was now host waits turn = one e.who host turn
+  where
+    one : (w : Who) → w ≡ Host → IsTurnOf w e.change was now → (e.change ≡ c) × (now ≡ None)
+    one Host h t = (let same : Some e.change ≡ Some c = sym t.0 ∙ waits in (let z : e.change ≡ c = cc in z), t.1)
+    one (Drive d) h t = absurd (cc)
+
+-- after it the next one may come at its moment
+pub from_host : (e : Event) (from : ℕ) → e.who ≡ Host → IsFromHost e.who e.change.moment from → from ≡ e.change.moment
+from_host e from host h = one e.who host h
+  where
+    one : (w : Who) → w ≡ Host → IsFromHost w e.change.moment from → from ≡ e.change.moment
+    one Host k f = f
+    one (Drive d) k f = absurd (cc)
+
+pub still_waits : (e : Event) (was now : Option Change) → IsDrives e.who → IsTurnOf e.who e.change was now → now ≡ was
+still_waits e was now drive turn = one e.who drive turn
+  where
+    one : (w : Who) → IsDrives w → IsTurnOf w e.change was now → now ≡ was
+    one Host h t = absurd h
+    one (Drive d) h t = t
+
+pub not_host : (w : Who) → (w ≡ Host → ⊥) → IsDrives w
+not_host Host h = absurd (h refl)
+not_host (Drive d) h = tt
+
+-- what waits comes
+pub what_comes : (w : Option Change) (c : Change) (P : Type 0) → w ≡ Some c → IfSome w (λ d. d.moment ≤ c.moment → P) → P
+what_comes None c P e h = absurd (cc)
+what_comes (Some d) c P e h = (let same : d ≡ c = cc in h (subst (λ (x : Change). d.moment ≤ x.moment) same (omega arith)))
+
+-- ---- events that were given
+
+module _ {S Start : Type 0} (gave : S → Start → List Event → Type 0) where
+  pub none_given : (a : Option (List ℕ)) (x y : S) → ((s : Start) (es : List Event) → gave x s es → gave y s es) → HasGiven gave a a [] x y
+  none_given a x y h = record {
+    events = [];
+    leads = λ s es k. subst (λ v. gave y s v) (sym (append-nil es)) (h s es k);
+    hosts = refl;
+    written = appends-nothing a;
+  }
+
+  pub event_given : (a b c : Option (List ℕ)) (cs ds : List Change) (x y z : S) (e : Event) → HasGiven gave a b cs x y → ((s : Start) (es : List Event) → gave y s es → gave z s (es ++ e ∷ [])) → host_changes (e ∷ []) ≡ ds
+      → Appends b c (event_text e) → HasGiven gave a c (cs ++ ds) x z
+  event_given a b c cs ds x y z e h next hosts w = record {
+    events = h.events ++ e ∷ [];
+    leads = λ s es k. subst (λ v. gave z s v) (append_assoc es h.events (e ∷ [])) (next s (es ++ h.events) (h.leads s es k));
+    hosts = hosts_on h.events (e ∷ []) ∙ (λ i. h.hosts i ++ hosts i);
+    written = subst (λ t. Appends a c t) (sym (text_on h.events (e ∷ []) ∙ ap (λ t. trace_text h.events ++ t) (text_one e))) (appends-more a b c (trace_text h.events) (event_text e) h.written w);
+  }
+
+  pub nothing_more : (a b : Option (List ℕ)) (cs : List Change) (x y z : S) → HasGiven gave a b cs x y → ((s : Start) (es : List Event) → gave y s es → gave z s es) → HasGiven gave a b cs x z
+  nothing_more a b cs x y z h next = record {
+    events = h.events;
+    leads = λ s es k. next s (es ++ h.events) (h.leads s es k);
+    hosts = h.hosts;
+    written = h.written;
+  }

@@ -1,0 +1,18 @@
+//! A talk with the host of a bus: it says what it does line by line, and is answered by what comes of it.
+#![tactic(auto)]
+
+mod carrying;
+mod clock;
+mod fault;
+mod lines;
+mod plays;
+mod ready;
+mod replying;
+mod request;
+
+pub use fault::{Refusal, ReplyFault};
+pub use lines::Lines;
+pub use plays::Plays;
+pub use ready::ready_text;
+pub use replying::reply;
+pub use request::{Request, request_of};

@@ -1,0 +1,64 @@
+//! What a line of the host asks for.
+ghost use Rattle.std.specs.Prelude.{◌≡◌, ◌<◌, Err, length, IfOk, IfSome};
+ghost use Rattle.bus_replies.specs.Replies.{IsInRange};
+
+use crate::fault::Refusal;
+use bus_traces::{host_event_of, moment_of};
+use cbm_iec::Change;
+
+/// What a line of the host asks for.
+#[derive(Clone, Copy, Debug, PartialEq, Eq, Drop)]
+pub enum Request {
+    /// It is empty, or begins with `;`.
+    Nothing,
+    /// The host changes a line.
+    Change(Change),
+    /// All that comes up to this moment, in microseconds.
+    Until(u64),
+    /// The same, and the talk ends.
+    End(u64),
+}
+
+/// `MOMENT LINE WAY`.
+fn change(line: &[u8]) -> Option<Request>
+    ensures { IfSome result IsInRange }
+{
+    let event = host_event_of(line)?;
+    Some(Request::Change(event.change))
+}
+
+/// What the words of a line ask for, if they ask for something.
+fn request_in(line: &[u8]) -> Option<Request>
+    ensures { IfSome result IsInRange }
+{
+    match line {
+        [] | [b';', ..] => Some(Request::Nothing),
+        [b'u', b'n', b't', b'i', b'l', b' ', moment @ ..] => Some(Request::Until(moment_of(
+            moment,
+        )?)),
+        [b'e', b'n', b'd', b' ', moment @ ..] => Some(Request::End(moment_of(moment)?)),
+        _ => change(line),
+    }
+}
+
+/// A line without the carriage return that it may end with.
+fn without_return(line: &[u8]) -> &[u8] {
+    match line {
+        [rest @ .., b'\r'] => rest,
+        _ => line,
+    }
+}
+
+/// What a line without its end asks for. Errors: `Long` for more than 1,000 bytes, then `Words`.
+pub fn request_of(line: &[u8]) -> Result<Request, Refusal>
+    ensures range { IfOk result IsInRange }
+    ensures long { 1000 < length line.now → result ≡ Err Refusal.Long }
+{
+    if line.len() > LONGEST {
+        return Err(Refusal::Long);
+    }
+    request_in(without_return(line)).ok_or(Refusal::Words)
+}
+
+/// The most bytes of a line.
+pub(crate) const LONGEST: usize = 1000;

@@ -1,0 +1,15 @@
+use Rattle.drive_replies.proofs.Turning.{turn_of, drives_in, from_of, some_of, match_of, still_after}
+use Rattle.drive_replies.proofs.hosted_bus.HostedBusPlays.next.Goals as goal
+
+pub returns-clause-given : goal.returns-clause-given
+returns-clause-given g c = λ s es a.
+    match_of c.next.result (λ h. still_after _ g.D.Machine.State g.D.Machine.stands g.D.Machine.step g.D.Machine.says _ _ _ _ _ s.0 s.1 es a h) (λ e h. h.after) (c.next.ensures.given s.0 s.1 es a)
+
+pub returns-clause-turn : goal.returns-clause-turn
+returns-clause-turn g c = some_of c.next.result (λ e h. turn_of e.who e.change _ _ h) c.next.ensures.turn
+
+pub returns-clause-from : goal.returns-clause-from
+returns-clause-from g c = some_of c.next.result (λ e h. from_of e.who e.change _ h) c.next.ensures.behind
+
+pub returns-clause-fewer : goal.returns-clause-fewer
+returns-clause-fewer g c = some_of c.next.result (λ e h d. h (drives_in e.who d)) c.next.ensures.fewer
