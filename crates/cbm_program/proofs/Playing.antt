@@ -14,7 +14,9 @@ use Rattle.cbm_session.specs.Sessions.{IsBus, IsDrive}
 use Rattle.cbm_drive.specs.Machines.{Machine}
 use Rattle.cbm_drive.specs.Standing.{Kept, Stands}
 use Rattle.cbm_drive.specs.Cables.{Cabled}
-use Rattle.cbm_drive.specs.Desks.{Desk, DeskStands, desk_step, desk_says}
+use Rattle.cbm_drive.specs.Desks.{Desk, DeskStands, desk_step, desk_says, desk_shows}
+use Rattle.cbm_drive.specs.Playback.{Shown, Playback, IsPlayedBack, played_says, played_step}
+use Rattle.cbm_drive.specs.PlayedBack.{played_more}
 use Rattle.cbm_drive.specs.NextSaid.{more_said}
 use Rattle.cbm_drive.specs.Ordered.{host_changes, latest}
 use Rattle.cbm_drive.specs.Players.{Turns, pending}
@@ -23,16 +25,16 @@ use Rattle.cbm_drive.proofs.Kept.{kept_after}
 use Rattle.cbm_program.specs.Lines.{lines_of, TakesLine}
 use Rattle.cbm_program.specs.Output.{AppendsPart, Grows}
 use Rattle.cbm_program.specs.Running.{EndsAs}
-use Rattle.cbm_program.specs.Staging.{IsOpen, IsAt, IsBorne, PlaysOn, PlaysPart, Ends, tracks_in}
+use Rattle.cbm_program.specs.Staging.{IsOpen, IsAt, IsBorne, IsFresh, PlaysOn, PlaysPart, Ends, ReplaysOn, ReplaysTo, tracks_in}
 use Rattle.cbm_program.specs.TimedReading.{ReadsTimed, LacksTimed, TimedRead, IsBadBehind, BehindRead}
 use Rattle.cbm_program.specs.Timetables.{Timetable, timetable_of, timetable_from, timed_meaning, with_timed, stopped_at, ended_at, latest_if, bad_behind}
-use Rattle.cbm_program.specs.Traces.{PrintsTrace, PrintsTracePart, trace_text, powered, machines_of, HasWritten, WritesChanges}
+use Rattle.cbm_program.specs.Traces.{PrintsTrace, PrintsTracePart, trace_text, powered, replaying, machines_of, HasWritten, WritesTrace}
 use Rattle.cbm_program.specs.declared.fault.RunFault.{RunFault}
 use Rattle.cbm_program.specs.declared.fault.RunFault.TheVariants.{Script, Image, Memory, Reading, Writing}
 use Rattle.cbm_program.specs.declared.wires.timed.Timed.{Timed}
 use Rattle.cbm_program.specs.declared.wires.timed.Timed.TheVariants.{Skipped, Changes, Ends as EndsAt}
 use Rattle.cbm_program.proofs.OutputLemmas.{appends-more, appends-kept, part_behind, whole_part}
-use Rattle.cbm_program.proofs.Staging.{text_on, hosts_on, none_written, then_written, kept_written}
+use Rattle.cbm_program.proofs.Staging.{text_on, hosts_on, made_then, made_kept, replays_none, replays_then, replays_kept}
 
 -- ---- the lines of a timetable
 
@@ -112,6 +114,25 @@ latest_last t (x ∷ xs) c = latest_last x.moment xs c
 pub joined : {S W : Type 0} (P : S → W → ℕ → Type 0) (s t : S) (v w : W) (m n : ℕ) → t ≡ s → w ≡ v → n ≡ m → P s v m → P t w n
 joined P s t v w m n a b c h = subst (λ x. P x w n) (sym a) (subst (λ y. P s y n) (sym b) (subst (λ z. P s v z) (sym c) h))
 
+-- ---- one drive
+
+-- its one drive
+one_drive : {D : Type 0} (f : D → ℕ) (xs : List (Seated (D))) → length (numbers f xs) ≡ 1 → (x : Seated (D)) × (xs ≡ x ∷ [])
+one_drive f [] e = absurd (omega (arith, e))
+one_drive f (x ∷ []) e = (x, refl)
+one_drive f (x ∷ y ∷ xs) e = absurd (omega (arith, e))
+
+is_bus : (drive : Party) → IsDrive drive → IsBus (drive ∷ [])
+is_bus drive one = record { some = omega arith; few = omega arith; drives = (one, tt); unlike = (tt, tt) }
+
+later_all : {D : Type 0} (end : ℕ) (xs : List (Seated D)) → AreInTime (end + 1) xs → AreLater end xs
+later_all end [] h = tt
+later_all end (x ∷ xs) h = (one (port_due x.port) h.0, later_all end xs h.1)
+  where
+    one : (o : Option ℕ) → IsInTime (end + 1) o → IsLaterDue end o
+    one None k = tt
+    one (Some t) k = omega (arith, k)
+
 module _ {M : Type 0} (seen : M → Seen) where
   -- The lines so far were played, and what is left follows them.
   pub record Timing (a b input left : Option (List ℕ)) (n from : ℕ) (p : Turns) (x : Cabled (Desk (Kept M))) (q : Turns) (y : Cabled (Desk (Kept M))) : Type 0 where
@@ -119,7 +140,7 @@ module _ {M : Type 0} (seen : M → Seen) where
     pub follows : Follows input left n from done
     pub last : latest 0 done ≡ from
     pub played : PlaysOn seen a b done p x q y
-    pub wrote : HasWritten a b done
+    pub wrote : ReplaysOn desk_shows a b done p x q y
 
   -- before each line
   pub record Loops (p : Turns) (x : Cabled (Desk (Kept M))) (a b first left : Option (List ℕ)) (n from : ℕ) (q : Turns) (y : Cabled (Desk (Kept M))) : Type 0 where
@@ -131,7 +152,7 @@ module _ {M : Type 0} (seen : M → Seen) where
     pub grown : Grows a b
 
   pub timing_start : (a input left : Option (List ℕ)) (p : Turns) (x : Cabled (Desk (Kept M))) → PlaysOn seen a a [] p x p x → TakesLine input left (codes "lines") → Timing a a input left 2 0 p x p x
-  timing_start a input left p x none t = record { done = []; follows = follows_start input left t; last = refl; played = none; wrote = none_written a }
+  timing_start a input left p x none t = record { done = []; follows = follows_start input left t; last = refl; played = none; wrote = replays_none desk_shows a p p x x refl refl refl }
 
   pub timing_skipped : (a b input l k : Option (List ℕ)) (n from : ℕ) (p : Turns) (x : Cabled (Desk (Kept M))) (q : Turns) (y : Cabled (Desk (Kept M))) → Timing a b input l n from p x q y → ReadsTimed l k n from Skipped → Timing a b input k (n + 1) from p x q y
   timing_skipped a b input l k n from p x q y t r = record { done = t.done; follows = follows_skipped input l k n from t.done t.follows r; last = t.last; played = t.played; wrote = t.wrote }
@@ -139,25 +160,19 @@ module _ {M : Type 0} (seen : M → Seen) where
   then_on : (a b c : Option (List ℕ)) (cs ds : List Change) (p q r : Turns) (x y z : Cabled (Desk (Kept M))) → PlaysOn seen a b cs p x q y → PlaysOn seen b c ds q y r z → PlaysOn seen a c (cs ++ ds) p x r z
   then_on a b c cs ds p q r x y z f g ss es h =
       let first = f ss es h in
-      let second = g ss (es ++ first.made) first.now in
-      record {
-        made = first.made ++ second.made;
-        now = subst (λ (v : List Event). IsAt seen r z ss v) (append_assoc es first.made second.made) second.now;
-        hosts = hosts_on first.made second.made ∙ (λ i. first.hosts i ++ second.hosts i);
-        written = subst (λ t. Appends a c t) (sym (text_on first.made second.made)) (appends-more a b c (trace_text first.made) (trace_text second.made) first.written second.written);
-      }
+      made_then (Desk (Kept M)) (Desk Machine) desk_step desk_says (DeskStands seen) (DeskStands seen) a b c cs ds q r y z ss es first (g ss (es ++ first.made) first.now)
 
   on_kept : (a b c : Option (List ℕ)) (cs : List Change) (p q : Turns) (x y : Cabled (Desk (Kept M))) → PlaysOn seen a b cs p x q y → Keeps b c → PlaysOn seen a c cs p x q y
-  on_kept a b c cs p q x y f k ss es h = (let first = f ss es h in record { made = first.made; now = first.now; hosts = first.hosts; written = appends-kept a b c (trace_text first.made) first.written k })
+  on_kept a b c cs p q x y f k ss es h = made_kept (Desk (Kept M)) (Desk Machine) desk_step desk_says (DeskStands seen) a b c cs q y ss es (f ss es h) k
 
-  pub timing_change : (a b c d input l k : Option (List ℕ)) (n from : ℕ) (change : Change) (p q r : Turns) (x y z : Cabled (Desk (Kept M))) → Timing a b input l n from p x q y → ReadsTimed l k n from (Changes change) → PlaysOn seen b c (change ∷ []) q y r z → HasWritten b c (change ∷ []) → Keeps c d
+  pub timing_change : (a b c d input l k : Option (List ℕ)) (n from : ℕ) (change : Change) (p q r : Turns) (x y z : Cabled (Desk (Kept M))) → Timing a b input l n from p x q y → ReadsTimed l k n from (Changes change) → PlaysOn seen b c (change ∷ []) q y r z → ReplaysOn desk_shows b c (change ∷ []) q y r z → Keeps c d
       → Timing a d input k (n + 1) change.moment p x r z
   timing_change a b c d input l k n from change p q r x y z t reads on wrote kept = record {
     done = t.done ++ change ∷ [];
     follows = follows_change input l k n from t.done change t.follows reads;
     last = latest_last 0 t.done change;
     played = on_kept a c d (t.done ++ change ∷ []) p r x z (then_on a b c t.done (change ∷ []) p q r x y z t.played on) kept;
-    wrote = kept_written a c d (t.done ++ change ∷ []) (then_written a b c t.done (change ∷ []) t.wrote wrote) kept;
+    wrote = replays_kept desk_shows a c d (t.done ++ change ∷ []) p r x z (replays_then desk_shows a b c t.done (change ∷ []) p q r x y z t.wrote wrote) kept;
   }
 
   -- ---- a beginning of what the input asks
@@ -250,12 +265,6 @@ module _ {M : Type 0} (seen : M → Seen) where
 
   -- ---- the trace of what the input asks
 
-  -- its one drive
-  one_drive : (f : Desk (Kept M) → ℕ) (xs : List (Seated (Desk (Kept M)))) → length (numbers f xs) ≡ 1 → (x : Seated (Desk (Kept M))) × (xs ≡ x ∷ [])
-  one_drive f [] e = absurd (omega (arith, e))
-  one_drive f (x ∷ []) e = (x, refl)
-  one_drive f (x ∷ y ∷ xs) e = absurd (omega (arith, e))
-
   -- what it stands for
   pub record Borne (b : Cabled (Desk (Kept M))) (ss : List (Station (Desk Machine))) : Type 0 where
     pub drive : Seated (Desk (Kept M))
@@ -274,17 +283,6 @@ module _ {M : Type 0} (seen : M → Seen) where
       seated x alone [] h = absurd h
       seated x alone (s ∷ []) h = record { drive = x; station = s; alone = alone; only = refl; port = h.0.port; stands = h.0.machine.0.0 }
       seated x alone (s ∷ t ∷ us) h = absurd h.1
-
-  is_bus : (drive : Party) → IsDrive drive → IsBus (drive ∷ [])
-  is_bus drive one = record { some = omega arith; few = omega arith; drives = (one, tt); unlike = (tt, tt) }
-
-  later_all : (end : ℕ) (xs : List (Seated (Desk (Kept M)))) → AreInTime (end + 1) xs → AreLater end xs
-  later_all end [] h = tt
-  later_all end (x ∷ xs) h = (one (port_due x.port) h.0, later_all end xs h.1)
-    where
-      one : (o : Option ℕ) → IsInTime (end + 1) o → IsLaterDue end o
-      one None k = tt
-      one (Some t) k = omega (arith, k)
 
   abbrev pub Ended : Option (List ℕ) → Option (List ℕ) → Option (List ℕ) → Party → Turns → Cabled (Desk (Kept M)) → Cabled (Desk (Kept M)) → Option ℕ → Type 0
   Ended a b input drive p x y bad = IfSome input (λ bytes. ((timetable_of bytes).bad ≡ bad) × PrintsTrace a b (λ m. IsAt seen p x (powered drive m) []) (IsBorne seen y) drive [] (timetable_of bytes))
@@ -381,49 +379,127 @@ module _ {M : Type 0} (seen : M → Seen) where
   read_faulted a b input l k n from drive result Reading f p q x y one t is_open h e = subst (λ v. EndsAs v (λ o. Ended a b input drive p x y o)) (sym e) tt
   read_faulted a b input l k n from drive result Writing f p q x y one t is_open h e = absurd h
 
--- ---- what was written, whatever the drive stands for
+-- ---- what was written, on any disk
 
--- up to the bad line
-wrote_stopped : (a b : Option (List ℕ)) (xs : List ℕ) (n : ℕ) (done : List Change) → timetable_of xs ≡ behind done (stopped_at n) → HasWritten a b done → WritesChanges (Some xs) a b (Some n)
-wrote_stopped a b xs n done e h = (ap (λ (o : Timetable). o.bad) e, subst (λ (cs : List Change). HasWritten a b cs) (sym (ap (λ (o : Timetable). o.changes) e ∙ append-nil done)) h)
+module _ {D : Type 0} (shows : D → Shown) (drive : Party) where
+  -- The drive that plays back, and its station.
+  record Alone (later : List Shown) (b : Cabled D) (ss : List (Station Playback)) : Type 0 where
+    pub seat : Seated D
+    pub station : Station Playback
+    pub sole : b.drives ≡ seat ∷ []
+    pub only : ss ≡ station ∷ []
+    pub port : seat.port ≡ station.port
 
-wrote_lacking : (a b input left : Option (List ℕ)) (n from : ℕ) (done : List Change) → Follows input left n from done → LacksTimed left n from → HasWritten a b done → WritesChanges input a b (Some n)
-wrote_lacking a b None left n from done f lacks h = tt
-wrote_lacking a b (Some xs) left n from done f lacks h = wrote_stopped a b xs n done (stops_at (Some xs) left n from done f lacks) h
+  alone : (f : D → ℕ) (later : List Shown) (b : Cabled D) (ss : List (Station Playback)) → length (numbers f b.drives) ≡ 1 → IsBusAt D Playback (IsPlayedBack shows later) b.host b.drives ss → Alone later b ss
+  alone f later b ss e now =
+      let one = one_drive f b.drives e in
+      seated one.0 one.1 ss (subst (λ (xs : List (Seated D)). IsBusAt D Playback (IsPlayedBack shows later) b.host xs ss) one.1 now)
+    where
+      seated : (x : Seated D) → b.drives ≡ x ∷ [] → (us : List (Station Playback)) → IsBusAt D Playback (IsPlayedBack shows later) b.host (x ∷ []) us → Alone later b us
+      seated x sole [] h = absurd h
+      seated x sole (s ∷ []) h = record { seat = x; station = s; sole = sole; only = refl; port = h.0.port }
+      seated x sole (s ∷ t ∷ us) h = absurd h.1
 
-pub wrote_read : {A : Type 0} {M : Type 0} (seen : M → Seen) (a b input l k : Option (List ℕ)) (n from : ℕ) (result : Result A RunFault) (fault : RunFault) (p q : Turns) (x y : Cabled (Desk (Kept M))) → Timing seen a b input l n from p x q y → TimedRead l k n from (Err fault) → result ≡ Err fault
-    → EndsAs result (λ bad. WritesChanges input a b bad)
-wrote_read seen a b input l k n from result (Script bad) p q x y t h e =
-    subst (λ v. EndsAs v (λ o. WritesChanges input a b o)) (sym e) (subst (λ i. WritesChanges input a b (Some i)) (sym h.0) (wrote_lacking a b input l n from t.done t.follows h.1 t.wrote))
-wrote_read seen a b input l k n from result (Image number) p q x y t h e = absurd h
-wrote_read seen a b input l k n from result Memory p q x y t h e = absurd h
-wrote_read seen a b input l k n from result Reading p q x y t h e = subst (λ v. EndsAs v (λ o. WritesChanges input a b o)) (sym e) tt
-wrote_read seen a b input l k n from result Writing p q x y t h e = absurd h
+  -- up to the bad line
+  pub wrote_stopped : (a b : Option (List ℕ)) (xs : List ℕ) (n from : ℕ) (done : List Change) (f : D → ℕ) (p q : Turns) (x y : Cabled D) → length (numbers f y.drives) ≡ 1 → IsFresh shows drive p x → timetable_of xs ≡ behind done (stopped_at n) → latest 0 done ≡ from
+      → ReplaysOn shows a b done p x q y → IsOpen q from → WritesTrace drive (Some xs) a b (Some n)
+  wrote_stopped a b xs n from done f p q x y one fresh e last on is_open = (
+    ap (λ (o : Timetable). o.bad) e,
+    subst (λ (o : Timetable). HasWritten drive a b o) (sym e)
+        (let first = fresh (on.0 ++ []) in
+        let all = on.1 [] (replaying drive first.0) [] first.1 in
+        let now = all.now in
+        let whole : all.made ++ pending q.second ≡ all.made = ap (λ (o : Option Event). all.made ++ pending o) is_open.second ∙ append-nil all.made in
+        let own = alone f [] y now.stations one now.now in
+        record {
+          machine = first.0;
+          trace = all.made;
+          station = own.station;
+          is_trace = record {
+            from = now.from;
+            plays = subst (λ (ss : List (Station Playback)). Plays Playback played_step played_says 0 (replaying drive first.0) all.made now.from ss) own.only
+                (subst (λ (v : List Event). Plays Playback played_step played_says 0 (replaying drive first.0) v now.from now.stations) whole now.plays);
+            hosts = all.hosts ∙ sym (append-nil done);
+            within = (let u : latest 0 (done ++ []) ≡ from = ap (latest 0) (append-nil done) ∙ last in let before = now.before in let opened = is_open.from in omega (arith, u, before, opened));
+            settled = tt;
+            kept = tt;
+          };
+          written = all.written;
+        }),
+  )
 
--- a line after the end can't be had, or is refused
-pub wrote_behind : {A : Type 0} {M : Type 0} (seen : M → Seen) (a b input l k : Option (List ℕ)) (n from end : ℕ) (result : Result A RunFault) (fault : RunFault) (p q : Turns) (x y : Cabled (Desk (Kept M))) → Timing seen a b input l n from p x q y → ReadsTimed l k n from (EndsAt end) → BehindRead k (n + 1) (Err fault)
-    → result ≡ Err fault → EndsAs result (λ bad. WritesChanges input a b bad)
-wrote_behind seen a b input l k n from end result (Script bad) p q x y t reads h e =
-    subst (λ v. EndsAs v (λ o. WritesChanges input a b o)) (sym e) (over input (ends_behind input l k n from end (Some bad) t.done t.follows reads h))
-  where
-    over : (o : Option (List ℕ)) → EndsBehind o end (Some bad) t.done → WritesChanges o a b (Some bad)
-    over None g = tt
-    over (Some xs) g = wrote_stopped a b xs bad t.done g t.wrote
-wrote_behind seen a b input l k n from end result (Image number) p q x y t reads h e = absurd h
-wrote_behind seen a b input l k n from end result Memory p q x y t reads h e = absurd h
-wrote_behind seen a b input l k n from end result Reading p q x y t reads h e = subst (λ v. EndsAs v (λ o. WritesChanges input a b o)) (sym e) tt
-wrote_behind seen a b input l k n from end result Writing p q x y t reads h e = absurd h
+  -- the whole script
+  pub wrote_whole : (a b c : Option (List ℕ)) (xs : List ℕ) (end : ℕ) (done : List Change) (f : D → ℕ) (p q r : Turns) (x y z : Cabled D) → IsDrive drive → length (numbers f z.drives) ≡ 1 → IsFresh shows drive p x → timetable_of xs ≡ behind done (ended_at end None)
+      → ReplaysOn shows a b done p x q y → ReplaysTo shows b c end q y r z → WritesTrace drive (Some xs) a c None
+  wrote_whole a b c xs end done f p q r x y z sits one fresh e on ends = (
+    ap (λ (o : Timetable). o.bad) e,
+    subst (λ (o : Timetable). HasWritten drive a c o) (sym e)
+        (let start = fresh (on.0 ++ (ends.0 ++ [])) in
+        let first = on.1 (ends.0 ++ []) (replaying drive start.0) [] start.1 in
+        let all = ends.1 [] (replaying drive start.0) first.made first.now in
+        let trace = first.made ++ all.made in
+        let over = all.now in
+        let now = over.after in
+        let whole : trace ++ pending r.second ≡ trace = ap (λ (o : Option Event). trace ++ pending o) over.second ∙ append-nil trace in
+        let own = alone f [] z now.stations one now.now in
+        let later = later_all end z.drives over.settled in
+        record {
+          machine = start.0;
+          trace = trace;
+          station = own.station;
+          is_trace = record {
+            from = now.from;
+            plays = subst (λ (ss : List (Station Playback)). Plays Playback played_step played_says 0 (replaying drive start.0) trace now.from ss) own.only
+                (subst (λ (v : List Event). Plays Playback played_step played_says 0 (replaying drive start.0) v now.from now.stations) whole now.plays);
+            hosts = hosts_on first.made all.made ∙ (λ i. first.hosts i ++ all.hosts i);
+            within = (let before = now.before in let from = over.from in omega (arith, before, from));
+            settled = subst (λ (o : Port). IsLaterDue end (port_due o)) own.port (subst (λ (us : List (Seated D)). AreLater end us) own.sole later).0;
+            kept = λ timing. subst (λ (ss : List (Station Playback)). IsKept Playback played_step played_says (drive ∷ []) (λ d. start.0) trace end ss) own.only
+                (kept_after D Playback (IsPlayedBack shows []) played_step played_says played_more r z (drive ∷ []) (λ d. start.0) trace end (is_bus drive sits) over.second now later timing);
+          };
+          written = subst (λ t. Appends a c t) (sym (text_on first.made all.made)) (appends-more a b c (trace_text first.made) (trace_text all.made) first.written all.written);
+        }),
+  )
 
--- all was read, and the end written
-pub wrote_ended : {M : Type 0} (seen : M → Seen) (a b c d input l k : Option (List ℕ)) (n from end : ℕ) (p q : Turns) (x y : Cabled (Desk (Kept M))) → Timing seen a b input l n from p x q y → ReadsTimed l k n from (EndsAt end) → HasWritten b c [] → Keeps c d → IsBadBehind k (n + 1) None → WritesChanges input a d None
-wrote_ended seen a b c d input l k n from end p q x y t reads ended kept read = over input (ends_behind input l k n from end None t.done t.follows reads read)
-  where
-    all : HasWritten a d t.done
-    all = kept_written a c d t.done (subst (λ (cs : List Change). HasWritten a c cs) (append-nil t.done) (then_written a b c t.done [] t.wrote ended)) kept
+module _ {M : Type 0} (seen : M → Seen) (drive : Party) where
+  wrote_lacking : (a b input left : Option (List ℕ)) (n from : ℕ) (f : Desk (Kept M) → ℕ) (p q : Turns) (x y : Cabled (Desk (Kept M))) → length (numbers f y.drives) ≡ 1 → IsFresh desk_shows drive p x → Timing seen a b input left n from p x q y → IsOpen q from → LacksTimed left n from → WritesTrace drive input a b (Some n)
+  wrote_lacking a b None left n from f p q x y one fresh t is_open lacks = tt
+  wrote_lacking a b (Some xs) left n from f p q x y one fresh t is_open lacks = wrote_stopped desk_shows drive a b xs n from t.done f p q x y one fresh (stops_at (Some xs) left n from t.done t.follows lacks) t.last t.wrote is_open
 
-    over : (o : Option (List ℕ)) → EndsBehind o end None t.done → WritesChanges o a d None
-    over None g = tt
-    over (Some xs) g = (ap (λ (o : Timetable). o.bad) g, subst (λ (cs : List Change). HasWritten a d cs) (sym (ap (λ (o : Timetable). o.changes) g ∙ append-nil t.done)) all)
+  pub wrote_read : {A : Type 0} (a b input l k : Option (List ℕ)) (n from : ℕ) (result : Result A RunFault) (fault : RunFault) (f : Desk (Kept M) → ℕ) (p q : Turns) (x y : Cabled (Desk (Kept M))) → length (numbers f y.drives) ≡ 1 → IsFresh desk_shows drive p x → Timing seen a b input l n from p x q y → IsOpen q from
+      → TimedRead l k n from (Err fault) → result ≡ Err fault → EndsAs result (λ bad. WritesTrace drive input a b bad)
+  wrote_read a b input l k n from result (Script bad) f p q x y one fresh t is_open h e =
+      subst (λ v. EndsAs v (λ o. WritesTrace drive input a b o)) (sym e) (subst (λ i. WritesTrace drive input a b (Some i)) (sym h.0) (wrote_lacking a b input l n from f p q x y one fresh t is_open h.1))
+  wrote_read a b input l k n from result (Image number) f p q x y one fresh t is_open h e = absurd h
+  wrote_read a b input l k n from result Memory f p q x y one fresh t is_open h e = absurd h
+  wrote_read a b input l k n from result Reading f p q x y one fresh t is_open h e = subst (λ v. EndsAs v (λ o. WritesTrace drive input a b o)) (sym e) tt
+  wrote_read a b input l k n from result Writing f p q x y one fresh t is_open h e = absurd h
+
+  -- a line after the end can't be had, or is refused
+  pub wrote_behind : {A : Type 0} (a b input l k : Option (List ℕ)) (n from end : ℕ) (result : Result A RunFault) (fault : RunFault) (f : Desk (Kept M) → ℕ) (p q : Turns) (x y : Cabled (Desk (Kept M))) → length (numbers f y.drives) ≡ 1 → IsFresh desk_shows drive p x → Timing seen a b input l n from p x q y → IsOpen q from
+      → ReadsTimed l k n from (EndsAt end) → BehindRead k (n + 1) (Err fault) → result ≡ Err fault → EndsAs result (λ bad. WritesTrace drive input a b bad)
+  wrote_behind a b input l k n from end result (Script bad) f p q x y one fresh t is_open reads h e =
+      subst (λ v. EndsAs v (λ o. WritesTrace drive input a b o)) (sym e) (over input (ends_behind input l k n from end (Some bad) t.done t.follows reads h))
+    where
+      over : (o : Option (List ℕ)) → EndsBehind o end (Some bad) t.done → WritesTrace drive o a b (Some bad)
+      over None g = tt
+      over (Some xs) g = wrote_stopped desk_shows drive a b xs bad from t.done f p q x y one fresh g t.last t.wrote is_open
+  wrote_behind a b input l k n from end result (Image number) f p q x y one fresh t is_open reads h e = absurd h
+  wrote_behind a b input l k n from end result Memory f p q x y one fresh t is_open reads h e = absurd h
+  wrote_behind a b input l k n from end result Reading f p q x y one fresh t is_open reads h e = subst (λ v. EndsAs v (λ o. WritesTrace drive input a b o)) (sym e) tt
+  wrote_behind a b input l k n from end result Writing f p q x y one fresh t is_open reads h e = absurd h
+
+  -- all was read, and the end written
+  pub wrote_ended : (a b c d input l k : Option (List ℕ)) (n from end : ℕ) (f : Desk (Kept M) → ℕ) (p q r : Turns) (x y z : Cabled (Desk (Kept M))) → IsDrive drive → length (numbers f z.drives) ≡ 1 → IsFresh desk_shows drive p x → Timing seen a b input l n from p x q y → ReadsTimed l k n from (EndsAt end)
+      → ReplaysTo desk_shows b c end q y r z → Keeps c d → IsBadBehind k (n + 1) None → WritesTrace drive input a d None
+  wrote_ended a b c d input l k n from end f p q r x y z sits one fresh t reads ended kept read = over input (ends_behind input l k n from end None t.done t.follows reads read)
+    where
+      kept_end : ReplaysTo desk_shows b d end q y r z
+      kept_end = (ended.0, λ later ss es h. (let all = ended.1 later ss es h in record { made = all.made; now = all.now; hosts = all.hosts; written = appends-kept b c d (trace_text all.made) all.written kept }))
+
+      over : (o : Option (List ℕ)) → EndsBehind o end None t.done → WritesTrace drive o a d None
+      over None g = tt
+      over (Some xs) g = wrote_whole desk_shows drive a b d xs end t.done f p q r x y z sits one fresh g t.wrote kept_end
 
 -- the one disk has as many tracks
 pub sole_tracks : {M : Type 0} (seen : M → Seen) (b : Cabled (Desk (Kept M))) (k : M) → length (tracks_in seen b) ≡ 1 → ((x : Seated (Desk (Kept M))) → b.drives ≡ x ∷ [] → k ≡ x.machine.dos.medium) → (seen k).tracks ∷ [] ≡ tracks_in seen b

@@ -12,7 +12,7 @@ use Rattle.cbm_program.specs.Output.{AppendsPart, PrintsPart}
 use Rattle.cbm_program.specs.Running.{EndsAs, EndsBy, script_of}
 use Rattle.cbm_program.specs.Scripts.{printed}
 use Rattle.cbm_program.specs.Timetables.{Timetable, of_requests, of_changes, script_if, begins_timed, is_timed, timetable_of}
-use Rattle.cbm_program.specs.Traces.{IsTraceBegun, PrintsTrace, PrintsTracePart, WritesChanges, trace_text, powered}
+use Rattle.cbm_program.specs.Traces.{IsTraceBegun, PrintsTrace, PrintsTracePart, WritesTrace, trace_text, powered}
 use Rattle.cbm_program.specs.declared.fault.RunFault.{RunFault}
 use Rattle.cbm_program.specs.declared.fault.RunFault.TheVariants.{Script, Image, Memory, Reading, Writing}
 use Rattle.cbm_program.proofs.OutputLemmas.{appends-nothing, appends-more, part_behind, part_before, whole_part}
@@ -128,14 +128,14 @@ first-traced a x k stood now drive r Reading h e = subst (λ v. EndsAs v (λ b. 
 first-traced a x k stood now drive r Writing h e = absurd h
 
 -- no event was written
-pub first-wrote : {A : Type 0} (a y x k : Option (List ℕ)) → y ≡ x → (r : Result A RunFault) (f : RunFault) → FirstRead y k (Err f) → r ≡ Err f → EndsAs r (λ bad. WritesChanges (of_changes x) a a bad)
-first-wrote a y x k same r (Script bad) h e =
+pub first-wrote : {A : Type 0} (drive : Party) (a y x k : Option (List ℕ)) → y ≡ x → (r : Result A RunFault) (f : RunFault) → FirstRead y k (Err f) → r ≡ Err f → EndsAs r (λ bad. WritesTrace drive (of_changes x) a a bad)
+first-wrote drive a y x k same r (Script bad) h e =
     let read = subst (λ o. FirstRead o k (Err (Script bad))) same h in
-    subst (λ v. EndsAs v (λ b. WritesChanges (of_changes x) a a b)) (sym e) (subst (λ o. WritesChanges o a a (Some bad)) (sym (no_changes x read.1)) tt)
-first-wrote a y x k same r (Image n) h e = absurd h
-first-wrote a y x k same r Memory h e = absurd h
-first-wrote a y x k same r Reading h e = subst (λ v. EndsAs v (λ b. WritesChanges (of_changes x) a a b)) (sym e) tt
-first-wrote a y x k same r Writing h e = absurd h
+    subst (λ v. EndsAs v (λ b. WritesTrace drive (of_changes x) a a b)) (sym e) (subst (λ o. WritesTrace drive o a a (Some bad)) (sym (no_changes x read.1)) tt)
+first-wrote drive a y x k same r (Image n) h e = absurd h
+first-wrote drive a y x k same r Memory h e = absurd h
+first-wrote drive a y x k same r Reading h e = subst (λ v. EndsAs v (λ b. WritesTrace drive (of_changes x) a a b)) (sym e) tt
+first-wrote drive a y x k same r Writing h e = absurd h
 
 pub nothing-printed : (pace : Pace) (a x : Option (List ℕ)) (stood : Machine → Type 0) → IfSome x (λ input. PrintsPart a a stood (printed pace (script_of input).requests))
 nothing-printed pace a None stood = tt

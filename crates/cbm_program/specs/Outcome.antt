@@ -44,9 +44,9 @@ pub record IsOutcome {A : Type 0} (result : Result A RunFault) (items : A → Li
   -- At a fault a beginning of such a trace was written.
   pub cut : OnErr result (IfSome (of_changes input) (λ bytes.
       PrintsTracePart old new (Begins image protected) (party_of pace device) (checked_text checks) (timetable_of bytes)))
-  -- Of a script of line changes, on any image, sound or not: events were written, after the line of the check, and the host's changes among them are the
-  -- script's, up to its end or its first bad line.
-  pub wrote : EndsAs result (λ bad. WritesBehind checks (of_changes input) old new bad)
+  -- Of a script of line changes, on any image, sound or not, a drive's trace was written after the line of the check, up to the script's end or its first
+  -- bad line: of a drive above which a machine plays back what the DOS showed.
+  pub wrote : EndsAs result (λ bad. WritesBehind (party_of pace device) checks (of_changes input) old new bad)
   -- Of any image the line of the check is printed first, where one is asked for.
   pub checked : checks ≡ true → EndsAs result (λ bad. IsCheckedFirst (tracks_of (kind_of image) image) (content_of (kind_of image) image) old new)
   -- All that is printed is added to what was written.

@@ -1,6 +1,7 @@
 -- A drive under a host whose changes are made one at a time, and printed with what comes of them.
 use Rattle.std.specs.Prelude.{Bool, ◌≡◌, ◌≤◌, ℕ, List, [], ◌∷◌, ◌++◌, Option, None}
 use Rattle.std.specs.Io.KnownBytes.{Appends}
+use Rattle.cbm_iec.specs.declared.act.Act.{Act}
 use Rattle.cbm_iec.specs.declared.event.Event.{Event}
 use Rattle.cbm_iec.specs.declared.line.Change.{Change}
 use Rattle.cbm_iec.specs.declared.party.Party.{Party}
@@ -12,18 +13,34 @@ use Rattle.cbm_drive.specs.Machines.{Machine, start}
 use Rattle.cbm_drive.specs.Standing.{Kept, Stands}
 use Rattle.cbm_drive.specs.Cables.{Cabled}
 use Rattle.cbm_drive.specs.Desks.{Desk, DeskStands, desk_step, desk_says}
+use Rattle.cbm_drive.specs.Playback.{Shown, Playback, IsPlayedBack, played_says, played_step}
 use Rattle.cbm_drive.specs.Ordered.{host_changes}
 use Rattle.cbm_drive.specs.Players.{Turns, IsAfter, IsFinished}
 use Rattle.cbm_drive.specs.Seats.{Seated, numbers}
 use Rattle.cbm_volume.specs.Holding.{HoldsDisk}
 use Rattle.cbm_program.specs.Output.{AppendsPart}
-use Rattle.cbm_program.specs.Traces.{trace_text, powered}
+use Rattle.cbm_program.specs.Traces.{trace_text, powered, replaying}
 
 -- No change is pending, none is still to be given, and the host's next one may come from this moment on.
 pub record IsOpen (p : Turns) (moment : ℕ) : Type 0 where
   pub waiting : p.waiting ≡ None
   pub second : p.second ≡ None
   pub from : p.from ≤ moment
+
+module _ (D S : Type 0) (stands : D → S → Type 0) (step : S → Act → S) (says : S → Option (ℕ × Bool)) where
+  -- These changes of the host were made, and what came of them; all events were written.
+  pub record HasMade (a b : Option (List ℕ)) (cs : List Change) (p : Turns) (c : Cabled D) (ss : List (Station S)) (es : List Event) : Type 0 where
+    pub made : List Event
+    pub now : IsAfter D S stands step says p c 0 ss (es ++ made)
+    pub hosts : host_changes made ≡ cs
+    pub written : Appends a b (trace_text made)
+
+  -- The drive was played to an end: nothing is due any more, and all events were written.
+  pub record HasMadeTo (a b : Option (List ℕ)) (end : ℕ) (p : Turns) (c : Cabled D) (ss : List (Station S)) (es : List Event) : Type 0 where
+    pub made : List Event
+    pub now : IsFinished D S stands step says p c end 0 ss (es ++ made)
+    pub hosts : host_changes made ≡ []
+    pub written : Appends a b (trace_text made)
 
 module _ {M : Type 0} (seen : M → Seen) where
   -- how many tracks the disks of these drives have
@@ -42,12 +59,9 @@ module _ {M : Type 0} (seen : M → Seen) where
   abbrev pub StandsOn : ℕ → Content → Bool → Party → Turns → Cabled (Desk (Kept M)) → Type 0
   StandsOn tracks content protected drive p b = (d : Disk) → HoldsDisk tracks content d → IsAt p b (powered drive (start d protected tracks)) []
 
-  -- These changes of the host were made, and what came of them; all events were written.
-  pub record HasPlayedOn (a b : Option (List ℕ)) (cs : List Change) (p : Turns) (c : Cabled (Desk (Kept M))) (ss : List (Station (Desk Machine))) (es : List Event) : Type 0 where
-    pub made : List Event
-    pub now : IsAt p c ss (es ++ made)
-    pub hosts : host_changes made ≡ cs
-    pub written : Appends a b (trace_text made)
+  -- what was played of a drive that represents a machine of named files
+  abbrev pub HasPlayedOn : Option (List ℕ) → Option (List ℕ) → List Change → Turns → Cabled (Desk (Kept M)) → List (Station (Desk Machine)) → List Event → Type 0
+  HasPlayedOn a b cs p c ss es = HasMade (Desk (Kept M)) (Desk Machine) (DeskStands seen) desk_step desk_says a b cs p c ss es
 
   -- A beginning of these changes was made, and what came of them; a beginning of the events was written.
   pub record HasPlayedPart (a b : Option (List ℕ)) (cs : List Change) (ss : List (Station (Desk Machine))) (es : List Event) : Type 0 where
@@ -59,12 +73,9 @@ module _ {M : Type 0} (seen : M → Seen) where
     pub hosts : host_changes made ++ rest ≡ cs
     pub written : AppendsPart a b (trace_text made)
 
-  -- The drive was played to an end: nothing is due any more, and all events were written.
-  pub record HasEnded (a b : Option (List ℕ)) (end : ℕ) (p : Turns) (c : Cabled (Desk (Kept M))) (ss : List (Station (Desk Machine))) (es : List Event) : Type 0 where
-    pub made : List Event
-    pub now : IsFinished (Desk (Kept M)) (Desk Machine) (DeskStands seen) desk_step desk_says p c end 0 ss (es ++ made)
-    pub hosts : host_changes made ≡ []
-    pub written : Appends a b (trace_text made)
+  -- the same to an end
+  abbrev pub HasEnded : Option (List ℕ) → Option (List ℕ) → ℕ → Turns → Cabled (Desk (Kept M)) → List (Station (Desk Machine)) → List Event → Type 0
+  HasEnded a b end p c ss es = HasMadeTo (Desk (Kept M)) (Desk Machine) (DeskStands seen) desk_step desk_says a b end p c ss es
 
   -- the drive was played on, wherever it was before
   abbrev pub PlaysOn : Option (List ℕ) → Option (List ℕ) → List Change → Turns → Cabled (Desk (Kept M)) → Turns → Cabled (Desk (Kept M)) → Type 0
@@ -77,3 +88,22 @@ module _ {M : Type 0} (seen : M → Seen) where
   -- the drive was played to an end, wherever it was before
   abbrev pub Ends : Option (List ℕ) → Option (List ℕ) → ℕ → Turns → Cabled (Desk (Kept M)) → Turns → Cabled (Desk (Kept M)) → Type 0
   Ends a b end p x q y = (ss : List (Station (Desk Machine))) (es : List Event) → IsAt p x ss es → HasEnded a b end q y ss es
+
+module _ {D : Type 0} (shows : D → Shown) where
+  -- from these stations of a machine that plays back these events were given, and it will still show these
+  abbrev pub IsReplayed : List Shown → Turns → Cabled D → List (Station Playback) → List Event → Type 0
+  IsReplayed later p b ss es = IsAfter D Playback (IsPlayedBack shows later) played_step played_says p b 0 ss es
+
+  -- ON ANY DISK: what the drive shows in it is a list (the trail), and of a machine that plays this list back the same was played.
+  abbrev pub ReplaysOn : Option (List ℕ) → Option (List ℕ) → List Change → Turns → Cabled D → Turns → Cabled D → Type 0
+  ReplaysOn a b cs p x q y = (trail : List Shown) × ((later : List Shown) (ss : List (Station Playback)) (es : List Event) → IsReplayed (trail ++ later) p x ss es
+      → HasMade D Playback (IsPlayedBack shows later) played_step played_says a b cs q y ss es)
+
+  -- the same to an end
+  abbrev pub ReplaysTo : Option (List ℕ) → Option (List ℕ) → ℕ → Turns → Cabled D → Turns → Cabled D → Type 0
+  ReplaysTo a b end p x q y = (trail : List Shown) × ((later : List Shown) (ss : List (Station Playback)) (es : List Event) → IsReplayed (trail ++ later) p x ss es
+      → HasMadeTo D Playback (IsPlayedBack shows later) played_step played_says a b end q y ss es)
+
+  -- the drive is at power up, with any disk: whatever it will show, a machine plays it back
+  abbrev pub IsFresh : Party → Turns → Cabled D → Type 0
+  IsFresh drive p b = (trail : List Shown) → (m : Playback) × IsReplayed trail p b (replaying drive m) []

@@ -2,6 +2,7 @@
 use Rattle.std.specs.Prelude.{◌≡◌, ◌+◌, ◌≤◌, ℕ, Bool, false, List, [], ◌∷◌, ◌++◌, codes, decimal, flat_map, Option, Some, None, IfSome}
 use Rattle.std.specs.Io.KnownBytes.{Appends}
 use Rattle.cbm_iec.specs.Ports.{port_due}
+use Rattle.cbm_iec.specs.declared.act.Act.{Act}
 use Rattle.cbm_iec.specs.declared.event.Event.{Event}
 use Rattle.cbm_iec.specs.declared.event.Who.{Who}
 use Rattle.cbm_iec.specs.declared.event.Who.TheVariants.{Host, Drive}
@@ -15,6 +16,7 @@ use Rattle.cbm_session.specs.Playing.{Station, Plays, IsKept, IsLaterDue, at_res
 use Rattle.cbm_session.specs.Timing.{HostKeeps}
 use Rattle.cbm_drive.specs.Machines.{Machine}
 use Rattle.cbm_drive.specs.Desks.{Desk, desk_step, desk_says}
+use Rattle.cbm_drive.specs.Playback.{Playback, played_says, played_step}
 use Rattle.cbm_host.specs.Served.{at_power_up}
 use Rattle.cbm_drive.specs.Ordered.{host_changes, latest}
 use Rattle.cbm_program.specs.Output.{AppendsPart, Grows}
@@ -56,6 +58,10 @@ machines_of drive m d = at_power_up drive.pace drive.device m
 abbrev pub powered : Party → Machine → List (Station (Desk Machine))
 powered drive m = at_rest (Desk Machine) desk_step desk_says (machines_of drive m) (drive ∷ [])
 
+-- the same, above it a machine that plays back
+abbrev pub replaying : Party → Playback → List (Station Playback)
+replaying drive p = at_rest Playback played_step played_says (λ d. p) (drive ∷ [])
+
 -- From power up these events come, and then the drive stands so.
 abbrev pub IsPlayed : Party → Machine → List Event → ℕ → List (Station (Desk Machine)) → Type 0
 IsPlayed drive m trace from ss = Plays (Desk Machine) desk_step desk_says 0 (powered drive m) trace from ss
@@ -65,16 +71,20 @@ IsPlayed drive m trace from ss = Plays (Desk Machine) desk_step desk_says 0 (pow
 abbrev pub until : Timetable → ℕ
 until t = elim t.end [ None ↦ latest 0 t.changes | Some end ↦ end + 1 ]
 
--- THE TRACE OF A SCRIPT: the events of the drive under a host that makes these changes, and no others.
-pub record IsTrace (drive : Party) (m : Machine) (t : Timetable) (trace : List Event) (s : Station (Desk Machine)) : Type 0 where
+-- THE TRACE OF A SCRIPT, with any machine above the drive: the events of the drive under a host that makes these changes, and no others.
+pub record IsTraceOf (S : Type 0) (step : S → Act → S) (says : S → Option (ℕ × Bool)) (above : ℕ → S) (drive : Party) (t : Timetable) (trace : List Event) (s : Station S) : Type 0 where
   pub from : ℕ
-  pub plays : IsPlayed drive m trace from (s ∷ [])
+  pub plays : Plays S step says 0 (at_rest S step says above (drive ∷ [])) trace from (s ∷ [])
   pub hosts : host_changes trace ≡ t.changes
   pub within : from ≤ until t
   -- nothing is due at the end or before it
   pub settled : IfSome t.end (λ end. IsLaterDue end (port_due s.port))
   -- Where the host keeps the bus's timing this is a beginning of a session: each byte talked is the machine's answer to the bytes sent, and no reaction is late.
-  pub kept : IfSome t.end (λ end. HostKeeps (drive ∷ []) trace end → IsKept (Desk Machine) desk_step desk_says (drive ∷ []) (machines_of drive m) trace end (s ∷ []))
+  pub kept : IfSome t.end (λ end. HostKeeps (drive ∷ []) trace end → IsKept S step says (drive ∷ []) above trace end (s ∷ []))
+
+-- the same of the machine of named files
+abbrev pub IsTrace : Party → Machine → Timetable → List Event → Station (Desk Machine) → Type 0
+IsTrace drive m t trace s = IsTraceOf (Desk Machine) desk_step desk_says (machines_of drive m) drive t trace s
 
 -- the events of the drive under some of these changes, the first ones
 pub record IsTraceBegun (drive : Party) (m : Machine) (t : Timetable) (trace : List Event) : Type 0 where
@@ -86,19 +96,21 @@ pub record IsTraceBegun (drive : Party) (m : Machine) (t : Timetable) (trace : L
 
 -- ---- what is written
 
--- Events were written, whatever the disk: the host's changes among them are these.
-pub record HasWritten (old new : Option (List ℕ)) (cs : List Change) : Type 0 where
+-- ON ANY DISK, sound or not, the trace of the script was written: above the drive is a machine that plays back what the DOS showed.
+pub record HasWritten (drive : Party) (old new : Option (List ℕ)) (t : Timetable) : Type 0 where
+  pub machine : Playback
   pub trace : List Event
-  pub hosts : host_changes trace ≡ cs
+  pub station : Station Playback
+  pub is_trace : IsTraceOf Playback played_step played_says (λ d. machine) drive t trace station
   pub written : Appends old new (trace_text trace)
 
--- the same of the changes of a script that has this first bad line, or none
-abbrev pub WritesChanges : Option (List ℕ) → Option (List ℕ) → Option (List ℕ) → Option ℕ → Type 0
-WritesChanges input old new bad = IfSome input (λ bytes. ((timetable_of bytes).bad ≡ bad) × HasWritten old new (timetable_of bytes).changes)
+-- the same of a script that has this first bad line, or none
+abbrev pub WritesTrace : Party → Option (List ℕ) → Option (List ℕ) → Option (List ℕ) → Option ℕ → Type 0
+WritesTrace drive input old new bad = IfSome input (λ bytes. ((timetable_of bytes).bad ≡ bad) × HasWritten drive old new (timetable_of bytes))
 
 -- the same after the line of a check, if one is asked for
-abbrev pub WritesBehind : Bool → Option (List ℕ) → Option (List ℕ) → Option (List ℕ) → Option ℕ → Type 0
-WritesBehind checks input old new bad = (between : Option (List ℕ)) × (checks ≡ false → between ≡ old) × Grows old between × WritesChanges input between new bad
+abbrev pub WritesBehind : Party → Bool → Option (List ℕ) → Option (List ℕ) → Option (List ℕ) → Option ℕ → Type 0
+WritesBehind drive checks input old new bad = (between : Option (List ℕ)) × (checks ≡ false → between ≡ old) × Grows old between × WritesTrace drive input between new bad
 
 -- For each machine that was represented before, the trace of the script was written after this text, and the machine above the drive is represented now.
 abbrev pub PrintsTrace : Option (List ℕ) → Option (List ℕ) → (Machine → Type 0) → (Machine → Type 0) → Party → List ℕ → Timetable → Type 0

@@ -10,7 +10,7 @@ ghost use Rattle.cbm_image.specs.Images.{kind_of, image_fault, IsOf};
 ghost use Rattle.cbm_program.specs.Starts.{StartsFrom, KeptBy, IsRefusal};
 ghost use Rattle.cbm_program.specs.Outcome.{IsOutcome};
 ghost use Rattle.cbm_program.specs.Timetables.{of_requests, of_changes, timetable_of};
-ghost use Rattle.cbm_program.specs.Traces.{PrintsTrace, PrintsTracePart, WritesChanges, WritesBehind};
+ghost use Rattle.cbm_program.specs.Traces.{PrintsTrace, PrintsTracePart, WritesTrace, WritesBehind};
 
 use crate::fault::RunFault;
 use crate::lines::Lines;
@@ -25,9 +25,11 @@ use std::io::{Read, Write};
 
 mod checking;
 mod scripted;
+mod traced;
 
 use checking::print_check;
 use scripted::RunsScripts;
+pub use traced::run_traced;
 
 /// How a run is made.
 #[derive(Clone, Copy, Debug, PartialEq, Eq)]
@@ -71,8 +73,8 @@ fn run_script<M: RunsScripts + Drop, R: Read + Drop, W: Write>(
         PrintsTracePart (W.contents writer.old) (W.contents writer.new)
         (StartsFrom (M.seen medium)) (party_of pace device) [] (timetable_of input))) }
     // Of any medium the events were written.
-    ensures wrote { EndsAs result (λ bad. WritesChanges (of_changes (R.remaining reader)) (W.contents writer.old)
-        (W.contents writer.new) bad) }
+    ensures wrote { EndsAs result (λ bad. WritesTrace (party_of pace device) (of_changes (R.remaining reader))
+        (W.contents writer.old) (W.contents writer.new) bad) }
     ensures grows { Grows (W.contents writer.old) (W.contents writer.new) }
     ensures same_tracks { IfOk result (λ after. (M.seen after).tracks ≡ (M.seen medium).tracks) }
     ensures image { IfErr result (λ fault. (n : ℕ) → fault ≢ RunFault.Image n) }
@@ -119,8 +121,8 @@ fn run_with<M: RunsScripts + Drop, R: Read + Drop, W: Write>(
     // Of any medium the line of the check is printed first, where one is asked for.
     ensures checked { checks ≡ true → EndsAs result (λ bad.
         IsCheckedFirst (M.seen medium).tracks (M.seen medium).content (W.contents writer.old) (W.contents writer.new)) }
-    ensures wrote { EndsAs result (λ bad. WritesBehind checks (of_changes (R.remaining reader)) (W.contents writer.old)
-        (W.contents writer.new) bad) }
+    ensures wrote { EndsAs result (λ bad. WritesBehind (party_of pace device) checks (of_changes (R.remaining reader))
+        (W.contents writer.old) (W.contents writer.new) bad) }
     ensures grows { Grows (W.contents writer.old) (W.contents writer.new) }
     ensures same_tracks { IfOk result (λ after. (M.seen after).tracks ≡ (M.seen medium).tracks) }
     ensures image { IfErr result (λ fault. (n : ℕ) → fault ≢ RunFault.Image n) }

@@ -11,12 +11,14 @@ mod performing;
 mod request;
 mod session;
 mod text;
+mod watched;
 mod wires;
 mod word;
 
+pub use bus_traces::Watches;
 pub use cbm_drive::Pace;
 pub use fault::RunFault;
-pub use images::{Options, run, run_at};
+pub use images::{Options, run, run_at, run_traced};
 pub use line::{Line, parse};
 pub use lines::{LineFault, Lines};
 pub use request::{Request, Text};

@@ -14,8 +14,8 @@ use cbm_host::Hosted;
 use cbm_medium::Steady;
 use std::io::Write;
 
-mod getting;
-mod status;
+pub(crate) mod getting;
+pub(crate) mod status;
 
 use getting::print_get;
 use status::print_status;

@@ -7,13 +7,15 @@ ghost use Rattle.cbm_program.specs.Output.{Grows, Prints, PrintsPart};
 ghost use Rattle.cbm_program.specs.Running.{script_of, LineRead, LineIsInRange, EndsAs};
 ghost use Rattle.cbm_program.specs.Scripts.{printed};
 ghost use Rattle.cbm_program.specs.Timetables.{timetable_of};
-ghost use Rattle.cbm_program.specs.Traces.{PrintsTrace, PrintsTracePart, WritesChanges};
+ghost use Rattle.cbm_program.specs.Traces.{PrintsTrace, PrintsTracePart, WritesTrace};
 
 use crate::fault::RunFault;
 use crate::line::Line;
 use crate::lines::Lines;
 use crate::session::run_requests;
+use crate::watched::{Bench, serve_watched};
 use crate::wires::{Stage, run_changes};
+use bus_traces::Watches;
 use cbm_d64::D64Disk;
 use cbm_drive::Pace;
 use cbm_g64::G64Disk;
@@ -46,7 +48,7 @@ pub(crate) trait RunsScripts: DiskImage {
             (StartsFrom (Self.seen self)) (party_of pace device) [] (timetable_of bytes))) }
         // Whatever the drive represents:
         ensures wrote { (input : Option (List ℕ)) → TakesLine input (bytes_left R.remaining lines.old) (codes "lines") →
-            EndsAs result (λ bad. WritesChanges input (W.contents writer.old) (W.contents writer.new) bad) }
+            EndsAs result (λ bad. WritesTrace (party_of pace device) input (W.contents writer.old) (W.contents writer.new) bad) }
         ensures grows { Grows (W.contents writer.old) (W.contents writer.new) }
         ensures same_tracks { IfOk result (λ after. (Self.seen after).tracks ≡ (Self.seen self).tracks) }
         ensures image { IfErr result (λ fault. (n : ℕ) → fault ≢ RunFault.Image n) }
@@ -80,6 +82,20 @@ pub(crate) trait RunsScripts: DiskImage {
         ensures same_tracks { IfOk result (λ after. (Self.seen after).tracks ≡ (Self.seen self).tracks) }
         ensures image { IfErr result (λ fault. (n : ℕ) → fault ≢ RunFault.Image n) }
         ensures memory { IfErr result (λ fault. fault ≢ RunFault.Memory) };
+
+    /// Carries out a script of requests as `serve` does, and hands on each event on the bus as it comes. Errors: as `serve` has
+    /// them.
+    fn watch<R: Read, W: Write, T: Watches>(
+        self,
+        device: u8,
+        pace: Pace,
+        lines: &mut Lines<R>,
+        first: Option<Line>,
+        writer: &mut W,
+        watcher: &mut T,
+    ) -> Result<Self, RunFault>
+        requires first { IfSome first LineIsInRange }
+        requires last { device ≤ 11 };
 }
 
 impl RunsScripts for D64Disk {
@@ -103,6 +119,24 @@ impl RunsScripts for D64Disk {
     ) -> Result<D64Disk, RunFault> {
         run_requests(Hosted::with_pace(self, device, pace), lines, first, writer)
     }
+
+    fn watch<R: Read, W: Write, T: Watches>(
+        self,
+        device: u8,
+        pace: Pace,
+        lines: &mut Lines<R>,
+        first: Option<Line>,
+        writer: &mut W,
+        watcher: &mut T,
+    ) -> Result<D64Disk, RunFault> {
+        serve_watched(
+            Bench::new(self, device, pace),
+            lines,
+            first,
+            writer,
+            watcher,
+        )
+    }
 }
 
 impl RunsScripts for G64Disk {
@@ -125,5 +159,23 @@ impl RunsScripts for G64Disk {
         writer: &mut W,
     ) -> Result<G64Disk, RunFault> {
         run_requests(Hosted::with_pace(self, device, pace), lines, first, writer)
+    }
+
+    fn watch<R: Read, W: Write, T: Watches>(
+        self,
+        device: u8,
+        pace: Pace,
+        lines: &mut Lines<R>,
+        first: Option<Line>,
+        writer: &mut W,
+        watcher: &mut T,
+    ) -> Result<G64Disk, RunFault> {
+        serve_watched(
+            Bench::new(self, device, pace),
+            lines,
+            first,
+            writer,
+            watcher,
+        )
     }
 }

@@ -29,7 +29,7 @@ fn hex_digit(n: u8) -> u8
 }
 
 /// Prints a byte, and whether it is the last.
-fn print_byte<W: Write>(writer: &mut W, byte: u8, is_last: bool) -> Result<(), RunFault>
+pub(crate) fn print_byte<W: Write>(writer: &mut W, byte: u8, is_last: bool) -> Result<(), RunFault>
     ensures ok { OnOk result
         (Appends (W.contents writer.old) (W.contents writer.new) (unit_text (Some (byte, is_last)))) }
     ensures err { OnErr result
@@ -47,7 +47,7 @@ fn print_byte<W: Write>(writer: &mut W, byte: u8, is_last: bool) -> Result<(), R
 }
 
 /// Prints the bytes that a channel sends on, each as it comes.
-fn print_bytes<M: Steady, W: Write>(
+pub(crate) fn print_bytes<M: Steady, W: Write>(
     drive: &mut Hosted<M>,
     performer: &mut Performer,
     writer: &mut W,
@@ -72,7 +72,7 @@ fn print_bytes<M: Steady, W: Write>(
 }
 
 /// Prints the beginning of a get's line.
-fn print_head<W: Write>(writer: &mut W, channel: u8, tail: &[u8]) -> Result<(), RunFault>
+pub(crate) fn print_head<W: Write>(writer: &mut W, channel: u8, tail: &[u8]) -> Result<(), RunFault>
     requires { length tail.now ≤ 8 }
     ensures ok { OnOk result (Appends (W.contents writer.old) (W.contents writer.new) (get_head channel tail.now)) }
     ensures err { OnErr result

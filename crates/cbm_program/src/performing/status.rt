@@ -17,7 +17,7 @@ use cbm_medium::Steady;
 use std::io::Write;
 
 /// The text without one return at its end.
-fn without_return(text: &[u8]) -> &[u8]
+pub(crate) fn without_return(text: &[u8]) -> &[u8]
     ensures value { result.now ≡ without_return text.now }
     ensures short { length result.now ≤ length text.now }
 {
@@ -28,7 +28,7 @@ fn without_return(text: &[u8]) -> &[u8]
 }
 
 /// Keeps a byte of the line, where there is room for it: a status line has at most 33.
-fn keep(line: &mut ArrayVec<u8, 33>, byte: u8)
+pub(crate) fn keep(line: &mut ArrayVec<u8, 33>, byte: u8)
     ensures { length line.old.items < 33 → line.new.items ≡ line.old.items ++ byte ∷ [] }
 {
     if !line.is_full() {

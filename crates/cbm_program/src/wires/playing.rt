@@ -1,5 +1,6 @@
 //! A script of line changes, from its second line to its end or its first bad line.
 ghost use Rattle.std.specs.Prelude.{Bool, ◌≡◌, ◌≢◌, ◌≤◌, ◌<◌, ◌∷◌, [], ℕ, List, Option, codes, length, IfSome, IfOk, IfErr, OnErr};
+ghost use Rattle.cbm_drive.specs.Desks.{desk_shows};
 ghost use Rattle.cbm_host.specs.Hosted.{party_of};
 ghost use Rattle.cbm_medium.specs.Content.{Content};
 ghost use Rattle.cbm_volume.specs.Holding.{HoldsDisk};
@@ -7,10 +8,10 @@ ghost use Rattle.cbm_program.specs.Starts.{StartsOn};
 ghost use Rattle.cbm_program.specs.Lines.{bytes_left, TakesLine};
 ghost use Rattle.cbm_program.specs.Output.{Grows};
 ghost use Rattle.cbm_program.specs.Running.{EndsAs};
-ghost use Rattle.cbm_program.specs.Staging.{IsOpen, IsAt, IsBorne, StandsOn, tracks_in};
+ghost use Rattle.cbm_program.specs.Staging.{IsOpen, IsAt, IsBorne, IsFresh, StandsOn, tracks_in};
 ghost use Rattle.cbm_program.specs.TimedReading.{TimedRead, BehindRead};
 ghost use Rattle.cbm_program.specs.Timetables.{timetable_of};
-ghost use Rattle.cbm_program.specs.Traces.{powered, PrintsTrace, PrintsTracePart, WritesChanges};
+ghost use Rattle.cbm_program.specs.Traces.{powered, PrintsTrace, PrintsTracePart, WritesTrace};
 
 use super::staging::Stage;
 use super::timed::{Timed, is_skipped, timed_from};
@@ -82,8 +83,10 @@ fn play_on<M: Steady, R: Read, W: Write>(
         (λ m. IsAt M.seen stage.old.player stage.old.bus (powered (party_of pace device) m) []) (party_of pace device) [] (timetable_of bytes))) }
     ensures tracks { tracks_in M.seen stage.new.bus ≡ tracks_in M.seen stage.old.bus }
     // Whatever the drive represents:
-    ensures wrote { (input : Option (List ℕ)) → TakesLine input (bytes_left R.remaining lines.old) (codes "lines") →
-        EndsAs result (λ bad. WritesChanges input (W.contents writer.old) (W.contents writer.new) bad) }
+    ensures wrote { (input : Option (List ℕ)) →
+        IsFresh desk_shows (party_of pace device) stage.old.player stage.old.bus →
+        TakesLine input (bytes_left R.remaining lines.old) (codes "lines") → EndsAs result (λ bad.
+        WritesTrace (party_of pace device) input (W.contents writer.old) (W.contents writer.new) bad) }
     ensures grows { Grows (W.contents writer.old) (W.contents writer.new) }
     ensures image { IfErr result (λ fault. (n : ℕ) → fault ≢ RunFault.Image n) }
     ensures memory { IfErr result (λ fault. fault ≢ RunFault.Memory) }
@@ -140,8 +143,10 @@ pub(crate) fn run_changes<M: Steady + Drop, R: Read, W: Write>(
         (StartsOn tracks content protected)
         (party_of pace device) [] (timetable_of bytes))) }
     // Whatever the drive represents:
-    ensures wrote { (input : Option (List ℕ)) → TakesLine input (bytes_left R.remaining lines.old) (codes "lines") →
-        EndsAs result (λ bad. WritesChanges input (W.contents writer.old) (W.contents writer.new) bad) }
+    ensures wrote { (input : Option (List ℕ)) →
+        IsFresh desk_shows (party_of pace device) stage.player stage.bus →
+        TakesLine input (bytes_left R.remaining lines.old) (codes "lines") → EndsAs result (λ bad.
+        WritesTrace (party_of pace device) input (W.contents writer.old) (W.contents writer.new) bad) }
     ensures grows { Grows (W.contents writer.old) (W.contents writer.new) }
     ensures same_tracks { IfOk result (λ after. (M.seen after).tracks ∷ [] ≡ tracks_in M.seen stage.bus) }
     ensures image { IfErr result (λ fault. (n : ℕ) → fault ≢ RunFault.Image n) }

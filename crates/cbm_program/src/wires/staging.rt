@@ -8,8 +8,7 @@ ghost use Rattle.cbm_host.specs.Hosted.{party_of};
 ghost use Rattle.cbm_volume.specs.Holding.{HoldsDisk};
 ghost use Rattle.cbm_program.specs.Output.{Grows};
 ghost use Rattle.cbm_program.specs.Running.{IsOfWriting};
-ghost use Rattle.cbm_program.specs.Traces.{HasWritten};
-ghost use Rattle.cbm_program.specs.Staging.{IsOpen, IsBorne, StandsOn, PlaysOn, PlaysPart, Ends, tracks_in};
+ghost use Rattle.cbm_program.specs.Staging.{IsOpen, IsBorne, IsFresh, StandsOn, PlaysOn, PlaysPart, Ends, ReplaysOn, ReplaysTo, tracks_in};
 
 use super::event::print_event;
 use crate::fault::RunFault;
@@ -34,6 +33,8 @@ impl<M: Steady> Stage<M> {
         ensures open { IsOpen result.player 0 }
         ensures at { StandsOn M.seen (M.seen medium).tracks (M.seen medium).content (M.seen medium).protected
             (party_of pace device) result.player result.bus }
+        // With any disk:
+        ensures fresh { IsFresh desks.desk_shows (party_of pace device) result.player result.bus }
         ensures tracks { tracks_in M.seen result.bus ≡ (M.seen medium).tracks ∷ [] }
     {
         let desk = Desk::at_power_up(medium, device).with_pace(pace);
@@ -60,7 +61,8 @@ impl<M: Steady> Stage<M> {
             self.old.player self.old.bus self.new.player self.new.bus) }
         ensures open { OnOk result (IsOpen self.new.player change.moment) }
         // Whatever the drive represents:
-        ensures wrote { OnOk result (HasWritten (W.contents writer.old) (W.contents writer.new) (change ∷ [])) }
+        ensures wrote { OnOk result (ReplaysOn desks.desk_shows (W.contents writer.old) (W.contents writer.new)
+            (change ∷ []) self.old.player self.old.bus self.new.player self.new.bus) }
         ensures err { OnErr result (PlaysPart M.seen (W.contents writer.old) (W.contents writer.new) (change ∷ [])
             self.old.player self.old.bus) }
         ensures tracks { tracks_in M.seen self.new.bus ≡ tracks_in M.seen self.old.bus }
@@ -86,7 +88,8 @@ impl<M: Steady> Stage<M> {
         ensures err { OnErr result (PlaysPart M.seen (W.contents writer.old) (W.contents writer.new) []
             self.old.player self.old.bus) }
         // Whatever the drive represents:
-        ensures wrote { OnOk result (HasWritten (W.contents writer.old) (W.contents writer.new) []) }
+        ensures wrote { OnOk result (ReplaysTo desks.desk_shows (W.contents writer.old) (W.contents writer.new) end
+            self.old.player self.old.bus self.new.player self.new.bus) }
         ensures tracks { tracks_in M.seen self.new.bus ≡ tracks_in M.seen self.old.bus }
         ensures grows { Grows (W.contents writer.old) (W.contents writer.new) }
         ensures fault { IfErr result IsOfWriting }

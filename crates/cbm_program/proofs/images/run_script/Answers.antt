@@ -6,7 +6,7 @@ use Rattle.cbm_program.specs.Starts.{StartsOn}
 use Rattle.cbm_program.specs.Lines.{bytes_left}
 use Rattle.cbm_program.specs.Running.{EndsAs}
 use Rattle.cbm_program.specs.Timetables.{of_requests, of_changes}
-use Rattle.cbm_program.specs.Traces.{WritesChanges}
+use Rattle.cbm_program.specs.Traces.{WritesTrace}
 use Rattle.cbm_host.specs.Hosted.{party_of}
 use Rattle.cbm_volume.specs.Holding.{HoldsDisk}
 use Rattle.cbm_program.specs.declared.numbered.Beginning.TheVariants.{Requests, Changes}
@@ -63,17 +63,17 @@ returns-in-Requests-clause-fault g c =
 pub returns-in_err-first-clause-wrote : goal.returns-in_err-first-clause-wrote
 returns-in_err-first-clause-wrote g c =
     let p = err_from_is_err_and c.from_residual.result c.from_residual.ensures.1 in
-    first-wrote _ _ (g.R.Read.remaining c.args.reader) (bytes_left g.R.Read.remaining c.read_first.new.lines) c.new-lines.ensures c.from_residual.result _ c.in_err-first.ensures.read (p.1 ∙ ap Err p.2)
+    first-wrote (party_of c.args.pace c.args.device) _ _ (g.R.Read.remaining c.args.reader) (bytes_left g.R.Read.remaining c.read_first.new.lines) c.new-lines.ensures c.from_residual.result _ c.in_err-first.ensures.read (p.1 ∙ ap Err p.2)
 
 pub returns-in-Requests-clause-wrote : goal.returns-in-Requests-clause-wrote
 returns-in-Requests-clause-wrote g c =
     let x = g.R.Read.remaining c.args.reader in
     let read = subst (λ (o : Option (List ℕ)). FirstRead o (bytes_left g.R.Read.remaining c.read_first.new.lines) (Ok (Requests c.in-Requests.first))) c.new-lines.ensures (rw c.in-Requests.is at c.in_ok-first.ensures.read) in
-    ends-any c.serve.result _ (λ bad. subst (λ (o : Option (List ℕ)). WritesChanges o (g.W.Write.contents c.args.writer.now) (g.W.Write.contents c.serve.new.writer) bad) (sym (no_changes x read.1)) tt)
+    ends-any c.serve.result _ (λ bad. subst (λ (o : Option (List ℕ)). WritesTrace (party_of c.args.pace c.args.device) o (g.W.Write.contents c.args.writer.now) (g.W.Write.contents c.serve.new.writer) bad) (sym (no_changes x read.1)) tt)
 
 pub returns-clause-wrote : goal.returns-clause-wrote
 returns-clause-wrote g c =
     let x = g.R.Read.remaining c.args.reader in
     let k = bytes_left g.R.Read.remaining c.read_first.new.lines in
     let read = subst (λ (o : Option (List ℕ)). FirstRead o k (Ok Changes)) c.new-lines.ensures (rw c.in-Changes.is at c.in_ok-first.ensures.read) in
-    subst (λ (o : Option (List ℕ)). EndsAs c.play.result (λ bad. WritesChanges o (g.W.Write.contents c.args.writer.now) (g.W.Write.contents c.play.new.writer) bad)) (sym (changes_are x k read)) (c.play.ensures.wrote x read)
+    subst (λ (o : Option (List ℕ)). EndsAs c.play.result (λ bad. WritesTrace (party_of c.args.pace c.args.device) o (g.W.Write.contents c.args.writer.now) (g.W.Write.contents c.play.new.writer) bad)) (sym (changes_are x k read)) (c.play.ensures.wrote x read)

@@ -34,10 +34,10 @@ returns-in_err-read_timed-clause-fault g c = λ input t.
     if_err c.from_residual.result (timing_begun g.M.Medium.seen _ _ input (bytes_left g.R.Read.remaining c.lines.lines) c.lines.number c.lines.from (party_of c.args.pace c.args.device) c.args.stage.now.player c.lines.stage.player c.args.stage.now.bus c.lines.stage.bus (c.lines.invariant.timing input t) c.lines.invariant.opened.second)
 
 pub returns-in_err-read_timed-clause-wrote : goal.returns-in_err-read_timed-clause-wrote
-returns-in_err-read_timed-clause-wrote g c = λ input t.
+returns-in_err-read_timed-clause-wrote g c = λ input fresh t.
     let p = err_from_is_err_and c.from_residual.result c.from_residual.ensures.1 in
-    wrote_read g.M.Medium.seen _ _ input (bytes_left g.R.Read.remaining c.lines.lines) (bytes_left g.R.Read.remaining c.read_timed.new.lines) c.lines.number c.lines.from c.from_residual.result _ c.args.stage.now.player c.lines.stage.player c.args.stage.now.bus c.lines.stage.bus
-    (c.lines.invariant.timing input t) c.in_err-read_timed.ensures (p.1 ∙ ap Err p.2)
+    wrote_read g.M.Medium.seen (party_of c.args.pace c.args.device) _ _ input (bytes_left g.R.Read.remaining c.lines.lines) (bytes_left g.R.Read.remaining c.read_timed.new.lines) c.lines.number c.lines.from c.from_residual.result _ _ c.args.stage.now.player c.lines.stage.player c.args.stage.now.bus c.lines.stage.bus
+    (ap length c.lines.invariant.tracks ∙ c.requires.one) fresh (c.lines.invariant.timing input t) c.lines.invariant.opened c.in_err-read_timed.ensures (p.1 ∙ ap Err p.2)
 
 -- a change broke off
 pub returns-in_err-change-in-Changes-clause-fault : goal.returns-in_err-change-in-Changes-clause-fault
@@ -90,18 +90,18 @@ returns-in_err-read_behind-in-Ends-clause-fault g c = λ input t.
     if_err c.from_residual-in_err-read_behind-in-Ends.result (timing_begun g.M.Medium.seen _ _ input (bytes_left g.R.Read.remaining c.lines.lines) c.lines.number c.lines.from (party_of c.args.pace c.args.device) c.args.stage.now.player c.lines.stage.player c.args.stage.now.bus c.lines.stage.bus (c.lines.invariant.timing input t) c.lines.invariant.opened.second)
 
 pub returns-in_err-read_behind-in-Ends-clause-wrote : goal.returns-in_err-read_behind-in-Ends-clause-wrote
-returns-in_err-read_behind-in-Ends-clause-wrote g c = λ input t.
+returns-in_err-read_behind-in-Ends-clause-wrote g c = λ input fresh t.
     let read = rw c.in-Ends.is at c.in_ok-read_timed.ensures in
     let p = err_from_is_err_and c.from_residual-in_err-read_behind-in-Ends.result c.from_residual-in_err-read_behind-in-Ends.ensures.1 in
-    wrote_behind g.M.Medium.seen _ _ input (bytes_left g.R.Read.remaining c.lines.lines) (bytes_left g.R.Read.remaining c.read_timed.new.lines) c.lines.number c.lines.from c.in-Ends.end c.from_residual-in_err-read_behind-in-Ends.result _
-    c.args.stage.now.player c.lines.stage.player c.args.stage.now.bus c.lines.stage.bus (c.lines.invariant.timing input t) read.0 c.in_err-read_behind-in-Ends.ensures (p.1 ∙ ap Err p.2)
+    wrote_behind g.M.Medium.seen (party_of c.args.pace c.args.device) _ _ input (bytes_left g.R.Read.remaining c.lines.lines) (bytes_left g.R.Read.remaining c.read_timed.new.lines) c.lines.number c.lines.from c.in-Ends.end c.from_residual-in_err-read_behind-in-Ends.result _ _
+    c.args.stage.now.player c.lines.stage.player c.args.stage.now.bus c.lines.stage.bus (ap length c.lines.invariant.tracks ∙ c.requires.one) fresh (c.lines.invariant.timing input t) c.lines.invariant.opened read.0 c.in_err-read_behind-in-Ends.ensures (p.1 ∙ ap Err p.2)
 
 -- all was read
 pub returns-in-Ends-clause-wrote : goal.returns-in-Ends-clause-wrote
-returns-in-Ends-clause-wrote g c = λ input t.
+returns-in-Ends-clause-wrote g c = λ input fresh t.
     let read = rw c.in-Ends.is at c.in_ok-read_timed.ensures in
-    wrote_ended g.M.Medium.seen _ _ _ _ input (bytes_left g.R.Read.remaining c.lines.lines) (bytes_left g.R.Read.remaining c.read_timed.new.lines) c.lines.number c.lines.from c.in-Ends.end
-    c.args.stage.now.player c.lines.stage.player c.args.stage.now.bus c.lines.stage.bus (c.lines.invariant.timing input t) read.0 c.in_ok-end-in-Ends.ensures.wrote c.flush-in-Ends.ensures.bytes c.in_ok-read_behind-in-Ends.ensures
+    wrote_ended g.M.Medium.seen (party_of c.args.pace c.args.device) _ _ _ _ input (bytes_left g.R.Read.remaining c.lines.lines) (bytes_left g.R.Read.remaining c.read_timed.new.lines) c.lines.number c.lines.from c.in-Ends.end _
+    c.args.stage.now.player c.lines.stage.player c.end.new.self.player c.args.stage.now.bus c.lines.stage.bus c.end.new.self.bus (is_drive c.args.pace c.args.device c.requires.low c.requires.high) (ap length (c.in_ok-end-in-Ends.ensures.tracks ∙ c.lines.invariant.tracks) ∙ c.requires.one) fresh (c.lines.invariant.timing input t) read.0 c.in_ok-end-in-Ends.ensures.wrote c.flush-in-Ends.ensures.bytes c.in_ok-read_behind-in-Ends.ensures
 
 pub returns-in-Ends-clause-ended : goal.returns-in-Ends-clause-ended
 returns-in-Ends-clause-ended g c = λ input t.

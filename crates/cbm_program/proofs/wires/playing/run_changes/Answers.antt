@@ -25,9 +25,9 @@ returns-in_err-play_on-clause-fault g c = λ tracks content protected input stan
     if_err c.from_residual.result (cut-among [] _ _ input (StartsOn tracks content protected) _ (party_of c.args.pace c.args.device) among (c.in_err-play_on.ensures.fault input t))
 
 pub returns-in_err-play_on-clause-wrote : goal.returns-in_err-play_on-clause-wrote
-returns-in_err-play_on-clause-wrote g c = λ input t.
+returns-in_err-play_on-clause-wrote g c = λ input fresh t.
     let p = err_from_is_err_and c.from_residual.result c.from_residual.ensures.1 in
-    ends-again _ _ _ _ (c.in_err-play_on.ensures.wrote input t) (p.1 ∙ ap Err p.2) (λ bad h. h)
+    ends-again _ _ _ _ (c.in_err-play_on.ensures.wrote input fresh t) (p.1 ∙ ap Err p.2) (λ bad h. h)
 
 pub returns-clause-ended : goal.returns-clause-ended
 returns-clause-ended g c = λ tracks content protected input stands t.

@@ -10,4 +10,4 @@ pub returns-clause-fault : goal.returns-clause-fault
 returns-clause-fault g c = λ input t. c.run_changes.ensures.fault _ _ _ input c.new.ensures.at t
 
 pub returns-clause-wrote : goal.returns-clause-wrote
-returns-clause-wrote g c = λ input t. c.run_changes.ensures.wrote input t
+returns-clause-wrote g c = λ input t. c.run_changes.ensures.wrote input c.new.ensures.fresh t

@@ -1,8 +1,9 @@
 use Rattle.std.proofs.Common.{◌+◌, ◌∷◌, [], refl, sym, ap, subst, ◌∙◌, arith}
 use Rattle.cbm_drive.specs.Players.{Turns, IsGivenBefore}
+use Rattle.cbm_drive.specs.Desks.{desk_shows}
 use Rattle.cbm_program.proofs.LinePrints.{if_err}
 use Rattle.cbm_program.proofs.OutputLemmas.{grows_none, grows_on}
-use Rattle.cbm_program.proofs.Staging.{none_played, none_written, event_written, played_event, part_event, of_drive, of_host, turn_rest, still_waits, not_host, what_comes}
+use Rattle.cbm_program.proofs.Staging.{none_played, played_event, replays_none, replays_event, part_event, of_drive, of_host, turn_rest, still_waits, not_host, what_comes}
 use Rattle.cbm_program.proofs.wires.staging.Stage.change.Goals as goal
 
 pub events-init : goal.events-init
@@ -10,7 +11,7 @@ events-init g c =
     let after = (c.offer.ensures.taken c.requires.open.from).1 in
     record {
       played = none_played g.M.Medium.seen _ c.args.self.now.player c.offer.new.self c.args.self.now.bus c.args.self.now.bus (sym (ap (λ (p : Turns). p.second) after)) (sym (ap (λ (p : Turns). p.from) after)) refl;
-      wrote = none_written _;
+      wrote = replays_none desk_shows _ c.args.self.now.player c.offer.new.self c.args.self.now.bus c.args.self.now.bus (sym (ap (λ (p : Turns). p.second) after)) (sym (ap (λ (p : Turns). p.from) after)) refl;
       waiting = ap (λ (p : Turns). p.waiting) after;
       second = subst (IsGivenBefore (c.args.change.moment + 1)) (sym (ap (λ (p : Turns). p.second) after ∙ c.requires.open.second)) tt;
       tracks = refl;
@@ -33,7 +34,7 @@ returns-in-Host-clause-ok g c = λ ss es h.
 
 pub returns-in-Host-clause-wrote : goal.returns-in-Host-clause-wrote
 returns-in-Host-clause-wrote g c =
-    event_written _ _ _ [] (c.args.change ∷ []) c.in-Some.event c.events.invariant.wrote (of_host c.in-Some.event c.args.change c.events.self.player.waiting c.next.new.self.waiting c.in-Host.is c.events.invariant.waiting c.in-Some.ensures.turn) c.in_ok-print_event.ensures.ok
+    replays_event desk_shows _ _ _ [] (c.args.change ∷ []) c.args.self.now.player c.events.self.player c.next.new.self c.args.self.now.bus c.events.self.bus c.next.new.bus c.in-Some.event c.events.invariant.wrote (let k = c.in-Some.ensures.recorded refl in (k.0, λ later ss fs at_. (k.1 later 0 ss fs at_).after)) (of_host c.in-Some.event c.args.change c.events.self.player.waiting c.next.new.self.waiting c.in-Host.is c.events.invariant.waiting c.in-Some.ensures.turn) c.in_ok-print_event.ensures.ok
 
 pub returns-in-Host-clause-grows : goal.returns-in-Host-clause-grows
 returns-in-Host-clause-grows g c = grows_on _ _ _ c.events.invariant.grown c.in_ok-print_event.ensures.grows
@@ -47,7 +48,7 @@ events-preserved g c =
     record {
       played = λ ss es h. played_event g.M.Medium.seen _ _ _ [] [] c.events.self.player c.next.new.self c.events.self.bus c.next.new.bus ss es c.in-Some.event (c.events.invariant.played ss es h)
           (λ fs at_. (c.in-Some.ensures.given 0 ss fs at_).after) (of_drive c.in-Some.event drive) c.in_ok-print_event.ensures.ok;
-      wrote = event_written _ _ _ [] [] c.in-Some.event c.events.invariant.wrote (of_drive c.in-Some.event drive) c.in_ok-print_event.ensures.ok;
+      wrote = replays_event desk_shows _ _ _ [] [] c.args.self.now.player c.events.self.player c.next.new.self c.args.self.now.bus c.events.self.bus c.next.new.bus c.in-Some.event c.events.invariant.wrote (let k = c.in-Some.ensures.recorded refl in (k.0, λ later ss fs at_. (k.1 later 0 ss fs at_).after)) (of_drive c.in-Some.event drive) c.in_ok-print_event.ensures.ok;
       waiting = still_waits c.in-Some.event c.events.self.player.waiting c.next.new.self.waiting drive c.in-Some.ensures.turn ∙ c.events.invariant.waiting;
       second = c.in-Some.ensures.second;
       tracks = c.next.ensures.lasting ∙ c.events.invariant.tracks;

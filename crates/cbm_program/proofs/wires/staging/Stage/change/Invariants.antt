@@ -1,15 +1,15 @@
 use Rattle.std.proofs.Common.{◌≡◌, ◌+◌, [], Some}
 use Rattle.cbm_drive.specs.Players.{at_most, IsGivenBefore}
+use Rattle.cbm_drive.specs.Desks.{desk_shows}
 use Rattle.cbm_program.specs.Output.{Grows}
-use Rattle.cbm_program.specs.Staging.{PlaysOn, tracks_in}
-use Rattle.cbm_program.specs.Traces.{HasWritten}
+use Rattle.cbm_program.specs.Staging.{PlaysOn, ReplaysOn, tracks_in}
 use Rattle.cbm_program.proofs.wires.staging.Stage.change.Given as goal
 
 -- what came before the change was written
 abbrev pub invariant-events : goal.invariant-events
 invariant-events g l = record {
   played : PlaysOn g.M.Medium.seen (g.W.Write.contents l.fn.writer) (g.W.Write.contents l.writer) [] l.fn.self.player l.fn.self.bus l.self.player l.self.bus;
-  wrote : HasWritten (g.W.Write.contents l.fn.writer) (g.W.Write.contents l.writer) [];
+  wrote : ReplaysOn desk_shows (g.W.Write.contents l.fn.writer) (g.W.Write.contents l.writer) [] l.fn.self.player l.fn.self.bus l.self.player l.self.bus;
   waiting : l.self.player.waiting ≡ Some l.change;
   second : IsGivenBefore (l.change.moment + 1) l.self.player.second;
   tracks : tracks_in g.M.Medium.seen l.self.bus ≡ tracks_in g.M.Medium.seen l.fn.self.bus;

@@ -1,14 +1,15 @@
 use Rattle.std.proofs.Common.{◌+◌, [], refl, sym, subst, arith, ◌∙◌, append-nil}
 use Rattle.cbm_drive.specs.Players.{IsGivenBefore}
+use Rattle.cbm_drive.specs.Desks.{desk_shows}
 use Rattle.cbm_program.proofs.LinePrints.{if_err}
 use Rattle.cbm_program.proofs.OutputLemmas.{grows_none, grows_on}
-use Rattle.cbm_program.proofs.Staging.{none_played, none_written, event_written, played_event, part_event, of_drive, ended_on}
+use Rattle.cbm_program.proofs.Staging.{none_played, played_event, replays_none, replays_event, replays_over, part_event, of_drive, ended_on}
 use Rattle.cbm_program.proofs.wires.staging.Stage.end.Goals as goal
 
 pub events-init : goal.events-init
 events-init g c = record {
   played = none_played g.M.Medium.seen _ c.args.self.now.player c.args.self.now.player c.args.self.now.bus c.args.self.now.bus refl refl refl;
-  wrote = none_written _;
+  wrote = replays_none desk_shows _ c.args.self.now.player c.args.self.now.player c.args.self.now.bus c.args.self.now.bus refl refl refl;
   waiting = c.requires.open.waiting;
   second = subst (IsGivenBefore (c.args.end + 1)) (sym c.requires.open.second) tt;
   from = (let l = c.requires.open.from in omega (arith, l));
@@ -31,7 +32,7 @@ pub events-preserved : goal.events-preserved
 events-preserved g c = record {
   played = λ ss es h. played_event g.M.Medium.seen _ _ _ [] [] c.events.self.player c.finish.new.self c.events.self.bus c.finish.new.bus ss es c.in-Some.event (c.events.invariant.played ss es h)
       (λ fs at_. c.in-Some.ensures.given 0 ss fs at_) (of_drive c.in-Some.event c.in-Some.ensures.drive) c.in_ok-print_event.ensures.ok;
-  wrote = event_written _ _ _ [] [] c.in-Some.event c.events.invariant.wrote (of_drive c.in-Some.event c.in-Some.ensures.drive) c.in_ok-print_event.ensures.ok;
+  wrote = replays_event desk_shows _ _ _ [] [] c.args.self.now.player c.events.self.player c.finish.new.self c.args.self.now.bus c.events.self.bus c.finish.new.bus c.in-Some.event c.events.invariant.wrote (let k = c.in-Some.ensures.recorded refl in (k.0, λ later ss fs at_. k.1 later 0 ss fs at_)) (of_drive c.in-Some.event c.in-Some.ensures.drive) c.in_ok-print_event.ensures.ok;
   waiting = c.finish.ensures.waiting;
   second = c.finish.ensures.second;
   from = c.finish.ensures.from;
@@ -41,3 +42,8 @@ events-preserved g c = record {
 
 pub returns-clause-ok : goal.returns-clause-ok
 returns-clause-ok g c = ended_on g.M.Medium.seen _ _ c.args.end c.args.self.now.player c.events.self.player c.finish.new.self c.args.self.now.bus c.events.self.bus c.finish.new.bus c.events.invariant.played (λ ss fs at_. c.in_default.ensures.given 0 ss fs at_)
+
+pub returns-clause-wrote : goal.returns-clause-wrote
+returns-clause-wrote g c =
+    let k = c.in_default.ensures.recorded refl in
+    replays_over desk_shows _ _ c.args.end c.args.self.now.player c.events.self.player c.finish.new.self c.args.self.now.bus c.events.self.bus c.finish.new.bus c.events.invariant.wrote (k.0, λ later ss fs at_. k.1 later 0 ss fs at_)

@@ -1,0 +1,95 @@
+//! Running a script whose events on the bus are handed on.
+ghost use Rattle.std.specs.Prelude.{◌≡◌, ◌≤◌, true, IfOk};
+
+use super::scripted::RunsScripts;
+use super::{Options, image_after, opened, print_check};
+use crate::fault::RunFault;
+use crate::lines::Lines;
+use crate::numbered::{Beginning, read_first};
+use bus_traces::{Echo, Watches};
+use cbm_d64::D64Disk;
+use cbm_drive::Pace;
+use cbm_g64::G64Disk;
+use cbm_image::{Kind, kind_of};
+use cbm_volume::Volume;
+use std::alloc::Global;
+use std::io::{Read, Write};
+
+/// Runs a script as `run_at` does, and tells a watcher each event on the bus as it comes, of a script of requests and of one of
+/// line changes. It goes event by event, where `run_at` takes a byte's bits together, and so takes longer. That it prints and
+/// saves the same is tested, and not proved.
+pub fn run_traced<R: Read + Drop, W: Write, T: Watches>(
+    alloc: Global,
+    pace: Pace,
+    reader: R,
+    writer: &mut W,
+    watcher: &mut T,
+    image: &[u8],
+    options: &Options,
+) -> Result<Vec<u8>, RunFault>
+    requires first { 8 ≤ options.now.device }
+    requires last { options.now.device ≤ 11 }
+    ensures given { options.now.protected ≡ true → IfOk result (λ v. v.items ≡ image.now) }
+{
+    match kind_of(image) {
+        Kind::D64 => traced_image::<D64Disk, R, W, T>(
+            alloc, pace, reader, writer, watcher, image, options,
+        ),
+        Kind::G64 => traced_image::<G64Disk, R, W, T>(
+            alloc, pace, reader, writer, watcher, image, options,
+        ),
+    }
+}
+
+/// The same on the disk of an image of one format.
+fn traced_image<I: RunsScripts + Drop, R: Read + Drop, W: Write, T: Watches>(
+    alloc: Global,
+    pace: Pace,
+    reader: R,
+    writer: &mut W,
+    watcher: &mut T,
+    image: &[u8],
+    options: &Options,
+) -> Result<Vec<u8>, RunFault>
+    requires first { 8 ≤ options.now.device }
+    requires last { options.now.device ≤ 11 }
+    ensures given { options.now.protected ≡ true → IfOk result (λ v. v.items ≡ image.now) }
+{
+    let disk = opened::<I>(alloc, image, options.protected)?;
+    let volume = Volume::open(disk);
+    print_check(&volume, options.check, writer)?;
+    let disk = traced_script(
+        volume.into_medium(),
+        options.device,
+        pace,
+        reader,
+        writer,
+        watcher,
+    )?;
+    image_after(alloc, &disk, image, options.protected)
+}
+
+/// Runs a script on a drive of this device number and pace at power up with this medium, and gives the medium back with what the
+/// script wrote.
+fn traced_script<M: RunsScripts + Drop, R: Read + Drop, W: Write, T: Watches>(
+    medium: M,
+    device: u8,
+    pace: Pace,
+    reader: R,
+    writer: &mut W,
+    watcher: &mut T,
+) -> Result<M, RunFault>
+    requires first { 8 ≤ device }
+    requires last { device ≤ 11 }
+{
+    let mut lines = Lines::new(reader);
+    match read_first(&mut lines)? {
+        Beginning::Requests(first) => {
+            medium.watch(device, pace, &mut lines, first, writer, watcher)
+        }
+        Beginning::Changes => {
+            let mut echo = Echo::new(&mut *writer, &mut *watcher);
+            medium.play(device, pace, &mut lines, &mut echo)
+        }
+    }
+}

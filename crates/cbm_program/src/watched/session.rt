@@ -1,0 +1,154 @@
+//! A script of requests whose events are handed on.
+ghost use Rattle.std.specs.Prelude.{◌<◌, ◌≤◌, ◌^◌, IfSome};
+ghost use Rattle.cbm_host.specs.Engines.{channel_of};
+ghost use Rattle.cbm_program.specs.Running.{IsInRange, LineIsInRange};
+
+use super::printing::Printing;
+use crate::fault::RunFault;
+use crate::line::{Line, parse};
+use crate::lines::Lines;
+use crate::numbered::next_line;
+use crate::output::flush;
+use crate::request::Request;
+use arrayvec::ArrayVec;
+use bus_traces::Watches;
+use cbm_drive::{Bus, Desk, Drive, Pace, Party};
+use cbm_host::{self, Performer};
+use cbm_medium::Steady;
+use std::io::{Read, Write};
+
+/// How long the drive takes to react, in microseconds.
+const REACTION: u8 = 20;
+
+/// When the first request begins, in microseconds.
+const FIRST: u64 = 1000;
+
+/// The number of the line that is one too many.
+const LINES: u32 = 1_000_001;
+
+/// No request begins later, in microseconds: a million of them, each of at most 320 seconds, end long before.
+const LATEST: u64 = 100_000_000_000_000_000;
+
+/// A drive alone on a cable with a host, and when the host's next request begins.
+#[derive(Drop)]
+pub(crate) struct Bench<M: Steady> {
+    bus: Bus<Desk<M>, 1>,
+    device: u8,
+    pace: Pace,
+    moment: u64,
+    ghost device_fits: { device ≤ 11 },
+}
+
+/// What the host asks of the drive.
+fn asked(request: &Request) -> cbm_host::Request<'_>
+    requires { IsInRange request.now }
+    ensures { channel_of result ≤ 15 }
+{
+    match request {
+        Request::Open(channel, text) => cbm_host::Request::Open(*channel, text.as_slice()),
+        Request::Put(channel, bytes) => cbm_host::Request::Put(*channel, bytes.as_slice()),
+        Request::Fill(channel, count, byte) => cbm_host::Request::Fill(*channel, *count, *byte),
+        Request::Get(channel, most) => cbm_host::Request::Get(*channel, *most),
+        Request::Close(channel) => cbm_host::Request::Close(*channel),
+        Request::Status => cbm_host::Request::Status,
+    }
+}
+
+impl<M: Steady> Bench<M> {
+    /// A drive of this pace at power up with this medium.
+    pub(crate) fn new(medium: M, device: u8, pace: Pace) -> Bench<M>
+        requires { device ≤ 11 }
+    {
+        let desk = Desk::at_power_up(medium, device).with_pace(pace);
+        let party = Party {
+            device,
+            reaction: REACTION,
+            pace,
+        };
+        Bench {
+            bus: Bus::new([Drive::new(desk, party)]),
+            device,
+            pace,
+            moment: FIRST,
+        }
+    }
+
+    /// Carries out a request, event by event, and prints what it prints. Error: `Writing`.
+    fn perform<W: Write, T: Watches>(
+        &mut self,
+        request: &Request,
+        writer: &mut W,
+        watcher: &mut T,
+    ) -> Result<(), RunFault>
+        requires { IsInRange request.now }
+    {
+        let start = self.moment.min(LATEST);
+        let mut performer = Performer::with_pace(start, self.device, asked(request), self.pace);
+        let mut printing = Printing::of(request);
+        for _ in 0..u64::MAX {
+            let Some(event) = performer.next(&mut self.bus) else {
+                break;
+            };
+            watcher.event(event);
+            if let Some((byte, is_last)) = performer.byte() {
+                printing.byte(writer, byte, is_last)?;
+            }
+        }
+        self.moment = performer.over();
+        printing.end(writer)
+    }
+
+    /// Carries out a line, and sends on what it prints. Error: `Writing`.
+    fn line<W: Write, T: Watches>(
+        &mut self,
+        line: &Line,
+        writer: &mut W,
+        watcher: &mut T,
+    ) -> Result<(), RunFault>
+        requires { LineIsInRange line.now }
+    {
+        match line {
+            Line::Skipped => Ok(()),
+            Line::Asks(request) => {
+                self.perform(request, writer, watcher)?;
+                flush(writer)
+            }
+        }
+    }
+
+    /// The medium, with all that was written to it.
+    fn into_medium(self) -> M {
+        let Bench { bus, .. } = self;
+        let [drive] = bus.into_drives();
+        drive.into_machine().into_medium()
+    }
+}
+
+/// Carries out a script of requests, after its first line, on a drive at power up, hands on each event as it comes, and gives the
+/// drive's medium back with what came of it. It prints what a run prints that isn't watched. Errors: `Script`, `Reading` or `Writing`.
+pub(crate) fn serve_watched<M: Steady + Drop, R: Read, W: Write, T: Watches>(
+    bench: Bench<M>,
+    lines: &mut Lines<R>,
+    first: Option<Line>,
+    writer: &mut W,
+    watcher: &mut T,
+) -> Result<M, RunFault>
+    requires { IfSome first LineIsInRange }
+{
+    let mut bench = bench;
+    let Some(first) = first else {
+        return Ok(bench.into_medium());
+    };
+    bench.line(&first, writer, watcher)?;
+    let mut bytes = ArrayVec::new();
+    for number in 2..=LINES {
+        if !next_line(lines, &mut bytes, number)? {
+            break;
+        }
+        let Some(line) = parse(bytes.as_slice()) else {
+            return Err(RunFault::Script(number));
+        };
+        bench.line(&line, writer, watcher)?;
+    }
+    Ok(bench.into_medium())
+}
