@@ -105,7 +105,13 @@ fn at_start(alloc: Global) -> Host {
     Host { changes, now: 0 }
 }
 
-fn drive(alloc: Global, device: u8, reaction: u8, pace: Pace) -> io::Result<Drive<Desk<D64Disk>>> {
+/// A drive with an empty disk.
+pub fn drive(
+    alloc: Global,
+    device: u8,
+    reaction: u8,
+    pace: Pace,
+) -> io::Result<Drive<Desk<D64Disk>>> {
     if device >= 31 || reaction == 0 {
         return Err(failed());
     }

@@ -24,10 +24,19 @@ pub struct Arguments<'a> {
     pub is_read_only: bool,
     /// The disk is checked first.
     pub is_checked: bool,
+    /// The file that the trace of the bus is written to, if one is asked for.
+    pub trace: Option<&'a str>,
+    /// The bus is drawn.
+    pub is_drawn: bool,
 }
 
 /// The word that means standard input or standard output.
 const STANDARD: &str = "-";
+
+/// What help ends with.
+const EXAMPLES: &str = "Examples:
+  drive1541 disk.d64 load.script           carry out the requests of a script
+  drive1541 reply disk.d64=new.d64         a bus for a program of your own: see `drive1541 reply --help`";
 
 /// Whether a name means standard input or standard output.
 pub fn is_standard(name: &str) -> bool {
@@ -40,12 +49,30 @@ impl<'a> Arguments<'a> {
         is_standard(self.image) && is_standard(self.script)
     }
 
-    /// Whether the image goes to standard output, so that what the script prints goes elsewhere.
-    pub fn prints_image(&self) -> bool {
-        match self.out {
-            Some(out) => is_standard(out),
-            None => false,
-        }
+    /// Whether the image goes to standard output.
+    fn prints_image(&self) -> bool {
+        self.out.is_some_and(is_standard)
+    }
+
+    /// Whether the trace goes to standard output, or a picture of it.
+    fn prints_trace(&self) -> bool {
+        self.is_drawn || self.trace.is_some_and(is_standard)
+    }
+
+    /// Whether standard output has something else than what the script prints, so that this goes elsewhere.
+    pub fn prints_aside(&self) -> bool {
+        self.prints_image() || self.prints_trace()
+    }
+
+    /// Whether standard output is wanted twice.
+    pub fn writes_twice(&self) -> bool {
+        let is_both = self.is_drawn && self.trace.is_some_and(is_standard);
+        is_both || self.prints_image() && self.prints_trace()
+    }
+
+    /// Whether the events on the bus are wanted.
+    pub fn is_traced(&self) -> bool {
+        self.is_drawn || self.trace.is_some()
     }
 
     /// The word of the command line that names a stream, or `output`.
@@ -55,6 +82,7 @@ impl<'a> Arguments<'a> {
             Stream::Script => self.script,
             Stream::Out => self.out.unwrap_or(""),
             Stream::Output => "output",
+            Stream::Trace => self.trace.unwrap_or(""),
         }
     }
 }
@@ -97,9 +125,17 @@ fn command<'a>(alloc: Global) -> Result<Command<'a>, Error> {
         .value_parser(["profile", "kernal"].as_slice())
         .default_value("profile")
         .help("the drive's times on the bus");
+    let trace = Arg::new(alloc, "trace")
+        .long("trace")
+        .value_name("FILE")
+        .action(ArgAction::Set)
+        .help(
+            "write each change of the bus's lines, as VCD where FILE ends with .vcd; `-` for standard output",
+        );
     let command = Command::new(alloc, "drive1541")
         .about("Runs a script of requests on a disk image")
         .version(VERSION)
+        .after_help(EXAMPLES)
         .arg(file(
             alloc,
             "IMAGE",
@@ -122,7 +158,9 @@ fn command<'a>(alloc: Global) -> Result<Command<'a>, Error> {
         .arg(pace)?
         .arg(switch(alloc, "read-only", "protect the disk"))?
         .arg(switch(alloc, "check", "print first whether the disk is sound"))?
-        .arg(switch(alloc, "dry-run", "save nothing"))?;
+        .arg(switch(alloc, "dry-run", "save nothing"))?
+        .arg(trace)?
+        .arg(switch(alloc, "draw", "print a picture of the bus's lines"))?;
     Ok(command)
 }
 
@@ -150,5 +188,7 @@ fn arguments_of<'a>(matches: &ArgMatches<'a>) -> Arguments<'a> {
         pace: pace_called(matches.get_str("pace")),
         is_read_only: matches.get_flag("read-only"),
         is_checked: matches.get_flag("check"),
+        trace: matches.get_str("trace"),
+        is_drawn: matches.get_flag("draw"),
     }
 }

@@ -18,6 +18,8 @@ pub enum Stream {
     Out,
     /// Standard output.
     Output,
+    /// The trace.
+    Trace,
 }
 
 /// Why OUT wasn't written.

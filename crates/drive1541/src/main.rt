@@ -3,9 +3,12 @@
 
 mod arguments;
 mod failure;
+mod judge;
 mod noted;
 mod program;
 mod reason;
+mod reply;
+mod traced;
 
 use std::process::ExitCode;
 

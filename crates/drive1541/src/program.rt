@@ -5,7 +5,8 @@ use crate::arguments::{self, Arguments, is_standard};
 use crate::failure::{Failure, Stream, exit_status};
 use crate::noted::Noted;
 use crate::reason::Reason;
-use cbm_program::{Options, run_at};
+use crate::{judge, reply, traced};
+use cbm_program::Options;
 use clap::error::ErrorKind;
 use host_files::save;
 use std::alloc::Global;
@@ -20,12 +21,24 @@ pub fn run_program(rt: &HostRuntime) -> ExitCode {
         Ok(words) => words,
         Err(error) => return without_words(rt, &error),
     };
+    if let Some(rest) = judge::asked(words.as_slice()) {
+        return judge::run(rt, rest);
+    }
+    if reply::is_asked(words.as_slice()) {
+        return reply::run(rt, words.as_slice());
+    }
     let arguments = match arguments::parse(rt.alloc(), words.as_slice()) {
         Ok(arguments) => arguments,
         Err(error) => return without_arguments(rt, &error),
     };
     if arguments.reads_twice() {
-        return without_input(rt);
+        return without_stream(rt, "error: `-` is IMAGE or SCRIPT, and not both");
+    }
+    if arguments.writes_twice() {
+        return without_stream(
+            rt,
+            "error: standard output has the image, the trace or pictures, and not two of them",
+        );
     }
     let ended = carry_out(rt, &arguments);
     if let Err(failure) = &ended {
@@ -53,9 +66,9 @@ fn without_arguments(rt: &HostRuntime, error: &clap::Error) -> ExitCode {
     ExitCode::from(u8::from(!is_asked))
 }
 
-// Standard input is read once.
-fn without_input(rt: &HostRuntime) -> ExitCode {
-    let _ = eprintln!(rt; "error: `-` is IMAGE or SCRIPT, and not both");
+// Standard input is read once, and standard output is written for one thing.
+fn without_stream(rt: &HostRuntime, line: &str) -> ExitCode {
+    let _ = eprintln!(rt; "{line}");
     ExitCode::from(1)
 }
 
@@ -140,7 +153,7 @@ fn run_read<R: Runtime + AllocGlobal, S: io::Read + Drop>(
     arguments: &Arguments<'_>,
 ) -> Result<Vec<u8>, Failure> {
     let mut noted = Noted::new(script);
-    let ended = if arguments.prints_image() {
+    let ended = if arguments.prints_aside() {
         run_aside(rt, &mut noted, image, arguments)
     } else {
         run_script(rt, &mut noted, image, arguments)
@@ -155,7 +168,7 @@ fn run_read<R: Runtime + AllocGlobal, S: io::Read + Drop>(
 }
 
 /// How the disk is run.
-fn options_of(arguments: &Arguments<'_>) -> Options
+pub fn options_of(arguments: &Arguments<'_>) -> Options
     ensures first { 8 ≤ result.device }
     ensures last { result.device ≤ 11 }
 {
@@ -173,40 +186,24 @@ fn run_script<R: Runtime + AllocGlobal, S: io::Read>(
     image: &[u8],
     arguments: &Arguments<'_>,
 ) -> Result<Vec<u8>, Failure> {
-    let options = options_of(arguments);
     let mut output = BufWriter::new(rt.alloc(), io::writer(rt)).map_err(|_| Failure::NoMemory)?;
-    let ended = run_at(
-        rt.alloc(),
-        arguments.pace,
-        script,
-        &mut output,
-        image,
-        &options,
-    );
+    let ended = traced::run(rt, script, &mut output, image, arguments);
     output
         .flush()
         .map_err(|_| Failure::File(Stream::Output, None))?;
-    ended.map_err(Failure::of_run)
+    ended
 }
 
-// As standard output has the image, what the script prints goes to standard error.
+// As standard output has the image, the trace or pictures, what the script prints goes to standard error.
 fn run_aside<R: Runtime + AllocGlobal, S: io::Read>(
     rt: &R,
     script: &mut Noted<S>,
     image: &[u8],
     arguments: &Arguments<'_>,
 ) -> Result<Vec<u8>, Failure> {
-    let options = options_of(arguments);
     let mut output = Vec::new(rt.alloc());
-    let ended = run_at(
-        rt.alloc(),
-        arguments.pace,
-        script,
-        &mut output,
-        image,
-        &options,
-    );
+    let ended = traced::run(rt, script, &mut output, image, arguments);
     let text = std::str::from_utf8(output.as_slice()).unwrap_or("");
     let _ = eprint!(rt; "{text}");
-    ended.map_err(Failure::of_run)
+    ended
 }

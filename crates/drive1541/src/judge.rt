@@ -1,0 +1,145 @@
+//! `drive1541 judge TRACE`: whether a trace of the bus is a session, and else who broke it.
+use cbm_iec::Party;
+use clap::{Arg, ArgAction, ArgMatches, Command, Error};
+use judge_report::{ReportFault, Verdict, judge_trace, party_of};
+use std::alloc::{AllocError, Global};
+use std::io::{BufReader, BufWriter, Read, Write};
+use std::process::ExitCode;
+use std::rt::Runtime;
+use std::{fs, io};
+
+/// The word that asks for the judge.
+const JUDGE: &str = "judge";
+
+/// The exit statuses: what is said of the trace; or the trace can't be read, or the command line is none.
+const SESSION: u8 = 0;
+
+const BY_HOST: u8 = 1;
+
+const BY_DRIVE: u8 = 2;
+
+const UNREAD: u8 = 3;
+
+const UNASKED: u8 = 64;
+
+/// The rest of the command line, where its first word asks for the judge.
+pub fn asked(words: &[String]) -> Option<&[String]> {
+    match words {
+        [_, first, ..] if first.as_str() == JUDGE => words.get(1..),
+        _ => None,
+    }
+}
+
+fn command<'a>(alloc: Global) -> Result<Command<'a>, Error> {
+    let trace = Arg::new(alloc, "TRACE")
+        .required(true)
+        .action(ArgAction::Set)
+        .help("the trace, lines or a VCD, `-` for standard input");
+    let drive = Arg::new(alloc, "drive")
+        .long("drive")
+        .value_name("DEVICE:REACTION[:PACE]")
+        .action(ArgAction::Append)
+        .default_value("8:20")
+        .help(
+            "a drive of the bus: its number, 8 to 11, its reaction, 1 to 60, and `profile` or `kernal`",
+        );
+    let command = Command::new(alloc, JUDGE)
+        .about("Says whether a trace of the bus is a session, and who broke it")
+        .arg(trace)?
+        .arg(drive)?;
+    Ok(command)
+}
+
+/// Reads the command line, after `judge`.
+fn parse<'a>(alloc: Global, words: &'a [String]) -> Result<ArgMatches<'a>, Error> {
+    command(alloc)?.try_get_matches_from(words)
+}
+
+/// The drives of the command line; None where a word is no drive.
+fn parties_of(alloc: Global, matches: &ArgMatches<'_>) -> Result<Option<Vec<Party>>, AllocError> {
+    let mut parties = Vec::new(alloc);
+    for word in matches.get_strs("drive").unwrap_or(&[]) {
+        let Some(party) = party_of(word) else {
+            return Ok(None);
+        };
+        parties.push(party)?;
+    }
+    Ok(Some(parties))
+}
+
+/// Judges the trace that the rest of the command line names, and answers the exit status.
+pub fn run(rt: &HostRuntime, words: &[String]) -> ExitCode {
+    let matches = match parse(rt.alloc(), words) {
+        Ok(matches) => matches,
+        Err(error) => {
+            let _ = error.print(rt);
+            let status = if error.exit_code() == 0 { 0 } else { UNASKED };
+            return ExitCode::from(status);
+        }
+    };
+    let Ok(Some(parties)) = parties_of(rt.alloc(), &matches) else {
+        let _ = eprintln!(rt; "error: a drive is DEVICE:REACTION or DEVICE:REACTION:PACE, as 8:20");
+        return ExitCode::from(UNASKED);
+    };
+    let name = matches.get_str("TRACE").unwrap_or("");
+    ExitCode::from(judge_named(rt, name, parties.as_slice()))
+}
+
+fn judge_named<R: Runtime + AllocGlobal>(rt: &R, name: &str, parties: &[Party]) -> u8 {
+    if name == "-" {
+        return judge_read(rt, rt.reader(), parties);
+    }
+    match fs::open(rt, name) {
+        Ok(trace) => judge_read(rt, trace, parties),
+        Err(error) => {
+            let kind = error.kind();
+            let _ = eprintln!(rt; "file fault: {name}: {kind}");
+            UNREAD
+        }
+    }
+}
+
+fn judge_read<R: Runtime + AllocGlobal, I: io::Read + Drop>(
+    rt: &R,
+    trace: I,
+    parties: &[Party],
+) -> u8 {
+    match judge_buffered(rt, trace, parties) {
+        Ok(Ok(verdict)) => status_of(verdict),
+        Ok(Err(fault)) => {
+            let _ = eprintln!(rt; "error: {fault}");
+            status_of_fault(fault)
+        }
+        Err(_) => {
+            let _ = eprintln!(rt; "no memory");
+            UNREAD
+        }
+    }
+}
+
+fn judge_buffered<R: Runtime + AllocGlobal, I: io::Read + Drop>(
+    rt: &R,
+    trace: I,
+    parties: &[Party],
+) -> io::Result<Result<Verdict, ReportFault>> {
+    let input = BufReader::new(rt.alloc(), trace)?;
+    let mut output = BufWriter::new(rt.alloc(), io::writer(rt))?;
+    let judged = judge_trace(input, &mut output, parties);
+    output.flush()?;
+    Ok(judged)
+}
+
+fn status_of(verdict: Verdict) -> u8 {
+    match verdict {
+        Verdict::Session => SESSION,
+        Verdict::Host(_) => BY_HOST,
+        Verdict::Drive(_) => BY_DRIVE,
+    }
+}
+
+fn status_of_fault(fault: ReportFault) -> u8 {
+    match fault {
+        ReportFault::Drives(_) => UNASKED,
+        ReportFault::Trace(_) | ReportFault::Wires | ReportFault::Writing => UNREAD,
+    }
+}

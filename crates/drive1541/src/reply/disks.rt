@@ -1,0 +1,69 @@
+//! The disks of a talk, from their images and to them.
+
+use super::failure::{Failure, Place};
+use super::words::Words;
+use cbm_bus::AnyDisk;
+use cbm_d64::D64Disk;
+use cbm_g64::G64Disk;
+use cbm_image::{DiskImage, ImageFault, Kind, kind_of};
+use host_files::save;
+use std::alloc::{AllocError, Global};
+use std::fs;
+
+/// The disk of an image.
+fn disk_of(alloc: Global, image: &[u8], is_protected: bool) -> Result<AnyDisk, ImageFault> {
+    match kind_of(image) {
+        Kind::D64 => D64Disk::open(alloc, image, is_protected).map(AnyDisk::D64),
+        Kind::G64 => G64Disk::open(alloc, image, is_protected).map(AnyDisk::G64),
+    }
+}
+
+/// The image of a disk.
+fn image_of(alloc: Global, disk: &AnyDisk) -> Result<Vec<u8>, AllocError> {
+    match disk {
+        AnyDisk::D64(disk) => disk.save(alloc),
+        AnyDisk::G64(disk) => disk.save(alloc),
+    }
+}
+
+/// The disk of the drive at a place.
+fn open_disk(
+    rt: &HostRuntime,
+    place: usize,
+    name: &str,
+    is_protected: bool,
+) -> Result<AnyDisk, Failure> {
+    let image = fs::read(rt, name).map_err(|e| Failure::of_file(e, Place::Image(place)))?;
+    match disk_of(rt.alloc(), image.as_slice(), is_protected) {
+        Ok(disk) => Ok(disk),
+        Err(ImageFault::Format(number)) => Err(Failure::Image(place, number)),
+        Err(ImageFault::Memory) => Err(Failure::NoMemory),
+    }
+}
+
+/// The disks of the command line, in its order.
+pub fn open_disks(rt: &HostRuntime, words: &Words<'_>) -> Result<Vec<AnyDisk>, Failure> {
+    let mut disks = Vec::new(rt.alloc());
+    for (place, seat) in words.seats().iter().enumerate() {
+        let disk = open_disk(rt, place, seat.image, words.is_read_only())?;
+        disks.push(disk).map_err(|_| Failure::NoMemory)?;
+    }
+    Ok(disks)
+}
+
+/// Saves the disk of the drive at a place.
+fn save_disk(rt: &HostRuntime, place: usize, disk: &AnyDisk, out: &str) -> Result<(), Failure> {
+    let image = image_of(rt.alloc(), disk).map_err(|_| Failure::NoMemory)?;
+    save(rt, "drive1541", out, image.as_slice()).map_err(|e| Failure::of_file(e, Place::Out(place)))
+}
+
+/// Saves each disk that is to be saved, in the order of the command line, up to the first that can't be.
+pub fn save_disks(rt: &HostRuntime, disks: &[AnyDisk], words: &Words<'_>) -> Result<(), Failure> {
+    let seats = words.seats();
+    for (place, (seat, disk)) in seats.iter().zip(disks).enumerate() {
+        if let Some(out) = seat.out {
+            save_disk(rt, place, disk, out)?;
+        }
+    }
+    Ok(())
+}
