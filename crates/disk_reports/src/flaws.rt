@@ -1,11 +1,12 @@
 //! CHECK --ALL: each flaw of a disk, the files that have it, and whether it can be mended.
-use crate::report::{Sector, line};
-use crate::view::{Answer, Look, Shown};
+mod facts;
+
+use crate::view::{Answer, Look};
 use cbm_medium::Address;
 use cbm_shell::{Charset, DiskFlaw, ShellFault, Whose, words};
 use cbm_volume::Entry;
 use disk_basics::{Disk, is_mendable, name_text, place_of, slots_of};
-use serde::Serialize;
+pub use facts::flaw_report;
 use std::alloc::{AllocError, Global};
 
 /// What is wrong with a disk.
@@ -388,119 +389,4 @@ pub fn add_all_flaws(
     let findings = found_in(alloc, &disk)?;
     add_findings(alloc, text, &disk, look.charset, &findings)?;
     Ok(outcome(findings.flaws.as_slice()))
-}
-
-/// A flaw, for programs.
-#[derive(Drop, Serialize)]
-struct FlawFacts {
-    track: u8,
-    sector: u8,
-    number: u8,
-    text: &'static str,
-    error: Option<u8>,
-    files: Vec<String>,
-    before: u16,
-    mendable: bool,
-}
-
-/// The flaws of an image, for programs.
-#[derive(Drop, Serialize)]
-struct FlawReport<'a> {
-    image: &'a str,
-    sound: bool,
-    flaws: Vec<FlawFacts>,
-    lost: Vec<Sector>,
-}
-
-/// A flaw, for programs.
-fn facts_of(
-    alloc: Global,
-    disk: &Disk,
-    charset: Charset,
-    entries: &[Entry],
-    flaw: &DiskFlaw,
-) -> Result<FlawFacts, ShellFault> {
-    let files = names_of(alloc, disk, charset, entries, flaw)?;
-    Ok(FlawFacts {
-        track: flaw.what.track,
-        sector: flaw.what.sector,
-        number: flaw.what.number,
-        text: std::str::from_utf8(words(flaw.what.number)).unwrap_or("it isn't sound"),
-        error: error_of(disk, flaw),
-        files,
-        before: flaw.before,
-        mendable: is_mendable(flaw),
-    })
-}
-
-/// The flaws, for programs.
-fn all_facts(
-    alloc: Global,
-    disk: &Disk,
-    charset: Charset,
-    findings: &Findings,
-) -> Result<Vec<FlawFacts>, ShellFault> {
-    let mut all = Vec::new(alloc);
-    for flaw in findings.flaws.as_slice() {
-        let facts = facts_of(alloc, disk, charset, findings.entries.as_slice(), flaw)?;
-        all.push(facts).map_err(AllocError::from)?;
-    }
-    Ok(all)
-}
-
-/// Sectors, for programs.
-fn sectors_of(alloc: Global, places: &[Address]) -> Result<Vec<Sector>, AllocError> {
-    let mut all = Vec::new(alloc);
-    for at in places {
-        let sector = Sector {
-            track: at.track(),
-            sector: at.sector(),
-        };
-        all.push(sector).map_err(AllocError::from)?;
-    }
-    Ok(all)
-}
-
-/// The flaws of an image as a line of JSON.
-fn report_of(
-    alloc: Global,
-    name: &str,
-    disk: &Disk,
-    charset: Charset,
-    findings: &Findings,
-) -> Result<Vec<u8>, ShellFault> {
-    let flaws = all_facts(alloc, disk, charset, findings)?;
-    let lost = sectors_of(alloc, findings.lost.as_slice())?;
-    let report = FlawReport {
-        image: name,
-        sound: findings.flaws.is_empty(),
-        flaws,
-        lost,
-    };
-    Ok(line(alloc, &report)?)
-}
-
-/// The flaws of an image as a line of JSON, and what they come to.
-fn shown_flaws(
-    alloc: Global,
-    name: &str,
-    disk: &Disk,
-    charset: Charset,
-    findings: &Findings,
-) -> Result<Shown, ShellFault> {
-    let text = report_of(alloc, name, disk, charset, findings)?;
-    let answer = outcome(findings.flaws.as_slice());
-    Ok(Shown { text, answer })
-}
-
-/// The flaws of the disk of an image as a line of JSON. Errors: `Image`, `Trouble`, `Memory`.
-pub fn flaw_report(
-    alloc: Global,
-    name: &str,
-    image: &[u8],
-    look: Look<'_>,
-) -> Result<Shown, ShellFault> {
-    let disk = Disk::open(alloc, image)?;
-    let findings = found_in(alloc, &disk)?;
-    shown_flaws(alloc, name, &disk, look.charset, &findings)
 }
