@@ -1,5 +1,5 @@
 #!/bin/sh
-# Looks at the traces of drive1541 from outside: its VCD, decoded by sigrok-cli (where that is installed) and turned into lines by awk, and its pictures.
+# Looks at the traces of drive1541 from outside: its VCD, decoded by sigrok-cli (where that is installed) and turned into lines by awk, its pictures, and the judge of traces.
 # Usage: sh check_traces.sh DRIVE1541 (the path of the built program). Prints one line a case; ends with 1 if one is wrong.
 set -u
 drive=$(realpath "$1")
@@ -97,6 +97,38 @@ is "two things on standard output: 1" test $? = 1
 COLUMNS=40 "$drive" hello.d64 hello.script --draw > out.txt 2> err.txt
 is "a picture is as wide as COLUMNS" test "$(awk '{ if (length > most) most = length } END { print most }' out.txt)" -le 40
 is "and has the bytes of the session" test "$(awk '/^     / { gsub(/eoi/, ""); printf "%s ", $0 }' out.txt | tr -s ' ')" = " 28 f0 48 45 4c 4c 4f 3f 48 60 01 02 03 5f 48 6f 30 30 2c 20 4f 4b 2c 30 30 2c 30 30 0d 5f "
+
+# name, status, words, then judge's words: how judging the trace in its input ends, and its last line.
+judged() {
+    what=$1 status=$2 line=$3
+    shift 3
+    "$drive" judge "$@" > judged.txt 2> judged.err
+    was=$?
+    is "judge, $what: ends with $status" test $was = "$status"
+    is "judge, $what: $line" test "$(cat judged.txt judged.err | tail -n 1)" = "$line"
+}
+
+# The acts of a session as the bytes on the bus, and its verdict; then each party's breach by one microsecond, and what isn't judged.
+for form in vcd trace; do
+    "$drive" hello.d64 hello.script --trace "hello.$form" > /dev/null
+    "$drive" judge "hello.$form" > judged.txt
+    is "judge, $form: a session" test $? = 0
+    is "judge, $form: has the bytes" test "$(awk '$1 == "attention" { $1 = ""; print } $1 == "host" { print $2 } $1 == "drive" { print $3 }' judged.txt | tr -s ' \n' '  ')" = " 28 f0 48 45 4c 4c 4f 3f 48 60 01 02 03 5f 48 6f 30 30 2c 20 4f 4b 2c 30 30 2c 30 30 0d 5f "
+    is "judge, $form: has each EOI" test "$(grep ' eoi$' judged.txt | tr '\n' ' ')" = "host 4f eoi drive 8 03 eoi drive 8 0d eoi "
+    is "judge, $form: says so" grep -q "^a session to [0-9]* us$" judged.txt
+done
+printf '0 host atn pull\n0 host clock pull\n20 8 data pull\n99 host clock free\n' > early.trace
+judged "a host too early" 1 "99 us host clock free: 99 after ATN's pull, 100 at least" early.trace
+printf '0 host atn pull\n0 host clock pull\n21 8 data pull\n' > late.trace
+judged "a drive too late" 2 "21 us drive 8 data pull: due at 20" late.trace
+judged "a drive that takes 21" 0 "a session to 21 us" - --drive 8:21 < late.trace
+printf '0 host atn pull\n0 host clock pull\n20 9 data pull\n20 8 data pull\n' > ties.trace
+judged "two drives, the first listed first" 0 "a session to 20 us" ties.trace --drive 9:20 --drive 8:20
+judged "two drives, the other first" 2 "20 us drive 9 data pull: due at 20" ties.trace --drive 8:20 --drive 9:20
+printf '$timescale 1us $end $var wire 1 a ATN $end $var wire 1 c CLK $end $var wire 1 d DATA $end\n$enddefinitions $end\n#0 1a 1c 1d\n#10 0a\n' > wires.vcd
+judged "the wires alone" 3 "error: the trace has the wires alone: the parties' own lines are wanted" wires.vcd
+judged "a device that is none" 64 "error: a device number is 8 to 11" early.trace --drive 12:20
+judged "a drive without a reaction" 64 "error: a drive is DEVICE:REACTION or DEVICE:REACTION:PACE, as 8:20" early.trace --drive 8
 
 # The bytes as another program finds them: OPEN of HELLO, its three bytes, and the status.
 if command -v sigrok-cli > /dev/null; then
