@@ -6,6 +6,7 @@ use Rattle.cbm_iec.specs.declared.party.Role.{Role}
 use Rattle.cbm_iec.specs.declared.party.Role.TheVariants.{Absent, Listener, Talker}
 use Rattle.cbm_iec.specs.declared.act.Act.{Act}
 use Rattle.cbm_iec.specs.declared.act.Act.TheVariants.{Pulled, Attention, Released, Heard, Said, Silent}
+use Rattle.cbm_iec.specs.Attentions.{listen, talk, data_on, close_on, open_on}
 use Rattle.cbm_iec.specs.Roles.{role_after}
 use Rattle.cbm_drive.specs.declared.secondary.Secondary.{Secondary}
 use Rattle.cbm_drive.specs.declared.secondary.Secondary.TheVariants.{Data, Close, Open}
@@ -18,9 +19,9 @@ abbrev pub secondary_of : ℕ → Option Secondary
 secondary_of byte =
     let channel = byte % 16 in
     let kind = byte - channel in
-    if kind == 96 then Some (Data channel)
-    else if kind == 224 then Some (Close channel)
-    else if kind == 240 then Some (Open channel)
+    if kind == data_on then Some (Data channel)
+    else if kind == close_on then Some (Close channel)
+    else if kind == open_on then Some (Open channel)
     else None
 
 -- the channel that it names
@@ -71,7 +72,7 @@ given channel naming a = record a { channel = Some channel; naming = naming; fre
 
 -- LISTEN ($20 + d) and TALK ($40 + d) to this device wait for a secondary address.
 abbrev pub called : ℕ → Addressed → Addressed
-called byte a = if (byte == 32 + a.device) || (byte == 64 + a.device) then waiting a else a
+called byte a = if (byte == listen + a.device) || (byte == talk + a.device) then waiting a else a
 
 -- the role is another
 abbrev pub turned : ℕ → Addressed → Addressed

@@ -5,6 +5,7 @@ ghost use Rattle.cbm_drive.specs.Addressing.{unaddressed, paced, called, turned,
 use crate::ended::Ended;
 use crate::secondary::Secondary;
 use arrayvec::ArrayVec;
+use cbm_iec::attention::{LISTEN, TALK};
 use cbm_iec::{Pace, Role};
 use std::marker::Model;
 use std::mem;
@@ -141,7 +142,7 @@ impl Addressee {
     fn call(&mut self, byte: u8)
         ensures { self.new ≡ called byte self.old }
     {
-        if byte == 0x20 + self.device || byte == 0x40 + self.device {
+        if byte == LISTEN + self.device || byte == TALK + self.device {
             self.end();
         }
     }

@@ -1,13 +1,13 @@
 //! What the drives on a cable do: they see changes, and one of them reacts.
 
-ghost use Rattle.std.specs.Prelude.{◌≡◌, ◌↔◌, ◌+◌, ◌<◌, ◌≤◌, ◌^◌, ℕ, true, List, [], ◌∷◌, ◌++◌, length, map, IfSome, IsSome, MatchOption};
+ghost use Rattle.std.specs.Prelude.{◌≡◌, ◌↔◌, ◌+◌, ◌<◌, ◌≤◌, ◌^◌, true, List, [], ◌∷◌, ◌++◌, length, map, IfSome, IsSome, MatchOption};
 ghost use Rattle.std.specs.List.{AllZip};
 ghost use Rattle.cbm_session.specs.Among.{Rest};
 ghost use Rattle.cbm_session.specs.Following.{lines_after};
 ghost use Rattle.cbm_session.specs.Playing.{Station, tell, told_lines};
-ghost use Rattle.cbm_drive.specs.Seats.{Seated, Meets, IsSeat, IsBusAt, own_of, held_by, numbers, IsFirstDue, AreIdle, AreResting};
-ghost use Rattle.cbm_drive.specs.Playback.{Shown, Playback, IsPlayedBack, played_says, played_step};
+ghost use Rattle.cbm_drive.specs.Seats.{Seated, Meets, IsSeat, IsBusAt, own_of, numbers, IsFirstDue, AreIdle, AreResting};
 ghost use Rattle.cbm_drive.specs.Recorded.{IsToldBy};
+ghost use Rattle.cbm_drive.specs.Turning.{ToldBack, ReactedBack};
 ghost use Rattle.cbm_drive.specs.Progress.{AreKept, IsNearer};
 ghost use Rattle.cbm_drive.specs.Reactions.{AreAt, Hear, HasReacted};
 
@@ -176,11 +176,8 @@ pub(crate) fn react<D: Machine>(
         IfSome result (λ a.
         HasReacted _ D.State D.stands D.step D.says host moment a.device drives.new a.changes.items ss) }
     // Also on disks that aren't sound, of a drive alone: so it is of the machine that replays what this one showed.
-    ensures recorded { length drives.old ≡ 1 → IsFirstDue drives.old (place, moment) → IfSome result (λ a.
-        (trail : List Shown) × ((later : List Shown) (ss : List (Station Playback)) →
-        IsBusAt _ Playback (IsPlayedBack D.shows (trail ++ later)) host drives.old ss →
-        HasReacted _ Playback (IsPlayedBack D.shows later) played_step played_says host moment a.device drives.new
-        a.changes.items ss)) }
+    ensures recorded { length drives.old ≡ 1 → IsFirstDue drives.old (place, moment) →
+        IfSome result (ReactedBack D.shows host moment drives.old drives.new) }
     ensures moments { IfSome result (λ a. AreAt moment a.changes.items) }
     ensures some { IsSome result }
     ensures nearer { IsFirstDue drives.old (place, moment) → IsNearer moment drives.old drives.new }
@@ -204,10 +201,7 @@ pub(crate) fn tell_all<D: Machine>(drives: &mut [Drive<D>], host: Lines, change:
     ensures told { (ss : List (Station D.State)) → IsBusAt _ D.State D.stands host drives.old ss →
         IsBusAt _ D.State D.stands result drives.new (map (λ s. tell D.State D.step D.says change s) ss) }
     // Also on disks that aren't sound, of a drive alone: so it is of the machine that replays what this one showed.
-    ensures recorded { length drives.old ≡ 1 → (trail : List Shown) × ((later : List Shown) (ss : List (Station Playback)) →
-        IsBusAt _ Playback (IsPlayedBack D.shows (trail ++ later)) host drives.old ss →
-        IsBusAt _ Playback (IsPlayedBack D.shows later) result drives.new
-        (map (λ s. tell Playback played_step played_says change s) ss)) }
+    ensures recorded { length drives.old ≡ 1 → ToldBack D.shows host result change drives.old drives.new }
     ensures kept { AreKept change.moment drives.old drives.new }
     ensures same { length drives.new ≡ length drives.old }
     ensures lasting { numbers D.lasting drives.new ≡ numbers D.lasting drives.old }

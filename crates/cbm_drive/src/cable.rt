@@ -30,12 +30,8 @@ impl<D: Machine, const N: usize> Model for Bus<D, N> {
 }
 
 impl<D: Machine, const N: usize> Bus<D, N> {
-    ghost use Rattle.std.specs.Prelude.{◌≡◌, ◌↔◌, ◌+◌, ◌^◌, ◌<◌, ◌≤◌, true, ℕ, List, [], ◌++◌, length, map, IfSome, IsSome, is_some, Some, None, MatchBool, Err, IfErr, OnOk, MatchOption, MatchResult};
-    ghost use Rattle.cbm_iec.specs.declared.party.Party.{Party};
-    ghost use Rattle.cbm_session.specs.Handed.{AllReact};
-    ghost use Rattle.cbm_session.specs.Playing.{Station, tell, drive_events, at_rest};
-    ghost use Rattle.cbm_session.specs.Sessions.{AllUnlike, IsBus};
-    ghost use Rattle.cbm_drive.specs.Kept.{HasKept};
+    ghost use Rattle.std.specs.Prelude.{◌≡◌, ◌↔◌, ◌+◌, ◌^◌, ◌<◌, ◌≤◌, true, ℕ, List, [], length, map, IfSome, IsSome, is_some, Some, None, MatchBool, Err, IfErr, OnOk, MatchOption};
+    ghost use Rattle.cbm_session.specs.Playing.{Station, tell};
     ghost use Rattle.cbm_drive.specs.Silence.{AnyShows, AreSilent};
     ghost use Rattle.cbm_drive.specs.Seats.{AreIdle, AreInTime, AreResting, IsBusAt, numbers};
     ghost use Rattle.cbm_drive.specs.Cables.{all_free, IsDueFirst};
@@ -43,7 +39,8 @@ impl<D: Machine, const N: usize> Bus<D, N> {
     ghost use Rattle.cbm_drive.specs.Ordered.{fault_of};
     ghost use Rattle.cbm_drive.specs.declared.fault.PlayFault.{PlayFault};
     ghost use Rattle.cbm_drive.specs.declared.fault.PlayFault.TheVariants.{Memory};
-    ghost use Rattle.cbm_drive.specs.Played.{HasSettled, HasPlayed, IsPlayCut, HasHanded};
+    ghost use Rattle.cbm_drive.specs.Played.{HasSettled};
+    ghost use Rattle.cbm_drive.specs.Turning.{HasShown, HasPlayedOn, HandsEach, KeepsSessions, ToldBack, ShownBack};
     ghost use Rattle.cbm_drive.specs.Playback.{Shown, Playback, IsPlayedBack, played_says, played_step};
     ghost use Rattle.cbm_drive.specs.Progress.{AreKept, IsNearer, left};
     ghost use Rattle.cbm_drive.specs.Reactions.{AreAt, HasReacted};
@@ -101,10 +98,7 @@ impl<D: Machine, const N: usize> Bus<D, N> {
         ensures told { (ss : List (Station D.State)) → IsBusAt _ D.State D.stands self.old.host self.old.drives ss →
             IsBusAt _ D.State D.stands self.new.host self.new.drives (map (λ s. tell D.State D.step D.says change s) ss) }
         // Also on disks that aren't sound, of a drive alone: so it is of the machine that replays what this one showed.
-        ensures recorded { N ≡ 1 → (trail : List Shown) × ((later : List Shown) (ss : List (Station Playback)) →
-            IsBusAt _ Playback (IsPlayedBack D.shows (trail ++ later)) self.old.host self.old.drives ss →
-            IsBusAt _ Playback (IsPlayedBack D.shows later) self.new.host self.new.drives
-            (map (λ s. tell Playback played_step played_says change s) ss)) }
+        ensures recorded { N ≡ 1 → ToldBack D.shows self.old.host self.new.host change self.old.drives self.new.drives }
         // What was due is still due, or something later, or nothing, whatever the machines represent.
         ensures kept { AreKept change.moment self.old.drives self.new.drives }
         ensures lasting { numbers D.lasting self.new.drives ≡ numbers D.lasting self.old.drives }
@@ -150,19 +144,10 @@ impl<D: Machine, const N: usize> Bus<D, N> {
     pub(crate) fn first_shown(&mut self, limit: u64) -> Option<(u64, Answer)>
         requires { limit < 2 ^ 60 }
         ensures played { (ss : List (Station D.State)) (n until : ℕ) →
-            IsBusAt _ D.State D.stands self.old.host self.old.drives ss → n ≤ until → limit ≤ until → MatchOption result
-            (HasSettled _ D.State D.stands D.step D.says self.old.host until self.new.drives [] [] n ss)
-            (λ r. HasSettled _ D.State D.stands D.step D.says self.old.host (r.0 + 1) self.new.drives []
-            (drive_events r.1.device r.1.changes.items) n ss) }
+            IsBusAt _ D.State D.stands self.old.host self.old.drives ss → n ≤ until → limit ≤ until →
+            HasShown _ D.State D.stands D.step D.says self.old.host until self.new.drives n ss result }
         // Also on disks that aren't sound, of a drive alone: so it is of the machine that replays what this one showed.
-        ensures recorded { N ≡ 1 → (trail : List Shown) × ((later : List Shown) (ss : List (Station Playback)) →
-            IsBusAt _ Playback (IsPlayedBack D.shows (trail ++ later)) self.old.host self.old.drives ss →
-            ((n until : ℕ) → n ≤ until → limit ≤ until → MatchOption result
-            (HasSettled _ Playback (IsPlayedBack D.shows later) played_step played_says self.old.host until self.new.drives
-            [] [] n ss)
-            (λ r. HasSettled _ Playback (IsPlayedBack D.shows later) played_step played_says self.old.host (r.0 + 1)
-            self.new.drives [] (drive_events r.1.device r.1.changes.items) n ss))
-            × (AnyShows Playback played_step played_says limit ss → IsSome result)) }
+        ensures recorded { N ≡ 1 → ShownBack D.shows self.old.host limit self.old.drives self.new.drives result }
         ensures before { IfSome result (λ r. r.0 < limit) }
         ensures shows { IfSome result (λ r. r.1.changes.items ≡ [] → ⊥) }
         ensures settled { result ≡ None → AreInTime limit self.new.drives }
@@ -226,22 +211,16 @@ impl<D: Machine, const N: usize> Bus<D, N> {
         ensures settled { OnOk result (AreInTime (end + 1) self.new.drives) }
         ensures lasting { numbers D.lasting self.new.drives ≡ numbers D.lasting self.old.drives }
         ensures played { (ss : List (Station D.State)) → fault_of 0 0 end changes.now ≡ None →
-            IsBusAt _ D.State D.stands self.old.host self.old.drives ss → MatchResult result
-            (λ x. HasPlayed _ D.State D.stands D.step D.says self.new.host (end + 1) self.new.drives events.old.items
-            events.new.items changes.now ss)
-            (λ f. IsPlayCut _ D.State D.stands D.step D.says self.new.host self.new.drives events.old.items
-            events.new.items changes.now ss) }
+            IsBusAt _ D.State D.stands self.old.host self.old.drives ss →
+            HasPlayedOn _ D.State D.stands D.step D.says self.new.host (end + 1) self.new.drives events.old.items
+            events.new.items changes.now ss result }
         // Whether or not the host keeps any timing, from rest:
-        ensures handed { (bs : List Party) (ms : ℕ → D.State) → AllUnlike bs → AllReact bs →
-            IsBusAt _ D.State D.stands self.old.host self.old.drives (at_rest D.State D.step D.says ms bs) → OnOk result
-            (HasHanded _ D.State D.stands D.step D.says self.new.host end self.new.drives events.old.items
-            events.new.items changes.now bs ms) }
+        ensures handed { HandsEach _ D.State D.stands D.step D.says self.old self.new end events.old.items
+            events.new.items changes.now result }
         // From rest, under a host that keeps the bus's timing: a beginning of a session in which each byte talked is the
         // machine's answer, and no reaction is late.
-        ensures kept { (bs : List Party) (ms : ℕ → D.State) → fault_of 0 0 end changes.now ≡ None → IsBus bs →
-            IsBusAt _ D.State D.stands self.old.host self.old.drives (at_rest D.State D.step D.says ms bs) →
-            OnOk result (HasKept _ D.State D.stands D.step D.says bs ms self.new.host end self.new.drives events.old.items
-            events.new.items) }
+        ensures kept { KeepsSessions _ D.State D.stands D.step D.says self.old self.new end events.old.items
+            events.new.items changes.now result }
     {
         if let Some(fault) = first_fault(changes, 0, 0, end) {
             return Err(fault);

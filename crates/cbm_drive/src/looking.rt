@@ -1,9 +1,8 @@
 //! Looking ahead: whether a drive changes a line before a limit.
 
-ghost use Rattle.std.specs.Prelude.{◌≡◌, ◌+◌, ◌<◌, ◌≤◌, ◌^◌, ℕ, Bool, Option, List, [], ◌++◌, length, None, IfSome, IsSome, MatchBool, MatchOption};
+ghost use Rattle.std.specs.Prelude.{◌≡◌, ◌<◌, ◌≤◌, ◌^◌, ℕ, Option, List, [], length, None, IfSome, IsSome, MatchBool};
 ghost use Rattle.std.specs.List.{AllZip};
-ghost use Rattle.cbm_session.specs.Playing.{Station, drive_events};
-ghost use Rattle.cbm_drive.specs.Played.{HasSettled};
+ghost use Rattle.cbm_session.specs.Playing.{Station};
 ghost use Rattle.cbm_drive.specs.Playback.{Shown, Playback, IsPlayedBack, played_says, played_step};
 ghost use Rattle.cbm_drive.specs.Progress.{left};
 ghost use Rattle.cbm_drive.specs.Reactions.{AreAt};
@@ -60,18 +59,9 @@ pub(crate) fn first_shown<D: Machine>(
     requires few { length drives.old ≤ 4 }
     requires limit { limit < 2 ^ 60 }
     ensures played { (ss : List (Station D.State)) (n until : ℕ) → IsBusAt _ D.State D.stands host drives.old ss → n ≤ until →
-        limit ≤ until → MatchOption result
-        (HasSettled _ D.State D.stands D.step D.says host until drives.new [] [] n ss)
-        (λ r. HasSettled _ D.State D.stands D.step D.says host (r.0 + 1) drives.new []
-        (drive_events r.1.device r.1.changes.items) n ss) }
+        limit ≤ until → HasShown _ D.State D.stands D.step D.says host until drives.new n ss result }
     // Also on disks that aren't sound, of a drive alone: so it is of the machine that replays what this one showed.
-    ensures recorded { length drives.old ≡ 1 → (trail : List Shown) × ((later : List Shown) (ss : List (Station Playback)) →
-        IsBusAt _ Playback (IsPlayedBack D.shows (trail ++ later)) host drives.old ss →
-        ((n until : ℕ) → n ≤ until → limit ≤ until → MatchOption result
-        (HasSettled _ Playback (IsPlayedBack D.shows later) played_step played_says host until drives.new [] [] n ss)
-        (λ r. HasSettled _ Playback (IsPlayedBack D.shows later) played_step played_says host (r.0 + 1) drives.new []
-        (drive_events r.1.device r.1.changes.items) n ss))
-        × (AnyShows Playback played_step played_says limit ss → IsSome result)) }
+    ensures recorded { length drives.old ≡ 1 → ShownBack D.shows host limit drives.old drives.new result }
     ensures before { IfSome result (λ r. r.0 < limit) }
     ensures shows { IfSome result (λ r. r.1.changes.items ≡ [] → ⊥) }
     ensures settled { result ≡ None → AreInTime limit drives.new }

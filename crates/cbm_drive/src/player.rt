@@ -31,7 +31,7 @@ impl Model for Player {
 }
 
 impl Player {
-    ghost use Rattle.std.specs.Prelude.{◌≡◌, ◌+◌, ◌-◌, ◌∷◌, ◌++◌, ◌<◌, ◌≤◌, ◌^◌, ℕ, List, [], is_some, not, ◌&&◌, false, None, Some, Ok, Err, if◌then◌else◌, nat_lt, min, IfSome, MatchOption, IsSome};
+    ghost use Rattle.std.specs.Prelude.{◌≡◌, ◌+◌, ◌-◌, ◌∷◌, ◌++◌, ◌<◌, ◌≤◌, ◌^◌, ℕ, List, [], is_some, not, ◌&&◌, None, Some, Ok, Err, min, IfSome, MatchOption, IsSome};
     ghost use Rattle.cbm_session.specs.Playing.{Station, drive_events, at_rest, IsKept};
     ghost use Rattle.cbm_session.specs.Sessions.{IsBus};
     ghost use Rattle.cbm_session.specs.Timing.{HostKeeps};
@@ -40,7 +40,8 @@ impl Player {
     ghost use Rattle.cbm_drive.specs.Halves.{has_nothing, half_alone, half_events};
     ghost use Rattle.cbm_drive.specs.Reactions.{AreAt};
     ghost use Rattle.cbm_drive.specs.Seats.{AreLater, numbers};
-    ghost use Rattle.cbm_drive.specs.Players.{at_start, pending, at_most, IsWaitingFrom, IsTurnOf, IsBehind, IsDrives, IsGivenBefore, IsAfter, HasGiven, IsStill, IsFinished};
+    ghost use Rattle.cbm_drive.specs.Players.{at_start, pending, at_most, IsWaitingFrom, IsTurnOf, IsBehind, IsDrives, IsGivenBefore, IsAfter};
+    ghost use Rattle.cbm_drive.specs.Turning.{GivesNext, GivesOne, Finishes, GivesNextBack, GivesOneBack, FinishesBack};
     ghost use Rattle.cbm_iec.specs.declared.event.Who.TheVariants.{Drive};
     ghost use Rattle.cbm_drive.specs.declared.fault.PlayFault.TheVariants.{Backwards};
 
@@ -94,19 +95,10 @@ impl Player {
         upto: u64,
     ) -> Option<Event>
         requires { upto < 2 ^ 59 - 1 }
-        ensures given { (n : ℕ) (ss : List (Station D.State)) (es : List Event) →
-            (a : IsAfter _ D.State D.stands D.step D.says self.old bus.old n ss es) → MatchOption result
-            (IsStill _ D.State D.stands D.step D.says self.old self.new bus.old bus.new upto a.stations)
-            (HasGiven _ D.State D.stands D.step D.says self.new bus.new upto n ss es) }
+        ensures given { GivesNext _ D.State D.stands D.step D.says self.old self.new bus.old bus.new upto result }
         // Also on disks that aren't sound, of a drive alone: a record of what it offered after each act of this call, and the
         // same holds of the machine that replays this record.
-        ensures recorded { N ≡ 1 → (trail : List Shown) × ((later : List Shown) (n : ℕ) (ss : List (Station Playback))
-            (es : List Event) →
-            (a : IsAfter _ Playback (IsPlayedBack D.shows (trail ++ later)) played_step played_says self.old bus.old n ss es) →
-            MatchOption result ((trail ≡ []) ×
-            IsStill _ Playback (IsPlayedBack D.shows later) played_step played_says self.old self.new bus.old bus.new upto
-            a.stations)
-            (HasGiven _ Playback (IsPlayedBack D.shows later) played_step played_says self.new bus.new upto n ss es)) }
+        ensures recorded { N ≡ 1 → GivesNextBack D.shows self.old self.new bus.old bus.new upto result }
         ensures turn { IfSome result (λ e. IsTurnOf e.who e.change self.old.waiting self.new.waiting) }
         ensures waiting { IsWaitingFrom self.new.from self.new.waiting }
         ensures second { IfSome result (λ e. IsGivenBefore (upto + 1) self.new.second) }
@@ -184,18 +176,9 @@ impl Player {
         requires none { self.old.waiting ≡ None }
         requires from { self.old.from ≤ upto + 1 }
         requires upto { upto < 2 ^ 59 - 1 }
-        ensures given { (n : ℕ) (ss : List (Station D.State)) (es : List Event) →
-            IsAfter _ D.State D.stands D.step D.says self.old bus.old n ss es → MatchOption result
-            (IsFinished _ D.State D.stands D.step D.says self.new bus.new upto n ss es)
-            (λ e. IsAfter _ D.State D.stands D.step D.says self.new bus.new n ss (es ++ e ∷ [])) }
+        ensures given { Finishes _ D.State D.stands D.step D.says self.old self.new bus.old bus.new upto result }
         // Also on disks that aren't sound, of a drive alone: of the machine that replays what it offered.
-        ensures recorded { N ≡ 1 → (trail : List Shown) × ((later : List Shown) (n : ℕ) (ss : List (Station Playback))
-            (es : List Event) →
-            IsAfter _ Playback (IsPlayedBack D.shows (trail ++ later)) played_step played_says self.old bus.old n ss es →
-            MatchOption result
-            (IsFinished _ Playback (IsPlayedBack D.shows later) played_step played_says self.new bus.new upto n ss es)
-            (λ e. IsAfter _ Playback (IsPlayedBack D.shows later) played_step played_says self.new bus.new n ss
-            (es ++ e ∷ []))) }
+        ensures recorded { N ≡ 1 → FinishesBack D.shows self.old self.new bus.old bus.new upto result }
         ensures drive { IfSome result (λ e. IsDrives e.who) }
         ensures second { IsGivenBefore (upto + 1) self.new.second }
         ensures from { self.new.from ≤ upto + 1 }
@@ -237,17 +220,10 @@ impl Player {
         requires waiting { self.old.waiting ≡ Some change }
         requires from { self.old.from ≤ change.moment }
         requires moment { change.moment < 2 ^ 59 }
-        ensures given { (n : ℕ) (ss : List (Station D.State)) (es : List Event) →
-            IsAfter _ D.State D.stands D.step D.says self.old bus.old n ss es →
-            IfSome result (HasGiven _ D.State D.stands D.step D.says self.new bus.new change.moment n ss es) × IsSome result }
+        ensures given { GivesOne _ D.State D.stands D.step D.says self.old self.new bus.old bus.new change.moment result }
         // Also on disks that aren't sound, of a drive alone: a record of what it offered after each act of this call, and the
         // same holds of the machine that replays this record.
-        ensures recorded { N ≡ 1 → (trail : List Shown) × ((later : List Shown) (n : ℕ) (ss : List (Station Playback))
-            (es : List Event) →
-            IsAfter _ Playback (IsPlayedBack D.shows (trail ++ later)) played_step played_says self.old bus.old n ss es →
-            IfSome result
-            (HasGiven _ Playback (IsPlayedBack D.shows later) played_step played_says self.new bus.new change.moment n ss es)
-            × IsSome result) }
+        ensures recorded { N ≡ 1 → GivesOneBack D.shows self.old self.new bus.old bus.new change.moment result }
         ensures turn { IfSome result (λ e. IsTurnOf e.who e.change self.old.waiting self.new.waiting) }
         ensures waiting { IsWaitingFrom self.new.from self.new.waiting }
         ensures comes { IsSome result }
@@ -282,19 +258,10 @@ impl Player {
         requires waiting { IsWaitingFrom (upto + 1) self.old.waiting }
         requires from { IsWaitingFrom self.old.from self.old.waiting }
         requires upto { upto < 2 ^ 59 - 1 }
-        ensures given { (n : ℕ) (ss : List (Station D.State)) (es : List Event) →
-            (a : IsAfter _ D.State D.stands D.step D.says self.old bus.old n ss es) → MatchOption result
-            (IsStill _ D.State D.stands D.step D.says self.old self.new bus.old bus.new upto a.stations)
-            (HasGiven _ D.State D.stands D.step D.says self.new bus.new upto n ss es) }
+        ensures given { GivesNext _ D.State D.stands D.step D.says self.old self.new bus.old bus.new upto result }
         // Also on disks that aren't sound, of a drive alone: a record of what it offered after each act of this call, and the
         // same holds of the machine that replays this record.
-        ensures recorded { N ≡ 1 → (trail : List Shown) × ((later : List Shown) (n : ℕ) (ss : List (Station Playback))
-            (es : List Event) →
-            (a : IsAfter _ Playback (IsPlayedBack D.shows (trail ++ later)) played_step played_says self.old bus.old n ss es) →
-            MatchOption result ((trail ≡ []) ×
-            IsStill _ Playback (IsPlayedBack D.shows later) played_step played_says self.old self.new bus.old bus.new upto
-            a.stations)
-            (HasGiven _ Playback (IsPlayedBack D.shows later) played_step played_says self.new bus.new upto n ss es)) }
+        ensures recorded { N ≡ 1 → GivesNextBack D.shows self.old self.new bus.old bus.new upto result }
         ensures second { IfSome result (λ e. IsGivenBefore (upto + 1) self.new.second) }
         ensures turn { IfSome result (λ e. IsTurnOf e.who e.change self.old.waiting self.new.waiting) }
         ensures waiting { IsWaitingFrom self.new.from self.new.waiting }

@@ -1,10 +1,11 @@
 //! Changes of a host are played on a bus: the events come one after the other.
 
-ghost use Rattle.std.specs.Prelude.{◌≡◌, ◌+◌, ◌≤◌, ◌<◌, ◌^◌, ◌++◌, ℕ, List, length, OnOk, MatchResult, vec_len, vec_capacity};
+ghost use Rattle.std.specs.Prelude.{◌≡◌, ◌+◌, ◌≤◌, ◌<◌, ◌^◌, ◌++◌, ℕ, List, length, OnOk, vec_len, vec_capacity};
 ghost use Rattle.cbm_session.specs.Playing.{Station, drive_events};
 ghost use Rattle.cbm_drive.specs.Ordered.{AreOrdered};
-ghost use Rattle.cbm_drive.specs.Played.{HasSettled, HasPlayed, IsPlayCut};
+ghost use Rattle.cbm_drive.specs.Played.{HasSettled};
 ghost use Rattle.cbm_drive.specs.Seats.{AreInTime, IsBusAt, numbers};
+ghost use Rattle.cbm_drive.specs.Turning.{HasPlayedOn};
 
 use crate::bus::{first_due, react, tell_all};
 use crate::drive::Drive;
@@ -72,11 +73,8 @@ pub(crate) fn play_on<D: Machine>(
     ensures settled { OnOk result (AreInTime (end + 1) drives.new) }
     ensures lasting { numbers D.lasting drives.new ≡ numbers D.lasting drives.old }
     ensures played { (ss : List (Station D.State)) → IsBusAt _ D.State D.stands host.old drives.old ss →
-        MatchResult result
-        (λ x. HasPlayed _ D.State D.stands D.step D.says host.new (end + 1) drives.new events.old.items events.new.items
-        changes.now ss)
-        (λ e. IsPlayCut _ D.State D.stands D.step D.says host.new drives.new events.old.items events.new.items changes.now
-        ss) }
+        HasPlayedOn _ D.State D.stands D.step D.says host.new (end + 1) drives.new events.old.items events.new.items
+        changes.now ss result }
 {
     for change in changes {
         settle(drives, *host, change.moment, events)?;

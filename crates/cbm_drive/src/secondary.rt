@@ -2,6 +2,8 @@
 ghost use Rattle.std.specs.Prelude.{◌≡◌, ◌≤◌, IfSome};
 ghost use Rattle.cbm_drive.specs.Addressing.{secondary_of, channel_of};
 
+use cbm_iec::attention::{CLOSE, DATA, OPEN};
+
 /// What a byte in attention asks of a drive that listens or talks, and on which channel, 0 to 15.
 #[derive(Clone, Copy, Debug, PartialEq, Eq, Drop)]
 pub enum Secondary {
@@ -21,9 +23,9 @@ impl Secondary {
     {
         let channel = byte % 16;
         match byte - channel {
-            0x60 => Some(Secondary::Data(channel)),
-            0xe0 => Some(Secondary::Close(channel)),
-            0xf0 => Some(Secondary::Open(channel)),
+            DATA => Some(Secondary::Data(channel)),
+            CLOSE => Some(Secondary::Close(channel)),
+            OPEN => Some(Secondary::Open(channel)),
             _ => None,
         }
     }

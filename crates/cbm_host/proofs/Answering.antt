@@ -15,7 +15,7 @@ use Rattle.cbm_host.proofs.Counted.{acts_from, taken_from, last_from}
 use Rattle.cbm_host.proofs.Fronts.{said_from, said_append, none_front, OnlyLast, SaysEach, IsFrontSaid, SaysFront, front_said}
 use Rattle.cbm_host.proofs.Requests.{plays_requests}
 use Rattle.cbm_host.proofs.Saying.{Marks, by_drive, heard_marks, said_marks, leave_marks, AreSmall, Counts, SaysLast, SaysMost, IsSaid, turned_marks, sends_counts, takes_counts, closes_counts}
-use Rattle.cbm_host.specs.Attentions.{listen, unlisten, talk, untalk, data_on, close_on}
+use Rattle.cbm_iec.specs.Attentions.{listen, unlisten, talk, untalk, data_on, close_on}
 use Rattle.cbm_host.specs.CarriedOut.{heard, spoken, said as talked, called, left_by, acts_of, IsTakenUpTo, IsTakenBy, AreBytes, SaysOn, SaysFew, IsShort}
 use Rattle.cbm_host.specs.Engines.{engine_at, channel_of, most_bytes, most_of, is_last}
 use Rattle.cbm_host.specs.Requests.{sending, Said, Mute, UpToLast, UpToMost, count_of, IsSaidFor, longest, pieces_of, IsPlayed}

@@ -15,7 +15,7 @@ use Rattle.cbm_host.proofs.Bytewise.{bytewise}
 use Rattle.cbm_host.proofs.Counted.{marks_of, marks_append, taken_from, last_from, taken_are, last_are}
 use Rattle.cbm_host.proofs.Fronts.{IsFrontSaid, SaysFront, truly, whole, all_runs}
 use Rattle.cbm_host.proofs.Joint.{met}
-use Rattle.cbm_host.specs.Attentions.{listen, unlisten, talk, untalk, data_on, open_on}
+use Rattle.cbm_iec.specs.Attentions.{listen, unlisten, talk, untalk, data_on, open_on}
 use Rattle.cbm_host.specs.Begun.{IsRequestBegun}
 use Rattle.cbm_host.specs.CarriedOut.{heard, called, left_by, acts_of, IsTakenBy, IsShort}
 use Rattle.cbm_host.specs.Engines.{engine_at, channel_of, is_last, most_of}

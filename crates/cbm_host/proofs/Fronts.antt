@@ -10,7 +10,7 @@ use Rattle.cbm_host.proofs.Along.{said_with}
 use Rattle.cbm_host.proofs.Bytewise.{as_byte, bytewise}
 use Rattle.cbm_host.proofs.Counted.{taken_from, last_from}
 use Rattle.cbm_host.proofs.Saying.{Marks}
-use Rattle.cbm_host.specs.Attentions.{talk, data_on}
+use Rattle.cbm_iec.specs.Attentions.{talk, data_on}
 use Rattle.cbm_host.specs.CarriedOut.{spoken, said as talked, called, IsTakenUpTo}
 use Rattle.cbm_host.specs.Engines.{most_of}
 use Rattle.cbm_host.specs.Performed.{taken_with, last_with}

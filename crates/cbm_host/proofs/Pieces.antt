@@ -24,7 +24,7 @@ use Rattle.cbm_host.specs.Engines.{Engined, accepted, sending_on}
 use Rattle.cbm_host.specs.Framed.{frame_for, hushed_for}
 use Rattle.cbm_host.specs.Performing.{Performs, ends, makes, sees, passes}
 use Rattle.cbm_host.specs.Stages.{commanding, leaving}
-use Rattle.cbm_host.specs.Attentions.{untalk}
+use Rattle.cbm_iec.specs.Attentions.{untalk}
 use Rattle.cbm_host.specs.Waits.{ready_wait, answer_wait, phase, silence}
 use Rattle.cbm_host.specs.declared.frame.Frame.TheVariants.{Readying, Sent}
 use Rattle.cbm_host.specs.declared.stage.Behind.{Behind}

@@ -104,7 +104,7 @@ take_less t (Unmarking at) c e d = omega arith
 take_less t (Gathering g) c e d = absurd cc
 take_less t (Accepting at byte last) c e d = by_last last (nat_le e.most 1) refl
   where
-    by_last : (v none : Bool) → nat_le e.most 1 ≡ none → engine_left (if v || none then at_stage (leaving (t + Rattle.cbm_host.specs.Waits.answer_wait) Rattle.cbm_host.specs.Attentions.untalk false true) e else record { stage = Taking Awaiting; left = e.left; most = e.most - 1 }) < 1 + takes_left e.most
+    by_last : (v none : Bool) → nat_le e.most 1 ≡ none → engine_left (if v || none then at_stage (leaving (t + Rattle.cbm_host.specs.Waits.answer_wait) Rattle.cbm_iec.specs.Attentions.untalk false true) e else record { stage = Taking Awaiting; left = e.left; most = e.most - 1 }) < 1 + takes_left e.most
     by_last true none k = omega arith
     by_last false true k = omega arith
     by_last false false k = let some : 2 ≤ e.most = grind (arith, nat_tests, k) in omega (arith, some)

@@ -15,7 +15,7 @@ use Rattle.cbm_host.proofs.Pieces.{at_stage}
 use Rattle.cbm_host.proofs.Playing.{attending, pull_then, command_then, nobody_then, listens, talks, still_listens, still_talks}
 use Rattle.cbm_host.proofs.Sent.{accepted_soon, listener_then}
 use Rattle.cbm_host.proofs.Taken.{byte_time, talker_then, nothing_then, up_to_last_then, as_many_then}
-use Rattle.cbm_host.specs.Attentions.{listen, unlisten, talk, data_on, close_on, open_on}
+use Rattle.cbm_iec.specs.Attentions.{listen, unlisten, talk, data_on, close_on, open_on}
 use Rattle.cbm_host.specs.Engines.{most_bytes}
 use Rattle.cbm_host.specs.Requests.{accept_for, attention, sending, Said, Mute, UpToLast, UpToMost, turned, taking, leave, count_of, IsSaidFor, longest, IsPlayed, PlaysRequests}
 use Rattle.cbm_host.specs.Stages as stages

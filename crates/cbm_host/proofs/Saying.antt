@@ -31,7 +31,7 @@ use Rattle.cbm_host.proofs.Pieces.{nobody_steps, talker_steps, nothing_steps}
 use Rattle.cbm_host.proofs.Playing.{attending, point, frame_byte, untalked, listens, talks, still_listens, still_talks}
 use Rattle.cbm_host.proofs.Sent.{listening}
 use Rattle.cbm_host.proofs.Taken.{leading, told_fits, told_front, nothing_cut, cut_last}
-use Rattle.cbm_host.specs.Attentions.{untalk, unlisten}
+use Rattle.cbm_iec.specs.Attentions.{untalk, unlisten}
 use Rattle.cbm_host.specs.Engines.{is_last}
 use Rattle.cbm_host.specs.Framed.{cells_for, bits_for, start_for, frame_for, told_for, hushed_for}
 use Rattle.cbm_host.specs.Requests.{accept_for, attention, leave, sent, sending, Said, Mute, UpToLast, UpToMost, at_last, up_to_last, at_most, up_to_most, turned, taking}

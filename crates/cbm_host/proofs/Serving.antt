@@ -21,7 +21,7 @@ use Rattle.cbm_drive.specs.declared.secondary.Secondary.TheVariants.{Data, Close
 use Rattle.cbm_file.specs.Waiting.{shown}
 use Rattle.cbm_talk.proofs.Spoken.{says_from, none_said}
 use Rattle.cbm_host.proofs.Statuses.{left_behind, enough, left_short}
-use Rattle.cbm_host.specs.Attentions.{listen as listen_to, unlisten, talk as talk_to, untalk, data_on, open_on}
+use Rattle.cbm_iec.specs.Attentions.{listen as listen_to, unlisten, talk as talk_to, untalk, data_on, open_on}
 use Rattle.cbm_host.specs.CarriedOut.{heard, spoken, said, called, left_by, acts_of, IsTakenUpTo, IsTakenBy, SaysOn, IsShort}
 use Rattle.cbm_host.specs.Engines.{channel_of, most_of}
 use Rattle.cbm_host.specs.Served.{puts, hear, Said, says, status_said, served, at_power_up, IsServed, IsModest}

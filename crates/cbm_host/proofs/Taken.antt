@@ -29,7 +29,7 @@ use Rattle.cbm_host.proofs.Composing.{performs_then}
 use Rattle.cbm_host.proofs.Pieces.{at_stage, talker_performed, nothing_performed, hushed_from, hushed_upto}
 use Rattle.cbm_host.proofs.Playing.{go_on, point, attending, leave_then, untalked}
 use Rattle.cbm_host.proofs.Talks.{bits_count, told_performed}
-use Rattle.cbm_host.specs.Attentions.{untalk}
+use Rattle.cbm_iec.specs.Attentions.{untalk}
 use Rattle.cbm_host.specs.Engines.{Engined, taking_on}
 use Rattle.cbm_host.specs.Framed.{bits_for, told_for, hushed_for}
 use Rattle.cbm_host.specs.Performing.{Performs, ends, sees}

@@ -10,7 +10,7 @@ use Rattle.cbm_session.specs.Playing.{at_rest, IsKept}
 use Rattle.cbm_session.specs.Timing.{HostKeeps}
 use Rattle.cbm_drive.specs.Cables.{Cabled}
 use Rattle.cbm_drive.specs.Seats.{IsBusAt}
-use Rattle.cbm_host.specs.Attentions.{listen, unlisten, talk, untalk, data_on, close_on, open_on}
+use Rattle.cbm_iec.specs.Attentions.{listen, unlisten, talk, untalk, data_on, close_on, open_on}
 use Rattle.cbm_host.specs.Engines.{is_last, sent_by, most_bytes, most_of}
 use Rattle.cbm_host.specs.Requests.{longest}
 use Rattle.cbm_host.specs.declared.request.Request.{Request}

@@ -5,7 +5,7 @@ use Rattle.cbm_iec.specs.declared.line.Line.{Line}
 use Rattle.cbm_iec.specs.declared.line.Line.TheVariants.{Data}
 use Rattle.cbm_iec.specs.declared.line.Way.{Way}
 use Rattle.cbm_iec.specs.declared.line.Way.TheVariants.{Pull}
-use Rattle.cbm_host.specs.Attentions.{listen, unlisten, talk, untalk, data_on, close_on, open_on}
+use Rattle.cbm_iec.specs.Attentions.{listen, unlisten, talk, untalk, data_on, close_on, open_on}
 use Rattle.cbm_host.specs.Stages.{commanding, releasing, leaving, stage_due, stage_made, stage_seen, stage_passed}
 use Rattle.cbm_host.specs.Sending.{frame_seen}
 use Rattle.cbm_host.specs.Taking.{take_made, gathers}

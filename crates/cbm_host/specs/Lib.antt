@@ -1,5 +1,5 @@
 pub mod Waits
-pub mod Attentions
+pub mod AttentionBytes
 pub mod Sending
 pub mod Taking
 pub mod Stages
@@ -17,3 +17,4 @@ pub mod Begun
 pub mod Hosted
 pub mod Recorded
 pub mod AnyDisk
+pub mod Requested

@@ -11,7 +11,7 @@ use Rattle.cbm_session.specs.Seats.{lines}
 use Rattle.cbm_session.specs.Sessions.{rest, Linked, session_steps, IsDrive}
 use Rattle.cbm_session.specs.Steps.{Step, moment_of}
 use Rattle.cbm_iec.specs.declared.party.Role.TheVariants.{Absent}
-use Rattle.cbm_host.specs.Attentions.{listen, unlisten, talk, untalk, data_on, close_on, open_on}
+use Rattle.cbm_iec.specs.Attentions.{listen, unlisten, talk, untalk, data_on, close_on, open_on}
 use Rattle.cbm_host.specs.Engines.{Engined, engine_at, is_last, channel_of, sent_by, most_bytes, most_of}
 use Rattle.cbm_host.specs.Framed.{frame_for, told_for, hushed_for}
 use Rattle.cbm_host.specs.Performing.{Performs}

@@ -6,7 +6,8 @@ use Rattle.cbm_iec.specs.declared.line.Line.{Line}
 use Rattle.cbm_iec.specs.declared.line.Line.TheVariants.{Atn, Clock, Data}
 use Rattle.cbm_iec.specs.declared.line.Way.{Way}
 use Rattle.cbm_iec.specs.declared.line.Way.TheVariants.{Pull, Free}
-use Rattle.cbm_host.specs.Attentions.{first_of, rest_of, untalk}
+use Rattle.cbm_host.specs.AttentionBytes.{first_of, rest_of}
+use Rattle.cbm_iec.specs.Attentions.{untalk}
 use Rattle.cbm_host.specs.Sending.{frame_change, frame_made, frame_seen}
 use Rattle.cbm_host.specs.Taking.{take_change, take_made, take_seen}
 use Rattle.cbm_host.specs.Waits.{ready_wait, answer_wait, phase, turn_wait, silence}

@@ -1,22 +1,7 @@
 //! The bytes of an attention.
 
 ghost use Rattle.std.specs.Prelude.{◌≡◌};
-ghost use Rattle.cbm_host.specs.Attentions.{first_of, rest_of};
-
-/// LISTEN, to be joined with a device number.
-pub(crate) const LISTEN: u8 = 0x20;
-/// UNLISTEN: no drive listens any more.
-pub(crate) const UNLISTEN: u8 = 0x3f;
-/// TALK, to be joined with a device number.
-pub(crate) const TALK: u8 = 0x40;
-/// UNTALK: no drive talks any more.
-pub(crate) const UNTALK: u8 = 0x5f;
-/// The secondary address for bytes, to be joined with a channel.
-pub(crate) const DATA: u8 = 0x60;
-/// The secondary address of CLOSE, to be joined with a channel.
-pub(crate) const CLOSE: u8 = 0xe0;
-/// The secondary address of OPEN, to be joined with a channel.
-pub(crate) const OPEN: u8 = 0xf0;
+ghost use Rattle.cbm_host.specs.AttentionBytes.{first_of, rest_of};
 
 /// The bytes of an attention that are still to be sent: at least one.
 #[derive(Clone, Copy, Drop)]

@@ -1,6 +1,6 @@
 //! A request on the wires: what the host does next, by what came.
 
-use crate::commands::{CLOSE, Commands, DATA, LISTEN, OPEN, TALK, UNLISTEN, UNTALK};
+use crate::commands::Commands;
 use crate::due::Due;
 use crate::frame::Frame;
 use crate::left::Left;

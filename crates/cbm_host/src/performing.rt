@@ -1,22 +1,18 @@
 //! A request carried out on the bus.
 
-ghost use Rattle.std.specs.Prelude.{◌≡◌, ◌+◌, ◌<◌, ◌≤◌, ◌++◌, ◌^◌, ℕ, List, [], ◌∷◌, true, IfOk, IfErr, OnOk, MatchBool, MatchResult};
+ghost use Rattle.std.specs.Prelude.{◌≡◌, ◌+◌, ◌<◌, ◌≤◌, ◌^◌, ℕ, true, IfOk};
 ghost use Rattle.cbm_iec.specs.declared.event.Event.{Event};
-ghost use Rattle.cbm_session.specs.Playing.{Station, at_rest};
 ghost use Rattle.cbm_session.specs.Seats.{at_pace};
 ghost use Rattle.cbm_session.specs.Sessions.{IsDrive};
-ghost use Rattle.cbm_drive.specs.Seats.{IsBusAt};
 ghost use Rattle.cbm_drive.specs.declared.fault.PlayFault.TheVariants.{Memory};
-ghost use Rattle.cbm_host.specs.Engines.{Engined, channel_of, engine_at};
-ghost use Rattle.cbm_host.specs.CarriedOut.{IsShort, HasCarriedOut};
+ghost use Rattle.cbm_host.specs.Engines.{channel_of, engine_at};
 ghost use Rattle.cbm_iec.specs.declared.pace.Pace.TheVariants.{Profile};
 ghost use Rattle.cbm_iec.specs.declared.party.Party.{Party};
 ghost use Rattle.cbm_host.specs.Progress.{left_of};
 ghost use Rattle.cbm_host.specs.Requests.{longest};
-ghost use Rattle.cbm_host.specs.Performed.{IsPerforming, IsCutShort, HasAddedUpTo, HasPerformed, HasRun};
-ghost use Rattle.cbm_drive.specs.Playback.{Shown, Playback};
-ghost use Rattle.cbm_host.specs.Recorded.{IsPerformingBack, HasPerformedBack, IsCutShortBack};
-ghost use Rattle.cbm_host.specs.AnyDisk.{IsAtRest, IsCarriedOutAnyway, IsCutShortAnyway};
+ghost use Rattle.cbm_host.specs.Requested.{CarriesOut, KeepsMoments, LacksMemory, CarriesOutAnyway, RunsOut, RunsOutBack, Steps, StepsBack, IsCutOnTheWay};
+ghost use Rattle.cbm_host.specs.Performed.{HasAddedUpTo};
+ghost use Rattle.cbm_host.specs.AnyDisk.{IsAtRest};
 
 use crate::done::Done;
 use crate::performer::Performer;
@@ -40,26 +36,18 @@ pub fn perform<D: Machine, const N: usize>(
     requires device { device < 31 }
     requires channel { channel_of request ≤ 15 }
     ensures carried_out { (v : Party) (ms : ℕ → D.State) → let b = at_pace Profile v in IsDrive b → b.device ≡ device →
-        IsShort D.State D.step D.says device (ms device) request.entry →
-        IsBusAt _ D.State D.stands bus.old.host bus.old.drives (at_rest D.State D.step D.says ms (b ∷ [])) →
-        IfOk result (λ done. HasCarriedOut _ D.State D.stands D.step D.says b ms start request.entry bus.new
-        events.old.items events.new.items done.bytes.items done.last done.end) }
+        CarriesOut _ D.State D.stands D.step D.says b device ms start request.entry bus.old bus.new events.old.items
+        events.new.items result }
     // Each change of the host came at the moment that the request's stages say, and so did the end.
-    ensures moments { (ss : List (Station D.State)) → IsBusAt _ D.State D.stands bus.old.host bus.old.drives ss →
-        IfOk result (λ done. HasRun D.State D.step D.says (engine_at start device request.entry) (start + 250000000)
-        events.old.items events.new.items done.bytes.items done.last done.end ss) }
+    ensures moments { KeepsMoments _ D.State D.stands D.step D.says (engine_at start device request.entry)
+        (start + 250000000) bus.old events.old.items events.new.items result }
     // On any disk a machine plays back what the drive showed, and for that machine the request was carried out.
     ensures recorded { (v : Party) → let b = at_pace Profile v in IsDrive b → b.device ≡ device → IsAtRest D.shows b bus.old →
-        MatchResult result
-        (λ done. IsCarriedOutAnyway D.shows b start request.entry bus.old bus.new events.old.items events.new.items
-        done.bytes.items done.last done.end)
-        (λ e. IsCutShortAnyway D.shows b bus.old bus.new events.old.items events.new.items) }
+        CarriesOutAnyway D.shows b start request.entry bus.old bus.new events.old.items events.new.items result }
     ensures end { IfOk result (λ done. done.end ≤ start + 250000000) }
     // Whatever the machine represents, nothing happens later than that.
     ensures within { HasAddedUpTo (start + 250000000) events.old.items events.new.items }
-    ensures memory { (ss : List (Station D.State)) → IsBusAt _ D.State D.stands bus.old.host bus.old.drives ss →
-        IfErr result (λ e. (e ≡ Memory) ×
-        IsCutShort _ D.State D.stands D.step D.says bus.new events.old.items events.new.items ss) }
+    ensures memory { LacksMemory _ D.State D.stands D.step D.says bus.old bus.new events.old.items events.new.items result }
 {
     perform_at(alloc, Pace::Profile, bus, start, device, request, events)
 }
@@ -80,26 +68,18 @@ pub fn perform_at<D: Machine, const N: usize>(
     requires device { device < 31 }
     requires channel { channel_of request ≤ 15 }
     ensures carried_out { (b : Party) (ms : ℕ → D.State) → IsDrive b → b.device ≡ device → b.pace ≡ pace →
-        IsShort D.State D.step D.says device (ms device) request.entry →
-        IsBusAt _ D.State D.stands bus.old.host bus.old.drives (at_rest D.State D.step D.says ms (b ∷ [])) →
-        IfOk result (λ done. HasCarriedOut _ D.State D.stands D.step D.says b ms start request.entry bus.new
-        events.old.items events.new.items done.bytes.items done.last done.end) }
+        CarriesOut _ D.State D.stands D.step D.says b device ms start request.entry bus.old bus.new events.old.items
+        events.new.items result }
     // Each change of the host came at the moment that the request's stages say, and so did the end.
-    ensures moments { (ss : List (Station D.State)) → IsBusAt _ D.State D.stands bus.old.host bus.old.drives ss →
-        IfOk result (λ done. HasRun D.State D.step D.says (engine_at start device request.entry) (start + longest pace)
-        events.old.items events.new.items done.bytes.items done.last done.end ss) }
+    ensures moments { KeepsMoments _ D.State D.stands D.step D.says (engine_at start device request.entry)
+        (start + longest pace) bus.old events.old.items events.new.items result }
     // On any disk a machine plays back what the drive showed, and for that machine the request was carried out.
     ensures recorded { (b : Party) → IsDrive b → b.device ≡ device → b.pace ≡ pace → IsAtRest D.shows b bus.old →
-        MatchResult result
-        (λ done. IsCarriedOutAnyway D.shows b start request.entry bus.old bus.new events.old.items events.new.items
-        done.bytes.items done.last done.end)
-        (λ e. IsCutShortAnyway D.shows b bus.old bus.new events.old.items events.new.items) }
+        CarriesOutAnyway D.shows b start request.entry bus.old bus.new events.old.items events.new.items result }
     ensures end { IfOk result (λ done. done.end ≤ start + longest pace) }
     // Whatever the machine represents, nothing happens later than that.
     ensures within { HasAddedUpTo (start + longest pace) events.old.items events.new.items }
-    ensures memory { (ss : List (Station D.State)) → IsBusAt _ D.State D.stands bus.old.host bus.old.drives ss →
-        IfErr result (λ e. (e ≡ Memory) ×
-        IsCutShort _ D.State D.stands D.step D.says bus.new events.old.items events.new.items ss) }
+    ensures memory { LacksMemory _ D.State D.stands D.step D.says bus.old bus.new events.old.items events.new.items result }
 {
     let mut performer = Performer::with_pace(start, device, request, pace);
     let mut done = Done {
@@ -124,22 +104,12 @@ fn run<D: Machine, const N: usize>(
     done: &mut Done,
 ) -> Result<(), AllocError>
     requires one { N ≡ 1 }
-    ensures performed { (e : Engined) (limit : ℕ) (old : List Event) (ss : List (Station D.State)) →
-        IsPerforming _ D.State D.stands D.step D.says e limit performer.old bus.old old events.old.items
-        done.old.bytes.items done.old.last ss →
-        OnOk result (HasPerformed _ D.State D.stands D.step D.says e limit performer.new bus.new old events.new.items
-        done.new.bytes.items done.new.last ss) }
-    ensures memory { (e : Engined) (limit : ℕ) (old : List Event) (ss : List (Station D.State)) →
-        IsPerforming _ D.State D.stands D.step D.says e limit performer.old bus.old old events.old.items
-        done.old.bytes.items done.old.last ss →
-        IfErr result (λ x. IsCutShort _ D.State D.stands D.step D.says bus.new old events.new.items ss) }
-    ensures recorded { (trail : List Shown) × ((later : List Shown) (e : Engined) (limit : ℕ)
-        (old : List Event) (ss : List (Station Playback)) →
-        IsPerformingBack D.shows (trail ++ later) e limit performer.old bus.old old events.old.items done.old.bytes.items
-        done.old.last ss → MatchResult result
-        (λ u. HasPerformedBack D.shows later e limit performer.new bus.new old events.new.items done.new.bytes.items
-        done.new.last ss)
-        (λ x. IsCutShortBack D.shows later bus.new old events.new.items ss)) }
+    ensures performed { RunsOut _ D.State D.stands D.step D.says performer.old performer.new bus.old bus.new events.old.items
+        events.new.items done.old done.new result }
+    ensures memory { IsCutOnTheWay _ D.State D.stands D.step D.says performer.old bus.old bus.new events.old.items
+        events.new.items done.old result }
+    ensures recorded { RunsOutBack D.shows performer.old performer.new bus.old bus.new events.old.items events.new.items
+        done.old done.new result }
     ensures within { HasAddedUpTo performer.old.limit events.old.items events.new.items }
     ensures limit { performer.new.limit ≡ performer.old.limit }
 {
@@ -155,27 +125,12 @@ fn step<D: Machine, const N: usize>(
     done: &mut Done,
 ) -> Result<bool, AllocError>
     requires one { N ≡ 1 }
-    ensures performing { (e : Engined) (limit : ℕ) (old : List Event) (ss : List (Station D.State)) →
-        IsPerforming _ D.State D.stands D.step D.says e limit performer.old bus.old old events.old.items
-        done.old.bytes.items done.old.last ss → IfOk result (λ more. MatchBool more
-        (IsPerforming _ D.State D.stands D.step D.says e limit performer.new bus.new old events.new.items
-        done.new.bytes.items done.new.last ss)
-        (HasPerformed _ D.State D.stands D.step D.says e limit performer.new bus.new old events.new.items
-        done.new.bytes.items done.new.last ss)) }
-    ensures memory { (e : Engined) (limit : ℕ) (old : List Event) (ss : List (Station D.State)) →
-        IsPerforming _ D.State D.stands D.step D.says e limit performer.old bus.old old events.old.items
-        done.old.bytes.items done.old.last ss →
-        IfErr result (λ x. IsCutShort _ D.State D.stands D.step D.says bus.new old events.new.items ss) }
-    ensures recorded { (trail : List Shown) × ((later : List Shown) (e : Engined) (limit : ℕ)
-        (old : List Event) (ss : List (Station Playback)) →
-        IsPerformingBack D.shows (trail ++ later) e limit performer.old bus.old old events.old.items done.old.bytes.items
-        done.old.last ss → MatchResult result
-        (λ more. MatchBool more
-        (IsPerformingBack D.shows later e limit performer.new bus.new old events.new.items done.new.bytes.items
-        done.new.last ss)
-        (HasPerformedBack D.shows later e limit performer.new bus.new old events.new.items done.new.bytes.items
-        done.new.last ss))
-        (λ x. IsCutShortBack D.shows later bus.new old events.new.items ss)) }
+    ensures performing { Steps _ D.State D.stands D.step D.says performer.old performer.new bus.old bus.new events.old.items
+        events.new.items done.old done.new result }
+    ensures memory { IsCutOnTheWay _ D.State D.stands D.step D.says performer.old bus.old bus.new events.old.items
+        events.new.items done.old result }
+    ensures recorded { StepsBack D.shows performer.old performer.new bus.old bus.new events.old.items events.new.items
+        done.old done.new result }
     ensures within { HasAddedUpTo performer.old.limit events.old.items events.new.items }
     ensures fewer { IfOk result (λ more. more ≡ true → left_of performer.new bus.new < left_of performer.old bus.old) }
     ensures limit { performer.new.limit ≡ performer.old.limit }

@@ -3,7 +3,7 @@
 ghost use Rattle.std.specs.Prelude.{◌≡◌, ◌^◌, ◌<◌};
 ghost use Rattle.cbm_host.specs.Stages.{commanding, releasing, leaving, pull_change, behind_pull, release_change, released, stage_due, stage_made, stage_seen, stage_passed};
 
-use crate::commands::{Commands, UNTALK};
+use crate::commands::Commands;
 use crate::due::Due;
 use crate::frame::Frame;
 use crate::take::Take;

@@ -3,34 +3,6 @@ use Rattle.std.specs.Prelude.{ℕ, Option, Some, None}
 use Rattle.cbm_host.specs.declared.commands.Commands.{Commands}
 use Rattle.cbm_host.specs.declared.commands.Commands.TheVariants.{One, Two, Three}
 
--- LISTEN, to be joined with a device number
-abbrev pub listen : ℕ
-listen = 32
-
--- UNLISTEN, to all drives
-abbrev pub unlisten : ℕ
-unlisten = 63
-
--- TALK, to be joined with a device number
-abbrev pub talk : ℕ
-talk = 64
-
--- UNTALK, to all drives
-abbrev pub untalk : ℕ
-untalk = 95
-
--- the secondary address for bytes, to be joined with a channel
-abbrev pub data_on : ℕ
-data_on = 96
-
--- the secondary address for CLOSE, to be joined with a channel
-abbrev pub close_on : ℕ
-close_on = 224
-
--- the secondary address for OPEN, to be joined with a channel
-abbrev pub open_on : ℕ
-open_on = 240
-
 -- the next byte of an attention
 abbrev pub first_of : Commands → ℕ
 first_of (One a) = a

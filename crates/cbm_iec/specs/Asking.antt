@@ -1,4 +1,4 @@
--- Which reactions look at the byte that there is to say.
+-- What the states of a drive tell of the reaction that is due: whether it looks at the byte to say, and whether it changes CLOCK.
 use Rattle.std.specs.Prelude.{ℕ, ◌≡◌, ◌%◌, Bool, true, false, not, Option, if◌then◌else◌, ◌==◌, ◌||◌, nat_le}
 use Rattle.cbm_iec.specs.Ports.{next_held, next_side, reaction_act}
 use Rattle.cbm_iec.specs.declared.mouth.Mouth.TheVariants.{Answering, Led}

@@ -1,0 +1,102 @@
+-- What the calls of a bus and of its player give: whatever kind of machine the drives represent, and of a drive alone, on any disk, of the machine that
+-- replays what the drive showed.
+use Rattle.std.specs.Prelude.{ℕ, ◌+◌, ◌≤◌, ◌≡◌, Bool, List, [], ◌∷◌, ◌++◌, map, Option, None, IfSome, IsSome, MatchOption, Result, OnOk, MatchResult}
+use Rattle.cbm_iec.specs.declared.act.Act.{Act}
+use Rattle.cbm_iec.specs.declared.event.Event.{Event}
+use Rattle.cbm_iec.specs.declared.line.Change.{Change}
+use Rattle.cbm_iec.specs.declared.lines.Lines.{Lines}
+use Rattle.cbm_iec.specs.declared.party.Party.{Party}
+use Rattle.cbm_session.specs.Handed.{AllReact}
+use Rattle.cbm_session.specs.Playing.{Station, tell, drive_events, at_rest}
+use Rattle.cbm_session.specs.Sessions.{AllUnlike, IsBus}
+use Rattle.cbm_drive.specs.declared.bus.Answer.{Answer}
+use Rattle.cbm_drive.specs.Cables.{Cabled}
+use Rattle.cbm_drive.specs.Kept.{HasKept}
+use Rattle.cbm_drive.specs.Ordered.{fault_of}
+use Rattle.cbm_drive.specs.Playback.{Shown, Playback, IsPlayedBack, played_says, played_step}
+use Rattle.cbm_drive.specs.Played.{HasSettled, HasPlayed, IsPlayCut, HasHanded}
+use Rattle.cbm_drive.specs.Players.{Turns, IsAfter, HasGiven, IsStill, IsFinished}
+use Rattle.cbm_drive.specs.Reactions.{HasReacted}
+use Rattle.cbm_drive.specs.Seats.{Seated, IsBusAt}
+use Rattle.cbm_drive.specs.Silence.{AnyShows}
+
+module _ (D M : Type 0) (stands : D → M → Type 0) (step : M → Act → M) (says : M → Option (ℕ × Bool)) where
+  -- The drives of a bus are at rest, and these are their machines.
+  abbrev pub IsResting : Cabled D → List Party → (ℕ → M) → Type 0
+  IsResting b bs ms = IsBusAt D M stands b.host b.drives (at_rest M step says ms bs)
+
+  -- The first reaction that changes a line has happened, and those before it, which change none; where there was none, all that were due.
+  abbrev pub HasShown : Lines → ℕ → List (Seated D) → ℕ → List (Station M) → Option (ℕ × Answer) → Type 0
+  HasShown host until ys n ss first = MatchOption first (HasSettled D M stands step says host until ys [] [] n ss)
+      (λ r. HasSettled D M stands step says host (r.0 + 1) ys [] (drive_events r.1.device r.1.changes.items) n ss)
+
+  -- The changes of the host were played, with all that came of them; or memory was lacking on the way.
+  abbrev pub HasPlayedOn : {E : Type 0} → Lines → ℕ → List (Seated D) → List Event → List Event → List Change → List (Station M) → Result (Unit {0}) E → Type 0
+  HasPlayedOn host limit ys old new cs ss result = MatchResult result (λ x. HasPlayed D M stands step says host limit ys old new cs ss)
+      (λ e. IsPlayCut D M stands step says host ys old new cs ss)
+
+  -- From rest, whether or not the host keeps any timing: the machine of each drive ran what the wires handed to it.
+  abbrev pub HandsEach : {E : Type 0} → Cabled D → Cabled D → ℕ → List Event → List Event → List Change → Result (Unit {0}) E → Type 0
+  HandsEach b c end old new cs result = (bs : List Party) (ms : ℕ → M) → AllUnlike bs → AllReact bs → IsResting b bs ms →
+      OnOk result (HasHanded D M stands step says c.host end c.drives old new cs bs ms)
+
+  -- From rest, under a host that keeps the bus's timing: a beginning of a session in which each byte talked is the machine's answer, and no reaction is late.
+  abbrev pub KeepsSessions : {E : Type 0} → Cabled D → Cabled D → ℕ → List Event → List Event → List Change → Result (Unit {0}) E → Type 0
+  KeepsSessions b c end old new cs result = (bs : List Party) (ms : ℕ → M) → fault_of 0 0 end cs ≡ None → IsBus bs → IsResting b bs ms →
+      OnOk result (HasKept D M stands step says bs ms c.host end c.drives old new)
+
+  -- The next event up to a moment is given; or none comes by then, and all is as it was.
+  abbrev pub GivesNext : Turns → Turns → Cabled D → Cabled D → ℕ → Option Event → Type 0
+  GivesNext p q b c upto result = (n : ℕ) (ss : List (Station M)) (es : List Event) → (a : IsAfter D M stands step says p b n ss es) →
+      MatchOption result (IsStill D M stands step says p q b c upto a.stations) (HasGiven D M stands step says q c upto n ss es)
+
+  -- An event up to a moment is given.
+  abbrev pub GivesOne : Turns → Turns → Cabled D → Cabled D → ℕ → Option Event → Type 0
+  GivesOne p q b c upto result = (n : ℕ) (ss : List (Station M)) (es : List Event) → IsAfter D M stands step says p b n ss es →
+      IfSome result (HasGiven D M stands step says q c upto n ss es) × IsSome result
+
+  -- The next event up to the end is given; or all is over up to there.
+  abbrev pub Finishes : Turns → Turns → Cabled D → Cabled D → ℕ → Option Event → Type 0
+  Finishes p q b c upto result = (n : ℕ) (ss : List (Station M)) (es : List Event) → IsAfter D M stands step says p b n ss es →
+      MatchOption result (IsFinished D M stands step says q c upto n ss es) (λ e. IsAfter D M stands step says q c n ss (es ++ e ∷ []))
+
+-- A drive alone, on any disk: there is a record of what it showed after each act of the call, and so it is of the machine that replays this record.
+module _ {D : Type 0} (shows : D → Shown) where
+  -- The host changed a line, and the drive was told it.
+  abbrev pub ToldBack : Lines → Lines → Change → List (Seated D) → List (Seated D) → Type 0
+  ToldBack host now change xs ys = (trail : List Shown) × ((later : List Shown) (ss : List (Station Playback)) →
+      IsBusAt D Playback (IsPlayedBack shows (trail ++ later)) host xs ss →
+      IsBusAt D Playback (IsPlayedBack shows later) now ys (map (λ s. tell Playback played_step played_says change s) ss))
+
+  -- The reaction that was due has happened.
+  abbrev pub ReactedBack : Lines → ℕ → List (Seated D) → List (Seated D) → Answer → Type 0
+  ReactedBack host moment xs ys a = (trail : List Shown) × ((later : List Shown) (ss : List (Station Playback)) →
+      IsBusAt D Playback (IsPlayedBack shows (trail ++ later)) host xs ss →
+      HasReacted D Playback (IsPlayedBack shows later) played_step played_says host moment a.device ys a.changes.items ss)
+
+  -- The first reaction before a limit that changes a line has happened; there is one where the machine shows one.
+  abbrev pub ShownBack : Lines → ℕ → List (Seated D) → List (Seated D) → Option (ℕ × Answer) → Type 0
+  ShownBack host limit xs ys first = (trail : List Shown) × ((later : List Shown) (ss : List (Station Playback)) →
+      IsBusAt D Playback (IsPlayedBack shows (trail ++ later)) host xs ss →
+      ((n until : ℕ) → n ≤ until → limit ≤ until → HasShown D Playback (IsPlayedBack shows later) played_step played_says host until ys n ss first)
+      × (AnyShows Playback played_step played_says limit ss → IsSome first))
+
+  -- The next event up to a moment is given; or none comes by then, all is as it was, and nothing was recorded.
+  abbrev pub GivesNextBack : Turns → Turns → Cabled D → Cabled D → ℕ → Option Event → Type 0
+  GivesNextBack p q b c upto result = (trail : List Shown) × ((later : List Shown) (n : ℕ) (ss : List (Station Playback)) (es : List Event) →
+      (a : IsAfter D Playback (IsPlayedBack shows (trail ++ later)) played_step played_says p b n ss es) →
+      MatchOption result ((trail ≡ []) × IsStill D Playback (IsPlayedBack shows later) played_step played_says p q b c upto a.stations)
+      (HasGiven D Playback (IsPlayedBack shows later) played_step played_says q c upto n ss es))
+
+  -- An event up to a moment is given.
+  abbrev pub GivesOneBack : Turns → Turns → Cabled D → Cabled D → ℕ → Option Event → Type 0
+  GivesOneBack p q b c upto result = (trail : List Shown) × ((later : List Shown) (n : ℕ) (ss : List (Station Playback)) (es : List Event) →
+      IsAfter D Playback (IsPlayedBack shows (trail ++ later)) played_step played_says p b n ss es →
+      IfSome result (HasGiven D Playback (IsPlayedBack shows later) played_step played_says q c upto n ss es) × IsSome result)
+
+  -- The next event up to the end is given; or all is over up to there.
+  abbrev pub FinishesBack : Turns → Turns → Cabled D → Cabled D → ℕ → Option Event → Type 0
+  FinishesBack p q b c upto result = (trail : List Shown) × ((later : List Shown) (n : ℕ) (ss : List (Station Playback)) (es : List Event) →
+      IsAfter D Playback (IsPlayedBack shows (trail ++ later)) played_step played_says p b n ss es →
+      MatchOption result (IsFinished D Playback (IsPlayedBack shows later) played_step played_says q c upto n ss es)
+      (λ e. IsAfter D Playback (IsPlayedBack shows later) played_step played_says q c n ss (es ++ e ∷ [])))

@@ -1,0 +1,80 @@
+-- What is promised of a request that is carried out on a bus: whatever kind of machine the drive represents, and on any disk of the machine that plays back
+-- what the drive showed.
+use Rattle.std.specs.Prelude.{ℕ, ◌≡◌, Bool, List, [], ◌∷◌, ◌++◌, Option, Result, IfOk, IfErr, OnOk, MatchBool, MatchResult}
+use Rattle.cbm_drive.specs.Cables.{Cabled}
+use Rattle.cbm_drive.specs.Playback.{Shown, Playback}
+use Rattle.cbm_drive.specs.Seats.{IsBusAt}
+use Rattle.cbm_drive.specs.declared.fault.PlayFault.{PlayFault}
+use Rattle.cbm_drive.specs.declared.fault.PlayFault.TheVariants.{Memory}
+use Rattle.cbm_host.specs.AnyDisk.{IsCarriedOutAnyway, IsCutShortAnyway}
+use Rattle.cbm_host.specs.CarriedOut.{IsShort, HasCarriedOut}
+use Rattle.cbm_host.specs.Engines.{Engined}
+use Rattle.cbm_host.specs.Performed.{IsPerforming, IsCutShort, HasPerformed, HasRun}
+use Rattle.cbm_host.specs.Performers.{Performing}
+use Rattle.cbm_host.specs.Recorded.{IsPerformingBack, HasPerformedBack, IsCutShortBack}
+use Rattle.cbm_host.specs.declared.done.Done.{Done}
+use Rattle.cbm_host.specs.declared.request.Request.{Request}
+use Rattle.cbm_iec.specs.declared.act.Act.{Act}
+use Rattle.cbm_iec.specs.declared.event.Event.{Event}
+use Rattle.cbm_iec.specs.declared.party.Party.{Party}
+use Rattle.cbm_session.specs.Playing.{Station, at_rest}
+
+module _ (D M : Type 0) (stands : D → M → Type 0) (step : M → Act → M) (says : M → Option (ℕ × Bool)) where
+  -- A request of at most 200,000 bytes to a drive that was at rest is carried out, where the call is Ok.
+  abbrev pub CarriesOut : {E : Type 0} → Party → ℕ → (ℕ → M) → ℕ → Request → Cabled D → Cabled D → List Event → List Event → Result Done E → Type 0
+  CarriesOut b device ms start request x y old new result = IsShort M step says device (ms device) request →
+      IsBusAt D M stands x.host x.drives (at_rest M step says ms (b ∷ [])) →
+      IfOk result (λ done. HasCarriedOut D M stands step says b ms start request y old new done.bytes.items done.last done.end)
+
+  -- Each change of the host comes at the moment that the request's stages say, and so does the end.
+  abbrev pub KeepsMoments : {E : Type 0} → Engined → ℕ → Cabled D → List Event → List Event → Result Done E → Type 0
+  KeepsMoments e limit x old new result = (ss : List (Station M)) → IsBusAt D M stands x.host x.drives ss →
+      IfOk result (λ done. HasRun M step says e limit old new done.bytes.items done.last done.end ss)
+
+  -- The one error is want of memory: what was added is a beginning of a play.
+  abbrev pub LacksMemory : {A : Type 0} → Cabled D → Cabled D → List Event → List Event → Result A PlayFault → Type 0
+  LacksMemory x y old new result = (ss : List (Station M)) → IsBusAt D M stands x.host x.drives ss →
+      IfErr result (λ e. (e ≡ Memory) × IsCutShort D M stands step says y old new ss)
+
+  -- ---- a request under way
+
+  -- The next event comes, or no more do.
+  abbrev pub Steps : {E : Type 0} → Performing → Performing → Cabled D → Cabled D → List Event → List Event → Done → Done → Result Bool E → Type 0
+  Steps p q x y was now done made result = (e : Engined) (limit : ℕ) (old : List Event) (ss : List (Station M)) →
+      IsPerforming D M stands step says e limit p x old was done.bytes.items done.last ss → IfOk result (λ more. MatchBool more
+      (IsPerforming D M stands step says e limit q y old now made.bytes.items made.last ss)
+      (HasPerformed D M stands step says e limit q y old now made.bytes.items made.last ss))
+
+  -- All events come, up to the end.
+  abbrev pub RunsOut : {E : Type 0} → Performing → Performing → Cabled D → Cabled D → List Event → List Event → Done → Done → Result (Unit {0}) E → Type 0
+  RunsOut p q x y was now done made result = (e : Engined) (limit : ℕ) (old : List Event) (ss : List (Station M)) →
+      IsPerforming D M stands step says e limit p x old was done.bytes.items done.last ss →
+      OnOk result (HasPerformed D M stands step says e limit q y old now made.bytes.items made.last ss)
+
+  -- Memory ran out on the way.
+  abbrev pub IsCutOnTheWay : {A E : Type 0} → Performing → Cabled D → Cabled D → List Event → List Event → Done → Result A E → Type 0
+  IsCutOnTheWay p x y was now done result = (e : Engined) (limit : ℕ) (old : List Event) (ss : List (Station M)) →
+      IsPerforming D M stands step says e limit p x old was done.bytes.items done.last ss →
+      IfErr result (λ x. IsCutShort D M stands step says y old now ss)
+
+module _ {D : Type 0} (shows : D → Shown) where
+  -- The request is carried out for a machine that plays back what the drive showed; or memory ran out.
+  abbrev pub CarriesOutAnyway : {E : Type 0} → Party → ℕ → Request → Cabled D → Cabled D → List Event → List Event → Result Done E → Type 0
+  CarriesOutAnyway b start request x y old new result = MatchResult result
+      (λ done. IsCarriedOutAnyway shows b start request x y old new done.bytes.items done.last done.end)
+      (λ e. IsCutShortAnyway shows b x y old new)
+
+  -- `Steps` for such a machine, or memory ran out
+  abbrev pub StepsBack : {E : Type 0} → Performing → Performing → Cabled D → Cabled D → List Event → List Event → Done → Done → Result Bool E → Type 0
+  StepsBack p q x y was now done made result = (trail : List Shown) × ((later : List Shown) (e : Engined) (limit : ℕ) (old : List Event) (ss : List (Station Playback)) →
+      IsPerformingBack shows (trail ++ later) e limit p x old was done.bytes.items done.last ss → MatchResult result
+      (λ more. MatchBool more (IsPerformingBack shows later e limit q y old now made.bytes.items made.last ss)
+      (HasPerformedBack shows later e limit q y old now made.bytes.items made.last ss))
+      (λ x. IsCutShortBack shows later y old now ss))
+
+  -- `RunsOut` for such a machine, or memory ran out
+  abbrev pub RunsOutBack : {E : Type 0} → Performing → Performing → Cabled D → Cabled D → List Event → List Event → Done → Done → Result (Unit {0}) E → Type 0
+  RunsOutBack p q x y was now done made result = (trail : List Shown) × ((later : List Shown) (e : Engined) (limit : ℕ) (old : List Event) (ss : List (Station Playback)) →
+      IsPerformingBack shows (trail ++ later) e limit p x old was done.bytes.items done.last ss → MatchResult result
+      (λ u. HasPerformedBack shows later e limit q y old now made.bytes.items made.last ss)
+      (λ x. IsCutShortBack shows later y old now ss))
