@@ -8,6 +8,7 @@ ghost use Rattle.cbm_drive.specs.Progress.{left};
 ghost use Rattle.cbm_drive.specs.Reactions.{AreAt};
 ghost use Rattle.cbm_drive.specs.Seats.{IsSeat, IsBusAt, AreInTime, numbers};
 ghost use Rattle.cbm_drive.specs.Silence.{AnyShows, AreSilent, Foretold};
+ghost use Rattle.cbm_drive.specs.Turning.{HasShown, ShownBack};
 ghost use Rattle.cbm_drive.specs.declared.wires.Wires.{Wires};
 
 use crate::bus::{Answer, first_due, react};
