@@ -9,6 +9,7 @@ use crate::stage::{Behind, Errand, Pulls, Sequence, Stage};
 use crate::take::Take;
 use crate::waits::{ANSWER, READY, TURN};
 use cbm_drive::Half;
+use cbm_iec::attention::{CLOSE, DATA, LISTEN, OPEN, TALK, UNLISTEN, UNTALK};
 use cbm_iec::{Change, Line, Way};
 use std::marker::Model;
 

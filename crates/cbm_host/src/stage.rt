@@ -8,6 +8,7 @@ use crate::due::Due;
 use crate::frame::Frame;
 use crate::take::Take;
 use crate::waits::{ANSWER, PHASE, READY, SILENCE, TURN};
+use cbm_iec::attention::UNTALK;
 use cbm_iec::{Change, Line, Way};
 
 /// What follows an attention.
