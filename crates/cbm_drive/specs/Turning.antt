@@ -31,18 +31,18 @@ module _ (D M : Type 0) (stands : D → M → Type 0) (step : M → Act → M) (
       (λ r. HasSettled D M stands step says host (r.0 + 1) ys [] (drive_events r.1.device r.1.changes.items) n ss)
 
   -- The changes of the host were played, with all that came of them; or memory was lacking on the way.
-  abbrev pub HasPlayedOn : {E : Type 0} → Lines → ℕ → List (Seated D) → List Event → List Event → List Change → List (Station M) → Result (Unit {0}) E → Type 0
-  HasPlayedOn host limit ys old new cs ss result = MatchResult result (λ x. HasPlayed D M stands step says host limit ys old new cs ss)
+  abbrev pub PlaysUpTo : {E : Type 0} → Lines → ℕ → List (Seated D) → List Event → List Event → List Change → List (Station M) → Result (Unit {0}) E → Type 0
+  PlaysUpTo host limit ys old new cs ss result = MatchResult result (λ x. HasPlayed D M stands step says host limit ys old new cs ss)
       (λ e. IsPlayCut D M stands step says host ys old new cs ss)
 
   -- From rest, whether or not the host keeps any timing: the machine of each drive ran what the wires handed to it.
-  abbrev pub HandsEach : {E : Type 0} → Cabled D → Cabled D → ℕ → List Event → List Event → List Change → Result (Unit {0}) E → Type 0
-  HandsEach b c end old new cs result = (bs : List Party) (ms : ℕ → M) → AllUnlike bs → AllReact bs → IsResting b bs ms →
+  abbrev pub HandsToEach : {E : Type 0} → Cabled D → Cabled D → ℕ → List Event → List Event → List Change → Result (Unit {0}) E → Type 0
+  HandsToEach b c end old new cs result = (bs : List Party) (ms : ℕ → M) → AllUnlike bs → AllReact bs → IsResting b bs ms →
       OnOk result (HasHanded D M stands step says c.host end c.drives old new cs bs ms)
 
   -- From rest, under a host that keeps the bus's timing: a beginning of a session in which each byte talked is the machine's answer, and no reaction is late.
-  abbrev pub KeepsSessions : {E : Type 0} → Cabled D → Cabled D → ℕ → List Event → List Event → List Change → Result (Unit {0}) E → Type 0
-  KeepsSessions b c end old new cs result = (bs : List Party) (ms : ℕ → M) → fault_of 0 0 end cs ≡ None → IsBus bs → IsResting b bs ms →
+  abbrev pub PlaysSessions : {E : Type 0} → Cabled D → Cabled D → ℕ → List Event → List Event → List Change → Result (Unit {0}) E → Type 0
+  PlaysSessions b c end old new cs result = (bs : List Party) (ms : ℕ → M) → fault_of 0 0 end cs ≡ None → IsBus bs → IsResting b bs ms →
       OnOk result (HasKept D M stands step says bs ms c.host end c.drives old new)
 
   -- The next event up to a moment is given; or none comes by then, and all is as it was.

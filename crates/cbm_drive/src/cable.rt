@@ -40,7 +40,7 @@ impl<D: Machine, const N: usize> Bus<D, N> {
     ghost use Rattle.cbm_drive.specs.declared.fault.PlayFault.{PlayFault};
     ghost use Rattle.cbm_drive.specs.declared.fault.PlayFault.TheVariants.{Memory};
     ghost use Rattle.cbm_drive.specs.Played.{HasSettled};
-    ghost use Rattle.cbm_drive.specs.Turning.{HasShown, HasPlayedOn, HandsEach, KeepsSessions, ToldBack, ShownBack};
+    ghost use Rattle.cbm_drive.specs.Turning.{HasShown, PlaysUpTo, HandsToEach, PlaysSessions, ToldBack, ShownBack};
     ghost use Rattle.cbm_drive.specs.Playback.{Shown, Playback, IsPlayedBack, played_says, played_step};
     ghost use Rattle.cbm_drive.specs.Progress.{AreKept, IsNearer, left};
     ghost use Rattle.cbm_drive.specs.Reactions.{AreAt, HasReacted};
@@ -212,14 +212,14 @@ impl<D: Machine, const N: usize> Bus<D, N> {
         ensures lasting { numbers D.lasting self.new.drives ≡ numbers D.lasting self.old.drives }
         ensures played { (ss : List (Station D.State)) → fault_of 0 0 end changes.now ≡ None →
             IsBusAt _ D.State D.stands self.old.host self.old.drives ss →
-            HasPlayedOn _ D.State D.stands D.step D.says self.new.host (end + 1) self.new.drives events.old.items
+            PlaysUpTo _ D.State D.stands D.step D.says self.new.host (end + 1) self.new.drives events.old.items
             events.new.items changes.now ss result }
         // Whether or not the host keeps any timing, from rest:
-        ensures handed { HandsEach _ D.State D.stands D.step D.says self.old self.new end events.old.items
+        ensures handed { HandsToEach _ D.State D.stands D.step D.says self.old self.new end events.old.items
             events.new.items changes.now result }
         // From rest, under a host that keeps the bus's timing: a beginning of a session in which each byte talked is the
         // machine's answer, and no reaction is late.
-        ensures kept { KeepsSessions _ D.State D.stands D.step D.says self.old self.new end events.old.items
+        ensures kept { PlaysSessions _ D.State D.stands D.step D.says self.old self.new end events.old.items
             events.new.items changes.now result }
     {
         if let Some(fault) = first_fault(changes, 0, 0, end) {

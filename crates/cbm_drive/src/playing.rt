@@ -5,7 +5,7 @@ ghost use Rattle.cbm_session.specs.Playing.{Station, drive_events};
 ghost use Rattle.cbm_drive.specs.Ordered.{AreOrdered};
 ghost use Rattle.cbm_drive.specs.Played.{HasSettled};
 ghost use Rattle.cbm_drive.specs.Seats.{AreInTime, IsBusAt, numbers};
-ghost use Rattle.cbm_drive.specs.Turning.{HasPlayedOn};
+ghost use Rattle.cbm_drive.specs.Turning.{PlaysUpTo};
 
 use crate::bus::{first_due, react, tell_all};
 use crate::drive::Drive;
@@ -73,7 +73,7 @@ pub(crate) fn play_on<D: Machine>(
     ensures settled { OnOk result (AreInTime (end + 1) drives.new) }
     ensures lasting { numbers D.lasting drives.new ≡ numbers D.lasting drives.old }
     ensures played { (ss : List (Station D.State)) → IsBusAt _ D.State D.stands host.old drives.old ss →
-        HasPlayedOn _ D.State D.stands D.step D.says host.new (end + 1) drives.new events.old.items events.new.items
+        PlaysUpTo _ D.State D.stands D.step D.says host.new (end + 1) drives.new events.old.items events.new.items
         changes.now ss result }
 {
     for change in changes {
