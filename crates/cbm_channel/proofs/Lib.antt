@@ -5,6 +5,7 @@ pub mod OnRecords
 pub mod Uses
 pub mod Changed
 pub mod Troubles
+pub mod NeverProtected
 pub mod Refused
 pub mod Ordered
 pub mod Scratches

@@ -7,6 +7,7 @@ pub mod Shown
 pub mod Taken
 pub mod Moved
 pub mod Recorded
+pub mod ChannelCalls
 pub mod Commanded
 pub mod Joined
 pub mod Planned

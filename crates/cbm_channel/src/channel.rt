@@ -76,7 +76,8 @@ impl Channel {
     ghost use Rattle.std.specs.Prelude.{◌≡◌, ◌≤◌, ◌<◌, ◌^◌, ◌⊎◌, ℕ, List, true, false, not, Some, None, Ok, IsOk, IsOkAnd, IfOk, IfErr, IfSome, OnOk, OnErr, MatchResult, replicate};
     ghost use Rattle.cbm_medium.specs.Seen.{OnlyContent};
     ghost use Rattle.cbm_volume.specs.Writers.{Use, Idle, HoldsNow, with_use, Stopped};
-    ghost use Rattle.cbm_volume.specs.Opens.{IsHindered};
+    ghost use Rattle.cbm_volume.specs.Calls.{KeepsProtected, IsSameOn};
+    ghost use Rattle.cbm_channel.specs.ChannelCalls.{OfChannel, OfPlaced, IsChannelCall};
     ghost use Rattle.cbm_file.specs.Waiting.{shown};
     ghost use Rattle.cbm_file.specs.Files.{Disk};
     ghost use Rattle.cbm_machine.specs.Machines as machine;
@@ -270,20 +271,12 @@ impl Channel {
     ) -> Result<bool, Trouble>
         requires { Fits (M.seen volume.old).tracks self.old }
         ensures fits { Fits (M.seen volume.new).tracks self.new }
-        ensures put { let old = M.seen volume.old in let new = M.seen volume.new in
-            (d : Disk) (uses : ℕ → Use) (ch : ℕ) (x : machine.Channel) →
-            HoldsNow old.tracks old.content d uses → uses ch ≡ use_of self.old x → ChannelStands self.old x →
-            IfOk result (λ done. (done ≡ not (is_lost d x)) × ChannelStands self.new (channel_put byte d x) ×
+        ensures call { let old = M.seen volume.old in let new = M.seen volume.new in
+            OfChannel old self.old (λ d uses ch x. IsChannelCall result old new
+            (λ done. (done ≡ not (is_lost d x)) × ChannelStands self.new (channel_put byte d x) ×
             HoldsNow old.tracks new.content (disk_put d x)
-            (with_use uses ch (use_of self.new (channel_put byte d x)))) }
-        ensures stopped { let old = M.seen volume.old in let new = M.seen volume.new in
-            (d : Disk) (uses : ℕ → Use) (ch : ℕ) (x : machine.Channel) →
-            HoldsNow old.tracks old.content d uses → uses ch ≡ use_of self.old x → ChannelStands self.old x →
-            OnErr result (IsCutOff self.new x × Stopped old.tracks new.content d d (with_use uses ch Idle)) }
-        ensures cause { let old = M.seen volume.old in
-            (d : Disk) (uses : ℕ → Use) (ch : ℕ) (x : machine.Channel) →
-            HoldsNow old.tracks old.content d uses → uses ch ≡ use_of self.old x → ChannelStands self.old x →
-            IfErr result (IsHindered old (M.seen volume.new)) }
+            (with_use uses ch (use_of self.new (channel_put byte d x))))
+            (IsCutOff self.new x × Stopped old.tracks new.content d d (with_use uses ch Idle))) }
         ensures quiet { is_writing self.old ≡ false →
             (result ≡ Ok true) × (self.new ≡ self.old) × (volume.new ≡ volume.old) }
         ensures cut { OnErr result (is_writing self.new ≡ false) }
@@ -319,18 +312,15 @@ impl Channel {
         ensures fits { Fits (M.seen volume.new).tracks self.new }
         ensures same { IsSameFile self.old self.new }
         ensures put { let old = M.seen volume.old in let new = M.seen volume.new in
-            (r : Placed) → self.old ≡ Records r → (d : Disk) (uses : ℕ → Use) (b s : ℕ) (rs : List (List ℕ)) →
-            CanPut old.tracks old.content d uses r b s rs → (q : Placed) × (self.new ≡ Records q) ×
+            (r : Placed) → self.old ≡ Records r → OfPlaced old r (λ d uses b s rs. (q : Placed) × (self.new ≡ Records q) ×
             MatchResult result (IsTextEnded old new d uses r q b s rs bytes.now)
-            (IsTextStopped old new d uses r q b s rs bytes.now) }
+            (IsTextStopped old new d uses r q b s rs bytes.now)) }
         ensures quiet { has_records self.old ≡ false →
             (result ≡ Ok (Some false)) × (self.new ≡ self.old) × (volume.new ≡ volume.old) }
         ensures allowed { has_records self.old ≡ true →
             IfOk result (λ o. IfSome o (λ cut. (M.seen volume.old).protected ≡ false)) }
-        ensures kept { IfOk result (λ o. o ≡ None → (M.seen volume.new).content ≡ (M.seen volume.old).content) }
-        ensures guarded { (M.seen volume.old).protected ≡ true →
-            (M.seen volume.new).content ≡ (M.seen volume.old).content }
-        ensures protection { IfErr result (λ t. t.code ≡ 26 → (M.seen volume.old).protected ≡ true) }
+        ensures kept { IsSameOn result None (M.seen volume.old) (M.seen volume.new) }
+        ensures guarded { KeepsProtected (M.seen volume.old) (M.seen volume.new) }
         ensures medium { OnlyContent result (M.seen volume.old) (M.seen volume.new) }
     {
         match self {
@@ -341,9 +331,7 @@ impl Channel {
 
     /// Whether it writes a file that has no byte yet.
     pub(crate) fn is_empty<M: Medium>(&self, volume: &Volume<M>) -> bool
-        ensures value { let now = M.seen volume.now in (d : Disk) (uses : ℕ → Use) (ch : ℕ) (x : machine.Channel) →
-            HoldsNow now.tracks now.content d uses → uses ch ≡ use_of self.now x → ChannelStands self.now x →
-            result ≡ is_unbegun x }
+        ensures value { OfChannel (M.seen volume.now) self.now (λ d uses ch x. result ≡ is_unbegun x) }
         ensures quiet { is_writing self.now ≡ false → result ≡ false }
     {
         match self {
@@ -356,18 +344,10 @@ impl Channel {
     /// refused; the slot has the file from before or the one from after.
     fn finish_file<M: Medium>(&self, volume: &mut Volume<M>) -> Result<(), Trouble>
         requires { Fits (M.seen volume.old).tracks self.now }
-        ensures closed { let old = M.seen volume.old in let new = M.seen volume.new in
-            (d : Disk) (uses : ℕ → Use) (ch : ℕ) (x : machine.Channel) →
-            HoldsNow old.tracks old.content d uses → uses ch ≡ use_of self.now x → ChannelStands self.now x →
-            OnOk result (HoldsNow old.tracks new.content (disk_closed d x) (with_use uses ch Idle)) }
-        ensures stopped { let old = M.seen volume.old in let new = M.seen volume.new in
-            (d : Disk) (uses : ℕ → Use) (ch : ℕ) (x : machine.Channel) →
-            HoldsNow old.tracks old.content d uses → uses ch ≡ use_of self.now x → ChannelStands self.now x →
-            OnErr result (Stopped old.tracks new.content d (disk_closed d x) (with_use uses ch Idle)) }
-        ensures cause { let old = M.seen volume.old in
-            (d : Disk) (uses : ℕ → Use) (ch : ℕ) (x : machine.Channel) →
-            HoldsNow old.tracks old.content d uses → uses ch ≡ use_of self.now x → ChannelStands self.now x →
-            IfErr result (IsHindered old (M.seen volume.new)) }
+        ensures call { let old = M.seen volume.old in let new = M.seen volume.new in
+            OfChannel old self.now (λ d uses ch x. let rest = with_use uses ch Idle in IsChannelCall result old new
+            (λ done. HoldsNow old.tracks new.content (disk_closed d x) rest)
+            (Stopped old.tracks new.content d (disk_closed d x) rest)) }
         ensures wrote { (x : machine.Channel) → ChannelStands self.now x → OnErr result (IsBeingWritten x) }
         ensures quiet { is_writing self.now ≡ false → IsOk result × (volume.new ≡ volume.old) }
         ensures only { OnlyContent result (M.seen volume.old) (M.seen volume.new) }
@@ -389,21 +369,13 @@ impl Channel {
     pub(crate) fn finish<M: Medium>(&mut self, volume: &mut Volume<M>) -> Result<(), Trouble>
         requires { Fits (M.seen volume.old).tracks self.old }
         ensures is_closed { self.new ≡ Closed }
-        ensures closed { let old = M.seen volume.old in let new = M.seen volume.new in
-            (d : Disk) (uses : ℕ → Use) (ch : ℕ) (x : machine.Channel) →
-            HoldsNow old.tracks old.content d uses → uses ch ≡ use_of self.old x → ChannelStands self.old x →
-            OnOk result (HoldsNow old.tracks new.content (disk_closed d x) (with_use uses ch Idle)) }
-        ensures stopped { let old = M.seen volume.old in let new = M.seen volume.new in
-            (d : Disk) (uses : ℕ → Use) (ch : ℕ) (x : machine.Channel) →
-            HoldsNow old.tracks old.content d uses → uses ch ≡ use_of self.old x → ChannelStands self.old x →
-            OnErr result (Stopped old.tracks new.content d (disk_closed d x) (with_use uses ch Idle)) }
-        ensures cause { let old = M.seen volume.old in
-            (d : Disk) (uses : ℕ → Use) (ch : ℕ) (x : machine.Channel) →
-            HoldsNow old.tracks old.content d uses → uses ch ≡ use_of self.old x → ChannelStands self.old x →
-            IfErr result (IsHindered old (M.seen volume.new)) }
-        ensures only { OnlyContent result (M.seen volume.old) (M.seen volume.new) }
+        ensures call { let old = M.seen volume.old in let new = M.seen volume.new in
+            OfChannel old self.old (λ d uses ch x. let rest = with_use uses ch Idle in IsChannelCall result old new
+            (λ done. HoldsNow old.tracks new.content (disk_closed d x) rest)
+            (Stopped old.tracks new.content d (disk_closed d x) rest)) }
         ensures wrote { (x : machine.Channel) → ChannelStands self.old x → OnErr result (IsBeingWritten x) }
         ensures quiet { is_writing self.old ≡ false → IsOk result × (volume.new ≡ volume.old) }
+        ensures only { OnlyContent result (M.seen volume.old) (M.seen volume.new) }
     {
         let finished = self.finish_file(volume);
         *self = Channel::Closed;

@@ -119,10 +119,13 @@ fn lost_again() -> Trouble
 impl OnRecord {
     ghost use Rattle.std.specs.Prelude.{◌≡◌, ◌≢◌, ◌≤◌, ◌<◌, ◌+◌, ◌^◌, ◌⊎◌, ℕ, true, false, List, Some, None, option_map, slice_get, IfOk, IfErr, IfSome, OnOk, OnErr, IsOk, IsOkAnd, MatchBool, MatchResult};
     ghost use Rattle.cbm_medium.specs.Seen.{Seen, OnlyContent};
-    ghost use Rattle.cbm_volume.specs.RecordWrites.{OfRecords, IsRecordPut, IsRecordCut};
+    ghost use Rattle.cbm_volume.specs.RecordWrites.{OfRecords, IsRecordCall};
+    ghost use Rattle.cbm_volume.specs.Calls.{KeepsProtected, IsSameOn};
+    ghost use Rattle.cbm_volume.specs.Written.{IsRecordWrite};
     ghost use Rattle.cbm_volume.specs.Writers.{Use};
     ghost use Rattle.cbm_channel.specs.Going.{KeepsMedium};
-    ghost use Rattle.cbm_channel.specs.Recorded.{CanPut, CanGrow, disk_grown, IsTextStored, IsTextCut, IsTextEnded, IsTextStopped};
+    ghost use Rattle.cbm_channel.specs.ChannelCalls.{OfPlaced};
+    ghost use Rattle.cbm_channel.specs.Recorded.{CanGrow, disk_grown, IsTextStored, IsTextCut, IsTextEnded, IsTextStopped};
     ghost use Rattle.cbm_machine.specs.Machines.{Relative};
     ghost use Rattle.cbm_machine.specs.Talking.{taken_on};
     ghost use Rattle.cbm_channel.specs.declared.on_record.Waiting.TheVariants.{Broken};
@@ -263,24 +266,9 @@ impl OnRecord {
         bytes: &[u8],
     ) -> Result<Option<WrittenRecord>, Trouble>
         ensures put { let old = M.seen volume.old in let new = M.seen volume.new in let r = self.now in
-            (d : Disk) (uses : ℕ → Use) (b s : ℕ) (rs : List (List ℕ)) →
-            CanPut old.tracks old.content d uses r b s rs →
-            MatchResult result
-            (λ o. IsRecordPut old.tracks old.content new.content d uses r.slot r.width b s rs r.number r.position bytes.now
-            (option_map (λ x. x.cut) o))
-            (IsRecordCut old new d uses r.slot r.width b s rs r.number r.position bytes.now) }
-        ensures next { let old = M.seen volume.old in let new = M.seen volume.new in let r = self.now in
-            (d : Disk) (uses : ℕ → Use) (b s : ℕ) (rs : List (List ℕ)) →
-            CanPut old.tracks old.content d uses r b s rs →
-            IfOk result (λ o. IfSome o (λ x. OfRecords new r.slot (λ found.
-            IsOkAnd x.next (λ y. option_map (λ z. z.items) y ≡ slice_get found r.number)))) }
-        ensures next_never_26 { IfOk result (λ o. IfSome o (λ x. IfErr x.next (λ t. t.code ≢ 26))) }
-        ensures few { IfOk result (λ o. IfSome o (λ x. self.now.number ≤ 195072)) }
-        ensures allowed { IfOk result (λ o. IfSome o (λ x. (M.seen volume.old).protected ≡ false)) }
-        ensures kept { IfOk result (λ o. o ≡ None → (M.seen volume.new).content ≡ (M.seen volume.old).content) }
-        ensures guarded { (M.seen volume.old).protected ≡ true →
-            (M.seen volume.new).content ≡ (M.seen volume.old).content }
-        ensures protection { IfErr result (λ t. t.code ≡ 26 → (M.seen volume.old).protected ≡ true) }
+            OfPlaced old r (λ d uses b s rs.
+            IsRecordCall result old new d uses r.slot r.width b s rs r.number r.position bytes.now) }
+        ensures write { IsRecordWrite result (M.seen volume.old) (M.seen volume.new) self.now.number }
         ensures only { OnlyContent result (M.seen volume.old) (M.seen volume.new) }
     {
         // No record has the number 0, and no byte of one.
@@ -294,17 +282,12 @@ impl OnRecord {
     /// then. Errors: why a write was refused.
     fn grow<M: Medium>(&self, volume: &mut Volume<M>) -> Result<bool, Trouble>
         ensures grown { let old = M.seen volume.old in let new = M.seen volume.new in let r = self.now in
-            (d : Disk) (uses : ℕ → Use) (b s : ℕ) (rs : List (List ℕ)) →
-            CanPut old.tracks old.content d uses r b s rs → record_at (Records r.width rs b s) r.number ≡ None →
-            MatchResult result
+            OfPlaced old r (λ d uses b s rs. record_at (Records r.width rs b s) r.number ≡ None → MatchResult result
             (λ done. MatchBool done (HoldsNow old.tracks new.content (disk_grown d r b s rs) uses × CanGrow d r b s rs)
             (IsTooLarge d r.width b s r.number × (new.content ≡ old.content)))
-            (λ t. IsGrowthCut old new d uses r.slot r.width rs t × CanGrow d r b s rs) }
-        ensures kept { IfOk result (λ done. done ≡ false →
-            (M.seen volume.new).content ≡ (M.seen volume.old).content) }
-        ensures guarded { (M.seen volume.old).protected ≡ true →
-            (M.seen volume.new).content ≡ (M.seen volume.old).content }
-        ensures protection { IfErr result (λ t. t.code ≡ 26 → (M.seen volume.old).protected ≡ true) }
+            (λ t. IsGrowthCut old new d uses r.slot r.width rs t × CanGrow d r b s rs)) }
+        ensures kept { IsSameOn result false (M.seen volume.old) (M.seen volume.new) }
+        ensures guarded { KeepsProtected (M.seen volume.old) (M.seen volume.new) }
         ensures only { OnlyContent result (M.seen volume.old) (M.seen volume.new) }
     {
         if self.number == 0 {
@@ -321,24 +304,13 @@ impl OnRecord {
         bytes: &[u8],
     ) -> Result<Option<WrittenRecord>, Trouble>
         ensures put { let old = M.seen volume.old in let new = M.seen volume.new in
-            (d : Disk) (uses : ℕ → Use) (b s : ℕ) (rs : List (List ℕ)) →
-            CanPut old.tracks old.content d uses self.now b s rs →
-            MatchResult result
-            (λ o. IsTextStored old.tracks old.content new.content d uses self.now b s rs bytes.now
-            (option_map (λ x. x.cut) o))
-            (IsTextCut old new d uses self.now b s rs bytes.now) }
+            OfPlaced old self.now (λ d uses b s rs. MatchResult result
+            (λ o. IsTextStored old.tracks old.content new.content d uses self.now b s rs bytes.now (option_map (λ x. x.cut) o))
+            (IsTextCut old new d uses self.now b s rs bytes.now)) }
         ensures next { let old = M.seen volume.old in let new = M.seen volume.new in let r = self.now in
-            (d : Disk) (uses : ℕ → Use) (b s : ℕ) (rs : List (List ℕ)) →
-            CanPut old.tracks old.content d uses r b s rs →
-            IfOk result (λ o. IfSome o (λ x. OfRecords new r.slot (λ found.
-            IsOkAnd x.next (λ y. option_map (λ z. z.items) y ≡ slice_get found r.number)))) }
-        ensures next_never_26 { IfOk result (λ o. IfSome o (λ x. IfErr x.next (λ t. t.code ≢ 26))) }
-        ensures few { IfOk result (λ o. IfSome o (λ x. self.now.number ≤ 195072)) }
-        ensures allowed { IfOk result (λ o. IfSome o (λ x. (M.seen volume.old).protected ≡ false)) }
-        ensures kept { IfOk result (λ o. o ≡ None → (M.seen volume.new).content ≡ (M.seen volume.old).content) }
-        ensures guarded { (M.seen volume.old).protected ≡ true →
-            (M.seen volume.new).content ≡ (M.seen volume.old).content }
-        ensures protection { IfErr result (λ t. t.code ≡ 26 → (M.seen volume.old).protected ≡ true) }
+            OfPlaced old r (λ d uses b s rs. IfOk result (λ o. IfSome o (λ x. OfRecords new r.slot (λ found.
+            IsOkAnd x.next (λ y. option_map (λ z. z.items) y ≡ slice_get found r.number))))) }
+        ensures write { IsRecordWrite result (M.seen volume.old) (M.seen volume.new) self.now.number }
         ensures medium { OnlyContent result (M.seen volume.old) (M.seen volume.new) }
     {
         if let Some(written) = self.write(volume, bytes)? {
@@ -363,16 +335,13 @@ impl OnRecord {
         bytes: &[u8],
     ) -> Result<Option<bool>, Trouble>
         ensures put { let old = M.seen volume.old in let new = M.seen volume.new in
-            (d : Disk) (uses : ℕ → Use) (b s : ℕ) (rs : List (List ℕ)) →
-            CanPut old.tracks old.content d uses self.old b s rs →
-            MatchResult result (IsTextEnded old new d uses self.old self.new b s rs bytes.now)
-            (IsTextStopped old new d uses self.old self.new b s rs bytes.now) }
+            OfPlaced old self.old (λ d uses b s rs. MatchResult result
+            (IsTextEnded old new d uses self.old self.new b s rs bytes.now)
+            (IsTextStopped old new d uses self.old self.new b s rs bytes.now)) }
         ensures file { (self.new.slot ≡ self.old.slot) × (self.new.width ≡ self.old.width) }
         ensures allowed { IfOk result (λ o. IfSome o (λ cut. (M.seen volume.old).protected ≡ false)) }
-        ensures kept { IfOk result (λ o. o ≡ None → (M.seen volume.new).content ≡ (M.seen volume.old).content) }
-        ensures guarded { (M.seen volume.old).protected ≡ true →
-            (M.seen volume.new).content ≡ (M.seen volume.old).content }
-        ensures protection { IfErr result (λ t. t.code ≡ 26 → (M.seen volume.old).protected ≡ true) }
+        ensures kept { IsSameOn result None (M.seen volume.old) (M.seen volume.new) }
+        ensures guarded { KeepsProtected (M.seen volume.old) (M.seen volume.new) }
         ensures medium { OnlyContent result (M.seen volume.old) (M.seen volume.new) }
     {
         match self.store(volume, bytes) {

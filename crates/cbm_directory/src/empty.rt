@@ -44,7 +44,6 @@ pub fn empty_slot<M: Medium>(medium: &mut M, geometry: Geometry) -> Result<Optio
     ensures stopped { let old = M.seen medium.old in let new = M.seen medium.new in
         IfErr result (SlotStopped geometry old.content new.content) }
     ensures cause { IfErr result (IsSlotRefused geometry (M.seen medium.old) (M.seen medium.new)) }
-    ensures protection { IfErr result (λ t. t.code ≡ 26 → (M.seen medium.old).protected ≡ true) }
     ensures only { OnlyContent result (M.seen medium.old) (M.seen medium.new) }
 {
     if let Some(slot) = first_empty(medium, geometry)? {

@@ -76,7 +76,6 @@ pub fn grow<M: Medium>(medium: &mut M, geometry: Geometry) -> Result<bool, Troub
     ensures stopped { OnErr result
         (GrowthStopped geometry (M.seen medium.old).content (M.seen medium.new).content) }
     ensures cause { IfErr result (IsGrowthRefused geometry (M.seen medium.old) (M.seen medium.new)) }
-    ensures protection { IfErr result (λ t. t.code ≡ 26 → (M.seen medium.old).protected ≡ true) }
     ensures only { OnlyContent result (M.seen medium.old) (M.seen medium.new) }
 {
     let last = last_sector(medium, geometry)?;

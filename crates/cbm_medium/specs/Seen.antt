@@ -46,7 +46,8 @@ pub record IsRefused (why : Option ℕ) (fault : Fault) (old new : Seen) : Type 
   pub only_protected : fault.code ≡ 26 → old.protected ≡ true
 
 -- A call changed at most what the sectors hold: tracks, protection and id stay. It makes no write after one that the medium refused by
--- itself: failures go up by one at most, only where it answers Err, and then that is what the medium refused last.
+-- itself: failures go up by one at most, only where it answers Err, and then that is what the medium refused last. It answers the code 26
+-- only where the medium is protected, whatever that holds.
 pub record OnlyContent {A : Type 0} (result : Result A Trouble) (old new : Seen) : Type 0 where
   pub tracks : new.tracks ≡ old.tracks
   pub protected : new.protected ≡ old.protected
@@ -55,3 +56,4 @@ pub record OnlyContent {A : Type 0} (result : Result A Trouble) (old new : Seen)
   pub once : new.failures ≤ old.failures + 1
   pub uncounted : OnOk result (new.failures ≡ old.failures)
   pub own : IfErr result (λ t. HasFailed old new → new.refused ≡ Some t)
+  pub guarded : IfErr result (λ t. t.code ≡ 26 → old.protected ≡ true)

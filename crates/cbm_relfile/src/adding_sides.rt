@@ -49,7 +49,6 @@ pub fn begin_empty_side<M: Medium>(
     ensures next { IfOk result (λ o. IfSome o (λ t. find (is_free_in (map_of (M.seen medium.old).content))
         (next_order geometry file.side) ≡ Some t)) }
     ensures bound { IfOk result (λ o. IfSome o (λ t. t.track ≤ geometry)) }
-    ensures protection { IfErr result (λ t. t.code ≡ 26 → (M.seen medium.old).protected ≡ true) }
     ensures only { OnlyContent result (M.seen medium.old) (M.seen medium.new) }
 {
     let first = file.side();

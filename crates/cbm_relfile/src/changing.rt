@@ -1,12 +1,13 @@
 // A record is written in place.
 
-ghost use Rattle.std.specs.Prelude.{◌≡◌, ◌≢◌, ◌≤◌, ◌<◌, ◌+◌, ◌^◌, ℕ, List, true, false, None, length, option_map, IfOk, IfErr, IfSome, IsOkAnd, MatchResult};
+ghost use Rattle.std.specs.Prelude.{◌≡◌, ◌≤◌, ◌<◌, ◌+◌, ◌^◌, List, None, length, option_map, IfOk, IfSome, IsOkAnd, MatchResult};
 ghost use Rattle.cbm_medium.specs.Place.{Place, sector_count};
 ghost use Rattle.cbm_medium.specs.Seen.{OnlyContent};
 ghost use Rattle.cbm_file.specs.Records.{with_bytes};
 ghost use Rattle.cbm_chain.specs.Data.{chain_bytes};
 ghost use Rattle.cbm_relfile.specs.Records.{AllWhole, IsLaid, record_in};
 ghost use Rattle.cbm_relfile.specs.Changing.{IsChangedIfThere, IsChangeStopped};
+ghost use Rattle.cbm_relfile.specs.Written.{IsRecordWrite};
 
 use crate::reading::{Record, block_at, joined, next_stretch, stretch};
 use crate::relative::Relative;
@@ -64,16 +65,7 @@ pub fn write_record<M: Medium>(
         AllWhole old.content → IsLaid geometry old.content file blocks sides → length blocks ≤ sector_count geometry →
         IfOk result (λ o. IfSome o (λ r. IsOkAnd r.next (λ x. option_map (λ y. y.items) x
         ≡ record_in file.width (chain_bytes old.content blocks) (number + 1)))) }
-    ensures next_never_26 { IfOk result (λ o. IfSome o (λ r. IfErr r.next (λ t. t.code ≢ 26))) }
-    // None says that nothing has changed, whatever the medium holds.
-    ensures kept { IfOk result (λ o. o ≡ None → (M.seen medium.new).content ≡ (M.seen medium.old).content) }
-    // So many bytes have 768 blocks at most; and on a protected medium no record is written.
-    ensures few { IfOk result (λ o. IfSome o (λ r. number ≤ 195072)) }
-    ensures allowed { IfOk result (λ o. IfSome o (λ r. (M.seen medium.old).protected ≡ false)) }
-    // A protected medium stays as it is, and the code 26 says that it is protected, whatever it holds.
-    ensures guarded { (M.seen medium.old).protected ≡ true →
-        (M.seen medium.new).content ≡ (M.seen medium.old).content }
-    ensures protection { IfErr result (λ t. t.code ≡ 26 → (M.seen medium.old).protected ≡ true) }
+    ensures write { IsRecordWrite result (M.seen medium.old) (M.seen medium.new) number }
     ensures only { OnlyContent result (M.seen medium.old) (M.seen medium.new) }
 {
     let from = (number - 1) * file.length() as u32;

@@ -43,7 +43,6 @@ pub fn lengthen<M: Medium>(
         (λ q. IsLengthened geometry old.content new.content last length blocks q))
         (λ t. IsLengthenStopped geometry old new last t.code) }
     ensures bound { IfOk result (λ o. IfSome o (λ q. q.track ≤ geometry)) }
-    ensures protection { IfErr result (λ t. t.code ≡ 26 → (M.seen medium.old).protected ≡ true) }
     ensures only { OnlyContent result (M.seen medium.old) (M.seen medium.new) }
 {
     let sector = medium.read(last)?;
@@ -108,7 +107,6 @@ pub fn list_block<M: Medium>(
         let at = side_at head (number / 120) in Has geometry at → IsOk (old.content at) →
         MatchResult result (λ x. IsBlockListed old.content new.content at (number % 120) block)
         (λ t. IsListStopped geometry old new t.code) }
-    ensures protection { IfErr result (λ t. t.code ≡ 26 → (M.seen medium.old).protected ≡ true) }
     ensures only { OnlyContent result (M.seen medium.old) (M.seen medium.new) }
 {
     let head = read_at(medium, geometry, first)?;
@@ -179,7 +177,6 @@ pub fn begin_side<M: Medium>(
         (λ t. IsSideBegun geometry old.content new.content head sides file.width block t))
         (λ t. IsLengthenStopped geometry old new file.side t.code) }
     ensures bound { IfOk result (λ o. IfSome o (λ t. t.track ≤ geometry)) }
-    ensures protection { IfErr result (λ t. t.code ≡ 26 → (M.seen medium.old).protected ≡ true) }
     ensures only { OnlyContent result (M.seen medium.old) (M.seen medium.new) }
 {
     let head = read_at(medium, geometry, file.side())?;
@@ -207,7 +204,6 @@ pub fn link_side<M: Medium>(
         let at = side_at head number in Has geometry at → IsOk (old.content at) →
         MatchResult result (λ x. IsSideLinked old.content new.content at number sides side)
         (λ t. IsListStopped geometry old new t.code) }
-    ensures protection { IfErr result (λ t. t.code ≡ 26 → (M.seen medium.old).protected ≡ true) }
     ensures only { OnlyContent result (M.seen medium.old) (M.seen medium.new) }
 {
     let head = read_at(medium, geometry, first)?;

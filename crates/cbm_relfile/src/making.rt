@@ -43,7 +43,6 @@ pub fn claim_two<M: Medium>(
         (λ r. AreClaimed geometry old.content new.content r.0 r.1)) }
     ensures bound { IfOk result (λ o. IfSome o (λ r. (r.0.track ≤ geometry) × (r.1.track ≤ geometry))) }
     ensures stopped { IfErr result (λ t. IsClaimStopped geometry (M.seen medium.old) (M.seen medium.new) t.code) }
-    ensures protection { IfErr result (λ t. t.code ≡ 26 → (M.seen medium.old).protected ≡ true) }
     ensures only { OnlyContent result (M.seen medium.old) (M.seen medium.new) }
 {
     let Some(block) = claim_first(medium, geometry)? else {
@@ -70,7 +69,6 @@ pub fn write_new<M: Medium>(
     ensures written { OnOk result (IsNew (M.seen medium.old).content (M.seen medium.new).content block side length) }
     ensures stopped { IfErr result
         (λ t. IsNewStopped (M.seen medium.old) (M.seen medium.new) block side t.code) }
-    ensures protection { IfErr result (λ t. t.code ≡ 26 → (M.seen medium.old).protected ≡ true) }
     ensures only { OnlyContent result (M.seen medium.old) (M.seen medium.new) }
 {
     medium.write(block, &fresh_block(length))?;

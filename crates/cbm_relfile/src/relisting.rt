@@ -72,7 +72,6 @@ fn write_side<M: Medium>(
         (λ next. IsSideListed old.content new.content side (take 120 blocks) ×
         Chain geometry old.content next (drop 120 blocks))
         (λ t. (new.content ≡ old.content) × IsNotWritten old new side t.code) }
-    ensures protection { IfErr result (λ t. t.code ≡ 26 → (M.seen medium.old).protected ≡ true) }
     ensures only { OnlyContent result (M.seen medium.old) (M.seen medium.new) }
 {
     let Some(at) = side.address(geometry) else {
@@ -153,7 +152,6 @@ fn unlist<M: Medium>(
         IsRelisted geometry old.content new.content file xs ss ×
         MatchResult result (λ x. (i : ℕ) → i < length ss → lists_at new.content ss i ≡ [])
         (λ t. IsSideRefused old new t.code) }
-    ensures protection { IfErr result (λ t. t.code ≡ 26 → (M.seen medium.old).protected ≡ true) }
     ensures only { OnlyContent result (M.seen medium.old) (M.seen medium.new) }
 {
     for passed in 0..sides {
@@ -180,7 +178,6 @@ fn relist<M: Medium>(
         ((i : ℕ) → i < length ss → lists_at old.content ss i ≡ []) →
         IsRelisted geometry old.content new.content file xs ss ×
         MatchResult result (λ x. AreListed new.content ss xs) (λ t. IsSideRefused old new t.code) }
-    ensures protection { IfErr result (λ t. t.code ≡ 26 → (M.seen medium.old).protected ≡ true) }
     ensures only { OnlyContent result (M.seen medium.old) (M.seen medium.new) }
 {
     let mut at = first;
@@ -209,7 +206,6 @@ pub fn list_anew<M: Medium>(
     ensures form { let old = M.seen medium.old in (xs ss : List Place) →
         IsLaid geometry old.content file xs ss → length ss ≡ sides → AreInForm old.content ss xs →
         IsOk result × ((M.seen medium.new).content ≡ old.content) }
-    ensures protection { IfErr result (λ t. t.code ≡ 26 → (M.seen medium.old).protected ≡ true) }
     ensures only { OnlyContent result (M.seen medium.old) (M.seen medium.new) }
 {
     let head = read_at(medium, geometry, file.side())?;

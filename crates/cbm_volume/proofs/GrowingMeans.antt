@@ -11,11 +11,11 @@ use Rattle.cbm_file.specs.Records.{blocks_for, sides_for, with_sized_body}
 use Rattle.cbm_bam.specs.Map.{geometry_of}
 use Rattle.cbm_directory.specs.Entries.{entry_at, first_block, first_side}
 use Rattle.cbm_relfile.specs.Records.{Relative}
-use Rattle.cbm_volume.specs.Growth.{filled_up, more_blocks, with_growth, IsTooLarge, IsGrowthCut}
+use Rattle.cbm_volume.specs.Growth.{filled_up, more_blocks, with_growth, IsTooLarge, IsGrowthCut, IsGrowth}
 use Rattle.cbm_volume.specs.Growing.{IsGrowthStopped, IsGrownTo, IsPlanned, is_too_large}
 use Rattle.cbm_volume.specs.Layouts.{Untouched}
 use Rattle.cbm_volume.specs.Opens.{IsHindered}
-use Rattle.cbm_volume.specs.RecordWrites.{HasRecordsOpen}
+use Rattle.cbm_volume.specs.RecordWrites.{HasRecordsOpen, OfOpen}
 use Rattle.cbm_volume.specs.Writers.{Use, HoldsNow}
 use Rattle.cbm_volume.proofs.GrowingEnds.{untouched_files, stopped_untouched, grown_untouched}
 use Rattle.cbm_volume.proofs.GrowingSteps.{Stage, cut_of}
@@ -96,15 +96,5 @@ some_says {P} x p A B e h = subst (λ (y : Option P). MatchOption y A B) e h
 
 -- ---- the clauses of the growth in a slot, over what the medium shows
 
-abbrev pub SlotGrown : Seen → Seen → ℕ → ℕ → ℕ → Result Bool Trouble → Type 0
-SlotGrown old new n k free r = (d : Disk) (uses : ℕ → Use) (w b s : ℕ) (rs : List (List ℕ)) → HasRecordsOpen old.tracks old.content d uses n w b s rs → free ≡ d.free
-    → IfOk r (λ done. MatchBool done (HoldsNow old.tracks new.content (with_growth d n w b s rs k) uses) (IsTooLarge d w b s k × (new.content ≡ old.content)))
-
-abbrev pub SlotFull : Seen → ℕ → ℕ → ℕ → Result Bool Trouble → Type 0
-SlotFull old n k free r = (d : Disk) (uses : ℕ → Use) (w b s : ℕ) (rs : List (List ℕ)) → HasRecordsOpen old.tracks old.content d uses n w b s rs → free ≡ d.free → IsTooLarge d w b s k → IsOkAnd r (λ done. done ≡ false)
-
-abbrev pub SlotStopped : Seen → Seen → ℕ → ℕ → Result Bool Trouble → Type 0
-SlotStopped old new n free r = (d : Disk) (uses : ℕ → Use) (w b s : ℕ) (rs : List (List ℕ)) → HasRecordsOpen old.tracks old.content d uses n w b s rs → free ≡ d.free → IfErr r (IsGrowthCut old new d uses n w rs)
-
-abbrev pub SlotUntouched : Seen → Seen → ℕ → ℕ → Type 0
-SlotUntouched old new n free = (d : Disk) (uses : ℕ → Use) (w b s : ℕ) (rs : List (List ℕ)) → HasRecordsOpen old.tracks old.content d uses n w b s rs → free ≡ d.free → Untouched (geometry_of old.tracks old.content) old.content new.content (λ m. m == n)
+abbrev pub SlotGrows : Seen → Seen → ℕ → ℕ → ℕ → Result Bool Trouble → Type 0
+SlotGrows old new n k free r = OfOpen old n (λ d uses w b s rs o. free ≡ d.free → IsGrowth r old new d uses n w b s rs k)

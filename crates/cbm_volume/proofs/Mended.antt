@@ -230,7 +230,7 @@ swept_stopped medium c c1 d uses k h idle w =
       ]);
     }
 
-of_directory : (tracks : ℕ) (c : Content) (l : Layout) → Sound tracks c l → IsDirectory tracks c l.directory
+pub of_directory : (tracks : ℕ) (c : Content) (l : Layout) → Sound tracks c l → IsDirectory tracks c l.directory
 of_directory tracks c l s = (s.directory, directory_length tracks c l s)
 
 pub stopped_at : (medium : ℕ) (c c1 : Content) (d : Disk) (uses : ℕ → Use) → HoldsNow medium c d uses → AreIdle uses → ((xs : List Place) → IsDirectory (geometry_of medium c) c xs → (k : ℕ) × IsSwept c c1 xs k) → Stopped medium c1 d (validated d) uses

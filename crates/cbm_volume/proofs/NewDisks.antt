@@ -1,6 +1,6 @@
 -- Behind NEW the medium holds the empty disk.
 use Rattle.std.proofs.Common.{◌≡◌, ◌≢◌, ◌⊎◌, ℕ, ◌/◌, ◌%◌, ◌<◌, ◌≤◌, List, [], ◌∷◌, take, drop, get_or, Bool, true, false, Ok, Err, IsOk, refl, sym, ap, subst, ◌∙◌, arith, inl, inr, Option, Some, None, Result}
-use Rattle.std.specs.Prelude.{if◌then◌else◌, not, slice_range, OnOk, IsErr}
+use Rattle.std.specs.Prelude.{if◌then◌else◌, not, slice_range, OnOk, IfErr, IsErr}
 use Rattle.std.proofs.lemmas.Bool.{cases_lt, eq-eqb}
 use Rattle.std.proofs.lemmas.List.{get_or-replicate}
 use Rattle.cbm_medium.specs.Place.{Place, directory_head, Has}
@@ -256,10 +256,16 @@ only_long r id o old mid new was some h =
     subst (λ (y : Option (List ℕ)). OnlyNew r y old new) (sym some) (inl (under (subst (λ (s : Seen). OnlyContent r s new) was h)))
   where
     under : OnlyContent r (formatted_as id (with_content blank old)) new → OnlyContent r (formatted_as id old) new
-    under k = record { tracks = k.tracks; protected = k.protected; id = k.id; counted = k.counted; once = k.once; uncounted = k.uncounted; own = k.own }
+    under k = record { tracks = k.tracks; protected = k.protected; id = k.id; counted = k.counted; once = k.once; uncounted = k.uncounted; own = k.own; guarded = k.guarded }
 
 -- tracks and protection stay, and failures are counted
 pub new_keeps : (r : Result (Unit {0}) Trouble) (o : Option (List ℕ)) (old new : Seen) → OnlyNew r o old new → (new.tracks ≡ old.tracks) × (new.protected ≡ old.protected) × (old.failures ≤ new.failures)
 new_keeps r None old new h = (h.tracks, h.protected, h.counted)
 new_keeps r (Some id) old new (inl h) = (h.tracks, h.protected, h.counted)
 new_keeps r (Some id) old new (inr (err, h)) = (h.tracks, h.protected, h.counted)
+
+-- the code 26 says that the medium was protected
+pub new_refusal : (r : Result (Unit {0}) Trouble) (o : Option (List ℕ)) (old new : Seen) → OnlyNew r o old new → IfErr r (λ t. t.code ≡ 26 → old.protected ≡ true)
+new_refusal r None old new h = h.guarded
+new_refusal r (Some id) old new (inl h) = h.guarded
+new_refusal r (Some id) old new (inr (err, h)) = h.guarded

@@ -13,6 +13,7 @@ use Rattle.cbm_relfile.specs.Growing.{IsSideLinked, IsLengthenStopped, IsListSto
 use Rattle.cbm_relfile.specs.Records.{Relative}
 use Rattle.cbm_volume.specs.AddingSides.{HasSides, HasEmptySide}
 use Rattle.cbm_volume.specs.Growing.{disk_with, IsGrowthStopped}
+pub use Rattle.cbm_volume.specs.GrowthSteps.{State, OfSides, OfRoom, OfRoomFor, OfEmpty}
 use Rattle.cbm_volume.specs.Layouts.{Nobody, TheMap, SideOf, OwnedBy}
 use Rattle.cbm_volume.specs.RecordWrites.{HasRecordsOpen}
 use Rattle.cbm_volume.specs.Writers.{Use}
@@ -132,19 +133,6 @@ module _ (old new : Seen) (c0 : Content) (d : Disk) (uses : ℕ → Use) (n w b 
 
 -- ---- one call after another
 
--- a state of a file whose records a channel has open
-abbrev pub State : Type 1
-State = (m : ℕ) (c0 : Content) (d : Disk) (uses : ℕ → Use) (n w b s : ℕ) (rs : List (List ℕ)) → HasRecordsOpen m c0 d uses n w b s rs → Content → Type 0
-
-abbrev pub OfSides : Relative → ℕ → State
-OfSides r s1 m c0 d uses n w b s rs o c = HasSides m c0 d uses n w b s rs o r c s1
-
-abbrev pub OfRoom : Relative → ℕ → State
-OfRoom r s1 m c0 d uses n w b s rs o c = HasSides m c0 d uses n w b s rs o r c s1 × (0 < d.free - (s1 - s))
-
-abbrev pub OfEmpty : Relative → ℕ → Place → State
-OfEmpty r s1 t m c0 d uses n w b s rs o c = HasEmptySide m c0 d uses n w b s rs o r c s1 t
-
 -- a call goes from one state to another, or stops; `says` picks the one of its exit, or both by its result
 abbrev pub GoesBy : ℕ → Seen → Seen → ℕ → State → State → (Type 0 → (Trouble → Type 0) → Type 0) → Type 0
 GoesBy m old new geometry From To says = (c0 : Content) (d : Disk) (uses : ℕ → Use) (n w b s : ℕ) (rs : List (List ℕ)) (o : HasRecordsOpen m c0 d uses n w b s rs) → geometry ≡ geometry_of m c0
@@ -162,10 +150,6 @@ pub both_then : {X : Type 0} (res : Result X Trouble) (old mid new : Seen) (geom
     → GoesBy mid.tracks mid new geometry B C (λ p q. MatchResult res (λ x. p) q) → GoesBy old.tracks old new geometry A C (λ p q. MatchResult res (λ x. p) q)
 both_then (Ok x) old mid new geometry A B C same protected counted f k = ok_then old mid new geometry A B C same f k
 both_then (Err u) old mid new geometry A B C same protected counted f k = stop_then old mid new geometry u A B C same protected counted f k
-
--- and enough blocks are free for so many side sectors
-abbrev pub OfRoomFor : Relative → ℕ → ℕ → State
-OfRoomFor r s1 all m c0 d uses n w b s rs o c = HasSides m c0 d uses n w b s rs o r c s1 × (all - s ≤ d.free)
 
 pub room_there : (m : ℕ) (c0 : Content) (d : Disk) (uses : ℕ → Use) (n w b s : ℕ) (rs : List (List ℕ)) (o : HasRecordsOpen m c0 d uses n w b s rs) (r : Relative) (c : Content) (s1 all : ℕ) → OfRoomFor r s1 all m c0 d uses n w b s rs o c → s1 < all → 0 < d.free - (s1 - s)
 room_there m c0 d uses n w b s rs o r c s1 all h few = let more = h.0.more in omega (arith, h.1, few, more)

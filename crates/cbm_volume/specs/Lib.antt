@@ -3,12 +3,14 @@ pub mod Layouts
 pub mod Writers
 pub mod Holding
 pub mod Opens
+pub mod Calls
 pub mod RecordFaults
 pub mod RecordWrites
 pub mod Growth
 pub mod Growing
 pub mod Relists
 pub mod AddingSides
+pub mod GrowthSteps
 pub mod Reaches
 pub mod Copies
 pub mod NewRecords
@@ -23,5 +25,6 @@ pub mod Plain
 pub use Rattle.cbm_medium.specs.Content
 pub use Rattle.cbm_bam.specs.Map
 pub use Rattle.cbm_chain.specs.Reading
+pub use Rattle.cbm_relfile.specs.Written
 pub use Rattle.cbm_directory.specs.Entries
 pub use Rattle.cbm_directory.specs.Slots

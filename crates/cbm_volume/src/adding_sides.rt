@@ -1,17 +1,11 @@
 // A relative file whose side sectors can't list all its blocks gets more of them, before it grows.
 
-ghost use Rattle.std.specs.Prelude.{◌≡◌, ◌≤◌, ◌<◌, ◌+◌, ◌-◌, ◌*◌, ℕ, List, true, Ok, IsOk, IfErr, IfOk, MatchResult};
-ghost use Rattle.cbm_medium.specs.Content.{Content};
-ghost use Rattle.cbm_medium.specs.Place.{Place, Has};
+ghost use Rattle.std.specs.Prelude.{◌≡◌, ◌≤◌, ◌<◌, ◌+◌, ◌-◌, ◌*◌, ℕ, List, Ok, IsOk, IfOk, MatchResult};
+ghost use Rattle.cbm_medium.specs.Place.{Has};
 ghost use Rattle.cbm_medium.specs.Seen.{OnlyContent};
-ghost use Rattle.cbm_file.specs.Files.{Disk};
 ghost use Rattle.cbm_file.specs.Records.{sides_for};
-ghost use Rattle.cbm_bam.specs.Map.{geometry_of};
 ghost use Rattle.cbm_relfile.specs.Growing.{side_at, IsListStopped, IsSideLinked, AreSides, AreSidesLinked};
-ghost use Rattle.cbm_volume.specs.AddingSides.{HasSides, HasEmptySide};
-ghost use Rattle.cbm_volume.specs.Growing.{IsGrowthStopped};
-ghost use Rattle.cbm_volume.specs.RecordWrites.{HasRecordsOpen};
-ghost use Rattle.cbm_volume.specs.Writers.{Use};
+ghost use Rattle.cbm_volume.specs.GrowthSteps.{Goes, OfSides, OfRoom, OfRoomFor, OfEmpty, OfAllSides};
 
 use crate::making_records::miscounted;
 use cbm_medium::{Address, Geometry, Medium, Trouble};
@@ -27,13 +21,8 @@ fn open_empty<M: Medium>(
 ) -> Result<Address, Trouble>
     requires tracks { geometry ≤ (M.seen medium.old).tracks }
     requires sides { sides < 6 }
-    ensures opened { let old = M.seen medium.old in let new = M.seen medium.new in
-        (c0 : Content) (d : Disk) (uses : ℕ → Use) (n w b s : ℕ) (rs : List (List ℕ))
-        (o : HasRecordsOpen old.tracks c0 d uses n w b s rs) → geometry ≡ geometry_of old.tracks c0 →
-        HasSides old.tracks c0 d uses n w b s rs o file old.content sides → 0 < d.free - (sides - s) →
-        MatchResult result (λ t. HasEmptySide old.tracks c0 d uses n w b s rs o file new.content sides t)
-        (IsGrowthStopped old new c0 o.holds.layout d uses n w rs) }
-    ensures protection { IfErr result (λ t. t.code ≡ 26 → (M.seen medium.old).protected ≡ true) }
+    ensures opened { Goes result (M.seen medium.old) (M.seen medium.new) geometry
+        (OfRoom file sides) (λ t. OfEmpty file sides t) }
     ensures only { OnlyContent result (M.seen medium.old) (M.seen medium.new) }
 {
     let Some(side) = begin_empty_side(medium, geometry, file, sides)? else {
@@ -54,25 +43,16 @@ fn list_side<M: Medium>(
 ) -> Result<(), Trouble>
     requires tracks { geometry ≤ (M.seen medium.old).tracks }
     requires number { (number < sides) × (sides < 6) }
-    ensures copied { let old = M.seen medium.old in let new = M.seen medium.new in
-        (c0 : Content) (d : Disk) (uses : ℕ → Use) (n w b s : ℕ) (rs : List (List ℕ))
-        (o : HasRecordsOpen old.tracks c0 d uses n w b s rs) → geometry ≡ geometry_of old.tracks c0 →
-        HasEmptySide old.tracks c0 d uses n w b s rs o file old.content sides side → 0 < number →
-        MatchResult result (λ x. HasEmptySide old.tracks c0 d uses n w b s rs o file new.content sides side)
-        (IsGrowthStopped old new c0 o.holds.layout d uses n w rs) }
-    ensures added { let old = M.seen medium.old in let new = M.seen medium.new in
-        (c0 : Content) (d : Disk) (uses : ℕ → Use) (n w b s : ℕ) (rs : List (List ℕ))
-        (o : HasRecordsOpen old.tracks c0 d uses n w b s rs) → geometry ≡ geometry_of old.tracks c0 →
-        HasEmptySide old.tracks c0 d uses n w b s rs o file old.content sides side → number ≡ 0 →
-        MatchResult result (λ x. HasSides old.tracks c0 d uses n w b s rs o file new.content (sides + 1))
-        (IsGrowthStopped old new c0 o.holds.layout d uses n w rs) }
+    ensures copied { 0 < number → Goes result (M.seen medium.old) (M.seen medium.new) geometry
+        (OfEmpty file sides side) (λ x. OfEmpty file sides side) }
+    ensures added { number ≡ 0 → Goes result (M.seen medium.old) (M.seen medium.new) geometry
+        (OfEmpty file sides side) (λ x. OfSides file (sides + 1)) }
     // The side sector of that number names the new one, and all else in it stays.
     ensures linked { let old = M.seen medium.old in let new = M.seen medium.new in
         (head : List ℕ) → Has geometry file.side → old.content file.side ≡ Ok head →
         let at = side_at head number in Has geometry at → IsOk (old.content at) →
         MatchResult result (λ x. IsSideLinked old.content new.content at number sides side)
         (λ t. IsListStopped geometry old new t.code) }
-    ensures protection { IfErr result (λ t. t.code ≡ 26 → (M.seen medium.old).protected ≡ true) }
     ensures only { OnlyContent result (M.seen medium.old) (M.seen medium.new) }
 {
     link_side(medium, geometry, file.side(), sides, number, side)
@@ -88,17 +68,12 @@ fn list_in_others<M: Medium>(
 ) -> Result<(), Trouble>
     requires tracks { geometry ≤ (M.seen medium.old).tracks }
     requires sides { sides < 6 }
-    ensures copied { let old = M.seen medium.old in let new = M.seen medium.new in
-        (c0 : Content) (d : Disk) (uses : ℕ → Use) (n w b s : ℕ) (rs : List (List ℕ))
-        (o : HasRecordsOpen old.tracks c0 d uses n w b s rs) → geometry ≡ geometry_of old.tracks c0 →
-        HasEmptySide old.tracks c0 d uses n w b s rs o file old.content sides side →
-        MatchResult result (λ x. HasEmptySide old.tracks c0 d uses n w b s rs o file new.content sides side)
-        (IsGrowthStopped old new c0 o.holds.layout d uses n w rs) }
-    // Each of them names the new one then, behind those that it named.
+    ensures copied { Goes result (M.seen medium.old) (M.seen medium.new) geometry
+        (OfEmpty file sides side) (λ x. OfEmpty file sides side) }
+    // Each of them names the new one then, after those that it named.
     ensures linked { let old = M.seen medium.old in let new = M.seen medium.new in
         (head : List ℕ) → AreSides geometry old.content file.side head sides →
         IfOk result (λ x. AreSidesLinked old.content new.content head 1 sides side) }
-    ensures protection { IfErr result (λ t. t.code ≡ 26 → (M.seen medium.old).protected ≡ true) }
     ensures only { OnlyContent result (M.seen medium.old) (M.seen medium.new) }
 {
     for passed in 1..sides {
@@ -116,13 +91,8 @@ fn add_empty<M: Medium>(
 ) -> Result<(), Trouble>
     requires tracks { geometry ≤ (M.seen medium.old).tracks }
     requires sides { (1 ≤ sides) × (sides < 6) }
-    ensures added { let old = M.seen medium.old in let new = M.seen medium.new in
-        (c0 : Content) (d : Disk) (uses : ℕ → Use) (n w b s : ℕ) (rs : List (List ℕ))
-        (o : HasRecordsOpen old.tracks c0 d uses n w b s rs) → geometry ≡ geometry_of old.tracks c0 →
-        HasSides old.tracks c0 d uses n w b s rs o file old.content sides → 0 < d.free - (sides - s) →
-        MatchResult result (λ x. HasSides old.tracks c0 d uses n w b s rs o file new.content (sides + 1))
-        (IsGrowthStopped old new c0 o.holds.layout d uses n w rs) }
-    ensures protection { IfErr result (λ t. t.code ≡ 26 → (M.seen medium.old).protected ≡ true) }
+    ensures added { Goes result (M.seen medium.old) (M.seen medium.new) geometry
+        (OfRoom file sides) (λ x. OfSides file (sides + 1)) }
     ensures only { OnlyContent result (M.seen medium.old) (M.seen medium.new) }
 {
     let side = open_empty(medium, geometry, file, sides)?;
@@ -142,17 +112,11 @@ pub(crate) fn add_sides<M: Medium>(
     requires tracks { geometry ≤ (M.seen medium.old).tracks }
     requires blocks { blocks ≤ 720 }
     requires sides { sides ≤ 6 }
-    ensures added { let old = M.seen medium.old in let new = M.seen medium.new in
-        (c0 : Content) (d : Disk) (uses : ℕ → Use) (n w b s : ℕ) (rs : List (List ℕ))
-        (o : HasRecordsOpen old.tracks c0 d uses n w b s rs) → geometry ≡ geometry_of old.tracks c0 →
-        HasSides old.tracks c0 d uses n w b s rs o file old.content sides →
-        sides_for sides blocks - s ≤ d.free → MatchResult result
-        (λ k. (k ≡ sides_for sides blocks) × HasSides old.tracks c0 d uses n w b s rs o file new.content k)
-        (IsGrowthStopped old new c0 o.holds.layout d uses n w rs) }
+    ensures added { let all = sides_for sides blocks in
+        Goes result (M.seen medium.old) (M.seen medium.new) geometry (OfRoomFor file sides all) (OfAllSides file all) }
     ensures enough { 1 ≤ sides → blocks ≤ 120 * sides →
         (result ≡ Ok sides) × ((M.seen medium.new).content ≡ (M.seen medium.old).content) }
     ensures bound { IfOk result (λ k. (sides ≤ k) × (k ≤ 6)) }
-    ensures protection { IfErr result (λ t. t.code ≡ 26 → (M.seen medium.old).protected ≡ true) }
     ensures only { OnlyContent result (M.seen medium.old) (M.seen medium.new) }
 {
     // A sound relative file has a side sector.

@@ -1,16 +1,15 @@
 // OPEN for appending.
 
-ghost use Rattle.std.specs.Prelude.{◌≡◌, ◌≤◌, ℕ, Some, true, false, OnErr, IfOk, IfErr};
+ghost use Rattle.std.specs.Prelude.{◌≡◌, ◌≤◌, Some, false, OnErr, IfOk, MatchResult, ℕ};
 ghost use Rattle.cbm_medium.specs.Seen.{OnlyContent};
 ghost use Rattle.cbm_file.specs.declared.file_type.FileType.TheVariants.{Del};
 ghost use Rattle.cbm_file.specs.Types.{is_same_type};
-ghost use Rattle.cbm_file.specs.Files.{Disk, File, with_slot, bytes_in};
+ghost use Rattle.cbm_file.specs.Files.{File, with_slot, bytes_in};
 ghost use Rattle.cbm_file.specs.Changes.{reopened};
-ghost use Rattle.cbm_bam.specs.Map.{geometry_of};
-ghost use Rattle.cbm_volume.specs.Layouts.{Untouched};
 ghost use Rattle.cbm_volume.specs.Holding.{StandsAt};
-ghost use Rattle.cbm_volume.specs.Writers.{Use, Idle, HoldsNow};
+ghost use Rattle.cbm_volume.specs.Writers.{Idle};
 ghost use Rattle.cbm_volume.specs.Opens.{CanBeWritten, Begins, IsHindered};
+ghost use Rattle.cbm_volume.specs.Calls.{OfDisk, LeavesFiles};
 
 use crate::filling::FileWriter;
 use crate::volume::Volume;
@@ -24,21 +23,14 @@ impl<M: Medium> Volume<M> {
     pub fn begin_append(&mut self, slot: u8, entry: &Entry) -> Result<FileWriter, Trouble>
         // A file of type DEL has no such entry: with bit 7 cleared, its type byte is that of an empty slot.
         ensures begun { let old = M.seen self.old in let new = M.seen self.new in
-            (d : Disk) (uses : ℕ → Use) (ch : ℕ) (f : File) → HoldsNow old.tracks old.content d uses →
-            uses ch ≡ Idle → CanBeWritten d uses slot f → is_same_type Del f.kind ≡ false →
-            StandsAt old.tracks old.content slot entry.now →
-            IfOk result (Begins old.tracks new.content (with_slot d slot (Some (reopened f))) uses ch slot false
-            (bytes_in f.body) f.held) }
+            OfDisk old (λ d uses. (f : File) → CanBeWritten d uses slot f →
+            StandsAt old.tracks old.content slot entry.now → MatchResult result
+            (λ w. (ch : ℕ) → uses ch ≡ Idle → is_same_type Del f.kind ≡ false → Begins old.tracks new.content
+            (with_slot d slot (Some (reopened f))) uses ch slot false (bytes_in f.body) f.held w)
+            (IsHindered old new)) }
         ensures err { OnErr result ((M.seen self.new).content ≡ (M.seen self.old).content) }
-        ensures cause { let old = M.seen self.old in (d : Disk) (uses : ℕ → Use) (f : File) →
-            HoldsNow old.tracks old.content d uses → CanBeWritten d uses slot f →
-            StandsAt old.tracks old.content slot entry.now → IfErr result (IsHindered old (M.seen self.new)) }
-        ensures untouched { let old = M.seen self.old in (d : Disk) (uses : ℕ → Use) →
-            HoldsNow old.tracks old.content d uses →
-            Untouched (geometry_of old.tracks old.content) old.content (M.seen self.new).content (λ m. false) }
+        ensures untouched { OfDisk (M.seen self.old) (λ d uses. LeavesFiles (M.seen self.old) (M.seen self.new) (λ m. false)) }
         ensures tracks { IfOk result (λ w. w.chain.tracks ≤ (M.seen self.old).tracks) }
-        // The code 26 says that the medium is protected, whatever it holds.
-        ensures protection { IfErr result (λ t. t.code ≡ 26 → (M.seen self.old).protected ≡ true) }
         ensures only { OnlyContent result (M.seen self.old) (M.seen self.new) }
     {
         let geometry = self.geometry();

@@ -1,6 +1,6 @@
 // COPY: the bytes of closed files, one after another, are a new file.
 
-ghost use Rattle.std.specs.Prelude.{◌≡◌, ◌≢◌, ◌≤◌, ◌||◌, ◌++◌, ◌∷◌, ℕ, List, [], length, min, not, nat_lt, true, false, Some, IfOk, IfErr, IsOkAnd, OnErr, MatchBool, MatchResult};
+ghost use Rattle.std.specs.Prelude.{◌≡◌, ◌≢◌, ◌≤◌, ◌||◌, ◌++◌, ◌∷◌, List, [], length, min, not, nat_lt, true, false, Some, IfOk, IfErr, IsOkAnd, MatchBool, MatchResult, ℕ};
 ghost use Rattle.cbm_medium.specs.Content.{Content};
 ghost use Rattle.cbm_medium.specs.Seen.{OnlyContent};
 ghost use Rattle.cbm_file.specs.declared.file_type.FileType.TheVariants.{Del, Rel};
@@ -8,13 +8,12 @@ ghost use Rattle.cbm_file.specs.Types.{is_same_type};
 ghost use Rattle.cbm_file.specs.Padding.{before_filler};
 ghost use Rattle.cbm_file.specs.Files.{Disk, Bytes, file_at, empty_from, blocks_of};
 ghost use Rattle.cbm_file.specs.Changes.{bytes_at, joined, copy_blocks, with_copy, with_file, closed_file, grown, has_slot};
-ghost use Rattle.cbm_bam.specs.Map.{geometry_of};
 ghost use Rattle.cbm_chain.specs.Reading.{IsSettled};
 ghost use Rattle.cbm_volume.specs.Copies.{AreCopied, CanBeCopied, HasNoRoomFor, IsCutShort, Making};
-ghost use Rattle.cbm_volume.specs.Layouts.{Layout, Untouched};
-ghost use Rattle.cbm_volume.specs.Opens.{IsHindered};
+ghost use Rattle.cbm_volume.specs.Layouts.{Layout};
 ghost use Rattle.cbm_volume.specs.Reaches.{Reached};
 ghost use Rattle.cbm_volume.specs.Writers.{Use, Idle, Reads, HoldsNow, Stopped};
+ghost use Rattle.cbm_volume.specs.Calls.{OfDisk, OfIdle, IsCall, KeepsProtected, IsSameOn};
 
 use crate::room::Room;
 use crate::volume::Volume;
@@ -32,37 +31,17 @@ impl<M: Medium> Volume<M> {
     /// changed, or failed by itself.
     pub fn copy(&mut self, kind: FileType, name: &[u8], sources: &[u8]) -> Result<bool, Trouble>
         requires { length name.now ≤ 16 }
-        ensures copied { let old = M.seen self.old in let new = M.seen self.new in
-            (d : Disk) (uses : ℕ → Use) (ch : ℕ) → HoldsNow old.tracks old.content d uses → uses ch ≡ Idle →
-            kind ≢ Del → is_same_type Rel kind ≡ false → AreCopied d sources.now →
-            IfOk result (λ done. MatchBool done (HoldsNow old.tracks new.content
-            (with_copy d kind (before_filler name.now) sources.now) uses)
-            (HasNoRoomFor d sources.now × (new.content ≡ old.content))) }
-        // Too little room is told first, also on a protected medium.
-        ensures full { let old = M.seen self.old in
-            (d : Disk) (uses : ℕ → Use) → HoldsNow old.tracks old.content d uses → AreCopied d sources.now →
-            HasNoRoomFor d sources.now → IsOkAnd result (λ done. done ≡ false) }
-        ensures stopped { let old = M.seen self.old in
-            (d : Disk) (uses : ℕ → Use) (ch : ℕ) → HoldsNow old.tracks old.content d uses → uses ch ≡ Idle →
-            kind ≢ Del → is_same_type Rel kind ≡ false → AreCopied d sources.now →
-            OnErr result (Stopped old.tracks (M.seen self.new).content d
-            (with_copy d kind (before_filler name.now) sources.now) uses) }
-        ensures cause { let old = M.seen self.old in
-            (d : Disk) (uses : ℕ → Use) (ch : ℕ) → HoldsNow old.tracks old.content d uses → uses ch ≡ Idle →
-            kind ≢ Del → is_same_type Rel kind ≡ false → AreCopied d sources.now →
-            IfErr result (IsHindered old (M.seen self.new)) }
-        ensures untouched { let old = M.seen self.old in
-            (d : Disk) (uses : ℕ → Use) (ch : ℕ) → HoldsNow old.tracks old.content d uses → uses ch ≡ Idle →
-            kind ≢ Del → is_same_type Rel kind ≡ false → AreCopied d sources.now →
-            Untouched (geometry_of old.tracks old.content) old.content (M.seen self.new).content (λ m. false) }
-        // False says that nothing has changed, whatever the medium holds.
-        ensures kept { IfOk result
-            (λ done. done ≡ false → (M.seen self.new).content ≡ (M.seen self.old).content) }
-        // A protected medium stays as it is.
-        ensures guarded { (M.seen self.old).protected ≡ true →
-            (M.seen self.new).content ≡ (M.seen self.old).content }
-        // The code 26 says that the medium is protected, whatever it holds.
-        ensures protection { IfErr result (λ t. t.code ≡ 26 → (M.seen self.old).protected ≡ true) }
+        ensures call { let old = M.seen self.old in let new = M.seen self.new in
+            OfIdle old (λ d uses ch. kind ≢ Del → is_same_type Rel kind ≡ false → AreCopied d sources.now →
+            let after = with_copy d kind (before_filler name.now) sources.now in IsCall result old new
+            (λ done. MatchBool done (HoldsNow old.tracks new.content after uses)
+            (HasNoRoomFor d sources.now × (new.content ≡ old.content)))
+            (Stopped old.tracks new.content d after uses) (λ m. false)) }
+        // Too little room is reported first, also on a protected medium.
+        ensures full { OfDisk (M.seen self.old) (λ d uses. AreCopied d sources.now → HasNoRoomFor d sources.now →
+            IsOkAnd result (λ done. done ≡ false)) }
+        ensures kept { IsSameOn result false (M.seen self.old) (M.seen self.new) }
+        ensures guarded { KeepsProtected (M.seen self.old) (M.seen self.new) }
         ensures only { OnlyContent result (M.seen self.old) (M.seen self.new) }
     {
         let bytes = byte_total(&self.medium, sources)?;
@@ -146,7 +125,6 @@ fn make<M: Medium>(
         MatchResult result (λ x. Reached old.tracks old.content h.layout new.content
         (with_copy d kind (before_filler name.now) sources.now) uses)
         (IsCutShort old new old.content h.layout d uses) }
-    ensures protection { IfErr result (λ t. t.code ≡ 26 → (M.seen medium.old).protected ≡ true) }
     ensures only { OnlyContent result (M.seen medium.old) (M.seen medium.new) }
 {
     let (number, mut chain) = begin(medium)?;
@@ -163,7 +141,6 @@ fn begin<M: Medium>(medium: &mut M) -> Result<(u8, ChainWriter), Trouble>
         Making old.tracks old.content h.layout d uses ch new.content r.1 [] Idle)
         (IsCutShort old new old.content h.layout d uses) }
     ensures tracks { IfOk result (λ r. r.1.tracks ≤ (M.seen medium.old).tracks) }
-    ensures protection { IfErr result (λ t. t.code ≡ 26 → (M.seen medium.old).protected ≡ true) }
     ensures only { OnlyContent result (M.seen medium.old) (M.seen medium.new) }
 {
     let geometry = cbm_bam::geometry(medium);
@@ -186,7 +163,6 @@ fn put_byte<M: Medium>(medium: &mut M, chain: &mut ChainWriter, byte: u8) -> Res
         MatchResult result (λ x. Making old.tracks c l d uses ch new.content chain.new (bytes ++ byte ∷ []) source)
         (IsCutShort old new c l d uses) }
     ensures tracks { chain.new.tracks ≡ chain.old.tracks }
-    ensures protection { IfErr result (λ t. t.code ≡ 26 → (M.seen medium.old).protected ≡ true) }
     ensures only { OnlyContent result (M.seen medium.old) (M.seen medium.new) }
 {
     // Each sector that reads has 256 bytes: so it is known when a block is full.
@@ -214,7 +190,6 @@ fn put_next<M: Medium>(
         (Reads number reader.new left)) (IsCutShort old new c l d uses) }
     ensures settled { IsSettled reader.old → IsSettled reader.new }
     ensures tracks { (chain.new.tracks ≡ chain.old.tracks) × (reader.new.tracks ≡ reader.old.tracks) }
-    ensures protection { IfErr result (λ t. t.code ≡ 26 → (M.seen medium.old).protected ≡ true) }
     ensures only { OnlyContent result (M.seen medium.old) (M.seen medium.new) }
 {
     let Some((byte, _)) = reader.peek() else {
@@ -240,7 +215,6 @@ fn put_read<M: Medium>(
         MatchResult result (λ x. Making old.tracks c l d uses ch new.content chain.new (bytes ++ left) Idle)
         (IsCutShort old new c l d uses) }
     ensures tracks { chain.new.tracks ≡ chain.old.tracks }
-    ensures protection { IfErr result (λ t. t.code ≡ 26 → (M.seen medium.old).protected ≡ true) }
     ensures only { OnlyContent result (M.seen medium.old) (M.seen medium.new) }
 {
     for passed in 0..count {
@@ -259,7 +233,6 @@ fn put_file<M: Medium>(medium: &mut M, chain: &mut ChainWriter, number: u8) -> R
         MatchResult result (λ x. Making old.tracks c l d uses ch new.content chain.new
         (bytes ++ bytes_at (file_at d number)) Idle) (IsCutShort old new c l d uses) }
     ensures tracks { chain.new.tracks ≡ chain.old.tracks }
-    ensures protection { IfErr result (λ t. t.code ≡ 26 → (M.seen medium.old).protected ≡ true) }
     ensures only { OnlyContent result (M.seen medium.old) (M.seen medium.new) }
 {
     let geometry = cbm_bam::geometry(medium);
@@ -285,7 +258,6 @@ fn put_files<M: Medium>(
         MatchResult result (λ x. Making old.tracks c l d uses ch new.content chain.new
         (bytes ++ joined d sources.now) Idle) (IsCutShort old new c l d uses) }
     ensures tracks { chain.new.tracks ≡ chain.old.tracks }
-    ensures protection { IfErr result (λ t. t.code ≡ 26 → (M.seen medium.old).protected ≡ true) }
     ensures only { OnlyContent result (M.seen medium.old) (M.seen medium.new) }
 {
     'sources: for number in sources {
@@ -311,7 +283,6 @@ fn enter<M: Medium>(
         MatchResult result (λ x. Reached old.tracks c l new.content (with_file d (closed_file kind
         (before_filler name.now) (blocks_of (length bytes)) (Bytes bytes)) (blocks_of (length bytes))) uses)
         (IsCutShort old new c l d uses) }
-    ensures protection { IfErr result (λ t. t.code ≡ 26 → (M.seen medium.old).protected ≡ true) }
     ensures only { OnlyContent result (M.seen medium.old) (M.seen medium.new) }
 {
     chain.finish(medium)?;

@@ -24,7 +24,6 @@ pub(crate) fn tell_blocks<M: Medium>(medium: &mut M, slot: u8, blocks: u16) -> R
     ensures elsewhere { let old = M.seen medium.old in let new = M.seen medium.new in
         (d : Disk) (uses : ℕ → Use) → (h : HoldsNow old.tracks old.content d uses) →
         (p : Place) → h.layout.owner p ≢ Directory → new.content p ≡ old.content p }
-    ensures protection { IfErr result (λ t. t.code ≡ 26 → (M.seen medium.old).protected ≡ true) }
     ensures only { OnlyContent result (M.seen medium.old) (M.seen medium.new) }
 {
     let geometry = cbm_bam::geometry(medium);

@@ -127,7 +127,6 @@ fn write_new<M: Medium>(medium: &mut M, title: &[u8], id: [u8; 2]) -> Result<(),
         IsWritable (old.content first_directory) → IfErr result (IsHindered old (M.seen medium.new)) }
     ensures protected { let old = M.seen medium.old in old.protected ≡ true →
         (M.seen medium.new).content ≡ old.content }
-    ensures protection { IfErr result (λ t. t.code ≡ 26 → (M.seen medium.old).protected ≡ true) }
     ensures only { OnlyContent result (M.seen medium.old) (M.seen medium.new) }
 {
     let head = new_head(title, id, all_tracks(medium));
@@ -154,8 +153,6 @@ impl<M: Medium> Volume<M> {
             (id_behind id old.content) (content_under id old.content) (M.seen self.new).content) }
         ensures protected { let old = M.seen self.old in old.protected ≡ true →
             (M.seen self.new).content ≡ old.content }
-        // The code 26 says that the medium is protected, whatever it holds.
-        ensures protection { IfErr result (λ t. t.code ≡ 26 → (M.seen self.old).protected ≡ true) }
         ensures only { OnlyNew result id (M.seen self.old) (M.seen self.new) }
         ensures cause { let old = M.seen self.old in (d : Disk) (uses : ℕ → Use) →
             HoldsNow old.tracks old.content d uses → IfErr result (IsHindered old (M.seen self.new)) }

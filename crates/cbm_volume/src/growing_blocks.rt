@@ -1,16 +1,11 @@
 // A relative file grows block by block: each new block is full of fresh records, and listed by a side sector.
 
-ghost use Rattle.std.specs.Prelude.{◌≡◌, ◌≢◌, ◌≤◌, ◌<◌, ◌+◌, ◌-◌, ◌*◌, ℕ, List, true, Ok, IsOk, IfErr, IfOk, MatchResult};
-ghost use Rattle.cbm_medium.specs.Content.{Content};
+ghost use Rattle.std.specs.Prelude.{◌≡◌, ◌≤◌, ◌<◌, ◌+◌, ◌-◌, ◌*◌, ℕ, List, Ok, IsOk, IfOk, MatchResult};
 ghost use Rattle.cbm_medium.specs.Place.{Place, Has};
 ghost use Rattle.cbm_medium.specs.Seen.{OnlyContent};
-ghost use Rattle.cbm_file.specs.Files.{Disk};
 ghost use Rattle.cbm_file.specs.Records.{sides_for};
-ghost use Rattle.cbm_bam.specs.Map.{geometry_of};
 ghost use Rattle.cbm_relfile.specs.Growing.{side_at, IsListStopped, IsSideLinked, AreSides, AreSidesLinked};
-ghost use Rattle.cbm_volume.specs.Growing.{HasGrown, HasLonger, HasSide, IsGrowthStopped};
-ghost use Rattle.cbm_volume.specs.RecordWrites.{HasRecordsOpen};
-ghost use Rattle.cbm_volume.specs.Writers.{Use};
+ghost use Rattle.cbm_volume.specs.GrowthSteps.{Goes, OfLonger, OfGrown, OfSide, OfGrowable, OfGoal, OfReached, OfSideable};
 
 use crate::making_records::miscounted;
 use cbm_medium::{Address, Geometry, Medium, Trouble};
@@ -29,15 +24,9 @@ pub fn lengthen_file<M: Medium>(
     requires last { last.track ≤ geometry }
     requires length { (1 ≤ file.width) × (file.width ≤ 254) }
     requires blocks { (1 ≤ blocks) × (blocks < 720) }
-    ensures longer { let old = M.seen medium.old in let new = M.seen medium.new in
-        (c0 : Content) (d : Disk) (uses : ℕ → Use) (n w b s s1 : ℕ) (rs : List (List ℕ))
-        (o : HasRecordsOpen old.tracks c0 d uses n w b s rs) → geometry ≡ geometry_of old.tracks c0 →
-        HasGrown old.tracks c0 d uses n w b s rs o file old.content blocks s1 last →
-        0 < d.free - (blocks + s1 - (b + s)) → MatchResult result
-        (λ q. HasLonger old.tracks c0 d uses n w b s rs o file new.content blocks s1 q)
-        (IsGrowthStopped old new c0 o.holds.layout d uses n w rs) }
+    ensures longer { (s1 : ℕ) → Goes result (M.seen medium.old) (M.seen medium.new) geometry
+        (OfGrowable file blocks s1 last) (λ q. OfLonger file blocks s1 q) }
     ensures bound { IfOk result (λ q. q.track ≤ geometry) }
-    ensures protection { IfErr result (λ t. t.code ≡ 26 → (M.seen medium.old).protected ≡ true) }
     ensures only { OnlyContent result (M.seen medium.old) (M.seen medium.new) }
 {
     let _tracks = medium.tracks();
@@ -57,14 +46,8 @@ pub fn list_last<M: Medium>(
 ) -> Result<(), Trouble>
     requires tracks { geometry ≤ (M.seen medium.old).tracks }
     requires blocks { blocks < 720 }
-    ensures listed { let old = M.seen medium.old in let new = M.seen medium.new in
-        (c0 : Content) (d : Disk) (uses : ℕ → Use) (n w b s s1 : ℕ) (rs : List (List ℕ))
-        (o : HasRecordsOpen old.tracks c0 d uses n w b s rs) → geometry ≡ geometry_of old.tracks c0 →
-        HasLonger old.tracks c0 d uses n w b s rs o file old.content blocks s1 block → blocks < 120 * s1 →
-        MatchResult result
-        (λ x. HasGrown old.tracks c0 d uses n w b s rs o file new.content (blocks + 1) s1 block)
-        (IsGrowthStopped old new c0 o.holds.layout d uses n w rs) }
-    ensures protection { IfErr result (λ t. t.code ≡ 26 → (M.seen medium.old).protected ≡ true) }
+    ensures listed { (s1 : ℕ) → blocks < 120 * s1 → Goes result (M.seen medium.old) (M.seen medium.new) geometry
+        (OfLonger file blocks s1 block) (λ x. OfGrown file (blocks + 1) s1 block) }
     ensures only { OnlyContent result (M.seen medium.old) (M.seen medium.new) }
 {
     list_block(medium, geometry, file.side(), blocks, block)
@@ -82,15 +65,9 @@ pub fn open_side<M: Medium>(
     requires tracks { geometry ≤ (M.seen medium.old).tracks }
     requires sides { sides < 6 }
     requires block { block.track ≤ geometry }
-    ensures begun { let old = M.seen medium.old in let new = M.seen medium.new in
-        (c0 : Content) (d : Disk) (uses : ℕ → Use) (n w b s b1 : ℕ) (rs : List (List ℕ))
-        (o : HasRecordsOpen old.tracks c0 d uses n w b s rs) → geometry ≡ geometry_of old.tracks c0 →
-        HasLonger old.tracks c0 d uses n w b s rs o file old.content b1 sides block →
-        0 < d.free - (b1 + 1 + sides - (b + s)) → MatchResult result
-        (λ t. HasSide old.tracks c0 d uses n w b s rs o file new.content b1 sides block t)
-        (IsGrowthStopped old new c0 o.holds.layout d uses n w rs) }
+    ensures begun { (b1 : ℕ) → Goes result (M.seen medium.old) (M.seen medium.new) geometry
+        (OfSideable file b1 sides block) (λ t. OfSide file b1 sides block t) }
     ensures bound { IfOk result (λ t. t.track ≤ geometry) }
-    ensures protection { IfErr result (λ t. t.code ≡ 26 → (M.seen medium.old).protected ≡ true) }
     ensures only { OnlyContent result (M.seen medium.old) (M.seen medium.new) }
 {
     let Some(side) = begin_side(medium, geometry, file, sides, block)? else {
@@ -111,27 +88,16 @@ pub fn copy_side<M: Medium>(
 ) -> Result<(), Trouble>
     requires tracks { geometry ≤ (M.seen medium.old).tracks }
     requires number { (number < sides) × (sides < 6) }
-    ensures copied { let old = M.seen medium.old in let new = M.seen medium.new in
-        (c0 : Content) (d : Disk) (uses : ℕ → Use) (n w b s b1 : ℕ) (rs : List (List ℕ)) (q : Place)
-        (o : HasRecordsOpen old.tracks c0 d uses n w b s rs) → geometry ≡ geometry_of old.tracks c0 →
-        HasSide old.tracks c0 d uses n w b s rs o file old.content b1 sides q side → 0 < number →
-        MatchResult result
-        (λ x. HasSide old.tracks c0 d uses n w b s rs o file new.content b1 sides q side)
-        (IsGrowthStopped old new c0 o.holds.layout d uses n w rs) }
-    ensures added { let old = M.seen medium.old in let new = M.seen medium.new in
-        (c0 : Content) (d : Disk) (uses : ℕ → Use) (n w b s b1 : ℕ) (rs : List (List ℕ)) (q : Place)
-        (o : HasRecordsOpen old.tracks c0 d uses n w b s rs) → geometry ≡ geometry_of old.tracks c0 →
-        HasSide old.tracks c0 d uses n w b s rs o file old.content b1 sides q side → number ≡ 0 →
-        b1 ≡ 120 * sides → MatchResult result
-        (λ x. HasGrown old.tracks c0 d uses n w b s rs o file new.content (b1 + 1) (sides + 1) q)
-        (IsGrowthStopped old new c0 o.holds.layout d uses n w rs) }
+    ensures copied { (b1 : ℕ) (q : Place) → 0 < number → Goes result (M.seen medium.old) (M.seen medium.new) geometry
+        (OfSide file b1 sides q side) (λ x. OfSide file b1 sides q side) }
+    ensures added { (b1 : ℕ) (q : Place) → number ≡ 0 → b1 ≡ 120 * sides → Goes result (M.seen medium.old) (M.seen medium.new) geometry
+        (OfSide file b1 sides q side) (λ x. OfGrown file (b1 + 1) (sides + 1) q) }
     // The side sector of that number names the new one, and all else in it stays.
     ensures linked { let old = M.seen medium.old in let new = M.seen medium.new in
         (head : List ℕ) → Has geometry file.side → old.content file.side ≡ Ok head →
         let at = side_at head number in Has geometry at → IsOk (old.content at) →
         MatchResult result (λ x. IsSideLinked old.content new.content at number sides side)
         (λ t. IsListStopped geometry old new t.code) }
-    ensures protection { IfErr result (λ t. t.code ≡ 26 → (M.seen medium.old).protected ≡ true) }
     ensures only { OnlyContent result (M.seen medium.old) (M.seen medium.new) }
 {
     link_side(medium, geometry, file.side(), sides, number, side)
@@ -147,18 +113,12 @@ pub fn copy_sides<M: Medium>(
 ) -> Result<(), Trouble>
     requires tracks { geometry ≤ (M.seen medium.old).tracks }
     requires sides { sides < 6 }
-    ensures copied { let old = M.seen medium.old in let new = M.seen medium.new in
-        (c0 : Content) (d : Disk) (uses : ℕ → Use) (n w b s b1 : ℕ) (rs : List (List ℕ)) (q : Place)
-        (o : HasRecordsOpen old.tracks c0 d uses n w b s rs) → geometry ≡ geometry_of old.tracks c0 →
-        HasSide old.tracks c0 d uses n w b s rs o file old.content b1 sides q side →
-        MatchResult result
-        (λ x. HasSide old.tracks c0 d uses n w b s rs o file new.content b1 sides q side)
-        (IsGrowthStopped old new c0 o.holds.layout d uses n w rs) }
-    // Each of them names the new one then, behind those that it named.
+    ensures copied { (b1 : ℕ) (q : Place) → Goes result (M.seen medium.old) (M.seen medium.new) geometry
+        (OfSide file b1 sides q side) (λ x. OfSide file b1 sides q side) }
+    // Each of them names the new one then, after those that it named.
     ensures linked { let old = M.seen medium.old in let new = M.seen medium.new in
         (head : List ℕ) → AreSides geometry old.content file.side head sides →
         IfOk result (λ x. AreSidesLinked old.content new.content head 1 sides side) }
-    ensures protection { IfErr result (λ t. t.code ≡ 26 → (M.seen medium.old).protected ≡ true) }
     ensures only { OnlyContent result (M.seen medium.old) (M.seen medium.new) }
 {
     for passed in 1..sides {
@@ -178,14 +138,8 @@ pub fn add_side<M: Medium>(
     requires tracks { geometry ≤ (M.seen medium.old).tracks }
     requires sides { (1 ≤ sides) × (sides < 6) }
     requires block { block.track ≤ geometry }
-    ensures added { let old = M.seen medium.old in let new = M.seen medium.new in
-        (c0 : Content) (d : Disk) (uses : ℕ → Use) (n w b s b1 : ℕ) (rs : List (List ℕ))
-        (o : HasRecordsOpen old.tracks c0 d uses n w b s rs) → geometry ≡ geometry_of old.tracks c0 →
-        HasLonger old.tracks c0 d uses n w b s rs o file old.content b1 sides block →
-        0 < d.free - (b1 + 1 + sides - (b + s)) → b1 ≡ 120 * sides → MatchResult result
-        (λ x. HasGrown old.tracks c0 d uses n w b s rs o file new.content (b1 + 1) (sides + 1) block)
-        (IsGrowthStopped old new c0 o.holds.layout d uses n w rs) }
-    ensures protection { IfErr result (λ t. t.code ≡ 26 → (M.seen medium.old).protected ≡ true) }
+    ensures added { (b1 : ℕ) → b1 ≡ 120 * sides → Goes result (M.seen medium.old) (M.seen medium.new) geometry
+        (OfSideable file b1 sides block) (λ x. OfGrown file (b1 + 1) (sides + 1) block) }
     ensures only { OnlyContent result (M.seen medium.old) (M.seen medium.new) }
 {
     let side = open_side(medium, geometry, file, sides, block)?;
@@ -213,17 +167,11 @@ pub fn grow_once<M: Medium>(
     requires length { (1 ≤ file.width) × (file.width ≤ 254) }
     requires blocks { (1 ≤ reach.blocks) × (reach.blocks < 720) }
     requires sides { reach.sides ≤ 6 }
-    ensures grown { let old = M.seen medium.old in let new = M.seen medium.new in
-        (c0 : Content) (d : Disk) (uses : ℕ → Use) (n w b s : ℕ) (rs : List (List ℕ))
-        (o : HasRecordsOpen old.tracks c0 d uses n w b s rs) → geometry ≡ geometry_of old.tracks c0 →
-        HasGrown old.tracks c0 d uses n w b s rs o file old.content reach.blocks reach.sides reach.last →
-        reach.blocks + 1 + sides_for reach.sides (reach.blocks + 1) - (b + s) ≤ d.free → MatchResult result
-        (λ x. (x.sides ≡ sides_for reach.sides (reach.blocks + 1)) ×
-        HasGrown old.tracks c0 d uses n w b s rs o file new.content (reach.blocks + 1) x.sides x.last)
-        (IsGrowthStopped old new c0 o.holds.layout d uses n w rs) }
+    ensures grown { let goal = reach.blocks + 1 in
+        Goes result (M.seen medium.old) (M.seen medium.new) geometry (OfGoal file reach.blocks reach.sides reach.last goal)
+        (λ x. OfReached file goal (sides_for reach.sides goal) x.sides x.last) }
     ensures bound { IfOk result
         (λ x. (x.blocks ≡ reach.blocks + 1) × (x.last.track ≤ geometry) × (x.sides ≤ 6)) }
-    ensures protection { IfErr result (λ t. t.code ≡ 26 → (M.seen medium.old).protected ≡ true) }
     ensures only { OnlyContent result (M.seen medium.old) (M.seen medium.new) }
 {
     let block = lengthen_file(medium, geometry, file, reach.blocks, reach.last)?;
@@ -257,16 +205,10 @@ pub fn grow_blocks<M: Medium>(
     requires length { (1 ≤ file.width) × (file.width ≤ 254) }
     requires blocks { (1 ≤ from.blocks) × (from.blocks + count ≤ 720) }
     requires sides { from.sides ≤ 6 }
-    ensures grown { let old = M.seen medium.old in let new = M.seen medium.new in
-        (c0 : Content) (d : Disk) (uses : ℕ → Use) (n w b s : ℕ) (rs : List (List ℕ))
-        (o : HasRecordsOpen old.tracks c0 d uses n w b s rs) → geometry ≡ geometry_of old.tracks c0 →
-        HasGrown old.tracks c0 d uses n w b s rs o file old.content from.blocks from.sides from.last →
-        from.blocks + count + sides_for from.sides (from.blocks + count) - (b + s) ≤ d.free → MatchResult result
-        (λ x. (x.sides ≡ sides_for from.sides (from.blocks + count)) ×
-        HasGrown old.tracks c0 d uses n w b s rs o file new.content (from.blocks + count) x.sides x.last)
-        (IsGrowthStopped old new c0 o.holds.layout d uses n w rs) }
+    ensures grown { let goal = from.blocks + count in
+        Goes result (M.seen medium.old) (M.seen medium.new) geometry (OfGoal file from.blocks from.sides from.last goal)
+        (λ x. OfReached file goal (sides_for from.sides goal) x.sides x.last) }
     ensures bound { IfOk result (λ x. (x.blocks ≡ from.blocks + count) × (x.sides ≤ 6)) }
-    ensures protection { IfErr result (λ t. t.code ≡ 26 → (M.seen medium.old).protected ≡ true) }
     ensures only { OnlyContent result (M.seen medium.old) (M.seen medium.new) }
 {
     let mut reach = from;

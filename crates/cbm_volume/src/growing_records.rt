@@ -1,18 +1,18 @@
 // A relative file grows until a record is there.
 
-ghost use Rattle.std.specs.Prelude.{◌≡◌, ◌≢◌, ◌≤◌, ◌<◌, ◌+◌, ◌-◌, ◌==◌, ◌^◌, ◌⊎◌, ℕ, List, true, false, None, Some, Ok, IfErr, IfOk, IfSome, IsOkAnd, MatchBool, MatchOption, MatchResult};
+ghost use Rattle.std.specs.Prelude.{◌≡◌, ◌≢◌, ◌≤◌, ◌<◌, ◌+◌, ◌-◌, ◌==◌, ◌^◌, ◌⊎◌, ℕ, List, true, false, None, Some, Ok, IfErr, IfOk, IfSome, IsOkAnd, MatchOption, MatchResult};
 ghost use Rattle.cbm_medium.specs.Met.{IsMet};
 ghost use Rattle.cbm_medium.specs.Seen.{OnlyContent};
-ghost use Rattle.cbm_file.specs.Files.{Disk, Records};
-ghost use Rattle.cbm_file.specs.Records.{blocks_for, record_at, sides_for};
+ghost use Rattle.cbm_file.specs.Files.{Disk};
+ghost use Rattle.cbm_file.specs.Records.{blocks_for, sides_for};
 ghost use Rattle.cbm_bam.specs.Map.{geometry_of};
-ghost use Rattle.cbm_directory.specs.Entries.{entry_at, first_block, first_side};
+ghost use Rattle.cbm_directory.specs.Entries.{first_block, first_side};
 ghost use Rattle.cbm_directory.specs.Slots.{directory_of};
-ghost use Rattle.cbm_volume.specs.Growth.{IsGrowthCut, IsTooLarge, with_growth};
-ghost use Rattle.cbm_volume.specs.Growing.{IsGrowthStopped, IsGrownTo, IsPlanned, is_too_large};
-ghost use Rattle.cbm_volume.specs.Layouts.{Untouched};
-ghost use Rattle.cbm_volume.specs.RecordWrites.{HasRecordsOpen};
-ghost use Rattle.cbm_volume.specs.Writers.{Use, HoldsNow};
+ghost use Rattle.cbm_volume.specs.Growth.{IsTooLarge, IsGrowth};
+ghost use Rattle.cbm_volume.specs.Growing.{IsGrowthStopped, IsGrownTo, IsPlanned, is_too_large, OfFile};
+ghost use Rattle.cbm_volume.specs.RecordWrites.{HasRecordsOpen, OfOpen};
+ghost use Rattle.cbm_volume.specs.Writers.{Use};
+ghost use Rattle.cbm_volume.specs.Calls.{KeepsProtected, IsSameOn};
 
 use crate::beginning_growth::begin_growth;
 use crate::counting_blocks::tell_blocks;
@@ -118,14 +118,10 @@ pub fn grow_to<M: Medium>(
     requires blocks { (1 ≤ extent.blocks) × (extent.blocks ≤ blocks) × (blocks ≤ 720) }
     requires sides { extent.sides ≤ 6 }
     ensures grown { let old = M.seen medium.old in let new = M.seen medium.new in
-        (d : Disk) (uses : ℕ → Use) (w : ℕ) (rs : List (List ℕ)) →
-        (o : HasRecordsOpen old.tracks old.content d uses slot w extent.blocks extent.sides rs) →
-        let l = o.holds.layout in let entry = entry_at old.content l.directory slot in
-        file ≡ (record { first = first_block entry; side = first_side entry; width = w }) →
+        OfFile old file slot extent.blocks extent.sides (λ d uses w rs o.
         blocks + sides_for extent.sides blocks - (extent.blocks + extent.sides) ≤ d.free → MatchResult result
-        (λ x. IsGrownTo old.tracks old.content new.content l d uses slot w rs extent.blocks extent.sides blocks)
-        (IsGrowthStopped old new old.content l d uses slot w rs) }
-    ensures protection { IfErr result (λ t. t.code ≡ 26 → (M.seen medium.old).protected ≡ true) }
+        (λ x. IsGrownTo old.tracks old.content new.content o.holds.layout d uses slot w rs extent.blocks extent.sides blocks)
+        (IsGrowthStopped old new old.content o.holds.layout d uses slot w rs)) }
     ensures only { OnlyContent result (M.seen medium.old) (M.seen medium.new) }
 {
     let from = begin_growth(medium, file, extent.blocks, extent.sides)?;
@@ -146,29 +142,10 @@ pub fn grow_in_slot<M: Medium>(
     free: u16,
 ) -> Result<bool, Trouble>
     requires number { number < 2 ^ 24 }
-    ensures grown { let old = M.seen medium.old in let new = M.seen medium.new in
-        (d : Disk) (uses : ℕ → Use) (w b s : ℕ) (rs : List (List ℕ)) →
-        HasRecordsOpen old.tracks old.content d uses slot w b s rs → free ≡ d.free →
-        IfOk result (λ done. MatchBool done
-        (HoldsNow old.tracks new.content (with_growth d slot w b s rs number) uses)
-        (IsTooLarge d w b s number × (new.content ≡ old.content))) }
-    ensures full { let old = M.seen medium.old in
-        (d : Disk) (uses : ℕ → Use) (w b s : ℕ) (rs : List (List ℕ)) →
-        HasRecordsOpen old.tracks old.content d uses slot w b s rs → free ≡ d.free →
-        IsTooLarge d w b s number → IsOkAnd result (λ done. done ≡ false) }
-    ensures stopped { let old = M.seen medium.old in
-        (d : Disk) (uses : ℕ → Use) (w b s : ℕ) (rs : List (List ℕ)) →
-        HasRecordsOpen old.tracks old.content d uses slot w b s rs → free ≡ d.free →
-        IfErr result (IsGrowthCut old (M.seen medium.new) d uses slot w rs) }
-    ensures untouched { let old = M.seen medium.old in
-        (d : Disk) (uses : ℕ → Use) (w b s : ℕ) (rs : List (List ℕ)) →
-        HasRecordsOpen old.tracks old.content d uses slot w b s rs → free ≡ d.free →
-        Untouched (geometry_of old.tracks old.content) old.content (M.seen medium.new).content (λ m. m == slot) }
-    ensures kept { IfOk result
-        (λ done. done ≡ false → (M.seen medium.new).content ≡ (M.seen medium.old).content) }
-    ensures guarded { (M.seen medium.old).protected ≡ true →
-        (M.seen medium.new).content ≡ (M.seen medium.old).content }
-    ensures protection { IfErr result (λ t. t.code ≡ 26 → (M.seen medium.old).protected ≡ true) }
+    ensures call { OfOpen (M.seen medium.old) slot (λ d uses w b s rs o. free ≡ d.free →
+        IsGrowth result (M.seen medium.old) (M.seen medium.new) d uses slot w b s rs number) }
+    ensures kept { IsSameOn result false (M.seen medium.old) (M.seen medium.new) }
+    ensures guarded { KeepsProtected (M.seen medium.old) (M.seen medium.new) }
     ensures only { OnlyContent result (M.seen medium.old) (M.seen medium.new) }
 {
     let Some(plan) = plan_growth(medium, slot, number, free)? else {
@@ -193,37 +170,10 @@ impl<M: Medium> Volume<M> {
     /// with nothing changed, or failed by itself: the file has its records then and perhaps fresh ones behind them.
     pub fn grow_records(&mut self, slot: u8, number: u32) -> Result<bool, Trouble>
         requires number { (1 ≤ number) × (number < 2 ^ 24) }
-        ensures grown { let old = M.seen self.old in let new = M.seen self.new in
-            (d : Disk) (uses : ℕ → Use) (w b s : ℕ) (rs : List (List ℕ)) →
-            HasRecordsOpen old.tracks old.content d uses slot w b s rs →
-            record_at (Records w rs b s) number ≡ None →
-            IfOk result (λ done. MatchBool done
-            (HoldsNow old.tracks new.content (with_growth d slot w b s rs number) uses)
-            (IsTooLarge d w b s number × (new.content ≡ old.content))) }
-        // Too little room is told first, also on a protected medium.
-        ensures full { let old = M.seen self.old in
-            (d : Disk) (uses : ℕ → Use) (w b s : ℕ) (rs : List (List ℕ)) →
-            HasRecordsOpen old.tracks old.content d uses slot w b s rs →
-            record_at (Records w rs b s) number ≡ None →
-            IsTooLarge d w b s number → IsOkAnd result (λ done. done ≡ false) }
-        ensures stopped { let old = M.seen self.old in
-            (d : Disk) (uses : ℕ → Use) (w b s : ℕ) (rs : List (List ℕ)) →
-            HasRecordsOpen old.tracks old.content d uses slot w b s rs →
-            record_at (Records w rs b s) number ≡ None →
-            IfErr result (IsGrowthCut old (M.seen self.new) d uses slot w rs) }
-        // No sector of another closed file changes.
-        ensures untouched { let old = M.seen self.old in
-            (d : Disk) (uses : ℕ → Use) (w b s : ℕ) (rs : List (List ℕ)) →
-            HasRecordsOpen old.tracks old.content d uses slot w b s rs →
-            Untouched (geometry_of old.tracks old.content) old.content (M.seen self.new).content (λ m. m == slot) }
-        // False says that nothing has changed, whatever the medium holds.
-        ensures kept { IfOk result
-            (λ done. done ≡ false → (M.seen self.new).content ≡ (M.seen self.old).content) }
-        // A protected medium stays as it is.
-        ensures guarded { (M.seen self.old).protected ≡ true →
-            (M.seen self.new).content ≡ (M.seen self.old).content }
-        // The code 26 says that the medium is protected, whatever it holds.
-        ensures protection { IfErr result (λ t. t.code ≡ 26 → (M.seen self.old).protected ≡ true) }
+        ensures call { OfOpen (M.seen self.old) slot (λ d uses w b s rs o.
+            IsGrowth result (M.seen self.old) (M.seen self.new) d uses slot w b s rs number) }
+        ensures kept { IsSameOn result false (M.seen self.old) (M.seen self.new) }
+        ensures guarded { KeepsProtected (M.seen self.old) (M.seen self.new) }
         ensures only { OnlyContent result (M.seen self.old) (M.seen self.new) }
     {
         let room = self.room()?;

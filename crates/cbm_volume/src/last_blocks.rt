@@ -1,16 +1,12 @@
 // A relative file that grows: its last data block is filled up with fresh records.
 
-ghost use Rattle.std.specs.Prelude.{◌≡◌, ◌≤◌, ◌*◌, ℕ, List, true, length, IsOk, IfOk, IfErr, MatchResult};
+ghost use Rattle.std.specs.Prelude.{◌≡◌, ◌≤◌, ◌*◌, ℕ, length, IsOk, IfOk, MatchResult};
 ghost use Rattle.cbm_medium.specs.Place.{Has};
 ghost use Rattle.cbm_medium.specs.Seen.{OnlyContent};
 ghost use Rattle.cbm_bam.specs.Map.{geometry_of};
 ghost use Rattle.cbm_chain.specs.Data.{chain_bytes};
-ghost use Rattle.cbm_file.specs.Files.{Disk};
-ghost use Rattle.cbm_directory.specs.Entries.{entry_at, first_block, first_side};
 ghost use Rattle.cbm_volume.specs.Growth.{IsGrowthCut};
-ghost use Rattle.cbm_volume.specs.Growing.{IsListed, LeavesAside, HasGrown};
-ghost use Rattle.cbm_volume.specs.RecordWrites.{HasRecordsOpen};
-ghost use Rattle.cbm_volume.specs.Writers.{Use};
+ghost use Rattle.cbm_volume.specs.Growing.{IsListed, LeavesAside, HasGrown, OfFile};
 
 use cbm_medium::{Address, Medium, Trouble};
 use cbm_relfile::{Relative, fill_up};
@@ -26,29 +22,17 @@ pub(crate) fn fill_last<M: Medium>(
     requires length { (1 ≤ file.width) × (file.width ≤ 254) }
     requires some { 1 ≤ blocks }
     ensures filled { let old = M.seen medium.old in let new = M.seen medium.new in
-        (d : Disk) (uses : ℕ → Use) (n w s : ℕ) (rs : List (List ℕ)) →
-        (o : HasRecordsOpen old.tracks old.content d uses n w blocks s rs) →
-        let l = o.holds.layout in let entry = entry_at old.content l.directory n in
-        file ≡ (record { first = first_block entry; side = first_side entry; width = w }) →
-        IsListed old.content (l.files n).sides (l.files n).data_blocks →
-        MatchResult result (λ at. HasGrown old.tracks old.content d uses n w blocks s rs o file new.content blocks s at)
-        (IsGrowthCut old new d uses n w rs) }
-    ensures full { let old = M.seen medium.old in
-        (d : Disk) (uses : ℕ → Use) (n w s : ℕ) (rs : List (List ℕ)) →
-        (o : HasRecordsOpen old.tracks old.content d uses n w blocks s rs) →
-        let l = o.holds.layout in let entry = entry_at old.content l.directory n in
-        file ≡ (record { first = first_block entry; side = first_side entry; width = w }) →
-        length (chain_bytes old.content (l.files n).data_blocks) ≡ 254 * blocks →
-        IsOk result × ((M.seen medium.new).content ≡ old.content) }
+        (n s : ℕ) → OfFile old file n blocks s (λ d uses w rs o. let l = o.holds.layout in
+        IsListed old.content (l.files n).sides (l.files n).data_blocks → MatchResult result
+        (λ at. HasGrown old.tracks old.content d uses n w blocks s rs o file new.content blocks s at)
+        (IsGrowthCut old new d uses n w rs)) }
+    ensures full { let old = M.seen medium.old in (n s : ℕ) → OfFile old file n blocks s (λ d uses w rs o.
+        length (chain_bytes old.content (o.holds.layout.files n).data_blocks) ≡ 254 * blocks →
+        IsOk result × ((M.seen medium.new).content ≡ old.content)) }
     // All but the file is as it was.
-    ensures aside { let old = M.seen medium.old in let new = M.seen medium.new in
-        (d : Disk) (uses : ℕ → Use) (n w s : ℕ) (rs : List (List ℕ)) →
-        (o : HasRecordsOpen old.tracks old.content d uses n w blocks s rs) →
-        let l = o.holds.layout in let entry = entry_at old.content l.directory n in
-        file ≡ (record { first = first_block entry; side = first_side entry; width = w }) →
-        LeavesAside n old.content l new.content l }
+    ensures aside { let old = M.seen medium.old in (n s : ℕ) → OfFile old file n blocks s (λ d uses w rs o.
+        LeavesAside n old.content o.holds.layout (M.seen medium.new).content o.holds.layout) }
     ensures bound { IfOk result (λ at. Has (geometry_of (M.seen medium.old).tracks (M.seen medium.old).content) at) }
-    ensures protection { IfErr result (λ t. t.code ≡ 26 → (M.seen medium.old).protected ≡ true) }
     ensures only { OnlyContent result (M.seen medium.old) (M.seen medium.new) }
 {
     let geometry = cbm_bam::geometry(medium);

@@ -1,19 +1,18 @@
 // OPEN of a relative file that isn't there: a block of fresh records, a side sector that lists it, and a closed entry.
 
-ghost use Rattle.std.specs.Prelude.{◌≡◌, ◌≤◌, ◌||◌, ℕ, length, not, nat_lt, true, false, Some, None, IfOk, IfErr, IsOkAnd, OnErr, MatchOption, MatchResult};
+ghost use Rattle.std.specs.Prelude.{◌≡◌, ◌≤◌, ◌||◌, length, not, nat_lt, true, false, Some, None, IfOk, IsOkAnd, MatchOption, MatchResult, ℕ};
 ghost use Rattle.cbm_medium.specs.Content.{Content};
 ghost use Rattle.cbm_medium.specs.Seen.{OnlyContent};
 ghost use Rattle.cbm_file.specs.Padding.{before_filler};
 ghost use Rattle.cbm_file.specs.Files.{Disk, empty_from};
 ghost use Rattle.cbm_file.specs.Changes.{grown, has_slot};
 ghost use Rattle.cbm_file.specs.Records.{with_new_records};
-ghost use Rattle.cbm_bam.specs.Map.{geometry_of};
 ghost use Rattle.cbm_volume.specs.Copies.{IsCutShort};
-ghost use Rattle.cbm_volume.specs.Layouts.{Layout, Untouched};
+ghost use Rattle.cbm_volume.specs.Layouts.{Layout};
 ghost use Rattle.cbm_volume.specs.NewRecords.{HasNoRoomForRecords, HasTwo, HoldsNew};
-ghost use Rattle.cbm_volume.specs.Opens.{IsHindered};
 ghost use Rattle.cbm_volume.specs.Reaches.{Reached};
 ghost use Rattle.cbm_volume.specs.Writers.{Use, Idle, HoldsNow, Stopped};
+ghost use Rattle.cbm_volume.specs.Calls.{OfDisk, OfIdle, IsCall, KeepsProtected, IsSameOn};
 
 use crate::room::Room;
 use crate::volume::Volume;
@@ -33,33 +32,15 @@ impl<M: Medium> Volume<M> {
     pub fn make_records(&mut self, name: &[u8], record_length: u8) -> Result<Option<u8>, Trouble>
         requires name { length name.now ≤ 16 }
         requires width { (1 ≤ record_length) × (record_length ≤ 254) }
-        ensures made { let old = M.seen self.old in let new = M.seen self.new in
-            (d : Disk) (uses : ℕ → Use) (ch : ℕ) → HoldsNow old.tracks old.content d uses → uses ch ≡ Idle →
-            IfOk result (λ o. MatchOption o (HasNoRoomForRecords d × (new.content ≡ old.content))
-            (λ slot. (empty_from 0 (grown d).slots ≡ Some slot) × HoldsNow old.tracks new.content
-            (with_new_records d (before_filler name.now) record_length) uses)) }
-        // Too little room is told first, also on a protected medium.
-        ensures full { let old = M.seen self.old in
-            (d : Disk) (uses : ℕ → Use) → HoldsNow old.tracks old.content d uses →
-            HasNoRoomForRecords d → IsOkAnd result (λ o. o ≡ None) }
-        ensures stopped { let old = M.seen self.old in
-            (d : Disk) (uses : ℕ → Use) (ch : ℕ) → HoldsNow old.tracks old.content d uses → uses ch ≡ Idle →
-            OnErr result (Stopped old.tracks (M.seen self.new).content d
-            (with_new_records d (before_filler name.now) record_length) uses) }
-        ensures cause { let old = M.seen self.old in
-            (d : Disk) (uses : ℕ → Use) (ch : ℕ) → HoldsNow old.tracks old.content d uses → uses ch ≡ Idle →
-            IfErr result (IsHindered old (M.seen self.new)) }
-        ensures untouched { let old = M.seen self.old in
-            (d : Disk) (uses : ℕ → Use) (ch : ℕ) → HoldsNow old.tracks old.content d uses → uses ch ≡ Idle →
-            Untouched (geometry_of old.tracks old.content) old.content (M.seen self.new).content (λ m. false) }
-        // None says that nothing has changed, whatever the medium holds.
-        ensures kept { IfOk result
-            (λ o. o ≡ None → (M.seen self.new).content ≡ (M.seen self.old).content) }
-        // A protected medium stays as it is.
-        ensures guarded { (M.seen self.old).protected ≡ true →
-            (M.seen self.new).content ≡ (M.seen self.old).content }
-        // The code 26 says that the medium is protected, whatever it holds.
-        ensures protection { IfErr result (λ t. t.code ≡ 26 → (M.seen self.old).protected ≡ true) }
+        ensures call { let old = M.seen self.old in let new = M.seen self.new in
+            OfIdle old (λ d uses ch. let after = with_new_records d (before_filler name.now) record_length in
+            IsCall result old new (λ o. MatchOption o (HasNoRoomForRecords d × (new.content ≡ old.content))
+            (λ slot. (empty_from 0 (grown d).slots ≡ Some slot) × HoldsNow old.tracks new.content after uses))
+            (Stopped old.tracks new.content d after uses) (λ m. false)) }
+        // Too little room is reported first, also on a protected medium.
+        ensures full { OfDisk (M.seen self.old) (λ d uses. HasNoRoomForRecords d → IsOkAnd result (λ o. o ≡ None)) }
+        ensures kept { IsSameOn result None (M.seen self.old) (M.seen self.new) }
+        ensures guarded { KeepsProtected (M.seen self.old) (M.seen self.new) }
         ensures only { OnlyContent result (M.seen self.old) (M.seen self.new) }
     {
         let room = self.room()?;
@@ -109,7 +90,6 @@ fn make<M: Medium>(medium: &mut M, name: &[u8], record_length: u8) -> Result<u8,
         Reached old.tracks old.content h.layout new.content
         (with_new_records d (before_filler name.now) record_length) uses)
         (IsCutShort old new old.content h.layout d uses) }
-    ensures protection { IfErr result (λ t. t.code ≡ 26 → (M.seen medium.old).protected ≡ true) }
     ensures only { OnlyContent result (M.seen medium.old) (M.seen medium.new) }
 {
     let (number, (block, side)) = begin(medium)?;
@@ -128,7 +108,6 @@ fn begin<M: Medium>(medium: &mut M) -> Result<(u8, (Address, Address)), Trouble>
         (IsCutShort old new old.content h.layout d uses) }
     ensures tracks { IfOk result (λ r. (r.1.0.track ≤ (M.seen medium.old).tracks) ×
         (r.1.1.track ≤ (M.seen medium.old).tracks)) }
-    ensures protection { IfErr result (λ t. t.code ≡ 26 → (M.seen medium.old).protected ≡ true) }
     ensures only { OnlyContent result (M.seen medium.old) (M.seen medium.new) }
 {
     let geometry = cbm_bam::geometry(medium);
@@ -158,7 +137,6 @@ fn enter<M: Medium>(
         empty_from 0 (grown d).slots ≡ Some number →
         MatchResult result (λ x. Reached old.tracks c l new.content
         (with_new_records d (before_filler name.now) record_length) uses) (IsCutShort old new c l d uses) }
-    ensures protection { IfErr result (λ t. t.code ≡ 26 → (M.seen medium.old).protected ≡ true) }
     ensures only { OnlyContent result (M.seen medium.old) (M.seen medium.new) }
 {
     let geometry = cbm_bam::geometry(medium);

@@ -1,16 +1,14 @@
 // OPEN of a new file for writing.
 
-ghost use Rattle.std.specs.Prelude.{◌≡◌, ◌≢◌, ◌≤◌, ℕ, [], true, false, length, IfOk, IfErr, OnErr, IfSome, MatchOption};
+ghost use Rattle.std.specs.Prelude.{◌≡◌, ◌≢◌, ◌≤◌, [], false, length, IfOk, IfSome, MatchOption, ℕ};
 ghost use Rattle.cbm_medium.specs.Seen.{OnlyContent};
 ghost use Rattle.cbm_file.specs.declared.file_type.FileType.TheVariants.{Del, Rel};
 ghost use Rattle.cbm_file.specs.Types.{is_same_type};
 ghost use Rattle.cbm_file.specs.Padding.{before_filler};
-ghost use Rattle.cbm_file.specs.Files.{Disk};
 ghost use Rattle.cbm_file.specs.Changes.{with_file, unclosed, new_slot};
-ghost use Rattle.cbm_bam.specs.Map.{geometry_of};
-ghost use Rattle.cbm_volume.specs.Layouts.{Untouched};
-ghost use Rattle.cbm_volume.specs.Writers.{Use, Idle, HoldsNow, Stopped};
-ghost use Rattle.cbm_volume.specs.Opens.{Begins, HasNoPlace, IsHindered};
+ghost use Rattle.cbm_volume.specs.Writers.{Idle, Stopped};
+ghost use Rattle.cbm_volume.specs.Opens.{Begins, HasNoPlace};
+ghost use Rattle.cbm_volume.specs.Calls.{OfDisk, IsCall};
 
 use crate::filling::FileWriter;
 use crate::volume::Volume;
@@ -31,28 +29,16 @@ impl<M: Medium> Volume<M> {
         name: &[u8],
     ) -> Result<Option<FileWriter>, Trouble>
         requires { length name.now ≤ 16 }
-        ensures begun { let old = M.seen self.old in let new = M.seen self.new in
-            (d : Disk) (uses : ℕ → Use) (ch : ℕ) → HoldsNow old.tracks old.content d uses → uses ch ≡ Idle →
-            kind ≢ Del → is_same_type Rel kind ≡ false →
-            IfOk result (λ o. MatchOption o (HasNoPlace d × (new.content ≡ old.content))
-            (λ w. Begins old.tracks new.content (with_file d (unclosed kind (before_filler name.now)) 1) uses ch
-            (new_slot d) false [] 1 w)) }
-        ensures stopped { let old = M.seen self.old in
-            (d : Disk) (uses : ℕ → Use) → HoldsNow old.tracks old.content d uses →
-            kind ≢ Del → is_same_type Rel kind ≡ false →
-            OnErr result (Stopped old.tracks (M.seen self.new).content d
-            (with_file d (unclosed kind (before_filler name.now)) 1) uses) }
-        ensures cause { let old = M.seen self.old in (d : Disk) (uses : ℕ → Use) →
-            HoldsNow old.tracks old.content d uses → IfErr result (IsHindered old (M.seen self.new)) }
-        ensures untouched { let old = M.seen self.old in (d : Disk) (uses : ℕ → Use) →
-            HoldsNow old.tracks old.content d uses →
-            Untouched (geometry_of old.tracks old.content) old.content (M.seen self.new).content (λ m. false) }
+        ensures call { let old = M.seen self.old in let new = M.seen self.new in
+            OfDisk old (λ d uses. let after = with_file d (unclosed kind (before_filler name.now)) 1 in IsCall result old new
+            (λ o. (ch : ℕ) → uses ch ≡ Idle → kind ≢ Del → is_same_type Rel kind ≡ false →
+            MatchOption o (HasNoPlace d × (new.content ≡ old.content))
+            (λ w. Begins old.tracks new.content after uses ch (new_slot d) false [] 1 w))
+            (kind ≢ Del → is_same_type Rel kind ≡ false → Stopped old.tracks new.content d after uses) (λ m. false)) }
         ensures tracks { IfOk result (λ o. IfSome o (λ w. w.chain.tracks ≤ (M.seen self.old).tracks)) }
         // None says that nothing has changed, whatever the medium holds.
         ensures kept { IfOk result
             (λ o. MatchOption o ((M.seen self.new).content ≡ (M.seen self.old).content) (λ w. Unit {0})) }
-        // The code 26 says that the medium is protected, whatever it holds.
-        ensures protection { IfErr result (λ t. t.code ≡ 26 → (M.seen self.old).protected ≡ true) }
         ensures only { OnlyContent result (M.seen self.old) (M.seen self.new) }
     {
         let geometry = self.geometry();

@@ -1,15 +1,11 @@
 // A relative file that grows: its side sectors are brought into the drive's form.
 
-ghost use Rattle.std.specs.Prelude.{◌≡◌, ◌≤◌, ◌*◌, ℕ, List, true, IsOk, IfErr, MatchResult};
+ghost use Rattle.std.specs.Prelude.{◌≡◌, ◌≤◌, ◌*◌, ℕ, IsOk, MatchResult};
 ghost use Rattle.cbm_medium.specs.Seen.{OnlyContent};
-ghost use Rattle.cbm_file.specs.Files.{Disk};
 ghost use Rattle.cbm_relfile.specs.Relisting.{AreInForm};
-ghost use Rattle.cbm_directory.specs.Entries.{entry_at, first_block, first_side};
-ghost use Rattle.cbm_volume.specs.Growing.{IsListed};
+ghost use Rattle.cbm_volume.specs.Growing.{IsListed, OfFile};
 ghost use Rattle.cbm_volume.specs.Opens.{IsHindered};
-ghost use Rattle.cbm_volume.specs.RecordWrites.{HasRecordsOpen};
 ghost use Rattle.cbm_volume.specs.Relists.{IsSameDisk};
-ghost use Rattle.cbm_volume.specs.Writers.{Use};
 
 use cbm_medium::{Medium, Trouble};
 use cbm_relfile::Relative;
@@ -20,21 +16,12 @@ use cbm_relfile::Relative;
 pub(crate) fn list_anew<M: Medium>(medium: &mut M, file: Relative, sides: u8) -> Result<(), Trouble>
     requires { sides ≤ 6 }
     ensures listed { let old = M.seen medium.old in let new = M.seen medium.new in
-        (d : Disk) (uses : ℕ → Use) (n w b : ℕ) (rs : List (List ℕ)) →
-        (o : HasRecordsOpen old.tracks old.content d uses n w b sides rs) →
-        let l = o.holds.layout in let entry = entry_at old.content l.directory n in
-        file ≡ (record { first = first_block entry; side = first_side entry; width = w }) →
+        (n b : ℕ) → OfFile old file n b sides (λ d uses w rs o. let l = o.holds.layout in
         IsSameDisk old.tracks old.content new.content l d uses n × MatchResult result
-        (λ x. b ≤ 120 * sides → IsListed new.content (l.files n).sides (l.files n).data_blocks)
-        (IsHindered old new) }
-    ensures form { let old = M.seen medium.old in
-        (d : Disk) (uses : ℕ → Use) (n w b : ℕ) (rs : List (List ℕ)) →
-        (o : HasRecordsOpen old.tracks old.content d uses n w b sides rs) →
-        let l = o.holds.layout in let entry = entry_at old.content l.directory n in
-        file ≡ (record { first = first_block entry; side = first_side entry; width = w }) →
-        AreInForm old.content (l.files n).sides (l.files n).data_blocks →
-        IsOk result × ((M.seen medium.new).content ≡ old.content) }
-    ensures protection { IfErr result (λ t. t.code ≡ 26 → (M.seen medium.old).protected ≡ true) }
+        (λ x. b ≤ 120 * sides → IsListed new.content (l.files n).sides (l.files n).data_blocks) (IsHindered old new)) }
+    ensures form { let old = M.seen medium.old in (n b : ℕ) → OfFile old file n b sides (λ d uses w rs o.
+        let l = o.holds.layout in AreInForm old.content (l.files n).sides (l.files n).data_blocks →
+        IsOk result × ((M.seen medium.new).content ≡ old.content)) }
     ensures only { OnlyContent result (M.seen medium.old) (M.seen medium.new) }
 {
     let geometry = cbm_bam::geometry(medium);

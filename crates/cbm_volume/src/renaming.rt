@@ -1,13 +1,12 @@
 // RENAME: a slot's entry gets another name.
 
-ghost use Rattle.std.specs.Prelude.{◌≡◌, ◌≤◌, ℕ, Some, true, false, length, OnOk, OnErr, IfErr};
+ghost use Rattle.std.specs.Prelude.{◌≡◌, ◌≤◌, Some, length, OnErr};
 ghost use Rattle.cbm_medium.specs.Seen.{OnlyContent};
 ghost use Rattle.cbm_file.specs.Padding.{before_filler};
-ghost use Rattle.cbm_file.specs.Files.{Disk, File, file_at, with_slot};
-ghost use Rattle.cbm_bam.specs.Map.{geometry_of};
-ghost use Rattle.cbm_volume.specs.Layouts.{Untouched};
-ghost use Rattle.cbm_volume.specs.Opens.{IsUnwritten, IsHindered};
-ghost use Rattle.cbm_volume.specs.Writers.{Use, HoldsNow};
+ghost use Rattle.cbm_file.specs.Files.{File, file_at, with_slot};
+ghost use Rattle.cbm_volume.specs.Opens.{IsUnwritten};
+ghost use Rattle.cbm_volume.specs.Writers.{HoldsNow};
+ghost use Rattle.cbm_volume.specs.Calls.{OfDisk, IsOneWrite};
 
 use crate::volume::Volume;
 use cbm_directory::put_slot;
@@ -19,19 +18,11 @@ impl<M: Medium> Volume<M> {
     /// protected medium, or the medium's own failure.
     pub fn rename(&mut self, slot: u8, name: &[u8]) -> Result<(), Trouble>
         requires { length name.now ≤ 16 }
-        ensures renamed { let old = M.seen self.old in (d : Disk) (uses : ℕ → Use) (f : File) →
-            HoldsNow old.tracks old.content d uses → file_at d slot ≡ Some f → IsUnwritten uses slot →
-            OnOk result (HoldsNow old.tracks (M.seen self.new).content
-            (with_slot d slot (Some (record f { name = before_filler name.now }))) uses) }
+        ensures call { let old = M.seen self.old in let new = M.seen self.new in
+            OfDisk old (λ d uses. IsOneWrite result old new
+            (λ x. (f : File) → file_at d slot ≡ Some f → IsUnwritten uses slot → HoldsNow old.tracks new.content
+            (with_slot d slot (Some (record f { name = before_filler name.now }))) uses)) }
         ensures err { OnErr result ((M.seen self.new).content ≡ (M.seen self.old).content) }
-        ensures cause { let old = M.seen self.old in (d : Disk) (uses : ℕ → Use) (f : File) →
-            HoldsNow old.tracks old.content d uses → file_at d slot ≡ Some f →
-            IfErr result (IsHindered old (M.seen self.new)) }
-        ensures untouched { let old = M.seen self.old in (d : Disk) (uses : ℕ → Use) →
-            HoldsNow old.tracks old.content d uses →
-            Untouched (geometry_of old.tracks old.content) old.content (M.seen self.new).content (λ m. false) }
-        // The code 26 says that the medium is protected, whatever it holds.
-        ensures protection { IfErr result (λ t. t.code ≡ 26 → (M.seen self.old).protected ≡ true) }
         ensures only { OnlyContent result (M.seen self.old) (M.seen self.new) }
     {
         let Some(entry) = self.slot(slot)? else {

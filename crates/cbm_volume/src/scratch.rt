@@ -1,16 +1,15 @@
 // Files that are scratched.
 
-ghost use Rattle.std.specs.Prelude.{◌≡◌, ◌≢◌, ◌==◌, ◌≤◌, ℕ, ◌++◌, true, length, Some, OnOk, OnErr, IsOk, IfErr};
+ghost use Rattle.std.specs.Prelude.{◌≡◌, ◌≢◌, ◌==◌, ◌≤◌, ◌++◌, true, length, Some, IsOk, IfErr};
 ghost use Rattle.cbm_medium.specs.Place.{sector_count};
 ghost use Rattle.cbm_medium.specs.Seen.{OnlyContent};
-ghost use Rattle.cbm_file.specs.Files.{Disk, File, file_at};
+ghost use Rattle.cbm_file.specs.Files.{File, file_at};
 ghost use Rattle.cbm_file.specs.Changes.{scratched};
-ghost use Rattle.cbm_bam.specs.Map.{Frees, geometry_of};
+ghost use Rattle.cbm_bam.specs.Map.{Frees};
 ghost use Rattle.cbm_directory.specs.Entries.{is_relative};
 ghost use Rattle.cbm_volume.specs.Blocks.{Blocks, LiesAs};
-ghost use Rattle.cbm_volume.specs.Layouts.{Untouched};
-ghost use Rattle.cbm_volume.specs.Opens.{IsUnused, IsHindered};
-ghost use Rattle.cbm_volume.specs.Writers.{Use, HoldsNow, Stopped};
+ghost use Rattle.cbm_volume.specs.Opens.{IsUnused};
+ghost use Rattle.cbm_volume.specs.Calls.{OfDisk, IsChange};
 
 use crate::volume::Volume;
 use cbm_bam::Release;
@@ -26,21 +25,8 @@ impl<M: Medium> Volume<M> {
     /// or empty and its blocks to nobody. On a sound disk it says that the medium is protected (26), or failed by
     /// itself.
     pub fn scratch(&mut self, slot: u8) -> Result<(), Trouble>
-        ensures scratched { let old = M.seen self.old in (d : Disk) (uses : ℕ → Use) (f : File) →
-            HoldsNow old.tracks old.content d uses → file_at d slot ≡ Some f → IsUnused uses slot →
-            OnOk result (HoldsNow old.tracks (M.seen self.new).content (scratched d slot) uses) }
-        ensures stopped { let old = M.seen self.old in (d : Disk) (uses : ℕ → Use) (f : File) →
-            HoldsNow old.tracks old.content d uses → file_at d slot ≡ Some f → IsUnused uses slot →
-            OnErr result (Stopped old.tracks (M.seen self.new).content d (scratched d slot) uses) }
-        ensures cause { let old = M.seen self.old in (d : Disk) (uses : ℕ → Use) (f : File) →
-            HoldsNow old.tracks old.content d uses → file_at d slot ≡ Some f → IsUnused uses slot →
-            IfErr result (IsHindered old (M.seen self.new)) }
-        ensures untouched { let old = M.seen self.old in (d : Disk) (uses : ℕ → Use) (f : File) →
-            HoldsNow old.tracks old.content d uses → file_at d slot ≡ Some f → IsUnused uses slot →
-            Untouched (geometry_of old.tracks old.content) old.content
-            (M.seen self.new).content (λ m. m == slot) }
-        // The code 26 says that the medium is protected, whatever it holds.
-        ensures protection { IfErr result (λ t. t.code ≡ 26 → (M.seen self.old).protected ≡ true) }
+        ensures call { OfDisk (M.seen self.old) (λ d uses. (f : File) → file_at d slot ≡ Some f → IsUnused uses slot →
+            IsChange result (M.seen self.old) (M.seen self.new) d (scratched d slot) uses (λ m. m == slot)) }
         ensures only { OnlyContent result (M.seen self.old) (M.seen self.new) }
     {
         let geometry = self.geometry();

@@ -1,6 +1,6 @@
 // VALIDATE: the map is written anew from the closed files.
 
-ghost use Rattle.std.specs.Prelude.{◌≡◌, ◌≢◌, ◌≤◌, ◌⊎◌, ℕ, List, Some, true, IfOk, IfErr, IsOk, IsErrAnd, OnOk, OnErr};
+ghost use Rattle.std.specs.Prelude.{◌≡◌, ◌≢◌, ◌≤◌, ◌⊎◌, List, Some, true, false, IfOk, IfErr, IsOk, IsErrAnd, OnOk, OnErr, MatchResult, ℕ};
 ghost use Rattle.cbm_medium.specs.Place.{Place, directory_head};
 ghost use Rattle.cbm_medium.specs.Seen.{OnlyContent, HasFailed, write_refusal};
 ghost use Rattle.cbm_medium.specs.Content.{written};
@@ -14,8 +14,9 @@ ghost use Rattle.cbm_volume.specs.Opens.{IsHindered};
 ghost use Rattle.cbm_volume.specs.Views.{view_of};
 ghost use Rattle.cbm_volume.specs.Unmendable.{code_at, flaw_code, IsUnmendable};
 ghost use Rattle.cbm_volume.specs.Sweeps.{IsDirectory, IsSwept, SlotSwept, IsPutInOrder, IsPartlyInOrder};
-ghost use Rattle.cbm_volume.specs.Writers.{Use, Idle, HoldsNow, Stopped};
+ghost use Rattle.cbm_volume.specs.Writers.{Idle};
 ghost use Rattle.cbm_volume.specs.check.WholeDisk.{ClaimsInto};
+ghost use Rattle.cbm_volume.specs.Calls.{OfDisk, IsChange, KeepsProtected};
 
 use crate::check::{Flaw, Unsound, check_disk};
 use crate::view::ClosedView;
@@ -91,7 +92,6 @@ fn sweep_slot<M: Medium>(medium: &mut M, geometry: Geometry, number: u8) -> Resu
     ensures err { OnErr result ((M.seen medium.new).content ≡ (M.seen medium.old).content) }
     ensures cause { let old = M.seen medium.old in (directory : List Place) →
         IsDirectory geometry old.content directory → IfErr result (IsHindered old (M.seen medium.new)) }
-    ensures protection { IfErr result (λ t. t.code ≡ 26 → (M.seen medium.old).protected ≡ true) }
     ensures only { OnlyContent result (M.seen medium.old) (M.seen medium.new) }
 {
     let Some(entry) = slot(medium, geometry, number)? else {
@@ -114,7 +114,6 @@ fn sweep<M: Medium>(medium: &mut M, geometry: Geometry) -> Result<(), Trouble>
         OnErr result ((k : ℕ) × IsSwept old.content (M.seen medium.new).content directory k) }
     ensures cause { let old = M.seen medium.old in (directory : List Place) →
         IsDirectory geometry old.content directory → IfErr result (IsHindered old (M.seen medium.new)) }
-    ensures protection { IfErr result (λ t. t.code ≡ 26 → (M.seen medium.old).protected ≡ true) }
     ensures only { OnlyContent result (M.seen medium.old) (M.seen medium.new) }
 {
     for number in 0..SLOTS {
@@ -131,7 +130,6 @@ fn write_map<M: Medium>(medium: &mut M, geometry: Geometry, map: &[u8; 256]) -> 
     ensures err { OnErr result ((M.seen medium.new).content ≡ (M.seen medium.old).content) }
     ensures cause { IfErr result (λ t. (write_refusal (M.seen medium.old) directory_head ≡ Some t.code) ⊎
         HasFailed (M.seen medium.old) (M.seen medium.new)) }
-    ensures protection { IfErr result (λ t. t.code ≡ 26 → (M.seen medium.old).protected ≡ true) }
     ensures only { OnlyContent result (M.seen medium.old) (M.seen medium.new) }
 {
     prove!(geometry.tracks() >= 35);
@@ -146,33 +144,21 @@ impl<M: Medium> Volume<M> {
     /// changed, and the `Err` tells of the first that is met. Else an `Err` is the medium's refusal: 26 where it is
     /// protected, with nothing changed.
     pub fn validate(&mut self) -> Result<(), Trouble>
-        ensures validated { let old = M.seen self.old in (d : Disk) (uses : ℕ → Use) →
-            HoldsNow old.tracks old.content d uses → ((ch : ℕ) → uses ch ≡ Idle) →
-            OnOk result (HoldsNow old.tracks (M.seen self.new).content (validated d) uses) }
-        ensures stopped { let old = M.seen self.old in (d : Disk) (uses : ℕ → Use) →
-            HoldsNow old.tracks old.content d uses → ((ch : ℕ) → uses ch ≡ Idle) →
-            OnErr result (Stopped old.tracks (M.seen self.new).content d (validated d) uses) }
-        ensures cause { let old = M.seen self.old in (d : Disk) (uses : ℕ → Use) →
-            HoldsNow old.tracks old.content d uses → ((ch : ℕ) → uses ch ≡ Idle) →
-            IfErr result (IsHindered old (M.seen self.new)) }
-        // On any content: what can't be mended is told, and nothing is changed; else the medium refused a write.
+        ensures call { OfDisk (M.seen self.old) (λ d uses. ((ch : ℕ) → uses ch ≡ Idle) →
+            IsChange result (M.seen self.old) (M.seen self.new) d (validated d) uses (λ m. false)) }
+        // On any content: what can't be mended is reported, and nothing is changed; else the medium refused a write.
         ensures refused { let old = M.seen self.old in IfErr result
             (λ t. (IsUnmendable (geometry_of old.tracks old.content) old.content t × ((M.seen self.new).content ≡
             old.content)) ⊎ IsHindered old (M.seen self.new) t) }
-        // On any content: the disk is sound, each of its files is closed, and each block is free or a file's.
+        // On any content: the disk is sound; closed entries, their files and the label stay.
         ensures sound { let old = M.seen self.old in OnOk result
             ((e : Disk) × HoldsDisk old.tracks (M.seen self.new).content e × (e ≡ validated e)) }
-        // On any content: closed entries, their files and the label stay.
-        ensures in_order { let old = M.seen self.old in OnOk result
-            (IsPutInOrder (geometry_of old.tracks old.content) old.content (M.seen self.new).content) }
-        ensures partly { let old = M.seen self.old in OnErr result
-            (IsPartlyInOrder (geometry_of old.tracks old.content) old.content (M.seen self.new).content) }
-        ensures kept { (M.seen self.old).protected ≡ true →
-            (M.seen self.new).content ≡ (M.seen self.old).content }
-        ensures guarded { let old = M.seen self.old in (d : Disk) (uses : ℕ → Use) →
-            HoldsNow old.tracks old.content d uses → old.protected ≡ true → IsErrAnd result (λ t. t.code ≡ 26) }
-        // The code 26 says that the medium is protected, whatever it holds.
-        ensures protection { IfErr result (λ t. t.code ≡ 26 → (M.seen self.old).protected ≡ true) }
+        ensures in_order { let old = M.seen self.old in MatchResult result
+            (λ x. IsPutInOrder (geometry_of old.tracks old.content) old.content (M.seen self.new).content)
+            (λ t. IsPartlyInOrder (geometry_of old.tracks old.content) old.content (M.seen self.new).content) }
+        ensures kept { KeepsProtected (M.seen self.old) (M.seen self.new) }
+        ensures guarded { OfDisk (M.seen self.old) (λ d uses. (M.seen self.old).protected ≡ true →
+            IsErrAnd result (λ t. t.code ≡ 26)) }
         ensures only { OnlyContent result (M.seen self.old) (M.seen self.new) }
     {
         let geometry = self.geometry();

@@ -17,9 +17,6 @@ returns-in_err-sector-clause-err g c = search rules
 pub returns-in_err-sector-clause-cause : goal.returns-in_err-sector-clause-cause
 returns-in_err-sector-clause-cause g c = search rules
 
-pub returns-in_err-sector-clause-protection : goal.returns-in_err-sector-clause-protection
-returns-in_err-sector-clause-protection g c = search rules
-
 pub returns-in_err-sector-clause-only : goal.returns-in_err-sector-clause-only
 returns-in_err-sector-clause-only g c = search rules
 
@@ -31,9 +28,6 @@ returns-clause-err g c = search rules
 
 pub returns-clause-cause : goal.returns-clause-cause
 returns-clause-cause g c = search rules
-
-pub returns-clause-protection : goal.returns-clause-protection
-returns-clause-protection g c = search rules
 
 pub returns-clause-only : goal.returns-clause-only
 returns-clause-only g c = search rules

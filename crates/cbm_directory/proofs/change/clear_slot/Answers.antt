@@ -23,9 +23,6 @@ returns-in_err-at-clause-cause g c = search rules
 pub returns-in_err-at-clause-refused : goal.returns-in_err-at-clause-refused
 returns-in_err-at-clause-refused g c = search rules
 
-pub returns-in_err-at-clause-protection : goal.returns-in_err-at-clause-protection
-returns-in_err-at-clause-protection g c = search rules
-
 pub returns-in_err-at-clause-only : goal.returns-in_err-at-clause-only
 returns-in_err-at-clause-only g c = search rules
 
@@ -44,9 +41,6 @@ returns-in_default-clause-cause g c = search rules
 pub returns-in_default-clause-refused : goal.returns-in_default-clause-refused
 returns-in_default-clause-refused g c = search rules
 
-pub returns-in_default-clause-protection : goal.returns-in_default-clause-protection
-returns-in_default-clause-protection g c = search rules
-
 pub returns-in_default-clause-only : goal.returns-in_default-clause-only
 returns-in_default-clause-only g c = search rules
 
@@ -64,9 +58,6 @@ returns-clause-cause g c = search rules
 
 pub returns-clause-refused : goal.returns-clause-refused
 returns-clause-refused g c = search rules
-
-pub returns-clause-protection : goal.returns-clause-protection
-returns-clause-protection g c = search rules
 
 pub returns-clause-only : goal.returns-clause-only
 returns-clause-only g c = search rules

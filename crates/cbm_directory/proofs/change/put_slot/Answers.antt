@@ -20,9 +20,6 @@ returns-in_err-at-clause-err g c = search rules
 pub returns-in_err-at-clause-cause : goal.returns-in_err-at-clause-cause
 returns-in_err-at-clause-cause g c = search rules
 
-pub returns-in_err-at-clause-protection : goal.returns-in_err-at-clause-protection
-returns-in_err-at-clause-protection g c = search rules
-
 pub returns-in_err-at-clause-only : goal.returns-in_err-at-clause-only
 returns-in_err-at-clause-only g c = search rules
 
@@ -38,9 +35,6 @@ returns-in_default-clause-err g c = search rules
 pub returns-in_default-clause-cause : goal.returns-in_default-clause-cause
 returns-in_default-clause-cause g c = search rules
 
-pub returns-in_default-clause-protection : goal.returns-in_default-clause-protection
-returns-in_default-clause-protection g c = search rules
-
 pub returns-in_default-clause-only : goal.returns-in_default-clause-only
 returns-in_default-clause-only g c = search rules
 
@@ -55,9 +49,6 @@ returns-clause-err g c = search rules
 
 pub returns-clause-cause : goal.returns-clause-cause
 returns-clause-cause g c = search rules
-
-pub returns-clause-protection : goal.returns-clause-protection
-returns-clause-protection g c = search rules
 
 pub returns-clause-only : goal.returns-clause-only
 returns-clause-only g c = search rules

@@ -5,7 +5,7 @@ use Rattle.cbm_directory.specs.Slots.{directory_of}
 use Rattle.cbm_directory.specs.Growth.{Grows, CannotGrow}
 use Rattle.cbm_directory.specs.Empties.{FindsEmpty}
 use Rattle.cbm_directory.proofs.Codes.{directory_never_26, found_never_26}
-use Rattle.cbm_medium.proofs.Sequences.{only_then}
+use Rattle.cbm_medium.proofs.Sequences.{only_then, only_nothing}
 use Rattle.cbm_directory.proofs.Emptied.{grown_then, grown_stopped, grown_refused}
 use Rattle.cbm_directory.proofs.empty.empty_slot.Goals as goal
 use Rattle.cbm_directory.proofs.empty.empty_slot.Given.{Over}
@@ -34,17 +34,15 @@ returns-clause-cause g c =
 pub returns-clause-only : goal.returns-clause-only
 returns-clause-only g c =
     only_then c.grow.result c.first_empty-2.result c.in_ok-grow.field-0 (g.M.Medium.seen c.args.medium.now) (g.M.Medium.seen c.grow.new.medium) c.in_ok-grow.was c.grow.ensures.only
+    (found_never_26 c.args.geometry (g.M.Medium.seen c.grow.new.medium).content c.first_empty-2.result _ (λ q. g.met.M.Medium.codes c.grow.new.medium q) c.first_empty-2.ensures)
 
 pub returns-in-Some-clause-taken : goal.returns-in-Some-clause-taken
 returns-in-Some-clause-taken g c =
     inl (subst (λ (o : Option ℕ). FindsEmpty (directory_of c.args.geometry (g.M.Medium.seen c.args.medium.now).content) (Ok o)) c.in-Some.is c.in_ok-slot.ensures, refl)
 
 -- what breaks the directory off is never told as protection
-pub returns-in_err-slot-clause-protection : goal.returns-in_err-slot-clause-protection
-returns-in_err-slot-clause-protection g c =
+pub returns-in_err-slot-clause-only : goal.returns-in_err-slot-clause-only
+returns-in_err-slot-clause-only g c =
     let p = err_from_is_err_and c.from_residual.result c.from_residual.ensures.1 in
-    rw (p.1, p.2) (λ is. absurd (directory_never_26 c.args.geometry (g.M.Medium.seen c.args.medium.now).content c.in_err-slot.field-0.0 (λ q. g.met.M.Medium.codes c.args.medium.now q) c.in_err-slot.ensures.1 is))
-
-pub returns-clause-protection : goal.returns-clause-protection
-returns-clause-protection g c =
-    found_never_26 c.args.geometry (g.M.Medium.seen c.grow.new.medium).content c.first_empty-2.result _ (λ q. g.met.M.Medium.codes c.grow.new.medium q) c.first_empty-2.ensures
+    only_nothing c.from_residual.result (g.M.Medium.seen c.args.medium.now) (g.M.Medium.seen c.args.medium.now) (λ i. g.M.Medium.seen c.args.medium.now)
+    (rw (p.1, p.2) (λ is. absurd (directory_never_26 c.args.geometry (g.M.Medium.seen c.args.medium.now).content c.in_err-slot.field-0.0 (λ q. g.met.M.Medium.codes c.args.medium.now q) c.in_err-slot.ensures.1 is)))

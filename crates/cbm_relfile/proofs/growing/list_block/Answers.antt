@@ -8,17 +8,11 @@ use Rattle.cbm_relfile.proofs.growing.list_block.Goals as goal
 pub returns-in_err-head-clause-listed : goal.returns-in_err-head-clause-listed
 returns-in_err-head-clause-listed g c = search rules
 
-pub returns-in_err-head-clause-protection : goal.returns-in_err-head-clause-protection
-returns-in_err-head-clause-protection g c = search rules
-
 pub returns-in_err-head-clause-only : goal.returns-in_err-head-clause-only
 returns-in_err-head-clause-only g c = search rules
 
 pub returns-in_err-side-clause-listed : goal.returns-in_err-side-clause-listed
 returns-in_err-side-clause-listed g c = search rules
-
-pub returns-in_err-side-clause-protection : goal.returns-in_err-side-clause-protection
-returns-in_err-side-clause-protection g c = search rules
 
 pub returns-in_err-side-clause-only : goal.returns-in_err-side-clause-only
 returns-in_err-side-clause-only g c = search rules
@@ -26,26 +20,17 @@ returns-in_err-side-clause-only g c = search rules
 pub returns-in_default-clause-listed : goal.returns-in_default-clause-listed
 returns-in_default-clause-listed g c = search rules
 
-pub returns-in_default-clause-protection : goal.returns-in_default-clause-protection
-returns-in_default-clause-protection g c = search rules
-
 pub returns-in_default-clause-only : goal.returns-in_default-clause-only
 returns-in_default-clause-only g c = search rules
 
 pub returns-in_err-write-clause-listed : goal.returns-in_err-write-clause-listed
 returns-in_err-write-clause-listed g c = search rules
 
-pub returns-in_err-write-clause-protection : goal.returns-in_err-write-clause-protection
-returns-in_err-write-clause-protection g c = search rules
-
 pub returns-in_err-write-clause-only : goal.returns-in_err-write-clause-only
 returns-in_err-write-clause-only g c = search rules
 
 pub returns-clause-listed : goal.returns-clause-listed
 returns-clause-listed g c = search rules
-
-pub returns-clause-protection : goal.returns-clause-protection
-returns-clause-protection g c = search rules
 
 pub returns-clause-only : goal.returns-clause-only
 returns-clause-only g c = search rules

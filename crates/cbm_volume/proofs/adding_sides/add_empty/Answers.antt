@@ -7,30 +7,30 @@ use Rattle.cbm_volume.proofs.adding_sides.add_empty.Goals as goal
 
 -- it isn't claimed or written
 pub returns-in_err-side-clause-added : goal.returns-in_err-side-clause-added
-returns-in_err-side-clause-added g c = λ c0 d uses n w b s rs o e h some.
+returns-in_err-side-clause-added g c = λ c0 d uses n w b s rs o e h.
     let old : Seen = g.M.Medium.seen c.args.medium.now in
     let new : Seen = g.M.Medium.seen c.open_empty.new.medium in
-    handed c.from_residual.result c.in_err-side.field-0.0 _ (IsGrowthStopped old new c0 o.holds.layout d uses n w rs) c.from_residual.ensures.1 (c.in_err-side.ensures.opened c0 d uses n w b s rs o e h some)
+    handed c.from_residual.result c.in_err-side.field-0.0 _ (IsGrowthStopped old new c0 o.holds.layout d uses n w rs) c.from_residual.ensures.1 (c.in_err-side.ensures.opened c0 d uses n w b s rs o e h)
 
 -- one of the others isn't written
 pub returns-in_err-list_in_others-clause-added : goal.returns-in_err-list_in_others-clause-added
-returns-in_err-list_in_others-clause-added g c = λ c0 d uses n w b s rs o e h some.
+returns-in_err-list_in_others-clause-added g c = λ c0 d uses n w b s rs o e h.
     let old : Seen = g.M.Medium.seen c.args.medium.now in
     let mid : Seen = g.M.Medium.seen c.open_empty.new.medium in
     let new : Seen = g.M.Medium.seen c.list_in_others.new.medium in
     handed c.from_residual-in_err-list_in_others.result c.in_err-list_in_others.field-0.0 _ (IsGrowthStopped old new c0 o.holds.layout d uses n w rs) c.from_residual-in_err-list_in_others.ensures.1
     (stop_then old mid new c.args.geometry c.in_err-list_in_others.field-0.0 (OfRoom c.args.file c.args.sides) (OfEmpty c.args.file c.args.sides c.in_ok-side.side) (OfEmpty c.args.file c.args.sides c.in_ok-side.side)
-    c.in_ok-side.ensures.only.tracks c.in_ok-side.ensures.only.protected c.in_ok-side.ensures.only.counted (λ c1 d1 uses1 n1 w1 b1 s1 rs1 o1 e1 h1. c.in_ok-side.ensures.opened c1 d1 uses1 n1 w1 b1 s1 rs1 o1 e1 h1.0 h1.1)
-    c.in_err-list_in_others.ensures.copied c0 d uses n w b s rs o e (h, some))
+    c.in_ok-side.ensures.only.tracks c.in_ok-side.ensures.only.protected c.in_ok-side.ensures.only.counted c.in_ok-side.ensures.opened
+    c.in_err-list_in_others.ensures.copied c0 d uses n w b s rs o e h)
 
 pub returns-clause-added : goal.returns-clause-added
-returns-clause-added g c = λ c0 d uses n w b s rs o e h some.
+returns-clause-added g c = λ c0 d uses n w b s rs o e h.
     let old : Seen = g.M.Medium.seen c.args.medium.now in
     let one : Seen = g.M.Medium.seen c.open_empty.new.medium in
     let two : Seen = g.M.Medium.seen c.list_in_others.new.medium in
     let new : Seen = g.M.Medium.seen c.list_side.new.medium in
     both_then c.list_side.result old one new c.args.geometry (OfRoom c.args.file c.args.sides) (OfEmpty c.args.file c.args.sides c.in_ok-side.side) (OfSides c.args.file (c.args.sides + 1))
-    c.in_ok-side.ensures.only.tracks c.in_ok-side.ensures.only.protected c.in_ok-side.ensures.only.counted (λ c1 d1 uses1 n1 w1 b1 s1 rs1 o1 e1 h1. c.in_ok-side.ensures.opened c1 d1 uses1 n1 w1 b1 s1 rs1 o1 e1 h1.0 h1.1)
+    c.in_ok-side.ensures.only.tracks c.in_ok-side.ensures.only.protected c.in_ok-side.ensures.only.counted c.in_ok-side.ensures.opened
     (both_then c.list_side.result one two new c.args.geometry (OfEmpty c.args.file c.args.sides c.in_ok-side.side) (OfEmpty c.args.file c.args.sides c.in_ok-side.side) (OfSides c.args.file (c.args.sides + 1))
     c.in_ok-list_in_others.ensures.only.tracks c.in_ok-list_in_others.ensures.only.protected c.in_ok-list_in_others.ensures.only.counted c.in_ok-list_in_others.ensures.copied
-    (λ c1 d1 uses1 n1 w1 b1 s1 rs1 o1 e1 h1. c.list_side.ensures.added c1 d1 uses1 n1 w1 b1 s1 rs1 o1 e1 h1 refl)) c0 d uses n w b s rs o e (h, some)
+    (c.list_side.ensures.added refl)) c0 d uses n w b s rs o e h

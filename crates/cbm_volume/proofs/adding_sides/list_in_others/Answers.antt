@@ -18,7 +18,7 @@ returns-in_err-list_side-clause-copied g c = λ c0 d uses n w b s rs o e h.
     let i = c.loop-passed.invariant in
     handed c.from_residual.result c.in_err-list_side.field-0.0 _ (IsGrowthStopped old new c0 o.holds.layout d uses n w rs) c.from_residual.ensures.1
     (stop_then old mid new c.args.geometry c.in_err-list_side.field-0.0 (OfEmpty c.args.file c.args.sides c.args.side) (OfEmpty c.args.file c.args.sides c.args.side) (OfEmpty c.args.file c.args.sides c.args.side) i.1.tracks i.1.protected i.1.counted i.0
-    (λ c1 d1 uses1 n1 w1 b1 s1 rs1 o1 e1 h1. c.in_err-list_side.ensures.copied c1 d1 uses1 n1 w1 b1 s1 rs1 o1 e1 h1 (omega (arith, c.loop-passed-test.true))) c0 d uses n w b s rs o e h)
+    (c.in_err-list_side.ensures.copied (omega (arith, c.loop-passed-test.true))) c0 d uses n w b s rs o e h)
 
 pub loop-passed-preserved : goal.loop-passed-preserved
 loop-passed-preserved g c =
@@ -27,7 +27,7 @@ loop-passed-preserved g c =
     let new : Seen = g.M.Medium.seen c.list_side.new.medium in
     let i = c.loop-passed.invariant in (
       ok_then old mid new c.args.geometry (OfEmpty c.args.file c.args.sides c.args.side) (OfEmpty c.args.file c.args.sides c.args.side) (OfEmpty c.args.file c.args.sides c.args.side) i.1.tracks i.0
-          (λ c1 d1 uses1 n1 w1 b1 s1 rs1 o1 e1 h1. c.in_ok-list_side.ensures.copied c1 d1 uses1 n1 w1 b1 s1 rs1 o1 e1 h1 (omega (arith, c.loop-passed-test.true))),
+          (c.in_ok-list_side.ensures.copied (omega (arith, c.loop-passed-test.true))),
       only_more c.in_ok-list_side.field-0 old mid new i.1 c.in_ok-list_side.ensures.only,
       omega (arith, i.2),
       λ head. linked_more c.args.geometry old.content mid.content new.content c.args.file.side head (c.args.sides - c.loop-passed.passed) (c.args.sides + 1 - c.loop-passed.passed) (c.args.sides + 1 - (c.loop-passed.passed + 1)) c.args.sides c.args.side

@@ -3,13 +3,13 @@ use Rattle.cbm_volume.proofs.SidesAnswers.{empty_copy_means, empty_add_means}
 use Rattle.cbm_volume.proofs.adding_sides.list_side.Goals as goal
 
 pub returns-clause-copied : goal.returns-clause-copied
-returns-clause-copied g c = λ c0 d uses n w b s rs o e h some.
+returns-clause-copied g c = λ some c0 d uses n w b s rs o e h.
     let old : Seen = g.M.Medium.seen c.args.medium.now in
     let new : Seen = g.M.Medium.seen c.link_side.new.medium in
     empty_copy_means old new c0 d uses n w b s rs o c.args.file c.args.geometry c.args.sides c.args.number c.args.side e h c.requires.number.0 c.link_side.result c.side.result c.side.ensures c.link_side.ensures.linked some
 
 pub returns-clause-added : goal.returns-clause-added
-returns-clause-added g c = λ c0 d uses n w b s rs o e h zero.
+returns-clause-added g c = λ zero c0 d uses n w b s rs o e h.
     let old : Seen = g.M.Medium.seen c.args.medium.now in
     let new : Seen = g.M.Medium.seen c.link_side.new.medium in
     empty_add_means old new c0 d uses n w b s rs o c.args.file c.args.geometry c.args.sides c.args.number c.args.side e h c.requires.number.0 c.link_side.result c.side.result c.side.ensures c.link_side.ensures.linked zero c.requires.number.1

@@ -1,5 +1,6 @@
 use Rattle.std.proofs.Common.{length, ◌∙◌}
 use Rattle.std.proofs.lemmas.Result.{err_from_is_err_and}
+use Rattle.cbm_medium.proofs.Sequences.{only_nothing}
 use Rattle.cbm_medium.specs.Place.{sector_count}
 use Rattle.cbm_medium.specs.Seen.{Seen}
 use Rattle.cbm_file.specs.Files.{file_at}
@@ -17,10 +18,11 @@ returns-in_err-entry-clause-put g c = λ c' l d uses ch bytes k can room.
     absurd (no_trouble (geometry_of old.tracks c') c.geometry-geometry.result old.content k.reached.layout (less (length k.places) d) c.args.number c.in_err-entry.field-0.0 k.reached.so.stands (c.geometry-geometry.ensures.value ∙ k.reached.same) c.in_err-entry.ensures)
 
 -- what breaks the directory off is never told as protection
-pub returns-in_err-entry-clause-protection : goal.returns-in_err-entry-clause-protection
-returns-in_err-entry-clause-protection g c =
+pub returns-in_err-entry-clause-only : goal.returns-in_err-entry-clause-only
+returns-in_err-entry-clause-only g c =
     let p = err_from_is_err_and c.from_residual.result c.from_residual.ensures.1 in
-    rw (p.1, p.2) (λ is. absurd (directory_never_26 c.geometry-geometry.result (g.M.Medium.seen c.args.medium.now).content c.in_err-entry.field-0.0 (λ q. g.met.M.Medium.codes c.args.medium.now q) c.in_err-entry.ensures.1 is))
+    only_nothing c.from_residual.result (g.M.Medium.seen c.args.medium.now) (g.M.Medium.seen c.args.medium.now) (λ i. g.M.Medium.seen c.args.medium.now)
+    (rw (p.1, p.2) (λ is. absurd (directory_never_26 c.geometry-geometry.result (g.M.Medium.seen c.args.medium.now).content c.in_err-entry.field-0.0 (λ q. g.met.M.Medium.codes c.args.medium.now q) c.in_err-entry.ensures.1 is)))
 
 pub returns-in_default-clause-put : goal.returns-in_default-clause-put
 returns-in_default-clause-put g c = λ c' l d uses ch bytes k can room.

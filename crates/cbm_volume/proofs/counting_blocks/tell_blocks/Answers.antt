@@ -1,6 +1,7 @@
 use Rattle.std.proofs.Common.{◌<◌, ◌*◌, ℕ, List, length, subst, sym}
 use Rattle.std.proofs.lemmas.Result.{err_from_is_err_and}
 use Rattle.std.specs.Prelude.{IfErr}
+use Rattle.cbm_medium.proofs.Sequences.{only_nothing}
 use Rattle.cbm_medium.specs.Place.{Place}
 use Rattle.cbm_medium.specs.Links.{Chain}
 use Rattle.cbm_medium.specs.Seen.{Seen}
@@ -41,7 +42,8 @@ returns-clause-elsewhere g c =
     (subst (λ (t : ℕ). EntryPut t old.content new.content c.args.slot c.counted-counted.result c.put_slot.result) c.geometry-geometry.ensures.value c.put_slot.ensures.entered) c.put_slot.ensures.err
 
 -- what breaks the directory off is never told as protection
-pub returns-in_err-entry-clause-protection : goal.returns-in_err-entry-clause-protection
-returns-in_err-entry-clause-protection g c =
+pub returns-in_err-entry-clause-only : goal.returns-in_err-entry-clause-only
+returns-in_err-entry-clause-only g c =
     let p = err_from_is_err_and c.from_residual.result c.from_residual.ensures.1 in
-    rw (p.1, p.2) (λ is. absurd (directory_never_26 c.geometry-geometry.result (g.M.Medium.seen c.args.medium.now).content c.in_err-entry.field-0.0 (λ q. g.met.M.Medium.codes c.args.medium.now q) c.in_err-entry.ensures.1 is))
+    only_nothing c.from_residual.result (g.M.Medium.seen c.args.medium.now) (g.M.Medium.seen c.args.medium.now) (λ i. g.M.Medium.seen c.args.medium.now)
+    (rw (p.1, p.2) (λ is. absurd (directory_never_26 c.geometry-geometry.result (g.M.Medium.seen c.args.medium.now).content c.in_err-entry.field-0.0 (λ q. g.met.M.Medium.codes c.args.medium.now q) c.in_err-entry.ensures.1 is)))

@@ -26,9 +26,6 @@ returns-in_err-write-clause-cause g c = search rules
 pub returns-in_err-write-clause-protected : goal.returns-in_err-write-clause-protected
 returns-in_err-write-clause-protected g c = search rules
 
-pub returns-in_err-write-clause-protection : goal.returns-in_err-write-clause-protection
-returns-in_err-write-clause-protection g c = search rules
-
 pub returns-in_err-write-clause-only : goal.returns-in_err-write-clause-only
 returns-in_err-write-clause-only g c = search rules
 
@@ -44,9 +41,6 @@ returns-in_err-write-2-clause-cause g c = search rules
 pub returns-in_err-write-2-clause-protected : goal.returns-in_err-write-2-clause-protected
 returns-in_err-write-2-clause-protected g c = search rules
 
-pub returns-in_err-write-2-clause-protection : goal.returns-in_err-write-2-clause-protection
-returns-in_err-write-2-clause-protection g c = search rules
-
 pub returns-in_err-write-2-clause-only : goal.returns-in_err-write-2-clause-only
 returns-in_err-write-2-clause-only g c = search rules
 
@@ -61,9 +55,6 @@ returns-clause-cause g c = search rules
 
 pub returns-clause-protected : goal.returns-clause-protected
 returns-clause-protected g c = search rules
-
-pub returns-clause-protection : goal.returns-clause-protection
-returns-clause-protection g c = search rules
 
 pub returns-clause-only : goal.returns-clause-only
 returns-clause-only g c = search rules

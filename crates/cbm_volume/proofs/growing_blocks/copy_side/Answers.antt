@@ -3,13 +3,13 @@ use Rattle.cbm_volume.proofs.GrowingAnswers.{copy_means, add_means}
 use Rattle.cbm_volume.proofs.growing_blocks.copy_side.Goals as goal
 
 pub returns-clause-copied : goal.returns-clause-copied
-returns-clause-copied g c = λ c0 d uses n w b s b1 rs q o e h some.
+returns-clause-copied g c = λ b1 q some c0 d uses n w b s rs o e h.
     let old : Seen = g.M.Medium.seen c.args.medium.now in
     let new : Seen = g.M.Medium.seen c.link_side.new.medium in
     copy_means old new c0 d uses n w b s rs o c.args.file c.args.geometry b1 c.args.sides c.args.number q c.args.side e h c.requires.number.0 c.link_side.result c.side.result c.side.ensures c.link_side.ensures.linked some
 
 pub returns-clause-added : goal.returns-clause-added
-returns-clause-added g c = λ c0 d uses n w b s b1 rs q o e h zero whole.
+returns-clause-added g c = λ b1 q zero whole c0 d uses n w b s rs o e h.
     let old : Seen = g.M.Medium.seen c.args.medium.now in
     let new : Seen = g.M.Medium.seen c.link_side.new.medium in
     add_means old new c0 d uses n w b s rs o c.args.file c.args.geometry b1 c.args.sides c.args.number q c.args.side e h c.requires.number.0 c.link_side.result c.side.result c.side.ensures c.link_side.ensures.linked zero whole c.requires.number.1

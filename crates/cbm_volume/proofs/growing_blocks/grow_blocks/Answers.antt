@@ -18,13 +18,15 @@ loop-passed-init g c = (
 )
 
 pub returns-in_err-reach-clause-grown : goal.returns-in_err-reach-clause-grown
-returns-in_err-reach-clause-grown g c = λ c0 d uses n w b s rs o e h room.
+returns-in_err-reach-clause-grown g c = λ c0 d uses n w b s rs o e both.
+    let h = both.0 in
+    let room = both.1 in
     let old : Seen = g.M.Medium.seen c.args.medium.now in
     let mid : Seen = g.M.Medium.seen c.loop-passed.medium in
     let new : Seen = g.M.Medium.seen c.grow_once.new.medium in
     handed c.from_residual.result c.in_err-reach.field-0.0 _ (IsGrowthStopped old new c0 o.holds.layout d uses n w rs) c.from_residual.ensures.1
     (turned_stop old mid new c.args.file c.args.geometry c.args.from.blocks c.args.from.sides c.args.from.last c.args.count c.loop-passed.passed c.loop-passed.reach.blocks c.loop-passed.reach.sides c.loop-passed.reach.last 0 c.args.from.last c.in_err-reach.field-0.0
-    c.loop-passed.invariant.0 c.loop-passed.invariant.1.tracks c.loop-passed.invariant.1.protected c.loop-passed.invariant.1.counted c.loop-passed.invariant.2 c.loop-passed-test.true c.in_err-reach.ensures.grown c0 d uses n w b s rs o e h room)
+    c.loop-passed.invariant.0 c.loop-passed.invariant.1.tracks c.loop-passed.invariant.1.protected c.loop-passed.invariant.1.counted c.loop-passed.invariant.2 c.loop-passed-test.true (λ c1 d1 uses1 n1 w1 b2 s2 rs1 o1 e1 h1 room1. c.in_err-reach.ensures.grown c1 d1 uses1 n1 w1 b2 s2 rs1 o1 e1 (h1, room1)) c0 d uses n w b s rs o e h room)
 
 pub loop-passed-preserved : goal.loop-passed-preserved
 loop-passed-preserved g c =
@@ -33,7 +35,7 @@ loop-passed-preserved g c =
     let new : Seen = g.M.Medium.seen c.grow_once.new.medium in
     let bound = c.in_ok-reach.ensures.bound in (
       turned_more old mid new c.args.file c.args.geometry c.args.from.blocks c.args.from.sides c.args.from.last c.args.count c.loop-passed.passed c.loop-passed.reach.blocks c.loop-passed.reach.sides c.loop-passed.reach.last c.in_ok-reach.reach.blocks c.in_ok-reach.reach.sides c.in_ok-reach.reach.last
-          c.loop-passed.invariant.0 c.loop-passed.invariant.1.tracks c.loop-passed.invariant.2 c.loop-passed-test.true bound.0 c.in_ok-reach.ensures.grown,
+          c.loop-passed.invariant.0 c.loop-passed.invariant.1.tracks c.loop-passed.invariant.2 c.loop-passed-test.true bound.0 (λ c1 d1 uses1 n1 w1 b2 s2 rs1 o1 e1 h1 room1. c.in_ok-reach.ensures.grown c1 d1 uses1 n1 w1 b2 s2 rs1 o1 e1 (h1, room1)),
       only_more c.in_ok-reach.reach old mid new c.loop-passed.invariant.1 c.in_ok-reach.ensures.only,
       omega (arith, bound.0, c.loop-passed.invariant.2),
       bound.2,
@@ -42,7 +44,9 @@ loop-passed-preserved g c =
     )
 
 pub returns-clause-grown : goal.returns-clause-grown
-returns-clause-grown g c = λ c0 d uses n w b s rs o e h room.
+returns-clause-grown g c = λ c0 d uses n w b s rs o e both.
+    let h = both.0 in
+    let room = both.1 in
     let old : Seen = g.M.Medium.seen c.args.medium.now in
     let new : Seen = g.M.Medium.seen c.loop-passed.medium in
     let all : c.loop-passed.passed ≡ c.args.count = omega (arith, c.loop-passed-test.false, c.loop-passed.invariant.5) in

@@ -16,7 +16,7 @@ returns-then-track-tracks-clause-grown g c = λ d uses w rs o is free.
     let old : Seen = g.M.Medium.seen c.args.medium.now in
     let mid : Seen = g.M.Medium.seen c.begin_growth.new.medium in
     let only = c.in_ok-from.ensures.only in
-    let begun = (c.in_ok-from.ensures.begun d uses c.args.slot w rs o is (sides_room c.args.extent.sides c.args.extent.blocks c.args.blocks d.free c.requires.blocks.1 free)).1 in
+    let begun = (c.in_ok-from.ensures.begun c.args.slot d uses w rs o is (sides_room c.args.extent.sides c.args.extent.blocks c.args.blocks d.free c.requires.blocks.1 free)).1 in
     let has = last_has old mid mid d uses c.args.slot w c.args.extent.blocks c.args.extent.sides rs o c.args.file c.args.extent.blocks c.in_ok-from.from.sides c.in_ok-from.from.last begun only.tracks only.protected only.counted in
     let same : c.geometry-geometry.result ≡ geometry_of old.tracks old.content = subst (λ (m : ℕ). c.geometry-geometry.result ≡ geometry_of m mid.content) only.tracks c.geometry-geometry.ensures.value ∙ begun.same in
     absurd (omega (arith, has.1, same, c.if-track-tracks.true, c.tracks.ensures.value, c.track.ensures.value))
@@ -30,7 +30,7 @@ returns-in_err-reach-clause-grown g c = λ d uses w rs o is free.
     let only = c.in_ok-from.ensures.only in
     let b : ℕ = c.args.extent.blocks in
     let s : ℕ = c.args.extent.sides in
-    let k = c.in_ok-from.ensures.begun d uses c.args.slot w rs o is (sides_room s b c.args.blocks d.free c.requires.blocks.1 free) in
+    let k = c.in_ok-from.ensures.begun c.args.slot d uses w rs o is (sides_room s b c.args.blocks d.free c.requires.blocks.1 free) in
     let at : c.in_ok-from.from.blocks ≡ b = c.in_ok-from.ensures.bound.0 in
     let begun = subst (λ (m : ℕ). HasGrown old.tracks old.content d uses c.args.slot w b s rs o c.args.file mid.content m c.in_ok-from.from.sides c.in_ok-from.from.last) (sym at) k.1 in
     let same : c.geometry-geometry.result ≡ geometry_of old.tracks old.content = subst (λ (m : ℕ). c.geometry-geometry.result ≡ geometry_of m mid.content) only.tracks c.geometry-geometry.ensures.value ∙ begun.same in
@@ -39,7 +39,7 @@ returns-in_err-reach-clause-grown g c = λ d uses w rs o is free.
     let free2 : c.args.blocks + sides_for c.in_ok-from.from.sides c.args.blocks - (b + s) ≤ d.free = subst (λ (m : ℕ). c.args.blocks + m - (b + s) ≤ d.free) (sym twice) free in
     handed c.from_residual-in_err-reach.result c.in_err-reach.field-0.0 _ (IsGrowthStopped old new old.content o.holds.layout d uses c.args.slot w rs) c.from_residual-in_err-reach.ensures.1
     (stop_later old mid new old.content o.holds.layout d uses c.args.slot w rs c.in_err-reach.field-0.0 only.tracks only.protected only.counted
-    (subst (λ (m : ℕ). BlocksBy m mid new c.args.file c.geometry-geometry.result c.in_ok-from.from.blocks c.in_ok-from.from.sides c.in_ok-from.from.last (c.args.blocks - b) 0 c.in_ok-from.from.last (λ p q. q c.in_err-reach.field-0.0)) only.tracks c.in_err-reach.ensures.grown
+    (subst (λ (m : ℕ). BlocksBy m mid new c.args.file c.geometry-geometry.result c.in_ok-from.from.blocks c.in_ok-from.from.sides c.in_ok-from.from.last (c.args.blocks - b) 0 c.in_ok-from.from.last (λ p q. q c.in_err-reach.field-0.0)) only.tracks (λ c1 d1 uses1 n1 w1 b2 s2 rs1 o1 e1 h1 room1. c.in_err-reach.ensures.grown c1 d1 uses1 n1 w1 b2 s2 rs1 o1 e1 (h1, room1))
     old.content d uses c.args.slot w b s rs o same begun (subst (λ (j : ℕ). j + sides_for c.in_ok-from.from.sides j - (b + s) ≤ d.free) all free2)))
 
 pub returns-clause-grown : goal.returns-clause-grown
@@ -52,14 +52,14 @@ returns-clause-grown g c = λ d uses w rs o is free.
     let then = c.in_ok-reach.ensures.only in
     let b : ℕ = c.args.extent.blocks in
     let s : ℕ = c.args.extent.sides in
-    let k = c.in_ok-from.ensures.begun d uses c.args.slot w rs o is (sides_room s b c.args.blocks d.free c.requires.blocks.1 free) in
+    let k = c.in_ok-from.ensures.begun c.args.slot d uses w rs o is (sides_room s b c.args.blocks d.free c.requires.blocks.1 free) in
     let at : c.in_ok-from.from.blocks ≡ b = c.in_ok-from.ensures.bound.0 in
     let begun = subst (λ (m : ℕ). HasGrown old.tracks old.content d uses c.args.slot w b s rs o c.args.file one.content m c.in_ok-from.from.sides c.in_ok-from.from.last) (sym at) k.1 in
     let same : c.geometry-geometry.result ≡ geometry_of old.tracks old.content = subst (λ (m : ℕ). c.geometry-geometry.result ≡ geometry_of m one.content) first.tracks c.geometry-geometry.ensures.value ∙ begun.same in
     let all : c.args.blocks ≡ c.in_ok-from.from.blocks + (c.args.blocks - b) = omega (arith, c.requires.blocks.1, at) in
     let twice : sides_for c.in_ok-from.from.sides c.args.blocks ≡ sides_for s c.args.blocks = ap (λ (m : ℕ). sides_for m c.args.blocks) k.0 ∙ sides_twice s b c.args.blocks c.requires.blocks.1 in
     let free2 : c.args.blocks + sides_for c.in_ok-from.from.sides c.args.blocks - (b + s) ≤ d.free = subst (λ (m : ℕ). c.args.blocks + m - (b + s) ≤ d.free) (sym twice) free in
-    let grown = subst (λ (m : ℕ). BlocksBy m one mid c.args.file c.geometry-geometry.result c.in_ok-from.from.blocks c.in_ok-from.from.sides c.in_ok-from.from.last (c.args.blocks - b) c.in_ok-reach.reach.sides c.in_ok-reach.reach.last (λ p q. p)) first.tracks c.in_ok-reach.ensures.grown
+    let grown = subst (λ (m : ℕ). BlocksBy m one mid c.args.file c.geometry-geometry.result c.in_ok-from.from.blocks c.in_ok-from.from.sides c.in_ok-from.from.last (c.args.blocks - b) c.in_ok-reach.reach.sides c.in_ok-reach.reach.last (λ p q. p)) first.tracks (λ c1 d1 uses1 n1 w1 b2 s2 rs1 o1 e1 h1 room1. c.in_ok-reach.ensures.grown c1 d1 uses1 n1 w1 b2 s2 rs1 o1 e1 (h1, room1))
     old.content d uses c.args.slot w b s rs o same begun (subst (λ (j : ℕ). j + sides_for c.in_ok-from.from.sides j - (b + s) ≤ d.free) all free2) in
     let here = subst (λ (j : ℕ). HasGrown old.tracks old.content d uses c.args.slot w b s rs o c.args.file mid.content j c.in_ok-reach.reach.sides c.in_ok-reach.reach.last) (sym all) grown.1 in
     let sides : c.in_ok-reach.reach.sides ≡ sides_for s c.args.blocks = grown.0 ∙ ap (sides_for c.in_ok-from.from.sides) (sym all) ∙ twice in

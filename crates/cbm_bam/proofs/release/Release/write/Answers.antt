@@ -17,9 +17,6 @@ returns-in_err-write-clause-cause g c = search rules
 pub returns-in_err-write-clause-place : goal.returns-in_err-write-clause-place
 returns-in_err-write-clause-place g c = search rules
 
-pub returns-in_err-write-clause-protection : goal.returns-in_err-write-clause-protection
-returns-in_err-write-clause-protection g c = search rules
-
 pub returns-in_err-write-clause-only : goal.returns-in_err-write-clause-only
 returns-in_err-write-clause-only g c = search rules
 
@@ -34,9 +31,6 @@ returns-clause-cause g c = search rules
 
 pub returns-clause-place : goal.returns-clause-place
 returns-clause-place g c = search rules
-
-pub returns-clause-protection : goal.returns-clause-protection
-returns-clause-protection g c = search rules
 
 pub returns-clause-only : goal.returns-clause-only
 returns-clause-only g c = search rules

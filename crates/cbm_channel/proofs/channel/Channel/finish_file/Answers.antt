@@ -1,66 +1,69 @@
-use Rattle.std.proofs.Common.{sym, ◌∙◌}
+use Rattle.std.proofs.Common.{rules, sym, ◌∙◌}
+use Rattle.cbm_volume.proofs.Calls.{if_ok, on_ok}
 use Rattle.cbm_channel.proofs.BytesPut.{writes_so, written_on}
 use Rattle.cbm_channel.proofs.Finished.{let_go_none, closed_plain, closed_replaced, closed_given, stopped_early, on_err, ok_to, err_to}
 use Rattle.cbm_channel.proofs.channel.Channel.finish_file.Goals as goal
 
-pub returns-in_default-clause-closed : goal.returns-in_default-clause-closed
-returns-in_default-clause-closed g c = λ d uses ch x h e s. let_go_none _ _ d uses ch c.args.self.now x c.in_default.not-Writing s h
+pub returns-in_default-clause-call : goal.returns-in_default-clause-call
+returns-in_default-clause-call g c = λ d uses ch x h e s.
+    record {
+      done = let_go_none _ _ d uses ch c.args.self.now x c.in_default.not-Writing s h;
+      stopped = (search rules);
+      cause = (search rules);
+    }
 
 -- a new file, or one that was appended to
-pub returns-then-not-replaces-clause-closed : goal.returns-then-not-replaces-clause-closed
-returns-then-not-replaces-clause-closed g c = λ d uses ch x h e s.
-    let at = writes_so c.args.self.now c.in-Writing.writer c.in-Writing.full x (uses ch) c.in-Writing.is s e in
-    ok_to (g.M.Medium.seen c.args.volume.now).tracks (g.M.Medium.seen c.finish.new.self).content _ _ uses ch c.finish.result (closed_plain d c.in-Writing.writer.slot at.1 at.0 c.in-Writing.full c.in-Writing.writer.replaces x at.2 (sym c.replaces.ensures ∙ c.if-not-replaces.true))
-    (c.finish.ensures.finished d uses ch at.0 at.1 h at.3)
-
-pub returns-then-not-replaces-clause-stopped : goal.returns-then-not-replaces-clause-stopped
-returns-then-not-replaces-clause-stopped g c = λ d uses ch x h e s.
-    let at = writes_so c.args.self.now c.in-Writing.writer c.in-Writing.full x (uses ch) c.in-Writing.is s e in
-    err_to _ _ d _ _ uses ch c.finish.result (closed_plain d c.in-Writing.writer.slot at.1 at.0 c.in-Writing.full c.in-Writing.writer.replaces x at.2 (sym c.replaces.ensures ∙ c.if-not-replaces.true))
-    (c.finish.ensures.stopped d uses ch at.0 at.1 h at.3)
-
-pub returns-then-not-replaces-clause-cause : goal.returns-then-not-replaces-clause-cause
-returns-then-not-replaces-clause-cause g c = λ d uses ch x h e s.
-    let at = writes_so c.args.self.now c.in-Writing.writer c.in-Writing.full x (uses ch) c.in-Writing.is s e in
-    c.finish.ensures.cause d uses ch at.0 at.1 h at.3
+pub returns-then-not-replaces-clause-call : goal.returns-then-not-replaces-clause-call
+returns-then-not-replaces-clause-call g c = λ d uses ch x h e s.
+    record {
+      done =
+          let at = writes_so c.args.self.now c.in-Writing.writer c.in-Writing.full x (uses ch) c.in-Writing.is s e in
+          if_ok c.finish.result _ (ok_to (g.M.Medium.seen c.args.volume.now).tracks (g.M.Medium.seen c.finish.new.self).content _ _ uses ch c.finish.result (closed_plain d c.in-Writing.writer.slot at.1 at.0 c.in-Writing.full c.in-Writing.writer.replaces x at.2 (sym c.replaces.ensures ∙ c.if-not-replaces.true))
+          (on_ok c.finish.result _ (c.finish.ensures.call d uses ch at.0 at.1 h at.3).done));
+      stopped =
+          let at = writes_so c.args.self.now c.in-Writing.writer c.in-Writing.full x (uses ch) c.in-Writing.is s e in
+          err_to _ _ d _ _ uses ch c.finish.result (closed_plain d c.in-Writing.writer.slot at.1 at.0 c.in-Writing.full c.in-Writing.writer.replaces x at.2 (sym c.replaces.ensures ∙ c.if-not-replaces.true))
+          (c.finish.ensures.call d uses ch at.0 at.1 h at.3).stopped;
+      cause =
+          let at = writes_so c.args.self.now c.in-Writing.writer c.in-Writing.full x (uses ch) c.in-Writing.is s e in
+          (c.finish.ensures.call d uses ch at.0 at.1 h at.3).cause;
+    }
 
 -- a replacement on a full disk
-pub returns-then-full-clause-closed : goal.returns-then-full-clause-closed
-returns-then-full-clause-closed g c = λ d uses ch x h e s.
-    let at = writes_so c.args.self.now c.in-Writing.writer c.in-Writing.full x (uses ch) c.in-Writing.is s e in
-    ok_to (g.M.Medium.seen c.args.volume.now).tracks (g.M.Medium.seen c.give_up.new.self).content _ _ uses ch c.give_up.result
-    (closed_given _ _ d uses ch c.in-Writing.writer at.0 at.1 c.in-Writing.full x h at.3 at.2 c.if-full.true (sym c.replaces.ensures ∙ c.if-not-replaces.false))
-    (c.give_up.ensures.given d uses ch at.0 at.1 h at.3)
-
-pub returns-then-full-clause-stopped : goal.returns-then-full-clause-stopped
-returns-then-full-clause-stopped g c = λ d uses ch x h e s.
-    let at = writes_so c.args.self.now c.in-Writing.writer c.in-Writing.full x (uses ch) c.in-Writing.is s e in
-    stopped_early _ _ d _ _ c.give_up.result (c.give_up.ensures.stopped d uses ch at.0 at.1 h at.3)
-
-pub returns-then-full-clause-cause : goal.returns-then-full-clause-cause
-returns-then-full-clause-cause g c = λ d uses ch x h e s.
-    let at = writes_so c.args.self.now c.in-Writing.writer c.in-Writing.full x (uses ch) c.in-Writing.is s e in
-    c.give_up.ensures.cause d uses ch at.0 at.1 h at.3
+pub returns-then-full-clause-call : goal.returns-then-full-clause-call
+returns-then-full-clause-call g c = λ d uses ch x h e s.
+    record {
+      done =
+          let at = writes_so c.args.self.now c.in-Writing.writer c.in-Writing.full x (uses ch) c.in-Writing.is s e in
+          if_ok c.give_up.result _ (ok_to (g.M.Medium.seen c.args.volume.now).tracks (g.M.Medium.seen c.give_up.new.self).content _ _ uses ch c.give_up.result
+          (closed_given _ _ d uses ch c.in-Writing.writer at.0 at.1 c.in-Writing.full x h at.3 at.2 c.if-full.true (sym c.replaces.ensures ∙ c.if-not-replaces.false))
+          (on_ok c.give_up.result _ (c.give_up.ensures.call d uses ch at.0 at.1 h at.3).done));
+      stopped =
+          let at = writes_so c.args.self.now c.in-Writing.writer c.in-Writing.full x (uses ch) c.in-Writing.is s e in
+          stopped_early _ _ d _ _ c.give_up.result (c.give_up.ensures.call d uses ch at.0 at.1 h at.3).stopped;
+      cause =
+          let at = writes_so c.args.self.now c.in-Writing.writer c.in-Writing.full x (uses ch) c.in-Writing.is s e in
+          (c.give_up.ensures.call d uses ch at.0 at.1 h at.3).cause;
+    }
 
 -- a replacement
-pub returns-else-full-clause-closed : goal.returns-else-full-clause-closed
-returns-else-full-clause-closed g c = λ d uses ch x h e s.
-    let at = writes_so c.args.self.now c.in-Writing.writer c.in-Writing.full x (uses ch) c.in-Writing.is s e in
-    let way = sym c.replaces.ensures ∙ c.if-not-replaces.false in
-    ok_to (g.M.Medium.seen c.args.volume.now).tracks (g.M.Medium.seen c.finish_replacement.new.self).content _ _ uses ch c.finish_replacement.result (closed_replaced d c.in-Writing.writer.slot at.1 at.0 c.in-Writing.full c.in-Writing.writer.replaces x at.2 c.if-full.false way)
-    (c.finish_replacement.ensures.finished d uses ch at.0 at.1 h at.3 way)
-
-pub returns-else-full-clause-stopped : goal.returns-else-full-clause-stopped
-returns-else-full-clause-stopped g c = λ d uses ch x h e s.
-    let at = writes_so c.args.self.now c.in-Writing.writer c.in-Writing.full x (uses ch) c.in-Writing.is s e in
-    let way = sym c.replaces.ensures ∙ c.if-not-replaces.false in
-    err_to _ _ d _ _ uses ch c.finish_replacement.result (closed_replaced d c.in-Writing.writer.slot at.1 at.0 c.in-Writing.full c.in-Writing.writer.replaces x at.2 c.if-full.false way)
-    (c.finish_replacement.ensures.stopped d uses ch at.0 at.1 h at.3 way)
-
-pub returns-else-full-clause-cause : goal.returns-else-full-clause-cause
-returns-else-full-clause-cause g c = λ d uses ch x h e s.
-    let at = writes_so c.args.self.now c.in-Writing.writer c.in-Writing.full x (uses ch) c.in-Writing.is s e in
-    c.finish_replacement.ensures.cause d uses ch at.0 at.1 h at.3 (sym c.replaces.ensures ∙ c.if-not-replaces.false)
+pub returns-else-full-clause-call : goal.returns-else-full-clause-call
+returns-else-full-clause-call g c = λ d uses ch x h e s.
+    record {
+      done =
+          let at = writes_so c.args.self.now c.in-Writing.writer c.in-Writing.full x (uses ch) c.in-Writing.is s e in
+          let way = sym c.replaces.ensures ∙ c.if-not-replaces.false in
+          if_ok c.finish_replacement.result _ (ok_to (g.M.Medium.seen c.args.volume.now).tracks (g.M.Medium.seen c.finish_replacement.new.self).content _ _ uses ch c.finish_replacement.result (closed_replaced d c.in-Writing.writer.slot at.1 at.0 c.in-Writing.full c.in-Writing.writer.replaces x at.2 c.if-full.false way)
+          (on_ok c.finish_replacement.result _ (c.finish_replacement.ensures.call d uses ch at.0 at.1 h at.3 way).done));
+      stopped =
+          let at = writes_so c.args.self.now c.in-Writing.writer c.in-Writing.full x (uses ch) c.in-Writing.is s e in
+          let way = sym c.replaces.ensures ∙ c.if-not-replaces.false in
+          err_to _ _ d _ _ uses ch c.finish_replacement.result (closed_replaced d c.in-Writing.writer.slot at.1 at.0 c.in-Writing.full c.in-Writing.writer.replaces x at.2 c.if-full.false way)
+          (c.finish_replacement.ensures.call d uses ch at.0 at.1 h at.3 way).stopped;
+      cause =
+          let at = writes_so c.args.self.now c.in-Writing.writer c.in-Writing.full x (uses ch) c.in-Writing.is s e in
+          (c.finish_replacement.ensures.call d uses ch at.0 at.1 h at.3 (sym c.replaces.ensures ∙ c.if-not-replaces.false)).cause;
+    }
 
 pub returns-then-not-replaces-clause-wrote : goal.returns-then-not-replaces-clause-wrote
 returns-then-not-replaces-clause-wrote g c = λ x s. on_err _ _ (written_on c.args.self.now c.in-Writing.writer c.in-Writing.full x c.in-Writing.is s)

@@ -17,7 +17,7 @@ slots-init g c =
     let vol = ap (λ k. k.medium) c.self.view_is in (
       (λ m st can. subst (λ x. IsClearing (g.M.Medium.seen old.medium).tracks (g.M.Medium.seen x).content (uses_of old.channels m.channels) m.disk (all_scratched m.disk c.args.slots.now) c.args.slots.now) (sym vol)
           (clearing_first _ _ _ m.disk c.args.slots.now st.holds can)),
-      only_nothing (Ok tt) _ _ (ap g.M.Medium.seen vol),
+      only_nothing (Ok tt) _ _ (ap g.M.Medium.seen vol) tt,
       c.self.view_is ∙ ap (λ v. record old { medium = v }) (sym vol),
     )
 
@@ -39,9 +39,9 @@ returns-in_err-scratch-clause-stopped g c = λ m st can unprotected.
     let uses = uses_of old.channels m.channels in
     let h = next_left _ _ _ m.disk (all_scratched m.disk c.args.slots.now) c.args.slots.now c.slots.slot-index c.slots-test.true (c.slots.invariant.0 m st can) in
     on_err c.from_residual.result _ (
-      clearing_stopped _ _ new.content uses m.disk (all_scratched m.disk c.args.slots.now) _ _ h mid.tracks c.slots.invariant.1.tracks c.in_err-scratch.ensures.stopped,
+      clearing_stopped _ _ new.content uses m.disk (all_scratched m.disk c.args.slots.now) _ _ h mid.tracks c.slots.invariant.1.tracks (λ d us f h at unused. (c.in_err-scratch.ensures.call d us h f at unused).stopped),
       late (g.M.Medium.seen old.medium) mid new c.slots.invariant.1.counted (failed_by mid new c.in_err-scratch.field-0.0 m.protected (st.same_protection ∙ sym c.slots.invariant.1.protected) (unprotected (λ e. omega (arith, c.slots-test.true, ap length e)))
-          (clearing_hindered _ _ new.content uses m.disk (all_scratched m.disk c.args.slots.now) _ _ h mid.tracks (IsHindered mid new c.in_err-scratch.field-0.0) c.slots.invariant.1.tracks c.in_err-scratch.ensures.cause)),
+          (clearing_hindered _ _ new.content uses m.disk (all_scratched m.disk c.args.slots.now) _ _ h mid.tracks (IsHindered mid new c.in_err-scratch.field-0.0) c.slots.invariant.1.tracks (λ d us f h at unused. (c.in_err-scratch.ensures.call d us h f at unused).cause))),
     )
 
 pub returns-in_err-scratch-clause-rest : goal.returns-in_err-scratch-clause-rest
@@ -58,7 +58,7 @@ slots-preserved g c =
     let old = c.args.self.now in (
       (λ m st can.
           let h = next_left _ _ _ m.disk (all_scratched m.disk c.args.slots.now) c.args.slots.now c.slots.slot-index c.slots-test.true (c.slots.invariant.0 m st can) in
-          clearing_next _ _ (g.M.Medium.seen c.scratch.new.self).content (uses_of old.channels m.channels) m.disk (all_scratched m.disk c.args.slots.now) _ _ h (g.M.Medium.seen c.slots.self-inside.volume).tracks c.slots.invariant.1.tracks c.in_ok-scratch.ensures.scratched),
+          clearing_next _ _ (g.M.Medium.seen c.scratch.new.self).content (uses_of old.channels m.channels) m.disk (all_scratched m.disk c.args.slots.now) _ _ h (g.M.Medium.seen c.slots.self-inside.volume).tracks c.slots.invariant.1.tracks (λ d us f h at unused. (c.in_ok-scratch.ensures.call d us h f at unused).done)),
       only_more c.in_ok-scratch.field-0 _ _ _ c.slots.invariant.1 c.in_ok-scratch.ensures.only,
       (λ i. record (c.slots.invariant.2 i) { medium = c.scratch.new.self }),
     )
@@ -78,4 +78,4 @@ returns-clause-medium g c = c.slots.invariant.1
 -- none is cleared on a protected disk
 pub returns-in_err-scratch-clause-unguarded : goal.returns-in_err-scratch-clause-unguarded
 returns-in_err-scratch-clause-unguarded g c = λ free. passed_on c.from_residual.result c.in_err-scratch.field-0.0 (λ t. t.code ≢ 26) c.from_residual.ensures.1
-    (λ is. let z = sym (c.in_err-scratch.ensures.protection is) ∙ c.slots.invariant.1.protected ∙ free.unprotected (λ e. omega (arith, c.slots-test.true, ap length e)) in absurd (cc))
+    (λ is. let z = sym (c.in_err-scratch.ensures.only.guarded is) ∙ c.slots.invariant.1.protected ∙ free.unprotected (λ e. omega (arith, c.slots-test.true, ap length e)) in absurd (cc))

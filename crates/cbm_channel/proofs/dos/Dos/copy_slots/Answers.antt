@@ -37,7 +37,7 @@ returns-in-Ok-true-clause-goes g c = λ m olds cut is s.
     let room : (nat_lt m.disk.free (copy_blocks m.disk c.args.slots.now) || not (has_slot m.disk)) ≡ false =
     not_so _ (λ e. let z = sym c.in-Ok-true.field-0-test ∙ c.in-Ok-true.ensures.full m.disk uses st.holds can e in absurd (cc)) in
     let made = subst (λ (b : Bool). MatchBool b (HoldsNow old.tracks new.content (with_copy m.disk c.args.kind (before_filler c.bytes.result.now) c.args.slots.now) uses) (HasNoRoomFor m.disk c.args.slots.now × (new.content ≡ old.content)))
-    c.in-Ok-true.field-0-test (c.in-Ok-true.ensures.copied m.disk uses 15 st.holds idle kept plain can) in
+    c.in-Ok-true.field-0-test (c.in-Ok-true.ensures.call m.disk uses 15 st.holds idle kept plain can).done in
     let holds = subst (λ (x : List ℕ). HoldsNow old.tracks new.content (with_copy m.disk c.args.kind x c.args.slots.now) uses) name made in
     let unprotected : m.protected ≡ false =
     not_so m.protected (λ e. copy_shows m c.args.name.now olds c.args.kind c.args.slots.now is room old.tracks old.content new.content uses (c.in-Ok-true.ensures.guarded (sym st.same_protection ∙ e)) st.holds holds) in
@@ -60,7 +60,7 @@ returns-in-Ok-false-clause-goes g c = λ m olds cut is s.
     let plain = kind_plain m c.args.name.now olds c.args.kind c.args.slots.now is in
     let can = all_copied m c.args.name.now olds c.args.kind c.args.slots.now is in
     let none = subst (λ (b : Bool). MatchBool b (HoldsNow old.tracks new.content (with_copy m.disk c.args.kind (before_filler c.bytes.result.now) c.args.slots.now) uses) (HasNoRoomFor m.disk c.args.slots.now × (new.content ≡ old.content)))
-    c.in-Ok-false.field-0-test (c.in-Ok-false.ensures.copied m.disk uses 15 st.holds idle kept plain can) in
+    c.in-Ok-false.field-0-test (c.in-Ok-false.ensures.call m.disk uses 15 st.holds idle kept plain can).done in
     let same = subst (λ x. StandsBy x (g.M.Medium.seen here.volume).tracks (g.M.Medium.seen here.volume).protected here.channels here.telling here.text m) (sym none.1) st in (
       say DiskFull m,
       inl (sym (copy_full m c.args.name.now olds c.args.kind c.args.slots.now is none.0)),
@@ -82,7 +82,7 @@ returns-in-Err-clause-goes g c = λ m olds cut is s.
     let name : before_filler c.bytes.result.now ≡ c.args.name.now = ap before_filler c.bytes.ensures.value ∙ cut in
     let room : (nat_lt m.disk.free (copy_blocks m.disk c.args.slots.now) || not (has_slot m.disk)) ≡ false =
     not_so _ (λ e. c.in-Err.ensures.full m.disk uses st.holds can e) in
-    let cause = c.in-Err.ensures.cause m.disk uses 15 st.holds idle kept plain can in
+    let cause = (c.in-Err.ensures.call m.disk uses 15 st.holds idle kept plain can).cause in
     let moved = λ (f : HasFailed old new). subst (λ v. HasFailed (g.M.Medium.seen v) (g.M.Medium.seen c.set.new.self.medium)) (ap (λ k. k.medium) c.self.view_is) (subst (λ v. HasFailed (g.M.Medium.seen here.volume) (g.M.Medium.seen v)) (sym c.set.ensures.medium) f) in
     elim (true_or_false m.protected) [
       | inl guarded ↦ (
@@ -96,7 +96,7 @@ returns-in-Err-clause-goes g c = λ m olds cut is s.
           ))
       | inr unprotected ↦ (
           let failed = failed_by old new c.in-Err.trouble m.protected st.same_protection unprotected cause in
-          let stop = subst (λ (x : List ℕ). Stopped old.tracks new.content m.disk (with_copy m.disk c.args.kind x c.args.slots.now) uses) name (c.in-Err.ensures.stopped m.disk uses 15 st.holds idle kept plain can) in
+          let stop = subst (λ (x : List ℕ). Stopped old.tracks new.content m.disk (with_copy m.disk c.args.kind x c.args.slots.now) uses) name (c.in-Err.ensures.call m.disk uses 15 st.holds idle kept plain can).stopped in
           let next = copy_cut m c.args.name.now olds c.args.kind c.args.slots.now is _ _ new.content _ here.channels here.telling here.text st room unprotected stop in (
             tell c.from.result next.0,
             inr (moved failed, next.1 c.in-Err.trouble c.from.result c.self.invariant.count c.from.ensures),
@@ -117,7 +117,7 @@ returns-in-Ok-true-clause-spared g c = not_refused _ _ c.say.ensures.told refl
 pub returns-in-Err-clause-spared : goal.returns-in-Err-clause-spared
 returns-in-Err-clause-spared g c = λ is.
     ap (λ v. (g.M.Medium.seen v).content) c.set.ensures.medium
-    ∙ (c.in-Err.ensures.guarded (c.in-Err.ensures.protection (refused_26 c.in-Err.trouble c.from.result _ c.from.ensures c.set.ensures.told is))
+    ∙ (c.in-Err.ensures.guarded (c.in-Err.ensures.only.guarded (refused_26 c.in-Err.trouble c.from.result _ c.from.ensures c.set.ensures.told is))
     ∙ ap (λ k. (g.M.Medium.seen k.medium).content) c.self.view_is)
 
 -- ---- what it makes of the medium, on any disk

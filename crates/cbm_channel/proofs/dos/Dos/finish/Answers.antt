@@ -14,7 +14,7 @@ returns-in_default-clause-goes g c = λ m s.
     let st = stood g.M.Medium.seen _ _ m c.self.view_is s in
     let at = stands_at _ _ _ _ _ _ m c.args.channel c.index-self-channel.result c.requires c.self.invariant st in
     let same = use_at (slice_index_or c.self.inside.channels c.args.channel c.index-self-channel.result) _ m.channels c.args.channel _ (omega (arith, c.requires, c.self.invariant.count)) refl in
-    let done = c.in_default.ensures.closed m.disk (uses_of c.self.inside.channels m.channels) c.args.channel (channel m c.args.channel) st.holds same at in (
+    let done = (c.in_default.ensures.call m.disk (uses_of c.self.inside.channels m.channels) c.args.channel (channel m c.args.channel) st.holds same at).done in (
       finish_channel c.args.channel m,
       inl refl,
       renamed _ _ _ _ _ _ _ _ _ c.finish.ensures.only.tracks c.finish.ensures.only.protected
@@ -27,11 +27,11 @@ returns-in-Err-clause-goes g c = λ m s.
     let st = stood g.M.Medium.seen _ _ m c.self.view_is s in
     let at = stands_at _ _ _ _ _ _ m c.args.channel c.index-self-channel.result c.requires c.self.invariant st in
     let same = use_at (slice_index_or c.self.inside.channels c.args.channel c.index-self-channel.result) _ m.channels c.args.channel _ (omega (arith, c.requires, c.self.invariant.count)) refl in
-    let cut = c.in-Err.ensures.stopped m.disk (uses_of c.self.inside.channels m.channels) c.args.channel (channel m c.args.channel) st.holds same at in
+    let cut = (c.in-Err.ensures.call m.disk (uses_of c.self.inside.channels m.channels) c.args.channel (channel m c.args.channel) st.holds same at).stopped in
     let wrote = c.in-Err.ensures.wrote (channel m c.args.channel) at in
     let next = finish_cut _ _ _ _ _ _ m c.args.channel c.requires c.self.invariant st _ cut in
     let failed = has_failed _ _ _ c.args.channel wrote.slot (g.M.Medium.seen c.self.inside.volume) (g.M.Medium.seen c.finish.new.volume) c.in-Err.trouble st.orderly st.same_protection wrote.bytes wrote.blocks wrote.full wrote.replaces wrote.is
-    (c.in-Err.ensures.cause m.disk (uses_of c.self.inside.channels m.channels) c.args.channel (channel m c.args.channel) st.holds same at) in
+    (c.in-Err.ensures.call m.disk (uses_of c.self.inside.channels m.channels) c.args.channel (channel m c.args.channel) st.holds same at).cause in
     let moved = subst (λ k. HasFailed (g.M.Medium.seen k.medium) (g.M.Medium.seen c.set.new.self.medium)) c.self.view_is (subst (λ v. HasFailed (g.M.Medium.seen c.self.inside.volume) (g.M.Medium.seen v)) (sym c.set.ensures.medium) failed) in (
       _,
       inr (moved, next.1 c.in-Err.trouble c.from.result c.from.ensures),

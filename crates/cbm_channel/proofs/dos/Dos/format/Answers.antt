@@ -1,11 +1,11 @@
-use Rattle.std.proofs.Common.{◌≡◌, ℕ, true, false, sym, ap, subst, ◌∙◌, inl, refl}
+use Rattle.std.proofs.Common.{◌≡◌, ℕ, true, false, Err, sym, ap, subst, ◌∙◌, inl, refl}
 use Rattle.std.specs.Prelude.{OnOk}
 use Rattle.cbm_medium.specs.Seen.{HasFailed}
 use Rattle.cbm_file.specs.Changes.{new_disk}
 use Rattle.cbm_volume.specs.Writers.{Idle, HoldsNow}
 use Rattle.cbm_machine.specs.Machines.{any_open, say, with_disk}
 use Rattle.cbm_machine.specs.declared.code.Code.TheVariants.{Fine, WriteFileOpen, WriteProtected}
-use Rattle.cbm_volume.proofs.NewDisks.{new_keeps}
+use Rattle.cbm_volume.proofs.NewDisks.{new_keeps, new_refusal}
 use Rattle.cbm_channel.specs.Standing.{StandsBy, uses_of}
 use Rattle.cbm_channel.proofs.Commanding.{new_open, new_done, new_guarded, new_stands, all_idle}
 use Rattle.cbm_channel.proofs.Opens.{failed_by}
@@ -69,7 +69,7 @@ returns-in-Ok-clause-spared g c = not_refused _ _ c.say-in-Ok.ensures.told refl
 pub returns-in-Err-clause-spared : goal.returns-in-Err-clause-spared
 returns-in-Err-clause-spared g c = λ is.
     ap (λ v. (g.M.Medium.seen v).content) c.set.ensures.medium
-    ∙ (c.in-Err.ensures.protected (c.in-Err.ensures.protection (refused_26 c.in-Err.trouble c.from.result _ c.from.ensures c.set.ensures.told is))
+    ∙ (c.in-Err.ensures.protected (new_refusal (Err c.in-Err.trouble) c.args.id (g.M.Medium.seen c.self.inside.volume) (g.M.Medium.seen c.new_disk.new.self) c.in-Err.ensures.only (refused_26 c.in-Err.trouble c.from.result _ c.from.ensures c.set.ensures.told is))
     ∙ ap (λ k. (g.M.Medium.seen k.medium).content) c.self.view_is)
 
 -- ---- what it makes of the medium, on any disk

@@ -1,6 +1,8 @@
 use Rattle.std.proofs.Common.{◌≡◌, [], refl, sym, ap, ◌∙◌, subst}
 use Rattle.std.specs.Prelude.{Some, false, true, Ok, replicate}
+use Rattle.std.proofs.lemmas.Result.{err_from_is_err_and}
 use Rattle.cbm_medium.specs.Place.{sector_count}
+use Rattle.cbm_medium.proofs.Sequences.{only_nothing}
 use Rattle.cbm_medium.specs.Seen.{HasFailed}
 use Rattle.cbm_file.specs.Files.{Records, bytes_in, record_length_in, file_at}
 use Rattle.cbm_file.specs.Padding.{before_filler}
@@ -18,7 +20,8 @@ use Rattle.cbm_channel.specs.declared.channel.Channel.TheVariants.{File}
 use Rattle.cbm_channel.specs.Grounds.{ShowsTrouble}
 use Rattle.cbm_channel.specs.Standing.{use_of, uses_of}
 use Rattle.cbm_channel.specs.Planned.{PlannedAs, IsOpened, opened_by, disk_opened, appended_to, reopened_at, plan_writes}
-use Rattle.cbm_channel.proofs.Troubles.{read_from, entry_broken, passed_on}
+use Rattle.cbm_channel.proofs.NeverProtected.{shown_never_26, followed_never_26, opening_never_26}
+use Rattle.cbm_channel.proofs.Troubles.{read_from, entry_broken, broken_at_once, passed_on}
 use Rattle.cbm_channel.proofs.Stands.{stood, means_of, unwritten_at}
 use Rattle.cbm_channel.proofs.Planning.{readable, relatable, makeable, writable, appendable, replaceable, file_opens, reads_as, none_passes}
 use Rattle.cbm_machine.specs.Machines as machine
@@ -27,12 +30,10 @@ use Rattle.cbm_volume.proofs.RecordUses.{of_records}
 use Rattle.cbm_channel.proofs.dos.Dos.opened.Goals as goal
 
 -- a listing
-
 pub returns-in_err-list-in-ReadListing-clause-stopped : goal.returns-in_err-list-in-ReadListing-clause-stopped
 returns-in_err-list-in-ReadListing-clause-stopped g c = λ m p h s. absurd (c.in_err-list-in-ReadListing.ensures.whole m.disk (means_of _ _ _ _ _ _ m (stood g.M.Medium.seen _ _ m c.self.view_is s)))
 
 -- a file that is read
-
 pub returns-in_err-reader-in-ReadFile-clause-stopped : goal.returns-in_err-reader-in-ReadFile-clause-stopped
 returns-in_err-reader-in-ReadFile-clause-stopped g c = λ m p h s.
     let x = readable _ _ m p c.args.plan c.in-ReadFile.found (subst (λ k. PlannedAs (g.M.Medium.seen k.medium).tracks (g.M.Medium.seen k.medium).content m (Ok p) (Ok c.args.plan)) (sym c.self.view_is) h) c.in-ReadFile.is in
@@ -61,12 +62,11 @@ returns-in_ok-reader-in-ReadFile-clause-opened g c = λ m p ch h s idle.
     )
 
 -- a new file
-
 pub returns-in_default-clause-opened : goal.returns-in_default-clause-opened
 returns-in_default-clause-opened g c = λ m p ch h s idle.
     let st = stood g.M.Medium.seen _ _ m c.self.view_is s in
     let x = writable _ _ m p c.args.plan c.in-WriteFile.kind c.in-WriteFile.name h c.in-WriteFile.is in
-    let none = match_none _ _ _ c.in_default.not-Some (c.in_ok-writer-in-WriteFile.ensures.begun m.disk (uses_of c.self.inside.channels m.channels) ch st.holds
+    let none = match_none _ _ _ c.in_default.not-Some ((c.in_ok-writer-in-WriteFile.ensures.call m.disk (uses_of c.self.inside.channels m.channels) st.holds).done ch
     (subst (λ k. uses_of k.channels m.channels ch ≡ Idle) (sym c.self.view_is) idle) (not_del _ x.1.kept) x.1.plain) in
     absurd (has_place m.disk x.1.block x.1.place none.0)
 
@@ -74,21 +74,20 @@ pub returns-in-Some-clause-opened : goal.returns-in-Some-clause-opened
 returns-in-Some-clause-opened g c = λ m p ch h s idle.
     let st = stood g.M.Medium.seen _ _ m c.self.view_is s in
     let x = writable _ _ m p c.args.plan c.in-WriteFile.kind c.in-WriteFile.name h c.in-WriteFile.is in
-    let begun = match_some _ _ _ _ c.in-Some.is (c.in_ok-writer-in-WriteFile.ensures.begun m.disk (uses_of c.self.inside.channels m.channels) ch st.holds
+    let begun = match_some _ _ _ _ c.in-Some.is ((c.in_ok-writer-in-WriteFile.ensures.call m.disk (uses_of c.self.inside.channels m.channels) st.holds).done ch
     (subst (λ k. uses_of k.channels m.channels ch ≡ Idle) (sym c.self.view_is) idle) (not_del _ x.1.kept) x.1.plain) in
     let disk = ap (disk_opened m.disk) x.0 ∙ ap (λ n. with_file m.disk (unclosed c.in-WriteFile.kind n) 1) (sym x.1.cut ∙ ap before_filler (sym c.bytes.ensures.value)) in
     subst (λ k. IsOpened (g.M.Medium.seen k.medium).tracks (g.M.Medium.seen c.begin_write.new.self).content m ch p (uses_of k.channels m.channels) (Some (code.Writing c.in-Some.writer false))) c.self.view_is
     (begins_as _ _ m p _ (uses_of c.self.inside.channels m.channels) ch (new_slot m.disk) false [] 1 c.in-Some.writer (ap (opened_by m.disk) x.0) disk begun)
 
 -- a file that is appended to
-
 pub returns-in_err-writer-in-AppendFile-clause-stopped : goal.returns-in_err-writer-in-AppendFile-clause-stopped
 returns-in_err-writer-in-AppendFile-clause-stopped g c = λ m p h s.
     let st = stood g.M.Medium.seen _ _ m c.self.view_is s in
     let x = appendable _ _ m p c.args.plan c.in-AppendFile.found (subst (λ k. PlannedAs (g.M.Medium.seen k.medium).tracks (g.M.Medium.seen k.medium).content m (Ok p) (Ok c.args.plan)) (sym c.self.view_is) h) c.in-AppendFile.is in
     let can = can_be c.in-AppendFile.found.slot c.self.inside.channels m x.1.file st.each x.1.in_slot x.1.closed x.1.plain x.1.unused in
     let failed = failed_by (g.M.Medium.seen c.self.inside.volume) (g.M.Medium.seen c.begin_append.new.self) c.in_err-writer-in-AppendFile.field-0.0 m.protected st.same_protection x.1.unprotected
-    (c.in_err-writer-in-AppendFile.ensures.cause m.disk (uses_of c.self.inside.channels m.channels) x.1.file st.holds can x.1.stands) in
+    (c.in_err-writer-in-AppendFile.ensures.begun m.disk (uses_of c.self.inside.channels m.channels) st.holds x.1.file can x.1.stands) in
     on_err _ _ (subst (λ k. Stopped (g.M.Medium.seen k.medium).tracks (g.M.Medium.seen c.begin_append.new.self).content m.disk (disk_opened m.disk p) (uses_of k.channels m.channels) × HasFailed (g.M.Medium.seen k.medium) (g.M.Medium.seen c.begin_append.new.self)) c.self.view_is
     (nothing_begun _ _ _ _ _ _ c.in_err-writer-in-AppendFile.ensures.err st.holds, failed))
 
@@ -97,19 +96,18 @@ returns-in_ok-writer-in-AppendFile-clause-opened g c = λ m p ch h s idle.
     let st = stood g.M.Medium.seen _ _ m c.self.view_is s in
     let x = appendable _ _ m p c.args.plan c.in-AppendFile.found (subst (λ k. PlannedAs (g.M.Medium.seen k.medium).tracks (g.M.Medium.seen k.medium).content m (Ok p) (Ok c.args.plan)) (sym c.self.view_is) h) c.in-AppendFile.is in
     let can = can_be c.in-AppendFile.found.slot c.self.inside.channels m x.1.file st.each x.1.in_slot x.1.closed x.1.plain x.1.unused in
-    let begun = c.in_ok-writer-in-AppendFile.ensures.begun m.disk (uses_of c.self.inside.channels m.channels) ch x.1.file st.holds (subst (λ k. uses_of k.channels m.channels ch ≡ Idle) (sym c.self.view_is) idle) can x.1.kept x.1.stands in
+    let begun = c.in_ok-writer-in-AppendFile.ensures.begun m.disk (uses_of c.self.inside.channels m.channels) st.holds x.1.file can x.1.stands ch (subst (λ k. uses_of k.channels m.channels ch ≡ Idle) (sym c.self.view_is) idle) x.1.kept in
     subst (λ k. IsOpened (g.M.Medium.seen k.medium).tracks (g.M.Medium.seen c.begin_append.new.self).content m ch p (uses_of k.channels m.channels) (Some (code.Writing c.in_ok-writer-in-AppendFile.writer false))) c.self.view_is
     (begins_as _ _ m p _ (uses_of c.self.inside.channels m.channels) ch c.in-AppendFile.found.slot false (bytes_in x.1.file.body) x.1.file.held c.in_ok-writer-in-AppendFile.writer
     (ap (opened_by m.disk) x.0 ∙ ap (λ o. appended_to o c.in-AppendFile.found.slot) x.1.in_slot) (ap (disk_opened m.disk) x.0 ∙ ap (λ o. reopened_at o m.disk c.in-AppendFile.found.slot) x.1.in_slot) begun)
 
 -- a file that is replaced
-
 pub returns-in_err-writer-in-ReplaceFile-clause-stopped : goal.returns-in_err-writer-in-ReplaceFile-clause-stopped
 returns-in_err-writer-in-ReplaceFile-clause-stopped g c = λ m p h s.
     let st = stood g.M.Medium.seen _ _ m c.self.view_is s in
     let x = replaceable _ _ m p c.args.plan c.in-ReplaceFile.slot h c.in-ReplaceFile.is in
     let failed = failed_by (g.M.Medium.seen c.self.inside.volume) (g.M.Medium.seen c.begin_replace.new.self) c.in_err-writer-in-ReplaceFile.field-0.0 m.protected st.same_protection x.1.unprotected
-    (c.in_err-writer-in-ReplaceFile.ensures.cause m.disk (uses_of c.self.inside.channels m.channels) st.holds) in
+    (c.in_err-writer-in-ReplaceFile.ensures.call m.disk (uses_of c.self.inside.channels m.channels) st.holds).cause in
     on_err _ _ (subst (λ k. Stopped (g.M.Medium.seen k.medium).tracks (g.M.Medium.seen c.begin_replace.new.self).content m.disk (disk_opened m.disk p) (uses_of k.channels m.channels) × HasFailed (g.M.Medium.seen k.medium) (g.M.Medium.seen c.begin_replace.new.self)) c.self.view_is
     (nothing_begun _ _ _ _ _ _ c.in_err-writer-in-ReplaceFile.ensures.err st.holds, failed))
 
@@ -118,7 +116,7 @@ returns-in_default-2-clause-opened g c = λ m p ch h s idle.
     let st = stood g.M.Medium.seen _ _ m c.self.view_is s in
     let x = replaceable _ _ m p c.args.plan c.in-ReplaceFile.slot h c.in-ReplaceFile.is in
     let can = can_be c.in-ReplaceFile.slot c.self.inside.channels m x.1.file st.each x.1.in_slot x.1.closed x.1.plain x.1.unused in
-    let none = match_none _ _ _ c.in_default-2.not-Some (c.in_ok-writer-in-ReplaceFile.ensures.begun m.disk (uses_of c.self.inside.channels m.channels) ch x.1.file st.holds (subst (λ k. uses_of k.channels m.channels ch ≡ Idle) (sym c.self.view_is) idle) can) in
+    let none = match_none _ _ _ c.in_default-2.not-Some ((c.in_ok-writer-in-ReplaceFile.ensures.call m.disk (uses_of c.self.inside.channels m.channels) st.holds).done ch x.1.file (subst (λ k. uses_of k.channels m.channels ch ≡ Idle) (sym c.self.view_is) idle) can) in
     absurd (no_block m.disk x.1.block none.0)
 
 pub returns-in-Some-2-clause-opened : goal.returns-in-Some-2-clause-opened
@@ -126,12 +124,11 @@ returns-in-Some-2-clause-opened g c = λ m p ch h s idle.
     let st = stood g.M.Medium.seen _ _ m c.self.view_is s in
     let x = replaceable _ _ m p c.args.plan c.in-ReplaceFile.slot h c.in-ReplaceFile.is in
     let can = can_be c.in-ReplaceFile.slot c.self.inside.channels m x.1.file st.each x.1.in_slot x.1.closed x.1.plain x.1.unused in
-    let begun = match_some _ _ _ _ c.in-Some-2.is (c.in_ok-writer-in-ReplaceFile.ensures.begun m.disk (uses_of c.self.inside.channels m.channels) ch x.1.file st.holds (subst (λ k. uses_of k.channels m.channels ch ≡ Idle) (sym c.self.view_is) idle) can) in
+    let begun = match_some _ _ _ _ c.in-Some-2.is ((c.in_ok-writer-in-ReplaceFile.ensures.call m.disk (uses_of c.self.inside.channels m.channels) st.holds).done ch x.1.file (subst (λ k. uses_of k.channels m.channels ch ≡ Idle) (sym c.self.view_is) idle) can) in
     subst (λ k. IsOpened (g.M.Medium.seen k.medium).tracks (g.M.Medium.seen c.begin_replace.new.self).content m ch p (uses_of k.channels m.channels) (Some (code.Writing c.in-Some-2.writer false))) c.self.view_is
     (begins_as _ _ m p _ (uses_of c.self.inside.channels m.channels) ch c.in-ReplaceFile.slot true [] 1 c.in-Some-2.writer (ap (opened_by m.disk) x.0) (ap (disk_opened m.disk) x.0) begun)
 
 -- a relative file
-
 pub returns-in_err-open_records-in-OpenRecords-clause-stopped : goal.returns-in_err-open_records-in-OpenRecords-clause-stopped
 returns-in_err-open_records-in-OpenRecords-clause-stopped g c = λ m p h s.
     let x = relatable _ _ m p c.args.plan c.in-OpenRecords.found (subst (λ k. PlannedAs (g.M.Medium.seen k.medium).tracks (g.M.Medium.seen k.medium).content m (Ok p) (Ok c.args.plan)) (sym c.self.view_is) h) c.in-OpenRecords.is in
@@ -176,7 +173,7 @@ pub returns-in_err-writer-in-WriteFile-clause-guarded : goal.returns-in_err-writ
 returns-in_err-writer-in-WriteFile-clause-guarded g c = λ free.
     passed_on c.from_residual-in_err-writer-in-WriteFile.result c.in_err-writer-in-WriteFile.field-0.0
     (λ t. t.code ≡ 26 → (g.M.Medium.seen c.begin_write.new.self).content ≡ (g.M.Medium.seen c.args.self.now.medium).content) c.from_residual-in_err-writer-in-WriteFile.ensures.1
-    (λ is. let z = sym (c.in_err-writer-in-WriteFile.ensures.protection is) ∙ ap (λ k. (g.M.Medium.seen k.medium).protected) c.self.view_is ∙ free (ap plan_writes c.in-WriteFile.is) in absurd (cc))
+    (λ is. let z = sym (c.in_err-writer-in-WriteFile.ensures.only.guarded is) ∙ ap (λ k. (g.M.Medium.seen k.medium).protected) c.self.view_is ∙ free (ap plan_writes c.in-WriteFile.is) in absurd (cc))
 
 -- ---- a relative file that is made
 
@@ -189,9 +186,9 @@ returns-in_err-slot-in-MakeRecords-clause-stopped g c = λ m p h s.
     let idle : uses 15 ≡ Idle = idle_past c.self.inside.channels m.channels c.self.invariant.count in
     let disk = ap (λ n. with_new_records m.disk n c.in-MakeRecords.length) name ∙ sym (ap (disk_opened m.disk) x.0) in
     let failed = failed_by (g.M.Medium.seen c.self.inside.volume) (g.M.Medium.seen c.make_records.new.self) c.in_err-slot-in-MakeRecords.field-0.0 m.protected st.same_protection x.1.unprotected
-    (c.in_err-slot-in-MakeRecords.ensures.cause m.disk uses 15 st.holds idle) in
+    (c.in_err-slot-in-MakeRecords.ensures.call m.disk uses 15 st.holds idle).cause in
     on_err _ _ (subst (λ k. Stopped (g.M.Medium.seen k.medium).tracks (g.M.Medium.seen c.make_records.new.self).content m.disk (disk_opened m.disk p) (uses_of k.channels m.channels) × HasFailed (g.M.Medium.seen k.medium) (g.M.Medium.seen c.make_records.new.self)) c.self.view_is (
-      subst (λ d. Stopped (g.M.Medium.seen c.self.inside.volume).tracks (g.M.Medium.seen c.make_records.new.self).content m.disk d uses) disk (c.in_err-slot-in-MakeRecords.ensures.stopped m.disk uses 15 st.holds idle),
+      subst (λ d. Stopped (g.M.Medium.seen c.self.inside.volume).tracks (g.M.Medium.seen c.make_records.new.self).content m.disk d uses) disk (c.in_err-slot-in-MakeRecords.ensures.call m.disk uses 15 st.holds idle).stopped,
       failed,
     ))
 
@@ -199,7 +196,7 @@ pub returns-in_default-3-clause-opened : goal.returns-in_default-3-clause-opened
 returns-in_default-3-clause-opened g c = λ m p ch h s idle.
     let st = stood g.M.Medium.seen _ _ m c.self.view_is s in
     let x = makeable _ _ m p c.args.plan c.in-MakeRecords.name c.in-MakeRecords.length h c.in-MakeRecords.is in
-    let none = match_none _ _ _ c.in_default-3.not-Some (c.in_ok-slot-in-MakeRecords.ensures.made m.disk (uses_of c.self.inside.channels m.channels) ch st.holds (subst (λ k. uses_of k.channels m.channels ch ≡ Idle) (sym c.self.view_is) idle)) in
+    let none = match_none _ _ _ c.in_default-3.not-Some (c.in_ok-slot-in-MakeRecords.ensures.call m.disk (uses_of c.self.inside.channels m.channels) ch st.holds (subst (λ k. uses_of k.channels m.channels ch ≡ Idle) (sym c.self.view_is) idle)).done in
     absurd (has_room_of m c.in-MakeRecords.name c.in-MakeRecords.length x.1 none.0)
 
 -- its first record reads
@@ -209,7 +206,7 @@ returns-in_err-on-in-MakeRecords-clause-stopped g c = λ m p h s.
     let uses = uses_of c.self.inside.channels m.channels in
     let x = makeable _ _ m p c.args.plan c.in-MakeRecords.name c.in-MakeRecords.length h c.in-MakeRecords.is in
     let name : before_filler c.bytes-in-MakeRecords.result.now ≡ c.in-MakeRecords.name = ap before_filler c.bytes-in-MakeRecords.ensures.value ∙ x.1.cut in
-    let made = match_some _ _ _ _ c.in-Some-3.is (c.in_ok-slot-in-MakeRecords.ensures.made m.disk uses 15 st.holds (idle_past c.self.inside.channels m.channels c.self.invariant.count)) in
+    let made = match_some _ _ _ _ c.in-Some-3.is (c.in_ok-slot-in-MakeRecords.ensures.call m.disk uses 15 st.holds (idle_past c.self.inside.channels m.channels c.self.invariant.count)).done in
     let holds = subst (λ n. HoldsNow (g.M.Medium.seen c.self.inside.volume).tracks (g.M.Medium.seen c.make_records.new.self).content (with_new_records m.disk n c.in-MakeRecords.length) uses) name made.1 in
     let new : HoldsDisk (g.M.Medium.seen c.self.inside.volume).tracks (g.M.Medium.seen c.make_records.new.self).content (with_new_records m.disk c.in-MakeRecords.name c.in-MakeRecords.length) = record { layout = holds.layout; stands = holds.so.stands } in
     let means = subst (λ t. HoldsDisk t (g.M.Medium.seen c.make_records.new.self).content (with_new_records m.disk c.in-MakeRecords.name c.in-MakeRecords.length)) (sym c.make_records.ensures.only.tracks) new in
@@ -223,7 +220,7 @@ returns-in_ok-on-in-MakeRecords-clause-opened g c = λ m p ch h s idle.
     let uses = uses_of c.self.inside.channels m.channels in
     let x = makeable _ _ m p c.args.plan c.in-MakeRecords.name c.in-MakeRecords.length h c.in-MakeRecords.is in
     let name : before_filler c.bytes-in-MakeRecords.result.now ≡ c.in-MakeRecords.name = ap before_filler c.bytes-in-MakeRecords.ensures.value ∙ x.1.cut in
-    let made = match_some _ _ _ _ c.in-Some-3.is (c.in_ok-slot-in-MakeRecords.ensures.made m.disk uses ch st.holds (subst (λ k. uses_of k.channels m.channels ch ≡ Idle) (sym c.self.view_is) idle)) in
+    let made = match_some _ _ _ _ c.in-Some-3.is (c.in_ok-slot-in-MakeRecords.ensures.call m.disk uses ch st.holds (subst (λ k. uses_of k.channels m.channels ch ≡ Idle) (sym c.self.view_is) idle)).done in
     let holds = subst (λ n. HoldsNow (g.M.Medium.seen c.self.inside.volume).tracks (g.M.Medium.seen c.make_records.new.self).content (with_new_records m.disk n c.in-MakeRecords.length) uses) name made.1 in
     let new : HoldsDisk (g.M.Medium.seen c.self.inside.volume).tracks (g.M.Medium.seen c.make_records.new.self).content (with_new_records m.disk c.in-MakeRecords.name c.in-MakeRecords.length) = record { layout = holds.layout; stands = holds.so.stands } in
     let means = subst (λ t. HoldsDisk t (g.M.Medium.seen c.make_records.new.self).content (with_new_records m.disk c.in-MakeRecords.name c.in-MakeRecords.length)) (sym c.make_records.ensures.only.tracks) new in
@@ -233,3 +230,32 @@ returns-in_ok-on-in-MakeRecords-clause-opened g c = λ m p ch h s idle.
     let place = c.in_ok-on-in-MakeRecords.ensures.place in
     subst (λ k. IsOpened (g.M.Medium.seen k.medium).tracks (g.M.Medium.seen c.make_records.new.self).content m ch p (uses_of k.channels m.channels) (Some (code.Records c.in_ok-on-in-MakeRecords.on))) c.self.view_is
     (makes_opened _ _ _ _ _ _ _ m ch p c.in-MakeRecords.name c.in-MakeRecords.length c.in-Some-3.slot c.in_ok-on-in-MakeRecords.on st x.0 x.1 made.0 holds place.0 place.1.1.0 place.1.1.1 on)
+
+-- ---- what a reading meets is never reported as protection
+
+pub returns-in_err-list-in-ReadListing-clause-medium : goal.returns-in_err-list-in-ReadListing-clause-medium
+returns-in_err-list-in-ReadListing-clause-medium g c =
+    let now = g.M.Medium.seen c.args.self.now.medium in
+    let p = err_from_is_err_and c.from_residual.result c.from_residual.ensures.1 in
+    only_nothing c.from_residual.result now now (λ i. now)
+    (rw (p.1, p.2) (λ is. absurd (shown_never_26 (geometry_of (g.M.Medium.seen c.self.inside.volume).tracks (g.M.Medium.seen c.self.inside.volume).content) (g.M.Medium.seen c.self.inside.volume).content c.in_err-list-in-ReadListing.field-0.0
+    (λ q. g.met.M.Medium.codes c.self.inside.volume q) c.in_err-list-in-ReadListing.ensures.shown is)))
+
+pub returns-in_err-reader-in-ReadFile-clause-medium : goal.returns-in_err-reader-in-ReadFile-clause-medium
+returns-in_err-reader-in-ReadFile-clause-medium g c =
+    let now = g.M.Medium.seen c.args.self.now.medium in
+    let volume = g.M.Medium.seen c.self.inside.volume in
+    let tracks = geometry_of volume.tracks volume.content in
+    let p = err_from_is_err_and c.from_residual-in_err-reader-in-ReadFile.result c.from_residual-in_err-reader-in-ReadFile.ensures.1 in
+    let broken = broken_at_once tracks volume.content (sector_count tracks) (first_block c.in-ReadFile.found.entry) c.in_err-reader-in-ReadFile.field-0.0 c.in_err-reader-in-ReadFile.ensures.err in
+    only_nothing c.from_residual-in_err-reader-in-ReadFile.result now now (λ i. now)
+    (rw (p.1, p.2) (λ is. absurd (followed_never_26 tracks volume.content (sector_count tracks) (first_block c.in-ReadFile.found.entry) c.in_err-reader-in-ReadFile.field-0.0 (λ q. g.met.M.Medium.codes c.self.inside.volume q) broken is)))
+
+pub returns-in_err-open_records-in-OpenRecords-clause-medium : goal.returns-in_err-open_records-in-OpenRecords-clause-medium
+returns-in_err-open_records-in-OpenRecords-clause-medium g c =
+    let now = g.M.Medium.seen c.args.self.now.medium in
+    let volume = g.M.Medium.seen c.self.inside.volume in
+    let p = err_from_is_err_and c.from_residual-in_err-open_records-in-OpenRecords.result c.from_residual-in_err-open_records-in-OpenRecords.ensures.1 in
+    only_nothing c.from_residual-in_err-open_records-in-OpenRecords.result now now (λ i. now)
+    (rw (p.1, p.2) (λ is. absurd (opening_never_26 (geometry_of volume.tracks volume.content) volume.content c.in-OpenRecords.found.entry c.in_err-open_records-in-OpenRecords.field-0.0
+    (λ q. g.met.M.Medium.codes c.self.inside.volume q) c.in_err-open_records-in-OpenRecords.ensures.cause is)))

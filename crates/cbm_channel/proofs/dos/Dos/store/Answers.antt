@@ -16,7 +16,7 @@ returns-in-Ok-true-clause-goes g c = λ m s.
     let st = stood g.M.Medium.seen _ _ m c.self.view_is s in
     let at = stands_at _ _ _ _ _ _ m c.args.channel c.index-self-channel.result c.requires c.self.invariant st in
     let same = use_at (slice_index_or c.self.inside.channels c.args.channel c.index-self-channel.result) _ m.channels c.args.channel _ (omega (arith, c.requires, c.self.invariant.count)) refl in
-    let put = c.in-Ok-true.ensures.put m.disk (uses_of c.self.inside.channels m.channels) c.args.channel (channel m c.args.channel) st.holds same at in
+    let put = (c.in-Ok-true.ensures.call m.disk (uses_of c.self.inside.channels m.channels) c.args.channel (channel m c.args.channel) st.holds same at).done in
     let done = subst (λ b. IsPut (g.M.Medium.seen c.self.inside.volume).tracks (g.M.Medium.seen c.put.new.volume).content m.disk (uses_of c.self.inside.channels m.channels) c.args.channel c.put.new.self (channel m c.args.channel) c.args.byte b) c.in-Ok-true.field-0-test put in
     let waits = put_waits c.args.byte m.disk (slice_index_or c.self.inside.channels c.args.channel c.index-self-channel.result) c.put.new.self (channel m c.args.channel) at done.1 (λ e. (c.in-Ok-true.ensures.quiet e).1) (waits_at _ _ _ _ _ _ m c.args.channel c.index-self-channel.result c.requires c.self.invariant st) in (
       put_written c.args.channel c.args.byte m,
@@ -30,7 +30,7 @@ returns-in-Ok-false-clause-goes g c = λ m s.
     let st = stood g.M.Medium.seen _ _ m c.self.view_is s in
     let at = stands_at _ _ _ _ _ _ m c.args.channel c.index-self-channel.result c.requires c.self.invariant st in
     let same = use_at (slice_index_or c.self.inside.channels c.args.channel c.index-self-channel.result) _ m.channels c.args.channel _ (omega (arith, c.requires, c.self.invariant.count)) refl in
-    let put = c.in-Ok-false.ensures.put m.disk (uses_of c.self.inside.channels m.channels) c.args.channel (channel m c.args.channel) st.holds same at in
+    let put = (c.in-Ok-false.ensures.call m.disk (uses_of c.self.inside.channels m.channels) c.args.channel (channel m c.args.channel) st.holds same at).done in
     let done = subst (λ b. IsPut (g.M.Medium.seen c.self.inside.volume).tracks (g.M.Medium.seen c.put.new.volume).content m.disk (uses_of c.self.inside.channels m.channels) c.args.channel c.put.new.self (channel m c.args.channel) c.args.byte b) c.in-Ok-false.field-0-test put in
     let waits = put_waits c.args.byte m.disk (slice_index_or c.self.inside.channels c.args.channel c.index-self-channel.result) c.put.new.self (channel m c.args.channel) at done.1 (λ e. (c.in-Ok-false.ensures.quiet e).1) (waits_at _ _ _ _ _ _ m c.args.channel c.index-self-channel.result c.requires c.self.invariant st) in
     let next = put_refused _ _ _ _ _ _ m c.args.channel c.requires c.self.invariant st _ c.args.byte _ done waits in (
@@ -45,10 +45,10 @@ returns-in-Err-clause-goes g c = λ m s.
     let st = stood g.M.Medium.seen _ _ m c.self.view_is s in
     let at = stands_at _ _ _ _ _ _ m c.args.channel c.index-self-channel.result c.requires c.self.invariant st in
     let same = use_at (slice_index_or c.self.inside.channels c.args.channel c.index-self-channel.result) _ m.channels c.args.channel _ (omega (arith, c.requires, c.self.invariant.count)) refl in
-    let cut = c.in-Err.ensures.stopped m.disk (uses_of c.self.inside.channels m.channels) c.args.channel (channel m c.args.channel) st.holds same at in
+    let cut = (c.in-Err.ensures.call m.disk (uses_of c.self.inside.channels m.channels) c.args.channel (channel m c.args.channel) st.holds same at).stopped in
     let next = put_cut _ _ _ _ _ _ m c.args.channel c.requires c.self.invariant st _ _ cut.0 cut.1 in
     let failed = has_failed _ _ _ c.args.channel cut.0.slot (g.M.Medium.seen c.self.inside.volume) (g.M.Medium.seen c.put.new.volume) c.in-Err.trouble st.orderly st.same_protection cut.0.bytes cut.0.blocks cut.0.full cut.0.replaces cut.0.wrote
-    (c.in-Err.ensures.cause m.disk (uses_of c.self.inside.channels m.channels) c.args.channel (channel m c.args.channel) st.holds same at) in
+    (c.in-Err.ensures.call m.disk (uses_of c.self.inside.channels m.channels) c.args.channel (channel m c.args.channel) st.holds same at).cause in
     let moved = subst (λ k. HasFailed (g.M.Medium.seen k.medium) (g.M.Medium.seen c.set.new.self.medium)) c.self.view_is (subst (λ v. HasFailed (g.M.Medium.seen c.self.inside.volume) (g.M.Medium.seen v)) (sym c.set.ensures.medium) failed) in (
       _,
       inr (moved, next.1 _ c.in-Err.trouble c.from.result c.from.ensures),

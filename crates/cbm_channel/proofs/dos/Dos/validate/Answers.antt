@@ -28,7 +28,7 @@ returns-in-Ok-clause-goes g c = λ m s.
     let shut : any_open m ≡ false = sym (c.is_any_open.ensures m s) ∙ c.if-is_any_open.false in
     let idle : (k : ℕ) → uses_of here.channels m.channels k ≡ Idle = all_idle here.channels m.channels st.each shut in
     let unprotected : m.protected ≡ false = not_so m.protected (λ e. c.in-Ok.ensures.guarded m.disk (uses_of here.channels m.channels) st.holds (sym st.same_protection ∙ e)) in
-    let next = validate_stands _ _ (g.M.Medium.seen c.validate.new.self).content _ here.channels here.telling here.text m st shut (c.in-Ok.ensures.validated m.disk (uses_of here.channels m.channels) st.holds idle) in (
+    let next = validate_stands _ _ (g.M.Medium.seen c.validate.new.self).content _ here.channels here.telling here.text m st shut (c.in-Ok.ensures.call m.disk (uses_of here.channels m.channels) st.holds idle).done in (
       say Fine (with_disk (validated m.disk) m),
       inl (sym (validate_done _ _ (g.M.Medium.seen c.validate.new.self).content _ here.channels here.telling here.text m st shut unprotected)),
       c.say-in-Ok.ensures.leads _ (renamed _ _ _ _ _ _ _ _ _ c.validate.ensures.only.tracks c.validate.ensures.only.protected next),
@@ -51,8 +51,8 @@ returns-in-Err-clause-goes g c = λ m s.
             c.set.ensures.leads m (renamed _ _ _ _ _ _ _ _ _ c.validate.ensures.only.tracks c.validate.ensures.only.protected kept),
           ))
       | inr unprotected ↦ (
-          let failed = failed_by (g.M.Medium.seen here.volume) new c.in-Err.trouble m.protected st.same_protection unprotected (c.in-Err.ensures.cause m.disk (uses_of here.channels m.channels) st.holds idle) in
-          let next = validate_cut _ _ new.content _ here.channels here.telling here.text m st shut unprotected (c.in-Err.ensures.stopped m.disk (uses_of here.channels m.channels) st.holds idle) in (
+          let failed = failed_by (g.M.Medium.seen here.volume) new c.in-Err.trouble m.protected st.same_protection unprotected (c.in-Err.ensures.call m.disk (uses_of here.channels m.channels) st.holds idle).cause in
+          let next = validate_cut _ _ new.content _ here.channels here.telling here.text m st shut unprotected (c.in-Err.ensures.call m.disk (uses_of here.channels m.channels) st.holds idle).stopped in (
             tell c.from.result next.0,
             inr (
               subst (λ v. HasFailed (g.M.Medium.seen v) (g.M.Medium.seen c.set.new.self.medium)) (ap (λ k. k.medium) c.self.view_is) (subst (λ v. HasFailed (g.M.Medium.seen here.volume) (g.M.Medium.seen v)) (sym c.set.ensures.medium) failed),
@@ -71,7 +71,7 @@ returns-in-Ok-clause-spared g c = not_refused _ _ c.say-in-Ok.ensures.told refl
 pub returns-in-Err-clause-spared : goal.returns-in-Err-clause-spared
 returns-in-Err-clause-spared g c = λ is.
     ap (λ v. (g.M.Medium.seen v).content) c.set.ensures.medium
-    ∙ (c.in-Err.ensures.kept (c.in-Err.ensures.protection (refused_26 c.in-Err.trouble c.from.result _ c.from.ensures c.set.ensures.told is))
+    ∙ (c.in-Err.ensures.kept (c.in-Err.ensures.only.guarded (refused_26 c.in-Err.trouble c.from.result _ c.from.ensures c.set.ensures.told is))
     ∙ ap (λ k. (g.M.Medium.seen k.medium).content) c.self.view_is)
 
 -- ---- what is changed
@@ -89,7 +89,7 @@ returns-in-Ok-clause-ordered g c =
 pub returns-in-Err-clause-ordered : goal.returns-in-Err-clause-ordered
 returns-in-Err-clause-ordered g c =
     refused_ordered g.M.Medium.seen c.args.self.now.medium _ _ (g.M.Medium.seen c.self.inside.volume) (g.M.Medium.seen c.validate.new.self) _ (trouble_not_fine c.in-Err.trouble c.from.result c.from.ensures) (ap (λ k. g.M.Medium.seen k.medium) c.self.view_is)
-    (ap g.M.Medium.seen c.set.ensures.medium) c.set.ensures.told c.in-Err.ensures.partly
+    (ap g.M.Medium.seen c.set.ensures.medium) c.set.ensures.told c.in-Err.ensures.in_order
 
 -- ---- what it makes of the medium, on any disk
 

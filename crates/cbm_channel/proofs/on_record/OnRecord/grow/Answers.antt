@@ -9,5 +9,5 @@ returns-then-self-eq0-clause-grown g c = λ d uses b s rs can none. absurd (no_p
 pub returns-clause-grown : goal.returns-clause-grown
 returns-clause-grown g c =
     subst (λ r. Grows (g.M.Medium.seen c.args.volume.now) (g.M.Medium.seen c.grow_records.new.self) r c.grow_records.result) c.self.view_is
-    (λ d uses b s rs can none. grows_by (g.M.Medium.seen c.args.volume.now) (g.M.Medium.seen c.grow_records.new.self) d uses _ b s rs c.grow_records.result none
-    (c.grow_records.ensures.grown d uses _ b s rs can.has none) (c.grow_records.ensures.full d uses _ b s rs can.has none) (c.grow_records.ensures.stopped d uses _ b s rs can.has none))
+    (λ d uses b s rs can none. (let call = c.grow_records.ensures.call d uses _ b s rs can.has in
+    grows_by (g.M.Medium.seen c.args.volume.now) (g.M.Medium.seen c.grow_records.new.self) d uses _ b s rs c.grow_records.result none call.grown call.full call.stopped))

@@ -1,4 +1,4 @@
-use Rattle.std.proofs.Common.{◌≡◌, ◌∙◌, ap, sym, subst, inl, Bool, Ok, Err}
+use Rattle.std.proofs.Common.{rules, ◌≡◌, ◌∙◌, ap, sym, subst, inl, Bool, Ok, Err}
 use Rattle.std.proofs.lemmas.Result.{err_from_is_err_and}
 use Rattle.std.specs.Prelude.{option_map, IsOkAnd}
 use Rattle.cbm_medium.specs.Seen.{Seen}
@@ -14,7 +14,7 @@ pub returns-in-Some-clause-put : goal.returns-in-Some-clause-put
 returns-in-Some-clause-put g c = λ d uses b s rs can.
     let old : Seen = g.M.Medium.seen c.args.volume.now in
     let mid : Seen = g.M.Medium.seen c.write.new.volume in
-    inl (rw c.in-Some.is at (c.in_ok-written.ensures.put d uses b s rs can))
+    inl (rw c.in-Some.is at ((c.in_ok-written.ensures.put d uses b s rs can).put))
 
 -- the file would be too large, or its growth was refused
 pub returns-then-not-branch-clause-put : goal.returns-then-not-branch-clause-put
@@ -22,7 +22,7 @@ returns-then-not-branch-clause-put g c = λ d uses b s rs can.
     let old : Seen = g.M.Medium.seen c.args.volume.now in
     let mid : Seen = g.M.Medium.seen c.write.new.volume in
     let none = none_of c.in_ok-written.field-0 c.in_default.not-Some in
-    let missing = rw none at (c.in_ok-written.ensures.put d uses b s rs can) in
+    let missing = rw none at ((c.in_ok-written.ensures.put d uses b s rs can).put) in
     store_full old mid d uses c.args.self.now b s rs c.args.bytes.now can c.write.ensures.only.tracks c.write.ensures.only.protected c.write.ensures.only.counted missing (g.M.Medium.seen c.grow.new.volume) (subst (λ (x : Bool). Grows mid (g.M.Medium.seen c.grow.new.volume) c.args.self.now (Ok x)) c.if-not-branch.true c.in_ok-grow.ensures.grown)
 
 pub returns-in_err-grow-clause-put : goal.returns-in_err-grow-clause-put
@@ -30,7 +30,7 @@ returns-in_err-grow-clause-put g c = λ d uses b s rs can.
     let old : Seen = g.M.Medium.seen c.args.volume.now in
     let mid : Seen = g.M.Medium.seen c.write.new.volume in
     let none = none_of c.in_ok-written.field-0 c.in_default.not-Some in
-    let missing = rw none at (c.in_ok-written.ensures.put d uses b s rs can) in
+    let missing = rw none at ((c.in_ok-written.ensures.put d uses b s rs can).put) in
     let new : Seen = g.M.Medium.seen c.grow.new.volume in
     handed c.from_residual-in_err-grow.result c.in_err-grow.field-0.0 _ (IsTextCut old new d uses c.args.self.now b s rs c.args.bytes.now) c.from_residual-in_err-grow.ensures.1
     (store_cut old mid d uses c.args.self.now b s rs c.args.bytes.now can c.write.ensures.only.tracks c.write.ensures.only.protected c.write.ensures.only.counted missing new c.in_err-grow.field-0.0 c.in_err-grow.ensures.grown)
@@ -41,23 +41,23 @@ returns-in-Some-2-clause-put g c = λ d uses b s rs can.
     let old : Seen = g.M.Medium.seen c.args.volume.now in
     let mid : Seen = g.M.Medium.seen c.write.new.volume in
     let none = none_of c.in_ok-written.field-0 c.in_default.not-Some in
-    let missing = rw none at (c.in_ok-written.ensures.put d uses b s rs can) in
+    let missing = rw none at ((c.in_ok-written.ensures.put d uses b s rs can).put) in
     let more : Seen = g.M.Medium.seen c.grow.new.volume in
     let grows = subst (λ (x : Bool). Grows mid more c.args.self.now (Ok x)) c.if-not-branch.false c.in_ok-grow.ensures.grown in
     let new : Seen = g.M.Medium.seen c.write-2.new.volume in
-    store_more old mid d uses c.args.self.now b s rs c.args.bytes.now can c.write.ensures.only.tracks c.write.ensures.only.protected c.write.ensures.only.counted missing more grows c.grow.ensures.only.tracks c.grow.ensures.only.protected c.grow.ensures.only.counted (λ x. x.cut) new c.in-Some-2.written (λ d2 uses2 b2 s2 rs2 can2. rw c.in-Some-2.is at (c.in_ok-written-2.ensures.put d2 uses2 b2 s2 rs2 can2))
+    store_more old mid d uses c.args.self.now b s rs c.args.bytes.now can c.write.ensures.only.tracks c.write.ensures.only.protected c.write.ensures.only.counted missing more grows c.grow.ensures.only.tracks c.grow.ensures.only.protected c.grow.ensures.only.counted (λ x. x.cut) new c.in-Some-2.written (λ d2 uses2 b2 s2 rs2 can2. rw c.in-Some-2.is at ((c.in_ok-written-2.ensures.put d2 uses2 b2 s2 rs2 can2).put))
 
 pub returns-in_err-written-2-clause-put : goal.returns-in_err-written-2-clause-put
 returns-in_err-written-2-clause-put g c = λ d uses b s rs can.
     let old : Seen = g.M.Medium.seen c.args.volume.now in
     let mid : Seen = g.M.Medium.seen c.write.new.volume in
     let none = none_of c.in_ok-written.field-0 c.in_default.not-Some in
-    let missing = rw none at (c.in_ok-written.ensures.put d uses b s rs can) in
+    let missing = rw none at ((c.in_ok-written.ensures.put d uses b s rs can).put) in
     let more : Seen = g.M.Medium.seen c.grow.new.volume in
     let grows = subst (λ (x : Bool). Grows mid more c.args.self.now (Ok x)) c.if-not-branch.false c.in_ok-grow.ensures.grown in
     let new : Seen = g.M.Medium.seen c.write-2.new.volume in
     handed c.from_residual-in_err-written-2.result c.in_err-written-2.field-0.0 _ (IsTextCut old new d uses c.args.self.now b s rs c.args.bytes.now) c.from_residual-in_err-written-2.ensures.1
-    (store_more_cut old mid d uses c.args.self.now b s rs c.args.bytes.now can c.write.ensures.only.tracks c.write.ensures.only.protected c.write.ensures.only.counted missing more grows c.grow.ensures.only.tracks c.grow.ensures.only.protected c.grow.ensures.only.counted (λ (x : Bool). x) new c.in_err-written-2.field-0.0 c.in_err-written-2.ensures.put)
+    (store_more_cut old mid d uses c.args.self.now b s rs c.args.bytes.now can c.write.ensures.only.tracks c.write.ensures.only.protected c.write.ensures.only.counted missing more grows c.grow.ensures.only.tracks c.grow.ensures.only.protected c.grow.ensures.only.counted (λ (x : Bool). x) new c.in_err-written-2.field-0.0 (λ d2 uses2 b2 s2 rs2 can2. (c.in_err-written-2.ensures.put d2 uses2 b2 s2 rs2 can2).put))
 
 -- it is there then
 pub returns-in-None-clause-put : goal.returns-in-None-clause-put
@@ -65,27 +65,27 @@ returns-in-None-clause-put g c = λ d uses b s rs can.
     let old : Seen = g.M.Medium.seen c.args.volume.now in
     let mid : Seen = g.M.Medium.seen c.write.new.volume in
     let none = none_of c.in_ok-written.field-0 c.in_default.not-Some in
-    let missing = rw none at (c.in_ok-written.ensures.put d uses b s rs can) in
+    let missing = rw none at ((c.in_ok-written.ensures.put d uses b s rs can).put) in
     let more : Seen = g.M.Medium.seen c.grow.new.volume in
     let grows = subst (λ (x : Bool). Grows mid more c.args.self.now (Ok x)) c.if-not-branch.false c.in_ok-grow.ensures.grown in
     let new : Seen = g.M.Medium.seen c.write-2.new.volume in
-    absurd (store_there old mid d uses c.args.self.now b s rs c.args.bytes.now can c.write.ensures.only.tracks c.write.ensures.only.protected c.write.ensures.only.counted missing more grows c.grow.ensures.only.tracks c.grow.ensures.only.protected c.grow.ensures.only.counted (λ (x : Bool). x) new (λ d2 uses2 b2 s2 rs2 can2. rw c.in-None.is at (c.in_ok-written-2.ensures.put d2 uses2 b2 s2 rs2 can2)))
+    absurd (store_there old mid d uses c.args.self.now b s rs c.args.bytes.now can c.write.ensures.only.tracks c.write.ensures.only.protected c.write.ensures.only.counted missing more grows c.grow.ensures.only.tracks c.grow.ensures.only.protected c.grow.ensures.only.counted (λ (x : Bool). x) new (λ d2 uses2 b2 s2 rs2 can2. rw c.in-None.is at ((c.in_ok-written-2.ensures.put d2 uses2 b2 s2 rs2 can2).put)))
 
 -- the record behind it was read
 pub returns-in-Some-clause-next : goal.returns-in-Some-clause-next
-returns-in-Some-clause-next g c = λ d uses b s rs can. rw c.in-Some.is at (c.in_ok-written.ensures.next d uses b s rs can)
+returns-in-Some-clause-next g c = λ d uses b s rs can. rw c.in-Some.is at ((c.in_ok-written.ensures.put d uses b s rs can).next)
 
 pub returns-in-Some-2-clause-next : goal.returns-in-Some-2-clause-next
 returns-in-Some-2-clause-next g c = λ d uses b s rs can.
     let old : Seen = g.M.Medium.seen c.args.volume.now in
     let mid : Seen = g.M.Medium.seen c.write.new.volume in
     let none = none_of c.in_ok-written.field-0 c.in_default.not-Some in
-    let missing = rw none at (c.in_ok-written.ensures.put d uses b s rs can) in
+    let missing = rw none at ((c.in_ok-written.ensures.put d uses b s rs can).put) in
     let more : Seen = g.M.Medium.seen c.grow.new.volume in
     let grows = subst (λ (x : Bool). Grows mid more c.args.self.now (Ok x)) c.if-not-branch.false c.in_ok-grow.ensures.grown in
     let new : Seen = g.M.Medium.seen c.write-2.new.volume in
     store_next old mid d uses c.args.self.now b s rs c.args.bytes.now can c.write.ensures.only.tracks c.write.ensures.only.protected c.write.ensures.only.counted missing more grows c.grow.ensures.only.tracks c.grow.ensures.only.protected c.grow.ensures.only.counted (λ x z. IsOkAnd x.next (λ y. option_map (λ v. v.items) y ≡ z)) new c.in-Some-2.written
-    (λ d2 uses2 b2 s2 rs2 can2. rw c.in-Some-2.is at (c.in_ok-written-2.ensures.next d2 uses2 b2 s2 rs2 can2))
+    (λ d2 uses2 b2 s2 rs2 can2. rw c.in-Some-2.is at ((c.in_ok-written-2.ensures.put d2 uses2 b2 s2 rs2 can2).next))
 
 -- ---- what else the medium shows
 
@@ -97,7 +97,7 @@ returns-in_err-grow-clause-medium g c =
 
 pub returns-then-not-branch-clause-medium : goal.returns-then-not-branch-clause-medium
 returns-then-not-branch-clause-medium g c = only_then c.grow.result _ c.in_ok-grow.field-0 (g.M.Medium.seen c.args.volume.now) (g.M.Medium.seen c.grow.new.volume) c.in_ok-grow.was
-    (only_after c.write.result c.in_ok-written.field-0 c.grow.result (g.M.Medium.seen c.args.volume.now) (g.M.Medium.seen c.write.new.volume) (g.M.Medium.seen c.grow.new.volume) c.in_ok-written.was c.write.ensures.only c.grow.ensures.only)
+    (only_after c.write.result c.in_ok-written.field-0 c.grow.result (g.M.Medium.seen c.args.volume.now) (g.M.Medium.seen c.write.new.volume) (g.M.Medium.seen c.grow.new.volume) c.in_ok-written.was c.write.ensures.only c.grow.ensures.only) tt
 
 pub returns-in_err-written-2-clause-medium : goal.returns-in_err-written-2-clause-medium
 returns-in_err-written-2-clause-medium g c =
@@ -109,9 +109,9 @@ returns-in_err-written-2-clause-medium g c =
 pub returns-in-Some-2-clause-medium : goal.returns-in-Some-2-clause-medium
 returns-in-Some-2-clause-medium g c = only_then c.write-2.result _ c.in_ok-written-2.field-0 (g.M.Medium.seen c.args.volume.now) (g.M.Medium.seen c.write-2.new.volume) c.in_ok-written-2.was
     (only_after c.grow.result c.in_ok-grow.field-0 c.write-2.result (g.M.Medium.seen c.args.volume.now) (g.M.Medium.seen c.grow.new.volume) (g.M.Medium.seen c.write-2.new.volume) c.in_ok-grow.was
-    (only_after c.write.result c.in_ok-written.field-0 c.grow.result (g.M.Medium.seen c.args.volume.now) (g.M.Medium.seen c.write.new.volume) (g.M.Medium.seen c.grow.new.volume) c.in_ok-written.was c.write.ensures.only c.grow.ensures.only) c.write-2.ensures.only)
+    (only_after c.write.result c.in_ok-written.field-0 c.grow.result (g.M.Medium.seen c.args.volume.now) (g.M.Medium.seen c.write.new.volume) (g.M.Medium.seen c.grow.new.volume) c.in_ok-written.was c.write.ensures.only c.grow.ensures.only) c.write-2.ensures.only) tt
 
 pub returns-in-None-clause-medium : goal.returns-in-None-clause-medium
 returns-in-None-clause-medium g c = only_then c.write-2.result _ c.in_ok-written-2.field-0 (g.M.Medium.seen c.args.volume.now) (g.M.Medium.seen c.write-2.new.volume) c.in_ok-written-2.was
     (only_after c.grow.result c.in_ok-grow.field-0 c.write-2.result (g.M.Medium.seen c.args.volume.now) (g.M.Medium.seen c.grow.new.volume) (g.M.Medium.seen c.write-2.new.volume) c.in_ok-grow.was
-    (only_after c.write.result c.in_ok-written.field-0 c.grow.result (g.M.Medium.seen c.args.volume.now) (g.M.Medium.seen c.write.new.volume) (g.M.Medium.seen c.grow.new.volume) c.in_ok-written.was c.write.ensures.only c.grow.ensures.only) c.write-2.ensures.only)
+    (only_after c.write.result c.in_ok-written.field-0 c.grow.result (g.M.Medium.seen c.args.volume.now) (g.M.Medium.seen c.write.new.volume) (g.M.Medium.seen c.grow.new.volume) c.in_ok-written.was c.write.ensures.only c.grow.ensures.only) c.write-2.ensures.only) (search rules)

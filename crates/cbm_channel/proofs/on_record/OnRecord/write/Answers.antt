@@ -1,6 +1,7 @@
-use Rattle.std.proofs.Common.{◌≡◌, subst, inl, inr}
-use Rattle.std.specs.Prelude.{option_map, IsOkAnd}
-use Rattle.cbm_channel.proofs.RecordPuts.{Writes, ReadsOn, no_place}
+use Rattle.std.proofs.Common.{subst, inl, inr}
+use Rattle.cbm_volume.specs.RecordWrites.{IsRecordCall}
+use Rattle.cbm_channel.specs.ChannelCalls.{OfPlaced}
+use Rattle.cbm_channel.proofs.RecordPuts.{no_place}
 use Rattle.cbm_channel.proofs.on_record.OnRecord.write.Goals.{then-self-eq0-via-then-self-eq0, then-self-eq0-via-else-self-eq0+then-self-eq0-2}
 use Rattle.cbm_channel.proofs.on_record.OnRecord.write.Goals as goal
 
@@ -11,10 +12,5 @@ returns-then-self-eq0-clause-put g c = λ d uses b s rs can. absurd (no_place _ 
 
 pub returns-clause-put : goal.returns-clause-put
 returns-clause-put g c =
-    subst (λ r. Writes (λ x. x.cut) (g.M.Medium.seen c.args.volume.now) (g.M.Medium.seen c.put_record.new.self) r c.args.bytes.now c.put_record.result) c.self.view_is
+    subst (λ r. OfPlaced (g.M.Medium.seen c.args.volume.now) r (λ d uses b s rs. IsRecordCall c.put_record.result (g.M.Medium.seen c.args.volume.now) (g.M.Medium.seen c.put_record.new.self) d uses r.slot r.width b s rs r.number r.position c.args.bytes.now)) c.self.view_is
     (λ d uses b s rs can. c.put_record.ensures.put d uses _ b s rs can.has can.inside)
-
-pub returns-clause-next : goal.returns-clause-next
-returns-clause-next g c =
-    subst (λ r. ReadsOn (λ x z. IsOkAnd x.next (λ y. option_map (λ v. v.items) y ≡ z)) (g.M.Medium.seen c.args.volume.now) (g.M.Medium.seen c.put_record.new.self) r c.put_record.result) c.self.view_is
-    (λ d uses b s rs can. c.put_record.ensures.next d uses _ b s rs can.has can.inside)

@@ -13,8 +13,8 @@ use Rattle.cbm_volume.proofs.Sparing.{same_untouched}
 use Rattle.cbm_volume.proofs.volume.Volume.begin_append.Goals as goal
 
 -- the chain of a closed file is whole
-pub returns-in_err-chain-clause-cause : goal.returns-in_err-chain-clause-cause
-returns-in_err-chain-clause-cause g c = λ d uses f h can stands.
+pub returns-in_err-chain-clause-begun : goal.returns-in_err-chain-clause-begun
+returns-in_err-chain-clause-begun g c = λ d uses h f can stands.
     let medium : ℕ = (g.M.Medium.seen c.args.self.now).tracks in
     let old : Content = (g.M.Medium.seen c.args.self.now).content in
     let inner : Content = (g.M.Medium.seen c.self.inside.medium).content in
@@ -30,8 +30,8 @@ returns-in_err-chain-clause-untouched g c = λ d uses h.
     let old : Seen = g.M.Medium.seen c.args.self.now in
     same_untouched (geometry_of old.tracks old.content) old.content old.content h.layout (λ m. false) h.so.stands.sound refl
 
-pub returns-in_err-put_slot-clause-cause : goal.returns-in_err-put_slot-clause-cause
-returns-in_err-put_slot-clause-cause g c = λ d uses f h can stands.
+pub returns-in_err-put_slot-clause-begun : goal.returns-in_err-put_slot-clause-begun
+returns-in_err-put_slot-clause-begun g c = λ d uses h f can stands.
     let medium : ℕ = (g.M.Medium.seen c.args.self.now).tracks in
     let old : Seen = g.M.Medium.seen c.args.self.now in
     let new : Seen = g.M.Medium.seen c.put_slot.new.medium in
@@ -49,7 +49,7 @@ returns-in_err-put_slot-clause-untouched g c = λ d uses h.
     (c.in_err-put_slot.ensures.err ∙ ap (λ m. (g.M.Medium.seen m).content) c.self.view_is)
 
 pub returns-clause-begun : goal.returns-clause-begun
-returns-clause-begun g c =
+returns-clause-begun g c = λ d uses h f can stands. λ ch idle live.
     let medium : ℕ = (g.M.Medium.seen c.args.self.now).tracks in
     let old : Content = (g.M.Medium.seen c.args.self.now).content in
     let inner : Content = (g.M.Medium.seen c.self.inside.medium).content in
@@ -62,7 +62,7 @@ returns-clause-begun g c =
     let put : (directory : List Place) → Chain tracks old first_directory directory → c.args.slot < 8 * length directory → Enters old new (sector_of directory c.args.slot) (c.args.slot % 8) c.reopened-reopened.result =
     subst (λ (k : ℕ). (directory : List Place) → Chain k old first_directory directory → c.args.slot < 8 * length directory → Enters old new (sector_of directory c.args.slot) (c.args.slot % 8) c.reopened-reopened.result) c.geometry-geometry.ensures.value
     (subst (λ (x : Content). (directory : List Place) → Chain c.geometry-geometry.result x first_directory directory → c.args.slot < 8 * length directory → Enters x new (sector_of directory c.args.slot) (c.args.slot % 8) c.reopened-reopened.result) (ap (λ m. (g.M.Medium.seen m).content) c.self.view_is) c.in_ok-put_slot.ensures.entered) in
-    appended medium old new c.args.slot c.args.entry.now c.reopened-reopened.result c.in_ok-chain.chain c.geometry-geometry.ensures.whole after c.reopened-reopened.ensures.value c.reopened-reopened.ensures.says put
+    appended medium old new c.args.slot c.args.entry.now c.reopened-reopened.result c.in_ok-chain.chain c.geometry-geometry.ensures.whole after c.reopened-reopened.ensures.value c.reopened-reopened.ensures.says put d uses ch f h idle can live stands
 
 pub returns-clause-untouched : goal.returns-clause-untouched
 returns-clause-untouched g c = λ d uses h.

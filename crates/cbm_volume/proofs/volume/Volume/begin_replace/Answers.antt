@@ -1,7 +1,8 @@
-use Rattle.std.proofs.Common.{ℕ, false, Some, None, IfErr, ap, sym, subst, ◌∙◌}
+use Rattle.std.proofs.Common.{rules, ℕ, false, Some, None, Err, IfErr, ap, sym, subst, ◌∙◌}
 use Rattle.std.proofs.lemmas.Result.{err_from_is_err_and}
 use Rattle.cbm_medium.specs.Content.{Content}
-use Rattle.cbm_medium.specs.Seen.{Seen}
+use Rattle.cbm_medium.specs.Seen.{Seen, OnlyContent}
+use Rattle.cbm_medium.proofs.Sequences.{only_refused}
 use Rattle.cbm_file.specs.Files.{Disk}
 use Rattle.cbm_bam.specs.Map.{geometry_of}
 use Rattle.cbm_volume.specs.Opens.{IsHindered}
@@ -11,52 +12,57 @@ use Rattle.cbm_volume.proofs.ReplacementBegun.{ChainBegins, chain_begins, replac
 use Rattle.cbm_volume.proofs.Sparing.{same_untouched, claim_untouched}
 use Rattle.cbm_volume.proofs.volume.Volume.begin_replace.Goals as goal
 
-pub returns-in_default-clause-begun : goal.returns-in_default-clause-begun
-returns-in_default-clause-begun g c = λ d uses ch f h idle can.
-    let old : Seen = g.M.Medium.seen c.args.self.now in
-    let new : Content = (g.M.Medium.seen c.begin.new.medium).content in
-    let none : ChainBegins (geometry_of old.tracks old.content) old.content new None = chain_begins (g.M.Medium.seen c.self.inside.medium) old new c.geometry-geometry.result c.in_ok-chain.field-0 None (ap (λ m. g.M.Medium.seen m) c.self.view_is) c.geometry-geometry.ensures.value c.in_default.is c.in_ok-chain.ensures.begun in
-    replacement_refused old.tracks old.content new d uses h none
+pub returns-in_err-chain-clause-call : goal.returns-in_err-chain-clause-call
+returns-in_err-chain-clause-call g c = λ d uses h.
+    record {
+      done = (search rules);
+      cause =
+          let new : Seen = g.M.Medium.seen c.begin.new.medium in
+          subst (λ (s : Seen). (d : Disk) (uses : ℕ → Use) → HoldsNow s.tracks s.content d uses → IfErr c.from_residual.result (IsHindered s new)) (ap (λ m. g.M.Medium.seen m) c.self.view_is)
+          (claim_hindered (g.M.Medium.seen c.self.inside.medium) new c.in_err-chain.field-0.0 c.from_residual.result c.from_residual.ensures.1 c.in_err-chain.ensures.cause) d uses h;
+      untouched =
+          let old : Seen = g.M.Medium.seen c.args.self.now in
+          same_untouched (geometry_of old.tracks old.content) old.content (g.M.Medium.seen c.begin.new.medium).content h.layout (λ m. false) h.so.stands.sound (c.in_err-chain.ensures.err ∙ ap (λ m. (g.M.Medium.seen m).content) c.self.view_is);
+    }
 
-pub returns-clause-begun : goal.returns-clause-begun
-returns-clause-begun g c = λ d uses ch f h idle can.
-    let old : Seen = g.M.Medium.seen c.args.self.now in
-    let new : Content = (g.M.Medium.seen c.begin.new.medium).content in
-    let some : ChainBegins (geometry_of old.tracks old.content) old.content new (Some c.in-Some.chain) = chain_begins (g.M.Medium.seen c.self.inside.medium) old new c.geometry-geometry.result c.in_ok-chain.field-0 (Some c.in-Some.chain) (ap (λ m. g.M.Medium.seen m) c.self.view_is) c.geometry-geometry.ensures.value c.in-Some.is c.in_ok-chain.ensures.begun in
-    replacement old.tracks old.content new c.args.slot c.in-Some.chain d uses ch f h idle can some
+pub returns-in_default-clause-call : goal.returns-in_default-clause-call
+returns-in_default-clause-call g c = λ d uses h.
+    record {
+      done =
+          λ ch f idle can.
+          let old : Seen = g.M.Medium.seen c.args.self.now in
+          let new : Content = (g.M.Medium.seen c.begin.new.medium).content in
+          let none : ChainBegins (geometry_of old.tracks old.content) old.content new None = chain_begins (g.M.Medium.seen c.self.inside.medium) old new c.geometry-geometry.result c.in_ok-chain.field-0 None (ap (λ m. g.M.Medium.seen m) c.self.view_is) c.geometry-geometry.ensures.value c.in_default.is c.in_ok-chain.ensures.begun in
+          replacement_refused old.tracks old.content new d uses h none;
+      cause = (search rules);
+      untouched =
+          let old : Seen = g.M.Medium.seen c.args.self.now in
+          let new : Content = (g.M.Medium.seen c.begin.new.medium).content in
+          let none : ChainBegins (geometry_of old.tracks old.content) old.content new None = chain_begins (g.M.Medium.seen c.self.inside.medium) old new c.geometry-geometry.result c.in_ok-chain.field-0 None (ap (λ m. g.M.Medium.seen m) c.self.view_is) c.geometry-geometry.ensures.value c.in_default.is c.in_ok-chain.ensures.begun in
+          same_untouched (geometry_of old.tracks old.content) old.content new h.layout (λ m. false) h.so.stands.sound none.1;
+    }
 
-pub returns-in_err-chain-clause-cause : goal.returns-in_err-chain-clause-cause
-returns-in_err-chain-clause-cause g c =
-    let new : Seen = g.M.Medium.seen c.begin.new.medium in
-    subst (λ (s : Seen). (d : Disk) (uses : ℕ → Use) → HoldsNow s.tracks s.content d uses → IfErr c.from_residual.result (IsHindered s new)) (ap (λ m. g.M.Medium.seen m) c.self.view_is)
-    (claim_hindered (g.M.Medium.seen c.self.inside.medium) new c.in_err-chain.field-0.0 c.from_residual.result c.from_residual.ensures.1 c.in_err-chain.ensures.cause)
-
-pub returns-in_err-chain-clause-untouched : goal.returns-in_err-chain-clause-untouched
-returns-in_err-chain-clause-untouched g c = λ d uses h.
-    let old : Seen = g.M.Medium.seen c.args.self.now in
-    same_untouched (geometry_of old.tracks old.content) old.content (g.M.Medium.seen c.begin.new.medium).content h.layout (λ m. false) h.so.stands.sound (c.in_err-chain.ensures.err ∙ ap (λ m. (g.M.Medium.seen m).content) c.self.view_is)
-
-pub returns-in_default-clause-untouched : goal.returns-in_default-clause-untouched
-returns-in_default-clause-untouched g c = λ d uses h.
-    let old : Seen = g.M.Medium.seen c.args.self.now in
-    let new : Content = (g.M.Medium.seen c.begin.new.medium).content in
-    let none : ChainBegins (geometry_of old.tracks old.content) old.content new None = chain_begins (g.M.Medium.seen c.self.inside.medium) old new c.geometry-geometry.result c.in_ok-chain.field-0 None (ap (λ m. g.M.Medium.seen m) c.self.view_is) c.geometry-geometry.ensures.value c.in_default.is c.in_ok-chain.ensures.begun in
-    same_untouched (geometry_of old.tracks old.content) old.content new h.layout (λ m. false) h.so.stands.sound none.1
-
-pub returns-clause-untouched : goal.returns-clause-untouched
-returns-clause-untouched g c = λ d uses h.
-    let old : Seen = g.M.Medium.seen c.args.self.now in
-    let new : Content = (g.M.Medium.seen c.begin.new.medium).content in
-    let some : ChainBegins (geometry_of old.tracks old.content) old.content new (Some c.in-Some.chain) = chain_begins (g.M.Medium.seen c.self.inside.medium) old new c.geometry-geometry.result c.in_ok-chain.field-0 (Some c.in-Some.chain) (ap (λ m. g.M.Medium.seen m) c.self.view_is) c.geometry-geometry.ensures.value c.in-Some.is c.in_ok-chain.ensures.begun in
-    claim_untouched (geometry_of old.tracks old.content) old.content new h.layout some.0 (λ m. false) h.so.stands.sound some.1
+pub returns-clause-call : goal.returns-clause-call
+returns-clause-call g c = λ d uses h.
+    record {
+      done =
+          λ ch f idle can.
+          let old : Seen = g.M.Medium.seen c.args.self.now in
+          let new : Content = (g.M.Medium.seen c.begin.new.medium).content in
+          let some : ChainBegins (geometry_of old.tracks old.content) old.content new (Some c.in-Some.chain) = chain_begins (g.M.Medium.seen c.self.inside.medium) old new c.geometry-geometry.result c.in_ok-chain.field-0 (Some c.in-Some.chain) (ap (λ m. g.M.Medium.seen m) c.self.view_is) c.geometry-geometry.ensures.value c.in-Some.is c.in_ok-chain.ensures.begun in
+          replacement old.tracks old.content new c.args.slot c.in-Some.chain d uses ch f h idle can some;
+      cause = (search rules);
+      untouched =
+          let old : Seen = g.M.Medium.seen c.args.self.now in
+          let new : Content = (g.M.Medium.seen c.begin.new.medium).content in
+          let some : ChainBegins (geometry_of old.tracks old.content) old.content new (Some c.in-Some.chain) = chain_begins (g.M.Medium.seen c.self.inside.medium) old new c.geometry-geometry.result c.in_ok-chain.field-0 (Some c.in-Some.chain) (ap (λ m. g.M.Medium.seen m) c.self.view_is) c.geometry-geometry.ensures.value c.in-Some.is c.in_ok-chain.ensures.begun in
+          claim_untouched (geometry_of old.tracks old.content) old.content new h.layout some.0 (λ m. false) h.so.stands.sound some.1;
+    }
 
 -- ---- on any disk
 
--- no free block is told as no protection
-pub returns-in_default-clause-protection : goal.returns-in_default-clause-protection
-returns-in_default-clause-protection g c = tt
-
-pub returns-in_err-chain-clause-protection : goal.returns-in_err-chain-clause-protection
-returns-in_err-chain-clause-protection g c =
+pub returns-in_err-chain-clause-only : goal.returns-in_err-chain-clause-only
+returns-in_err-chain-clause-only g c =
     let p = err_from_is_err_and c.from_residual.result c.from_residual.ensures.1 in
-    rw (p.1, p.2) (λ is. ap (λ m. (g.M.Medium.seen m).protected) (sym c.self.view_is) ∙ c.in_err-chain.ensures.protection is)
+    only_refused c.begin.result c.from_residual.result p.0 (g.M.Medium.seen c.args.self.now) (g.M.Medium.seen c.begin.new.medium) (c.in_err-chain.was ∙ ap Err (sym p.2)) p.1
+    (subst (λ (x : Seen). OnlyContent c.begin.result x (g.M.Medium.seen c.begin.new.medium)) (ap (λ m. g.M.Medium.seen m) c.self.view_is) c.begin.ensures.only)

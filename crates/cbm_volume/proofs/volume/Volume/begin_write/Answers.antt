@@ -1,4 +1,4 @@
-use Rattle.std.proofs.Common.{◌≡◌, ◌<◌, ◌≤◌, ◌*◌, ◌%◌, ℕ, List, length, Option, Some, None, Err, refl, sym, ap, subst, ◌∙◌, inl, inr, MatchOption, [], false, Ok}
+use Rattle.std.proofs.Common.{rules, ◌≡◌, ◌<◌, ◌≤◌, ◌*◌, ◌%◌, ℕ, List, length, Option, Some, None, Err, refl, sym, ap, subst, ◌∙◌, inl, inr, MatchOption, [], false, Ok}
 use Rattle.std.proofs.lemmas.Result.{err_from_is_err_and}
 use Rattle.cbm_medium.specs.Place.{Place, directory_head}
 use Rattle.cbm_medium.specs.Content.{Content}
@@ -33,45 +33,48 @@ free : (g : Over) (c : goal.Then-branch-eq0 g) (d : Disk) (uses : ℕ → Use) �
 free g c d uses h =
     sym (free_of_disk (geometry_of (g.M.Medium.seen c.args.self.now).tracks (g.M.Medium.seen c.args.self.now).content) (g.M.Medium.seen c.args.self.now).content h.layout d h.so.stands) ∙ sym (moved (λ k x. c.in_ok-free_bits.field-0 ≡ number k (is_free_in (map_of x))) c.geometry-geometry.result (geometry_of (g.M.Medium.seen c.args.self.now).tracks (g.M.Medium.seen c.args.self.now).content) (g.M.Medium.seen c.self.inside.medium).content (g.M.Medium.seen c.args.self.now).content c.geometry-geometry.ensures.value (ap (λ m. (g.M.Medium.seen m).content) c.self.view_is) (c.in_ok-free_bits.ensures.ok)) ∙ c.if-branch-eq0.true
 
-pub returns-then-branch-eq0-clause-begun : goal.returns-then-branch-eq0-clause-begun
-returns-then-branch-eq0-clause-begun g c = λ d uses ch h idle ne plain. (inl (free g c d uses h), refl)
-
-pub returns-then-branch-eq0-clause-untouched : goal.returns-then-branch-eq0-clause-untouched
-returns-then-branch-eq0-clause-untouched g c = λ d uses h. untouched_by (g.M.Medium.seen c.args.self.now).tracks (g.M.Medium.seen c.args.self.now).content (g.M.Medium.seen c.args.self.now).content d uses h (files_same h.layout (g.M.Medium.seen c.args.self.now).content (g.M.Medium.seen c.args.self.now).content refl)
+pub returns-then-branch-eq0-clause-call : goal.returns-then-branch-eq0-clause-call
+returns-then-branch-eq0-clause-call g c = λ d uses h.
+    record {
+      done = λ ch idle ne plain. (inl (free g c d uses h), refl);
+      stopped = (search rules);
+      cause = (search rules);
+      untouched = untouched_by (g.M.Medium.seen c.args.self.now).tracks (g.M.Medium.seen c.args.self.now).content (g.M.Medium.seen c.args.self.now).content d uses h (files_same h.layout (g.M.Medium.seen c.args.self.now).content (g.M.Medium.seen c.args.self.now).content refl);
+    }
 
 -- ---- the search for a slot was refused
 
 lost : (g : Over) (c : goal.After-from_residual-in_err-slot g) (d : Disk) (uses : ℕ → Use) (h : HoldsNow (g.M.Medium.seen c.args.self.now).tracks (g.M.Medium.seen c.args.self.now).content d uses) → SlotLost (g.M.Medium.seen c.args.self.now).tracks (g.M.Medium.seen c.args.self.now).content h.layout (g.M.Medium.seen c.empty_slot.new.medium).content d uses
 lost g c d uses h = slot_lost (g.M.Medium.seen c.args.self.now).tracks (g.M.Medium.seen c.args.self.now).content (g.M.Medium.seen c.empty_slot.new.medium).content c.in_err-slot.field-0.0 d uses h (moved (λ k x. SlotStopped k x (g.M.Medium.seen c.empty_slot.new.medium).content c.in_err-slot.field-0.0) c.geometry-geometry.result (geometry_of (g.M.Medium.seen c.args.self.now).tracks (g.M.Medium.seen c.args.self.now).content) (g.M.Medium.seen c.self.inside.medium).content (g.M.Medium.seen c.args.self.now).content c.geometry-geometry.ensures.value (ap (λ m. (g.M.Medium.seen m).content) c.self.view_is) (c.in_err-slot.ensures.stopped))
 
-pub returns-in_err-slot-clause-stopped : goal.returns-in_err-slot-clause-stopped
-returns-in_err-slot-clause-stopped g c = λ d uses h ne plain.
-    on_err c.from_residual-in_err-slot.result (stopped_at (g.M.Medium.seen c.args.self.now).tracks (g.M.Medium.seen c.args.self.now).content h.layout (g.M.Medium.seen c.empty_slot.new.medium).content d (lost g c d uses h).disk _ uses (lost g c d uses h).reached (lost g c d uses h).slots)
-
-pub returns-in_err-slot-clause-cause : goal.returns-in_err-slot-clause-cause
-returns-in_err-slot-clause-cause g c = λ d uses h.
-    let p = err_from_is_err_and c.from_residual-in_err-slot.result c.from_residual-in_err-slot.ensures.1 in
-    let old : Seen = g.M.Medium.seen c.args.self.now in
-    let new : Seen = g.M.Medium.seen c.empty_slot.new.medium in
-    let refused : IsSlotRefused (geometry_of old.tracks old.content) old new c.in_err-slot.field-0.0 = subst (λ (k : ℕ). IsSlotRefused k old new c.in_err-slot.field-0.0) c.geometry-geometry.ensures.value
-    (subst (λ (x : Seen). IsSlotRefused c.geometry-geometry.result x new c.in_err-slot.field-0.0) (ap (λ m. g.M.Medium.seen m) c.self.view_is) c.in_err-slot.ensures.cause) in
-    rw (p.1, p.2) (slot_hinders old new c.in_err-slot.field-0.0 d uses h refused)
-
-pub returns-in_err-slot-clause-untouched : goal.returns-in_err-slot-clause-untouched
-returns-in_err-slot-clause-untouched g c = λ d uses h. untouched_by (g.M.Medium.seen c.args.self.now).tracks (g.M.Medium.seen c.args.self.now).content (g.M.Medium.seen c.empty_slot.new.medium).content d uses h (lost g c d uses h).reached.files
+pub returns-in_err-slot-clause-call : goal.returns-in_err-slot-clause-call
+returns-in_err-slot-clause-call g c = λ d uses h.
+    record {
+      done = (search rules);
+      stopped = on_err c.from_residual-in_err-slot.result (λ ne plain. stopped_at (g.M.Medium.seen c.args.self.now).tracks (g.M.Medium.seen c.args.self.now).content h.layout (g.M.Medium.seen c.empty_slot.new.medium).content d (lost g c d uses h).disk _ uses (lost g c d uses h).reached (lost g c d uses h).slots);
+      cause =
+          let p = err_from_is_err_and c.from_residual-in_err-slot.result c.from_residual-in_err-slot.ensures.1 in
+          let old : Seen = g.M.Medium.seen c.args.self.now in
+          let new : Seen = g.M.Medium.seen c.empty_slot.new.medium in
+          let refused : IsSlotRefused (geometry_of old.tracks old.content) old new c.in_err-slot.field-0.0 = subst (λ (k : ℕ). IsSlotRefused k old new c.in_err-slot.field-0.0) c.geometry-geometry.ensures.value
+          (subst (λ (x : Seen). IsSlotRefused c.geometry-geometry.result x new c.in_err-slot.field-0.0) (ap (λ m. g.M.Medium.seen m) c.self.view_is) c.in_err-slot.ensures.cause) in
+          rw (p.1, p.2) (slot_hinders old new c.in_err-slot.field-0.0 d uses h refused);
+      untouched = untouched_by (g.M.Medium.seen c.args.self.now).tracks (g.M.Medium.seen c.args.self.now).content (g.M.Medium.seen c.empty_slot.new.medium).content d uses h (lost g c d uses h).reached.files;
+    }
 
 -- ---- no slot is empty, and there is no room
 
 none : (g : Over) (c : goal.In_default g) → TakesSlot (geometry_of (g.M.Medium.seen c.args.self.now).tracks (g.M.Medium.seen c.args.self.now).content) (g.M.Medium.seen c.args.self.now).content (g.M.Medium.seen c.empty_slot.new.medium).content None
 none g c = (moved (λ k x. TakesSlot k x (g.M.Medium.seen c.empty_slot.new.medium).content None) c.geometry-geometry.result (geometry_of (g.M.Medium.seen c.args.self.now).tracks (g.M.Medium.seen c.args.self.now).content) (g.M.Medium.seen c.self.inside.medium).content (g.M.Medium.seen c.args.self.now).content c.geometry-geometry.ensures.value (ap (λ m. (g.M.Medium.seen m).content) c.self.view_is) (subst (λ (o : Option ℕ). TakesSlot c.geometry-geometry.result (g.M.Medium.seen c.self.inside.medium).content (g.M.Medium.seen c.empty_slot.new.medium).content o) c.in_default.is c.in_ok-slot.ensures.taken))
 
-pub returns-in_default-clause-begun : goal.returns-in_default-clause-begun
-returns-in_default-clause-begun g c = λ d uses ch h idle ne plain.
-    let k = no_slot (g.M.Medium.seen c.args.self.now).tracks (g.M.Medium.seen c.args.self.now).content (g.M.Medium.seen c.empty_slot.new.medium).content d uses h (none g c) in (inr k.0, k.1)
-
-pub returns-in_default-clause-untouched : goal.returns-in_default-clause-untouched
-returns-in_default-clause-untouched g c = λ d uses h.
-    untouched_by (g.M.Medium.seen c.args.self.now).tracks (g.M.Medium.seen c.args.self.now).content (g.M.Medium.seen c.empty_slot.new.medium).content d uses h (files_same h.layout (g.M.Medium.seen c.args.self.now).content (g.M.Medium.seen c.empty_slot.new.medium).content (no_slot (g.M.Medium.seen c.args.self.now).tracks (g.M.Medium.seen c.args.self.now).content (g.M.Medium.seen c.empty_slot.new.medium).content d uses h (none g c)).1)
+pub returns-in_default-clause-call : goal.returns-in_default-clause-call
+returns-in_default-clause-call g c = λ d uses h.
+    record {
+      done = λ ch idle ne plain. let k = no_slot (g.M.Medium.seen c.args.self.now).tracks (g.M.Medium.seen c.args.self.now).content (g.M.Medium.seen c.empty_slot.new.medium).content d uses h (none g c) in (inr k.0, k.1);
+      stopped = (search rules);
+      cause = (search rules);
+      untouched = untouched_by (g.M.Medium.seen c.args.self.now).tracks (g.M.Medium.seen c.args.self.now).content (g.M.Medium.seen c.empty_slot.new.medium).content d uses h (files_same h.layout (g.M.Medium.seen c.args.self.now).content (g.M.Medium.seen c.empty_slot.new.medium).content (no_slot (g.M.Medium.seen c.args.self.now).tracks (g.M.Medium.seen c.args.self.now).content (g.M.Medium.seen c.empty_slot.new.medium).content d uses h (none g c)).1);
+    }
 
 -- ---- the claim of a first block was refused
 
@@ -81,23 +84,22 @@ ready g c d uses h = slot_ready (g.M.Medium.seen c.args.self.now).tracks (g.M.Me
 unclaimed : (g : Over) (c : goal.After-from_residual-in_err-chain g) (d : Disk) (uses : ℕ → Use) (h : HoldsNow (g.M.Medium.seen c.args.self.now).tracks (g.M.Medium.seen c.args.self.now).content d uses) → Reached (g.M.Medium.seen c.args.self.now).tracks (g.M.Medium.seen c.args.self.now).content h.layout (g.M.Medium.seen c.begin.new.medium).content (grown d) uses
 unclaimed g c d uses h = reached_same (g.M.Medium.seen c.args.self.now).tracks (g.M.Medium.seen c.args.self.now).content h.layout (g.M.Medium.seen c.empty_slot.new.medium).content (g.M.Medium.seen c.begin.new.medium).content (grown d) uses c.in_err-chain.ensures.err (ready g c d uses h).reached
 
-pub returns-in_err-chain-clause-stopped : goal.returns-in_err-chain-clause-stopped
-returns-in_err-chain-clause-stopped g c = λ d uses h ne plain.
-    on_err c.from_residual-in_err-chain.result (stopped_at (g.M.Medium.seen c.args.self.now).tracks (g.M.Medium.seen c.args.self.now).content h.layout (g.M.Medium.seen c.begin.new.medium).content d (grown d) _ uses (unclaimed g c d uses h) (same_files_grown d))
-
-pub returns-in_err-chain-clause-cause : goal.returns-in_err-chain-clause-cause
-returns-in_err-chain-clause-cause g c = λ d uses h.
-    let p = err_from_is_err_and c.from_residual-in_err-chain.result c.from_residual-in_err-chain.ensures.1 in
-    let old : Seen = g.M.Medium.seen c.args.self.now in
-    let mid : Seen = g.M.Medium.seen c.empty_slot.new.medium in
-    let new : Seen = g.M.Medium.seen c.begin.new.medium in
-    let seen = ap (λ m. g.M.Medium.seen m) c.self.view_is in
-    rw (p.1, p.2) (hindered_since old mid new c.in_err-chain.field-0.0 (c.empty_slot.ensures.only.protected ∙ ap (λ (x : Seen). x.protected) seen)
-    (subst (λ (x : Seen). x.failures ≤ mid.failures) seen c.empty_slot.ensures.only.counted)
-    (sector_hindered mid new directory_head c.in_err-chain.field-0.0 (ready g c d uses h).reached.so.stands.sound.map_reads c.in_err-chain.ensures.cause))
-
-pub returns-in_err-chain-clause-untouched : goal.returns-in_err-chain-clause-untouched
-returns-in_err-chain-clause-untouched g c = λ d uses h. untouched_by (g.M.Medium.seen c.args.self.now).tracks (g.M.Medium.seen c.args.self.now).content (g.M.Medium.seen c.begin.new.medium).content d uses h (unclaimed g c d uses h).files
+pub returns-in_err-chain-clause-call : goal.returns-in_err-chain-clause-call
+returns-in_err-chain-clause-call g c = λ d uses h.
+    record {
+      done = (search rules);
+      stopped = on_err c.from_residual-in_err-chain.result (λ ne plain. stopped_at (g.M.Medium.seen c.args.self.now).tracks (g.M.Medium.seen c.args.self.now).content h.layout (g.M.Medium.seen c.begin.new.medium).content d (grown d) _ uses (unclaimed g c d uses h) (same_files_grown d));
+      cause =
+          let p = err_from_is_err_and c.from_residual-in_err-chain.result c.from_residual-in_err-chain.ensures.1 in
+          let old : Seen = g.M.Medium.seen c.args.self.now in
+          let mid : Seen = g.M.Medium.seen c.empty_slot.new.medium in
+          let new : Seen = g.M.Medium.seen c.begin.new.medium in
+          let seen = ap (λ m. g.M.Medium.seen m) c.self.view_is in
+          rw (p.1, p.2) (hindered_since old mid new c.in_err-chain.field-0.0 (c.empty_slot.ensures.only.protected ∙ ap (λ (x : Seen). x.protected) seen)
+          (subst (λ (x : Seen). x.failures ≤ mid.failures) seen c.empty_slot.ensures.only.counted)
+          (sector_hindered mid new directory_head c.in_err-chain.field-0.0 (ready g c d uses h).reached.so.stands.sound.map_reads c.in_err-chain.ensures.cause));
+      untouched = untouched_by (g.M.Medium.seen c.args.self.now).tracks (g.M.Medium.seen c.args.self.now).content (g.M.Medium.seen c.begin.new.medium).content d uses h (unclaimed g c d uses h).files;
+    }
 
 -- ---- a block is free, so one is claimed
 
@@ -110,11 +112,14 @@ not_none g c d uses h =
     let full : IsFull c.geometry-geometry.result (map_of (g.M.Medium.seen c.empty_slot.new.medium).content) × ((g.M.Medium.seen c.begin.new.medium).content ≡ (g.M.Medium.seen c.empty_slot.new.medium).content) = subst (λ (o : Option State). MatchOption o (IsFull c.geometry-geometry.result (map_of (g.M.Medium.seen c.empty_slot.new.medium).content) × ((g.M.Medium.seen c.begin.new.medium).content ≡ (g.M.Medium.seen c.empty_slot.new.medium).content)) (λ w. (q : Place) × Claims c.geometry-geometry.result (g.M.Medium.seen c.empty_slot.new.medium).content (g.M.Medium.seen c.begin.new.medium).content q × (w ≡ begun_at c.geometry-geometry.result q))) c.in_default-2.is c.in_ok-chain.ensures.begun in
     not_full (g.M.Medium.seen c.args.self.now).tracks (g.M.Medium.seen c.args.self.now).content (g.M.Medium.seen c.empty_slot.new.medium).content d uses c.in-Some.slot h (ready_then g c d uses h) (λ z. c.if-branch-eq0.false (some ∙ z)) (subst (λ (k : ℕ). IsFull k (map_of (g.M.Medium.seen c.empty_slot.new.medium).content)) c.geometry-geometry.ensures.value (full.0))
 
-pub returns-in_default-2-clause-begun : goal.returns-in_default-2-clause-begun
-returns-in_default-2-clause-begun g c = λ d uses ch h idle ne plain. absurd (not_none g c d uses h)
-
-pub returns-in_default-2-clause-untouched : goal.returns-in_default-2-clause-untouched
-returns-in_default-2-clause-untouched g c = λ d uses h. absurd (not_none g c d uses h)
+pub returns-in_default-2-clause-call : goal.returns-in_default-2-clause-call
+returns-in_default-2-clause-call g c = λ d uses h.
+    record {
+      done = λ ch idle ne plain. absurd (not_none g c d uses h);
+      stopped = (search rules);
+      cause = (search rules);
+      untouched = absurd (not_none g c d uses h);
+    }
 
 -- ---- the entry was refused
 
@@ -132,30 +137,29 @@ unentered : (g : Over) (c : goal.After-from_residual-in_err-put_slot g) (d : Dis
 unentered g c d uses h =
     reached_same (g.M.Medium.seen c.args.self.now).tracks (g.M.Medium.seen c.args.self.now).content h.layout (g.M.Medium.seen c.begin.new.medium).content (g.M.Medium.seen c.put_slot.new.medium).content (one_less (grown d)) uses c.in_err-put_slot.ensures.err (reached_set (g.M.Medium.seen c.args.self.now).tracks (g.M.Medium.seen c.args.self.now).content h.layout (g.M.Medium.seen c.empty_slot.new.medium).content (g.M.Medium.seen c.begin.new.medium).content d uses c.in-Some.slot (block_unentered g c).0 (set_unentered g c d uses h))
 
-pub returns-in_err-put_slot-clause-stopped : goal.returns-in_err-put_slot-clause-stopped
-returns-in_err-put_slot-clause-stopped g c = λ d uses h ne plain.
-    on_err c.from_residual-in_err-put_slot.result (stopped_at (g.M.Medium.seen c.args.self.now).tracks (g.M.Medium.seen c.args.self.now).content h.layout (g.M.Medium.seen c.put_slot.new.medium).content d (one_less (grown d)) _ uses (unentered g c d uses h) (same_files_grown d))
-
-pub returns-in_err-put_slot-clause-cause : goal.returns-in_err-put_slot-clause-cause
-returns-in_err-put_slot-clause-cause g c = λ d uses h.
-    let p = err_from_is_err_and c.from_residual-in_err-put_slot.result c.from_residual-in_err-put_slot.ensures.1 in
-    let old : Seen = g.M.Medium.seen c.args.self.now in
-    let mid : Seen = g.M.Medium.seen c.empty_slot.new.medium in
-    let two : Seen = g.M.Medium.seen c.begin.new.medium in
-    let new : Seen = g.M.Medium.seen c.put_slot.new.medium in
-    let seen = ap (λ m. g.M.Medium.seen m) c.self.view_is in
-    let s : IsSet (g.M.Medium.seen c.args.self.now).tracks (g.M.Medium.seen c.args.self.now).content h.layout (g.M.Medium.seen c.empty_slot.new.medium).content (g.M.Medium.seen c.begin.new.medium).content d uses c.in-Some.slot (block_unentered g c).0 = set_unentered g c d uses h in
-    let there = chain_set (g.M.Medium.seen c.args.self.now).tracks (g.M.Medium.seen c.args.self.now).content h.layout (g.M.Medium.seen c.empty_slot.new.medium).content (g.M.Medium.seen c.begin.new.medium).content d uses c.in-Some.slot (block_unentered g c).0 s in
-    let dir : List Place = s.ready.reached.layout.directory in
-    let cause : HasCause two new (sector_of dir c.in-Some.slot) c.in_err-put_slot.field-0.0.code =
-    c.in_err-put_slot.ensures.cause dir (subst (λ (k : ℕ). Chain k (g.M.Medium.seen c.begin.new.medium).content first_directory dir) (sym c.geometry-geometry.ensures.value) there.0) there.1 in
-    rw (p.1, p.2) (hindered_since old mid new c.in_err-put_slot.field-0.0 (c.empty_slot.ensures.only.protected ∙ ap (λ (x : Seen). x.protected) seen)
-    (subst (λ (x : Seen). x.failures ≤ mid.failures) seen c.empty_slot.ensures.only.counted)
-    (hindered_since mid two new c.in_err-put_slot.field-0.0 c.begin.ensures.only.protected c.begin.ensures.only.counted
-    (sector_hindered two new (sector_of dir c.in-Some.slot) c.in_err-put_slot.field-0.0 (sector_reads (geometry_of (g.M.Medium.seen c.args.self.now).tracks (g.M.Medium.seen c.args.self.now).content) (g.M.Medium.seen c.begin.new.medium).content dir c.in-Some.slot there.0 there.1) cause)))
-
-pub returns-in_err-put_slot-clause-untouched : goal.returns-in_err-put_slot-clause-untouched
-returns-in_err-put_slot-clause-untouched g c = λ d uses h. untouched_by (g.M.Medium.seen c.args.self.now).tracks (g.M.Medium.seen c.args.self.now).content (g.M.Medium.seen c.put_slot.new.medium).content d uses h (unentered g c d uses h).files
+pub returns-in_err-put_slot-clause-call : goal.returns-in_err-put_slot-clause-call
+returns-in_err-put_slot-clause-call g c = λ d uses h.
+    record {
+      done = (search rules);
+      stopped = on_err c.from_residual-in_err-put_slot.result (λ ne plain. stopped_at (g.M.Medium.seen c.args.self.now).tracks (g.M.Medium.seen c.args.self.now).content h.layout (g.M.Medium.seen c.put_slot.new.medium).content d (one_less (grown d)) _ uses (unentered g c d uses h) (same_files_grown d));
+      cause =
+          let p = err_from_is_err_and c.from_residual-in_err-put_slot.result c.from_residual-in_err-put_slot.ensures.1 in
+          let old : Seen = g.M.Medium.seen c.args.self.now in
+          let mid : Seen = g.M.Medium.seen c.empty_slot.new.medium in
+          let two : Seen = g.M.Medium.seen c.begin.new.medium in
+          let new : Seen = g.M.Medium.seen c.put_slot.new.medium in
+          let seen = ap (λ m. g.M.Medium.seen m) c.self.view_is in
+          let s : IsSet (g.M.Medium.seen c.args.self.now).tracks (g.M.Medium.seen c.args.self.now).content h.layout (g.M.Medium.seen c.empty_slot.new.medium).content (g.M.Medium.seen c.begin.new.medium).content d uses c.in-Some.slot (block_unentered g c).0 = set_unentered g c d uses h in
+          let there = chain_set (g.M.Medium.seen c.args.self.now).tracks (g.M.Medium.seen c.args.self.now).content h.layout (g.M.Medium.seen c.empty_slot.new.medium).content (g.M.Medium.seen c.begin.new.medium).content d uses c.in-Some.slot (block_unentered g c).0 s in
+          let dir : List Place = s.ready.reached.layout.directory in
+          let cause : HasCause two new (sector_of dir c.in-Some.slot) c.in_err-put_slot.field-0.0.code =
+          c.in_err-put_slot.ensures.cause dir (subst (λ (k : ℕ). Chain k (g.M.Medium.seen c.begin.new.medium).content first_directory dir) (sym c.geometry-geometry.ensures.value) there.0) there.1 in
+          rw (p.1, p.2) (hindered_since old mid new c.in_err-put_slot.field-0.0 (c.empty_slot.ensures.only.protected ∙ ap (λ (x : Seen). x.protected) seen)
+          (subst (λ (x : Seen). x.failures ≤ mid.failures) seen c.empty_slot.ensures.only.counted)
+          (hindered_since mid two new c.in_err-put_slot.field-0.0 c.begin.ensures.only.protected c.begin.ensures.only.counted
+          (sector_hindered two new (sector_of dir c.in-Some.slot) c.in_err-put_slot.field-0.0 (sector_reads (geometry_of (g.M.Medium.seen c.args.self.now).tracks (g.M.Medium.seen c.args.self.now).content) (g.M.Medium.seen c.begin.new.medium).content dir c.in-Some.slot there.0 there.1) cause)));
+      untouched = untouched_by (g.M.Medium.seen c.args.self.now).tracks (g.M.Medium.seen c.args.self.now).content (g.M.Medium.seen c.put_slot.new.medium).content d uses h (unentered g c d uses h).files;
+    }
 
 -- ---- the name is in its slot
 
@@ -172,16 +176,24 @@ set_entered g c d uses h = record { ready = ready_entered g c d uses h; claims =
 entered : (g : Over) (c : goal.After-of_new g) → EntersSlot (geometry_of (g.M.Medium.seen c.args.self.now).tracks (g.M.Medium.seen c.args.self.now).content) (g.M.Medium.seen c.begin.new.medium).content (g.M.Medium.seen c.put_slot.new.medium).content c.in-Some.slot c.fresh-entry.result
 entered g c = (subst (λ (k : ℕ). (directory : List Place) → Chain k (g.M.Medium.seen c.begin.new.medium).content first_directory directory → c.in-Some.slot < 8 * length directory → Enters (g.M.Medium.seen c.begin.new.medium).content (g.M.Medium.seen c.put_slot.new.medium).content (sector_of directory c.in-Some.slot) (c.in-Some.slot % 8) c.fresh-entry.result) c.geometry-geometry.ensures.value (c.in_ok-put_slot.ensures.entered))
 
-pub returns-clause-begun : goal.returns-clause-begun
-returns-clause-begun g c = λ d uses ch h idle ne plain.
-    subst (λ (w : Filling). Begins (g.M.Medium.seen c.args.self.now).tracks (g.M.Medium.seen c.put_slot.new.medium).content (with_file d (unclosed c.args.kind (before_filler c.args.name.now)) 1) uses ch (new_slot d) false [] 1 w) (sym c.of_new.ensures)
-    (begins (g.M.Medium.seen c.args.self.now).tracks (g.M.Medium.seen c.args.self.now).content h.layout (g.M.Medium.seen c.empty_slot.new.medium).content (g.M.Medium.seen c.begin.new.medium).content (g.M.Medium.seen c.put_slot.new.medium).content d uses ch c.in-Some.slot (block_entered g c).0 c.args.kind c.args.name.now c.fresh-entry.result c.first_block.result c.in-Some-2.chain (set_entered g c d uses h) idle ne plain (block_entered g c).2 c.fresh-entry.ensures.says (entered g c))
-
-pub returns-clause-untouched : goal.returns-clause-untouched
-returns-clause-untouched g c = λ d uses h.
-    untouched_by (g.M.Medium.seen c.args.self.now).tracks (g.M.Medium.seen c.args.self.now).content (g.M.Medium.seen c.put_slot.new.medium).content d uses h (files_set (g.M.Medium.seen c.args.self.now).tracks (g.M.Medium.seen c.args.self.now).content h.layout (g.M.Medium.seen c.empty_slot.new.medium).content (g.M.Medium.seen c.begin.new.medium).content (g.M.Medium.seen c.put_slot.new.medium).content d uses c.in-Some.slot (block_entered g c).0 c.fresh-entry.result (set_entered g c d uses h) (entered g c))
+pub returns-clause-call : goal.returns-clause-call
+returns-clause-call g c = λ d uses h.
+    record {
+      done =
+          λ ch idle ne plain. subst (λ (w : Filling). Begins (g.M.Medium.seen c.args.self.now).tracks (g.M.Medium.seen c.put_slot.new.medium).content (with_file d (unclosed c.args.kind (before_filler c.args.name.now)) 1) uses ch (new_slot d) false [] 1 w) (sym c.of_new.ensures)
+          (begins (g.M.Medium.seen c.args.self.now).tracks (g.M.Medium.seen c.args.self.now).content h.layout (g.M.Medium.seen c.empty_slot.new.medium).content (g.M.Medium.seen c.begin.new.medium).content (g.M.Medium.seen c.put_slot.new.medium).content d uses ch c.in-Some.slot (block_entered g c).0 c.args.kind c.args.name.now c.fresh-entry.result c.first_block.result c.in-Some-2.chain (set_entered g c d uses h) idle ne plain (block_entered g c).2 c.fresh-entry.ensures.says (entered g c));
+      stopped = (search rules);
+      cause = (search rules);
+      untouched = untouched_by (g.M.Medium.seen c.args.self.now).tracks (g.M.Medium.seen c.args.self.now).content (g.M.Medium.seen c.put_slot.new.medium).content d uses h (files_set (g.M.Medium.seen c.args.self.now).tracks (g.M.Medium.seen c.args.self.now).content h.layout (g.M.Medium.seen c.empty_slot.new.medium).content (g.M.Medium.seen c.begin.new.medium).content (g.M.Medium.seen c.put_slot.new.medium).content d uses c.in-Some.slot (block_entered g c).0 c.fresh-entry.result (set_entered g c d uses h) (entered g c));
+    }
 
 -- ---- only the content changes
+
+pub returns-in_err-slot-clause-only : goal.returns-in_err-slot-clause-only
+returns-in_err-slot-clause-only g c =
+    let p = err_from_is_err_and c.from_residual-in_err-slot.result c.from_residual-in_err-slot.ensures.1 in
+    only_refused c.empty_slot.result c.from_residual-in_err-slot.result p.0 (g.M.Medium.seen c.args.self.now) (g.M.Medium.seen c.empty_slot.new.medium) (c.in_err-slot.was ∙ ap Err (sym p.2)) p.1
+    (subst (λ (x : Seen). OnlyContent c.empty_slot.result x (g.M.Medium.seen c.empty_slot.new.medium)) (ap (λ m. g.M.Medium.seen m) c.self.view_is) c.empty_slot.ensures.only)
 
 claimed_none : (g : Over) (c : goal.After-from_residual-in_err-chain g) → OnlyContent c.begin.result (g.M.Medium.seen c.args.self.now) (g.M.Medium.seen c.begin.new.medium)
 claimed_none g c =
@@ -220,25 +232,9 @@ put_entered g c =
 
 pub returns-clause-only : goal.returns-clause-only
 returns-clause-only g c =
-    only_then c.put_slot.result (Ok (Some c.of_new.result)) c.in_ok-put_slot.field-0 (g.M.Medium.seen c.args.self.now) (g.M.Medium.seen c.put_slot.new.medium) c.in_ok-put_slot.was (put_entered g c)
+    only_then c.put_slot.result (Ok (Some c.of_new.result)) c.in_ok-put_slot.field-0 (g.M.Medium.seen c.args.self.now) (g.M.Medium.seen c.put_slot.new.medium) c.in_ok-put_slot.was (put_entered g c) tt
 
 -- ---- on any disk
-
-pub returns-in_err-slot-clause-protection : goal.returns-in_err-slot-clause-protection
-returns-in_err-slot-clause-protection g c =
-    let p = err_from_is_err_and c.from_residual-in_err-slot.result c.from_residual-in_err-slot.ensures.1 in
-    rw (p.1, p.2) (λ is. ap (λ m. (g.M.Medium.seen m).protected) (sym c.self.view_is) ∙ c.in_err-slot.ensures.protection is)
-
-pub returns-in_err-chain-clause-protection : goal.returns-in_err-chain-clause-protection
-returns-in_err-chain-clause-protection g c =
-    let p = err_from_is_err_and c.from_residual-in_err-chain.result c.from_residual-in_err-chain.ensures.1 in
-    rw (p.1, p.2) (λ is. ap (λ m. (g.M.Medium.seen m).protected) (sym c.self.view_is) ∙ sym c.empty_slot.ensures.only.protected ∙ c.in_err-chain.ensures.protection is)
-
-pub returns-in_err-put_slot-clause-protection : goal.returns-in_err-put_slot-clause-protection
-returns-in_err-put_slot-clause-protection g c =
-    let p = err_from_is_err_and c.from_residual-in_err-put_slot.result c.from_residual-in_err-put_slot.ensures.1 in
-    rw (p.1, p.2) (λ is. ap (λ m. (g.M.Medium.seen m).protected) (sym c.self.view_is) ∙ sym c.empty_slot.ensures.only.protected ∙ sym c.begin.ensures.only.protected
-    ∙ c.in_err-put_slot.ensures.protection is)
 
 pub returns-in_default-clause-kept : goal.returns-in_default-clause-kept
 returns-in_default-clause-kept g c = (none g c).2
@@ -254,10 +250,6 @@ returns-in_default-2-clause-kept g c =
     nothing_claimed tracks before slotted after c.in-Some.slot c.in_ok-free_bits.field-0
     (subst (λ (o : Option ℕ). TakesSlot tracks before slotted o) c.in-Some.is c.in_ok-slot.ensures.taken) c.in_ok-free_bits.ensures.ok c.if-branch-eq0.false full.0 full.1
     ∙ ap (λ m. (g.M.Medium.seen m).content) c.self.view_is
-
--- no place is told as no protection
-pub returns-in_default-2-clause-protection : goal.returns-in_default-2-clause-protection
-returns-in_default-2-clause-protection g c = tt
 
 -- an OPEN that went well claims nothing of the kind
 pub returns-clause-kept : goal.returns-clause-kept

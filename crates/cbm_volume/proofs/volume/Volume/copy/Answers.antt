@@ -1,5 +1,6 @@
-use Rattle.std.proofs.Common.{◌≡◌, ◌≢◌, ℕ, false, Ok, Err, refl, ap, subst, inl, inr}
+use Rattle.std.proofs.Common.{rules, ◌≡◌, ◌≢◌, ℕ, false, Ok, Err, refl, ap, subst, inl, inr}
 use Rattle.std.proofs.lemmas.Result.{err_from_is_err_and}
+use Rattle.cbm_medium.proofs.Sequences.{only_nothing}
 use Rattle.cbm_medium.specs.Place.{directory_head}
 use Rattle.cbm_medium.specs.Seen.{Seen}
 use Rattle.cbm_medium.proofs.FaultCodes.{never_26}
@@ -23,49 +24,63 @@ use Rattle.cbm_volume.proofs.Untouched.{files_same}
 use Rattle.cbm_volume.proofs.volume.Volume.copy.Goals as goal
 use Rattle.cbm_volume.proofs.volume.Volume.copy.Given.{Over}
 
-pub returns-in_err-bytes-clause-cause : goal.returns-in_err-bytes-clause-cause
-returns-in_err-bytes-clause-cause g c = λ d uses ch h idle ne plain are.
-    absurd (subst (λ (s : Seen). Totals s c.args.sources.now (Err c.in_err-bytes.field-0.0)) (ap (λ m. g.M.Medium.seen m) c.self.view_is) c.in_err-bytes.ensures.total d uses h are)
+pub returns-in_err-bytes-clause-call : goal.returns-in_err-bytes-clause-call
+returns-in_err-bytes-clause-call g c = λ d uses ch h idle ne plain are.
+    record {
+      done = (search rules);
+      stopped = (search rules);
+      cause = absurd (subst (λ (s : Seen). Totals s c.args.sources.now (Err c.in_err-bytes.field-0.0)) (ap (λ m. g.M.Medium.seen m) c.self.view_is) c.in_err-bytes.ensures.total d uses h are);
+      untouched =
+          let old : Seen = g.M.Medium.seen c.args.self.now in
+          untouched_by old.tracks old.content old.content d uses h (files_same h.layout old.content old.content refl);
+    }
 
-pub returns-in_err-bytes-clause-untouched : goal.returns-in_err-bytes-clause-untouched
-returns-in_err-bytes-clause-untouched g c = λ d uses ch h idle ne plain are.
-    let old : Seen = g.M.Medium.seen c.args.self.now in
-    untouched_by old.tracks old.content old.content d uses h (files_same h.layout old.content old.content refl)
-
-pub returns-in_err-room-clause-cause : goal.returns-in_err-room-clause-cause
-returns-in_err-room-clause-cause g c = λ d uses ch h idle ne plain are.
-    absurd (c.in_err-room.ensures.means d (record { layout = h.layout; stands = h.so.stands }))
-
-pub returns-in_err-room-clause-untouched : goal.returns-in_err-room-clause-untouched
-returns-in_err-room-clause-untouched g c = λ d uses ch h idle ne plain are.
-    let old : Seen = g.M.Medium.seen c.args.self.now in
-    untouched_by old.tracks old.content old.content d uses h (files_same h.layout old.content old.content refl)
+pub returns-in_err-room-clause-call : goal.returns-in_err-room-clause-call
+returns-in_err-room-clause-call g c = λ d uses ch h idle ne plain are.
+    record {
+      done = (search rules);
+      stopped = (search rules);
+      cause = absurd (c.in_err-room.ensures.means d (record { layout = h.layout; stands = h.so.stands }));
+      untouched =
+          let old : Seen = g.M.Medium.seen c.args.self.now in
+          untouched_by old.tracks old.content old.content d uses h (files_same h.layout old.content old.content refl);
+    }
 
 -- neither the map's fault nor what breaks the directory off is told as protection
-pub returns-in_err-room-clause-protection : goal.returns-in_err-room-clause-protection
-returns-in_err-room-clause-protection g c =
+pub returns-in_err-room-clause-only : goal.returns-in_err-room-clause-only
+returns-in_err-room-clause-only g c =
     let p = err_from_is_err_and c.from_residual-in_err-room.result c.from_residual-in_err-room.ensures.1 in
     let old : Seen = g.M.Medium.seen c.args.self.now in
-    rw (p.1, p.2) (λ is. absurd (elim c.in_err-room.ensures.err [
+    only_nothing c.from_residual-in_err-room.result (g.M.Medium.seen c.args.self.now) (g.M.Medium.seen c.args.self.now) (λ i. g.M.Medium.seen c.args.self.now)
+    (rw (p.1, p.2) (λ is. absurd (elim c.in_err-room.ensures.err [
       | inl k ↦ never_26 (old.content directory_head) c.in_err-room.field-0.0.code (g.met.M.Medium.codes c.args.self.now directory_head) k.0 is
       | inr k ↦ directory_never_26 (geometry_of old.tracks old.content) old.content c.in_err-room.field-0.0 (λ q. g.met.M.Medium.codes c.args.self.now q) k is
-    ]))
+    ])))
 
-pub returns-then-not-has_room-clause-copied : goal.returns-then-not-has_room-clause-copied
-returns-then-not-has_room-clause-copied g c = λ d uses ch h idle ne plain are.
-    let total = subst (λ (s : Seen). Totals s c.args.sources.now (Ok c.in_ok-bytes.bytes)) (ap (λ m. g.M.Medium.seen m) c.self.view_is) c.in_ok-bytes.ensures.total d uses h are in
-    let means = c.in_ok-room.ensures.means d (record { layout = h.layout; stands = h.so.stands }) in
-    (no_room d c.args.sources.now c.in_ok-bytes.bytes c.in_ok-room.room.blocks c.in_ok-room.room.slot total means.0 means.1 (c.has_room.ensures.none c.if-not-has_room.true), refl)
+pub returns-then-not-has_room-clause-call : goal.returns-then-not-has_room-clause-call
+returns-then-not-has_room-clause-call g c = λ d uses ch h idle ne plain are.
+    record {
+      done =
+          let total = subst (λ (s : Seen). Totals s c.args.sources.now (Ok c.in_ok-bytes.bytes)) (ap (λ m. g.M.Medium.seen m) c.self.view_is) c.in_ok-bytes.ensures.total d uses h are in
+          let means = c.in_ok-room.ensures.means d (record { layout = h.layout; stands = h.so.stands }) in
+          (no_room d c.args.sources.now c.in_ok-bytes.bytes c.in_ok-room.room.blocks c.in_ok-room.room.slot total means.0 means.1 (c.has_room.ensures.none c.if-not-has_room.true), refl);
+      stopped = (search rules);
+      cause = (search rules);
+      untouched =
+          let old : Seen = g.M.Medium.seen c.args.self.now in
+          untouched_by old.tracks old.content old.content d uses h (files_same h.layout old.content old.content refl);
+    }
 
-pub returns-then-not-has_room-clause-untouched : goal.returns-then-not-has_room-clause-untouched
-returns-then-not-has_room-clause-untouched g c = λ d uses ch h idle ne plain are.
-    let old : Seen = g.M.Medium.seen c.args.self.now in
-    untouched_by old.tracks old.content old.content d uses h (files_same h.layout old.content old.content refl)
-
-pub returns-then-protected-clause-untouched : goal.returns-then-protected-clause-untouched
-returns-then-protected-clause-untouched g c = λ d uses ch h idle ne plain are.
-    let old : Seen = g.M.Medium.seen c.args.self.now in
-    untouched_by old.tracks old.content old.content d uses h (files_same h.layout old.content old.content refl)
+pub returns-then-protected-clause-call : goal.returns-then-protected-clause-call
+returns-then-protected-clause-call g c = λ d uses ch h idle ne plain are.
+    record {
+      done = (search rules);
+      stopped = (search rules);
+      cause = (search rules);
+      untouched =
+          let old : Seen = g.M.Medium.seen c.args.self.now in
+          untouched_by old.tracks old.content old.content d uses h (files_same h.layout old.content old.content refl);
+    }
 
 -- ---- the copy was begun, as there is room
 
@@ -78,20 +93,19 @@ cut g c d uses ch h idle ne plain are =
     (c.in_ok-room.ensures.means d (record { layout = h.layout; stands = h.so.stands })) (c.has_room.ensures.enough c.if-not-has_room.false) in
     subst (λ (s : Seen). Makes s (g.M.Medium.seen c.make.new.medium) c.args.kind c.args.name.now c.args.sources.now (Err c.in_err-make.field-0.0)) seen c.in_err-make.ensures.made d uses ch h idle ne plain are room.0 room.1
 
-pub returns-in_err-make-clause-stopped : goal.returns-in_err-make-clause-stopped
-returns-in_err-make-clause-stopped g c = λ d uses ch h idle ne plain are.
-    let old : Seen = g.M.Medium.seen c.args.self.now in
-    let lost = (cut g c d uses ch h idle ne plain are).0 in
-    on_err c.from_residual-in_err-make.result (stopped_at old.tracks old.content h.layout (g.M.Medium.seen c.make.new.medium).content d lost.disk _ uses lost.reached lost.slots)
-
-pub returns-in_err-make-clause-cause : goal.returns-in_err-make-clause-cause
-returns-in_err-make-clause-cause g c = λ d uses ch h idle ne plain are.
-    handed_on c.from_residual-in_err-make.result c.in_err-make.field-0.0 (IsHindered (g.M.Medium.seen c.args.self.now) (g.M.Medium.seen c.make.new.medium)) c.from_residual-in_err-make.ensures.1 (cut g c d uses ch h idle ne plain are).1
-
-pub returns-in_err-make-clause-untouched : goal.returns-in_err-make-clause-untouched
-returns-in_err-make-clause-untouched g c = λ d uses ch h idle ne plain are.
-    let old : Seen = g.M.Medium.seen c.args.self.now in
-    untouched_by old.tracks old.content (g.M.Medium.seen c.make.new.medium).content d uses h (cut g c d uses ch h idle ne plain are).0.reached.files
+pub returns-in_err-make-clause-call : goal.returns-in_err-make-clause-call
+returns-in_err-make-clause-call g c = λ d uses ch h idle ne plain are.
+    record {
+      done = (search rules);
+      stopped =
+          let old : Seen = g.M.Medium.seen c.args.self.now in
+          let lost = (cut g c d uses ch h idle ne plain are).0 in
+          on_err c.from_residual-in_err-make.result (stopped_at old.tracks old.content h.layout (g.M.Medium.seen c.make.new.medium).content d lost.disk _ uses lost.reached lost.slots);
+      cause = handed_on c.from_residual-in_err-make.result c.in_err-make.field-0.0 (IsHindered (g.M.Medium.seen c.args.self.now) (g.M.Medium.seen c.make.new.medium)) c.from_residual-in_err-make.ensures.1 (cut g c d uses ch h idle ne plain are).1;
+      untouched =
+          let old : Seen = g.M.Medium.seen c.args.self.now in
+          untouched_by old.tracks old.content (g.M.Medium.seen c.make.new.medium).content d uses h (cut g c d uses ch h idle ne plain are).0.reached.files;
+    }
 
 made : (g : Over) (c : goal.In_ok-make g) (d : Disk) (uses : ℕ → Use) (ch : ℕ) (h : HoldsNow (g.M.Medium.seen c.args.self.now).tracks (g.M.Medium.seen c.args.self.now).content d uses) → uses ch ≡ Idle → c.args.kind ≢ Del → is_same_type Rel c.args.kind ≡ false → AreCopied d c.args.sources.now
     → Reached (g.M.Medium.seen c.args.self.now).tracks (g.M.Medium.seen c.args.self.now).content h.layout (g.M.Medium.seen c.make.new.medium).content (with_copy d c.args.kind (before_filler c.args.name.now) c.args.sources.now) uses
@@ -102,15 +116,18 @@ made g c d uses ch h idle ne plain are =
     (c.in_ok-room.ensures.means d (record { layout = h.layout; stands = h.so.stands })) (c.has_room.ensures.enough c.if-not-has_room.false) in
     subst (λ (s : Seen). Makes s (g.M.Medium.seen c.make.new.medium) c.args.kind c.args.name.now c.args.sources.now (Ok c.in_ok-make.field-0)) seen c.in_ok-make.ensures.made d uses ch h idle ne plain are room.0 room.1
 
-pub returns-clause-copied : goal.returns-clause-copied
-returns-clause-copied g c = λ d uses ch h idle ne plain are.
-    let old : Seen = g.M.Medium.seen c.args.self.now in
-    reached_now old.tracks old.content h.layout (g.M.Medium.seen c.make.new.medium).content _ uses (made g c d uses ch h idle ne plain are)
-
-pub returns-clause-untouched : goal.returns-clause-untouched
-returns-clause-untouched g c = λ d uses ch h idle ne plain are.
-    let old : Seen = g.M.Medium.seen c.args.self.now in
-    untouched_by old.tracks old.content (g.M.Medium.seen c.make.new.medium).content d uses h (made g c d uses ch h idle ne plain are).files
+pub returns-clause-call : goal.returns-clause-call
+returns-clause-call g c = λ d uses ch h idle ne plain are.
+    record {
+      done =
+          let old : Seen = g.M.Medium.seen c.args.self.now in
+          reached_now old.tracks old.content h.layout (g.M.Medium.seen c.make.new.medium).content _ uses (made g c d uses ch h idle ne plain are);
+      stopped = (search rules);
+      cause = (search rules);
+      untouched =
+          let old : Seen = g.M.Medium.seen c.args.self.now in
+          untouched_by old.tracks old.content (g.M.Medium.seen c.make.new.medium).content d uses h (made g c d uses ch h idle ne plain are).files;
+    }
 
 -- ---- too little room is told first
 

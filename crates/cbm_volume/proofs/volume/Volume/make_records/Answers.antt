@@ -1,5 +1,6 @@
-use Rattle.std.proofs.Common.{◌≡◌, ℕ, Ok, Err, Some, refl, ap, subst, inl, inr}
+use Rattle.std.proofs.Common.{rules, ◌≡◌, ℕ, Ok, Err, Some, refl, ap, subst, inl, inr}
 use Rattle.std.proofs.lemmas.Result.{err_from_is_err_and}
+use Rattle.cbm_medium.proofs.Sequences.{only_nothing}
 use Rattle.cbm_medium.specs.Place.{directory_head}
 use Rattle.cbm_medium.specs.Seen.{Seen}
 use Rattle.cbm_medium.proofs.FaultCodes.{never_26}
@@ -22,39 +23,51 @@ use Rattle.cbm_volume.proofs.Untouched.{files_same}
 use Rattle.cbm_volume.proofs.volume.Volume.make_records.Goals as goal
 use Rattle.cbm_volume.proofs.volume.Volume.make_records.Given.{Over}
 
-pub returns-in_err-room-clause-cause : goal.returns-in_err-room-clause-cause
-returns-in_err-room-clause-cause g c = λ d uses ch h idle.
-    absurd (c.in_err-room.ensures.means d (record { layout = h.layout; stands = h.so.stands }))
-
-pub returns-in_err-room-clause-untouched : goal.returns-in_err-room-clause-untouched
-returns-in_err-room-clause-untouched g c = λ d uses ch h idle.
-    let old : Seen = g.M.Medium.seen c.args.self.now in
-    untouched_by old.tracks old.content old.content d uses h (files_same h.layout old.content old.content refl)
+pub returns-in_err-room-clause-call : goal.returns-in_err-room-clause-call
+returns-in_err-room-clause-call g c = λ d uses ch h idle.
+    record {
+      done = (search rules);
+      stopped = (search rules);
+      cause = absurd (c.in_err-room.ensures.means d (record { layout = h.layout; stands = h.so.stands }));
+      untouched =
+          let old : Seen = g.M.Medium.seen c.args.self.now in
+          untouched_by old.tracks old.content old.content d uses h (files_same h.layout old.content old.content refl);
+    }
 
 -- neither the map's fault nor what breaks the directory off is told as protection
-pub returns-in_err-room-clause-protection : goal.returns-in_err-room-clause-protection
-returns-in_err-room-clause-protection g c =
+pub returns-in_err-room-clause-only : goal.returns-in_err-room-clause-only
+returns-in_err-room-clause-only g c =
     let p = err_from_is_err_and c.from_residual.result c.from_residual.ensures.1 in
     let old : Seen = g.M.Medium.seen c.args.self.now in
-    rw (p.1, p.2) (λ is. absurd (elim c.in_err-room.ensures.err [
+    only_nothing c.from_residual.result (g.M.Medium.seen c.args.self.now) (g.M.Medium.seen c.args.self.now) (λ i. g.M.Medium.seen c.args.self.now)
+    (rw (p.1, p.2) (λ is. absurd (elim c.in_err-room.ensures.err [
       | inl k ↦ never_26 (old.content directory_head) c.in_err-room.field-0.0.code (g.met.M.Medium.codes c.args.self.now directory_head) k.0 is
       | inr k ↦ directory_never_26 (geometry_of old.tracks old.content) old.content c.in_err-room.field-0.0 (λ q. g.met.M.Medium.codes c.args.self.now q) k is
-    ]))
+    ])))
 
-pub returns-then-not-has_room-clause-made : goal.returns-then-not-has_room-clause-made
-returns-then-not-has_room-clause-made g c = λ d uses ch h idle.
-    let means = c.in_ok-room.ensures.means d (record { layout = h.layout; stands = h.so.stands }) in
-    (none_counted d c.in_ok-room.room.blocks c.in_ok-room.room.slot means.0 means.1 (c.has_room.ensures.none c.if-not-has_room.true), refl)
+pub returns-then-not-has_room-clause-call : goal.returns-then-not-has_room-clause-call
+returns-then-not-has_room-clause-call g c = λ d uses ch h idle.
+    record {
+      done =
+          let means = c.in_ok-room.ensures.means d (record { layout = h.layout; stands = h.so.stands }) in
+          (none_counted d c.in_ok-room.room.blocks c.in_ok-room.room.slot means.0 means.1 (c.has_room.ensures.none c.if-not-has_room.true), refl);
+      stopped = (search rules);
+      cause = (search rules);
+      untouched =
+          let old : Seen = g.M.Medium.seen c.args.self.now in
+          untouched_by old.tracks old.content old.content d uses h (files_same h.layout old.content old.content refl);
+    }
 
-pub returns-then-not-has_room-clause-untouched : goal.returns-then-not-has_room-clause-untouched
-returns-then-not-has_room-clause-untouched g c = λ d uses ch h idle.
-    let old : Seen = g.M.Medium.seen c.args.self.now in
-    untouched_by old.tracks old.content old.content d uses h (files_same h.layout old.content old.content refl)
-
-pub returns-then-protected-clause-untouched : goal.returns-then-protected-clause-untouched
-returns-then-protected-clause-untouched g c = λ d uses ch h idle.
-    let old : Seen = g.M.Medium.seen c.args.self.now in
-    untouched_by old.tracks old.content old.content d uses h (files_same h.layout old.content old.content refl)
+pub returns-then-protected-clause-call : goal.returns-then-protected-clause-call
+returns-then-protected-clause-call g c = λ d uses ch h idle.
+    record {
+      done = (search rules);
+      stopped = (search rules);
+      cause = (search rules);
+      untouched =
+          let old : Seen = g.M.Medium.seen c.args.self.now in
+          untouched_by old.tracks old.content old.content d uses h (files_same h.layout old.content old.content refl);
+    }
 
 -- ---- the file was begun, as there is room
 
@@ -65,20 +78,19 @@ cut g c d uses ch h idle =
     let room = records_room d c.in_ok-room.room.blocks c.in_ok-room.room.slot (c.in_ok-room.ensures.means d (record { layout = h.layout; stands = h.so.stands })) (c.has_room.ensures.enough c.if-not-has_room.false) in
     subst (λ (s : Seen). MakesRecords s (g.M.Medium.seen c.make.new.medium) c.args.name.now c.args.record_length (Err c.in_err-slot.field-0.0)) seen c.in_err-slot.ensures.made d uses ch h idle room.0 room.1
 
-pub returns-in_err-slot-clause-stopped : goal.returns-in_err-slot-clause-stopped
-returns-in_err-slot-clause-stopped g c = λ d uses ch h idle.
-    let old : Seen = g.M.Medium.seen c.args.self.now in
-    let lost = (cut g c d uses ch h idle).0 in
-    on_err c.from_residual-in_err-slot.result (stopped_at old.tracks old.content h.layout (g.M.Medium.seen c.make.new.medium).content d lost.disk _ uses lost.reached lost.slots)
-
-pub returns-in_err-slot-clause-cause : goal.returns-in_err-slot-clause-cause
-returns-in_err-slot-clause-cause g c = λ d uses ch h idle.
-    handed_on c.from_residual-in_err-slot.result c.in_err-slot.field-0.0 (IsHindered (g.M.Medium.seen c.args.self.now) (g.M.Medium.seen c.make.new.medium)) c.from_residual-in_err-slot.ensures.1 (cut g c d uses ch h idle).1
-
-pub returns-in_err-slot-clause-untouched : goal.returns-in_err-slot-clause-untouched
-returns-in_err-slot-clause-untouched g c = λ d uses ch h idle.
-    let old : Seen = g.M.Medium.seen c.args.self.now in
-    untouched_by old.tracks old.content (g.M.Medium.seen c.make.new.medium).content d uses h (cut g c d uses ch h idle).0.reached.files
+pub returns-in_err-slot-clause-call : goal.returns-in_err-slot-clause-call
+returns-in_err-slot-clause-call g c = λ d uses ch h idle.
+    record {
+      done = (search rules);
+      stopped =
+          let old : Seen = g.M.Medium.seen c.args.self.now in
+          let lost = (cut g c d uses ch h idle).0 in
+          on_err c.from_residual-in_err-slot.result (stopped_at old.tracks old.content h.layout (g.M.Medium.seen c.make.new.medium).content d lost.disk _ uses lost.reached lost.slots);
+      cause = handed_on c.from_residual-in_err-slot.result c.in_err-slot.field-0.0 (IsHindered (g.M.Medium.seen c.args.self.now) (g.M.Medium.seen c.make.new.medium)) c.from_residual-in_err-slot.ensures.1 (cut g c d uses ch h idle).1;
+      untouched =
+          let old : Seen = g.M.Medium.seen c.args.self.now in
+          untouched_by old.tracks old.content (g.M.Medium.seen c.make.new.medium).content d uses h (cut g c d uses ch h idle).0.reached.files;
+    }
 
 made : (g : Over) (c : goal.In_ok-slot g) (d : Disk) (uses : ℕ → Use) (ch : ℕ) (h : HoldsNow (g.M.Medium.seen c.args.self.now).tracks (g.M.Medium.seen c.args.self.now).content d uses) → uses ch ≡ Idle
     → (empty_from 0 (grown d).slots ≡ Some c.in_ok-slot.slot) × Reached (g.M.Medium.seen c.args.self.now).tracks (g.M.Medium.seen c.args.self.now).content h.layout (g.M.Medium.seen c.make.new.medium).content (with_new_records d (before_filler c.args.name.now) c.args.record_length) uses
@@ -87,16 +99,19 @@ made g c d uses ch h idle =
     let room = records_room d c.in_ok-room.room.blocks c.in_ok-room.room.slot (c.in_ok-room.ensures.means d (record { layout = h.layout; stands = h.so.stands })) (c.has_room.ensures.enough c.if-not-has_room.false) in
     subst (λ (s : Seen). MakesRecords s (g.M.Medium.seen c.make.new.medium) c.args.name.now c.args.record_length (Ok c.in_ok-slot.slot)) seen c.in_ok-slot.ensures.made d uses ch h idle room.0 room.1
 
-pub returns-clause-made : goal.returns-clause-made
-returns-clause-made g c = λ d uses ch h idle.
-    let old : Seen = g.M.Medium.seen c.args.self.now in
-    let is = made g c d uses ch h idle in
-    (is.0, reached_now old.tracks old.content h.layout (g.M.Medium.seen c.make.new.medium).content _ uses is.1)
-
-pub returns-clause-untouched : goal.returns-clause-untouched
-returns-clause-untouched g c = λ d uses ch h idle.
-    let old : Seen = g.M.Medium.seen c.args.self.now in
-    untouched_by old.tracks old.content (g.M.Medium.seen c.make.new.medium).content d uses h (made g c d uses ch h idle).1.files
+pub returns-clause-call : goal.returns-clause-call
+returns-clause-call g c = λ d uses ch h idle.
+    record {
+      done =
+          let old : Seen = g.M.Medium.seen c.args.self.now in
+          let is = made g c d uses ch h idle in
+          (is.0, reached_now old.tracks old.content h.layout (g.M.Medium.seen c.make.new.medium).content _ uses is.1);
+      stopped = (search rules);
+      cause = (search rules);
+      untouched =
+          let old : Seen = g.M.Medium.seen c.args.self.now in
+          untouched_by old.tracks old.content (g.M.Medium.seen c.make.new.medium).content d uses h (made g c d uses ch h idle).1.files;
+    }
 
 -- ---- too little room is told first
 

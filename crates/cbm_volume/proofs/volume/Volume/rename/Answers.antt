@@ -1,6 +1,7 @@
-use Rattle.std.proofs.Common.{◌≡◌, ◌<◌, ◌*◌, ℕ, List, length, refl, ap, subst, false}
+use Rattle.std.proofs.Common.{rules, ◌≡◌, ◌<◌, ◌*◌, ℕ, List, length, Some, refl, ap, subst, false}
 use Rattle.std.proofs.lemmas.Result.{err_from_is_err_and}
 use Rattle.std.specs.Prelude.{OnOk, OnErr, IfErr}
+use Rattle.cbm_medium.proofs.Sequences.{only_nothing}
 use Rattle.cbm_medium.specs.Place.{Place}
 use Rattle.cbm_medium.specs.Content.{Content}
 use Rattle.cbm_medium.specs.Seen.{Seen}
@@ -9,6 +10,11 @@ use Rattle.cbm_bam.specs.Map.{geometry_of}
 use Rattle.cbm_bam.specs.Causes.{HasCause}
 use Rattle.cbm_directory.specs.Entries.{EntersLed, first_directory, sector_of}
 use Rattle.cbm_directory.proofs.Codes.{directory_never_26}
+use Rattle.cbm_file.specs.Files.{File, file_at, with_slot}
+use Rattle.cbm_file.specs.Padding.{before_filler}
+use Rattle.cbm_volume.specs.Opens.{IsUnwritten}
+use Rattle.cbm_volume.specs.Writers.{HoldsNow}
+use Rattle.cbm_volume.proofs.Calls.{ok_given}
 use Rattle.cbm_volume.proofs.OpenedFiles.{moved}
 use Rattle.cbm_volume.proofs.RecordsRead.{no_slot}
 use Rattle.cbm_volume.proofs.Renames.{named, named_hindered, named_untouched}
@@ -16,58 +22,64 @@ use Rattle.cbm_volume.proofs.Sparing.{EntryPut, same_untouched}
 use Rattle.cbm_volume.proofs.volume.Volume.rename.Goals as goal
 
 -- the directory of a sound disk is whole
-pub returns-in_err-entry-clause-cause : goal.returns-in_err-entry-clause-cause
-returns-in_err-entry-clause-cause g c = λ d uses f h at. absurd (c.in_err-entry.ensures.means d (record { layout = h.layout; stands = h.so.stands }))
-
-pub returns-in_err-entry-clause-untouched : goal.returns-in_err-entry-clause-untouched
-returns-in_err-entry-clause-untouched g c = λ d uses h.
-    let old : Seen = g.M.Medium.seen c.args.self.now in
-    same_untouched (geometry_of old.tracks old.content) old.content old.content h.layout (λ m. false) h.so.stands.sound refl
+pub returns-in_err-entry-clause-call : goal.returns-in_err-entry-clause-call
+returns-in_err-entry-clause-call g c = λ d uses h.
+    record {
+      done = (search rules);
+      cause = absurd (c.in_err-entry.ensures.means d (record { layout = h.layout; stands = h.so.stands }));
+      untouched =
+          let old : Seen = g.M.Medium.seen c.args.self.now in
+          same_untouched (geometry_of old.tracks old.content) old.content old.content h.layout (λ m. false) h.so.stands.sound refl;
+    }
 
 -- the slot is there
-pub returns-in_default-clause-renamed : goal.returns-in_default-clause-renamed
-returns-in_default-clause-renamed g c = λ d uses f h at unwritten.
-    absurd (no_slot d c.args.slot f at (rw c.in_default.is at (c.in_ok-entry.ensures.means d (record { layout = h.layout; stands = h.so.stands }))))
+pub returns-in_default-clause-call : goal.returns-in_default-clause-call
+returns-in_default-clause-call g c = λ d uses h.
+    record {
+      done =
+          λ f at unwritten.
+          absurd (no_slot d c.args.slot f at (rw c.in_default.is at (c.in_ok-entry.ensures.means d (record { layout = h.layout; stands = h.so.stands }))));
+      cause = (search rules);
+      untouched =
+          let old : Seen = g.M.Medium.seen c.args.self.now in
+          same_untouched (geometry_of old.tracks old.content) old.content old.content h.layout (λ m. false) h.so.stands.sound refl;
+    }
 
-pub returns-in_default-clause-untouched : goal.returns-in_default-clause-untouched
-returns-in_default-clause-untouched g c = λ d uses h.
-    let old : Seen = g.M.Medium.seen c.args.self.now in
-    same_untouched (geometry_of old.tracks old.content) old.content old.content h.layout (λ m. false) h.so.stands.sound refl
-
-pub returns-clause-renamed : goal.returns-clause-renamed
-returns-clause-renamed g c =
-    let medium : ℕ = (g.M.Medium.seen c.args.self.now).tracks in
-    let old : Content = (g.M.Medium.seen c.args.self.now).content in
-    let inner : Content = (g.M.Medium.seen c.self.inside.medium).content in
-    let new : Content = (g.M.Medium.seen c.put_slot.new.medium).content in
-    named medium old new c.args.slot c.in-Some.entry c.renamed-renamed.result c.args.name.now c.put_slot.result c.renamed-renamed.ensures.says (rw c.in-Some.is at c.in_ok-entry.ensures.answers)
-    (moved (λ k x. EntryPut k x new c.args.slot c.renamed-renamed.result c.put_slot.result) c.geometry-geometry.result (geometry_of medium old) inner old
-    c.geometry-geometry.ensures.value (ap (λ m. (g.M.Medium.seen m).content) c.self.view_is) c.put_slot.ensures.entered)
-
-pub returns-clause-cause : goal.returns-clause-cause
-returns-clause-cause g c = λ d uses f h at.
-    let medium : ℕ = (g.M.Medium.seen c.args.self.now).tracks in
-    let old : Seen = g.M.Medium.seen c.args.self.now in
-    let new : Seen = g.M.Medium.seen c.put_slot.new.medium in
-    named_hindered medium old new c.args.slot c.in-Some.entry c.put_slot.result (rw c.in-Some.is at c.in_ok-entry.ensures.answers)
-    (subst (λ (k : ℕ). (directory : List Place) → Chain k old.content first_directory directory → c.args.slot < 8 * length directory → IfErr c.put_slot.result (λ t. HasCause old new (sector_of directory c.args.slot) t.code)) c.geometry-geometry.ensures.value
-    (subst (λ (x : Seen). (directory : List Place) → Chain c.geometry-geometry.result x.content first_directory directory → c.args.slot < 8 * length directory → IfErr c.put_slot.result (λ t. HasCause x new (sector_of directory c.args.slot) t.code)) (ap g.M.Medium.seen c.self.view_is) c.put_slot.ensures.cause))
-    d uses h
-
-pub returns-clause-untouched : goal.returns-clause-untouched
-returns-clause-untouched g c =
-    let medium : ℕ = (g.M.Medium.seen c.args.self.now).tracks in
-    let old : Content = (g.M.Medium.seen c.args.self.now).content in
-    let inner : Content = (g.M.Medium.seen c.self.inside.medium).content in
-    let new : Content = (g.M.Medium.seen c.put_slot.new.medium).content in
-    named_untouched medium old new c.args.slot c.renamed-renamed.result c.put_slot.result
-    (moved (λ k x. OnOk c.put_slot.result (EntersLed k x new c.args.slot c.renamed-renamed.result)) c.geometry-geometry.result (geometry_of medium old) inner old
-    c.geometry-geometry.ensures.value (ap (λ m. (g.M.Medium.seen m).content) c.self.view_is) c.put_slot.ensures.exact)
-    (subst (λ (x : Content). OnErr c.put_slot.result (new ≡ x)) (ap (λ m. (g.M.Medium.seen m).content) c.self.view_is) c.put_slot.ensures.err)
+pub returns-clause-call : goal.returns-clause-call
+returns-clause-call g c = λ d uses h.
+    record {
+      done =
+          let medium : ℕ = (g.M.Medium.seen c.args.self.now).tracks in
+          let old : Content = (g.M.Medium.seen c.args.self.now).content in
+          let inner : Content = (g.M.Medium.seen c.self.inside.medium).content in
+          let new : Content = (g.M.Medium.seen c.put_slot.new.medium).content in
+          ok_given c.put_slot.result (λ (f : File). file_at d c.args.slot ≡ Some f) (λ f. IsUnwritten uses c.args.slot) (λ f. HoldsNow medium new (with_slot d c.args.slot (Some (record f { name = before_filler c.args.name.now }))) uses)
+          (λ f at unwritten. named medium old new c.args.slot c.in-Some.entry c.renamed-renamed.result c.args.name.now c.put_slot.result c.renamed-renamed.ensures.says (rw c.in-Some.is at c.in_ok-entry.ensures.answers)
+          (moved (λ k x. EntryPut k x new c.args.slot c.renamed-renamed.result c.put_slot.result) c.geometry-geometry.result (geometry_of medium old) inner old
+          c.geometry-geometry.ensures.value (ap (λ m. (g.M.Medium.seen m).content) c.self.view_is) c.put_slot.ensures.entered) d uses f h at unwritten);
+      cause =
+          let medium : ℕ = (g.M.Medium.seen c.args.self.now).tracks in
+          let old : Seen = g.M.Medium.seen c.args.self.now in
+          let new : Seen = g.M.Medium.seen c.put_slot.new.medium in
+          named_hindered medium old new c.args.slot c.in-Some.entry c.put_slot.result (rw c.in-Some.is at c.in_ok-entry.ensures.answers)
+          (subst (λ (k : ℕ). (directory : List Place) → Chain k old.content first_directory directory → c.args.slot < 8 * length directory → IfErr c.put_slot.result (λ t. HasCause old new (sector_of directory c.args.slot) t.code)) c.geometry-geometry.ensures.value
+          (subst (λ (x : Seen). (directory : List Place) → Chain c.geometry-geometry.result x.content first_directory directory → c.args.slot < 8 * length directory → IfErr c.put_slot.result (λ t. HasCause x new (sector_of directory c.args.slot) t.code)) (ap g.M.Medium.seen c.self.view_is) c.put_slot.ensures.cause))
+          d uses h;
+      untouched =
+          let medium : ℕ = (g.M.Medium.seen c.args.self.now).tracks in
+          let old : Content = (g.M.Medium.seen c.args.self.now).content in
+          let inner : Content = (g.M.Medium.seen c.self.inside.medium).content in
+          let new : Content = (g.M.Medium.seen c.put_slot.new.medium).content in
+          named_untouched medium old new c.args.slot c.renamed-renamed.result c.put_slot.result
+          (moved (λ k x. OnOk c.put_slot.result (EntersLed k x new c.args.slot c.renamed-renamed.result)) c.geometry-geometry.result (geometry_of medium old) inner old
+          c.geometry-geometry.ensures.value (ap (λ m. (g.M.Medium.seen m).content) c.self.view_is) c.put_slot.ensures.exact)
+          (subst (λ (x : Content). OnErr c.put_slot.result (new ≡ x)) (ap (λ m. (g.M.Medium.seen m).content) c.self.view_is) c.put_slot.ensures.err) d uses h;
+    }
 
 -- what breaks the directory off is never told as protection
-pub returns-in_err-entry-clause-protection : goal.returns-in_err-entry-clause-protection
-returns-in_err-entry-clause-protection g c =
+pub returns-in_err-entry-clause-only : goal.returns-in_err-entry-clause-only
+returns-in_err-entry-clause-only g c =
     let old : Seen = g.M.Medium.seen c.args.self.now in
     let p = err_from_is_err_and c.from_residual.result c.from_residual.ensures.1 in
-    rw (p.1, p.2) (λ is. absurd (directory_never_26 (geometry_of old.tracks old.content) old.content c.in_err-entry.field-0.0 (λ q. g.met.M.Medium.codes c.args.self.now q) c.in_err-entry.ensures.answers.1 is))
+    only_nothing c.from_residual.result (g.M.Medium.seen c.args.self.now) (g.M.Medium.seen c.args.self.now) (λ i. g.M.Medium.seen c.args.self.now)
+    (rw (p.1, p.2) (λ is. absurd (directory_never_26 (geometry_of old.tracks old.content) old.content c.in_err-entry.field-0.0 (λ q. g.met.M.Medium.codes c.args.self.now q) c.in_err-entry.ensures.answers.1 is)))

@@ -1,7 +1,7 @@
-use Rattle.std.proofs.Common.{◌≡◌, ◌≤◌, ◌<◌, ◌*◌, ℕ, List, length, Option, Some, Ok, Err, Result, refl, ap, sym, subst, ◌∙◌, IfErr}
+use Rattle.std.proofs.Common.{rules, ◌≡◌, ◌≤◌, ◌<◌, ◌*◌, ℕ, List, length, Option, Some, Ok, Err, Result, refl, ap, sym, subst, ◌∙◌, IfErr}
 use Rattle.std.proofs.lemmas.Result.{err_from_is_err_and}
 use Rattle.std.specs.Prelude.{OnErr}
-use Rattle.cbm_medium.proofs.Sequences.{only_after}
+use Rattle.cbm_medium.proofs.Sequences.{only_after, only_nothing}
 use Rattle.cbm_medium.specs.Place.{Place, directory_head}
 use Rattle.cbm_medium.specs.Content.{Content}
 use Rattle.cbm_medium.specs.Links.{Chain}
@@ -12,6 +12,7 @@ use Rattle.cbm_bam.specs.Map.{geometry_of}
 use Rattle.cbm_directory.specs.Entries.{first_directory, sector_of}
 use Rattle.cbm_directory.specs.Slots.{Answers, directory_of}
 use Rattle.cbm_directory.proofs.Codes.{directory_never_26}
+use Rattle.cbm_volume.proofs.Calls.{if_ok}
 use Rattle.cbm_volume.proofs.Finishing.{on_err}
 use Rattle.cbm_volume.proofs.Scratched.{EntryCleared, ClearingRefused, GivesAll, SlotEmpty, no_entry, no_slot, no_map, no_chain, entry_refused, open_scratched, is_scratched, scratched_ok, scratched_stopped, slot_hindered, map_hindered, chain_hindered, clearing_hindered, clearing_handed_on, release_hindered, nothing_written, clearing_spared, release_spared}
 use Rattle.cbm_volume.proofs.volume.Volume.scratch.Goals as goal
@@ -37,124 +38,124 @@ given_here inside old k entry map freed r same size h = subst (λ (s : Seen). Gi
 
 -- ---- the directory breaks off
 
-pub returns-in_err-entry-clause-stopped : goal.returns-in_err-entry-clause-stopped
-returns-in_err-entry-clause-stopped g c =
-    let old : Seen = g.M.Medium.seen c.args.self.now in
-    no_entry old.tracks old.content old.content c.args.slot c.in_err-entry.field-0.0 c.from_residual.result c.in_err-entry.ensures.answers
-
-pub returns-in_err-entry-clause-cause : goal.returns-in_err-entry-clause-cause
-returns-in_err-entry-clause-cause g c =
-    let old : Seen = g.M.Medium.seen c.args.self.now in
-    slot_hindered old old c.args.slot c.in_err-entry.field-0.0 c.from_residual.result c.in_err-entry.ensures.answers
-
-pub returns-in_err-entry-clause-untouched : goal.returns-in_err-entry-clause-untouched
-returns-in_err-entry-clause-untouched g c =
-    let old : Seen = g.M.Medium.seen c.args.self.now in
-    nothing_written old.tracks old.content old.content c.args.slot refl
+pub returns-in_err-entry-clause-call : goal.returns-in_err-entry-clause-call
+returns-in_err-entry-clause-call g c = λ d uses h f at unused.
+    record {
+      done = (search rules);
+      stopped =
+          let old : Seen = g.M.Medium.seen c.args.self.now in
+          no_entry old.tracks old.content old.content c.args.slot c.in_err-entry.field-0.0 c.from_residual.result c.in_err-entry.ensures.answers d uses f h at unused;
+      cause =
+          let old : Seen = g.M.Medium.seen c.args.self.now in
+          slot_hindered old old c.args.slot c.in_err-entry.field-0.0 c.from_residual.result c.in_err-entry.ensures.answers d uses f h at unused;
+      untouched =
+          let old : Seen = g.M.Medium.seen c.args.self.now in
+          nothing_written old.tracks old.content old.content c.args.slot refl d uses f h at unused;
+    }
 
 -- ---- there is no such slot
 
-pub returns-in_default-clause-scratched : goal.returns-in_default-clause-scratched
-returns-in_default-clause-scratched g c =
-    let old : Seen = g.M.Medium.seen c.args.self.now in
-    no_slot old.tracks old.content old.content c.args.slot c.in_ok-entry.field-0 (Ok tt) c.in_default.is c.in_ok-entry.ensures.answers
-
-pub returns-in_default-clause-untouched : goal.returns-in_default-clause-untouched
-returns-in_default-clause-untouched g c =
-    let old : Seen = g.M.Medium.seen c.args.self.now in
-    nothing_written old.tracks old.content old.content c.args.slot refl
+pub returns-in_default-clause-call : goal.returns-in_default-clause-call
+returns-in_default-clause-call g c = λ d uses h f at unused.
+    record {
+      done =
+          let old : Seen = g.M.Medium.seen c.args.self.now in
+          no_slot old.tracks old.content old.content c.args.slot c.in_ok-entry.field-0 (Ok tt) c.in_default.is c.in_ok-entry.ensures.answers d uses f h at unused;
+      stopped = (search rules);
+      cause = (search rules);
+      untouched =
+          let old : Seen = g.M.Medium.seen c.args.self.now in
+          nothing_written old.tracks old.content old.content c.args.slot refl d uses f h at unused;
+    }
 
 -- ---- a file that isn't closed
 
-pub returns-then-not-is_closed-clause-scratched : goal.returns-then-not-is_closed-clause-scratched
-returns-then-not-is_closed-clause-scratched g c =
-    let old : Seen = g.M.Medium.seen c.args.self.now in
-    open_scratched old.tracks old.content (g.M.Medium.seen c.clear_slot.new.medium).content c.args.slot c.in-Some.entry c.clear_slot.result
-    (found_here old.content (geometry_of old.tracks old.content) c.args.slot c.in_ok-entry.field-0 c.in-Some.entry c.in-Some.is c.in_ok-entry.ensures.answers)
-    (sym c.is_closed.ensures ∙ c.if-not-is_closed.true)
-    (cleared_here (g.M.Medium.seen c.self.inside.medium) old (g.M.Medium.seen c.clear_slot.new.medium).content c.geometry-geometry.result c.args.slot c.clear_slot.result (ap g.M.Medium.seen c.self.view_is) c.geometry-geometry.ensures.value c.clear_slot.ensures.cleared)
-
-pub returns-then-not-is_closed-clause-stopped : goal.returns-then-not-is_closed-clause-stopped
-returns-then-not-is_closed-clause-stopped g c =
-    let old : Seen = g.M.Medium.seen c.args.self.now in
-    entry_refused old.tracks old.content (g.M.Medium.seen c.clear_slot.new.medium).content c.args.slot c.clear_slot.result
-    (subst (λ (s : Seen). OnErr c.clear_slot.result ((g.M.Medium.seen c.clear_slot.new.medium).content ≡ s.content)) (ap g.M.Medium.seen c.self.view_is) c.clear_slot.ensures.err)
-
-pub returns-then-not-is_closed-clause-cause : goal.returns-then-not-is_closed-clause-cause
-returns-then-not-is_closed-clause-cause g c =
-    let old : Seen = g.M.Medium.seen c.args.self.now in
-    clearing_hindered old (g.M.Medium.seen c.clear_slot.new.medium) c.args.slot c.clear_slot.result
-    (refused_here (g.M.Medium.seen c.self.inside.medium) old (g.M.Medium.seen c.clear_slot.new.medium) c.geometry-geometry.result c.args.slot c.clear_slot.result (ap g.M.Medium.seen c.self.view_is) c.geometry-geometry.ensures.value c.clear_slot.ensures.cause)
-
-pub returns-then-not-is_closed-clause-untouched : goal.returns-then-not-is_closed-clause-untouched
-returns-then-not-is_closed-clause-untouched g c =
-    let old : Seen = g.M.Medium.seen c.args.self.now in
-    let new : Content = (g.M.Medium.seen c.clear_slot.new.medium).content in
-    clearing_spared old.tracks old.content new c.args.slot c.clear_slot.result
-    (cleared_here (g.M.Medium.seen c.self.inside.medium) old new c.geometry-geometry.result c.args.slot c.clear_slot.result (ap g.M.Medium.seen c.self.view_is) c.geometry-geometry.ensures.value c.clear_slot.ensures.cleared)
-    (subst (λ (s : Seen). OnErr c.clear_slot.result (new ≡ s.content)) (ap g.M.Medium.seen c.self.view_is) c.clear_slot.ensures.err)
+pub returns-then-not-is_closed-clause-call : goal.returns-then-not-is_closed-clause-call
+returns-then-not-is_closed-clause-call g c = λ d uses h f at unused.
+    record {
+      done =
+          let old : Seen = g.M.Medium.seen c.args.self.now in
+          if_ok c.clear_slot.result _ (open_scratched old.tracks old.content (g.M.Medium.seen c.clear_slot.new.medium).content c.args.slot c.in-Some.entry c.clear_slot.result
+          (found_here old.content (geometry_of old.tracks old.content) c.args.slot c.in_ok-entry.field-0 c.in-Some.entry c.in-Some.is c.in_ok-entry.ensures.answers)
+          (sym c.is_closed.ensures ∙ c.if-not-is_closed.true)
+          (cleared_here (g.M.Medium.seen c.self.inside.medium) old (g.M.Medium.seen c.clear_slot.new.medium).content c.geometry-geometry.result c.args.slot c.clear_slot.result (ap g.M.Medium.seen c.self.view_is) c.geometry-geometry.ensures.value c.clear_slot.ensures.cleared) d uses f h at unused);
+      stopped =
+          let old : Seen = g.M.Medium.seen c.args.self.now in
+          entry_refused old.tracks old.content (g.M.Medium.seen c.clear_slot.new.medium).content c.args.slot c.clear_slot.result
+          (subst (λ (s : Seen). OnErr c.clear_slot.result ((g.M.Medium.seen c.clear_slot.new.medium).content ≡ s.content)) (ap g.M.Medium.seen c.self.view_is) c.clear_slot.ensures.err) d uses f h at unused;
+      cause =
+          let old : Seen = g.M.Medium.seen c.args.self.now in
+          clearing_hindered old (g.M.Medium.seen c.clear_slot.new.medium) c.args.slot c.clear_slot.result
+          (refused_here (g.M.Medium.seen c.self.inside.medium) old (g.M.Medium.seen c.clear_slot.new.medium) c.geometry-geometry.result c.args.slot c.clear_slot.result (ap g.M.Medium.seen c.self.view_is) c.geometry-geometry.ensures.value c.clear_slot.ensures.cause) d uses f h at unused;
+      untouched =
+          let old : Seen = g.M.Medium.seen c.args.self.now in
+          let new : Content = (g.M.Medium.seen c.clear_slot.new.medium).content in
+          clearing_spared old.tracks old.content new c.args.slot c.clear_slot.result
+          (cleared_here (g.M.Medium.seen c.self.inside.medium) old new c.geometry-geometry.result c.args.slot c.clear_slot.result (ap g.M.Medium.seen c.self.view_is) c.geometry-geometry.ensures.value c.clear_slot.ensures.cleared)
+          (subst (λ (s : Seen). OnErr c.clear_slot.result (new ≡ s.content)) (ap g.M.Medium.seen c.self.view_is) c.clear_slot.ensures.err) d uses f h at unused;
+    }
 
 -- ---- the map doesn't read
 
-pub returns-in_err-release-clause-stopped : goal.returns-in_err-release-clause-stopped
-returns-in_err-release-clause-stopped g c =
-    let old : Seen = g.M.Medium.seen c.args.self.now in
-    no_map old.tracks old.content old.content c.args.slot c.in_err-release.field-0.0.code c.from_residual-in_err-release.result
-    (ap (λ m. (g.M.Medium.seen m).content directory_head) (sym c.self.view_is) ∙ c.in_err-release.ensures.err.0)
-
-pub returns-in_err-release-clause-cause : goal.returns-in_err-release-clause-cause
-returns-in_err-release-clause-cause g c =
-    let old : Seen = g.M.Medium.seen c.args.self.now in
-    map_hindered old old c.args.slot c.in_err-release.field-0.0.code c.from_residual-in_err-release.result
-    (ap (λ m. (g.M.Medium.seen m).content directory_head) (sym c.self.view_is) ∙ c.in_err-release.ensures.err.0)
-
-pub returns-in_err-release-clause-untouched : goal.returns-in_err-release-clause-untouched
-returns-in_err-release-clause-untouched g c =
-    let old : Seen = g.M.Medium.seen c.args.self.now in
-    nothing_written old.tracks old.content old.content c.args.slot refl
+pub returns-in_err-release-clause-call : goal.returns-in_err-release-clause-call
+returns-in_err-release-clause-call g c = λ d uses h f at unused.
+    record {
+      done = (search rules);
+      stopped =
+          let old : Seen = g.M.Medium.seen c.args.self.now in
+          no_map old.tracks old.content old.content c.args.slot c.in_err-release.field-0.0.code c.from_residual-in_err-release.result
+          (ap (λ m. (g.M.Medium.seen m).content directory_head) (sym c.self.view_is) ∙ c.in_err-release.ensures.err.0) d uses f h at unused;
+      cause =
+          let old : Seen = g.M.Medium.seen c.args.self.now in
+          map_hindered old old c.args.slot c.in_err-release.field-0.0.code c.from_residual-in_err-release.result
+          (ap (λ m. (g.M.Medium.seen m).content directory_head) (sym c.self.view_is) ∙ c.in_err-release.ensures.err.0) d uses f h at unused;
+      untouched =
+          let old : Seen = g.M.Medium.seen c.args.self.now in
+          nothing_written old.tracks old.content old.content c.args.slot refl d uses f h at unused;
+    }
 
 -- ---- the file's chain or its list of side sectors breaks off
 
-pub returns-in_err-free_file-clause-stopped : goal.returns-in_err-free_file-clause-stopped
-returns-in_err-free_file-clause-stopped g c =
-    let old : Seen = g.M.Medium.seen c.args.self.now in
-    no_chain old.tracks old.content old.content c.args.slot c.in-Some.entry c.in_ok-release.release c.free_file.new.release c.in_err-free_file.field-0.0 c.from_residual-in_err-free_file.result
-    (found_here old.content (geometry_of old.tracks old.content) c.args.slot c.in_ok-entry.field-0 c.in-Some.entry c.in-Some.is c.in_ok-entry.ensures.answers)
-    (sym c.is_closed.ensures ∙ c.if-not-is_closed.false)
-    (given_here (g.M.Medium.seen c.self.inside.medium) old c.geometry-geometry.result c.in-Some.entry c.in_ok-release.release c.free_file.new.release (Err c.in_err-free_file.field-0.0) (ap g.M.Medium.seen c.self.view_is) c.geometry-geometry.ensures.value c.in_err-free_file.ensures.freed)
-
-pub returns-in_err-free_file-clause-cause : goal.returns-in_err-free_file-clause-cause
-returns-in_err-free_file-clause-cause g c =
-    let old : Seen = g.M.Medium.seen c.args.self.now in
-    chain_hindered old old c.args.slot c.in-Some.entry c.in_ok-release.release c.free_file.new.release c.in_err-free_file.field-0.0 c.from_residual-in_err-free_file.result
-    (found_here old.content (geometry_of old.tracks old.content) c.args.slot c.in_ok-entry.field-0 c.in-Some.entry c.in-Some.is c.in_ok-entry.ensures.answers)
-    (sym c.is_closed.ensures ∙ c.if-not-is_closed.false)
-    (given_here (g.M.Medium.seen c.self.inside.medium) old c.geometry-geometry.result c.in-Some.entry c.in_ok-release.release c.free_file.new.release (Err c.in_err-free_file.field-0.0) (ap g.M.Medium.seen c.self.view_is) c.geometry-geometry.ensures.value c.in_err-free_file.ensures.freed)
-
-pub returns-in_err-free_file-clause-untouched : goal.returns-in_err-free_file-clause-untouched
-returns-in_err-free_file-clause-untouched g c =
-    let old : Seen = g.M.Medium.seen c.args.self.now in
-    nothing_written old.tracks old.content old.content c.args.slot refl
+pub returns-in_err-free_file-clause-call : goal.returns-in_err-free_file-clause-call
+returns-in_err-free_file-clause-call g c = λ d uses h f at unused.
+    record {
+      done = (search rules);
+      stopped =
+          let old : Seen = g.M.Medium.seen c.args.self.now in
+          no_chain old.tracks old.content old.content c.args.slot c.in-Some.entry c.in_ok-release.release c.free_file.new.release c.in_err-free_file.field-0.0 c.from_residual-in_err-free_file.result
+          (found_here old.content (geometry_of old.tracks old.content) c.args.slot c.in_ok-entry.field-0 c.in-Some.entry c.in-Some.is c.in_ok-entry.ensures.answers)
+          (sym c.is_closed.ensures ∙ c.if-not-is_closed.false)
+          (given_here (g.M.Medium.seen c.self.inside.medium) old c.geometry-geometry.result c.in-Some.entry c.in_ok-release.release c.free_file.new.release (Err c.in_err-free_file.field-0.0) (ap g.M.Medium.seen c.self.view_is) c.geometry-geometry.ensures.value c.in_err-free_file.ensures.freed) d uses f h at unused;
+      cause =
+          let old : Seen = g.M.Medium.seen c.args.self.now in
+          chain_hindered old old c.args.slot c.in-Some.entry c.in_ok-release.release c.free_file.new.release c.in_err-free_file.field-0.0 c.from_residual-in_err-free_file.result
+          (found_here old.content (geometry_of old.tracks old.content) c.args.slot c.in_ok-entry.field-0 c.in-Some.entry c.in-Some.is c.in_ok-entry.ensures.answers)
+          (sym c.is_closed.ensures ∙ c.if-not-is_closed.false)
+          (given_here (g.M.Medium.seen c.self.inside.medium) old c.geometry-geometry.result c.in-Some.entry c.in_ok-release.release c.free_file.new.release (Err c.in_err-free_file.field-0.0) (ap g.M.Medium.seen c.self.view_is) c.geometry-geometry.ensures.value c.in_err-free_file.ensures.freed) d uses f h at unused;
+      untouched =
+          let old : Seen = g.M.Medium.seen c.args.self.now in
+          nothing_written old.tracks old.content old.content c.args.slot refl d uses f h at unused;
+    }
 
 -- ---- the entry of a closed file is refused
 
-pub returns-in_err-clear_slot-clause-stopped : goal.returns-in_err-clear_slot-clause-stopped
-returns-in_err-clear_slot-clause-stopped g c =
-    let old : Seen = g.M.Medium.seen c.args.self.now in
-    entry_refused old.tracks old.content (g.M.Medium.seen c.clear_slot-2.new.medium).content c.args.slot c.from_residual-in_err-clear_slot.result
-    (on_err c.from_residual-in_err-clear_slot.result (c.in_err-clear_slot.ensures.err ∙ ap (λ m. (g.M.Medium.seen m).content) c.self.view_is))
-
-pub returns-in_err-clear_slot-clause-cause : goal.returns-in_err-clear_slot-clause-cause
-returns-in_err-clear_slot-clause-cause g c =
-    let old : Seen = g.M.Medium.seen c.args.self.now in
-    let new : Seen = g.M.Medium.seen c.clear_slot-2.new.medium in
-    clearing_handed_on old new c.args.slot c.in_err-clear_slot.field-0.0 c.from_residual-in_err-clear_slot.result c.from_residual-in_err-clear_slot.ensures.1
-    (refused_here (g.M.Medium.seen c.self.inside.medium) old new c.geometry-geometry.result c.args.slot (Err c.in_err-clear_slot.field-0.0) (ap g.M.Medium.seen c.self.view_is) c.geometry-geometry.ensures.value c.in_err-clear_slot.ensures.cause)
-
-pub returns-in_err-clear_slot-clause-untouched : goal.returns-in_err-clear_slot-clause-untouched
-returns-in_err-clear_slot-clause-untouched g c =
-    let old : Seen = g.M.Medium.seen c.args.self.now in
-    nothing_written old.tracks old.content (g.M.Medium.seen c.clear_slot-2.new.medium).content c.args.slot (c.in_err-clear_slot.ensures.err ∙ ap (λ m. (g.M.Medium.seen m).content) c.self.view_is)
+pub returns-in_err-clear_slot-clause-call : goal.returns-in_err-clear_slot-clause-call
+returns-in_err-clear_slot-clause-call g c = λ d uses h f at unused.
+    record {
+      done = (search rules);
+      stopped =
+          let old : Seen = g.M.Medium.seen c.args.self.now in
+          entry_refused old.tracks old.content (g.M.Medium.seen c.clear_slot-2.new.medium).content c.args.slot c.from_residual-in_err-clear_slot.result
+          (on_err c.from_residual-in_err-clear_slot.result (c.in_err-clear_slot.ensures.err ∙ ap (λ m. (g.M.Medium.seen m).content) c.self.view_is)) d uses f h at unused;
+      cause =
+          let old : Seen = g.M.Medium.seen c.args.self.now in
+          let new : Seen = g.M.Medium.seen c.clear_slot-2.new.medium in
+          clearing_handed_on old new c.args.slot c.in_err-clear_slot.field-0.0 c.from_residual-in_err-clear_slot.result c.from_residual-in_err-clear_slot.ensures.1
+          (refused_here (g.M.Medium.seen c.self.inside.medium) old new c.geometry-geometry.result c.args.slot (Err c.in_err-clear_slot.field-0.0) (ap g.M.Medium.seen c.self.view_is) c.geometry-geometry.ensures.value c.in_err-clear_slot.ensures.cause) d uses f h at unused;
+      untouched =
+          let old : Seen = g.M.Medium.seen c.args.self.now in
+          nothing_written old.tracks old.content (g.M.Medium.seen c.clear_slot-2.new.medium).content c.args.slot (c.in_err-clear_slot.ensures.err ∙ ap (λ m. (g.M.Medium.seen m).content) c.self.view_is) d uses f h at unused;
+    }
 
 -- ---- the entry of a closed file is cleared, and the map is written or refused
 
@@ -174,36 +175,34 @@ slot_empty g c =
     (given_here inside old c.geometry-geometry.result c.in-Some.entry c.in_ok-release.release c.free_file.new.release (Ok c.in_ok-free_file.field-0) (ap g.M.Medium.seen c.self.view_is) c.geometry-geometry.ensures.value c.in_ok-free_file.ensures.freed)
     (cleared g c)
 
-pub returns-clause-scratched : goal.returns-clause-scratched
-returns-clause-scratched g c =
-    let old : Seen = g.M.Medium.seen c.args.self.now in
-    scratched_ok old.tracks old.content (g.M.Medium.seen c.clear_slot-2.new.medium).content (g.M.Medium.seen c.write.new.medium).content c.args.slot c.free_file.new.release c.write.result c.write.ensures.ok (slot_empty g c)
-
-pub returns-clause-stopped : goal.returns-clause-stopped
-returns-clause-stopped g c =
-    let old : Seen = g.M.Medium.seen c.args.self.now in
-    scratched_stopped old.tracks old.content (g.M.Medium.seen c.clear_slot-2.new.medium).content (g.M.Medium.seen c.write.new.medium).content c.args.slot c.free_file.new.release c.write.result c.write.ensures.err (slot_empty g c)
-
-pub returns-clause-cause : goal.returns-clause-cause
-returns-clause-cause g c =
-    let old : Seen = g.M.Medium.seen c.args.self.now in
-    let mid : Seen = g.M.Medium.seen c.clear_slot-2.new.medium in
-    release_hindered old mid (g.M.Medium.seen c.write.new.medium) c.args.slot c.free_file.new.release c.write.result
-    (c.clear_slot-2.ensures.only.protected ∙ ap (λ m. (g.M.Medium.seen m).protected) c.self.view_is)
-    (subst (λ (n : ℕ). n ≤ mid.failures) (ap (λ m. (g.M.Medium.seen m).failures) c.self.view_is) c.clear_slot-2.ensures.only.counted)
-    (slot_empty g c) c.write.ensures.cause
-
-pub returns-clause-untouched : goal.returns-clause-untouched
-returns-clause-untouched g c =
-    let old : Seen = g.M.Medium.seen c.args.self.now in
-    release_spared old.tracks old.content (g.M.Medium.seen c.clear_slot-2.new.medium).content (g.M.Medium.seen c.write.new.medium).content c.args.slot c.free_file.new.release c.write.result (cleared g c) c.write.ensures.ok c.write.ensures.err
+pub returns-clause-call : goal.returns-clause-call
+returns-clause-call g c = λ d uses h f at unused.
+    record {
+      done =
+          let old : Seen = g.M.Medium.seen c.args.self.now in
+          if_ok c.write.result _ (scratched_ok old.tracks old.content (g.M.Medium.seen c.clear_slot-2.new.medium).content (g.M.Medium.seen c.write.new.medium).content c.args.slot c.free_file.new.release c.write.result c.write.ensures.ok (slot_empty g c) d uses f h at unused);
+      stopped =
+          let old : Seen = g.M.Medium.seen c.args.self.now in
+          scratched_stopped old.tracks old.content (g.M.Medium.seen c.clear_slot-2.new.medium).content (g.M.Medium.seen c.write.new.medium).content c.args.slot c.free_file.new.release c.write.result c.write.ensures.err (slot_empty g c) d uses f h at unused;
+      cause =
+          let old : Seen = g.M.Medium.seen c.args.self.now in
+          let mid : Seen = g.M.Medium.seen c.clear_slot-2.new.medium in
+          release_hindered old mid (g.M.Medium.seen c.write.new.medium) c.args.slot c.free_file.new.release c.write.result
+          (c.clear_slot-2.ensures.only.protected ∙ ap (λ m. (g.M.Medium.seen m).protected) c.self.view_is)
+          (subst (λ (n : ℕ). n ≤ mid.failures) (ap (λ m. (g.M.Medium.seen m).failures) c.self.view_is) c.clear_slot-2.ensures.only.counted)
+          (slot_empty g c) c.write.ensures.cause d uses f h at unused;
+      untouched =
+          let old : Seen = g.M.Medium.seen c.args.self.now in
+          release_spared old.tracks old.content (g.M.Medium.seen c.clear_slot-2.new.medium).content (g.M.Medium.seen c.write.new.medium).content c.args.slot c.free_file.new.release c.write.result (cleared g c) c.write.ensures.ok c.write.ensures.err d uses f h at unused;
+    }
 
 -- what breaks the directory off is never told as protection
-pub returns-in_err-entry-clause-protection : goal.returns-in_err-entry-clause-protection
-returns-in_err-entry-clause-protection g c =
+pub returns-in_err-entry-clause-only : goal.returns-in_err-entry-clause-only
+returns-in_err-entry-clause-only g c =
     let old : Seen = g.M.Medium.seen c.args.self.now in
     let p = err_from_is_err_and c.from_residual.result c.from_residual.ensures.1 in
-    rw (p.1, p.2) (λ is. absurd (directory_never_26 (geometry_of old.tracks old.content) old.content c.in_err-entry.field-0.0 (λ q. g.met.M.Medium.codes c.args.self.now q) c.in_err-entry.ensures.answers.1 is))
+    only_nothing c.from_residual.result (g.M.Medium.seen c.args.self.now) (g.M.Medium.seen c.args.self.now) (λ i. g.M.Medium.seen c.args.self.now)
+    (rw (p.1, p.2) (λ is. absurd (directory_never_26 (geometry_of old.tracks old.content) old.content c.in_err-entry.field-0.0 (λ q. g.met.M.Medium.codes c.args.self.now q) c.in_err-entry.ensures.answers.1 is)))
 
 pub returns-clause-only : goal.returns-clause-only
 returns-clause-only g c =

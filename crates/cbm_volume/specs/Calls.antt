@@ -1,0 +1,54 @@
+-- What the volume's calls that write leave of a sound disk.
+use Rattle.std.specs.Prelude.{ℕ, ◌≡◌, Bool, true, false, List, Result, IfOk, IfErr, OnErr}
+use Rattle.cbm_medium.specs.Seen.{Seen}
+use Rattle.cbm_medium.specs.declared.fault.Trouble.{Trouble}
+use Rattle.cbm_file.specs.Files.{Disk}
+use Rattle.cbm_bam.specs.Map.{geometry_of}
+use Rattle.cbm_volume.specs.Layouts.{Untouched}
+use Rattle.cbm_volume.specs.Opens.{IsHindered}
+use Rattle.cbm_volume.specs.Writers.{Filling, Use, Idle, Writes, HoldsNow, Stopped}
+
+-- this holds of each disk that the medium holds, however the channels use it
+abbrev pub OfDisk : Seen → (Disk → (ℕ → Use) → Type 0) → Type 0
+OfDisk now P = (d : Disk) (uses : ℕ → Use) → HoldsNow now.tracks now.content d uses → P d uses
+
+-- this holds of each such disk and of each channel that uses nothing of it
+abbrev pub OfIdle : Seen → (Disk → (ℕ → Use) → ℕ → Type 0) → Type 0
+OfIdle now P = (d : Disk) (uses : ℕ → Use) (ch : ℕ) → HoldsNow now.tracks now.content d uses → uses ch ≡ Idle → P d uses ch
+
+-- this holds of each such disk and of the channel that writes a file so: these bytes, in so many blocks so far
+abbrev pub OfWriter : Seen → Filling → (Disk → (ℕ → Use) → ℕ → List ℕ → ℕ → Type 0) → Type 0
+OfWriter now w P = (d : Disk) (uses : ℕ → Use) (ch : ℕ) (bytes : List ℕ) (blocks : ℕ) → HoldsNow now.tracks now.content d uses → uses ch ≡ Writes w bytes blocks → P d uses ch bytes blocks
+
+-- the sectors of each closed file are as they were, but for the files in slots that pass the test
+abbrev pub LeavesFiles : Seen → Seen → (ℕ → Bool) → Type 0
+LeavesFiles old new but = Untouched (geometry_of old.tracks old.content) old.content new.content but
+
+-- WHAT A CALL THAT WRITES LEAVES of a sound disk: what holds where it is done, and where it was stopped; a stop has its cause, and the
+-- sectors of the other closed files are as they were.
+pub record IsCall {A : Type 0} (result : Result A Trouble) (old new : Seen) (Done : A → Type 0) (Stop : Type 0) (but : ℕ → Bool) : Type 0 where
+  pub done : IfOk result Done
+  pub stopped : OnErr result Stop
+  pub cause : IfErr result (IsHindered old new)
+  pub untouched : LeavesFiles old new but
+
+-- A CALL THAT MAKES ONE DISK OF ANOTHER: done, the medium holds the other; stopped, each slot is as before or as after.
+abbrev pub IsChange : {A : Type 0} → Result A Trouble → Seen → Seen → Disk → Disk → (ℕ → Use) → (ℕ → Bool) → Type 0
+IsChange result old new before after uses but = IsCall result old new (λ x. HoldsNow old.tracks new.content after uses) (Stopped old.tracks new.content before after uses) but
+
+-- WHAT A CALL OF ONE WRITE LEAVES of a sound disk: what holds where it is done, why it is refused, and the closed files' sectors. That
+-- nothing has changed where it is refused is said of any content apart.
+pub record IsOneWrite {A : Type 0} (result : Result A Trouble) (old new : Seen) (Done : A → Type 0) : Type 0 where
+  pub done : IfOk result Done
+  pub cause : IfErr result (IsHindered old new)
+  pub untouched : LeavesFiles old new (λ m. false)
+
+-- ---- on any content
+
+-- a protected medium stays as it is
+abbrev pub KeepsProtected : Seen → Seen → Type 0
+KeepsProtected old new = old.protected ≡ true → new.content ≡ old.content
+
+-- an answer of this says that nothing has changed
+abbrev pub IsSameOn : {A : Type 0} → Result A Trouble → A → Seen → Seen → Type 0
+IsSameOn result answer old new = IfOk result (λ x. x ≡ answer → new.content ≡ old.content)

@@ -1,0 +1,73 @@
+-- A growth goes step by step, from one state of the file to the next.
+use Rattle.std.specs.Prelude.{ℕ, ◌+◌, ◌-◌, ◌<◌, ◌≤◌, ◌≡◌, List, Result, MatchResult}
+use Rattle.cbm_medium.specs.Place.{Place}
+use Rattle.cbm_medium.specs.Content.{Content}
+use Rattle.cbm_medium.specs.Seen.{Seen}
+use Rattle.cbm_medium.specs.declared.fault.Trouble.{Trouble}
+use Rattle.cbm_file.specs.Files.{Disk}
+use Rattle.cbm_file.specs.Records.{sides_for}
+use Rattle.cbm_bam.specs.Map.{geometry_of}
+use Rattle.cbm_relfile.specs.Records.{Relative}
+use Rattle.cbm_volume.specs.AddingSides.{HasSides, HasEmptySide}
+use Rattle.cbm_volume.specs.Growing.{HasGrown, HasLonger, HasSide, IsGrowthStopped}
+use Rattle.cbm_volume.specs.RecordWrites.{HasRecordsOpen}
+use Rattle.cbm_volume.specs.Writers.{Use}
+
+-- a state of a file whose records a channel had open when its growth began
+abbrev pub State : Type 1
+State = (m : ℕ) (c0 : Content) (d : Disk) (uses : ℕ → Use) (n w b s : ℕ) (rs : List (List ℕ)) → HasRecordsOpen m c0 d uses n w b s rs → Content → Type 0
+
+-- A STEP OF A GROWTH goes from one state to another, or stops; whenever the growth began, on a disk of this geometry.
+abbrev pub Goes : {A : Type 0} → Result A Trouble → Seen → Seen → ℕ → State → (A → State) → Type 0
+Goes result old new geometry From To = (c0 : Content) (d : Disk) (uses : ℕ → Use) (n w b s : ℕ) (rs : List (List ℕ)) (o : HasRecordsOpen old.tracks c0 d uses n w b s rs) → geometry ≡ geometry_of old.tracks c0
+    → From old.tracks c0 d uses n w b s rs o old.content → MatchResult result (λ x. To x old.tracks c0 d uses n w b s rs o new.content) (IsGrowthStopped old new c0 o.holds.layout d uses n w rs)
+
+-- the file has so many side sectors
+abbrev pub OfSides : Relative → ℕ → State
+OfSides r s1 m c0 d uses n w b s rs o c = HasSides m c0 d uses n w b s rs o r c s1
+
+-- and a block is free for one more
+abbrev pub OfRoom : Relative → ℕ → State
+OfRoom r s1 m c0 d uses n w b s rs o c = HasSides m c0 d uses n w b s rs o r c s1 × (0 < d.free - (s1 - s))
+
+-- and enough blocks are free for so many
+abbrev pub OfRoomFor : Relative → ℕ → ℕ → State
+OfRoomFor r s1 all m c0 d uses n w b s rs o c = HasSides m c0 d uses n w b s rs o r c s1 × (all - s ≤ d.free)
+
+-- it has so many, and a new one at this place, which lists no block and isn't listed
+abbrev pub OfEmpty : Relative → ℕ → Place → State
+OfEmpty r s1 t m c0 d uses n w b s rs o c = HasEmptySide m c0 d uses n w b s rs o r c s1 t
+
+-- it has as many as it is to have
+abbrev pub OfAllSides : Relative → ℕ → ℕ → State
+OfAllSides r all s1 m c0 d uses n w b s rs o c = (s1 ≡ all) × HasSides m c0 d uses n w b s rs o r c s1
+
+-- ---- block by block
+
+-- the file has grown to so many full data blocks, the last at this place, and side sectors that list them
+abbrev pub OfGrown : Relative → ℕ → ℕ → Place → State
+OfGrown r b1 s1 last m c0 d uses n w b s rs o c = HasGrown m c0 d uses n w b s rs o r c b1 s1 last
+
+-- and a block is free for one more
+abbrev pub OfGrowable : Relative → ℕ → ℕ → Place → State
+OfGrowable r b1 s1 last m c0 d uses n w b s rs o c = HasGrown m c0 d uses n w b s rs o r c b1 s1 last × (0 < d.free - (b1 + s1 - (b + s)))
+
+-- and enough blocks are free to reach so many
+abbrev pub OfGoal : Relative → ℕ → ℕ → Place → ℕ → State
+OfGoal r b1 s1 last goal m c0 d uses n w b s rs o c = HasGrown m c0 d uses n w b s rs o r c b1 s1 last × (goal + sides_for s1 goal - (b + s) ≤ d.free)
+
+-- it has grown to so many data blocks and to as many side sectors as it is to have
+abbrev pub OfReached : Relative → ℕ → ℕ → ℕ → Place → State
+OfReached r b1 all s1 last m c0 d uses n w b s rs o c = (s1 ≡ all) × HasGrown m c0 d uses n w b s rs o r c b1 s1 last
+
+-- it has one data block more, at this place, which isn't listed
+abbrev pub OfLonger : Relative → ℕ → ℕ → Place → State
+OfLonger r b1 s1 q m c0 d uses n w b s rs o c = HasLonger m c0 d uses n w b s rs o r c b1 s1 q
+
+-- and a block is free for a side sector
+abbrev pub OfSideable : Relative → ℕ → ℕ → Place → State
+OfSideable r b1 s1 q m c0 d uses n w b s rs o c = HasLonger m c0 d uses n w b s rs o r c b1 s1 q × (0 < d.free - (b1 + 1 + s1 - (b + s)))
+
+-- and a side sector at the second place lists it alone, which isn't listed
+abbrev pub OfSide : Relative → ℕ → ℕ → Place → Place → State
+OfSide r b1 s1 q t m c0 d uses n w b s rs o c = HasSide m c0 d uses n w b s rs o r c b1 s1 q t
