@@ -7,7 +7,8 @@ use Rattle.cbm_iec.specs.declared.line.Change.{Change}
 use Rattle.bus_traces.specs.Events.{trace_text}
 use Rattle.bus_replies.specs.Plays.{HasGiven}
 use Rattle.bus_replies.specs.Ready.{ready_text}
-use Rattle.bus_replies.specs.Replies.{Reply, reply_text, HasAnswered, HaveAnswered}
+use Rattle.bus_replies.specs.declared.request.Request.{Request}
+use Rattle.bus_replies.specs.Replies.{Reply, IsReply, AreReplies, reply_text, changes_in, come_to, moment_after, HasAnswered, HaveAnswered}
 use Rattle.bus_replies.proofs.Giving.{appends-nothing, appends-more}
 
 pub keeps_none : (o : Option (List ℕ)) → Keeps o o
@@ -40,37 +41,54 @@ text_on : (xs ys : List Reply) → text_of (xs ++ ys) ≡ text_of xs ++ text_of 
 text_on [] ys = refl
 text_on (x ∷ xs) ys = ap (λ t. reply_text x ++ t) (text_on xs ys) ∙ sym (append_assoc (reply_text x) (text_of xs) (text_of ys))
 
-module _ {S Start : Type 0} (gave : S → Start → List Event → Type 0) where
+come_to_last : (now : ℕ) (rs : List Reply) (r : Reply) → come_to now (rs ++ r ∷ []) ≡ r.moment
+come_to_last now [] r = refl
+come_to_last now (x ∷ rs) r = come_to_last x.moment rs r
+
+module _ {S Start : Type 0} (gave : S → Start → List Event → Type 0) (due : S → Option ℕ → Type 0) where
   -- what was given, and the mark after it
-  pub marked : (a b c : Option (List ℕ)) (cs : List Change) (x y : S) (moment : ℕ) (due : Option ℕ) → HasGiven gave a b cs x y → Appends b c (ready_text moment due) → HasAnswered gave a c cs x y
-  marked a b c cs x y moment due h w = record {
-    reply = record { events = h.events; moment = moment; due = due };
-    leads = h.leads;
-    hosts = h.hosts;
-    written = appends-more a b c (trace_text h.events) (ready_text moment due) h.written w;
+  pub marked : (a b c : Option (List ℕ)) (now : ℕ) (request : Request) (x y : S) (moment : ℕ) (next : Option ℕ) → HasGiven gave a b (changes_in request) x y → moment ≡ moment_after now request → due y next
+      → Appends b c (ready_text moment next) → HasAnswered gave due a c now request x y
+  marked a b c now request x y moment next h m d w = record {
+    reply = record { request = request; events = h.events; moment = moment; due = next };
+    asked = refl;
+    comes = record { leads = h.leads; hosts = h.hosts; moment = m; next = d };
+    written = appends-more a b c (trace_text h.events) (ready_text moment next) h.written w;
   }
 
-  pub none_answered : (a : Option (List ℕ)) (x : S) → HaveAnswered gave a a x x
+  pub none_answered : (a : Option (List ℕ)) (x : S) → HaveAnswered gave due a a x x
   none_answered a x = record {
     replies = [];
+    come = refl;
     leads = λ s es k. subst (λ v. gave x s v) (sym (append-nil es)) k;
     written = appends-nothing a;
   }
 
-  pub kept_answered : (a b c : Option (List ℕ)) (x y : S) → HaveAnswered gave a b x y → Keeps b c → HaveAnswered gave a c x y
+  pub kept_answered : (a b c : Option (List ℕ)) (x y : S) → HaveAnswered gave due a b x y → Keeps b c → HaveAnswered gave due a c x y
   kept_answered a b c x y h k = record {
     replies = h.replies;
+    come = h.come;
     leads = h.leads;
     written = appends-kept a b c (text_of h.replies) h.written k;
   }
 
-  pub one_more : (a b c : Option (List ℕ)) (cs : List Change) (x y z : S) → HaveAnswered gave a b x y → HasAnswered gave b c cs y z → HaveAnswered gave a c x z
-  one_more a b c cs x y z h k = record {
+  -- one line more, at the moment to which those before have come
+  come_on : (rs : List Reply) (r : Reply) (now : ℕ) (x y z : S) → AreReplies gave due rs now x y → IsReply gave due r (come_to now rs) y z → AreReplies gave due (rs ++ r ∷ []) now x z
+  come_on [] r now x y z h k = (z, subst (λ w. IsReply gave due r now w z) (sym h) k, refl)
+  come_on (q ∷ rs) r now x y z h k = (h.0, h.1, come_on rs r q.moment h.0 y z h.2 k)
+
+  pub one_more : (a b c : Option (List ℕ)) (now : ℕ) (request : Request) (x y z : S) (h : HaveAnswered gave due a b x y) → now ≡ come_to 0 h.replies → HasAnswered gave due b c now request y z → HaveAnswered gave due a c x z
+  one_more a b c now request x y z h at k = record {
     replies = h.replies ++ k.reply ∷ [];
+    come = come_on h.replies k.reply 0 x y z h.come (subst (λ n. IsReply gave due k.reply n y z) at k.comes);
     leads = λ s es i. subst (λ v. gave z s v) (append_assoc es (events_of h.replies) k.reply.events ∙ ap (λ v. es ++ v) (sym (events_on h.replies (k.reply ∷ []) ∙ ap (λ v. events_of h.replies ++ v) (append-nil k.reply.events))))
-        (k.leads s (es ++ events_of h.replies) (h.leads s es i));
+        (k.comes.leads s (es ++ events_of h.replies) (h.leads s es i));
     written = subst (λ t. Appends a c t) (sym (text_on h.replies (k.reply ∷ []) ∙ ap (λ t. text_of h.replies ++ t) (append-nil (reply_text k.reply)))) (appends-more a b c (text_of h.replies) (reply_text k.reply) h.written k.written);
   }
+
+  -- and the talk has come to its moment then
+  pub one_more-moment : (a b c : Option (List ℕ)) (now : ℕ) (request : Request) (x y z : S) (h : HaveAnswered gave due a b x y) (at : now ≡ come_to 0 h.replies) (k : HasAnswered gave due b c now request y z) → moment_after now request ≡ come_to 0 (one_more a b c now request x y z h at k).replies
+  one_more-moment a b c now request x y z h at k = sym (come_to_last 0 h.replies k.reply ∙ (k.comes.moment ∙ ap (λ q. moment_after now q) k.asked))
 
 pub on_ok : {A E : Type 0} {P Q : Type 0} (r : Result A E) → OnOk r P → (P → Q) → OnOk r Q
 on_ok (Ok x) h f = f h

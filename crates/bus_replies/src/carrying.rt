@@ -5,7 +5,7 @@ ghost use Rattle.std.specs.Io.KnownBytes.{Appends};
 ghost use Rattle.bus_traces.specs.Events.{event_text};
 ghost use Rattle.bus_replies.specs.Ready.{ready_text};
 ghost use Rattle.bus_replies.specs.Plays.{HasGiven};
-ghost use Rattle.bus_replies.specs.Replies.{HasAnswered, IsInTime, changes_in};
+ghost use Rattle.bus_replies.specs.Replies.{HasAnswered, IsInTime, IsReady, changes_in, moment_after};
 
 use crate::clock::Clock;
 use crate::fault::ReplyFault;
@@ -74,14 +74,11 @@ fn give<B: Plays, W: Write>(
     request: Request,
     writer: &mut W,
 ) -> Result<(), ReplyFault>
-    requires none { B.waiting bus.old ≡ None }
-    requires from { B.from bus.old ≤ clock.old.from }
+    requires ready { IsReady B.waiting B.from bus.old clock.old }
     requires request { IsInTime clock.old.moment clock.old.from request }
-    requires clock { clock.old.from ≤ clock.old.moment + 1 }
     ensures given { OnOk result (HasGiven B.gave (W.contents writer.old) (W.contents writer.new) (changes_in request) bus.old bus.new) }
-    ensures waiting { OnOk result (B.waiting bus.new ≡ None) }
-    ensures from { OnOk result (B.from bus.new ≤ clock.new.from) }
-    ensures clock { clock.new.from ≤ clock.new.moment + 1 }
+    ensures ready { OnOk result (IsReady B.waiting B.from bus.new clock.new) }
+    ensures moment { clock.new.moment ≡ moment_after clock.old.moment request }
 {
     match request {
         Request::Nothing => Ok(()),
@@ -103,14 +100,11 @@ pub(crate) fn carry_out<B: Plays, W: Write>(
     request: Request,
     writer: &mut W,
 ) -> Result<(), ReplyFault>
-    requires none { B.waiting bus.old ≡ None }
-    requires from { B.from bus.old ≤ clock.old.from }
+    requires ready { IsReady B.waiting B.from bus.old clock.old }
     requires request { IsInTime clock.old.moment clock.old.from request }
-    requires clock { clock.old.from ≤ clock.old.moment + 1 }
-    ensures answered { OnOk result (HasAnswered B.gave (W.contents writer.old) (W.contents writer.new) (changes_in request) bus.old bus.new) }
-    ensures waiting { OnOk result (B.waiting bus.new ≡ None) }
-    ensures from { OnOk result (B.from bus.new ≤ clock.new.from) }
-    ensures clock { clock.new.from ≤ clock.new.moment + 1 }
+    ensures answered { OnOk result (HasAnswered B.gave B.due (W.contents writer.old) (W.contents writer.new) clock.old.moment request bus.old bus.new) }
+    ensures ready { OnOk result (IsReady B.waiting B.from bus.new clock.new) }
+    ensures moment { clock.new.moment ≡ moment_after clock.old.moment request }
 {
     give(bus, clock, request, writer)?;
     write_mark(writer, clock.moment(), bus.next_due())

@@ -19,6 +19,8 @@ pub trait Plays {
     ghost from: { Self → ℕ };
     /// How many changes of the drives may come before a limit at most, if the host changes nothing more.
     ghost most: { ℕ → Self → ℕ };
+    /// When the next reaction is due, in microseconds, if the host changes nothing more; None where no drive's is.
+    ghost due: { Self → Option ℕ → Type 0 };
 
     /// Takes the host's next change; `next` gives it in its turn.
     fn offer(&mut self, change: Change)
@@ -52,5 +54,6 @@ pub trait Plays {
         ensures fewer { IfSome result (λ e. (limit : ℕ) → upto < limit → most limit self.new < most limit self.old) };
 
     /// When the next reaction is due, in microseconds, if one is.
-    fn next_due(&self) -> Option<u64>;
+    fn next_due(&self) -> Option<u64>
+        ensures { due self.now result };
 }

@@ -76,7 +76,7 @@ pub fn reply<B: Plays, R: Read, W: Write>(
 ) -> Result<(), ReplyFault>
     requires none { B.waiting bus.old ≡ None }
     requires start { B.from bus.old ≡ 0 }
-    ensures answered { OnOk result (HaveAnswered B.gave (W.contents writer.old) (W.contents writer.new) bus.old bus.new) }
+    ensures answered { OnOk result (HaveAnswered B.gave B.due (W.contents writer.old) (W.contents writer.new) bus.old bus.new) }
 {
     let mut clock = Clock::new();
     'lines: for number in 1..u64::MAX {

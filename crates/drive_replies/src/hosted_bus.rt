@@ -37,9 +37,11 @@ impl<D: Machine, const N: usize> HostedBus<D, N> {
 }
 
 impl<D: Machine, const N: usize> Plays for HostedBus<D, N> {
-    ghost use Rattle.std.specs.Prelude.{ℕ, List};
+    ghost use Rattle.std.specs.Prelude.{ℕ, List, MatchOption};
     ghost use Rattle.cbm_session.specs.Playing.{Station};
+    ghost use Rattle.cbm_drive.specs.Cables.{IsDueFirst};
     ghost use Rattle.cbm_drive.specs.Players.{IsAfter, at_most};
+    ghost use Rattle.cbm_drive.specs.Seats.{AreIdle};
 
     // The stations of the bus at a moment.
     ghost Start = { ℕ × List (Station D.State) };
@@ -52,6 +54,9 @@ impl<D: Machine, const N: usize> Plays for HostedBus<D, N> {
     ghost from = { λ b. b.player.from };
 
     ghost most = { λ limit b. at_most limit b.player.second b.bus.drives };
+
+    // The moment at which a drive's reaction is due, and none before; or no drive's is due.
+    ghost due = { λ b moment. MatchOption moment (AreIdle b.bus.drives) (IsDueFirst b.bus.drives) };
 
     fn offer(&mut self, change: Change) {
         self.player.offer(change).unwrap();
