@@ -56,8 +56,8 @@ come_to now (r ∷ rs) = come_to r.moment rs
 -- WHAT WAITS FOR A LINE: no change of the host does, and the bus takes each change that the clock lets pass.
 pub record IsReady {S : Type 0} (waiting : S → Option Change) (from : S → ℕ) (x : S) (clock : Clock) : Type 0 where
   pub none : waiting x ≡ None
-  pub from : from x ≤ clock.from
-  pub clock : clock.from ≤ clock.moment + 1
+  pub first : from x ≤ clock.from
+  pub near : clock.from ≤ clock.moment + 1
 
 module _ {S Start : Type 0} (gave : S → Start → List Event → Type 0) (due : S → Option ℕ → Type 0) where
   -- WHAT COMES OF A LINE, where the talk had come to a moment: from each start from which the bus had come, it has come by these events, the host's among them are what the line asked for, the mark names
