@@ -3,7 +3,6 @@ use Rattle.std.proofs.Common.{◌≡◌, ℕ, List, [], ◌∷◌, ◌++◌, Opt
 use Rattle.std.specs.Prelude.{Result, OnOk, flat_map}
 use Rattle.std.specs.Io.KnownBytes.{Appends, Keeps}
 use Rattle.cbm_iec.specs.declared.event.Event.{Event}
-use Rattle.cbm_iec.specs.declared.line.Change.{Change}
 use Rattle.bus_traces.specs.Events.{trace_text}
 use Rattle.bus_replies.specs.Plays.{HasGiven}
 use Rattle.bus_replies.specs.Ready.{ready_text}
@@ -56,13 +55,16 @@ module _ {S Start : Type 0} (gave : S → Start → List Event → Type 0) (due 
     written = appends-more a b c (trace_text h.events) (ready_text moment next) h.written w;
   }
 
-  pub none_answered : (a : Option (List ℕ)) (x : S) → HaveAnswered gave due a a x x
-  none_answered a x = record {
-    replies = [];
-    come = refl;
-    leads = λ s es k. subst (λ v. gave x s v) (sym (append-nil es)) k;
-    written = appends-nothing a;
-  }
+  pub none_answered : (a : Option (List ℕ)) (x : S) → (h : HaveAnswered gave due a a x x) × (0 ≡ come_to 0 h.replies)
+  none_answered a x = (
+    record {
+      replies = [];
+      come = refl;
+      leads = λ s es k. subst (λ v. gave x s v) (sym (append-nil es)) k;
+      written = appends-nothing a;
+    },
+    refl,
+  )
 
   pub kept_answered : (a b c : Option (List ℕ)) (x y : S) → HaveAnswered gave due a b x y → Keeps b c → HaveAnswered gave due a c x y
   kept_answered a b c x y h k = record {
@@ -77,18 +79,24 @@ module _ {S Start : Type 0} (gave : S → Start → List Event → Type 0) (due 
   come_on [] r now x y z h k = (z, subst (λ w. IsReply gave due r now w z) (sym h) k, refl)
   come_on (q ∷ rs) r now x y z h k = (h.0, h.1, come_on rs r q.moment h.0 y z h.2 k)
 
-  pub one_more : (a b c : Option (List ℕ)) (now : ℕ) (request : Request) (x y z : S) (h : HaveAnswered gave due a b x y) → now ≡ come_to 0 h.replies → HasAnswered gave due b c now request y z → HaveAnswered gave due a c x z
-  one_more a b c now request x y z h at k = record {
-    replies = h.replies ++ k.reply ∷ [];
-    come = come_on h.replies k.reply 0 x y z h.come (subst (λ n. IsReply gave due k.reply n y z) at k.comes);
-    leads = λ s es i. subst (λ v. gave z s v) (append_assoc es (events_of h.replies) k.reply.events ∙ ap (λ v. es ++ v) (sym (events_on h.replies (k.reply ∷ []) ∙ ap (λ v. events_of h.replies ++ v) (append-nil k.reply.events))))
-        (k.comes.leads s (es ++ events_of h.replies) (h.leads s es i));
-    written = subst (λ t. Appends a c t) (sym (text_on h.replies (k.reply ∷ []) ∙ ap (λ t. text_of h.replies ++ t) (append-nil (reply_text k.reply)))) (appends-more a b c (text_of h.replies) (reply_text k.reply) h.written k.written);
-  }
+  answered_on : (a b c : Option (List ℕ)) (now : ℕ) (request : Request) (x y z : S) (h : HaveAnswered gave due a b x y) → now ≡ come_to 0 h.replies → (k : HasAnswered gave due b c now request y z)
+      → (v : HaveAnswered gave due a c x z) × (moment_after now request ≡ come_to 0 v.replies)
+  answered_on a b c now request x y z h at k = (
+    record {
+      replies = h.replies ++ k.reply ∷ [];
+      come = come_on h.replies k.reply 0 x y z h.come (subst (λ n. IsReply gave due k.reply n y z) at k.comes);
+      leads = λ s es i. subst (λ v. gave z s v) (append_assoc es (events_of h.replies) k.reply.events ∙ ap (λ v. es ++ v) (sym (events_on h.replies (k.reply ∷ []) ∙ ap (λ v. events_of h.replies ++ v) (append-nil k.reply.events))))
+          (k.comes.leads s (es ++ events_of h.replies) (h.leads s es i));
+      written = subst (λ t. Appends a c t) (sym (text_on h.replies (k.reply ∷ []) ∙ ap (λ t. text_of h.replies ++ t) (append-nil (reply_text k.reply)))) (appends-more a b c (text_of h.replies) (reply_text k.reply) h.written k.written);
+    },
+    sym (come_to_last 0 h.replies k.reply ∙ (k.comes.moment ∙ ap (λ q. moment_after now q) k.asked)),
+  )
 
-  -- and the talk has come to its moment then
-  pub one_more-moment : (a b c : Option (List ℕ)) (now : ℕ) (request : Request) (x y z : S) (h : HaveAnswered gave due a b x y) (at : now ≡ come_to 0 h.replies) (k : HasAnswered gave due b c now request y z) → moment_after now request ≡ come_to 0 (one_more a b c now request x y z h at k).replies
-  one_more-moment a b c now request x y z h at k = sym (come_to_last 0 h.replies k.reply ∙ (k.comes.moment ∙ ap (λ q. moment_after now q) k.asked))
+  -- one line more, and the moment to which the talk has come then
+  pub one_more : (a b c d : Option (List ℕ)) (now : ℕ) (request : Request) (x y z : S) (h : HaveAnswered gave due a b x y) → now ≡ come_to 0 h.replies → Keeps b c → (k : HasAnswered gave due c d now request y z)
+      → (v : HaveAnswered gave due a d x z) × (moment_after now request ≡ come_to 0 v.replies)
+  unfolding kept_answered
+  one_more a b c d now request x y z h at keeps k = answered_on a c d now request x y z (kept_answered a b c x y h keeps) at k
 
 pub on_ok : {A E : Type 0} {P Q : Type 0} (r : Result A E) → OnOk r P → (P → Q) → OnOk r Q
 on_ok (Ok x) h f = f h

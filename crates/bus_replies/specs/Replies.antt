@@ -1,5 +1,5 @@
 -- What a talk is answered by.
-use Rattle.std.specs.Prelude.{ℕ, ◌≡◌, ◌≤◌, ◌+◌, List, [], ◌∷◌, ◌++◌, Option, Some, None, flat_map}
+use Rattle.std.specs.Prelude.{ℕ, ◌≡◌, ◌≤◌, ◌+◌, List, [], ◌∷◌, ◌++◌, Option, None, flat_map}
 use Rattle.std.specs.Io.KnownBytes.{Appends}
 use Rattle.cbm_iec.specs.declared.event.Event.{Event}
 use Rattle.cbm_iec.specs.declared.line.Change.{Change}
@@ -71,7 +71,7 @@ module _ {S Start : Type 0} (gave : S → Start → List Event → Type 0) (due 
   -- what comes of lines, each in its turn: the bus and the moment are those that the line before left
   abbrev pub AreReplies : List Reply → ℕ → S → S → Type 0
   AreReplies [] now x y = x ≡ y
-  AreReplies (r ∷ rs) now x y = (z : S) × (IsReply r now x z × AreReplies rs r.moment z y)
+  AreReplies (r ∷ rs) now x y = (z : S) × IsReply r now x z × AreReplies rs r.moment z y
 
   -- A LINE WAS ANSWERED: what comes of it was written, the events and then the mark.
   pub record HasAnswered (a b : Option (List ℕ)) (now : ℕ) (request : Request) (x y : S) : Type 0 where

@@ -1,5 +1,5 @@
-use Rattle.std.proofs.Common.{◌+◌, ◌∷◌, [], refl, sym, ap, subst, ◌∙◌, arith}
-use Rattle.bus_replies.proofs.Giving.{none_given, event_given, of_drive, of_host, still_waits, not_host, what_comes}
+use Rattle.std.proofs.Common.{◌+◌, ◌∷◌, [], ◌∙◌, arith}
+use Rattle.bus_replies.proofs.Giving.{none_given, event_given, of_drive, of_host, still_waits, not_host}
 use Rattle.bus_replies.proofs.carrying.change.Goals as goal
 
 pub events-init : goal.events-init

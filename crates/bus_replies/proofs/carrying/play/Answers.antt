@@ -1,5 +1,5 @@
-use Rattle.std.proofs.Common.{[], arith}
-use Rattle.bus_replies.proofs.Giving.{none_given, event_given, of_drive}
+use Rattle.std.proofs.Common.{[]}
+use Rattle.bus_replies.proofs.Giving.{event_given, of_drive}
 use Rattle.bus_replies.proofs.carrying.play.Goals as goal
 
 pub events-preserved : goal.events-preserved

@@ -1,26 +1,18 @@
-use Rattle.std.proofs.Common.{refl, ◌∙◌}
-use Rattle.bus_replies.proofs.Answering.{none_answered, kept_answered, known_ok, one_more, one_more-moment}
+use Rattle.std.proofs.Common.{rules, ◌∙◌}
+use Rattle.bus_replies.proofs.Answering.{none_answered, kept_answered, known_ok, one_more}
 use Rattle.bus_replies.proofs.replying.reply.Goals as goal
 
 pub lines-init : goal.lines-init
-lines-init g c = record {
-  answered = none_answered g.B.Plays.gave g.B.Plays.due _ _;
-  moment = c.new.ensures.moment;
-  ready = _;
-}
+lines-init g c =
+    let none = none_answered g.B.Plays.gave g.B.Plays.due (g.W.Write.contents c.args.writer.now) c.args.bus.now in
+    record { answered = none.0; moment = c.new-clock.ensures.moment ∙ none.1; ready = (search rules) }
 
 pub lines-preserved : goal.lines-preserved
 lines-preserved g c =
-    let before = kept_answered g.B.Plays.gave g.B.Plays.due _ _ _ _ c.lines.bus c.lines.invariant.answered c.in_ok-asked.ensures.kept in
-    record {
-      answered = one_more g.B.Plays.gave g.B.Plays.due _ _ _ _ _ _ c.lines.bus _ before c.lines.invariant.moment c.in_ok-carry_out.ensures.answered;
-      moment = c.carry_out.ensures.moment ∙ one_more-moment g.B.Plays.gave g.B.Plays.due _ _ _ _ _ _ c.lines.bus _ before c.lines.invariant.moment c.in_ok-carry_out.ensures.answered;
-      ready = c.in_ok-carry_out.ensures.ready;
-    }
+    let more = one_more g.B.Plays.gave g.B.Plays.due _ _ _ _ _ _ _ c.lines.bus _ c.lines.invariant.answered c.lines.invariant.moment c.in_ok-asked.ensures.kept c.in_ok-carry_out.ensures.answered in
+    record { answered = more.0; moment = c.carry_out.ensures.moment ∙ more.1; ready = c.in_ok-carry_out.ensures.ready }
 
 pub returns-in-End : goal.returns-in-End
 returns-in-End g c =
-    let before = kept_answered g.B.Plays.gave g.B.Plays.due _ _ _ _ c.lines.bus c.lines.invariant.answered c.in_ok-asked.ensures.kept in
-    record {
-      answered = known_ok c.send_on.result (kept_answered g.B.Plays.gave g.B.Plays.due _ _ _ _ _ (one_more g.B.Plays.gave g.B.Plays.due _ _ _ _ _ _ c.lines.bus _ before c.lines.invariant.moment c.in_ok-carry_out.ensures.answered) c.send_on.ensures);
-    }
+    let more = one_more g.B.Plays.gave g.B.Plays.due _ _ _ _ _ _ _ c.lines.bus _ c.lines.invariant.answered c.lines.invariant.moment c.in_ok-asked.ensures.kept c.in_ok-carry_out.ensures.answered in
+    record { answered = known_ok c.send_on.result (kept_answered g.B.Plays.gave g.B.Plays.due _ _ _ _ _ more.0 c.send_on.ensures) }
