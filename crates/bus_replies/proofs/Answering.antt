@@ -4,27 +4,11 @@ use Rattle.std.specs.Prelude.{Result, OnOk, flat_map}
 use Rattle.std.specs.Io.KnownBytes.{Appends, Keeps}
 use Rattle.cbm_iec.specs.declared.event.Event.{Event}
 use Rattle.bus_traces.specs.Events.{trace_text}
+use Rattle.bus_traces.proofs.Appending.{appends-nothing, appends-more, appends-kept}
 use Rattle.bus_replies.specs.Plays.{HasGiven}
 use Rattle.bus_replies.specs.Ready.{ready_text}
 use Rattle.bus_replies.specs.declared.request.Request.{Request}
 use Rattle.bus_replies.specs.Replies.{Reply, IsReply, AreReplies, reply_text, changes_in, come_to, moment_after, HasAnswered, HaveAnswered}
-use Rattle.bus_replies.proofs.Giving.{appends-nothing, appends-more}
-
-pub keeps_none : (o : Option (List ℕ)) → Keeps o o
-keeps_none None = tt
-keeps_none (Some xs) = refl
-
-pub keeps_on : (a b c : Option (List ℕ)) → Keeps a b → Keeps b c → Keeps a c
-keeps_on None b c h k = tt
-keeps_on (Some l) None c h k = absurd h
-keeps_on (Some l) (Some m) None h k = absurd k
-keeps_on (Some l) (Some m) (Some n) h k = k ∙ h
-
-pub appends-kept : (a b c : Option (List ℕ)) (xs : List ℕ) → Appends a b xs → Keeps b c → Appends a c xs
-appends-kept None b c xs h k = tt
-appends-kept (Some l) None c xs h k = absurd h
-appends-kept (Some l) (Some m) None xs h k = absurd k
-appends-kept (Some l) (Some m) (Some n) xs h k = k ∙ h
 
 abbrev events_of : List Reply → List Event
 events_of replies = flat_map (λ r. r.events) replies

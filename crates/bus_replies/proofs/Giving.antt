@@ -7,28 +7,10 @@ use Rattle.cbm_iec.specs.declared.event.Who.{Who}
 use Rattle.cbm_iec.specs.declared.event.Who.TheVariants.{Host, Drive}
 use Rattle.cbm_iec.specs.declared.line.Change.{Change}
 use Rattle.bus_traces.specs.Events.{event_text, trace_text}
+use Rattle.bus_traces.proofs.Appending.{appends-nothing, appends-more, text_on, text_one}
 use Rattle.bus_replies.specs.Plays.{IsDrives, IsTurnOf, IsFromHost, HasGiven, host_changes}
 
--- ---- text that was written piece by piece
-
-pub appends-nothing : (o : Option (List ℕ)) → Appends o o []
-appends-nothing None = tt
-appends-nothing (Some xs) = sym (append-nil xs)
-
-pub appends-more : (a b c : Option (List ℕ)) (xs ys : List ℕ) → Appends a b xs → Appends b c ys → Appends a c (xs ++ ys)
-appends-more None b c xs ys h k = tt
-appends-more (Some l) None c xs ys h k = absurd h
-appends-more (Some l) (Some m) None xs ys h k = absurd k
-appends-more (Some l) (Some m) (Some n) xs ys h k = k ∙ (ap (λ t. t ++ ys) h ∙ append_assoc l xs ys)
-
--- ---- events and their text
-
-pub text_on : (xs ys : List Event) → trace_text (xs ++ ys) ≡ trace_text xs ++ trace_text ys
-text_on [] ys = refl
-text_on (x ∷ xs) ys = ap (λ t. event_text x ++ t) (text_on xs ys) ∙ sym (append_assoc (event_text x) (trace_text xs) (trace_text ys))
-
-pub text_one : (e : Event) → trace_text (e ∷ []) ≡ event_text e
-text_one e = append-nil (event_text e)
+-- ---- the changes of the host
 
 pub hosts_on : (xs ys : List Event) → host_changes (xs ++ ys) ≡ host_changes xs ++ host_changes ys
 hosts_on [] ys = refl

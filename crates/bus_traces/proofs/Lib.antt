@@ -4,3 +4,4 @@ pub mod LineLemmas
 pub mod ReadingLemmas
 pub mod TraceBack
 pub mod Recorded
+pub mod Appending

@@ -1,10 +1,10 @@
 -- Lines of bytes.
-use Rattle.std.proofs.Common.{◌≡◌, ◌≢◌, ℕ, ◌<◌, List, [], ◌∷◌, ◌++◌, length, Option, Some, None, refl, ap, sym, ◌∙◌, arith, append_assoc, append-nil, true, false}
+use Rattle.std.proofs.Common.{◌≡◌, ◌≢◌, ℕ, ◌+◌, ◌<◌, ◌≤◌, List, [], ◌∷◌, ◌++◌, length, Option, Some, None, refl, ap, sym, ◌∙◌, arith, append_assoc, append-nil, length-append, add-one, true, false}
 use Rattle.std.proofs.Common.{◌==◌}
 use Rattle.std.specs.Io.KnownBytes.{Keeps, Consumes, IsAtEnd}
 use Rattle.std.specs.Bool.{MatchBool}
 use Rattle.std.proofs.Common.{Bool, not}
-use Rattle.bus_traces.specs.Lines.{lines_of, TakesLine}
+use Rattle.bus_traces.specs.Lines.{lines_of, TakesLine, BeginsTooLong}
 
 -- no byte is 10
 abbrev pub IsUnbroken : List ℕ → Type 0
@@ -51,6 +51,47 @@ broken (b ∷ line) rest h = let r = broken line rest h.1 in let n = h.0 in grin
 unended : (b : ℕ) (line : List ℕ) → IsUnbroken (b ∷ line) → lines_of (b ∷ line) ≡ (b ∷ line) ∷ []
 unended b [] h = let n = h.0 in grind (arith, n)
 unended b (c ∷ line) h = let r = unended c line h.1 in let n = h.0 in grind (arith, r, n)
+
+-- the first line is at least as long as what has no end in it
+pub record BeginsAt (bytes : List ℕ) (n : ℕ) : Type 0 where
+  pub first : List ℕ
+  pub others : List (List ℕ)
+  pub split : lines_of bytes ≡ first ∷ others
+  pub long : n ≤ length first
+
+-- a byte in front of lines of which the first has at least n bytes
+onto : (b n : ℕ) (bytes : List ℕ) → b ≢ 10 → BeginsAt bytes n → BeginsAt (b ∷ bytes) (n + 1)
+onto b n bytes other r = record {
+  first = b ∷ r.first;
+  others = r.others;
+  split = let e = r.split in grind (arith, e, other);
+  long = let l = r.long in omega (arith, l);
+}
+
+alone : (b : ℕ) (bytes : List ℕ) → b ≢ 10 → BeginsAt (b ∷ bytes) 1
+alone b [] other = record { first = b ∷ []; others = []; split = grind (arith, other); long = omega arith }
+alone b (c ∷ bytes) other =
+    elim (lines_of (c ∷ bytes)) as (λ ls. lines_of (c ∷ bytes) ≡ ls → BeginsAt (b ∷ c ∷ bytes) 1) [
+      | [] ↦ λ e. record { first = b ∷ []; others = []; split = grind (arith, e, other); long = omega arith }
+      | line ∷ lines ↦ λ e. record { first = b ∷ line; others = lines; split = grind (arith, e, other); long = omega arith }
+    ] refl
+
+begins_at : (b : ℕ) (line rest : List ℕ) → IsUnbroken (b ∷ line) → BeginsAt ((b ∷ line) ++ rest) (length (b ∷ line))
+begins_at b [] rest h = alone b rest h.0
+begins_at b (c ∷ line) rest h = rw (← add-one (length (c ∷ line))) (onto b (length (c ∷ line)) ((c ∷ line) ++ rest) h.0 (begins_at c line rest h.1))
+
+-- a line that is full, and a further byte
+pub too_long : (a b c : Option (List ℕ)) (line : List ℕ) (x : ℕ) → Consumes a b line → Consumes b c (x ∷ []) → x ≢ 10 → IsUnbroken line
+    → length line ≡ 1000 → BeginsTooLong a
+too_long None b c line x h k n u full = tt
+too_long (Some l) None c line x h k n u full = absurd h
+too_long (Some l) (Some m) None line x h k n u full = absurd k
+too_long (Some l) (Some m) (Some r) [] x h k n u full = absurd (omega arith)
+too_long (Some l) (Some m) (Some r) (y ∷ line) x h k n u full =
+    let b = begins_at y (line ++ x ∷ []) r (unbroken-append (y ∷ line) x u n) in
+    let whole : l ≡ (y ∷ line ++ x ∷ []) ++ r = h ∙ (ap (λ t. (y ∷ line) ++ t) k ∙ sym (append_assoc (y ∷ line) (x ∷ []) r)) in
+    let long : 1000 < length b.first = let e = b.long in omega (arith, e, length-append line (x ∷ [])) in
+    (b.first, b.others, ap lines_of whole ∙ b.split, long)
 
 -- what a line's end says of the bytes that were there
 pub at_break : (a b c : Option (List ℕ)) (line : List ℕ) → Consumes a b line → Consumes b c (10 ∷ []) → IsUnbroken line → TakesLine a c line

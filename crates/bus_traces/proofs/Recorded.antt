@@ -1,5 +1,5 @@
 -- What a recorder has written of events so far.
-use Rattle.std.proofs.Common.{◌≡◌, ℕ, ◌+◌, List, [], ◌∷◌, ◌++◌, Option, Some, None, refl, ap, sym, ◌∙◌, append_assoc, append-nil, drop, length, ◌<◌, slice_index_or}
+use Rattle.std.proofs.Common.{◌≡◌, ℕ, ◌+◌, List, [], ◌∷◌, ◌++◌, Option, refl, sym, ◌∙◌, append_assoc, append-nil, drop, length, ◌<◌, slice_index_or}
 use Rattle.std.proofs.lemmas.List.{drop_more}
 use Rattle.std.specs.Io.KnownBytes.{Appends}
 use Rattle.cbm_iec.specs.declared.event.Event.{Event}
@@ -7,6 +7,7 @@ use Rattle.bus_traces.specs.declared.cable.Cable.{Cable}
 use Rattle.bus_traces.specs.declared.recorder.TraceForm.{TraceForm}
 use Rattle.bus_traces.specs.Cables.{after}
 use Rattle.bus_traces.specs.Records.{record_event, recorded}
+use Rattle.bus_traces.proofs.Appending.{appends-nothing, appends-more}
 
 -- a text was written, and with what is to be written of the rest it is all of it
 pub record HasRecorded (old new : Option (List ℕ)) (all rest : List ℕ) : Type 0 where
@@ -14,25 +15,15 @@ pub record HasRecorded (old new : Option (List ℕ)) (all rest : List ℕ) : Typ
   pub written : Appends old new text
   pub whole : all ≡ text ++ rest
 
-nothing : (old : Option (List ℕ)) → Appends old old []
-nothing None = tt
-nothing (Some xs) = sym (append-nil xs)
-
-more : (a b c : Option (List ℕ)) (xs ys : List ℕ) → Appends a b xs → Appends b c ys → Appends a c (xs ++ ys)
-more None b c xs ys h k = tt
-more (Some l) None c xs ys h k = absurd h
-more (Some l) (Some m) None xs ys h k = absurd k
-more (Some l) (Some m) (Some n) xs ys h k = k ∙ (ap (λ t. t ++ ys) h ∙ append_assoc l xs ys)
-
 pub has-none : (old : Option (List ℕ)) (all : List ℕ) → HasRecorded old old all all
-has-none old all = record { text = []; written = nothing old; whole = refl }
+has-none old all = record { text = []; written = appends-nothing old; whole = refl }
 
 pub has-more : (old new then : Option (List ℕ)) (all : List ℕ) (form : TraceForm) (last : ℕ) (cable : Cable) (e : Event) (es : List Event)
     → HasRecorded old new all (recorded form last cable (e ∷ es)) → Appends new then (record_event form last cable e)
     → HasRecorded old then all (recorded form e.change.moment (after e cable) es)
 has-more old new then all form last cable e es h k = record {
   text = h.text ++ record_event form last cable e;
-  written = more old new then h.text (record_event form last cable e) h.written k;
+  written = appends-more old new then h.text (record_event form last cable e) h.written k;
   whole = h.whole ∙ sym (append_assoc h.text (record_event form last cable e) (recorded form e.change.moment (after e cable) es));
 }
 

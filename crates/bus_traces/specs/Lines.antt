@@ -1,7 +1,7 @@
--- What a trace's bytes are as lines.
-use Rattle.std.specs.Prelude.{◌≡◌, ℕ, List, [], ◌∷◌, ◌==◌, if◌then◌else◌, ⊤, Option, Some, None, slice_range}
+-- What bytes are as lines.
+use Rattle.std.specs.Prelude.{◌≡◌, ℕ, ◌<◌, List, [], ◌∷◌, length, ◌==◌, if◌then◌else◌, ⊤, Option, Some, None, slice_range}
 use Rattle.std.specs.Io.KnownBytes.{prepend_known, Keeps, IsAtEnd, Consumes}
-use Rattle.bus_traces.specs.declared.source.Source.{Source}
+use Rattle.bus_traces.specs.declared.text.source.Source.{Source}
 
 -- a byte in front of the first line
 abbrev pub onto_first : ℕ → List (List ℕ) → List (List ℕ)
@@ -27,3 +27,8 @@ abbrev pub TakesLine : Option (List ℕ) → Option (List ℕ) → List ℕ → 
 TakesLine None new line = ⊤
 TakesLine (Some xs) None line = ⊥
 TakesLine (Some xs) (Some ys) line = lines_of xs ≡ line ∷ lines_of ys
+
+-- the first line has more than 1,000 bytes
+abbrev pub BeginsTooLong : Option (List ℕ) → Type 0
+BeginsTooLong None = ⊤
+BeginsTooLong (Some xs) = (line : List ℕ) × (lines : List (List ℕ)) × (lines_of xs ≡ line ∷ lines) × (1000 < length line)

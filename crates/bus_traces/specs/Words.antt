@@ -1,4 +1,4 @@
--- The words of a line of a trace, and the numbers in them.
+-- The words of a line, and the numbers in them.
 use Rattle.std.specs.Prelude.{ℕ, ◌+◌, ◌-◌, ◌*◌, List, length, take, drop, fold, Bool, ◌&&◌, ◌==◌, nat_le, Option, Some, None, option_map, option_and_then, if◌then◌else◌, position}
 use Rattle.std.specs.List.{list_all}
 
@@ -6,9 +6,11 @@ use Rattle.std.specs.List.{list_all}
 abbrev pub is_between : ℕ → ℕ → ℕ → Bool
 is_between low high n = nat_le low n && nat_le n high
 
+-- the code of a space
 abbrev pub is_space : ℕ → Bool
 is_space b = b == 32
 
+-- the bytes before a place, or all
 abbrev pub until : Option ℕ → List ℕ → List ℕ
 until None bytes = bytes
 until (Some at) bytes = take at bytes
@@ -21,9 +23,11 @@ first_word bytes = until (position is_space bytes) bytes
 abbrev pub after_word : List ℕ → Option (List ℕ)
 after_word bytes = option_map (λ at. drop (at + 1) bytes) (position is_space bytes)
 
+-- the code of a decimal digit
 abbrev pub is_digit : ℕ → Bool
 is_digit b = is_between 48 57 b
 
+-- the number that decimal digits are
 abbrev pub decimal_value : List ℕ → ℕ
 decimal_value digits = fold (λ n d. 10 * n + (d - 48)) 0 digits
 

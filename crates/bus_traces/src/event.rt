@@ -8,8 +8,7 @@ ghost use Rattle.bus_traces.specs.declared.recorder.TraceForm.TheVariants.{Lines
 ghost use Rattle.bus_traces.specs.Reading.{trace_of, AreOfTrace};
 ghost use Rattle.cbm_iec.specs.declared.event.Event.{Event};
 
-use crate::number::number_upto;
-use crate::words::split_word;
+use crate::text::{number_upto, split_word};
 use arrayvec::ArrayVec;
 use cbm_iec::{Change, Event, Line, Way, Who};
 use itoa::Buffer;

@@ -46,6 +46,17 @@ pub enum Flaw {
     Cut,
 }
 
+/// Why there is no next line.
+#[derive(Clone, Copy, Debug, PartialEq, Eq, Error)]
+pub enum LineFault {
+    /// The reader failed, or was interrupted.
+    #[error("reading failed")]
+    Reading,
+    /// The line has more than 1,000 bytes.
+    #[error("it is too long")]
+    Long,
+}
+
 /// Why a trace can't be read on.
 #[derive(Clone, Copy, Debug, PartialEq, Eq, Error)]
 pub enum TraceFault {

@@ -6,8 +6,8 @@ ghost use Rattle.bus_traces.specs.Lines.{bytes_left, TakesLine};
 ghost use Rattle.bus_traces.specs.Reading.{line_says, EventRead, moment_of_read};
 
 use crate::event::event_of;
-use crate::fault::{Flaw, TraceFault};
-use crate::source::Source;
+use crate::fault::{Flaw, LineFault, TraceFault};
+use crate::text::Source;
 use arrayvec::ArrayVec;
 use cbm_iec::Event;
 use std::io::Read;
@@ -21,21 +21,10 @@ fn next_line<R: Read>(
         (TakesLine (bytes_left R.remaining source.old) (bytes_left R.remaining source.new) line.new.items)
         (IsAtEnd (bytes_left R.remaining source.old))) }
 {
-    line.clear();
-    'bytes: loop {
-        match source.next() {
-            Err(fault) => return Err(fault),
-            Ok(None) => return Ok(!line.is_empty()),
-            Ok(Some(byte)) => {
-                if byte == b'\n' {
-                    return Ok(true);
-                }
-                if line.is_full() {
-                    return Err(source.refused(Flaw::Long));
-                }
-                line.push(byte);
-            }
-        }
+    match source.next_line(line) {
+        Ok(found) => Ok(found),
+        Err(LineFault::Reading) => Err(TraceFault::Reading),
+        Err(LineFault::Long) => Err(source.refused(Flaw::Long)),
     }
 }
 

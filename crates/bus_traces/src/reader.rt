@@ -2,7 +2,7 @@
 
 use crate::fault::TraceFault;
 use crate::lines::next_event;
-use crate::source::Source;
+use crate::text::Source;
 use crate::vcd::Dump;
 use cbm_iec::{Change, Event};
 use std::io::Read;

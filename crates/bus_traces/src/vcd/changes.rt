@@ -2,7 +2,7 @@
 
 use crate::fault::{Flaw, TraceFault};
 use crate::reader::Told;
-use crate::source::Source;
+use crate::text::Source;
 use crate::vcd::header::read_header;
 use crate::vcd::names::Role;
 use crate::vcd::scale::Scale;

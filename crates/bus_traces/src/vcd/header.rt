@@ -1,7 +1,7 @@
 //! The header of a VCD.
 
 use crate::fault::{Flaw, TraceFault};
-use crate::source::Source;
+use crate::text::Source;
 use crate::vcd::names::{lowered, party_called, role_called};
 use crate::vcd::scale::Scale;
 use crate::vcd::sections::{Found, Word, next_word, section_word, skip_section};

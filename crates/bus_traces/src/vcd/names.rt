@@ -1,6 +1,6 @@
 //! What a VCD's scopes and variables are called.
 
-use crate::number::number_upto;
+use crate::text::number_upto;
 use arrayvec::ArrayVec;
 use cbm_iec::{Line, Who};
 

@@ -1,7 +1,7 @@
 //! The words of a VCD, and its sections.
 
 use crate::fault::{Flaw, TraceFault};
-use crate::source::{Source, is_blank};
+use crate::text::{Source, is_blank};
 use arrayvec::ArrayVec;
 use std::io::Read;
 

@@ -1,16 +1,17 @@
-//! The bytes of a reader, and the numbers of its lines.
-ghost use Rattle.std.specs.Prelude.{◌≡◌, ◌<◌, ◌≤◌, [], ◌∷◌, IfOk, OnOk};
+//! The bytes of a reader, its lines, and their numbers.
+ghost use Rattle.std.specs.Prelude.{◌≡◌, ◌<◌, ◌≤◌, [], ◌∷◌, IfOk, IsErrOf, MatchBool, OnOk};
 ghost use Rattle.std.specs.Io.KnownBytes.{Keeps, Consumes, IsAtEnd};
 
-use crate::fault::{Flaw, TraceFault};
+use crate::fault::{Flaw, LineFault, TraceFault};
+use arrayvec::ArrayVec;
 use std::io;
 use std::io::Read;
 
 const BLOCK: usize = 4096;
 
-/// Gives a reader's bytes one at a time, and takes no memory.
+/// Gives a reader's bytes one at a time or line by line, and takes no memory.
 #[derive(Drop)]
-pub(crate) struct Source<R> {
+pub struct Source<R> {
     reader: R,
     block: [u8; BLOCK],
     start: usize,
@@ -26,9 +27,10 @@ pub(crate) fn is_blank(byte: u8) -> bool {
 }
 
 impl<R: Read> Source<R> {
-    ghost use Rattle.bus_traces.specs.Lines.{bytes_left, TakesByte};
+    ghost use Rattle.bus_traces.specs.Lines.{bytes_left, TakesByte, TakesLine, BeginsTooLong};
 
-    pub(crate) fn new(reader: R) -> Source<R>
+    /// The bytes of a reader, from which nothing was read yet.
+    pub fn new(reader: R) -> Source<R>
         ensures { bytes_left R.remaining result ≡ R.remaining reader }
     {
         Source {
@@ -95,6 +97,32 @@ impl<R: Read> Source<R> {
         let byte = self.take_byte();
         self.count(byte);
         Ok(Some(byte))
+    }
+
+    /// Puts the next line, without its end, into `line`, and answers whether there was one. An interrupted read is a fault as any
+    /// other. Errors: `Reading`, or `Long` for a line of more than 1,000 bytes. After an error nothing is promised of later lines.
+    pub fn next_line(&mut self, line: &mut ArrayVec<u8, 1000>) -> Result<bool, LineFault>
+        ensures line { IfOk result (λ found. MatchBool found
+            (TakesLine (bytes_left R.remaining self.old) (bytes_left R.remaining self.new) line.new.items)
+            (IsAtEnd (bytes_left R.remaining self.old))) }
+        ensures long { IsErrOf result LineFault.Long → BeginsTooLong (bytes_left R.remaining self.old) }
+    {
+        line.clear();
+        'bytes: loop {
+            match self.next() {
+                Err(_) => return Err(LineFault::Reading),
+                Ok(None) => return Ok(!line.is_empty()),
+                Ok(Some(byte)) => {
+                    if byte == b'\n' {
+                        return Ok(true);
+                    }
+                    if line.is_full() {
+                        return Err(LineFault::Long);
+                    }
+                    line.push(byte);
+                }
+            }
+        }
     }
 
     /// The byte that comes after blanks and ends of lines, which stays; None at the end. Error: `Reading`.
