@@ -15,7 +15,8 @@ use Rattle.cbm_host.specs.declared.request.Request as asks
 use Rattle.cbm_program.specs.Output.{AppendsPart}
 use Rattle.cbm_program.specs.Scripts.{hex, eoi_mark, bytes_text, get_line}
 use Rattle.cbm_program.specs.Units.{unit_text, said_text, get_head, PrintsRest, PrintsRestPart}
-use Rattle.cbm_program.proofs.OutputLemmas.{appends-nothing, appends-more, part_behind, part_before}
+use Rattle.bus_traces.proofs.Appending.{appends-nothing, appends-more}
+use Rattle.cbm_program.proofs.OutputLemmas.{part_behind, part_before}
 
 -- ---- texts
 

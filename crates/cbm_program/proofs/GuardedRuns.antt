@@ -23,7 +23,7 @@ use Rattle.cbm_host.specs.Served as served
 use Rattle.cbm_host.specs.Served.{puts, hear, says, talked_at, status_said}
 use Rattle.cbm_program.proofs.Along.{kept_along}
 use Rattle.cbm_program.proofs.Guarded.{IsGuarded, guarded_start, if_both, closes, takes, talks, talks_keeping, listens, puts_one, opens, ends_put}
-use Rattle.cbm_program.proofs.StartLemmas.{PrintedBehind}
+use Rattle.cbm_program.specs.Outcome.{IsServed}
 use Rattle.cbm_program.proofs.TraceLemmas.{Left}
 use Rattle.cbm_program.specs.Starts.{StartsOn}
 use Rattle.cbm_program.specs.Running.{script_of}
@@ -120,8 +120,8 @@ module _ (tracks : ℕ) (content : Content) (protected : Bool) (is : protected �
   holds m n s g = subst (λ (x : Disk). HoldsDisk tracks content x) (sym g.1) s.1
 
   -- what was held before, is held after the script
-  pub kept-behind : (pace : Pace) (checks : Bool) (a b x : Option (List ℕ)) (now : Machine → Type 0) → PrintedBehind pace checks a b x (StartsOn tracks content protected) now
-      → PrintedBehind pace checks a b x (StartsOn tracks content protected) (λ m. HoldsDisk tracks content m.disk)
+  pub kept-behind : (pace : Pace) (checks : Bool) (a b x : Option (List ℕ)) (now : Machine → Type 0) → IsServed pace checks x a b (StartsOn tracks content protected) now
+      → IsServed pace checks x a b (StartsOn tracks content protected) (λ m. HoldsDisk tracks content m.disk)
   kept-behind pace checks a b None now h = tt
   kept-behind pace checks a b (Some xs) now h = λ m s. ((h m s).0, holds m (printed pace (script_of xs).requests m).machine s (all s.0 pace (script_of xs).requests m (starts m s)))
 

@@ -7,9 +7,7 @@ pub mod CommandRows
 pub mod AppendRows
 pub mod RecordRows
 pub mod ProtectedRows
-pub mod LineLemmas
 pub mod TextLemmas
-pub mod NumberLemmas
 pub mod OutputLemmas
 pub mod BytesPrinted
 pub mod StatusLemmas
@@ -20,6 +18,7 @@ pub mod Playing
 pub mod TimedLines
 pub mod TraceLemmas
 pub mod StartLemmas
+pub mod Outcomes
 pub mod ReadingBack
 pub mod Guarded
 pub mod Along

@@ -1,7 +1,8 @@
 -- What a line of a script prints.
 use Rattle.cbm_iec.specs.declared.pace.Pace.{Pace}
 use Rattle.std.proofs.Common.{◌≡◌, ℕ, List, [], ◌∷◌, Option, sym, subst, append-nil, Ok, Err}
-use Rattle.std.specs.Prelude.{Result, OnOk, OnErr}
+use Rattle.std.specs.Prelude.{Result, OnOk, OnErr, IfErr}
+use Rattle.cbm_program.specs.declared.fault.RunFault.{RunFault}
 use Rattle.std.specs.Io.KnownBytes.{Appends, Keeps}
 use Rattle.cbm_drive.specs.Machines.{Machine}
 use Rattle.cbm_program.specs.declared.request.Request.{Request}
@@ -10,7 +11,8 @@ use Rattle.cbm_program.specs.declared.line.Line.TheVariants.{Asks}
 use Rattle.cbm_program.specs.Scripts.{printed, printed_by}
 use Rattle.cbm_program.specs.Output.{Prints, PrintsPart}
 use Rattle.cbm_program.specs.Running.{requests_in}
-use Rattle.cbm_program.proofs.OutputLemmas.{appends-kept, part_before, whole_part}
+use Rattle.bus_traces.proofs.Appending.{appends-kept}
+use Rattle.cbm_program.proofs.OutputLemmas.{part_before, whole_part}
 
 one-prints : (pace : Pace) (a b c : Option (List ℕ)) (stood now : Machine → Type 0) (request : Request)
     → Prints a b stood now (printed_by pace request) → Keeps b c
@@ -43,3 +45,10 @@ if_ok (Err e) p = tt
 pub if_err : {A E P : Type 0} (r : Result A E) → P → OnErr r P
 if_err (Ok a) p = tt
 if_err (Err e) p = p
+
+-- a fault that is handed on: nothing is promised of what is done, and it is the same fault
+pub none_ok : {A : Type 0} (r : Result A RunFault) (f : RunFault) (P : Type 0) → r ≡ Err f → OnOk r P
+none_ok r f P e = subst (λ v. OnOk v P) (sym e) tt
+
+pub same_err : {A : Type 0} (r : Result A RunFault) (f : RunFault) (P : RunFault → Type 0) → r ≡ Err f → P f → IfErr r P
+same_err r f P e h = subst (λ v. IfErr v P) (sym e) h

@@ -1,23 +1,8 @@
 -- Text that was written piece by piece.
-use Rattle.std.proofs.Common.{◌≡◌, ℕ, List, [], ◌++◌, take, drop, Option, Some, None, ap, sym, ◌∙◌, append_assoc, append-nil, take-append-drop}
+use Rattle.std.proofs.Common.{◌≡◌, ℕ, List, [], ◌++◌, take, drop, Option, ap, sym, ◌∙◌, append_assoc, append-nil, take-append-drop}
 use Rattle.std.specs.Io.KnownBytes.{Appends, Keeps}
+use Rattle.bus_traces.proofs.Appending.{appends-nothing, appends-more, appends-kept}
 use Rattle.cbm_program.specs.Output.{AppendsPart, Grows}
-
-pub appends-nothing : (o : Option (List ℕ)) → Appends o o []
-appends-nothing None = tt
-appends-nothing (Some xs) = sym (append-nil xs)
-
-pub appends-more : (a b c : Option (List ℕ)) (xs ys : List ℕ) → Appends a b xs → Appends b c ys → Appends a c (xs ++ ys)
-appends-more None b c xs ys h k = tt
-appends-more (Some l) None c xs ys h k = absurd h
-appends-more (Some l) (Some m) None xs ys h k = absurd k
-appends-more (Some l) (Some m) (Some n) xs ys h k = k ∙ (ap (λ t. t ++ ys) h ∙ append_assoc l xs ys)
-
-pub appends-kept : (a b c : Option (List ℕ)) (xs : List ℕ) → Appends a b xs → Keeps b c → Appends a c xs
-appends-kept None b c xs h k = tt
-appends-kept (Some l) None c xs h k = absurd h
-appends-kept (Some l) (Some m) None xs h k = absurd k
-appends-kept (Some l) (Some m) (Some n) xs h k = k ∙ h
 
 -- what only grows
 pub grows_none : (o : Option (List ℕ)) → Grows o o

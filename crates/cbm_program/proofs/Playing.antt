@@ -22,19 +22,21 @@ use Rattle.cbm_drive.specs.Ordered.{host_changes, latest}
 use Rattle.cbm_drive.specs.Players.{Turns, pending}
 use Rattle.cbm_drive.specs.Seats.{Seated, IsBusAt, AreInTime, AreLater, numbers}
 use Rattle.cbm_drive.proofs.Kept.{kept_after}
-use Rattle.cbm_program.specs.Lines.{lines_of, TakesLine}
+use Rattle.bus_traces.specs.Lines.{lines_of, TakesLine}
 use Rattle.cbm_program.specs.Output.{AppendsPart, Grows}
 use Rattle.cbm_program.specs.Running.{EndsAs}
 use Rattle.cbm_program.specs.Staging.{IsOpen, IsAt, IsBorne, IsFresh, PlaysOn, PlaysPart, Ends, ReplaysOn, ReplaysTo, tracks_in}
 use Rattle.cbm_program.specs.TimedReading.{ReadsTimed, LacksTimed, TimedRead, IsBadBehind, BehindRead}
 use Rattle.cbm_program.specs.Timetables.{Timetable, timetable_of, timetable_from, timed_meaning, with_timed, stopped_at, ended_at, latest_if, bad_behind}
-use Rattle.cbm_program.specs.Traces.{PrintsTrace, PrintsTracePart, trace_text, powered, replaying, machines_of, HasWritten, WritesTrace}
+use Rattle.bus_traces.specs.Events.{trace_text}
+use Rattle.cbm_program.specs.Traces.{PrintsTrace, PrintsTracePart, powered, replaying, machines_of, HasWritten, WritesTrace}
 use Rattle.cbm_program.specs.declared.fault.RunFault.{RunFault}
 use Rattle.cbm_program.specs.declared.fault.RunFault.TheVariants.{Script, Image, Memory, Reading, Writing}
 use Rattle.cbm_program.specs.declared.wires.timed.Timed.{Timed}
 use Rattle.cbm_program.specs.declared.wires.timed.Timed.TheVariants.{Skipped, Changes, Ends as EndsAt}
-use Rattle.cbm_program.proofs.OutputLemmas.{appends-more, appends-kept, part_behind, whole_part}
-use Rattle.cbm_program.proofs.Staging.{text_on, hosts_on, made_then, made_kept, replays_none, replays_then, replays_kept}
+use Rattle.bus_traces.proofs.Appending.{appends-more, appends-kept, text_on}
+use Rattle.cbm_program.proofs.OutputLemmas.{part_behind, whole_part}
+use Rattle.cbm_program.proofs.Staging.{hosts_on, made_then, made_kept, replays_none, replays_then, replays_kept}
 
 -- ---- the lines of a timetable
 

@@ -2,11 +2,11 @@
 use Rattle.std.proofs.Common.{◌≡◌, ℕ, ◌+◌, ◌*◌, ◌/◌, ◌%◌, ◌<◌, List, [], ◌∷◌, Some, refl, ap, ◌∙◌, arith, true}
 use Rattle.std.specs.Prelude.{◌≢◌}
 use Rattle.std.proofs.lemmas.List.Elements.{All-head, All-tail}
-use Rattle.cbm_program.specs.Lines.{lines_of}
+use Rattle.bus_traces.specs.Lines.{lines_of}
 use Rattle.cbm_program.specs.Texts.{is_hex, is_plain, hex_value, with_front, text_of}
 use Rattle.cbm_program.specs.Scripts.{hex_digit}
 use Rattle.cbm_program.specs.Spelling.{ended_lines, IsLine, AreLines, escapes, AreBytes, ArePlain}
-use Rattle.cbm_program.proofs.LineLemmas.{IsUnbroken, broken}
+use Rattle.bus_traces.proofs.LineLemmas.{IsUnbroken, broken}
 use Rattle.cbm_program.proofs.TextLemmas.{text_of-plain, text_of-escape}
 
 unbroken : (line : List ℕ) → IsLine line → IsUnbroken line

@@ -1,6 +1,6 @@
 -- A script that runs, line by line.
 use Rattle.cbm_iec.specs.declared.pace.Pace.{Pace}
-use Rattle.std.proofs.Common.{arith, ◌≡◌, ℕ, ◌+◌, ◌<◌, ◌≤◌, List, [], ◌∷◌, ◌++◌, Option, Some, None, refl, ap, sym, ◌∙◌, append_assoc, append-nil, subst}
+use Rattle.std.proofs.Common.{arith, false, ◌≡◌, ℕ, ◌+◌, ◌<◌, ◌≤◌, List, [], ◌∷◌, ◌++◌, Option, Some, None, refl, ap, sym, ◌∙◌, append_assoc, append-nil, subst}
 use Rattle.std.specs.Prelude.{IfSome, Result, Ok, Err}
 use Rattle.std.specs.Io.KnownBytes.{Appends, IsAtEnd}
 use Rattle.cbm_drive.specs.Machines.{Machine}
@@ -11,11 +11,13 @@ use Rattle.cbm_program.specs.declared.fault.RunFault.{RunFault}
 use Rattle.cbm_program.specs.declared.fault.RunFault.TheVariants.{Script, Image, Memory, Reading, Writing}
 use Rattle.cbm_host.specs.Requests.{longest}
 use Rattle.cbm_iec.specs.declared.pace.Pace.TheVariants.{Profile, Kernal}
-use Rattle.cbm_program.specs.Lines.{lines_of}
+use Rattle.bus_traces.specs.Lines.{lines_of}
 use Rattle.cbm_program.specs.Scripts.{printed, printed_by}
+use Rattle.cbm_program.specs.Outcome.{IsServedTo, IsServedPart}
 use Rattle.cbm_program.specs.Output.{AppendsPart, Prints, PrintsPart}
 use Rattle.cbm_program.specs.Running.{requests_in, meaning, Asked, refused_at, with_line, asked_from, script_of, ReadsLine, ComesBad, LineRead, LineIsInRange, EndsAs, IsOfWriting}
-use Rattle.cbm_program.proofs.OutputLemmas.{appends-nothing, appends-more, part_behind, part_before, whole_part}
+use Rattle.bus_traces.proofs.Appending.{appends-nothing, appends-more}
+use Rattle.cbm_program.proofs.OutputLemmas.{part_behind, part_before, whole_part}
 
 -- ---- requests behind requests
 
@@ -112,7 +114,7 @@ run-line pace a b c x l k stood now next n line r t p = record {
 
 -- a beginning of what all the input prints
 abbrev pub Begun : Pace → Option (List ℕ) → Option (List ℕ) → Option (List ℕ) → (Machine → Type 0) → Type 0
-Begun pace a b x stood = IfSome x (λ input. PrintsPart a b stood (printed pace (script_of input).requests))
+Begun pace a b x stood = IsServedPart pace false x a b stood
 
 begun : (pace : Pace) (a b : Option (List ℕ)) (stood : Machine → Type 0) (done : List Request) (asked rest : Asked) → asked ≡ behind done rest
     → PrintsPart a b stood (printed pace done)
@@ -154,8 +156,7 @@ run-broken pace a b c (Some xs) (Some ys) (Some zs) stood now n line r t p =
 -- ---- the run's end: at the script's end, or at a bad line
 
 abbrev pub Ended : Pace → Option (List ℕ) → Option (List ℕ) → Option (List ℕ) → (Machine → Type 0) → (Machine → Type 0) → Option ℕ → Type 0
-Ended pace a b x stood now bad = IfSome x (λ input. ((script_of input).bad ≡ bad)
-    × Prints a b stood now (printed pace (script_of input).requests))
+Ended pace a b x stood now bad = IsServedTo pace false x a b stood now bad
 
 ended : (pace : Pace) (a b : Option (List ℕ)) (xs : List ℕ) (stood now : Machine → Type 0) (done : List Request) (bad : Option ℕ) → script_of xs ≡ behind done (refused_at bad)
     → Prints a b stood now (printed pace done) → Ended pace a b (Some xs) stood now bad

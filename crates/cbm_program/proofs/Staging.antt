@@ -30,14 +30,12 @@ use Rattle.cbm_drive.specs.Players.{Turns, at_start, pending, IsDrives, IsTurnOf
 use Rattle.cbm_drive.specs.Seats.{Seated, IsSeat, IsBusAt, IsWithout, held_by}
 use Rattle.cbm_program.specs.Output.{AppendsPart}
 use Rattle.cbm_program.specs.Staging.{HasMade, IsAt, HasPlayedOn, HasPlayedPart, PlaysOn, Ends, IsReplayed, ReplaysOn, ReplaysTo, IsFresh}
-use Rattle.cbm_program.specs.Traces.{trace_text, event_text, powered, replaying}
-use Rattle.cbm_program.proofs.OutputLemmas.{appends-nothing, appends-more, appends-kept, part_behind, part_before}
+use Rattle.bus_traces.specs.Events.{trace_text, event_text}
+use Rattle.cbm_program.specs.Traces.{powered, replaying}
+use Rattle.bus_traces.proofs.Appending.{appends-nothing, appends-more, appends-kept, text_on, text_one}
+use Rattle.cbm_program.proofs.OutputLemmas.{part_behind, part_before}
 
--- ---- events and their text
-
-pub text_on : (xs ys : List Event) → trace_text (xs ++ ys) ≡ trace_text xs ++ trace_text ys
-text_on [] ys = refl
-text_on (x ∷ xs) ys = ap (λ t. event_text x ++ t) (text_on xs ys) ∙ sym (append_assoc (event_text x) (trace_text xs) (trace_text ys))
+-- ---- the host's changes
 
 pub hosts_on : (xs ys : List Event) → host_changes (xs ++ ys) ≡ host_changes xs ++ host_changes ys
 hosts_on [] ys = refl
@@ -90,9 +88,6 @@ not_host (Drive d) h = tt
 pub what_comes : (w : Option Change) (c : Change) (P : Type 0) → w ≡ Some c → IfSome w (λ d. d.moment ≤ c.moment → P) → P
 what_comes None c P e h = absurd (cc)
 what_comes (Some d) c P e h = (let same : d ≡ c = cc in h (subst (λ (x : Change). d.moment ≤ x.moment) same (omega arith)))
-
-text_one : (e : Event) → trace_text (e ∷ []) ≡ event_text e
-text_one e = append-nil (event_text e)
 
 -- ---- what was made of any machine above the drive
 

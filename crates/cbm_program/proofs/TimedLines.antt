@@ -4,7 +4,7 @@ use Rattle.std.specs.Prelude.{Result, Ok, Err, MatchBool, nat_lt, if◌then◌el
 use Rattle.std.specs.Io.KnownBytes.{IsAtEnd}
 use Rattle.std.proofs.lemmas.Bool.{le-ltb}
 use Rattle.cbm_program.specs.Beginnings.{BytesRead, MayNotStand}
-use Rattle.cbm_program.specs.Lines.{lines_of, TakesLine}
+use Rattle.bus_traces.specs.Lines.{lines_of, TakesLine}
 use Rattle.cbm_program.specs.Running.{may_stand}
 use Rattle.cbm_program.specs.Timed.{timed_of, timed_behind, is_skipped}
 use Rattle.cbm_program.specs.TimedReading.{IsBadBehind, BehindRead}

@@ -7,15 +7,16 @@ use Rattle.cbm_session.specs.Playing.{stays}
 use Rattle.cbm_drive.specs.Machines.{Machine}
 use Rattle.cbm_program.specs.Beginnings.{NotTimed, FirstRead}
 use Rattle.cbm_program.specs.Checking.{checked_text}
-use Rattle.cbm_program.specs.Lines.{lines_of, TakesLine}
-use Rattle.cbm_program.specs.Output.{AppendsPart, PrintsPart}
-use Rattle.cbm_program.specs.Running.{EndsAs, EndsBy, script_of}
-use Rattle.cbm_program.specs.Scripts.{printed}
+use Rattle.bus_traces.specs.Lines.{lines_of, TakesLine}
+use Rattle.cbm_program.specs.Output.{AppendsPart}
+use Rattle.cbm_program.specs.Running.{EndsAs, EndsBy}
 use Rattle.cbm_program.specs.Timetables.{Timetable, of_requests, of_changes, script_if, begins_timed, is_timed, timetable_of}
-use Rattle.cbm_program.specs.Traces.{IsTraceBegun, PrintsTrace, PrintsTracePart, WritesTrace, trace_text, powered}
+use Rattle.bus_traces.specs.Events.{trace_text}
+use Rattle.cbm_program.specs.Traces.{IsTraceBegun, PrintsTrace, PrintsTracePart, WritesTrace, powered}
 use Rattle.cbm_program.specs.declared.fault.RunFault.{RunFault}
 use Rattle.cbm_program.specs.declared.fault.RunFault.TheVariants.{Script, Image, Memory, Reading, Writing}
-use Rattle.cbm_program.proofs.OutputLemmas.{appends-nothing, appends-more, part_behind, part_before, whole_part}
+use Rattle.bus_traces.proofs.Appending.{appends-nothing, appends-more}
+use Rattle.cbm_program.proofs.OutputLemmas.{part_behind, part_before, whole_part}
 use Rattle.cbm_program.proofs.RunLemmas.{Ended, faulted, run-start}
 use Rattle.cbm_program.proofs.StartLemmas.{AreAmong, Said, ended-among}
 
@@ -111,7 +112,7 @@ pub first-ended : {A : Type 0} (pace : Pace) (a x k : Option (List ℕ)) (stood 
 first-ended pace a x k stood now then r (Script bad) h e =
     let base : Ended pace a a x stood stood (Some bad) = faulted {A = Unit {0}} pace a a x x k stood stood 1 (Err (Script bad)) (Script bad) (run-start pace a x x stood refl) h.0 refl in
     subst (λ v. EndsAs v (λ b. Ended pace a a (of_requests x) stood now b)) (sym e)
-    (ended-among pace a a (of_requests x) stood stood stood now (Some bad) (λ m s. s) then (subst (λ o. Ended pace a a o stood stood (Some bad)) (sym (requests_are x h.1)) base))
+    (ended-among pace false a a stood stood stood now (λ m s. s) then (of_requests x) (Some bad) (subst (λ o. Ended pace a a o stood stood (Some bad)) (sym (requests_are x h.1)) base))
 first-ended pace a x k stood now then r (Image n) h e = absurd h
 first-ended pace a x k stood now then r Memory h e = absurd h
 first-ended pace a x k stood now then r Reading h e = subst (λ v. EndsAs v (λ b. Ended pace a a (of_requests x) stood now b)) (sym e) tt
@@ -136,10 +137,6 @@ first-wrote drive a y x k same r (Image n) h e = absurd h
 first-wrote drive a y x k same r Memory h e = absurd h
 first-wrote drive a y x k same r Reading h e = subst (λ v. EndsAs v (λ b. WritesTrace drive (of_changes x) a a b)) (sym e) tt
 first-wrote drive a y x k same r Writing h e = absurd h
-
-pub nothing-printed : (pace : Pace) (a x : Option (List ℕ)) (stood : Machine → Type 0) → IfSome x (λ input. PrintsPart a a stood (printed pace (script_of input).requests))
-nothing-printed pace a None stood = tt
-nothing-printed pace a (Some xs) stood = λ m s. ([], (printed pace (script_of xs).requests m).text, appends-nothing a, refl)
 
 -- ---- results
 

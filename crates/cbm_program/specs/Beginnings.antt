@@ -1,7 +1,7 @@
 -- What the reading of a line says, and of the first line of a script.
 use Rattle.std.specs.Prelude.{◌≡◌, ◌<◌, ℕ, List, ◌∷◌, codes, Bool, true, false, Option, Some, None, Result, Ok, Err, IfSome}
 use Rattle.std.specs.Io.KnownBytes.{IsAtEnd}
-use Rattle.cbm_program.specs.Lines.{lines_of, TakesLine}
+use Rattle.bus_traces.specs.Lines.{lines_of, TakesLine}
 use Rattle.cbm_program.specs.Running.{may_stand, LineRead, LineIsInRange}
 use Rattle.cbm_program.specs.Timetables.{is_timed}
 use Rattle.cbm_program.specs.declared.fault.RunFault.{RunFault}

@@ -1,7 +1,10 @@
 -- What is printed of a check, before a script runs.
-use Rattle.std.specs.Prelude.{ℕ, ◌⊎◌, List, [], ◌++◌, codes, decimal, Bool, if◌then◌else◌, Option, Result, Ok, Err}
+use Rattle.std.specs.Prelude.{ℕ, ◌≡◌, ◌⊎◌, List, [], ◌++◌, codes, decimal, Bool, true, if◌then◌else◌, Option, Result, Ok, Err, OnOk, OnErr, IfErr}
 use Rattle.std.specs.Io.KnownBytes.{Appends}
+use Rattle.cbm_file.specs.Files.{Disk}
 use Rattle.cbm_medium.specs.Content.{Content}
+use Rattle.cbm_medium.specs.Seen.{Seen}
+use Rattle.cbm_volume.specs.Holding.{HoldsDisk}
 use Rattle.cbm_volume.specs.Map.{geometry_of}
 use Rattle.cbm_volume.specs.Layouts.{Layout, Sound}
 use Rattle.cbm_volume.specs.check.WholeDisk.{DiskFault}
@@ -9,7 +12,9 @@ use Rattle.cbm_volume.specs.declared.Unsound.{Unsound}
 use Rattle.cbm_drive.specs.Machines.{Machine}
 use Rattle.cbm_iec.specs.declared.pace.Pace.{Pace}
 use Rattle.cbm_program.specs.declared.request.Request.{Request}
-use Rattle.cbm_program.specs.Output.{Grows}
+use Rattle.cbm_program.specs.declared.fault.RunFault.{RunFault}
+use Rattle.cbm_program.specs.Output.{AppendsPart, Grows}
+use Rattle.cbm_program.specs.Running.{IsOfWriting}
 use Rattle.cbm_program.specs.Scripts.{Printed, printed}
 
 -- the line of a sound disk
@@ -34,6 +39,15 @@ abbrev pub IsCheckPrinted : ℕ → Content → Option (List ℕ) → Option (Li
 IsCheckPrinted tracks content old new =
     (((l : Layout) × Sound (geometry_of tracks content) content l) × Appends old new sound_line)
     ⊎ ((u : Unsound) × DiskFault (geometry_of tracks content) content u × Appends old new (unsound_line u))
+
+-- THE LINE OF A CHECK was printed, if one is asked for, of a medium that shows this: of each disk that it holds that of a sound one; at a fault, which is one of writing, a beginning of it.
+pub record PrintsCheck {A : Type 0} (result : Result A RunFault) (shows : Seen) (checks : Bool) (old new : Option (List ℕ)) : Type 0 where
+  pub ok : (d : Disk) → HoldsDisk shows.tracks shows.content d → OnOk result (Appends old new (checked_text checks))
+  pub err : (d : Disk) → HoldsDisk shows.tracks shows.content d → OnErr result (AppendsPart old new (checked_text checks))
+  -- Of any medium the line is that of what is wrong, or of a sound disk.
+  pub said : checks ≡ true → OnOk result (IsCheckPrinted shows.tracks shows.content old new)
+  pub grows : Grows old new
+  pub fault : IfErr result IsOfWriting
 
 -- The line of the check was printed first, and only then anything else.
 abbrev pub IsCheckedFirst : ℕ → Content → Option (List ℕ) → Option (List ℕ) → Type 0

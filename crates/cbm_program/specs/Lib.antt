@@ -1,5 +1,4 @@
 pub mod Scripts
-pub mod Lines
 pub mod Texts
 pub mod Words
 pub mod Requests
@@ -7,6 +6,7 @@ pub mod Faults
 pub mod Output
 pub mod Units
 pub mod Running
+pub mod Performing
 pub mod Spelling
 pub mod Checking
 pub mod Starts

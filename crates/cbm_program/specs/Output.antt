@@ -1,8 +1,10 @@
 -- What is written of what a machine prints.
-use Rattle.std.specs.Prelude.{◌≡◌, List, ℕ, ◌++◌, Option}
+use Rattle.std.specs.Prelude.{◌≡◌, List, ℕ, ◌++◌, Option, Result, OnOk, OnErr, IfErr}
 use Rattle.std.specs.Io.KnownBytes.{Appends}
 use Rattle.cbm_drive.specs.Machines.{Machine}
+use Rattle.cbm_program.specs.Running.{IsOfWriting}
 use Rattle.cbm_program.specs.Scripts.{Printed}
+use Rattle.cbm_program.specs.declared.fault.RunFault.{RunFault}
 
 -- the known bytes grew by a beginning of these
 abbrev pub AppendsPart : Option (List ℕ) → Option (List ℕ) → List ℕ → Type 0
@@ -11,6 +13,13 @@ AppendsPart old new bytes = (part : List ℕ) × (rest : List ℕ) × Appends ol
 -- known bytes only grew
 abbrev pub Grows : Option (List ℕ) → Option (List ℕ) → Type 0
 Grows old new = (more : List ℕ) × Appends old new more
+
+-- BYTES WERE WRITTEN; at a fault, which is one of writing, a beginning of them was.
+pub record Writes {A : Type 0} (result : Result A RunFault) (old new : Option (List ℕ)) (bytes : List ℕ) : Type 0 where
+  pub ok : OnOk result (Appends old new bytes)
+  pub err : OnErr result (AppendsPart old new bytes)
+  pub grows : Grows old new
+  pub fault : IfErr result IsOfWriting
 
 -- For each machine that was represented before, what it prints was written, and the machine after it is represented now.
 abbrev pub Prints : Option (List ℕ) → Option (List ℕ) → (Machine → Type 0) → (Machine → Type 0) → (Machine → Printed) → Type 0

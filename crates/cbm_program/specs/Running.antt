@@ -7,7 +7,7 @@ use Rattle.cbm_program.specs.declared.line.Line.{Line}
 use Rattle.cbm_program.specs.declared.line.Line.TheVariants.{Skipped, Asks}
 use Rattle.cbm_program.specs.declared.fault.RunFault.{RunFault}
 use Rattle.cbm_program.specs.declared.fault.RunFault.TheVariants.{Script, Image, Memory, Reading, Writing}
-use Rattle.cbm_program.specs.Lines.{lines_of}
+use Rattle.bus_traces.specs.Lines.{lines_of}
 use Rattle.cbm_program.specs.Requests.{line_of}
 
 -- ---- the numbers of requests
@@ -98,6 +98,14 @@ LineRead old new n (Err Writing) = ⊥
 -- a fault of writing
 abbrev pub IsOfWriting : RunFault → Type 0
 IsOfWriting f = f ≡ Writing
+
+-- a fault that is neither of the image nor of memory: a line that is refused, or reading or writing
+abbrev pub IsOfScript : RunFault → Type 0
+IsOfScript (Script line) = Unit {0}
+IsOfScript (Image number) = ⊥
+IsOfScript Memory = ⊥
+IsOfScript Reading = Unit {0}
+IsOfScript Writing = Unit {0}
 
 -- P of the number of a bad line; any other fault says nothing
 abbrev pub EndsBy : RunFault → (Option ℕ → Type 0) → Type 0

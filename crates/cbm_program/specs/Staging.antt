@@ -1,11 +1,10 @@
 -- A drive under a host whose changes are made one at a time, and printed with what comes of them.
-use Rattle.std.specs.Prelude.{Bool, ◌≡◌, ◌≤◌, ℕ, List, [], ◌∷◌, ◌++◌, Option, None}
+use Rattle.std.specs.Prelude.{Bool, ◌≡◌, ◌≤◌, ℕ, List, [], ◌∷◌, ◌++◌, Option, None, Result, OnErr, IfErr}
 use Rattle.std.specs.Io.KnownBytes.{Appends}
 use Rattle.cbm_iec.specs.declared.act.Act.{Act}
 use Rattle.cbm_iec.specs.declared.event.Event.{Event}
 use Rattle.cbm_iec.specs.declared.line.Change.{Change}
 use Rattle.cbm_iec.specs.declared.party.Party.{Party}
-use Rattle.cbm_medium.specs.Content.{Content}
 use Rattle.cbm_medium.specs.Seen.{Seen}
 use Rattle.cbm_session.specs.Playing.{Station, Plays}
 use Rattle.cbm_file.specs.Files.{Disk}
@@ -18,8 +17,11 @@ use Rattle.cbm_drive.specs.Ordered.{host_changes}
 use Rattle.cbm_drive.specs.Players.{Turns, IsAfter, IsFinished}
 use Rattle.cbm_drive.specs.Seats.{Seated, numbers}
 use Rattle.cbm_volume.specs.Holding.{HoldsDisk}
-use Rattle.cbm_program.specs.Output.{AppendsPart}
-use Rattle.cbm_program.specs.Traces.{trace_text, powered, replaying}
+use Rattle.cbm_program.specs.declared.fault.RunFault.{RunFault}
+use Rattle.cbm_program.specs.Output.{AppendsPart, Grows}
+use Rattle.cbm_program.specs.Running.{IsOfWriting}
+use Rattle.bus_traces.specs.Events.{trace_text}
+use Rattle.cbm_program.specs.Traces.{powered, replaying}
 
 -- No change is pending, none is still to be given, and the host's next one may come from this moment on.
 pub record IsOpen (p : Turns) (moment : ℕ) : Type 0 where
@@ -55,9 +57,13 @@ module _ {M : Type 0} (seen : M → Seen) where
   abbrev pub IsAt : Turns → Cabled (Desk (Kept M)) → List (Station (Desk Machine)) → List Event → Type 0
   IsAt p b ss es = IsAfter (Desk (Kept M)) (Desk Machine) (DeskStands seen) desk_step desk_says p b 0 ss es
 
-  -- the drive is at power up, with each disk that this content holds
-  abbrev pub StandsOn : ℕ → Content → Bool → Party → Turns → Cabled (Desk (Kept M)) → Type 0
-  StandsOn tracks content protected drive p b = (d : Disk) → HoldsDisk tracks content d → IsAt p b (powered drive (start d protected tracks)) []
+  -- the drive is at power up, for a machine
+  abbrev pub IsSwitchedOn : Party → Turns → Cabled (Desk (Kept M)) → Machine → Type 0
+  IsSwitchedOn drive p b m = IsAt p b (powered drive m) []
+
+  -- the same with each disk that a medium which shows this holds
+  abbrev pub StandsOn : Seen → Party → Turns → Cabled (Desk (Kept M)) → Type 0
+  StandsOn shows drive p b = (d : Disk) → HoldsDisk shows.tracks shows.content d → IsSwitchedOn drive p b (start d shows.protected shows.tracks)
 
   -- what was played of a drive that represents a machine of named files
   abbrev pub HasPlayedOn : Option (List ℕ) → Option (List ℕ) → List Change → Turns → Cabled (Desk (Kept M)) → List (Station (Desk Machine)) → List Event → Type 0
@@ -88,6 +94,13 @@ module _ {M : Type 0} (seen : M → Seen) where
   -- the drive was played to an end, wherever it was before
   abbrev pub Ends : Option (List ℕ) → Option (List ℕ) → ℕ → Turns → Cabled (Desk (Kept M)) → Turns → Cabled (Desk (Kept M)) → Type 0
   Ends a b end p x q y = (ss : List (Station (Desk Machine))) (es : List Event) → IsAt p x ss es → HasEnded a b end q y ss es
+
+  -- WHAT WAS PLAYED was written; at a fault, which is one of writing, a beginning of what comes of these changes. The disk has as many tracks as before.
+  pub record HasStaged {A : Type 0} (result : Result A RunFault) (a b : Option (List ℕ)) (cs : List Change) (p : Turns) (x y : Cabled (Desk (Kept M))) : Type 0 where
+    pub err : OnErr result (PlaysPart a b cs p x)
+    pub fault : IfErr result IsOfWriting
+    pub grows : Grows a b
+    pub tracks : tracks_in y ≡ tracks_in x
 
 module _ {D : Type 0} (shows : D → Shown) where
   -- from these stations of a machine that plays back these events were given, and it will still show these

@@ -1,5 +1,5 @@
 -- The machine at power up with the disk of an image, and the disk that it leaves.
-use Rattle.std.specs.Prelude.{ℕ, ◌≡◌, List, Bool, Option, Some}
+use Rattle.std.specs.Prelude.{ℕ, ◌≡◌, ◌≤◌, List, Bool, Option, Some}
 use Rattle.cbm_medium.specs.Content.{Content}
 use Rattle.cbm_medium.specs.Seen.{Seen}
 use Rattle.cbm_volume.specs.Holding.{HoldsDisk}
@@ -8,6 +8,10 @@ use Rattle.cbm_drive.specs.Machines.{Machine, start}
 use Rattle.cbm_image.specs.Images.{kind_of, tracks_of, content_of}
 use Rattle.cbm_program.specs.declared.fault.RunFault.{RunFault}
 use Rattle.cbm_program.specs.declared.fault.RunFault.TheVariants.{Script, Image, Memory, Reading, Writing}
+
+-- the device numbers that a drive of a script may have
+abbrev pub IsDevice : ℕ → Type 0
+IsDevice device = (8 ≤ device) × (device ≤ 11)
 
 -- a machine at power up, with a disk that a medium of this many tracks and of this content holds
 abbrev pub StartsOn : ℕ → Content → Bool → Machine → Type 0

@@ -1,38 +1,15 @@
 -- What a line of a script of line changes asks for: `MOMENT LINE WAY`, or `end MOMENT`.
-use Rattle.std.specs.Prelude.{ℕ, ◌≤◌, List, [], ◌∷◌, codes, Bool, true, false, ◌==◌, nat_lt, Option, Some, None, option_map, option_and_then, if◌then◌else◌}
+use Rattle.std.specs.Prelude.{ℕ, ◌≤◌, List, [], ◌∷◌, codes, Bool, true, false, ◌==◌, nat_lt, Option, Some, None, option_map, if◌then◌else◌}
 use Rattle.std.specs.Str.{bytes_eq}
-use Rattle.cbm_iec.specs.declared.line.Line.{Line}
-use Rattle.cbm_iec.specs.declared.line.Line.TheVariants.{Atn, Clock, Data}
-use Rattle.cbm_iec.specs.declared.line.Way.{Way}
-use Rattle.cbm_iec.specs.declared.line.Way.TheVariants.{Pull, Free}
-use Rattle.cbm_program.specs.Words.{first_word, behind_word, moment_of}
+use Rattle.cbm_iec.specs.declared.event.Event.{Event}
+use Rattle.bus_traces.specs.Events.{host_event_of}
+use Rattle.cbm_program.specs.Words.{first_word, after_word, moment_of}
 use Rattle.cbm_program.specs.declared.wires.timed.Timed.{Timed}
 use Rattle.cbm_program.specs.declared.wires.timed.Timed.TheVariants.{Skipped, Changes, Ends}
 
--- the line of a name
-abbrev pub line_called : List ℕ → Option Line
-line_called word =
-    if bytes_eq word (codes "atn") then Some Atn
-    else if bytes_eq word (codes "clock") then Some Clock
-    else if bytes_eq word (codes "data") then Some Data
-    else None
-
--- the way of a name
-abbrev pub way_called : List ℕ → Option Way
-way_called word =
-    if bytes_eq word (codes "pull") then Some Pull
-    else if bytes_eq word (codes "free") then Some Free
-    else None
-
--- a change, where each of its words says something
-abbrev pub change_with : Option ℕ → Option Line → Option Way → Option Timed
-change_with (Some moment) (Some line) (Some way) = Some (Changes (record { moment = moment; line = line; way = way }))
-change_with moment line way = None
-
--- `LINE WAY` after a moment
-abbrev pub change_of : List ℕ → Option (List ℕ) → Option Timed
-change_of first None = None
-change_of first (Some words) = change_with (moment_of first) (line_called (first_word words)) (option_and_then way_called (behind_word words))
+-- a change of the host
+abbrev pub change_of : Option Event → Option Timed
+change_of event = option_map (λ e. Changes e.change) event
 
 -- a moment after `end`
 abbrev pub end_of : Option (List ℕ) → Option Timed
@@ -41,7 +18,7 @@ end_of (Some word) = option_map Ends (moment_of word)
 
 -- what a line asks for: the end, or a change
 abbrev pub asked_of : List ℕ → Option Timed
-asked_of bytes = if bytes_eq (first_word bytes) (codes "end") then end_of (behind_word bytes) else change_of (first_word bytes) (behind_word bytes)
+asked_of bytes = if bytes_eq (first_word bytes) (codes "end") then end_of (after_word bytes) else change_of (host_event_of bytes)
 
 -- what a line is, None where it is refused
 abbrev pub timed_of : List ℕ → Option Timed

@@ -1,6 +1,6 @@
 -- What the reading of a line of a script of line changes says.
 use Rattle.std.specs.Prelude.{◌≡◌, ◌<◌, ◌≤◌, ◌⊎◌, ℕ, List, [], ◌∷◌, Option, Some, None, Result, Ok, Err}
-use Rattle.cbm_program.specs.Lines.{lines_of}
+use Rattle.bus_traces.specs.Lines.{lines_of}
 use Rattle.cbm_program.specs.Timed.{IsTimed, latest}
 use Rattle.cbm_program.specs.Timetables.{timed_meaning, bad_behind}
 use Rattle.cbm_program.specs.declared.fault.RunFault.{RunFault}

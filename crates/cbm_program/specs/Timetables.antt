@@ -2,7 +2,7 @@
 use Rattle.std.specs.Prelude.{ℕ, ◌+◌, List, [], ◌∷◌, codes, drop, Bool, true, false, if◌then◌else◌, Option, Some, None}
 use Rattle.std.specs.Str.{bytes_eq}
 use Rattle.cbm_iec.specs.declared.line.Change.{Change}
-use Rattle.cbm_program.specs.Lines.{lines_of}
+use Rattle.bus_traces.specs.Lines.{lines_of}
 use Rattle.cbm_program.specs.Running.{may_stand}
 use Rattle.cbm_program.specs.Timed.{timed_of, timed_behind, is_skipped, latest}
 use Rattle.cbm_program.specs.declared.wires.timed.Timed.{Timed}

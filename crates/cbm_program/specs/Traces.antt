@@ -1,16 +1,10 @@
 -- What a script of line changes prints: the events of a drive under a host that makes these changes.
-use Rattle.std.specs.Prelude.{◌≡◌, ◌+◌, ◌≤◌, ℕ, Bool, false, List, [], ◌∷◌, ◌++◌, codes, decimal, flat_map, Option, Some, None, IfSome}
+use Rattle.std.specs.Prelude.{◌≡◌, ◌+◌, ◌≤◌, ℕ, Bool, false, List, [], ◌∷◌, ◌++◌, Option, Some, None, IfSome}
 use Rattle.std.specs.Io.KnownBytes.{Appends}
 use Rattle.cbm_iec.specs.Ports.{port_due}
 use Rattle.cbm_iec.specs.declared.act.Act.{Act}
 use Rattle.cbm_iec.specs.declared.event.Event.{Event}
-use Rattle.cbm_iec.specs.declared.event.Who.{Who}
-use Rattle.cbm_iec.specs.declared.event.Who.TheVariants.{Host, Drive}
 use Rattle.cbm_iec.specs.declared.line.Change.{Change}
-use Rattle.cbm_iec.specs.declared.line.Line.{Line}
-use Rattle.cbm_iec.specs.declared.line.Line.TheVariants.{Atn, Clock, Data}
-use Rattle.cbm_iec.specs.declared.line.Way.{Way}
-use Rattle.cbm_iec.specs.declared.line.Way.TheVariants.{Pull, Free}
 use Rattle.cbm_iec.specs.declared.party.Party.{Party}
 use Rattle.cbm_session.specs.Playing.{Station, Plays, IsKept, IsLaterDue, at_rest}
 use Rattle.cbm_session.specs.Timing.{HostKeeps}
@@ -19,34 +13,9 @@ use Rattle.cbm_drive.specs.Desks.{Desk, desk_step, desk_says}
 use Rattle.cbm_drive.specs.Playback.{Playback, played_says, played_step}
 use Rattle.cbm_host.specs.Served.{at_power_up}
 use Rattle.cbm_drive.specs.Ordered.{host_changes, latest}
+use Rattle.bus_traces.specs.Events.{trace_text}
 use Rattle.cbm_program.specs.Output.{AppendsPart, Grows}
 use Rattle.cbm_program.specs.Timetables.{Timetable, timetable_of}
-
--- ---- an event as a line: `MOMENT WHO LINE WAY`
-
--- a party as text: `host`, or the drive's device number
-abbrev pub who_text : Who → List ℕ
-who_text Host = codes "host"
-who_text (Drive device) = decimal device
-
--- a line's name
-abbrev pub line_text : Line → List ℕ
-line_text Atn = codes "atn"
-line_text Clock = codes "clock"
-line_text Data = codes "data"
-
--- a way's name
-abbrev pub way_text : Way → List ℕ
-way_text Pull = codes "pull"
-way_text Free = codes "free"
-
--- an event as a line: the moment, the party, the line and the way
-abbrev pub event_text : Event → List ℕ
-event_text e = decimal e.change.moment ++ codes " " ++ who_text e.who ++ codes " " ++ line_text e.change.line ++ codes " " ++ way_text e.change.way ++ codes "\n"
-
--- events as lines
-abbrev pub trace_text : List Event → List ℕ
-trace_text trace = flat_map event_text trace
 
 -- ---- the drive of a script
 

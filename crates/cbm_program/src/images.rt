@@ -1,20 +1,15 @@
 //! Running a script on the disk of an image.
-ghost use Rattle.std.specs.Prelude.{◌≡◌, ◌≢◌, ◌≤◌, ℕ, [], true, false, Err, IfSome, IfOk, IfErr, OnErr};
-ghost use Rattle.cbm_host.specs.Hosted.{party_of};
+ghost use Rattle.std.specs.Prelude.{◌≡◌, true, false, Err, IfSome, IfOk, IfErr};
 ghost use Rattle.cbm_iec.specs.declared.pace.Pace.TheVariants.{Profile};
-ghost use Rattle.cbm_program.specs.Checking.{printed_behind, checked_text, IsCheckedFirst};
-ghost use Rattle.cbm_program.specs.Output.{Grows, Prints, PrintsPart};
-ghost use Rattle.cbm_program.specs.Running.{script_of, EndsAs};
-ghost use Rattle.cbm_program.specs.Scripts.{printed};
 ghost use Rattle.cbm_image.specs.Images.{kind_of, image_fault, IsOf};
-ghost use Rattle.cbm_program.specs.Starts.{StartsFrom, KeptBy, IsRefusal};
-ghost use Rattle.cbm_program.specs.Outcome.{IsOutcome};
-ghost use Rattle.cbm_program.specs.Timetables.{of_requests, of_changes, timetable_of};
-ghost use Rattle.cbm_program.specs.Traces.{PrintsTrace, PrintsTracePart, WritesTrace, WritesBehind};
+ghost use Rattle.cbm_program.specs.Checking.{IsCheckedFirst};
+ghost use Rattle.cbm_program.specs.Outcome.{IsRun, IsOutcome};
+ghost use Rattle.cbm_program.specs.Running.{EndsAs, IsOfScript};
+ghost use Rattle.cbm_program.specs.Starts.{IsDevice, StartsFrom, KeptBy, IsRefusal};
 
 use crate::fault::RunFault;
-use crate::lines::Lines;
 use crate::numbered::{Beginning, read_first};
+use bus_traces::Source;
 use cbm_d64::D64Disk;
 use cbm_drive::Pace;
 use cbm_g64::G64Disk;
@@ -51,36 +46,13 @@ fn run_script<M: RunsScripts + Drop, R: Read + Drop, W: Write>(
     reader: R,
     writer: &mut W,
 ) -> Result<M, RunFault>
-    requires first { 8 ≤ device }
-    requires last { device ≤ 11 }
-    ensures ended { EndsAs result (λ bad. IfSome (of_requests (R.remaining reader)) (λ input.
-        ((script_of input).bad ≡ bad) × Prints (W.contents writer.old) (W.contents writer.new)
-        (StartsFrom (M.seen medium)) (λ _. Unit {0}) (printed pace (script_of input).requests))) }
-    ensures disk { IfOk result (λ after. IfSome (of_requests (R.remaining reader)) (λ input.
-        Prints (W.contents writer.old) (W.contents writer.new) (StartsFrom (M.seen medium)) (KeptBy (M.seen after))
-        (printed pace (script_of input).requests))) }
-    ensures fault { OnErr result (IfSome (of_requests (R.remaining reader)) (λ input.
-        PrintsPart (W.contents writer.old) (W.contents writer.new)
-        (StartsFrom (M.seen medium)) (printed pace (script_of input).requests))) }
-    // The same of a script of line changes, with its trace.
-    ensures played { EndsAs result (λ bad. IfSome (of_changes (R.remaining reader)) (λ input.
-        ((timetable_of input).bad ≡ bad) × PrintsTrace (W.contents writer.old) (W.contents writer.new)
-        (StartsFrom (M.seen medium)) (λ _. Unit {0}) (party_of pace device) [] (timetable_of input))) }
-    ensures left { IfOk result (λ after. IfSome (of_changes (R.remaining reader)) (λ input.
-        PrintsTrace (W.contents writer.old) (W.contents writer.new) (StartsFrom (M.seen medium)) (KeptBy (M.seen after))
-        (party_of pace device) [] (timetable_of input))) }
-    ensures cut { OnErr result (IfSome (of_changes (R.remaining reader)) (λ input.
-        PrintsTracePart (W.contents writer.old) (W.contents writer.new)
-        (StartsFrom (M.seen medium)) (party_of pace device) [] (timetable_of input))) }
-    // Of any medium the events were written.
-    ensures wrote { EndsAs result (λ bad. WritesTrace (party_of pace device) (of_changes (R.remaining reader))
-        (W.contents writer.old) (W.contents writer.new) bad) }
-    ensures grows { Grows (W.contents writer.old) (W.contents writer.new) }
+    requires { IsDevice device }
+    ensures run { IsRun result (StartsFrom (M.seen medium)) (λ after. KeptBy (M.seen after)) pace device false
+        (R.remaining reader) (W.contents writer.old) (W.contents writer.new) }
     ensures same_tracks { IfOk result (λ after. (M.seen after).tracks ≡ (M.seen medium).tracks) }
-    ensures image { IfErr result (λ fault. (n : ℕ) → fault ≢ RunFault.Image n) }
-    ensures memory { IfErr result (λ fault. fault ≢ RunFault.Memory) }
+    ensures cause { IfErr result IsOfScript }
 {
-    let mut lines = Lines::new(reader);
+    let mut lines = Source::new(reader);
     match read_first(&mut lines)? {
         Beginning::Requests(first) => medium.serve(device, pace, &mut lines, first, writer),
         Beginning::Changes => medium.play(device, pace, &mut lines, writer),
@@ -97,36 +69,14 @@ fn run_with<M: RunsScripts + Drop, R: Read + Drop, W: Write>(
     reader: R,
     writer: &mut W,
 ) -> Result<M, RunFault>
-    requires first { 8 ≤ device }
-    requires last { device ≤ 11 }
-    ensures ended { EndsAs result (λ bad. IfSome (of_requests (R.remaining reader)) (λ input.
-        ((script_of input).bad ≡ bad) × Prints (W.contents writer.old) (W.contents writer.new)
-        (StartsFrom (M.seen medium)) (λ _. Unit {0}) (printed_behind pace checks (script_of input).requests))) }
-    ensures disk { IfOk result (λ after. IfSome (of_requests (R.remaining reader)) (λ input.
-        Prints (W.contents writer.old) (W.contents writer.new) (StartsFrom (M.seen medium)) (KeptBy (M.seen after))
-        (printed_behind pace checks (script_of input).requests))) }
-    ensures fault { OnErr result (IfSome (of_requests (R.remaining reader)) (λ input.
-        PrintsPart (W.contents writer.old) (W.contents writer.new)
-        (StartsFrom (M.seen medium)) (printed_behind pace checks (script_of input).requests))) }
-    // The same of a script of line changes, with its trace.
-    ensures played { EndsAs result (λ bad. IfSome (of_changes (R.remaining reader)) (λ input.
-        ((timetable_of input).bad ≡ bad) × PrintsTrace (W.contents writer.old) (W.contents writer.new)
-        (StartsFrom (M.seen medium)) (λ _. Unit {0}) (party_of pace device) (checked_text checks) (timetable_of input))) }
-    ensures left { IfOk result (λ after. IfSome (of_changes (R.remaining reader)) (λ input.
-        PrintsTrace (W.contents writer.old) (W.contents writer.new) (StartsFrom (M.seen medium)) (KeptBy (M.seen after))
-        (party_of pace device) (checked_text checks) (timetable_of input))) }
-    ensures cut { OnErr result (IfSome (of_changes (R.remaining reader)) (λ input.
-        PrintsTracePart (W.contents writer.old) (W.contents writer.new)
-        (StartsFrom (M.seen medium)) (party_of pace device) (checked_text checks) (timetable_of input))) }
+    requires { IsDevice device }
+    ensures run { IsRun result (StartsFrom (M.seen medium)) (λ after. KeptBy (M.seen after)) pace device checks
+        (R.remaining reader) (W.contents writer.old) (W.contents writer.new) }
     // Of any medium the line of the check is printed first, where one is asked for.
-    ensures checked { checks ≡ true → EndsAs result (λ bad.
-        IsCheckedFirst (M.seen medium).tracks (M.seen medium).content (W.contents writer.old) (W.contents writer.new)) }
-    ensures wrote { EndsAs result (λ bad. WritesBehind (party_of pace device) checks (of_changes (R.remaining reader))
-        (W.contents writer.old) (W.contents writer.new) bad) }
-    ensures grows { Grows (W.contents writer.old) (W.contents writer.new) }
+    ensures checked { checks ≡ true → EndsAs result (λ bad. IsCheckedFirst (M.seen medium).tracks (M.seen medium).content
+        (W.contents writer.old) (W.contents writer.new)) }
     ensures same_tracks { IfOk result (λ after. (M.seen after).tracks ≡ (M.seen medium).tracks) }
-    ensures image { IfErr result (λ fault. (n : ℕ) → fault ≢ RunFault.Image n) }
-    ensures memory { IfErr result (λ fault. fault ≢ RunFault.Memory) }
+    ensures cause { IfErr result IsOfScript }
 {
     let volume = Volume::open(medium);
     print_check(&volume, checks, writer)?;
@@ -176,8 +126,7 @@ fn run_image<I: RunsScripts + Drop, R: Read + Drop, W: Write>(
     options: &Options,
 ) -> Result<Vec<u8>, RunFault>
     requires kind { kind_of image.now ≡ I.kind }
-    requires first { 8 ≤ options.now.device }
-    requires last { options.now.device ≤ 11 }
+    requires device { IsDevice options.now.device }
     ensures { IsOutcome result (λ v. v.items) pace image.now options.now.protected options.now.check options.now.device
         (R.remaining reader) (W.contents writer.old) (W.contents writer.new) }
 {
@@ -202,8 +151,7 @@ pub fn run<R: Read + Drop, W: Write>(
     image: &[u8],
     options: &Options,
 ) -> Result<Vec<u8>, RunFault>
-    requires first { 8 ≤ options.now.device }
-    requires last { options.now.device ≤ 11 }
+    requires device { IsDevice options.now.device }
     ensures { IsOutcome result (λ v. v.items) Profile image.now options.now.protected options.now.check options.now.device
         (R.remaining reader) (W.contents writer.old) (W.contents writer.new) }
 {
@@ -219,8 +167,7 @@ pub fn run_at<R: Read + Drop, W: Write>(
     image: &[u8],
     options: &Options,
 ) -> Result<Vec<u8>, RunFault>
-    requires first { 8 ≤ options.now.device }
-    requires last { options.now.device ≤ 11 }
+    requires device { IsDevice options.now.device }
     ensures { IsOutcome result (λ v. v.items) pace image.now options.now.protected options.now.check options.now.device
         (R.remaining reader) (W.contents writer.old) (W.contents writer.new) }
 {

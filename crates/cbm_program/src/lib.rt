@@ -4,7 +4,6 @@
 mod fault;
 mod images;
 mod line;
-mod lines;
 mod numbered;
 mod output;
 mod performing;
@@ -20,6 +19,5 @@ pub use cbm_drive::Pace;
 pub use fault::RunFault;
 pub use images::{Options, run, run_at, run_traced};
 pub use line::{Line, parse};
-pub use lines::{LineFault, Lines};
 pub use request::{Request, Text};
 pub use text::{decode, what_is_written_reads_back};

@@ -6,7 +6,8 @@ ghost use Rattle.cbm_program.specs.Running.{IsInRange, LineIsInRange};
 
 use crate::request::{Request, Text};
 use crate::text::decode;
-use crate::word::{byte, channel, count, split_word};
+use crate::word::{byte, channel, count};
+use bus_traces::split_word;
 
 /// What a line of a script is.
 #[derive(Debug, Drop)]

@@ -1,12 +1,12 @@
 //! The lines of a script by their numbers, and what the first one says of it.
 ghost use Rattle.std.specs.Prelude.{◌≡◌, ◌≤◌, true, length, IfOk};
-ghost use Rattle.cbm_program.specs.Lines.{bytes_left};
+ghost use Rattle.bus_traces.specs.Lines.{bytes_left};
 ghost use Rattle.cbm_program.specs.Beginnings.{BytesRead, FirstRead, BeginsInRange};
 
 use crate::fault::RunFault;
 use crate::line::{Line, parse};
-use crate::lines::{LineFault, Lines};
 use arrayvec::ArrayVec;
+use bus_traces::{LineFault, Source};
 use std::io::Read;
 
 /// The greatest number of lines.
@@ -23,7 +23,7 @@ pub(crate) enum Beginning {
 
 /// Reads the bytes of line `number`, and answers whether there is one.
 pub(crate) fn next_line<R: Read>(
-    lines: &mut Lines<R>,
+    lines: &mut Source<R>,
     bytes: &mut ArrayVec<u8, 1000>,
     number: u32,
 ) -> Result<bool, RunFault>
@@ -32,7 +32,7 @@ pub(crate) fn next_line<R: Read>(
     let found = match lines.next_line(bytes) {
         Ok(found) => found,
         Err(LineFault::Reading) => return Err(RunFault::Reading),
-        Err(LineFault::TooLong) => return Err(RunFault::Script(number)),
+        Err(LineFault::Long) => return Err(RunFault::Script(number)),
     };
     if found && number > LINES {
         return Err(RunFault::Script(number));
@@ -41,7 +41,7 @@ pub(crate) fn next_line<R: Read>(
 }
 
 /// Reads the first line of a script.
-pub(crate) fn read_first<R: Read>(lines: &mut Lines<R>) -> Result<Beginning, RunFault>
+pub(crate) fn read_first<R: Read>(lines: &mut Source<R>) -> Result<Beginning, RunFault>
     ensures read { FirstRead (bytes_left R.remaining lines.old) (bytes_left R.remaining lines.new) result }
     ensures channel { IfOk result BeginsInRange }
 {

@@ -1,7 +1,7 @@
 //! Writing what a script prints.
-ghost use Rattle.std.specs.Prelude.{◌≡◌, ◌+◌, ◌/◌, ◌%◌, ◌<◌, ◌≤◌, ◌++◌, length, IfErr, IfOk, OnOk, OnErr};
-ghost use Rattle.std.specs.Io.KnownBytes.{Appends, Keeps};
-ghost use Rattle.cbm_program.specs.Output.{AppendsPart, Grows};
+ghost use Rattle.std.specs.Prelude.{◌≡◌, ◌≤◌, length, IfErr};
+ghost use Rattle.std.specs.Io.KnownBytes.{Keeps};
+ghost use Rattle.cbm_program.specs.Output.{Writes};
 ghost use Rattle.cbm_program.specs.Running.{IsOfWriting};
 
 use crate::fault::RunFault;
@@ -9,10 +9,7 @@ use std::io::Write;
 
 /// Writes these bytes. An interrupted write is a fault as any other, and so is one that takes no byte.
 pub(crate) fn print<W: Write>(writer: &mut W, bytes: &[u8]) -> Result<(), RunFault>
-    ensures ok { OnOk result (Appends (W.contents writer.old) (W.contents writer.new) bytes.now) }
-    ensures err { OnErr result (AppendsPart (W.contents writer.old) (W.contents writer.new) bytes.now) }
-    ensures grows { Grows (W.contents writer.old) (W.contents writer.new) }
-    ensures fault { IfErr result IsOfWriting }
+    ensures { Writes result (W.contents writer.old) (W.contents writer.new) bytes.now }
 {
     let mut rest = bytes;
     'writes: while !rest.is_empty() {

@@ -1,10 +1,8 @@
 //! Carrying out the requests of a script, over the wires.
-ghost use Rattle.std.specs.Prelude.{◌≤◌, ◌<◌, ◌^◌, ◌+◌, ◌≡◌, IfErr, OnOk, OnErr};
-ghost use Rattle.cbm_host.specs.Hosted.{Rests, tracks_on};
-ghost use Rattle.cbm_host.specs.Requests.{longest};
+ghost use Rattle.std.specs.Prelude.{◌<◌, ◌^◌};
+ghost use Rattle.cbm_program.specs.Performing.{GoesOn, HasPrinted};
 ghost use Rattle.cbm_program.specs.Scripts.{printed, printed_by};
-ghost use Rattle.cbm_program.specs.Output.{Grows, Prints, PrintsPart};
-ghost use Rattle.cbm_program.specs.Running.{IsInRange, LineIsInRange, requests_in, IsOfWriting};
+ghost use Rattle.cbm_program.specs.Running.{IsInRange, LineIsInRange, requests_in};
 
 use crate::fault::RunFault;
 use crate::line::Line;
@@ -28,16 +26,9 @@ fn perform<M: Steady, W: Write>(
 ) -> Result<(), RunFault>
     requires request { IsInRange request.now }
     requires moment { drive.old.moment < 2 ^ 58 }
-    ensures ok { OnOk result (Prints (W.contents writer.old) (W.contents writer.new)
-        (Rests M.seen drive.old)
-        (Rests M.seen drive.new) (printed_by drive.old.pace request.now)) }
-    ensures err { OnErr result (PrintsPart (W.contents writer.old) (W.contents writer.new)
-        (Rests M.seen drive.old) (printed_by drive.old.pace request.now)) }
-    ensures soon { drive.new.moment ≤ drive.old.moment + longest drive.old.pace }
-    ensures pace { drive.new.pace ≡ drive.old.pace }
-    ensures tracks { tracks_on M.seen drive.new ≡ tracks_on M.seen drive.old }
-    ensures grows { Grows (W.contents writer.old) (W.contents writer.new) }
-    ensures fault { IfErr result IsOfWriting }
+    ensures printed { HasPrinted M.seen result (W.contents writer.old) (W.contents writer.new) drive.old drive.new
+        (printed_by drive.old.pace request.now) }
+    ensures drive { GoesOn M.seen drive.old drive.new }
 {
     match request {
         Request::Open(channel, text) => {
@@ -69,16 +60,9 @@ pub(crate) fn perform_line<M: Steady, W: Write>(
 ) -> Result<(), RunFault>
     requires line { LineIsInRange line.now }
     requires moment { drive.old.moment < 2 ^ 58 }
-    ensures ok { OnOk result (Prints (W.contents writer.old) (W.contents writer.new)
-        (Rests M.seen drive.old)
-        (Rests M.seen drive.new) (printed drive.old.pace (requests_in line.now))) }
-    ensures err { OnErr result (PrintsPart (W.contents writer.old) (W.contents writer.new)
-        (Rests M.seen drive.old) (printed drive.old.pace (requests_in line.now))) }
-    ensures soon { drive.new.moment ≤ drive.old.moment + longest drive.old.pace }
-    ensures pace { drive.new.pace ≡ drive.old.pace }
-    ensures tracks { tracks_on M.seen drive.new ≡ tracks_on M.seen drive.old }
-    ensures grows { Grows (W.contents writer.old) (W.contents writer.new) }
-    ensures fault { IfErr result IsOfWriting }
+    ensures printed { HasPrinted M.seen result (W.contents writer.old) (W.contents writer.new) drive.old drive.new
+        (printed drive.old.pace (requests_in line.now)) }
+    ensures drive { GoesOn M.seen drive.old drive.new }
 {
     match line {
         Line::Skipped => Ok(()),

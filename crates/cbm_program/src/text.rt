@@ -1,7 +1,7 @@
 //! Texts with escapes.
 ghost use Rattle.std.specs.Prelude.{◌≡◌, ◌<◌, ◌≤◌, ℕ, List, length, option_map, IfSome, Some, None, if◌then◌else◌};
 ghost use Rattle.cbm_program.specs.Texts.{is_hex, hex_value, is_plain, text_of};
-ghost use Rattle.cbm_program.specs.Lines.{lines_of};
+ghost use Rattle.bus_traces.specs.Lines.{lines_of};
 ghost use Rattle.cbm_program.specs.Spelling.{ended_lines, AreLines, escapes, AreBytes, ArePlain};
 
 use crate::request::Text;

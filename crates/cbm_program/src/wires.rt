@@ -1,6 +1,5 @@
 //! Scripts of line changes, played on a drive.
 
-mod event;
 mod playing;
 mod staging;
 mod timed;

@@ -1,11 +1,6 @@
 //! Checking a disk before a script runs on it.
-ghost use Rattle.std.specs.Prelude.{◌≡◌, ◌≤◌, true, false, length, IfErr, OnOk, OnErr};
-ghost use Rattle.std.specs.Io.KnownBytes.{Appends};
-ghost use Rattle.cbm_file.specs.Files.{Disk};
-ghost use Rattle.cbm_volume.specs.Holding.{HoldsDisk};
-ghost use Rattle.cbm_program.specs.Checking.{check_line, checked_text, IsCheckPrinted};
-ghost use Rattle.cbm_program.specs.Output.{AppendsPart, Grows};
-ghost use Rattle.cbm_program.specs.Running.{IsOfWriting};
+ghost use Rattle.std.specs.Prelude.{◌≡◌, true, false};
+ghost use Rattle.cbm_program.specs.Checking.{check_line, PrintsCheck};
 
 use crate::fault::RunFault;
 use crate::output::print;
@@ -43,14 +38,7 @@ fn check_line(answer: &Result<(), Unsound>) -> ArrayVec<u8, 32>
 
 /// Prints whether the disk is sound, or what is wrong with it and where.
 fn print_line<M: Medium, W: Write>(volume: &Volume<M>, writer: &mut W) -> Result<(), RunFault>
-    ensures ok { (d : Disk) → HoldsDisk (M.seen volume.now).tracks (M.seen volume.now).content d
-        → OnOk result (Appends (W.contents writer.old) (W.contents writer.new) (checked_text true)) }
-    ensures err { (d : Disk) → HoldsDisk (M.seen volume.now).tracks (M.seen volume.now).content d
-        → OnErr result (AppendsPart (W.contents writer.old) (W.contents writer.new) (checked_text true)) }
-    ensures said { OnOk result (IsCheckPrinted (M.seen volume.now).tracks (M.seen volume.now).content
-        (W.contents writer.old) (W.contents writer.new)) }
-    ensures grows { Grows (W.contents writer.old) (W.contents writer.new) }
-    ensures fault { IfErr result IsOfWriting }
+    ensures { PrintsCheck result (M.seen volume.now) true (W.contents writer.old) (W.contents writer.new) }
 {
     let answer = volume.check();
     print(writer, check_line(&answer).as_slice())
@@ -62,16 +50,8 @@ pub(crate) fn print_check<M: Medium, W: Write>(
     checks: bool,
     writer: &mut W,
 ) -> Result<(), RunFault>
-    ensures ok { (d : Disk) → HoldsDisk (M.seen volume.now).tracks (M.seen volume.now).content d
-        → OnOk result (Appends (W.contents writer.old) (W.contents writer.new) (checked_text checks)) }
-    ensures err { (d : Disk) → HoldsDisk (M.seen volume.now).tracks (M.seen volume.now).content d
-        → OnErr result (AppendsPart (W.contents writer.old) (W.contents writer.new) (checked_text checks)) }
-    ensures said { checks ≡ true →
-        OnOk result (IsCheckPrinted (M.seen volume.now).tracks (M.seen volume.now).content (W.contents writer.old)
-        (W.contents writer.new)) }
+    ensures check { PrintsCheck result (M.seen volume.now) checks (W.contents writer.old) (W.contents writer.new) }
     ensures none { checks ≡ false → writer.new ≡ writer.old }
-    ensures grows { Grows (W.contents writer.old) (W.contents writer.new) }
-    ensures fault { IfErr result IsOfWriting }
 {
     if checks {
         return print_line(volume, writer);

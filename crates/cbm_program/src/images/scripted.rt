@@ -1,21 +1,19 @@
 //! Scripts on the disk of an image.
-ghost use Rattle.std.specs.Prelude.{◌≡◌, ◌≢◌, ◌≤◌, ℕ, List, [], Option, Ok, codes, IfSome, IfOk, IfErr, OnErr};
+ghost use Rattle.std.specs.Prelude.{◌≡◌, ◌≤◌, ℕ, false, List, Option, Ok, codes, IfSome, IfOk, IfErr};
+ghost use Rattle.bus_traces.specs.Lines.{bytes_left, TakesLine};
 ghost use Rattle.cbm_host.specs.Hosted.{party_of};
-ghost use Rattle.cbm_program.specs.Starts.{StartsFrom, KeptBy};
-ghost use Rattle.cbm_program.specs.Lines.{bytes_left, TakesLine};
-ghost use Rattle.cbm_program.specs.Output.{Grows, Prints, PrintsPart};
-ghost use Rattle.cbm_program.specs.Running.{script_of, LineRead, LineIsInRange, EndsAs};
-ghost use Rattle.cbm_program.specs.Scripts.{printed};
-ghost use Rattle.cbm_program.specs.Timetables.{timetable_of};
-ghost use Rattle.cbm_program.specs.Traces.{PrintsTrace, PrintsTracePart, WritesTrace};
+ghost use Rattle.cbm_program.specs.Outcome.{ServesScript, PlaysScript};
+ghost use Rattle.cbm_program.specs.Output.{Grows};
+ghost use Rattle.cbm_program.specs.Running.{LineRead, LineIsInRange, EndsAs, IsOfScript};
+ghost use Rattle.cbm_program.specs.Starts.{IsDevice, StartsFrom, KeptBy};
+ghost use Rattle.cbm_program.specs.Traces.{WritesTrace};
 
 use crate::fault::RunFault;
 use crate::line::Line;
-use crate::lines::Lines;
 use crate::session::run_requests;
 use crate::watched::{Bench, serve_watched};
 use crate::wires::{Stage, run_changes};
-use bus_traces::Watches;
+use bus_traces::{Source, Watches};
 use cbm_d64::D64Disk;
 use cbm_drive::Pace;
 use cbm_g64::G64Disk;
@@ -23,73 +21,52 @@ use cbm_host::Hosted;
 use cbm_image::DiskImage;
 use std::io::{Read, Write};
 
-/// The disk of an image, on which a drive runs scripts.
+/// The disk of an image, on which a drive of this pace and with this device number runs scripts from power up. Each call gives the
+/// disk back with what came of the script. Errors: `Script`, `Reading` or `Writing`.
 pub(crate) trait RunsScripts: DiskImage {
-    /// Plays a script of line changes, after its first line, on a drive of this pace at power up with this disk and a device
-    /// number from 8 to 11, and gives the disk back with what came of it. Errors: `Script`, `Reading` or `Writing`.
+    /// Plays a script of line changes, after its first line.
     fn play<R: Read, W: Write>(
         self,
         device: u8,
         pace: Pace,
-        lines: &mut Lines<R>,
+        lines: &mut Source<R>,
         writer: &mut W,
     ) -> Result<Self, RunFault>
-        requires low { 8 ≤ device }
-        requires high { device ≤ 11 }
-        ensures ended { (input : Option (List ℕ)) → TakesLine input (bytes_left R.remaining lines.old) (codes "lines") →
-            EndsAs result (λ bad. IfSome input (λ bytes. ((timetable_of bytes).bad ≡ bad)
-            × PrintsTrace (W.contents writer.old) (W.contents writer.new)
-            (StartsFrom (Self.seen self)) (λ _. Unit {0}) (party_of pace device) [] (timetable_of bytes))) }
-        ensures disk { (input : Option (List ℕ)) → TakesLine input (bytes_left R.remaining lines.old) (codes "lines") →
-            IfOk result (λ after. IfSome input (λ bytes. PrintsTrace (W.contents writer.old) (W.contents writer.new)
-            (StartsFrom (Self.seen self)) (KeptBy (Self.seen after)) (party_of pace device) [] (timetable_of bytes))) }
-        ensures fault { (input : Option (List ℕ)) → TakesLine input (bytes_left R.remaining lines.old) (codes "lines") →
-            OnErr result (IfSome input (λ bytes. PrintsTracePart (W.contents writer.old) (W.contents writer.new)
-            (StartsFrom (Self.seen self)) (party_of pace device) [] (timetable_of bytes))) }
+        requires { IsDevice device }
+        ensures played { (input : Option (List ℕ)) → TakesLine input (bytes_left R.remaining lines.old) (codes "lines") →
+            PlaysScript result (StartsFrom (Self.seen self)) (λ after. KeptBy (Self.seen after)) (party_of pace device) false
+            input (W.contents writer.old) (W.contents writer.new) }
         // Whatever the drive represents:
         ensures wrote { (input : Option (List ℕ)) → TakesLine input (bytes_left R.remaining lines.old) (codes "lines") →
-            EndsAs result (λ bad. WritesTrace (party_of pace device) input (W.contents writer.old) (W.contents writer.new) bad) }
+            EndsAs result (WritesTrace (party_of pace device) input (W.contents writer.old) (W.contents writer.new)) }
         ensures grows { Grows (W.contents writer.old) (W.contents writer.new) }
         ensures same_tracks { IfOk result (λ after. (Self.seen after).tracks ≡ (Self.seen self).tracks) }
-        ensures image { IfErr result (λ fault. (n : ℕ) → fault ≢ RunFault.Image n) }
-        ensures memory { IfErr result (λ fault. fault ≢ RunFault.Memory) };
+        ensures cause { IfErr result IsOfScript };
 
-    /// Carries out a script of requests, after its first line, on a drive of this pace at power up with this disk and a
-    /// device number from 8 to 11, and gives the disk back with what came of it. Errors: `Script`, `Reading` or `Writing`.
+    /// Carries out a script of requests, after its first line.
     fn serve<R: Read, W: Write>(
         self,
         device: u8,
         pace: Pace,
-        lines: &mut Lines<R>,
+        lines: &mut Source<R>,
         first: Option<Line>,
         writer: &mut W,
     ) -> Result<Self, RunFault>
         requires first { IfSome first LineIsInRange }
-        requires low { 8 ≤ device }
-        requires high { device ≤ 11 }
-        ensures ended { (input : Option (List ℕ)) → LineRead input (bytes_left R.remaining lines.old) 1 (Ok first) →
-            EndsAs result (λ bad. IfSome input (λ bytes. ((script_of bytes).bad ≡ bad)
-            × Prints (W.contents writer.old) (W.contents writer.new)
-            (StartsFrom (Self.seen self)) (λ _. Unit {0}) (printed pace (script_of bytes).requests))) }
-        ensures disk { (input : Option (List ℕ)) → LineRead input (bytes_left R.remaining lines.old) 1 (Ok first) →
-            IfOk result (λ after. IfSome input (λ bytes. Prints (W.contents writer.old) (W.contents writer.new)
-            (StartsFrom (Self.seen self)) (KeptBy (Self.seen after))
-            (printed pace (script_of bytes).requests))) }
-        ensures fault { (input : Option (List ℕ)) → LineRead input (bytes_left R.remaining lines.old) 1 (Ok first) →
-            OnErr result (IfSome input (λ bytes. PrintsPart (W.contents writer.old) (W.contents writer.new)
-            (StartsFrom (Self.seen self)) (printed pace (script_of bytes).requests))) }
+        requires device { IsDevice device }
+        ensures served { (input : Option (List ℕ)) → LineRead input (bytes_left R.remaining lines.old) 1 (Ok first) →
+            ServesScript result (StartsFrom (Self.seen self)) (λ after. KeptBy (Self.seen after)) pace false input
+            (W.contents writer.old) (W.contents writer.new) }
         ensures grows { Grows (W.contents writer.old) (W.contents writer.new) }
         ensures same_tracks { IfOk result (λ after. (Self.seen after).tracks ≡ (Self.seen self).tracks) }
-        ensures image { IfErr result (λ fault. (n : ℕ) → fault ≢ RunFault.Image n) }
-        ensures memory { IfErr result (λ fault. fault ≢ RunFault.Memory) };
+        ensures cause { IfErr result IsOfScript };
 
-    /// Carries out a script of requests as `serve` does, and hands on each event on the bus as it comes. Errors: as `serve` has
-    /// them.
+    /// Carries out a script of requests as `serve` does, and hands on each event on the bus as it comes.
     fn watch<R: Read, W: Write, T: Watches>(
         self,
         device: u8,
         pace: Pace,
-        lines: &mut Lines<R>,
+        lines: &mut Source<R>,
         first: Option<Line>,
         writer: &mut W,
         watcher: &mut T,
@@ -103,7 +80,7 @@ impl RunsScripts for D64Disk {
         self,
         device: u8,
         pace: Pace,
-        lines: &mut Lines<R>,
+        lines: &mut Source<R>,
         writer: &mut W,
     ) -> Result<D64Disk, RunFault> {
         run_changes(Stage::new(self, device, pace), device, pace, lines, writer)
@@ -113,7 +90,7 @@ impl RunsScripts for D64Disk {
         self,
         device: u8,
         pace: Pace,
-        lines: &mut Lines<R>,
+        lines: &mut Source<R>,
         first: Option<Line>,
         writer: &mut W,
     ) -> Result<D64Disk, RunFault> {
@@ -124,18 +101,13 @@ impl RunsScripts for D64Disk {
         self,
         device: u8,
         pace: Pace,
-        lines: &mut Lines<R>,
+        lines: &mut Source<R>,
         first: Option<Line>,
         writer: &mut W,
         watcher: &mut T,
     ) -> Result<D64Disk, RunFault> {
-        serve_watched(
-            Bench::new(self, device, pace),
-            lines,
-            first,
-            writer,
-            watcher,
-        )
+        let bench = Bench::new(self, device, pace);
+        serve_watched(bench, lines, first, writer, watcher)
     }
 }
 
@@ -144,7 +116,7 @@ impl RunsScripts for G64Disk {
         self,
         device: u8,
         pace: Pace,
-        lines: &mut Lines<R>,
+        lines: &mut Source<R>,
         writer: &mut W,
     ) -> Result<G64Disk, RunFault> {
         run_changes(Stage::new(self, device, pace), device, pace, lines, writer)
@@ -154,7 +126,7 @@ impl RunsScripts for G64Disk {
         self,
         device: u8,
         pace: Pace,
-        lines: &mut Lines<R>,
+        lines: &mut Source<R>,
         first: Option<Line>,
         writer: &mut W,
     ) -> Result<G64Disk, RunFault> {
@@ -165,17 +137,12 @@ impl RunsScripts for G64Disk {
         self,
         device: u8,
         pace: Pace,
-        lines: &mut Lines<R>,
+        lines: &mut Source<R>,
         first: Option<Line>,
         writer: &mut W,
         watcher: &mut T,
     ) -> Result<G64Disk, RunFault> {
-        serve_watched(
-            Bench::new(self, device, pace),
-            lines,
-            first,
-            writer,
-            watcher,
-        )
+        let bench = Bench::new(self, device, pace);
+        serve_watched(bench, lines, first, writer, watcher)
     }
 }

@@ -1,12 +1,12 @@
 //! Running a script whose events on the bus are handed on.
-ghost use Rattle.std.specs.Prelude.{◌≡◌, ◌≤◌, true, IfOk};
+ghost use Rattle.std.specs.Prelude.{◌≡◌, true, IfOk};
+ghost use Rattle.cbm_program.specs.Starts.{IsDevice};
 
 use super::scripted::RunsScripts;
 use super::{Options, image_after, opened, print_check};
 use crate::fault::RunFault;
-use crate::lines::Lines;
 use crate::numbered::{Beginning, read_first};
-use bus_traces::{Echo, Watches};
+use bus_traces::{Echo, Source, Watches};
 use cbm_d64::D64Disk;
 use cbm_drive::Pace;
 use cbm_g64::G64Disk;
@@ -27,8 +27,7 @@ pub fn run_traced<R: Read + Drop, W: Write, T: Watches>(
     image: &[u8],
     options: &Options,
 ) -> Result<Vec<u8>, RunFault>
-    requires first { 8 ≤ options.now.device }
-    requires last { options.now.device ≤ 11 }
+    requires device { IsDevice options.now.device }
     ensures given { options.now.protected ≡ true → IfOk result (λ v. v.items ≡ image.now) }
 {
     match kind_of(image) {
@@ -51,8 +50,7 @@ fn traced_image<I: RunsScripts + Drop, R: Read + Drop, W: Write, T: Watches>(
     image: &[u8],
     options: &Options,
 ) -> Result<Vec<u8>, RunFault>
-    requires first { 8 ≤ options.now.device }
-    requires last { options.now.device ≤ 11 }
+    requires device { IsDevice options.now.device }
     ensures given { options.now.protected ≡ true → IfOk result (λ v. v.items ≡ image.now) }
 {
     let disk = opened::<I>(alloc, image, options.protected)?;
@@ -79,10 +77,9 @@ fn traced_script<M: RunsScripts + Drop, R: Read + Drop, W: Write, T: Watches>(
     writer: &mut W,
     watcher: &mut T,
 ) -> Result<M, RunFault>
-    requires first { 8 ≤ device }
-    requires last { device ≤ 11 }
+    requires { IsDevice device }
 {
-    let mut lines = Lines::new(reader);
+    let mut lines = Source::new(reader);
     match read_first(&mut lines)? {
         Beginning::Requests(first) => {
             medium.watch(device, pace, &mut lines, first, writer, watcher)

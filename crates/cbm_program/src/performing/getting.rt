@@ -1,17 +1,12 @@
 //! Printing what a channel sends.
-ghost use Rattle.std.specs.Prelude.{◌≡◌, ◌<◌, ◌≤◌, ◌+◌, ◌^◌, ℕ, List, Bool, length, Some, IfErr, OnOk, OnErr};
-ghost use Rattle.std.specs.Io.KnownBytes.{Appends};
-ghost use Rattle.cbm_drive.specs.Machines.{Machine};
-ghost use Rattle.cbm_host.specs.Engines.{channel_of};
-ghost use Rattle.cbm_host.specs.Hosted.{Rests, IsGoingOn, tracks_on};
-ghost use Rattle.cbm_host.specs.Requests.{longest};
-ghost use Rattle.cbm_host.specs.Served.{served, IsModest};
-ghost use Rattle.cbm_host.specs.declared.request.Request as asks;
+ghost use Rattle.std.specs.Prelude.{◌≡◌, ◌<◌, ◌≤◌, ◌^◌, length, Some};
+ghost use Rattle.cbm_host.specs.Hosted.{tracks_on};
 ghost use Rattle.cbm_program.specs.declared.request.Request.TheVariants.{Get};
+ghost use Rattle.cbm_program.specs.Running.{IsInRange};
 ghost use Rattle.cbm_program.specs.Scripts.{hex_digit, printed_by};
-ghost use Rattle.cbm_program.specs.Output.{AppendsPart, Grows, Prints, PrintsPart};
-ghost use Rattle.cbm_program.specs.Units.{unit_text, get_head, PrintsRest, PrintsRestPart};
-ghost use Rattle.cbm_program.specs.Running.{IsOfWriting};
+ghost use Rattle.cbm_program.specs.Output.{Writes};
+ghost use Rattle.cbm_program.specs.Performing.{GoesOn, HasPrinted, SaysRest};
+ghost use Rattle.cbm_program.specs.Units.{unit_text, get_head};
 
 use crate::fault::RunFault;
 use crate::output::print;
@@ -30,12 +25,7 @@ fn hex_digit(n: u8) -> u8
 
 /// Prints a byte, and whether it is the last.
 pub(crate) fn print_byte<W: Write>(writer: &mut W, byte: u8, is_last: bool) -> Result<(), RunFault>
-    ensures ok { OnOk result
-        (Appends (W.contents writer.old) (W.contents writer.new) (unit_text (Some (byte, is_last)))) }
-    ensures err { OnErr result
-        (AppendsPart (W.contents writer.old) (W.contents writer.new) (unit_text (Some (byte, is_last)))) }
-    ensures grows { Grows (W.contents writer.old) (W.contents writer.new) }
-    ensures fault { IfErr result IsOfWriting }
+    ensures { Writes result (W.contents writer.old) (W.contents writer.new) (unit_text (Some (byte, is_last))) }
 {
     let high = hex_digit(byte / 16);
     let low = hex_digit(byte % 16);
@@ -52,18 +42,10 @@ pub(crate) fn print_bytes<M: Steady, W: Write>(
     performer: &mut Performer,
     writer: &mut W,
 ) -> Result<(), RunFault>
-    ensures ok { (m : Machine) (request : asks.Request) (bytes : List ℕ) (last : Bool) → channel_of request ≤ 15 →
-        IsModest request → IsGoingOn M.seen drive.old performer.old m request bytes last → OnOk result
-        (Rests M.seen drive.new (served drive.old.pace request m).machine
-        × PrintsRest (W.contents writer.old) (W.contents writer.new) bytes last (served drive.old.pace request m)) }
-    ensures err { (m : Machine) (request : asks.Request) (bytes : List ℕ) (last : Bool) → channel_of request ≤ 15 →
-        IsModest request → IsGoingOn M.seen drive.old performer.old m request bytes last → OnErr result
-        (PrintsRestPart (W.contents writer.old) (W.contents writer.new) bytes last (served drive.old.pace request m)) }
+    ensures said { SaysRest M.seen result (W.contents writer.old) (W.contents writer.new) drive.old drive.new performer.old }
     ensures soon { drive.old.moment ≤ performer.old.limit → drive.new.moment ≤ performer.old.limit }
     ensures pace { drive.new.pace ≡ drive.old.pace }
     ensures tracks { tracks_on M.seen drive.new ≡ tracks_on M.seen drive.old }
-    ensures grows { Grows (W.contents writer.old) (W.contents writer.new) }
-    ensures fault { IfErr result IsOfWriting }
 {
     'bytes: while let Some((byte, is_last)) = drive.take(performer) {
         print_byte(writer, byte, is_last)?;
@@ -74,11 +56,7 @@ pub(crate) fn print_bytes<M: Steady, W: Write>(
 /// Prints the beginning of a get's line.
 pub(crate) fn print_head<W: Write>(writer: &mut W, channel: u8, tail: &[u8]) -> Result<(), RunFault>
     requires { length tail.now ≤ 8 }
-    ensures ok { OnOk result (Appends (W.contents writer.old) (W.contents writer.new) (get_head channel tail.now)) }
-    ensures err { OnErr result
-        (AppendsPart (W.contents writer.old) (W.contents writer.new) (get_head channel tail.now)) }
-    ensures grows { Grows (W.contents writer.old) (W.contents writer.new) }
-    ensures fault { IfErr result IsOfWriting }
+    ensures { Writes result (W.contents writer.old) (W.contents writer.new) (get_head channel tail.now) }
 {
     let mut line = ArrayVec::<u8, 64>::new();
     let mut buffer = Buffer::new();
@@ -96,19 +74,11 @@ pub(crate) fn print_get<M: Steady, W: Write>(
     channel: u8,
     most: u32,
 ) -> Result<(), RunFault>
-    requires channel { channel ≤ 15 }
-    requires some { 1 ≤ most }
-    requires few { most ≤ 200000 }
+    requires request { IsInRange (Get channel most) }
     requires moment { drive.old.moment < 2 ^ 58 }
-    ensures ok { OnOk result (Prints (W.contents writer.old) (W.contents writer.new)
-        (Rests M.seen drive.old) (Rests M.seen drive.new) (printed_by drive.old.pace (Get channel most))) }
-    ensures err { OnErr result (PrintsPart (W.contents writer.old) (W.contents writer.new)
-        (Rests M.seen drive.old) (printed_by drive.old.pace (Get channel most))) }
-    ensures soon { drive.new.moment ≤ drive.old.moment + longest drive.old.pace }
-    ensures pace { drive.new.pace ≡ drive.old.pace }
-    ensures tracks { tracks_on M.seen drive.new ≡ tracks_on M.seen drive.old }
-    ensures grows { Grows (W.contents writer.old) (W.contents writer.new) }
-    ensures fault { IfErr result IsOfWriting }
+    ensures printed { HasPrinted M.seen result (W.contents writer.old) (W.contents writer.new) drive.old drive.new
+        (printed_by drive.old.pace (Get channel most)) }
+    ensures drive { GoesOn M.seen drive.old drive.new }
 {
     let mut performer = drive.ask(Request::Get(channel, most));
     let Some((byte, is_last)) = drive.take(&mut performer) else {

@@ -1,13 +1,11 @@
 //! Printing the status.
-ghost use Rattle.std.specs.Prelude.{◌≡◌, ◌≤◌, ◌<◌, ◌+◌, ◌^◌, ◌++◌, ◌∷◌, [], length, IfErr, OnOk, OnErr};
+ghost use Rattle.std.specs.Prelude.{◌≡◌, ◌≤◌, ◌<◌, ◌^◌, ◌++◌, ◌∷◌, [], length};
 ghost use Rattle.cbm_drive.specs.Machines.{Machine};
 ghost use Rattle.cbm_drive.specs.Calls.{without_return};
-ghost use Rattle.cbm_host.specs.Hosted.{Rests, tracks_on};
-ghost use Rattle.cbm_host.specs.Requests.{longest};
+ghost use Rattle.cbm_host.specs.Hosted.{Rests};
 ghost use Rattle.cbm_program.specs.declared.request.Request.TheVariants.{Status};
+ghost use Rattle.cbm_program.specs.Performing.{GoesOn, HasPrinted};
 ghost use Rattle.cbm_program.specs.Scripts.{status_said, printed_by};
-ghost use Rattle.cbm_program.specs.Output.{Grows, Prints, PrintsPart};
-ghost use Rattle.cbm_program.specs.Running.{IsOfWriting};
 
 use crate::fault::RunFault;
 use crate::output::print;
@@ -41,9 +39,7 @@ fn status_line<M: Steady>(drive: &mut Hosted<M>) -> ArrayVec<u8, 33>
     requires { drive.old.moment < 2 ^ 58 }
     ensures told { (m : Machine) → Rests M.seen drive.old m
         → ((status_said m).bytes ≡ result.items) × Rests M.seen drive.new (status_said m).machine }
-    ensures soon { drive.new.moment ≤ drive.old.moment + longest drive.old.pace }
-    ensures pace { drive.new.pace ≡ drive.old.pace }
-    ensures tracks { tracks_on M.seen drive.new ≡ tracks_on M.seen drive.old }
+    ensures drive { GoesOn M.seen drive.old drive.new }
 {
     let mut line = ArrayVec::new();
     let mut performer = drive.ask(Request::Status);
@@ -59,15 +55,9 @@ pub(crate) fn print_status<M: Steady, W: Write>(
     writer: &mut W,
 ) -> Result<(), RunFault>
     requires { drive.old.moment < 2 ^ 58 }
-    ensures ok { OnOk result (Prints (W.contents writer.old) (W.contents writer.new)
-        (Rests M.seen drive.old) (Rests M.seen drive.new) (printed_by drive.old.pace Status)) }
-    ensures err { OnErr result (PrintsPart (W.contents writer.old) (W.contents writer.new)
-        (Rests M.seen drive.old) (printed_by drive.old.pace Status)) }
-    ensures soon { drive.new.moment ≤ drive.old.moment + longest drive.old.pace }
-    ensures pace { drive.new.pace ≡ drive.old.pace }
-    ensures tracks { tracks_on M.seen drive.new ≡ tracks_on M.seen drive.old }
-    ensures grows { Grows (W.contents writer.old) (W.contents writer.new) }
-    ensures fault { IfErr result IsOfWriting }
+    ensures printed { HasPrinted M.seen result (W.contents writer.old) (W.contents writer.new) drive.old drive.new
+        (printed_by drive.old.pace Status) }
+    ensures drive { GoesOn M.seen drive.old drive.new }
 {
     let told = status_line(drive);
     let mut line = ArrayVec::<u8, 64>::new();

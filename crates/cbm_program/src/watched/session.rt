@@ -6,12 +6,11 @@ ghost use Rattle.cbm_program.specs.Running.{IsInRange, LineIsInRange};
 use super::printing::Printing;
 use crate::fault::RunFault;
 use crate::line::{Line, parse};
-use crate::lines::Lines;
 use crate::numbered::next_line;
 use crate::output::flush;
 use crate::request::Request;
 use arrayvec::ArrayVec;
-use bus_traces::Watches;
+use bus_traces::{Source, Watches};
 use cbm_drive::{Bus, Desk, Drive, Pace, Party};
 use cbm_host::{self, Performer};
 use cbm_medium::Steady;
@@ -128,7 +127,7 @@ impl<M: Steady> Bench<M> {
 /// drive's medium back with what came of it. It prints what a run prints that isn't watched. Errors: `Script`, `Reading` or `Writing`.
 pub(crate) fn serve_watched<M: Steady + Drop, R: Read, W: Write, T: Watches>(
     bench: Bench<M>,
-    lines: &mut Lines<R>,
+    lines: &mut Source<R>,
     first: Option<Line>,
     writer: &mut W,
     watcher: &mut T,

@@ -1,32 +1,31 @@
 //! A script of line changes, from its second line to its end or its first bad line.
-ghost use Rattle.std.specs.Prelude.{Bool, ◌≡◌, ◌≢◌, ◌≤◌, ◌<◌, ◌∷◌, [], ℕ, List, Option, codes, length, IfSome, IfOk, IfErr, OnErr};
+ghost use Rattle.std.specs.Prelude.{◌≡◌, ◌≤◌, ◌∷◌, [], ℕ, false, List, Option, codes, length, IfOk, IfErr, OnErr};
+ghost use Rattle.bus_traces.specs.Lines.{bytes_left, TakesLine};
 ghost use Rattle.cbm_drive.specs.Desks.{desk_shows};
 ghost use Rattle.cbm_host.specs.Hosted.{party_of};
-ghost use Rattle.cbm_medium.specs.Content.{Content};
-ghost use Rattle.cbm_volume.specs.Holding.{HoldsDisk};
-ghost use Rattle.cbm_program.specs.Starts.{StartsOn};
-ghost use Rattle.cbm_program.specs.Lines.{bytes_left, TakesLine};
+ghost use Rattle.cbm_medium.specs.Seen.{Seen};
+ghost use Rattle.cbm_program.specs.Outcome.{IsTracedTo, IsTracedPart, PlaysScript};
 ghost use Rattle.cbm_program.specs.Output.{Grows};
-ghost use Rattle.cbm_program.specs.Running.{EndsAs};
-ghost use Rattle.cbm_program.specs.Staging.{IsOpen, IsAt, IsBorne, IsFresh, StandsOn, tracks_in};
+ghost use Rattle.cbm_program.specs.Running.{EndsAs, IsOfScript};
+ghost use Rattle.cbm_program.specs.Staging.{IsOpen, IsBorne, IsFresh, IsSwitchedOn, StandsOn, tracks_in};
+ghost use Rattle.cbm_program.specs.Starts.{IsDevice, StartsFrom, KeptBy};
 ghost use Rattle.cbm_program.specs.TimedReading.{TimedRead, BehindRead};
-ghost use Rattle.cbm_program.specs.Timetables.{timetable_of};
-ghost use Rattle.cbm_program.specs.Traces.{powered, PrintsTrace, PrintsTracePart, WritesTrace};
+ghost use Rattle.cbm_program.specs.Traces.{WritesTrace};
 
 use super::staging::Stage;
 use super::timed::{Timed, is_skipped, timed_from};
 use crate::fault::RunFault;
-use crate::lines::Lines;
 use crate::numbered::next_line;
 use crate::output::flush;
 use arrayvec::ArrayVec;
+use bus_traces::Source;
 use cbm_drive::Pace;
 use cbm_medium::Steady;
 use std::io::{Read, Write};
 
 /// Reads line `number`, which follows a moment, in microseconds. The end must come before the script's own.
 fn read_timed<R: Read>(
-    lines: &mut Lines<R>,
+    lines: &mut Source<R>,
     bytes: &mut ArrayVec<u8, 1000>,
     number: u32,
     from: u64,
@@ -41,7 +40,7 @@ fn read_timed<R: Read>(
 
 /// Reads the lines after the end, from line `first` on: all of them are skipped.
 fn read_behind<R: Read>(
-    lines: &mut Lines<R>,
+    lines: &mut Source<R>,
     bytes: &mut ArrayVec<u8, 1000>,
     first: u32,
 ) -> Result<(), RunFault>
@@ -64,32 +63,27 @@ fn play_on<M: Steady, R: Read, W: Write>(
     stage: &mut Stage<M>,
     device: u8,
     pace: Pace,
-    lines: &mut Lines<R>,
+    lines: &mut Source<R>,
     writer: &mut W,
 ) -> Result<(), RunFault>
     requires open { IsOpen stage.old.player 0 }
     requires one { length (tracks_in M.seen stage.old.bus) ≡ 1 }
-    requires low { 8 ≤ device }
-    requires high { device ≤ 11 }
+    requires device { IsDevice device }
     // Up to its end or its first bad line the script's trace was written, and the drive is in the state after it.
     ensures ended { (input : Option (List ℕ)) → TakesLine input (bytes_left R.remaining lines.old) (codes "lines") →
-        EndsAs result (λ bad. IfSome input (λ bytes. ((timetable_of bytes).bad ≡ bad)
-        × PrintsTrace (W.contents writer.old) (W.contents writer.new)
-        (λ m. IsAt M.seen stage.old.player stage.old.bus (powered (party_of pace device) m) []) (IsBorne M.seen stage.new.bus)
-        (party_of pace device) [] (timetable_of bytes))) }
+        EndsAs result (IsTracedTo (party_of pace device) false input (W.contents writer.old) (W.contents writer.new)
+        (IsSwitchedOn M.seen (party_of pace device) stage.old.player stage.old.bus) (IsBorne M.seen stage.new.bus)) }
     // At a fault a beginning of that was written.
     ensures fault { (input : Option (List ℕ)) → TakesLine input (bytes_left R.remaining lines.old) (codes "lines") →
-        OnErr result (IfSome input (λ bytes. PrintsTracePart (W.contents writer.old) (W.contents writer.new)
-        (λ m. IsAt M.seen stage.old.player stage.old.bus (powered (party_of pace device) m) []) (party_of pace device) [] (timetable_of bytes))) }
+        OnErr result (IsTracedPart (party_of pace device) false input (W.contents writer.old) (W.contents writer.new)
+        (IsSwitchedOn M.seen (party_of pace device) stage.old.player stage.old.bus)) }
     ensures tracks { tracks_in M.seen stage.new.bus ≡ tracks_in M.seen stage.old.bus }
     // Whatever the drive represents:
-    ensures wrote { (input : Option (List ℕ)) →
-        IsFresh desk_shows (party_of pace device) stage.old.player stage.old.bus →
-        TakesLine input (bytes_left R.remaining lines.old) (codes "lines") → EndsAs result (λ bad.
-        WritesTrace (party_of pace device) input (W.contents writer.old) (W.contents writer.new) bad) }
+    ensures wrote { (input : Option (List ℕ)) → IsFresh desk_shows (party_of pace device) stage.old.player stage.old.bus →
+        TakesLine input (bytes_left R.remaining lines.old) (codes "lines") → EndsAs result
+        (WritesTrace (party_of pace device) input (W.contents writer.old) (W.contents writer.new)) }
     ensures grows { Grows (W.contents writer.old) (W.contents writer.new) }
-    ensures image { IfErr result (λ fault. (n : ℕ) → fault ≢ RunFault.Image n) }
-    ensures memory { IfErr result (λ fault. fault ≢ RunFault.Memory) }
+    ensures cause { IfErr result IsOfScript }
 {
     let mut bytes = ArrayVec::new();
     let mut number = 2;
@@ -119,38 +113,23 @@ pub(crate) fn run_changes<M: Steady + Drop, R: Read, W: Write>(
     stage: Stage<M>,
     device: u8,
     pace: Pace,
-    lines: &mut Lines<R>,
+    lines: &mut Source<R>,
     writer: &mut W,
 ) -> Result<M, RunFault>
     requires open { IsOpen stage.player 0 }
     requires one { length (tracks_in M.seen stage.bus) ≡ 1 }
-    requires low { 8 ≤ device }
-    requires high { device ≤ 11 }
-    ensures ended { (tracks : ℕ) (content : Content) (protected : Bool) (input : Option (List ℕ)) →
-        StandsOn M.seen tracks content protected (party_of pace device) stage.player stage.bus → TakesLine input (bytes_left R.remaining lines.old) (codes "lines") →
-        EndsAs result (λ bad. IfSome input (λ bytes. ((timetable_of bytes).bad ≡ bad)
-        × PrintsTrace (W.contents writer.old) (W.contents writer.new)
-        (StartsOn tracks content protected)
-        (λ _. Unit {0}) (party_of pace device) [] (timetable_of bytes))) }
-    ensures disk { (tracks : ℕ) (content : Content) (protected : Bool) (input : Option (List ℕ)) →
-        StandsOn M.seen tracks content protected (party_of pace device) stage.player stage.bus → TakesLine input (bytes_left R.remaining lines.old) (codes "lines") →
-        IfOk result (λ after. IfSome input (λ bytes. PrintsTrace (W.contents writer.old) (W.contents writer.new)
-        (StartsOn tracks content protected)
-        (λ m. HoldsDisk (M.seen after).tracks (M.seen after).content m.disk) (party_of pace device) [] (timetable_of bytes))) }
-    ensures fault { (tracks : ℕ) (content : Content) (protected : Bool) (input : Option (List ℕ)) →
-        StandsOn M.seen tracks content protected (party_of pace device) stage.player stage.bus → TakesLine input (bytes_left R.remaining lines.old) (codes "lines") →
-        OnErr result (IfSome input (λ bytes. PrintsTracePart (W.contents writer.old) (W.contents writer.new)
-        (StartsOn tracks content protected)
-        (party_of pace device) [] (timetable_of bytes))) }
+    requires device { IsDevice device }
+    ensures played { (shows : Seen) (input : Option (List ℕ)) →
+        StandsOn M.seen shows (party_of pace device) stage.player stage.bus →
+        TakesLine input (bytes_left R.remaining lines.old) (codes "lines") → PlaysScript result (StartsFrom shows)
+        (λ after. KeptBy (M.seen after)) (party_of pace device) false input (W.contents writer.old) (W.contents writer.new) }
     // Whatever the drive represents:
-    ensures wrote { (input : Option (List ℕ)) →
-        IsFresh desk_shows (party_of pace device) stage.player stage.bus →
-        TakesLine input (bytes_left R.remaining lines.old) (codes "lines") → EndsAs result (λ bad.
-        WritesTrace (party_of pace device) input (W.contents writer.old) (W.contents writer.new) bad) }
+    ensures wrote { (input : Option (List ℕ)) → IsFresh desk_shows (party_of pace device) stage.player stage.bus →
+        TakesLine input (bytes_left R.remaining lines.old) (codes "lines") → EndsAs result
+        (WritesTrace (party_of pace device) input (W.contents writer.old) (W.contents writer.new)) }
     ensures grows { Grows (W.contents writer.old) (W.contents writer.new) }
     ensures same_tracks { IfOk result (λ after. (M.seen after).tracks ∷ [] ≡ tracks_in M.seen stage.bus) }
-    ensures image { IfErr result (λ fault. (n : ℕ) → fault ≢ RunFault.Image n) }
-    ensures memory { IfErr result (λ fault. fault ≢ RunFault.Memory) }
+    ensures cause { IfErr result IsOfScript }
 {
     let mut stage = stage;
     play_on(&mut stage, device, pace, lines, writer)?;

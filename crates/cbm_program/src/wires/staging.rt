@@ -1,23 +1,31 @@
 //! A drive under a host whose changes are made one at a time, and printed with what comes of them.
-ghost use Rattle.std.specs.Prelude.{◌≡◌, ◌-◌, ◌^◌, ◌<◌, ◌≤◌, ◌∷◌, [], ℕ, IfErr, OnOk, OnErr};
+ghost use Rattle.std.specs.Prelude.{◌≡◌, ◌-◌, ◌^◌, ◌<◌, ◌≤◌, ◌∷◌, [], OnOk};
+ghost use Rattle.bus_traces.specs.Events.{event_text};
 ghost use Rattle.cbm_drive.specs.Machines.{Machine};
 ghost use Rattle.cbm_drive.specs.Standing.{Kept};
 ghost use Rattle.cbm_drive.specs.Desks as desks;
 ghost use Rattle.cbm_drive.specs.Seats.{Seated};
 ghost use Rattle.cbm_host.specs.Hosted.{party_of};
-ghost use Rattle.cbm_volume.specs.Holding.{HoldsDisk};
-ghost use Rattle.cbm_program.specs.Output.{Grows};
-ghost use Rattle.cbm_program.specs.Running.{IsOfWriting};
-ghost use Rattle.cbm_program.specs.Staging.{IsOpen, IsBorne, IsFresh, StandsOn, PlaysOn, PlaysPart, Ends, ReplaysOn, ReplaysTo, tracks_in};
+ghost use Rattle.cbm_program.specs.Output.{Writes};
+ghost use Rattle.cbm_program.specs.Staging.{IsOpen, IsBorne, IsFresh, StandsOn, PlaysOn, Ends, ReplaysOn, ReplaysTo, HasStaged, tracks_in};
+ghost use Rattle.cbm_program.specs.Starts.{KeptBy};
 
-use super::event::print_event;
 use crate::fault::RunFault;
-use cbm_drive::{Bus, Change, Desk, Drive, Pace, Party, Player, Who};
+use crate::output::print;
+use bus_traces::event_text;
+use cbm_drive::{Bus, Change, Desk, Drive, Event, Pace, Party, Player, Who};
 use cbm_medium::Steady;
 use std::io::Write;
 
 /// How long the drive takes to react, in microseconds.
 const REACTION: u8 = 20;
+
+/// Prints an event as `MOMENT WHO LINE WAY`.
+fn print_event<W: Write>(writer: &mut W, event: Event) -> Result<(), RunFault>
+    ensures { Writes result (W.contents writer.old) (W.contents writer.new) (event_text event) }
+{
+    print(writer, event_text(event).as_slice())
+}
 
 /// A drive on a cable with a host, and the host's changes, each in its turn.
 #[derive(Drop)]
@@ -31,8 +39,7 @@ impl<M: Steady> Stage<M> {
     pub(crate) fn new(medium: M, device: u8, pace: Pace) -> Stage<M>
         requires { device < 31 }
         ensures open { IsOpen result.player 0 }
-        ensures at { StandsOn M.seen (M.seen medium).tracks (M.seen medium).content (M.seen medium).protected
-            (party_of pace device) result.player result.bus }
+        ensures at { StandsOn M.seen (M.seen medium) (party_of pace device) result.player result.bus }
         // With any disk:
         ensures fresh { IsFresh desks.desk_shows (party_of pace device) result.player result.bus }
         ensures tracks { tracks_in M.seen result.bus ≡ (M.seen medium).tracks ∷ [] }
@@ -63,11 +70,8 @@ impl<M: Steady> Stage<M> {
         // Whatever the drive represents:
         ensures wrote { OnOk result (ReplaysOn desks.desk_shows (W.contents writer.old) (W.contents writer.new)
             (change ∷ []) self.old.player self.old.bus self.new.player self.new.bus) }
-        ensures err { OnErr result (PlaysPart M.seen (W.contents writer.old) (W.contents writer.new) (change ∷ [])
-            self.old.player self.old.bus) }
-        ensures tracks { tracks_in M.seen self.new.bus ≡ tracks_in M.seen self.old.bus }
-        ensures grows { Grows (W.contents writer.old) (W.contents writer.new) }
-        ensures fault { IfErr result IsOfWriting }
+        ensures staged { HasStaged M.seen result (W.contents writer.old) (W.contents writer.new) (change ∷ [])
+            self.old.player self.old.bus self.new.bus }
     {
         self.player.offer(change).unwrap();
         'events: while let Some(event) = self.player.next(&mut self.bus, change.moment) {
@@ -85,14 +89,11 @@ impl<M: Steady> Stage<M> {
         requires moment { end < 2 ^ 59 - 1 }
         ensures ok { OnOk result (Ends M.seen (W.contents writer.old) (W.contents writer.new) end
             self.old.player self.old.bus self.new.player self.new.bus) }
-        ensures err { OnErr result (PlaysPart M.seen (W.contents writer.old) (W.contents writer.new) []
-            self.old.player self.old.bus) }
         // Whatever the drive represents:
         ensures wrote { OnOk result (ReplaysTo desks.desk_shows (W.contents writer.old) (W.contents writer.new) end
             self.old.player self.old.bus self.new.player self.new.bus) }
-        ensures tracks { tracks_in M.seen self.new.bus ≡ tracks_in M.seen self.old.bus }
-        ensures grows { Grows (W.contents writer.old) (W.contents writer.new) }
-        ensures fault { IfErr result IsOfWriting }
+        ensures staged { HasStaged M.seen result (W.contents writer.old) (W.contents writer.new) []
+            self.old.player self.old.bus self.new.bus }
     {
         'events: while let Some(event) = self.player.finish(&mut self.bus, end) {
             print_event(writer, event)?;
@@ -103,8 +104,7 @@ impl<M: Steady> Stage<M> {
     /// The medium, with all that was written to it.
     pub(crate) fn into_medium(self) -> M
         ensures medium { (x : Seated (desks.Desk (Kept M))) → self.bus.drives ≡ x ∷ [] → result ≡ x.machine.dos.medium }
-        ensures disk { (m : Machine) → IsBorne M.seen self.bus m →
-            HoldsDisk (M.seen result).tracks (M.seen result).content m.disk }
+        ensures disk { (m : Machine) → IsBorne M.seen self.bus m → KeptBy (M.seen result) m }
     {
         let Stage { bus, .. } = self;
         let [drive] = bus.into_drives();

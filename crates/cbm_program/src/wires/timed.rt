@@ -1,9 +1,10 @@
 //! What a line of a script of line changes asks for.
-ghost use Rattle.std.specs.Prelude.{◌≡◌, ◌≤◌, length, option_map, IfSome};
-ghost use Rattle.cbm_program.specs.Timed.{line_called, way_called, change_of, end_of, timed_of, timed_behind, is_skipped, IsTimed, latest};
+ghost use Rattle.std.specs.Prelude.{◌≡◌, ◌≤◌, option_map, IfSome};
+ghost use Rattle.bus_traces.specs.Events.{host_event_of};
+ghost use Rattle.cbm_program.specs.Timed.{change_of, end_of, timed_of, timed_behind, is_skipped, IsTimed, latest};
 
-use crate::word::{moment, split_word};
-use cbm_drive::{Change, Line, Way};
+use bus_traces::{host_event_of, moment_of, split_word};
+use cbm_drive::Change;
 
 /// What a line of a script of line changes is.
 #[derive(Clone, Copy, Debug, Drop)]
@@ -16,47 +17,18 @@ pub(crate) enum Timed {
     Ends(u64),
 }
 
-fn line(word: &[u8]) -> Option<Line>
-    ensures { result ≡ line_called word.now }
+fn change(bytes: &[u8]) -> Option<Timed>
+    ensures value { result ≡ change_of (host_event_of bytes.now) }
+    ensures moment { IfSome result IsTimed }
 {
-    if word == b"atn".as_slice() {
-        Some(Line::Atn)
-    } else if word == b"clock".as_slice() {
-        Some(Line::Clock)
-    } else if word == b"data".as_slice() {
-        Some(Line::Data)
-    } else {
-        None
-    }
-}
-
-fn way(word: &[u8]) -> Option<Way>
-    ensures { result ≡ way_called word.now }
-{
-    if word == b"pull".as_slice() {
-        Some(Way::Pull)
-    } else if word == b"free".as_slice() {
-        Some(Way::Free)
-    } else {
-        None
-    }
-}
-
-fn change(first: &[u8], rest: Option<&[u8]>) -> Option<Timed>
-    ensures value { result ≡ change_of first.now (option_map (λ words. words.now) rest.entry) }
-{
-    let (name, rest) = split_word(rest?);
-    Some(Timed::Changes(Change {
-        moment: moment(first)?,
-        line: line(name)?,
-        way: way(rest?)?,
-    }))
+    let event = host_event_of(bytes)?;
+    Some(Timed::Changes(event.change))
 }
 
 fn end(rest: Option<&[u8]>) -> Option<Timed>
     ensures value { result ≡ end_of (option_map (λ word. word.now) rest.entry) }
 {
-    Some(Timed::Ends(moment(rest?)?))
+    Some(Timed::Ends(moment_of(rest?)?))
 }
 
 /// What a line of a script asks for: nothing where it is empty or begins with `;`, and None where it is refused.
@@ -72,7 +44,7 @@ fn parse_timed(bytes: &[u8]) -> Option<Timed>
     if first == b"end".as_slice() {
         end(rest)
     } else {
-        change(first, rest)
+        change(bytes)
     }
 }
 

@@ -1,5 +1,5 @@
 use Rattle.std.proofs.Common.{arith, sym, ◌∙◌}
-use Rattle.cbm_program.specs.Lines.{bytes_left}
+use Rattle.bus_traces.specs.Lines.{bytes_left}
 use Rattle.cbm_program.proofs.TimedLines.{read_bytes}
 use Rattle.cbm_program.proofs.numbered.next_line.Goals.{else-found-via-then-found+else-number-gt-LINES, else-found-via-else-found}
 use Rattle.cbm_program.proofs.numbered.next_line.Goals as goal

@@ -1,7 +1,7 @@
 use Rattle.std.proofs.Common.{ℕ, ◌≡◌, ◌-◌, ◌*◌, ◌<◌, ◌≤◌, List, Option, Ok}
 use Rattle.std.specs.Prelude.{IfSome}
 use Rattle.cbm_host.specs.Hosted.{Rests, tracks_on}
-use Rattle.cbm_program.specs.Lines.{bytes_left}
+use Rattle.bus_traces.specs.Lines.{bytes_left}
 use Rattle.cbm_program.specs.Output.{Grows}
 use Rattle.cbm_program.specs.Running.{LineRead, LineIsInRange}
 use Rattle.cbm_program.proofs.RunLemmas.{RunningOn}

@@ -1,6 +1,7 @@
-use Rattle.std.proofs.Common.{◌≤◌, refl, ◌∙◌, arith}
+use Rattle.std.proofs.Common.{rules, Err, ap, ◌≤◌, refl, ◌∙◌, arith}
+use Rattle.std.proofs.lemmas.Result.{err_from_is_err_and}
 use Rattle.cbm_program.proofs.BytesPrinted.{goes_none, goes_on, goes_part, goes_over}
-use Rattle.cbm_program.proofs.LinePrints.{if_err}
+use Rattle.cbm_program.proofs.LinePrints.{if_err, none_ok, same_err}
 use Rattle.cbm_program.proofs.OutputLemmas.{grows_none, grows_on}
 use Rattle.cbm_program.proofs.performing.getting.print_bytes.Goals as goal
 
@@ -20,10 +21,16 @@ bytes-preserved g c = record {
 pub bytes-smaller : goal.bytes-smaller
 bytes-smaller g c = c.in-Some.ensures.fewer
 
-pub returns-in_err-print_byte-clause-err : goal.returns-in_err-print_byte-clause-err
-returns-in_err-print_byte-clause-err g c = λ m request bytes last channel modest u.
-    if_err c.from_residual.result (goes_part g.M.Medium.seen _ _ _ c.args.drive.now c.bytes.drive c.take.new.self c.args.performer.now c.bytes.performer c.take.new.performer c.in-Some.byte c.in-Some.is_last c.take.ensures.pace c.bytes.invariant.paced c.bytes.invariant.goes c.in-Some.ensures.taken
-    c.in_err-print_byte.ensures.err m request bytes last channel modest u)
+pub returns-in_err-print_byte-clause-said : goal.returns-in_err-print_byte-clause-said
+returns-in_err-print_byte-clause-said g c =
+    let p = err_from_is_err_and c.from_residual.result c.from_residual.ensures.1 in
+    record {
+      ok = λ m request bytes last channel modest u. none_ok c.from_residual.result _ _ (p.1 ∙ ap Err p.2);
+      err = λ m request bytes last channel modest u. if_err c.from_residual.result (goes_part g.M.Medium.seen _ _ _ c.args.drive.now c.bytes.drive c.take.new.self c.args.performer.now c.bytes.performer c.take.new.performer c.in-Some.byte c.in-Some.is_last c.take.ensures.pace c.bytes.invariant.paced c.bytes.invariant.goes
+          c.in-Some.ensures.taken c.in_err-print_byte.ensures.err m request bytes last channel modest u);
+      grows = grows_on _ _ _ c.bytes.invariant.grown c.in_err-print_byte.ensures.grows;
+      fault = same_err c.from_residual.result _ _ (p.1 ∙ ap Err p.2) c.in_err-print_byte.ensures.fault;
+    }
 
 pub returns-in_err-print_byte-clause-soon : goal.returns-in_err-print_byte-clause-soon
 returns-in_err-print_byte-clause-soon g c = λ h.
@@ -34,12 +41,13 @@ returns-in_err-print_byte-clause-soon g c = λ h.
 pub returns-in_err-print_byte-clause-tracks : goal.returns-in_err-print_byte-clause-tracks
 returns-in_err-print_byte-clause-tracks g c = c.take.ensures.tracks ∙ c.bytes.invariant.tracks
 
-pub returns-in_err-print_byte-clause-grows : goal.returns-in_err-print_byte-clause-grows
-returns-in_err-print_byte-clause-grows g c = grows_on _ _ _ c.bytes.invariant.grown c.in_err-print_byte.ensures.grows
-
-pub returns-clause-ok : goal.returns-clause-ok
-returns-clause-ok g c = λ m request bytes last channel modest u.
-    goes_over g.M.Medium.seen _ _ c.args.drive.now c.bytes.drive c.take.new.self c.args.performer.now c.bytes.performer (c.take.ensures.pace ∙ c.bytes.invariant.paced) c.bytes.invariant.goes c.in_default.ensures.taken m request bytes last channel modest u
+pub returns-clause-said : goal.returns-clause-said
+returns-clause-said g c = record {
+  ok = λ m request bytes last channel modest u. goes_over g.M.Medium.seen _ _ c.args.drive.now c.bytes.drive c.take.new.self c.args.performer.now c.bytes.performer (c.take.ensures.pace ∙ c.bytes.invariant.paced) c.bytes.invariant.goes c.in_default.ensures.taken m request bytes last channel modest u;
+  err = (search rules);
+  grows = c.bytes.invariant.grown;
+  fault = (search rules);
+}
 
 pub returns-clause-soon : goal.returns-clause-soon
 returns-clause-soon g c = λ h.
@@ -49,9 +57,6 @@ returns-clause-soon g c = λ h.
 
 pub returns-clause-tracks : goal.returns-clause-tracks
 returns-clause-tracks g c = c.take.ensures.tracks ∙ c.bytes.invariant.tracks
-
-pub returns-clause-grows : goal.returns-clause-grows
-returns-clause-grows g c = c.bytes.invariant.grown
 
 pub returns-in_err-print_byte-clause-pace : goal.returns-in_err-print_byte-clause-pace
 returns-in_err-print_byte-clause-pace g c = c.take.ensures.pace ∙ c.bytes.invariant.paced

@@ -32,14 +32,8 @@ returns-clause-told g c = λ m r.
     let o = c.in_default.ensures.taken m Status c.bytes.line.items u.0 (omega arith) tt u.1 in
     (sym o.said, o.rests)
 
-pub returns-clause-soon : goal.returns-clause-soon
-returns-clause-soon g c =
+pub returns-clause-drive : goal.returns-clause-drive
+returns-clause-drive g c =
     let soon : c.take.new.self.moment ≤ c.bytes.performer.limit = c.in_default.ensures.moment in
     let same = c.bytes.invariant.limit in
-    omega (arith, soon, same)
-
-pub returns-clause-tracks : goal.returns-clause-tracks
-returns-clause-tracks g c = c.take.ensures.tracks ∙ c.bytes.invariant.tracks
-
-pub returns-clause-pace : goal.returns-clause-pace
-returns-clause-pace g c = c.take.ensures.pace ∙ c.bytes.invariant.paced
+    record { soon = omega (arith, soon, same); pace = c.take.ensures.pace ∙ c.bytes.invariant.paced; tracks = c.take.ensures.tracks ∙ c.bytes.invariant.tracks }

@@ -2,7 +2,7 @@ use Rattle.std.proofs.Common.{◌∙◌, ◌+◌, ap, length, Err, ℕ, refl, ar
 use Rattle.std.proofs.lemmas.Result.{err_from_is_err_and}
 use Rattle.cbm_host.proofs.Hosting.{is_drive}
 use Rattle.cbm_host.specs.Hosted.{party_of}
-use Rattle.cbm_program.specs.Lines.{bytes_left}
+use Rattle.bus_traces.specs.Lines.{bytes_left}
 use Rattle.cbm_program.specs.declared.wires.staging.Stage.{Stage}
 use Rattle.cbm_program.proofs.LinePrints.{if_err}
 use Rattle.cbm_program.proofs.OutputLemmas.{grows_none, grows_on, grows_kept}
@@ -44,10 +44,10 @@ pub returns-in_err-change-in-Changes-clause-fault : goal.returns-in_err-change-i
 returns-in_err-change-in-Changes-clause-fault g c = λ input t.
     let read = rw c.in-Changes.is at c.in_ok-read_timed.ensures in
     if_err c.from_residual-in_err-change-in-Changes.result (change_begun g.M.Medium.seen _ _ _ input (bytes_left g.R.Read.remaining c.lines.lines) (bytes_left g.R.Read.remaining c.read_timed.new.lines) c.lines.number c.lines.from (party_of c.args.pace c.args.device) c.in-Changes.change
-    c.args.stage.now.player c.lines.stage.player c.args.stage.now.bus c.lines.stage.bus (c.lines.invariant.timing input t) read.0 c.in_err-change-in-Changes.ensures.err)
+    c.args.stage.now.player c.lines.stage.player c.args.stage.now.bus c.lines.stage.bus (c.lines.invariant.timing input t) read.0 c.in_err-change-in-Changes.ensures.staged.err)
 
 pub returns-in_err-change-in-Changes-clause-grows : goal.returns-in_err-change-in-Changes-clause-grows
-returns-in_err-change-in-Changes-clause-grows g c = grows_on _ _ _ c.lines.invariant.grown c.in_err-change-in-Changes.ensures.grows
+returns-in_err-change-in-Changes-clause-grows g c = grows_on _ _ _ c.lines.invariant.grown c.in_err-change-in-Changes.ensures.staged.grows
 
 pub returns-in_err-flush-in-Changes-clause-fault : goal.returns-in_err-flush-in-Changes-clause-fault
 returns-in_err-flush-in-Changes-clause-fault g c = λ input t.
@@ -58,15 +58,15 @@ returns-in_err-flush-in-Changes-clause-fault g c = λ input t.
     (c.lines.invariant.timing input t) read.0 c.in_ok-change-in-Changes.ensures.ok c.in_ok-change-in-Changes.ensures.wrote c.flush.ensures.bytes) c.in_ok-change-in-Changes.ensures.open.second)
 
 pub returns-in_err-flush-in-Changes-clause-grows : goal.returns-in_err-flush-in-Changes-clause-grows
-returns-in_err-flush-in-Changes-clause-grows g c = grows_kept _ _ _ (grows_on _ _ _ c.lines.invariant.grown c.in_ok-change-in-Changes.ensures.grows) c.flush.ensures.bytes
+returns-in_err-flush-in-Changes-clause-grows g c = grows_kept _ _ _ (grows_on _ _ _ c.lines.invariant.grown c.in_ok-change-in-Changes.ensures.staged.grows) c.flush.ensures.bytes
 
 -- the end broke off
 pub returns-in_err-end-in-Ends-clause-fault : goal.returns-in_err-end-in-Ends-clause-fault
 returns-in_err-end-in-Ends-clause-fault g c = λ input t.
-    if_err c.from_residual-in_err-end-in-Ends.result (end_begun g.M.Medium.seen _ _ _ input (bytes_left g.R.Read.remaining c.lines.lines) c.lines.number c.lines.from (party_of c.args.pace c.args.device) c.args.stage.now.player c.lines.stage.player c.args.stage.now.bus c.lines.stage.bus (c.lines.invariant.timing input t) c.in_err-end-in-Ends.ensures.err)
+    if_err c.from_residual-in_err-end-in-Ends.result (end_begun g.M.Medium.seen _ _ _ input (bytes_left g.R.Read.remaining c.lines.lines) c.lines.number c.lines.from (party_of c.args.pace c.args.device) c.args.stage.now.player c.lines.stage.player c.args.stage.now.bus c.lines.stage.bus (c.lines.invariant.timing input t) c.in_err-end-in-Ends.ensures.staged.err)
 
 pub returns-in_err-end-in-Ends-clause-grows : goal.returns-in_err-end-in-Ends-clause-grows
-returns-in_err-end-in-Ends-clause-grows g c = grows_on _ _ _ c.lines.invariant.grown c.in_err-end-in-Ends.ensures.grows
+returns-in_err-end-in-Ends-clause-grows g c = grows_on _ _ _ c.lines.invariant.grown c.in_err-end-in-Ends.ensures.staged.grows
 
 pub returns-in_err-flush-in-Ends-clause-fault : goal.returns-in_err-flush-in-Ends-clause-fault
 returns-in_err-flush-in-Ends-clause-fault g c = λ input t.
@@ -75,7 +75,7 @@ returns-in_err-flush-in-Ends-clause-fault g c = λ input t.
     (ended_part seen _ _ c.in-Ends.end c.lines.stage.player c.end.new.self.player c.lines.stage.bus c.end.new.self.bus (ends_kept seen _ _ _ c.in-Ends.end c.lines.stage.player c.end.new.self.player c.lines.stage.bus c.end.new.self.bus c.in_ok-end-in-Ends.ensures.ok c.flush-in-Ends.ensures.bytes)))
 
 pub returns-in_err-flush-in-Ends-clause-grows : goal.returns-in_err-flush-in-Ends-clause-grows
-returns-in_err-flush-in-Ends-clause-grows g c = grows_kept _ _ _ (grows_on _ _ _ c.lines.invariant.grown c.in_ok-end-in-Ends.ensures.grows) c.flush-in-Ends.ensures.bytes
+returns-in_err-flush-in-Ends-clause-grows g c = grows_kept _ _ _ (grows_on _ _ _ c.lines.invariant.grown c.in_ok-end-in-Ends.ensures.staged.grows) c.flush-in-Ends.ensures.bytes
 
 -- a line after the end can't be had, or is refused
 pub returns-in_err-read_behind-in-Ends-clause-ended : goal.returns-in_err-read_behind-in-Ends-clause-ended
@@ -101,18 +101,18 @@ pub returns-in-Ends-clause-wrote : goal.returns-in-Ends-clause-wrote
 returns-in-Ends-clause-wrote g c = λ input fresh t.
     let read = rw c.in-Ends.is at c.in_ok-read_timed.ensures in
     wrote_ended g.M.Medium.seen (party_of c.args.pace c.args.device) _ _ _ _ input (bytes_left g.R.Read.remaining c.lines.lines) (bytes_left g.R.Read.remaining c.read_timed.new.lines) c.lines.number c.lines.from c.in-Ends.end _
-    c.args.stage.now.player c.lines.stage.player c.end.new.self.player c.args.stage.now.bus c.lines.stage.bus c.end.new.self.bus (is_drive c.args.pace c.args.device c.requires.low c.requires.high) (ap length (c.in_ok-end-in-Ends.ensures.tracks ∙ c.lines.invariant.tracks) ∙ c.requires.one) fresh (c.lines.invariant.timing input t) read.0 c.in_ok-end-in-Ends.ensures.wrote c.flush-in-Ends.ensures.bytes c.in_ok-read_behind-in-Ends.ensures
+    c.args.stage.now.player c.lines.stage.player c.end.new.self.player c.args.stage.now.bus c.lines.stage.bus c.end.new.self.bus (is_drive c.args.pace c.args.device c.requires.device.0 c.requires.device.1) (ap length (c.in_ok-end-in-Ends.ensures.staged.tracks ∙ c.lines.invariant.tracks) ∙ c.requires.one) fresh (c.lines.invariant.timing input t) read.0 c.in_ok-end-in-Ends.ensures.wrote c.flush-in-Ends.ensures.bytes c.in_ok-read_behind-in-Ends.ensures
 
 pub returns-in-Ends-clause-ended : goal.returns-in-Ends-clause-ended
 returns-in-Ends-clause-ended g c = λ input t.
     let read = rw c.in-Ends.is at c.in_ok-read_timed.ensures in
     let seen = g.M.Medium.seen in
     timing_ended seen _ _ _ input (bytes_left g.R.Read.remaining c.lines.lines) (bytes_left g.R.Read.remaining c.read_timed.new.lines) c.lines.number c.lines.from c.in-Ends.end (party_of c.args.pace c.args.device) _ c.args.stage.now.player c.lines.stage.player c.end.new.self.player
-    c.args.stage.now.bus c.lines.stage.bus c.end.new.self.bus (is_drive c.args.pace c.args.device c.requires.low c.requires.high) (ap length (c.in_ok-end-in-Ends.ensures.tracks ∙ c.lines.invariant.tracks) ∙ c.requires.one) (c.lines.invariant.timing input t) read.0
+    c.args.stage.now.bus c.lines.stage.bus c.end.new.self.bus (is_drive c.args.pace c.args.device c.requires.device.0 c.requires.device.1) (ap length (c.in_ok-end-in-Ends.ensures.staged.tracks ∙ c.lines.invariant.tracks) ∙ c.requires.one) (c.lines.invariant.timing input t) read.0
     (ends_kept seen _ _ _ c.in-Ends.end c.lines.stage.player c.end.new.self.player c.lines.stage.bus c.end.new.self.bus c.in_ok-end-in-Ends.ensures.ok c.flush-in-Ends.ensures.bytes) c.in_ok-read_behind-in-Ends.ensures
 
 pub returns-in-Ends-clause-grows : goal.returns-in-Ends-clause-grows
-returns-in-Ends-clause-grows g c = grows_kept _ _ _ (grows_on _ _ _ c.lines.invariant.grown c.in_ok-end-in-Ends.ensures.grows) c.flush-in-Ends.ensures.bytes
+returns-in-Ends-clause-grows g c = grows_kept _ _ _ (grows_on _ _ _ c.lines.invariant.grown c.in_ok-end-in-Ends.ensures.staged.grows) c.flush-in-Ends.ensures.bytes
 
 pub lines-preserved : goal.lines-preserved
 lines-preserved g c =
@@ -137,7 +137,7 @@ lines-preserved g c =
             opened = w.in_ok-change-in-Changes.ensures.open;
             small = read.2;
             few = (let r = read.1 in omega (arith, r));
-            tracks = w.in_ok-change-in-Changes.ensures.tracks ∙ c.lines.invariant.tracks;
-            grown = grows_kept _ _ _ (grows_on _ _ _ c.lines.invariant.grown w.in_ok-change-in-Changes.ensures.grows) w.flush.ensures.bytes;
+            tracks = w.in_ok-change-in-Changes.ensures.staged.tracks ∙ c.lines.invariant.tracks;
+            grown = grows_kept _ _ _ (grows_on _ _ _ c.lines.invariant.grown w.in_ok-change-in-Changes.ensures.staged.grows) w.flush.ensures.bytes;
           })
     ]

@@ -1,5 +1,5 @@
 use Rattle.std.proofs.Common.{◌-◌}
-use Rattle.cbm_program.specs.Lines.{bytes_left}
+use Rattle.bus_traces.specs.Lines.{bytes_left}
 use Rattle.cbm_program.proofs.Playing.{Loops}
 use Rattle.cbm_program.proofs.wires.playing.play_on.Given as goal
 

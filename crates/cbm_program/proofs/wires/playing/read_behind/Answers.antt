@@ -1,6 +1,6 @@
 use Rattle.std.proofs.Common.{◌∙◌, ◌≤◌, length, ap, subst, Err, None, arith, sym}
 use Rattle.std.proofs.lemmas.Result.{err_from_is_err_and}
-use Rattle.cbm_program.specs.Lines.{bytes_left}
+use Rattle.bus_traces.specs.Lines.{bytes_left}
 use Rattle.cbm_program.specs.Timed.{timed_of, timed_behind, is_skipped}
 use Rattle.cbm_program.proofs.TimedLines.{stands, behind_skipped, behind_other, behind_none, behind_faulted}
 use Rattle.cbm_program.proofs.wires.playing.read_behind.Goals as goal

@@ -1,5 +1,5 @@
 use Rattle.std.proofs.Common.{ℕ, ◌-◌, ◌≤◌, Option}
-use Rattle.cbm_program.specs.Lines.{bytes_left}
+use Rattle.bus_traces.specs.Lines.{bytes_left}
 use Rattle.cbm_program.specs.TimedReading.{IsBadBehind}
 use Rattle.cbm_program.proofs.wires.playing.read_behind.Given as goal
 

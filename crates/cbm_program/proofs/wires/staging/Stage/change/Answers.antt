@@ -1,4 +1,4 @@
-use Rattle.std.proofs.Common.{◌+◌, ◌∷◌, [], refl, sym, ap, subst, ◌∙◌, arith}
+use Rattle.std.proofs.Common.{rules, ◌+◌, ◌∷◌, [], refl, sym, ap, subst, ◌∙◌, arith}
 use Rattle.cbm_drive.specs.Players.{Turns, IsGivenBefore}
 use Rattle.cbm_drive.specs.Desks.{desk_shows}
 use Rattle.cbm_program.proofs.LinePrints.{if_err}
@@ -18,14 +18,16 @@ events-init g c =
       grown = grows_none _;
     }
 
-pub returns-in_err-print_event-clause-err : goal.returns-in_err-print_event-clause-err
-returns-in_err-print_event-clause-err g c =
+pub returns-in_err-print_event-clause-staged : goal.returns-in_err-print_event-clause-staged
+returns-in_err-print_event-clause-staged g c =
     let rest = turn_rest c.in-Some.event c.args.change c.events.self.player.waiting c.next.new.self.waiting c.events.invariant.waiting c.in-Some.ensures.turn in
-    if_err c.from_residual.result (λ ss es h. part_event g.M.Medium.seen _ _ _ [] (c.args.change ∷ []) rest.0 (c.args.change.moment + 1) c.events.self.player c.next.new.self c.events.self.bus c.next.new.bus ss es c.in-Some.event (c.events.invariant.played ss es h)
-    (λ fs at_. (c.in-Some.ensures.given 0 ss fs at_).after) rest.1 c.in-Some.ensures.second c.in_err-print_event.ensures.err)
-
-pub returns-in_err-print_event-clause-grows : goal.returns-in_err-print_event-clause-grows
-returns-in_err-print_event-clause-grows g c = grows_on _ _ _ c.events.invariant.grown c.in_err-print_event.ensures.grows
+    record {
+      err = if_err c.from_residual.result (λ ss es h. part_event g.M.Medium.seen _ _ _ [] (c.args.change ∷ []) rest.0 (c.args.change.moment + 1) c.events.self.player c.next.new.self c.events.self.bus c.next.new.bus ss es c.in-Some.event (c.events.invariant.played ss es h)
+          (λ fs at_. (c.in-Some.ensures.given 0 ss fs at_).after) rest.1 c.in-Some.ensures.second c.in_err-print_event.ensures.err);
+      fault = (search rules);
+      grows = grows_on _ _ _ c.events.invariant.grown c.in_err-print_event.ensures.grows;
+      tracks = c.next.ensures.lasting ∙ c.events.invariant.tracks;
+    }
 
 pub returns-in-Host-clause-ok : goal.returns-in-Host-clause-ok
 returns-in-Host-clause-ok g c = λ ss es h.
@@ -36,8 +38,13 @@ pub returns-in-Host-clause-wrote : goal.returns-in-Host-clause-wrote
 returns-in-Host-clause-wrote g c =
     replays_event desk_shows _ _ _ [] (c.args.change ∷ []) c.args.self.now.player c.events.self.player c.next.new.self c.args.self.now.bus c.events.self.bus c.next.new.bus c.in-Some.event c.events.invariant.wrote (let k = c.in-Some.ensures.recorded refl in (k.0, λ later ss fs at_. (k.1 later 0 ss fs at_).after)) (of_host c.in-Some.event c.args.change c.events.self.player.waiting c.next.new.self.waiting c.in-Host.is c.events.invariant.waiting c.in-Some.ensures.turn) c.in_ok-print_event.ensures.ok
 
-pub returns-in-Host-clause-grows : goal.returns-in-Host-clause-grows
-returns-in-Host-clause-grows g c = grows_on _ _ _ c.events.invariant.grown c.in_ok-print_event.ensures.grows
+pub returns-in-Host-clause-staged : goal.returns-in-Host-clause-staged
+returns-in-Host-clause-staged g c = record {
+  err = (search rules);
+  fault = (search rules);
+  grows = grows_on _ _ _ c.events.invariant.grown c.in_ok-print_event.ensures.grows;
+  tracks = c.next.ensures.lasting ∙ c.events.invariant.tracks;
+}
 
 pub events-smaller : goal.events-smaller
 events-smaller g c = c.in-Some.ensures.fewer (not_host c.in-Some.event.who c.in_default-who.not-Host) (c.args.change.moment + 1) (omega arith)

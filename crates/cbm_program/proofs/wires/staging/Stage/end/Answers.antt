@@ -1,7 +1,8 @@
-use Rattle.std.proofs.Common.{◌+◌, [], refl, sym, subst, arith, ◌∙◌, append-nil}
+use Rattle.std.proofs.Common.{Err, ap, ◌+◌, [], refl, sym, subst, arith, ◌∙◌, append-nil}
+use Rattle.std.proofs.lemmas.Result.{err_from_is_err_and}
 use Rattle.cbm_drive.specs.Players.{IsGivenBefore}
 use Rattle.cbm_drive.specs.Desks.{desk_shows}
-use Rattle.cbm_program.proofs.LinePrints.{if_err}
+use Rattle.cbm_program.proofs.LinePrints.{if_err, same_err}
 use Rattle.cbm_program.proofs.OutputLemmas.{grows_none, grows_on}
 use Rattle.cbm_program.proofs.Staging.{none_played, played_event, replays_none, replays_event, replays_over, part_event, of_drive, ended_on}
 use Rattle.cbm_program.proofs.wires.staging.Stage.end.Goals as goal
@@ -17,13 +18,16 @@ events-init g c = record {
   grown = grows_none _;
 }
 
-pub returns-in_err-print_event-clause-err : goal.returns-in_err-print_event-clause-err
-returns-in_err-print_event-clause-err g c =
-    if_err c.from_residual.result (λ ss es h. part_event g.M.Medium.seen _ _ _ [] [] [] (c.args.end + 1) c.events.self.player c.finish.new.self c.events.self.bus c.finish.new.bus ss es c.in-Some.event (c.events.invariant.played ss es h)
-    (λ fs at_. c.in-Some.ensures.given 0 ss fs at_) (append-nil _ ∙ of_drive c.in-Some.event c.in-Some.ensures.drive) c.finish.ensures.second c.in_err-print_event.ensures.err)
-
-pub returns-in_err-print_event-clause-grows : goal.returns-in_err-print_event-clause-grows
-returns-in_err-print_event-clause-grows g c = grows_on _ _ _ c.events.invariant.grown c.in_err-print_event.ensures.grows
+pub returns-in_err-print_event-clause-staged : goal.returns-in_err-print_event-clause-staged
+returns-in_err-print_event-clause-staged g c =
+    let p = err_from_is_err_and c.from_residual.result c.from_residual.ensures.1 in
+    record {
+      err = if_err c.from_residual.result (λ ss es h. part_event g.M.Medium.seen _ _ _ [] [] [] (c.args.end + 1) c.events.self.player c.finish.new.self c.events.self.bus c.finish.new.bus ss es c.in-Some.event (c.events.invariant.played ss es h)
+          (λ fs at_. c.in-Some.ensures.given 0 ss fs at_) (append-nil _ ∙ of_drive c.in-Some.event c.in-Some.ensures.drive) c.finish.ensures.second c.in_err-print_event.ensures.err);
+      fault = same_err c.from_residual.result _ _ (p.1 ∙ ap Err p.2) c.in_err-print_event.ensures.fault;
+      grows = grows_on _ _ _ c.events.invariant.grown c.in_err-print_event.ensures.grows;
+      tracks = c.finish.ensures.lasting ∙ c.events.invariant.tracks;
+    }
 
 pub events-smaller : goal.events-smaller
 events-smaller g c = c.in-Some.ensures.fewer (c.args.end + 1) (omega arith)
