@@ -1,7 +1,7 @@
 -- What a recorder has written of events so far.
-use Rattle.std.proofs.Common.{◌≡◌, ℕ, ◌+◌, List, [], ◌∷◌, ◌++◌, Option, refl, sym, ◌∙◌, append_assoc, append-nil, drop, length, ◌<◌, slice_index_or}
+use Rattle.std.proofs.Common.{◌≡◌, ℕ, ◌+◌, List, [], ◌∷◌, ◌++◌, Option, Some, None, refl, ap, sym, ◌∙◌, append_assoc, append-nil, drop, length, ◌<◌, slice_index_or}
 use Rattle.std.proofs.lemmas.List.{drop_more}
-use Rattle.std.specs.Io.KnownBytes.{Appends}
+use Rattle.std.specs.Io.KnownBytes.{Appends, Keeps, append_known}
 use Rattle.cbm_iec.specs.declared.event.Event.{Event}
 use Rattle.bus_traces.specs.declared.cable.Cable.{Cable}
 use Rattle.bus_traces.specs.declared.recorder.TraceForm.{TraceForm}
@@ -14,6 +14,12 @@ pub record HasRecorded (old new : Option (List ℕ)) (all rest : List ℕ) : Typ
   pub text : List ℕ
   pub written : Appends old new text
   pub whole : all ≡ text ++ rest
+
+-- text that waits, and more after it
+pub waits-more : (a b : Option (List ℕ)) (xs ys zs text : List ℕ) → Keeps (append_known a xs) (append_known b ys) → zs ≡ ys ++ text → Appends (append_known a xs) (append_known b zs) text
+waits-more None b xs ys zs text h e = tt
+waits-more (Some l) None xs ys zs text h e = absurd h
+waits-more (Some l) (Some m) xs ys zs text h e = ap (λ t. m ++ t) e ∙ (sym (append_assoc m ys text) ∙ ap (λ t. t ++ text) h)
 
 pub has-none : (old : Option (List ℕ)) (all : List ℕ) → HasRecorded old old all all
 has-none old all = record { text = []; written = appends-nothing old; whole = refl }

@@ -1,5 +1,6 @@
 //! An event as a line: `MOMENT WHO LINE WAY`.
-ghost use Rattle.std.specs.Prelude.{◌≡◌, ◌≤◌, ℕ, List, Some, IfSome, option_map};
+ghost use Rattle.std.specs.Prelude.{◌≡◌, ◌≤◌, ◌+◌, ◌++◌, ℕ, List, Some, IfSome, codes, decimal, length, option_map};
+ghost use Rattle.arrayvec.specs.ArrayVec.{array_vec_len};
 ghost use Rattle.bus_traces.specs.Words.{first_word, after_word, number_upto};
 ghost use Rattle.bus_traces.specs.Events.{who_text, line_text, way_text, event_text, event_words, who_called, line_called, way_called, event_with, event_of_change, event_of_party, event_of, host_event_of, trace_text, IsOfTrace};
 ghost use Rattle.bus_traces.specs.Records.{recorded};
@@ -19,47 +20,75 @@ pub(crate) const LATEST: u64 = 1_000_000_000_000_000;
 /// The greatest number of a drive.
 const GREATEST: u64 = 30;
 
-fn line_text(line: Line) -> &'static [u8]
-    ensures { result.now ≡ line_text line }
+/// ` LINE WAY`, and the end of a line.
+fn change_text(change: Change) -> &'static [u8]
+    ensures text { result.now ≡ codes " " ++ line_text change.line ++ codes " " ++ way_text change.way ++ codes "\n" }
+    ensures short { length result.now ≤ 12 }
 {
-    match line {
-        Line::Atn => b"atn",
-        Line::Clock => b"clock",
-        Line::Data => b"data",
+    match (change.line, change.way) {
+        (Line::Atn, Way::Pull) => b" atn pull\n",
+        (Line::Atn, Way::Free) => b" atn free\n",
+        (Line::Clock, Way::Pull) => b" clock pull\n",
+        (Line::Clock, Way::Free) => b" clock free\n",
+        (Line::Data, Way::Pull) => b" data pull\n",
+        (Line::Data, Way::Free) => b" data free\n",
     }
 }
 
-fn way_text(way: Way) -> &'static [u8]
-    ensures { result.now ≡ way_text way }
+/// Puts the digits of a moment after a text that has room for them: at most 20 bytes.
+pub(crate) fn put_moment<const N: usize>(text: &mut ArrayVec<u8, N>, moment: u64)
+    requires { array_vec_len text.old + 20 ≤ N }
+    ensures text { text.new.items ≡ text.old.items ++ decimal moment }
+    ensures short { array_vec_len text.new ≤ array_vec_len text.old + 20 }
 {
-    match way {
-        Way::Pull => b"pull",
-        Way::Free => b"free",
+    let mut buffer = Buffer::new();
+    text.try_extend_from_slice(buffer.format(moment).as_bytes())
+        .unwrap();
+}
+
+/// Puts a drive's number after a text that has room for it: at most 3 bytes.
+pub(crate) fn put_device<const N: usize>(text: &mut ArrayVec<u8, N>, device: u8)
+    requires { array_vec_len text.old + 3 ≤ N }
+    ensures text { text.new.items ≡ text.old.items ++ decimal device }
+    ensures short { array_vec_len text.new ≤ array_vec_len text.old + 3 }
+{
+    let mut buffer = Buffer::new();
+    text.try_extend_from_slice(buffer.format(device).as_bytes())
+        .unwrap();
+}
+
+/// Puts ` WHO` after a text that has room for it: at most 5 bytes.
+fn put_party<const N: usize>(text: &mut ArrayVec<u8, N>, who: Who)
+    requires { array_vec_len text.old + 5 ≤ N }
+    ensures text { text.new.items ≡ text.old.items ++ codes " " ++ who_text who }
+    ensures short { array_vec_len text.new ≤ array_vec_len text.old + 5 }
+{
+    match who {
+        Who::Host => text.try_extend_from_slice(b" host").unwrap(),
+        Who::Drive(device) => {
+            text.push(b' ');
+            put_device(text, device);
+        }
     }
+}
+
+/// Puts an event as a line with its end, as `20 8 data pull`, after a text that has room for it: at most 37 bytes.
+pub(crate) fn put_event<const N: usize>(text: &mut ArrayVec<u8, N>, event: Event)
+    requires { array_vec_len text.old + 37 ≤ N }
+    ensures { text.new.items ≡ text.old.items ++ event_text event }
+{
+    put_moment(text, event.change.moment);
+    put_party(text, event.who);
+    text.try_extend_from_slice(change_text(event.change))
+        .unwrap();
 }
 
 /// An event as a line with its end, as `20 8 data pull`: at most 37 bytes.
 pub fn event_text(event: Event) -> ArrayVec<u8, 48>
     ensures { result.items ≡ event_text event }
 {
-    let mut text = ArrayVec::<u8, 48>::new();
-    let mut buffer = Buffer::new();
-    text.try_extend_from_slice(buffer.format(event.change.moment).as_bytes())
-        .unwrap();
-    text.try_extend_from_slice(b" ").unwrap();
-    match event.who {
-        Who::Host => text.try_extend_from_slice(b"host").unwrap(),
-        Who::Drive(device) => text
-            .try_extend_from_slice(buffer.format(device).as_bytes())
-            .unwrap(),
-    }
-    text.try_extend_from_slice(b" ").unwrap();
-    text.try_extend_from_slice(line_text(event.change.line))
-        .unwrap();
-    text.try_extend_from_slice(b" ").unwrap();
-    text.try_extend_from_slice(way_text(event.change.way))
-        .unwrap();
-    text.try_extend_from_slice(b"\n").unwrap();
+    let mut text = ArrayVec::new();
+    put_event(&mut text, event);
     text
 }
 

@@ -1,12 +1,13 @@
 //! Traces of either form, written event by event.
-ghost use Rattle.std.specs.Prelude.{◌≡◌, OnOk};
-ghost use Rattle.std.specs.Io.KnownBytes.{Appends};
+ghost use Rattle.std.specs.Prelude.{◌≡◌, ◌≤◌, ◌++◌, [], length, OnOk};
+ghost use Rattle.std.specs.Io.KnownBytes.{Appends, Keeps};
 ghost use Rattle.bus_traces.specs.Cables.{after};
-ghost use Rattle.bus_traces.specs.Records.{record_event, recorded};
+ghost use Rattle.bus_traces.specs.Records.{record_event, recorded, recorded_by, end_text};
 
 use crate::cable::Cable;
-use crate::event::event_text;
-use crate::vcd::dumping::dump_event;
+use crate::event::put_event;
+use crate::vcd::dumping::{dump_event, put_time};
+use arrayvec::ArrayVec;
 use cbm_iec::Event;
 use std::io;
 use std::io::Write;
@@ -20,13 +21,21 @@ pub enum TraceForm {
     Vcd,
 }
 
-/// Writes a trace, event by event. It takes no memory, however long the trace is.
+/// How many bytes are handed on at once, at most.
+const MOST: usize = 4096;
+
+/// How many of them an event may take.
+const ROOM: usize = 48;
+
+/// Writes a trace, event by event, many of them at once. It takes no memory, however long the trace is.
 #[derive(Drop)]
 pub struct Recorder<W> {
     writer: W,
     form: TraceForm,
     cable: Cable,
     moment: u64,
+    // What was not yet handed on.
+    text: ArrayVec<u8, MOST>,
 }
 
 /// The beginning of a VCD: its scale, the wires, and the host's own lines.
@@ -71,34 +80,35 @@ impl<W: Write> Recorder<W> {
             form,
             cable: Cable::free(),
             moment: 0,
+            text: ArrayVec::new(),
         })
     }
 
-    /// Writes an event, which doesn't come before the last one.
+    /// Writes an event, which doesn't come before the last one. It may wait, until others come or the end. Error: why what waited
+    /// couldn't be handed on; it is then lost.
     pub fn event(&mut self, event: Event) -> io::Result<()>
-        ensures written { OnOk result (Appends (W.contents self.old.writer) (W.contents self.new.writer)
+        ensures written { OnOk result (Appends (recorded_by W.contents self.old) (recorded_by W.contents self.new)
             (record_event self.old.form self.old.moment self.old.cable event)) }
         ensures cable { self.new.cable ≡ after event self.old.cable }
         ensures moment { self.new.moment ≡ event.change.moment }
         ensures form { self.new.form ≡ self.old.form }
     {
+        let handed = self.make_room();
         let last = self.moment;
         self.moment = event.change.moment;
         match self.form {
             TraceForm::Lines => {
                 self.cable.change(event);
-                self.writer.write_all(event_text(event).as_slice())
+                put_event(&mut self.text, event);
             }
-            TraceForm::Vcd => {
-                let text = dump_event(last, &mut self.cable, event);
-                self.writer.write_all(text.as_slice())
-            }
+            TraceForm::Vcd => dump_event(&mut self.text, last, &mut self.cable, event),
         }
+        handed
     }
 
     /// Writes events, none of which comes before the one before.
     pub fn events(&mut self, events: &[Event]) -> io::Result<()>
-        ensures written { OnOk result (Appends (W.contents self.old.writer) (W.contents self.new.writer)
+        ensures written { OnOk result (Appends (recorded_by W.contents self.old) (recorded_by W.contents self.new)
             (recorded self.old.form self.old.moment self.old.cable events.now)) }
         ensures form { self.new.form ≡ self.old.form }
     {
@@ -109,11 +119,57 @@ impl<W: Write> Recorder<W> {
     }
 
     /// Writes the moment at which the trace ended, where it is a VCD, and sends all on.
-    pub fn end(&mut self, moment: u64) -> io::Result<()> {
-        if self.form == TraceForm::Vcd && moment > self.moment {
-            writeln!(self.writer, "#{moment}")?;
-        }
+    pub fn end(&mut self, moment: u64) -> io::Result<()>
+        ensures { OnOk result (Appends (recorded_by W.contents self.old) (W.contents self.new.writer)
+            (end_text self.old.form self.old.moment moment)) }
+    {
+        self.make_room()?;
+        self.put_end(moment);
+        self.hand_on()?;
         self.writer.flush()
+    }
+
+    /// Hands on what waits.
+    fn hand_on(&mut self) -> io::Result<()>
+        ensures kept { OnOk result (Keeps (recorded_by W.contents self.old) (W.contents self.new.writer)) }
+        ensures text { self.new.text.items ≡ [] }
+        ensures cable { self.new.cable ≡ self.old.cable }
+        ensures moment { self.new.moment ≡ self.old.moment }
+        ensures form { self.new.form ≡ self.old.form }
+    {
+        let handed = self.writer.write_all(self.text.as_slice());
+        self.text.clear();
+        handed
+    }
+
+    /// Hands on what waits, where there isn't room for an event more.
+    fn make_room(&mut self) -> io::Result<()>
+        ensures kept { OnOk result (Keeps (recorded_by W.contents self.old) (recorded_by W.contents self.new)) }
+        ensures room { length self.new.text.items ≤ 4048 }
+        ensures cable { self.new.cable ≡ self.old.cable }
+        ensures moment { self.new.moment ≡ self.old.moment }
+        ensures form { self.new.form ≡ self.old.form }
+    {
+        if self.text.len() + ROOM > MOST {
+            return self.hand_on();
+        }
+        Ok(())
+    }
+
+    /// Puts what ends a trace at a moment.
+    fn put_end(&mut self, moment: u64)
+        requires { length self.old.text.items ≤ 4048 }
+        ensures text { self.new.text.items ≡ self.old.text.items ++ end_text self.old.form self.old.moment moment }
+        ensures writer { self.new.writer ≡ self.old.writer }
+    {
+        match self.form {
+            TraceForm::Lines => {}
+            TraceForm::Vcd => {
+                if moment > self.moment {
+                    put_time(&mut self.text, self.moment, moment);
+                }
+            }
+        }
     }
 }
 

@@ -1,29 +1,30 @@
 //! What a VCD has of a trace.
-ghost use Rattle.std.specs.Prelude.{◌≡◌};
+ghost use Rattle.std.specs.Prelude.{◌≡◌, ◌≤◌, ◌+◌, ◌++◌, ◌∷◌, [], codes};
+ghost use Rattle.arrayvec.specs.ArrayVec.{array_vec_len};
 ghost use Rattle.bus_traces.specs.Cables.{is_pull, after};
 ghost use Rattle.bus_traces.specs.Dumps.{line_code, level_text, time_text, own_text, wire_text, dump_event};
 
 use crate::cable::Cable;
+use crate::event::{put_device, put_moment};
 use arrayvec::ArrayVec;
 use cbm_iec::{Event, Line, Way, Who};
-use itoa::Buffer;
 
-/// A variable's code, or its end: a line's letter.
-fn line_code(line: Line) -> &'static [u8]
-    ensures { result.now ≡ line_code line }
+/// A line's letter, which is its variable's code, or its end.
+fn line_code(line: Line) -> u8
+    ensures { result ∷ [] ≡ line_code line }
 {
     match line {
-        Line::Atn => b"a",
-        Line::Clock => b"c",
-        Line::Data => b"d",
+        Line::Atn => b'a',
+        Line::Clock => b'c',
+        Line::Data => b'd',
     }
 }
 
 /// A value: 0 is pulled.
-fn level_text(is_low: bool) -> &'static [u8]
-    ensures { result.now ≡ level_text is_low }
+fn level(is_low: bool) -> u8
+    ensures { result ∷ [] ≡ level_text is_low }
 {
-    if is_low { b"0" } else { b"1" }
+    if is_low { b'0' } else { b'1' }
 }
 
 fn is_pull(way: Way) -> bool
@@ -35,69 +36,71 @@ fn is_pull(way: Way) -> bool
     }
 }
 
-/// A moment, where it isn't the last one: at most 22 bytes.
-fn time_text(last: u64, moment: u64) -> ArrayVec<u8, 24>
-    ensures { result.items ≡ time_text last moment }
+/// Puts a moment, where it isn't the last one, after a text that has room for it: at most 22 bytes.
+pub(crate) fn put_time<const N: usize>(text: &mut ArrayVec<u8, N>, last: u64, moment: u64)
+    requires { array_vec_len text.old + 22 ≤ N }
+    ensures text { text.new.items ≡ text.old.items ++ time_text last moment }
+    ensures short { array_vec_len text.new ≤ array_vec_len text.old + 22 }
 {
-    let mut text = ArrayVec::<u8, 24>::new();
     if last != moment {
-        let mut buffer = Buffer::new();
-        text.try_extend_from_slice(b"#").unwrap();
-        text.try_extend_from_slice(buffer.format(moment).as_bytes())
-            .unwrap();
-        text.try_extend_from_slice(b"\n").unwrap();
+        text.push(b'#');
+        put_moment(text, moment);
+        text.push(b'\n');
     }
-    text
 }
 
-/// The party's own line: at most 6 bytes.
-fn own_text(event: Event) -> ArrayVec<u8, 8>
-    ensures { result.items ≡ own_text event }
+/// Puts a line's letter and the end of a line after a text that has room for them: 2 bytes.
+fn put_code<const N: usize>(text: &mut ArrayVec<u8, N>, line: Line)
+    requires { array_vec_len text.old + 2 ≤ N }
+    ensures text { text.new.items ≡ text.old.items ++ line_code line ++ codes "\n" }
+    ensures short { array_vec_len text.new ≡ array_vec_len text.old + 2 }
 {
-    let mut text = ArrayVec::<u8, 8>::new();
-    let mut buffer = Buffer::new();
-    text.try_extend_from_slice(level_text(is_pull(event.change.way)))
-        .unwrap();
+    text.push(line_code(line));
+    text.push(b'\n');
+}
+
+/// Puts the party's own line after a text that has room for it: at most 6 bytes.
+fn put_own<const N: usize>(text: &mut ArrayVec<u8, N>, event: Event)
+    requires { array_vec_len text.old + 6 ≤ N }
+    ensures text { text.new.items ≡ text.old.items ++ own_text event }
+    ensures short { array_vec_len text.new ≤ array_vec_len text.old + 6 }
+{
+    text.push(level(is_pull(event.change.way)));
     match event.who {
-        Who::Host => text.try_extend_from_slice(b"h").unwrap(),
-        Who::Drive(device) => text
-            .try_extend_from_slice(buffer.format(device).as_bytes())
-            .unwrap(),
+        Who::Host => text.push(b'h'),
+        Who::Drive(device) => put_device(text, device),
     }
-    text.try_extend_from_slice(line_code(event.change.line))
-        .unwrap();
-    text.try_extend_from_slice(b"\n").unwrap();
-    text
+    put_code(text, event.change.line);
 }
 
-/// The wire, where it changes: at most 3 bytes.
-fn wire_text(line: Line, was: bool, is: bool) -> ArrayVec<u8, 4>
-    ensures { result.items ≡ wire_text line was is }
+/// Puts the wire, where it changes, after a text that has room for it: at most 3 bytes.
+fn put_wire<const N: usize>(text: &mut ArrayVec<u8, N>, line: Line, was: bool, is: bool)
+    requires { array_vec_len text.old + 3 ≤ N }
+    ensures text { text.new.items ≡ text.old.items ++ wire_text line was is }
 {
-    let mut text = ArrayVec::<u8, 4>::new();
     if was != is {
-        text.try_extend_from_slice(level_text(is)).unwrap();
-        text.try_extend_from_slice(line_code(line)).unwrap();
-        text.try_extend_from_slice(b"\n").unwrap();
+        text.push(level(is));
+        put_code(text, line);
     }
-    text
 }
 
-/// An event after those of a moment, where the cable was so: at most 31 bytes. The cable is then as the event leaves it.
-pub(crate) fn dump_event(last: u64, cable: &mut Cable, event: Event) -> ArrayVec<u8, 48>
-    ensures text { result.items ≡ dump_event last cable.old event }
+/// Puts an event after those of a moment, where the cable was so, after a text that has room for it: at most 31 bytes. The cable is
+/// then as the event leaves it.
+pub(crate) fn dump_event<const N: usize>(
+    text: &mut ArrayVec<u8, N>,
+    last: u64,
+    cable: &mut Cable,
+    event: Event,
+)
+    requires { array_vec_len text.old + 31 ≤ N }
+    ensures text { text.new.items ≡ text.old.items ++ dump_event last cable.old event }
     ensures cable { cable.new ≡ after event cable.old }
 {
     let line = event.change.line;
     let was = cable.is_low(line);
     cable.change(event);
     let is = cable.is_low(line);
-    let mut text = ArrayVec::<u8, 48>::new();
-    text.try_extend_from_slice(time_text(last, event.change.moment).as_slice())
-        .unwrap();
-    text.try_extend_from_slice(own_text(event).as_slice())
-        .unwrap();
-    text.try_extend_from_slice(wire_text(line, was, is).as_slice())
-        .unwrap();
-    text
+    put_time(text, last, event.change.moment);
+    put_own(text, event);
+    put_wire(text, line, was, is);
 }
