@@ -1,3 +1,5 @@
+mod traces;
+
 use crate::disks::{failed, report};
 use crate::images::d64;
 use crate::writes::{store, succeeded};
@@ -9,6 +11,7 @@ use std::io;
 use std::rt::Runtime;
 use std::time::Instant;
 use test_images::empty_image;
+pub use traces::Nowhere;
 
 /// How often the short script runs.
 const TURNS: u32 = 100;
@@ -121,5 +124,6 @@ pub fn requests(rt: &impl Runtime, alloc: Global) -> io::Result<()> {
         full.as_slice(),
         row,
     )?;
+    traces::events(rt, alloc, full.as_slice())?;
     direct(rt, alloc, image.as_slice())
 }

@@ -1,3 +1,5 @@
+mod replies;
+
 use crate::disks::failed;
 use crate::images::empty;
 use cbm_channel::Dos;
@@ -270,5 +272,6 @@ pub fn drives(rt: &impl Runtime, alloc: Global) -> io::Result<()> {
     one_at_once(rt, alloc, &writing, &reading)?;
     one_by_player(rt, alloc, &writing, &reading)?;
     one_for_kernal(rt, alloc)?;
-    four_at_once(rt, alloc)
+    four_at_once(rt, alloc)?;
+    replies::lines(rt, alloc)
 }
