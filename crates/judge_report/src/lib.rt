@@ -10,6 +10,3 @@ pub use bus_judge::Verdict;
 pub use fault::ReportFault;
 pub use report::judge_trace;
 pub use seats::party_of;
-
-#[cfg(test)]
-mod tests;

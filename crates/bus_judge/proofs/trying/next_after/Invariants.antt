@@ -1,5 +1,5 @@
 use Rattle.std.proofs.Common.{◌≡◌, take}
-use Rattle.bus_judge.proofs.judge.next_after.Given as goal
+use Rattle.bus_judge.proofs.trying.next_after.Given as goal
 
 -- so many steps are the same
 abbrev pub invariant-loop-i : goal.invariant-loop-i

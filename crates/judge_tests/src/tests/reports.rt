@@ -1,7 +1,8 @@
 //! Traces by lines, and what is said of them.
 
-use crate::{ReportFault, Verdict, judge_trace, party_of};
+use bus_judge::NotABus;
 use cbm_iec::Party;
+use judge_report::{ReportFault, Verdict, judge_trace, party_of};
 use std::alloc::Global;
 use std::process::Abort;
 use std::str::from_utf8;
@@ -132,5 +133,5 @@ fn reads_drives(rt: HostRuntime) {
     assert!(rt; party_of("8:20:fast").is_none() && party_of("8:300").is_none());
     assert!(rt; party_of("9:35:kernal").is_some());
     let none = said(&rt, rt.alloc(), LISTEN, &["8:0"], "");
-    assert!(rt; none == Err(ReportFault::Drives(bus_judge::NotABus::Reaction)));
+    assert!(rt; none == Err(ReportFault::Drives(NotABus::Reaction)));
 }
