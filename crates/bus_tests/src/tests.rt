@@ -1,4 +1,4 @@
-//! The reader (reading, steps, bits, talks, judge), the play of a bus, and the worked and generated sessions.
+//! The reader (reading, steps, bits, talks, judge), the play of a bus, the worked and generated sessions, and their wires alone.
 
 mod attentions;
 mod bits;
@@ -14,3 +14,4 @@ mod steps;
 mod talks;
 mod traces;
 mod verdicts;
+mod wired;

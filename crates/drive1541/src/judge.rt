@@ -140,6 +140,6 @@ fn status_of(verdict: Verdict) -> u8 {
 fn status_of_fault(fault: ReportFault) -> u8 {
     match fault {
         ReportFault::Drives(_) => UNASKED,
-        ReportFault::Trace(_) | ReportFault::Wires | ReportFault::Writing => UNREAD,
+        ReportFault::Trace(_) | ReportFault::Wires(_) | ReportFault::Writing => UNREAD,
     }
 }

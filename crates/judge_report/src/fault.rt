@@ -2,6 +2,7 @@
 
 use bus_judge::NotABus;
 use bus_traces::TraceFault;
+use bus_wires::Unread;
 use thiserror::Error;
 
 /// Why a trace isn't judged.
@@ -13,9 +14,9 @@ pub enum ReportFault {
     /// The trace can't be read.
     #[error("{0}")]
     Trace(TraceFault),
-    /// The trace has the wires alone, so it doesn't say who pulled a line.
-    #[error("the trace has the wires alone: the parties' own lines are wanted")]
-    Wires,
+    /// A change of the wires can't be read.
+    #[error("{0}")]
+    Wires(Unread),
     /// What is said can't be written.
     #[error("writing failed")]
     Writing,
@@ -30,5 +31,11 @@ impl From<NotABus> for ReportFault {
 impl From<TraceFault> for ReportFault {
     fn from(fault: TraceFault) -> ReportFault {
         ReportFault::Trace(fault)
+    }
+}
+
+impl From<Unread> for ReportFault {
+    fn from(fault: Unread) -> ReportFault {
+        ReportFault::Wires(fault)
     }
 }

@@ -2,6 +2,7 @@
 #![tactic(auto)]
 
 mod fault;
+mod hearing;
 mod report;
 mod seats;
 mod teller;

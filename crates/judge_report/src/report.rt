@@ -1,55 +1,38 @@
 //! A trace, judged event by event.
 
 use crate::fault::ReportFault;
-use crate::teller::Teller;
-use bus_judge::{Breach, Judge, Verdict};
+use crate::hearing::Hearing;
+use bus_judge::{Breach, Verdict};
 use bus_traces::{Told, Traces};
-use cbm_iec::{Event, Party};
+use cbm_iec::Party;
 use std::io::{self, Read, Write};
 
-fn written(outcome: io::Result<()>) -> Result<(), ReportFault> {
+pub(crate) fn written(outcome: io::Result<()>) -> Result<(), ReportFault> {
     outcome.map_err(|_| ReportFault::Writing)
 }
 
-/// Judges an event and prints the act that it completes. What broke the session, if it did.
-fn see<W: Write>(
-    judge: &mut Judge,
-    teller: &mut Teller,
-    event: Event,
-    output: &mut W,
-) -> Result<Option<Breach>, ReportFault> {
-    match judge.see(event) {
-        Ok(mark) => {
-            written(teller.tell(output, event, mark))?;
-            Ok(None)
-        }
-        Err(breach) => Ok(Some(breach)),
-    }
-}
-
-/// Judges the events up to the first that no session goes on with; what broke the session, if it is broken.
-fn see_all<R: Read, W: Write>(
-    judge: &mut Judge,
-    teller: &mut Teller,
+/// Judges the trace up to the first event that no session goes on with; what broke the session, if it is broken.
+fn hear_all<R: Read, W: Write>(
+    hearing: &mut Hearing,
     traces: &mut Traces<R>,
     output: &mut W,
 ) -> Result<Option<Breach>, ReportFault> {
     for _ in 0..u64::MAX {
-        match traces.next()? {
+        let breach = match traces.next()? {
             None => break,
-            Some(Told::Wire(_)) => return Err(ReportFault::Wires),
-            Some(Told::Party(event)) => {
-                if let Some(breach) = see(judge, teller, event, output)? {
-                    return Ok(Some(breach));
-                }
-            }
+            Some(Told::Party(event)) => hearing.see(event, output)?,
+            Some(Told::Wire(change)) => hearing.see_wire(change, output)?,
+        };
+        if breach.is_some() {
+            return Ok(breach);
         }
     }
-    Ok(judge.end(traces.moment().saturating_sub(1)).err())
+    hearing.end(traces.moment(), output)
 }
 
-/// Judges a trace of these drives, as lines or as a VCD with the parties' own lines. Prints the acts that were completed,
-/// one a line, and the verdict.
+/// Judges a trace of these drives, as lines or as a VCD: of the parties' own lines, or of the wires alone, whose changes
+/// are the host's but for those that a drive owes at their moment. Prints the acts that were completed, one a line, and
+/// the verdict.
 ///
 /// Errors: the drives are no bus, or the trace can't be read; then the verdict isn't printed.
 pub fn judge_trace<R: Read + Drop, W: Write>(
@@ -57,11 +40,10 @@ pub fn judge_trace<R: Read + Drop, W: Write>(
     output: &mut W,
     parties: &[Party],
 ) -> Result<Verdict, ReportFault> {
-    let mut judge = Judge::new(parties)?;
-    let mut teller = Teller::new();
+    let mut hearing = Hearing::new(parties)?;
     let mut traces = Traces::new(input);
-    let breach = see_all(&mut judge, &mut teller, &mut traces, output);
-    written(teller.end_line(output))?;
+    let breach = hear_all(&mut hearing, &mut traces, output);
+    hearing.end_line(output)?;
     match breach? {
         Some(breach) => {
             written(writeln!(output, "{breach}"))?;

@@ -5,6 +5,7 @@ use crate::tests::judge::Judge as Reader;
 use crate::tests::plays::Bus;
 use crate::tests::reading::add;
 use crate::tests::verdicts::is_told;
+use crate::tests::wired::told_by_wires;
 use bus_judge::{Cause, Judge, Mark, Verdict};
 use cbm_iec::*;
 use std::alloc::Global;
@@ -37,6 +38,28 @@ fn decided(
     }
 }
 
+/// Of a session's wires alone the judge says that they are a session, with the same acts. Of others they are one only where
+/// the trace is none by what can't be seen there.
+fn agrees_by_wires(
+    rt: &impl Abort,
+    alloc: Global,
+    parties: &[Party],
+    trace: &[Event],
+    end: u64,
+    acts: &[(u8, Act)],
+) {
+    let told = told_by_wires(rt, alloc, parties, trace, end);
+    let mut counted = Vec::new(alloc);
+    let verdict = decided(rt, parties, &told, end, &mut counted);
+    assert!(rt;
+        verdict == Verdict::Session,
+        "by the wires: {verdict:?}, {trace:?}, {told:?}"
+    );
+    for party in parties {
+        assert!(rt; is_told(rt, alloc, &counted, acts, party.device));
+    }
+}
+
 /// The judge says the same as the reader.
 pub fn agrees(
     rt: &impl Abort,
@@ -55,6 +78,7 @@ pub fn agrees(
     };
     assert!(rt; is_same, "{verdict:?}, {trace:?}");
     if verdict == Verdict::Session {
+        agrees_by_wires(rt, alloc, parties, trace, end, &acts);
         for reading in &reader.readings {
             for party in parties {
                 assert!(rt; is_told(rt, alloc, &acts, &reading.acts, party.device));
