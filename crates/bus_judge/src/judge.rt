@@ -143,19 +143,34 @@ impl Judge {
         }
     }
 
-    /// The event was the next step. Where a piece of the talker is over, its next frame is under way at once.
+    /// The event was the next step.
     fn advance(&mut self, event: Event) -> Result<(), Breach>
         ensures stands { (bs : List ThisParty) → (done : List Seen) → (mark : OwnMark) → Stands bs self.old done → Awaits self.old event mark
             → OnOk result (Stands bs self.new (and_then done event mark)) }
         ensures busy { OnOk result (IsBusy self.new) }
     {
-        let (Some(whole), true) = (self.whole, self.seen < self.steps.len()) else {
+        if self.whole.is_none() || self.seen >= self.steps.len() {
             return Err(breach_of(event, Cause::Unasked));
-        };
+        }
         self.seen += 1;
         self.last = event.change.moment;
         self.counts.count(event);
-        if self.seen < self.steps.len() || !goes_on_talking(&whole) {
+        if self.seen < self.steps.len() {
+            return Ok(());
+        }
+        self.come(event)
+    }
+
+    /// All steps of the piece have come. Where the talker goes on, its next frame is under way at once.
+    fn come(&mut self, event: Event) -> Result<(), Breach>
+        requires { length self.old.steps.items ≤ self.old.seen }
+        ensures stands { (bs : List ThisParty) → (done : List Seen) → Stands bs self.old done → OnOk result (Stands bs self.new done) }
+        ensures busy { OnOk result (IsBusy self.new) }
+    {
+        let Some(whole) = self.whole else {
+            return Err(breach_of(event, Cause::Unasked));
+        };
+        if !goes_on_talking(&whole) {
             return Ok(());
         }
         match self.pass(&whole) {

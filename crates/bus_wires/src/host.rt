@@ -1,33 +1,22 @@
 //! What the host does: each change of a wire that no drive owes at that moment, and what its profile has there unseen.
 
 use crate::drive::Now;
-use crate::hands::{Hands, low};
+use crate::hands::Hands;
 use crate::playing::{Move, Playing, Turned};
 use cbm_iec::{Line, Way, Who};
 
 impl Playing {
-    /// The host's lines in the order of its changes at one moment: DATA comes before ATN's release.
-    fn line_at(&self, place: u8) -> Line {
-        match (self.turned, place) {
-            (Turned::Released, 0) => Line::Data,
-            (Turned::Released, 1) => Line::Atn,
-            (Turned::Released, _) => Line::Clock,
-            (_, 0) => Line::Atn,
-            (_, 1) => Line::Clock,
-            (_, _) => Line::Data,
-        }
-    }
-
-    /// What the host does with a line, by its place in that order.
+    /// What the host does at a place in the order of its changes at one moment: ATN is pulled before CLOCK and DATA change, and
+    /// freed after DATA was pulled.
     pub(crate) fn host(&self, hands: &Hands, now: Now, place: u8) -> Option<Move> {
-        let line = self.line_at(place);
-        let way = match line {
-            Line::Atn => self.turned.way(),
-            Line::Clock | Line::Data if !low(now.wires, line) => {
-                low(hands.host, line).then_some(Way::Free)
-            }
-            Line::Clock => self.clock_way(hands, now),
-            Line::Data => self.data_way(hands, now),
+        let (line, way) = match (self.turned, place) {
+            (Turned::Pulled, 0) => (Line::Clock, self.clock_before(hands)),
+            (Turned::Released, 0) => (Line::Data, self.data_way(hands, now)),
+            (_, 0) => return None,
+            (_, 1) => (Line::Atn, self.turned.way()),
+            (_, 2) => (Line::Clock, self.clock_way(hands, now)),
+            (Turned::Released, _) => return None,
+            (_, _) => (Line::Data, self.data_way(hands, now)),
         };
         way.map(|way| Move {
             who: Who::Host,
@@ -36,8 +25,17 @@ impl Playing {
         })
     }
 
-    /// CLOCK, where it is pulled on the wire: with ATN, or where no drive pulls it.
+    /// CLOCK, where ATN is pulled and nobody had a role: it was freed before, at that moment at the latest.
+    fn clock_before(&self, hands: &Hands) -> Option<Way> {
+        let frees = hands.host.clock_low && !self.has_roles();
+        frees.then_some(Way::Free)
+    }
+
+    /// CLOCK: free where it is free on the wire; pulled with ATN, or where no drive pulls it.
     fn clock_way(&self, hands: &Hands, now: Now) -> Option<Way> {
+        if !now.wires.clock_low {
+            return hands.host.clock_low.then_some(Way::Free);
+        }
         if hands.host.clock_low {
             return None;
         }
@@ -45,9 +43,12 @@ impl Playing {
         pulls.then_some(Way::Pull)
     }
 
-    /// DATA, where it is pulled on the wire: freed with ATN's pull, unseen where a drive pulls it, too; pulled with ATN's
+    /// DATA: free where it is free on the wire, and unseen with ATN's pull, where a drive pulls it, too; pulled with ATN's
     /// release to a talker, or where no drive pulls it.
     fn data_way(&self, hands: &Hands, now: Now) -> Option<Way> {
+        if !now.wires.data_low {
+            return hands.host.data_low.then_some(Way::Free);
+        }
         let is_pulled = self.turned == Turned::Pulled;
         if hands.host.data_low {
             let frees = is_pulled && hands.any_drive(Line::Data);

@@ -22,7 +22,7 @@ pub enum Turned {
     Stays,
 }
 
-/// What is looked at next: one of the host's lines, by its place; a drive's reaction and its CLOCK, and then its DATA.
+/// What is looked at next: one of the host's changes, by its place; a drive's reaction and its CLOCK, and then its DATA.
 #[derive(Clone, Copy, Debug, PartialEq, Eq, Drop)]
 enum Stage {
     Host(u8),
@@ -31,7 +31,7 @@ enum Stage {
     Over,
 }
 
-/// More than the stages of a moment: three lines of the host, two of each of four drives, and the end.
+/// More than the stages of a moment: four changes of the host, two of each of four drives, and the end.
 const STAGES: usize = 16;
 
 /// The drives, and how far the present moment is played.
@@ -118,6 +118,13 @@ impl Playing {
         }
     }
 
+    /// Whether a drive listens or talks.
+    pub(crate) fn has_roles(&self) -> bool {
+        self.drives
+            .iter()
+            .any(|drive| drive.is_listener() || drive.is_talker())
+    }
+
     /// Whether ATN's release goes to a talker: one talks, and no drive listens.
     pub(crate) fn is_turnaround(&self) -> bool {
         let listens = self.drives.iter().any(|drive| drive.is_listener());
@@ -156,7 +163,7 @@ impl Playing {
             let moved = match self.stage {
                 Stage::Over => return None,
                 Stage::Host(place) => {
-                    self.stage = if place < 2 {
+                    self.stage = if place < 3 {
                         Stage::Host(place + 1)
                     } else {
                         Stage::Clock(0)

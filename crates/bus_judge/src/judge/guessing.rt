@@ -26,11 +26,11 @@ impl Judge {
             return self.begin(event);
         };
         let [first, second] = guesses(&self.point, &whole, self.counts, event);
-        let cause = match self.adopt(first, event) {
+        let cause = match self.adopt(&first, event) {
             Ok(mark) => return Ok(mark),
             Err(cause) => cause,
         };
-        let other = match self.adopt(second, event) {
+        let other = match self.adopt(&second, event) {
             Ok(mark) => return Ok(mark),
             Err(other) => other,
         };
@@ -53,7 +53,7 @@ impl Judge {
 
     /// Takes a guess in place of the piece under way, if it fits, and its steps are those that were seen and then the
     /// event.
-    fn adopt(&mut self, guess: Option<Whole>, event: Event) -> Result<Mark, Cause>
+    fn adopt(&mut self, guess: &Option<Whole>, event: Event) -> Result<Mark, Cause>
         ensures stands { (bs : List ThisParty) → (done : List Seen) → Stands bs self.old done → OnOk result (Stands bs self.new done) }
         ensures awaits { IfOk result (λ mark. Awaits self.new event mark) }
         ensures busy { OnOk result (IsBusy self.new) }
@@ -66,9 +66,9 @@ impl Judge {
             return Err(Cause::Unasked);
         };
         let mut list = Steps::new();
-        let mark = tried(&self.point, &whole, seen, event, &mut list)?;
+        let mark = tried(&self.point, whole, seen, event, &mut list)?;
         self.steps = list;
-        self.whole = Some(whole);
+        self.whole = Some(*whole);
         Ok(mark)
     }
 
@@ -79,7 +79,7 @@ impl Judge {
         ensures busy { OnOk result (IsBusy self.new) }
     {
         let guess = beginning(&self.point, event);
-        match self.adopt(guess, event) {
+        match self.adopt(&guess, event) {
             Ok(mark) => Ok(mark),
             Err(cause) => Err(breach_of(event, told(cause))),
         }

@@ -9,9 +9,9 @@ returns-then-self-len-2-clause-stands c = λ bs done mark s a.
     let j = c.args.self.now in
     stands_more bs (point_of j.point) j.whole j.steps.items (record { event = c.args.event; mark = mark }) j.seen done s a
 
--- and with it the piece is over
-pub returns-in-Ok-clause-stands : goal.returns-in-Ok-clause-stands
-returns-in-Ok-clause-stands c = λ bs done mark s a.
+-- and with it all of the piece
+pub returns-clause-stands : goal.returns-clause-stands
+returns-clause-stands c = λ bs done mark s a.
     let j = c.args.self.now in
     let more = stands_more bs (point_of j.point) j.whole j.steps.items (record { event = c.args.event; mark = mark }) j.seen done s a in
-    c.lead.ensures.stands bs (and_then done c.args.event mark) (c.in-Ok.ensures.stands bs (and_then done c.args.event mark) more)
+    c.come.ensures.stands bs (and_then done c.args.event mark) more
