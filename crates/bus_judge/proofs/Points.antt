@@ -1,5 +1,5 @@
 -- Points of a session, part by part.
-use Rattle.std.proofs.Common.{◌≡◌, ℕ, List, Option, refl, ap, ◌∙◌}
+use Rattle.std.proofs.Common.{◌≡◌, ℕ, List, Option, ap, ◌∙◌}
 use Rattle.cbm_iec.specs.declared.lines.Held.{Held}
 use Rattle.cbm_session.specs.Pieces.{Place, Point}
 use Rattle.cbm_session.specs.Seats.{Seat}

@@ -1,5 +1,5 @@
 -- Up to a moment by which nothing is due the host has kept the timing, and no drive was late.
-use Rattle.std.proofs.Common.{◌≡◌, ℕ, ◌+◌, ◌≤◌, ◌<◌, zero, suc, List, [], ◌∷◌, ◌++◌, length, drop, map, Option, Some, None, Bool, true, refl, sym, ◌∙◌, ap, subst, arith, slice_get, get_or, if◌then◌else◌}
+use Rattle.std.proofs.Common.{◌≡◌, ℕ, ◌+◌, ◌≤◌, ◌<◌, zero, suc, List, [], ◌∷◌, ◌++◌, length, drop, Option, Some, None, Bool, refl, sym, ◌∙◌, ap, subst, arith, slice_get, if◌then◌else◌}
 use Rattle.std.proofs.lemmas.List.{drop_more, drop_all}
 use Rattle.std.proofs.lemmas.Option.{slice_get_within, get_or_from_slice_get}
 use Rattle.bus_judge.proofs.Standing.{splits_with, goes_on_to_an_end}
@@ -16,8 +16,8 @@ use Rattle.cbm_session.proofs.timing.KeepsTiming.{fronts_keep, fronts_in_time}
 use Rattle.cbm_session.proofs.timing.SessionOrder.{goes_on}
 use Rattle.cbm_session.specs.Laws.{NotSooner, AllAfter, GoesOn}
 use Rattle.cbm_session.specs.Pieces.{Piece, Point, Whole, whole_point, Full, Open, Leading, PullPiece, Command, Byte, ToListener, ToNobody, ToTalker, Nothing, Talk}
-use Rattle.cbm_session.specs.Sessions.{rest, session_steps, Linked, MayEnd, Splits, IsBus}
-use Rattle.cbm_session.specs.Steps.{Step, moment_of, events_of}
+use Rattle.cbm_session.specs.Sessions.{session_steps, MayEnd, Splits, IsBus}
+use Rattle.cbm_session.specs.Steps.{Step, moment_of}
 use Rattle.cbm_session.specs.Timing.{LaterHost, Owes}
 
 rests-end : (p : Point) (v : Whole) → Rests v → MayEnd (whole_point p v).place

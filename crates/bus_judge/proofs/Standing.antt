@@ -1,7 +1,7 @@
 -- How the judge's state goes on: with a step, with a piece, with a cut; and that it begins a session.
-use Rattle.std.proofs.Common.{◌≡◌, ℕ, zero, suc, ◌+◌, ◌≤◌, ◌<◌, List, [], ◌∷◌, ◌++◌, length, take, drop, map, Option, Some, None, Bool, true, false, refl, sym, ◌∙◌, ap, subst, arith, append_assoc, slice_get, if◌then◌else◌}
-use Rattle.std.proofs.lemmas.List.{append-nil, map-append, take-append-drop, take_at, take_all, take_more, length-append, length-take-le, get_or_at}
-use Rattle.std.proofs.lemmas.Option.{slice_get-get_or, slice_get_within, get_or_from_slice_get}
+use Rattle.std.proofs.Common.{◌≡◌, ℕ, ◌+◌, ◌≤◌, List, [], ◌∷◌, ◌++◌, length, take, drop, Option, Some, None, true, refl, sym, ◌∙◌, ap, subst, arith, append_assoc, slice_get}
+use Rattle.std.proofs.lemmas.List.{append-nil, map-append, take-append-drop, take_all, take_more}
+use Rattle.std.proofs.lemmas.Option.{slice_get_within, get_or_from_slice_get}
 use Rattle.bus_judge.specs.Judging.{Leads, IsUnderWay, IsBusy, Stands, StandsAt, BeginsSo}
 use Rattle.bus_judge.specs.declared.judge.Judge.{Judge}
 use Rattle.bus_judge.specs.Views.{point_of, whole_of, step_of, shown}
@@ -10,10 +10,10 @@ use Rattle.bus_judge.specs.declared.whole.Whole.{Whole as OwnWhole}
 use Rattle.cbm_iec.specs.declared.pace.Pace.TheVariants.{Profile, Kernal}
 use Rattle.cbm_iec.specs.declared.party.Party.{Party}
 use Rattle.cbm_session.specs.Frames.{Told, ToldFits}
-use Rattle.cbm_session.specs.Pieces.{Piece, Point, Place, Whole, PieceFits, point_after, whole_point, Fits, CutFits, some_from, before, steps_of, piece_steps, Full, Cut, Open, Commanding, Listening, Leading, Cutting, PullPiece, Command, Byte, ToListener, ToNobody, ToTalker, Nothing, Talk, told_place}
+use Rattle.cbm_session.specs.Pieces.{Piece, Point, Place, Whole, PieceFits, point_after, whole_point, CutFits, some_from, before, steps_of, piece_steps, Full, Cut, Open, Commanding, Listening, Leading, Cutting, PullPiece, Command, Byte, ToListener, ToNobody, ToTalker, Nothing, Talk, told_place}
 use Rattle.cbm_session.specs.Seats.{talker_of}
-use Rattle.cbm_session.specs.Sessions.{rest, session_steps, Linked, MayEnd, Splits, acts_of}
-use Rattle.cbm_session.specs.Steps.{Step, events_of}
+use Rattle.cbm_session.specs.Sessions.{rest, session_steps, Linked, MayEnd, Splits}
+use Rattle.cbm_session.specs.Steps.{Step}
 
 -- one piece more
 leads-append : (p : Point) (ks : List Piece) (k : Piece) (q : Point) → Leads p ks q → PieceFits q k → Leads p (ks ++ k ∷ []) (point_after q k)

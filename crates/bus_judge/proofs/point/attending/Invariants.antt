@@ -1,7 +1,6 @@
 use Rattle.std.proofs.Common.{◌≡◌, ◌≤◌, length, take, map, true, false}
 use Rattle.cbm_session.specs.Pieces as spec
 use Rattle.cbm_session.specs.Seats.{lines}
-use Rattle.cbm_session.specs.Sessions as sessions
 use Rattle.bus_judge.specs.Views.{seats_of}
 use Rattle.bus_judge.proofs.point.attending.Given as goal
 

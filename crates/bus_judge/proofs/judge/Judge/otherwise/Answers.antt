@@ -1,4 +1,4 @@
-use Rattle.std.proofs.Common.{◌≡◌, Some, sym, subst, ap, ◌∙◌}
+use Rattle.std.proofs.Common.{sym, subst, ap, ◌∙◌}
 use Rattle.bus_judge.specs.Judging.{Stands}
 use Rattle.bus_judge.specs.declared.judge.Judge.{Judge as OwnJudge}
 use Rattle.bus_judge.proofs.judge.Judge.otherwise.Goals as goal

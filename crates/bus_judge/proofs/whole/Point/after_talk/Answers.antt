@@ -1,4 +1,4 @@
-use Rattle.std.proofs.Common.{◌≡◌, List, Bool, false, true, not, map, sym, subst, ◌∙◌, ap}
+use Rattle.std.proofs.Common.{◌≡◌, List, Bool, false, not, map, ◌∙◌, ap}
 use Rattle.bus_judge.specs.Views.{seats_of, told_of}
 use Rattle.bus_judge.specs.declared.seat.Seat.{Seat as OwnSeat}
 use Rattle.cbm_iec.specs.declared.lines.Held.{Held}
