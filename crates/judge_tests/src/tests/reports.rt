@@ -40,7 +40,8 @@ const LISTEN: &str = "0 host atn pull
 1400 host atn free
 ";
 
-fn said(
+/// What is said of a trace of these drives is this; the verdict.
+pub fn said(
     rt: &impl Abort,
     alloc: Global,
     trace: &str,
