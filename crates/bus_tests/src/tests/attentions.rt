@@ -2,7 +2,7 @@
 
 use crate::tests::bounds::Bound;
 use crate::tests::plays::*;
-use crate::tests::reading::{FREE, add, after};
+use crate::tests::reading::{FREE, add, after, beat};
 use crate::tests::sessions::*;
 use Line::*;
 use Way::*;
@@ -58,14 +58,7 @@ impl Session {
     pub fn talk(&mut self, rt: &impl Abort, talker: Member, answer: u64) -> u64 {
         let (device, r) = (talker.device, talker.reaction);
         if self.silent {
-            self.drive(rt, device, answer, Data, Free);
-            add(rt, &mut self.acts, (answer, device, Act::Silent));
-            if self.random(2) == 0 {
-                return after(answer, 1);
-            }
-            let free = self.from(rt, Bound::Silence, after(answer, 1), after(answer, 80));
-            self.host(rt, free, Data, Free);
-            return free;
+            return self.mute(rt, talker, answer);
         }
         self.drive(rt, device, answer, Clock, Pull);
         self.drive(rt, device, answer, Data, Free);
@@ -83,7 +76,7 @@ impl Session {
                 self.host(rt, mark, Data, Pull);
                 self.host(rt, begin, Data, Free);
             }
-            let accept = self.say(rt, device, byte, after(begin, r));
+            let accept = self.say(rt, talker, byte, after(begin, r));
             self.host(rt, accept, Data, Pull);
             add(rt, &mut self.acts, (accept, device, Act::Said(byte, last)));
             self.said = if self.said < 26 { self.said + 1 } else { 0 };
@@ -96,8 +89,28 @@ impl Session {
         lead
     }
 
+    // Nothing to say: DATA is freed, at a KERNAL's pace after CLOCK was held for 80; and the host may free DATA then.
+    fn mute(&mut self, rt: &impl Abort, talker: Member, answer: u64) -> u64 {
+        let device = talker.device;
+        let mut end = answer;
+        if talker.pace == Pace::Kernal {
+            end = after(answer, 80);
+            self.drive(rt, device, answer, Clock, Pull);
+            self.drive(rt, device, end, Clock, Free);
+        }
+        self.drive(rt, device, end, Data, Free);
+        add(rt, &mut self.acts, (end, device, Act::Silent));
+        if self.random(2) == 0 {
+            return after(end, 1);
+        }
+        let free = self.from(rt, Bound::Silence, after(end, 1), after(end, 80));
+        self.host(rt, free, Data, Free);
+        free
+    }
+
     // The bits of a byte, from the first; when the host accepts it.
-    pub fn say(&mut self, rt: &impl Abort, device: u8, byte: u8, first: u64) -> u64 {
+    pub fn say(&mut self, rt: &impl Abort, talker: Member, byte: u8, first: u64) -> u64 {
+        let (device, half) = (talker.device, beat(talker.pace));
         let mut left = byte;
         let mut moment = first;
         for _ in 0..8 {
@@ -109,13 +122,13 @@ impl Session {
                 Data,
                 if left % 2 == 0 { Pull } else { Free },
             );
-            self.drive(rt, device, after(moment, 60), Clock, Free);
+            self.drive(rt, device, after(moment, half), Clock, Free);
             left = left / 2;
-            moment = after(moment, 120);
+            moment = after(moment, half.wrapping_mul(2));
         }
         self.drive(rt, device, moment, Clock, Pull);
         self.drive(rt, device, moment, Data, Free);
-        self.within(rt, Bound::Accept, after(first, 961), after(first, 1960))
+        self.within(rt, Bound::Accept, after(moment, 1), after(moment, 1000))
     }
 
     // An attention of some bytes, so that no drive listens beside one that talks.

@@ -34,9 +34,10 @@ impl Reading {
         next: &mut Vec<Reading>,
     ) {
         let hearers = self.hearers(rt, alloc, frame.attention);
-        let mut slowest = 0;
-        for (_, reaction) in &hearers {
+        let (mut slowest, mut longest) = (0, 0);
+        for (place, reaction) in &hearers {
             slowest = slowest.max(*reaction);
+            longest = longest.max(after(*reaction, beat(self.pace_at(*place))));
         }
         let wire = after(moment, slowest);
         let pulse = after(wire, 200);
@@ -44,11 +45,11 @@ impl Reading {
             self.owe(rt, *place, after(moment, *reaction), Data, Free, None);
             if frame.eoi {
                 self.owe(rt, *place, after(pulse, *reaction), Data, Pull, None);
-                let end = after(after(pulse, 60), *reaction);
+                let end = after(after(pulse, beat(self.pace_at(*place))), *reaction);
                 self.owe(rt, *place, end, Data, Free, None);
             }
         }
-        self.phase = Phase::Ready(frame, wire, after(after(pulse, 60), slowest));
+        self.phase = Phase::Ready(frame, wire, after(pulse, longest));
         add(rt, next, self)
     }
 

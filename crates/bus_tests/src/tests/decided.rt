@@ -4,9 +4,9 @@ use crate::tests::bounds::Bound;
 use crate::tests::judge::Judge as Reader;
 use crate::tests::plays::Bus;
 use crate::tests::reading::add;
-use crate::tests::verdicts::is_told;
-use crate::tests::wired::told_by_wires;
-use bus_judge::{Cause, Judge, Mark, Verdict};
+use crate::tests::verdicts::{is_told, own_acts};
+use crate::tests::wired::{told_by_wires, wires_of};
+use bus_judge::{Breach, Cause, Judge, Mark, Verdict};
 use cbm_iec::*;
 use std::alloc::Global;
 use std::process::Abort;
@@ -38,8 +38,19 @@ fn decided(
     }
 }
 
-/// Of a session's wires alone the judge says that they are a session, with the same acts. Of others they are one only where
-/// the trace is none by what can't be seen there.
+/// The acts, but for that of a talker of a KERNAL's pace that has nothing to say: the wires don't tell it from one that
+/// offers a byte, where no bit came.
+fn seen_acts(rt: &impl Abort, alloc: Global, acts: &[(u8, Act)], party: Party) -> Vec<Act> {
+    let mut seen = Vec::new(alloc);
+    for act in own_acts(rt, alloc, acts, party.device) {
+        if act != Act::Silent || party.pace != Pace::Kernal {
+            add(rt, &mut seen, act);
+        }
+    }
+    seen
+}
+
+/// Of a session's wires alone the judge says that they are a session, with the same acts.
 fn agrees_by_wires(
     rt: &impl Abort,
     alloc: Global,
@@ -56,7 +67,11 @@ fn agrees_by_wires(
         "by the wires: {verdict:?}, {trace:?}, {told:?}"
     );
     for party in parties {
-        assert!(rt; is_told(rt, alloc, &counted, acts, party.device));
+        let (told, meant) = (
+            seen_acts(rt, alloc, &counted, *party),
+            seen_acts(rt, alloc, acts, *party),
+        );
+        assert!(rt; told.as_slice() == meant.as_slice(), "{trace:?}");
     }
 }
 
@@ -98,6 +113,35 @@ fn bound_of(verdict: Verdict) -> Option<Bound> {
     }
 }
 
+/// Whether a wire changes with a change of its line.
+fn shows(
+    rt: &impl Abort,
+    alloc: Global,
+    parties: &[Party],
+    trace: &[Event],
+    change: Change,
+) -> bool {
+    wires_of(rt, alloc, parties, trace, false).contains(&change)
+}
+
+/// By the wires alone the host breaks the timing, too, if its change shows there.
+fn is_named_by_wires(
+    rt: &impl Abort,
+    alloc: Global,
+    parties: &[Party],
+    trace: &[Event],
+    end: u64,
+    breach: Breach,
+) -> bool {
+    let told = told_by_wires(rt, alloc, parties, trace, end);
+    let verdict = decided(rt, parties, &told, end, &mut Vec::new(alloc));
+    let hides = match breach.cause {
+        Cause::Bound(_) => !shows(rt, alloc, parties, trace, breach.change),
+        _ => false,
+    };
+    hides || matches!(verdict, Verdict::Host(_))
+}
+
 /// The judge names the bound that the host breaks by 1.
 pub fn names(rt: &impl Abort, alloc: Global, bus: &Bus, end: u64, bound: Bound, seed: u64) {
     let parties = bus.parties(rt, alloc);
@@ -107,9 +151,11 @@ pub fn names(rt: &impl Abort, alloc: Global, bus: &Bus, end: u64, bound: Bound, 
         bound_of(verdict) == Some(bound),
         "{seed}: {bound:?}, {verdict:?}"
     );
-    if let Verdict::Host(breach) = verdict
-        && let Cause::Bound(broken) = breach.cause
-    {
-        assert!(rt; broken.by() == 1, "{seed}: {verdict:?}");
+    if let Verdict::Host(breach) = verdict {
+        let is_named = is_named_by_wires(rt, alloc, &parties, &bus.events, end, breach);
+        assert!(rt; is_named, "{seed}: {bound:?}, by the wires");
+        if let Cause::Bound(broken) = breach.cause {
+            assert!(rt; broken.by() == 1, "{seed}: {verdict:?}");
+        }
     }
 }

@@ -57,6 +57,19 @@ pub fn after(moment: u64, wait: u64) -> u64 {
     moment.wrapping_add(wait)
 }
 
+/// How long half of a talker's bit lasts, and a listener's pulse.
+pub fn beat(pace: Pace) -> u64 {
+    match pace {
+        Pace::Profile => 60,
+        Pace::Kernal => 80,
+    }
+}
+
+/// How long after the first bit all eight have ended.
+pub fn eight_bits(pace: Pace) -> u64 {
+    beat(pace).wrapping_mul(16)
+}
+
 /// Whether a moment is so much after another, if there is one.
 pub fn is_behind(moment: u64, wait: u64, earlier: Option<u64>) -> bool {
     match earlier {
@@ -227,6 +240,24 @@ impl Reading {
         None
     }
 
+    /// The pace of the drive at a place.
+    pub fn pace_at(&self, place: usize) -> Pace {
+        self.seats
+            .get(place)
+            .map_or(Pace::Profile, |seat| seat.party.pace)
+    }
+
+    /// The pace of the drive that talks.
+    pub fn talk_pace(&self) -> Pace {
+        let (place, _) = self.first_with(Role::Talker).unwrap_or((0, 0));
+        self.pace_at(place)
+    }
+
+    /// How long after its first bit a byte of the talker is to be accepted at the latest.
+    pub fn latest(&self) -> u64 {
+        after(eight_bits(self.talk_pace()), 1000)
+    }
+
     pub fn has(&self, role: Role) -> bool {
         self.first_with(role).is_some()
     }
@@ -251,7 +282,7 @@ impl Reading {
             Phase::Ready(frame, wire, _) if !frame.eoi => Some(after(wire, 199)),
             Phase::Freeing(_, end) => Some(end),
             Phase::Turning => self.released,
-            Phase::Waiting(_, first, _) => Some(after(first, 1960)),
+            Phase::Waiting(_, first, _) => Some(after(first, self.latest())),
             _ => None,
         }
     }

@@ -4,7 +4,7 @@
 
 use crate::tests::bounds::{BOUNDS, Bound};
 use crate::tests::plays::*;
-use crate::tests::reading::{FREE, add, after, role_after};
+use crate::tests::reading::{FREE, add, after, beat, role_after};
 use Line::*;
 use Way::*;
 use cbm_iec::*;
@@ -16,6 +16,7 @@ use std::process::Abort;
 pub struct Member {
     pub device: u8,
     pub reaction: u64,
+    pub pace: Pace,
     pub role: Role,
     pub own: Held,
 }
@@ -234,16 +235,17 @@ impl Session {
     ) {
         let seats = self.seats(rt, alloc);
         self.host(rt, ready, Clock, Free);
-        let mut slowest = 0;
+        let (mut slowest, mut longest) = (0, 0);
         let mut fastest = 60;
         for member in &seats {
             if attention || member.role == Role::Listener {
                 slowest = slowest.max(member.reaction);
+                longest = longest.max(after(member.reaction, beat(member.pace)));
                 fastest = fastest.min(member.reaction);
             }
         }
         let t = after(ready, slowest);
-        let quiet = after(t, slowest.wrapping_add(260));
+        let quiet = after(t, after(longest, 200));
         let start = if eoi {
             self.from(
                 rt,
@@ -286,7 +288,8 @@ impl Session {
                 self.drive(rt, device, after(ready, r), Data, Free);
                 if eoi {
                     self.drive(rt, device, after(t, r.wrapping_add(200)), Data, Pull);
-                    self.drive(rt, device, after(t, r.wrapping_add(260)), Data, Free);
+                    let pulse = after(beat(member.pace), 200);
+                    self.drive(rt, device, after(t, r.wrapping_add(pulse)), Data, Free);
                 }
                 self.drive(rt, device, after(last, r), Data, Pull);
                 add(
@@ -352,8 +355,8 @@ impl Session {
 
 impl Session {
     /// A session of one to four drives, whose order of ties rises or falls; of its bounds the one with that number is
-    /// broken, counted from 1.
-    pub fn new(rt: &impl Abort, alloc: Global, seed: u64, flaw: u64) -> Session {
+    /// broken, counted from 1. Each bit of `paces` is a drive's pace, and 1 that of a KERNAL.
+    pub fn new(rt: &impl Abort, alloc: Global, seed: u64, flaw: u64, paces: u8) -> Session {
         let mut session = Session {
             seed,
             members: Vec::new(alloc),
@@ -387,6 +390,11 @@ impl Session {
                     Member {
                         device: if falling { 11 - place } else { 8 + place },
                         reaction,
+                        pace: if paces >> place & 1 == 1 {
+                            Pace::Kernal
+                        } else {
+                            Pace::Profile
+                        },
                         role: Role::Absent,
                         own: FREE,
                     },

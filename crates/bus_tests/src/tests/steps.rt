@@ -132,7 +132,7 @@ impl Reading {
             }
             Phase::Over if self.is_clear() => self.last <= moment,
             Phase::Offered(_, _) if self.rank == 0 => self.last <= moment,
-            Phase::Waiting(_, first, _) if after(first, 1960) < moment => false,
+            Phase::Waiting(_, first, _) if after(first, self.latest()) < moment => false,
             phase => phase.is_talk() && self.last < moment,
         }
     }

@@ -21,14 +21,25 @@ impl Reading {
             return;
         };
         let answer = after(moment, reaction);
-        let mut other = self.copy(rt);
+        let other = self.copy(rt);
         self.phase = Phase::Leading(answer);
         self.owe(rt, place, answer, Clock, Pull, None);
         self.owe(rt, place, answer, Data, Free, None);
         add(rt, next, self);
-        other.phase = Phase::Silent(answer);
-        other.owe(rt, place, answer, Data, Free, Some(Act::Silent));
-        add(rt, next, other)
+        other.silent(rt, place, answer, next)
+    }
+
+    /// The talker has nothing to say: it frees DATA, at a KERNAL's pace after it has held CLOCK for 80.
+    fn silent(mut self, rt: &impl Abort, place: usize, answer: u64, next: &mut Vec<Reading>) {
+        let mut end = answer;
+        if self.pace_at(place) == Pace::Kernal {
+            end = after(answer, 80);
+            self.owe(rt, place, answer, Clock, Pull, None);
+            self.owe(rt, place, end, Clock, Free, None);
+        }
+        self.phase = Phase::Silent(end);
+        self.owe(rt, place, end, Data, Free, Some(Act::Silent));
+        add(rt, next, self)
     }
 
     /// The talker frees CLOCK for a byte, last or not.
@@ -96,7 +107,7 @@ impl Reading {
             let one = Phase::Sending(last, first, byte / 2 + 128, count + 1);
             return other.bit_of(rt, place, one, next);
         }
-        let end = after(first, 960);
+        let end = after(first, eight_bits(self.talk_pace()));
         self.owe(rt, place, end, Clock, Pull, None);
         if self.holds_data(place) {
             self.owe(rt, place, end, Data, Free, None);
@@ -119,16 +130,20 @@ impl Reading {
         }
     }
 
-    /// A bit: CLOCK pulled with DATA by the bit, and CLOCK freed 60 later.
+    /// A bit: CLOCK pulled with DATA by the bit, and CLOCK freed half of a bit later.
     fn bit_of(mut self, rt: &impl Abort, place: usize, phase: Phase, next: &mut Vec<Reading>) {
         if let Phase::Sending(_, first, byte, count) = phase {
-            let at = after(first, 120 * (count as u64)).wrapping_sub(120);
+            let half = beat(self.talk_pace());
+            let before = half
+                .wrapping_mul(2)
+                .wrapping_mul((count as u64).wrapping_sub(1));
+            let at = after(first, before);
             self.owe(rt, place, at, Clock, Pull, None);
             let low = byte < 128;
             if low != self.holds_data(place) {
                 self.owe(rt, place, at, Data, if low { Pull } else { Free }, None);
             }
-            self.owe(rt, place, after(at, 60), Clock, Free, None);
+            self.owe(rt, place, after(at, half), Clock, Free, None);
         }
         self.phase = phase;
         add(rt, next, self)
@@ -144,7 +159,8 @@ impl Reading {
         byte: u8,
         next: &mut Vec<Reading>,
     ) {
-        let fits = after(first, 961) <= moment && moment <= after(first, 1960);
+        let end = after(first, eight_bits(self.talk_pace()));
+        let fits = end < moment && moment <= after(end, 1000);
         let Some((place, reaction)) = self.first_with(Role::Talker) else {
             return;
         };

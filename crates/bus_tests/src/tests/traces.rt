@@ -24,7 +24,9 @@ fn parties_of(rt: &impl Abort, alloc: Global, session: &Session) -> Vec<Party> {
     let mut parties = Vec::new(alloc);
     for member in &session.members {
         assert!(rt; member.reaction <= 60);
-        add(rt, &mut parties, one(member.device, member.reaction as u8));
+        let party = one(member.device, member.reaction as u8);
+        let pace = member.pace;
+        add(rt, &mut parties, Party { pace, ..party });
     }
     parties
 }
@@ -190,9 +192,10 @@ fn check_flawed(
     alloc: Global,
     seed: u64,
     flaw: u64,
+    paces: u8,
     broken: &mut Vec<Bound>,
 ) -> u64 {
-    let mut flawed = Session::new(rt, alloc, seed, flaw);
+    let mut flawed = Session::new(rt, alloc, seed, flaw, paces);
     let end = after(flawed.write(rt, alloc), 3000);
     if let Some((bound, moment, late)) = flawed.broken {
         let bus = played(rt, alloc, &flawed, &flawed.changes, end);
@@ -210,8 +213,8 @@ fn check_flawed(
 
 // Hosts made of one seed: one that keeps the timing, whole and up to a moment of its own, one that is disturbed, and
 // one that breaks a bound. Answers how many traces were judged.
-fn check(rt: &impl Abort, alloc: Global, seed: u64, broken: &mut Vec<Bound>) -> u64 {
-    let mut session = Session::new(rt, alloc, seed, 0);
+fn check(rt: &impl Abort, alloc: Global, seed: u64, paces: u8, broken: &mut Vec<Bound>) -> u64 {
+    let mut session = Session::new(rt, alloc, seed, 0, paces);
     let end = session.write(rt, alloc);
     let last = after(end, 3000);
     check_whole(rt, alloc, &session, last, seed);
@@ -221,16 +224,18 @@ fn check(rt: &impl Abort, alloc: Global, seed: u64, broken: &mut Vec<Bound>) -> 
     let count = session.changes.len() as u64;
     let place = session.random(count) as usize;
     let disturbed = check_disturbed(rt, alloc, &session, place, how, last, seed);
-    let flawed = check_flawed(rt, alloc, seed, session.choose(), broken);
+    let flawed = check_flawed(rt, alloc, seed, session.choose(), paces, broken);
     after(2, after(disturbed, flawed))
 }
 
-// So many traces of some seeds, with each bound broken at least once.
-fn check_all(rt: &impl Abort, alloc: Global, first: u64, last: u64) {
+// So many traces of some seeds, with each bound broken at least once. The drives keep the profile's pace, or by the seed
+// some of them, or all, a KERNAL's.
+fn check_all(rt: &impl Abort, alloc: Global, first: u64, last: u64, of_kernal: bool) {
     let mut broken = Vec::new(alloc);
     let mut traces = 0;
     for seed in first..last {
-        traces = after(traces, check(rt, alloc, seed, &mut broken));
+        let paces = if of_kernal { (seed % 15 + 1) as u8 } else { 0 };
+        traces = after(traces, check(rt, alloc, seed, paces, &mut broken));
     }
     assert!(rt; traces >= 45_000, "{traces} traces");
     for bound in BOUNDS {
@@ -240,40 +245,45 @@ fn check_all(rt: &impl Abort, alloc: Global, first: u64, last: u64) {
 
 #[test]
 fn first_eighth(rt: HostRuntime) {
-    check_all(&rt, rt.alloc(), 0, 12_500)
+    check_all(&rt, rt.alloc(), 0, 12_500, false)
 }
 
 #[test]
 fn second_eighth(rt: HostRuntime) {
-    check_all(&rt, rt.alloc(), 12_500, 25_000)
+    check_all(&rt, rt.alloc(), 12_500, 25_000, false)
 }
 
 #[test]
 fn third_eighth(rt: HostRuntime) {
-    check_all(&rt, rt.alloc(), 25_000, 37_500)
+    check_all(&rt, rt.alloc(), 25_000, 37_500, false)
 }
 
 #[test]
 fn fourth_eighth(rt: HostRuntime) {
-    check_all(&rt, rt.alloc(), 37_500, 50_000)
+    check_all(&rt, rt.alloc(), 37_500, 50_000, false)
 }
 
 #[test]
 fn fifth_eighth(rt: HostRuntime) {
-    check_all(&rt, rt.alloc(), 50_000, 62_500)
+    check_all(&rt, rt.alloc(), 50_000, 62_500, false)
 }
 
 #[test]
 fn sixth_eighth(rt: HostRuntime) {
-    check_all(&rt, rt.alloc(), 62_500, 75_000)
+    check_all(&rt, rt.alloc(), 62_500, 75_000, false)
 }
 
 #[test]
 fn seventh_eighth(rt: HostRuntime) {
-    check_all(&rt, rt.alloc(), 75_000, 87_500)
+    check_all(&rt, rt.alloc(), 75_000, 87_500, false)
 }
 
 #[test]
 fn last_eighth(rt: HostRuntime) {
-    check_all(&rt, rt.alloc(), 87_500, 100_000)
+    check_all(&rt, rt.alloc(), 87_500, 100_000, false)
+}
+
+#[test]
+fn of_both_paces(rt: HostRuntime) {
+    check_all(&rt, rt.alloc(), 100_000, 112_500, true)
 }
