@@ -125,8 +125,25 @@ judged "a drive that takes 21" 0 "a session to 21 us" - --drive 8:21 < late.trac
 printf '0 host atn pull\n0 host clock pull\n20 9 data pull\n20 8 data pull\n' > ties.trace
 judged "two drives, the first listed first" 0 "a session to 20 us" ties.trace --drive 9:20 --drive 8:20
 judged "two drives, the other first" 2 "20 us drive 9 data pull: due at 20" ties.trace --drive 8:20 --drive 9:20
-printf '$timescale 1us $end $var wire 1 a ATN $end $var wire 1 c CLK $end $var wire 1 d DATA $end\n$enddefinitions $end\n#0 1a 1c 1d\n#10 0a\n' > wires.vcd
-judged "the wires alone" 3 "error: the trace has the wires alone: the parties' own lines are wanted" wires.vcd
+
+# The wires alone, as a logic analyser has them: our VCD without the parties' own lines.
+wires_alone() {
+    awk '$1 == "$var" && $5 !~ /^(atn|clk|data)$/ { left[$4] = 1; next } /^[01]/ && substr($0, 2) in left { next } { print }' "$1"
+}
+acts() {
+    "$drive" judge "$@" | sed '$d'
+}
+wires_alone hello.vcd > wires.vcd
+is "judge, the wires alone: have no party" test "$(grep -c 'host_\|drive8_' wires.vcd)" = 0
+"$drive" judge wires.vcd > judged.txt
+is "judge, the wires alone: a session" test $? = 0
+is "judge, the wires alone: the same acts" test "$(acts wires.vcd)" = "$(acts hello.vcd)"
+judged "the wires, of a drive that would take 21" 1 "1020 us host data pull: no session has it there" wires.vcd --drive 8:21
+printf '$timescale 1us $end $var wire 1 a ATN $end $var wire 1 c CLK $end $var wire 1 d DATA $end\n$enddefinitions $end\n#0 0a 0c\n#20 0d\n#99 1c\n' > early.vcd
+judged "the wires of a host too early" 1 "99 us host clock free: 99 after ATN's pull, 100 at least" early.vcd
+printf '$timescale 1us $end $var wire 1 a ATN $end $var wire 1 c CLK $end $var wire 1 d DATA $end\n$enddefinitions $end\n#0 0a 0c\n#21 0d\n' > late.vcd
+judged "the wires of a drive too late" 2 "21 us drive 8 data pull: due at 20" late.vcd
+judged "the same wires of a drive that takes 21" 0 "a session to 21 us" late.vcd --drive 8:21
 judged "a device that is none" 64 "error: a device number is 8 to 11" early.trace --drive 12:20
 judged "a drive without a reaction" 64 "error: a drive is DEVICE:REACTION or DEVICE:REACTION:PACE, as 8:20" early.trace --drive 8
 
