@@ -1,3 +1,5 @@
 pub mod Points
 pub mod Quiet
+pub mod Refusing
 pub mod Standing
+pub mod Strangers

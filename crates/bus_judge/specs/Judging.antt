@@ -9,8 +9,9 @@ use Rattle.cbm_iec.specs.declared.event.Event.{Event}
 use Rattle.cbm_iec.specs.declared.party.Party.{Party}
 use Rattle.cbm_session.specs.Frames.{is_last}
 use Rattle.cbm_session.specs.Pieces.{Piece, Point, Whole, PieceFits, point_after, Fits, steps_of, ToTalker, Talk}
-use Rattle.cbm_session.specs.Sessions.{rest, session_steps, Begins, acts_of}
-use Rattle.cbm_session.specs.Steps.{Step, events_of}
+use Rattle.cbm_session.specs.Laws.{NotSooner}
+use Rattle.cbm_session.specs.Sessions.{rest, session_steps, Begins, IsBeginning, acts_of}
+use Rattle.cbm_session.specs.Steps.{Step, moment_of, events_of}
 use Rattle.cbm_session.specs.Timing.{HostKeeps, IsLate, any}
 
 -- these pieces lead from a point to another
@@ -68,3 +69,11 @@ IsQuietTo j moment = elim (slice_get j.steps.items j.seen) [ None ↦ RestsIn j.
 pub record InTime (bs : List Party) (done : List Step) (moment : ℕ) : Type 0 where
   pub kept : HostKeeps bs (events_of done) moment
   pub prompt : IsLate bs any (events_of done) moment → ⊥
+
+-- an event comes too soon after a step: before it, or at its moment where the step is a drive's and the event the host's
+abbrev pub IsTooSoon : Step → Event → Type 0
+IsTooSoon s e = NotSooner s.event.who (moment_of s) e.who e.change.moment → ⊥
+
+-- no session of these drives begins with these steps' events and then this one
+abbrev pub NoneBegins : List Party → List Step → Event → Type 0
+NoneBegins bs done e = IsBeginning bs (events_of done ++ e ∷ []) → ⊥

@@ -1,11 +1,12 @@
 //! The judge: it keeps one piece under way, that fits and begins with the events that were seen, put off as far as may
 //! be, and what stands before it.
 
-ghost use Rattle.std.specs.Prelude.{◌≡◌, ◌≤◌, [], List, Some, None, length, slice_get, true, false, IfOk, OnOk};
+ghost use Rattle.std.specs.Prelude.{◌≡◌, ◌≤◌, ℕ, [], ◌∷◌, ◌++◌, List, IsErr, Some, None, length, slice_get, true, false, IfOk, OnOk};
 ghost use Rattle.cbm_iec.specs.declared.party.Party.{Party as ThisParty};
-ghost use Rattle.cbm_session.specs.Sessions.{IsBus};
+ghost use Rattle.cbm_iec.specs.declared.event.Who.TheVariants.{Drive};
+ghost use Rattle.cbm_session.specs.Sessions.{IsBus, Unlike};
 ghost use Rattle.cbm_session.specs.Steps.{Step as Seen};
-ghost use Rattle.bus_judge.specs.Judging.{Stands, IsBusy, Awaits, and_then, BeginsSo, Rests, IsQuietTo, InTime};
+ghost use Rattle.bus_judge.specs.Judging.{Stands, IsTooSoon, NoneBegins, IsBusy, Awaits, and_then, BeginsSo, Rests, IsQuietTo, InTime};
 ghost use Rattle.bus_judge.specs.Views.{whole_of};
 ghost use Rattle.bus_judge.specs.declared.step.Mark.{Mark as OwnMark};
 
@@ -75,6 +76,10 @@ impl Judge {
         ensures stands { (bs : List ThisParty) → (done : List Seen) → Stands bs self.old done → IfOk result (λ mark. Stands bs self.new (and_then done event mark)) }
         ensures begins { (bs : List ThisParty) → (done : List Seen) → Stands bs self.old done → IfOk result (λ mark. BeginsSo bs (and_then done event mark)) }
         ensures busy { OnOk result (IsBusy self.new) }
+        ensures too_soon { (bs : List ThisParty) → (front : List Seen) → (s : Seen) → (back : List Seen) → IsBus bs → Stands bs self.old (front ++ s ∷ back)
+            → IsTooSoon s event → IsErr result × NoneBegins bs (front ++ s ∷ back) event }
+        ensures stranger { (bs : List ThisParty) → (done : List Seen) → (d : ℕ) → Stands bs self.old done → event.who ≡ Drive d → Unlike d bs
+            → IsErr result × NoneBegins bs done event }
     {
         if let Some(breach) = self.breach {
             return Err(breach);
@@ -162,6 +167,8 @@ impl Judge {
     }
 
     /// All steps of the piece have come. Where the talker goes on, its next frame is under way at once.
+    // (In its caller's frame its lists would cost each event that is awaited.)
+    #[inline(never)]
     fn come(&mut self, event: Event) -> Result<(), Breach>
         requires { length self.old.steps.items ≤ self.old.seen }
         ensures stands { (bs : List ThisParty) → (done : List Seen) → Stands bs self.old done → OnOk result (Stands bs self.new done) }

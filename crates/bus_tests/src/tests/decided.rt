@@ -124,7 +124,8 @@ fn shows(
     wires_of(rt, alloc, parties, trace, false).contains(&change)
 }
 
-/// By the wires alone the host breaks the timing, too, if its change shows there.
+/// By the wires alone the host breaks the timing, too, if its change shows there. Of two changes that don't come together
+/// one may not show, and then these are the wires of a session.
 fn is_named_by_wires(
     rt: &impl Abort,
     alloc: Global,
@@ -135,11 +136,19 @@ fn is_named_by_wires(
 ) -> bool {
     let told = told_by_wires(rt, alloc, parties, trace, end);
     let verdict = decided(rt, parties, &told, end, &mut Vec::new(alloc));
-    let hides = match breach.cause {
-        Cause::Bound(_) => !shows(rt, alloc, parties, trace, breach.change),
-        _ => false,
+    let (hides, apart) = match breach.cause {
+        Cause::Bound(broken) => (
+            !shows(rt, alloc, parties, trace, breach.change),
+            broken.bound == Bound::Together,
+        ),
+        Cause::LeftOut(broken) => (false, broken.bound == Bound::Together),
+        _ => (false, false),
     };
-    hides || matches!(verdict, Verdict::Host(_))
+    match verdict {
+        Verdict::Session => hides || apart,
+        Verdict::Host(_) => true,
+        Verdict::Drive(_) => hides,
+    }
 }
 
 /// The judge names the bound that the host breaks by 1.
