@@ -155,6 +155,16 @@ if command -v sigrok-cli > /dev/null; then
     }
     is "sigrok's bytes" test "$(decoded hello.vcd items)" = "28 F0 48 45 4C 4C 4F 3F 48 60 01 02 03 5F 48 6F 30 30 2C 20 4F 4B 2C 30 30 2C 30 30 0D 5F "
     is "sigrok's words" test "$(decoded hello.vcd gpib)" = "L8 O0 H E L L O UNL T8 R0       UNT T8 R? 0 0 ,   O K , 0 0 , 0 0 CR UNT "
+    # LOAD"$",8: the directory as the drive sends it, a line each for the title, the file and the blocks that are free.
+    printf 'open 0 $\nget 0 5000\nclose 0\n' > load.script
+    "$drive" hello.d64 load.script --trace load.vcd > /dev/null
+    hex() {
+        printf "$1" | od -An -v -tx1 | tr -s ' \n' ' ' | tr a-f A-F | sed 's/^ //; s/ $//'
+    }
+    title=$(hex '\001\004\001\001\000\000\022"TEST            " AB 2A\000')
+    file=$(hex '\001\001\001\000   "HELLO"            PRG  \000')
+    free=$(hex '\001\001\227\002BLOCKS FREE.             \000\000\000')
+    is "sigrok's bytes of LOAD\"\$\"" test "$(decoded load.vcd items)" = "28 F0 24 3F 48 60 $title $file $free 5F 28 E0 3F "
 else
     echo "ok    sigrok-cli isn't installed: its look at a VCD is left out"
 fi
