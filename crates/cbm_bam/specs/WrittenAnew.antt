@@ -7,7 +7,7 @@ use Rattle.cbm_bam.specs.Map.{is_free_in, IsCounted, IsOutside, IsSpare}
 abbrev pub is_before : ℕ → ℕ → Place → Bool
 is_before t s p = nat_lt p.track t || ((p.track == t) && nat_lt p.sector s)
 
--- The map up to a sector: of those before it, all that aren't used are free, and those behind it aren't yet.
+-- The map up to a sector: of those before it, all that aren't used are free, and those after it aren't yet.
 pub record IsAnew (tracks : ℕ) (old new : List ℕ) (used : Place → Bool) (t s : ℕ) : Type 0 where
   pub length : length new ≡ 256
   pub bits : (p : Place) → Has tracks p → is_free_in new p ≡ (is_before t s p && not (used p))

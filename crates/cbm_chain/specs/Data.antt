@@ -4,7 +4,7 @@ use Rattle.cbm_medium.specs.Place.{Place}
 use Rattle.cbm_medium.specs.Content.{Content}
 use Rattle.cbm_medium.specs.Links.{bytes_at}
 
--- where a sector's data ends: in the last one, whose link names track 0, behind the place that the link's second byte names
+-- where a sector's data ends: in the last one, whose link names track 0, after the place that the link's second byte names
 abbrev pub data_end : List ℕ → ℕ
 data_end bytes = if slice_index bytes 0 == 0 then slice_index bytes 1 + 1 else 256
 

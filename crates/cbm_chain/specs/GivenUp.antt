@@ -5,7 +5,7 @@ use Rattle.cbm_medium.specs.Content.{Content, written}
 use Rattle.cbm_medium.specs.Links.{Followed, ended, cut_at, behind}
 use Rattle.cbm_bam.specs.Map.{map_of, Frees}
 
--- The block at a place and so many more, each of which the one before links to: the last one isn't read. A link to no sector of
+-- The block at a place and this many more, each of which the one before links to: the last one isn't read. A link to no sector of
 -- the disk (66) or a block that doesn't read cuts them off.
 unfoldable pub linked_blocks : ℕ → Content → ℕ → Place → Followed
 linked_blocks tracks content zero p = if has tracks p then ended (p ∷ []) else cut_at 66 p

@@ -10,7 +10,7 @@ use cbm_bam::Release;
 use cbm_medium::codes::ILLEGAL_LINK;
 use cbm_medium::{Address, Geometry, Link, Medium, Trouble};
 
-/// Gives back a block and so many more, each of which the one before links to; the last one isn't read. An `Err` is
+/// Gives back a block and this many more, each of which the one before links to; the last one isn't read. An `Err` is
 /// what cuts them off: 66 or the medium's fault.
 pub(crate) fn give_linked<M: Medium>(
     medium: &M,

@@ -14,7 +14,7 @@ pub fn a_writer_after_a_chain_has_its_bytes()
         Wrote content s blocks (chain_bytes content blocks) }
 {}
 
-/// A byte that is put stands behind those that its writer put before, in the same blocks or with one more.
+/// A byte that is put stands after those that its writer put before, in the same blocks or with one more.
 pub fn a_byte_stands_behind_the_others()
     ensures { (old new : Content) (s t : State) (blocks : List Place) (bytes : List ℕ) (byte : ℕ) →
         Wrote old s blocks bytes → AreTaken (map_of old) blocks → Puts old new s byte t →
@@ -28,7 +28,7 @@ pub fn a_last_block_makes_a_chain()
         IsChainOf s.tracks new (place_or_none s.first) blocks bytes }
 {}
 
-/// A chain holds the bytes that were there and behind them those that were put.
+/// A chain holds the bytes that were there and after them those that were put.
 pub fn chains_hold_what_was_put()
     ensures { (old middle new : Content) (s t : State) (blocks : List Place) (bytes put : List ℕ) →
         Wrote old s blocks bytes → AreTaken (map_of old) blocks → PutsAll put old s middle t →

@@ -2,6 +2,6 @@
 use Rattle.cbm_machine.specs.Machines.{Machine}
 use Rattle.cbm_machine.specs.Told.{Told}
 
--- the machine, telling what was told before
+-- the machine, which reports what was reported before
 abbrev pub still_telling : Told → Machine → Machine
 still_telling t m = record m { status = t.status; told = t.told }

@@ -17,7 +17,7 @@ use Rattle.cbm_machine.specs.Calls.{command, text_for, end_put}
 use Rattle.cbm_channel.specs.Standing.{Kept, Stands}
 
 -- A PART OF A CALL WAS STOPPED at a write that the medium refused, on the way from one machine to another. Each slot is as before or
--- as after; the channel is closed, or takes no more bytes for the slot that it wrote; the other channels are as before; and the fault is told.
+-- as after; the channel is closed, or takes no more bytes for the slot that it wrote; the other channels are as before; and the fault is reported.
 pub record IsStopped (ch : ℕ) (before after now : Machine) : Type 0 where
   pub either : (n : ℕ) → IsEither before.disk after.disk now.disk n
   pub same_tracks : now.tracks ≡ before.tracks
@@ -44,7 +44,7 @@ IsCounted seen old new =
     ((seen new.medium).failures ≡ (seen old.medium).failures)
     ⊎ ((t : Trouble) × ((seen new.medium).failures ≡ (seen old.medium).failures + 1) × ((seen new.medium).refused ≡ Some t) × (new.told.status ≡ trouble_status t))
 
--- the same of so many parts, one after another
+-- the same of this many parts, one after another
 abbrev pub AreCounted : {M : Type 0} → (M → Seen) → ℕ → Kept M → Kept M → Type 0
 AreCounted seen zero old new = (seen new.medium).failures ≡ (seen old.medium).failures
 AreCounted {M} seen (suc n) old new = (mid : Kept M) × AreCounted seen n old mid × IsCounted seen mid new
@@ -81,7 +81,7 @@ closing ch = if ch == 15 then closings ++ (15, without_text 15) ∷ [] else (ch,
 abbrev pub opening_parts : ℕ → List ℕ → List (ℕ × (Machine → Machine))
 opening_parts ch text = if ch == 15 then (15, command text) ∷ [] else (ch, close_one ch) ∷ (ch, open_text ch text) ∷ []
 
--- A CALL GOES ON from a machine, part by part, and the drive stands for a machine again.
+-- A CALL GOES ON from a machine, part by part, and the drive represents a machine again.
 abbrev pub GoesFrom : {M : Type 0} → (M → Seen) → Kept M → Kept M → List (ℕ × (Machine → Machine)) → Machine → Type 0
 GoesFrom seen old new parts m = (now : Machine) × PassesAll (seen old.medium) (seen new.medium) parts m now × Stands seen new now
 
@@ -102,7 +102,7 @@ pub record KeepsMedium (old new : Seen) : Type 0 where
 abbrev pub HasBegun : Disk → ℕ → ℕ → ℕ → ℕ → List (List ℕ) → ℕ → ℕ → List ℕ → Disk → Type 0
 HasBegun d slot w b s rs k p bytes now = (so_far : ℕ) × (now ≡ with_record d slot w rs b s k (take so_far (new_record w rs k p bytes) ++ drop so_far (slice_index_or rs (k - 1) [])))
 
--- The file has perhaps fresh records behind its own; its entry may still tell the old number of blocks, and blocks that were claimed last
+-- The file has perhaps fresh records after its own; its entry may still have the old number of blocks, and blocks that were claimed last
 -- may be nobody's.
 pub record HasBegunToGrow (d : Disk) (slot w : ℕ) (rs : List (List ℕ)) (now : Disk) : Type 0 where
   pub file : File
@@ -115,7 +115,7 @@ pub record HasBegunToGrow (d : Disk) (slot w : ℕ) (rs : List (List ℕ)) (now 
   pub disk : now ≡ record (with_slot d slot (Some (record file { shown = shown; held = blocks + sides; body = Records w (rs ++ replicate so_far (fresh_record w)) blocks sides }))) { free = free }
 
 -- A WRITE OF A RECORD WAS STOPPED at a write that the medium refused, within the record, or while the file grew for it. All else of the
--- disk is as it was, the channels keep their places, and the fault is told.
+-- disk is as it was, the channels keep their places, and the fault is reported.
 pub record IsRecordStopped (ch : ℕ) (bytes : List ℕ) (before now : Machine) : Type 0 where
   pub slot : ℕ
   pub record_number : ℕ
@@ -134,7 +134,7 @@ pub record IsRecordStopped (ch : ℕ) (bytes : List ℕ) (before now : Machine) 
   pub same_protection : now.protected ≡ before.protected
   pub fault : (t : Trouble) × (now.status ≡ trouble_status t)
 
--- a text for a channel was one write of a record, or it was stopped; and the drive stands for a machine again
+-- a text for a channel was one write of a record, or it was stopped; and the drive represents a machine again
 abbrev pub RecordsFrom : {M : Type 0} → (M → Seen) → Kept M → Kept M → ℕ → List ℕ → Machine → Type 0
 RecordsFrom seen old new ch text m =
     (now : Machine) × ((now ≡ write_record ch (channel m ch) text m) ⊎ (HasFailed (seen old.medium) (seen new.medium) × IsRecordStopped ch text m now)) × Stands seen new now
@@ -143,6 +143,6 @@ RecordsFrom seen old new ch text m =
 abbrev pub Ends : Type 0 → ℕ → Machine → Machine → Type 0
 Ends failed ch before now = Passes failed ch (end_put ch) before now ⊎ (failed × IsRecordStopped ch (text_for ch before.text) before now)
 
--- THE END OF WHAT IS PUT GOES ON from a machine, and the drive stands for a machine again.
+-- THE END OF WHAT IS PUT GOES ON from a machine, and the drive represents a machine again.
 abbrev pub EndsFrom : {M : Type 0} → (M → Seen) → Kept M → Kept M → ℕ → Machine → Type 0
 EndsFrom seen old new ch m = (now : Machine) × Ends (HasFailed (seen old.medium) (seen new.medium)) ch m now × Stands seen new now

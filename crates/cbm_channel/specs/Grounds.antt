@@ -42,11 +42,11 @@ HasGround seen medium status =
     ⊎ (((status ≡ plain WriteProtected) × ((seen medium).protected ≡ true))
     ⊎ ((t : Trouble) × (status ≡ trouble_status t) × ShowsTrouble (geometry_of (seen medium).tracks (seen medium).content) (seen medium).content t))
 
--- a status with its ground is told
+-- a status with its ground is reported
 abbrev pub HasTold : {M : Type 0} → (M → Seen) → Kept M → Kept M → Type 0
 HasTold seen old new = HasGround seen old.medium new.told.status
 
--- What is told stays; or a status with its ground is told anew; or the medium failed in this call, and its fault is told.
+-- What is reported stays; or a status with its ground is reported anew; or the medium failed in this call, and its fault is reported.
 abbrev pub IsToldFor : {M : Type 0} → (M → Seen) → Kept M → Kept M → Type 0
 IsToldFor seen old new =
     (new.told ≡ old.told)
@@ -67,7 +67,7 @@ IsFromDirectory seen medium (planned.OpenRecords found) =
 IsFromDirectory seen medium (planned.MakeRecords name length) = Unit {0}
 
 -- A request is refused with this code: for protection (26), its text (30 to 34), a record (50, 52), the files and the channels (60 to 64, 70),
--- for want of room (72) or of a disk (74). Where 51 is told of a text for records, the bytes that fit were written.
+-- for want of room (72) or of a disk (74). Where 51 is reported of a text for records, the bytes that fit were written.
 abbrev pub is_refusal : Code → Bool
 is_refusal Fine = false
 is_refusal FilesScratched = false
@@ -101,7 +101,7 @@ is_refusal DiskFull = true
 is_refusal PowerUp = false
 is_refusal DriveNotReady = true
 
--- WHAT IS REFUSED LEAVES THE DISK: where such a code is told, each sector holds what it held.
+-- WHAT IS REFUSED LEAVES THE DISK: where such a code is reported, each sector holds what it held.
 abbrev pub KeepsIfRefused : {M : Type 0} → (M → Seen) → Kept M → Kept M → Type 0
 KeepsIfRefused seen old new = is_refusal new.told.status.code ≡ true → (seen new.medium).content ≡ (seen old.medium).content
 

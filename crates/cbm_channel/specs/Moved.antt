@@ -1,4 +1,4 @@
--- P on a channel from 0 to 14: where its place is then, and what is told.
+-- P on a channel from 0 to 14: where its place is then, and what is reported.
 use Rattle.std.specs.Prelude.{ℕ, nat_lt, if◌then◌else◌, is_some}
 use Rattle.cbm_file.specs.Files.{Disk, record_length_in}
 use Rattle.cbm_machine.specs.declared.code.Code.{Code}
@@ -7,7 +7,7 @@ use Rattle.cbm_machine.specs.Machines.{Channel, Closed, Reading, Writing, Stoppe
 use Rattle.cbm_machine.specs.Finding.{body_at}
 use Rattle.cbm_machine.specs.Records.{record_at}
 
--- what is told
+-- what is reported
 abbrev pub code_placed : ℕ → ℕ → Disk → Channel → Code
 code_placed k p d Closed = NoChannel
 code_placed k p d (Reading s left) = WrongType

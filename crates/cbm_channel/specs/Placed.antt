@@ -41,7 +41,7 @@ shown_at (waits.Record r) position = next_of_record (Some r.items) position
 shown_at waits.Absent position = next_of_record None position
 shown_at waits.Broken position = None
 
--- only zeros stand behind the position
+-- only zeros stand after the position
 abbrev pub is_last : List ℕ → ℕ → Bool
 is_last bytes position = list_all (λ c. c == 0) (drop position bytes)
 
@@ -68,7 +68,7 @@ pub record IsPlacedAt (old new : Placed) (number position : ℕ) : Type 0 where
   pub at_number : new.number ≡ number
   pub at_position : new.position ≡ position
 
--- A byte was taken of what waits: nothing happens where no record does; the position goes up within the record, and behind its last
+-- A byte was taken of what waits: nothing happens where no record does; the position goes up within the record, and after its last
 -- byte the next record's first byte is the place, which may not be read.
 abbrev pub IsMoved : Waiting → Placed → Placed → Result (Unit {0}) Trouble → Type 0
 IsMoved (waits.Record r) old new (Ok _) =

@@ -61,7 +61,7 @@ pub record IsWritable (m : Machine) (kind : FileType) (name : List ℕ) : Type 0
   pub place : has_slot m.disk ≡ true
   pub unprotected : m.protected ≡ false
 
--- Bytes can be put behind those of a file: it is closed, has bytes, and is open on no channel; and its entry stands in the
+-- Bytes can be put after those of a file: it is closed, has bytes, and is open on no channel; and its entry stands in the
 -- directory at the slot's number.
 pub record IsAppendable (tracks : ℕ) (c : Content) (m : Machine) (s : ℕ) (found : Found) : Type 0 where
   pub number : s ≡ found.slot
@@ -151,7 +151,7 @@ disk_opened d (ReplaceFile s) = record d { free = d.free - 1 }
 disk_opened d (OpenRecords s) = d
 disk_opened d (MakeRecords name len) = with_new_records d name len
 
--- The channel was opened by the plan: it stands for the machine's, what waits on it is there, and the medium holds the disk that the plan leaves. A disk
+-- The channel was opened by the plan: it represents the machine's, what waits on it is there, and the medium holds the disk that the plan leaves. A disk
 -- without a place is none that was planned for.
 abbrev pub IsOpened : ℕ → Content → Machine → ℕ → Plan → (ℕ → Use) → Option kept.Channel → Type 0
 IsOpened tracks c m ch p uses None = ⊥

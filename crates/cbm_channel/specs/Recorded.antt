@@ -25,7 +25,7 @@ pub record CanGrow (d : Disk) (r : Placed) (b s : ℕ) (rs : List (List ℕ)) : 
   pub missing : record_at (Records r.width rs b s) r.number ≡ None
   pub room : IsTooLarge d r.width b s r.number → ⊥
 
--- the disk behind the growth, and the blocks, side sectors and records of the file then
+-- the disk after the growth, and the blocks, side sectors and records of the file then
 abbrev pub disk_grown : Disk → Placed → ℕ → ℕ → List (List ℕ) → Disk
 disk_grown d r b s rs = with_growth d r.slot r.width b s rs r.number
 
@@ -57,12 +57,12 @@ IsTextCut old new d uses r b s rs bytes t =
 abbrev pub IsReadAnew : Seen → Placed → Type 0
 IsReadAnew now q = (d : Disk) (f : File) (b s : ℕ) (rs : List (List ℕ)) → HoldsDisk now.tracks now.content d → file_at d q.slot ≡ Some f → f.closed ≡ true → f.body ≡ Records q.width rs b s → IsOnRecord d q
 
--- what became of a text: behind one that was stored the place is the next record's first byte
+-- what became of a text: after one that was stored the place is the next record's first byte
 abbrev pub IsTextEnded : Seen → Seen → Disk → (ℕ → Use) → Placed → Placed → ℕ → ℕ → List (List ℕ) → List ℕ → Option Bool → Type 0
 IsTextEnded old new d uses r q b s rs bytes None = IsTextStored old.tracks old.content new.content d uses r b s rs bytes None × (q ≡ r)
 IsTextEnded old new d uses r q b s rs bytes (Some cut) =
     IsTextStored old.tracks old.content new.content d uses r b s rs bytes (Some cut) × (IsPlacedAt r q (r.number + 1) 1 × IsReadAnew new q)
 
--- behind one that was refused the place stays
+-- after one that was refused the place stays
 abbrev pub IsTextStopped : Seen → Seen → Disk → (ℕ → Use) → Placed → Placed → ℕ → ℕ → List (List ℕ) → List ℕ → Trouble → Type 0
 IsTextStopped old new d uses r q b s rs bytes t = IsTextCut old new d uses r b s rs bytes t × (IsPlacedAt r q r.number r.position × IsReadAnew new q)

@@ -65,7 +65,7 @@ is_writing_on ch k = is_writing (slice_index_or k.channels ch code.Closed)
 abbrev pub has_records_on : {M : Type 0} → ℕ → Kept M → Bool
 has_records_on ch k = has_records (slice_index_or k.channels ch code.Closed)
 
--- what is told and the medium are as they were
+-- what is reported and the medium are as they were
 abbrev pub IsQuiet : {M : Type 0} → Kept M → Kept M → Type 0
 IsQuiet old new = (new.told ≡ old.told) × (new.medium ≡ old.medium)
 

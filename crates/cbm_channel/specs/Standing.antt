@@ -1,4 +1,4 @@
--- The drive's code, over the content of its medium, stands for a machine.
+-- The drive's code, over the content of its medium, represents a machine.
 use Rattle.std.specs.Prelude.{ℕ, ◌≤◌, ◌≡◌, ◌≢◌, ◌⊎◌, Bool, List, [], length, take, drop, slice_index_or, Option, Some, None, option_map}
 use Rattle.std.specs.List.{All, AllZip}
 use Rattle.cbm_medium.specs.Seen.{Seen}
@@ -36,7 +36,7 @@ pub record AreFit (tracks : ℕ) (channels : List Channel) : Type 0 where
   pub count : length channels ≡ 15
   pub each : All (Fits tracks) channels
 
--- A channel stands for the machine's. That the bytes of a file are those which the machine has is said of the use of the disk.
+-- A channel represents the machine's. That the bytes of a file are those which the machine has is said of the use of the disk.
 abbrev pub ChannelStands : Channel → machine.Channel → Type 0
 ChannelStands code.Closed channel = channel ≡ machine.Closed
 ChannelStands (code.Listing l) channel = channel ≡ machine.Reading None (drop l.taken l.bytes)
@@ -86,7 +86,7 @@ uses_of xs ys n = use_of (slice_index_or xs n code.Closed) (slice_index_or ys n 
 abbrev pub SameBut : ℕ → List Channel → List Channel → Type 0
 SameBut ch old new = (k : ℕ) → k ≢ ch → slice_index_or new k code.Closed ≡ slice_index_or old k code.Closed
 
--- of a gathered text the first 256 bytes are kept, which tell one that is too long from all others
+-- of a gathered text the first 256 bytes are kept, by which one that is too long is known
 abbrev pub kept_text : Option (ℕ × List ℕ) → Option (ℕ × List ℕ)
 kept_text text = option_map (λ (t : ℕ × List ℕ). (t.0, take 256 t.1)) text
 
@@ -109,8 +109,8 @@ pub record HasText (ch : ℕ) (m : machine.Machine) (text : ℕ × List ℕ) : T
   pub kept : text.1 ≡ take 256 (text_for ch m.text)
   pub some : 1 ≤ length text.1
 
--- The parts of a drive, over a content, stand for a machine: the content holds the machine's disk, which all channels use in one
--- layout, and each channel, what waits on it, what is told and what is gathered stand for the machine's.
+-- The parts of a drive, over a content, represent a machine: the content holds the machine's disk, which all channels use in one
+-- layout, and each channel, what is pending on it, what is reported and what is gathered represent the machine's.
 pub record StandsBy (c : Content) (tracks : ℕ) (protected : Bool) (channels : List Channel) (told : Told) (text : Option (ℕ × List ℕ)) (m : machine.Machine) : Type 0 where
   pub holds : HoldsNow tracks c m.disk (uses_of channels m.channels)
   pub orderly : IsOrderly m.disk m.protected m.channels
@@ -121,7 +121,7 @@ pub record StandsBy (c : Content) (tracks : ℕ) (protected : Bool) (channels : 
   pub same_told : told_by m ≡ told
   pub same_text : kept_text m.text ≡ text
 
--- what a drive keeps stands for a machine
+-- what a drive keeps represents a machine
 abbrev pub Stands : {M : Type 0} → (M → Seen) → Kept M → machine.Machine → Type 0
 Stands seen k m = StandsBy (seen k.medium).content (seen k.medium).tracks (seen k.medium).protected k.channels k.told k.text m
 

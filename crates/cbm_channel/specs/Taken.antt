@@ -1,4 +1,4 @@
--- What a channel is behind a byte that was taken, on any disk.
+-- What a channel is after a byte that was taken, on any disk.
 use Rattle.std.specs.Prelude.{◌≡◌, drop, Some, Result, Ok, Err}
 use Rattle.cbm_medium.specs.declared.fault.Trouble.{Trouble}
 use Rattle.cbm_volume.specs.Content.{Content}
@@ -10,8 +10,8 @@ use Rattle.cbm_channel.specs.Placed.{Placed, IsMoved}
 use Rattle.cbm_machine.specs.Statuses.{trouble_status}
 use Rattle.cbm_machine.specs.Told.{Told}
 
--- A byte was taken of a channel. Of a file one byte less is left; or its chain breaks off behind the byte that waits next,
--- which is the last then, and the trouble is told. Of records the place goes on.
+-- A byte was taken of a channel. Of a file one byte less is left; or its chain breaks off after the byte that waits next,
+-- which is the last then, and the trouble is reported. Of records the place goes on.
 abbrev pub IsTakenBy : Content → Channel → Channel → Result (Unit {0}) Trouble → Type 0
 IsTakenBy c (code.File slot r) new (Ok _) = (s : Reading) × (new ≡ code.File slot s) × (rest_of c s ≡ one_less (rest_of c r))
 IsTakenBy c (code.File slot r) new (Err t) = (s : Reading) × (new ≡ code.File slot s) × ((rest_of c r).trouble ≡ Some t) × (s.bytes ≡ drop 1 (rest_of c r).bytes)
@@ -25,11 +25,11 @@ IsTakenBy c code.Closed new (Err t) = ⊥
 IsTakenBy c (code.Writing w full) new (Err t) = ⊥
 IsTakenBy c (code.Stopped slot) new (Err t) = ⊥
 
--- a trouble is the status, told from its beginning
+-- a trouble is the status, reported from its beginning
 abbrev pub told_after : Result (Unit {0}) Trouble → Told → Told
 told_after (Ok _) told = told
 told_after (Err t) told = record { status = trouble_status t; told = 0 }
 
--- a byte was taken, and what was met behind it is told
+-- a byte was taken, and what was met after it is reported
 abbrev pub IsTaken : Content → Channel → Channel → Told → Told → Type 0
 IsTaken c old new told next = (result : Result (Unit {0}) Trouble) × IsTakenBy c old new result × (next ≡ told_after result told)

@@ -223,7 +223,7 @@ impl Channel {
     }
 
     /// P: a channel with records goes to a place, and answers the status: 70 nothing is open, 64 it has no records, 51
-    /// the place lies behind the record's end, 50 the record isn't there, else 00. Errors: why the record can't be read.
+    /// the place lies after the record's end, 50 the record isn't there, else 00. Errors: why the record can't be read.
     pub(crate) fn place<M: Medium>(
         &mut self,
         volume: &Volume<M>,

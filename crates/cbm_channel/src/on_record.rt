@@ -56,7 +56,7 @@ fn are_zeros(bytes: &[u8]) -> bool
     bytes.iter().all(|byte| *byte == 0)
 }
 
-/// Whether only zeros stand behind a position.
+/// Whether only zeros stand after a position.
 fn is_last(bytes: &[u8], position: u8) -> bool
     ensures value { result ≡ is_last bytes.now position }
     ensures more { result ≡ false → position < length bytes.now }
@@ -325,7 +325,7 @@ impl OnRecord {
         }
     }
 
-    /// A text is one write of the record of the place, which is made where it isn't there; behind it the place is the
+    /// A text is one write of the record of the place, which is made where it isn't there; after it the place is the
     /// next record's first byte. Answers whether some bytes didn't fit, or None where the file would be too large: nothing
     /// has changed then. Errors: why a write was refused, of which the record may have a beginning; the place stays, and
     /// is read anew. Or why the next record can't be read, of which nothing waits then.

@@ -11,7 +11,7 @@ pub enum Plan {
     ReadFile(Found),
     /// A new file of this type and name is written.
     WriteFile(FileType, Name),
-    /// Bytes are put behind those of a file.
+    /// Bytes are put after those of a file.
     AppendFile(Found),
     /// The file in the slot of this number is replaced.
     ReplaceFile(u8),

@@ -1,4 +1,4 @@
--- The D64 format: the sectors in order of track and sector, and in one of its sizes an error byte for each behind them.
+-- The D64 format: the sectors in order of track and sector, and in one of its sizes an error byte for each after them.
 use Rattle.std.specs.Prelude.{ℕ, ◌+◌, ◌*◌, ◌-◌, ◌<◌, ◌≡◌, ◌≢◌, ◌⊎◌, List, Bool, nat_lt, ◌==◌, if◌then◌else◌, Option, Some, None, Ok, Err, take, drop, replicate, length, slice_index}
 use Rattle.cbm_medium.specs.Place.{Place, has}
 use Rattle.cbm_medium.specs.Content.{Cell, Content}
@@ -13,7 +13,7 @@ pub record Image : Type 0 where
 abbrev pub IsImageSize : ℕ → Type 0
 IsImageSize n = (n ≡ 174848) ⊎ ((n ≡ 175531) ⊎ (n ≡ 196608))
 
--- how many tracks an image of so many bytes has, and how many sectors
+-- how many tracks an image of this many bytes has, and how many sectors
 abbrev pub tracks_in : ℕ → ℕ
 tracks_in n = if n == 196608 then 40 else 35
 
@@ -31,7 +31,7 @@ sectors_before t =
 abbrev pub index_of : Place → ℕ
 index_of p = sectors_before p.track + p.sector
 
--- The fault that an error byte stands for. 1 is good, and so are 7, 8 and 10, which speak of writing, and all others.
+-- The fault that an error byte means. 1 is good, and so are 7, 8 and 10, which speak of writing, and all others.
 abbrev pub code_of : ℕ → Option ℕ
 code_of e =
     if e == 2 then Some 20

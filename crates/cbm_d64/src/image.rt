@@ -17,21 +17,21 @@ pub const OF_40_TRACKS: usize = 196_608;
 /// The error byte of a good sector.
 const GOOD: u8 = 1;
 
-/// Whether a file of so many bytes is an image.
+/// Whether a file of this many bytes is an image.
 pub fn is_size(bytes: usize) -> bool
     ensures { IsTrue result ↔ IsImageSize bytes }
 {
     matches!(bytes, OF_35_TRACKS | WITH_ERRORS | OF_40_TRACKS)
 }
 
-/// How many tracks an image of so many bytes has.
+/// How many tracks an image of this many bytes has.
 pub fn tracks_in(bytes: usize) -> u8
     ensures { result ≡ tracks_in bytes }
 {
     if bytes == OF_40_TRACKS { 40 } else { 35 }
 }
 
-/// How many sectors an image of so many bytes has.
+/// How many sectors an image of this many bytes has.
 fn sectors_in(bytes: usize) -> usize
     ensures { result ≡ sectors_in bytes }
 {
@@ -53,7 +53,7 @@ pub fn index(at: Address) -> usize
     before + at.sector() as usize
 }
 
-/// The status code that an error byte stands for (the D64 format).
+/// The status code that an error byte means (the D64 format).
 fn fault_code(error: u8) -> Option<u8>
     ensures { result ≡ code_of error }
 {

@@ -34,7 +34,7 @@ SlotStopped tracks c c' t =
     (FindsEmpty (directory_of tracks c) (Err t) × (c' ≡ c))
     ⊎ (FindsEmpty (directory_of tracks c) (Ok None) × (GrowthStopped tracks c c' ⊎ (Grows tracks c c' × FindsEmpty (directory_of tracks c') (Err t))))
 
--- why: the directory breaks off, before or behind its growth, or the growth was refused
+-- why: the directory breaks off, before or after its growth, or the growth was refused
 abbrev pub IsSlotRefused : ℕ → Seen → Seen → Trouble → Type 0
 IsSlotRefused tracks old new t =
     FindsEmpty (directory_of tracks old.content) (Err t)

@@ -61,7 +61,7 @@ pub record IsRenamedAs (old new name : List ℕ) : Type 0 where
   pub before : (i : ℕ) → i < 3 → slice_index new i ≡ slice_index old i
   pub behind : (i : ℕ) → 19 ≤ i → slice_index new i ≡ slice_index old i
 
--- The entry tells another number of blocks; what else it says of the file stays.
+-- The entry has another number of blocks; what else it says of the file stays.
 pub record IsCountedAs (old new : List ℕ) (blocks : ℕ) : Type 0 where
   pub typed : type_byte new ≡ type_byte old
   pub begins : first_block new ≡ first_block old

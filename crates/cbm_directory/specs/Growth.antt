@@ -10,7 +10,7 @@ use Rattle.cbm_bam.specs.Orders.{directory_order}
 use Rattle.cbm_bam.specs.Causes.{HasCause}
 use Rattle.cbm_directory.specs.Entries.{first_directory, HasLink}
 
--- the directory ends with this sector, and so many stand before it, of at most eighteen in all
+-- the directory ends with this sector, and this many stand before it, of at most eighteen in all
 abbrev pub IsLastSector : ℕ → Content → Place → ℕ → Type 0
 IsLastSector tracks c p n = (before : List Place) × (Chain tracks c first_directory (before ++ p ∷ []) × (length before ≡ n) × (n < 18))
 

@@ -6,7 +6,7 @@ use Rattle.cbm_medium.specs.Links.{bytes_at, Followed, follow}
 use Rattle.cbm_medium.specs.declared.fault.Trouble.{Trouble}
 use Rattle.cbm_directory.specs.Entries.{entry_of, first_directory}
 
--- so many entries of a sector, from a number on
+-- this many entries of a sector, from a number on
 abbrev pub entries_from : (count : ℕ) → List ℕ → ℕ → List (List ℕ)
 entries_from zero sector k = []
 entries_from (suc n) sector k = entry_of sector k ∷ entries_from n sector (k + 1)
@@ -16,7 +16,7 @@ abbrev pub all_entries : Content → List Place → List (List ℕ)
 all_entries content [] = []
 all_entries content (b ∷ rest) = entries_from 8 (bytes_at content b) 0 ++ all_entries content rest
 
--- entries, and the trouble behind them
+-- entries, and the trouble after them
 pub record Listed : Type 0 where
   pub entries : List (List ℕ)
   pub trouble : Option Trouble
@@ -24,7 +24,7 @@ pub record Listed : Type 0 where
 abbrev pub listed_in : Content → Followed → Listed
 listed_in content f = record { entries = all_entries content f.blocks; trouble = f.trouble }
 
--- the entries that follow a link, where so many sectors are left to the directory
+-- the entries that follow a link, where this many sectors are left to the directory
 unfoldable pub listed_from : ℕ → Content → ℕ → Place → Listed
 listed_from tracks content left at = listed_in content (follow tracks content left at)
 
@@ -32,7 +32,7 @@ listed_from tracks content left at = listed_in content (follow tracks content le
 unfoldable pub directory_of : ℕ → Content → Listed
 directory_of tracks content = listed_from tracks content 18 first_directory
 
--- a reader: the entries of its sector that it has not given, the link behind them, and how many sectors are left
+-- a reader: the entries of its sector that it has not given, the link after them, and how many sectors are left
 pub record Cursor : Type 0 where
   pub tracks : ℕ
   pub entries : List (List ℕ)

@@ -31,7 +31,7 @@ has_slot d = is_some (empty_from 0 d.slots) || nat_lt 0 d.room
 abbrev pub new_slot : Disk → ℕ
 new_slot d = unwrap_or (empty_from 0 (grown d).slots) 0
 
--- the file in the first empty slot, with so many free blocks fewer
+-- the file in the first empty slot, with this many free blocks fewer
 abbrev pub with_file : Disk → File → ℕ → Disk
 with_file d f n = record (grown d) { slots = slice_set (grown d).slots (new_slot d) (Some f); free = d.free - n }
 
@@ -39,7 +39,7 @@ with_file d f n = record (grown d) { slots = slice_set (grown d).slots (new_slot
 abbrev pub unclosed : FileType → List ℕ → File
 unclosed kind name = record { kind = kind; closed = false; locked = false; name = name; shown = 0; held = 0; body = Bytes [] }
 
--- a file of so many blocks
+-- a file of this many blocks
 abbrev pub closed_file : FileType → List ℕ → ℕ → Body → File
 closed_file kind name n body = record { kind = kind; closed = true; locked = false; name = name; shown = n; held = n; body = body }
 

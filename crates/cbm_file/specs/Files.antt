@@ -2,7 +2,7 @@
 use Rattle.std.specs.Prelude.{ℕ, ◌+◌, ◌-◌, ◌/◌, ◌==◌, max, Bool, List, [], ◌∷◌, sum_by, if◌then◌else◌, Option, Some, None, slice_index_or, slice_set}
 use Rattle.cbm_file.specs.declared.file_type.FileType.{FileType}
 
--- What a closed file holds: bytes; or records of one length, in so many data blocks, listed by so many side sectors.
+-- What a closed file holds: bytes; or records of one length, in this many data blocks, listed by this many side sectors.
 pub data Body : Type 0 where
   Bytes : (bytes : List ℕ) → Body
   Records : (record_length : ℕ) (records : List (List ℕ)) (blocks sides : ℕ) → Body
@@ -13,7 +13,7 @@ pub record File : Type 0 where
   pub closed : Bool
   pub locked : Bool
   pub name : List ℕ
-  pub shown : ℕ  -- the number of blocks that its entry tells
+  pub shown : ℕ  -- the number of blocks that its entry has
   pub held : ℕ  -- the blocks of its chain, and its side sectors
   pub body : Body
 
@@ -26,7 +26,7 @@ pub record Disk : Type 0 where
   pub free : ℕ  -- free blocks for files
   pub total : ℕ  -- all blocks for files
 
--- the blocks for files on so many tracks
+-- the blocks for files on this many tracks
 abbrev pub blocks_on : ℕ → ℕ
 blocks_on tracks = if tracks == 40 then 749 else 664
 

@@ -4,7 +4,7 @@ use Rattle.cbm_file.specs.declared.file_type.FileType.TheVariants.{Rel}
 use Rattle.cbm_file.specs.Files.{Body, Bytes, Records, Disk, parts, file_at, with_slot}
 use Rattle.cbm_file.specs.Changes.{closed_file, with_file}
 
--- so many zeros
+-- this many zeros
 abbrev pub zeros : ℕ → List ℕ
 zeros n = replicate n 0
 
@@ -12,7 +12,7 @@ zeros n = replicate n 0
 abbrev pub fresh_record : ℕ → List ℕ
 fresh_record len = 255 ∷ zeros (len - 1)
 
--- the whole records of so many data blocks
+-- the whole records of this many data blocks
 abbrev pub record_count : ℕ → ℕ → ℕ
 record_count len blocks = 254 * blocks / len
 
@@ -39,7 +39,7 @@ with_bytes len old p bytes =
 abbrev pub blocks_for : ℕ → ℕ → ℕ → ℕ
 blocks_for len blocks k = max blocks (parts (k * len) 254)
 
--- the side sectors for so many data blocks
+-- the side sectors for this many data blocks
 abbrev pub sides_for : ℕ → ℕ → ℕ
 sides_for sides blocks = max sides (parts blocks 120)
 
@@ -47,7 +47,7 @@ sides_for sides blocks = max sides (parts blocks 120)
 abbrev pub with_body : Disk → ℕ → Body → Disk
 with_body d s body = elim (file_at d s) [ None ↦ d | Some f ↦ with_slot d s (Some (record f { body = body })) ]
 
--- the same, of so many blocks
+-- the same, of this many blocks
 abbrev pub with_sized_body : Disk → ℕ → ℕ → Body → Disk
 with_sized_body d s n body =
     elim (file_at d s) [ None ↦ d | Some f ↦ with_slot d s (Some (record f { shown = n; held = n; body = body })) ]

@@ -40,7 +40,7 @@ has_entries file = nat_le 10 (length file) && (nat_le 69 (entries file) && nat_l
 abbrev pub has_greatest : List ℕ → Bool
 has_greatest file = nat_le 12 (length file) && nat_le (greatest file) 7928
 
--- no track, or one behind the tables whose length and bytes lie in the file
+-- no track, or one after the tables whose length and bytes lie in the file
 unfoldable pub is_inside : List ℕ → ℕ → Bool
 is_inside file i = (offset file i == 0) || (nat_le (tables_end file) (offset file i) && (nat_le (offset file i + 2) (length file) && nat_le (offset file i + 2 + size file i) (length file)))
 

@@ -11,7 +11,7 @@ new_place i = 684 + 7930 * i
 abbrev pub new_zone : ℕ → ℕ
 new_zone i = if nat_lt i 17 then 3 else if nat_lt i 24 then 2 else if nat_lt i 30 then 1 else 0
 
--- the entries of the first n tracks, each with that of the half track behind it, which is 0
+-- the entries of the first n tracks, each with that of the half track after it, which is 0
 unfoldable pub entries_of : (ℕ → ℕ) → ℕ → List ℕ
 entries_of f zero = []
 entries_of f (suc n) = entries_of f n ++ (little_bytes 4 (f n) ++ replicate 4 0)

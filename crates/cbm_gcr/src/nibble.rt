@@ -14,7 +14,7 @@ pub(crate) fn code_of(nibble: u8) -> u8
     CODES[nibble as usize]
 }
 
-/// What stands for no nibble, in both tables: more than any byte.
+/// What means no nibble, in both tables: more than any byte.
 const NONE: u16 = 256;
 
 /// The nibbles of five bits, `NONE` where they are the code of none.

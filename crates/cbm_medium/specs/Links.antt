@@ -32,14 +32,14 @@ Chain tracks content a [] = a.track ≡ 0
 Chain tracks content a (b ∷ rest) =
     (a ≡ b) × Has tracks b × IsOk (content b) × Chain tracks content (link (bytes_at content b)) rest
 
--- Why a walk stops at a place where n sectors lie behind it and so many are allowed: the disk has no such sector (66),
+-- Why a walk stops at a place that it reaches after n sectors, where this many are allowed: the disk has no such sector (66),
 -- it is one too many (71), or it doesn't read.
 abbrev pub Stops : ℕ → Content → ℕ → ℕ → Place → ℕ → Type 0
 Stops tracks content most n p code =
     ((code ≡ 66) × (has tracks p ≡ false))
     ⊎ (((code ≡ 71) × Has tracks p × (n ≡ most)) ⊎ (Has tracks p × (n < most) × (content p ≡ Err code)))
 
--- From a these sectors are met, at most so many, and then this trouble.
+-- From a on these sectors are met, at most this many, and then this trouble.
 pub record IsCut (tracks : ℕ) (content : Content) (most : ℕ) (a : Place) (blocks : List Place) (t : Trouble) : Type 0 where
   pub at : Place
   pub leads : Leads tracks content a blocks at
@@ -67,7 +67,7 @@ abbrev pub behind : Place → Cell → (Place → Followed) → Followed
 behind p (Err code) rest = cut_at code p
 behind p (Ok bytes) rest = with_block p (rest (link bytes))
 
--- What following links from a place on meets, where so many sectors are left.
+-- What following links from a place on meets, where this many sectors are left.
 unfoldable pub follow : ℕ → Content → ℕ → Place → Followed
 follow tracks content zero p =
     if p.track == 0 then ended [] else if has tracks p then cut_at 71 p else cut_at 66 p

@@ -20,7 +20,7 @@ sectors_on t =
 abbrev pub IsOnDisk : Place → Type 0
 IsOnDisk p = p.sector < sectors_on p.track
 
--- a disk of so many tracks has such a sector
+-- a disk of this many tracks has such a sector
 abbrev pub Has : ℕ → Place → Type 0
 Has tracks p = (0 < p.track) × (p.track ≤ tracks) × (p.sector < sectors_on p.track)
 

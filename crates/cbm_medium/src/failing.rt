@@ -13,7 +13,7 @@ use std::marker::Model;
 
 /// A medium over another one, which lets some writes pass and then refuses one, or each from then on, with 25.
 ///
-/// It stands for a disk that fails, or for a stop in the middle of a call. A `format` counts as one write. What
+/// It models a disk that fails, or a stop in the middle of a call. A `format` counts as one write. What
 /// protection or the content refuses comes first and isn't counted. At the greatest count of failures every write
 /// passes.
 #[derive(Drop)]

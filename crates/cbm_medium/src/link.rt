@@ -97,7 +97,7 @@ impl From<Address> for Link {
     }
 }
 
-/// Reads the sector that a link names, where so many sectors are left to the walk: 66 where the disk has no such
+/// Reads the sector that a link names, where this many sectors are left to the walk: 66 where the disk has no such
 /// sector, 71 where none is left, else what the medium answers.
 #[tactic(auto, unfolding(crate::specs::Links::follow))]
 pub fn read_linked<M: Medium>(

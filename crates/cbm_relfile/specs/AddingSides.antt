@@ -4,7 +4,7 @@ use Rattle.cbm_medium.specs.Place.{Place}
 use Rattle.cbm_medium.specs.Content.{Content, written}
 use Rattle.cbm_bam.specs.Map.{Claims}
 
--- A new side sector t, the one after so many others, with their list and itself: it is the last, and lists no block.
+-- A new side sector t, the one after this many others, with their list and itself: it is the last, and lists no block.
 pub record IsEmptySide (head : List ℕ) (k w : ℕ) (t : Place) (new : List ℕ) : Type 0 where
   pub whole : length new ≡ 256
   pub ends : (slice_index new 0 ≡ 0) × (slice_index new 1 ≡ 15)

@@ -4,7 +4,7 @@ use Rattle.cbm_medium.specs.Place.{Place, sector_count}
 use Rattle.cbm_medium.specs.Content.{Content}
 use Rattle.cbm_medium.specs.Links.{Leads}
 
--- FROM A FIRST BLOCK SO MANY LINK each to the next one, and all read; there the chain ends, or the disk has no more sectors.
+-- FROM A FIRST BLOCK THIS MANY LINK each to the next one, and all read; there the chain ends, or the disk has no more sectors.
 pub record IsCounted (tracks : ℕ) (c : Content) (first : Place) (k : ℕ) : Type 0 where
   pub blocks : List Place
   pub behind : Place

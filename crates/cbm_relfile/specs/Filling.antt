@@ -16,7 +16,7 @@ pub record IsRefilled (c m c' : Content) (blocks : List Place) (w i place : ℕ)
   pub filled : IsFilledFrom w (length blocks) i place sector (next sector) new
   pub written : c' ≡ written m (slice_index_or blocks i directory_head) new
 
--- where fresh records begin in so many bytes: behind the last whole one
+-- where fresh records begin in this many bytes: after the last whole one
 abbrev pub fresh_begin : ℕ → ℕ → ℕ
 fresh_begin w n = n / w * w
 
@@ -36,7 +36,7 @@ pub record IsEndFilled (c c' : Content) (blocks : List Place) (w from : ℕ) : T
   pub tail : IsTailFilled c mid blocks w from
   pub last : IsRefilled c mid c' blocks w (length blocks - 1) (from - last_begin blocks) (λ sector. full_end)
 
--- THE LAST BLOCK IS FULL: it was so, or it is filled up with fresh records, which begin behind the last whole record.
+-- THE LAST BLOCK IS FULL: it was so, or it is filled up with fresh records, which begin after the last whole record.
 abbrev pub IsFilledUp : Content → Content → List Place → ℕ → Type 0
 IsFilledUp c c' blocks w =
     let n = length (chain_bytes c blocks) in

@@ -4,11 +4,11 @@ use Rattle.cbm_medium.specs.Place.{Place}
 use Rattle.cbm_file.specs.Records.{record_count}
 use Rattle.cbm_relfile.specs.Making.{fresh_byte}
 
--- the byte at place o of a file of so many data blocks that has fresh records alone
+-- the byte at place o of a file of this many data blocks that has fresh records alone
 abbrev pub fresh_in : ℕ → ℕ → ℕ → ℕ
 fresh_in w blocks o = fresh_byte w (record_count w blocks) o
 
--- A DATA BLOCK IS FILLED UP with fresh records from a place of its data on: block i of a file of so many. It links to this place, and
+-- A DATA BLOCK IS FILLED UP with fresh records from a place of its data on: block i of a file of this many. It links to this place, and
 -- the data before are as they were.
 pub record IsFilledFrom (w blocks i place : ℕ) (old : List ℕ) (next : Place) (new : List ℕ) : Type 0 where
   pub whole : length new ≡ 256

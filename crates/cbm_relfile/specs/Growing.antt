@@ -11,7 +11,7 @@ use Rattle.cbm_relfile.specs.Changing.{IsWriteRefused}
 use Rattle.cbm_relfile.specs.Fresh.{IsFilledFrom, full_end}
 use Rattle.cbm_relfile.specs.SideSectors.{IsEnded}
 
--- where in the last of so many full data blocks the first fresh record begins: after its last whole record
+-- where in the last of this many full data blocks the first fresh record begins: after its last whole record
 abbrev pub fresh_place : ℕ → ℕ → ℕ
 fresh_place w blocks = 254 - 254 * blocks % w
 
@@ -43,7 +43,7 @@ pub record IsLengthenStopped (tracks : ℕ) (old new : Seen) (last : Place) (cod
   pub same : new.content ≡ mid.content
   pub cause : (mid.content last ≡ Err code) ⊎ (HasCause mid new directory_head code ⊎ IsWriteRefused tracks mid new code)
 
--- A SIDE SECTOR LISTS ONE BLOCK MORE after so many: nothing else in it changes but what stands behind, and in the last one the second byte.
+-- A SIDE SECTOR LISTS ONE BLOCK MORE after this many: nothing else in it changes but what stands after, and in the last one the second byte.
 pub record ListsMore (old : List ℕ) (k : ℕ) (q : Place) (new : List ℕ) : Type 0 where
   pub whole : length new ≡ 256
   pub ended : IsEnded old (k + 1) new
@@ -56,7 +56,7 @@ pub record ListsMore (old : List ℕ) (k : ℕ) (q : Place) (new : List ℕ) : T
 abbrev pub side_at : List ℕ → ℕ → Place
 side_at head i = record { track = slice_index head (4 + 2 * i); sector = slice_index head (5 + 2 * i) }
 
--- the side sector at this place lists one block more after so many
+-- the side sector at this place lists one block more after this many
 pub record IsBlockListed (old new : Content) (at : Place) (k : ℕ) (q : Place) : Type 0 where
   pub side : List ℕ
   pub reads : old at ≡ Ok side
@@ -68,7 +68,7 @@ pub record IsBlockListed (old new : Content) (at : Place) (k : ℕ) (q : Place) 
 abbrev pub IsListStopped : ℕ → Seen → Seen → ℕ → Type 0
 IsListStopped tracks old new code = (new.content ≡ old.content) × IsWriteRefused tracks old new code
 
--- A SIDE SECTOR'S LIST OF SIDE SECTORS HAS ONE MORE after so many, and ends behind it; its number, the records' length and the blocks
+-- A SIDE SECTOR'S LIST OF SIDE SECTORS HAS ONE MORE after this many, and ends after it; its number, the records' length and the blocks
 -- that it lists stay. It links to the new one where that follows it, and else where it linked.
 pub record ListsSide (old : List ℕ) (k : ℕ) (t : Place) (follows : Bool) (new : List ℕ) : Type 0 where
   pub whole : length new ≡ 256
@@ -81,7 +81,7 @@ pub record ListsSide (old : List ℕ) (k : ℕ) (t : Place) (follows : Bool) (ne
   pub behind : (i : ℕ) → 8 + 2 * k ≤ i → i < 16 → slice_index new i ≡ slice_index old i
   pub back : (i : ℕ) → 16 ≤ i → slice_index new i ≡ slice_index old i
 
--- The side sector at this place, which is the one of number i, lists one side sector more after so many.
+-- The side sector at this place, which is the one of number i, lists one side sector more after this many.
 pub record IsSideLinked (old new : Content) (at : Place) (i k : ℕ) (t : Place) : Type 0 where
   pub side : List ℕ
   pub reads : old at ≡ Ok side
@@ -89,7 +89,7 @@ pub record IsSideLinked (old new : Content) (at : Place) (i k : ℕ) (t : Place)
   pub lists : ListsSide side k t (i + 1 == k) more
   pub written : new ≡ written old at more
 
--- A new side sector t, the one after so many others: it is the last, and lists one block.
+-- A new side sector t, the one after this many others: it is the last, and lists one block.
 pub record IsNewSide (head : List ℕ) (k w : ℕ) (q t : Place) (new : List ℕ) : Type 0 where
   pub whole : length new ≡ 256
   pub ends : (slice_index new 0 ≡ 0) × (slice_index new 1 ≡ 17)
@@ -112,7 +112,7 @@ pub record IsSideBegun (tracks : ℕ) (old new : Content) (head : List ℕ) (k w
   pub is_new : IsNewSide head k w q t side
   pub written : new ≡ written one t side
 
--- THE SIDE SECTORS OF A FILE, as the first one names so many: it names itself first, each is a sector of the disk that reads, and no two
+-- THE SIDE SECTORS OF A FILE, of which the first one names this many: it names itself first, each is a sector of the disk that reads, and no two
 -- are the same.
 pub record AreSides (tracks : ℕ) (c : Content) (first : Place) (head : List ℕ) (k : ℕ) : Type 0 where
   pub reads : Has tracks first × (c first ≡ Ok head)
@@ -120,7 +120,7 @@ pub record AreSides (tracks : ℕ) (c : Content) (first : Place) (head : List �
   pub there : (i : ℕ) → i < k → Has tracks (side_at head i) × IsOk (c (side_at head i))
   pub distinct : (i j : ℕ) → i < k → j < k → side_at head i ≡ side_at head j → i ≡ j
 
--- EACH OF THEM FROM THIS NUMBER ON NAMES A NEW ONE after so many; what else it says stays, and so does each other sector.
+-- EACH OF THEM FROM THIS NUMBER ON NAMES A NEW ONE after this many; what else it says stays, and so does each other sector.
 pub record AreSidesLinked (old new : Content) (head : List ℕ) (from k : ℕ) (t : Place) : Type 0 where
   pub each : (i : ℕ) → from ≤ i → i < k → ListsSide (bytes_at old (side_at head i)) k t (i + 1 == k) (bytes_at new (side_at head i))
   pub others : (p : Place) → ((i : ℕ) → from ≤ i → i < k → p ≢ side_at head i) → new p ≡ old p

@@ -7,7 +7,7 @@ use Rattle.cbm_bam.specs.Map.{map_of, is_free_in, IsFull, Claims}
 use Rattle.cbm_bam.specs.Orders.{first_order, next_order}
 use Rattle.cbm_bam.specs.Causes.{HasCause}
 
--- the byte at a place of so many fresh records of this width, and 0 behind them
+-- the byte at a place of this many fresh records of this width, and 0 after them
 abbrev pub fresh_byte : ℕ → ℕ → ℕ → ℕ
 fresh_byte w j o = if nat_lt o (j * w) then (if o % w == 0 then 255 else 0) else 0
 
@@ -60,7 +60,7 @@ pub record HasBlock (old mid : Seen) (p : Place) : Type 0 where
   pub protected : mid.protected ≡ old.protected
   pub counted : old.failures ≤ mid.failures
 
--- The block wasn't written, or the side sector behind it.
+-- The block wasn't written, or the side sector after it.
 abbrev pub IsNewStopped : Seen → Seen → Place → Place → ℕ → Type 0
 IsNewStopped old new p q code =
     ((new.content ≡ old.content) × IsNotWritten old new p code)

@@ -7,7 +7,7 @@ use Rattle.cbm_medium.specs.Seen.{Seen, HasFailed}
 use Rattle.cbm_relfile.specs.Records.{AllWhole, Relative, IsLaid}
 use Rattle.cbm_relfile.specs.SideSectors.{named_in, IsEnded}
 
--- A side sector lists these blocks, with zeros behind them; its number, the records' length and the list of the side sectors stay.
+-- A side sector lists these blocks, with zeros after them; its number, the records' length and the list of the side sectors stay.
 pub record ListsThese (old : List ℕ) (blocks : List Place) (new : List ℕ) : Type 0 where
   pub whole : length new ≡ 256
   pub ended : IsEnded old (length blocks) new
@@ -31,7 +31,7 @@ lists_at c sides i = named_in 120 (drop 16 (bytes_at c (slice_index_or sides i d
 abbrev pub NamesSides : List ℕ → List Place → Type 0
 NamesSides head sides = (i : ℕ) → i < length sides → slice_index_or sides i directory_head ≡ place_in head (4 + 2 * i)
 
--- Why a side sector that reads isn't written: the medium is protected, which is told by 26, or it failed by itself.
+-- Why a side sector that reads isn't written: the medium is protected, which is reported as 26, or it failed by itself.
 abbrev pub IsSideRefused : Seen → Seen → ℕ → Type 0
 IsSideRefused old new code = ((old.protected ≡ true) × (code ≡ 26)) ⊎ HasFailed old new
 
@@ -39,12 +39,12 @@ IsSideRefused old new code = ((old.protected ≡ true) × (code ≡ 26)) ⊎ Has
 abbrev pub AreListed : Content → List Place → List Place → Type 0
 AreListed c sides blocks = (i : ℕ) → i < length sides → lists_at c sides i ≡ take 120 (drop (120 * i) blocks)
 
--- AS THE DRIVE LEAVES THEM: each side sector lists its next 120 blocks, and zeros stand behind them.
+-- AS THE DRIVE LEAVES THEM: each side sector lists its next 120 blocks, and zeros stand after them.
 pub record AreInForm (c : Content) (sides blocks : List Place) : Type 0 where
   pub listed : AreListed c sides blocks
   pub zeros : (i : ℕ) → i < length sides → (j : ℕ) → 16 + 2 * length (take 120 (drop (120 * i) blocks)) ≤ j → slice_index (bytes_at c (slice_index_or sides i directory_head)) j ≡ 0
 
--- A side sector is as it was; or it was written anew: it ends behind what it lists, or links where it linked, zeros stand behind the
+-- A side sector is as it was; or it was written anew: it ends after what it lists, or links where it linked, zeros stand after the
 -- list, and its number, the records' length and the list of the side sectors are as they were.
 abbrev pub IsSideKept : Content → Content → List Place → ℕ → Type 0
 IsSideKept old new sides i =

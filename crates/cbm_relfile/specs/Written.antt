@@ -4,7 +4,7 @@ use Rattle.cbm_medium.specs.Seen.{Seen}
 use Rattle.cbm_medium.specs.declared.fault.Trouble.{Trouble}
 use Rattle.cbm_relfile.specs.declared.changing.WrittenRecord.{WrittenRecord}
 
--- None says that nothing has changed. A record that is there has a small number, as so many bytes have 768 blocks at most, and isn't
+-- None says that nothing has changed. A record that is there has a small number, as this many bytes have 768 blocks at most, and isn't
 -- written on a protected medium, which stays as it is. That the next record doesn't read is never reported as protection.
 pub record IsRecordWrite (result : Result (Option WrittenRecord) Trouble) (old new : Seen) (number : ℕ) : Type 0 where
   pub kept : IfOk result (λ o. o ≡ None → new.content ≡ old.content)

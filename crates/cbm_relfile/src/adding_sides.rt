@@ -16,7 +16,7 @@ use cbm_bam::claim_next;
 use cbm_medium::codes::ILLEGAL_LINK;
 use cbm_medium::{Address, Geometry, Medium, Trouble};
 
-/// A new side sector, the one after so many others, that lists no block.
+/// A new side sector, the one after this many others, that lists no block.
 fn empty_side(head: &[u8; 256], sides: u8, length: u8, side: Address) -> [u8; 256]
     requires { sides < 6 }
     ensures { IsEmptySide head.now sides length side result }
@@ -30,7 +30,7 @@ fn empty_side(head: &[u8; 256], sides: u8, length: u8, side: Address) -> [u8; 25
     new
 }
 
-/// Claims a side sector after the first one, for a file that has so many, and writes it: it lists no block. None where no
+/// Claims a side sector after the first one, for a file that has this many, and writes it: it lists no block. None where no
 /// block is free. An `Err` is why a sector doesn't read or isn't written; what was claimed is nobody's then.
 pub fn begin_empty_side<M: Medium>(
     medium: &mut M,

@@ -16,7 +16,7 @@ use crate::writing::rewrite;
 use cbm_medium::codes::WRITE_PROTECT_ON;
 use cbm_medium::{Geometry, Medium, Trouble};
 
-/// What stands behind the bytes of a record.
+/// What stands after the bytes of a record.
 const ZEROS: [u8; 254] = [0; 254];
 
 /// A record that keeps what stands before a position, counted from 1; then come these bytes, as far as they fit, and
@@ -41,7 +41,7 @@ pub struct WrittenRecord {
 }
 
 /// Writes these bytes into the record of a number, counted from 1, from a position on; what stands before stays, and zeros
-/// come behind. The next record is read, too, since its block is at hand. None where the record isn't there: nothing is
+/// come after them. The next record is read, too, since its block is at hand. None where the record isn't there: nothing is
 /// written then. An `Err` is why a sector isn't written; of a record over two blocks the first may be written then.
 pub fn write_record<M: Medium>(
     medium: &mut M,

@@ -45,7 +45,7 @@ fn block_there<M: Medium>(
     Ok((address, bytes))
 }
 
-/// Fills up the block before the last one of a file of so many, where fresh records begin in it, from a place of the file
+/// Fills up the block before the last one of a file of this many, where fresh records begin in it, from a place of the file
 /// on.
 fn fill_tail<M: Medium>(
     medium: &mut M,
@@ -76,7 +76,7 @@ fn fill_tail<M: Medium>(
     Ok(())
 }
 
-/// Fills up the last data block of a file of so many with fresh records, which begin behind the last whole one, maybe in
+/// Fills up the last data block of a file of this many with fresh records, which begin after the last whole one, maybe in
 /// the block before; then that one is written first. Nothing is written where the last block is full. Answers where the
 /// last block is. An `Err` is why a sector isn't written; the block before may be written then.
 pub fn fill_up<M: Medium>(

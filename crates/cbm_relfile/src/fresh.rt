@@ -15,8 +15,8 @@ pub fn full_end() -> Link
     Link::new(0, 255)
 }
 
-/// The byte at a place of a file of so many data blocks that has fresh records alone: $FF where one begins, else 0, and 0
-/// behind the last whole one.
+/// The byte at a place of a file of this many data blocks that has fresh records alone: $FF where one begins, else 0, and 0
+/// after the last whole one.
 pub fn fresh_byte(length: u8, blocks: u16, place: u32) -> u8
     requires { 1 ≤ length }
     ensures { result ≡ fresh_in length blocks place }
@@ -31,7 +31,7 @@ pub fn fresh_byte(length: u8, blocks: u16, place: u32) -> u8
 }
 
 /// A data block that is filled up with fresh records from a place of its data on: the one of this number, counted from 0,
-/// of a file of so many data blocks. It links to `next`, and the data before the place stay.
+/// of a file of this many data blocks. It links to `next`, and the data before the place stay.
 pub fn fresh_from(
     block: &[u8; 256],
     next: Link,

@@ -14,7 +14,7 @@ use cbm_bam::claim_next;
 use cbm_medium::codes::ILLEGAL_LINK;
 use cbm_medium::{Address, Geometry, Link, Medium, Trouble};
 
-/// Where in the last of so many full data blocks the first fresh record begins.
+/// Where in the last of this many full data blocks the first fresh record begins.
 fn fresh_place(length: u8, blocks: u16) -> u8
     requires { (1 ≤ length) × (length ≤ 254) }
     ensures value { result ≡ fresh_place length blocks }
@@ -23,7 +23,7 @@ fn fresh_place(length: u8, blocks: u16) -> u8
     254 - (254 * blocks as u32 % length as u32) as u8
 }
 
-/// One data block more for a file of so many full ones, of which this is the last: a block is claimed and filled with
+/// One data block more for a file of this many full ones, of which this is the last: a block is claimed and filled with
 /// fresh records, and then the last one links to it. None where no block is free. An `Err` is why a sector doesn't read or
 /// isn't written; a block that was claimed is nobody's then.
 pub fn lengthen<M: Medium>(
@@ -76,7 +76,7 @@ pub fn cut_at(sector: &[u8; 256], place: usize) -> [u8; 256]
     new
 }
 
-/// A side sector that lists a block after so many others; what stood behind them is gone.
+/// A side sector that lists a block after this many others; what stood after them is gone.
 fn with_block(side: &[u8; 256], number: usize, block: Address) -> [u8; 256]
     requires { number < 120 }
     ensures { ListsMore side.now number block result }
@@ -91,7 +91,7 @@ fn with_block(side: &[u8; 256], number: usize, block: Address) -> [u8; 256]
     new
 }
 
-/// Lists a block in the side sector of its number, counted from 0, behind the blocks that stand there. An `Err` is why a
+/// Lists a block in the side sector of its number, counted from 0, after the blocks that stand there. An `Err` is why a
 /// sector doesn't read or isn't written; nothing has changed then.
 pub fn list_block<M: Medium>(
     medium: &mut M,
@@ -120,7 +120,7 @@ pub fn list_block<M: Medium>(
     Ok(())
 }
 
-/// A side sector with one more in its list of side sectors, after so many. Where the new one is to follow it, it links to
+/// A side sector with one more in its list of side sectors, after this many. Where the new one is to follow it, it links to
 /// that one.
 pub fn with_side(side: &[u8; 256], sides: usize, new_side: Address, follows: bool) -> [u8; 256]
     requires { sides < 6 }
@@ -141,7 +141,7 @@ pub fn with_side(side: &[u8; 256], sides: usize, new_side: Address, follows: boo
     new
 }
 
-/// A new side sector, the one after so many others, that lists one block: byte 17 is the last that is used.
+/// A new side sector, the one after this many others, that lists one block: byte 17 is the last that is used.
 fn last_side(head: &[u8; 256], sides: u8, length: u8, block: Address, side: Address) -> [u8; 256]
     requires { sides < 6 }
     ensures { IsNewSide head.now sides length block side result }
@@ -157,7 +157,7 @@ fn last_side(head: &[u8; 256], sides: u8, length: u8, block: Address, side: Addr
     new
 }
 
-/// Claims a side sector after a block, for a file that has so many, and writes it: it lists that block alone. None where
+/// Claims a side sector after a block, for a file that has this many, and writes it: it lists that block alone. None where
 /// no block is free. An `Err` is why a sector doesn't read or isn't written; what was claimed is nobody's then.
 pub fn begin_side<M: Medium>(
     medium: &mut M,
@@ -187,7 +187,7 @@ pub fn begin_side<M: Medium>(
     Ok(Some(side))
 }
 
-/// Puts a new side sector into the list of the side sector of a number, counted from 0, of so many. An `Err` is why a
+/// Puts a new side sector into the list of the side sector of a number, counted from 0, of this many. An `Err` is why a
 /// sector doesn't read or isn't written; nothing has changed then.
 pub fn link_side<M: Medium>(
     medium: &mut M,

@@ -16,7 +16,7 @@ use crate::side::{BLOCKS, SIDES};
 use cbm_medium::codes::ILLEGAL_LINK;
 use cbm_medium::{Geometry, Link, Medium, Trouble};
 
-/// A side sector of so many blocks: in the last one the second byte names the last byte that is used.
+/// A side sector of this many blocks: in the last one the second byte names the last byte that is used.
 fn ended(side: &[u8; 256], count: usize) -> [u8; 256]
     requires { count ≤ 120 }
     ensures whole { length result ≡ 256 }
@@ -30,7 +30,7 @@ fn ended(side: &[u8; 256], count: usize) -> [u8; 256]
     new
 }
 
-/// A side sector that lists the next 120 blocks of a chain, from a link on, and the link behind them.
+/// A side sector that lists the next 120 blocks of a chain, from a link on, and the link after them.
 fn listed_from<M: Medium>(
     medium: &M,
     geometry: Geometry,
@@ -58,7 +58,7 @@ fn listed_from<M: Medium>(
     Ok((ended(&new, 120), at))
 }
 
-/// Writes a side sector, which lists the next 120 blocks of a chain, from a link on then; answers the link behind them.
+/// Writes a side sector, which lists the next 120 blocks of a chain, from a link on then; answers the link after them.
 fn write_side<M: Medium>(
     medium: &mut M,
     geometry: Geometry,
@@ -105,7 +105,7 @@ fn is_same_list(one: &[u8; 256], other: &[u8; 256]) -> bool
     true
 }
 
-/// Whether each side sector lists its next 120 blocks, with zeros behind them.
+/// Whether each side sector lists its next 120 blocks, with zeros after them.
 fn are_listed<M: Medium>(
     medium: &M,
     geometry: Geometry,
@@ -187,9 +187,9 @@ fn relist<M: Medium>(
     Ok(())
 }
 
-/// Brings the so many side sectors of a file into the drive's form, in which each lists its next 120 blocks: their lists
+/// Brings the side sectors of a file into the drive's form, in which each lists its next 120 blocks: their lists
 /// are taken away, from the last one down, and then each gets its own, from the first one up, so that the file is sound
-/// after each write. Nothing is written where each lists its blocks, with zeros behind them. An `Err` is why a side
+/// after each write. Nothing is written where each lists its blocks, with zeros after them. An `Err` is why a side
 /// sector isn't written: the file lies where it lay.
 pub fn list_anew<M: Medium>(
     medium: &mut M,

@@ -51,7 +51,7 @@ data_block bytes = 7 ∷ (bytes ++ (xor_of bytes ∷ 0 ∷ 0 ∷ []))
 abbrev pub block_code : List ℕ → List Bool
 block_code bytes = code (data_block bytes)
 
--- the same behind a header's bytes
+-- the same after a header's bytes
 abbrev pub behind : List Bool → List ℕ → ℕ → Option (List ℕ) → Result ℕ ℕ
 behind track id p None = Err 20
 behind track id p (Some v) = if is_right v then (if has_id id v then block_at track (next_block track (p + 1)) else Err 29) else Err 27

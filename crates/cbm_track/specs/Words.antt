@@ -16,7 +16,7 @@ round_byte xs i = slice_index xs (i % length xs)
 unfoldable pub eight : List ℕ → ℕ → List ℕ
 eight xs i = round_byte xs i ∷ round_byte xs (i + 1) ∷ round_byte xs (i + 2) ∷ round_byte xs (i + 3) ∷ round_byte xs (i + 4) ∷ round_byte xs (i + 5) ∷ round_byte xs (i + 6) ∷ round_byte xs (i + 7) ∷ []
 
--- where so many ones stand from a bit of a number up, another number has a one
+-- where this many ones stand from a bit of a number up, another number has a one
 abbrev pub Marks : ℕ → ℕ → ℕ → Type 0
 Marks word marks n = (i : ℕ) → ((k : ℕ) → k < n → bit_at word (i + k) ≡ 1) → bit_at marks i ≡ 1
 

@@ -4,7 +4,7 @@ ghost use Rattle.cbm_track.specs.Circle.{bits_of, first_below, is_clear, next_bl
 use crate::bits::{bit_of, rounded, wrapped};
 use crate::words::{run_at, step_at};
 
-/// The first of so many places, counted from a place on, at which ten ones begin; some from the
+/// The first of this many places, counted from a place on, at which ten ones begin; some from the
 /// place on are known to have none.
 fn first_ten(track: &[u8], place: usize, known: usize, count: usize) -> Option<usize>
     requires place { place < 8 * length track.now }

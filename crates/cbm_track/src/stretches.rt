@@ -68,7 +68,7 @@ fn begun(old: u8, byte: u8, bit: usize) -> u8
     ((old as u32 >> room << room) + (byte as u32 >> bit)) as u8
 }
 
-/// A byte in which another one ends, so many of whose bits are left.
+/// A byte in which another one ends, this many of whose bits are left.
 fn ended(old: u8, byte: u8, left: usize) -> u8
     requires { left < 8 }
     ensures written { (k : ℕ) → k < left →

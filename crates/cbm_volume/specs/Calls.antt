@@ -16,7 +16,7 @@ OfDisk now P = (d : Disk) (uses : ℕ → Use) → HoldsNow now.tracks now.conte
 abbrev pub OfIdle : Seen → (Disk → (ℕ → Use) → ℕ → Type 0) → Type 0
 OfIdle now P = (d : Disk) (uses : ℕ → Use) (ch : ℕ) → HoldsNow now.tracks now.content d uses → uses ch ≡ Idle → P d uses ch
 
--- this holds of each such disk and of the channel that writes a file so: these bytes, in so many blocks so far
+-- this holds of each such disk and of the channel that writes a file so: these bytes, in this many blocks so far
 abbrev pub OfWriter : Seen → Filling → (Disk → (ℕ → Use) → ℕ → List ℕ → ℕ → Type 0) → Type 0
 OfWriter now w P = (d : Disk) (uses : ℕ → Use) (ch : ℕ) (bytes : List ℕ) (blocks : ℕ) → HoldsNow now.tracks now.content d uses → uses ch ≡ Writes w bytes blocks → P d uses ch bytes blocks
 

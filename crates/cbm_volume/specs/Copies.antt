@@ -33,7 +33,7 @@ HasNoRoomFor d slots = (nat_lt d.free (copy_blocks d slots) || not (has_slot d))
 
 -- ---- a copy on its way
 
--- so many blocks less are free, and a slot is empty
+-- this many blocks less are free, and a slot is empty
 abbrev pub less : ℕ → Disk → Disk
 less n d = record (grown d) { free = d.free - n }
 

@@ -32,7 +32,7 @@ pub record IsReadyToGrow (c : Content) (sides blocks : List Place) (b : ℕ) : T
   pub form : AreInForm c sides blocks
   pub full : length (chain_bytes c blocks) ≡ 254 * b
 
--- the disk whose slot has this file, with these records in b data blocks and s side sectors, and so many free blocks
+-- the disk whose slot has this file, with these records in b data blocks and s side sectors, and this many free blocks
 abbrev pub disk_with : Disk → ℕ → File → ℕ → List (List ℕ) → ℕ → ℕ → ℕ → Disk
 disk_with d n f w rs b s free = record (with_slot d n (Some (record f { held = b + s; body = Records w rs b s }))) { free = free }
 
@@ -54,7 +54,7 @@ OfFile now r n b s P = (d : Disk) (uses : ℕ → Use) (w : ℕ) (rs : List (Lis
 
 -- A RELATIVE FILE HAS GROWN to b1 full data blocks and s1 side sectors, since a channel had its records open in b and s: the medium
 -- holds the disk whose slot has its records and fresh ones up to the end of those blocks, and its side sectors list them in the drive's
--- form. The entry still tells the old number of blocks. What the growth added is no longer free; all else is as it was.
+-- form. The entry still has the old number of blocks. What the growth added is no longer free; all else is as it was.
 pub record HasGrown (medium : ℕ) (c0 : Content) (d : Disk) (uses : ℕ → Use) (n w b s : ℕ) (rs : List (List ℕ)) (o : HasRecordsOpen medium c0 d uses n w b s rs) (r : Relative) (c : Content) (b1 s1 : ℕ) (last : Place) : Type 0 where
   pub layout : Layout
   pub holds : HoldsAt (geometry_of medium c0) c layout (disk_with d n o.file w (filled_up w b1 rs) b1 s1 (d.free - (b1 + s1 - (b + s)))) uses
@@ -114,12 +114,12 @@ IsGrowthStopped old new c0 l0 d uses n w rs t =
     IsGrowthCut old new d uses n w rs t × ((x : Owner) → IsAside n x → (p : Place) → l0.owner p ≡ x → new.content p ≡ c0 p)
 
 -- A RELATIVE FILE OF b DATA BLOCKS AND s SIDE SECTORS HAS GROWN to b1 data blocks and as many side sectors as list them, and its entry
--- tells how many blocks it has; the sectors of all other files are as they were.
+-- says how many blocks it has; the sectors of all other files are as they were.
 pub record IsGrownTo (medium : ℕ) (c0 c : Content) (l0 : Layout) (d : Disk) (uses : ℕ → Use) (n w : ℕ) (rs : List (List ℕ)) (b s b1 : ℕ) : Type 0 where
   pub holds : HoldsNow medium c (record (with_sized_body d n (b1 + sides_for s b1) (Records w (filled_up w b1 rs) b1 (sides_for s b1))) { free = d.free - (b1 + sides_for s b1 - (b + s)) }) uses
   pub aside : (m : ℕ) → m ≢ n → (p : Place) → (l0.owner p ≡ DataOf m) ⊎ (l0.owner p ≡ SideOf m) → c p ≡ c0 p
 
--- the same test as IsTooLarge, where so many blocks are free
+-- the same test as IsTooLarge, where this many blocks are free
 abbrev pub is_too_large : ℕ → ℕ → ℕ → ℕ → ℕ → Bool
 is_too_large free w b s k = nat_lt free (more_blocks w b s k) || nat_lt 720 (blocks_for w b k) || nat_lt 65535 k
 

@@ -8,7 +8,7 @@ use Rattle.cbm_volume.specs.Calls.{LeavesFiles}
 use Rattle.cbm_volume.specs.Writers.{Use, HoldsNow}
 use Rattle.cbm_volume.specs.Opens.{IsHindered}
 
--- these records, and fresh ones up to the end of so many data blocks
+-- these records, and fresh ones up to the end of this many data blocks
 abbrev pub filled_up : ℕ → ℕ → List (List ℕ) → List (List ℕ)
 filled_up w b rs = rs ++ replicate (record_count w b - length rs) (fresh_record w)
 
@@ -18,7 +18,7 @@ more_blocks w b s k =
     let blocks = blocks_for w b k in
     (blocks - b) + (sides_for s blocks - s)
 
--- THE DISK BEHIND A GROWTH: the slot's file has record k and all whole records of its last block, and its entry tells how many blocks it
+-- THE DISK AFTER A GROWTH: the slot's file has record k and all whole records of its last block, and its entry says how many blocks it
 -- has.
 abbrev pub with_growth : Disk → ℕ → ℕ → ℕ → ℕ → List (List ℕ) → ℕ → Disk
 with_growth d n w b s rs k =
@@ -30,7 +30,7 @@ with_growth d n w b s rs k =
 abbrev pub IsTooLarge : Disk → ℕ → ℕ → ℕ → ℕ → Type 0
 IsTooLarge d w b s k = (nat_lt d.free (more_blocks w b s k) || nat_lt 720 (blocks_for w b k) || nat_lt 65535 k) ≡ true
 
--- A GROWTH WAS REFUSED: the slot's file has its records and perhaps fresh ones behind them; its entry may still tell the old number of
+-- A GROWTH WAS REFUSED: the slot's file has its records and perhaps fresh ones after them; its entry may still have the old number of
 -- blocks, and blocks that were claimed last may be nobody's. All else is as it was.
 pub record IsGrowthCut (old new : Seen) (d : Disk) (uses : ℕ → Use) (n w : ℕ) (rs : List (List ℕ)) (t : Trouble) : Type 0 where
   pub file : File

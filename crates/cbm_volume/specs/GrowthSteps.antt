@@ -22,7 +22,7 @@ abbrev pub Goes : {A : Type 0} → Result A Trouble → Seen → Seen → ℕ �
 Goes result old new geometry From To = (c0 : Content) (d : Disk) (uses : ℕ → Use) (n w b s : ℕ) (rs : List (List ℕ)) (o : HasRecordsOpen old.tracks c0 d uses n w b s rs) → geometry ≡ geometry_of old.tracks c0
     → From old.tracks c0 d uses n w b s rs o old.content → MatchResult result (λ x. To x old.tracks c0 d uses n w b s rs o new.content) (IsGrowthStopped old new c0 o.holds.layout d uses n w rs)
 
--- the file has so many side sectors
+-- the file has this many side sectors
 abbrev pub OfSides : Relative → ℕ → State
 OfSides r s1 m c0 d uses n w b s rs o c = HasSides m c0 d uses n w b s rs o r c s1
 
@@ -30,11 +30,11 @@ OfSides r s1 m c0 d uses n w b s rs o c = HasSides m c0 d uses n w b s rs o r c 
 abbrev pub OfRoom : Relative → ℕ → State
 OfRoom r s1 m c0 d uses n w b s rs o c = HasSides m c0 d uses n w b s rs o r c s1 × (0 < d.free - (s1 - s))
 
--- and enough blocks are free for so many
+-- and enough blocks are free for this many
 abbrev pub OfRoomFor : Relative → ℕ → ℕ → State
 OfRoomFor r s1 all m c0 d uses n w b s rs o c = HasSides m c0 d uses n w b s rs o r c s1 × (all - s ≤ d.free)
 
--- it has so many, and a new one at this place, which lists no block and isn't listed
+-- it has this many, and a new one at this place, which lists no block and isn't listed
 abbrev pub OfEmpty : Relative → ℕ → Place → State
 OfEmpty r s1 t m c0 d uses n w b s rs o c = HasEmptySide m c0 d uses n w b s rs o r c s1 t
 
@@ -44,7 +44,7 @@ OfAllSides r all s1 m c0 d uses n w b s rs o c = (s1 ≡ all) × HasSides m c0 d
 
 -- ---- block by block
 
--- the file has grown to so many full data blocks, the last at this place, and side sectors that list them
+-- the file has grown to this many full data blocks, the last at this place, and side sectors that list them
 abbrev pub OfGrown : Relative → ℕ → ℕ → Place → State
 OfGrown r b1 s1 last m c0 d uses n w b s rs o c = HasGrown m c0 d uses n w b s rs o r c b1 s1 last
 
@@ -52,11 +52,11 @@ OfGrown r b1 s1 last m c0 d uses n w b s rs o c = HasGrown m c0 d uses n w b s r
 abbrev pub OfGrowable : Relative → ℕ → ℕ → Place → State
 OfGrowable r b1 s1 last m c0 d uses n w b s rs o c = HasGrown m c0 d uses n w b s rs o r c b1 s1 last × (0 < d.free - (b1 + s1 - (b + s)))
 
--- and enough blocks are free to reach so many
+-- and enough blocks are free to reach this many
 abbrev pub OfGoal : Relative → ℕ → ℕ → Place → ℕ → State
 OfGoal r b1 s1 last goal m c0 d uses n w b s rs o c = HasGrown m c0 d uses n w b s rs o r c b1 s1 last × (goal + sides_for s1 goal - (b + s) ≤ d.free)
 
--- it has grown to so many data blocks and to as many side sectors as it is to have
+-- it has grown to this many data blocks and to as many side sectors as it is to have
 abbrev pub OfReached : Relative → ℕ → ℕ → ℕ → Place → State
 OfReached r b1 all s1 last m c0 d uses n w b s rs o c = (s1 ≡ all) × HasGrown m c0 d uses n w b s rs o r c b1 s1 last
 

@@ -12,7 +12,7 @@ use Rattle.cbm_directory.specs.Slots.{Listed, Answers, directory_of}
 use Rattle.cbm_volume.specs.Blocks.{Blocks, slot_with}
 use Rattle.cbm_volume.specs.Layouts.{Means}
 
--- A medium of so many tracks with this content holds this disk: the content is sound, and means it.
+-- A medium of this many tracks with this content holds this disk: the content is sound, and means it.
 abbrev pub HoldsDisk : ℕ → Content → Disk → Type 0
 HoldsDisk medium content d = Means (geometry_of medium content) content d
 
@@ -56,7 +56,7 @@ abbrev pub SlotSays : Option File → List ℕ → Type 0
 SlotSays None entry = (type_byte entry == 0) ≡ true
 SlotSays (Some f) entry = Says f entry
 
--- The directory tells of the disk's slots, one entry for each, and nothing breaks it off.
+-- The directory has the disk's slots, one entry for each, and nothing breaks it off.
 pub record TellsOf (d : Disk) (listed : Listed) : Type 0 where
   pub whole : listed.trouble ≡ None
   pub each : AllZip SlotSays d.slots listed.entries

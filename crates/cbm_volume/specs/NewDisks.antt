@@ -22,7 +22,7 @@ new_label title id = padded title ++ (160 ∷ 160 ∷ (id ++ (160 ∷ 50 ∷ 65 
 unfoldable pub around_map : List ℕ → List ℕ → List ℕ
 around_map title id = (18 ∷ 1 ∷ 65 ∷ replicate 141 0) ++ (new_label title id ++ replicate 85 0)
 
--- THE BYTES OF 18/0 on an empty disk of so many tracks: all sectors but two are free, each count is right, the bits of no
+-- THE BYTES OF 18/0 on an empty disk of this many tracks: all sectors but two are free, each count is right, the bits of no
 -- sector are 0, and so it is around the map. So it says its title and its id.
 pub record IsNewHead (tracks : ℕ) (title id : List ℕ) (head : List ℕ) : Type 0 where
   pub free : (p : Place) → Has tracks p → is_free_in head p ≡ not (used_by_new p)
@@ -38,7 +38,7 @@ pub record IsEmptied (tracks : ℕ) (title id : List ℕ) (old new : Content) : 
   pub is_head : IsNewHead tracks title id head
   pub written : new ≡ written (written old directory_head head) first_directory new_sector
 
--- the id behind NEW: the new one, or the one that 18/0 told
+-- the id after NEW: the new one, or the one that 18/0 had
 abbrev pub id_behind : Option (List ℕ) → Content → List ℕ
 id_behind None old = slice_range (map_of old) 162 164
 id_behind (Some id) old = id

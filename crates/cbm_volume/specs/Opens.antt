@@ -25,7 +25,7 @@ pub record CanBeWritten (d : Disk) (uses : ℕ → Use) (slot : ℕ) (file : Fil
   pub plain : is_same_type Rel file.kind ≡ false
   pub unused : IsUnused uses slot
 
--- A CHANNEL BEGINS TO WRITE: the medium holds the disk, the channel writes the slot and has these bytes in so many blocks, and the
+-- A CHANNEL BEGINS TO WRITE: the medium holds the disk, the channel writes the slot and has these bytes in this many blocks, and the
 -- other channels go on.
 pub record Begins (medium : ℕ) (c : Content) (d : Disk) (uses : ℕ → Use) (channel slot : ℕ) (replaces : Bool) (bytes : List ℕ) (blocks : ℕ) (w : Filling) : Type 0 where
   pub holds : HoldsNow medium c d (with_use uses channel (Writes w bytes blocks))
@@ -36,6 +36,6 @@ pub record Begins (medium : ℕ) (c : Content) (d : Disk) (uses : ℕ → Use) (
 abbrev pub HasNoPlace : Disk → Type 0
 HasNoPlace d = (d.free ≡ 0) ⊎ (has_slot d ≡ false)
 
--- WHY A CALL ON A SOUND DISK IS REFUSED: the medium is protected, which is told by 26, or it failed by itself.
+-- WHY A CALL ON A SOUND DISK IS REFUSED: the medium is protected, which is reported as 26, or it failed by itself.
 abbrev pub IsHindered : Seen → Seen → Trouble → Type 0
 IsHindered old new t = ((old.protected ≡ true) × (t.code ≡ 26)) ⊎ HasFailed old new

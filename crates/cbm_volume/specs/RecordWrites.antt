@@ -11,8 +11,8 @@ use Rattle.cbm_volume.specs.Writers.{Use, Relates, HoldsNow}
 use Rattle.cbm_volume.specs.Holding.{HoldsDisk}
 use Rattle.cbm_volume.specs.Opens.{IsHindered}
 
--- A CHANNEL HAS THE RECORDS OF A SLOT OPEN: the medium holds the disk, and the slot's file has these records of this length, in so many
--- blocks with so many side sectors.
+-- A CHANNEL HAS THE RECORDS OF A SLOT OPEN: the medium holds the disk, and the slot's file has these records of this length, in this many
+-- blocks with this many side sectors.
 pub record HasRecordsOpen (medium : ℕ) (c : Content) (d : Disk) (uses : ℕ → Use) (n w b s : ℕ) (rs : List (List ℕ)) : Type 0 where
   pub holds : HoldsNow medium c d uses
   pub channel : ℕ

@@ -1,4 +1,4 @@
--- What VALIDATE can't mend, and what it tells of it.
+-- What VALIDATE can't mend, and how it is reported.
 use Rattle.std.specs.Prelude.{ℕ, ◌≡◌, ◌==◌, ◌||◌, if◌then◌else◌, Ok, Err}
 use Rattle.cbm_medium.specs.Place.{Place, has}
 use Rattle.cbm_medium.specs.Content.{Cell, Content}
@@ -26,7 +26,7 @@ flaw_code tracks c u =
     else if (u.number == flaw_number ChainOutside) || (u.number == flaw_number DirectoryChain) then 66
     else 71
 
--- a flaw as the drive tells it
+-- a flaw as the drive reports it
 abbrev pub told : ℕ → Content → Unsound → Trouble
 told tracks c u = record { code = flaw_code tracks c u; track = u.track; sector = u.sector }
 

@@ -5,7 +5,7 @@ use Rattle.cbm_medium.specs.Content.{Cell, Content}
 use Rattle.cbm_medium.specs.Seen.{Seen}
 use Rattle.cbm_directory.specs.Entries.{entry_of, is_closed}
 
--- so many bytes from a place on are zeros
+-- this many bytes from a place on are zeros
 abbrev pub zeroed : ℕ → ℕ → List ℕ → List ℕ
 zeroed from n bytes = take from bytes ++ (replicate n 0 ++ drop n (drop from bytes))
 
@@ -17,7 +17,7 @@ taken_map tracks map = if nat_lt tracks 40 then zeroed 4 140 map else zeroed 192
 abbrev pub clear_open : ℕ → List ℕ → List ℕ
 clear_open e sector = if is_closed (entry_of sector e) then sector else slice_set sector (32 * e + 2) 0
 
--- so many entries of a sector of the directory, each empty unless it is closed
+-- this many entries of a sector of the directory, each empty unless it is closed
 unfoldable pub swept : ℕ → List ℕ → List ℕ
 swept zero sector = sector
 swept (suc n) sector = clear_open n (swept n sector)

@@ -11,7 +11,7 @@ use crate::making_records::miscounted;
 use cbm_medium::{Address, Geometry, Medium, Trouble};
 use cbm_relfile::{Relative, begin_empty_side, link_side};
 
-/// Claims and writes a side sector for a file that has so many: it lists no block, and the file's side sectors don't list
+/// Claims and writes a side sector for a file that has this many: it lists no block, and the file's side sectors don't list
 /// it yet.
 fn open_empty<M: Medium>(
     medium: &mut M,
@@ -31,7 +31,7 @@ fn open_empty<M: Medium>(
     Ok(side)
 }
 
-/// The new side sector is put into the list of the one of a number, counted from 0, of so many. With the first one's list
+/// The new side sector is put into the list of the one of a number, counted from 0, of this many. With the first one's list
 /// the file has it.
 fn list_side<M: Medium>(
     medium: &mut M,
@@ -82,7 +82,7 @@ fn list_in_others<M: Medium>(
     Ok(())
 }
 
-/// One side sector more, which lists no block, for a file of so many.
+/// One side sector more, which lists no block, for a file of this many.
 fn add_empty<M: Medium>(
     medium: &mut M,
     geometry: Geometry,

@@ -12,7 +12,7 @@ use crate::relisting::list_anew;
 use cbm_medium::{Address, Medium, Trouble};
 use cbm_relfile::Relative;
 
-/// Brings a file of so many data blocks and side sectors, which can list them all, to where it grows block by block: each
+/// Brings a file of this many data blocks and side sectors, which can list them all, to where it grows block by block: each
 /// side sector lists its next 120 blocks, and the last data block, of which the place is answered, is full. An `Err` is
 /// why a sector isn't written: the file has its records still.
 fn begin_listed<M: Medium>(
@@ -37,7 +37,7 @@ fn begin_listed<M: Medium>(
     fill_last(medium, file, blocks)
 }
 
-/// Brings a file of so many data blocks and side sectors to where it grows block by block: it has as many side sectors as
+/// Brings a file of this many data blocks and side sectors to where it grows block by block: it has as many side sectors as
 /// list them all, each lists its next 120 blocks, and the last data block is full. A file that this drive wrote is left as
 /// it is. An `Err` is why a sector isn't written: the file has its records still.
 pub fn begin_growth<M: Medium>(

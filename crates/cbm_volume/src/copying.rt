@@ -61,7 +61,7 @@ impl<M: Medium> Volume<M> {
     }
 }
 
-/// Whether there is room for a file of so many bytes, and for its name.
+/// Whether there is room for a file of this many bytes, and for its name.
 fn has_room(room: Room, bytes: u32) -> bool
     ensures enough { result ≡ true → (blocks_of bytes ≤ room.blocks) × (room.slot ≡ true) × (room.blocks ≤ 65535) }
     ensures none { result ≡ false → (nat_lt room.blocks (blocks_of bytes) || not room.slot) ≡ true }
@@ -199,7 +199,7 @@ fn put_next<M: Medium>(
     reader.taken(medium)
 }
 
-/// Puts so many bytes as a reader gives.
+/// Puts this many bytes as a reader gives.
 fn put_read<M: Medium>(
     medium: &mut M,
     chain: &mut ChainWriter,

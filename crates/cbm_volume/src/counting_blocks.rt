@@ -1,4 +1,4 @@
-// A relative file that grew: its entry tells how many blocks it has.
+// A relative file that grew: its entry says how many blocks it has.
 
 ghost use Rattle.std.specs.Prelude.{◌≡◌, ◌≢◌, ℕ, true, Some, IfErr, MatchResult};
 ghost use Rattle.cbm_medium.specs.Place.{Place};
@@ -11,7 +11,7 @@ ghost use Rattle.cbm_volume.specs.Writers.{Use, Relates, HoldsNow};
 use cbm_directory::put_slot;
 use cbm_medium::{Medium, Trouble};
 
-/// Writes into the entry of a slot that its file has so many blocks; all else of it stays. An `Err` changes nothing: on a
+/// Writes into the entry of a slot that its file has this many blocks; all else of it stays. An `Err` changes nothing: on a
 /// sound disk it is 26 on a protected medium, or the medium's own failure.
 pub(crate) fn tell_blocks<M: Medium>(medium: &mut M, slot: u8, blocks: u16) -> Result<(), Trouble>
     ensures told { let old = M.seen medium.old in let new = M.seen medium.new in

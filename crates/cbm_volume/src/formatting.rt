@@ -107,7 +107,7 @@ fn all_tracks<M: Medium>(medium: &M) -> Geometry
     Geometry::of_40()
 }
 
-/// The id that 18/0 tells, or the medium's fault there.
+/// The id that 18/0 has, or the medium's fault there.
 fn told_id<M: Medium>(medium: &M) -> Result<[u8; 2], Trouble>
     ensures ok { IfOk result (λ id. id ≡ slice_range (map_of (M.seen medium.now).content) 162 164) }
     ensures err { IfErr result (λ t. (M.seen medium.now).content directory_head ≡ Err t.code) }
@@ -147,7 +147,7 @@ impl<M: Medium> Volume<M> {
             OnOk result (HoldsNow old.tracks (M.seen self.new).content (new_disk old.tracks title.now id d) uses) }
         ensures formatted { let old = M.seen self.old in id ≢ None → (d : Disk) →
             OnOk result (HoldsDisk old.tracks (M.seen self.new).content (new_disk old.tracks title.now id d)) }
-        // On any content: what stands in 18/0 and 18/1 behind it. All other sectors are zeros where an id is given, and as
+        // On any content: what stands in 18/0 and 18/1 after it. All other sectors are zeros where an id is given, and as
         // they were where none is.
         ensures emptied { let old = M.seen self.old in OnOk result (IsEmptied old.tracks title.now
             (id_behind id old.content) (content_under id old.content) (M.seen self.new).content) }

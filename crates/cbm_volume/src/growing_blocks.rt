@@ -11,7 +11,7 @@ use crate::making_records::miscounted;
 use cbm_medium::{Address, Geometry, Medium, Trouble};
 use cbm_relfile::{Relative, begin_side, lengthen, link_side, list_block};
 
-/// One data block more, full of fresh records, for a file of so many full ones, of which this is the last; its side
+/// One data block more, full of fresh records, for a file of this many full ones, of which this is the last; its side
 /// sectors don't list it yet.
 pub fn lengthen_file<M: Medium>(
     medium: &mut M,
@@ -53,7 +53,7 @@ pub fn list_last<M: Medium>(
     list_block(medium, geometry, file.side(), blocks, block)
 }
 
-/// Claims and writes a side sector for a file that has so many full ones: it lists the last data block alone, and the
+/// Claims and writes a side sector for a file that has this many full ones: it lists the last data block alone, and the
 /// file's side sectors don't list it yet.
 pub fn open_side<M: Medium>(
     medium: &mut M,
@@ -76,7 +76,7 @@ pub fn open_side<M: Medium>(
     Ok(side)
 }
 
-/// A new side sector is put into the list of the one of a number, counted from 0, of so many. With the first one's list
+/// A new side sector is put into the list of the one of a number, counted from 0, of this many. With the first one's list
 /// the file has it.
 pub fn copy_side<M: Medium>(
     medium: &mut M,
@@ -127,7 +127,7 @@ pub fn copy_sides<M: Medium>(
     Ok(())
 }
 
-/// One side sector more for a file of so many full ones, behind its last data block, which it lists.
+/// One side sector more for a file of this many full ones, after its last data block, which it lists.
 pub fn add_side<M: Medium>(
     medium: &mut M,
     geometry: Geometry,

@@ -62,7 +62,7 @@ pub struct GrowthPlan {
     pub blocks: u16,
 }
 
-/// What the growth of the file in a slot needs, so that a record is there, where so many blocks are free; None where it
+/// What the growth of the file in a slot needs, so that a record is there, where this many blocks are free; None where it
 /// is too large. An `Err` is why a sector doesn't read.
 pub fn plan_growth<M: Medium>(
     medium: &M,
@@ -106,7 +106,7 @@ pub fn plan_growth<M: Medium>(
     }))
 }
 
-/// Makes the file in a slot, which has so many data blocks and side sectors, one of so many data blocks.
+/// Makes the file in a slot, which has this many data blocks and side sectors, one of this many data blocks.
 pub fn grow_to<M: Medium>(
     medium: &mut M,
     slot: u8,
@@ -134,7 +134,7 @@ pub fn grow_to<M: Medium>(
     tell_blocks(medium, slot, reach.blocks + reach.sides as u16)
 }
 
-/// Grows the file in a slot, where so many blocks are free, so that a record is there.
+/// Grows the file in a slot, where this many blocks are free, so that a record is there.
 pub fn grow_in_slot<M: Medium>(
     medium: &mut M,
     slot: u8,
@@ -164,10 +164,10 @@ pub fn grow_in_slot<M: Medium>(
 
 impl<M: Medium> Volume<M> {
     /// Grows the relative file in a slot, whose records a channel has open, until a record is there: data blocks full of
-    /// fresh records ($FF, then zeros) are added one by one, with side sectors that list them, and last the entry tells
+    /// fresh records ($FF, then zeros) are added one by one, with side sectors that list them, and last the entry says
     /// how many blocks the file has. False, with nothing changed, where too few blocks are free, six side sectors can't
     /// list as many, or a place can't have that number. On a sound disk an `Err` says that the medium is protected (26),
-    /// with nothing changed, or failed by itself: the file has its records then and perhaps fresh ones behind them.
+    /// with nothing changed, or failed by itself: the file has its records then and perhaps fresh ones after them.
     pub fn grow_records(&mut self, slot: u8, number: u32) -> Result<bool, Trouble>
         requires number { (1 ≤ number) × (number < 2 ^ 24) }
         ensures call { OfOpen (M.seen self.old) slot (λ d uses w b s rs o.

@@ -11,7 +11,7 @@ ghost use Rattle.cbm_volume.specs.Growing.{IsListed, LeavesAside, HasGrown, OfFi
 use cbm_medium::{Address, Medium, Trouble};
 use cbm_relfile::{Relative, fill_up};
 
-/// Fills up the last data block of a file of so many with fresh records, which begin behind the last whole record, and
+/// Fills up the last data block of a file of this many with fresh records, which begin after the last whole record, and
 /// answers where that block is. Where fresh records begin in the block before, that one is written first. An `Err` is why
 /// a block isn't written: the file has its records still.
 pub(crate) fn fill_last<M: Medium>(

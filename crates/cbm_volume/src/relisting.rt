@@ -10,7 +10,7 @@ ghost use Rattle.cbm_volume.specs.Relists.{IsSameDisk};
 use cbm_medium::{Medium, Trouble};
 use cbm_relfile::Relative;
 
-/// Brings the so many side sectors of a file into the drive's form, in which each lists its next 120 blocks; a file that
+/// Brings the side sectors of a file into the drive's form, in which each lists its next 120 blocks; a file that
 /// is in it is left as it is. The disk is the same after each write. On a sound disk an `Err` says that the medium is
 /// protected (26), with nothing changed, or failed by itself.
 pub(crate) fn list_anew<M: Medium>(medium: &mut M, file: Relative, sides: u8) -> Result<(), Trouble>

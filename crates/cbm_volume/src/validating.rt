@@ -141,7 +141,7 @@ impl<M: Medium> Volume<M> {
     /// VALIDATE: slots that were never closed become empty, and the map is written anew from the directory and the
     /// closed files, so that each block is free or a file's. Where a header has a fault, a sector of these doesn't
     /// read or is used twice, a link leads elsewhere, or an entry or the records of a file aren't right, nothing is
-    /// changed, and the `Err` tells of the first that is met. Else an `Err` is the medium's refusal: 26 where it is
+    /// changed, and the `Err` reports the first that is met. Else an `Err` is the medium's refusal: 26 where it is
     /// protected, with nothing changed.
     pub fn validate(&mut self) -> Result<(), Trouble>
         ensures call { OfDisk (M.seen self.old) (λ d uses. ((ch : ℕ) → uses ch ≡ Idle) →

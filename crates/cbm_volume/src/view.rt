@@ -7,7 +7,7 @@ use cbm_directory::Entry;
 use cbm_medium::codes::WRITE_PROTECT_ON;
 use cbm_medium::{Address, Fault, Geometry, Medium};
 
-/// A sector with so many zeros from a place on.
+/// A sector with this many zeros from a place on.
 fn zeroed(sector: &[u8; 256], from: usize, count: usize) -> [u8; 256]
     requires { from + count ≤ 256 }
     ensures { result ≡ zeroed from count sector.now }
@@ -21,7 +21,7 @@ fn zeroed(sector: &[u8; 256], from: usize, count: usize) -> [u8; 256]
 fn taken(map: &[u8; 256], geometry: Geometry) -> [u8; 256]
     ensures { result ≡ taken_map geometry map.now }
 {
-    // The rows of the tracks 1 to 35, and behind the title those of the tracks 36 to 40.
+    // The rows of the tracks 1 to 35, and after the title those of the tracks 36 to 40.
     let inner = zeroed(map, 4, 140);
     if geometry.tracks() < 40 {
         return inner;

@@ -23,7 +23,7 @@ impl<M: Medium> Dos<M> {
         // On any disk:
         ensures others { channel < 15 → SameBut channel self.old.channels self.new.channels }
         ensures closed { (k : ℕ) → (k ≡ channel) ⊎ (channel ≡ 15) → slice_index_or self.new.channels k Closed ≡ Closed }
-        // Where no file is written, nothing is told and the medium stays as it is.
+        // Where no file is written, nothing is reported and the medium stays as it is.
         ensures quiet { channel < 15 → is_writing_on channel self.old ≡ false → IsQuiet self.old self.new }
         ensures all_quiet { ((k : ℕ) → is_writing_on k self.old ≡ false) → IsQuiet self.old self.new }
         ensures medium { KeepsMedium (M.seen self.old.medium) (M.seen self.new.medium) }

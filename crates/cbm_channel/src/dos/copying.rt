@@ -47,7 +47,7 @@ impl<M: Medium> Dos<M> {
     pub(super) fn copy(&mut self, new: &Name, olds: &Names)
         ensures goes { before_filler new.now ≡ new.now →
             Went M.seen self.old self.new 15 (λ m. answered m (copy new.now olds.now m)) }
-        // On any disk, if no fault is told:
+        // On any disk, if no fault is reported:
         ensures refused { is_fault_number (code_number self.new.told.status.code) ≡ false →
             (self.new.told.status.code ≡ Fine) ⊎
             ((M.seen self.new.medium).content ≡ (M.seen self.old.medium).content) }

@@ -113,7 +113,7 @@ impl<M: Medium> Dos<M> {
         // What is no command that changes the disk, nor for records, leaves the medium as it is.
         ensures quiet { ends_command channel self.old.text ≡ false → has_records_on channel self.old ≡ false →
             IsToldFor M.seen self.old self.new × (self.new.medium ≡ self.old.medium) }
-        // What is refused has changed nothing of the disk. A record that was written leaves what is told.
+        // What is refused has changed nothing of the disk. A record that was written leaves what is reported.
         ensures spared { has_records_on channel self.old ≡ false → KeepsIfRefused M.seen self.old self.new }
         ensures spared_records { (self.new.told ≡ self.old.told) ⊎ KeepsIfRefused M.seen self.old self.new }
         // V leaves closed files as they are.
@@ -204,7 +204,7 @@ impl<M: Medium> Dos<M> {
     }
 
     /// P: a channel that has records open goes to a place. What becomes of it is the status: 70 nothing is open, 64 it
-    /// has no records, 51 the place lies behind the record's end, 50 the record isn't there, a fault of the medium, or
+    /// has no records, 51 the place lies after the record's end, 50 the record isn't there, a fault of the medium, or
     /// 00.
     fn place(&mut self, channel: u8, number: u16, position: u8)
         ensures leads { 1 ≤ number → 1 ≤ position →

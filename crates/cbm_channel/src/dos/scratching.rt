@@ -54,7 +54,7 @@ impl<M: Medium> Dos<M> {
     ghost use Rattle.cbm_channel.specs.Going.{IsCounted, WentFrom, KeepsMedium};
     ghost use Rattle.cbm_channel.specs.Commanded.{entries_going, slots_going, all_scratched, CanAllGo, IsGoing, AreUnguarded, RefusesScratch};
 
-    /// S: each file that matches a pattern, isn't locked and isn't open goes; 01 tells how many.
+    /// S: each file that matches a pattern, isn't locked and isn't open goes; 01 reports how many.
     pub(super) fn scratch(&mut self, patterns: &Names)
         ensures goes { (m : Machine) → Stands M.seen self.old m →
             WentFrom M.seen self.old self.new 15 (λ n. answered n (scratch patterns.now n)) m }
@@ -108,7 +108,7 @@ impl<M: Medium> Dos<M> {
         Ok(going)
     }
 
-    /// Scratches these slots, and tells how many they were.
+    /// Scratches these slots, and reports how many they were.
     fn scratch_slots(&mut self, slots: &[u8])
         requires { length slots.now ≤ 144 }
         ensures goes { (m : Machine) (patterns : _) → IsGoing m patterns slots.now → Stands M.seen self.old m →

@@ -91,7 +91,7 @@ impl<M: Medium> Dos<M> {
             (slice_index_or self.new.channels channel Closed) self.old.told self.new.told }
         ensures others { SameBut channel self.old.channels self.new.channels }
         ensures medium { self.new.medium ≡ self.old.medium }
-        // Behind a byte that isn't the last (EOI) another one waits.
+        // After a byte that isn't the last (EOI) another one waits.
         ensures next { (n : ℕ) → shown_by channel self.old ≡ Some (n, false) → IsSome (shown_by channel self.new) }
     {
         if channel == 15 {

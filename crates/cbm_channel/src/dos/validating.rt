@@ -15,7 +15,7 @@ impl<M: Medium> Dos<M> {
     ghost use Rattle.cbm_channel.specs.Going.{IsCounted, Went, KeepsMedium};
 
     /// V: files that were never closed go, and each block is free or a file's. 60 where a channel is open; where the
-    /// disk can't be mended, its flaw is told and nothing is changed.
+    /// disk can't be mended, its flaw is reported and nothing is changed.
     pub(super) fn validate(&mut self)
         ensures goes { Went M.seen self.old self.new 15 (λ m. answered m (run Validate m)) }
         ensures channels { self.new.channels ≡ self.old.channels }

@@ -23,19 +23,19 @@ MeetsAmong part tracks content claimed (p ∷ rest) u =
     ((wrong_at part tracks content claimed p ≡ Some u.number) × (u ≡ fault_at u.number p))
     ⊎ ((wrong_at part tracks content claimed p ≡ None) × MeetsAmong part tracks content (with_bit claimed p true) rest u)
 
--- the side sectors of a relative file that a sector lists behind the first
+-- the side sectors of a relative file that a sector lists after the first
 abbrev pub behind_first : List ℕ → List Place
 behind_first bytes = drop 1 (sides_listed bytes)
 
--- the side sectors of a relative file: the first, and those that it lists behind itself
+-- the side sectors of a relative file: the first, and those that it lists after itself
 abbrev pub sides_from : Content → Place → List Place
 sides_from content first = first ∷ behind_first (bytes_at content first)
 
--- where a chain goes on behind a place, if this is the place and a sector of the disk
+-- where a chain goes on after a place, if this is the place and a sector of the disk
 abbrev pub step_along : ℕ → Content → Place → Place → Option Place
 step_along tracks content p a = if is_place p a && has tracks a then Some (link (bytes_at content a)) else None
 
--- where the chain from a goes on behind these blocks, if it begins with them
+-- where the chain from a goes on after these blocks, if it begins with them
 abbrev pub along : ℕ → Content → List Place → Place → Option Place
 along tracks content [] a = Some a
 along tracks content (p ∷ rest) a = elim (step_along tracks content p a) [ Some b ↦ along tracks content rest b | None ↦ None ]
@@ -61,7 +61,7 @@ abbrev pub sides_along : ℕ → Content → ℕ → ℕ → List Place → Plac
 sides_along tracks content width n [] a = Some a
 sides_along tracks content width n (s ∷ rest) a = elim (side_at tracks content width n s a) [ Some b ↦ sides_along tracks content width (n + 1) rest b | None ↦ None ]
 
--- the same of the first one with these bytes, and those that it lists behind itself
+-- the same of the first one with these bytes, and those that it lists after itself
 abbrev pub all_along : ℕ → Content → ℕ → List ℕ → Place → Option Place
 all_along tracks content width first a = elim (side_along tracks content width 0 first a) [ Some b ↦ sides_along tracks content width 1 (behind_first first) b | None ↦ None ]
 

@@ -71,7 +71,7 @@ ClaimsSlots tracks content met claimed a (b ∷ rest) after =
     × ((between : Place → Bool) × (ClaimsEntries tracks content claimed (entries_in (bytes_at content b)) between
     × ClaimsSlots tracks content (with_bit met b true) between (link (bytes_at content b)) rest after))
 
--- behind these sectors comes one with this fault, or with an entry that has it
+-- after these sectors comes one with this fault, or with an entry that has it
 abbrev pub SlotsFault : ℕ → Content → (Place → Bool) → (Place → Bool) → Place → List Place → Unsound → Type 0
 SlotsFault tracks content met claimed a [] u =
     ((a.track ≢ 0) × (wrong_at OfDirectory tracks content met a ≡ Some u.number) × (u ≡ fault_at u.number a))

@@ -40,7 +40,7 @@ HeaderFault tracks content u = (p : Place) × IsFirstBad tracks content p × (u 
 abbrev pub DirectoryFault : ℕ → Content → Unsound → Type 0
 DirectoryFault tracks content u = (sectors : List Place) × MeetsFault OfDirectory tracks content only_head first_directory sectors u
 
--- the first fault of its slots, behind a directory that is claimed (8, 4, 3, 9, 2, 7)
+-- the first fault of its slots, after a directory that is claimed (8, 4, 3, 9, 2, 7)
 pub record SlotFault (tracks : ℕ) (content : Content) (u : Unsound) : Type 0 where
   pub sectors : List Place
   pub between : Place → Bool
