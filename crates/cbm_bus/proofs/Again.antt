@@ -7,7 +7,7 @@ use Rattle.cbm_iec.specs.Ports.{resting}
 use Rattle.cbm_iec.specs.declared.party.Party.{Party}
 use Rattle.cbm_iec.specs.declared.port.Port.{Port}
 use Rattle.cbm_medium.specs.Seen.{Seen}
-use Rattle.cbm_channel.specs.Machines.{Machine}
+use Rattle.cbm_machine.specs.Machines.{Machine}
 use Rattle.cbm_channel.specs.Standing.{Kept}
 use Rattle.cbm_session.specs.Playing.{Station}
 use Rattle.cbm_session.specs.Sessions.{Unlike, AllUnlike}

@@ -10,7 +10,7 @@ use Rattle.cbm_iec.specs.declared.lines.Lines.{Lines}
 use Rattle.cbm_iec.specs.declared.party.Party.{Party}
 use Rattle.cbm_medium.specs.Seen.{Seen}
 use Rattle.cbm_channel.proofs.Stands.{means_of}
-use Rattle.cbm_channel.specs.Machines.{Machine}
+use Rattle.cbm_machine.specs.Machines.{Machine}
 use Rattle.cbm_channel.specs.Standing.{Kept}
 use Rattle.cbm_session.proofs.headline.LawsMet.{keeps}
 use Rattle.cbm_session.specs.Following.{IsInTime}

@@ -5,7 +5,7 @@ use Rattle.cbm_iec.specs.declared.lines.Lines.{Lines}
 use Rattle.cbm_iec.specs.declared.party.Party.{Party}
 use Rattle.cbm_iec.specs.declared.port.Port.{Port}
 use Rattle.cbm_medium.specs.Seen.{Seen}
-use Rattle.cbm_channel.specs.Machines.{Machine}
+use Rattle.cbm_machine.specs.Machines.{Machine}
 use Rattle.cbm_channel.specs.Standing.{Kept}
 use Rattle.cbm_session.specs.Playing.{at_rest, nobody}
 use Rattle.cbm_drive.specs.Cables.{Cabled, all_free}

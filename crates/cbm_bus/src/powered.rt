@@ -3,7 +3,7 @@ ghost use Rattle.std.specs.Prelude.{◌≡◌, ◌<◌, ◌≤◌};
 ghost use Rattle.cbm_channel.specs.Files.{Disk};
 ghost use Rattle.cbm_volume.specs.Holding.{HoldsDisk};
 ghost use Rattle.cbm_bus.specs.Powered.{IsPowered, powered};
-ghost use Rattle.cbm_channel.specs.Machines.{Machine};
+ghost use Rattle.cbm_machine.specs.Machines.{Machine};
 ghost use Rattle.cbm_drive.specs.Desks as desks;
 
 use cbm_drive::{Desk, Drive, Party};

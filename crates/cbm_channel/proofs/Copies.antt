@@ -12,7 +12,7 @@ use Rattle.cbm_file.specs.Types.{is_same_type}
 use Rattle.cbm_file.specs.Files.{Bytes, File, Disk, file_at, bytes_in, blocks_of, parts}
 use Rattle.cbm_file.specs.Changes.{has_slot, new_slot, with_file, closed_file, bytes_at, joined, copy_blocks, with_copy}
 use Rattle.cbm_command.specs.Refusals.{◌>>=◌, unless}
-use Rattle.cbm_volume.specs.Content.{Content}
+use Rattle.cbm_medium.specs.Content.{Content}
 use Rattle.cbm_volume.specs.Holding.{Says}
 use Rattle.cbm_volume.specs.Copies.{AreCopied, HasNoRoomFor}
 use Rattle.cbm_volume.specs.Writers.{Use, HoldsNow, known, IsEither}

@@ -7,7 +7,7 @@ use Rattle.cbm_medium.specs.Seen.{Seen, OnlyContent}
 use Rattle.cbm_medium.proofs.Sequences.{only_after, only_refused}
 use Rattle.cbm_medium.specs.declared.fault.Trouble.{Trouble}
 use Rattle.cbm_file.specs.Files.{File, Disk, file_at, with_slot}
-use Rattle.cbm_volume.specs.Content.{Content}
+use Rattle.cbm_medium.specs.Content.{Content}
 use Rattle.cbm_volume.specs.Writers.{HoldsNow, known}
 use Rattle.cbm_machine.specs.Machines.{Channel, Machine, with_disk}
 use Rattle.cbm_machine.specs.Orderly.{IsReadFrom, IsPlace, IsOrderly, channel_in, still_uses}

@@ -8,7 +8,7 @@ use Rattle.cbm_file.specs.Types.{type_with}
 use Rattle.cbm_file.specs.Files.{File, Disk, files, files_from}
 use Rattle.cbm_command.specs.Names.{is_match}
 use Rattle.cbm_volume.specs.Entries.{type_byte, name_in}
-use Rattle.cbm_volume.specs.Content.{Content}
+use Rattle.cbm_medium.specs.Content.{Content}
 use Rattle.cbm_volume.specs.Map.{geometry_of}
 use Rattle.cbm_volume.specs.Slots.{Listed, Finds, first_from, directory_of}
 use Rattle.cbm_volume.specs.Holding.{Says, SlotSays, TellsOf}

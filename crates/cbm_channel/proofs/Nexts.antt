@@ -6,7 +6,7 @@ use Rattle.cbm_file.specs.Waiting.{shown}
 use Rattle.cbm_listing.specs.Listed as listed
 use Rattle.cbm_medium.proofs.Walks.{follow_end}
 use Rattle.cbm_medium.specs.declared.fault.Trouble.{Trouble}
-use Rattle.cbm_volume.specs.Content.{Content}
+use Rattle.cbm_medium.specs.Content.{Content}
 use Rattle.cbm_volume.specs.Reading.{Rest, Reading, held_from, held_in, rest_of, one_less, IsSettled}
 use Rattle.cbm_machine.specs.Statuses.{status_line}
 use Rattle.cbm_machine.specs.Told.{Told, next_told, behind_next}

@@ -15,7 +15,7 @@ use Rattle.cbm_file.specs.Records.{fresh_record, record_count, new_records, with
 use Rattle.cbm_volume.specs.Layouts.{Layout}
 use Rattle.cbm_volume.specs.Map.{geometry_of}
 use Rattle.cbm_volume.specs.NewRecords.{HasNoRoomForRecords}
-use Rattle.cbm_volume.specs.Content.{Content}
+use Rattle.cbm_medium.specs.Content.{Content}
 use Rattle.cbm_volume.specs.Opens.{Begins, CanBeWritten, IsUnused, HasNoPlace, IsHindered}
 use Rattle.cbm_volume.specs.Writers.{Filling, Use, IsUsed, Writes, HoldsNow, with_use, known, IsEither}
 use Rattle.cbm_volume.specs.Writers as usage

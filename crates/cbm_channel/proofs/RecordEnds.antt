@@ -8,7 +8,7 @@ use Rattle.cbm_file.specs.Records.{zeros, fresh_record, record_count, blocks_for
 use Rattle.cbm_medium.specs.Seen.{Seen, HasFailed}
 use Rattle.cbm_volume.specs.Holding.{HoldsDisk}
 use Rattle.cbm_command.specs.Refusals.{◌>>=◌, unless}
-use Rattle.cbm_volume.specs.Content.{Content}
+use Rattle.cbm_medium.specs.Content.{Content}
 use Rattle.cbm_volume.specs.RecordWrites.{new_record, with_record}
 use Rattle.cbm_volume.specs.Writers.{Use, Relates, HoldsNow, known}
 use Rattle.cbm_machine.specs.declared.code.Code.TheVariants.{RecordOverflow, FileTooLarge, WriteProtected}

@@ -11,7 +11,7 @@ use Rattle.cbm_command.specs.declared.opening.Wanted.{Wanted}
 use Rattle.cbm_command.specs.declared.opening.Opening.TheVariants as opening
 use Rattle.cbm_command.specs.Openings.{is_relative}
 use Rattle.cbm_command.specs.Refusals.{◌>>=◌}
-use Rattle.cbm_volume.specs.Content.{Content}
+use Rattle.cbm_medium.specs.Content.{Content}
 use Rattle.cbm_machine.specs.declared.status.Status.{Status}
 use Rattle.cbm_machine.specs.Machines.{Machine, too_many}
 use Rattle.cbm_machine.specs.Finding.{is_there, found}

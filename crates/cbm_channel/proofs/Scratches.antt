@@ -13,7 +13,7 @@ use Rattle.cbm_medium.specs.declared.fault.Trouble.{Trouble}
 use Rattle.cbm_volume.specs.Entries.{type_byte, bit_of, name_in}
 use Rattle.cbm_volume.specs.Slots.{Listed, behind}
 use Rattle.cbm_volume.specs.Holding.{Says, SlotSays, TellsOf}
-use Rattle.cbm_volume.specs.Content.{Content}
+use Rattle.cbm_medium.specs.Content.{Content}
 use Rattle.cbm_volume.specs.Writers.{Use, HoldsNow, known, Stopped}
 use Rattle.cbm_volume.specs.Opens.{IsUnused}
 use Rattle.cbm_machine.specs.declared.code.Code.TheVariants.{FilesScratched, WriteProtected}

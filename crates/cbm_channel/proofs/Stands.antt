@@ -8,7 +8,7 @@ use Rattle.cbm_medium.specs.Links.{follow}
 use Rattle.cbm_medium.proofs.Walks.{follow_end}
 use Rattle.cbm_machine.specs.Statuses.{status_line}
 use Rattle.cbm_medium.specs.Seen.{Seen}
-use Rattle.cbm_volume.specs.Content.{Content}
+use Rattle.cbm_medium.specs.Content.{Content}
 use Rattle.cbm_volume.specs.Reading.{Reading, Rest, rest_of, held_from, held_in, IsSettled}
 use Rattle.cbm_file.specs.Waiting.{shown}
 use Rattle.cbm_file.specs.Files.{File, Disk, file_at}

@@ -1,7 +1,7 @@
 -- A byte is taken of a channel of the code, beside the machine's.
 use Rattle.std.proofs.Common.{◌≡◌, ℕ, List, drop, Some, refl, sym, ap, ◌∙◌, subst}
 use Rattle.cbm_file.specs.Files.{Disk}
-use Rattle.cbm_volume.specs.Content.{Content}
+use Rattle.cbm_medium.specs.Content.{Content}
 use Rattle.cbm_volume.specs.Reading.{Reading}
 use Rattle.cbm_volume.specs.Writers.{Filling, Use, HoldsNow, with_use}
 use Rattle.cbm_volume.specs.Writers as usage

@@ -8,7 +8,7 @@ use Rattle.cbm_medium.specs.Links.{follow}
 use Rattle.cbm_medium.specs.Seen.{Seen, HasFailed}
 use Rattle.cbm_medium.specs.Met.{IsMet}
 use Rattle.cbm_volume.specs.RecordFaults.{IsMislisted}
-use Rattle.cbm_volume.specs.Content.{Content}
+use Rattle.cbm_medium.specs.Content.{Content}
 use Rattle.cbm_volume.specs.Reading.{Rest, held_from}
 use Rattle.cbm_volume.specs.Map.{geometry_of}
 use Rattle.cbm_volume.specs.Entries.{first_block}

@@ -12,7 +12,7 @@ use Rattle.cbm_file.specs.Padding.{before_filler}
 use Rattle.cbm_command.specs.declared.opening.Wanted.{Wanted}
 use Rattle.cbm_command.specs.Openings.{is_relative}
 use Rattle.cbm_command.specs.Refusals.{◌>>=◌}
-use Rattle.cbm_volume.specs.Content.{Content}
+use Rattle.cbm_medium.specs.Content.{Content}
 use Rattle.cbm_machine.specs.declared.code.Code.{Code}
 use Rattle.cbm_machine.specs.declared.code.Code.TheVariants.{WriteProtected, WriteFileOpen, FileExists, FileNotFound, WrongType, DiskFull}
 use Rattle.cbm_machine.specs.declared.status.Status.{Status}

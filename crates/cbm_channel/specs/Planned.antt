@@ -7,7 +7,7 @@ use Rattle.cbm_file.specs.Padding.{before_filler}
 use Rattle.cbm_file.specs.Files.{Disk, File, file_at, bytes_in, record_length_in, with_slot}
 use Rattle.cbm_file.specs.Changes.{has_slot, new_slot, with_file, unclosed, reopened}
 use Rattle.cbm_file.specs.Records.{with_new_records}
-use Rattle.cbm_volume.specs.Content.{Content}
+use Rattle.cbm_medium.specs.Content.{Content}
 use Rattle.cbm_volume.specs.Holding.{StandsAt, HasBytes, Says}
 use Rattle.cbm_volume.specs.Writers.{Use, HoldsNow, with_use}
 use Rattle.cbm_channel.specs.declared.channel.Channel as kept

@@ -2,7 +2,7 @@
 use Rattle.std.specs.Prelude.{ℕ, ◌≤◌, ◌≡◌, ◌≢◌, ◌⊎◌, Bool, List, [], length, take, drop, slice_index_or, Option, Some, None, option_map}
 use Rattle.std.specs.List.{All, AllZip}
 use Rattle.cbm_medium.specs.Seen.{Seen}
-use Rattle.cbm_volume.specs.Content.{Content}
+use Rattle.cbm_medium.specs.Content.{Content}
 use Rattle.cbm_volume.specs.Reading.{IsSettled}
 use Rattle.cbm_volume.specs.Writers.{Use, Idle, Reads, Relates, Writes, HoldsNow}
 use Rattle.cbm_file.specs.Files.{Disk}

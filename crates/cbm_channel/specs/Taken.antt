@@ -1,7 +1,7 @@
 -- What a channel is after a byte that was taken, on any disk.
 use Rattle.std.specs.Prelude.{◌≡◌, drop, Some, Result, Ok, Err}
 use Rattle.cbm_medium.specs.declared.fault.Trouble.{Trouble}
-use Rattle.cbm_volume.specs.Content.{Content}
+use Rattle.cbm_medium.specs.Content.{Content}
 use Rattle.cbm_volume.specs.Reading.{Reading, rest_of, one_less}
 use Rattle.cbm_listing.specs.Listed.{behind_next}
 use Rattle.cbm_channel.specs.declared.channel.Channel.{Channel}

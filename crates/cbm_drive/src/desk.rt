@@ -30,7 +30,7 @@ impl<M: Medium> Model for Desk<M> {
 
 impl<M: Medium> Desk<M> {
     ghost use Rattle.std.specs.Prelude.{◌≡◌, ◌<◌};
-    ghost use Rattle.cbm_channel.specs.Files.{Disk};
+    ghost use Rattle.cbm_file.specs.Files.{Disk};
     ghost use Rattle.cbm_channel.specs.Machines as files;
     ghost use Rattle.cbm_channel.specs.Standing.{Stands};
     ghost use Rattle.cbm_volume.specs.Holding.{HoldsDisk};
@@ -101,7 +101,7 @@ impl<M: Steady> Desk<M> {
     ghost use Rattle.cbm_iec.specs.Machines.{owes};
     ghost use Rattle.cbm_channel.specs.Standing.{Leads};
     ghost use Rattle.cbm_channel.specs.Exchanged.{still_telling};
-    ghost use Rattle.cbm_channel.specs.Files.{Disk};
+    ghost use Rattle.cbm_file.specs.Files.{Disk};
     ghost use Rattle.cbm_channel.specs.Machines as files;
     ghost use Rattle.cbm_volume.specs.Holding.{HoldsDisk};
     ghost use Rattle.cbm_drive.specs.Addressing.{unaddressed, paced, attended, waiting, heard, released, secondary_of, channel_of, channel_heard, channel_said, ended, addressed_after};

@@ -40,7 +40,7 @@ impl<M: Steady> Model for Hosted<M> {
 
 impl<M: Steady> Hosted<M> {
     ghost use Rattle.std.specs.Prelude.{◌≡◌, ◌+◌, ◌∷◌, ◌++◌, ◌<◌, ◌≤◌, ◌^◌, [], ℕ, List, Bool, false, length, replicate, None, Some, IfSome, MatchOption};
-    ghost use Rattle.cbm_channel.specs.Files.{Disk};
+    ghost use Rattle.cbm_file.specs.Files.{Disk};
     ghost use Rattle.cbm_channel.specs.Machines.{Machine, start};
     ghost use Rattle.cbm_channel.specs.Calls.{after_open};
     ghost use Rattle.cbm_channel.specs.Closing as closing;

@@ -11,5 +11,3 @@ pub mod Running
 pub mod Calls
 pub mod Told
 pub mod Orderly
-pub use Rattle.cbm_file.specs.Types
-pub use Rattle.cbm_file.specs.Files

@@ -2,7 +2,7 @@
 use Rattle.std.specs.Prelude.{◌≡◌, refl, true, List, [], ◌∷◌, ◌++◌, codes, replicate, map, Some, None}
 use Rattle.std.specs.Fmt.{digits}
 use Rattle.cbm_file.specs.declared.file_type.FileType.TheVariants.{Prg}
-use Rattle.cbm_drive.specs.Machines.{Machine}
+use Rattle.cbm_machine.specs.Machines.{Machine}
 use Rattle.cbm_program.specs.declared.request.Request.{Request}
 use Rattle.cbm_program.specs.declared.request.Request.TheVariants.{Fill, Get, Close, Status}
 use Rattle.cbm_program.proofs.Words.{open_by, put_by, formatted, powered, blank, prints, behind, summary, status_is, small_file}

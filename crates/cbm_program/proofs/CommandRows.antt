@@ -3,8 +3,8 @@ use Rattle.std.specs.Prelude.{◌≡◌, refl, true, [], ◌∷◌, ◌++◌, co
 use Rattle.std.specs.Fmt.{digits}
 use Rattle.cbm_file.specs.declared.file_type.FileType.TheVariants.{Seq}
 use Rattle.cbm_file.specs.Files.{lost}
-use Rattle.cbm_drive.specs.Machines.{Machine}
-use Rattle.cbm_drive.specs.Listings.{listing}
+use Rattle.cbm_machine.specs.Machines.{Machine}
+use Rattle.cbm_machine.specs.Listings.{listing}
 use Rattle.cbm_program.specs.declared.request.Request.TheVariants.{Get, Close, Status}
 use Rattle.cbm_program.proofs.Words.{open_by, put_by, formatted, powered, blank, prints, behind, summary, status_is, small_file}
 use Rattle.cbm_program.proofs.ListingRows.{writes_hello, with_hello}

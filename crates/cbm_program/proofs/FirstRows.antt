@@ -3,7 +3,7 @@ use Rattle.std.specs.Prelude.{◌≡◌, refl, [], ◌∷◌, ◌++◌, codes, S
 use Rattle.std.specs.Fmt.{digits}
 use Rattle.cbm_file.specs.declared.file_type.FileType.TheVariants.{Prg}
 use Rattle.cbm_file.specs.Files.{Bytes, with_slot}
-use Rattle.cbm_drive.specs.Machines.{Machine}
+use Rattle.cbm_machine.specs.Machines.{Machine}
 use Rattle.cbm_file.specs.Changes.{closed_file}
 use Rattle.cbm_program.specs.declared.request.Request.TheVariants.{Get, Close, Status}
 use Rattle.cbm_program.proofs.Words.{open_by, formatted, powered, blank, prints, prints_for_kernal, status_is}

@@ -14,7 +14,7 @@ use Rattle.cbm_machine.specs.Statuses.{status_line}
 use Rattle.cbm_machine.specs.Talking.{peek, talk, taken}
 use Rattle.cbm_drive.specs.Addressing.{secondary_of, channel_heard, channel_said, ended}
 use Rattle.cbm_drive.specs.Desks.{Desk, talked_to, seconded, ending, put_to, taken_from, desk_step, desk_says}
-use Rattle.cbm_drive.specs.Machines.{Machine}
+use Rattle.cbm_machine.specs.Machines.{Machine}
 use Rattle.cbm_drive.specs.declared.ended.Ended.{Ended}
 use Rattle.cbm_drive.specs.declared.ended.Ended.TheVariants.{Name, Bytes}
 use Rattle.cbm_drive.specs.declared.secondary.Secondary.{Secondary}

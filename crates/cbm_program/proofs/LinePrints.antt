@@ -4,7 +4,7 @@ use Rattle.std.proofs.Common.{◌≡◌, ℕ, List, [], ◌∷◌, Option, sym, 
 use Rattle.std.specs.Prelude.{Result, OnOk, OnErr, IfErr}
 use Rattle.cbm_program.specs.declared.fault.RunFault.{RunFault}
 use Rattle.std.specs.Io.KnownBytes.{Appends, Keeps}
-use Rattle.cbm_drive.specs.Machines.{Machine}
+use Rattle.cbm_machine.specs.Machines.{Machine}
 use Rattle.cbm_program.specs.declared.request.Request.{Request}
 use Rattle.cbm_program.specs.declared.line.Line.{Line}
 use Rattle.cbm_program.specs.declared.line.Line.TheVariants.{Asks}

@@ -1,7 +1,7 @@
 -- Worked rows: listings.
 use Rattle.std.specs.Prelude.{◌≡◌, refl, ℕ, false, List, [], ◌∷◌, ◌++◌, codes, length, slice_range}
 use Rattle.std.specs.Fmt.{digits}
-use Rattle.cbm_drive.specs.Machines.{Machine, start}
+use Rattle.cbm_machine.specs.Machines.{Machine, start}
 use Rattle.cbm_program.specs.declared.request.Request.{Request}
 use Rattle.cbm_program.specs.declared.request.Request.TheVariants.{Get, Close}
 use Rattle.cbm_program.specs.Scripts.{talked}

@@ -1,7 +1,7 @@
 -- Worked rows: which file a name opens, and refused texts.
 use Rattle.std.specs.Prelude.{◌≡◌, refl, ℕ, List, [], ◌∷◌, ◌++◌, codes, replicate, map, slice_range}
 use Rattle.std.specs.Fmt.{digits}
-use Rattle.cbm_drive.specs.Machines.{Machine}
+use Rattle.cbm_machine.specs.Machines.{Machine}
 use Rattle.cbm_program.specs.declared.request.Request.{Request}
 use Rattle.cbm_program.specs.declared.request.Request.TheVariants.{Get, Close, Status}
 use Rattle.cbm_program.proofs.Words.{open_by, put_by, blank, prints, behind, status_is}

@@ -11,7 +11,7 @@ use Rattle.cbm_medium.specs.Seen.{Seen}
 use Rattle.cbm_session.specs.Following.{IsInTime}
 use Rattle.cbm_session.specs.Playing.{Station, Plays, IsKept, IsLaterDue}
 use Rattle.cbm_session.specs.Sessions.{IsBus, IsDrive}
-use Rattle.cbm_drive.specs.Machines.{Machine}
+use Rattle.cbm_machine.specs.Machines.{Machine}
 use Rattle.cbm_drive.specs.Standing.{Kept, Stands}
 use Rattle.cbm_drive.specs.Cables.{Cabled}
 use Rattle.cbm_drive.specs.Desks.{Desk, DeskStands, desk_step, desk_says, desk_shows}

@@ -2,9 +2,9 @@
 use Rattle.std.specs.Prelude.{◌≡◌, refl, ℕ, false, List, [], ◌∷◌, ◌++◌, codes, replicate, flat_map, length}
 use Rattle.std.specs.Fmt.{digits}
 use Rattle.cbm_file.specs.Files.{Body, Bytes, Records}
-use Rattle.cbm_drive.specs.Machines.{Machine, start}
-use Rattle.cbm_drive.specs.Finding.{body_at}
-use Rattle.cbm_drive.specs.Calls.{put, end_put}
+use Rattle.cbm_machine.specs.Machines.{Machine, start}
+use Rattle.cbm_machine.specs.Finding.{body_at}
+use Rattle.cbm_machine.specs.Calls.{put, end_put}
 use Rattle.cbm_program.specs.declared.request.Request.{Request}
 use Rattle.cbm_program.specs.declared.request.Request.TheVariants.{Fill, Get, Status}
 use Rattle.cbm_program.specs.Scripts.{hex}

@@ -7,7 +7,7 @@ use Rattle.cbm_medium.specs.Content.{Content}
 use Rattle.cbm_medium.specs.Seen.{Seen}
 use Rattle.cbm_volume.specs.Holding.{HoldsDisk}
 use Rattle.cbm_file.specs.Files.{Disk}
-use Rattle.cbm_drive.specs.Machines.{Machine, start}
+use Rattle.cbm_machine.specs.Machines.{Machine, start}
 use Rattle.cbm_image.specs.declared.kind.Kind.{Kind}
 use Rattle.cbm_image.specs.Images.{tracks_of, content_of, ImageHolds, IsOf}
 use Rattle.cbm_program.specs.declared.request.Request.{Request}

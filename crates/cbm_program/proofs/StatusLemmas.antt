@@ -2,10 +2,10 @@
 use Rattle.std.proofs.Common.{◌≡◌, ◌≢◌, ℕ, zero, suc, ◌+◌, ◌<◌, ◌≤◌, Bool, Option, Some, None, List, [], ◌∷◌, ◌++◌, length, length-append, codes, subst, refl, ap, sym, ◌∙◌, arith, true, false, if◌then◌else◌}
 use Rattle.std.specs.Prelude.{◌==◌}
 use Rattle.std.specs.Io.KnownBytes.{Appends}
-use Rattle.cbm_drive.specs.Calls.{without_return}
-use Rattle.cbm_drive.specs.Machines.{Machine}
-use Rattle.cbm_drive.specs.Statuses.{status_line}
-use Rattle.cbm_drive.specs.Talking.{peek, taken, talk}
+use Rattle.cbm_machine.specs.Calls.{without_return}
+use Rattle.cbm_machine.specs.Machines.{Machine}
+use Rattle.cbm_machine.specs.Statuses.{status_line}
+use Rattle.cbm_machine.specs.Talking.{peek, taken, talk}
 use Rattle.cbm_host.proofs.Statuses.{says_from, line_short}
 use Rattle.cbm_host.specs.Hosted.{AreFirst}
 use Rattle.cbm_program.specs.Output.{AppendsPart}

@@ -4,7 +4,7 @@ use Rattle.cbm_iec.specs.declared.party.Party.{Party}
 use Rattle.std.proofs.Common.{◌≡◌, ℕ, List, [], ◌∷◌, ◌++◌, Bool, true, false, Option, Some, None, refl, sym, ap, subst, ◌∙◌, append-nil}
 use Rattle.std.specs.Prelude.{IfSome, IfErr, OnErr, Result, Ok, Err, codes}
 use Rattle.cbm_session.specs.Playing.{stays}
-use Rattle.cbm_drive.specs.Machines.{Machine}
+use Rattle.cbm_machine.specs.Machines.{Machine}
 use Rattle.cbm_program.specs.Beginnings.{NotTimed, FirstRead}
 use Rattle.cbm_program.specs.Checking.{checked_text}
 use Rattle.bus_traces.specs.Lines.{lines_of, TakesLine}

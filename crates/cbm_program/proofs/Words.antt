@@ -2,9 +2,9 @@
 use Rattle.std.specs.Prelude.{ℕ, true, false, List, [], ◌∷◌, ◌++◌, map, codes, replicate, Some}
 use Rattle.cbm_file.specs.declared.file_type.FileType.{FileType}
 use Rattle.cbm_file.specs.Files.{Bytes, File, Disk, files}
-use Rattle.cbm_drive.specs.Machines.{Machine, start}
+use Rattle.cbm_machine.specs.Machines.{Machine, start}
 use Rattle.cbm_file.specs.Changes.{closed_file}
-use Rattle.cbm_drive.specs.Running.{new_disk}
+use Rattle.cbm_machine.specs.Running.{new_disk}
 use Rattle.cbm_program.specs.declared.request.Request.{Request}
 use Rattle.cbm_program.specs.declared.request.Request.TheVariants.{Open, Put}
 use Rattle.cbm_iec.specs.declared.pace.Pace.TheVariants.{Profile, Kernal}

@@ -3,7 +3,7 @@ use Rattle.std.specs.Prelude.{◌≡◌, refl, ℕ, List, [], ◌∷◌, ◌++�
 use Rattle.std.specs.Fmt.{digits}
 use Rattle.cbm_file.specs.declared.file_type.FileType.TheVariants.{Seq}
 use Rattle.cbm_file.specs.Files.{lost}
-use Rattle.cbm_drive.specs.Machines.{Machine}
+use Rattle.cbm_machine.specs.Machines.{Machine}
 use Rattle.cbm_program.specs.declared.request.Request.{Request}
 use Rattle.cbm_program.specs.declared.request.Request.TheVariants.{Fill, Get, Close, Status}
 use Rattle.cbm_program.proofs.Words.{open_by, put_by, formatted, powered, blank, prints, behind, summary, status_is, small_file}

@@ -1,7 +1,7 @@
 -- What is written of what a machine prints.
 use Rattle.std.specs.Prelude.{◌≡◌, List, ℕ, ◌++◌, Option, Result, OnOk, OnErr, IfErr}
 use Rattle.std.specs.Io.KnownBytes.{Appends}
-use Rattle.cbm_drive.specs.Machines.{Machine}
+use Rattle.cbm_machine.specs.Machines.{Machine}
 use Rattle.cbm_program.specs.Running.{IsOfWriting}
 use Rattle.cbm_program.specs.Scripts.{Printed}
 use Rattle.cbm_program.specs.declared.fault.RunFault.{RunFault}

@@ -1,6 +1,6 @@
 -- A drive that carries out the requests of a script, and what it prints of them.
 use Rattle.std.specs.Prelude.{ℕ, ◌≡◌, ◌+◌, ◌≤◌, List, Bool, Option, Result, OnOk, OnErr, IfErr}
-use Rattle.cbm_drive.specs.Machines.{Machine, start}
+use Rattle.cbm_machine.specs.Machines.{Machine, start}
 use Rattle.cbm_drive.specs.Standing.{Kept}
 use Rattle.cbm_file.specs.Files.{Disk}
 use Rattle.cbm_host.specs.Engines.{channel_of}

@@ -1,9 +1,9 @@
 -- A script of requests on a machine, and what it prints.
 pub use Rattle.cbm_host.specs.Served.{puts, hear, Said, says, talked, talked_at, status_said}
 use Rattle.std.specs.Prelude.{ℕ, ◌+◌, ◌/◌, ◌%◌, nat_lt, Bool, List, [], ◌∷◌, ◌++◌, flat_map, replicate, codes, decimal, if◌then◌else◌}
-use Rattle.cbm_drive.specs.Machines.{Machine}
-use Rattle.cbm_drive.specs.Closing.{close}
-use Rattle.cbm_drive.specs.Calls.{after_open, without_return}
+use Rattle.cbm_machine.specs.Machines.{Machine}
+use Rattle.cbm_machine.specs.Closing.{close}
+use Rattle.cbm_machine.specs.Calls.{after_open, without_return}
 use Rattle.cbm_iec.specs.declared.pace.Pace.{Pace}
 use Rattle.cbm_program.specs.declared.request.Request.{Request}
 use Rattle.cbm_program.specs.declared.request.Request.TheVariants.{Open, Put, Fill, Get, Close, Status}

@@ -8,7 +8,7 @@ use Rattle.cbm_iec.specs.declared.party.Party.{Party}
 use Rattle.cbm_medium.specs.Seen.{Seen}
 use Rattle.cbm_session.specs.Playing.{Station, Plays}
 use Rattle.cbm_file.specs.Files.{Disk}
-use Rattle.cbm_drive.specs.Machines.{Machine, start}
+use Rattle.cbm_machine.specs.Machines.{Machine, start}
 use Rattle.cbm_drive.specs.Standing.{Kept, Stands}
 use Rattle.cbm_drive.specs.Cables.{Cabled}
 use Rattle.cbm_drive.specs.Desks.{Desk, DeskStands, desk_step, desk_says}

@@ -8,7 +8,7 @@ use Rattle.cbm_iec.specs.declared.line.Change.{Change}
 use Rattle.cbm_iec.specs.declared.party.Party.{Party}
 use Rattle.cbm_session.specs.Playing.{Station, Plays, IsKept, IsLaterDue, at_rest}
 use Rattle.cbm_session.specs.Timing.{HostKeeps}
-use Rattle.cbm_drive.specs.Machines.{Machine}
+use Rattle.cbm_machine.specs.Machines.{Machine}
 use Rattle.cbm_drive.specs.Desks.{Desk, desk_step, desk_says}
 use Rattle.cbm_drive.specs.Playback.{Playback, played_says, played_step}
 use Rattle.cbm_host.specs.Served.{at_power_up}

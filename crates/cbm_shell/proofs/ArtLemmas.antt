@@ -10,7 +10,7 @@ use Rattle.cbm_directory.specs.EntryChanges.{renamed_entry}
 use Rattle.cbm_directory.proofs.Written.{mid_below, mid_above}
 use Rattle.cbm_volume.specs.Blocks.{Lies, no_blocks}
 use Rattle.cbm_volume.specs.Layouts.{Layout, slot_count, Sound}
-use Rattle.cbm_volume.specs.Map.{geometry_of}
+use Rattle.cbm_bam.specs.Map.{geometry_of}
 use Rattle.cbm_volume.proofs.Listing.{entry_found}
 use Rattle.cbm_volume.proofs.Refusals.{sector_reads}
 use Rattle.cbm_volume.proofs.Storing.{geometry_elsewhere}

@@ -14,7 +14,7 @@ use Rattle.cbm_file.specs.Files.{Disk, blocks_on}
 use Rattle.cbm_bam.specs.Map.{is_free_in, count_in, count_index, map_of, tally, free_in, IsCounted, geometry_of, geometry_in, geometry, tracks_if, at}
 use Rattle.cbm_bam.proofs.Counts.{tally_none}
 use Rattle.cbm_bam.proofs.Geometries.{wide}
-use Rattle.cbm_volume.specs.Entries.{entry_of, type_byte, bit_of, is_relative, entry_at, first_directory}
+use Rattle.cbm_directory.specs.Entries.{entry_of, type_byte, bit_of, is_relative, entry_at, first_directory}
 use Rattle.cbm_volume.specs.Blocks.{no_blocks, LiesAs, file_of}
 use Rattle.cbm_volume.specs.Layouts.{Owner, Nobody, TheMap, Directory, DataOf, SideOf, Layout, IsWritable, Stands}
 use Rattle.cbm_volume.specs.Opens.{IsHindered}

@@ -9,7 +9,7 @@ use Rattle.cbm_medium.proofs.Walks.{has_true}
 use Rattle.cbm_directory.specs.Entries.{Enters, EntersLed, led_to, first_directory, type_byte, is_closed, is_relative, first_block, first_side, width_of, entry_at, sector_of}
 use Rattle.cbm_directory.proofs.Placing.{led_on}
 use Rattle.cbm_file.specs.Files.{Disk}
-use Rattle.cbm_volume.specs.Slots.{Answers, directory_of}
+use Rattle.cbm_directory.specs.Slots.{Answers, directory_of}
 use Rattle.cbm_volume.specs.Blocks.{Blocks, LiesAs, Lies}
 use Rattle.cbm_volume.specs.Layouts.{DataOf, SideOf, OwnedBy, Layout, slot_count, Sound, Stands}
 use Rattle.cbm_volume.proofs.Listing.{entry_found}

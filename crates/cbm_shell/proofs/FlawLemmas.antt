@@ -8,7 +8,7 @@ use Rattle.cbm_medium.specs.Content.{Cell, Content}
 use Rattle.cbm_medium.specs.Links.{bytes_at, or_nothing, link}
 use Rattle.cbm_bam.specs.Map.{map_of, is_free_in, with_bit}
 use Rattle.cbm_bam.specs.Marks.{nothing}
-use Rattle.cbm_volume.specs.Entries.{first_block, first_side, first_directory}
+use Rattle.cbm_directory.specs.Entries.{first_block, first_side, first_directory}
 use Rattle.cbm_volume.specs.check.Claims.{is_inside, reads, wrong_at}
 use Rattle.cbm_volume.specs.check.SideLists.{are_records, sides_from}
 use Rattle.cbm_volume.specs.check.SlotWalk.{entries_behind}

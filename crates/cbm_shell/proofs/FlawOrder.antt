@@ -8,9 +8,9 @@ use Rattle.cbm_medium.specs.Links.{bytes_at, or_nothing, link}
 use Rattle.cbm_medium.proofs.Walks.{has_true, bool_cases}
 use Rattle.cbm_bam.specs.Map.{map_of, is_free_in, with_bit, tally, number, at}
 use Rattle.cbm_bam.proofs.Counts.{tally_most, number_most, blocks_on_40}
-use Rattle.cbm_volume.specs.Entries.{type_byte, is_closed, is_relative, first_block, first_side, first_directory}
+use Rattle.cbm_directory.specs.Entries.{type_byte, is_closed, is_relative, first_block, first_side, first_directory}
 use Rattle.cbm_volume.specs.Layouts.{Layout, Sound, IsWritable}
-use Rattle.cbm_volume.specs.Map.{geometry_of}
+use Rattle.cbm_bam.specs.Map.{geometry_of}
 use Rattle.cbm_volume.specs.declared.check.unsound.Part.{Part}
 use Rattle.cbm_volume.specs.declared.check.unsound.Part.TheVariants.{OfDirectory, OfFile}
 use Rattle.cbm_volume.specs.declared.Unsound.{Unsound}

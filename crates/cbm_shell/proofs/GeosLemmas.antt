@@ -6,7 +6,7 @@ use Rattle.cbm_medium.specs.Content.{Cell, Content}
 use Rattle.cbm_medium.specs.Links.{place_in}
 use Rattle.cbm_medium.proofs.Walks.{true_has, has_true, bool_cases}
 use Rattle.cbm_bam.specs.Marks.{nothing}
-use Rattle.cbm_volume.specs.Entries.{first_block, first_side}
+use Rattle.cbm_directory.specs.Entries.{first_block, first_side}
 use Rattle.cbm_shell.specs.Mapping.{chain_of, is_among}
 use Rattle.cbm_shell.specs.Marking.{with_places}
 use Rattle.cbm_shell.specs.Geos.{is_geos, has_records, chains_in, chains_by, records_of, records_by, blocks_by, geos_blocks, in_geos, is_geos_map, border_by, border_in}

@@ -6,9 +6,9 @@ use Rattle.cbm_medium.specs.declared.fault.Trouble.{Trouble}
 use Rattle.cbm_file.specs.declared.file_type.FileType.TheVariants.{Rel}
 use Rattle.cbm_file.specs.Types.{is_same_type}
 use Rattle.cbm_file.specs.Files.{Disk, bytes_in}
-use Rattle.cbm_volume.specs.Entries.{is_closed}
-use Rattle.cbm_volume.specs.Map.{geometry_of}
-use Rattle.cbm_volume.specs.Slots.{Listed, Finds, directory_of}
+use Rattle.cbm_directory.specs.Entries.{is_closed}
+use Rattle.cbm_bam.specs.Map.{geometry_of}
+use Rattle.cbm_directory.specs.Slots.{Listed, Finds, directory_of}
 use Rattle.cbm_volume.specs.Holding.{TellsOf, StandsAt, HasBytes}
 use Rattle.cbm_channel.specs.Finding.{found, is_there}
 use Rattle.cbm_channel.specs.declared.Code.TheVariants.{WrongType, FileNotFound}

@@ -6,7 +6,7 @@ use Rattle.cbm_medium.specs.Place.{Place, has}
 use Rattle.cbm_medium.specs.Content.{Cell, Content}
 use Rattle.cbm_medium.specs.Links.{ended, cut_at, behind, follow, link}
 use Rattle.cbm_directory.specs.Entries.{EntersLed, first_directory}
-use Rattle.cbm_volume.specs.Slots.{Answers, directory_of, listed_from, all_entries}
+use Rattle.cbm_directory.specs.Slots.{Answers, directory_of, listed_from, all_entries}
 use Rattle.cbm_volume.specs.Layouts.{Layout, Sound}
 use Rattle.cbm_volume.proofs.Listing.{entries_length}
 use Rattle.cbm_shell.specs.Locking.{is_unlike, locked_entry, LocksSlot, LocksSlots, LocksEach, LocksAll}

@@ -9,7 +9,7 @@ use Rattle.cbm_medium.specs.Links.{link, follow}
 use Rattle.cbm_medium.proofs.Walks.{true_has, has_true, bool_cases, follow_end, follow_off, follow_full, follow_fault, follow_next}
 use Rattle.cbm_bam.specs.Map.{with_bit}
 use Rattle.cbm_bam.specs.Marks.{nothing}
-use Rattle.cbm_volume.specs.Entries.{is_closed, is_relative, first_block, first_side}
+use Rattle.cbm_directory.specs.Entries.{is_closed, is_relative, first_block, first_side}
 use Rattle.cbm_shell.specs.Mapping.{chain_of, sides_of, sectors_of, in_files, is_among, sign_at, signs_on, row_of, rows_of}
 use Rattle.cbm_shell.specs.Marking.{with_places}
 

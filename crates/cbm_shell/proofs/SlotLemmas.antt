@@ -13,8 +13,8 @@ use Rattle.cbm_file.specs.Files.{Disk}
 use Rattle.cbm_bam.specs.Causes.{HasCause}
 use Rattle.cbm_directory.specs.Entries.{Enters, first_directory, sector_of, type_byte}
 use Rattle.cbm_directory.specs.Empties.{FindsEmpty, TakesSlot, IsSlotRefused, empty_in}
-use Rattle.cbm_volume.specs.Map.{geometry_of}
-use Rattle.cbm_volume.specs.Slots.{Listed, Answers, directory_of, listed_in, listed_from, all_entries}
+use Rattle.cbm_bam.specs.Map.{geometry_of}
+use Rattle.cbm_directory.specs.Slots.{Listed, Answers, directory_of, listed_in, listed_from, all_entries}
 use Rattle.cbm_volume.specs.Layouts.{Directory, OwnedBy, Layout, slot_count, Sound}
 use Rattle.cbm_volume.specs.Writers.{Idle, HoldsNow}
 use Rattle.cbm_volume.proofs.Frames.{KeepsLinks, chain_links}

@@ -6,8 +6,8 @@ use Rattle.cbm_file.specs.declared.file_type.FileType.TheVariants.{Del}
 use Rattle.cbm_directory.specs.Empties.{FindsEmpty, TakesSlot}
 use Rattle.cbm_directory.specs.EntryChanges.{fresh_entry, renamed_entry}
 use Rattle.cbm_directory.specs.Growth.{CannotGrow}
-use Rattle.cbm_volume.specs.Entries.{closed_entry, EntersLed}
-use Rattle.cbm_volume.specs.Slots.{Answers, directory_of}
+use Rattle.cbm_directory.specs.Entries.{closed_entry, EntersLed}
+use Rattle.cbm_directory.specs.Slots.{Answers, directory_of}
 use Rattle.cbm_shell.specs.Locking.{locked_entry}
 
 -- no sector, where a chain without a block begins

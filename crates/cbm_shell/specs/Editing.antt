@@ -5,9 +5,9 @@ use Rattle.cbm_medium.specs.Content.{Content}
 use Rattle.cbm_medium.specs.Links.{Chain}
 use Rattle.cbm_medium.specs.Seen.{Seen}
 use Rattle.cbm_directory.specs.Entries.{first_directory}
-use Rattle.cbm_volume.specs.Map.{geometry_of}
+use Rattle.cbm_bam.specs.Map.{geometry_of}
 use Rattle.cbm_volume.specs.Layouts.{Layout, Sound}
-use Rattle.cbm_volume.specs.Slots.{Answers, directory_of}
+use Rattle.cbm_directory.specs.Slots.{Answers, directory_of}
 use Rattle.cbm_volume.specs.check.WholeDisk.{DiskFault}
 use Rattle.cbm_image.specs.Images.{kind_of, tracks_of, content_of}
 use Rattle.cbm_shell.specs.declared.fault.ShellFault.{ShellFault}

@@ -4,7 +4,7 @@ use Rattle.cbm_medium.specs.Place.{Place, has, sectors_on, directory_head}
 use Rattle.cbm_medium.specs.Content.{Cell, Content}
 use Rattle.cbm_medium.specs.Links.{bytes_at, link}
 use Rattle.cbm_bam.specs.Map.{is_free_in, with_bit, at}
-use Rattle.cbm_volume.specs.Entries.{type_byte, is_closed, is_relative, first_block, first_side, first_directory}
+use Rattle.cbm_directory.specs.Entries.{type_byte, is_closed, is_relative, first_block, first_side, first_directory}
 use Rattle.cbm_volume.specs.declared.check.unsound.Part.{Part}
 use Rattle.cbm_volume.specs.declared.check.unsound.Part.TheVariants.{OfDirectory, OfFile}
 use Rattle.cbm_volume.specs.declared.Unsound.{Unsound}

@@ -7,7 +7,7 @@ use Rattle.cbm_medium.specs.Links.{place_in}
 use Rattle.cbm_file.specs.declared.file_type.FileType.{FileType}
 use Rattle.cbm_file.specs.declared.file_type.FileType.TheVariants.{Del, Seq, Prg, Usr, Rel}
 use Rattle.cbm_file.specs.Types.{type_with}
-use Rattle.cbm_volume.specs.Entries.{type_byte, is_closed, width_of, first_block, first_side}
+use Rattle.cbm_directory.specs.Entries.{type_byte, is_closed, width_of, first_block, first_side}
 use Rattle.cbm_shell.specs.Mapping.{chain_of}
 use Rattle.cbm_shell.specs.declared.looking.geos.Geos.{Geos}
 

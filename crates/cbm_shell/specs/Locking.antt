@@ -5,8 +5,8 @@ use Rattle.cbm_medium.specs.Content.{Content, written}
 use Rattle.cbm_medium.specs.Links.{bytes_at}
 use Rattle.cbm_file.specs.Padding.{padded}
 use Rattle.cbm_file.specs.Files.{Disk}
-use Rattle.cbm_volume.specs.Entries.{type_byte, bit_of, EntersLed}
-use Rattle.cbm_volume.specs.Slots.{Answers, directory_of}
+use Rattle.cbm_directory.specs.Entries.{type_byte, bit_of, EntersLed}
+use Rattle.cbm_directory.specs.Slots.{Answers, directory_of}
 use Rattle.cbm_channel.specs.Sought.{is_sought}
 use Rattle.cbm_shell.specs.Editing.{HasNoSlot}
 

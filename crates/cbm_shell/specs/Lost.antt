@@ -3,7 +3,7 @@ use Rattle.std.specs.Prelude.{ℕ, ◌&&◌, not, Bool, false, List, [], Option,
 use Rattle.cbm_medium.specs.declared.fault.Trouble.{Trouble}
 use Rattle.cbm_medium.specs.Place.{Place, directory_head}
 use Rattle.cbm_medium.specs.Content.{Cell, Content}
-use Rattle.cbm_volume.specs.Slots.{Listed}
+use Rattle.cbm_directory.specs.Slots.{Listed}
 use Rattle.cbm_shell.specs.Mapping.{used_in, free_by, is_among}
 use Rattle.cbm_shell.specs.Geos.{geos_places}
 use Rattle.cbm_shell.specs.Passing.{places_in}

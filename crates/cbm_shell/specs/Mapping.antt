@@ -5,8 +5,8 @@ use Rattle.cbm_medium.specs.Place.{Place, is_place, sectors_on, sector_count, di
 use Rattle.cbm_medium.specs.Content.{Cell, Content}
 use Rattle.cbm_medium.specs.Links.{follow}
 use Rattle.cbm_bam.specs.Map.{is_free_in}
-use Rattle.cbm_volume.specs.Entries.{is_closed, is_relative, first_block, first_side, first_directory}
-use Rattle.cbm_volume.specs.Slots.{Listed, directory_of}
+use Rattle.cbm_directory.specs.Entries.{is_closed, is_relative, first_block, first_side, first_directory}
+use Rattle.cbm_directory.specs.Slots.{Listed, directory_of}
 use Rattle.cbm_shell.specs.declared.looking.mapping.Mark.{Mark}
 use Rattle.cbm_shell.specs.declared.looking.mapping.Mark.TheVariants.{Free, Used, Lost, Clash, Unreadable}
 

@@ -5,8 +5,8 @@ use Rattle.cbm_medium.specs.Content.{Content, written}
 use Rattle.cbm_bam.specs.Map.{map_of, is_free_in, IsCounted, IsOutside}
 use Rattle.cbm_file.specs.Types.{type_number}
 use Rattle.cbm_file.specs.declared.file_type.FileType.{FileType}
-use Rattle.cbm_volume.specs.Entries.{type_byte, first_block, EntersLed}
-use Rattle.cbm_volume.specs.Slots.{Answers, directory_of}
+use Rattle.cbm_directory.specs.Entries.{type_byte, first_block, EntersLed}
+use Rattle.cbm_directory.specs.Slots.{Answers, directory_of}
 use Rattle.cbm_shell.specs.Mapping.{chain_of, entries_in, free_by, is_among, used_in}
 use Rattle.cbm_shell.specs.Geos.{border_in, in_geos}
 use Rattle.cbm_shell.specs.Lost.{lost_of}

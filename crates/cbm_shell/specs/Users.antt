@@ -2,7 +2,7 @@
 use Rattle.std.specs.Prelude.{ℕ, ◌+◌, Bool, true, false, List, [], ◌∷◌, ◌++◌}
 use Rattle.cbm_medium.specs.Place.{Place}
 use Rattle.cbm_medium.specs.Content.{Content}
-use Rattle.cbm_volume.specs.Slots.{directory_of}
+use Rattle.cbm_directory.specs.Slots.{directory_of}
 use Rattle.cbm_shell.specs.Mapping.{entries_in, is_among, sectors_of}
 
 -- the file of an entry uses the sector at a place

@@ -2,7 +2,7 @@
 ghost use Rattle.std.specs.Prelude.{◌≡◌, None, false, IfErr, IfOk, OnOk, MatchResult};
 ghost use Rattle.cbm_file.specs.Files.{Disk};
 ghost use Rattle.cbm_channel.specs.Machines.{start};
-ghost use Rattle.cbm_volume.specs.Map.{geometry_of};
+ghost use Rattle.cbm_bam.specs.Map.{geometry_of};
 ghost use Rattle.cbm_image.specs.Images.{kind_of, image_fault, tracks_of, content_of, ImageHolds};
 ghost use Rattle.cbm_shell.specs.Reading.{Gets};
 ghost use Rattle.cbm_shell.specs.Listing.{IsListed, IsSent};

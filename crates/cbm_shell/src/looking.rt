@@ -1,8 +1,8 @@
 //! Looking into the bytes of an image.
 ghost use Rattle.std.specs.Prelude.{◌≡◌, ◌⊎◌, ℕ, List, None, Some, IfOk, IfErr, MatchResult, MatchOption, ◌<◌};
 ghost use Rattle.cbm_file.specs.Files.{Disk};
-ghost use Rattle.cbm_volume.specs.Slots.{directory_of};
-ghost use Rattle.cbm_volume.specs.Map.{geometry_of};
+ghost use Rattle.cbm_directory.specs.Slots.{directory_of};
+ghost use Rattle.cbm_bam.specs.Map.{geometry_of};
 ghost use Rattle.cbm_volume.specs.Holding.{HasBytes, StandsAt};
 ghost use Rattle.cbm_image.specs.Images.{kind_of, tracks_of, ImageHolds};
 ghost use Rattle.cbm_shell.specs.Converting.{held_by};
@@ -10,7 +10,7 @@ ghost use Rattle.cbm_shell.specs.Images.{IsChecked, IsOpenFault, OrOpenFault};
 ghost use Rattle.cbm_shell.specs.Reading.{IsReadFault};
 ghost use Rattle.cbm_bam.specs.Marks.{is_marked};
 ghost use Rattle.cbm_shell.specs.Geos.{geos_blocks};
-ghost use Rattle.cbm_volume.specs.Entries.{first_block};
+ghost use Rattle.cbm_directory.specs.Entries.{first_block};
 ghost use Rattle.cbm_shell.specs.Mapping.{picture_of, chain_of, is_among};
 ghost use Rattle.cbm_shell.specs.Sectors.{faults_in};
 

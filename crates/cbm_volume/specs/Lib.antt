@@ -19,10 +19,8 @@ pub mod Views
 pub mod Sweeps
 pub mod Unmendable
 pub mod ViewLaws
-pub use Rattle.cbm_file.specs.Files
 pub mod check
 pub mod Plain
-pub use Rattle.cbm_medium.specs.Content
 pub use Rattle.cbm_bam.specs.Map
 pub use Rattle.cbm_chain.specs.Reading
 pub use Rattle.cbm_relfile.specs.Written

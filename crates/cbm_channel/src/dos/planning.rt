@@ -7,7 +7,7 @@ ghost use Rattle.std.specs.Prelude.{◌≡◌, ◌≤◌, ◌⊎◌, ℕ, Bool, 
 ghost use Rattle.cbm_file.specs.Files.{Disk, File};
 ghost use Rattle.cbm_file.specs.declared.file_type.FileType.TheVariants.{Rel};
 ghost use Rattle.cbm_file.specs.Types.{is_same_type};
-ghost use Rattle.cbm_volume.specs.Content.{Content};
+ghost use Rattle.cbm_medium.specs.Content.{Content};
 ghost use Rattle.cbm_machine.specs.Machines.{Machine, in_writing};
 ghost use Rattle.cbm_machine.specs.Plans as plans;
 ghost use Rattle.cbm_channel.specs.Planned.{FoundAs, PlannedAs, IsFound};

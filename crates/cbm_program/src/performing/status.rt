@@ -1,7 +1,7 @@
 //! Printing the status.
 ghost use Rattle.std.specs.Prelude.{◌≡◌, ◌≤◌, ◌<◌, ◌^◌, ◌++◌, ◌∷◌, [], length};
-ghost use Rattle.cbm_drive.specs.Machines.{Machine};
-ghost use Rattle.cbm_drive.specs.Calls.{without_return};
+ghost use Rattle.cbm_machine.specs.Machines.{Machine};
+ghost use Rattle.cbm_machine.specs.Calls.{without_return};
 ghost use Rattle.cbm_host.specs.Hosted.{Rests};
 ghost use Rattle.cbm_program.specs.declared.request.Request.TheVariants.{Status};
 ghost use Rattle.cbm_program.specs.Performing.{GoesOn, HasPrinted};

@@ -1,7 +1,7 @@
 //! A drive under a host whose changes are made one at a time, and printed with what comes of them.
 ghost use Rattle.std.specs.Prelude.{◌≡◌, ◌-◌, ◌^◌, ◌<◌, ◌≤◌, ◌∷◌, [], OnOk};
 ghost use Rattle.bus_traces.specs.Events.{event_text};
-ghost use Rattle.cbm_drive.specs.Machines.{Machine};
+ghost use Rattle.cbm_machine.specs.Machines.{Machine};
 ghost use Rattle.cbm_drive.specs.Standing.{Kept};
 ghost use Rattle.cbm_drive.specs.Desks as desks;
 ghost use Rattle.cbm_drive.specs.Seats.{Seated};

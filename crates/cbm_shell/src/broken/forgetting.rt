@@ -1,6 +1,6 @@
 //! Taking the entry of a file out of the directory of a disk that isn't sound.
 ghost use Rattle.std.specs.Prelude.{◌≡◌, ◌≤◌, None, IfOk, IfSome, MatchOption};
-ghost use Rattle.cbm_volume.specs.Map.{geometry_of};
+ghost use Rattle.cbm_bam.specs.Map.{geometry_of};
 ghost use Rattle.cbm_image.specs.Images.{kind_of, image_fault, tracks_of, content_of};
 ghost use Rattle.cbm_directory.specs.EntryChanges.{ClearsLed};
 ghost use Rattle.cbm_shell.specs.Images.{IsSoundImage};

@@ -1,9 +1,9 @@
 //! Giving back a file that was deleted.
 ghost use Rattle.std.specs.Prelude.{◌≡◌, ◌≤◌, true, Some, None, Ok, IfOk, IfSome, OnOk, MatchBool, MatchOption};
 ghost use Rattle.cbm_bam.specs.Marks.{is_marked};
-ghost use Rattle.cbm_volume.specs.Map.{geometry_of};
-ghost use Rattle.cbm_volume.specs.Entries.{EntersLed};
-ghost use Rattle.cbm_volume.specs.Slots.{directory_of};
+ghost use Rattle.cbm_bam.specs.Map.{geometry_of};
+ghost use Rattle.cbm_directory.specs.Entries.{EntersLed};
+ghost use Rattle.cbm_directory.specs.Slots.{directory_of};
 ghost use Rattle.cbm_image.specs.Images.{kind_of, image_fault, tracks_of, content_of};
 ghost use Rattle.cbm_shell.specs.Mapping.{chain_of, entries_in, is_among};
 ghost use Rattle.cbm_shell.specs.Undeleting.{restored_entry, all_free, held_with, HasNoDeleted, IsDeleted, IsMapAnew, IsClear, IsInTheWay, IsNotGiven, IsGivenAgain, IsUndeleted};

@@ -3,9 +3,9 @@
 ghost use Rattle.std.specs.Prelude.{◌≡◌, ◌≤◌, None, length, IfOk, IfErr, IfSome, IsOk, OnOk, MatchOption};
 ghost use Rattle.cbm_medium.specs.Place.{Place};
 ghost use Rattle.cbm_medium.specs.Content.{IsWhole};
-ghost use Rattle.cbm_volume.specs.Map.{geometry_of};
+ghost use Rattle.cbm_bam.specs.Map.{geometry_of};
 ghost use Rattle.cbm_image.specs.Images.{kind_of, image_fault, tracks_of, content_of};
-ghost use Rattle.cbm_volume.specs.Slots.{Answers, directory_of};
+ghost use Rattle.cbm_directory.specs.Slots.{Answers, directory_of};
 ghost use Rattle.cbm_shell.specs.Images.{IsSoundImage};
 ghost use Rattle.cbm_shell.specs.Editing.{CanBeEdited, HasNoSlot, HasNoSlotIn, IsUnedited, IsUneditedIn};
 ghost use Rattle.cbm_shell.specs.Art.{art_entry, dressed_entry, HasEntered, IsDressed, IsFull};

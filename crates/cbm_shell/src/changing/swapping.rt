@@ -1,8 +1,8 @@
 //! Entries of the directory in another order, which no command of the drive makes.
 ghost use Rattle.std.specs.Prelude.{◌≡◌, ◌≤◌, ◌⊎◌, List, false, Some, None, Ok, IfOk, IfErr, OnOk};
 ghost use Rattle.cbm_medium.specs.Place.{Place};
-ghost use Rattle.cbm_volume.specs.Map.{geometry_of};
-ghost use Rattle.cbm_volume.specs.Slots.{Answers, directory_of};
+ghost use Rattle.cbm_bam.specs.Map.{geometry_of};
+ghost use Rattle.cbm_directory.specs.Slots.{Answers, directory_of};
 ghost use Rattle.cbm_image.specs.Images.{kind_of, image_fault, tracks_of, content_of};
 ghost use Rattle.cbm_shell.specs.Images.{IsSoundImage};
 ghost use Rattle.cbm_shell.specs.Editing.{CanBeEdited, HasNoSlot, IsDirectory, IsNoEntry, IsSameMedium, IsUnedited, IsUneditedIn};

@@ -2,7 +2,7 @@
 ghost use Rattle.std.specs.Prelude.{◌≡◌, ◌≤◌};
 ghost use Rattle.cbm_medium.specs.Place.{directory_head};
 ghost use Rattle.cbm_bam.specs.Marks.{is_marked};
-ghost use Rattle.cbm_volume.specs.Entries.{first_block};
+ghost use Rattle.cbm_directory.specs.Entries.{first_block};
 ghost use Rattle.cbm_shell.specs.Mapping.{chain_of, is_among};
 ghost use Rattle.cbm_shell.specs.Marking.{with_places};
 ghost use Rattle.cbm_shell.specs.Geos.{is_one_chain, is_geos, has_records, geos_of, chains_in, records_of, geos_blocks, in_geos, is_geos_mark, is_geos_map, border_in, geos_places};

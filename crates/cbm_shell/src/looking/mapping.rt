@@ -1,8 +1,8 @@
 //! A picture of a disk's sectors.
 ghost use Rattle.std.specs.Prelude.{◌≡◌, ◌≤◌, [], ◌∷◌, ◌++◌, nat_lt, if◌then◌else◌, codes, decimal, IfOk, IfErr, OnOk};
 ghost use Rattle.cbm_medium.specs.Place.{directory_head, sectors_on};
-ghost use Rattle.cbm_volume.specs.Map.{geometry_of};
-ghost use Rattle.cbm_volume.specs.Slots.{directory_of};
+ghost use Rattle.cbm_bam.specs.Map.{geometry_of};
+ghost use Rattle.cbm_directory.specs.Slots.{directory_of};
 ghost use Rattle.cbm_bam.specs.Marks.{is_marked};
 ghost use Rattle.cbm_shell.specs.Mapping.{mark_by, mark_of, sign_of, chain_of, sectors_of, in_files, used_in, is_among, entries_in, free_by, sign_at, signs_on, row_of, rows_of, picture_of};
 ghost use Rattle.cbm_shell.specs.Marking.{with_places};

@@ -2,10 +2,10 @@
 ghost use Rattle.std.specs.Prelude.{◌≡◌, ℕ, List, None, IfErr, IfOk, MatchResult};
 ghost use Rattle.cbm_file.specs.Files.{Disk};
 ghost use Rattle.cbm_medium.specs.Place.{sector_count};
-ghost use Rattle.cbm_volume.specs.Entries.{first_block};
+ghost use Rattle.cbm_directory.specs.Entries.{first_block};
 ghost use Rattle.cbm_volume.specs.Reading.{held_from};
-ghost use Rattle.cbm_volume.specs.Slots.{directory_of};
-ghost use Rattle.cbm_volume.specs.Map.{geometry_of};
+ghost use Rattle.cbm_directory.specs.Slots.{directory_of};
+ghost use Rattle.cbm_bam.specs.Map.{geometry_of};
 ghost use Rattle.cbm_volume.specs.Holding.{HasBytes, HoldsDisk, StandsAt};
 ghost use Rattle.cbm_image.specs.Images.{image_fault, kind_of};
 ghost use Rattle.cbm_shell.specs.Images.{IsOpened, IsOpenFault};

@@ -3,8 +3,8 @@ ghost use Rattle.std.specs.Prelude.{◌≡◌, ℕ, List, IfOk, IfErr, None, Mat
 ghost use Rattle.cbm_file.specs.Files.{Disk};
 ghost use Rattle.cbm_medium.specs.Place.{sector_count};
 ghost use Rattle.cbm_volume.specs.Reading.{held_from};
-ghost use Rattle.cbm_volume.specs.Entries.{first_block};
-ghost use Rattle.cbm_volume.specs.Map.{geometry_of};
+ghost use Rattle.cbm_directory.specs.Entries.{first_block};
+ghost use Rattle.cbm_bam.specs.Map.{geometry_of};
 ghost use Rattle.cbm_volume.specs.Holding.{HoldsDisk, StandsAt, HasBytes};
 ghost use Rattle.cbm_shell.specs.Reading.{IsReadFault, Gets, IsGetFault};
 

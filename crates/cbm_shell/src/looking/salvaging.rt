@@ -2,8 +2,8 @@
 ghost use Rattle.std.specs.Prelude.{◌≡◌, ◌≤◌, ◌++◌, Some, IfOk, OnOk};
 ghost use Rattle.cbm_file.specs.Waiting.{shown};
 ghost use Rattle.cbm_medium.specs.Place.{sector_count};
-ghost use Rattle.cbm_volume.specs.Map.{geometry_of};
-ghost use Rattle.cbm_volume.specs.Entries.{first_block};
+ghost use Rattle.cbm_bam.specs.Map.{geometry_of};
+ghost use Rattle.cbm_directory.specs.Entries.{first_block};
 ghost use Rattle.cbm_volume.specs.Reading.{held_from, rest_of, IsSettled};
 ghost use Rattle.cbm_shell.specs.Salvaging.{waiting};
 

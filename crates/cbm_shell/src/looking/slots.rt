@@ -1,7 +1,7 @@
 //! The entries of the directory, and their files.
 ghost use Rattle.std.specs.Prelude.{◌≡◌, None, IfOk, IfErr};
-ghost use Rattle.cbm_volume.specs.Slots.{directory_of};
-ghost use Rattle.cbm_volume.specs.Map.{geometry_of};
+ghost use Rattle.cbm_directory.specs.Slots.{directory_of};
+ghost use Rattle.cbm_bam.specs.Map.{geometry_of};
 ghost use Rattle.cbm_shell.specs.Reading.{IsReadFault};
 
 use crate::fault::ShellFault;

@@ -1,5 +1,5 @@
 use Rattle.std.proofs.Common.{sym, subst}
-use Rattle.cbm_channel.specs.Machines.{start}
+use Rattle.cbm_machine.specs.Machines.{start}
 use Rattle.cbm_drive.specs.Desks.{DeskStands, at_first}
 use Rattle.cbm_bus.proofs.powered.drive_with.Goals as goal
 use Rattle.cbm_bus.specs.Powered.{powered}

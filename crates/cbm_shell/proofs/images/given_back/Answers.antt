@@ -1,7 +1,7 @@
 use Rattle.std.proofs.Common.{◌≡◌, ℕ}
 use Rattle.std.specs.Prelude.{IfOk}
 use Rattle.cbm_medium.specs.Content.{Content}
-use Rattle.cbm_volume.specs.Map.{geometry_of}
+use Rattle.cbm_bam.specs.Map.{geometry_of}
 use Rattle.cbm_shell.specs.Freeing.{AreFreed}
 use Rattle.cbm_shell.proofs.ImageLemmas.{of_image}
 use Rattle.cbm_shell.proofs.images.given_back.Goals as goal

@@ -1,6 +1,6 @@
 use Rattle.std.proofs.Common.{ℕ, subst, sym, ◌≡◌, ◌∙◌, ap}
 use Rattle.cbm_medium.specs.Content.{Content}
-use Rattle.cbm_volume.specs.Map.{geometry_of}
+use Rattle.cbm_bam.specs.Map.{geometry_of}
 use Rattle.cbm_volume.specs.Sweeps.{IsPutInOrder}
 use Rattle.cbm_shell.specs.Images.{IsOrderly}
 use Rattle.cbm_shell.proofs.ImageLemmas.{of_image}

@@ -1,8 +1,8 @@
 use Rattle.std.proofs.Common.{◌≡◌, ℕ, None}
 use Rattle.std.specs.Prelude.{IfOk, IfErr}
 use Rattle.cbm_medium.specs.Content.{Content}
-use Rattle.cbm_volume.specs.Slots.{directory_of}
-use Rattle.cbm_volume.specs.Map.{geometry_of}
+use Rattle.cbm_directory.specs.Slots.{directory_of}
+use Rattle.cbm_bam.specs.Map.{geometry_of}
 use Rattle.cbm_shell.specs.OpenDisk.{shown_by}
 use Rattle.cbm_shell.specs.Images.{IsOpenFault}
 use Rattle.cbm_shell.specs.Reading.{IsReadFault}

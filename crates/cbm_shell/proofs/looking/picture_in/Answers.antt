@@ -1,7 +1,7 @@
 use Rattle.std.proofs.Common.{◌≡◌, ℕ}
 use Rattle.std.specs.Prelude.{IfOk}
 use Rattle.cbm_medium.specs.Content.{Content}
-use Rattle.cbm_volume.specs.Map.{geometry_of}
+use Rattle.cbm_bam.specs.Map.{geometry_of}
 use Rattle.cbm_shell.specs.Mapping.{picture_of}
 use Rattle.cbm_shell.proofs.ImageLemmas.{of_image, memory_alone}
 use Rattle.cbm_shell.proofs.looking.picture_in.Goals as goal

@@ -1,6 +1,6 @@
 //! All that is wrong with a disk.
 ghost use Rattle.std.specs.Prelude.{◌≡◌, ◌≤◌, ◌++◌, IfOk, OnOk};
-ghost use Rattle.cbm_volume.specs.Map.{geometry_of};
+ghost use Rattle.cbm_bam.specs.Map.{geometry_of};
 ghost use Rattle.cbm_shell.specs.Images.{IsChecked};
 ghost use Rattle.cbm_shell.specs.Flaws.{chain_flaws, first_of, flaws_of};
 

@@ -1,7 +1,7 @@
 //! A walk along the files of the directory.
 ghost use Rattle.std.specs.Prelude.{◌≡◌, ◌≤◌, ◌*◌, OnOk, length};
-ghost use Rattle.cbm_volume.specs.Entries.{is_closed, is_relative};
-ghost use Rattle.cbm_volume.specs.Map.{geometry_of};
+ghost use Rattle.cbm_directory.specs.Entries.{is_closed, is_relative};
+ghost use Rattle.cbm_bam.specs.Map.{geometry_of};
 ghost use Rattle.cbm_volume.specs.check.SlotWalk.{entries_in};
 ghost use Rattle.cbm_bam.specs.Marks.{is_marked};
 ghost use Rattle.cbm_shell.specs.Flaws.{found_at, relative_walk, file_walk, entry_walk, entries_walk, sector_walk, slots_walk};

@@ -2,8 +2,8 @@
 ghost use Rattle.std.specs.Prelude.{◌≡◌, ◌≤◌, ◌++◌, IfOk, OnOk};
 ghost use Rattle.cbm_medium.specs.Place.{directory_head, sectors_on};
 ghost use Rattle.cbm_bam.specs.Marks.{is_marked};
-ghost use Rattle.cbm_volume.specs.Map.{geometry_of};
-ghost use Rattle.cbm_volume.specs.Slots.{directory_of};
+ghost use Rattle.cbm_bam.specs.Map.{geometry_of};
+ghost use Rattle.cbm_directory.specs.Slots.{directory_of};
 ghost use Rattle.cbm_shell.specs.Mapping.{free_by};
 ghost use Rattle.cbm_shell.specs.Passing.{place_if, places_on, places_in};
 ghost use Rattle.cbm_shell.specs.Lost.{lost_at, lost_among, lost_of};

@@ -1,7 +1,7 @@
 //! What is wrong with the disk of an image that was opened.
 ghost use Rattle.std.specs.Prelude.{◌≡◌, ◌≤◌, IfOk, IsOk, MatchOption, Err};
-ghost use Rattle.cbm_volume.specs.Map.{geometry_of};
-ghost use Rattle.cbm_volume.specs.Slots.{directory_of};
+ghost use Rattle.cbm_bam.specs.Map.{geometry_of};
+ghost use Rattle.cbm_directory.specs.Slots.{directory_of};
 ghost use Rattle.cbm_shell.specs.OpenDisk.{shown_by};
 ghost use Rattle.cbm_shell.specs.Images.{IsChecked};
 ghost use Rattle.cbm_shell.specs.Flaws.{first_of, flaws_of};

@@ -1,7 +1,7 @@
 //! A walk along the side sectors of a relative file.
 ghost use Rattle.std.specs.Prelude.{◌≡◌, ◌≤◌, ◌++◌, ◌&&◌, not, IfOk, OnOk};
-ghost use Rattle.cbm_volume.specs.Entries.{first_side};
-ghost use Rattle.cbm_volume.specs.Map.{geometry_of};
+ghost use Rattle.cbm_directory.specs.Entries.{first_side};
+ghost use Rattle.cbm_bam.specs.Map.{geometry_of};
 ghost use Rattle.cbm_volume.specs.check.SideLists.{are_records, behind_first, sides_from};
 ghost use Rattle.cbm_bam.specs.Marks.{is_marked};
 ghost use Rattle.cbm_shell.specs.Flaws.{among, flawed, flaw_if, sides_walk};

@@ -1,7 +1,7 @@
 //! The files that use a sector.
 ghost use Rattle.std.specs.Prelude.{◌≡◌, ◌≤◌, ◌++◌, IfOk, OnOk};
-ghost use Rattle.cbm_volume.specs.Map.{geometry_of};
-ghost use Rattle.cbm_volume.specs.Slots.{directory_of};
+ghost use Rattle.cbm_bam.specs.Map.{geometry_of};
+ghost use Rattle.cbm_directory.specs.Slots.{directory_of};
 ghost use Rattle.cbm_shell.specs.Mapping.{entries_in};
 ghost use Rattle.cbm_shell.specs.Users.{slot_if, is_user, users_among, users_of};
 

@@ -4,7 +4,7 @@ ghost use Rattle.cbm_medium.specs.Place.{Place, directory_head};
 ghost use Rattle.cbm_medium.specs.Content.{IsWhole, written};
 ghost use Rattle.cbm_file.specs.Padding.{padded};
 ghost use Rattle.cbm_file.specs.Files.{Disk};
-ghost use Rattle.cbm_volume.specs.Map.{geometry_of};
+ghost use Rattle.cbm_bam.specs.Map.{geometry_of};
 ghost use Rattle.cbm_image.specs.Images.{kind_of, image_fault, content_of, ImageHolds};
 ghost use Rattle.cbm_shell.specs.Images.{IsSoundImage};
 ghost use Rattle.cbm_shell.specs.Editing.{CanBeEdited, IsUneditedIn};

@@ -5,7 +5,7 @@ use Rattle.cbm_bus.specs.Powered.{IsAtRest}
 use Rattle.cbm_drive.specs.Desks.{Desk, desk_step, desk_says}
 use Rattle.cbm_drive.specs.Ordered.{fault_of}
 use Rattle.cbm_drive.specs.NextSaid.{more_said}
-use Rattle.cbm_channel.specs.Machines.{Machine}
+use Rattle.cbm_machine.specs.Machines.{Machine}
 use Rattle.cbm_session.specs.Playing.{at_rest}
 
 pub returns-clause-headline : goal.returns-clause-headline

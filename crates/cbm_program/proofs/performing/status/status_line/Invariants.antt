@@ -1,5 +1,5 @@
 use Rattle.std.proofs.Common.{◌≡◌, ◌+◌, Bool}
-use Rattle.cbm_drive.specs.Machines.{Machine}
+use Rattle.cbm_machine.specs.Machines.{Machine}
 use Rattle.cbm_host.specs.Hosted.{Rests, IsUnderWay, tracks_on}
 use Rattle.cbm_host.specs.Progress.{left_of}
 use Rattle.cbm_host.specs.Requests.{longest}

@@ -1,7 +1,7 @@
 use Rattle.std.proofs.Common.{ap, subst, ◌∙◌, Some, Ok, Err}
 use Rattle.std.proofs.lemmas.Result.{err_from_is_err_and}
-use Rattle.cbm_volume.specs.Map.{geometry_of}
-use Rattle.cbm_volume.specs.Slots.{Answers, directory_of}
+use Rattle.cbm_bam.specs.Map.{geometry_of}
+use Rattle.cbm_directory.specs.Slots.{Answers, directory_of}
 use Rattle.cbm_shell.proofs.EditLemmas.{put_at}
 use Rattle.cbm_shell.proofs.SlotLemmas.{no_entry_at}
 use Rattle.cbm_shell.proofs.changing.art.dressed.Goals as goal

@@ -1,6 +1,6 @@
 use Rattle.std.proofs.Common.{ap, subst, ◌∙◌, Err}
 use Rattle.std.proofs.lemmas.Result.{err_from_is_err_and}
-use Rattle.cbm_volume.specs.Map.{geometry_of}
+use Rattle.cbm_bam.specs.Map.{geometry_of}
 use Rattle.cbm_image.specs.Images.{kind_of}
 use Rattle.cbm_shell.specs.Editing.{IsUnedited}
 use Rattle.cbm_shell.proofs.EditLemmas.{edit_unsound, sound_anew, image_sound}

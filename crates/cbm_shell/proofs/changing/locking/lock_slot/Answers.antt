@@ -1,5 +1,5 @@
 use Rattle.std.proofs.Common.{subst, Ok}
-use Rattle.cbm_volume.specs.Slots.{Answers, directory_of}
+use Rattle.cbm_directory.specs.Slots.{Answers, directory_of}
 use Rattle.cbm_shell.proofs.EditLemmas.{whole_directory, put_never}
 use Rattle.cbm_shell.proofs.LockLemmas.{few_slots}
 use Rattle.cbm_shell.proofs.changing.locking.lock_slot.Goals as goal

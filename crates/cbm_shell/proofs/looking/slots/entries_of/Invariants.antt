@@ -1,6 +1,6 @@
 use Rattle.std.proofs.Common.{◌≡◌, ◌≤◌}
-use Rattle.cbm_volume.specs.Slots.{behind, directory_of, left_of, most_left}
-use Rattle.cbm_volume.specs.Map.{geometry_of}
+use Rattle.cbm_directory.specs.Slots.{behind, directory_of, left_of, most_left}
+use Rattle.cbm_bam.specs.Map.{geometry_of}
 use Rattle.cbm_shell.proofs.looking.slots.entries_of.Given as goal
 
 abbrev pub invariant-slots : goal.invariant-slots

@@ -1,5 +1,5 @@
 use Rattle.std.proofs.Common.{sym, ◌∙◌}
-use Rattle.cbm_volume.specs.Map.{geometry_of}
+use Rattle.cbm_bam.specs.Map.{geometry_of}
 use Rattle.cbm_shell.proofs.FlawOrder.{sound_none, all_first}
 use Rattle.cbm_shell.proofs.broken.flaws.all.flaws_of.Goals as goal
 

@@ -1,6 +1,6 @@
 use Rattle.std.proofs.Common.{sym, ap, subst}
 use Rattle.cbm_bam.specs.Marks.{is_marked}
-use Rattle.cbm_volume.specs.Map.{geometry_of}
+use Rattle.cbm_bam.specs.Map.{geometry_of}
 use Rattle.cbm_volume.specs.check.SideLists.{are_records, sides_from}
 use Rattle.cbm_shell.specs.Flaws.{among}
 use Rattle.cbm_shell.specs.FlawSteps.{IsWalked}
