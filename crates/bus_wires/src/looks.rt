@@ -26,14 +26,18 @@ impl Default for Look {
     }
 }
 
-/// Whether a talker that has pulled CLOCK goes on to say a byte, as the wires show later: once CLOCK is free it is pulled
-/// again, or the host answers EOI. Else ATN is pulled first, or nothing more was read.
+/// Whether a talker that has pulled CLOCK leads with a byte, as the wires show later: once CLOCK is free it is pulled again,
+/// or the host answers EOI. Where ATN is pulled before CLOCK is free, DATA tells: a talker that leads has freed it.
 pub fn says_a_byte(wires: Lines, ahead: &[Look]) -> bool {
     let (mut was, mut offered) = (wires, false);
-    for look in ahead {
+    for (place, look) in ahead.iter().enumerate() {
+        let next = ahead.get(place.saturating_add(1));
+        if next.map(|next| next.moment) == Some(look.moment) {
+            continue;
+        }
         let now = look.wires;
         if now.atn_low {
-            return false;
+            return !offered && !now.data_low;
         }
         if offered && (now.clock_low || now.data_low && !was.data_low) {
             return true;
