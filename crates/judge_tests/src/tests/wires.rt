@@ -115,3 +115,42 @@ fn tells_what_does_not_show(rt: HostRuntime) {
     let verdict = said(&rt, rt.alloc(), SILENT, &["8:20:kernal"], expected);
     assert!(rt; verdict == Ok(Verdict::Session));
 }
+
+/// The same drive, with a byte to say, and ATN pulled before it has freed CLOCK: that DATA is free then shows that it leads.
+const LEADS: &str =
+    "$var wire 1 a atn $end $var wire 1 c clk $end $var wire 1 d data $end $enddefinitions $end
+#0 0a 0c
+#20 0d
+#100 1c
+#120 1d
+#140 0d 0c
+#160 1c
+#180 0c
+#200 1c
+#220 0c
+#240 1c
+#260 1d 0c
+#280 1c
+#300 0d 0c
+#320 1c
+#340 0c
+#360 1c
+#380 1d 0c
+#400 1c
+#420 0d 0c
+#440 1c
+#460 1d 0c
+#480 0d
+#560 1a
+#580 1c
+#600 0c
+#650 0a 1d
+#670 0d
+";
+
+#[test]
+fn tells_who_leads(rt: HostRuntime) {
+    let expected = "attention 48\nattention\na session to 670 us\n";
+    let verdict = said(&rt, rt.alloc(), LEADS, &["8:20:kernal"], expected);
+    assert!(rt; verdict == Ok(Verdict::Session));
+}
