@@ -167,8 +167,6 @@ impl Judge {
     }
 
     /// All steps of the piece have come. Where the talker goes on, its next frame is under way at once.
-    // (In its caller's frame its lists would cost each event that is awaited.)
-    #[inline(never)]
     fn come(&mut self, event: Event) -> Result<(), Breach>
         requires { length self.old.steps.items ≤ self.old.seen }
         ensures stands { (bs : List ThisParty) → (done : List Seen) → Stands bs self.old done → OnOk result (Stands bs self.new done) }

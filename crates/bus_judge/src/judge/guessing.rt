@@ -17,8 +17,6 @@ use cbm_iec::{Event, Line, Way};
 
 impl Judge {
     /// The event isn't the next step of the piece that was guessed: finds one of which it is.
-    // (In its caller's frame its lists would cost each event that is awaited.)
-    #[inline(never)]
     pub(crate) fn otherwise(&mut self, event: Event) -> Result<Mark, Breach>
         ensures stands { (bs : List ThisParty) → (done : List Seen) → Stands bs self.old done → OnOk result (Stands bs self.new done) }
         ensures awaits { IfOk result (λ mark. Awaits self.new event mark) }
