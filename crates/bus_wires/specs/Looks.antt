@@ -100,6 +100,6 @@ IsWhole w = FirstAfter w.moment w.ahead.items
 abbrev pub IsSettled : Wires → Type 0
 IsSettled w = IsWhole w → Shows (parties_of w.hands) w.wires
 
--- as much is read and given as before
+-- as much is read and given as before, and the capture's end is the same
 abbrev pub IsAlike : Wires → Wires → Type 0
-IsAlike v w = (v.moment ≡ w.moment) × (v.wires ≡ w.wires) × (v.ahead.items ≡ w.ahead.items)
+IsAlike v w = (v.moment ≡ w.moment) × (v.wires ≡ w.wires) × (v.ahead.items ≡ w.ahead.items) × (v.end ≡ w.end)

@@ -1,6 +1,6 @@
 //! Reads the changes of the wires, and gives the events of the parties that have exactly these wires.
 
-ghost use Rattle.std.specs.Prelude.{◌≡◌, ◌<◌, ◌≤◌, ◌+◌, ◌-◌, ◌^◌, List, [], ◌++◌, ◌∷◌, None, true, false, length, IfSome, IfNone, OnOk, OnErr};
+ghost use Rattle.std.specs.Prelude.{is_some, ◌≡◌, ◌<◌, ◌≤◌, ◌+◌, ◌-◌, ◌^◌, List, [], ◌++◌, ◌∷◌, None, true, false, length, IfSome, IfNone, OnOk, OnErr};
 ghost use Rattle.bus_wires.specs.Cable.{parties_of, after, wire, low, changed, Shows};
 ghost use Rattle.bus_wires.specs.Looks.{Stands, HaveWires, IsSettled, IsWhole, IsAlike, NoneBefore, and_read, and_given, last_look, present};
 ghost use Rattle.cbm_iec.specs.declared.event.Event.{Event as ThisEvent};
@@ -101,6 +101,8 @@ impl Wires {
             → IfNone result (Stands bs self.new cs es) }
         ensures exact { (bs : List ThisParty) → (cs : List ThisChange) → (es : List ThisEvent) → Stands bs self.old cs es
             → IfNone result (self.new.ahead.items ≡ [] → HaveWires bs es cs) }
+        ensures over { (bs : List ThisParty) → (cs : List ThisChange) → (es : List ThisEvent) → Stands bs self.old cs es → is_some self.old.end ≡ true
+            → IfNone result (self.new.ahead.items ≡ []) }
     {
         'moments: loop {
             if let Some(event) = self.event() {
@@ -231,6 +233,7 @@ impl Wires {
     /// Goes on to a reaction, if one is due before a moment; no wire is known to change before it.
     fn react(&mut self, limit: u64) -> bool
         requires { NoneBefore limit self.old.ahead.items }
+        ensures end { self.new.end ≡ self.old.end }
         ensures stands { (bs : List ThisParty) → (cs : List ThisChange) → (es : List ThisEvent) → Stands bs self.old cs es → IsSettled self.old
             → result ≡ true → Stands bs self.new cs es }
         ensures less { result ≡ true → (2 ^ 50 - self.new.moment) + length self.new.ahead.items < (2 ^ 50 - self.old.moment) + length self.old.ahead.items }
@@ -246,6 +249,8 @@ impl Wires {
 
     /// Goes on to the first moment that is ahead.
     fn take(&mut self) -> bool
+        ensures end { self.new.end ≡ self.old.end }
+        ensures left { (bs : List ThisParty) → (cs : List ThisChange) → (es : List ThisEvent) → Stands bs self.old cs es → result ≡ false → self.old.ahead.items ≡ [] }
         ensures stands { (bs : List ThisParty) → (cs : List ThisChange) → (es : List ThisEvent) → Stands bs self.old cs es → IsSettled self.old
             → result ≡ true → Stands bs self.new cs es }
         ensures less { result ≡ true → (2 ^ 50 - self.new.moment) + length self.new.ahead.items < (2 ^ 50 - self.old.moment) + length self.old.ahead.items }
@@ -268,6 +273,9 @@ impl Wires {
     /// Goes on to the next moment at which a wire changes or a drive reacts. False where none is known yet, or the trace has
     /// ended; then nothing has changed.
     fn turn(&mut self) -> bool
+        ensures end { self.new.end ≡ self.old.end }
+        ensures left { (bs : List ThisParty) → (cs : List ThisChange) → (es : List ThisEvent) → Stands bs self.old cs es → is_some self.old.end ≡ true
+            → result ≡ false → self.old.ahead.items ≡ [] }
         ensures stands { (bs : List ThisParty) → (cs : List ThisChange) → (es : List ThisEvent) → Stands bs self.old cs es → IsSettled self.old
             → result ≡ true → Stands bs self.new cs es }
         ensures less { result ≡ true → (2 ^ 50 - self.new.moment) + length self.new.ahead.items < (2 ^ 50 - self.old.moment) + length self.old.ahead.items }

@@ -1,4 +1,5 @@
-use Rattle.std.proofs.Common.{sym, subst, ap, ◌∙◌}
+use Rattle.std.proofs.Common.{ℕ, Option, sym, subst, ap, ◌∙◌}
+use Rattle.std.specs.Prelude.{is_some}
 use Rattle.bus_wires.proofs.Standing.{stands_alike, stands_with, all_given}
 use Rattle.bus_wires.specs.Looks.{Stands}
 use Rattle.bus_wires.specs.declared.wires.Wires.{Wires}
@@ -22,10 +23,18 @@ returns-then-not-turn-clause-exact c = λ bs cs es s e.
     let same = c.turn.ensures.same c.if-not-turn.true in
     all_given bs c.event.new.self cs es still c.in_default.ensures.settled (ap (λ (w : Wires). w.ahead.items) (sym same) ∙ e)
 
+-- where the capture has ended, nothing that was read is left
+pub returns-then-not-turn-clause-over : goal.returns-then-not-turn-clause-over
+returns-then-not-turn-clause-over c = λ bs cs es s e.
+    let still = stands_alike bs c.event.new.self c.moments.self cs es (c.moments.invariant.stands bs cs es s) c.in_default.ensures.kept c.in_default.ensures.alike in
+    let ended = ap (λ (o : Option ℕ). is_some o) (c.in_default.ensures.alike.3 ∙ c.moments.invariant.end) ∙ e in
+    ap (λ (w : Wires). w.ahead.items) (c.turn.ensures.same c.if-not-turn.true) ∙ c.turn.ensures.left bs cs es still ended c.if-not-turn.true
+
 -- the next moment begins
 pub moments-preserved : goal.moments-preserved
 moments-preserved c = record {
   stands = λ bs cs es s.
       let still = stands_alike bs c.event.new.self c.moments.self cs es (c.moments.invariant.stands bs cs es s) c.in_default.ensures.kept c.in_default.ensures.alike in
       c.turn.ensures.stands bs cs es still c.in_default.ensures.settled c.if-not-turn.false;
+  end = c.turn.ensures.end ∙ (c.in_default.ensures.alike.3 ∙ c.moments.invariant.end);
 }

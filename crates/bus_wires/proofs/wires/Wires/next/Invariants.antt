@@ -1,4 +1,4 @@
-use Rattle.std.proofs.Common.{List, length, ◌+◌, ◌-◌, ◌^◌}
+use Rattle.std.proofs.Common.{◌≡◌, List, length, ◌+◌, ◌-◌, ◌^◌}
 use Rattle.bus_wires.specs.Looks.{Stands}
 use Rattle.cbm_iec.specs.declared.event.Event.{Event}
 use Rattle.cbm_iec.specs.declared.line.Change.{Change}
@@ -9,6 +9,7 @@ use Rattle.bus_wires.proofs.wires.Wires.next.Given as goal
 abbrev pub invariant-moments : goal.invariant-moments
 invariant-moments l = record {
   stands : (bs : List Party) (cs : List Change) (es : List Event) → Stands bs l.initial.self cs es → Stands bs l.self cs es;
+  end : l.self.end ≡ l.initial.self.end;
 }
 
 abbrev pub decreases-moments : goal.decreases-moments
