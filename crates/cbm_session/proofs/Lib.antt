@@ -6,4 +6,5 @@ pub mod among
 pub mod timing
 pub mod headline
 pub mod handed
+pub mod loose
 mod Paces

@@ -12,5 +12,6 @@ pub mod Among
 pub mod Buses
 pub mod Playing
 pub mod Handed
+pub mod Loosely
 pub mod Rows
 pub mod Laws

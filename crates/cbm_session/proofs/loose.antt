@@ -1,0 +1,7 @@
+-- A host that keeps the timing loosely: a play under it and one under a tidy host, side by side.
+pub mod Sides
+pub mod Wires
+pub mod Reactions
+pub mod Stations
+pub mod Alone
+pub mod Moves
