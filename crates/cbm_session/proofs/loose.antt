@@ -5,3 +5,7 @@ pub mod Reactions
 pub mod Stations
 pub mod Alone
 pub mod Moves
+pub mod Zips
+pub mod Plays
+pub mod Once
+pub mod Loosely

@@ -6,6 +6,7 @@ ghost use Rattle.cbm_session.specs.Following.{FollowsPieces, FollowsFronts, Foll
 ghost use Rattle.cbm_session.specs.Laws.{OnePulse, PulseEnds, ListenersAccepted, DrivesAccepted, CommandsGoInParts, BytesGoInParts, SessionsGoOn, OneReading, FrontsKeep, FrontsInTime};
 ghost use Rattle.cbm_session.specs.Playing.{KeepsSessions};
 ghost use Rattle.cbm_session.specs.Handed.{HearsOne, HandsEach};
+ghost use Rattle.cbm_session.specs.Loosely.{KeepsLoosely};
 ghost use Rattle.cbm_session.specs.Rows.{ListenOwn, ListenOther, TalkCut, TalkCutEarly, TwoListeners, Ties98, Ties89, BesideAListener, SilentBeside};
 
 use cbm_iec::Machine;
@@ -107,4 +108,11 @@ pub fn hands_each<D: Machine>()
 /// the acts that count in it, and no reaction is late.
 pub fn keeps_sessions<D: Machine>()
     ensures { KeepsSessions D.State D.step D.says }
+{}
+
+/// The same under a host that keeps the timing loosely, as a computer's KERNAL does: its changes of CLOCK and DATA may
+/// come otherwise than a session says wherever no drive heeds them. Beside its trace there is a session with the same
+/// events of the drives, and the machines are the same in the end.
+pub fn keeps_loosely<D: Machine>()
+    ensures { KeepsLoosely D.State D.step D.says }
 {}

@@ -29,7 +29,7 @@ pub data Beside {A : Type 0} (as_ : List A) (x : A) (bs before : List A) (o : A)
   ahead : (mid : List A) → before ≡ as_ ++ x ∷ mid → bs ≡ mid ++ o ∷ behind → Beside as_ x bs before o behind
   later : (mid : List A) → as_ ≡ before ++ o ∷ mid → behind ≡ mid ++ x ∷ bs → Beside as_ x bs before o behind
 
-where_is : {A : Type 0} (as_ : List A) (x : A) (bs before : List A) (o : A) (behind : List A) → as_ ++ x ∷ bs ≡ before ++ o ∷ behind → Beside as_ x bs before o behind
+pub where_is : {A : Type 0} (as_ : List A) (x : A) (bs before : List A) (o : A) (behind : List A) → as_ ++ x ∷ bs ≡ before ++ o ∷ behind → Beside as_ x bs before o behind
 where_is {A} [] x bs [] o behind e = let f : x ≡ o = cc in let g : bs ≡ behind = cc in here refl f g
 where_is {A} [] x bs (c ∷ before) o behind e =
     let f : c ≡ x = cc in
@@ -64,7 +64,7 @@ under_map (a ∷ as_) P Q (y ∷ ys) f u = under_map as_ P Q ys f u
 
 -- ---- the drives of a bus
 
-all_react_at : (xs : List Party) (p : Party) (ys : List Party) → AllReact (xs ++ p ∷ ys) → (AllReact xs × (1 ≤ p.reaction) × AllReact ys)
+pub all_react_at : (xs : List Party) (p : Party) (ys : List Party) → AllReact (xs ++ p ∷ ys) → (AllReact xs × (1 ≤ p.reaction) × AllReact ys)
 all_react_at [] p ys h = (tt, h.0, h.1)
 all_react_at (x ∷ xs) p ys h = let k = all_react_at xs p ys h.1 in ((h.0, k.0), k.1, k.2)
 
@@ -103,11 +103,11 @@ others_stay d o (c ∷ cs) es n =
     ap (λ (v : Bool). if v then others_of d (drive_events o cs ++ es) else (record { who = Drive o; change = c }) ∷ others_of d (drive_events o cs ++ es)) (ne_eqb d o n)
     ∙ ap (λ (l : List Event). (record { who = Drive o; change = c }) ∷ l) (others_stay d o cs es n)
 
-abbrev AllAt : ℕ → List Change → Type 0
+abbrev pub AllAt : ℕ → List Change → Type 0
 AllAt t [] = Unit {0}
 AllAt t (c ∷ cs) = (c.moment ≡ t) × AllAt t cs
 
-changes_at : (t : ℕ) (c c2 e e2 : Bool) → AllAt t (changed t Clock c c2 ++ changed t Data e e2)
+pub changes_at : (t : ℕ) (c c2 e e2 : Bool) → AllAt t (changed t Clock c c2 ++ changed t Data e e2)
 changes_at t c c2 e e2 = go (changed t Clock c c2) (one Clock c c2)
   where
     one : (l : Line) (was now : Bool) → AllAt t (changed t l was now)
@@ -126,7 +126,7 @@ later_weak : (t u : ℕ) (o : Option ℕ) → u ≤ t → IsLaterDue t o → IsL
 later_weak t u None l h = tt
 later_weak t u (Some v) l h = omega (arith, l, h)
 
-later_in_time : (t u : ℕ) (o : Option ℕ) → u ≤ t → IsLaterDue t o → IsInTime u o
+pub later_in_time : (t u : ℕ) (o : Option ℕ) → u ≤ t → IsLaterDue t o → IsInTime u o
 later_in_time t u None l h = tt
 later_in_time t u (Some v) l h = omega (arith, l, h)
 
@@ -164,7 +164,7 @@ module _ (M : Type 0) (step : M → Act → M) (peek : M → Option (ℕ × Bool
     | inr k ↦ later_weak t u _ l k
   ]
 
-  in_time_told : (t u : ℕ) (r : Rest) (s : Station M) → 1 ≤ s.port.party.reaction → u ≤ t → IsInTime u (Due s) → IsInTime u (Due (told_lines M step peek t r s))
+  pub in_time_told : (t u : ℕ) (r : Rest) (s : Station M) → 1 ≤ s.port.party.reaction → u ≤ t → IsInTime u (Due s) → IsInTime u (Due (told_lines M step peek t r s))
   in_time_told t u r s w l h = elim (told_kept t _ s.port w) [
     | inl e ↦ subst (λ (o : Option ℕ). IsInTime u o) (sym e) h
     | inr k ↦ later_in_time t u _ l k
@@ -174,7 +174,7 @@ module _ (M : Type 0) (step : M → Act → M) (peek : M → Option (ℕ × Bool
   later_heard t u [] s a w l h = h
   later_heard t u (c ∷ cs) s a w l h = let e = a.0 in later_heard t u cs (hear M step peek c s) a.1 w l (later_told c.moment u (behind_other c.line c.way s.rest) s w (omega (arith, e, l)) h)
 
-  in_time_heard : (t u : ℕ) (cs : List Change) (s : Station M) → AllAt t cs → 1 ≤ s.port.party.reaction → u ≤ t → IsInTime u (Due s) → IsInTime u (Due (hear_all M step peek cs s))
+  pub in_time_heard : (t u : ℕ) (cs : List Change) (s : Station M) → AllAt t cs → 1 ≤ s.port.party.reaction → u ≤ t → IsInTime u (Due s) → IsInTime u (Due (hear_all M step peek cs s))
   in_time_heard t u [] s a w l h = h
   in_time_heard t u (c ∷ cs) s a w l h = let e = a.0 in in_time_heard t u cs (hear M step peek c s) a.1 w l (in_time_told c.moment u (behind_other c.line c.way s.rest) s w (omega (arith, e, l)) h)
 
@@ -182,15 +182,15 @@ module _ (M : Type 0) (step : M → Act → M) (peek : M → Option (ℕ × Bool
   all_later_heard t u cs [] a w l h = tt
   all_later_heard t u cs (s ∷ ss) a w l h = (later_heard t u cs s a w.0 l h.0, all_later_heard t u cs ss a w.1 l h.1)
 
-  all_in_time_heard : (t u : ℕ) (cs : List Change) (ss : List (Station M)) → AllAt t cs → AllReact (parties ss) → u ≤ t → AllInTime M step peek u ss → AllInTime M step peek u (map (λ s. hear_all M step peek cs s) ss)
+  pub all_in_time_heard : (t u : ℕ) (cs : List Change) (ss : List (Station M)) → AllAt t cs → AllReact (parties ss) → u ≤ t → AllInTime M step peek u ss → AllInTime M step peek u (map (λ s. hear_all M step peek cs s) ss)
   all_in_time_heard t u cs [] a w l h = tt
   all_in_time_heard t u cs (s ∷ ss) a w l h = (in_time_heard t u cs s a w.0 l h.0, all_in_time_heard t u cs ss a w.1 l h.1)
 
-  later_at : (t : ℕ) (xs : List (Station M)) (x : Station M) (ys : List (Station M)) → AllLater M step peek t (xs ++ x ∷ ys) → (AllLater M step peek t xs × IsLaterDue t (Due x) × AllLater M step peek t ys)
+  pub later_at : (t : ℕ) (xs : List (Station M)) (x : Station M) (ys : List (Station M)) → AllLater M step peek t (xs ++ x ∷ ys) → (AllLater M step peek t xs × IsLaterDue t (Due x) × AllLater M step peek t ys)
   later_at t [] x ys h = (tt, h.0, h.1)
   later_at t (y ∷ xs) x ys h = let k = later_at t xs x ys h.1 in ((h.0, k.0), k.1, k.2)
 
-  in_time_at : (t : ℕ) (xs : List (Station M)) (x : Station M) (ys : List (Station M)) → AllInTime M step peek t (xs ++ x ∷ ys) → (AllInTime M step peek t xs × IsInTime t (Due x) × AllInTime M step peek t ys)
+  pub in_time_at : (t : ℕ) (xs : List (Station M)) (x : Station M) (ys : List (Station M)) → AllInTime M step peek t (xs ++ x ∷ ys) → (AllInTime M step peek t xs × IsInTime t (Due x) × AllInTime M step peek t ys)
   in_time_at t [] x ys h = (tt, h.0, h.1)
   in_time_at t (y ∷ xs) x ys h = let k = in_time_at t xs x ys h.1 in ((h.0, k.0), k.1, k.2)
 
@@ -198,14 +198,14 @@ module _ (M : Type 0) (step : M → Act → M) (peek : M → Option (ℕ × Bool
   later_join t [] x ys a b c = (b, c)
   later_join t (y ∷ xs) x ys a b c = (a.0, later_join t xs x ys a.1 b c)
 
-  in_time_join : (t : ℕ) (xs : List (Station M)) (x : Station M) (ys : List (Station M)) → AllInTime M step peek t xs → IsInTime t (Due x) → AllInTime M step peek t ys → AllInTime M step peek t (xs ++ x ∷ ys)
+  pub in_time_join : (t : ℕ) (xs : List (Station M)) (x : Station M) (ys : List (Station M)) → AllInTime M step peek t xs → IsInTime t (Due x) → AllInTime M step peek t ys → AllInTime M step peek t (xs ++ x ∷ ys)
   in_time_join t [] x ys a b c = (b, c)
   in_time_join t (y ∷ xs) x ys a b c = (a.0, in_time_join t xs x ys a.1 b c)
 
   react_later : (t u : ℕ) (s : Station M) → 1 ≤ s.port.party.reaction → u ≤ t → Due s ≡ Some t → IsLaterDue u (Due (react M step peek t s))
   react_later t u s w l e = later_weak t u (Due (react M step peek t s)) l (reacted_later t (peek s.machine) s.port w e)
 
-  react_in_time : (t u : ℕ) (s : Station M) → 1 ≤ s.port.party.reaction → u ≤ t → Due s ≡ Some t → IsInTime u (Due (react M step peek t s))
+  pub react_in_time : (t u : ℕ) (s : Station M) → 1 ≤ s.port.party.reaction → u ≤ t → Due s ≡ Some t → IsInTime u (Due (react M step peek t s))
   react_in_time t u s w l e = later_in_time t u (Due (react M step peek t s)) l (reacted_later t (peek s.machine) s.port w e)
 
   -- a station that settled stays so
