@@ -41,17 +41,27 @@ half_bit Kernal = 80
 abbrev pub bit_time : Pace → ℕ
 bit_time p = 2 * half_bit p
 
--- the host: CLOCK and DATA stand at least this long before the next change of CLOCK in a bit; as long from an accept to ATN's change, from ATN's release to CLOCK's in a turnaround
+-- the host: CLOCK and DATA stand at least this long before the next change of CLOCK in a bit; as long from an accept to ATN's change
 abbrev pub settle : ℕ
 settle = 20
 
--- the host: with several drives, from the first accept to ATN's change
+-- the host: with several drives, one of them of the pace Profile, from the first accept to ATN's change
 abbrev pub settle_all : ℕ
 settle_all = 60
 
--- the host: from a change of ATN, or an accept, to the release of CLOCK for a byte; and from ATN's release to its next pull
+-- the host: in a turnaround, from ATN's release to CLOCK's, by the pace of the drive that talks
+abbrev pub turn_settle : Pace → ℕ
+turn_settle Profile = settle
+turn_settle Kernal = 15
+
+-- the host: from a change of ATN, or an accept, to the release of CLOCK for a byte
 abbrev pub pause : ℕ
 pause = 100
+
+-- the host: from ATN's release to its next pull; where all drives are of a KERNAL's pace, just after the slowest reaction
+abbrev pub pull_pause : Pace → ℕ
+pull_pause Profile = pause
+pull_pause Kernal = slowest_reaction + 1
 
 -- the host: without EOI its first bit begins at most this long after DATA was first free on the wire
 abbrev pub latest_start : ℕ

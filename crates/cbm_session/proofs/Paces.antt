@@ -1,6 +1,6 @@
 -- What is known of both paces' times.
 use Rattle.std.proofs.Common.{◌≡◌, ℕ, ◌*◌, ◌≤◌, true, ap, refl, arith}
-use Rattle.cbm_iec.specs.Profile.{eoi_pulse, bit_time}
+use Rattle.cbm_iec.specs.Profile.{eoi_pulse, bit_time, turn_settle, pull_pause}
 use Rattle.cbm_iec.specs.declared.pace.Pace.TheVariants.{Profile, Kernal}
 use Rattle.cbm_iec.specs.declared.pace.Pace.{Pace}
 use Rattle.cbm_iec.specs.Hearing.{after_start}
@@ -15,6 +15,16 @@ pulse_from Kernal = omega arith
 pub pulse_upto : (e : Pace) → eoi_pulse e ≤ 80
 pulse_upto Profile = omega arith
 pulse_upto Kernal = omega arith
+
+-- CLOCK is freed behind ATN's release
+pub settle_from : (e : Pace) → 15 ≤ turn_settle e
+settle_from Profile = omega arith
+settle_from Kernal = omega arith
+
+-- from ATN's release to its next pull all reactions have come
+pub pause_from : (e : Pace) → 61 ≤ pull_pause e
+pause_from Profile = omega arith
+pause_from Kernal = omega arith
 
 -- eight bits
 pub by_eight : (p : Pace) {n : ℕ} → n ≡ 8 → bit_time p * n ≡ bit_time p * 8

@@ -2,7 +2,7 @@
 use Rattle.cbm_iec.specs.declared.pace.Pace.{Pace}
 use Rattle.cbm_iec.specs.declared.pace.Pace.TheVariants.{Profile, Kernal}
 use Rattle.std.specs.Prelude.{◌≡◌, ℕ, ◌+◌, ◌≤◌, max, Bool, true, false, not, List, [], ◌∷◌, ◌++◌, map, Option, Some, None, if◌then◌else◌, nat_le, nat_lt, filter}
-use Rattle.cbm_iec.specs.Profile.{lead, mute, next_byte, settle, settle_all, pause}
+use Rattle.cbm_iec.specs.Profile.{lead, mute, next_byte, settle, settle_all, turn_settle, pause, pull_pause}
 use Rattle.cbm_iec.specs.Roles.{role_after}
 use Rattle.cbm_iec.specs.declared.act.Act.TheVariants.{Pulled, Attention, Released, Heard, Silent}
 use Rattle.cbm_iec.specs.declared.line.Line.TheVariants.{Atn, Clock, Data}
@@ -14,7 +14,7 @@ use Rattle.cbm_iec.specs.declared.party.Role.TheVariants.{Absent, Listener, Talk
 use Rattle.cbm_iec.specs.declared.party.Role.{Role}
 use Rattle.cbm_session.specs.Bits.{where_held, where_free, byte_of}
 use Rattle.cbm_session.specs.Frames.{Sent, Told, wire, accept_of, hearing, sending, SentFits, is_last, telling, taking, ToldFits}
-use Rattle.cbm_session.specs.Seats.{at_pace, lines, Seat, device, reaction, is_listener, is_talker, has_listener, has_talker, talker_of, listeners}
+use Rattle.cbm_session.specs.Seats.{at_pace, lines, Seat, device, reaction, is_listener, is_talker, has_listener, has_talker, talker_of, listeners, spread, bus_pace}
 use Rattle.cbm_session.specs.Steps.{Step, host, drive, for_each, for_one, moment_of, merge_all}
 
 -- the eight pieces of a session, each with its moments
@@ -135,10 +135,19 @@ abbrev pub AtLeast : ℕ → Option ℕ → ℕ → Type 0
 AtLeast gap None moment = Unit {0}
 AtLeast gap (Some since) moment = since + gap ≤ moment
 
--- from a byte's accept to the next change of ATN
-abbrev pub gap : List Seat → ℕ
-gap [] = settle
-gap (s ∷ ss) = elim ss [ [] ↦ settle | t ∷ ts ↦ settle_all ]
+-- from a byte's first accept to the next change of ATN, at the pace Profile: with one drive, with several
+abbrev pub profile_gap : List Seat → ℕ
+profile_gap [] = settle
+profile_gap (s ∷ ss) = elim ss [ [] ↦ settle | t ∷ ts ↦ settle_all ]
+
+-- the same, by the pace of the bus, the drives that heard the byte, and all: at a KERNAL's it is just after the last accept, too
+abbrev pub gap_at : Pace → List Seat → List Seat → ℕ
+gap_at Profile hs seats = profile_gap seats
+gap_at Kernal hs seats = max settle (spread hs + 1)
+
+-- from a byte's first accept, where these drives heard it and all are those, to the next change of ATN
+abbrev pub gap : List Seat → List Seat → ℕ
+gap hs seats = gap_at (bus_pace seats) hs seats
 
 -- the host may free ATN: a byte was sent in attention, a listener and a talker are there or not as the piece says, and the gap since the last accept
 -- has passed
@@ -146,14 +155,14 @@ pub record MayRelease (p : Point) (listens talks : Bool) (at : ℕ) : Type 0 whe
   pub commanding : p.place ≡ Commanding true
   pub listener : has_listener p.seats ≡ listens
   pub talker : has_talker p.seats ≡ talks
-  pub gap : p.accepted + gap p.seats ≤ at
+  pub gap : p.accepted + gap p.seats p.seats ≤ at
 
 -- when the host may pull ATN: where nothing is under way or drives listen, a pause after ATN's release and after what came last; at a cut, at its
 -- moment; at no other place
 abbrev pub PullFits : Point → ℕ → Place → Type 0
-PullFits p at Open = AtLeast pause p.released at × (p.since ≤ at)
+PullFits p at Open = AtLeast (pull_pause (bus_pace p.seats)) p.released at × (p.since ≤ at)
 PullFits p at (Commanding some) = ⊥
-PullFits p at Listening = AtLeast pause p.released at × (p.accepted + gap p.seats ≤ at)
+PullFits p at Listening = AtLeast (pull_pause (bus_pace p.seats)) p.released at × (p.accepted + gap (listeners p.seats) p.seats ≤ at)
 PullFits p at (Leading s) = ⊥
 PullFits p at (Cutting cut) = at ≡ cut
 
@@ -173,8 +182,8 @@ Fits p (Command f) = IsCommanding p.place × (p.pulled + pause ≤ f.ready) × (
 Fits p (Byte eoi f) = (p.place ≡ Listening) × AtLeast pause p.released f.ready × (p.accepted + pause ≤ f.ready) × SentFits (listeners p.seats) eoi f
 Fits p (ToListener at) = MayRelease p true false at
 Fits p (ToNobody at clock) = MayRelease p false false at × (at ≤ clock)
-Fits p (ToTalker at clock) = MayRelease p false true at × (at + settle ≤ clock)
-Fits p (Nothing at clock freed) = MayRelease p false true at × (at + settle ≤ clock) × FreedFits (silent_end (talker_of p.seats) clock) freed
+Fits p (ToTalker at clock) = MayRelease p false true at × (at + turn_settle (talker_of p.seats).pace ≤ clock)
+Fits p (Nothing at clock freed) = MayRelease p false true at × (at + turn_settle (talker_of p.seats).pace ≤ clock) × FreedFits (silent_end (talker_of p.seats) clock) freed
 Fits p (Talk at f) = (p.place ≡ Leading at) × ToldFits (talker_of p.seats) at f
 
 -- A cut is of a piece of a talking drive, after the moment at which that begins. A frame begins where the piece before ends.

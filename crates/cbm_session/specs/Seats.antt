@@ -1,7 +1,7 @@
 -- The drives on the bus: their roles, the lines that they hold, and the slowest and the fastest of them.
 use Rattle.cbm_iec.specs.declared.pace.Pace.{Pace}
-use Rattle.cbm_iec.specs.declared.pace.Pace.TheVariants.{Profile}
-use Rattle.std.specs.Prelude.{ℕ, max, min, Bool, true, false, List, [], ◌∷◌, if◌then◌else◌, filter}
+use Rattle.cbm_iec.specs.declared.pace.Pace.TheVariants.{Profile, Kernal}
+use Rattle.std.specs.Prelude.{ℕ, ◌-◌, max, min, Bool, true, false, List, [], ◌∷◌, if◌then◌else◌, filter}
 use Rattle.cbm_iec.specs.declared.lines.Held.{Held}
 use Rattle.cbm_iec.specs.declared.party.Party.{Party}
 use Rattle.cbm_iec.specs.declared.party.Role.TheVariants.{Absent, Listener, Talker}
@@ -69,3 +69,12 @@ slowest (s ∷ ss) = elim ss [ [] ↦ reaction s | t ∷ ts ↦ max (reaction s)
 abbrev pub fastest : List Seat → ℕ
 fastest [] = 0
 fastest (s ∷ ss) = elim ss [ [] ↦ reaction s | t ∷ ts ↦ min (reaction s) (fastest ss) ]
+
+-- how long after the fastest drive the slowest reacts to the same change
+abbrev pub spread : List Seat → ℕ
+spread seats = slowest seats - fastest seats
+
+-- the pace that a host may count on: a KERNAL's only where each drive is of that pace
+abbrev pub bus_pace : List Seat → Pace
+bus_pace [] = Kernal
+bus_pace (s ∷ ss) = elim s.party.pace [ Profile ↦ Profile | Kernal ↦ bus_pace ss ]

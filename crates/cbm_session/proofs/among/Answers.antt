@@ -162,7 +162,7 @@ short_in_time d at t [] l a = tt
 short_in_time d at t (s ∷ ss) l a = let k = a.0.1 in (omega (arith, k, l), short_in_time d at t ss l a.1)
 
 -- with a byte to say it pulls CLOCK and lets go of DATA, and leads 80 later
-led_follows : (b : Party) (x : ℕ × Bool) (at clock : ℕ) → at + 20 ≤ clock → (r : Rest) (back : List Step) → Every (Short b.device at) back → Every (IsLateBy (clock + b.reaction)) back
+led_follows : (b : Party) (x : ℕ × Bool) (at clock : ℕ) → at ≤ clock → (r : Rest) (back : List Step) → Every (Short b.device at) back → Every (IsLateBy (clock + b.reaction)) back
     → (r2 : Rest) × ((q2 : Port) × (FollowsAmong (Some x) r (stands b Talker (lines false true) (wires_of r) (Speaking (Answering (clock + b.reaction)))) ((drive b.device (clock + b.reaction) Clock Pull ∷ drive b.device (clock + b.reaction) Data Free ∷ []) ++ back) r2 q2
     × (q2 ≡ stands b Talker (lines true false) (wires_of r2) (Speaking (Led (clock + b.reaction + 80))))))
 led_follows b x at clock l r back a late =
@@ -193,7 +193,7 @@ talker_law b o at clock p q peek sound st f y =
     merge_drives (λ x. own_part p w x) (host_part p w) p.seats ∙ turn_first at (host clock Clock Free ∷ []) (drives_of p w) after in
     let tail = merge (host clock Clock Free ∷ []) (drives_of p w) in
     let x = y.0 in
-    let all = answer_follows (Some x) b clock k.0 (Short d at) (answer s) [] (drives_of p w) (λ q2 r2. q2 ≡ stands b Talker (lines true false) (wires_of r2) (Speaking (Led (t + 80)))) (refl, (refl, tt)) tt tt a (led_follows b x at clock gap) in
+    let all = answer_follows (Some x) b clock k.0 (Short d at) (answer s) [] (drives_of p w) (λ q2 r2. q2 ≡ stands b Talker (lines true false) (wires_of r2) (Speaking (Led (t + 80)))) (refl, (refl, tt)) tt tt a (led_follows b x at clock (omega (arith, gap))) in
     let whole = released (Some x) p s w q all.1.0 k.0 all.0 (host at Data Pull ∷ for_each Released (host at Atn Free) ∷ tail) sound st f.0.commanding k.2 steps (talking_turn (Some x) b at k.0 tail all.0 all.1.0 all.1.1.0) in
     let same : talker_of p.seats ≡ b = talker_is d p.seats s sound.seated.one sound.seated.sits refl in
     record {

@@ -104,7 +104,7 @@ behind_freed : (t : ℕ) (freed : Option ℕ) → FreedFits t freed → IsBehind
 behind_freed t None h = tt
 behind_freed t (Some g) h = omega (arith, h)
 
-module _ (at clock : ℕ) (b : Party) (gap : at + 20 ≤ clock) (freed : Option ℕ) (fits : FreedFits (clock + b.reaction + mute) freed) where
+module _ (at clock : ℕ) (b : Party) (gap : at ≤ clock) (freed : Option ℕ) (fits : FreedFits (clock + b.reaction + mute) freed) where
   abbrev slow : Party
   slow = at_pace Kernal b
 
@@ -183,7 +183,8 @@ later_law v o at clock freed p q peek sound st f y =
     let t = clock + b.reaction in
     let m = t + mute in
     let w = Nothing at clock freed in
-    let gap = f.1 in
+    let late = f.1 in
+    let gap : at ≤ clock = omega (arith, late) in
     let k = commanding_rest p s true sound f.0.commanding in
     let own : Seat → List Step = λ (x : Seat). own_part p w x in
     let same : talker_of p.seats ≡ b = talker_is d p.seats s sound.seated.one sound.seated.sits refl in

@@ -1,5 +1,5 @@
 -- For each piece of a talking drive in any session there is the one that the drive's machine answers, which goes with it as far as it can.
-use Rattle.std.proofs.Common.{◌≡◌, ℕ, ◌+◌, ◌<◌, Bool, true, List, [], ◌∷◌, ◌++◌, Option, Some, None, ap, sym, ◌∙◌, subst, refl}
+use Rattle.std.proofs.Common.{◌≡◌, ℕ, ◌+◌, ◌<◌, Bool, true, List, [], ◌∷◌, ◌++◌, Option, Some, None, ap, sym, ◌∙◌, subst, refl, arith}
 use Rattle.std.specs.Prelude.{if◌then◌else◌}
 use Rattle.cbm_iec.specs.declared.act.Act.TheVariants.{Released}
 use Rattle.cbm_iec.specs.declared.act.Act.{Act}
@@ -96,8 +96,8 @@ module _ (M : Type 0) (step : M → Act → M) (peek : M → Option (ℕ × Bool
             talks = tt;
             fits = (fits.0, fits.1, tt);
             answer = k;
-            twin = turn_back t p at (device s) (clock + s.party.reaction) (silent_end s.party clock) (ToTalker at clock) w (leads p at clock) (mutes p at clock None) (lead_steps p at clock fits.1) (mute_steps p at clock None fits.1) parts;
-            same = λ gs hs e. absurd (turn_differs p at (device s) (clock + s.party.reaction) (silent_end s.party clock) (ToTalker at clock) w (leads p at clock) (mutes p at clock None) (lead_steps p at clock fits.1) (mute_steps p at clock None fits.1) parts hs gs (sym e));
+            twin = turn_back t p at (device s) (clock + s.party.reaction) (silent_end s.party clock) (ToTalker at clock) w (leads p at clock) (mutes p at clock None) (lead_steps p at clock (omega (arith, fits.1))) (mute_steps p at clock None (omega (arith, fits.1))) parts;
+            same = λ gs hs e. absurd (turn_differs p at (device s) (clock + s.party.reaction) (silent_end s.party clock) (ToTalker at clock) w (leads p at clock) (mutes p at clock None) (lead_steps p at clock (omega (arith, fits.1))) (mute_steps p at clock None (omega (arith, fits.1))) parts hs gs (sym e));
             cuts = λ c f. f;
           }
 
@@ -117,8 +117,8 @@ module _ (M : Type 0) (step : M → Act → M) (peek : M → Option (ℕ × Bool
             talks = tt;
             fits = (fits.0, fits.1);
             answer = (v, k);
-            twin = turn_twin t p at (device s) (clock + s.party.reaction) (silent_end s.party clock) (ToTalker at clock) w (leads p at clock) (mutes p at clock freed) (lead_steps p at clock fits.1) (mute_steps p at clock freed fits.1) parts;
-            same = λ gs hs e. absurd (turn_differs p at (device s) (clock + s.party.reaction) (silent_end s.party clock) (ToTalker at clock) w (leads p at clock) (mutes p at clock freed) (lead_steps p at clock fits.1) (mute_steps p at clock freed fits.1) parts gs hs e);
+            twin = turn_twin t p at (device s) (clock + s.party.reaction) (silent_end s.party clock) (ToTalker at clock) w (leads p at clock) (mutes p at clock freed) (lead_steps p at clock (omega (arith, fits.1))) (mute_steps p at clock freed (omega (arith, fits.1))) parts;
+            same = λ gs hs e. absurd (turn_differs p at (device s) (clock + s.party.reaction) (silent_end s.party clock) (ToTalker at clock) w (leads p at clock) (mutes p at clock freed) (lead_steps p at clock (omega (arith, fits.1))) (mute_steps p at clock freed (omega (arith, fits.1))) parts gs hs e);
             cuts = λ c f. f;
           }
 

@@ -1,7 +1,7 @@
 -- The machines run what counts in a piece that they answer.
 use Rattle.cbm_iec.specs.declared.pace.Pace.TheVariants.{Profile, Kernal}
 use Rattle.cbm_iec.specs.declared.pace.Pace.{Pace}
-use Rattle.std.proofs.Common.{◌≡◌, ℕ, ◌+◌, inl, inr, Bool, true, false, List, [], ◌∷◌, ◌++◌, map, Option, Some, None, ap, sym, ◌∙◌, subst, refl, eq-eqb}
+use Rattle.std.proofs.Common.{◌≡◌, ℕ, ◌+◌, inl, inr, Bool, true, false, List, [], ◌∷◌, ◌++◌, map, Option, Some, None, ap, sym, ◌∙◌, subst, refl, eq-eqb, arith}
 use Rattle.std.proofs.lemmas.Bool.Decides.{leb_tells, eqb_tells}
 use Rattle.std.specs.Prelude.{if◌then◌else◌, nat_eq}
 use Rattle.cbm_iec.specs.declared.act.Act.TheVariants.{Released, Said, Silent}
@@ -123,7 +123,7 @@ module _ (M : Type 0) (step : M → Act → M) (peek : M → Option (ℕ × Bool
   nothing_runs place p ms at clock freed fits answer [] xs h = tt
   nothing_runs place p ms at clock freed fits answer (s ∷ ss) [] h = elim h [ ]
   nothing_runs place p ms at clock freed fits answer (s ∷ ss) (x ∷ xs) h =
-      (subst (λ (l : List Step). Runs M step peek (ms (device s)) (acts_for (device s) l)) (sym (mute_steps p at clock freed fits.1)) (tt, subst (λ (l : List Act). Runs M step peek (step (ms (device s)) Released) l) (sym mine) (go s.role refl)), nothing_runs place p ms at clock freed fits answer ss xs h.1)
+      (subst (λ (l : List Step). Runs M step peek (ms (device s)) (acts_for (device s) l)) (sym (mute_steps p at clock freed (omega (arith, fits.1)))) (tt, subst (λ (l : List Act). Runs M step peek (step (ms (device s)) Released) l) (sym mine) (go s.role refl)), nothing_runs place p ms at clock freed fits answer ss xs h.1)
     where
       mine : acts_for (device s) (mutes p at clock freed) ≡ acts_for (device s) (own_part p (Nothing at clock freed) s)
       mine = own_acts (λ y. own_part p (Nothing at clock freed) y) (device s) (nothing_skips p at clock freed (device s)) (host clock Clock Free ∷ freed_steps freed) p.seats s (freed_skips (device s) clock freed) h.0.sound.seated.sits

@@ -1,5 +1,5 @@
 -- Any turnaround under way: how an allowed session ends with it.
-use Rattle.std.proofs.Common.{◌≡◌, ℕ, ◌+◌, ◌≤◌, ◌<◌, inl, inr, Bool, true, false, List, [], ◌∷◌, ◌++◌, append-nil, Option, Some, ap, sym, ◌∙◌, subst, refl}
+use Rattle.std.proofs.Common.{◌≡◌, ℕ, ◌+◌, ◌≤◌, ◌<◌, inl, inr, Bool, true, false, List, [], ◌∷◌, ◌++◌, append-nil, Option, Some, ap, sym, ◌∙◌, subst, refl, arith}
 use Rattle.cbm_iec.specs.declared.act.Act.{Act}
 use Rattle.cbm_iec.specs.declared.line.Line.TheVariants.{Clock}
 use Rattle.cbm_iec.specs.declared.line.Way.TheVariants.{Free}
@@ -34,7 +34,7 @@ plain_behind [] ys a = a
 plain_behind (x ∷ xs) ys a = plain_behind xs ys a.1
 
 -- behind CLOCK's release a turnaround up to Lead counts nothing more
-rest_plain : (p : Point) (at clock : ℕ) (early behind : List Step) (h : Step) → at + 20 ≤ clock → steps_of p (ToTalker at clock) ≡ turn_begins at early ++ h ∷ behind → AllPlain behind
+rest_plain : (p : Point) (at clock : ℕ) (early behind : List Step) (h : Step) → at ≤ clock → steps_of p (ToTalker at clock) ≡ turn_begins at early ++ h ∷ behind → AllPlain behind
 rest_plain p at clock early behind h late is =
     let same : leads p at clock ≡ early ++ h ∷ behind = two at (leads p at clock) (early ++ h ∷ behind) (sym (lead_steps p at clock late) ∙ is) in
     (plain_behind early (h ∷ behind) (subst AllPlain same (leads_plain p at clock))).1
@@ -51,7 +51,7 @@ module _ (M : Type 0) (step : M → Act → M) (peek : M → Option (ℕ × Bool
         | inl k ↦ cut_lead M step peek p ms at clock t front beyond fits answer late k
         | inr k ↦ whole_then M step peek p ms (ToTalker at clock) t front beyond fits answer
             (each_runs M step peek p.seats ms (steps_of p (ToTalker at clock)) (λ d. runs_unasked M step peek d (ms d) (steps_of p (ToTalker at clock)) (steps_unasked p (ToTalker at clock) tt))) parts late
-            (next (plain_behind k.left beyond (subst AllPlain k.behind_is (rest_plain p at clock (before clock (turn_drives p (ToTalker at clock))) a.behind (host clock Clock Free) fits.1 a.is))))
+            (next (plain_behind k.left beyond (subst AllPlain k.behind_is (rest_plain p at clock (before clock (turn_drives p (ToTalker at clock))) a.behind (host clock Clock Free) (omega (arith, fits.1)) a.is))))
       ]
     where
       next : AllPlain beyond → Continues M step peek (whole_point p (ToTalker at clock)) (run_each M step peek ms (steps_of p (ToTalker at clock))) [] t

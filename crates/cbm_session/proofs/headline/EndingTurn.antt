@@ -1,4 +1,5 @@
 -- A turnaround under way: an allowed session ends with a cut of it at CLOCK's release, or, where that was played, with the turnaround and what a drive that leads does next.
+use Rattle.cbm_session.proofs.Paces.{settle_from}
 use Rattle.cbm_iec.specs.declared.pace.Pace.TheVariants.{Profile, Kernal}
 use Rattle.cbm_iec.specs.declared.pace.Pace.{Pace}
 use Rattle.std.proofs.Common.{◌≡◌, ℕ, ◌+◌, ◌≤◌, ◌<◌, ◌⊎◌, inl, inr, Bool, true, false, List, [], ◌∷◌, ◌++◌, map, append-nil, Option, Some, None, ap, sym, ◌∙◌, subst, arith, refl}
@@ -58,10 +59,10 @@ around_clock p w at clock hs ys fits steps is =
     }
 
 pub lead_around : (p : Point) (at clock : ℕ) → Fits p (ToTalker at clock) → AroundClock p (ToTalker at clock) at clock
-lead_around p at clock fits = around_clock p (ToTalker at clock) at clock [] (leads p at clock) fits (lead_steps p at clock fits.1) refl
+lead_around p at clock fits = around_clock p (ToTalker at clock) at clock [] (leads p at clock) fits (lead_steps p at clock (omega (arith, fits.1))) refl
 
 pub mute_around : (p : Point) (at clock : ℕ) (freed : Option ℕ) → Fits p (Nothing at clock freed) → AroundClock p (Nothing at clock freed) at clock
-mute_around p at clock freed fits = around_clock p (Nothing at clock freed) at clock (freed_steps freed) (mutes p at clock freed) fits (mute_steps p at clock freed fits.1) refl
+mute_around p at clock freed fits = around_clock p (Nothing at clock freed) at clock (freed_steps freed) (mutes p at clock freed) fits (mute_steps p at clock freed (omega (arith, fits.1))) refl
 
 -- before CLOCK's release no drive's step asks anything
 abbrev AskedLate : ℕ → Step → Type 0
@@ -104,7 +105,7 @@ module _ (M : Type 0) (step : M → Act → M) (peek : M → Option (ℕ × Bool
   host_front t (x ∷ xs) ys h = (h.0, host_front t xs ys h.1)
 
   -- with CLOCK's release to come the turnaround is cut there
-  cut_turn : (p : Point) (ms : ℕ → M) (w : Whole) (at clock t : ℕ) (front beyond : List Step) → Fits p w → CutFits p w clock → at + 20 ≤ clock → IsAnswer M step peek (ms (talker_of p.seats).device) w → (a : AroundClock p w at clock) → Every (AskedLate clock) (turn_drives p w) → HostFrom t beyond
+  cut_turn : (p : Point) (ms : ℕ → M) (w : Whole) (at clock t : ℕ) (front beyond : List Step) → Fits p w → CutFits p w clock → at + 1 ≤ clock → IsAnswer M step peek (ms (talker_of p.seats).device) w → (a : AroundClock p w at clock) → Every (AskedLate clock) (turn_drives p w) → HostFrom t beyond
       → BeforeIt (turn_begins at (before clock (turn_drives p w))) front beyond a.behind (host clock Clock Free) → Continues M step peek p ms (events_of front) t
   cut_turn p ms w at clock t front beyond fits cuts late answer a quiet from k =
       let h = host clock Clock Free in
@@ -117,9 +118,9 @@ module _ (M : Type 0) (step : M → Act → M) (peek : M → Option (ℕ × Bool
 
   pub cut_lead : (p : Point) (ms : ℕ → M) (at clock t : ℕ) (front beyond : List Step) (fits : Fits p (ToTalker at clock)) → IsAnswer M step peek (ms (talker_of p.seats).device) (ToTalker at clock) → HostFrom t beyond
       → BeforeIt (turn_begins at (before clock (turn_drives p (ToTalker at clock)))) front beyond (lead_around p at clock fits).behind (host clock Clock Free) → Continues M step peek p ms (events_of front) t
-  cut_lead p ms at clock t front beyond fits answer from k = let late = fits.1 in cut_turn p ms (ToTalker at clock) at clock t front beyond fits (omega (arith, late)) fits.1 answer (lead_around p at clock fits) (lead_quiet p at clock) from k
+  cut_lead p ms at clock t front beyond fits answer from k = let late = fits.1 in let some = settle_from (talker_of p.seats).pace in let soon : at + 1 ≤ clock = omega (arith, late, some) in cut_turn p ms (ToTalker at clock) at clock t front beyond fits soon soon answer (lead_around p at clock fits) (lead_quiet p at clock) from k
 
   pub cut_mute : (p : Point) (ms : ℕ → M) (at clock : ℕ) (freed : Option ℕ) (t : ℕ) (front beyond : List Step) (fits : Fits p (Nothing at clock freed)) → IsAnswer M step peek (ms (talker_of p.seats).device) (Nothing at clock freed) → HostFrom t beyond
       → BeforeIt (turn_begins at (before clock (turn_drives p (Nothing at clock freed)))) front beyond (mute_around p at clock freed fits).behind (host clock Clock Free) → Continues M step peek p ms (events_of front) t
   cut_mute p ms at clock freed t front beyond fits answer from k =
-      let late = fits.1 in cut_turn p ms (Nothing at clock freed) at clock t front beyond fits (omega (arith, late)) fits.1 answer (mute_around p at clock freed fits) (mute_quiet p at clock freed) from k
+      let late = fits.1 in let some = settle_from (talker_of p.seats).pace in let soon : at + 1 ≤ clock = omega (arith, late, some) in cut_turn p ms (Nothing at clock freed) at clock t front beyond fits soon soon answer (mute_around p at clock freed fits) (mute_quiet p at clock freed) from k

@@ -1,5 +1,5 @@
 -- The stations of a bus at a point of a session that they have played so far, and the next piece: the play is in it, or behind it at the next point.
-use Rattle.std.proofs.Common.{◌≡◌, ℕ, ◌+◌, ◌≤◌, ◌⊎◌, inl, inr, Bool, true, List, [], ◌∷◌, ◌++◌, map, Option, Some, None, ap, sym, ◌∙◌, subst, refl}
+use Rattle.std.proofs.Common.{◌≡◌, ℕ, ◌+◌, ◌≤◌, ◌⊎◌, inl, inr, Bool, true, List, [], ◌∷◌, ◌++◌, map, Option, Some, None, ap, sym, ◌∙◌, subst, refl, arith}
 use Rattle.std.specs.Prelude.{if◌then◌else◌}
 use Rattle.cbm_iec.specs.Ports.{side_due, port_due}
 use Rattle.cbm_iec.specs.declared.act.Act.TheVariants.{Released}
@@ -158,7 +158,7 @@ module _ (M : Type 0) (step : M → Act → M) (peek : M → Option (ℕ × Bool
         let answered = all_with place ms (turns.Answers M step peek says place) (λ s x e r. ap (λ (m : M). peek (step m Released)) e) p p.seats xs here.stand here.ran in
         let last : LastSaid (turn_begins at (mutes p at clock freed)) = begins_last at (mutes p at clock freed) (turn_last (device t.0) (mutes p at clock freed) (mute_turn p t.0 t.1.0 t.1.1 at clock freed)) in
         let k = nothing_on_bus M step peek says place p t.0 t.1.0 t.1.1 at clock placed here.rises xs (restand M step peek says place p p.seats xs here.stand) answered freed o fits (ap (λ (b : Party). says b.device) (sym t.1.2) ∙ answer) plays rest meets in
-        come_to M step peek place (bytes_last M step peek place plays) says p (upto o w) xs k.0 es rest n2 k.1.0 here.rises (piece_tidy M step peek place p (upto o w) fits placed (whole_last o w (subst LastSaid (sym (mute_steps p at clock freed whole.1)) last))) k.1.1
+        come_to M step peek place (bytes_last M step peek place plays) says p (upto o w) xs k.0 es rest n2 k.1.0 here.rises (piece_tidy M step peek place p (upto o w) fits placed (whole_last o w (subst LastSaid (sym (mute_steps p at clock freed (omega (arith, whole.1)))) last))) k.1.1
       where
         begins_last : (at : ℕ) (ys : List Step) → LastSaid ys → LastSaid (turn_begins at ys)
         begins_last at [] l = (tt, tt)

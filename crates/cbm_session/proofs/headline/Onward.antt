@@ -62,7 +62,7 @@ leads_plain p at clock =
     go x Talker = (refl, (refl, tt))
 
 -- a turnaround up to Lead counts ATN's release alone, a frame the byte that it says
-pub lead_acts : (p : Point) (at clock : ℕ) (d : ℕ) → at + 20 ≤ clock → acts_for d (steps_of p (ToTalker at clock)) ≡ Released ∷ []
+pub lead_acts : (p : Point) (at clock : ℕ) (d : ℕ) → at ≤ clock → acts_for d (steps_of p (ToTalker at clock)) ≡ Released ∷ []
 lead_acts p at clock d l = ap (λ (ss : List Step). acts_for d ss) (lead_steps p at clock l) ∙ ap (λ (l : List Act). Released ∷ l) (acts_plain d (leads p at clock) (leads_plain p at clock))
 
 pub told_acts : (b : Party) (at : ℕ) (f : Told) → acts_for b.device (one_told b at f) ≡ Said (number_of f.bits) (is_last f) ∷ []
@@ -102,7 +102,7 @@ module _ (M : Type 0) (step : M → Act → M) (peek : M → Option (ℕ × Bool
         byte = (
           answer.0,
           ap (λ (b : Party). peek (run_each M step peek ms (steps_of p (ToTalker at clock)) b.device)) same
-              ∙ ap (λ (l : List Act). peek (run M step peek (ms d) l)) (lead_acts p at clock d fits.1)
+              ∙ ap (λ (l : List Act). peek (run M step peek (ms d) l)) (lead_acts p at clock d (omega (arith, fits.1)))
               ∙ answer.1,
         );
       }

@@ -1,4 +1,5 @@
 -- A piece under way whose next change of the host falls on the moment of a reaction: an allowed session begins the same and has that change later, or there is no such reaction.
+use Rattle.cbm_session.proofs.Paces.{settle_from}
 use Rattle.cbm_session.proofs.joining.Silents.{silent_from}
 use Rattle.std.proofs.Common.{◌≡◌, ℕ, suc, ◌+◌, ◌≤◌, ◌<◌, ◌⊎◌, inl, inr, Bool, true, false, List, [], ◌∷◌, ◌++◌, map, Option, Some, None, ap, sym, ◌∙◌, subst, arith, refl}
 use Rattle.std.specs.Prelude.{if◌then◌else◌}
@@ -298,24 +299,26 @@ module _ (M : Type 0) (step : M → Act → M) (peek : M → Option (ℕ × Bool
       inside_off (Byte eoi f) a fits answer e = elim a [ ]
       inside_off (ToListener at) a fits answer e = elim a [ ]
       inside_off (ToNobody at clock) a fits answer e = elim a [ ]
-      inside_off (ToTalker at clock) a fits answer e = turn_off (ToTalker at clock) tt fits answer fits.0.commanding at (host clock Clock Free ∷ []) (leads p at clock) refl (lead_steps p at clock fits.1) behind (λ l. l) e
+      inside_off (ToTalker at clock) a fits answer e = turn_off (ToTalker at clock) tt fits answer fits.0.commanding at (host clock Clock Free ∷ []) (leads p at clock) refl (lead_steps p at clock (omega (arith, fits.1))) behind (λ l. l) e
         where
           behind : (l : List Step) → host clock Clock Free ∷ [] ≡ l ++ s ∷ hosts_of others → (at < t) × AllBefore t l
           behind [] k =
               let is : host clock Clock Free ≡ s = cc in
               let at_s : clock ≡ moment_of s = ap (λ (v : Step). moment_of v) is in
               let gap = fits.1 in
-              (omega (arith, gap, at_s, now), tt)
+              let some = settle_from (talker_of p.seats).pace in
+              (omega (arith, gap, some, at_s, now), tt)
           behind (x ∷ []) k = absurd cc
           behind (x ∷ y ∷ l) k = absurd cc
-      inside_off (Nothing at clock freed) a fits answer e = turn_off (Nothing at clock freed) tt fits answer fits.0.commanding at (host clock Clock Free ∷ freed_steps freed) (mutes p at clock freed) refl (mute_steps p at clock freed fits.1) (behind freed fits.2) (λ l. l) e
+      inside_off (Nothing at clock freed) a fits answer e = turn_off (Nothing at clock freed) tt fits answer fits.0.commanding at (host clock Clock Free ∷ freed_steps freed) (mutes p at clock freed) refl (mute_steps p at clock freed (omega (arith, fits.1))) (behind freed fits.2) (λ l. l) e
         where
           behind : (o : Option ℕ) → Rattle.cbm_session.specs.Pieces.FreedFits (silent_end (talker_of p.seats) clock) o → (l : List Step) → host clock Clock Free ∷ freed_steps o ≡ l ++ s ∷ hosts_of others → (at < t) × AllBefore t l
           behind o h [] k =
               let is : host clock Clock Free ≡ s = cc in
               let at_s : clock ≡ moment_of s = ap (λ (v : Step). moment_of v) is in
               let gap = fits.1 in
-              (omega (arith, gap, at_s, now), tt)
+              let some = settle_from (talker_of p.seats).pace in
+              (omega (arith, gap, some, at_s, now), tt)
           behind None h (x ∷ []) k = absurd cc
           behind None h (x ∷ y ∷ l) k = absurd cc
           behind (Some g) h (x ∷ []) k =
@@ -324,7 +327,8 @@ module _ (M : Type 0) (step : M → Act → M) (peek : M → Option (ℕ × Bool
               let at_s : g ≡ moment_of s = ap (λ (v : Step). moment_of v) is in
               let at_x : clock ≡ moment_of x = ap (λ (v : Step). moment_of v) first in
               let gap = fits.1 in
-              (omega (arith, silent_from (talker_of p.seats) clock, gap, h, at_s, now), (omega (arith, silent_from (talker_of p.seats) clock, h, at_s, at_x, now), tt))
+              let some = settle_from (talker_of p.seats).pace in
+              (omega (arith, silent_from (talker_of p.seats) clock, gap, some, h, at_s, now), (omega (arith, silent_from (talker_of p.seats) clock, h, at_s, at_x, now), tt))
           behind (Some g) h (x ∷ y ∷ []) k = absurd cc
           behind (Some g) h (x ∷ y ∷ z ∷ l) k = absurd cc
       inside_off (Talk at f) a fits answer e = absurd (talk_never M step peek place p ms xs here plays t due at f fits answer front s others e shown who now)

@@ -316,7 +316,7 @@ module _ (M : Type 0) (step : M → Act → M) (peek : M → Option (ℕ × Bool
             let is : t ≡ clock + (talker_of p.seats).reaction + 80 = cc in
             let late = fits.1 in
             let below = behind_below at (clock + (talker_of p.seats).reaction + 1) t p.seats sound.react (omega (arith, is)) (omega (arith, is, late)) in
-            subst (AllBefore t) (lead_steps p at clock fits.1) (done_before (end_by p (ToTalker at clock)) t (steps_of p (ToTalker at clock)) below (steps_done p s (ToTalker at clock) sound fits))
+            subst (AllBefore t) (lead_steps p at clock (omega (arith, fits.1))) (done_before (end_by p (ToTalker at clock)) t (steps_of p (ToTalker at clock)) below (steps_done p s (ToTalker at clock) sound fits))
 
     -- what it has to say is what the piece has
     said_so : (w : Whole) (o : Option ℕ) → Says w (says (device s)) → (x : Seat) → IsSound p x → (d : ℕ) → device x ≡ d → SaysAs x.role (upto o w) (says d)
@@ -354,12 +354,12 @@ module _ (M : Type 0) (step : M → Act → M) (peek : M → Option (ℕ × Bool
           × (WithinAll M step peek says place xs (piece_steps p (upto o (ToTalker at clock))) fin es rest ss2 ⊎ PassedAll M step peek says place xs (piece_steps p (upto o (ToTalker at clock))) fin es n2 ss2))
       to_talker_on_bus o fits k plays rest meets =
           let whole : Fits p (ToTalker at clock) = upto_fits p o (ToTalker at clock) fits in
-          turn_on_bus (ToTalker at clock) o (leads p at clock) fits whole.0.commanding whole.0.listener (lead_steps p at clock whole.1) (λ c f. f) (lead_turn p s sound talks at clock) (lead_later whole) k plays rest meets
+          turn_on_bus (ToTalker at clock) o (leads p at clock) fits whole.0.commanding whole.0.listener (lead_steps p at clock (omega (arith, whole.1))) (λ c f. f) (lead_turn p s sound talks at clock) (lead_later whole) k plays rest meets
 
       pub nothing_on_bus : (freed : Option ℕ) (o : Option ℕ) → PieceFits p (upto o (Nothing at clock freed)) → Says (Nothing at clock freed) (says (device s)) → {n n2 : ℕ} {ss2 : List (Station M)} {es : List Event} → Plays M step peek n xs es n2 ss2 → (rest : List Event) → Compat (piece_steps p (upto o (Nothing at clock freed))) (es ++ rest)
           → (fin : List (Rest × Port)) × (AllEnd M step peek says place (point_after p (upto o (Nothing at clock freed))) (map (λ x. seat_behind p (upto o (Nothing at clock freed)) x) p.seats) fin
           × (WithinAll M step peek says place xs (piece_steps p (upto o (Nothing at clock freed))) fin es rest ss2 ⊎ PassedAll M step peek says place xs (piece_steps p (upto o (Nothing at clock freed))) fin es n2 ss2))
       nothing_on_bus freed o fits k plays rest meets =
           let whole : Fits p (Nothing at clock freed) = upto_fits p o (Nothing at clock freed) fits in
-          turn_on_bus (Nothing at clock freed) o (mutes p at clock freed) fits whole.0.commanding whole.0.listener (mute_steps p at clock freed whole.1) (λ c f. f) (mute_turn p s sound talks at clock freed)
+          turn_on_bus (Nothing at clock freed) o (mutes p at clock freed) fits whole.0.commanding whole.0.listener (mute_steps p at clock freed (omega (arith, whole.1))) (λ c f. f) (mute_turn p s sound talks at clock freed)
           (λ x q st t e. let c : Some t ≡ None = sym e ∙ st.side in absurd cc) k plays rest meets

@@ -255,13 +255,13 @@ turn_is : (own : Seat → List Step) (at : ℕ) (hs : List Step) (seats : List S
 turn_is own at hs seats late =
     merge_drives own (turn_begins at hs) seats ∙ turn_first at hs (merge_all [] (map own seats)) late ∙ ap (λ (zs : List Step). turn_begins at zs) (sym (merge_drives own hs seats))
 
-pub lead_steps : (p : Point) (at clock : ℕ) → at + 20 ≤ clock → steps_of p (ToTalker at clock) ≡ turn_begins at (leads p at clock)
+pub lead_steps : (p : Point) (at clock : ℕ) → at ≤ clock → steps_of p (ToTalker at clock) ≡ turn_begins at (leads p at clock)
 lead_steps p at clock late =
     turn_is (λ x. own_part p (ToTalker at clock) x) at (host clock Clock Free ∷ []) p.seats
     (late_drives at (λ x. own_part p (ToTalker at clock) x) p.seats
     (λ (x : Seat). from_role at x.role (let_go at x) (drive (device x) (clock + reaction x) Clock Pull ∷ drive (device x) (clock + reaction x) Data Free ∷ []) (omega arith, tt) (omega (arith, late), (omega (arith, late), tt))))
 
-pub mute_steps : (p : Point) (at clock : ℕ) (freed : Option ℕ) → at + 20 ≤ clock → steps_of p (Nothing at clock freed) ≡ turn_begins at (mutes p at clock freed)
+pub mute_steps : (p : Point) (at clock : ℕ) (freed : Option ℕ) → at ≤ clock → steps_of p (Nothing at clock freed) ≡ turn_begins at (mutes p at clock freed)
 mute_steps p at clock freed late =
     turn_is (λ x. own_part p (Nothing at clock freed) x) at (host clock Clock Free ∷ freed_steps freed) p.seats
     (late_drives at (λ x. own_part p (Nothing at clock freed) x) p.seats

@@ -84,10 +84,10 @@ pull_order at true false = (tt, tt)
 pull_order at false true = ((omega arith, (omega arith, tt)), ((omega arith, tt), (tt, tt)))
 pull_order at false false = ((omega arith, tt), (tt, tt))
 
-turn_order : (at clock : ℕ) (more : List Step) → at + 20 ≤ clock → NoneBefore at more → InOrder (host clock Clock Free ∷ more) → InOrder (host at Data Pull ∷ for_each Released (host at Atn Free) ∷ host clock Clock Free ∷ more)
+turn_order : (at clock : ℕ) (more : List Step) → at ≤ clock → NoneBefore at more → InOrder (host clock Clock Free ∷ more) → InOrder (host at Data Pull ∷ for_each Released (host at Atn Free) ∷ host clock Clock Free ∷ more)
 turn_order at clock more l n o = ((omega arith, (omega (arith, l), n)), ((omega (arith, l), n), o))
 
-freed_late : (at clock : ℕ) (b : Party) (x : Option ℕ) → at + 20 ≤ clock → FreedFits (silent_end b clock) x → NoneBefore at (freed_steps x)
+freed_late : (at clock : ℕ) (b : Party) (x : Option ℕ) → at ≤ clock → FreedFits (silent_end b clock) x → NoneBefore at (freed_steps x)
 freed_late at clock b None l h = tt
 freed_late at clock b (Some g) l h = (omega (arith, l, h, silent_from b clock), tt)
 
@@ -97,6 +97,6 @@ host_order p (Command f) h = sending_order p.seats false f h.3 (starts_late p.se
 host_order p (Byte eoi f) h = sending_order (listeners p.seats) eoi f h.3 (starts_late (listeners p.seats) eoi f h.3.start)
 host_order p (ToListener at) h = (tt, tt)
 host_order p (ToNobody at clock) h = ((h.1, tt), (tt, tt))
-host_order p (ToTalker at clock) h = turn_order at clock [] h.1 tt (tt, tt)
-host_order p (Nothing at clock freed) h = turn_order at clock (freed_steps freed) h.1 (freed_late at clock (talker_of p.seats) freed h.1 h.2) (freed_order clock (talker_of p.seats) freed h.2)
+host_order p (ToTalker at clock) h = turn_order at clock [] (omega (arith, h.1)) tt (tt, tt)
+host_order p (Nothing at clock freed) h = turn_order at clock (freed_steps freed) (omega (arith, h.1)) (freed_late at clock (talker_of p.seats) freed (omega (arith, h.1)) h.2) (freed_order clock (talker_of p.seats) freed h.2)
 host_order p (Talk at f) h = taking_order (talker_of p.seats) f at h.1

@@ -109,7 +109,7 @@ turned_goes : (d : ℕ) (r : Role) (atn : Bool) (u : Under) (at : ℕ) (more own
     → ReadsOwn d (known r atn u) (merge (host at Data Pull ∷ for_each Released (host at Atn Free) ∷ more) own) k2
 turned_goes d r atn u at more own k2 c n h = subst (λ (ss : List Step). ReadsOwn d (known r atn u) ss k2) (sym (turn_first at more own n)) (calm_said u c, (refl, h))
 
-talker_goes : (d : ℕ) (p : Point) (b : Party) (r : Role) (o : Held) (atn : Bool) (u : Under) (at clock t : ℕ) → Calm u → at + 20 ≤ clock
+talker_goes : (d : ℕ) (p : Point) (b : Party) (r : Role) (o : Held) (atn : Bool) (u : Under) (at clock t : ℕ) → Calm u → at ≤ clock
     → Goes d (known r atn u) (merge (host_part p (ToTalker at clock)) (own_part p (ToTalker at clock) (seat b r o))) (Leading t) r
 talker_goes d p b Absent o atn u at clock t c l =
     (false, (Readied false, (turned_goes d Absent atn u at (host clock Clock Free ∷ []) (drive b.device (at + b.reaction) Data Free ∷ []) (known Absent false (Readied false)) c (omega arith) (either_goes d b.device Absent clock (at + b.reaction)), (refl, refl))))
@@ -170,7 +170,7 @@ silent_reads d b clock freed e y =
         ∙ ap (λ (zs : List Step). free ∷ zs) (merge_there (host g Data Free) [] silent [] (omega (arith, y)))) in
         subst (λ (ss : List Step). ReadsOwn d (known Talker false Asking) ss (known Talker false Off)) (sym is) (refl, (refl, (mark_mine d b.device Silent e, (refl, refl))))
 
-nothing_goes : (d : ℕ) (p : Point) (b : Party) (r : Role) (o : Held) (atn : Bool) (u : Under) (at clock : ℕ) (freed : Option ℕ) → nat_eq d b.device ≡ true → Calm u → at + 20 ≤ clock → (r ≡ Talker → FreedFits (silent_end b clock) freed)
+nothing_goes : (d : ℕ) (p : Point) (b : Party) (r : Role) (o : Held) (atn : Bool) (u : Under) (at clock : ℕ) (freed : Option ℕ) → nat_eq d b.device ≡ true → Calm u → at ≤ clock → (r ≡ Talker → FreedFits (silent_end b clock) freed)
     → Goes d (known r atn u) (merge (host_part p (Nothing at clock freed)) (own_part p (Nothing at clock freed) (seat b r o))) Open r
 nothing_goes d p b Absent o atn u at clock freed e c l y =
     (false, (Readied false, (turned_goes d Absent atn u at (host clock Clock Free ∷ freed_steps freed) (drive b.device (at + b.reaction) Data Free ∷ []) (known Absent false (Readied false)) c (omega arith) (mute_beside d b.device Absent clock (at + b.reaction) freed), tt)))
@@ -291,12 +291,12 @@ piece_goes d p (ToTalker at clock) s atn u l t o q h =
     let k : (atn ≡ true) × Calm u = subst (λ (x : Place). AtPlace x s.role atn u) h.0.commanding q in
     let place = (whole_point p (ToTalker at clock)).place in
     stays d (known s.role atn u) (merge (host_part p (ToTalker at clock)) (own_part p (ToTalker at clock) s)) place s.role (next_seat (ToTalker at clock) s).role (standing_roles (lines true false) s)
-    (talker_goes d p s.party s.role s.own atn u at clock (clock + (talker_of p.seats).reaction + 80) k.1 h.1)
+    (talker_goes d p s.party s.role s.own atn u at clock (clock + (talker_of p.seats).reaction + 80) k.1 (omega (arith, h.1)))
 piece_goes d p (Nothing at clock freed) s atn u l t o q h =
     let k : (atn ≡ true) × Calm u = subst (λ (x : Place). AtPlace x s.role atn u) h.0.commanding q in
     let mine : s.role ≡ Talker → FreedFits (silent_end s.party clock) freed = λ (r : s.role ≡ Talker). subst (λ (b : Party). FreedFits (silent_end b clock) freed) (talker_is d p.seats s o t (ap is_talker r)) h.2 in
     stays d (known s.role atn u) (merge (host_part p (Nothing at clock freed)) (own_part p (Nothing at clock freed) s)) Open s.role (next_seat (Nothing at clock freed) s).role (standing_roles (lines false false) s)
-    (nothing_goes d p s.party s.role s.own atn u at clock freed (sits_self d p.seats s t) k.1 h.1 mine)
+    (nothing_goes d p s.party s.role s.own atn u at clock freed (sits_self d p.seats s t) k.1 (omega (arith, h.1)) mine)
 piece_goes d p (Talk at f) s atn u l t o q h =
     let at_lead : AtPlace (Leading at) s.role atn u = subst (λ (x : Place). AtPlace x s.role atn u) h.0 q in
     stays d (known s.role atn u) (merge (host_part p (Talk at f)) (own_part p (Talk at f) s)) (told_place f) s.role (next_seat (Talk at f) s).role (standing_roles (lines (not (is_last f)) false) s)

@@ -1,7 +1,7 @@
 -- A session's moments never go back, and at one moment the host's changes come before the drives'.
 use Rattle.cbm_session.proofs.joining.Silents.{silent_from, silent_head, silent_before}
-use Rattle.cbm_session.proofs.Paces.{by_eight}
-use Rattle.cbm_iec.specs.Profile.{bit_time, first_accept}
+use Rattle.cbm_session.proofs.Paces.{pause_from, by_eight}
+use Rattle.cbm_iec.specs.Profile.{bit_time, first_accept, pull_pause}
 use Rattle.std.proofs.Common.{◌≡◌, ℕ, ◌+◌, ◌*◌, ◌≤◌, ◌<◌, max, suc, inl, inr, Bool, true, false, List, [], ◌∷◌, ◌++◌, length, map, Option, Some, None, ap, sym, subst, arith, refl}
 use Rattle.std.proofs.Math.Nat.{le-max_left, le-max_right, max-le}
 use Rattle.std.proofs.lemmas.Bool.Decides.{leb_tells}
@@ -12,6 +12,8 @@ use Rattle.cbm_iec.specs.declared.event.Who.TheVariants.{Host, Drive}
 use Rattle.cbm_iec.specs.declared.event.Who.{Who}
 use Rattle.cbm_iec.specs.declared.line.Line.TheVariants.{Clock, Data}
 use Rattle.cbm_iec.specs.declared.line.Way.TheVariants.{Pull, Free}
+use Rattle.cbm_iec.specs.declared.pace.Pace.TheVariants.{Profile, Kernal}
+use Rattle.cbm_iec.specs.declared.pace.Pace.{Pace}
 use Rattle.cbm_iec.specs.declared.party.Party.{Party}
 use Rattle.cbm_iec.specs.declared.party.Role.TheVariants.{Absent, Listener, Talker}
 use Rattle.cbm_iec.specs.declared.party.Role.{Role}
@@ -21,7 +23,8 @@ use Rattle.cbm_session.proofs.among.Calm.{Every}
 use Rattle.cbm_session.proofs.among.Counted.{order_all, all_host}
 use Rattle.cbm_session.proofs.among.Points.{none_talk, every_seat, whole_sound, cut_sound, AllSound, rest_sound}
 use Rattle.cbm_session.proofs.among.Standing.{IsSound}
-use Rattle.cbm_session.proofs.frames.Accepted.{accepted, listen_react, listen_few, gap_same}
+use Rattle.cbm_session.proofs.frames.Accepted.{accepted, listen_react, listen_few, gap_same, heard_same}
+use Rattle.cbm_session.proofs.frames.OnePulse.{bounds}
 use Rattle.cbm_session.proofs.frames.Phases.{none_all, Each, each, ReactsBy, react_by}
 use Rattle.cbm_session.proofs.joining.Merging.{merge_nil, NoneBefore, InOrder, none_sooner, by_head, none_merge, before_yes, before_no, AllBefore, front_before}
 use Rattle.cbm_session.proofs.joining.OneDrive.{AllUpTo, upto_append, last_after, pulse_within, cells_upto, upto_free, upto_held}
@@ -34,8 +37,8 @@ use Rattle.cbm_session.specs.Bits.{where_held, where_free, cells_steps, held_aft
 use Rattle.cbm_session.specs.Frames.{Sent, Told, wire, end_of, accept_of, hearing, sending, SentFits, is_last, signal_steps, first_bit, bit_steps, telling, taking, SignalFits, ToldFits}
 use Rattle.cbm_session.specs.Joins.{NotBefore}
 use Rattle.cbm_session.specs.Laws.{SeatsReact, AllAccepted, NotSooner, AllAfter, GoesOn, SessionsGoOn}
-use Rattle.cbm_session.specs.Pieces.{silent_part, silent_end, Whole, Piece, Place, Point, freed_steps, host_part, let_go, own_part, steps_of, before, AtLeast, gap, MayRelease, PullFits, FreedFits, IsCommanding, Fits, CutFits, held_by, told_place, told_since, behind, behind_all, seat_with, obeying, standing, whole_point, point_after, PullPiece, Command, Byte, ToListener, ToNobody, ToTalker, Nothing, Talk, Full, Cut, Open, Commanding, Listening, Leading, Cutting}
-use Rattle.cbm_session.specs.Seats.{at_pace, lines, Seat, device, reaction, slowest, is_listener, is_talker, talker_of, listeners}
+use Rattle.cbm_session.specs.Pieces.{silent_part, silent_end, Whole, Piece, Place, Point, freed_steps, host_part, let_go, own_part, steps_of, before, AtLeast, gap_at, gap, MayRelease, PullFits, FreedFits, IsCommanding, Fits, CutFits, held_by, told_place, told_since, behind, behind_all, seat_with, obeying, standing, whole_point, point_after, PullPiece, Command, Byte, ToListener, ToNobody, ToTalker, Nothing, Talk, Full, Cut, Open, Commanding, Listening, Leading, Cutting}
+use Rattle.cbm_session.specs.Seats.{at_pace, lines, Seat, device, reaction, slowest, is_listener, is_talker, talker_of, listeners, spread, bus_pace}
 use Rattle.cbm_session.specs.Sessions.{rest, Linked, session_steps}
 use Rattle.cbm_session.specs.Steps.{Step, host, drive, for_one, moment_of, merge, merge_all}
 
@@ -219,8 +222,8 @@ steps_from p w f =
 -- The moment by which all steps of a piece are done.
 abbrev pub end_by : Point → Whole → ℕ
 end_by p (PullPiece at) = at + 61
-end_by p (Command f) = accept_of p.seats f + gap p.seats
-end_by p (Byte eoi f) = accept_of (listeners p.seats) f + gap p.seats
+end_by p (Command f) = accept_of p.seats f + gap p.seats p.seats
+end_by p (Byte eoi f) = accept_of (listeners p.seats) f + gap (listeners p.seats) p.seats
 end_by p (ToListener at) = at + 61
 end_by p (ToNobody at clock) = max (at + 61) clock
 end_by p (ToTalker at clock) = behind_all at (clock + (talker_of p.seats).reaction + 1) p.seats
@@ -303,8 +306,8 @@ part_upto p (PullPiece at) h = (
   omega arith,
   upto_append (at + 61) (where_free p.host.clock_low (host at Clock Pull)) (where_held p.host.data_low (host at Data Free)) (upto_free (at + 61) p.host.clock_low (host at Clock Pull) (omega arith)) (upto_held (at + 61) p.host.data_low (host at Data Free) (omega arith)),
 )
-part_upto p (Command f) h = sending_upto (accept_of p.seats f + gap p.seats) f (starts_late p.seats false f h.3.start) h.3.cells (omega arith)
-part_upto p (Byte eoi f) h = sending_upto (accept_of (listeners p.seats) f + gap p.seats) f (starts_late (listeners p.seats) eoi f h.3.start) h.3.cells (omega arith)
+part_upto p (Command f) h = sending_upto (accept_of p.seats f + gap p.seats p.seats) f (starts_late p.seats false f h.3.start) h.3.cells (omega arith)
+part_upto p (Byte eoi f) h = sending_upto (accept_of (listeners p.seats) f + gap (listeners p.seats) p.seats) f (starts_late (listeners p.seats) eoi f h.3.start) h.3.cells (omega arith)
 part_upto p (ToListener at) h = (omega arith, tt)
 part_upto p (ToNobody at clock) h = let k = h.1 in let l = le-max_right (at + 61) clock in (omega (arith, k, l), (l, tt))
 part_upto p (ToTalker at clock) h =
@@ -384,9 +387,9 @@ accepted_each : (hs : List Seat) (f : Sent) (m : ℕ) → AllAccepted hs f m →
 accepted_each [] f m a = tt
 accepted_each (x ∷ xs) f m a = (a.0, accepted_each xs f m a.1)
 
-frame_before : (hs seats : List Seat) (eoi : Bool) (act : Act) (f : Sent) → SeatsReact hs → length hs ≤ length seats → SentFits hs eoi f → Each (λ x. AllBefore (accept_of hs f + gap seats) (hearing (wire hs f) eoi act f x)) hs
+frame_before : (hs seats : List Seat) (eoi : Bool) (act : Act) (f : Sent) → SeatsReact hs → length hs ≤ length seats → SentFits hs eoi f → Each (λ x. AllBefore (accept_of hs f + gap hs seats) (hearing (wire hs f) eoi act f x)) hs
 frame_before hs seats eoi act f r c h =
-    let m = accept_of hs f + gap seats in
+    let m = accept_of hs f + gap hs seats in
     both (ReactsBy (slowest hs)) (λ x. end_of f + reaction x < m) (λ x. AllBefore m (hearing (wire hs f) eoi act f x)) hs
     (λ x a b. hearing_before hs eoi act f m x h (last_after false f.start f.cells h.cells) a.2 b)
     (react_by (slowest hs) hs r (omega arith)) (accepted_each hs f m (accepted hs seats f m r c (omega arith)))
@@ -450,7 +453,7 @@ parts_before p w r o = go w
     go (Command f) h = frame_before p.seats p.seats false (Attention (byte_of f.cells)) f r (omega arith) h.3
     go (Byte eoi f) h =
         let hs = listeners p.seats in
-        let m = accept_of hs f + gap p.seats in
+        let m = accept_of hs f + gap hs p.seats in
         let heard = λ (x : Seat). hearing (wire hs f) eoi (Heard (byte_of f.cells) eoi) f x in
         each (λ x. is_listener x.role ≡ true → AllBefore m (heard x)) (λ x. AllBefore m (own_part p (Byte eoi f) x)) p.seats (λ x k. before_if m (is_listener x.role) (heard x) k)
         (listen_each (λ x. AllBefore m (heard x)) p.seats (frame_before hs p.seats eoi (Heard (byte_of f.cells) eoi) f (listen_react p.seats r) (listen_few p.seats) h.3))
@@ -488,9 +491,9 @@ steps_done p s w g f =
 
 -- No piece that may follow at a place begins before m, and no cut there is before m.
 abbrev Waits : Place → Point → ℕ → Type 0
-Waits Open q m = (n : ℕ) → AtLeast 100 q.released n → q.since ≤ n → m ≤ n
-Waits (Commanding some) q m = ((n : ℕ) → q.pulled + 100 ≤ n → q.accepted + 100 ≤ n → m ≤ n) × (some ≡ true → (n : ℕ) → q.accepted + gap q.seats ≤ n → m ≤ n)
-Waits Listening q m = ((n : ℕ) → AtLeast 100 q.released n → q.accepted + 100 ≤ n → m ≤ n) × ((n : ℕ) → AtLeast 100 q.released n → q.accepted + gap q.seats ≤ n → m ≤ n)
+Waits Open q m = (n : ℕ) → AtLeast (pull_pause (bus_pace q.seats)) q.released n → q.since ≤ n → m ≤ n
+Waits (Commanding some) q m = ((n : ℕ) → q.pulled + 100 ≤ n → q.accepted + 100 ≤ n → m ≤ n) × (some ≡ true → (n : ℕ) → q.accepted + gap q.seats q.seats ≤ n → m ≤ n)
+Waits Listening q m = ((n : ℕ) → AtLeast 100 q.released n → q.accepted + 100 ≤ n → m ≤ n) × ((n : ℕ) → AtLeast (pull_pause (bus_pace q.seats)) q.released n → q.accepted + gap (listeners q.seats) q.seats ≤ n → m ≤ n)
 Waits (Leading at) q m = (m ≤ at) × (m ≤ q.since)
 Waits (Cutting c) q m = m ≤ c
 
@@ -532,40 +535,50 @@ waits_cut q m (ToListener at) c h f k = elim k [ ]
 waits_cut q m (ToNobody at clock) c h f k = elim k [ ]
 
 -- behind a piece all waits for the end of its steps
-gap_100 : (seats : List Seat) → gap seats ≤ 100
-gap_100 [] = omega arith
-gap_100 (x ∷ []) = omega arith
-gap_100 (x ∷ y ∷ seats) = omega arith
+spread_60 : (hs : List Seat) → SeatsReact hs → spread hs ≤ 60
+spread_60 [] r = omega arith
+spread_60 (x ∷ xs) r = let k = bounds x xs r in let l = k.3 in omega (arith, l)
+
+gap_100 : (e : Pace) (hs seats : List Seat) → SeatsReact hs → gap_at e hs seats ≤ 100
+gap_100 Profile hs [] r = omega arith
+gap_100 Profile hs (x ∷ []) r = omega arith
+gap_100 Profile hs (x ∷ y ∷ seats) r = omega arith
+gap_100 Kernal hs seats r = let k = spread_60 hs r in max-le (omega arith) (omega (arith, k))
 
 told_waits : (f : Told) (n : ℕ) (q : Point) → q.since ≡ (if is_last f then f.accept + n + 1 else f.accept) → Waits (told_place f) q q.since
 told_waits f n q = go (is_last f)
   where
     go : (v : Bool) → q.since ≡ (if v then f.accept + n + 1 else f.accept) → Waits (if v then Open else Leading (f.accept + 100)) q q.since
-    go true e = λ (n : ℕ) (a : AtLeast 100 q.released n) (b : q.since ≤ n). b
+    go true e = λ (n : ℕ) (a : AtLeast (pull_pause (bus_pace q.seats)) q.released n) (b : q.since ≤ n). b
     go false e = (omega (arith, e), omega arith)
 
 whole_waits : (p : Point) (w : Whole) → SeatsReact p.seats → Fits p w → Waits (whole_point p w).place (whole_point p w) (end_by p w)
 whole_waits p (PullPiece at) r f = (λ (n : ℕ) (a : at + 100 ≤ n) (b : p.accepted + 100 ≤ n). omega (arith, a), λ (e : false ≡ true). cc)
 whole_waits p (Command f) r h =
     let obeys = λ (x : Seat). obeying (byte_of f.cells) x in
-    let k = gap_100 p.seats in
-    let same = gap_same obeys p.seats in (
+    let k = gap_100 (bus_pace p.seats) p.seats p.seats r in
+    let same = gap_same obeys p.seats p.seats (λ (x : Seat). refl) in (
       λ (n : ℕ) (a : p.pulled + 100 ≤ n) (b : accept_of p.seats f + 100 ≤ n). omega (arith, b, k),
-      λ (e : true ≡ true) (n : ℕ) (a : accept_of p.seats f + gap (map obeys p.seats) ≤ n). omega (arith, a, same),
+      λ (e : true ≡ true) (n : ℕ) (a : accept_of p.seats f + gap (map obeys p.seats) (map obeys p.seats) ≤ n). omega (arith, a, same),
     )
 whole_waits p (Byte eoi f) r h =
     let stands = λ (x : Seat). standing (lines false false) x in
     let hs = listeners p.seats in
-    let k = gap_100 p.seats in
-    let same = gap_same stands p.seats in (
+    let k = gap_100 (bus_pace p.seats) hs p.seats (listen_react p.seats r) in
+    let same = heard_same (lines false false) p.seats in (
       λ (n : ℕ) (a : AtLeast 100 p.released n) (b : accept_of hs f + 100 ≤ n). omega (arith, b, k),
-      λ (n : ℕ) (a : AtLeast 100 p.released n) (b : accept_of hs f + gap (map stands p.seats) ≤ n). omega (arith, b, same),
+      λ (n : ℕ) (a : AtLeast (pull_pause (bus_pace (map stands p.seats))) p.released n) (b : accept_of hs f + gap (listeners (map stands p.seats)) (map stands p.seats) ≤ n). omega (arith, b, same),
     )
-whole_waits p (ToListener at) r h = (
-  λ (n : ℕ) (a : at + 100 ≤ n) (b : p.accepted + 100 ≤ n). omega (arith, a),
-  λ (n : ℕ) (a : at + 100 ≤ n) (b : p.accepted + gap (map (λ x. standing (lines false false) x) p.seats) ≤ n). omega (arith, a),
-)
-whole_waits p (ToNobody at clock) r h = λ (n : ℕ) (a : at + 100 ≤ n) (b : clock ≤ n). max-le (omega (arith, a)) b
+whole_waits p (ToListener at) r h =
+    let stood = map (λ x. standing (lines false false) x) p.seats in
+    let k = pause_from (bus_pace stood) in (
+      λ (n : ℕ) (a : at + 100 ≤ n) (b : p.accepted + 100 ≤ n). omega (arith, a),
+      λ (n : ℕ) (a : at + pull_pause (bus_pace stood) ≤ n) (b : p.accepted + gap (listeners stood) stood ≤ n). omega (arith, a, k),
+    )
+whole_waits p (ToNobody at clock) r h =
+    let stood = map (λ x. standing (lines false false) x) p.seats in
+    let k = pause_from (bus_pace stood) in
+    λ (n : ℕ) (a : at + pull_pause (bus_pace stood) ≤ n) (b : clock ≤ n). max-le (omega (arith, a, k)) b
 whole_waits p (ToTalker at clock) r h = let k = h.1 in (behind_upto at (clock + (talker_of p.seats).reaction + 1) (clock + (talker_of p.seats).reaction + 80) p.seats r (omega (arith, k)) (omega arith), omega arith)
 whole_waits p (Nothing at clock freed) r h = λ (n : ℕ) (a : Unit {0}) (b : behind_all at (behind (silent_end (talker_of p.seats) clock) freed) p.seats ≤ n). b
 whole_waits p (Talk at f) r h = told_waits f (talker_of p.seats).reaction (whole_point p (Talk at f)) refl
