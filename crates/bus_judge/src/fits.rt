@@ -1,27 +1,34 @@
 //! The bounds of a piece: whether it fits where a session stands.
 
 ghost use Rattle.std.specs.Prelude.{◌≡◌, ◌+◌, ◌≤◌, true, length, map, OnOk};
+ghost use Rattle.cbm_iec.specs.Profile as profile;
 ghost use Rattle.cbm_session.specs.Bits.{CellFits, CellsFit};
 ghost use Rattle.cbm_session.specs.Frames.{StartFits, SentFits, ToldFits};
 ghost use Rattle.cbm_session.specs.Pieces as spec;
+ghost use Rattle.cbm_session.specs.Seats as drives;
 ghost use Rattle.bus_judge.specs.Views.{cell_of, sent_of, told_of, seats_of, place_of, point_of, whole_of, shown};
 
 use crate::bound::{Bound, Broken, Limit, Since};
 use crate::breach::Cause;
 use crate::frame::{Cell, EOI_WAIT, LATEST_ACCEPT, LATEST_START, Sent, Told};
 use crate::parts::silent_end;
-use crate::seat::{Seat, after, has_listener, has_talker, listeners, talker_of};
+use crate::seat::{Seat, bus_pace, has_listener, has_talker, listeners, spread, talker_of};
 use crate::step::Step;
 use crate::whole::{Place, Point, Whole};
-use cbm_iec::Party;
+use cbm_iec::{Pace, Party};
 
-/// Pauses of the host, in microseconds: before a byte and before an attention, and within a bit.
+/// Pauses of the host, in microseconds: before a byte, before an attention, and within a bit.
 const PAUSE: u64 = 100;
+
+const KERNAL_PULL_PAUSE: u64 = 61;
 
 const SETTLE: u64 = 20;
 
 /// From the first accept to ATN's change, with several drives.
 const SETTLE_ALL: u64 = 60;
+
+/// From ATN's release to CLOCK's, with a talker of a KERNAL's pace.
+const KERNAL_TURN: u64 = 15;
 
 /// The pulse of the host that asks for the last byte.
 const HOST_PULSE: u64 = 60;
@@ -80,13 +87,43 @@ fn asked(holds: bool) -> Result<(), Cause>
     if holds { Ok(()) } else { Err(Cause::Unasked) }
 }
 
-/// From a byte's accept to the next change of ATN.
-fn gap(seats: &[Seat]) -> u64
-    ensures { result ≡ spec.gap (seats_of seats.now) }
+/// From the first accept of a byte, by those that heard it, to the next change of ATN.
+fn gap(hearers: &[Seat], seats: &[Seat]) -> u64
+    ensures { result ≡ spec.gap (seats_of hearers.now) (seats_of seats.now) }
+{
+    match bus_pace(seats) {
+        Pace::Profile => profile_gap(seats),
+        Pace::Kernal => SETTLE.max(spread(hearers) + 1),
+    }
+}
+
+/// The same where a drive keeps to the profile.
+fn profile_gap(seats: &[Seat]) -> u64
+    ensures { result ≡ spec.profile_gap (seats_of seats.now) }
 {
     match seats {
         [] | [_] => SETTLE,
         _ => SETTLE_ALL,
+    }
+}
+
+/// From ATN's release to its next pull.
+fn pull_pause(seats: &[Seat]) -> u64
+    ensures { result ≡ profile.pull_pause (drives.bus_pace (seats_of seats.now)) }
+{
+    match bus_pace(seats) {
+        Pace::Profile => PAUSE,
+        Pace::Kernal => KERNAL_PULL_PAUSE,
+    }
+}
+
+/// From ATN's release to CLOCK's, to a talker of that pace.
+fn turn_settle(pace: Pace) -> u64
+    ensures { result ≡ profile.turn_settle pace }
+{
+    match pace {
+        Pace::Profile => SETTLE,
+        Pace::Kernal => KERNAL_TURN,
     }
 }
 
@@ -96,7 +133,7 @@ fn may_release(point: &Point, listens: bool, talks: bool, at: u64) -> Result<(),
     asked(point.place == Place::Commanding(true))?;
     asked(has_listener(&point.seats) == listens)?;
     asked(has_talker(&point.seats) == talks)?;
-    let gap = gap(&point.seats);
+    let gap = gap(&point.seats, &point.seats);
     least(Bound::Release, Since::Accept, point.accepted, gap, at)
 }
 
@@ -104,14 +141,15 @@ fn pull_fits(point: &Point, at: u64) -> Result<(), Cause>
     ensures { OnOk result (spec.PullFits (point_of point.now) at (point_of point.now).place) }
 {
     let bound = Bound::Attention;
+    let pause = pull_pause(&point.seats);
     match point.place {
         Place::Open => {
-            least_if(bound, Since::Release, point.released, PAUSE, at)?;
+            least_if(bound, Since::Release, point.released, pause, at)?;
             least(bound, Since::Event, point.since, 0, at)
         }
         Place::Listening => {
-            least_if(bound, Since::Release, point.released, PAUSE, at)?;
-            let gap = gap(&point.seats);
+            least_if(bound, Since::Release, point.released, pause, at)?;
+            let gap = gap(&listeners(&point.seats), &point.seats);
             least(bound, Since::Accept, point.accepted, gap, at)
         }
         Place::Cutting(cut) => asked(at == cut),
@@ -200,7 +238,8 @@ fn turn_fits(point: &Point, at: u64, clock: u64) -> Result<(), Cause>
     ensures { OnOk result (spec.Fits (point_of point.now) (spec.ToTalker at clock)) }
 {
     may_release(point, false, true, at)?;
-    least(Bound::Turn, Since::Release, at, SETTLE, clock)
+    let turn = turn_settle(talker_of(&point.seats).pace);
+    least(Bound::Turn, Since::Release, at, turn, clock)
 }
 
 fn told_fits(talker: Party, at: u64, frame: &Told) -> Result<(), Cause>

@@ -190,9 +190,23 @@ pub fn talker_of(seats: &[Seat]) -> Party
     }
 }
 
+/// A KERNAL's pace where each of these drives keeps it.
+pub fn bus_pace(seats: &[Seat]) -> Pace
+    ensures { result ≡ spec.bus_pace (seats_of seats.now) }
+{
+    match seats {
+        [] => Pace::Kernal,
+        [first, rest @ ..] => match first.party.pace {
+            Pace::Profile => Pace::Profile,
+            Pace::Kernal => bus_pace(rest),
+        },
+    }
+}
+
 /// The greatest reaction.
 pub fn slowest(seats: &[Seat]) -> u64
-    ensures { result ≡ spec.slowest (seats_of seats.now) }
+    ensures value { result ≡ spec.slowest (seats_of seats.now) }
+    ensures small { result < 256 }
 {
     match seats {
         [] => 0,
@@ -210,6 +224,14 @@ pub fn fastest(seats: &[Seat]) -> u64
         [only] => only.reaction(),
         [first, rest @ ..] => first.reaction().min(fastest(rest)),
     }
+}
+
+/// How long after the fastest the slowest reacts.
+pub fn spread(seats: &[Seat]) -> u64
+    ensures value { result ≡ spec.spread (seats_of seats.now) }
+    ensures small { result < 256 }
+{
+    slowest(seats).saturating_sub(fastest(seats))
 }
 
 /// How long after the wait for EOI the last pulse has ended.
