@@ -13,6 +13,7 @@ use Rattle.cbm_channel.proofs.Stands.{means_of}
 use Rattle.cbm_machine.specs.Machines.{Machine}
 use Rattle.cbm_channel.specs.Standing.{Kept}
 use Rattle.cbm_session.proofs.headline.LawsMet.{keeps}
+use Rattle.cbm_session.proofs.loose.Loosely.{keeps_loosely}
 use Rattle.cbm_session.specs.Following.{IsInTime}
 use Rattle.cbm_session.specs.Playing.{Station, AllInTime, AllLater, IsLaterDue, at_rest}
 use Rattle.cbm_drive.specs.Cables.{Cabled}
@@ -81,9 +82,13 @@ module _ {M : Type 0} (seen : M → Seen) where
     hosts = p.hosts;
     disks = media b.host b.drives b.drives p.stations p.now;
     session = λ timing. keeps (Desk Machine) desk_step desk_says bs ms p.from end p.made p.stations is_bus (record { more = more }) p.plays
-        (later end p.stations (stations_in_time (Desk (Kept M)) (Desk Machine) (DeskStands seen) desk_step desk_says (held_by b.host b.drives) (end + 1) b.drives p.stations p.now quiet)) timing;
+        quiet_now timing;
+    loosely = λ timing. keeps_loosely (Desk Machine) desk_step desk_says bs ms p.from end p.made p.stations is_bus (record { more = more }) p.plays (let b = p.before in omega (arith, b)) quiet_now timing;
     stand = record { parties = plays_parties (Desk Machine) desk_step desk_says p.plays ∙ rest_parties (Desk Machine) desk_step desk_says ms bs; each = p.now };
   }
+    where
+      quiet_now : AllLater (Desk Machine) desk_step desk_says end p.stations
+      quiet_now = later end p.stations (stations_in_time (Desk (Kept M)) (Desk Machine) (DeskStands seen) desk_step desk_says (held_by b.host b.drives) (end + 1) b.drives p.stations p.now quiet)
 
   pub headline : {A E : Type 0} (r : Result A E) → ((m : Desk Machine) (n : ℕ) → desk_says m ≡ Some (n, false) → (x : ℕ × Bool) × (desk_says (desk_step m (Said n false)) ≡ Some x)) → (bs : List Party) (ms : ℕ → Desk Machine) (end : ℕ) (cs : List Change) (b : Cabled (Desk (Kept M))) (old new : List Event)
       → IsBus bs → OnOk r (AreInTime (end + 1) b.drives)

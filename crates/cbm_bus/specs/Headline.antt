@@ -9,6 +9,7 @@ use Rattle.cbm_channel.specs.Files.{Disk}
 use Rattle.cbm_machine.specs.Machines.{Machine}
 use Rattle.cbm_channel.specs.Standing.{Kept}
 use Rattle.cbm_volume.specs.Holding.{HoldsDisk}
+use Rattle.cbm_session.specs.Loosely.{HostKeepsLoosely, IsKeptLoosely}
 use Rattle.cbm_session.specs.Playing.{Station, IsKept}
 use Rattle.cbm_session.specs.Timing.{HostKeeps}
 use Rattle.cbm_drive.specs.Cables.{Cabled}
@@ -37,7 +38,8 @@ module _ {M : Type 0} (seen : M → Seen) where
 
   -- THE HEADLINE. From rest, with machines ms, these changes of the host were played up to an end, and all that happened was added to the events: the host's changes
   -- are the list. Each medium is sound and means its machine's disk. Where the host kept the timing, what happened is a beginning of a session in which each byte
-  -- talked is the machine's answer, each machine is where the acts that count lead from ms, and no reaction is late.
+  -- talked is the machine's answer, each machine is where the acts that count lead from ms, and no reaction is late. Where it kept it loosely, as a computer's KERNAL
+  -- does, that is so of a trace with the same events of the drives, and with the same machines.
   pub record HasPlayedFiles (bs : List Party) (ms : ℕ → Desk Machine) (end : ℕ) (changes : List Change) (b : Cabled (Desk (Kept M))) (old new : List Event) : Type 0 where
     pub made : List Event
     pub now : List (Station (Desk Machine))
@@ -45,4 +47,5 @@ module _ {M : Type 0} (seen : M → Seen) where
     pub hosts : host_changes made ≡ changes
     pub disks : AllZip (λ x s. HasDisk s.machine.dos.disk x) b.drives now
     pub session : HostKeeps bs made end → IsKept (Desk Machine) desk_step desk_says bs ms made end now
+    pub loosely : HostKeepsLoosely (Desk Machine) desk_step desk_says bs ms made end → IsKeptLoosely (Desk Machine) desk_step desk_says bs ms made end now
     pub stand : AreAt bs b now

@@ -8,6 +8,7 @@ use Rattle.cbm_iec.specs.declared.line.Change.{Change}
 use Rattle.cbm_iec.specs.declared.lines.Lines.{Lines}
 use Rattle.cbm_iec.specs.declared.party.Party.{Party}
 use Rattle.cbm_session.proofs.headline.LawsMet.{keeps}
+use Rattle.cbm_session.proofs.loose.Loosely.{keeps_loosely}
 use Rattle.cbm_session.specs.Following.{IsInTime}
 use Rattle.cbm_session.specs.Playing.{IsLaterDue, Station, Plays, AllInTime, AllLater, at_rest, IsKept}
 use Rattle.cbm_session.specs.Sessions.{IsBus}
@@ -32,7 +33,7 @@ module _ (D M : Type 0) (stands : D → M → Type 0) (step : M → Act → M) (
       → HasPlayed D M stands step says host (end + 1) xs old new cs (at_rest M step says ms bs) → AreInTime (end + 1) xs → IsBus bs → HasKept D M stands step says bs ms host end xs old new
   kept_from more bs ms host end xs old new cs p time is_bus =
       let later = later_than end p.stations (stations_in_time D M stands step says (held_by host xs) (end + 1) xs p.stations p.now time) in
-      record { made = p.made; stations = p.stations; added = p.added; now = p.now; kept = λ timing. keeps M step says bs ms p.from end p.made p.stations is_bus (record { more = more }) p.plays later timing }
+      record { made = p.made; stations = p.stations; added = p.added; now = p.now; kept = λ timing. keeps M step says bs ms p.from end p.made p.stations is_bus (record { more = more }) p.plays later timing; loosely = λ timing. keeps_loosely M step says bs ms p.from end p.made p.stations is_bus (record { more = more }) p.plays (let b = p.before in omega (arith, b)) later timing }
 
   -- and behind what a player gave
   pub kept_after : ((m : M) (n : ℕ) → says m ≡ Some (n, false) → (x : ℕ × Bool) × (says (step m (Said n false)) ≡ Some x)) → (p : Turns) (b : Cabled D) (bs : List Party) (ms : ℕ → M) (es : List Event) (end : ℕ) → IsBus bs → p.second ≡ None

@@ -6,6 +6,7 @@ use Rattle.cbm_iec.specs.declared.act.Act.{Act}
 use Rattle.cbm_iec.specs.declared.event.Event.{Event}
 use Rattle.cbm_iec.specs.declared.line.Change.{Change}
 use Rattle.cbm_iec.specs.declared.party.Party.{Party}
+use Rattle.cbm_session.specs.Loosely.{HostKeepsLoosely, IsKeptLoosely}
 use Rattle.cbm_session.specs.Playing.{Station, Plays, IsKept, IsLaterDue, at_rest}
 use Rattle.cbm_session.specs.Timing.{HostKeeps}
 use Rattle.cbm_machine.specs.Machines.{Machine}
@@ -50,6 +51,8 @@ pub record IsTraceOf (S : Type 0) (step : S → Act → S) (says : S → Option 
   pub settled : IfSome t.end (λ end. IsLaterDue end (port_due s.port))
   -- Where the host keeps the bus's timing this is a beginning of a session: each byte talked is the machine's answer to the bytes sent, and no reaction is late.
   pub kept : IfSome t.end (λ end. HostKeeps (drive ∷ []) trace end → IsKept S step says (drive ∷ []) above trace end (s ∷ []))
+  -- Where it keeps it loosely, as a computer's KERNAL does, that is so of a trace with the same events of the drive.
+  pub loosely : IfSome t.end (λ end. HostKeepsLoosely S step says (drive ∷ []) above trace end → IsKeptLoosely S step says (drive ∷ []) above trace end (s ∷ []))
 
 -- the same of the machine of named files
 abbrev pub IsTrace : Party → Machine → Timetable → List Event → Station (Desk Machine) → Type 0
