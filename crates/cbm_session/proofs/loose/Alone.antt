@@ -163,8 +163,8 @@ module _ (M : Type 0) (step : M → Act → M) (peek : M → Option (ℕ × Bool
       let k = told_lined m (wires_of s.rest) (wires_of (behind_host Clock Pull s.rest)) s.port a.wired refl in
       let free : (some s.rest.clocks || s.rest.host.clock_low) ≡ false = subst (λ (x : Side). Sees x (wires_of s.rest).clock_low) e a.sees in
       let side : (told m (wires_of (behind_host Clock Pull s.rest)) s.port).side ≡ Hearing Holding =
-          k.0 ∙ ap (λ (x : Side). lined_side s.port.party.reaction m (wires_of s.rest) (wires_of (behind_host Clock Pull s.rest)) x) e
-          ∙ ap (λ (x : Ear). Hearing x) (pulls s.port.party.reaction m s.rest.clocks s.rest.datas s.rest.host free) in
+      k.0 ∙ ap (λ (x : Side). lined_side s.port.party.reaction m (wires_of s.rest) (wires_of (behind_host Clock Pull s.rest)) x) e
+      ∙ ap (λ (x : Ear). Hearing x) (pulls s.port.party.reaction m s.rest.clocks s.rest.datas s.rest.host free) in
       strayed c s t a (k.1 ∙ ap (λ (x : Side). lined_act (wires_of s.rest) (wires_of (behind_host Clock Pull s.rest)) x) e) refl (same (f ∙ sym side))
 
   -- THE HOST MAKES A CHANGE ALONE

@@ -99,11 +99,11 @@ module _ (M : Type 0) (step : M → Act → M) (peek : M → Option (ℕ × Bool
       by_waits : (x y : Side) → WaitAlike x y → HeedsAlike s.port.party.pace s.rest.clocks s.rest.host t.rest.host x
           → WaitAlike (freed_side s.port.party.reaction m (wires_of s.rest).clock_low s.port.role x) (freed_side t.port.party.reaction m (wires_of t.rest).clock_low t.port.role y)
       by_waits x y (same g) h = same (
-        ap (λ (b : Party). freed_side b.reaction m (wires_of t.rest).clock_low t.port.role y) a.party
-        ∙ ap (λ (v : Bool). freed_side s.port.party.reaction m v t.port.role y) clocks
-        ∙ ap (λ (v : Role). freed_side s.port.party.reaction m (wires_of s.rest).clock_low v y) a.role
-        ∙ ap (λ (z : Side). freed_side s.port.party.reaction m (wires_of s.rest).clock_low s.port.role z) g
-      )
+          ap (λ (b : Party). freed_side b.reaction m (wires_of t.rest).clock_low t.port.role y) a.party
+          ∙ ap (λ (v : Bool). freed_side s.port.party.reaction m v t.port.role y) clocks
+          ∙ ap (λ (v : Role). freed_side s.port.party.reaction m (wires_of s.rest).clock_low v y) a.role
+          ∙ ap (λ (z : Side). freed_side s.port.party.reaction m (wires_of s.rest).clock_low s.port.role z) g
+          )
       by_waits x y (early g g2) h =
           let k = subst (λ (z : Side). HeedsAlike s.port.party.pace s.rest.clocks s.rest.host t.rest.host z) g h in
           let free : s.rest.host.clock_low ≡ false = k.1 in

@@ -78,7 +78,7 @@ module _ (M : Type 0) (step : M → Act → M) (peek : M → Option (ℕ × Bool
   react_going u n t before o behind ss g e f =
       let swift = swift_at before o behind (subst (λ (l : List (Station M)). AllReact (parties M step peek l)) e g.swift) in
       let same_parties : (l : List (Station M)) → parties M step peek (map (λ s. hear_all M step peek (shown M step peek t o) s) l) ≡ parties M step peek l =
-          λ l. party_map M step peek (λ s. hear_all M step peek (shown M step peek t o) s) l (λ s. party_heard M step peek (shown M step peek t o) s) in
+      λ l. party_map M step peek (λ s. hear_all M step peek (shown M step peek t o) s) l (λ s. party_heard M step peek (shown M step peek t o) s) in
       record {
         swift = swift_join (map (λ s. hear_all M step peek (shown M step peek t o) s) before) (react M step peek t o) (map (λ s. hear_all M step peek (shown M step peek t o) s) behind)
             (subst (λ (l : List Party). AllReact l) (sym (same_parties before)) swift.0) swift.1 (subst (λ (l : List Party). AllReact l) (sym (same_parties behind)) swift.2);
@@ -173,10 +173,10 @@ module _ (M : Type 0) (step : M → Act → M) (peek : M → Option (ℕ × Bool
   once end u {n} {n2} {n3} {ss} {ss2} {ss3} g (reaction t before o behind more y e i k p) (reaction t2 before2 o2 behind2 more2 y2 e2 i2 k2 p2) h a b c d =
       let s = first_once t before o behind t2 before2 o2 behind2 (sym e ∙ e2) i i2 in
       let events : drive_events o.port.party.device (shown M step peek t o) ++ more ≡ drive_events o.port.party.device (shown M step peek t o) ++ more2 =
-          sym k ∙ h ∙ k2 ∙ ap (λ (v : Station M). drive_events v.port.party.device (shown M step peek t2 v) ++ more2) (sym s.own) ∙ ap (λ (v : ℕ). drive_events o.port.party.device (shown M step peek v o) ++ more2) (sym s.moment) in
+      sym k ∙ h ∙ k2 ∙ ap (λ (v : Station M). drive_events v.port.party.device (shown M step peek t2 v) ++ more2) (sym s.own) ∙ ap (λ (v : ℕ). drive_events o.port.party.device (shown M step peek v o) ++ more2) (sym s.moment) in
       let p3 : Plays M step peek (suc t) (reacting M step peek t before o behind) more2 n3 ss3 =
-          subst (λ (v : ℕ). Plays M step peek (suc v) (reacting M step peek v before o behind) more2 n3 ss3) (sym s.moment)
-          (subst (λ (v : List (Station M)). Plays M step peek (suc t2) (reacting M step peek t2 v o behind) more2 n3 ss3) (sym s.ahead_of)
-          (subst (λ (v : Station M). Plays M step peek (suc t2) (reacting M step peek t2 before2 v behind) more2 n3 ss3) (sym s.own)
-          (subst (λ (v : List (Station M)). Plays M step peek (suc t2) (reacting M step peek t2 before2 o2 v) more2 n3 ss3) (sym s.after) p2))) in
+      subst (λ (v : ℕ). Plays M step peek (suc v) (reacting M step peek v before o behind) more2 n3 ss3) (sym s.moment)
+      (subst (λ (v : List (Station M)). Plays M step peek (suc t2) (reacting M step peek t2 v o behind) more2 n3 ss3) (sym s.ahead_of)
+      (subst (λ (v : Station M). Plays M step peek (suc t2) (reacting M step peek t2 before2 v behind) more2 n3 ss3) (sym s.own)
+      (subst (λ (v : List (Station M)). Plays M step peek (suc t2) (reacting M step peek t2 before2 o2 v) more2 n3 ss3) (sym s.after) p2))) in
       once end t (react_going u n t before o behind ss g e i) p p3 (same_tail o.port.party.device (shown M step peek t o) more more2 events) a b c d

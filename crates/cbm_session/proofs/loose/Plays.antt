@@ -125,14 +125,14 @@ module _ (M : Type 0) (step : M → Act → M) (peek : M → Option (ℕ × Bool
       }
   plays_beside end {n} {m} {ss} {ts} {es} {fs} a (reacts t before o behind before2 o2 behind2 more tidied y e e2 i g h j f f2 b) =
       let parts = zip_split (λ s t. Alike M step peek s t) (λ s u. HeedsAll M step peek (shown M step peek t o) s u) before o behind before2 o2 behind2
-          (subst (λ (l : List (Station M)). AreAlike l (before2 ++ o2 ∷ behind2)) e (subst (λ (l : List (Station M)). AreAlike ss l) e2 a)) g in
+      (subst (λ (l : List (Station M)). AreAlike l (before2 ++ o2 ∷ behind2)) e (subst (λ (l : List (Station M)). AreAlike ss l) e2 a)) g in
       let r : ReactsAlike M step peek t o o2 = reacts_alike M step peek t o o2 parts.1 i.due h in
       let k = plays_beside end (subst (λ (cs : List Change). AreAlike (reacting M step peek t before o behind) (map (λ s. hear_all M step peek cs s) before2 ++ react M step peek t o2 ∷ map (λ s. hear_all M step peek cs s) behind2)) (sym r.shows)
-          (zip_join (λ s t. Alike M step peek s t) (map (λ s. hear_all M step peek (shown M step peek t o) s) before) (react M step peek t o) (map (λ s. hear_all M step peek (shown M step peek t o) s) behind)
-            (map (λ s. hear_all M step peek (shown M step peek t o) s) before2) (react M step peek t o2) (map (λ s. hear_all M step peek (shown M step peek t o) s) behind2)
-            (heard (shown M step peek t o) before before2 parts.0 g) r.alike (heard (shown M step peek t o) behind behind2 parts.2 j))) b in
+      (zip_join (λ s t. Alike M step peek s t) (map (λ s. hear_all M step peek (shown M step peek t o) s) before) (react M step peek t o) (map (λ s. hear_all M step peek (shown M step peek t o) s) behind)
+      (map (λ s. hear_all M step peek (shown M step peek t o) s) before2) (react M step peek t o2) (map (λ s. hear_all M step peek (shown M step peek t o) s) behind2)
+      (heard (shown M step peek t o) before before2 parts.0 g) r.alike (heard (shown M step peek t o) behind behind2 parts.2 j))) b in
       let theirs : fs ≡ drive_events o2.port.party.device (shown M step peek t o2) ++ tidied =
-          f2 ∙ ap (λ (p : Party). drive_events p.device (shown M step peek t o) ++ tidied) (sym parts.1.party) ∙ ap (λ (cs : List Change). drive_events o2.port.party.device cs ++ tidied) (sym r.shows) in
+      f2 ∙ ap (λ (p : Party). drive_events p.device (shown M step peek t o) ++ tidied) (sym parts.1.party) ∙ ap (λ (cs : List Change). drive_events o2.port.party.device cs ++ tidied) (sym r.shows) in
       record {
         from = k.from;
         now = k.now;

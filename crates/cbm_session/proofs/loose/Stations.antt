@@ -44,9 +44,9 @@ pub told_lined : (m : ℕ) (was now : Lines) (q : Port) → q.others ≡ was →
     → ((told m now q).side ≡ lined_side q.party.reaction m was now q.side) × (told_act now q ≡ lined_act was now q.side)
 told_lined m was now q e a = (
   ap (λ (l : Lines). if is_same l.atn_low now.atn_low then lined_side q.party.reaction m l now q.side else turned_side m now q) e
-  ∙ ap (λ (v : Bool). if v then lined_side q.party.reaction m was now q.side else turned_side m now q) still,
+      ∙ ap (λ (v : Bool). if v then lined_side q.party.reaction m was now q.side else turned_side m now q) still,
   ap (λ (l : Lines). if is_same l.atn_low now.atn_low then lined_act l now q.side else Some (if now.atn_low then Pulled else Released)) e
-  ∙ ap (λ (v : Bool). if v then lined_act was now q.side else Some (if now.atn_low then Pulled else Released)) still,
+      ∙ ap (λ (v : Bool). if v then lined_act was now q.side else Some (if now.atn_low then Pulled else Released)) still,
 )
   where
     still : is_same was.atn_low now.atn_low ≡ true
@@ -82,9 +82,9 @@ pub told_atn : (m : ℕ) (was : Lines) (low : Bool) (q : Port) → q.others ≡ 
     × (told_act (record was { atn_low = low }) q ≡ (if is_same was.atn_low low then None else Some (if low then Pulled else Released)))
 told_atn m was low q e = (
   ap (λ (l : Lines). if is_same l.atn_low low then lined_side q.party.reaction m l now q.side else turned_side m now q) e
-  ∙ ap (λ (x : Side). if is_same was.atn_low low then x else turned_side m now q) nothing.0,
+      ∙ ap (λ (x : Side). if is_same was.atn_low low then x else turned_side m now q) nothing.0,
   ap (λ (l : Lines). if is_same l.atn_low low then lined_act l now q.side else Some (if low then Pulled else Released)) e
-  ∙ ap (λ (x : Option Act). if is_same was.atn_low low then x else Some (if low then Pulled else Released)) nothing.1,
+      ∙ ap (λ (x : Option Act). if is_same was.atn_low low then x else Some (if low then Pulled else Released)) nothing.1,
 )
   where
     now : Lines
@@ -200,7 +200,7 @@ module _ (M : Type 0) (step : M → Act → M) (peek : M → Option (ℕ × Bool
       moved r u e e2 cl da =
           let k = heeding c.moment r.clocks r.datas r.host u.host s t a f (subst (λ (l : Lines). HeedsAlike s.port.party.pace s.rest.clocks l u.host s.port.side) (sym e) (subst (λ (l : Lines). HeedsAlike s.port.party.pace s.rest.clocks s.rest.host l s.port.side) (sym e2) f)) in
           let like : on_wires r.clocks r.datas u.host ≡ wires_of u =
-              ap (λ (v : ℕ). on_wires v r.datas u.host) (sym cl) ∙ ap (λ (v : ℕ). on_wires u.clocks v u.host) (sym da) in
+          ap (λ (v : ℕ). on_wires v r.datas u.host) (sym cl) ∙ ap (λ (v : ℕ). on_wires u.clocks v u.host) (sym da) in
           lined_both c.moment r u s t a cl da (ap (λ (l : Lines). l.atn_low) (sym e)) (ap (λ (l : Lines). l.atn_low) (sym e2))
           (subst (λ (l : Lines). WaitAlike (lined_side s.port.party.reaction c.moment (wires_of s.rest) (wires_of r) s.port.side) (lined_side s.port.party.reaction c.moment (wires_of t.rest) l t.port.side)) like k.0)
           (subst (λ (l : Lines). lined_act (wires_of t.rest) l t.port.side ≡ lined_act (wires_of s.rest) (wires_of r) s.port.side) like k.1)

@@ -1,16 +1,18 @@
-//! The cable: one or two drives, the host's lines, and what both come to on the wires.
+//! The cable: one or two drives, the host's lines, and what both come to on the wires. Beside it a tidy host's trace is judged.
 
+use bus_judge::{Breach, Judge};
+use bus_tidy::Tidy;
 use cbm_d64::D64Disk;
 use cbm_drive::Line::*;
-use cbm_drive::{Bus, Change, Desk, Held, Line, Lines, Way};
+use cbm_drive::{Bus, Change, Desk, Event, Held, Line, Lines, Party, Way, Who};
 
 /// The drives on the cable.
 #[derive(Drop)]
 pub enum Drives {
     /// Drive 8.
-    One(Bus<Desk<D64Disk>, 1>),
+    One(Bus<Desk<D64Disk>, 1>, Party),
     /// Drives 8 and 9.
-    Two(Bus<Desk<D64Disk>, 2>),
+    Two(Bus<Desk<D64Disk>, 2>, [Party; 2]),
 }
 
 /// The device number of the first drive.
@@ -25,6 +27,41 @@ const ALL_FREE: Held = Held {
     data_low: false,
 };
 
+/// The trace so far, as a tidy host has it, before a judge.
+#[derive(Drop)]
+struct Court {
+    tidy: Tidy,
+    judge: Option<Judge>,
+}
+
+impl Court {
+    /// Before a trace of these drives.
+    fn new(parties: &[Party]) -> Court {
+        Court {
+            tidy: Tidy::new(parties),
+            judge: Judge::new(parties).ok(),
+        }
+    }
+
+    /// An event of the trace. What a judge finds against it is kept by the judge.
+    fn see(&mut self, event: Event) {
+        let tidied = self.tidy.see(event);
+        if let Some(judge) = &mut self.judge {
+            for event in &tidied {
+                judge.see(*event).ok();
+            }
+        }
+    }
+
+    /// Whether the trace up to a moment is a session that the host keeps; else what broke it.
+    fn ends(&mut self, moment: u64) -> Result<bool, Breach> {
+        match &mut self.judge {
+            Some(judge) => judge.end(moment).map(|_| true),
+            None => Ok(false),
+        }
+    }
+}
+
 /// The cable, with what each drive and the host holds.
 #[derive(Drop)]
 pub struct Cable {
@@ -32,6 +69,9 @@ pub struct Cable {
     host: Lines,
     first: Held,
     second: Held,
+    court: Court,
+    /// The last moment that was looked at.
+    last: u64,
 }
 
 /// What is held once a change is made.
@@ -55,6 +95,10 @@ fn after(lines: Lines, line: Line, low: bool) -> Lines {
 impl Cable {
     /// Drives that are switched on, and all lines free.
     pub fn new(drives: Drives) -> Cable {
+        let court = match &drives {
+            Drives::One(_, party) => Court::new(&[*party]),
+            Drives::Two(_, parties) => Court::new(parties),
+        };
         let host = Lines {
             atn_low: false,
             clock_low: false,
@@ -65,14 +109,21 @@ impl Cable {
             host,
             first: ALL_FREE,
             second: ALL_FREE,
+            court,
+            last: 0,
         }
+    }
+
+    /// Whether the host keeps the timing loosely, up to its last change: a tidy host's trace is a session. Else what broke that.
+    pub fn keeps_loosely(&mut self) -> Result<bool, Breach> {
+        self.court.ends(self.last)
     }
 
     /// When a drive reacts next.
     fn next_due(&self) -> Option<u64> {
         match &self.drives {
-            Drives::One(bus) => bus.next_due(),
-            Drives::Two(bus) => bus.next_due(),
+            Drives::One(bus, _) => bus.next_due(),
+            Drives::Two(bus, _) => bus.next_due(),
         }
     }
 
@@ -82,8 +133,8 @@ impl Cable {
             return;
         }
         let answer = match &mut self.drives {
-            Drives::One(bus) => bus.due(moment),
-            Drives::Two(bus) => bus.due(moment),
+            Drives::One(bus, _) => bus.due(moment),
+            Drives::Two(bus, _) => bus.due(moment),
         };
         if let Some(answer) = answer {
             for change in &answer.changes {
@@ -94,6 +145,10 @@ impl Cable {
 
     /// A drive changed a line.
     fn note(&mut self, device: u8, change: Change) {
+        self.court.see(Event {
+            who: Who::Drive(device),
+            change,
+        });
         let low = change.way == Way::Pull;
         match (change.line, device == FIRST) {
             (Atn, _) => {}
@@ -122,9 +177,14 @@ impl Cable {
             return;
         }
         self.host = host;
+        self.last = change.moment;
+        self.court.see(Event {
+            who: Who::Host,
+            change,
+        });
         match &mut self.drives {
-            Drives::One(bus) => bus.line(change),
-            Drives::Two(bus) => bus.line(change),
+            Drives::One(bus, _) => bus.line(change),
+            Drives::Two(bus, _) => bus.line(change),
         }
     }
 

@@ -59,7 +59,7 @@ pub fn one(rt: &impl Abort, alloc: Global, image: &[u8], pace: Pace, reaction: u
         reaction,
         pace,
     };
-    Drives::One(Bus::new([drive(rt, alloc, image, party)]))
+    Drives::One(Bus::new([drive(rt, alloc, image, party)]), party)
 }
 
 /// Drives 8 and 9, the slower the one the faster the other.
@@ -78,5 +78,5 @@ pub fn two(rt: &impl Abort, alloc: Global, image: &[u8], pace: Pace, reaction: u
         drive(rt, alloc, image, first),
         drive(rt, alloc, image, second),
     ];
-    Drives::Two(Bus::new(drives))
+    Drives::Two(Bus::new(drives), [first, second])
 }

@@ -3,6 +3,7 @@
 
 use crate::tests::cable::{Cable, Drives};
 use crate::tests::cycles::{Computer, Cycles};
+use bus_judge::Breach;
 use cbm_drive::Line::*;
 use cbm_drive::Way::*;
 use cbm_drive::{Change, Line, Lines, Way};
@@ -193,6 +194,11 @@ impl Host {
             }
             _ => self.cycles.pass(INTERRUPT),
         }
+    }
+
+    /// Whether it kept the bus's timing loosely so far; else what broke that.
+    pub fn keeps_loosely(&mut self) -> Result<bool, Breach> {
+        self.cable.keeps_loosely()
     }
 
     /// Whether it waits for nothing in vain, and its status is this one.

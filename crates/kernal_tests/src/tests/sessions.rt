@@ -113,6 +113,11 @@ impl Stage {
         missing(&mut host, device, &mut tally);
         let job = tally.wrong.unwrap_or(0);
         assert!(rt; job == 0, "job {job} of seed {seed}, reaction {reaction}");
+        let kept = host.keeps_loosely();
+        assert!(rt;
+            kept == Ok(true),
+            "seed {seed}, reaction {reaction}: {kept:?}"
+        );
         tally.jobs
     }
 }

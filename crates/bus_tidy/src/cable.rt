@@ -1,0 +1,126 @@
+//! Which lines each party pulls, and the drives' roles.
+
+use arrayvec::ArrayVec;
+use cbm_iec::{Change, Held, Line, Lines, Pace, Party, Role, Way};
+
+/// No line is pulled.
+pub const FREE: Lines = Lines {
+    atn_low: false,
+    clock_low: false,
+    data_low: false,
+};
+
+/// What a drive pulls as it is switched on.
+const NOTHING: Held = Held {
+    clock_low: false,
+    data_low: false,
+};
+
+/// A drive: its role by the bytes in attention so far, and the lines that it pulls.
+#[derive(Clone, Copy, Debug, PartialEq, Eq, Drop)]
+pub struct Seat {
+    pub device: u8,
+    pub pace: Pace,
+    pub role: Role,
+    pub held: Held,
+}
+
+impl Default for Seat {
+    fn default() -> Seat {
+        Seat {
+            device: 0,
+            pace: Pace::Profile,
+            role: Role::Absent,
+            held: NOTHING,
+        }
+    }
+}
+
+/// The drives of the bus.
+#[derive(Drop)]
+pub struct Cable {
+    seats: ArrayVec<Seat, 4>,
+}
+
+/// Whether it is a pull.
+pub fn is_pull(way: Way) -> bool {
+    way == Way::Pull
+}
+
+/// The lines after a change of one of them.
+pub fn with_change(lines: Lines, change: Change) -> Lines {
+    let low = is_pull(change.way);
+    match change.line {
+        Line::Atn => Lines {
+            atn_low: low,
+            ..lines
+        },
+        Line::Clock => Lines {
+            clock_low: low,
+            ..lines
+        },
+        Line::Data => Lines {
+            data_low: low,
+            ..lines
+        },
+    }
+}
+
+impl Cable {
+    /// These drives as they are switched on; the first four, where they are more.
+    pub fn new(parties: &[Party]) -> Cable {
+        let mut seats = ArrayVec::new();
+        for party in parties.iter().take(4) {
+            let seat = Seat {
+                device: party.device,
+                pace: party.pace,
+                role: Role::Absent,
+                held: NOTHING,
+            };
+            seats.try_push(seat).ok();
+        }
+        Cable { seats }
+    }
+
+    /// A drive changes a line.
+    pub fn change(&mut self, device: u8, change: Change) {
+        let low = is_pull(change.way);
+        for seat in self.seats.as_mut_slice() {
+            if seat.device == device {
+                match change.line {
+                    Line::Atn => {}
+                    Line::Clock => seat.held.clock_low = low,
+                    Line::Data => seat.held.data_low = low,
+                }
+            }
+        }
+    }
+
+    /// A byte in attention makes the drives' roles.
+    pub fn obey(&mut self, byte: u8) {
+        for seat in self.seats.as_mut_slice() {
+            if seat.device < 31 {
+                seat.role = seat.role.after(seat.device, byte);
+            }
+        }
+    }
+
+    /// Whether a drive has this role.
+    pub fn has(&self, role: Role) -> bool {
+        self.seats.iter().any(|seat| seat.role == role)
+    }
+
+    /// Whether the drive with that device number talks.
+    pub fn is_talker(&self, device: u8) -> bool {
+        self.seats
+            .iter()
+            .any(|seat| seat.device == device && seat.role == Role::Talker)
+    }
+
+    /// Whether the host may pull CLOCK after ATN: each drive keeps a KERNAL's pace, and none pulls CLOCK.
+    pub fn waits_for_clock(&self) -> bool {
+        self.seats
+            .iter()
+            .all(|seat| seat.pace == Pace::Kernal && !seat.held.clock_low)
+    }
+}

@@ -1,0 +1,158 @@
+//! The tidy host's trace, event by event.
+
+ghost use Rattle.std.specs.Prelude.{◌≡◌, ◌∷◌, []};
+ghost use Rattle.cbm_session.specs.Loosely.{drives_of};
+ghost use Rattle.bus_tidy.specs.Tidied.{KeepsDrives};
+
+use crate::cable::{Cable, FREE, is_pull, with_change};
+use crate::phase::Phase;
+use arrayvec::ArrayVec;
+use cbm_iec::{Change, Event, Line, Lines, Party, Role, Way, Who};
+
+/// What an event of the trace comes to: at most a change of each line beside it.
+pub type Events = ArrayVec<Event, 4>;
+
+/// Reads a trace, and gives that of a tidy host.
+#[derive(Drop)]
+pub struct Tidy {
+    cable: Cable,
+    phase: Phase,
+    /// The lines that the host holds, and those that the tidy one does.
+    host: Lines,
+    tidy: Lines,
+    /// When the host changed DATA last.
+    data_since: u64,
+}
+
+impl Tidy {
+    /// Beside a trace of these drives, in which nothing was seen yet. All lines are free.
+    pub fn new(parties: &[Party]) -> Tidy {
+        Tidy {
+            cable: Cable::new(parties),
+            phase: Phase::Rest,
+            host: FREE,
+            tidy: FREE,
+            data_since: 0,
+        }
+    }
+
+    /// The next event of the trace. Answers the events of the tidy host's trace that it comes to: the drives' as they are, and
+    /// the host's, but for those that no drive heeds; with ATN's changes come those that a session has there.
+    pub fn see(&mut self, event: Event) -> Events
+        ensures drives { KeepsDrives result.items event }
+    {
+        let mut events = Events::new();
+        match event.who {
+            Who::Drive(device) => {
+                self.drive(device, event.change);
+                events.push(event);
+            }
+            Who::Host => self.host(event.change, &mut events),
+        }
+        events
+    }
+
+    /// A drive changes a line.
+    fn drive(&mut self, device: u8, change: Change) {
+        let is_talkers = self.cable.is_talker(device);
+        self.phase = self.phase.settled(change, is_talkers);
+        self.cable.change(device, change);
+        if is_talkers {
+            self.phase = self.phase.told(change);
+        }
+    }
+
+    /// The host changes a line.
+    fn host(&mut self, change: Change, events: &mut Events)
+        requires { events.old.items ≡ [] }
+        ensures { drives_of events.new.items ≡ [] }
+    {
+        self.phase = self.phase.settled(change, false);
+        self.host = with_change(self.host, change);
+        match (change.line, change.way) {
+            (Line::Atn, Way::Pull) => self.call(change.moment, events),
+            (Line::Atn, Way::Free) => self.release(change.moment, events),
+            (Line::Clock, _) => self.clock(change, events),
+            (Line::Data, _) => self.data(change, events),
+        }
+    }
+
+    /// ATN is pulled: with it the tidy host pulls CLOCK and frees DATA.
+    fn call(&mut self, moment: u64, events: &mut Events) {
+        self.phase = Phase::Called;
+        self.give(moment, Line::Atn, true, events);
+        if self.host.clock_low || self.cable.waits_for_clock() {
+            self.give(moment, Line::Clock, true, events);
+        }
+        self.give(moment, Line::Data, false, events);
+    }
+
+    /// ATN is freed: with it the tidy host pulls DATA, where a drive talks; where none listens or talks it frees CLOCK.
+    fn release(&mut self, moment: u64, events: &mut Events) {
+        let (talks, listens) = (self.cable.has(Role::Talker), self.cable.has(Role::Listener));
+        if talks {
+            self.give(moment, Line::Data, self.host.data_low, events);
+        }
+        self.give(moment, Line::Atn, false, events);
+        if talks {
+            self.phase = Phase::Turn;
+        } else if listens {
+            self.phase = Phase::Between;
+        } else {
+            self.give(moment, Line::Clock, false, events);
+            self.phase = Phase::Rest;
+        }
+    }
+
+    /// CLOCK: left out where no drive heeds it. Before its release comes what became of DATA while it was pulled.
+    fn clock(&mut self, change: Change, events: &mut Events) {
+        let low = is_pull(change.way);
+        if matches!(
+            self.phase,
+            Phase::Rest | Phase::Talk { .. } | Phase::Answered(_)
+        ) {
+            return;
+        }
+        if !low {
+            self.give(self.data_since, Line::Data, self.host.data_low, events);
+        }
+        self.give(change.moment, Line::Clock, low, events);
+        if let Some(byte) = self.phase.byte(low)
+            && self.host.atn_low
+        {
+            self.cable.obey(byte);
+        }
+        self.phase = self.phase.clocked(low, self.host.data_low);
+    }
+
+    /// DATA: left out where no drive heeds it. While CLOCK is pulled it is put off until that is freed, but for its release after
+    /// a byte.
+    fn data(&mut self, change: Change, events: &mut Events) {
+        let low = is_pull(change.way);
+        self.data_since = change.moment;
+        let waits = match self.phase {
+            Phase::Rest | Phase::Called => true,
+            Phase::Between => low,
+            Phase::Bits { .. } => self.host.clock_low,
+            _ => false,
+        };
+        if !waits {
+            self.give(change.moment, Line::Data, low, events);
+            self.phase = self.phase.answered(low);
+        }
+    }
+
+    /// The tidy host changes a line, unless it holds it so already.
+    fn give(&mut self, moment: u64, line: Line, low: bool, events: &mut Events)
+        ensures { drives_of events.new.items ≡ drives_of events.old.items }
+    {
+        let way = if low { Way::Pull } else { Way::Free };
+        let change = Change { moment, line, way };
+        let tidy = with_change(self.tidy, change);
+        if tidy != self.tidy {
+            self.tidy = tidy;
+            let who = Who::Host;
+            events.try_push(Event { who, change }).ok();
+        }
+    }
+}
