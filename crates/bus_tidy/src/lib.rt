@@ -6,4 +6,4 @@ mod cable;
 mod phase;
 mod tidy;
 
-pub use tidy::{Events, Tidy};
+pub use tidy::{Changes, Tidy};

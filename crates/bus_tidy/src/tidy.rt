@@ -1,16 +1,12 @@
 //! The tidy host's trace, event by event.
 
-ghost use Rattle.std.specs.Prelude.{◌≡◌, ◌∷◌, []};
-ghost use Rattle.cbm_session.specs.Loosely.{drives_of};
-ghost use Rattle.bus_tidy.specs.Tidied.{KeepsDrives};
-
 use crate::cable::{Cable, FREE, is_pull, with_change};
 use crate::phase::Phase;
 use arrayvec::ArrayVec;
-use cbm_iec::{Change, Event, Line, Lines, Party, Role, Way, Who};
+use cbm_iec::{Change, Line, Lines, Party, Role, Way};
 
-/// What an event of the trace comes to: at most a change of each line beside it.
-pub type Events = ArrayVec<Event, 4>;
+/// What the tidy host does beside a change of the host: at most one change of ATN and one of each other line.
+pub type Changes = ArrayVec<Change, 4>;
 
 /// Reads a trace, and gives that of a tidy host.
 #[derive(Drop)]
@@ -36,24 +32,8 @@ impl Tidy {
         }
     }
 
-    /// The next event of the trace. Answers the events of the tidy host's trace that it comes to: the drives' as they are, and
-    /// the host's, but for those that no drive heeds; with ATN's changes come those that a session has there.
-    pub fn see(&mut self, event: Event) -> Events
-        ensures drives { KeepsDrives result.items event }
-    {
-        let mut events = Events::new();
-        match event.who {
-            Who::Drive(device) => {
-                self.drive(device, event.change);
-                events.push(event);
-            }
-            Who::Host => self.host(event.change, &mut events),
-        }
-        events
-    }
-
-    /// A drive changes a line.
-    fn drive(&mut self, device: u8, change: Change) {
+    /// A drive changes a line. The tidy host's trace has the same event.
+    pub fn drive(&mut self, device: u8, change: Change) {
         let is_talkers = self.cable.is_talker(device);
         self.phase = self.phase.settled(change, is_talkers);
         self.cable.change(device, change);
@@ -62,50 +42,50 @@ impl Tidy {
         }
     }
 
-    /// The host changes a line.
-    fn host(&mut self, change: Change, events: &mut Events)
-        requires { events.old.items ≡ [] }
-        ensures { drives_of events.new.items ≡ [] }
-    {
+    /// The host changes a line. Answers the tidy host's changes that it comes to: none where no drive heeds it; with ATN's
+    /// changes come those that a session has there.
+    pub fn host(&mut self, change: Change) -> Changes {
+        let mut changes = Changes::new();
         self.phase = self.phase.settled(change, false);
         self.host = with_change(self.host, change);
         match (change.line, change.way) {
-            (Line::Atn, Way::Pull) => self.call(change.moment, events),
-            (Line::Atn, Way::Free) => self.release(change.moment, events),
-            (Line::Clock, _) => self.clock(change, events),
-            (Line::Data, _) => self.data(change, events),
+            (Line::Atn, Way::Pull) => self.call(change.moment, &mut changes),
+            (Line::Atn, Way::Free) => self.release(change.moment, &mut changes),
+            (Line::Clock, _) => self.clock(change, &mut changes),
+            (Line::Data, _) => self.data(change, &mut changes),
         }
+        changes
     }
 
     /// ATN is pulled: with it the tidy host pulls CLOCK and frees DATA.
-    fn call(&mut self, moment: u64, events: &mut Events) {
+    fn call(&mut self, moment: u64, changes: &mut Changes) {
         self.phase = Phase::Called;
-        self.give(moment, Line::Atn, true, events);
+        self.give(moment, Line::Atn, true, changes);
         if self.host.clock_low || self.cable.waits_for_clock() {
-            self.give(moment, Line::Clock, true, events);
+            self.give(moment, Line::Clock, true, changes);
         }
-        self.give(moment, Line::Data, false, events);
+        self.give(moment, Line::Data, false, changes);
     }
 
     /// ATN is freed: with it the tidy host pulls DATA, where a drive talks; where none listens or talks it frees CLOCK.
-    fn release(&mut self, moment: u64, events: &mut Events) {
+    fn release(&mut self, moment: u64, changes: &mut Changes) {
         let (talks, listens) = (self.cable.has(Role::Talker), self.cable.has(Role::Listener));
         if talks {
-            self.give(moment, Line::Data, self.host.data_low, events);
+            self.give(moment, Line::Data, self.host.data_low, changes);
         }
-        self.give(moment, Line::Atn, false, events);
+        self.give(moment, Line::Atn, false, changes);
         if talks {
             self.phase = Phase::Turn;
         } else if listens {
             self.phase = Phase::Between;
         } else {
-            self.give(moment, Line::Clock, false, events);
+            self.give(moment, Line::Clock, false, changes);
             self.phase = Phase::Rest;
         }
     }
 
     /// CLOCK: left out where no drive heeds it. Before its release comes what became of DATA while it was pulled.
-    fn clock(&mut self, change: Change, events: &mut Events) {
+    fn clock(&mut self, change: Change, changes: &mut Changes) {
         let low = is_pull(change.way);
         if matches!(
             self.phase,
@@ -114,9 +94,9 @@ impl Tidy {
             return;
         }
         if !low {
-            self.give(self.data_since, Line::Data, self.host.data_low, events);
+            self.give(self.data_since, Line::Data, self.host.data_low, changes);
         }
-        self.give(change.moment, Line::Clock, low, events);
+        self.give(change.moment, Line::Clock, low, changes);
         if let Some(byte) = self.phase.byte(low)
             && self.host.atn_low
         {
@@ -127,7 +107,7 @@ impl Tidy {
 
     /// DATA: left out where no drive heeds it. While CLOCK is pulled it is put off until that is freed, but for its release after
     /// a byte.
-    fn data(&mut self, change: Change, events: &mut Events) {
+    fn data(&mut self, change: Change, changes: &mut Changes) {
         let low = is_pull(change.way);
         self.data_since = change.moment;
         let waits = match self.phase {
@@ -137,22 +117,19 @@ impl Tidy {
             _ => false,
         };
         if !waits {
-            self.give(change.moment, Line::Data, low, events);
+            self.give(change.moment, Line::Data, low, changes);
             self.phase = self.phase.answered(low);
         }
     }
 
     /// The tidy host changes a line, unless it holds it so already.
-    fn give(&mut self, moment: u64, line: Line, low: bool, events: &mut Events)
-        ensures { drives_of events.new.items ≡ drives_of events.old.items }
-    {
+    fn give(&mut self, moment: u64, line: Line, low: bool, changes: &mut Changes) {
         let way = if low { Way::Pull } else { Way::Free };
         let change = Change { moment, line, way };
         let tidy = with_change(self.tidy, change);
         if tidy != self.tidy {
             self.tidy = tidy;
-            let who = Who::Host;
-            events.try_push(Event { who, change }).ok();
+            changes.try_push(change).ok();
         }
     }
 }

@@ -43,13 +43,23 @@ impl Court {
         }
     }
 
-    /// An event of the trace. What a judge finds against it is kept by the judge.
-    fn see(&mut self, event: Event) {
-        let tidied = self.tidy.see(event);
+    /// A drive changes a line. What a judge finds against it is kept by the judge.
+    fn drive(&mut self, device: u8, change: Change) {
+        self.tidy.drive(device, change);
+        self.see(Who::Drive(device), change);
+    }
+
+    /// The host changes a line: the tidy one makes other changes, or none.
+    fn host(&mut self, change: Change) {
+        let changes = self.tidy.host(change);
+        for change in &changes {
+            self.see(Who::Host, *change);
+        }
+    }
+
+    fn see(&mut self, who: Who, change: Change) {
         if let Some(judge) = &mut self.judge {
-            for event in &tidied {
-                judge.see(*event).ok();
-            }
+            judge.see(Event { who, change }).ok();
         }
     }
 
@@ -145,10 +155,7 @@ impl Cable {
 
     /// A drive changed a line.
     fn note(&mut self, device: u8, change: Change) {
-        self.court.see(Event {
-            who: Who::Drive(device),
-            change,
-        });
+        self.court.drive(device, change);
         let low = change.way == Way::Pull;
         match (change.line, device == FIRST) {
             (Atn, _) => {}
@@ -178,10 +185,7 @@ impl Cable {
         }
         self.host = host;
         self.last = change.moment;
-        self.court.see(Event {
-            who: Who::Host,
-            change,
-        });
+        self.court.host(change);
         match &mut self.drives {
             Drives::One(bus, _) => bus.line(change),
             Drives::Two(bus, _) => bus.line(change),
