@@ -5,6 +5,7 @@ mod bits;
 mod bounds;
 mod decided;
 mod judge;
+mod paces;
 mod phase;
 mod plays;
 mod reading;

@@ -14,7 +14,7 @@ impl Session {
     // ATN's release, and what follows it up to the next attention; the moment from which ATN may be pulled after all
     // of that.
     pub fn release(&mut self, rt: &impl Abort, alloc: Global) -> u64 {
-        let first = after(self.accepted, self.gap());
+        let first = self.behind_accepts();
         let moment = self.from(rt, Bound::Release, first, after(first, 80));
         self.released = moment;
         match (self.any(Role::Listener), self.any(Role::Talker)) {
@@ -24,7 +24,7 @@ impl Session {
                 self.let_go(rt, alloc, moment);
                 let clock = self.pick(moment, after(moment, 100));
                 self.host(rt, clock, Clock, Free);
-                after(moment, 100).max(clock)
+                after(moment, self.pull_pause()).max(clock)
             }
             (Some(_), _) => {
                 self.host(rt, moment, Atn, Free);
@@ -38,7 +38,7 @@ impl Session {
                     self.frame(rt, alloc, false, byte, eoi, from);
                     ready = after(self.accepted, 100);
                 }
-                after(moment, 100).max(after(self.accepted, self.gap()))
+                after(moment, self.pull_pause()).max(self.behind_accepts())
             }
             (None, Some(talker)) => {
                 self.host(rt, moment, Data, Pull);
@@ -46,7 +46,11 @@ impl Session {
                 self.host(rt, freed, Atn, Free);
                 self.each(rt, alloc, moment, Act::Released);
                 let behind = self.let_go(rt, alloc, moment);
-                let clock = self.from(rt, Bound::Turn, after(moment, 20), after(moment, 90));
+                let turn = match talker.pace {
+                    Pace::Profile => 20,
+                    Pace::Kernal => 15,
+                };
+                let clock = self.from(rt, Bound::Turn, after(moment, turn), after(moment, 90));
                 self.host(rt, clock, Clock, Free);
                 let end = self.talk(rt, talker, after(clock, talker.reaction));
                 end.max(behind)

@@ -131,14 +131,16 @@ impl Reading {
         } else {
             (Phase::Listening, Act::Heard(frame.byte, frame.eoi))
         };
-        let mut fastest = 60;
+        let (mut fastest, mut slowest) = (60, 0);
         let hearers = self.hearers(rt, alloc, frame.attention);
         for (place, reaction) in &hearers {
             fastest = fastest.min(*reaction);
+            slowest = slowest.max(*reaction);
             self.owe(rt, *place, after(end, *reaction), Data, Pull, Some(act));
         }
         self.phase = phase;
         self.accepted = Some(after(end, fastest));
+        self.answered = Some(after(end, slowest));
         add(rt, next, self)
     }
 }

@@ -39,10 +39,12 @@ pub struct Reading {
     /// The last event's moment, and its rank: 0 is the host, after it the drives in the order of ties.
     pub last: u64,
     pub rank: usize,
-    /// ATN's last pull, its release, and the accept of the last byte that the host sent after that pull.
+    /// ATN's last pull, its release, and the first and the last accept of the last byte that the host sent after that
+    /// pull.
     pub pulled: u64,
     pub released: Option<u64>,
     pub accepted: Option<u64>,
+    pub answered: Option<u64>,
     /// Between pieces no pull of ATN comes before.
     pub since: u64,
 }
@@ -142,6 +144,7 @@ impl Reading {
             pulled: 0,
             released: None,
             accepted: None,
+            answered: None,
             since: 0,
         }
     }
@@ -159,6 +162,7 @@ impl Reading {
             pulled: self.pulled,
             released: self.released,
             accepted: self.accepted,
+            answered: self.answered,
             since: self.since,
         }
     }
@@ -262,17 +266,36 @@ impl Reading {
         self.first_with(role).is_some()
     }
 
-    /// From a byte's accept to the next change of ATN.
-    pub fn gap(&self) -> u64 {
-        if self.seats.len() > 1 { 60 } else { 20 }
+    /// Every drive is of a KERNAL's pace.
+    fn is_of_kernal(&self) -> bool {
+        for seat in &self.seats {
+            if seat.party.pace == Pace::Profile {
+                return false;
+            }
+        }
+        true
     }
 
-    /// Whether the host may change ATN, so far as the accept of its last byte goes.
-    pub fn is_accepted(&self, moment: u64) -> bool {
-        match self.accepted {
-            Some(accepted) => after(accepted, self.gap()) <= moment,
-            None => false,
+    /// From ATN's release to its next pull.
+    pub fn pull_pause(&self) -> u64 {
+        if self.is_of_kernal() { 61 } else { 100 }
+    }
+
+    /// From ATN's release to CLOCK's, with a talker.
+    pub fn turn(&self) -> u64 {
+        match self.talk_pace() {
+            Pace::Profile => 20,
+            Pace::Kernal => 15,
         }
+    }
+
+    /// Whether the host may change ATN, so far as the accepts of its last byte go.
+    pub fn is_accepted(&self, moment: u64) -> bool {
+        let several = self.seats.len() > 1 && !self.is_of_kernal();
+        let gap = if several { 60 } else { 20 };
+        self.accepted.is_some()
+            && is_behind(moment, gap, self.accepted)
+            && is_behind(moment, 1, self.answered)
     }
 
     /// When the host's next change comes at the latest.

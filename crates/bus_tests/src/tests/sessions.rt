@@ -34,7 +34,9 @@ pub struct Session {
     pub said: usize,
     pub pulled: u64,
     pub released: u64,
+    // The first accept of the last byte, and the last one.
     pub accepted: u64,
+    pub answered: u64,
     pub silent: bool,
     // The bounds in order, and which of them is to be broken, counted from 1; which one was, the moment of the
     // change, and whether that is too late.
@@ -308,6 +310,7 @@ impl Session {
             }
         }
         self.accepted = after(last, fastest);
+        self.answered = after(last, slowest);
     }
 
     pub fn command(&mut self, rt: &impl Abort, alloc: Global, byte: u8) {
@@ -328,9 +331,28 @@ impl Session {
         None
     }
 
-    // From an accept to the next change of ATN.
-    pub fn gap(&self) -> u64 {
-        if self.members.len() == 1 { 20 } else { 60 }
+    // Every drive is of a KERNAL's pace.
+    fn is_of_kernal(&self) -> bool {
+        for member in &self.members {
+            if member.pace == Pace::Profile {
+                return false;
+            }
+        }
+        true
+    }
+
+    // From which moment ATN may be changed after a byte.
+    pub fn behind_accepts(&self) -> u64 {
+        if self.is_of_kernal() {
+            return after(self.accepted, 20).max(after(self.answered, 1));
+        }
+        let gap = if self.members.len() == 1 { 20 } else { 60 };
+        after(self.accepted, gap)
+    }
+
+    // From ATN's release to its next pull.
+    pub fn pull_pause(&self) -> u64 {
+        if self.is_of_kernal() { 61 } else { 100 }
     }
 
     // Drives without a role let go of DATA.
@@ -367,6 +389,7 @@ impl Session {
             said: 0,
             pulled: 0,
             accepted: 0,
+            answered: 0,
             silent: false,
             released: 0,
             bounds: Vec::new(alloc),

@@ -123,12 +123,15 @@ impl Reading {
 
     /// Whether ATN may be pulled: a piece of a drive that talks may be cut, before its last event.
     fn may_pull(&self, moment: u64) -> bool {
+        let pause = self.pull_pause();
         match self.phase {
             Phase::Open => {
-                self.is_clear() && is_behind(moment, 100, self.released) && self.since <= moment
+                self.is_clear() && is_behind(moment, pause, self.released) && self.since <= moment
             }
             Phase::Listening => {
-                self.is_clear() && is_behind(moment, 100, self.released) && self.is_accepted(moment)
+                self.is_clear()
+                    && is_behind(moment, pause, self.released)
+                    && self.is_accepted(moment)
             }
             Phase::Over if self.is_clear() => self.last <= moment,
             Phase::Offered(_, _) if self.rank == 0 => self.last <= moment,
@@ -153,6 +156,7 @@ impl Reading {
         self.pulled = moment;
         self.released = None;
         self.accepted = None;
+        self.answered = None;
         self.owed.clear();
         self.owe_hold(rt, moment);
         add(rt, next, self)
@@ -219,7 +223,9 @@ impl Reading {
                 self.since = moment;
                 add(rt, next, self)
             }
-            Phase::Turned if is_behind(moment, 20, self.released) => self.turned(rt, moment, next),
+            Phase::Turned if is_behind(moment, self.turn(), self.released) => {
+                self.turned(rt, moment, next)
+            }
             _ => {}
         }
     }

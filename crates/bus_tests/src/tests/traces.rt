@@ -228,13 +228,17 @@ fn check(rt: &impl Abort, alloc: Global, seed: u64, paces: u8, broken: &mut Vec<
     after(2, after(disturbed, flawed))
 }
 
-// So many traces of some seeds, with each bound broken at least once. The drives keep the profile's pace, or by the seed
-// some of them, or all, a KERNAL's.
+// So many traces of some seeds, with each bound broken at least once. The drives keep the profile's pace; or all keep a
+// KERNAL's with each other seed, and by the seed some of them, or all, with the others.
 fn check_all(rt: &impl Abort, alloc: Global, first: u64, last: u64, of_kernal: bool) {
     let mut broken = Vec::new(alloc);
     let mut traces = 0;
     for seed in first..last {
-        let paces = if of_kernal { (seed % 15 + 1) as u8 } else { 0 };
+        let paces = match (of_kernal, seed % 2) {
+            (false, _) => 0,
+            (true, 0) => 15,
+            (true, _) => (seed / 2 % 15 + 1) as u8,
+        };
         traces = after(traces, check(rt, alloc, seed, paces, &mut broken));
     }
     assert!(rt; traces >= 45_000, "{traces} traces");

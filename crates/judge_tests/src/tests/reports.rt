@@ -79,8 +79,8 @@ fn tells_who_broke_it(rt: HostRuntime) {
     assert!(rt; matches!(verdict, Ok(Verdict::Host(_))));
 }
 
-/// TALK to device 8 with a reaction of 20, which has nothing to say, at a KERNAL's pace: it holds CLOCK for 80.
-const SILENT: &str = "0 host atn pull
+/// TALK to device 8 with a reaction of 20, up to ATN's release.
+const TALK: &str = "0 host atn pull
 0 host clock pull
 20 8 data pull
 100 host clock free
@@ -111,21 +111,49 @@ const SILENT: &str = "0 host atn pull
 480 8 data pull
 560 host data pull
 560 host atn free
-580 host clock free
+";
+
+/// With nothing to say, at a KERNAL's pace it holds CLOCK for 80.
+const SILENT: &str = "580 host clock free
 600 8 clock pull
 680 8 clock free
 680 8 data free
 ";
 
+fn turned(rt: &impl Abort, alloc: Global, rest: &str) -> String {
+    format!(in alloc; "{TALK}{rest}").ok().expect(rt, "memory")
+}
+
 // At the pace of the profile a talker that pulls CLOCK leads, and frees DATA with it.
 #[test]
 fn keeps_the_drives_pace(rt: HostRuntime) {
+    let silent = turned(&rt, rt.alloc(), SILENT);
     let expected = "attention 48\ndrive 8 has nothing to say\na session to 680 us\n";
-    let verdict = said(&rt, rt.alloc(), SILENT, &["8:20:kernal"], expected);
+    let verdict = said(&rt, rt.alloc(), &silent, &["8:20:kernal"], expected);
     assert!(rt; verdict == Ok(Verdict::Session));
     let expected = "attention 48\n600 us drive 8 data free: missing, was due then\n";
-    let verdict = said(&rt, rt.alloc(), SILENT, &["8:20"], expected);
+    let verdict = said(&rt, rt.alloc(), &silent, &["8:20"], expected);
     assert!(rt; matches!(verdict, Ok(Verdict::Drive(_))));
+}
+
+// CLOCK's release after ATN's goes by the pace of the drive that talks.
+#[test]
+fn keeps_the_bounds_of_the_pace(rt: HostRuntime) {
+    let early = turned(&rt, rt.alloc(), "574 host clock free\n");
+    let rows = [
+        (
+            "8:20:kernal",
+            "attention 48\n574 us host clock free: 14 after ATN's release, 15 at least\n",
+        ),
+        (
+            "8:20",
+            "attention 48\n574 us host clock free: 14 after ATN's release, 20 at least\n",
+        ),
+    ];
+    for (drive, expected) in rows {
+        let verdict = said(&rt, rt.alloc(), &early, &[drive], expected);
+        assert!(rt; matches!(verdict, Ok(Verdict::Host(_))));
+    }
 }
 
 #[test]
