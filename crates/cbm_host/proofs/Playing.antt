@@ -1,17 +1,21 @@
 -- A request goes on piece by piece: each fits the point behind the one before, and the host performs its part of it.
 use Rattle.std.proofs.Common.{◌≡◌, ℕ, zero, suc, ◌+◌, ◌*◌, ◌/◌, ◌%◌, ◌≤◌, ◌<◌, Bool, true, false, not, List, [], ◌∷◌, ◌++◌, append_assoc, append-nil, Option, None, ap, sym, ◌∙◌, subst, arith, refl}
+use Rattle.std.proofs.Math.Nat.{max-le}
 use Rattle.std.proofs.lemmas.Bool.{ne_eqb, le-leb, lt-leb, eq-eqb, eqb-true, eqb-false}
 use Rattle.std.specs.Prelude.{if◌then◌else◌, ◌==◌}
+use Rattle.cbm_iec.specs.Profile.{turn_settle, pull_pause}
 use Rattle.cbm_iec.specs.Roles.{role_after}
 use Rattle.cbm_iec.specs.declared.lines.Held.{Held}
+use Rattle.cbm_iec.specs.declared.pace.Pace.TheVariants.{Profile, Kernal}
+use Rattle.cbm_iec.specs.declared.pace.Pace.{Pace}
 use Rattle.cbm_iec.specs.declared.party.Party.{Party}
 use Rattle.cbm_iec.specs.declared.party.Role.TheVariants.{Absent, Listener, Talker}
 use Rattle.cbm_iec.specs.declared.party.Role.{Role}
 use Rattle.cbm_session.proofs.reading.PieceReadings.{seat}
 use Rattle.cbm_session.specs.Bits.{byte_of}
 use Rattle.cbm_session.specs.Following.{alone}
-use Rattle.cbm_session.specs.Pieces.{Piece, Place, Point, PullFits, PieceFits, piece_steps, point_after, PullPiece, Command, ToNobody, Full, Commanding, commanding}
-use Rattle.cbm_session.specs.Seats.{lines, Seat}
+use Rattle.cbm_session.specs.Pieces.{Piece, Place, Point, gap_at, gap, PullFits, PieceFits, piece_steps, point_after, PullPiece, Command, ToNobody, Full, Commanding, commanding}
+use Rattle.cbm_session.specs.Seats.{lines, Seat, bus_pace}
 use Rattle.cbm_session.specs.Steps.{Step, host, drive, for_each}
 use Rattle.cbm_iec.specs.declared.act.Act.TheVariants.{Released}
 use Rattle.cbm_iec.specs.declared.line.Line.TheVariants.{Atn, Clock, Data}
@@ -72,6 +76,24 @@ still_talks d byte l h =
 pub untalked : (d : ℕ) → d ≤ 11 → role_after d 95 Talker ≡ Absent
 untalked d l = rw (ne_eqb 95 (32 + d) (λ (x : 95 ≡ 32 + d). omega (arith, x, l)), ne_eqb 95 (64 + d) (λ (x : 95 ≡ 64 + d). omega (arith, x, l))) refl
 
+-- ---- what the host waits is enough at either pace
+
+pub pause_enough : (e : Pace) → pull_pause e ≤ 100
+pause_enough Profile = omega arith
+pause_enough Kernal = omega arith
+
+pub turn_enough : (e : Pace) → turn_settle e ≤ 20
+turn_enough Profile = omega arith
+turn_enough Kernal = omega arith
+
+one_gap : (e : Pace) (s : Seat) → gap_at e (s ∷ []) (s ∷ []) ≤ 20
+one_gap Profile s = omega arith
+one_gap Kernal s = max-le (omega arith) (omega arith)
+
+-- with a drive alone
+pub gap_enough : (b : Party) (role : Role) (own : Held) → gap (seat b role own ∷ []) (seat b role own ∷ []) ≤ 20
+gap_enough b role own = one_gap (bus_pace (seat b role own ∷ [])) (seat b role own)
+
 -- ---- one piece, and those behind it
 
 pub go_on : {b : Party} {p : Point} {e : Engined} (k : Piece) (ks : List Piece) (limit : ℕ) (e1 : Engined) → PieceFits p k → Performs e (piece_steps p k) e1 → IsPlayed b (point_after p k) e1 ks limit → IsPlayed b p e (k ∷ ks) limit
@@ -126,7 +148,7 @@ module _ (b : Party) (some : 1 ≤ b.reaction) (prompt : b.reaction ≤ 60) (lef
   nobody_then role pulled accept since limit absent soon =
       subst (λ (x : Role). IsPlayed b (attending b x true pulled accept since) (at_stage left most (stages.releasing accept Leaves)) (Full (ToNobody (accept + turn_wait) (accept + turn_wait)) ∷ []) limit) (sym absent)
       (record {
-        linked = ((record { commanding = refl; listener = refl; talker = refl; gap = omega arith }, omega arith), tt);
+        linked = ((record { commanding = refl; listener = refl; talker = refl; gap = (let few = gap_enough b Absent (lines false true) in omega (arith, few)) }, omega arith), tt);
         behind = at_stage left most (Ending (accept + turn_wait + ready_wait));
         until = accept + turn_wait + ready_wait;
         ending = refl;

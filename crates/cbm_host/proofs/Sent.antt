@@ -8,10 +8,10 @@ use Rattle.cbm_iec.specs.declared.pace.Pace.TheVariants.{Profile, Kernal}
 use Rattle.cbm_iec.specs.declared.pace.Pace.{Pace}
 use Rattle.cbm_session.proofs.reading.PieceReadings.{seat}
 use Rattle.cbm_session.specs.Pieces.{Point, Byte, ToListener, Full, Listening}
-use Rattle.cbm_session.specs.Seats.{lines}
+use Rattle.cbm_session.specs.Seats.{lines, bus_pace}
 use Rattle.cbm_host.proofs.Frames.{frame_fits, cells_end}
 use Rattle.cbm_host.proofs.Pieces.{at_stage, listener_performed, byte_performed}
-use Rattle.cbm_host.proofs.Playing.{go_on, point, attending, leave_then}
+use Rattle.cbm_host.proofs.Playing.{pause_enough, gap_enough, go_on, point, attending, leave_then}
 use Rattle.cbm_host.specs.Engines.{is_last, sending_on}
 use Rattle.cbm_host.specs.Framed.{start_for, frame_for}
 use Rattle.cbm_host.specs.Requests.{accept_for, sent, IsPlayed}
@@ -38,7 +38,10 @@ module _ (b : Party) (some : 1 ≤ b.reaction) (prompt : b.reaction ≤ 60) (mos
   pub sent_then : (pulled released accept since t wait limit : ℕ) (bytes : List ℕ) → released ≤ t → accept ≤ t → released + 100 ≤ t + wait → accept + 20 ≤ t + wait → wait ≤ 100 → t + 820 + 900 * length bytes ≤ limit
       → IsPlayed b (listening b pulled released accept since) (sending_on t wait most bytes) (sent b t wait bytes) limit
   sent_then pulled released accept since t wait limit [] a c d e f soon =
-      leave_then b some prompt [] most (listening b pulled released accept since) (seat b Listener (lines false true)) (t + wait) 63 limit refl (d, e) (omega (arith, c)) (omega arith) refl (omega (arith, f, soon))
+      let s = seat b Listener (lines false true) in
+      let pause = pause_enough (bus_pace (s ∷ [])) in
+      let few = gap_enough b Listener (lines false true) in
+      leave_then b some prompt [] most (listening b pulled released accept since) s (t + wait) 63 limit refl (omega (arith, d, pause), omega (arith, e, few)) (omega (arith, c)) (omega arith) refl (omega (arith, f, soon))
   sent_then pulled released accept since t wait limit (byte ∷ left) a c d e f soon =
       let p = listening b pulled released accept since in
       let s = seat b Listener (lines false true) in
@@ -60,6 +63,6 @@ module _ (b : Party) (some : 1 ≤ b.reaction) (prompt : b.reaction ≤ 60) (mos
       let at = accept + turn_wait in
       subst (λ (x : Role). IsPlayed b (attending b x true pulled accept since) (at_stage bytes most (stages.releasing accept Sends)) (Full (ToListener at) ∷ sent b at ready_wait bytes) limit) (sym listens)
       (go_on (Full (ToListener at)) (sent b at ready_wait bytes) limit (sending_on at ready_wait most bytes)
-      (record { commanding = refl; listener = refl; talker = refl; gap = omega arith })
+      (record { commanding = refl; listener = refl; talker = refl; gap = (let few = gap_enough b Listener (lines false true) in omega (arith, few)) })
       (listener_performed (seat b Listener (lines false true)) some prompt bytes most (attending b Listener true pulled accept since) (lines false true) at)
       (sent_then pulled at accept at at ready_wait limit bytes (omega arith) (omega arith) (omega arith) (omega arith) (omega arith) (omega (arith, soon))))

@@ -27,7 +27,7 @@ use Rattle.cbm_session.specs.Seats.{lines, Seat}
 use Rattle.cbm_session.specs.Steps.{Step, host, drive, for_one, moment_of}
 use Rattle.cbm_host.proofs.Composing.{performs_then}
 use Rattle.cbm_host.proofs.Pieces.{at_stage, talker_performed, nothing_performed, hushed_from, hushed_upto}
-use Rattle.cbm_host.proofs.Playing.{go_on, point, attending, leave_then, untalked}
+use Rattle.cbm_host.proofs.Playing.{turn_enough, gap_enough, go_on, point, attending, leave_then, untalked}
 use Rattle.cbm_host.proofs.Talks.{bits_count, told_performed}
 use Rattle.cbm_iec.specs.Attentions.{untalk}
 use Rattle.cbm_host.specs.Engines.{Engined, taking_on}
@@ -265,7 +265,7 @@ module _ (b : Party) (some : 1 ≤ b.reaction) (prompt : b.reaction ≤ 60) wher
   talker_then role left most pulled accept since limit ks talks more =
       let at = accept + turn_wait in
       subst (λ (x : Role). IsPlayed b (attending b x true pulled accept since) (at_stage left most (stages.releasing accept Takes)) (Full (ToTalker at (at + phase)) ∷ ks) limit) (sym talks)
-      (go_on (Full (ToTalker at (at + phase))) ks limit (at_stage left most (Taking Awaiting)) (record { commanding = refl; listener = refl; talker = refl; gap = omega arith }, omega arith)
+      (go_on (Full (ToTalker at (at + phase))) ks limit (at_stage left most (Taking Awaiting)) (record { commanding = refl; listener = refl; talker = refl; gap = (let few = gap_enough b Talker (lines false true) in omega (arith, few)) }, (let turn = turn_enough b.pace in omega (arith, turn)))
       (talker_performed (seat b Talker (lines false true)) some prompt left most (attending b Talker true pulled accept since) (lines false true) at) more)
 
   pub nothing_then : (role : Role) (left : List ℕ) (most pulled accept since limit : ℕ) → role ≡ Talker → b.device ≤ 11 → accept + 2000 ≤ limit
@@ -280,7 +280,7 @@ module _ (b : Party) (some : 1 ≤ b.reaction) (prompt : b.reaction ≤ 60) wher
       let late = silent_from b (at + phase) in
       subst (λ (x : Role). IsPlayed b (attending b x true pulled accept since) (at_stage left most (stages.releasing accept Takes)) (Full w ∷ leave b pull (untalk ∷ [])) limit) (sym talks)
       (go_on (Full w) (leave b pull (untalk ∷ [])) limit (at_stage left most (stages.leaving pull untalk false false))
-      (record { commanding = refl; listener = refl; talker = refl; gap = omega arith }, omega arith, from)
+      (record { commanding = refl; listener = refl; talker = refl; gap = (let few = gap_enough b Talker (lines false true) in omega (arith, few)) }, (let turn = turn_enough b.pace in omega (arith, turn)), from)
       (nothing_performed left most (attending b Talker true pulled accept since) (lines false true) at b prompt)
       (leave_then b some prompt left most (point b Talker (lines false false) Open (lines false false) pulled None accept freed) (seat b Talker (lines false false)) pull untalk limit refl (tt, omega arith) (omega (arith, from, late)) (omega arith) (untalked b.device few)
       (omega (arith, soon, upto))))
