@@ -1,4 +1,5 @@
 -- A request that was performed from rest was carried out.
+use Rattle.cbm_session.proofs.alone.Frames.{done_due}
 use Rattle.std.proofs.Common.{◌≡◌, ℕ, zero, ◌+◌, ◌≤◌, Bool, false, List, [], ◌∷◌, ◌++◌, append-nil, Option, Some, None, refl, sym, ap, ◌∙◌, subst, arith}
 use Rattle.std.specs.List.{All}
 use Rattle.cbm_iec.specs.Ports.{resting, port_due}
@@ -177,7 +178,7 @@ module _ (D M : Type 0) (stands : D → M → Type 0) (step : M → Act → M) (
     nobody_holds = free_rest b (end_point (rest (b ∷ [])) the_plan.pieces) the_plan.played.at_rest the_plan.played.free the_plan.played.alone
 
     idle : port_due one.0.port ≡ None
-    idle = subst (λ (v : Place). SideAmong v Absent one.0.port.side) the_plan.played.at_rest end_stands.stands.side
+    idle = done_due one.0.port.side (subst (λ (v : Place). SideAmong v Absent one.0.port.side) the_plan.played.at_rest end_stands.stands.side)
 
     -- and it is at rest there
     is_at_rest : h.going.after.stations ≡ at_rest M step says (λ d. one.0.machine) (b ∷ [])

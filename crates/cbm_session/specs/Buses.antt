@@ -1,6 +1,6 @@
 -- Every drive of a bus follows every session: how it stands at each point, what the others hold there, and the law.
 use Rattle.cbm_iec.specs.declared.pace.Pace.TheVariants.{Profile}
-use Rattle.std.specs.Prelude.{◌≡◌, ℕ, ◌+◌, zero, Bool, true, false, List, [], ◌∷◌, Option, None, nat_eq, if◌then◌else◌}
+use Rattle.std.specs.Prelude.{◌≡◌, ℕ, ◌+◌, zero, Bool, true, false, List, [], ◌∷◌, Option, nat_eq, if◌then◌else◌}
 use Rattle.cbm_iec.specs.Ports.{resting, side_due, port_due}
 use Rattle.cbm_iec.specs.declared.ear.Ear.TheVariants.{Idle, Holding}
 use Rattle.cbm_iec.specs.declared.line.Line.TheVariants.{Atn, Clock, Data}
@@ -14,7 +14,7 @@ use Rattle.cbm_iec.specs.declared.port.Port.{Port}
 use Rattle.cbm_iec.specs.declared.port.Side.TheVariants.{Hearing, Speaking}
 use Rattle.cbm_iec.specs.declared.port.Side.{Side}
 use Rattle.cbm_session.specs.Among.{Rest, wires_of, FollowsAmong}
-use Rattle.cbm_session.specs.Following.{IsInTime, in_attention, SaysPiece}
+use Rattle.cbm_session.specs.Following.{IsInTime, IsDone, in_attention, SaysPiece}
 use Rattle.cbm_session.specs.Pieces.{Piece, Place, Point, before, piece_steps, some_from, point_after, Open, Commanding, Listening, Leading, Cutting}
 use Rattle.cbm_session.specs.Seats.{lines, Seat, device}
 use Rattle.cbm_session.specs.Sessions.{rest, Linked, IsBus}
@@ -40,9 +40,9 @@ abbrev pub rest_at : ℕ → Point → Rest
 rest_at d p = record { host = record { atn_low = in_attention p.place; clock_low = p.host.clock_low; data_low = p.host.data_low }; clocks = holding Clock d p.seats; datas = holding Data d p.seats }
 
 -- What a drive waits for at a place, by its role: in attention, and as a listener, for CLOCK to be freed; as a talker that leads, for the moment of its
--- next frame; else for nothing but ATN. At a cut nothing is due before it.
+-- next frame; else for nothing but ATN, and nobody listens or talks on. At a cut nothing is due before it.
 abbrev pub SideAmong : Place → Role → Side → Type 0
-SideAmong Open role side = side_due side ≡ None
+SideAmong Open role side = IsDone side
 SideAmong (Commanding some) role side = side ≡ Hearing Holding
 SideAmong Listening Absent side = side ≡ Hearing Idle
 SideAmong Listening Listener side = side ≡ Hearing Holding

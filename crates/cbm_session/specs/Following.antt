@@ -1,9 +1,9 @@
 -- A drive among the host's changes: told each of them, it makes its own changes when they are due, and gives the acts that count.
-use Rattle.std.specs.Prelude.{◌≡◌, ℕ, ◌≤◌, ◌<◌, Bool, true, false, List, [], ◌∷◌, ◌++◌, Option, Some, None}
+use Rattle.std.specs.Prelude.{◌≡◌, ◌⊎◌, ℕ, ◌≤◌, ◌<◌, Bool, true, false, List, [], ◌∷◌, ◌++◌, Option, Some, None}
 use Rattle.cbm_iec.specs.Ports.{resting, side_due, port_due, told, told_act, reaction_act, reacted, reaction_changes}
 use Rattle.cbm_iec.specs.Profile.{slowest_reaction}
 use Rattle.cbm_iec.specs.declared.act.Act.{Act}
-use Rattle.cbm_iec.specs.declared.ear.Ear.TheVariants.{Holding}
+use Rattle.cbm_iec.specs.declared.ear.Ear.TheVariants.{Idle, Holding}
 use Rattle.cbm_iec.specs.declared.event.Who.TheVariants.{Host, Drive}
 use Rattle.cbm_iec.specs.declared.event.Who.{Who}
 use Rattle.cbm_iec.specs.declared.line.Change.{Change}
@@ -12,7 +12,7 @@ use Rattle.cbm_iec.specs.declared.line.Line.{Line}
 use Rattle.cbm_iec.specs.declared.line.Way.{Way}
 use Rattle.cbm_iec.specs.declared.lines.Held.{Held}
 use Rattle.cbm_iec.specs.declared.lines.Lines.{Lines}
-use Rattle.cbm_iec.specs.declared.mouth.Mouth.TheVariants.{Led}
+use Rattle.cbm_iec.specs.declared.mouth.Mouth.TheVariants.{Led, Over}
 use Rattle.cbm_iec.specs.declared.party.Party.{Party}
 use Rattle.cbm_iec.specs.declared.party.Role.TheVariants.{Listener, Talker}
 use Rattle.cbm_iec.specs.declared.party.Role.{Role}
@@ -92,9 +92,13 @@ abbrev pub in_attention : Place → Bool
 in_attention (Commanding some) = true
 in_attention place = false
 
+-- the drive neither listens nor talks on: it waits for ATN alone, as one that never talked, or whose talk is over
+abbrev pub IsDone : Side → Type 0
+IsDone side = (side ≡ Hearing Idle) ⊎ (side ≡ Speaking Over)
+
 -- what the drive waits for at a place
 abbrev pub SideAt : Place → Role → Side → Type 0
-SideAt Open role side = side_due side ≡ None
+SideAt Open role side = IsDone side
 SideAt (Commanding some) role side = side ≡ Hearing Holding
 SideAt Listening role side = (role ≡ Listener) × (side ≡ Hearing Holding)
 SideAt (Leading at) role side = (role ≡ Talker) × (side ≡ Speaking (Led at))

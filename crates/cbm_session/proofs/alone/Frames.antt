@@ -1,7 +1,8 @@
 -- A drive that hears a frame of the host: how it stands, and the byte that its bits make.
-use Rattle.std.proofs.Common.{◌≡◌, ℕ, ◌+◌, ◌*◌, ◌/◌, ◌≤◌, Bool, true, false, not, List, [], ◌∷◌, length, Option, arith, refl}
+use Rattle.std.proofs.Common.{◌≡◌, ℕ, ◌+◌, ◌*◌, ◌/◌, ◌≤◌, inl, inr, Bool, true, false, not, List, [], ◌∷◌, length, Option, None, ap, arith, refl}
 use Rattle.std.specs.Prelude.{if◌then◌else◌, ◌==◌}
 use Rattle.cbm_iec.specs.Hearing.{with_bit}
+use Rattle.cbm_iec.specs.Ports.{side_due}
 use Rattle.cbm_iec.specs.Roles.{role_after}
 use Rattle.cbm_iec.specs.declared.act.Act.TheVariants.{Attention, Heard}
 use Rattle.cbm_iec.specs.declared.act.Act.{Act}
@@ -15,7 +16,13 @@ use Rattle.cbm_iec.specs.declared.port.Port.{Port}
 use Rattle.cbm_iec.specs.declared.port.Side.TheVariants.{Hearing}
 use Rattle.cbm_iec.specs.declared.port.Side.{Side}
 use Rattle.cbm_session.specs.Bits.{Cell, byte_of}
+use Rattle.cbm_session.specs.Following.{IsDone}
 use Rattle.cbm_session.specs.Seats.{lines}
+
+-- where a drive is done nothing is due
+pub done_due : (side : Side) → IsDone side → side_due side ≡ None
+done_due side (inl h) = ap (λ (x : Side). side_due x) h
+done_due side (inr h) = ap (λ (x : Side). side_due x) h
 
 abbrev pub wires : Bool → Bool → Bool → Lines
 wires atn clock data_now = record { atn_low = atn; clock_low = clock; data_low = data_now }

@@ -23,7 +23,7 @@ use Rattle.cbm_iec.specs.declared.party.Role.{Role}
 use Rattle.cbm_iec.specs.declared.port.Port.{Port}
 use Rattle.cbm_iec.specs.declared.port.Side.TheVariants.{Hearing, Speaking}
 use Rattle.cbm_iec.specs.declared.port.Side.{Side}
-use Rattle.cbm_session.proofs.alone.Frames.{wires, stands, told_by, held_again}
+use Rattle.cbm_session.proofs.alone.Frames.{done_due, wires, stands, told_by, held_again}
 use Rattle.cbm_session.proofs.alone.HostFrames.{frame_follows, last_frame_follows}
 use Rattle.cbm_session.proofs.alone.Talk.{said_port, told_follows}
 use Rattle.cbm_session.proofs.joining.Merging.{merge_here, merge_there}
@@ -99,7 +99,7 @@ module _ (p : Point) (s : Seat) (q : Port) (h : StandsAt (alone p s) s q) where
 
 -- ATN's pull finds nothing overdue
 pull_in_time : (p : Point) (at : ℕ) (place : Place) (r : Role) (x : Side) → SideAt place r x → PullFits p at place → IsInTime at (side_due x)
-pull_in_time p at Open r x h f = subst (λ (o : Option ℕ). IsInTime at o) (sym h) tt
+pull_in_time p at Open r x h f = subst (λ (o : Option ℕ). IsInTime at o) (sym (done_due x h)) tt
 pull_in_time p at (Commanding some) r x h f = elim f [ ]
 pull_in_time p at Listening r x h f = subst (λ (y : Side). IsInTime at (side_due y)) (sym h.1) tt
 pull_in_time p at (Leading t) r x h f = elim f [ ]
@@ -218,7 +218,7 @@ nobody_law b o at clock p q peek h k y =
         (
           subst (λ (x : Port). Follows peek x (steps_of (alone p s) (ToNobody at clock)) q2) (sym (at_commanding p s q h true k.0.commanding)) (subst (λ (zs : List Step). Follows peek start zs q2) (sym steps) all),
           refl,
-          record { party = refl; role = refl; own = refl; others = refl; side = refl; lines_there = tt },
+          record { party = refl; role = refl; own = refl; others = refl; side = inl refl; lines_there = tt },
         ),
       ),
     )
@@ -300,7 +300,7 @@ nothing_law b o at clock freed r p q peek h k y =
         (
           subst (λ (x : Port). Follows peek x (steps_of (alone p s) (Nothing at clock freed)) q2) (sym (at_commanding p s q h true k.0.commanding)) (subst (λ (zs : List Step). Follows peek start zs q2) (sym steps) all),
           refl,
-          record { party = refl; role = refl; own = refl; others = refl; side = refl; lines_there = tt },
+          record { party = refl; role = refl; own = refl; others = refl; side = inr refl; lines_there = tt },
         ),
       ),
     )
@@ -310,7 +310,7 @@ pub said_stands : (peek : Option (ℕ × Bool)) (b : Party) (accept : ℕ) (v : 
     → ((said_port peek b accept v).party ≡ b) × ((said_port peek b accept v).role ≡ Talker) × ((said_port peek b accept v).own ≡ lines (not v) false)
     × ((said_port peek b accept v).others ≡ host_wires (if v then Open else Leading (accept + 100)) (lines false true)) × SideAt (if v then Open else Leading (accept + 100)) Talker (said_port peek b accept v).side
     × LinesAt (if v then Open else Leading (accept + 100)) (lines (not v) false) (lines false true)
-said_stands peek b accept true = (refl, refl, refl, refl, refl, tt)
+said_stands peek b accept true = (refl, refl, refl, refl, inr refl, tt)
 said_stands peek b accept false = (refl, refl, refl, refl, (refl, refl), (refl, refl))
 
 talk_law : (b : Party) (o : Held) (at : ℕ) (f : Told) → Law (Talk at f) (seat b Talker o)

@@ -484,4 +484,4 @@ follows_all (Cut w c ∷ ks) p s q r u h l = λ peek y.
 pub follows_sessions : FollowsSessions
 follows_sessions b ks r u l =
     follows_all ks (rest (b ∷ [])) (record { party = b; role = Absent; own = lines false false }) (resting b) r u
-    (record { party = refl; role = refl; own = refl; others = refl; side = refl; lines_there = tt }) l
+    (record { party = refl; role = refl; own = refl; others = refl; side = inl refl; lines_there = tt }) l

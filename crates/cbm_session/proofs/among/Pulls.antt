@@ -19,7 +19,7 @@ use Rattle.cbm_iec.specs.declared.party.Role.{Role}
 use Rattle.cbm_iec.specs.declared.port.Port.{Port}
 use Rattle.cbm_iec.specs.declared.port.Side.TheVariants.{Hearing}
 use Rattle.cbm_iec.specs.declared.port.Side.{Side}
-use Rattle.cbm_session.proofs.alone.Frames.{wires, stands}
+use Rattle.cbm_session.proofs.alone.Frames.{done_due, wires, stands}
 use Rattle.cbm_session.proofs.alone.Fronts.{AllAt}
 use Rattle.cbm_session.proofs.alone.Pieces.{port_is, pull_out}
 use Rattle.cbm_session.proofs.among.Around.{ForOthers, IsPart, IsLateBy, around_drives, merge_drives, every_drives, every, is_behind, NotHost}
@@ -40,7 +40,7 @@ use Rattle.cbm_session.specs.Steps.{Step, host, drive, for_each, moment_of, merg
 
 -- ATN's pull finds nothing overdue
 pub pull_in_time : (p : Point) (at : ℕ) (place : Place) (r : Role) (x : Side) → SideAmong place r x → PullFits p at place → IsInTime at (side_due x)
-pull_in_time p at Open r x h f = subst (λ (o : Option ℕ). IsInTime at o) (sym h) tt
+pull_in_time p at Open r x h f = subst (λ (o : Option ℕ). IsInTime at o) (sym (done_due x h)) tt
 pull_in_time p at (Commanding some) r x h f = elim f [ ]
 pull_in_time p at Listening Absent x h f = subst (λ (y : Side). IsInTime at (side_due y)) (sym h) tt
 pull_in_time p at Listening Listener x h f = subst (λ (y : Side). IsInTime at (side_due y)) (sym h) tt

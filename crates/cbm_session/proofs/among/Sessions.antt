@@ -189,7 +189,7 @@ at_rest bs c =
       role = refl;
       own = refl;
       others = sym (ap (λ (n : ℕ). wires_of (record { host = wires false false false; clocks = n; datas = holding Data c.device seats })) (none_hold Clock c.device bs) ∙ ap (λ (n : ℕ). wires_of (record { host = wires false false false; clocks = zero; datas = n })) (none_hold Data c.device bs));
-      side = refl;
+      side = inl refl;
     }
 
 each_follows : (bs : List Party) (ks : List Piece) (cs : List Party) → Linked (rest bs) ks → AreDrives cs → AllSound (rest bs) cs → EachFollows cs (rest bs) ks

@@ -1,9 +1,8 @@
 -- A drive among others that is to talk and has nothing to say: it lets go of DATA, at a KERNAL's pace after it has held both lines for a while.
 use Rattle.cbm_iec.specs.declared.pace.Pace.TheVariants.{Profile, Kernal}
 use Rattle.cbm_iec.specs.declared.pace.Pace.{Pace}
-use Rattle.std.proofs.Common.{◌≡◌, ℕ, ◌+◌, ◌≤◌, Bool, true, false, List, [], ◌∷◌, ◌++◌, map, Option, Some, None, ap, sym, ◌∙◌, subst, arith, refl, append-nil}
+use Rattle.std.proofs.Common.{◌≡◌, ℕ, ◌+◌, ◌≤◌, Bool, true, false, List, [], ◌∷◌, ◌++◌, map, Option, Some, None, ap, sym, ◌∙◌, subst, arith, refl, append-nil, inr}
 use Rattle.std.specs.Prelude.{nat_eq}
-use Rattle.cbm_iec.specs.Ports.{side_due}
 use Rattle.cbm_iec.specs.Profile.{mute}
 use Rattle.cbm_iec.specs.declared.act.Act.TheVariants.{Released, Silent}
 use Rattle.cbm_iec.specs.declared.line.Line.TheVariants.{Atn, Clock, Data}
@@ -89,7 +88,7 @@ at_once_law v o at clock freed p q peek sound st f y =
       follows = subst (λ (z : Option (ℕ × Bool)). FollowsAmong z (rest_at d p) q (steps_of p w) all.0 all.1.0) (sym y) whole;
       role = ap (λ (z : Port). z.role) all.1.1.1;
       own = ap (λ (z : Port). z.own) all.1.1.1;
-      side = ap (λ (z : Port). side_due z.side) all.1.1.1;
+      side = inr (ap (λ (z : Port). z.side) all.1.1.1);
     }
 
 -- At a KERNAL's pace it pulls CLOCK, and lets go of both lines later than all others have done their part.
@@ -221,7 +220,7 @@ later_law v o at clock freed p q peek sound st f y =
       follows = subst (λ (z : Option (ℕ × Bool)). FollowsAmong z (rest_at d p) q (steps_of p w) all.0 all.1.0) (sym y) turn;
       role = ap (λ (z : Port). z.role) all.1.1.1;
       own = ap (λ (z : Port). z.own) all.1.1.1;
-      side = ap (λ (z : Port). side_due z.side) all.1.1.1;
+      side = inr (ap (λ (z : Port). z.side) all.1.1.1);
     }
 
 pub nothing_law : (b : Party) (o : Held) (at clock : ℕ) (freed : Option ℕ) → SeatLaw (Nothing at clock freed) (seat b Talker o)

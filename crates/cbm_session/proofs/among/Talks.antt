@@ -1,5 +1,5 @@
 -- A drive among others follows the frames: its own as the talker, those of the host as a listener and in attention, and none where it has no part in it.
-use Rattle.std.proofs.Common.{◌≡◌, ℕ, zero, suc, ◌+◌, Bool, true, false, not, List, [], ◌∷◌, map, Option, Some, None, ap, sym, ◌∙◌, subst, refl, eq-eqb}
+use Rattle.std.proofs.Common.{◌≡◌, ℕ, zero, suc, ◌+◌, Bool, true, false, not, List, [], ◌∷◌, map, Option, Some, None, ap, sym, ◌∙◌, subst, refl, eq-eqb, inl}
 use Rattle.std.specs.Prelude.{if◌then◌else◌, nat_eq, ◌||◌}
 use Rattle.cbm_iec.specs.declared.act.Act.TheVariants.{Heard, Said}
 use Rattle.cbm_iec.specs.declared.act.Act.{Act}
@@ -183,7 +183,7 @@ taking_others d t g h = (record { who = tt; counts = refl; line = refl }, every_
     told = sym (ap (λ (v : Bool). if v then Some (Said (number_of g.bits) (is_last g)) else None) h)
 
 idle_side : (v : Bool) (m : ℕ) → SideAmong (if v then Open else Leading m) Absent (Hearing Idle)
-idle_side true m = refl
+idle_side true m = inl refl
 idle_side false m = refl
 
 pub absent_talk_law : (b : Party) (o : Held) (at : ℕ) (g : Told) → SeatLaw (Talk at g) (seat b Absent o)

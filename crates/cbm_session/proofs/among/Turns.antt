@@ -2,7 +2,7 @@
 use Rattle.cbm_session.proofs.joining.Silents.{silent_order}
 use Rattle.cbm_iec.specs.declared.pace.Pace.TheVariants.{Profile, Kernal}
 use Rattle.cbm_iec.specs.declared.pace.Pace.{Pace}
-use Rattle.std.proofs.Common.{◌≡◌, ℕ, zero, suc, ◌+◌, ◌≤◌, Bool, true, false, List, [], ◌∷◌, map, Option, Some, None, ap, sym, ◌∙◌, subst, arith, refl}
+use Rattle.std.proofs.Common.{◌≡◌, ℕ, zero, suc, ◌+◌, ◌≤◌, Bool, true, false, List, [], ◌∷◌, map, Option, Some, None, ap, sym, ◌∙◌, subst, arith, refl, inl}
 use Rattle.std.specs.Prelude.{nat_eq}
 use Rattle.cbm_iec.specs.declared.act.Act.TheVariants.{Released, Silent}
 use Rattle.cbm_iec.specs.declared.ear.Ear.TheVariants.{Idle, Leaving, Holding}
@@ -182,7 +182,7 @@ nobody_law b o at clock p q peek sound st f y =
       follows = released peek p s w q q2 k.0 all.0 (for_each Released (host at Atn Free) ∷ merge (free ∷ []) (drives_of p w)) sound st f.0.commanding k.2 steps (tells tt refl all.1);
       role = refl;
       own = refl;
-      side = refl;
+      side = inl refl;
     }
 
 -- the turnaround: the host pulls DATA and frees ATN
@@ -276,4 +276,4 @@ absent_nothing_law b o at clock freed p q peek sound st f y =
     let all = turn_absent p b o (Nothing at clock freed) at (host clock Clock Free ∷ freed_steps freed) (λ x. silent_part x.party.pace (device x) (clock + reaction x))
     (λ (d : ℕ) (x : Seat) (h : nat_eq d (device x) ≡ false). silence_part d (clock + reaction x) x h) (λ (x : Seat). silent_sooner x.party.pace (device x) at (clock + reaction x) (omega (arith, late))) (λ (x : Seat). refl) refl
     (freed_order clock (talker_of p.seats) freed f.2) (record { who = tt; counts = refl; line = refl }, freed_others b.device freed) q peek sound st f.0.commanding in
-    record { rest = all.0; port = stands b Absent (lines false false) (wires_of all.0) (Hearing Idle); follows = all.1; role = refl; own = refl; side = refl }
+    record { rest = all.0; port = stands b Absent (lines false false) (wires_of all.0) (Hearing Idle); follows = all.1; role = refl; own = refl; side = inl refl }

@@ -1,4 +1,5 @@
 -- The stations of a bus at a point of a session that they have played so far, and the next piece: the play is in it, or behind it at the next point.
+use Rattle.cbm_session.proofs.alone.Frames.{done_due}
 use Rattle.std.proofs.Common.{◌≡◌, ℕ, ◌+◌, ◌≤◌, ◌⊎◌, inl, inr, Bool, true, List, [], ◌∷◌, ◌++◌, map, Option, Some, None, ap, sym, ◌∙◌, subst, refl, arith}
 use Rattle.std.specs.Prelude.{if◌then◌else◌}
 use Rattle.cbm_iec.specs.Ports.{side_due, port_due}
@@ -213,7 +214,7 @@ module _ (M : Type 0) (step : M → Act → M) (peek : M → Option (ℕ × Bool
         listening Talker side h = elim h [ ]
 
         all_showing : (q : Place) → p.place ≡ q → AllShow M step peek mute place xs
-        all_showing Open e = open_show p.seats xs here.stand (λ r side h. subst (λ (v : Place). SideAmong v r side) e h)
+        all_showing Open e = open_show p.seats xs here.stand (λ r side h. done_due side (subst (λ (v : Place). SideAmong v r side) e h))
         all_showing (Commanding some) e = absurd (subst (λ (v : Place). Rattle.cbm_session.specs.Pieces.PullFits p at v) e fits)
         all_showing Listening e = open_show p.seats xs here.stand (λ r side h. listening r side (subst (λ (v : Place). SideAmong v r side) e h))
         all_showing (Leading t) e = absurd (subst (λ (v : Place). Rattle.cbm_session.specs.Pieces.PullFits p at v) e fits)

@@ -19,7 +19,7 @@ use Rattle.cbm_iec.specs.declared.party.Role.{Role}
 use Rattle.cbm_iec.specs.declared.port.Port.{Port}
 use Rattle.cbm_iec.specs.declared.port.Side.TheVariants.{Hearing}
 use Rattle.cbm_iec.specs.declared.port.Side.{Side}
-use Rattle.cbm_session.proofs.alone.Frames.{stands}
+use Rattle.cbm_session.proofs.alone.Frames.{done_due, stands}
 use Rattle.cbm_session.proofs.among.Around.{every_merge, every_each, merge_drives}
 use Rattle.cbm_session.proofs.among.Calm.{Every}
 use Rattle.cbm_session.proofs.among.Frames.{in_hold}
@@ -243,7 +243,7 @@ module _ (M : Type 0) (step : M → Act → M) (peek : M → Option (ℕ × Bool
       frame = every_merge OfFrame (host clock Clock Free ∷ []) (drives_of p (ToNobody at clock)) ((refl, tt, tt), tt) (every_each OfFrame (λ (x : Seat). own_part p (ToNobody at clock) x) [] p.seats tt (each_seat (λ x. Every OfFrame (own_part p (ToNobody at clock) x)) p.seats (λ (x : Seat). ((refl, tt, refl), tt))))
 
       quiet : (s : Seat) (q : Port) → StandsAmong (whole_point p (ToNobody at clock)) (next_seat (ToNobody at clock) s) q → port_due q ≡ None
-      quiet s q st = st.side
+      quiet s q st = done_due q.side st.side
 
       any : (s : Seat) (d : ℕ) → SaysAs s.role (Full (ToNobody at clock)) (says d)
       any s d = go s.role

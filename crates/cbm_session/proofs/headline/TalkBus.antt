@@ -1,4 +1,5 @@
 -- A frame of the talker on a bus: under way it is the frame of the byte that the talker's machine has to say; played to its end it says that byte, and all stand behind it.
+use Rattle.cbm_session.proofs.alone.Frames.{done_due}
 use Rattle.cbm_iec.specs.Profile.{bit_time}
 use Rattle.std.proofs.Common.{◌≡◌, ℕ, suc, ◌+◌, ◌≤◌, ◌<◌, ◌⊎◌, inl, inr, Bool, true, false, List, [], ◌∷◌, ◌++◌, map, Option, Some, None, ap, sym, ◌∙◌, subst, arith, refl, eq-eqb}
 use Rattle.std.proofs.lemmas.Bool.Decides.{leb_tells}
@@ -169,7 +170,7 @@ module _ (M : Type 0) (step : M → Act → M) (peek : M → Option (ℕ × Bool
         done = steps_done p s (Talk at f) sound fits
 
         go : (v : Bool) → is_last f ≡ v → (r : Role) → SideAmong (if v then Open else Leading (f.accept + 100)) r q2.side → AllBefore t (steps_of p (Talk at f))
-        go true l r st = let k : Some t ≡ None = sym e ∙ st in absurd cc
+        go true l r st = let k : Some t ≡ None = sym e ∙ done_due q2.side st in absurd cc
         go false l Absent st = let k : Some t ≡ None = sym e ∙ ap (λ (v : Side). side_due v) st in absurd cc
         go false l Listener st = elim st [ ]
         go false l Talker st =

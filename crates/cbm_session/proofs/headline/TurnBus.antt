@@ -1,4 +1,5 @@
 -- The turnaround on a bus, by the answer of the talker's machine: the host pulls DATA, frees ATN, then CLOCK; the drives without a role let go, the talker leads or is silent.
+use Rattle.cbm_session.proofs.alone.Frames.{done_due}
 use Rattle.cbm_iec.specs.declared.pace.Pace.TheVariants.{Profile, Kernal}
 use Rattle.cbm_iec.specs.declared.pace.Pace.{Pace}
 use Rattle.std.proofs.Common.{◌≡◌, ℕ, ◌+◌, ◌≤◌, ◌<◌, ◌⊎◌, Bool, true, false, List, [], ◌∷◌, ◌++◌, map, Option, Some, None, ap, sym, ◌∙◌, subst, arith, refl}
@@ -362,4 +363,4 @@ module _ (M : Type 0) (step : M → Act → M) (peek : M → Option (ℕ × Bool
       nothing_on_bus freed o fits k plays rest meets =
           let whole : Fits p (Nothing at clock freed) = upto_fits p o (Nothing at clock freed) fits in
           turn_on_bus (Nothing at clock freed) o (mutes p at clock freed) fits whole.0.commanding whole.0.listener (mute_steps p at clock freed (omega (arith, whole.1))) (λ c f. f) (mute_turn p s sound talks at clock freed)
-          (λ x q st t e. let c : Some t ≡ None = sym e ∙ st.side in absurd cc) k plays rest meets
+          (λ x q st t e. let c : Some t ≡ None = sym e ∙ done_due q.side st.side in absurd cc) k plays rest meets

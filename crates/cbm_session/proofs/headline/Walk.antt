@@ -1,4 +1,5 @@
 -- An allowed session that begins as a play did: where in it the play is, and what the machines ran.
+use Rattle.cbm_session.proofs.alone.Frames.{done_due}
 use Rattle.std.proofs.Common.{◌≡◌, ℕ, ◌+◌, ◌⊎◌, inl, inr, Bool, List, [], ◌∷◌, ◌++◌, map, append_assoc, Option, Some, None, ap, sym, ◌∙◌, subst, arith, refl}
 use Rattle.cbm_iec.specs.Ports.{side_due}
 use Rattle.cbm_iec.specs.declared.act.Act.{Act}
@@ -103,7 +104,7 @@ module _ (M : Type 0) (step : M → Act → M) (peek : M → Option (ℕ × Bool
 
   -- where a session may end nothing is due
   end_due : (q : Place) → MayEnd q → (r : Role) (side : Side) → SideAmong q r side → side_due side ≡ None
-  end_due Open m r side h = h
+  end_due Open m r side h = done_due side h
   end_due (Commanding some) m r side h = ap (λ (v : Side). side_due v) h
   end_due Listening m r side h = listening_due r side h
   end_due (Leading at) m r side h = elim m [ ]
