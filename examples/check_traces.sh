@@ -144,6 +144,32 @@ judged "the wires of a host too early" 1 "99 us host clock free: 99 after ATN's 
 printf '$timescale 1us $end $var wire 1 a ATN $end $var wire 1 c CLK $end $var wire 1 d DATA $end\n$enddefinitions $end\n#0 0a 0c\n#21 0d\n' > late.vcd
 judged "the wires of a drive too late" 2 "21 us drive 8 data pull: due at 20" late.vcd
 judged "the same wires of a drive that takes 21" 0 "a session to 21 us" late.vcd --drive 8:21
+# A computer's KERNAL: jobs of a C64 and a drive at that pace, as tools/kernal_traces.py has them, with no help of this drive. No session has them as they are.
+kernal() {
+    awk -v wanted="$1" '/^== / { there = index($0, wanted) } there && /^[0-9]+ (host|8) (atn|clock|data) (pull|free)$/' "$here/../crates/cases/data/kernal.cases"
+}
+
+kernal "LOAD\"$\",8 of a C64 for PAL" > load.trace
+kernal "LOAD of a missing file" > missing.trace
+kernal "at the profile's pace a missing file hangs" > hangs.trace
+for job in load missing; do
+    "$drive" judge $job.trace --drive 8:20:kernal > judged.txt
+    is "judge, a KERNAL, $job: no session has it so" test $? = 1
+    "$drive" judge $job.trace --drive 8:20:kernal --loosely > $job.txt
+    is "judge, a KERNAL, $job: keeps the timing loosely" test $? = 0
+done
+is "judge, a KERNAL: the name with EOI" grep -q "^host 24 eoi$" load.txt
+is "judge, a KERNAL: attention and the directory" test "$(awk '$1 == "attention" { $1 = ""; print } $1 == "drive" { print $3 $4 }' load.txt | head -n 7 | tr -s ' \n' '  ')" = " 28 f0 3f 48 60 01 04 01 01 "
+is "judge, a KERNAL: one last byte" test "$(grep -c '^drive 8 .. eoi$' load.txt)" = 1
+is "judge, a KERNAL: nothing to say" grep -q "^drive 8 has nothing to say$" missing.txt
+is "judge, a KERNAL: the status 62 then" test "$(awk '$1 == "drive" && NF > 2 && $3 != "has" { print $3 }' missing.txt | head -n 2 | tr '\n' ' ')" = "36 32 "
+# It frees CLOCK for its first byte at 3,497: not before it pulled it; and DATA is to be free then.
+sed 's/^3497 host clock free$/2999 host clock free/' load.trace | sort -s -n > early.loose
+sed 's/^3497 host clock free$/3496 host data pull\n3497 host clock free/' load.trace > data.loose
+for broken in early data; do
+    "$drive" judge $broken.loose --drive 8:20:kernal --loosely > judged.txt
+    is "judge, a KERNAL that is wrong ($broken): the host broke it" test $? = 1
+done
 judged "a device that is none" 64 "error: a device number is 8 to 11" early.trace --drive 12:20
 judged "a drive without a reaction" 64 "error: a drive is DEVICE:REACTION or DEVICE:REACTION:PACE, as 8:20" early.trace --drive 8
 

@@ -1,7 +1,7 @@
 //! `drive1541 judge TRACE`: whether a trace of the bus is a session, and else who broke it.
 use cbm_iec::Party;
 use clap::{Arg, ArgAction, ArgMatches, Command, Error};
-use judge_report::{ReportFault, Verdict, judge_trace, party_of};
+use judge_report::{ReportFault, Timing, Verdict, judge_trace, party_of};
 use std::alloc::{AllocError, Global};
 use std::io::{BufReader, BufWriter, Read, Write};
 use std::process::ExitCode;
@@ -10,6 +10,9 @@ use std::{fs, io};
 
 /// The word that asks for the judge.
 const JUDGE: &str = "judge";
+
+/// The option for a host that keeps the timing loosely.
+const LOOSELY: &str = "loosely";
 
 /// The exit statuses: what is said of the trace; or the trace can't be read, or the command line is none.
 const SESSION: u8 = 0;
@@ -43,10 +46,15 @@ fn command<'a>(alloc: Global) -> Result<Command<'a>, Error> {
         .help(
             "a drive of the bus: its number, 8 to 11, its reaction, 1 to 60, and `profile` or `kernal`",
         );
+    let loosely = Arg::new(alloc, LOOSELY)
+        .long(LOOSELY)
+        .action(ArgAction::SetTrue)
+        .help("pass over changes of CLOCK and DATA that no drive heeds, as a KERNAL makes them");
     let command = Command::new(alloc, JUDGE)
         .about("Says whether a trace of the bus is a session, and who broke it")
         .arg(trace)?
-        .arg(drive)?;
+        .arg(drive)?
+        .arg(loosely)?;
     Ok(command)
 }
 
@@ -82,15 +90,34 @@ pub fn run(rt: &HostRuntime, words: &[String]) -> ExitCode {
         return ExitCode::from(UNASKED);
     };
     let name = matches.get_str("TRACE").unwrap_or("");
-    ExitCode::from(judge_named(rt, name, parties.as_slice()))
+    let asked = Asked {
+        parties: parties.as_slice(),
+        timing: timing_of(&matches),
+    };
+    ExitCode::from(judge_named(rt, name, asked))
 }
 
-fn judge_named<R: Runtime + AllocGlobal>(rt: &R, name: &str, parties: &[Party]) -> u8 {
+/// What is asked of a trace.
+#[derive(Clone, Copy, Drop)]
+struct Asked<'a> {
+    parties: &'a [Party],
+    timing: Timing,
+}
+
+fn timing_of(matches: &ArgMatches<'_>) -> Timing {
+    if matches.get_flag(LOOSELY) {
+        Timing::Loosely
+    } else {
+        Timing::Kept
+    }
+}
+
+fn judge_named<R: Runtime + AllocGlobal>(rt: &R, name: &str, asked: Asked<'_>) -> u8 {
     if name == "-" {
-        return judge_read(rt, rt.reader(), parties);
+        return judge_read(rt, rt.reader(), asked);
     }
     match fs::open(rt, name) {
-        Ok(trace) => judge_read(rt, trace, parties),
+        Ok(trace) => judge_read(rt, trace, asked),
         Err(error) => {
             let kind = error.kind();
             let _ = eprintln!(rt; "file fault: {name}: {kind}");
@@ -102,9 +129,9 @@ fn judge_named<R: Runtime + AllocGlobal>(rt: &R, name: &str, parties: &[Party]) 
 fn judge_read<R: Runtime + AllocGlobal, I: io::Read + Drop>(
     rt: &R,
     trace: I,
-    parties: &[Party],
+    asked: Asked<'_>,
 ) -> u8 {
-    match judge_buffered(rt, trace, parties) {
+    match judge_buffered(rt, trace, asked) {
         Ok(Ok(verdict)) => status_of(verdict),
         Ok(Err(fault)) => {
             let _ = eprintln!(rt; "error: {fault}");
@@ -120,11 +147,11 @@ fn judge_read<R: Runtime + AllocGlobal, I: io::Read + Drop>(
 fn judge_buffered<R: Runtime + AllocGlobal, I: io::Read + Drop>(
     rt: &R,
     trace: I,
-    parties: &[Party],
+    asked: Asked<'_>,
 ) -> io::Result<Result<Verdict, ReportFault>> {
     let input = BufReader::new(rt.alloc(), trace)?;
     let mut output = BufWriter::new(rt.alloc(), io::writer(rt))?;
-    let judged = judge_trace(input, &mut output, parties);
+    let judged = judge_trace(input, &mut output, asked.parties, asked.timing);
     output.flush()?;
     Ok(judged)
 }

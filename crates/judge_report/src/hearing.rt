@@ -1,12 +1,23 @@
-//! What is known of a trace so far: the judge, the acts that were printed, and the wires where they alone are known.
+//! What is known of a trace so far: the judge, the acts that were printed, the wires where they alone are known, and a tidy
+//! host where the host keeps the timing loosely.
 
 use crate::fault::ReportFault;
 use crate::report::written;
 use crate::teller::Teller;
 use bus_judge::{Breach, Judge, NotABus};
+use bus_tidy::Tidy;
 use bus_wires::Wires;
-use cbm_iec::{Change, Event, Party};
+use cbm_iec::{Change, Event, Party, Who};
 use std::io::Write;
+
+/// How closely the host is to keep the timing of the bus.
+#[derive(Clone, Copy, Debug, PartialEq, Eq, Drop)]
+pub enum Timing {
+    /// As sessions have it.
+    Kept,
+    /// But for changes of CLOCK and DATA that no drive heeds, as a computer's KERNAL makes them.
+    Loosely,
+}
 
 /// A trace that is judged.
 #[derive(Drop)]
@@ -16,21 +27,67 @@ pub struct Hearing {
     wires: Wires,
     /// The wires alone are known.
     is_by_wires: bool,
+    /// The trace is judged as a tidy host has it.
+    tidy: Option<Tidy>,
 }
 
 impl Hearing {
     /// Nothing of a trace of these drives was seen. Error: they are no bus.
-    pub fn new(parties: &[Party]) -> Result<Hearing, NotABus> {
+    pub fn new(parties: &[Party], timing: Timing) -> Result<Hearing, NotABus> {
         Ok(Hearing {
             judge: Judge::new(parties)?,
             teller: Teller::new(),
             wires: Wires::new(parties).ok_or(NotABus::Count)?,
             is_by_wires: false,
+            tidy: match timing {
+                Timing::Kept => None,
+                Timing::Loosely => Some(Tidy::new(parties)),
+            },
         })
     }
 
-    /// Judges an event and prints the act that it completes. What broke the session, if it did.
+    /// Judges an event: as it is, or as a tidy host has it. What broke the session, if it did.
     pub fn see<W: Write>(
+        &mut self,
+        event: Event,
+        output: &mut W,
+    ) -> Result<Option<Breach>, ReportFault> {
+        let Some(tidy) = &mut self.tidy else {
+            return self.judged(event, output);
+        };
+        match event.who {
+            Who::Drive(device) => {
+                tidy.drive(device, event.change);
+                self.judged(event, output)
+            }
+            Who::Host => {
+                let changes = tidy.host(event.change);
+                self.host(&changes, output)
+            }
+        }
+    }
+
+    /// Judges changes of the host.
+    fn host<W: Write>(
+        &mut self,
+        changes: &[Change],
+        output: &mut W,
+    ) -> Result<Option<Breach>, ReportFault> {
+        for change in changes {
+            let event = Event {
+                who: Who::Host,
+                change: *change,
+            };
+            let breach = self.judged(event, output)?;
+            if breach.is_some() {
+                return Ok(breach);
+            }
+        }
+        Ok(None)
+    }
+
+    /// Judges an event and prints the act that it completes. What broke the session, if it did.
+    fn judged<W: Write>(
         &mut self,
         event: Event,
         output: &mut W,

@@ -1,7 +1,7 @@
 //! A trace, judged event by event.
 
 use crate::fault::ReportFault;
-use crate::hearing::Hearing;
+use crate::hearing::{Hearing, Timing};
 use bus_judge::{Breach, Verdict};
 use bus_traces::{Told, Traces};
 use cbm_iec::Party;
@@ -32,15 +32,16 @@ fn hear_all<R: Read, W: Write>(
 
 /// Judges a trace of these drives, as lines or as a VCD: of the parties' own lines, or of the wires alone, whose changes
 /// are the host's but for those that a drive owes at their moment. Prints the acts that were completed, one a line, and
-/// the verdict.
+/// the verdict. Where the host is to keep the timing loosely, the trace is judged as a tidy host has it.
 ///
 /// Errors: the drives are no bus, or the trace can't be read; then the verdict isn't printed.
 pub fn judge_trace<R: Read + Drop, W: Write>(
     input: R,
     output: &mut W,
     parties: &[Party],
+    timing: Timing,
 ) -> Result<Verdict, ReportFault> {
-    let mut hearing = Hearing::new(parties)?;
+    let mut hearing = Hearing::new(parties, timing)?;
     let mut traces = Traces::new(input);
     let breach = hear_all(&mut hearing, &mut traces, output);
     hearing.end_line(output)?;

@@ -2,7 +2,7 @@
 
 use bus_judge::NotABus;
 use cbm_iec::Party;
-use judge_report::{ReportFault, Verdict, judge_trace, party_of};
+use judge_report::{ReportFault, Timing, Verdict, judge_trace, party_of};
 use std::alloc::Global;
 use std::process::Abort;
 use std::str::from_utf8;
@@ -54,7 +54,7 @@ pub fn said(
         parties.push(party).ok().expect(rt, "memory");
     }
     let mut output: Vec<u8> = Vec::new(alloc);
-    let verdict = judge_trace(trace.as_bytes(), &mut output, &parties);
+    let verdict = judge_trace(trace.as_bytes(), &mut output, &parties, Timing::Kept);
     let text = from_utf8(output.as_slice()).ok().expect(rt, "text");
     assert!(rt; text == expected, "{text}");
     verdict
