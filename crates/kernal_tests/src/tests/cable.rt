@@ -27,7 +27,7 @@ const ALL_FREE: Held = Held {
     data_low: false,
 };
 
-/// The trace so far, as a tidy host has it, before a judge.
+/// The trace so far, as a tidy host has it, before a judge; or before none.
 #[derive(Drop)]
 struct Court {
     tidy: Tidy,
@@ -35,22 +35,27 @@ struct Court {
 }
 
 impl Court {
-    /// Before a trace of these drives.
-    fn new(parties: &[Party]) -> Court {
+    /// Before a trace of these drives, which is judged or isn't.
+    fn new(parties: &[Party], judged: bool) -> Court {
         Court {
             tidy: Tidy::new(parties),
-            judge: Judge::new(parties).ok(),
+            judge: Judge::new(parties).ok().filter(|_| judged),
         }
     }
 
     /// A drive changes a line. What a judge finds against it is kept by the judge.
     fn drive(&mut self, device: u8, change: Change) {
-        self.tidy.drive(device, change);
-        self.see(Who::Drive(device), change);
+        if self.judge.is_some() {
+            self.tidy.drive(device, change);
+            self.see(Who::Drive(device), change);
+        }
     }
 
     /// The host changes a line: the tidy one makes other changes, or none.
     fn host(&mut self, change: Change) {
+        if self.judge.is_none() {
+            return;
+        }
         let changes = self.tidy.host(change);
         for change in &changes {
             self.see(Who::Host, *change);
@@ -103,11 +108,11 @@ fn after(lines: Lines, line: Line, low: bool) -> Lines {
 }
 
 impl Cable {
-    /// Drives that are switched on, and all lines free.
-    pub fn new(drives: Drives) -> Cable {
+    /// Drives that are switched on, and all lines free. What happens is judged, or isn't.
+    pub fn new(drives: Drives, judged: bool) -> Cable {
         let court = match &drives {
-            Drives::One(_, party) => Court::new(&[*party]),
-            Drives::Two(_, parties) => Court::new(parties),
+            Drives::One(_, party) => Court::new(&[*party], judged),
+            Drives::Two(_, parties) => Court::new(parties, judged),
         };
         let host = Lines {
             atn_low: false,

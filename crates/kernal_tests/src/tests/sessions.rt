@@ -3,7 +3,7 @@
 
 use crate::tests::cycles::Computer;
 use crate::tests::disks::{HELLO, LAST, LINE, TITLE, image_with_hello, one, two};
-use crate::tests::host::Host;
+use crate::tests::host::{Host, JUDGED};
 use cbm_drive::Pace;
 use std::alloc::Global;
 use std::process::Abort;
