@@ -9,3 +9,4 @@ pub mod Zips
 pub mod Plays
 pub mod Once
 pub mod Loosely
+pub mod Itself

@@ -37,13 +37,18 @@ HearsAlike h k = (h.clock_low ≡ k.clock_low) × (h.clock_low ≡ false → h.d
 abbrev pub CallsAlike : Pace → ℕ → Lines → Lines → Type 0
 CallsAlike pace clocks h k = (h.clock_low ≡ k.clock_low) ⊎ ((pace ≡ Kernal) × (clocks ≡ zero) × (h.clock_low ≡ false) × (k.clock_low ≡ true))
 
--- what of the two hosts' lines has to be alike for a drive that hears, by what it waits for
-abbrev pub EarHeeds : Pace → ℕ → Lines → Lines → Ear → Type 0
-EarHeeds pace clocks h k Idle = Unit {0}
-EarHeeds pace clocks h k (Leaving at) = Unit {0}
-EarHeeds pace clocks h k (Starting at) = CallsAlike pace clocks h k
-EarHeeds pace clocks h k Await = (clocks ≡ zero) × (h.clock_low ≡ false) × (k.clock_low ≡ true)
-EarHeeds pace clocks h k ear = HearsAlike h k
+-- Where it waits for that pull it heeds CLOCK, too; the host hasn't pulled it where under the tidy one the drive has seen it pulled.
+abbrev pub AwaitsAlike : ℕ → Lines → Lines → Side → Type 0
+AwaitsAlike clocks h k (Hearing Await) = h.clock_low ≡ k.clock_low
+AwaitsAlike clocks h k tidy = (clocks ≡ zero) × (h.clock_low ≡ false) × (k.clock_low ≡ true)
+
+-- what of the two hosts' lines has to be alike for a drive that hears, by what it waits for, and by what it waits for under the tidy one
+abbrev pub EarHeeds : Pace → ℕ → Lines → Lines → Ear → Side → Type 0
+EarHeeds pace clocks h k Idle tidy = Unit {0}
+EarHeeds pace clocks h k (Leaving at) tidy = Unit {0}
+EarHeeds pace clocks h k (Starting at) tidy = CallsAlike pace clocks h k
+EarHeeds pace clocks h k Await tidy = AwaitsAlike clocks h k tidy
+EarHeeds pace clocks h k ear tidy = HearsAlike h k
 
 -- The same of a drive that talks: from the turnaround to its answer it heeds both lines, then DATA alone, and after its last byte, or with nothing to
 -- say, none.
@@ -55,10 +60,10 @@ MouthHeeds h k (Ending at) = Unit {0}
 MouthHeeds h k Over = Unit {0}
 MouthHeeds h k mouth = h.data_low ≡ k.data_low
 
--- what has to be alike for a drive, by its pace, how many other drives hold CLOCK, and what it waits for
-abbrev pub HeedsAlike : Pace → ℕ → Lines → Lines → Side → Type 0
-HeedsAlike pace clocks h k (Hearing ear) = EarHeeds pace clocks h k ear
-HeedsAlike pace clocks h k (Speaking mouth) = MouthHeeds h k mouth
+-- what has to be alike for a drive, by its pace, how many other drives hold CLOCK, and what it waits for under both hosts
+abbrev pub HeedsAlike : Pace → ℕ → Lines → Lines → Side → Side → Type 0
+HeedsAlike pace clocks h k (Hearing ear) tidy = EarHeeds pace clocks h k ear tidy
+HeedsAlike pace clocks h k (Speaking mouth) tidy = MouthHeeds h k mouth
 
 -- a drive that hears ignores a change of CLOCK that the host makes alone: with no role, and between ATN's pull and its answer
 abbrev pub EarIgnoresClock : Ear → Type 0
@@ -112,11 +117,11 @@ drives_of (e ∷ es) = if is_host e.who then drives_of es else e ∷ drives_of e
 module _ (M : Type 0) (step : M → Act → M) (peek : M → Option (ℕ × Bool)) where
   -- a drive under the host, and under the tidy one: what it heeds is alike
   abbrev pub Heeds : Station M → Station M → Type 0
-  Heeds s t = HeedsAlike s.port.party.pace s.rest.clocks s.rest.host t.rest.host s.port.side
+  Heeds s t = HeedsAlike s.port.party.pace s.rest.clocks s.rest.host t.rest.host s.port.side t.port.side
 
   -- the same after a change that both hosts make
   abbrev pub HeedsAfter : Line → Way → Station M → Station M → Type 0
-  HeedsAfter line way s t = HeedsAlike s.port.party.pace s.rest.clocks (lines_after s.rest.host line way) (lines_after t.rest.host line way) s.port.side
+  HeedsAfter line way s t = HeedsAlike s.port.party.pace s.rest.clocks (lines_after s.rest.host line way) (lines_after t.rest.host line way) s.port.side t.port.side
 
   -- Both hosts may make this change: what the drive heeds is alike before and after it. ATN is pulled at any time, and freed while both hold CLOCK or
   -- neither does.
@@ -172,3 +177,8 @@ module _ (M : Type 0) (step : M → Act → M) (peek : M → Option (ℕ × Bool
   abbrev pub KeepsLoosely : Type 0
   KeepsLoosely = (bs : List Party) (ms : ℕ → M) (n end : ℕ) (trace : List Event) (ss : List (Station M)) → IsBus bs → IsMachine M step peek → Plays M step peek zero (at_rest M step peek ms bs) trace n ss → n ≤ suc end
       → AllLater M step peek end ss → HostKeepsLoosely bs ms trace end → IsKeptLoosely bs ms trace end ss
+
+  -- A host that keeps the timing keeps it loosely: it is tidy itself.
+  abbrev pub TidyIsLoose : Type 0
+  TidyIsLoose = (bs : List Party) (ms : ℕ → M) (n end : ℕ) (trace : List Event) (ss : List (Station M)) → Plays M step peek zero (at_rest M step peek ms bs) trace n ss → n ≤ suc end → AllLater M step peek end ss → HostKeeps bs trace end
+      → HostKeepsLoosely bs ms trace end

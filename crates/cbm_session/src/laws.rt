@@ -6,7 +6,7 @@ ghost use Rattle.cbm_session.specs.Following.{FollowsPieces, FollowsFronts, Foll
 ghost use Rattle.cbm_session.specs.Laws.{OnePulse, PulseEnds, ListenersAccepted, DrivesAccepted, CommandsGoInParts, BytesGoInParts, SessionsGoOn, OneReading, FrontsKeep, FrontsInTime};
 ghost use Rattle.cbm_session.specs.Playing.{KeepsSessions};
 ghost use Rattle.cbm_session.specs.Handed.{HearsOne, HandsEach};
-ghost use Rattle.cbm_session.specs.Loosely.{KeepsLoosely};
+ghost use Rattle.cbm_session.specs.Loosely.{KeepsLoosely, TidyIsLoose};
 ghost use Rattle.cbm_session.specs.Rows.{ListenOwn, ListenOther, TalkCut, TalkCutEarly, TwoListeners, Ties98, Ties89, BesideAListener, SilentBeside};
 
 use cbm_iec::Machine;
@@ -112,7 +112,8 @@ pub fn keeps_sessions<D: Machine>()
 
 /// The same under a host that keeps the timing loosely, as a computer's KERNAL does: its changes of CLOCK and DATA may
 /// come otherwise than a session says wherever no drive heeds them. Beside its trace there is a session with the same
-/// events of the drives, and the machines are the same in the end.
+/// events of the drives, and the machines are the same in the end. A host that keeps the timing keeps it so, too.
 pub fn keeps_loosely<D: Machine>()
-    ensures { KeepsLoosely D.State D.step D.says }
+    ensures keeps { KeepsLoosely D.State D.step D.says }
+    ensures tidy { TidyIsLoose D.State D.step D.says }
 {}

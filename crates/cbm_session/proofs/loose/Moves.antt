@@ -96,7 +96,7 @@ module _ (M : Type 0) (step : M → Act → M) (peek : M → Option (ℕ × Bool
       clocks : (wires_of t.rest).clock_low ≡ (wires_of s.rest).clock_low
       clocks = ap (λ (v : Bool). some t.rest.clocks || v) (sym e) ∙ ap (λ (v : ℕ). some v || s.rest.host.clock_low) a.clocks
 
-      by_waits : (x y : Side) → WaitAlike x y → HeedsAlike s.port.party.pace s.rest.clocks s.rest.host t.rest.host x
+      by_waits : (x y : Side) → WaitAlike x y → HeedsAlike s.port.party.pace s.rest.clocks s.rest.host t.rest.host x y
           → WaitAlike (freed_side s.port.party.reaction m (wires_of s.rest).clock_low s.port.role x) (freed_side t.port.party.reaction m (wires_of t.rest).clock_low t.port.role y)
       by_waits x y (same g) h = same (
           ap (λ (b : Party). freed_side b.reaction m (wires_of t.rest).clock_low t.port.role y) a.party
@@ -105,7 +105,7 @@ module _ (M : Type 0) (step : M → Act → M) (peek : M → Option (ℕ × Bool
           ∙ ap (λ (z : Side). freed_side s.port.party.reaction m (wires_of s.rest).clock_low s.port.role z) g
           )
       by_waits x y (early g g2) h =
-          let k = subst (λ (z : Side). HeedsAlike s.port.party.pace s.rest.clocks s.rest.host t.rest.host z) g h in
+          let k = subst (λ (z : Side). HeedsAlike s.port.party.pace s.rest.clocks s.rest.host t.rest.host (Hearing Await) z) g2 (subst (λ (z : Side). HeedsAlike s.port.party.pace s.rest.clocks s.rest.host t.rest.host z y) g h) in
           let free : s.rest.host.clock_low ≡ false = k.1 in
           let low : t.rest.host.clock_low ≡ true = k.2 in
           absurd cc
@@ -136,7 +136,7 @@ module _ (M : Type 0) (step : M → Act → M) (peek : M → Option (ℕ × Bool
     pub shows : shown M step peek m t ≡ shown M step peek m s
 
   reacts_same : (m : ℕ) (s t : Station M) → Alike M step peek s t → t.port.side ≡ s.port.side → Heeds M step peek s t → ReactsAlike m s t
-  reacts_same m s t a e f = record {
+  reacts_same m s t a e f2 = record {
     alike = record {
       party = a.party;
       role = role;
@@ -156,6 +156,9 @@ module _ (M : Type 0) (step : M → Act → M) (peek : M → Option (ℕ × Bool
     shows = ap (λ (l : Held). changes_between m l (side_held t.port.party.pace (peek t.machine) l t.port.side)) a.own ∙ ap (λ (l : Held). changes_between m s.port.own l) (held_from s.port.own);
   }
     where
+      f : HeedsAlike s.port.party.pace s.rest.clocks s.rest.host t.rest.host s.port.side s.port.side
+      f = subst (λ (z : Side). HeedsAlike s.port.party.pace s.rest.clocks s.rest.host t.rest.host s.port.side z) e f2
+
       -- the tidy host's wires
       now : Lines
       now = on_wires s.rest.clocks s.rest.datas t.rest.host

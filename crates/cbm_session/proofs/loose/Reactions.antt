@@ -44,7 +44,7 @@ half_alike e r m u u2 byte last left half h = go (nat_le 16 half) ((half % 2) ==
     go false false = refl
 
 -- WHAT A DRIVE WAITS FOR AFTER ITS REACTION is alike
-pub after_alike : (e : Pace) (r m n d : ℕ) (h k : Lines) (p : Option (ℕ × Bool)) (side : Side) → HeedsAlike e n h k side → Sees side (on_wires n d h).clock_low
+pub after_alike : (e : Pace) (r m n d : ℕ) (h k : Lines) (p : Option (ℕ × Bool)) (side : Side) → HeedsAlike e n h k side side → Sees side (on_wires n d h).clock_low
     → WaitAlike (side_after e r m (on_wires n d h) p side) (side_after e r m (on_wires n d k) p side)
 after_alike e r m n d h k p (Hearing (Starting at_)) a s = started e r m n d d h k a
 after_alike e r m n d h k p (Hearing (Returning at_)) a s = same (ap (λ (v : Bool). Hearing (after_hold r m v)) (sym (clocks_heard n h k a.0)))
@@ -69,7 +69,7 @@ after_alike e r m n d h k p (Speaking (Sending at_ byte last left half)) a s = s
 after_alike e r m n d h k p (Speaking mouth) a s = same refl
 
 -- and so is the act that counts with it
-pub act_alike : (e : Pace) (n d : ℕ) (h k : Lines) (p : Option (ℕ × Bool)) (side : Side) → k.atn_low ≡ h.atn_low → HeedsAlike e n h k side → side_act e p (on_wires n d k) side ≡ side_act e p (on_wires n d h) side
+pub act_alike : (e : Pace) (n d : ℕ) (h k : Lines) (p : Option (ℕ × Bool)) (side : Side) → k.atn_low ≡ h.atn_low → HeedsAlike e n h k side side → side_act e p (on_wires n d k) side ≡ side_act e p (on_wires n d h) side
 act_alike e n d h k p (Hearing (Accepting at_ eoi byte)) t a = ap (λ (v : Bool). Some (heard_act v byte eoi)) t
 act_alike e n d h k p (Hearing ear) t a = refl
 act_alike Profile n d h k None (Speaking (Answering at_)) t a = refl

@@ -298,6 +298,7 @@ abbrev pub Heard : Lines → Lines → Lines → Lines → Side → Type 0
 Heard was now was2 now2 (Hearing Idle) = Unit {0}
 Heard was now was2 now2 (Hearing (Leaving at_)) = Unit {0}
 Heard was now was2 now2 (Hearing (Starting at_)) = Unit {0}
+Heard was now was2 now2 (Hearing Await) = (was.clock_low ≡ was2.clock_low) × (now.clock_low ≡ now2.clock_low)
 Heard was now was2 now2 (Hearing ear) = WiresHeard was now was2 now2
 Heard was now was2 now2 (Speaking mouth) = MouthHeard was now was2 now2 mouth
 
@@ -308,12 +309,29 @@ ear_calm r m was now ear e f =
     ap (λ (x : Ear). if is_same was.data_low now.data_low then x else after_data r m now.data_low x) (either (is_same was.clock_low now.clock_low) ear (after_clock r m now.clock_low now.data_low ear) (e now.clock_low now.data_low))
     ∙ either (is_same was.data_low now.data_low) ear (after_data r m now.data_low ear) (f now.data_low)
 
+-- before CLOCK's pull after ATN's, DATA isn't heeded
+abbrev awaits : Bool → Bool → Ear
+awaits was now = if is_same was now then Await else (if now then Holding else Await)
+
+await_clock : (r m : ℕ) (was now : Lines) → after_lines r m was now Await ≡ awaits was.clock_low now.clock_low
+await_clock r m was now = go (is_same was.data_low now.data_low) (is_same was.clock_low now.clock_low) now.clock_low
+  where
+    first : Bool → Bool → Ear
+    first v low = if v then Await else (if low then Holding else Await)
+
+    go : (u v low : Bool) → (if u then first v low else after_data r m now.data_low (first v low)) ≡ first v low
+    go true v low = refl
+    go false true low = refl
+    go false false true = refl
+    go false false false = refl
+
 -- A CHANGE OF CLOCK OR DATA: a drive goes on alike, and so does what counts with it.
 pub lined_alike : (r m : ℕ) (was now was2 now2 : Lines) (side : Side) → Sees side was.clock_low → Heard was now was2 now2 side → lined_side r m was now side ≡ lined_side r m was2 now2 side
 lined_alike r m was now was2 now2 (Speaking mouth) s h = ap (λ (x : Mouth). Speaking x) (mouth_alike r m was now was2 now2 mouth h)
 lined_alike r m was now was2 now2 (Hearing Idle) s h = ap (λ (x : Ear). Hearing x) (ear_calm r m was now Idle (λ low held. refl) (λ held. refl) ∙ sym (ear_calm r m was2 now2 Idle (λ low held. refl) (λ held. refl)))
 lined_alike r m was now was2 now2 (Hearing (Leaving at_)) s h = ap (λ (x : Ear). Hearing x) (ear_calm r m was now (Leaving at_) (λ low held. refl) (λ held. refl) ∙ sym (ear_calm r m was2 now2 (Leaving at_) (λ low held. refl) (λ held. refl)))
 lined_alike r m was now was2 now2 (Hearing (Starting at_)) s h = ap (λ (x : Ear). Hearing x) (ear_calm r m was now (Starting at_) (λ low held. refl) (λ held. refl) ∙ sym (ear_calm r m was2 now2 (Starting at_) (λ low held. refl) (λ held. refl)))
+lined_alike r m was now was2 now2 (Hearing Await) s h = ap (λ (x : Ear). Hearing x) (await_clock r m was now ∙ ap (λ (v : Bool). awaits v now.clock_low) h.0 ∙ ap (λ (v : Bool). awaits was2.clock_low v) h.1 ∙ sym (await_clock r m was2 now2))
 lined_alike r m was now was2 now2 (Hearing ear) s h = ap (λ (x : Ear). Hearing x) (ear_alike r m was now was2 now2 ear s h)
 
 pub lined_act_alike : (was now was2 now2 : Lines) (side : Side) → Heard was now was2 now2 side → lined_act was now side ≡ lined_act was2 now2 side

@@ -151,7 +151,7 @@ module _ (M : Type 0) (step : M → Act → M) (peek : M → Option (ℕ × Bool
       paced = ap (λ (b : Party). lined_side b.reaction m (wires_of t.rest) (wires_of u) t.port.side) a.party
 
   -- what each of them heeds is alike before it and after it
-  pub heeding : (m : ℕ) (n2 d2 : ℕ) (h2 k2 : Lines) (s t : Station M) → Alike s t → HeedsAlike s.port.party.pace s.rest.clocks s.rest.host t.rest.host s.port.side → HeedsAlike s.port.party.pace s.rest.clocks h2 k2 s.port.side
+  pub heeding : (m : ℕ) (n2 d2 : ℕ) (h2 k2 : Lines) (s t : Station M) → Alike s t → HeedsAlike s.port.party.pace s.rest.clocks s.rest.host t.rest.host s.port.side t.port.side → HeedsAlike s.port.party.pace s.rest.clocks h2 k2 s.port.side t.port.side
       → WaitAlike (lined_side s.port.party.reaction m (wires_of s.rest) (on_wires n2 d2 h2) s.port.side) (lined_side s.port.party.reaction m (wires_of t.rest) (on_wires n2 d2 k2) t.port.side)
       × (lined_act (wires_of t.rest) (on_wires n2 d2 k2) t.port.side ≡ lined_act (wires_of s.rest) (on_wires n2 d2 h2) s.port.side)
   heeding m n2 d2 h2 k2 s t a f g = by_waits s.port.side t.port.side a.waits f g a.sees a.saw
@@ -170,14 +170,14 @@ module _ (M : Type 0) (step : M → Act → M) (peek : M → Option (ℕ × Bool
       Both : Side → Side → Type 0
       Both x y = WaitAlike (lined_side R m (wires_of s.rest) (on_wires n2 d2 h2) x) (lined_side R m (wires_of t.rest) (on_wires n2 d2 k2) y) × (lined_act (wires_of t.rest) (on_wires n2 d2 k2) y ≡ lined_act (wires_of s.rest) (on_wires n2 d2 h2) x)
 
-      alike : (x : Side) → HeedsAlike s.port.party.pace s.rest.clocks s.rest.host t.rest.host x → HeedsAlike s.port.party.pace s.rest.clocks h2 k2 x → Sees x (wires_of s.rest).clock_low → Sees x (wires_of t.rest).clock_low → Both x x
+      alike : (x : Side) → HeedsAlike s.port.party.pace s.rest.clocks s.rest.host t.rest.host x x → HeedsAlike s.port.party.pace s.rest.clocks h2 k2 x x → Sees x (wires_of s.rest).clock_low → Sees x (wires_of t.rest).clock_low → Both x x
       alike x p q v w =
           let heard = is_heard s.port.party.pace s.rest.clocks n2 s.rest.clocks s.rest.datas d2 s.rest.host h2 t.rest.host k2 x p q (subst (λ (l : Lines). Sees x l.clock_low) tidy_wires w) in (
             same (ap (λ (l : Lines). lined_side R m l (on_wires n2 d2 k2) x) tidy_wires ∙ sym (lined_alike R m (wires_of s.rest) (on_wires n2 d2 h2) tidy_was (on_wires n2 d2 k2) x v heard)),
             ap (λ (l : Lines). lined_act l (on_wires n2 d2 k2) x) tidy_wires ∙ sym (lined_act_alike (wires_of s.rest) (on_wires n2 d2 h2) tidy_was (on_wires n2 d2 k2) x heard),
           )
 
-      waiting : HeedsAlike s.port.party.pace s.rest.clocks s.rest.host t.rest.host (Hearing Await) → HeedsAlike s.port.party.pace s.rest.clocks h2 k2 (Hearing Await) → Both (Hearing Await) (Hearing Holding)
+      waiting : HeedsAlike s.port.party.pace s.rest.clocks s.rest.host t.rest.host (Hearing Await) (Hearing Holding) → HeedsAlike s.port.party.pace s.rest.clocks h2 k2 (Hearing Await) (Hearing Holding) → Both (Hearing Await) (Hearing Holding)
       waiting p q =
           let held : after_lines R m (wires_of t.rest) (on_wires n2 d2 k2) Holding ≡ Holding = holding_lines R m (wires_of t.rest) (on_wires n2 d2 k2) (or_true (some t.rest.clocks) t.rest.host.clock_low p.2) (or_true (some n2) k2.clock_low q.2) in (
             elim (await_lines R m (wires_of s.rest) (on_wires n2 d2 h2)) [
@@ -187,10 +187,10 @@ module _ (M : Type 0) (step : M → Act → M) (peek : M → Option (ℕ × Bool
             refl,
           )
 
-      by_waits : (x y : Side) → WaitAlike x y → HeedsAlike s.port.party.pace s.rest.clocks s.rest.host t.rest.host x → HeedsAlike s.port.party.pace s.rest.clocks h2 k2 x → Sees x (wires_of s.rest).clock_low → Sees y (wires_of t.rest).clock_low → Both x y
-      by_waits x y (same e) p q v w = subst (λ (z : Side). Both x z) (sym e) (alike x p q v (subst (λ (z : Side). Sees z (wires_of t.rest).clock_low) e w))
+      by_waits : (x y : Side) → WaitAlike x y → HeedsAlike s.port.party.pace s.rest.clocks s.rest.host t.rest.host x y → HeedsAlike s.port.party.pace s.rest.clocks h2 k2 x y → Sees x (wires_of s.rest).clock_low → Sees y (wires_of t.rest).clock_low → Both x y
+      by_waits x y (same e) p q v w = subst (λ (z : Side). Both x z) (sym e) (alike x (subst (λ (z : Side). HeedsAlike s.port.party.pace s.rest.clocks s.rest.host t.rest.host x z) e p) (subst (λ (z : Side). HeedsAlike s.port.party.pace s.rest.clocks h2 k2 x z) e q) v (subst (λ (z : Side). Sees z (wires_of t.rest).clock_low) e w))
       by_waits x y (early e f) p q v w =
-          subst (λ (z : Side). Both z y) (sym e) (subst (λ (z : Side). Both (Hearing Await) z) (sym f) (waiting (subst (λ (z : Side). HeedsAlike s.port.party.pace s.rest.clocks s.rest.host t.rest.host z) e p) (subst (λ (z : Side). HeedsAlike s.port.party.pace s.rest.clocks h2 k2 z) e q)))
+          subst (λ (z : Side). Both z y) (sym e) (subst (λ (z : Side). Both (Hearing Await) z) (sym f) (waiting (subst (λ (z : Side). HeedsAlike s.port.party.pace s.rest.clocks s.rest.host t.rest.host (Hearing Await) z) f (subst (λ (z : Side). HeedsAlike s.port.party.pace s.rest.clocks s.rest.host t.rest.host z y) e p)) (subst (λ (z : Side). HeedsAlike s.port.party.pace s.rest.clocks h2 k2 (Hearing Await) z) f (subst (λ (z : Side). HeedsAlike s.port.party.pace s.rest.clocks h2 k2 z y) e q))))
 
   -- ANOTHER DRIVE CHANGES A LINE
   pub hear_alike : (c : Change) (s t : Station M) → Alike s t → Heeds M step peek s t → Alike (hear M step peek c s) (hear M step peek c t)
@@ -198,7 +198,7 @@ module _ (M : Type 0) (step : M → Act → M) (peek : M → Option (ℕ × Bool
     where
       moved : (r u : Rest) → r.host ≡ s.rest.host → u.host ≡ t.rest.host → u.clocks ≡ r.clocks → u.datas ≡ r.datas → Alike (told_lines M step peek c.moment r s) (told_lines M step peek c.moment u t)
       moved r u e e2 cl da =
-          let k = heeding c.moment r.clocks r.datas r.host u.host s t a f (subst (λ (l : Lines). HeedsAlike s.port.party.pace s.rest.clocks l u.host s.port.side) (sym e) (subst (λ (l : Lines). HeedsAlike s.port.party.pace s.rest.clocks s.rest.host l s.port.side) (sym e2) f)) in
+          let k = heeding c.moment r.clocks r.datas r.host u.host s t a f (subst (λ (l : Lines). HeedsAlike s.port.party.pace s.rest.clocks l u.host s.port.side t.port.side) (sym e) (subst (λ (l : Lines). HeedsAlike s.port.party.pace s.rest.clocks s.rest.host l s.port.side t.port.side) (sym e2) f)) in
           let like : on_wires r.clocks r.datas u.host ≡ wires_of u =
           ap (λ (v : ℕ). on_wires v r.datas u.host) (sym cl) ∙ ap (λ (v : ℕ). on_wires u.clocks v u.host) (sym da) in
           lined_both c.moment r u s t a cl da (ap (λ (l : Lines). l.atn_low) (sym e)) (ap (λ (l : Lines). l.atn_low) (sym e2))

@@ -66,13 +66,13 @@ mouth_heard n n2 d d2 h h2 k k2 (Sending at_ byte last left half) a b = talk_hea
 mouth_heard n n2 d d2 h h2 k k2 (Waiting byte last) a b = talk_heard n n2 d d2 h h2 k k2 a b
 
 -- WHAT A DRIVE HEEDS IS ALIKE ON THE WIRES where it is so of the hosts' lines, before a change and after it
-pub is_heard : (e : Pace) (n n2 n3 d d2 : ℕ) (h h2 k k2 : Lines) (side : Side) → HeedsAlike e n h k side → HeedsAlike e n3 h2 k2 side → Sees side (on_wires n d k).clock_low
+pub is_heard : (e : Pace) (n n2 n3 d d2 : ℕ) (h h2 k k2 : Lines) (side : Side) → HeedsAlike e n h k side side → HeedsAlike e n3 h2 k2 side side → Sees side (on_wires n d k).clock_low
     → Heard (on_wires n d h) (on_wires n2 d2 h2) (on_wires n d k) (on_wires n2 d2 k2) side
 is_heard e n n2 n3 d d2 h h2 k k2 (Speaking mouth) a b s = mouth_heard n n2 d d2 h h2 k k2 mouth a b
 is_heard e n n2 n3 d d2 h h2 k k2 (Hearing Idle) a b s = tt
 is_heard e n n2 n3 d d2 h h2 k k2 (Hearing (Leaving at_)) a b s = tt
 is_heard e n n2 n3 d d2 h h2 k k2 (Hearing (Starting at_)) a b s = tt
-is_heard e n n2 n3 d d2 h h2 k k2 (Hearing Await) a b s = let low : k.clock_low ≡ true = a.2 in let not_low : k.clock_low ≡ false = or_right (some n) k.clock_low s in absurd cc
+is_heard e n n2 n3 d d2 h h2 k k2 (Hearing Await) a b s = (clocks_heard n h k a, clocks_heard n2 h2 k2 b)
 is_heard e n n2 n3 d d2 h h2 k k2 (Hearing (Returning at_)) a b s = wires_heard n n2 d d2 h h2 k k2 a b
 is_heard e n n2 n3 d d2 h h2 k k2 (Hearing Holding) a b s = wires_heard n n2 d d2 h h2 k k2 a b
 is_heard e n n2 n3 d d2 h h2 k k2 (Hearing (Freeing at_)) a b s = wires_heard n n2 d d2 h h2 k k2 a b
