@@ -2,23 +2,13 @@
 use Rattle.std.proofs.Common.{◌≡◌, ◌≢◌, ℕ, List, Some, inl, inr, ◌⊎◌, arith}
 use Rattle.cbm_medium.specs.Place.{Place}
 use Rattle.cbm_medium.specs.Content.{Content, HasFaultCode}
-use Rattle.cbm_medium.specs.Links.{IsCut, follow}
 use Rattle.cbm_medium.specs.Met.{IsMet}
 use Rattle.cbm_medium.specs.declared.fault.Trouble.{Trouble}
-use Rattle.cbm_medium.proofs.FaultCodes.{never_26}
-use Rattle.cbm_medium.proofs.Walks.{followed_cut}
+use Rattle.cbm_medium.proofs.FaultCodes.{never_26, followed_never_26}
 use Rattle.cbm_volume.specs.Entries.{first_directory}
 use Rattle.cbm_volume.specs.Slots.{directory_of, listed_from}
 use Rattle.cbm_volume.specs.RecordFaults.{IsMislisted}
 use Rattle.cbm_channel.specs.Grounds.{ShowsTrouble}
-
-pub followed_never_26 : (tracks : ℕ) (c : Content) (n : ℕ) (a : Place) (t : Trouble) → ((p : Place) → HasFaultCode (c p)) → (follow tracks c n a).trouble ≡ Some t → t.code ≢ 26
-followed_never_26 tracks c n a t codes e is =
-    let k : IsCut tracks c n a (follow tracks c n a).blocks t = followed_cut tracks c n a (follow tracks c n a).blocks t (λ i. record { blocks = (follow tracks c n a).blocks; trouble = e i }) in
-    elim k.cause [
-      | inl off ↦ omega (arith, off.0)
-      | inr on ↦ elim on [ inl many ↦ omega (arith, many.0) | inr fault ↦ never_26 (c k.at) t.code (codes k.at) fault.2 is ]
-    ]
 
 listed_never_26 : (tracks : ℕ) (c : Content) (t : Trouble) → ((p : Place) → HasFaultCode (c p)) → (directory_of tracks c).trouble ≡ Some t → t.code ≢ 26
 unfolding directory_of listed_from

@@ -20,7 +20,8 @@ use Rattle.cbm_channel.specs.declared.channel.Channel.TheVariants.{File}
 use Rattle.cbm_channel.specs.Grounds.{ShowsTrouble}
 use Rattle.cbm_channel.specs.Standing.{use_of, uses_of}
 use Rattle.cbm_channel.specs.Planned.{PlannedAs, IsOpened, opened_by, disk_opened, appended_to, reopened_at, plan_writes}
-use Rattle.cbm_channel.proofs.NeverProtected.{shown_never_26, followed_never_26, opening_never_26}
+use Rattle.cbm_medium.proofs.FaultCodes.{followed_never_26}
+use Rattle.cbm_channel.proofs.NeverProtected.{shown_never_26, opening_never_26}
 use Rattle.cbm_channel.proofs.Troubles.{read_from, entry_broken, broken_at_once, passed_on}
 use Rattle.cbm_channel.proofs.Stands.{stood, means_of, unwritten_at}
 use Rattle.cbm_channel.proofs.Planning.{readable, relatable, makeable, writable, appendable, replaceable, file_opens, reads_as, none_passes}
