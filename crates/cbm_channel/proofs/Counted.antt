@@ -6,6 +6,7 @@ use Rattle.cbm_medium.specs.declared.fault.Trouble.{Trouble}
 use Rattle.cbm_medium.specs.Seen.{Seen, HasFailed, OnlyContent}
 use Rattle.cbm_volume.specs.NewDisks.{OnlyNew}
 use Rattle.cbm_machine.specs.Statuses.{trouble_status}
+use Rattle.cbm_channel.specs.ChannelCalls.{KeepsElse}
 use Rattle.cbm_channel.specs.Standing.{Kept}
 use Rattle.cbm_channel.specs.Going.{IsCounted, AreCounted}
 
@@ -26,8 +27,12 @@ module _ {M : Type 0} (seen : M → Seen) (old new : Kept M) (before after : M) 
         inr (t, ap (λ k. (seen k).failures) is ∙ more ∙ ap (λ k. (seen k).failures + 1) was, ap (λ k. (seen k).refused) is ∙ last, told))
   ]
 
-  pub counted_told : {A : Type 0} (r : Result A Trouble) (t : Trouble) → r ≡ Err t → OnlyContent r (seen before) (seen after) → new.told.status ≡ trouble_status t → IsCounted seen old new
+  pub counted_told : {disk : ℕ} {A : Type 0} (r : Result A Trouble) (t : Trouble) → r ≡ Err t → OnlyContent disk r (seen before) (seen after) → new.told.status ≡ trouble_status t → IsCounted seen old new
   counted_told r t err only told = counted_by r t err only.counted only.once only.own told
+
+  -- or whose error was handed on
+  pub counted_else : {A : Type 0} (r : Result A Trouble) (t : Trouble) → r ≡ Err t → KeepsElse r (seen before) (seen after) → new.told.status ≡ trouble_status t → IsCounted seen old new
+  counted_else r t err kept told = counted_by r t err kept.counted kept.once kept.own told
 
 -- what a part makes of it, where the drive's text alone is another before or after that
 pub counted_from : {M : Type 0} (seen : M → Seen) (old first new : Kept M) → first.medium ≡ old.medium → IsCounted seen first new → IsCounted seen old new

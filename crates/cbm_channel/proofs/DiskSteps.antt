@@ -3,8 +3,7 @@ use Rattle.std.proofs.Common.{◌≡◌, ℕ, ◌<◌, Bool, true, List, length,
 use Rattle.std.proofs.lemmas.Bool.{eq-eqb, cases_lt}
 use Rattle.std.proofs.lemmas.Bool.Decides.{eqb_tells}
 use Rattle.std.proofs.lemmas.List.{get_or_past, get_or-set_same, get_or-set_other}
-use Rattle.cbm_medium.specs.Seen.{Seen, OnlyContent}
-use Rattle.cbm_medium.proofs.Sequences.{only_after, only_refused}
+use Rattle.cbm_medium.specs.Seen.{Seen}
 use Rattle.cbm_medium.specs.declared.fault.Trouble.{Trouble}
 use Rattle.cbm_file.specs.Files.{File, Disk, file_at, with_slot}
 use Rattle.cbm_medium.specs.Content.{Content}
@@ -13,8 +12,10 @@ use Rattle.cbm_machine.specs.Machines.{Channel, Machine, with_disk}
 use Rattle.cbm_machine.specs.Orderly.{IsReadFrom, IsPlace, IsOrderly, channel_in, still_uses}
 use Rattle.cbm_machine.specs.Told.{Told}
 use Rattle.cbm_channel.specs.declared.channel.Channel as kept
+use Rattle.cbm_channel.specs.ChannelCalls.{KeepsElse}
 use Rattle.cbm_channel.specs.Standing.{AreFit, StandsBy, uses_of}
 use Rattle.cbm_channel.specs.declared.channel.Channel.TheVariants as code
+use Rattle.cbm_channel.proofs.Elses.{else_after, else_refused}
 use Rattle.cbm_channel.proofs.Orders.{known_is}
 use Rattle.cbm_channel.proofs.Stands.{waits_on, zip_at}
 use Rattle.std.specs.Prelude.{slice_index_or}
@@ -93,9 +94,9 @@ known_keeps d d' channels same = λ k slot f u at shut. (f, known_is (file_at d 
 -- ---- calls that change only the content
 
 -- one call after others that succeeded was refused, and its fault is answered
-pub refused_then : (e : Trouble) (s : Result (Unit {0}) Trouble) (a b c : Seen) → IsErrAnd s (λ x. x ≡ e) → OnlyContent {A = Unit {0}} (Ok tt) a b → OnlyContent {A = Unit {0}} (Err e) b c → OnlyContent s a c
+pub refused_then : (e : Trouble) (s : Result (Unit {0}) Trouble) (a b c : Seen) → IsErrAnd s (λ x. x ≡ e) → KeepsElse {A = Unit {0}} (Ok tt) a b → KeepsElse {A = Unit {0}} (Err e) b c → KeepsElse s a c
 refused_then e (Ok x) a b c is h k = absurd is
-refused_then e (Err x) a b c is h k = only_refused (Err e) (Err x) x a c (λ i. Err (sym is i)) (λ i. Err x) (only_after (Ok tt) tt (Err e) a b c (λ i. Ok tt) h k)
+refused_then e (Err x) a b c is h k = else_refused (Err e) (Err x) x a c (λ i. Err (sym is i)) (λ i. Err x) (else_after (Ok tt) tt (Err e) a b c (λ i. Ok tt) h k)
 
 pub fits_same : (t t' : ℕ) (xs ys : List kept.Channel) → t' ≡ t → ys ≡ xs → AreFit t xs → AreFit t' ys
 fits_same t t' xs ys e f h = subst (λ (x : ℕ). AreFit x ys) (sym e) (subst (AreFit t) (sym f) h)

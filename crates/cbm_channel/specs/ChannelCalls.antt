@@ -1,6 +1,6 @@
 -- What a call leaves that writes for one channel.
-use Rattle.std.specs.Prelude.{ℕ, ◌≡◌, List, Result, IfOk, IfErr, OnErr}
-use Rattle.cbm_medium.specs.Seen.{Seen}
+use Rattle.std.specs.Prelude.{ℕ, ◌≡◌, ◌+◌, ◌≤◌, true, Some, List, Result, IfOk, IfErr, OnOk, OnErr}
+use Rattle.cbm_medium.specs.Seen.{Seen, HasFailed}
 use Rattle.cbm_medium.specs.declared.fault.Trouble.{Trouble}
 use Rattle.cbm_file.specs.Files.{Disk}
 use Rattle.cbm_volume.specs.Opens.{IsHindered}
@@ -10,6 +10,19 @@ use Rattle.cbm_channel.specs.declared.channel.Channel.{Channel}
 use Rattle.cbm_channel.specs.Placed.{Placed}
 use Rattle.cbm_channel.specs.Recorded.{CanPut}
 use Rattle.cbm_channel.specs.Standing.{ChannelStands, use_of}
+
+-- A call of several on the medium, whatever sectors they changed: tracks, protection and id stay. It makes no write after one that the
+-- medium refused by itself: failures go up by one at most, only where it answers Err, and then that is what the medium refused last. It
+-- answers the code 26 only where the medium is protected.
+pub record KeepsElse {A : Type 0} (result : Result A Trouble) (old new : Seen) : Type 0 where
+  pub tracks : new.tracks ≡ old.tracks
+  pub protected : new.protected ≡ old.protected
+  pub id : new.id ≡ old.id
+  pub counted : old.failures ≤ new.failures
+  pub once : new.failures ≤ old.failures + 1
+  pub uncounted : OnOk result (new.failures ≡ old.failures)
+  pub own : IfErr result (λ t. HasFailed old new → new.refused ≡ Some t)
+  pub guarded : IfErr result (λ t. t.code ≡ 26 → old.protected ≡ true)
 
 -- this holds of each disk that the medium holds, and of each channel of it for which the code's channel stands
 abbrev pub OfChannel : Seen → Channel → (Disk → (ℕ → Use) → ℕ → machine.Channel → Type 0) → Type 0

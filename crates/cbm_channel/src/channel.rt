@@ -74,10 +74,9 @@ pub(crate) fn any_open(channels: &[Channel]) -> bool
 
 impl Channel {
     ghost use Rattle.std.specs.Prelude.{◌≡◌, ◌≤◌, ◌<◌, ◌^◌, ◌⊎◌, ℕ, List, true, false, not, Some, None, Ok, IsOk, IsOkAnd, IfOk, IfErr, IfSome, OnOk, OnErr, MatchResult, replicate};
-    ghost use Rattle.cbm_medium.specs.Seen.{OnlyContent};
     ghost use Rattle.cbm_volume.specs.Writers.{Use, Idle, HoldsNow, with_use, Stopped};
     ghost use Rattle.cbm_volume.specs.Calls.{KeepsProtected, IsSameOn};
-    ghost use Rattle.cbm_channel.specs.ChannelCalls.{OfChannel, OfPlaced, IsChannelCall};
+    ghost use Rattle.cbm_channel.specs.ChannelCalls.{KeepsElse, OfChannel, OfPlaced, IsChannelCall};
     ghost use Rattle.cbm_file.specs.Waiting.{shown};
     ghost use Rattle.cbm_file.specs.Files.{Disk};
     ghost use Rattle.cbm_machine.specs.Machines as machine;
@@ -280,7 +279,7 @@ impl Channel {
         ensures quiet { is_writing self.old ≡ false →
             (result ≡ Ok true) × (self.new ≡ self.old) × (volume.new ≡ volume.old) }
         ensures cut { OnErr result (is_writing self.new ≡ false) }
-        ensures only { OnlyContent result (M.seen volume.old) (M.seen volume.new) }
+        ensures only { KeepsElse result (M.seen volume.old) (M.seen volume.new) }
     {
         let Channel::Writing(writer, full) = self else {
             return Ok(true);
@@ -321,7 +320,7 @@ impl Channel {
             IfOk result (λ o. IfSome o (λ cut. (M.seen volume.old).protected ≡ false)) }
         ensures kept { IsSameOn result None (M.seen volume.old) (M.seen volume.new) }
         ensures guarded { KeepsProtected (M.seen volume.old) (M.seen volume.new) }
-        ensures medium { OnlyContent result (M.seen volume.old) (M.seen volume.new) }
+        ensures medium { KeepsElse result (M.seen volume.old) (M.seen volume.new) }
     {
         match self {
             Channel::Records(on) => on.put(volume, bytes),
@@ -350,7 +349,7 @@ impl Channel {
             (Stopped old.tracks new.content d (disk_closed d x) rest)) }
         ensures wrote { (x : machine.Channel) → ChannelStands self.now x → OnErr result (IsBeingWritten x) }
         ensures quiet { is_writing self.now ≡ false → IsOk result × (volume.new ≡ volume.old) }
-        ensures only { OnlyContent result (M.seen volume.old) (M.seen volume.new) }
+        ensures only { KeepsElse result (M.seen volume.old) (M.seen volume.new) }
     {
         let Channel::Writing(writer, full) = self else {
             return Ok(());
@@ -375,7 +374,7 @@ impl Channel {
             (Stopped old.tracks new.content d (disk_closed d x) rest)) }
         ensures wrote { (x : machine.Channel) → ChannelStands self.old x → OnErr result (IsBeingWritten x) }
         ensures quiet { is_writing self.old ≡ false → IsOk result × (volume.new ≡ volume.old) }
-        ensures only { OnlyContent result (M.seen volume.old) (M.seen volume.new) }
+        ensures only { KeepsElse result (M.seen volume.old) (M.seen volume.new) }
     {
         let finished = self.finish_file(volume);
         *self = Channel::Closed;

@@ -6,7 +6,6 @@ ghost use Rattle.cbm_machine.specs.Records.{record_at};
 ghost use Rattle.cbm_volume.specs.Holding.{HoldsDisk};
 ghost use Rattle.cbm_volume.specs.Map.{geometry_of};
 ghost use Rattle.cbm_volume.specs.Slots.{directory_of};
-ghost use Rattle.cbm_medium.specs.Seen.{OnlyContent};
 ghost use Rattle.cbm_volume.specs.Growth.{with_growth, IsTooLarge, IsGrowthCut};
 ghost use Rattle.cbm_volume.specs.RecordWrites.{HasRecordsOpen};
 ghost use Rattle.cbm_volume.specs.Writers.{Use, HoldsNow};
@@ -118,13 +117,13 @@ fn lost_again() -> Trouble
 
 impl OnRecord {
     ghost use Rattle.std.specs.Prelude.{◌≡◌, ◌≢◌, ◌≤◌, ◌<◌, ◌+◌, ◌^◌, ◌⊎◌, ℕ, true, false, List, Some, None, option_map, slice_get, IfOk, IfErr, IfSome, OnOk, OnErr, IsOk, IsOkAnd, MatchBool, MatchResult};
-    ghost use Rattle.cbm_medium.specs.Seen.{Seen, OnlyContent};
+    ghost use Rattle.cbm_medium.specs.Seen.{Seen};
     ghost use Rattle.cbm_volume.specs.RecordWrites.{OfRecords, IsRecordCall};
     ghost use Rattle.cbm_volume.specs.Calls.{KeepsProtected, IsSameOn};
     ghost use Rattle.cbm_volume.specs.Written.{IsRecordWrite};
     ghost use Rattle.cbm_volume.specs.Writers.{Use};
     ghost use Rattle.cbm_channel.specs.Going.{KeepsMedium};
-    ghost use Rattle.cbm_channel.specs.ChannelCalls.{OfPlaced};
+    ghost use Rattle.cbm_channel.specs.ChannelCalls.{KeepsElse, OfPlaced};
     ghost use Rattle.cbm_channel.specs.Recorded.{CanGrow, disk_grown, IsTextStored, IsTextCut, IsTextEnded, IsTextStopped};
     ghost use Rattle.cbm_machine.specs.Machines.{Relative};
     ghost use Rattle.cbm_machine.specs.Talking.{taken_on};
@@ -269,7 +268,7 @@ impl OnRecord {
             OfPlaced old r (λ d uses b s rs.
             IsRecordCall result old new d uses r.slot r.width b s rs r.number r.position bytes.now) }
         ensures write { IsRecordWrite result (M.seen volume.old) (M.seen volume.new) self.now.number }
-        ensures only { OnlyContent result (M.seen volume.old) (M.seen volume.new) }
+        ensures only { KeepsElse result (M.seen volume.old) (M.seen volume.new) }
     {
         // No record has the number 0, and no byte of one.
         if self.number == 0 || self.position == 0 {
@@ -288,7 +287,7 @@ impl OnRecord {
             (λ t. IsGrowthCut old new d uses r.slot r.width rs t × CanGrow d r b s rs)) }
         ensures kept { IsSameOn result false (M.seen volume.old) (M.seen volume.new) }
         ensures guarded { KeepsProtected (M.seen volume.old) (M.seen volume.new) }
-        ensures only { OnlyContent result (M.seen volume.old) (M.seen volume.new) }
+        ensures only { KeepsElse result (M.seen volume.old) (M.seen volume.new) }
     {
         if self.number == 0 {
             return Ok(false);
@@ -311,7 +310,7 @@ impl OnRecord {
             OfPlaced old r (λ d uses b s rs. IfOk result (λ o. IfSome o (λ x. OfRecords new r.slot (λ found.
             IsOkAnd x.next (λ y. option_map (λ z. z.items) y ≡ slice_get found r.number))))) }
         ensures write { IsRecordWrite result (M.seen volume.old) (M.seen volume.new) self.now.number }
-        ensures medium { OnlyContent result (M.seen volume.old) (M.seen volume.new) }
+        ensures medium { KeepsElse result (M.seen volume.old) (M.seen volume.new) }
     {
         if let Some(written) = self.write(volume, bytes)? {
             return Ok(Some(written));
@@ -342,7 +341,7 @@ impl OnRecord {
         ensures allowed { IfOk result (λ o. IfSome o (λ cut. (M.seen volume.old).protected ≡ false)) }
         ensures kept { IsSameOn result None (M.seen volume.old) (M.seen volume.new) }
         ensures guarded { KeepsProtected (M.seen volume.old) (M.seen volume.new) }
-        ensures medium { OnlyContent result (M.seen volume.old) (M.seen volume.new) }
+        ensures medium { KeepsElse result (M.seen volume.old) (M.seen volume.new) }
     {
         match self.store(volume, bytes) {
             Ok(Some(written)) => {

@@ -44,7 +44,7 @@ pub fn empty_slot<M: Medium>(medium: &mut M, geometry: Geometry) -> Result<Optio
     ensures stopped { let old = M.seen medium.old in let new = M.seen medium.new in
         IfErr result (SlotStopped geometry old.content new.content) }
     ensures cause { IfErr result (IsSlotRefused geometry (M.seen medium.old) (M.seen medium.new)) }
-    ensures only { OnlyContent result (M.seen medium.old) (M.seen medium.new) }
+    ensures only { OnlyContent geometry result (M.seen medium.old) (M.seen medium.new) }
 {
     if let Some(slot) = first_empty(medium, geometry)? {
         return Ok(Some(slot));

@@ -76,7 +76,7 @@ pub fn grow<M: Medium>(medium: &mut M, geometry: Geometry) -> Result<bool, Troub
     ensures stopped { OnErr result
         (GrowthStopped geometry (M.seen medium.old).content (M.seen medium.new).content) }
     ensures cause { IfErr result (IsGrowthRefused geometry (M.seen medium.old) (M.seen medium.new)) }
-    ensures only { OnlyContent result (M.seen medium.old) (M.seen medium.new) }
+    ensures only { OnlyContent geometry result (M.seen medium.old) (M.seen medium.new) }
 {
     let last = last_sector(medium, geometry)?;
     if last.before == MOST - 1 {

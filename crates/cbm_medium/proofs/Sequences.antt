@@ -1,17 +1,39 @@
 -- Calls that change at most what the sectors hold, one after another: all but the last have succeeded.
-use Rattle.std.proofs.Common.{◌≡◌, ap, sym, subst, ◌∙◌, arith, Result, Ok, Err}
+use Rattle.std.proofs.Common.{◌≡◌, ◌≤◌, ℕ, List, ap, sym, subst, ◌∙◌, arith, Option, Result, Ok, Err}
 use Rattle.std.specs.Prelude.{OnOk, IfErr, Some, true}
+use Rattle.cbm_medium.specs.declared.fault.Fault.{Fault}
 use Rattle.cbm_medium.specs.declared.fault.Trouble.{Trouble}
-use Rattle.cbm_medium.specs.Seen.{Seen, HasFailed, OnlyContent}
+use Rattle.cbm_medium.specs.Place.{Place}
+use Rattle.cbm_medium.specs.Content.{Content, written}
+use Rattle.cbm_medium.specs.Seen.{Seen, HasFailed, IsRefused, KeepsBeyond, OnlyContent, trouble_of, with_content}
+use Rattle.cbm_medium.proofs.Places.{written_elsewhere}
 
 -- an answer of the code 26 says that the medium is protected
 abbrev pub IsGuarded : {A : Type 0} → Result A Trouble → Seen → Type 0
 IsGuarded r old = IfErr r (λ t. t.code ≡ 26 → old.protected ≡ true)
 
+-- a write to a track of the disk keeps those beyond it, as one does that is refused, and one after another
+pub beyond_written : (tracks : ℕ) (old new : Content) (at : Place) (bytes : List ℕ) → at.track ≤ tracks → new ≡ written old at bytes → KeepsBeyond tracks old new
+beyond_written tracks old new at bytes few e = record { same = λ p far. ap (λ (c : Content). c p) e ∙ written_elsewhere old at p bytes (λ same. omega (arith, few, far, ap (λ (q : Place). q.track) same)) }
+
+pub beyond_refused : (tracks : ℕ) (old new : Content) → new ≡ old → KeepsBeyond tracks old new
+beyond_refused tracks old new e = record { same = λ p far. ap (λ (c : Content). c p) e }
+
+pub beyond_after : (tracks : ℕ) (old mid new : Content) → KeepsBeyond tracks old mid → KeepsBeyond tracks mid new → KeepsBeyond tracks old new
+beyond_after tracks old mid new h k = record { same = λ p far. k.same p far ∙ h.same p far }
+
+-- a disk of as many tracks or more
+pub beyond_within : (few many : ℕ) (old new : Content) → few ≤ many → KeepsBeyond few old new → KeepsBeyond many old new
+beyond_within few many old new more h = record { same = λ p far. h.same p (omega (arith, more, far)) }
+
+pub only_within : {few : ℕ} {A : Type 0} (many : ℕ) (r : Result A Trouble) (old new : Seen) → few ≤ many → OnlyContent few r old new → OnlyContent many r old new
+only_within {few} {A} many r old new more h =
+    record { tracks = h.tracks; protected = h.protected; id = h.id; counted = h.counted; once = h.once; uncounted = h.uncounted; own = h.own; guarded = h.guarded; beyond = beyond_within few many old.content new.content more h.beyond }
+
 -- nothing was done
-pub only_nothing : {A : Type 0} (r : Result A Trouble) (old new : Seen) → new ≡ old → IsGuarded r old → OnlyContent r old new
-only_nothing {A} r old new e guards =
-    record { tracks = ap (λ (s : Seen). s.tracks) e; protected = ap (λ (s : Seen). s.protected) e; id = ap (λ (s : Seen). s.id) e; counted = omega (arith, same); once = omega (arith, same); uncounted = on_ok r; own = on_err r; guarded = guards }
+pub only_nothing : {disk : ℕ} {A : Type 0} (r : Result A Trouble) (old new : Seen) → new ≡ old → IsGuarded r old → OnlyContent disk r old new
+only_nothing {disk} {A} r old new e guards =
+    record { tracks = ap (λ (s : Seen). s.tracks) e; protected = ap (λ (s : Seen). s.protected) e; id = ap (λ (s : Seen). s.id) e; counted = omega (arith, same); once = omega (arith, same); uncounted = on_ok r; own = on_err r; guarded = guards; beyond = beyond_refused disk old.content new.content (ap (λ (s : Seen). s.content) e) }
   where
     same : new.failures ≡ old.failures
     same = ap (λ (s : Seen). s.failures) e
@@ -25,13 +47,13 @@ only_nothing {A} r old new e guards =
     on_err (Err t) = λ failed. absurd (omega (arith, same, failed))
 
 -- no call was made yet
-pub nothing_yet : (s : Seen) → OnlyContent {A = Unit {0}} (Ok tt) s s
-nothing_yet s = only_nothing (Ok tt) s s (λ i. s) tt
+pub nothing_yet : {disk : ℕ} (s : Seen) → OnlyContent {A = Unit {0}} disk (Ok tt) s s
+nothing_yet {disk} s = only_nothing (Ok tt) s s (λ i. s) tt
 
 -- one call after another that succeeded
-pub only_after : {A B : Type 0} (q : Result A Trouble) (a : A) (r : Result B Trouble) (old mid new : Seen) → q ≡ Ok a → OnlyContent q old mid → OnlyContent r mid new → OnlyContent r old new
-only_after {A} {B} q a r old mid new e h k =
-    record { tracks = k.tracks ∙ h.tracks; protected = k.protected ∙ h.protected; id = k.id ∙ h.id; counted = omega (arith, h.counted, k.counted); once = omega (arith, first, k.once); uncounted = on_ok r k.uncounted; own = on_err r k.own; guarded = guards r k.guarded }
+pub only_after : {disk : ℕ} {A B : Type 0} (q : Result A Trouble) (a : A) (r : Result B Trouble) (old mid new : Seen) → q ≡ Ok a → OnlyContent disk q old mid → OnlyContent disk r mid new → OnlyContent disk r old new
+only_after {disk} {A} {B} q a r old mid new e h k =
+    record { tracks = k.tracks ∙ h.tracks; protected = k.protected ∙ h.protected; id = k.id ∙ h.id; counted = omega (arith, h.counted, k.counted); once = omega (arith, first, k.once); uncounted = on_ok r k.uncounted; own = on_err r k.own; guarded = guards r k.guarded; beyond = beyond_after disk old.content mid.content new.content h.beyond k.beyond }
   where
     first : mid.failures ≡ old.failures
     first = subst (λ (x : Result A Trouble). OnOk x (mid.failures ≡ old.failures)) e h.uncounted
@@ -49,9 +71,9 @@ only_after {A} {B} q a r old mid new e h k =
     guards (Err t) f = λ is. sym h.protected ∙ f is
 
 -- a call that only reads after one that succeeded
-pub only_then : {A B : Type 0} (q : Result A Trouble) (r : Result B Trouble) (a : A) (old new : Seen) → q ≡ Ok a → OnlyContent q old new → IsGuarded r old → OnlyContent r old new
-only_then {A} {B} q r a old new e h guards =
-    record { tracks = h.tracks; protected = h.protected; id = h.id; counted = h.counted; once = h.once; uncounted = on_ok r; own = on_err r; guarded = guards }
+pub only_then : {disk : ℕ} {A B : Type 0} (q : Result A Trouble) (r : Result B Trouble) (a : A) (old new : Seen) → q ≡ Ok a → OnlyContent disk q old new → IsGuarded r old → OnlyContent disk r old new
+only_then {disk} {A} {B} q r a old new e h guards =
+    record { tracks = h.tracks; protected = h.protected; id = h.id; counted = h.counted; once = h.once; uncounted = on_ok r; own = on_err r; guarded = guards; beyond = h.beyond }
   where
     same : new.failures ≡ old.failures
     same = subst (λ (x : Result A Trouble). OnOk x (new.failures ≡ old.failures)) e h.uncounted
@@ -65,12 +87,12 @@ only_then {A} {B} q r a old new e h guards =
     on_err (Err t) = λ failed. absurd (omega (arith, same, failed))
 
 -- one call more, whatever it gave
-pub only_more : {A : Type 0} (x : A) (old mid new : Seen) → OnlyContent {A = Unit {0}} (Ok tt) old mid → OnlyContent {A = A} (Ok x) mid new → OnlyContent {A = Unit {0}} (Ok tt) old new
-only_more {A} x old mid new h k = only_then (Ok x) (Ok tt) x old new (λ i. Ok x) (only_after (Ok tt) tt (Ok x) old mid new (λ i. Ok tt) h k) tt
+pub only_more : {disk : ℕ} {A : Type 0} (x : A) (old mid new : Seen) → OnlyContent {A = Unit {0}} disk (Ok tt) old mid → OnlyContent {A = A} disk (Ok x) mid new → OnlyContent {A = Unit {0}} disk (Ok tt) old new
+only_more {disk} {A} x old mid new h k = only_then (Ok x) (Ok tt) x old new (λ i. Ok x) (only_after (Ok tt) tt (Ok x) old mid new (λ i. Ok tt) h k) tt
 
 -- a call that hands the refusal of another one on
-pub only_refused : {A B : Type 0} (r : Result A Trouble) (s : Result B Trouble) (t : Trouble) (old new : Seen) → r ≡ Err t → s ≡ Err t → OnlyContent r old new → OnlyContent s old new
-only_refused {A} {B} r s t old new refuses hands h =
+pub only_refused : {disk : ℕ} {A B : Type 0} (r : Result A Trouble) (s : Result B Trouble) (t : Trouble) (old new : Seen) → r ≡ Err t → s ≡ Err t → OnlyContent disk r old new → OnlyContent disk s old new
+only_refused {disk} {A} {B} r s t old new refuses hands h =
     record {
       tracks = h.tracks;
       protected = h.protected;
@@ -81,4 +103,38 @@ only_refused {A} {B} r s t old new refuses hands h =
       own = subst (λ (x : Result B Trouble). IfErr x (λ u. HasFailed old new → new.refused ≡ Some u)) (sym hands)
           (subst (λ (x : Result A Trouble). IfErr x (λ u. HasFailed old new → new.refused ≡ Some u)) refuses h.own);
       guarded = subst (λ (x : Result B Trouble). IsGuarded x old) (sym hands) (subst (λ (x : Result A Trouble). IsGuarded x old) refuses h.guarded);
+      beyond = h.beyond;
     }
+
+-- ---- a write of the medium's
+
+-- done
+pub write_only : {disk : ℕ} (old new : Seen) (at : Place) (bytes : List ℕ) → at.track ≤ disk → new ≡ with_content (written old.content at bytes) old → OnlyContent {A = Unit {0}} disk (Ok tt) old new
+write_only {disk} old new at bytes few e = record {
+  tracks = ap (λ (s : Seen). s.tracks) e;
+  protected = ap (λ (s : Seen). s.protected) e;
+  id = ap (λ (s : Seen). s.id) e;
+  counted = omega (arith, same);
+  once = omega (arith, same);
+  uncounted = same;
+  own = tt;
+  guarded = tt;
+  beyond = beyond_written disk old.content new.content at bytes few (ap (λ (s : Seen). s.content) e);
+}
+  where
+    same : new.failures ≡ old.failures
+    same = ap (λ (s : Seen). s.failures) e
+
+-- or refused, and the call hands the fault on
+pub write_refused : {disk : ℕ} {B : Type 0} (r : Result B Trouble) (t : Trouble) (fault : Fault) (why : Option ℕ) (old new : Seen) → r ≡ Err t → t ≡ trouble_of fault → IsRefused why fault old new → OnlyContent disk r old new
+write_refused {disk} {B} r t fault why old new hands says h = record {
+  tracks = ap (λ (s : Seen). s.tracks) h.same;
+  protected = ap (λ (s : Seen). s.protected) h.same;
+  id = ap (λ (s : Seen). s.id) h.same;
+  counted = h.counted;
+  once = h.once;
+  uncounted = subst (λ (x : Result B Trouble). OnOk x (new.failures ≡ old.failures)) (sym hands) tt;
+  own = subst (λ (x : Result B Trouble). IfErr x (λ u. HasFailed old new → new.refused ≡ Some u)) (sym hands) (λ failed. h.own failed ∙ ap Some (sym says));
+  guarded = subst (λ (x : Result B Trouble). IsGuarded x old) (sym hands) (λ is. h.only_protected (ap (λ (u : Trouble). u.code) (sym says) ∙ is));
+  beyond = beyond_refused disk old.content new.content (ap (λ (s : Seen). s.content) h.same);
+}

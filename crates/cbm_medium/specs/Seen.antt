@@ -45,10 +45,14 @@ pub record IsRefused (why : Option ℕ) (fault : Fault) (old new : Seen) : Type 
   pub own : HasFailed old new → new.refused ≡ Some (trouble_of fault)
   pub only_protected : fault.code ≡ 26 → old.protected ≡ true
 
--- A call changed at most what the sectors hold: tracks, protection and id stay. It makes no write after one that the medium refused by
--- itself: failures go up by one at most, only where it answers Err, and then that is what the medium refused last. It answers the code 26
--- only where the medium is protected, whatever that holds.
-pub record OnlyContent {A : Type 0} (result : Result A Trouble) (old new : Seen) : Type 0 where
+-- Each sector of a track beyond so many holds what it held.
+pub record KeepsBeyond (tracks : ℕ) (old new : Content) : Type 0 where
+  pub same : (p : Place) → tracks < p.track → new p ≡ old p
+
+-- A call changed at most what the sectors of a disk of so many tracks hold, though the medium may have more: tracks, protection and id stay.
+-- It makes no write after one that the medium refused by itself: failures go up by one at most, only where it answers Err, and then that is
+-- what the medium refused last. It answers the code 26 only where the medium is protected, whatever that holds.
+pub record OnlyContent {A : Type 0} (disk : ℕ) (result : Result A Trouble) (old new : Seen) : Type 0 where
   pub tracks : new.tracks ≡ old.tracks
   pub protected : new.protected ≡ old.protected
   pub id : new.id ≡ old.id
@@ -57,3 +61,4 @@ pub record OnlyContent {A : Type 0} (result : Result A Trouble) (old new : Seen)
   pub uncounted : OnOk result (new.failures ≡ old.failures)
   pub own : IfErr result (λ t. HasFailed old new → new.refused ≡ Some t)
   pub guarded : IfErr result (λ t. t.code ≡ 26 → old.protected ≡ true)
+  pub beyond : KeepsBeyond disk old.content new.content

@@ -49,7 +49,7 @@ pub fn begin_empty_side<M: Medium>(
     ensures next { IfOk result (λ o. IfSome o (λ t. find (is_free_in (map_of (M.seen medium.old).content))
         (next_order geometry file.side) ≡ Some t)) }
     ensures bound { IfOk result (λ o. IfSome o (λ t. t.track ≤ geometry)) }
-    ensures only { OnlyContent result (M.seen medium.old) (M.seen medium.new) }
+    ensures only { OnlyContent geometry result (M.seen medium.old) (M.seen medium.new) }
 {
     let first = file.side();
     let head = read_at(medium, geometry, first)?;

@@ -66,7 +66,7 @@ pub fn write_record<M: Medium>(
         IfOk result (λ o. IfSome o (λ r. IsOkAnd r.next (λ x. option_map (λ y. y.items) x
         ≡ record_in file.width (chain_bytes old.content blocks) (number + 1)))) }
     ensures write { IsRecordWrite result (M.seen medium.old) (M.seen medium.new) number }
-    ensures only { OnlyContent result (M.seen medium.old) (M.seen medium.new) }
+    ensures only { OnlyContent geometry result (M.seen medium.old) (M.seen medium.new) }
 {
     let from = (number - 1) * file.length() as u32;
     let Some(at) = block_at(medium, geometry, file, from / 254)? else {

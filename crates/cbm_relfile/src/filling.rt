@@ -62,7 +62,7 @@ fn fill_tail<M: Medium>(
         Chain geometry old.content file.first xs → length xs ≤ sector_count geometry → length xs ≡ blocks →
         MatchResult result (λ x. IsTailFilled old.content new.content xs file.width from)
         (λ t. (new.content ≡ old.content) × IsWriteRefused geometry old new t.code) }
-    ensures only { OnlyContent result (M.seen medium.old) (M.seen medium.new) }
+    ensures only { OnlyContent geometry result (M.seen medium.old) (M.seen medium.new) }
 {
     if 254 * (blocks as u32 - 1) <= from {
         return Ok(());
@@ -100,7 +100,7 @@ pub fn fill_up<M: Medium>(
         length xs ≡ blocks → length (chain_bytes old.content xs) ≡ 254 * blocks →
         IsOk result × ((M.seen medium.new).content ≡ old.content) }
     ensures bound { IfOk result (λ at. Has geometry at) }
-    ensures only { OnlyContent result (M.seen medium.old) (M.seen medium.new) }
+    ensures only { OnlyContent geometry result (M.seen medium.old) (M.seen medium.new) }
 {
     let number = blocks - 1;
     let (at, sector) = block_there(medium, geometry, file.first(), number as u32)?;

@@ -43,7 +43,7 @@ pub fn lengthen<M: Medium>(
         (λ q. IsLengthened geometry old.content new.content last length blocks q))
         (λ t. IsLengthenStopped geometry old new last t.code) }
     ensures bound { IfOk result (λ o. IfSome o (λ q. q.track ≤ geometry)) }
-    ensures only { OnlyContent result (M.seen medium.old) (M.seen medium.new) }
+    ensures only { OnlyContent geometry result (M.seen medium.old) (M.seen medium.new) }
 {
     let sector = medium.read(last)?;
     let Some(block) = claim_next(medium, geometry, last)? else {
@@ -107,7 +107,7 @@ pub fn list_block<M: Medium>(
         let at = side_at head (number / 120) in Has geometry at → IsOk (old.content at) →
         MatchResult result (λ x. IsBlockListed old.content new.content at (number % 120) block)
         (λ t. IsListStopped geometry old new t.code) }
-    ensures only { OnlyContent result (M.seen medium.old) (M.seen medium.new) }
+    ensures only { OnlyContent geometry result (M.seen medium.old) (M.seen medium.new) }
 {
     let head = read_at(medium, geometry, first)?;
     let place = SIDES + 2 * (number as usize / 120);
@@ -177,7 +177,7 @@ pub fn begin_side<M: Medium>(
         (λ t. IsSideBegun geometry old.content new.content head sides file.width block t))
         (λ t. IsLengthenStopped geometry old new file.side t.code) }
     ensures bound { IfOk result (λ o. IfSome o (λ t. t.track ≤ geometry)) }
-    ensures only { OnlyContent result (M.seen medium.old) (M.seen medium.new) }
+    ensures only { OnlyContent geometry result (M.seen medium.old) (M.seen medium.new) }
 {
     let head = read_at(medium, geometry, file.side())?;
     let Some(side) = claim_next(medium, geometry, block)? else {
@@ -204,7 +204,7 @@ pub fn link_side<M: Medium>(
         let at = side_at head number in Has geometry at → IsOk (old.content at) →
         MatchResult result (λ x. IsSideLinked old.content new.content at number sides side)
         (λ t. IsListStopped geometry old new t.code) }
-    ensures only { OnlyContent result (M.seen medium.old) (M.seen medium.new) }
+    ensures only { OnlyContent geometry result (M.seen medium.old) (M.seen medium.new) }
 {
     let head = read_at(medium, geometry, first)?;
     let place = SIDES + 2 * number as usize;

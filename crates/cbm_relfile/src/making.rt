@@ -43,7 +43,7 @@ pub fn claim_two<M: Medium>(
         (λ r. AreClaimed geometry old.content new.content r.0 r.1)) }
     ensures bound { IfOk result (λ o. IfSome o (λ r. (r.0.track ≤ geometry) × (r.1.track ≤ geometry))) }
     ensures stopped { IfErr result (λ t. IsClaimStopped geometry (M.seen medium.old) (M.seen medium.new) t.code) }
-    ensures only { OnlyContent result (M.seen medium.old) (M.seen medium.new) }
+    ensures only { OnlyContent geometry result (M.seen medium.old) (M.seen medium.new) }
 {
     let Some(block) = claim_first(medium, geometry)? else {
         return Ok(None);
@@ -59,17 +59,19 @@ pub fn claim_two<M: Medium>(
 /// the block may be written then.
 pub fn write_new<M: Medium>(
     medium: &mut M,
+    geometry: Geometry,
     block: Address,
     side: Address,
     length: u8,
 ) -> Result<(), Trouble>
-    requires block { block.track ≤ (M.seen medium.old).tracks }
-    requires side { side.track ≤ (M.seen medium.old).tracks }
+    requires tracks { geometry ≤ (M.seen medium.old).tracks }
+    requires block { block.track ≤ geometry }
+    requires side { side.track ≤ geometry }
     requires length { 1 ≤ length }
     ensures written { OnOk result (IsNew (M.seen medium.old).content (M.seen medium.new).content block side length) }
     ensures stopped { IfErr result
         (λ t. IsNewStopped (M.seen medium.old) (M.seen medium.new) block side t.code) }
-    ensures only { OnlyContent result (M.seen medium.old) (M.seen medium.new) }
+    ensures only { OnlyContent geometry result (M.seen medium.old) (M.seen medium.new) }
 {
     medium.write(block, &fresh_block(length))?;
     medium.write(side, &first_side(block, side, length))?;

@@ -72,7 +72,7 @@ fn write_side<M: Medium>(
         (λ next. IsSideListed old.content new.content side (take 120 blocks) ×
         Chain geometry old.content next (drop 120 blocks))
         (λ t. (new.content ≡ old.content) × IsNotWritten old new side t.code) }
-    ensures only { OnlyContent result (M.seen medium.old) (M.seen medium.new) }
+    ensures only { OnlyContent geometry result (M.seen medium.old) (M.seen medium.new) }
 {
     let Some(at) = side.address(geometry) else {
         return Err(side.trouble(ILLEGAL_LINK));
@@ -152,7 +152,7 @@ fn unlist<M: Medium>(
         IsRelisted geometry old.content new.content file xs ss ×
         MatchResult result (λ x. (i : ℕ) → i < length ss → lists_at new.content ss i ≡ [])
         (λ t. IsSideRefused old new t.code) }
-    ensures only { OnlyContent result (M.seen medium.old) (M.seen medium.new) }
+    ensures only { OnlyContent geometry result (M.seen medium.old) (M.seen medium.new) }
 {
     for passed in 0..sides {
         let side = side_named(head, sides - 1 - passed);
@@ -178,7 +178,7 @@ fn relist<M: Medium>(
         ((i : ℕ) → i < length ss → lists_at old.content ss i ≡ []) →
         IsRelisted geometry old.content new.content file xs ss ×
         MatchResult result (λ x. AreListed new.content ss xs) (λ t. IsSideRefused old new t.code) }
-    ensures only { OnlyContent result (M.seen medium.old) (M.seen medium.new) }
+    ensures only { OnlyContent geometry result (M.seen medium.old) (M.seen medium.new) }
 {
     let mut at = first;
     for number in 0..sides {
@@ -206,7 +206,7 @@ pub fn list_anew<M: Medium>(
     ensures form { let old = M.seen medium.old in (xs ss : List Place) →
         IsLaid geometry old.content file xs ss → length ss ≡ sides → AreInForm old.content ss xs →
         IsOk result × ((M.seen medium.new).content ≡ old.content) }
-    ensures only { OnlyContent result (M.seen medium.old) (M.seen medium.new) }
+    ensures only { OnlyContent geometry result (M.seen medium.old) (M.seen medium.new) }
 {
     let head = read_at(medium, geometry, file.side())?;
     if are_listed(medium, geometry, &head, sides, file.first())? {

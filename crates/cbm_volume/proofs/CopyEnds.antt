@@ -88,7 +88,7 @@ last_cut old new s t c l d uses ch bytes u same cause k =
 
 -- THE COPY'S ENTRY IS WRITTEN, or refused
 pub entry_made : (old mid new : Seen) (geometry : ℕ) (s : State) (kind : FileType) (name : List ℕ) (n : ℕ) (at : Place) (entry body : List ℕ) (r : Result (Unit {0}) Trouble) → Ends old.content mid.content s.current s.waiting → mid.tracks ≡ old.tracks → mid.protected ≡ old.protected → old.failures ≤ mid.failures
-    → geometry ≡ geometry_of mid.tracks mid.content → IsFreshAs entry kind name at → IsClosedAs entry body (place_or_none s.first) s.count
+    → geometry ≡ s.tracks → IsFreshAs entry kind name at → IsClosedAs entry body (place_or_none s.first) s.count
     → ((directory : List Place) → Chain geometry mid.content first_directory directory → n < 8 * length directory → OnOk r (Enters mid.content new.content (sector_of directory n) (n % 8) body)) → OnErr r (new.content ≡ mid.content)
     → ((directory : List Place) → Chain geometry mid.content first_directory directory → n < 8 * length directory → IfErr r (λ t. HasCause mid new (sector_of directory n) t.code))
     → (c : Content) (l : Layout) (d : Disk) (uses : ℕ → Use) (ch : ℕ) (bytes : List ℕ) → Making old.tracks c l d uses ch old.content s bytes Idle → uses ch ≡ Idle → empty_from 0 (grown d).slots ≡ Some n → kind ≢ Del → is_same_type Rel kind ≡ false
@@ -105,7 +105,7 @@ entry_made old mid new geometry s kind name n at entry body r ends tracks protec
     chain = last.reached.so.stands.sound.directory
 
     sized : geometry ≡ geometry_of old.tracks c
-    sized = size ∙ ap (λ (m : ℕ). geometry_of m mid.content) tracks ∙ last.reached.same
+    sized = size ∙ k.same_tracks
 
     here : Chain geometry mid.content first_directory dir
     here = subst (λ (m : ℕ). Chain m mid.content first_directory dir) (sym sized) chain

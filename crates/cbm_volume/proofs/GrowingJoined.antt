@@ -35,7 +35,7 @@ pub copied_more : (old mid new : Seen) (r : Relative) (geometry s1 i : ℕ) (t :
 copied_more old mid new r geometry s1 i t so same some k c0 d uses n w b s b1 rs q o e h =
     subst (λ (m : ℕ). CopiesBy m mid new r geometry s1 i t (λ p q. p)) same k c0 d uses n w b s b1 rs q o e (so c0 d uses n w b s b1 rs q o e h) some
 
-pub copied_stop : {A : Type 0} (x : Result A Trouble) (old mid new : Seen) (r : Relative) (geometry s1 i : ℕ) (t : Place) (u : Trouble) → HasCopied old mid r geometry s1 t → OnlyContent x old mid → 0 < i → CopiesBy mid.tracks mid new r geometry s1 i t (λ p q. q u)
+pub copied_stop : {A : Type 0} (x : Result A Trouble) (old mid new : Seen) (r : Relative) (geometry s1 i : ℕ) (t : Place) (u : Trouble) → HasCopied old mid r geometry s1 t → OnlyContent geometry x old mid → 0 < i → CopiesBy mid.tracks mid new r geometry s1 i t (λ p q. q u)
     → (c0 : Content) (d : Disk) (uses : ℕ → Use) (n w b s b1 : ℕ) (rs : List (List ℕ)) (q : Place) (o : HasRecordsOpen old.tracks c0 d uses n w b s rs) → geometry ≡ geometry_of old.tracks c0 → HasSide old.tracks c0 d uses n w b s rs o r old.content b1 s1 q t
     → IsGrowthStopped old new c0 o.holds.layout d uses n w rs u
 copied_stop x old mid new r geometry s1 i t u so only some k c0 d uses n w b s b1 rs q o e h =

@@ -243,20 +243,20 @@ emptied_long r old mid new title id o was some h =
     subst (λ (y : Option (List ℕ)). OnOk r (IsEmptied old.tracks title (id_behind y old.content) (content_under y old.content) new)) (sym some) (subst (λ (m : Seen). OnOk r (IsEmptied m.tracks title id m.content new)) was h)
 
 -- what else the medium shows after NEW without an id
-pub only_short : (r : Result (Unit {0}) Trouble) (o : Option (List ℕ)) (old new : Seen) → o ≡ None → OnlyContent r old new → OnlyNew r o old new
+pub only_short : (r : Result (Unit {0}) Trouble) (o : Option (List ℕ)) (old new : Seen) → o ≡ None → OnlyContent 18 r old new → OnlyNew r o old new
 only_short r o old new none h = subst (λ (y : Option (List ℕ)). OnlyNew r y old new) (sym none) h
 
 -- and with one, where the format was refused
-pub only_stopped : (r : Result (Unit {0}) Trouble) (id : List ℕ) (o : Option (List ℕ)) (old new : Seen) → o ≡ Some id → IsErr r → OnlyContent r old new → OnlyNew r o old new
+pub only_stopped : (r : Result (Unit {0}) Trouble) (id : List ℕ) (o : Option (List ℕ)) (old new : Seen) → o ≡ Some id → IsErr r → OnlyContent 18 r old new → OnlyNew r o old new
 only_stopped r id o old new some err h = subst (λ (y : Option (List ℕ)). OnlyNew r y old new) (sym some) (inr (err, h))
 
 -- or done
-pub only_long : (r : Result (Unit {0}) Trouble) (id : List ℕ) (o : Option (List ℕ)) (old mid new : Seen) → mid ≡ formatted_as id (with_content blank old) → o ≡ Some id → OnlyContent r mid new → OnlyNew r o old new
+pub only_long : (r : Result (Unit {0}) Trouble) (id : List ℕ) (o : Option (List ℕ)) (old mid new : Seen) → mid ≡ formatted_as id (with_content blank old) → o ≡ Some id → OnlyContent 18 r mid new → OnlyNew r o old new
 only_long r id o old mid new was some h =
-    subst (λ (y : Option (List ℕ)). OnlyNew r y old new) (sym some) (inl (under (subst (λ (s : Seen). OnlyContent r s new) was h)))
+    subst (λ (y : Option (List ℕ)). OnlyNew r y old new) (sym some) (inl (under (subst (λ (s : Seen). OnlyContent 18 r s new) was h)))
   where
-    under : OnlyContent r (formatted_as id (with_content blank old)) new → OnlyContent r (formatted_as id old) new
-    under k = record { tracks = k.tracks; protected = k.protected; id = k.id; counted = k.counted; once = k.once; uncounted = k.uncounted; own = k.own; guarded = k.guarded }
+    under : OnlyContent 18 r (formatted_as id (with_content blank old)) new → OnlyContent 18 r (formatted_as id (with_content new.content old)) new
+    under k = record { tracks = k.tracks; protected = k.protected; id = k.id; counted = k.counted; once = k.once; uncounted = k.uncounted; own = k.own; guarded = k.guarded; beyond = record { same = λ p far i. new.content p } }
 
 -- tracks and protection stay, and failures are counted
 pub new_keeps : (r : Result (Unit {0}) Trouble) (o : Option (List ℕ)) (old new : Seen) → OnlyNew r o old new → (new.tracks ≡ old.tracks) × (new.protected ≡ old.protected) × (old.failures ≤ new.failures)

@@ -52,13 +52,13 @@ room_or_none d slot enough none =
 -- ---- the entry
 
 -- THE FILE'S ENTRY IS WRITTEN, or refused
-pub new_entry_made : (old new : Seen) (geometry : ℕ) (p q : Place) (w n : ℕ) (name : List ℕ) (at : Place) (e0 e1 body : List ℕ) (r : Result (Unit {0}) Trouble) → 1 ≤ w → w ≤ 254 → geometry ≡ geometry_of old.tracks old.content
+pub new_entry_made : (old new : Seen) (geometry : ℕ) (p q : Place) (w n : ℕ) (name : List ℕ) (at : Place) (e0 e1 body : List ℕ) (r : Result (Unit {0}) Trouble) → 1 ≤ w → w ≤ 254
     → IsFreshAs e0 Rel name at → IsClosedAs e0 e1 p 2 → IsRelativeAs e1 body q w
     → ((directory : List Place) → Chain geometry old.content first_directory directory → n < 8 * length directory → OnOk r (Enters old.content new.content (sector_of directory n) (n % 8) body)) → OnErr r (new.content ≡ old.content)
     → ((directory : List Place) → Chain geometry old.content first_directory directory → n < 8 * length directory → IfErr r (λ t. HasCause old new (sector_of directory n) t.code))
-    → (c : Content) (l : Layout) (d : Disk) (uses : ℕ → Use) (ch : ℕ) → HasTwo old.tracks c l d uses ch old.content p q → HoldsNew old.content p q w → empty_from 0 (grown d).slots ≡ Some n
+    → (c : Content) (l : Layout) (d : Disk) (uses : ℕ → Use) (ch : ℕ) → HasTwo old.tracks c l d uses ch old.content p q → HoldsNew old.content p q w → empty_from 0 (grown d).slots ≡ Some n → geometry ≡ geometry_of old.tracks c
     → MatchResult r (λ x. Reached old.tracks c l new.content (with_new_records d (before_filler name) w) uses) (IsCutShort old new c l d uses)
-new_entry_made old new geometry p q w n name at e0 e1 body r some most size fresh_is closes says entered same cause c l d uses ch k holds empty = by_result r entered same cause
+new_entry_made old new geometry p q w n name at e0 e1 body r some most fresh_is closes says entered same cause c l d uses ch k holds empty size = by_result r entered same cause
   where
     dir : List Place
     dir = k.reached.layout.directory
@@ -67,7 +67,7 @@ new_entry_made old new geometry p q w n name at e0 e1 body r some most size fres
     chain = k.reached.so.stands.sound.directory
 
     here : Chain geometry old.content first_directory dir
-    here = subst (λ (m : ℕ). Chain m old.content first_directory dir) (sym (size ∙ k.reached.same)) chain
+    here = subst (λ (m : ℕ). Chain m old.content first_directory dir) (sym size) chain
 
     there : n < 8 * length dir
     there = omega (arith, (empty_at 0 n (grown d).slots empty).1.0, k.reached.so.stands.describes.size)

@@ -5,11 +5,12 @@ use Rattle.std.proofs.lemmas.Bool.{cases_eq}
 use Rattle.std.proofs.lemmas.Option.{slice_get_within}
 use Rattle.cbm_medium.specs.Place.{Place, directory_head}
 use Rattle.cbm_medium.specs.Content.{Cell, Content, written}
-use Rattle.cbm_medium.specs.Seen.{Seen}
+use Rattle.cbm_medium.specs.Seen.{Seen, OnlyContent}
 use Rattle.cbm_medium.specs.Links.{bytes_at, link, Chain, IsApart}
 use Rattle.cbm_medium.specs.declared.fault.Trouble.{Trouble}
 use Rattle.cbm_medium.proofs.Places.{place_decide, written_there, written_elsewhere, written_each}
 use Rattle.cbm_medium.proofs.Walks.{chain_followed}
+use Rattle.cbm_medium.proofs.Sequences.{nothing_yet, only_more}
 use Rattle.cbm_bam.specs.Causes.{HasCause}
 use Rattle.cbm_directory.specs.Entries.{entry_of, entry_at, sector_of, first_directory, is_closed, type_byte, HasEntry}
 use Rattle.cbm_directory.specs.EntryChanges.{cleared_entry, Clears}
@@ -175,23 +176,17 @@ one_swept tracks c c1 c2 xs n h s (inr z) = clears_swept tracks c c1 c2 xs n h s
 -- these slots are swept, and only the content is another
 pub record AreSwept (tracks : ℕ) (old now : Seen) (n : ℕ) : Type 0 where
   pub swept : (xs : List Place) → IsDirectory tracks old.content xs → IsSwept old.content now.content xs n
-  pub same_tracks : now.tracks ≡ old.tracks
-  pub same_protection : now.protected ≡ old.protected
-  pub same_failures : now.failures ≡ old.failures
-  pub same_id : now.id ≡ old.id
+  pub only : OnlyContent {A = Unit {0}} tracks (Ok tt) old now
 
 pub begins : (tracks : ℕ) (old : Seen) → AreSwept tracks old old 0
-begins tracks old = record { swept = λ xs h. none_swept old.content xs; same_tracks = refl; same_protection = refl; same_failures = refl; same_id = refl }
+begins tracks old = record { swept = λ xs h. none_swept old.content xs; only = nothing_yet old }
 
-pub goes_on : (tracks : ℕ) (old mid new : Seen) (n m : ℕ) → m ≡ n + 1 → AreSwept tracks old mid n → ((xs : List Place) → IsDirectory tracks mid.content xs → SlotSwept mid.content new.content xs n)
-    → new.tracks ≡ mid.tracks → new.protected ≡ mid.protected → new.failures ≡ mid.failures → new.id ≡ mid.id → AreSwept tracks old new m
-goes_on tracks old mid new n m at s one t p f i = record {
+pub goes_on : {A : Type 0} (tracks : ℕ) (old mid new : Seen) (n m : ℕ) (x : A) → m ≡ n + 1 → AreSwept tracks old mid n → ((xs : List Place) → IsDirectory tracks mid.content xs → SlotSwept mid.content new.content xs n)
+    → OnlyContent {A = A} tracks (Ok x) mid new → AreSwept tracks old new m
+goes_on {A} tracks old mid new n m x at s one only = record {
   swept = λ xs h. subst (λ (k : ℕ). IsSwept old.content new.content xs k) (sym at)
       (one_swept tracks old.content mid.content new.content xs n h (s.swept xs h) (one xs (same_directory tracks old.content mid.content xs n h (s.swept xs h))));
-  same_tracks = t ∙ s.same_tracks;
-  same_protection = p ∙ s.same_protection;
-  same_failures = f ∙ s.same_failures;
-  same_id = i ∙ s.same_id;
+  only = only_more x old mid new s.only only;
 }
 
 -- where a slot is refused, those before it are swept
@@ -200,4 +195,4 @@ stops_at tracks old mid new n s same xs h = (n, subst (λ (x : Content). IsSwept
 
 pub hindered_at : (tracks : ℕ) (old mid new : Seen) (n : ℕ) (t : Trouble) → AreSwept tracks old mid n → ((xs : List Place) → IsDirectory tracks mid.content xs → IsHindered mid new t) → (xs : List Place) → IsDirectory tracks old.content xs → IsHindered old new t
 hindered_at tracks old mid new n t s cause xs h =
-    hindered_since old mid new t s.same_protection (omega (arith, s.same_failures)) (cause xs (same_directory tracks old.content mid.content xs n h (s.swept xs h)))
+    hindered_since old mid new t s.only.protected s.only.counted (cause xs (same_directory tracks old.content mid.content xs n h (s.swept xs h)))

@@ -1,6 +1,6 @@
 -- What the volume's calls that write leave of a sound disk.
-use Rattle.std.specs.Prelude.{ℕ, ◌≡◌, Bool, true, false, List, Result, IfOk, IfErr, OnErr}
-use Rattle.cbm_medium.specs.Seen.{Seen}
+use Rattle.std.specs.Prelude.{ℕ, max, ◌≡◌, Bool, true, false, List, Result, IfOk, IfErr, OnErr}
+use Rattle.cbm_medium.specs.Seen.{Seen, OnlyContent}
 use Rattle.cbm_medium.specs.declared.fault.Trouble.{Trouble}
 use Rattle.cbm_file.specs.Files.{Disk}
 use Rattle.cbm_bam.specs.Map.{geometry_of}
@@ -44,6 +44,14 @@ pub record IsOneWrite {A : Type 0} (result : Result A Trouble) (old new : Seen) 
   pub untouched : LeavesFiles old new (λ m. false)
 
 -- ---- on any content
+
+-- it changed at most what the sectors of the disk hold, which has 35 or 40 tracks as its map says, though the medium may have more
+abbrev pub OnlyOnDisk : {A : Type 0} → Result A Trouble → Seen → Seen → Type 0
+OnlyOnDisk result old new = OnlyContent (geometry_of old.tracks old.content) result old new
+
+-- the same of a call with a writer, which was begun on a disk of as many tracks, if that was sound
+abbrev pub OnlyOfWriter : {A : Type 0} → Filling → Result A Trouble → Seen → Seen → Type 0
+OnlyOfWriter w result old new = OnlyContent (max w.chain.tracks (geometry_of old.tracks old.content)) result old new
 
 -- a protected medium stays as it is
 abbrev pub KeepsProtected : Seen → Seen → Type 0

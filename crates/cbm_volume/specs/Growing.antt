@@ -52,6 +52,10 @@ abbrev pub OfFile : (now : Seen) (r : Relative) (n b s : ℕ) → ((d : Disk) (u
 OfFile now r n b s P = (d : Disk) (uses : ℕ → Use) (w : ℕ) (rs : List (List ℕ)) (o : HasRecordsOpen now.tracks now.content d uses n w b s rs)
     → r ≡ record { first = first_block (entry_at now.content o.holds.layout.directory n); side = first_side (entry_at now.content o.holds.layout.directory n); width = w } → P d uses w rs o
 
+-- the same on a disk of so many tracks
+abbrev pub OfSized : (geometry : ℕ) (now : Seen) (r : Relative) (n b s : ℕ) → ((d : Disk) (uses : ℕ → Use) (w : ℕ) (rs : List (List ℕ)) → HasRecordsOpen now.tracks now.content d uses n w b s rs → Type 0) → Type 0
+OfSized geometry now r n b s P = geometry ≡ geometry_of now.tracks now.content → OfFile now r n b s P
+
 -- A RELATIVE FILE HAS GROWN to b1 full data blocks and s1 side sectors, since a channel had its records open in b and s: the medium
 -- holds the disk whose slot has its records and fresh ones up to the end of those blocks, and its side sectors list them in the drive's
 -- form. The entry still has the old number of blocks. What the growth added is no longer free; all else is as it was.

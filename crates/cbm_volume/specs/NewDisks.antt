@@ -2,7 +2,7 @@
 use Rattle.std.specs.Prelude.{ℕ, ◌≡◌, ◌++◌, ◌∷◌, [], List, Bool, true, false, not, replicate, slice_index, slice_range, Option, Some, None, Result, IsErr, ◌⊎◌}
 use Rattle.cbm_medium.specs.Place.{Place, Has, directory_head}
 use Rattle.cbm_medium.specs.Content.{Content, written, blank}
-use Rattle.cbm_medium.specs.Seen.{Seen, formatted_as, OnlyContent}
+use Rattle.cbm_medium.specs.Seen.{Seen, formatted_as, with_content, OnlyContent}
 use Rattle.cbm_medium.specs.declared.fault.Trouble.{Trouble}
 use Rattle.cbm_file.specs.Padding.{padded}
 use Rattle.cbm_bam.specs.Map.{map_of, is_free_in, IsCounted, IsOutside, IsSpare, with_bit}
@@ -50,5 +50,5 @@ content_under (Some id) old = blank
 
 -- NEW changes at most what the sectors hold and, where one is given, the id in their headers; a format that was refused leaves the old id.
 abbrev pub OnlyNew : Result (Unit {0}) Trouble → Option (List ℕ) → Seen → Seen → Type 0
-OnlyNew result None old new = OnlyContent result old new
-OnlyNew result (Some id) old new = OnlyContent result (formatted_as id old) new ⊎ (IsErr result × OnlyContent result old new)
+OnlyNew result None old new = OnlyContent 18 result old new
+OnlyNew result (Some id) old new = OnlyContent 18 result (formatted_as id (with_content new.content old)) new ⊎ (IsErr result × OnlyContent 18 result old new)

@@ -23,7 +23,7 @@ fn open_empty<M: Medium>(
     requires sides { sides < 6 }
     ensures opened { Goes result (M.seen medium.old) (M.seen medium.new) geometry
         (OfRoom file sides) (λ t. OfEmpty file sides t) }
-    ensures only { OnlyContent result (M.seen medium.old) (M.seen medium.new) }
+    ensures only { OnlyContent geometry result (M.seen medium.old) (M.seen medium.new) }
 {
     let Some(side) = begin_empty_side(medium, geometry, file, sides)? else {
         return Err(miscounted());
@@ -53,7 +53,7 @@ fn list_side<M: Medium>(
         let at = side_at head number in Has geometry at → IsOk (old.content at) →
         MatchResult result (λ x. IsSideLinked old.content new.content at number sides side)
         (λ t. IsListStopped geometry old new t.code) }
-    ensures only { OnlyContent result (M.seen medium.old) (M.seen medium.new) }
+    ensures only { OnlyContent geometry result (M.seen medium.old) (M.seen medium.new) }
 {
     link_side(medium, geometry, file.side(), sides, number, side)
 }
@@ -74,7 +74,7 @@ fn list_in_others<M: Medium>(
     ensures linked { let old = M.seen medium.old in let new = M.seen medium.new in
         (head : List ℕ) → AreSides geometry old.content file.side head sides →
         IfOk result (λ x. AreSidesLinked old.content new.content head 1 sides side) }
-    ensures only { OnlyContent result (M.seen medium.old) (M.seen medium.new) }
+    ensures only { OnlyContent geometry result (M.seen medium.old) (M.seen medium.new) }
 {
     for passed in 1..sides {
         list_side(medium, geometry, file, sides, sides - passed, side)?;
@@ -93,7 +93,7 @@ fn add_empty<M: Medium>(
     requires sides { (1 ≤ sides) × (sides < 6) }
     ensures added { Goes result (M.seen medium.old) (M.seen medium.new) geometry
         (OfRoom file sides) (λ x. OfSides file (sides + 1)) }
-    ensures only { OnlyContent result (M.seen medium.old) (M.seen medium.new) }
+    ensures only { OnlyContent geometry result (M.seen medium.old) (M.seen medium.new) }
 {
     let side = open_empty(medium, geometry, file, sides)?;
     list_in_others(medium, geometry, file, sides, side)?;
@@ -117,7 +117,7 @@ pub(crate) fn add_sides<M: Medium>(
     ensures enough { 1 ≤ sides → blocks ≤ 120 * sides →
         (result ≡ Ok sides) × ((M.seen medium.new).content ≡ (M.seen medium.old).content) }
     ensures bound { IfOk result (λ k. (sides ≤ k) × (k ≤ 6)) }
-    ensures only { OnlyContent result (M.seen medium.old) (M.seen medium.new) }
+    ensures only { OnlyContent geometry result (M.seen medium.old) (M.seen medium.new) }
 {
     // A sound relative file has a side sector.
     if sides == 0 {

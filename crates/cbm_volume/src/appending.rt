@@ -1,7 +1,6 @@
 // OPEN for appending.
 
 ghost use Rattle.std.specs.Prelude.{◌≡◌, ◌≤◌, Some, false, OnErr, IfOk, MatchResult, ℕ};
-ghost use Rattle.cbm_medium.specs.Seen.{OnlyContent};
 ghost use Rattle.cbm_file.specs.declared.file_type.FileType.TheVariants.{Del};
 ghost use Rattle.cbm_file.specs.Types.{is_same_type};
 ghost use Rattle.cbm_file.specs.Files.{File, with_slot, bytes_in};
@@ -9,7 +8,7 @@ ghost use Rattle.cbm_file.specs.Changes.{reopened};
 ghost use Rattle.cbm_volume.specs.Holding.{StandsAt};
 ghost use Rattle.cbm_volume.specs.Writers.{Idle};
 ghost use Rattle.cbm_volume.specs.Opens.{CanBeWritten, Begins, IsHindered};
-ghost use Rattle.cbm_volume.specs.Calls.{OfDisk, LeavesFiles};
+ghost use Rattle.cbm_volume.specs.Calls.{OnlyOnDisk, OfDisk, LeavesFiles};
 
 use crate::filling::FileWriter;
 use crate::volume::Volume;
@@ -31,7 +30,7 @@ impl<M: Medium> Volume<M> {
         ensures err { OnErr result ((M.seen self.new).content ≡ (M.seen self.old).content) }
         ensures untouched { OfDisk (M.seen self.old) (λ d uses. LeavesFiles (M.seen self.old) (M.seen self.new) (λ m. false)) }
         ensures tracks { IfOk result (λ w. w.chain.tracks ≤ (M.seen self.old).tracks) }
-        ensures only { OnlyContent result (M.seen self.old) (M.seen self.new) }
+        ensures only { OnlyOnDisk result (M.seen self.old) (M.seen self.new) }
     {
         let geometry = self.geometry();
         let chain = ChainWriter::after(&self.medium, geometry, entry.first_block())?;

@@ -3,13 +3,13 @@
 ghost use Rattle.std.specs.Prelude.{◌≡◌, ◌≤◌, ◌*◌, ◌-◌, ℕ, IsOk, IfOk, MatchResult};
 ghost use Rattle.cbm_medium.specs.Seen.{OnlyContent};
 ghost use Rattle.cbm_file.specs.Records.{sides_for};
-ghost use Rattle.cbm_volume.specs.Growing.{HasGrown, IsReadyToGrow, IsGrowthStopped, OfFile};
+ghost use Rattle.cbm_volume.specs.Growing.{HasGrown, IsReadyToGrow, IsGrowthStopped, OfSized};
 
 use crate::adding_sides::add_sides;
 use crate::growing_blocks::Reach;
 use crate::last_blocks::fill_last;
 use crate::relisting::list_anew;
-use cbm_medium::{Address, Medium, Trouble};
+use cbm_medium::{Address, Geometry, Medium, Trouble};
 use cbm_relfile::Relative;
 
 /// Brings a file of this many data blocks and side sectors, which can list them all, to where it grows block by block: each
@@ -17,24 +17,27 @@ use cbm_relfile::Relative;
 /// why a sector isn't written: the file has its records still.
 fn begin_listed<M: Medium>(
     medium: &mut M,
+    geometry: Geometry,
     file: Relative,
     blocks: u16,
     sides: u8,
 ) -> Result<Address, Trouble>
+    requires tracks { geometry ≤ (M.seen medium.old).tracks }
     requires length { (1 ≤ file.width) × (file.width ≤ 254) }
     requires some { 1 ≤ blocks }
     requires sides { sides ≤ 6 }
     ensures begun { let old = M.seen medium.old in let new = M.seen medium.new in
-        (n : ℕ) → OfFile old file n blocks sides (λ d uses w rs o. blocks ≤ 120 * sides → MatchResult result
+        (n : ℕ) → OfSized geometry old file n blocks sides (λ d uses w rs o. blocks ≤ 120 * sides → MatchResult result
         (λ at. HasGrown old.tracks old.content d uses n w blocks sides rs o file new.content blocks sides at)
         (IsGrowthStopped old new old.content o.holds.layout d uses n w rs)) }
-    ensures ready { let old = M.seen medium.old in (n : ℕ) → OfFile old file n blocks sides (λ d uses w rs o.
+    ensures ready { let old = M.seen medium.old in (n : ℕ) → OfSized geometry old file n blocks sides (λ d uses w rs o.
         let l = o.holds.layout in IsReadyToGrow old.content (l.files n).sides (l.files n).data_blocks blocks →
         IsOk result × ((M.seen medium.new).content ≡ old.content)) }
-    ensures only { OnlyContent result (M.seen medium.old) (M.seen medium.new) }
+    ensures bound { IfOk result (λ at. at.track ≤ geometry) }
+    ensures only { OnlyContent geometry result (M.seen medium.old) (M.seen medium.new) }
 {
-    list_anew(medium, file, sides)?;
-    fill_last(medium, file, blocks)
+    list_anew(medium, geometry, file, sides)?;
+    fill_last(medium, geometry, file, blocks)
 }
 
 /// Brings a file of this many data blocks and side sectors to where it grows block by block: it has as many side sectors as
@@ -42,29 +45,30 @@ fn begin_listed<M: Medium>(
 /// it is. An `Err` is why a sector isn't written: the file has its records still.
 pub fn begin_growth<M: Medium>(
     medium: &mut M,
+    geometry: Geometry,
     file: Relative,
     blocks: u16,
     sides: u8,
 ) -> Result<Reach, Trouble>
+    requires tracks { geometry ≤ (M.seen medium.old).tracks }
     requires length { (1 ≤ file.width) × (file.width ≤ 254) }
     requires blocks { (1 ≤ blocks) × (blocks ≤ 720) }
     requires sides { sides ≤ 6 }
     ensures begun { let old = M.seen medium.old in let new = M.seen medium.new in
-        (n : ℕ) → OfFile old file n blocks sides (λ d uses w rs o. sides_for sides blocks - sides ≤ d.free →
+        (n : ℕ) → OfSized geometry old file n blocks sides (λ d uses w rs o. sides_for sides blocks - sides ≤ d.free →
         MatchResult result (λ x. (x.sides ≡ sides_for sides blocks) ×
         HasGrown old.tracks old.content d uses n w blocks sides rs o file new.content blocks x.sides x.last)
         (IsGrowthStopped old new old.content o.holds.layout d uses n w rs)) }
     // Nothing is written to a file that this drive wrote.
-    ensures ready { let old = M.seen medium.old in (n : ℕ) → OfFile old file n blocks sides (λ d uses w rs o.
+    ensures ready { let old = M.seen medium.old in (n : ℕ) → OfSized geometry old file n blocks sides (λ d uses w rs o.
         blocks ≤ 120 * sides → let l = o.holds.layout in
         IsReadyToGrow old.content (l.files n).sides (l.files n).data_blocks blocks →
         IsOk result × ((M.seen medium.new).content ≡ old.content)) }
-    ensures bound { IfOk result (λ x. (x.blocks ≡ blocks) × (x.sides ≤ 6)) }
-    ensures only { OnlyContent result (M.seen medium.old) (M.seen medium.new) }
+    ensures bound { IfOk result (λ x. (x.blocks ≡ blocks) × (x.sides ≤ 6) × (x.last.track ≤ geometry)) }
+    ensures only { OnlyContent geometry result (M.seen medium.old) (M.seen medium.new) }
 {
-    let geometry = cbm_bam::geometry(medium);
     let sides = add_sides(medium, geometry, file, blocks, sides)?;
-    let last = begin_listed(medium, file, blocks, sides)?;
+    let last = begin_listed(medium, geometry, file, blocks, sides)?;
     Ok(Reach {
         blocks,
         sides,

@@ -8,12 +8,13 @@ ghost use Rattle.cbm_file.specs.Types.{is_same_type};
 ghost use Rattle.cbm_file.specs.Padding.{before_filler};
 ghost use Rattle.cbm_file.specs.Files.{Disk, Bytes, file_at, empty_from, blocks_of};
 ghost use Rattle.cbm_file.specs.Changes.{bytes_at, joined, copy_blocks, with_copy, with_file, closed_file, grown, has_slot};
+ghost use Rattle.cbm_bam.specs.Map.{geometry_of};
 ghost use Rattle.cbm_chain.specs.Reading.{IsSettled};
 ghost use Rattle.cbm_volume.specs.Copies.{AreCopied, CanBeCopied, HasNoRoomFor, IsCutShort, Making};
 ghost use Rattle.cbm_volume.specs.Layouts.{Layout};
 ghost use Rattle.cbm_volume.specs.Reaches.{Reached};
 ghost use Rattle.cbm_volume.specs.Writers.{Use, Idle, Reads, HoldsNow, Stopped};
-ghost use Rattle.cbm_volume.specs.Calls.{OfDisk, OfIdle, IsCall, KeepsProtected, IsSameOn};
+ghost use Rattle.cbm_volume.specs.Calls.{OnlyOnDisk, OfDisk, OfIdle, IsCall, KeepsProtected, IsSameOn};
 
 use crate::room::Room;
 use crate::volume::Volume;
@@ -42,7 +43,7 @@ impl<M: Medium> Volume<M> {
             IsOkAnd result (λ done. done ≡ false)) }
         ensures kept { IsSameOn result false (M.seen self.old) (M.seen self.new) }
         ensures guarded { KeepsProtected (M.seen self.old) (M.seen self.new) }
-        ensures only { OnlyContent result (M.seen self.old) (M.seen self.new) }
+        ensures only { OnlyOnDisk result (M.seen self.old) (M.seen self.new) }
     {
         let bytes = byte_total(&self.medium, sources)?;
         let room = self.room()?;
@@ -125,7 +126,7 @@ fn make<M: Medium>(
         MatchResult result (λ x. Reached old.tracks old.content h.layout new.content
         (with_copy d kind (before_filler name.now) sources.now) uses)
         (IsCutShort old new old.content h.layout d uses) }
-    ensures only { OnlyContent result (M.seen medium.old) (M.seen medium.new) }
+    ensures only { OnlyOnDisk result (M.seen medium.old) (M.seen medium.new) }
 {
     let (number, mut chain) = begin(medium)?;
     put_files(medium, &mut chain, sources)?;
@@ -140,8 +141,9 @@ fn begin<M: Medium>(medium: &mut M) -> Result<(u8, ChainWriter), Trouble>
         MatchResult result (λ r. (empty_from 0 (grown d).slots ≡ Some r.0) ×
         Making old.tracks old.content h.layout d uses ch new.content r.1 [] Idle)
         (IsCutShort old new old.content h.layout d uses) }
-    ensures tracks { IfOk result (λ r. r.1.tracks ≤ (M.seen medium.old).tracks) }
-    ensures only { OnlyContent result (M.seen medium.old) (M.seen medium.new) }
+    ensures tracks { let old = M.seen medium.old in
+        IfOk result (λ r. (r.1.tracks ≡ geometry_of old.tracks old.content) × (r.1.tracks ≤ old.tracks)) }
+    ensures only { OnlyOnDisk result (M.seen medium.old) (M.seen medium.new) }
 {
     let geometry = cbm_bam::geometry(medium);
     let Some(number) = empty_slot(medium, geometry)? else {
@@ -163,7 +165,7 @@ fn put_byte<M: Medium>(medium: &mut M, chain: &mut ChainWriter, byte: u8) -> Res
         MatchResult result (λ x. Making old.tracks c l d uses ch new.content chain.new (bytes ++ byte ∷ []) source)
         (IsCutShort old new c l d uses) }
     ensures tracks { chain.new.tracks ≡ chain.old.tracks }
-    ensures only { OnlyContent result (M.seen medium.old) (M.seen medium.new) }
+    ensures only { OnlyContent chain.old.tracks result (M.seen medium.old) (M.seen medium.new) }
 {
     // Each sector that reads has 256 bytes: so it is known when a block is full.
     let _tracks = medium.tracks();
@@ -190,7 +192,7 @@ fn put_next<M: Medium>(
         (Reads number reader.new left)) (IsCutShort old new c l d uses) }
     ensures settled { IsSettled reader.old → IsSettled reader.new }
     ensures tracks { (chain.new.tracks ≡ chain.old.tracks) × (reader.new.tracks ≡ reader.old.tracks) }
-    ensures only { OnlyContent result (M.seen medium.old) (M.seen medium.new) }
+    ensures only { OnlyContent chain.old.tracks result (M.seen medium.old) (M.seen medium.new) }
 {
     let Some((byte, _)) = reader.peek() else {
         return Ok(());
@@ -215,7 +217,7 @@ fn put_read<M: Medium>(
         MatchResult result (λ x. Making old.tracks c l d uses ch new.content chain.new (bytes ++ left) Idle)
         (IsCutShort old new c l d uses) }
     ensures tracks { chain.new.tracks ≡ chain.old.tracks }
-    ensures only { OnlyContent result (M.seen medium.old) (M.seen medium.new) }
+    ensures only { OnlyContent chain.old.tracks result (M.seen medium.old) (M.seen medium.new) }
 {
     for passed in 0..count {
         put_next(medium, chain, reader)?;
@@ -233,7 +235,7 @@ fn put_file<M: Medium>(medium: &mut M, chain: &mut ChainWriter, number: u8) -> R
         MatchResult result (λ x. Making old.tracks c l d uses ch new.content chain.new
         (bytes ++ bytes_at (file_at d number)) Idle) (IsCutShort old new c l d uses) }
     ensures tracks { chain.new.tracks ≡ chain.old.tracks }
-    ensures only { OnlyContent result (M.seen medium.old) (M.seen medium.new) }
+    ensures only { OnlyContent chain.old.tracks result (M.seen medium.old) (M.seen medium.new) }
 {
     let geometry = cbm_bam::geometry(medium);
     let Some(entry) = slot(medium, geometry, number)? else {
@@ -258,7 +260,7 @@ fn put_files<M: Medium>(
         MatchResult result (λ x. Making old.tracks c l d uses ch new.content chain.new
         (bytes ++ joined d sources.now) Idle) (IsCutShort old new c l d uses) }
     ensures tracks { chain.new.tracks ≡ chain.old.tracks }
-    ensures only { OnlyContent result (M.seen medium.old) (M.seen medium.new) }
+    ensures only { OnlyContent chain.old.tracks result (M.seen medium.old) (M.seen medium.new) }
 {
     'sources: for number in sources {
         put_file(medium, chain, *number)?;
@@ -283,10 +285,10 @@ fn enter<M: Medium>(
         MatchResult result (λ x. Reached old.tracks c l new.content (with_file d (closed_file kind
         (before_filler name.now) (blocks_of (length bytes)) (Bytes bytes)) (blocks_of (length bytes))) uses)
         (IsCutShort old new c l d uses) }
-    ensures only { OnlyContent result (M.seen medium.old) (M.seen medium.new) }
+    ensures only { OnlyContent chain.now.tracks result (M.seen medium.old) (M.seen medium.new) }
 {
     chain.finish(medium)?;
-    let geometry = cbm_bam::geometry(medium);
+    let geometry = chain.geometry();
     let entry = Entry::fresh(kind, name, chain.first_block());
     let closed = entry.closed(chain.first_block(), chain.count());
     put_slot(medium, geometry, number, &closed)

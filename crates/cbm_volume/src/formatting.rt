@@ -127,7 +127,7 @@ fn write_new<M: Medium>(medium: &mut M, title: &[u8], id: [u8; 2]) -> Result<(),
         IsWritable (old.content first_directory) → IfErr result (IsHindered old (M.seen medium.new)) }
     ensures protected { let old = M.seen medium.old in old.protected ≡ true →
         (M.seen medium.new).content ≡ old.content }
-    ensures only { OnlyContent result (M.seen medium.old) (M.seen medium.new) }
+    ensures only { OnlyContent 18 result (M.seen medium.old) (M.seen medium.new) }
 {
     let head = new_head(title, id, all_tracks(medium));
     medium.write(Address::of_map(), &head)?;

@@ -19,7 +19,7 @@ impl<M: Medium> Volume<M> {
             OfWriter old writer.now (λ d uses ch bytes blocks. IsCall result old new
             (λ x. HoldsNow old.tracks new.content (record d { free = d.free + blocks }) (with_use uses ch Idle))
             (Stopped old.tracks new.content d d (with_use uses ch Idle)) (λ m. false)) }
-        ensures only { OnlyContent result (M.seen self.old) (M.seen self.new) }
+        ensures only { OnlyContent writer.now.chain.tracks result (M.seen self.old) (M.seen self.new) }
     {
         writer.chain.abandon(&mut self.medium)
     }

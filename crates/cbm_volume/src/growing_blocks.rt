@@ -27,7 +27,7 @@ pub fn lengthen_file<M: Medium>(
     ensures longer { (s1 : ℕ) → Goes result (M.seen medium.old) (M.seen medium.new) geometry
         (OfGrowable file blocks s1 last) (λ q. OfLonger file blocks s1 q) }
     ensures bound { IfOk result (λ q. q.track ≤ geometry) }
-    ensures only { OnlyContent result (M.seen medium.old) (M.seen medium.new) }
+    ensures only { OnlyContent geometry result (M.seen medium.old) (M.seen medium.new) }
 {
     let _tracks = medium.tracks();
     let Some(block) = lengthen(medium, geometry, last, file.length(), blocks)? else {
@@ -48,7 +48,7 @@ pub fn list_last<M: Medium>(
     requires blocks { blocks < 720 }
     ensures listed { (s1 : ℕ) → blocks < 120 * s1 → Goes result (M.seen medium.old) (M.seen medium.new) geometry
         (OfLonger file blocks s1 block) (λ x. OfGrown file (blocks + 1) s1 block) }
-    ensures only { OnlyContent result (M.seen medium.old) (M.seen medium.new) }
+    ensures only { OnlyContent geometry result (M.seen medium.old) (M.seen medium.new) }
 {
     list_block(medium, geometry, file.side(), blocks, block)
 }
@@ -68,7 +68,7 @@ pub fn open_side<M: Medium>(
     ensures begun { (b1 : ℕ) → Goes result (M.seen medium.old) (M.seen medium.new) geometry
         (OfSideable file b1 sides block) (λ t. OfSide file b1 sides block t) }
     ensures bound { IfOk result (λ t. t.track ≤ geometry) }
-    ensures only { OnlyContent result (M.seen medium.old) (M.seen medium.new) }
+    ensures only { OnlyContent geometry result (M.seen medium.old) (M.seen medium.new) }
 {
     let Some(side) = begin_side(medium, geometry, file, sides, block)? else {
         return Err(miscounted());
@@ -98,7 +98,7 @@ pub fn copy_side<M: Medium>(
         let at = side_at head number in Has geometry at → IsOk (old.content at) →
         MatchResult result (λ x. IsSideLinked old.content new.content at number sides side)
         (λ t. IsListStopped geometry old new t.code) }
-    ensures only { OnlyContent result (M.seen medium.old) (M.seen medium.new) }
+    ensures only { OnlyContent geometry result (M.seen medium.old) (M.seen medium.new) }
 {
     link_side(medium, geometry, file.side(), sides, number, side)
 }
@@ -119,7 +119,7 @@ pub fn copy_sides<M: Medium>(
     ensures linked { let old = M.seen medium.old in let new = M.seen medium.new in
         (head : List ℕ) → AreSides geometry old.content file.side head sides →
         IfOk result (λ x. AreSidesLinked old.content new.content head 1 sides side) }
-    ensures only { OnlyContent result (M.seen medium.old) (M.seen medium.new) }
+    ensures only { OnlyContent geometry result (M.seen medium.old) (M.seen medium.new) }
 {
     for passed in 1..sides {
         copy_side(medium, geometry, file, sides, sides - passed, side)?;
@@ -140,7 +140,7 @@ pub fn add_side<M: Medium>(
     requires block { block.track ≤ geometry }
     ensures added { (b1 : ℕ) → b1 ≡ 120 * sides → Goes result (M.seen medium.old) (M.seen medium.new) geometry
         (OfSideable file b1 sides block) (λ x. OfGrown file (b1 + 1) (sides + 1) block) }
-    ensures only { OnlyContent result (M.seen medium.old) (M.seen medium.new) }
+    ensures only { OnlyContent geometry result (M.seen medium.old) (M.seen medium.new) }
 {
     let side = open_side(medium, geometry, file, sides, block)?;
     copy_sides(medium, geometry, file, sides, side)?;
@@ -172,7 +172,7 @@ pub fn grow_once<M: Medium>(
         (λ x. OfReached file goal (sides_for reach.sides goal) x.sides x.last) }
     ensures bound { IfOk result
         (λ x. (x.blocks ≡ reach.blocks + 1) × (x.last.track ≤ geometry) × (x.sides ≤ 6)) }
-    ensures only { OnlyContent result (M.seen medium.old) (M.seen medium.new) }
+    ensures only { OnlyContent geometry result (M.seen medium.old) (M.seen medium.new) }
 {
     let block = lengthen_file(medium, geometry, file, reach.blocks, reach.last)?;
     let blocks = reach.blocks + 1;
@@ -209,7 +209,7 @@ pub fn grow_blocks<M: Medium>(
         Goes result (M.seen medium.old) (M.seen medium.new) geometry (OfGoal file from.blocks from.sides from.last goal)
         (λ x. OfReached file goal (sides_for from.sides goal) x.sides x.last) }
     ensures bound { IfOk result (λ x. (x.blocks ≡ from.blocks + count) × (x.sides ≤ 6)) }
-    ensures only { OnlyContent result (M.seen medium.old) (M.seen medium.new) }
+    ensures only { OnlyContent geometry result (M.seen medium.old) (M.seen medium.new) }
 {
     let mut reach = from;
     for passed in 0..count {

@@ -2,7 +2,6 @@
 
 ghost use Rattle.std.specs.Prelude.{◌≡◌, ◌≢◌, ◌≤◌, ◌<◌, ◌+◌, ◌-◌, ◌==◌, ◌^◌, ◌⊎◌, ℕ, List, true, false, None, Some, Ok, IfErr, IfOk, IfSome, IsOkAnd, MatchOption, MatchResult};
 ghost use Rattle.cbm_medium.specs.Met.{IsMet};
-ghost use Rattle.cbm_medium.specs.Seen.{OnlyContent};
 ghost use Rattle.cbm_file.specs.Files.{Disk};
 ghost use Rattle.cbm_file.specs.Records.{blocks_for, sides_for};
 ghost use Rattle.cbm_bam.specs.Map.{geometry_of};
@@ -12,12 +11,11 @@ ghost use Rattle.cbm_volume.specs.Growth.{IsTooLarge, IsGrowth};
 ghost use Rattle.cbm_volume.specs.Growing.{IsGrowthStopped, IsGrownTo, IsPlanned, is_too_large, OfFile};
 ghost use Rattle.cbm_volume.specs.RecordWrites.{HasRecordsOpen, OfOpen};
 ghost use Rattle.cbm_volume.specs.Writers.{Use};
-ghost use Rattle.cbm_volume.specs.Calls.{KeepsProtected, IsSameOn};
+ghost use Rattle.cbm_volume.specs.Calls.{OnlyOnDisk, KeepsProtected, IsSameOn};
 
 use crate::beginning_growth::begin_growth;
 use crate::counting_blocks::tell_blocks;
 use crate::growing_blocks::grow_blocks;
-use crate::making_records::miscounted;
 use crate::volume::Volume;
 use cbm_medium::codes::WRITE_PROTECT_ON;
 use cbm_medium::{Medium, Trouble};
@@ -122,16 +120,12 @@ pub fn grow_to<M: Medium>(
         blocks + sides_for extent.sides blocks - (extent.blocks + extent.sides) ≤ d.free → MatchResult result
         (λ x. IsGrownTo old.tracks old.content new.content o.holds.layout d uses slot w rs extent.blocks extent.sides blocks)
         (IsGrowthStopped old new old.content o.holds.layout d uses slot w rs)) }
-    ensures only { OnlyContent result (M.seen medium.old) (M.seen medium.new) }
+    ensures only { OnlyOnDisk result (M.seen medium.old) (M.seen medium.new) }
 {
-    let from = begin_growth(medium, file, extent.blocks, extent.sides)?;
     let geometry = cbm_bam::geometry(medium);
-    // On a sound disk the last block is one of its sectors.
-    if from.last.track() > geometry.tracks() {
-        return Err(miscounted());
-    }
+    let from = begin_growth(medium, geometry, file, extent.blocks, extent.sides)?;
     let reach = grow_blocks(medium, geometry, file, from, blocks - extent.blocks)?;
-    tell_blocks(medium, slot, reach.blocks + reach.sides as u16)
+    tell_blocks(medium, geometry, slot, reach.blocks + reach.sides as u16)
 }
 
 /// Grows the file in a slot, where this many blocks are free, so that a record is there.
@@ -146,7 +140,7 @@ pub fn grow_in_slot<M: Medium>(
         IsGrowth result (M.seen medium.old) (M.seen medium.new) d uses slot w b s rs number) }
     ensures kept { IsSameOn result false (M.seen medium.old) (M.seen medium.new) }
     ensures guarded { KeepsProtected (M.seen medium.old) (M.seen medium.new) }
-    ensures only { OnlyContent result (M.seen medium.old) (M.seen medium.new) }
+    ensures only { OnlyOnDisk result (M.seen medium.old) (M.seen medium.new) }
 {
     let Some(plan) = plan_growth(medium, slot, number, free)? else {
         return Ok(false);
@@ -174,7 +168,7 @@ impl<M: Medium> Volume<M> {
             IsGrowth result (M.seen self.old) (M.seen self.new) d uses slot w b s rs number) }
         ensures kept { IsSameOn result false (M.seen self.old) (M.seen self.new) }
         ensures guarded { KeepsProtected (M.seen self.old) (M.seen self.new) }
-        ensures only { OnlyContent result (M.seen self.old) (M.seen self.new) }
+        ensures only { OnlyOnDisk result (M.seen self.old) (M.seen self.new) }
     {
         let room = self.room()?;
         grow_in_slot(&mut self.medium, slot, number, room.blocks)

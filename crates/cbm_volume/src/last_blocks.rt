@@ -3,12 +3,11 @@
 ghost use Rattle.std.specs.Prelude.{◌≡◌, ◌≤◌, ◌*◌, ℕ, length, IsOk, IfOk, MatchResult};
 ghost use Rattle.cbm_medium.specs.Place.{Has};
 ghost use Rattle.cbm_medium.specs.Seen.{OnlyContent};
-ghost use Rattle.cbm_bam.specs.Map.{geometry_of};
 ghost use Rattle.cbm_chain.specs.Data.{chain_bytes};
 ghost use Rattle.cbm_volume.specs.Growth.{IsGrowthCut};
-ghost use Rattle.cbm_volume.specs.Growing.{IsListed, LeavesAside, HasGrown, OfFile};
+ghost use Rattle.cbm_volume.specs.Growing.{IsListed, LeavesAside, HasGrown, OfSized};
 
-use cbm_medium::{Address, Medium, Trouble};
+use cbm_medium::{Address, Geometry, Medium, Trouble};
 use cbm_relfile::{Relative, fill_up};
 
 /// Fills up the last data block of a file of this many with fresh records, which begin after the last whole record, and
@@ -16,25 +15,28 @@ use cbm_relfile::{Relative, fill_up};
 /// a block isn't written: the file has its records still.
 pub(crate) fn fill_last<M: Medium>(
     medium: &mut M,
+    geometry: Geometry,
     file: Relative,
     blocks: u16,
 ) -> Result<Address, Trouble>
+    requires tracks { geometry ≤ (M.seen medium.old).tracks }
     requires length { (1 ≤ file.width) × (file.width ≤ 254) }
     requires some { 1 ≤ blocks }
     ensures filled { let old = M.seen medium.old in let new = M.seen medium.new in
-        (n s : ℕ) → OfFile old file n blocks s (λ d uses w rs o. let l = o.holds.layout in
+        (n s : ℕ) → OfSized geometry old file n blocks s (λ d uses w rs o. let l = o.holds.layout in
         IsListed old.content (l.files n).sides (l.files n).data_blocks → MatchResult result
         (λ at. HasGrown old.tracks old.content d uses n w blocks s rs o file new.content blocks s at)
         (IsGrowthCut old new d uses n w rs)) }
-    ensures full { let old = M.seen medium.old in (n s : ℕ) → OfFile old file n blocks s (λ d uses w rs o.
+    ensures full { let old = M.seen medium.old in (n s : ℕ) → OfSized geometry old file n blocks s (λ d uses w rs o.
         length (chain_bytes old.content (o.holds.layout.files n).data_blocks) ≡ 254 * blocks →
         IsOk result × ((M.seen medium.new).content ≡ old.content)) }
     // All but the file is as it was.
-    ensures aside { let old = M.seen medium.old in (n s : ℕ) → OfFile old file n blocks s (λ d uses w rs o.
+    ensures aside { let old = M.seen medium.old in (n s : ℕ) → OfSized geometry old file n blocks s (λ d uses w rs o.
         LeavesAside n old.content o.holds.layout (M.seen medium.new).content o.holds.layout) }
-    ensures bound { IfOk result (λ at. Has (geometry_of (M.seen medium.old).tracks (M.seen medium.old).content) at) }
-    ensures only { OnlyContent result (M.seen medium.old) (M.seen medium.new) }
+    ensures bound { IfOk result (λ at. Has geometry at) }
+    ensures only { OnlyContent geometry result (M.seen medium.old) (M.seen medium.new) }
 {
-    let geometry = cbm_bam::geometry(medium);
+    // Each sector that reads has 256 bytes.
+    let _tracks = medium.tracks();
     fill_up(medium, geometry, file, blocks)
 }

@@ -1,14 +1,13 @@
 // OPEN of a new file for writing.
 
 ghost use Rattle.std.specs.Prelude.{◌≡◌, ◌≢◌, ◌≤◌, [], false, length, IfOk, IfSome, MatchOption, ℕ};
-ghost use Rattle.cbm_medium.specs.Seen.{OnlyContent};
 ghost use Rattle.cbm_file.specs.declared.file_type.FileType.TheVariants.{Del, Rel};
 ghost use Rattle.cbm_file.specs.Types.{is_same_type};
 ghost use Rattle.cbm_file.specs.Padding.{before_filler};
 ghost use Rattle.cbm_file.specs.Changes.{with_file, unclosed, new_slot};
 ghost use Rattle.cbm_volume.specs.Writers.{Idle, Stopped};
 ghost use Rattle.cbm_volume.specs.Opens.{Begins, HasNoPlace};
-ghost use Rattle.cbm_volume.specs.Calls.{OfDisk, IsCall};
+ghost use Rattle.cbm_volume.specs.Calls.{OnlyOnDisk, OfDisk, IsCall};
 
 use crate::filling::FileWriter;
 use crate::volume::Volume;
@@ -39,7 +38,7 @@ impl<M: Medium> Volume<M> {
         // None says that nothing has changed, whatever the medium holds.
         ensures kept { IfOk result
             (λ o. MatchOption o ((M.seen self.new).content ≡ (M.seen self.old).content) (λ w. Unit {0})) }
-        ensures only { OnlyContent result (M.seen self.old) (M.seen self.new) }
+        ensures only { OnlyOnDisk result (M.seen self.old) (M.seen self.new) }
     {
         let geometry = self.geometry();
         if free_bits(&self.medium, geometry)? == 0 {

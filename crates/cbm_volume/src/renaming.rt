@@ -1,12 +1,11 @@
 // RENAME: a slot's entry gets another name.
 
 ghost use Rattle.std.specs.Prelude.{◌≡◌, ◌≤◌, Some, length, OnErr};
-ghost use Rattle.cbm_medium.specs.Seen.{OnlyContent};
 ghost use Rattle.cbm_file.specs.Padding.{before_filler};
 ghost use Rattle.cbm_file.specs.Files.{File, file_at, with_slot};
 ghost use Rattle.cbm_volume.specs.Opens.{IsUnwritten};
 ghost use Rattle.cbm_volume.specs.Writers.{HoldsNow};
-ghost use Rattle.cbm_volume.specs.Calls.{OfDisk, IsOneWrite};
+ghost use Rattle.cbm_volume.specs.Calls.{OnlyOnDisk, OfDisk, IsOneWrite};
 
 use crate::volume::Volume;
 use cbm_directory::put_slot;
@@ -23,7 +22,7 @@ impl<M: Medium> Volume<M> {
             (λ x. (f : File) → file_at d slot ≡ Some f → IsUnwritten uses slot → HoldsNow old.tracks new.content
             (with_slot d slot (Some (record f { name = before_filler name.now }))) uses)) }
         ensures err { OnErr result ((M.seen self.new).content ≡ (M.seen self.old).content) }
-        ensures only { OnlyContent result (M.seen self.old) (M.seen self.new) }
+        ensures only { OnlyOnDisk result (M.seen self.old) (M.seen self.new) }
     {
         let Some(entry) = self.slot(slot)? else {
             return Ok(());

@@ -1,11 +1,10 @@
 // A file is to be replaced: what will replace it begins.
 
 ghost use Rattle.std.specs.Prelude.{◌≡◌, ◌≤◌, ◌-◌, [], true, OnErr, IfOk, IfSome, MatchOption, ℕ};
-ghost use Rattle.cbm_medium.specs.Seen.{OnlyContent};
 ghost use Rattle.cbm_file.specs.Files.{File};
 ghost use Rattle.cbm_volume.specs.Opens.{Begins, CanBeWritten};
 ghost use Rattle.cbm_volume.specs.Writers.{Idle};
-ghost use Rattle.cbm_volume.specs.Calls.{OfDisk, IsOneWrite};
+ghost use Rattle.cbm_volume.specs.Calls.{OnlyOnDisk, OfDisk, IsOneWrite};
 
 use crate::filling::FileWriter;
 use crate::volume::Volume;
@@ -27,7 +26,7 @@ impl<M: Medium> Volume<M> {
         // None says that nothing has changed, whatever the medium holds.
         ensures kept { IfOk result
             (λ o. MatchOption o ((M.seen self.new).content ≡ (M.seen self.old).content) (λ w. Unit {0})) }
-        ensures only { OnlyContent result (M.seen self.old) (M.seen self.new) }
+        ensures only { OnlyOnDisk result (M.seen self.old) (M.seen self.new) }
     {
         let geometry = self.geometry();
         let Some(chain) = ChainWriter::begin(&mut self.medium, geometry)? else {

@@ -16,7 +16,7 @@ ghost use Rattle.cbm_volume.specs.Unmendable.{code_at, flaw_code, IsUnmendable};
 ghost use Rattle.cbm_volume.specs.Sweeps.{IsDirectory, IsSwept, SlotSwept, IsPutInOrder, IsPartlyInOrder};
 ghost use Rattle.cbm_volume.specs.Writers.{Idle};
 ghost use Rattle.cbm_volume.specs.check.WholeDisk.{ClaimsInto};
-ghost use Rattle.cbm_volume.specs.Calls.{OfDisk, IsChange, KeepsProtected};
+ghost use Rattle.cbm_volume.specs.Calls.{OnlyOnDisk, OfDisk, IsChange, KeepsProtected};
 
 use crate::check::{Flaw, Unsound, check_disk};
 use crate::view::ClosedView;
@@ -92,7 +92,7 @@ fn sweep_slot<M: Medium>(medium: &mut M, geometry: Geometry, number: u8) -> Resu
     ensures err { OnErr result ((M.seen medium.new).content ≡ (M.seen medium.old).content) }
     ensures cause { let old = M.seen medium.old in (directory : List Place) →
         IsDirectory geometry old.content directory → IfErr result (IsHindered old (M.seen medium.new)) }
-    ensures only { OnlyContent result (M.seen medium.old) (M.seen medium.new) }
+    ensures only { OnlyContent geometry result (M.seen medium.old) (M.seen medium.new) }
 {
     let Some(entry) = slot(medium, geometry, number)? else {
         return Ok(());
@@ -114,7 +114,7 @@ fn sweep<M: Medium>(medium: &mut M, geometry: Geometry) -> Result<(), Trouble>
         OnErr result ((k : ℕ) × IsSwept old.content (M.seen medium.new).content directory k) }
     ensures cause { let old = M.seen medium.old in (directory : List Place) →
         IsDirectory geometry old.content directory → IfErr result (IsHindered old (M.seen medium.new)) }
-    ensures only { OnlyContent result (M.seen medium.old) (M.seen medium.new) }
+    ensures only { OnlyContent geometry result (M.seen medium.old) (M.seen medium.new) }
 {
     for number in 0..SLOTS {
         sweep_slot(medium, geometry, number)?;
@@ -130,7 +130,7 @@ fn write_map<M: Medium>(medium: &mut M, geometry: Geometry, map: &[u8; 256]) -> 
     ensures err { OnErr result ((M.seen medium.new).content ≡ (M.seen medium.old).content) }
     ensures cause { IfErr result (λ t. (write_refusal (M.seen medium.old) directory_head ≡ Some t.code) ⊎
         HasFailed (M.seen medium.old) (M.seen medium.new)) }
-    ensures only { OnlyContent result (M.seen medium.old) (M.seen medium.new) }
+    ensures only { OnlyContent geometry result (M.seen medium.old) (M.seen medium.new) }
 {
     prove!(geometry.tracks() >= 35);
     medium.write(Address::of_map(), map)?;
@@ -159,7 +159,7 @@ impl<M: Medium> Volume<M> {
         ensures kept { KeepsProtected (M.seen self.old) (M.seen self.new) }
         ensures guarded { OfDisk (M.seen self.old) (λ d uses. (M.seen self.old).protected ≡ true →
             IsErrAnd result (λ t. t.code ≡ 26)) }
-        ensures only { OnlyContent result (M.seen self.old) (M.seen self.new) }
+        ensures only { OnlyOnDisk result (M.seen self.old) (M.seen self.new) }
     {
         let geometry = self.geometry();
         let used = closed_sectors(&self.medium)?;

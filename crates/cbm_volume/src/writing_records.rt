@@ -1,8 +1,8 @@
 // A record of a relative file that is there is written, where it lies.
 
 ghost use Rattle.std.specs.Prelude.{◌≤◌, ◌<◌, ◌==◌, ◌^◌, None};
-ghost use Rattle.cbm_medium.specs.Seen.{OnlyContent};
 ghost use Rattle.cbm_volume.specs.RecordWrites.{PutsRecord};
+ghost use Rattle.cbm_volume.specs.Calls.{OnlyOnDisk};
 ghost use Rattle.cbm_relfile.specs.Written.{IsRecordWrite};
 
 use crate::volume::Volume;
@@ -26,7 +26,7 @@ impl<M: Medium> Volume<M> {
         requires position { 1 ≤ position }
         ensures put { PutsRecord result (M.seen self.old) (M.seen self.new) slot number position bytes.now }
         ensures write { IsRecordWrite result (M.seen self.old) (M.seen self.new) number }
-        ensures only { OnlyContent result (M.seen self.old) (M.seen self.new) }
+        ensures only { OnlyOnDisk result (M.seen self.old) (M.seen self.new) }
     {
         put_in_slot(&mut self.medium, slot, number, position, bytes)
     }
@@ -44,7 +44,7 @@ fn put_in_slot<M: Medium>(
     requires position { 1 ≤ position }
     ensures put { PutsRecord result (M.seen medium.old) (M.seen medium.new) slot number position bytes.now }
     ensures write { IsRecordWrite result (M.seen medium.old) (M.seen medium.new) number }
-    ensures only { OnlyContent result (M.seen medium.old) (M.seen medium.new) }
+    ensures only { OnlyOnDisk result (M.seen medium.old) (M.seen medium.new) }
 {
     let geometry = cbm_bam::geometry(medium);
     let Some(entry) = cbm_directory::slot(medium, geometry, slot)? else {

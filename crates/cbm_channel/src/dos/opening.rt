@@ -11,7 +11,8 @@ use cbm_volume::{Medium, Trouble};
 
 impl<M: Medium> Dos<M> {
     ghost use Rattle.std.specs.Prelude.{◌≡◌, ◌≤◌, ◌<◌, ◌⊎◌, ◌==◌, ℕ, true, false, length, is_some, IfOk, IfErr, OnErr, IfSome, MatchOption, Ok, slice_index_or};
-    ghost use Rattle.cbm_medium.specs.Seen.{OnlyContent, HasFailed};
+    ghost use Rattle.cbm_medium.specs.Seen.{HasFailed};
+    ghost use Rattle.cbm_channel.specs.ChannelCalls.{KeepsElse};
     ghost use Rattle.cbm_volume.specs.Map.{geometry_of};
     ghost use Rattle.cbm_volume.specs.Writers.{Idle, Stopped};
     ghost use Rattle.cbm_machine.specs.declared.code.Code.TheVariants.{Fine};
@@ -138,7 +139,7 @@ impl<M: Medium> Dos<M> {
             (λ t. t.code ≡ 26 → (M.seen self.new.medium).content ≡ (M.seen self.old.medium).content) }
         ensures rest { self.new ≡ record self.old { medium = self.new.medium } }
         ensures count { length self.new.channels ≡ 15 }
-        ensures medium { OnlyContent result (M.seen self.old.medium) (M.seen self.new.medium) }
+        ensures medium { KeepsElse result (M.seen self.old.medium) (M.seen self.new.medium) }
     {
         match plan {
             Plan::ReadListing(pattern) => {

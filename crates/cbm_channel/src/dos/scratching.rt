@@ -43,7 +43,8 @@ fn may_go(channels: &[Channel], patterns: &[Name], number: u8, entry: &Entry) ->
 
 impl<M: Medium> Dos<M> {
     ghost use Rattle.std.specs.Prelude.{◌≡◌, ◌≢◌, ◌≤◌, [], false, IfOk, IfErr, OnOk, OnErr, IsOkAnd, length};
-    ghost use Rattle.cbm_medium.specs.Seen.{OnlyContent, HasFailed};
+    ghost use Rattle.cbm_medium.specs.Seen.{HasFailed};
+    ghost use Rattle.cbm_channel.specs.ChannelCalls.{KeepsElse};
     ghost use Rattle.cbm_volume.specs.Map.{geometry_of};
     ghost use Rattle.cbm_volume.specs.Slots.{directory_of};
     ghost use Rattle.cbm_volume.specs.Writers.{HoldsNow, Stopped};
@@ -145,7 +146,7 @@ impl<M: Medium> Dos<M> {
         ensures unguarded { AreUnguarded (M.seen self.old.medium).protected slots.now → IfErr result (λ t. t.code ≢ 26) }
         ensures rest { self.new ≡ record self.old { medium = self.new.medium } }
         ensures count { length self.new.channels ≡ 15 }
-        ensures medium { OnlyContent result (M.seen self.old.medium) (M.seen self.new.medium) }
+        ensures medium { KeepsElse result (M.seen self.old.medium) (M.seen self.new.medium) }
     {
         'slots: for slot in slots {
             self.volume.scratch(*slot)?;

@@ -1,11 +1,12 @@
-use Rattle.std.proofs.Common.{◌≡◌, ◌<◌, ℕ, List, Option, inl, inr, sym, subst, ap, ◌∙◌, arith}
+use Rattle.std.proofs.Common.{◌≡◌, ◌<◌, ℕ, List, true, Ok, refl, Option, inl, inr, sym, subst, ap, ◌∙◌, arith}
 use Rattle.std.specs.Prelude.{MatchOption}
 use Rattle.std.proofs.lemmas.Bool.{cases_lt}
 use Rattle.std.proofs.lemmas.Result.{err_from_is_err_and}
 use Rattle.cbm_medium.specs.Place.{Place, directory_head}
 use Rattle.cbm_medium.specs.Content.{Content, written}
 use Rattle.cbm_medium.specs.Links.{or_nothing, bytes_at}
-use Rattle.cbm_medium.specs.Seen.{Seen}
+use Rattle.cbm_medium.specs.Seen.{Seen, OnlyContent, write_refusal}
+use Rattle.cbm_medium.proofs.Sequences.{only_after, only_then, write_only, write_refused}
 use Rattle.cbm_bam.specs.Map.{ClaimsOn18}
 use Rattle.cbm_directory.specs.Entries.{first_directory, HasLink}
 use Rattle.cbm_directory.proofs.Grown.{refused_before, refused_on, ends_on_disk}
@@ -79,3 +80,33 @@ returns-clause-grown g c =
       written = ap (λ (s : Seen). s.content) c.in_ok-write-2.ensures.ok
           ∙ ap (λ (x : Content). written x last.at c.linked-bytes.result) (ap (λ (s : Seen). s.content) c.in_ok-write.ensures.ok ∙ ap (written mid c.in-Some.at) c.blank.ensures);
     }
+
+-- ---- only what the disk's sectors hold is new
+
+placed : (g : Over) (c : goal.After-from_residual-in_err-write-2 g) → OnlyContent {A = Unit {0}} c.args.geometry (Ok tt) (g.M.Medium.seen c.args.medium.now) (g.M.Medium.seen c.write.new.self)
+placed g c =
+    let old : Seen = g.M.Medium.seen c.args.medium.now in
+    let mid : Seen = g.M.Medium.seen c.claim_directory.new.medium in
+    let one : Seen = g.M.Medium.seen c.write.new.self in
+    only_after c.claim_directory.result c.in_ok-at.field-0 (Ok tt) old mid one c.in_ok-at.was c.claim_directory.ensures.only (write_only mid one c.in-Some.at c.blank.result (claims g c).has.1 c.in_ok-write.ensures.ok)
+
+pub returns-in_err-write-2-clause-only : goal.returns-in_err-write-2-clause-only
+returns-in_err-write-2-clause-only g c =
+    let old : Seen = g.M.Medium.seen c.args.medium.now in
+    let one : Seen = g.M.Medium.seen c.write.new.self in
+    let new : Seen = g.M.Medium.seen c.write-2.new.self in
+    let p = err_from_is_err_and c.from_residual-in_err-write-2.result c.from_residual-in_err-write-2.ensures.1 in
+    only_after (Ok tt) tt c.from_residual-in_err-write-2.result old one new refl (placed g c)
+    (write_refused c.from_residual-in_err-write-2.result p.0 c.in_err-write-2.field-0.0 (write_refusal one c.in_ok-last.last.at) one new p.1 p.2 c.in_err-write-2.ensures.err.1)
+
+pub returns-clause-only : goal.returns-clause-only
+returns-clause-only g c =
+    let old : Seen = g.M.Medium.seen c.args.medium.now in
+    let mid : Seen = g.M.Medium.seen c.claim_directory.new.medium in
+    let one : Seen = g.M.Medium.seen c.write.new.self in
+    let new : Seen = g.M.Medium.seen c.write-2.new.self in
+    let took : ClaimsOn18 c.args.geometry old.content mid.content c.in-Some.at = subst (λ (o : Option Place). MatchOption o (mid.content ≡ old.content) (λ p. ClaimsOn18 c.args.geometry old.content mid.content p)) c.in-Some.is c.in_ok-at.ensures.claimed in
+    only_then (Ok tt) (Ok true) tt old new refl
+    (only_after (Ok tt) tt (Ok tt) old one new refl
+    (only_after c.claim_directory.result c.in_ok-at.field-0 (Ok tt) old mid one c.in_ok-at.was c.claim_directory.ensures.only (write_only mid one c.in-Some.at c.blank.result took.has.1 c.in_ok-write.ensures.ok))
+    (write_only one new c.in_ok-last.last.at c.linked-bytes.result c.in_ok-last.ensures.track c.in_ok-write-2.ensures.ok)) tt

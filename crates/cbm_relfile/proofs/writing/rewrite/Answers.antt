@@ -1,3 +1,6 @@
+use Rattle.std.proofs.Common.{Err, ap, sym, ◌∙◌}
+use Rattle.std.proofs.lemmas.Result.{err_from_is_err_and}
+use Rattle.cbm_medium.proofs.Sequences.{only_after, only_refused}
 use Rattle.cbm_medium.specs.Seen.{Seen}
 use Rattle.cbm_relfile.specs.Changing.{IsWriteRefused}
 use Rattle.cbm_relfile.proofs.Changed.{handed, back_refused}
@@ -12,3 +15,12 @@ returns-in_err-put_part-3-clause-refused g c = λ here next.
     handed c.from_residual-in_err-put_part-3.result c.in_err-put_part-3.field-0.0 (λ t. IsWriteRefused c.args.geometry old new t.code) c.from_residual-in_err-put_part-3.ensures.1
     (back_refused c.args.geometry old mid new c.args.at c.of-next.result _ c.in_ok-more.more c.in_err-put_part-3.field-0.0.code c.in_ok-put_part-2.ensures.ok c.in_ok-put_part-2.ensures.only.protected c.in_ok-put_part-2.ensures.only.counted c.in_ok-more.ensures.ok c.in_ok-more.ensures.has
     (c.in_err-put_part-3.ensures.refused c.in_ok-more.ensures.has))
+
+pub returns-in_err-put_part-3-clause-only : goal.returns-in_err-put_part-3-clause-only
+returns-in_err-put_part-3-clause-only g c =
+    let old : Seen = g.M.Medium.seen c.args.medium.now in
+    let mid : Seen = g.M.Medium.seen c.put_part-2.new.medium in
+    let new : Seen = g.M.Medium.seen c.put_part-3.new.medium in
+    let p = err_from_is_err_and c.from_residual-in_err-put_part-3.result c.from_residual-in_err-put_part-3.ensures.1 in
+    only_refused c.put_part-3.result c.from_residual-in_err-put_part-3.result p.0 old new (c.in_err-put_part-3.was ∙ ap Err (sym p.2)) p.1
+    (only_after c.put_part-2.result c.in_ok-put_part-2.field-0 c.put_part-3.result old mid new c.in_ok-put_part-2.was c.put_part-2.ensures.only c.put_part-3.ensures.only)

@@ -8,4 +8,4 @@ use Rattle.cbm_volume.proofs.adding_sides.add_sides.Given as goal
 abbrev pub invariant-loop-number : goal.invariant-loop-number
 invariant-loop-number g l =
     GoesBy (g.M.Medium.seen l.initial.medium).tracks (g.M.Medium.seen l.initial.medium) (g.M.Medium.seen l.medium) l.geometry (OfRoomFor l.file l.sides l.all) (OfRoomFor l.file l.number l.all) (λ p q. p)
-    × OnlyContent {A = Unit {0}} (Ok tt) (g.M.Medium.seen l.initial.medium) (g.M.Medium.seen l.medium) × (l.sides ≤ l.number)
+    × OnlyContent {A = Unit {0}} l.geometry (Ok tt) (g.M.Medium.seen l.initial.medium) (g.M.Medium.seen l.medium) × (l.sides ≤ l.number)

@@ -9,6 +9,6 @@ use Rattle.cbm_volume.proofs.adding_sides.list_in_others.Given as goal
 abbrev pub invariant-loop-passed : goal.invariant-loop-passed
 invariant-loop-passed g l =
     GoesBy (g.M.Medium.seen l.initial.medium).tracks (g.M.Medium.seen l.initial.medium) (g.M.Medium.seen l.medium) l.geometry (OfEmpty l.file l.sides l.side) (OfEmpty l.file l.sides l.side) (λ p q. p)
-    × OnlyContent {A = Unit {0}} (Ok tt) (g.M.Medium.seen l.initial.medium) (g.M.Medium.seen l.medium) × (1 ≤ l.passed)
+    × OnlyContent {A = Unit {0}} l.geometry (Ok tt) (g.M.Medium.seen l.initial.medium) (g.M.Medium.seen l.medium) × (1 ≤ l.passed)
     × ((head : List ℕ) → AreSides l.geometry (g.M.Medium.seen l.initial.medium).content l.file.side head l.sides
     → AreSidesLinked (g.M.Medium.seen l.initial.medium).content (g.M.Medium.seen l.medium).content head (l.sides + 1 - l.passed) l.sides l.side)

@@ -25,4 +25,4 @@ returns-clause-entered g c =
     let closes : IsClosedAs c.fresh-entry.result c.closed-closed.result (place_or_none s.first) s.count =
     subst (λ (p : Place). IsClosedAs c.fresh-entry.result c.closed-closed.result p s.count) c.first_block-2.ensures (subst (λ (n : ℕ). IsClosedAs c.fresh-entry.result c.closed-closed.result c.first_block-2.result n) c.count.ensures c.closed-closed.ensures.says) in
     entry_made old mid new c.geometry-geometry.result s c.args.kind c.args.name.now c.args.number c.first_block.result c.fresh-entry.result c.closed-closed.result c.put_slot.result c.in_ok-finish.ensures.ok c.in_ok-finish.ensures.only.tracks c.in_ok-finish.ensures.only.protected c.in_ok-finish.ensures.only.counted
-    c.geometry-geometry.ensures.value c.fresh-entry.ensures.says closes c.put_slot.ensures.entered c.put_slot.ensures.err c.put_slot.ensures.cause
+    c.geometry-geometry.ensures c.fresh-entry.ensures.says closes c.put_slot.ensures.entered c.put_slot.ensures.err c.put_slot.ensures.cause

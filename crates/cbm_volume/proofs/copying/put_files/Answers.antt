@@ -1,6 +1,6 @@
-use Rattle.std.proofs.Common.{refl, ◌∙◌}
+use Rattle.std.proofs.Common.{ℕ, Ok, refl, subst, ◌∙◌}
 use Rattle.cbm_medium.proofs.Sequences.{nothing_yet, only_more}
-use Rattle.cbm_medium.specs.Seen.{Seen}
+use Rattle.cbm_medium.specs.Seen.{Seen, OnlyContent}
 use Rattle.cbm_volume.specs.Copies.{IsCutShort}
 use Rattle.cbm_volume.proofs.CopySteps.{handed, copied_first, copied_step, copied_cut, all_copied}
 use Rattle.cbm_volume.proofs.copying.put_files.Goals as goal
@@ -23,7 +23,7 @@ sources-preserved g c =
     let mid : Seen = g.M.Medium.seen c.sources.medium in
     let new : Seen = g.M.Medium.seen c.put_file.new.medium in (
       copied_step old mid new c.args.chain.now c.sources.chain c.put_file.new.chain c.args.sources.now c.sources.number-index c.in_ok-put_file.field-0 c.sources-test.true c.sources.invariant.1.tracks c.in_ok-put_file.ensures.put c.sources.invariant.0,
-      only_more c.in_ok-put_file.field-0 old mid new c.sources.invariant.1 c.in_ok-put_file.ensures.only,
+      only_more c.in_ok-put_file.field-0 old mid new c.sources.invariant.1 (subst (λ (n : ℕ). OnlyContent n (Ok c.in_ok-put_file.field-0) mid new) c.sources.invariant.2 c.in_ok-put_file.ensures.only),
       c.in_ok-put_file.ensures.tracks ∙ c.sources.invariant.2,
     )
 

@@ -8,5 +8,5 @@ use Rattle.cbm_volume.proofs.copying.put_files.Given as goal
 abbrev pub invariant-sources : goal.invariant-sources
 invariant-sources g l =
     IsCopiedOn (g.M.Medium.seen l.initial.medium) (g.M.Medium.seen l.medium) l.initial.chain l.chain l.sources l.number-index
-    × OnlyContent {A = Unit {0}} (Ok tt) (g.M.Medium.seen l.initial.medium) (g.M.Medium.seen l.medium)
+    × OnlyContent {A = Unit {0}} l.initial.chain.tracks (Ok tt) (g.M.Medium.seen l.initial.medium) (g.M.Medium.seen l.medium)
     × (l.chain.tracks ≡ l.initial.chain.tracks)

@@ -1,6 +1,6 @@
-use Rattle.std.proofs.Common.{refl, ◌∙◌}
+use Rattle.std.proofs.Common.{ℕ, Ok, refl, subst, ◌∙◌}
 use Rattle.cbm_medium.proofs.Sequences.{nothing_yet, only_more}
-use Rattle.cbm_medium.specs.Seen.{Seen}
+use Rattle.cbm_medium.specs.Seen.{Seen, OnlyContent}
 use Rattle.cbm_volume.specs.Copies.{IsCutShort}
 use Rattle.cbm_volume.proofs.CopySteps.{handed, read_first, read_step, read_cut, all_read}
 use Rattle.cbm_volume.proofs.copying.put_read.Goals as goal
@@ -24,7 +24,7 @@ loop-passed-preserved g c =
     let new : Seen = g.M.Medium.seen c.put_next.new.medium in (
       read_step old mid new c.args.chain.now c.loop-passed.chain c.put_next.new.chain c.args.reader.now c.loop-passed.reader c.put_next.new.reader c.args.count c.loop-passed.passed c.in_ok-put_next.field-0 c.loop-passed-test.true
           c.loop-passed.invariant.1.tracks c.in_ok-put_next.ensures.settled c.in_ok-put_next.ensures.put c.loop-passed.invariant.0,
-      only_more c.in_ok-put_next.field-0 old mid new c.loop-passed.invariant.1 c.in_ok-put_next.ensures.only,
+      only_more c.in_ok-put_next.field-0 old mid new c.loop-passed.invariant.1 (subst (λ (n : ℕ). OnlyContent n (Ok c.in_ok-put_next.field-0) mid new) c.loop-passed.invariant.2 c.in_ok-put_next.ensures.only),
       c.in_ok-put_next.ensures.tracks.0 ∙ c.loop-passed.invariant.2,
       c.in_ok-put_next.ensures.tracks.1 ∙ c.loop-passed.invariant.3,
     )

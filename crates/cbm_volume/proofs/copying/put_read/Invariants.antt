@@ -8,5 +8,5 @@ use Rattle.cbm_volume.proofs.copying.put_read.Given as goal
 abbrev pub invariant-loop-passed : goal.invariant-loop-passed
 invariant-loop-passed g l =
     IsReadOn (g.M.Medium.seen l.initial.medium) (g.M.Medium.seen l.medium) l.initial.chain l.chain l.initial.reader l.reader l.count l.passed
-    × OnlyContent {A = Unit {0}} (Ok tt) (g.M.Medium.seen l.initial.medium) (g.M.Medium.seen l.medium)
+    × OnlyContent {A = Unit {0}} l.initial.chain.tracks (Ok tt) (g.M.Medium.seen l.initial.medium) (g.M.Medium.seen l.medium)
     × (l.chain.tracks ≡ l.initial.chain.tracks) × (l.reader.tracks ≡ l.initial.reader.tracks)

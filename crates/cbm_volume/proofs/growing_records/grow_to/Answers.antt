@@ -4,22 +4,11 @@ use Rattle.cbm_file.specs.Records.{sides_for}
 use Rattle.cbm_bam.specs.Map.{geometry_of}
 use Rattle.cbm_volume.specs.Growing.{HasGrown, IsGrowthStopped}
 use Rattle.cbm_volume.proofs.CopySteps.{handed}
-use Rattle.cbm_volume.proofs.GrowingEnds.{last_has, told_ends}
+use Rattle.cbm_volume.proofs.GrowingEnds.{told_ends}
 use Rattle.cbm_volume.proofs.GrowingJoined.{BlocksBy}
 use Rattle.cbm_volume.proofs.GrowingLists.{stop_later}
 use Rattle.cbm_volume.proofs.GrowthBegun.{sides_room, sides_twice}
 use Rattle.cbm_volume.proofs.growing_records.grow_to.Goals as goal
-
--- the last block is one of the disk
-pub returns-then-track-tracks-clause-grown : goal.returns-then-track-tracks-clause-grown
-returns-then-track-tracks-clause-grown g c = λ d uses w rs o is free.
-    let old : Seen = g.M.Medium.seen c.args.medium.now in
-    let mid : Seen = g.M.Medium.seen c.begin_growth.new.medium in
-    let only = c.in_ok-from.ensures.only in
-    let begun = (c.in_ok-from.ensures.begun c.args.slot d uses w rs o is (sides_room c.args.extent.sides c.args.extent.blocks c.args.blocks d.free c.requires.blocks.1 free)).1 in
-    let has = last_has old mid mid d uses c.args.slot w c.args.extent.blocks c.args.extent.sides rs o c.args.file c.args.extent.blocks c.in_ok-from.from.sides c.in_ok-from.from.last begun only.tracks only.protected only.counted in
-    let same : c.geometry-geometry.result ≡ geometry_of old.tracks old.content = subst (λ (m : ℕ). c.geometry-geometry.result ≡ geometry_of m mid.content) only.tracks c.geometry-geometry.ensures.value ∙ begun.same in
-    absurd (omega (arith, has.1, same, c.if-track-tracks.true, c.tracks.ensures.value, c.track.ensures.value))
 
 -- a write of a block was refused
 pub returns-in_err-reach-clause-grown : goal.returns-in_err-reach-clause-grown
@@ -30,10 +19,10 @@ returns-in_err-reach-clause-grown g c = λ d uses w rs o is free.
     let only = c.in_ok-from.ensures.only in
     let b : ℕ = c.args.extent.blocks in
     let s : ℕ = c.args.extent.sides in
-    let k = c.in_ok-from.ensures.begun c.args.slot d uses w rs o is (sides_room s b c.args.blocks d.free c.requires.blocks.1 free) in
+    let k = c.in_ok-from.ensures.begun c.args.slot c.geometry-geometry.ensures.value d uses w rs o is (sides_room s b c.args.blocks d.free c.requires.blocks.1 free) in
     let at : c.in_ok-from.from.blocks ≡ b = c.in_ok-from.ensures.bound.0 in
     let begun = subst (λ (m : ℕ). HasGrown old.tracks old.content d uses c.args.slot w b s rs o c.args.file mid.content m c.in_ok-from.from.sides c.in_ok-from.from.last) (sym at) k.1 in
-    let same : c.geometry-geometry.result ≡ geometry_of old.tracks old.content = subst (λ (m : ℕ). c.geometry-geometry.result ≡ geometry_of m mid.content) only.tracks c.geometry-geometry.ensures.value ∙ begun.same in
+    let same : c.geometry-geometry.result ≡ geometry_of old.tracks old.content = c.geometry-geometry.ensures.value in
     let all : c.args.blocks ≡ c.in_ok-from.from.blocks + (c.args.blocks - b) = omega (arith, c.requires.blocks.1, at) in
     let twice : sides_for c.in_ok-from.from.sides c.args.blocks ≡ sides_for s c.args.blocks = ap (λ (m : ℕ). sides_for m c.args.blocks) k.0 ∙ sides_twice s b c.args.blocks c.requires.blocks.1 in
     let free2 : c.args.blocks + sides_for c.in_ok-from.from.sides c.args.blocks - (b + s) ≤ d.free = subst (λ (m : ℕ). c.args.blocks + m - (b + s) ≤ d.free) (sym twice) free in
@@ -52,10 +41,10 @@ returns-clause-grown g c = λ d uses w rs o is free.
     let then = c.in_ok-reach.ensures.only in
     let b : ℕ = c.args.extent.blocks in
     let s : ℕ = c.args.extent.sides in
-    let k = c.in_ok-from.ensures.begun c.args.slot d uses w rs o is (sides_room s b c.args.blocks d.free c.requires.blocks.1 free) in
+    let k = c.in_ok-from.ensures.begun c.args.slot c.geometry-geometry.ensures.value d uses w rs o is (sides_room s b c.args.blocks d.free c.requires.blocks.1 free) in
     let at : c.in_ok-from.from.blocks ≡ b = c.in_ok-from.ensures.bound.0 in
     let begun = subst (λ (m : ℕ). HasGrown old.tracks old.content d uses c.args.slot w b s rs o c.args.file one.content m c.in_ok-from.from.sides c.in_ok-from.from.last) (sym at) k.1 in
-    let same : c.geometry-geometry.result ≡ geometry_of old.tracks old.content = subst (λ (m : ℕ). c.geometry-geometry.result ≡ geometry_of m one.content) first.tracks c.geometry-geometry.ensures.value ∙ begun.same in
+    let same : c.geometry-geometry.result ≡ geometry_of old.tracks old.content = c.geometry-geometry.ensures.value in
     let all : c.args.blocks ≡ c.in_ok-from.from.blocks + (c.args.blocks - b) = omega (arith, c.requires.blocks.1, at) in
     let twice : sides_for c.in_ok-from.from.sides c.args.blocks ≡ sides_for s c.args.blocks = ap (λ (m : ℕ). sides_for m c.args.blocks) k.0 ∙ sides_twice s b c.args.blocks c.requires.blocks.1 in
     let free2 : c.args.blocks + sides_for c.in_ok-from.from.sides c.args.blocks - (b + s) ≤ d.free = subst (λ (m : ℕ). c.args.blocks + m - (b + s) ≤ d.free) (sym twice) free in
@@ -63,5 +52,6 @@ returns-clause-grown g c = λ d uses w rs o is free.
     old.content d uses c.args.slot w b s rs o same begun (subst (λ (j : ℕ). j + sides_for c.in_ok-from.from.sides j - (b + s) ≤ d.free) all free2) in
     let here = subst (λ (j : ℕ). HasGrown old.tracks old.content d uses c.args.slot w b s rs o c.args.file mid.content j c.in_ok-reach.reach.sides c.in_ok-reach.reach.last) (sym all) grown.1 in
     let sides : c.in_ok-reach.reach.sides ≡ sides_for s c.args.blocks = grown.0 ∙ ap (sides_for c.in_ok-from.from.sides) (sym all) ∙ twice in
+    let sized : c.geometry-geometry.result ≡ geometry_of mid.tracks mid.content = same ∙ sym here.same ∙ ap (λ (m : ℕ). geometry_of m mid.content) (sym (then.tracks ∙ first.tracks)) in
     told_ends old mid new d uses c.args.slot w b s rs o c.args.file c.args.blocks c.in_ok-reach.reach.sides c.in_ok-reach.reach.last here (then.tracks ∙ first.tracks) (then.protected ∙ first.protected) (omega (arith, first.counted, then.counted))
-    c.tell_blocks.result (c.in_ok-reach.reach.blocks + c.in_ok-reach.reach.sides) (omega (arith, all, c.in_ok-reach.ensures.bound.0)) sides c.tell_blocks.ensures.told c.tell_blocks.ensures.elsewhere
+    c.tell_blocks.result (c.in_ok-reach.reach.blocks + c.in_ok-reach.reach.sides) (omega (arith, all, c.in_ok-reach.ensures.bound.0)) sides (c.tell_blocks.ensures.told sized) (c.tell_blocks.ensures.elsewhere sized)

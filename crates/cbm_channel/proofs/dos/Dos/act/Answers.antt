@@ -9,7 +9,7 @@ use Rattle.cbm_channel.specs.Planned.{IsOpened}
 use Rattle.cbm_channel.proofs.Stores.{renamed}
 use Rattle.cbm_channel.proofs.Opens.{opened_stands, opened_cut, idle_at}
 use Rattle.cbm_channel.proofs.Refused.{not_refused, refused_26}
-use Rattle.cbm_channel.proofs.Counted.{counted_told}
+use Rattle.cbm_channel.proofs.Counted.{counted_else}
 use Rattle.cbm_channel.proofs.dos.Dos.act.Goals as goal
 
 -- the channel was opened
@@ -53,4 +53,4 @@ returns-in-Err-clause-spared g c = λ free is.
 
 pub returns-in-Err-clause-counted : goal.returns-in-Err-clause-counted
 returns-in-Err-clause-counted g c =
-    counted_told g.M.Medium.seen c.args.self.now c.set.new.self c.args.self.now.medium c.opened.new.self.medium refl c.set.ensures.medium c.opened.result c.in-Err.trouble c.in-Err.is c.opened.ensures.medium (ap (λ x. x.status) c.set.ensures.told ∙ c.from.ensures)
+    counted_else g.M.Medium.seen c.args.self.now c.set.new.self c.args.self.now.medium c.opened.new.self.medium refl c.set.ensures.medium c.opened.result c.in-Err.trouble c.in-Err.is c.opened.ensures.medium (ap (λ x. x.status) c.set.ensures.told ∙ c.from.ensures)

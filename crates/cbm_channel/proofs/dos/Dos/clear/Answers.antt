@@ -3,7 +3,7 @@ use Rattle.cbm_medium.specs.Seen.{Seen}
 use Rattle.cbm_volume.specs.Opens.{IsHindered}
 use Rattle.cbm_channel.specs.Commanded.{all_scratched}
 use Rattle.cbm_channel.specs.Standing.{uses_of}
-use Rattle.cbm_medium.proofs.Sequences.{only_nothing, only_more}
+use Rattle.cbm_channel.proofs.Elses.{only_else, else_nothing, else_more}
 use Rattle.cbm_channel.proofs.DiskSteps.{refused_then, fits_same}
 use Rattle.cbm_channel.proofs.Opens.{on_err, failed_by}
 use Rattle.cbm_channel.proofs.Scratches.{IsClearing, clearing_first, clearing_next, clearing_stopped, clearing_hindered, clearing_done, next_left}
@@ -17,7 +17,7 @@ slots-init g c =
     let vol = ap (λ k. k.medium) c.self.view_is in (
       (λ m st can. subst (λ x. IsClearing (g.M.Medium.seen old.medium).tracks (g.M.Medium.seen x).content (uses_of old.channels m.channels) m.disk (all_scratched m.disk c.args.slots.now) c.args.slots.now) (sym vol)
           (clearing_first _ _ _ m.disk c.args.slots.now st.holds can)),
-      only_nothing (Ok tt) _ _ (ap g.M.Medium.seen vol) tt,
+      else_nothing (Ok tt) _ _ (ap g.M.Medium.seen vol) tt,
       c.self.view_is ∙ ap (λ v. record old { medium = v }) (sym vol),
     )
 
@@ -51,7 +51,7 @@ pub returns-in_err-scratch-clause-count : goal.returns-in_err-scratch-clause-cou
 returns-in_err-scratch-clause-count g c = (invariant_of-self-in_err-scratch g c).count
 
 pub returns-in_err-scratch-clause-medium : goal.returns-in_err-scratch-clause-medium
-returns-in_err-scratch-clause-medium g c = refused_then c.in_err-scratch.field-0.0 c.from_residual.result _ _ _ c.from_residual.ensures.1 c.slots.invariant.1 c.in_err-scratch.ensures.only
+returns-in_err-scratch-clause-medium g c = refused_then c.in_err-scratch.field-0.0 c.from_residual.result _ _ _ c.from_residual.ensures.1 c.slots.invariant.1 (only_else _ _ _ c.in_err-scratch.ensures.only)
 
 pub slots-preserved : goal.slots-preserved
 slots-preserved g c =
@@ -59,7 +59,7 @@ slots-preserved g c =
       (λ m st can.
           let h = next_left _ _ _ m.disk (all_scratched m.disk c.args.slots.now) c.args.slots.now c.slots.slot-index c.slots-test.true (c.slots.invariant.0 m st can) in
           clearing_next _ _ (g.M.Medium.seen c.scratch.new.self).content (uses_of old.channels m.channels) m.disk (all_scratched m.disk c.args.slots.now) _ _ h (g.M.Medium.seen c.slots.self-inside.volume).tracks c.slots.invariant.1.tracks (λ d us f h at unused. (c.in_ok-scratch.ensures.call d us h f at unused).done)),
-      only_more c.in_ok-scratch.field-0 _ _ _ c.slots.invariant.1 c.in_ok-scratch.ensures.only,
+      else_more c.in_ok-scratch.field-0 _ _ _ c.slots.invariant.1 (only_else _ _ _ c.in_ok-scratch.ensures.only),
       (λ i. record (c.slots.invariant.2 i) { medium = c.scratch.new.self }),
     )
 

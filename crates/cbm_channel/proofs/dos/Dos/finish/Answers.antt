@@ -6,7 +6,7 @@ use Rattle.cbm_machine.specs.Closing.{finish_channel}
 use Rattle.cbm_channel.specs.Standing.{uses_of, StandsBy}
 use Rattle.cbm_channel.proofs.Stands.{stood, stands_at, use_at}
 use Rattle.cbm_channel.proofs.Stores.{finish_done, finish_cut, has_failed, renamed}
-use Rattle.cbm_channel.proofs.Counted.{counted_told}
+use Rattle.cbm_channel.proofs.Counted.{counted_else}
 use Rattle.cbm_channel.proofs.dos.Dos.finish.Goals as goal
 
 pub returns-in_default-clause-goes : goal.returns-in_default-clause-goes
@@ -44,4 +44,4 @@ returns-in-Err-clause-goes g c = λ m s.
 
 pub returns-in-Err-clause-counted : goal.returns-in-Err-clause-counted
 returns-in-Err-clause-counted g c =
-    counted_told g.M.Medium.seen c.args.self.now c.set.new.self c.self.inside.volume c.finish.new.volume (ap (λ k. k.medium) c.self.view_is) c.set.ensures.medium c.finish.result c.in-Err.trouble c.in-Err.is c.finish.ensures.only (ap (λ x. x.status) c.set.ensures.told ∙ c.from.ensures)
+    counted_else g.M.Medium.seen c.args.self.now c.set.new.self c.self.inside.volume c.finish.new.volume (ap (λ k. k.medium) c.self.view_is) c.set.ensures.medium c.finish.result c.in-Err.trouble c.in-Err.is c.finish.ensures.only (ap (λ x. x.status) c.set.ensures.told ∙ c.from.ensures)

@@ -2,7 +2,7 @@ use Rattle.std.proofs.Common.{◌≡◌, [], refl, sym, ap, ◌∙◌, subst}
 use Rattle.std.specs.Prelude.{Some, false, true, Ok, replicate}
 use Rattle.std.proofs.lemmas.Result.{err_from_is_err_and}
 use Rattle.cbm_medium.specs.Place.{sector_count}
-use Rattle.cbm_medium.proofs.Sequences.{only_nothing}
+use Rattle.cbm_channel.proofs.Elses.{else_nothing}
 use Rattle.cbm_medium.specs.Seen.{HasFailed}
 use Rattle.cbm_file.specs.Files.{Records, bytes_in, record_length_in, file_at}
 use Rattle.cbm_file.specs.Padding.{before_filler}
@@ -238,7 +238,7 @@ pub returns-in_err-list-in-ReadListing-clause-medium : goal.returns-in_err-list-
 returns-in_err-list-in-ReadListing-clause-medium g c =
     let now = g.M.Medium.seen c.args.self.now.medium in
     let p = err_from_is_err_and c.from_residual.result c.from_residual.ensures.1 in
-    only_nothing c.from_residual.result now now (λ i. now)
+    else_nothing c.from_residual.result now now (λ i. now)
     (rw (p.1, p.2) (λ is. absurd (shown_never_26 (geometry_of (g.M.Medium.seen c.self.inside.volume).tracks (g.M.Medium.seen c.self.inside.volume).content) (g.M.Medium.seen c.self.inside.volume).content c.in_err-list-in-ReadListing.field-0.0
     (λ q. g.met.M.Medium.codes c.self.inside.volume q) c.in_err-list-in-ReadListing.ensures.shown is)))
 
@@ -249,7 +249,7 @@ returns-in_err-reader-in-ReadFile-clause-medium g c =
     let tracks = geometry_of volume.tracks volume.content in
     let p = err_from_is_err_and c.from_residual-in_err-reader-in-ReadFile.result c.from_residual-in_err-reader-in-ReadFile.ensures.1 in
     let broken = broken_at_once tracks volume.content (sector_count tracks) (first_block c.in-ReadFile.found.entry) c.in_err-reader-in-ReadFile.field-0.0 c.in_err-reader-in-ReadFile.ensures.err in
-    only_nothing c.from_residual-in_err-reader-in-ReadFile.result now now (λ i. now)
+    else_nothing c.from_residual-in_err-reader-in-ReadFile.result now now (λ i. now)
     (rw (p.1, p.2) (λ is. absurd (followed_never_26 tracks volume.content (sector_count tracks) (first_block c.in-ReadFile.found.entry) c.in_err-reader-in-ReadFile.field-0.0 (λ q. g.met.M.Medium.codes c.self.inside.volume q) broken is)))
 
 pub returns-in_err-open_records-in-OpenRecords-clause-medium : goal.returns-in_err-open_records-in-OpenRecords-clause-medium
@@ -257,6 +257,6 @@ returns-in_err-open_records-in-OpenRecords-clause-medium g c =
     let now = g.M.Medium.seen c.args.self.now.medium in
     let volume = g.M.Medium.seen c.self.inside.volume in
     let p = err_from_is_err_and c.from_residual-in_err-open_records-in-OpenRecords.result c.from_residual-in_err-open_records-in-OpenRecords.ensures.1 in
-    only_nothing c.from_residual-in_err-open_records-in-OpenRecords.result now now (λ i. now)
+    else_nothing c.from_residual-in_err-open_records-in-OpenRecords.result now now (λ i. now)
     (rw (p.1, p.2) (λ is. absurd (opening_never_26 (geometry_of volume.tracks volume.content) volume.content c.in-OpenRecords.found.entry c.in_err-open_records-in-OpenRecords.field-0.0
     (λ q. g.met.M.Medium.codes c.self.inside.volume q) c.in_err-open_records-in-OpenRecords.ensures.cause is)))

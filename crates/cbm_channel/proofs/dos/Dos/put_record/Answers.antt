@@ -6,7 +6,7 @@ use Rattle.cbm_channel.proofs.RecordEnds.{PutsRecord, records_or_not, put_done, 
 use Rattle.cbm_channel.specs.Shown.{has_records}
 use Rattle.cbm_channel.proofs.Stands.{stood}
 use Rattle.cbm_channel.proofs.Stores.{renamed}
-use Rattle.cbm_channel.proofs.Counted.{counted_told}
+use Rattle.cbm_channel.proofs.Counted.{counted_else}
 use Rattle.cbm_channel.proofs.dos.Dos.put_record.Goals as goal
 
 -- all bytes were written, or the channel has no records
@@ -67,4 +67,4 @@ returns-in-Err-clause-goes g c = λ m text s first.
 
 pub returns-in-Err-clause-counted : goal.returns-in-Err-clause-counted
 returns-in-Err-clause-counted g c =
-    counted_told g.M.Medium.seen c.args.self.now c.set.new.self c.self.inside.volume c.put_record.new.volume (ap (λ k. k.medium) c.self.view_is) c.set.ensures.medium c.put_record.result c.in-Err.trouble c.in-Err.is c.put_record.ensures.medium (ap (λ x. x.status) c.set.ensures.told ∙ c.from.ensures)
+    counted_else g.M.Medium.seen c.args.self.now c.set.new.self c.self.inside.volume c.put_record.new.volume (ap (λ k. k.medium) c.self.view_is) c.set.ensures.medium c.put_record.result c.in-Err.trouble c.in-Err.is c.put_record.ensures.medium (ap (λ x. x.status) c.set.ensures.told ∙ c.from.ensures)

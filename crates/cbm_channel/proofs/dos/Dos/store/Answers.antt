@@ -7,7 +7,7 @@ use Rattle.cbm_channel.specs.Going.{put_written}
 use Rattle.cbm_channel.proofs.BytesPut.{IsPut}
 use Rattle.cbm_channel.proofs.Stands.{stood, stands_at, waits_at, use_at}
 use Rattle.cbm_channel.proofs.Stores.{put_waits, put_stored, put_refused, put_cut, has_failed, renamed}
-use Rattle.cbm_channel.proofs.Counted.{counted_told}
+use Rattle.cbm_channel.proofs.Counted.{counted_else}
 use Rattle.cbm_channel.proofs.dos.Dos.store.Goals as goal
 
 -- the byte is stored, or dropped
@@ -59,4 +59,4 @@ returns-in-Err-clause-goes g c = λ m s.
 
 pub returns-in-Err-clause-counted : goal.returns-in-Err-clause-counted
 returns-in-Err-clause-counted g c =
-    counted_told g.M.Medium.seen c.args.self.now c.set.new.self c.self.inside.volume c.put.new.volume (ap (λ k. k.medium) c.self.view_is) c.set.ensures.medium c.put.result c.in-Err.trouble c.in-Err.is c.put.ensures.only (ap (λ x. x.status) c.set.ensures.told ∙ c.from.ensures)
+    counted_else g.M.Medium.seen c.args.self.now c.set.new.self c.self.inside.volume c.put.new.volume (ap (λ k. k.medium) c.self.view_is) c.set.ensures.medium c.put.result c.in-Err.trouble c.in-Err.is c.put.ensures.only (ap (λ x. x.status) c.set.ensures.told ∙ c.from.ensures)

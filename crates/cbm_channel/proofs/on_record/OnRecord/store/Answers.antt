@@ -2,7 +2,7 @@ use Rattle.std.proofs.Common.{rules, ◌≡◌, ◌∙◌, ap, sym, subst, inl, 
 use Rattle.std.proofs.lemmas.Result.{err_from_is_err_and}
 use Rattle.std.specs.Prelude.{option_map, IsOkAnd}
 use Rattle.cbm_medium.specs.Seen.{Seen}
-use Rattle.cbm_medium.proofs.Sequences.{only_then, only_after, only_refused}
+use Rattle.cbm_channel.proofs.Elses.{else_then, else_after, else_refused}
 use Rattle.cbm_volume.proofs.CopySteps.{handed}
 use Rattle.cbm_channel.specs.Recorded.{IsTextCut}
 use Rattle.cbm_channel.proofs.Asked.{none_of}
@@ -92,26 +92,26 @@ returns-in-Some-2-clause-next g c = λ d uses b s rs can.
 pub returns-in_err-grow-clause-medium : goal.returns-in_err-grow-clause-medium
 returns-in_err-grow-clause-medium g c =
     let p = err_from_is_err_and c.from_residual-in_err-grow.result c.from_residual-in_err-grow.ensures.1 in
-    only_refused c.grow.result c.from_residual-in_err-grow.result p.0 (g.M.Medium.seen c.args.volume.now) (g.M.Medium.seen c.grow.new.volume) (c.in_err-grow.was ∙ ap Err (sym p.2)) p.1
-    (only_after c.write.result c.in_ok-written.field-0 c.grow.result (g.M.Medium.seen c.args.volume.now) (g.M.Medium.seen c.write.new.volume) (g.M.Medium.seen c.grow.new.volume) c.in_ok-written.was c.write.ensures.only c.grow.ensures.only)
+    else_refused c.grow.result c.from_residual-in_err-grow.result p.0 (g.M.Medium.seen c.args.volume.now) (g.M.Medium.seen c.grow.new.volume) (c.in_err-grow.was ∙ ap Err (sym p.2)) p.1
+    (else_after c.write.result c.in_ok-written.field-0 c.grow.result (g.M.Medium.seen c.args.volume.now) (g.M.Medium.seen c.write.new.volume) (g.M.Medium.seen c.grow.new.volume) c.in_ok-written.was c.write.ensures.only c.grow.ensures.only)
 
 pub returns-then-not-branch-clause-medium : goal.returns-then-not-branch-clause-medium
-returns-then-not-branch-clause-medium g c = only_then c.grow.result _ c.in_ok-grow.field-0 (g.M.Medium.seen c.args.volume.now) (g.M.Medium.seen c.grow.new.volume) c.in_ok-grow.was
-    (only_after c.write.result c.in_ok-written.field-0 c.grow.result (g.M.Medium.seen c.args.volume.now) (g.M.Medium.seen c.write.new.volume) (g.M.Medium.seen c.grow.new.volume) c.in_ok-written.was c.write.ensures.only c.grow.ensures.only) tt
+returns-then-not-branch-clause-medium g c = else_then c.grow.result _ c.in_ok-grow.field-0 (g.M.Medium.seen c.args.volume.now) (g.M.Medium.seen c.grow.new.volume) c.in_ok-grow.was
+    (else_after c.write.result c.in_ok-written.field-0 c.grow.result (g.M.Medium.seen c.args.volume.now) (g.M.Medium.seen c.write.new.volume) (g.M.Medium.seen c.grow.new.volume) c.in_ok-written.was c.write.ensures.only c.grow.ensures.only) tt
 
 pub returns-in_err-written-2-clause-medium : goal.returns-in_err-written-2-clause-medium
 returns-in_err-written-2-clause-medium g c =
     let p = err_from_is_err_and c.from_residual-in_err-written-2.result c.from_residual-in_err-written-2.ensures.1 in
-    only_refused c.write-2.result c.from_residual-in_err-written-2.result p.0 (g.M.Medium.seen c.args.volume.now) (g.M.Medium.seen c.write-2.new.volume) (c.in_err-written-2.was ∙ ap Err (sym p.2)) p.1
-    (only_after c.grow.result c.in_ok-grow.field-0 c.write-2.result (g.M.Medium.seen c.args.volume.now) (g.M.Medium.seen c.grow.new.volume) (g.M.Medium.seen c.write-2.new.volume) c.in_ok-grow.was
-    (only_after c.write.result c.in_ok-written.field-0 c.grow.result (g.M.Medium.seen c.args.volume.now) (g.M.Medium.seen c.write.new.volume) (g.M.Medium.seen c.grow.new.volume) c.in_ok-written.was c.write.ensures.only c.grow.ensures.only) c.write-2.ensures.only)
+    else_refused c.write-2.result c.from_residual-in_err-written-2.result p.0 (g.M.Medium.seen c.args.volume.now) (g.M.Medium.seen c.write-2.new.volume) (c.in_err-written-2.was ∙ ap Err (sym p.2)) p.1
+    (else_after c.grow.result c.in_ok-grow.field-0 c.write-2.result (g.M.Medium.seen c.args.volume.now) (g.M.Medium.seen c.grow.new.volume) (g.M.Medium.seen c.write-2.new.volume) c.in_ok-grow.was
+    (else_after c.write.result c.in_ok-written.field-0 c.grow.result (g.M.Medium.seen c.args.volume.now) (g.M.Medium.seen c.write.new.volume) (g.M.Medium.seen c.grow.new.volume) c.in_ok-written.was c.write.ensures.only c.grow.ensures.only) c.write-2.ensures.only)
 
 pub returns-in-Some-2-clause-medium : goal.returns-in-Some-2-clause-medium
-returns-in-Some-2-clause-medium g c = only_then c.write-2.result _ c.in_ok-written-2.field-0 (g.M.Medium.seen c.args.volume.now) (g.M.Medium.seen c.write-2.new.volume) c.in_ok-written-2.was
-    (only_after c.grow.result c.in_ok-grow.field-0 c.write-2.result (g.M.Medium.seen c.args.volume.now) (g.M.Medium.seen c.grow.new.volume) (g.M.Medium.seen c.write-2.new.volume) c.in_ok-grow.was
-    (only_after c.write.result c.in_ok-written.field-0 c.grow.result (g.M.Medium.seen c.args.volume.now) (g.M.Medium.seen c.write.new.volume) (g.M.Medium.seen c.grow.new.volume) c.in_ok-written.was c.write.ensures.only c.grow.ensures.only) c.write-2.ensures.only) tt
+returns-in-Some-2-clause-medium g c = else_then c.write-2.result _ c.in_ok-written-2.field-0 (g.M.Medium.seen c.args.volume.now) (g.M.Medium.seen c.write-2.new.volume) c.in_ok-written-2.was
+    (else_after c.grow.result c.in_ok-grow.field-0 c.write-2.result (g.M.Medium.seen c.args.volume.now) (g.M.Medium.seen c.grow.new.volume) (g.M.Medium.seen c.write-2.new.volume) c.in_ok-grow.was
+    (else_after c.write.result c.in_ok-written.field-0 c.grow.result (g.M.Medium.seen c.args.volume.now) (g.M.Medium.seen c.write.new.volume) (g.M.Medium.seen c.grow.new.volume) c.in_ok-written.was c.write.ensures.only c.grow.ensures.only) c.write-2.ensures.only) tt
 
 pub returns-in-None-clause-medium : goal.returns-in-None-clause-medium
-returns-in-None-clause-medium g c = only_then c.write-2.result _ c.in_ok-written-2.field-0 (g.M.Medium.seen c.args.volume.now) (g.M.Medium.seen c.write-2.new.volume) c.in_ok-written-2.was
-    (only_after c.grow.result c.in_ok-grow.field-0 c.write-2.result (g.M.Medium.seen c.args.volume.now) (g.M.Medium.seen c.grow.new.volume) (g.M.Medium.seen c.write-2.new.volume) c.in_ok-grow.was
-    (only_after c.write.result c.in_ok-written.field-0 c.grow.result (g.M.Medium.seen c.args.volume.now) (g.M.Medium.seen c.write.new.volume) (g.M.Medium.seen c.grow.new.volume) c.in_ok-written.was c.write.ensures.only c.grow.ensures.only) c.write-2.ensures.only) (search rules)
+returns-in-None-clause-medium g c = else_then c.write-2.result _ c.in_ok-written-2.field-0 (g.M.Medium.seen c.args.volume.now) (g.M.Medium.seen c.write-2.new.volume) c.in_ok-written-2.was
+    (else_after c.grow.result c.in_ok-grow.field-0 c.write-2.result (g.M.Medium.seen c.args.volume.now) (g.M.Medium.seen c.grow.new.volume) (g.M.Medium.seen c.write-2.new.volume) c.in_ok-grow.was
+    (else_after c.write.result c.in_ok-written.field-0 c.grow.result (g.M.Medium.seen c.args.volume.now) (g.M.Medium.seen c.write.new.volume) (g.M.Medium.seen c.grow.new.volume) c.in_ok-written.was c.write.ensures.only c.grow.ensures.only) c.write-2.ensures.only) (search rules)

@@ -7,6 +7,7 @@ use Rattle.cbm_file.specs.Files.{Disk}
 use Rattle.cbm_bam.specs.Map.{geometry_of}
 use Rattle.cbm_volume.specs.Opens.{IsHindered}
 use Rattle.cbm_volume.specs.Writers.{Use, HoldsNow}
+use Rattle.cbm_volume.proofs.OnDisks.{of_tracks}
 use Rattle.cbm_volume.proofs.Hindered.{claim_hindered}
 use Rattle.cbm_volume.proofs.ReplacementBegun.{ChainBegins, chain_begins, replacement, replacement_refused}
 use Rattle.cbm_volume.proofs.Sparing.{same_untouched, claim_untouched}
@@ -64,5 +65,6 @@ returns-clause-call g c = λ d uses h.
 pub returns-in_err-chain-clause-only : goal.returns-in_err-chain-clause-only
 returns-in_err-chain-clause-only g c =
     let p = err_from_is_err_and c.from_residual.result c.from_residual.ensures.1 in
-    only_refused c.begin.result c.from_residual.result p.0 (g.M.Medium.seen c.args.self.now) (g.M.Medium.seen c.begin.new.medium) (c.in_err-chain.was ∙ ap Err (sym p.2)) p.1
-    (subst (λ (x : Seen). OnlyContent c.begin.result x (g.M.Medium.seen c.begin.new.medium)) (ap (λ m. g.M.Medium.seen m) c.self.view_is) c.begin.ensures.only)
+    of_tracks c.geometry-geometry.result c.from_residual.result (g.M.Medium.seen c.args.self.now) (g.M.Medium.seen c.begin.new.medium) c.geometry-geometry.ensures.value
+    (only_refused c.begin.result c.from_residual.result p.0 (g.M.Medium.seen c.args.self.now) (g.M.Medium.seen c.begin.new.medium) (c.in_err-chain.was ∙ ap Err (sym p.2)) p.1
+    (subst (λ (x : Seen). OnlyContent c.geometry-geometry.result c.begin.result x (g.M.Medium.seen c.begin.new.medium)) (ap (λ m. g.M.Medium.seen m) c.self.view_is) c.begin.ensures.only))

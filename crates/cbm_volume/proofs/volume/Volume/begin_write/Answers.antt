@@ -15,6 +15,7 @@ use Rattle.cbm_directory.specs.Empties.{TakesSlot, SlotStopped, IsSlotRefused}
 use Rattle.cbm_medium.proofs.Sequences.{only_then, only_after, only_refused}
 use Rattle.cbm_volume.specs.Opens.{Begins}
 use Rattle.cbm_volume.specs.Writers.{Filling, Use, HoldsNow}
+use Rattle.cbm_volume.proofs.OnDisks.{of_tracks}
 use Rattle.cbm_volume.proofs.Finishing.{on_err}
 use Rattle.cbm_volume.proofs.Refusals.{sector_hindered, hindered_since, sector_reads}
 use Rattle.cbm_volume.proofs.HinderedOpens.{slot_hinders}
@@ -192,25 +193,27 @@ returns-clause-call g c = λ d uses h.
 pub returns-in_err-slot-clause-only : goal.returns-in_err-slot-clause-only
 returns-in_err-slot-clause-only g c =
     let p = err_from_is_err_and c.from_residual-in_err-slot.result c.from_residual-in_err-slot.ensures.1 in
-    only_refused c.empty_slot.result c.from_residual-in_err-slot.result p.0 (g.M.Medium.seen c.args.self.now) (g.M.Medium.seen c.empty_slot.new.medium) (c.in_err-slot.was ∙ ap Err (sym p.2)) p.1
-    (subst (λ (x : Seen). OnlyContent c.empty_slot.result x (g.M.Medium.seen c.empty_slot.new.medium)) (ap (λ m. g.M.Medium.seen m) c.self.view_is) c.empty_slot.ensures.only)
+    of_tracks c.geometry-geometry.result c.from_residual-in_err-slot.result (g.M.Medium.seen c.args.self.now) (g.M.Medium.seen c.empty_slot.new.medium) c.geometry-geometry.ensures.value
+    (only_refused c.empty_slot.result c.from_residual-in_err-slot.result p.0 (g.M.Medium.seen c.args.self.now) (g.M.Medium.seen c.empty_slot.new.medium) (c.in_err-slot.was ∙ ap Err (sym p.2)) p.1
+    (subst (λ (x : Seen). OnlyContent c.geometry-geometry.result c.empty_slot.result x (g.M.Medium.seen c.empty_slot.new.medium)) (ap (λ m. g.M.Medium.seen m) c.self.view_is) c.empty_slot.ensures.only))
 
-claimed_none : (g : Over) (c : goal.After-from_residual-in_err-chain g) → OnlyContent c.begin.result (g.M.Medium.seen c.args.self.now) (g.M.Medium.seen c.begin.new.medium)
+claimed_none : (g : Over) (c : goal.After-from_residual-in_err-chain g) → OnlyContent c.geometry-geometry.result c.begin.result (g.M.Medium.seen c.args.self.now) (g.M.Medium.seen c.begin.new.medium)
 claimed_none g c =
     only_after c.empty_slot.result c.in_ok-slot.field-0 c.begin.result (g.M.Medium.seen c.args.self.now) (g.M.Medium.seen c.empty_slot.new.medium) (g.M.Medium.seen c.begin.new.medium) c.in_ok-slot.was
-    (subst (λ (x : Seen). OnlyContent c.empty_slot.result x (g.M.Medium.seen c.empty_slot.new.medium)) (ap (λ m. g.M.Medium.seen m) c.self.view_is) c.empty_slot.ensures.only) c.begin.ensures.only
+    (subst (λ (x : Seen). OnlyContent c.geometry-geometry.result c.empty_slot.result x (g.M.Medium.seen c.empty_slot.new.medium)) (ap (λ m. g.M.Medium.seen m) c.self.view_is) c.empty_slot.ensures.only) c.begin.ensures.only
 
 pub returns-in_err-chain-clause-only : goal.returns-in_err-chain-clause-only
 returns-in_err-chain-clause-only g c =
     let p = err_from_is_err_and c.from_residual-in_err-chain.result c.from_residual-in_err-chain.ensures.1 in
-    only_refused c.begin.result c.from_residual-in_err-chain.result p.0 (g.M.Medium.seen c.args.self.now) (g.M.Medium.seen c.begin.new.medium) (c.in_err-chain.was ∙ ap Err (sym p.2)) p.1 (claimed_none g c)
+    of_tracks c.geometry-geometry.result c.from_residual-in_err-chain.result (g.M.Medium.seen c.args.self.now) (g.M.Medium.seen c.begin.new.medium) c.geometry-geometry.ensures.value
+    (only_refused c.begin.result c.from_residual-in_err-chain.result p.0 (g.M.Medium.seen c.args.self.now) (g.M.Medium.seen c.begin.new.medium) (c.in_err-chain.was ∙ ap Err (sym p.2)) p.1 (claimed_none g c))
 
-claimed_refused : (g : Over) (c : goal.After-from_residual-in_err-put_slot g) → OnlyContent c.begin.result (g.M.Medium.seen c.args.self.now) (g.M.Medium.seen c.begin.new.medium)
+claimed_refused : (g : Over) (c : goal.After-from_residual-in_err-put_slot g) → OnlyContent c.geometry-geometry.result c.begin.result (g.M.Medium.seen c.args.self.now) (g.M.Medium.seen c.begin.new.medium)
 claimed_refused g c =
     only_after c.empty_slot.result c.in_ok-slot.field-0 c.begin.result (g.M.Medium.seen c.args.self.now) (g.M.Medium.seen c.empty_slot.new.medium) (g.M.Medium.seen c.begin.new.medium) c.in_ok-slot.was
-    (subst (λ (x : Seen). OnlyContent c.empty_slot.result x (g.M.Medium.seen c.empty_slot.new.medium)) (ap (λ m. g.M.Medium.seen m) c.self.view_is) c.empty_slot.ensures.only) c.begin.ensures.only
+    (subst (λ (x : Seen). OnlyContent c.geometry-geometry.result c.empty_slot.result x (g.M.Medium.seen c.empty_slot.new.medium)) (ap (λ m. g.M.Medium.seen m) c.self.view_is) c.empty_slot.ensures.only) c.begin.ensures.only
 
-put_refused : (g : Over) (c : goal.After-from_residual-in_err-put_slot g) → OnlyContent c.put_slot.result (g.M.Medium.seen c.args.self.now) (g.M.Medium.seen c.put_slot.new.medium)
+put_refused : (g : Over) (c : goal.After-from_residual-in_err-put_slot g) → OnlyContent c.geometry-geometry.result c.put_slot.result (g.M.Medium.seen c.args.self.now) (g.M.Medium.seen c.put_slot.new.medium)
 put_refused g c =
     only_after c.begin.result c.in_ok-chain.field-0 c.put_slot.result (g.M.Medium.seen c.args.self.now) (g.M.Medium.seen c.begin.new.medium) (g.M.Medium.seen c.put_slot.new.medium) c.in_ok-chain.was
     (claimed_refused g c) c.put_slot.ensures.only
@@ -218,21 +221,23 @@ put_refused g c =
 pub returns-in_err-put_slot-clause-only : goal.returns-in_err-put_slot-clause-only
 returns-in_err-put_slot-clause-only g c =
     let p = err_from_is_err_and c.from_residual-in_err-put_slot.result c.from_residual-in_err-put_slot.ensures.1 in
-    only_refused c.put_slot.result c.from_residual-in_err-put_slot.result p.0 (g.M.Medium.seen c.args.self.now) (g.M.Medium.seen c.put_slot.new.medium) (c.in_err-put_slot.was ∙ ap Err (sym p.2)) p.1 (put_refused g c)
+    of_tracks c.geometry-geometry.result c.from_residual-in_err-put_slot.result (g.M.Medium.seen c.args.self.now) (g.M.Medium.seen c.put_slot.new.medium) c.geometry-geometry.ensures.value
+    (only_refused c.put_slot.result c.from_residual-in_err-put_slot.result p.0 (g.M.Medium.seen c.args.self.now) (g.M.Medium.seen c.put_slot.new.medium) (c.in_err-put_slot.was ∙ ap Err (sym p.2)) p.1 (put_refused g c))
 
-claimed_entered : (g : Over) (c : goal.After-of_new g) → OnlyContent c.begin.result (g.M.Medium.seen c.args.self.now) (g.M.Medium.seen c.begin.new.medium)
+claimed_entered : (g : Over) (c : goal.After-of_new g) → OnlyContent c.geometry-geometry.result c.begin.result (g.M.Medium.seen c.args.self.now) (g.M.Medium.seen c.begin.new.medium)
 claimed_entered g c =
     only_after c.empty_slot.result c.in_ok-slot.field-0 c.begin.result (g.M.Medium.seen c.args.self.now) (g.M.Medium.seen c.empty_slot.new.medium) (g.M.Medium.seen c.begin.new.medium) c.in_ok-slot.was
-    (subst (λ (x : Seen). OnlyContent c.empty_slot.result x (g.M.Medium.seen c.empty_slot.new.medium)) (ap (λ m. g.M.Medium.seen m) c.self.view_is) c.empty_slot.ensures.only) c.begin.ensures.only
+    (subst (λ (x : Seen). OnlyContent c.geometry-geometry.result c.empty_slot.result x (g.M.Medium.seen c.empty_slot.new.medium)) (ap (λ m. g.M.Medium.seen m) c.self.view_is) c.empty_slot.ensures.only) c.begin.ensures.only
 
-put_entered : (g : Over) (c : goal.After-of_new g) → OnlyContent c.put_slot.result (g.M.Medium.seen c.args.self.now) (g.M.Medium.seen c.put_slot.new.medium)
+put_entered : (g : Over) (c : goal.After-of_new g) → OnlyContent c.geometry-geometry.result c.put_slot.result (g.M.Medium.seen c.args.self.now) (g.M.Medium.seen c.put_slot.new.medium)
 put_entered g c =
     only_after c.begin.result c.in_ok-chain.field-0 c.put_slot.result (g.M.Medium.seen c.args.self.now) (g.M.Medium.seen c.begin.new.medium) (g.M.Medium.seen c.put_slot.new.medium) c.in_ok-chain.was
     (claimed_entered g c) c.put_slot.ensures.only
 
 pub returns-clause-only : goal.returns-clause-only
 returns-clause-only g c =
-    only_then c.put_slot.result (Ok (Some c.of_new.result)) c.in_ok-put_slot.field-0 (g.M.Medium.seen c.args.self.now) (g.M.Medium.seen c.put_slot.new.medium) c.in_ok-put_slot.was (put_entered g c) tt
+    of_tracks c.geometry-geometry.result (Ok (Some c.of_new.result)) (g.M.Medium.seen c.args.self.now) (g.M.Medium.seen c.put_slot.new.medium) c.geometry-geometry.ensures.value
+    (only_then c.put_slot.result (Ok (Some c.of_new.result)) c.in_ok-put_slot.field-0 (g.M.Medium.seen c.args.self.now) (g.M.Medium.seen c.put_slot.new.medium) c.in_ok-put_slot.was (put_entered g c) tt)
 
 -- ---- on any disk
 

@@ -63,7 +63,7 @@ returns-clause-emptied g c =
 pub returns-in_default-clause-only : goal.returns-in_default-clause-only
 returns-in_default-clause-only g c =
     only_short c.write_new.result c.args.id (g.M.Medium.seen c.args.self.now) (g.M.Medium.seen c.write_new.new.medium) (no_id c.args.id c.in_default.not-Some)
-    (subst (λ (s : Seen). OnlyContent c.write_new.result s (g.M.Medium.seen c.write_new.new.medium)) (found g c) c.write_new.ensures.only)
+    (subst (λ (s : Seen). OnlyContent 18 c.write_new.result s (g.M.Medium.seen c.write_new.new.medium)) (found g c) c.write_new.ensures.only)
 
 pub returns-clause-only : goal.returns-clause-only
 returns-clause-only g c =

@@ -12,6 +12,7 @@ use Rattle.cbm_bam.specs.Map.{geometry_of}
 use Rattle.cbm_directory.specs.Entries.{first_directory, sector_of}
 use Rattle.cbm_directory.specs.Slots.{Answers, directory_of}
 use Rattle.cbm_directory.proofs.Codes.{directory_never_26}
+use Rattle.cbm_volume.proofs.OnDisks.{of_tracks}
 use Rattle.cbm_volume.proofs.Calls.{if_ok}
 use Rattle.cbm_volume.proofs.Finishing.{on_err}
 use Rattle.cbm_volume.proofs.Scratched.{EntryCleared, ClearingRefused, GivesAll, SlotEmpty, no_entry, no_slot, no_map, no_chain, entry_refused, open_scratched, is_scratched, scratched_ok, scratched_stopped, slot_hindered, map_hindered, chain_hindered, clearing_hindered, clearing_handed_on, release_hindered, nothing_written, clearing_spared, release_spared}
@@ -206,5 +207,6 @@ returns-in_err-entry-clause-only g c =
 
 pub returns-clause-only : goal.returns-clause-only
 returns-clause-only g c =
-    only_after c.clear_slot-2.result c.in_ok-clear_slot.field-0 c.write.result (g.M.Medium.seen c.args.self.now) (g.M.Medium.seen c.clear_slot-2.new.medium) (g.M.Medium.seen c.write.new.medium) c.in_ok-clear_slot.was
-    (subst (λ (s : Seen). OnlyContent c.clear_slot-2.result s (g.M.Medium.seen c.clear_slot-2.new.medium)) (ap (λ m. g.M.Medium.seen m) c.self.view_is) c.clear_slot-2.ensures.only) c.write.ensures.only
+    of_tracks c.geometry-geometry.result c.write.result (g.M.Medium.seen c.args.self.now) (g.M.Medium.seen c.write.new.medium) c.geometry-geometry.ensures.value
+    (only_after c.clear_slot-2.result c.in_ok-clear_slot.field-0 c.write.result (g.M.Medium.seen c.args.self.now) (g.M.Medium.seen c.clear_slot-2.new.medium) (g.M.Medium.seen c.write.new.medium) c.in_ok-clear_slot.was
+    (subst (λ (s : Seen). OnlyContent c.geometry-geometry.result c.clear_slot-2.result s (g.M.Medium.seen c.clear_slot-2.new.medium)) (ap (λ m. g.M.Medium.seen m) c.self.view_is) c.clear_slot-2.ensures.only) c.write.ensures.only)

@@ -8,6 +8,7 @@ use Rattle.cbm_volume.specs.Opens.{IsHindered}
 use Rattle.cbm_volume.specs.Views.{view_of}
 use Rattle.cbm_volume.specs.Sweeps.{IsDirectory, IsSwept, IsPutInOrder, IsPartlyInOrder}
 use Rattle.cbm_volume.specs.check.WholeDisk.{ClaimsInto}
+use Rattle.cbm_volume.proofs.OnDisks.{of_tracks}
 use Rattle.cbm_volume.proofs.Calls.{if_ok, match_on}
 use Rattle.cbm_volume.proofs.Finishing.{on_err}
 use Rattle.cbm_volume.proofs.SweptFiles.{none_swept, swept_spared, ends_spared}
@@ -152,5 +153,6 @@ returns-clause-refused g c = map_refused (g.M.Medium.seen c.args.self.now) (g.M.
 
 pub returns-clause-only : goal.returns-clause-only
 returns-clause-only g c =
-    only_after c.sweep.result c.in_ok-sweep.field-0 c.write_map.result (g.M.Medium.seen c.args.self.now) (g.M.Medium.seen c.sweep.new.medium) (g.M.Medium.seen c.write_map.new.medium) c.in_ok-sweep.was
-    (subst (λ (s : Seen). OnlyContent c.sweep.result s (g.M.Medium.seen c.sweep.new.medium)) (ap (λ m. g.M.Medium.seen m) c.self.view_is) c.sweep.ensures.only) c.write_map.ensures.only
+    of_tracks c.geometry-geometry.result c.write_map.result (g.M.Medium.seen c.args.self.now) (g.M.Medium.seen c.write_map.new.medium) c.geometry-geometry.ensures.value
+    (only_after c.sweep.result c.in_ok-sweep.field-0 c.write_map.result (g.M.Medium.seen c.args.self.now) (g.M.Medium.seen c.sweep.new.medium) (g.M.Medium.seen c.write_map.new.medium) c.in_ok-sweep.was
+    (subst (λ (s : Seen). OnlyContent c.geometry-geometry.result c.sweep.result s (g.M.Medium.seen c.sweep.new.medium)) (ap (λ m. g.M.Medium.seen m) c.self.view_is) c.sweep.ensures.only) c.write_map.ensures.only)
