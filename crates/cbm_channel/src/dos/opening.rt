@@ -10,41 +10,31 @@ use cbm_machine::{Code, Status};
 use cbm_volume::{Medium, Trouble};
 
 impl<M: Medium> Dos<M> {
-    ghost use Rattle.std.specs.Prelude.{◌≡◌, ◌≤◌, ◌<◌, ◌⊎◌, ◌==◌, ℕ, true, false, length, is_some, IfOk, IfErr, OnErr, IfSome, MatchOption, Ok, slice_index_or};
-    ghost use Rattle.cbm_medium.specs.Seen.{HasFailed};
+    ghost use Rattle.std.specs.Prelude.{◌≡◌, ◌≤◌, ◌<◌, ◌⊎◌, ◌==◌, true, false, length, is_some, IfOk, IfErr, IfSome, MatchOption, Ok, slice_index_or};
     ghost use Rattle.cbm_channel.specs.ChannelCalls.{KeepsElse};
-    ghost use Rattle.cbm_volume.specs.Map.{geometry_of};
-    ghost use Rattle.cbm_volume.specs.Writers.{Idle, Stopped};
     ghost use Rattle.cbm_machine.specs.declared.code.Code.TheVariants.{Fine};
     ghost use Rattle.cbm_machine.specs.Machines.{Machine, say};
     ghost use Rattle.cbm_machine.specs.Plans as plans;
     ghost use Rattle.cbm_channel.specs.declared.channel.Channel.TheVariants.{Closed};
-    ghost use Rattle.cbm_channel.specs.Grounds.{ShowsTrouble, HasTold, IsToldFor, IsFromDirectory, KeepsIfRefused, OrdersDisk};
-    ghost use Rattle.cbm_channel.specs.Standing.{Stands, SameBut, HaveSameFiles, Fits, uses_of};
-    ghost use Rattle.cbm_channel.specs.Going.{IsCounted, GoesFrom, WentFrom, opening_parts, KeepsMedium};
-    ghost use Rattle.cbm_channel.specs.Opening.{ClosesFirst};
+    ghost use Rattle.cbm_channel.specs.Grounds.{HasTold, IsFromDirectory, KeepsIfRefused, OrdersDisk};
+    ghost use Rattle.cbm_channel.specs.Standing.{Stands, SameBut, HaveSameFiles, Fits};
+    ghost use Rattle.cbm_channel.specs.Going.{IsCounted, WentFrom, KeepsMedium};
+    ghost use Rattle.cbm_channel.specs.Opening.{ClosesFirst, OpensFrom, OpensQuietly, IsClosedUnlessFine, OpensPlan, StopsPlan, ShowsWhy};
     ghost use Rattle.cbm_channel.specs.Shown.{is_writing_on};
-    ghost use Rattle.cbm_channel.specs.Commanded.{FormatsUnfailing, open_formats, open_validates, text_moves, AreSameBut};
-    ghost use Rattle.cbm_channel.specs.Planned.{PlannedAs, IsOfText, IsOpened, IsSized, is_for_writing, text_writes, plan_writes, disk_opened, begun_by};
+    ghost use Rattle.cbm_channel.specs.Commanded.{open_validates, text_moves, AreSameBut};
+    ghost use Rattle.cbm_channel.specs.Planned.{PlannedAs, IsOfText, IsSized, is_for_writing, plan_writes, begun_by};
 
     /// OPEN: on channel 15 the text is a command, on the others it names a file or asks for the listing. A channel that
     /// is open is closed first. A refusal becomes the status and leaves the channel closed.
     pub fn open(&mut self, channel: u8, text: &[u8])
         requires { channel ≤ 15 }
-        ensures goes { (m : Machine) → Stands M.seen self.old m →
-            FormatsUnfailing (open_formats channel text.now)
-            (HasFailed (M.seen self.old.medium) (M.seen self.new.medium)) →
-            GoesFrom M.seen self.old self.new (opening_parts channel text.now) m }
+        ensures goes { OpensFrom M.seen channel text.now self.old self.new }
         // On any disk:
         ensures others { channel < 15 → SameBut channel self.old.channels self.new.channels }
         ensures channels { channel ≡ 15 → HaveSameFiles self.old.channels self.new.channels }
         ensures places { channel ≡ 15 → AreSameBut (text_moves text.now) self.old.channels self.new.channels }
-        ensures refused { channel < 15 → (self.new.told.status.code ≡ Fine) ⊎
-            (slice_index_or self.new.channels channel Closed ≡ Closed) }
-        // What isn't for writing, on a channel that isn't written, leaves the medium as it is.
-        ensures quiet { is_writing_on channel self.old ≡ false →
-            text_writes channel text.now ≡ false →
-            IsToldFor M.seen self.old self.new × (self.new.medium ≡ self.old.medium) }
+        ensures refused { channel < 15 → IsClosedUnlessFine channel self.new }
+        ensures quiet { OpensQuietly M.seen channel text.now self.old self.new }
         // What is refused, on a channel that isn't written, has changed nothing of the disk.
         ensures spared { is_writing_on channel self.old ≡ false → KeepsIfRefused M.seen self.old self.new }
         // V leaves closed files as they are.
@@ -73,7 +63,7 @@ impl<M: Medium> Dos<M> {
             Stands M.seen self.old m → WentFrom M.seen self.old self.new channel (begun_by channel opening) m }
         ensures others { SameBut channel self.old.channels self.new.channels }
         ensures refused { slice_index_or self.old.channels channel Closed ≡ Closed →
-            (self.new.told.status.code ≡ Fine) ⊎ (slice_index_or self.new.channels channel Closed ≡ Closed) }
+            IsClosedUnlessFine channel self.new }
         ensures quiet { is_for_writing opening ≡ false →
             HasTold M.seen self.old self.new × (self.new.medium ≡ self.old.medium) }
         ensures spared { KeepsIfRefused M.seen self.old self.new }
@@ -119,20 +109,11 @@ impl<M: Medium> Dos<M> {
     fn opened(&mut self, plan: Plan) -> Result<Option<Channel>, Trouble>
         requires { IsSized plan }
         ensures fits { IfOk result (λ o. IfSome o (Fits (M.seen self.new.medium).tracks)) }
-        ensures opened { let old = M.seen self.old.medium in let new = M.seen self.new.medium in
-            (m : Machine) (p : plans.Plan) (ch : ℕ) → PlannedAs old.tracks old.content m (Ok p) (Ok plan) →
-            Stands M.seen self.old m → uses_of self.old.channels m.channels ch ≡ Idle →
-            IfOk result (IsOpened old.tracks new.content m ch p (uses_of self.old.channels m.channels)) }
-        ensures stopped { let old = M.seen self.old.medium in let new = M.seen self.new.medium in
-            (m : Machine) (p : plans.Plan) → PlannedAs old.tracks old.content m (Ok p) (Ok plan) →
-            Stands M.seen self.old m →
-            OnErr result (Stopped old.tracks new.content m.disk (disk_opened m.disk p)
-            (uses_of self.old.channels m.channels) × HasFailed old new) }
+        ensures opened { OpensPlan M.seen plan result self.old self.new }
+        ensures stopped { StopsPlan M.seen plan result self.old self.new }
         ensures quiet { plan_writes plan ≡ false →
             (self.new.medium ≡ self.old.medium) × IfOk result (λ o. is_some o ≡ true) }
-        ensures shown { let old = M.seen self.old.medium in plan_writes plan ≡ false →
-            IsFromDirectory M.seen self.old.medium plan →
-            IfErr result (ShowsTrouble (geometry_of old.tracks old.content) old.content) }
+        ensures shown { ShowsWhy M.seen plan result self.old.medium }
         ensures kept { IfOk result (λ o. MatchOption o
             ((M.seen self.new.medium).content ≡ (M.seen self.old.medium).content) (λ w. Unit {0})) }
         ensures guarded { (plan_writes plan ≡ true → (M.seen self.old.medium).protected ≡ false) → IfErr result

@@ -1,0 +1,24 @@
+-- A writer that needs a block: what becomes of it, and why it is refused.
+use Rattle.std.specs.Prelude.{ℕ, ◌≡◌, Bool, true, Option, Result, IfOk, IfErr, OnErr, MatchBool}
+use Rattle.cbm_medium.specs.Place.{Place}
+use Rattle.cbm_medium.specs.Seen.{Seen}
+use Rattle.cbm_medium.specs.declared.fault.Trouble.{Trouble}
+use Rattle.cbm_bam.specs.Map.{map_of}
+use Rattle.cbm_chain.specs.Writing.{State, IsForFiles, GoesOn, IsFullFor, IsStopped, IsRefusedFor, free_after}
+
+-- from a block of files, or from none, it goes on to one of its own, or no block is free
+abbrev pub GoesOnIfFree : Result Bool Trouble → Seen → Seen → Option Place → State → State → Type 0
+GoesOnIfFree result old new current s t =
+    IsForFiles s.tracks current → IfOk result (λ gone. MatchBool gone (GoesOn old.content new.content current s t) (IsFullFor old.content new.content s t))
+
+-- that is the first that is free in the order of search
+abbrev pub IsNextFree : Result Bool Trouble → Seen → Option Place → State → State → Type 0
+IsNextFree result old current s t = IfOk result (λ gone. gone ≡ true → t.current ≡ free_after s.tracks (map_of old.content) current)
+
+-- a refusal leaves the content as it was, or a block claimed
+abbrev pub StopsFor : Result Bool Trouble → Seen → Seen → ℕ → Option Place → Type 0
+StopsFor result old new tracks current = IsForFiles tracks current → OnErr result (IsStopped tracks old.content new.content)
+
+-- and has its cause
+abbrev pub IsHeldUp : Result Bool Trouble → Seen → Seen → ℕ → Option Place → Type 0
+IsHeldUp result old new tracks current = IsForFiles tracks current → IfErr result (λ t. IsRefusedFor old new current t.code)
