@@ -1,5 +1,5 @@
 -- What is promised of drives with disks under a host: the headline.
-use Rattle.std.specs.Prelude.{ℕ, ◌≡◌, ◌==◌, List, [], ◌∷◌, ◌++◌, map, if◌then◌else◌}
+use Rattle.std.specs.Prelude.{ℕ, ◌≡◌, ◌≤◌, ◌==◌, List, [], ◌∷◌, ◌++◌, map, if◌then◌else◌}
 use Rattle.std.specs.List.{AllZip}
 use Rattle.cbm_iec.specs.declared.event.Event.{Event}
 use Rattle.cbm_iec.specs.declared.line.Change.{Change}
@@ -15,7 +15,7 @@ use Rattle.cbm_session.specs.Timing.{HostKeeps}
 use Rattle.cbm_drive.specs.Cables.{Cabled}
 use Rattle.cbm_drive.specs.Desks.{Desk, DeskStands, desk_step, desk_says}
 use Rattle.cbm_drive.specs.Ordered.{host_changes}
-use Rattle.cbm_drive.specs.Seats.{Seated, IsBusAt}
+use Rattle.cbm_drive.specs.Seats.{Seated, failed, IsBusAt}
 
 -- the machine of the drive with this device number; that of a number that none of them has is as it was
 abbrev pub machines_now : List (Station (Desk Machine)) → (ℕ → Desk Machine) → ℕ → Desk Machine
@@ -30,6 +30,14 @@ module _ {M : Type 0} (seen : M → Seen) where
   -- each drive's medium is sound: these are the disks that they mean
   abbrev pub AreDisks : Cabled (Desk (Kept M)) → Type 0
   AreDisks b = (ds : List Disk) × AllZip (λ x d. HasDisk d x) b.drives ds
+
+  -- how often the media failed by themselves, all together
+  abbrev pub failures_on : Cabled (Desk (Kept M)) → ℕ
+  failures_on b = failed (λ x. (seen x.dos.medium).failures) b.drives
+
+  -- no medium failed by itself in between
+  abbrev pub HaveNotFailed : Cabled (Desk (Kept M)) → Cabled (Desk (Kept M)) → Type 0
+  HaveNotFailed old new = failures_on new ≤ failures_on old
 
   -- EACH DRIVE REPRESENTS its machine at this moment, in the order of these parties: it has a role, holds lines and waits as the station says.
   pub record AreAt (bs : List Party) (b : Cabled (Desk (Kept M))) (ss : List (Station (Desk Machine))) : Type 0 where

@@ -2,17 +2,17 @@
 ghost use Rattle.std.specs.Prelude.{◌≡◌};
 
 use cbm_drive::{Bus, Change, Desk, Drive, Event, PlayFault};
-use cbm_medium::Steady;
+use cbm_medium::Medium;
 use std::marker::Model;
 
 /// One to four drives, each with its disk, on one bus with a host. Of several whose reactions are due at one moment the one
 /// that is listed first answers first. With `AnyDisk` as its medium a D64 stands beside a G64.
 #[derive(Drop)]
-pub struct DiskBus<M: Steady, const N: usize> {
+pub struct DiskBus<M: Medium, const N: usize> {
     bus: Bus<Desk<M>, N>,
 }
 
-impl<M: Steady, const N: usize> Model for DiskBus<M, N> {
+impl<M: Medium, const N: usize> Model for DiskBus<M, N> {
     ghost use Rattle.cbm_channel.specs.Standing.{Kept};
     ghost use Rattle.cbm_drive.specs.Cables.{Cabled};
     ghost use Rattle.cbm_drive.specs.Desks as desks;
@@ -22,9 +22,9 @@ impl<M: Steady, const N: usize> Model for DiskBus<M, N> {
     ghost view = { λ b. b.bus };
 }
 
-impl<M: Steady, const N: usize> DiskBus<M, N> {
+impl<M: Medium, const N: usize> DiskBus<M, N> {
     ghost use Rattle.std.specs.Prelude.{◌≡◌, ◌↔◌, ◌^◌, ◌<◌, ◌≤◌, ℕ, true, List, length, Some, None, Err, OnOk, IfErr};
-    ghost use Rattle.cbm_bus.specs.Headline.{AreAt, AreDisks, HasPlayedFiles, machines_now};
+    ghost use Rattle.cbm_bus.specs.Headline.{AreAt, AreDisks, HasPlayedFiles, HaveNotFailed, failures_on, machines_now};
     ghost use Rattle.cbm_bus.specs.Powered.{ArePowered, IsAtRest};
     ghost use Rattle.cbm_drive.specs.Cables.{all_free};
     ghost use Rattle.cbm_drive.specs.Desks as desks;
@@ -70,7 +70,7 @@ impl<M: Steady, const N: usize> DiskBus<M, N> {
     ///
     /// Where the host keeps the timing of the bus, that is a beginning of a session in which each byte talked is the answer of
     /// its drive's machine of named files to the bytes sent, and no reaction is late. Whatever the host does, each disk is
-    /// sound afterwards, and is that machine's.
+    /// sound afterwards, and is that machine's. Both hold if no medium failed by itself in it (`HaveNotFailed`).
     ///
     /// Errors: the first change that goes back in time or comes after the end, and then nothing was played; or want of memory,
     /// before a step: the events are all that happened, and each disk is sound, too.
@@ -81,19 +81,23 @@ impl<M: Steady, const N: usize> DiskBus<M, N> {
         events: &mut Vec<Event>,
     ) -> Result<(), PlayFault>
         requires { end < 2 ^ 59 }
-        ensures headline { (bs : List Party) (ms : ℕ → desks.Desk Machine) → IsBus bs → IsAtRest M.seen bs ms self.old →
+        ensures headline { HaveNotFailed M.seen self.old self.new →
+            (bs : List Party) (ms : ℕ → desks.Desk Machine) → IsBus bs → IsAtRest M.seen bs ms self.old →
             fault_of 0 0 end changes.now ≡ None → OnOk result
             (HasPlayedFiles M.seen bs ms end changes.now self.new events.old.items events.new.items) }
-        ensures disks { (bs : List Party) (ms : ℕ → desks.Desk Machine) → IsAtRest M.seen bs ms self.old →
+        ensures disks { HaveNotFailed M.seen self.old self.new →
+            (bs : List Party) (ms : ℕ → desks.Desk Machine) → IsAtRest M.seen bs ms self.old →
             AreDisks M.seen self.new }
         // Whether or not the host keeps any timing:
-        ensures handed { (bs : List Party) (ms : ℕ → desks.Desk Machine) → AllUnlike bs → AllReact bs →
+        ensures handed { HaveNotFailed M.seen self.old self.new →
+            (bs : List Party) (ms : ℕ → desks.Desk Machine) → AllUnlike bs → AllReact bs →
             IsAtRest M.seen bs ms self.old → OnOk result
             (HasHanded (desks.Desk (Kept M)) (desks.Desk Machine) (desks.DeskStands M.seen) desks.desk_step
             desks.desk_says self.new.host end self.new.drives events.old.items events.new.items changes.now bs ms) }
         ensures fault { (f : PlayFault) → fault_of 0 0 end changes.now ≡ Some f →
             (result ≡ Err f) × (self.new ≡ self.old) × (events.new ≡ events.old) }
         ensures memory { fault_of 0 0 end changes.now ≡ None → IfErr result (λ f. f ≡ Memory) }
+        ensures counted { failures_on M.seen self.old ≤ failures_on M.seen self.new }
     {
         self.bus.play(changes, end, events)
     }

@@ -7,11 +7,11 @@ ghost use Rattle.cbm_machine.specs.Machines.{Machine};
 ghost use Rattle.cbm_drive.specs.Desks as desks;
 
 use cbm_drive::{Desk, Drive, Party};
-use cbm_medium::Steady;
+use cbm_medium::Medium;
 
 /// The drive as it is switched on with this disk in it: its device number is below 31, and it takes 1 microsecond at least to
 /// react. It reads nothing.
-pub fn drive_with<M: Steady>(disk: M, party: Party) -> Drive<Desk<M>>
+pub fn drive_with<M: Medium>(disk: M, party: Party) -> Drive<Desk<M>>
     requires device { party.device < 31 }
     requires reaction { 1 ≤ party.reaction }
     ensures disk { result.machine.dos.medium ≡ disk }
@@ -23,7 +23,7 @@ pub fn drive_with<M: Steady>(disk: M, party: Party) -> Drive<Desk<M>>
 }
 
 /// The disk of a drive as it is now. Channels that are open are dropped: a file that is being written stays unclosed.
-pub fn into_disk<M: Steady>(drive: Drive<Desk<M>>) -> M
+pub fn into_disk<M: Medium>(drive: Drive<Desk<M>>) -> M
     ensures same { result ≡ drive.machine.dos.medium }
     ensures disk { (m : desks.Desk Machine) → desks.DeskStands M.seen drive.machine m →
         HoldsDisk (M.seen result).tracks (M.seen result).content m.dos.disk }

@@ -3,6 +3,7 @@ pub mod Firsts
 pub mod Totals
 pub mod Heard
 pub mod Reacted
+pub mod Unfailed
 pub mod Cables
 pub mod Later
 pub mod Nearer
@@ -12,6 +13,7 @@ pub mod Kept
 pub mod Ordered
 pub mod Ahead
 pub mod Players
+pub mod DoneParts
 pub mod Desks
 pub mod Handed
 pub mod Alone

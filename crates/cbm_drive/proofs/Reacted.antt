@@ -111,7 +111,7 @@ host_all (c ∷ cs) all = host_all cs (behind_change c.line c.way all) ∙ host_
 
 -- ---- lists in three parts
 
-total_parts : {A : Type 0} (f : A → ℕ) (xs : List A) (x : A) (ys : List A) → total f (xs ++ x ∷ ys) ≡ total f xs + (f x + total f ys)
+pub total_parts : {A : Type 0} (f : A → ℕ) (xs : List A) (x : A) (ys : List A) → total f (xs ++ x ∷ ys) ≡ total f xs + (f x + total f ys)
 total_parts f [] x ys = omega arith
 total_parts f (y ∷ xs) x ys = omega (arith, total_parts f xs x ys)
 

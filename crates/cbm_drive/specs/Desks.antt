@@ -1,12 +1,12 @@
 -- The named-files machine on the bus: what each act of the bus asks of it, and what it has to say.
-use Rattle.std.specs.Prelude.{ℕ, ◌≡◌, ◌<◌, Bool, true, false, List, Option, Some, None, IfSome}
+use Rattle.std.specs.Prelude.{ℕ, ◌≡◌, ◌<◌, ◌≤◌, Bool, true, false, List, Option, Some, None, IfSome}
 use Rattle.cbm_medium.specs.Seen.{Seen}
 use Rattle.cbm_channel.specs.Machines.{Machine}
 use Rattle.cbm_channel.specs.Closing.{close}
 use Rattle.cbm_channel.specs.Talking.{talk, talk_keeping_error, listen, peek, taken}
 use Rattle.cbm_channel.specs.Calls.{put, end_put, after_open}
 use Rattle.cbm_channel.specs.Shown.{shown_by}
-use Rattle.cbm_channel.specs.Standing.{Kept, Stands}
+use Rattle.cbm_channel.specs.Standing.{Kept, Stands, Leads}
 use Rattle.cbm_iec.specs.declared.pace.Pace.{Pace}
 use Rattle.cbm_iec.specs.declared.pace.Pace.TheVariants.{Profile, Kernal}
 use Rattle.cbm_iec.specs.declared.party.Role.{Role}
@@ -99,6 +99,10 @@ IsAlike seen x d = Stands seen x.dos d.dos × (d.addressed ≡ x.addressed)
 -- A DESK REPRESENTS another one: alike, and what that has to say is a byte.
 abbrev pub DeskStands : {M : Type 0} → (M → Seen) → Desk (Kept M) → Desk Machine → Type 0
 DeskStands seen x d = IsAlike seen x d × IfSome (desk_says d) (λ s. s.0 < 256)
+
+-- A CALL LEADS from each machine that a DOS stood for to the machine's next state, if the medium didn't fail by itself in it.
+abbrev pub LeadsUnfailed : {M : Type 0} → (M → Seen) → Kept M → Kept M → (Machine → Machine) → Type 0
+LeadsUnfailed seen old new next = (seen new.medium).failures ≤ (seen old.medium).failures → Leads seen old new next
 
 -- A call leads from each desk that is alike to its next state.
 abbrev pub Turns : {M : Type 0} → (M → Seen) → Desk (Kept M) → Desk (Kept M) → (Desk Machine → Desk Machine) → Type 0

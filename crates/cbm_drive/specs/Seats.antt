@@ -1,5 +1,5 @@
 -- The drives of a bus as the code keeps them, and the stations that they represent.
-use Rattle.std.specs.Prelude.{ℕ, zero, suc, [], ◌∷◌, Some, None, ◌+◌, ◌≡◌, Bool, true, false, List, map}
+use Rattle.std.specs.Prelude.{ℕ, zero, suc, [], ◌∷◌, Some, None, ◌+◌, ◌≤◌, ◌≡◌, Bool, true, false, List, map}
 use Rattle.std.specs.List.{AllZip}
 use Rattle.cbm_iec.specs.Ports.{port_due, resting}
 use Rattle.cbm_session.specs.Following.{IsInTime}
@@ -41,6 +41,14 @@ module _ {D : Type 0} where
   -- a number of each drive's machine
   abbrev pub numbers : (D → ℕ) → List (Seated D) → List ℕ
   numbers number xs = map (λ x. number x.machine) xs
+
+  -- how often these drives' machines failed, all together
+  abbrev pub failed : (D → ℕ) → List (Seated D) → ℕ
+  failed failures xs = total (λ x. failures x.machine) xs
+
+  -- none of them failed in between
+  abbrev pub Unfailed : (D → ℕ) → List (Seated D) → List (Seated D) → Type 0
+  Unfailed failures old new = failed failures new ≤ failed failures old
 
   -- no reaction of these drives is due
   abbrev pub AreIdle : List (Seated D) → Type 0

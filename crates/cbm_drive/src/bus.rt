@@ -5,7 +5,7 @@ ghost use Rattle.std.specs.List.{AllZip};
 ghost use Rattle.cbm_session.specs.Among.{Rest};
 ghost use Rattle.cbm_session.specs.Following.{lines_after};
 ghost use Rattle.cbm_session.specs.Playing.{Station, tell, told_lines};
-ghost use Rattle.cbm_drive.specs.Seats.{Seated, Meets, IsSeat, IsBusAt, own_of, numbers, IsFirstDue, AreIdle, AreResting};
+ghost use Rattle.cbm_drive.specs.Seats.{Seated, Meets, IsSeat, IsBusAt, own_of, numbers, IsFirstDue, AreIdle, AreResting, Unfailed, failed};
 ghost use Rattle.cbm_drive.specs.Recorded.{IsToldBy};
 ghost use Rattle.cbm_drive.specs.Turning.{ToldBack, ReactedBack};
 ghost use Rattle.cbm_drive.specs.Progress.{AreKept, IsNearer};
@@ -28,7 +28,7 @@ pub struct Answer {
 /// Tells each of these drives that the others changed a line at this moment, and what is held now.
 pub(crate) fn tell_each<D: Machine>(drives: &mut [Drive<D>], moment: u64, wires: &Wires)
     requires { moment < 2 ^ 60 }
-    ensures told { (f : Rest → Rest) (ss : List (Station D.State)) →
+    ensures told { Unfailed D.failures drives.old drives.new → (f : Rest → Rest) (ss : List (Station D.State)) →
         AllZip (λ x s. Meets _ D.State D.stands wires.now (f s.rest) x s) drives.old ss →
         AllZip (IsSeat _ D.State D.stands wires.now) drives.new
         (map (λ s. told_lines D.State D.step D.says moment (f s.rest) s) ss) }
@@ -37,6 +37,7 @@ pub(crate) fn tell_each<D: Machine>(drives: &mut [Drive<D>], moment: u64, wires:
     // Whatever the machines represent:
     ensures each { AllZip (λ x y. IsToldBy D.shows moment wires.now x y) drives.old drives.new }
     ensures lasting { numbers D.lasting drives.new ≡ numbers D.lasting drives.old }
+    ensures counted { failed D.failures drives.old ≤ failed D.failures drives.new }
 {
     let Some((first, rest)) = drives.split_first_mut() else {
         return;
@@ -93,13 +94,14 @@ pub(crate) fn all_rest<D: Machine>(drives: &[Drive<D>]) -> bool
 #[inline(always)]
 fn tell_others<D: Machine>(drives: &mut [Drive<D>], moment: u64, wires: &Wires)
     requires { moment < 2 ^ 60 }
-    ensures told { (f : Rest → Rest) (ss : List (Station D.State)) →
+    ensures told { Unfailed D.failures drives.old drives.new → (f : Rest → Rest) (ss : List (Station D.State)) →
         AllZip (λ x s. Meets _ D.State D.stands wires.now (f s.rest) x s) drives.old ss →
         AllZip (IsSeat _ D.State D.stands wires.now) drives.new
         (map (λ s. told_lines D.State D.step D.says moment (f s.rest) s) ss) }
     ensures own { map own_of drives.new ≡ map own_of drives.old }
     ensures kept { AreKept moment drives.old drives.new }
     ensures lasting { numbers D.lasting drives.new ≡ numbers D.lasting drives.old }
+    ensures counted { failed D.failures drives.old ≤ failed D.failures drives.new }
 {
     if drives.is_empty() {
         return;
@@ -118,12 +120,15 @@ fn hear_each<D: Machine>(
     requires moment { moment < 2 ^ 60 }
     requires clocks { wires.clocks + length changes.now < 2 ^ 60 }
     requires datas { wires.datas + length changes.now < 2 ^ 60 }
-    ensures heard { Hear _ D.State D.stands D.stands D.step D.says moment front.old back.old front.new back.new wires
+    ensures heard { Unfailed D.failures front.old front.new → Unfailed D.failures back.old back.new →
+        Hear _ D.State D.stands D.stands D.step D.says moment front.old back.old front.new back.new wires
         changes.now }
     ensures front { AreKept moment front.old front.new }
     ensures back { AreKept moment back.old back.new }
     ensures front_lasting { numbers D.lasting front.new ≡ numbers D.lasting front.old }
+    ensures front_counted { failed D.failures front.old ≤ failed D.failures front.new }
     ensures back_lasting { numbers D.lasting back.new ≡ numbers D.lasting back.old }
+    ensures back_counted { failed D.failures back.old ≤ failed D.failures back.new }
 {
     let Some((change, more)) = changes.split_first() else {
         return;
@@ -146,12 +151,15 @@ fn hear_others<D: Machine>(
     requires moment { moment < 2 ^ 60 }
     requires clocks { wires.clocks + length changes.now < 2 ^ 60 }
     requires datas { wires.datas + length changes.now < 2 ^ 60 }
-    ensures heard { Hear _ D.State D.stands D.stands D.step D.says moment front.old back.old front.new back.new wires
+    ensures heard { Unfailed D.failures front.old front.new → Unfailed D.failures back.old back.new →
+        Hear _ D.State D.stands D.stands D.step D.says moment front.old back.old front.new back.new wires
         changes.now }
     ensures front { AreKept moment front.old front.new }
     ensures back { AreKept moment back.old back.new }
     ensures front_lasting { numbers D.lasting front.new ≡ numbers D.lasting front.old }
+    ensures front_counted { failed D.failures front.old ≤ failed D.failures front.new }
     ensures back_lasting { numbers D.lasting back.new ≡ numbers D.lasting back.old }
+    ensures back_counted { failed D.failures back.old ≤ failed D.failures back.new }
 {
     if front.is_empty() && back.is_empty() {
         return;
@@ -171,7 +179,8 @@ pub(crate) fn react<D: Machine>(
     requires place { place < length drives.old }
     requires few { length drives.old < 2 ^ 16 }
     requires moment { moment < 2 ^ 60 }
-    ensures reacted { (ss : List (Station D.State)) → IsBusAt _ D.State D.stands host drives.old ss →
+    ensures reacted { Unfailed D.failures drives.old drives.new →
+        (ss : List (Station D.State)) → IsBusAt _ D.State D.stands host drives.old ss →
         IsFirstDue drives.old (place, moment) →
         IfSome result (λ a.
         HasReacted _ D.State D.stands D.step D.says host moment a.device drives.new a.changes.items ss) }
@@ -183,6 +192,7 @@ pub(crate) fn react<D: Machine>(
     ensures nearer { IsFirstDue drives.old (place, moment) → IsNearer moment drives.old drives.new }
     ensures same { length drives.new ≡ length drives.old }
     ensures lasting { numbers D.lasting drives.new ≡ numbers D.lasting drives.old }
+    ensures counted { failed D.failures drives.old ≤ failed D.failures drives.new }
 {
     let wires = Wires::of(host, drives);
     let (front, rest) = drives.split_at_mut(place);
@@ -198,13 +208,15 @@ pub(crate) fn react<D: Machine>(
 pub(crate) fn tell_all<D: Machine>(drives: &mut [Drive<D>], host: Lines, change: Change) -> Lines
     requires { change.moment < 2 ^ 60 }
     ensures host { result ≡ lines_after host change.line change.way }
-    ensures told { (ss : List (Station D.State)) → IsBusAt _ D.State D.stands host drives.old ss →
+    ensures told { Unfailed D.failures drives.old drives.new →
+        (ss : List (Station D.State)) → IsBusAt _ D.State D.stands host drives.old ss →
         IsBusAt _ D.State D.stands result drives.new (map (λ s. tell D.State D.step D.says change s) ss) }
     // Also on disks that aren't sound, of a drive alone: so it is of the machine that replays what this one showed.
     ensures recorded { length drives.old ≡ 1 → ToldBack D.shows host result change drives.old drives.new }
     ensures kept { AreKept change.moment drives.old drives.new }
     ensures same { length drives.new ≡ length drives.old }
     ensures lasting { numbers D.lasting drives.new ≡ numbers D.lasting drives.old }
+    ensures counted { failed D.failures drives.old ≤ failed D.failures drives.new }
 {
     let now = with_change(host, change);
     let wires = Wires::of(now, drives);

@@ -12,6 +12,8 @@ use std::marker::Model;
 
 /// Drives on one cable with a host. Of several whose reactions are due at one moment the one that is listed first answers
 /// first.
+///
+/// What a call promises of the states that the machines represent holds if none of them failed in it (`Unfailed`).
 #[derive(Drop)]
 pub struct Bus<D: Machine, const N: usize> {
     drives: [Drive<D>; N],
@@ -33,7 +35,7 @@ impl<D: Machine, const N: usize> Bus<D, N> {
     ghost use Rattle.std.specs.Prelude.{◌≡◌, ◌↔◌, ◌+◌, ◌^◌, ◌<◌, ◌≤◌, true, ℕ, List, [], length, map, IfSome, IsSome, is_some, Some, None, MatchBool, Err, IfErr, OnOk, MatchOption};
     ghost use Rattle.cbm_session.specs.Playing.{Station, tell};
     ghost use Rattle.cbm_drive.specs.Silence.{AnyShows, AreSilent};
-    ghost use Rattle.cbm_drive.specs.Seats.{AreIdle, AreInTime, AreResting, IsBusAt, numbers};
+    ghost use Rattle.cbm_drive.specs.Seats.{AreIdle, AreInTime, AreResting, IsBusAt, numbers, Unfailed, failed};
     ghost use Rattle.cbm_drive.specs.Cables.{all_free, IsDueFirst};
     ghost use Rattle.cbm_drive.specs.Halves.{half_alone, SaysHalfAlone};
     ghost use Rattle.cbm_drive.specs.Ordered.{fault_of};
@@ -95,13 +97,15 @@ impl<D: Machine, const N: usize> Bus<D, N> {
     #[inline(always)]
     pub fn line(&mut self, change: Change)
         requires { change.moment < 2 ^ 60 }
-        ensures told { (ss : List (Station D.State)) → IsBusAt _ D.State D.stands self.old.host self.old.drives ss →
+        ensures told { Unfailed D.failures self.old.drives self.new.drives →
+            (ss : List (Station D.State)) → IsBusAt _ D.State D.stands self.old.host self.old.drives ss →
             IsBusAt _ D.State D.stands self.new.host self.new.drives (map (λ s. tell D.State D.step D.says change s) ss) }
         // Also on disks that aren't sound, of a drive alone: so it is of the machine that replays what this one showed.
         ensures recorded { N ≡ 1 → ToldBack D.shows self.old.host self.new.host change self.old.drives self.new.drives }
         // What was due is still due, or something later, or nothing, whatever the machines represent.
         ensures kept { AreKept change.moment self.old.drives self.new.drives }
         ensures lasting { numbers D.lasting self.new.drives ≡ numbers D.lasting self.old.drives }
+        ensures counted { failed D.failures self.old.drives ≤ failed D.failures self.new.drives }
     {
         self.host = tell_all(self.drives.as_mut_slice(), self.host, change);
     }
@@ -110,7 +114,7 @@ impl<D: Machine, const N: usize> Bus<D, N> {
     /// each line that the drive changes, with what is held then. None where no reaction is due.
     pub fn due(&mut self, moment: u64) -> Option<Answer>
         requires { moment < 2 ^ 60 }
-        ensures reacted { (ss : List (Station D.State)) →
+        ensures reacted { Unfailed D.failures self.old.drives self.new.drives → (ss : List (Station D.State)) →
             IsBusAt _ D.State D.stands self.old.host self.old.drives ss → IsDueFirst self.old.drives moment →
             IfSome result (λ a. HasReacted _ D.State D.stands D.step D.says self.old.host moment a.device
             self.new.drives a.changes.items ss) }
@@ -120,6 +124,7 @@ impl<D: Machine, const N: usize> Bus<D, N> {
         ensures idle { AreIdle self.old.drives → result ≡ None }
         ensures host { self.new.host ≡ self.old.host }
         ensures lasting { numbers D.lasting self.new.drives ≡ numbers D.lasting self.old.drives }
+        ensures counted { failed D.failures self.old.drives ≤ failed D.failures self.new.drives }
     {
         let (place, _) = first_due(self.drives.as_slice())?;
         react(self.drives.as_mut_slice(), self.host, place, moment)
@@ -143,7 +148,8 @@ impl<D: Machine, const N: usize> Bus<D, N> {
     #[inline(always)]
     pub(crate) fn first_shown(&mut self, limit: u64) -> Option<(u64, Answer)>
         requires { limit < 2 ^ 60 }
-        ensures played { (ss : List (Station D.State)) (n until : ℕ) →
+        ensures played { Unfailed D.failures self.old.drives self.new.drives →
+            (ss : List (Station D.State)) (n until : ℕ) →
             IsBusAt _ D.State D.stands self.old.host self.old.drives ss → n ≤ until → limit ≤ until →
             HasShown _ D.State D.stands D.step D.says self.old.host until self.new.drives n ss result }
         // Also on disks that aren't sound, of a drive alone: so it is of the machine that replays what this one showed.
@@ -155,10 +161,12 @@ impl<D: Machine, const N: usize> Bus<D, N> {
         ensures fewer { IfSome result (λ r. (until : ℕ) → limit ≤ until →
             left until self.new.drives < left until self.old.drives) }
         ensures moments { IfSome result (λ r. AreAt r.0 r.1.changes.items) }
-        ensures some { (ss : List (Station D.State)) → IsBusAt _ D.State D.stands self.old.host self.old.drives ss →
+        ensures some { Unfailed D.failures self.old.drives self.new.drives →
+            (ss : List (Station D.State)) → IsBusAt _ D.State D.stands self.old.host self.old.drives ss →
             AnyShows D.State D.step D.says limit ss → IsSome result }
         ensures host { self.new.host ≡ self.old.host }
         ensures lasting { numbers D.lasting self.new.drives ≡ numbers D.lasting self.old.drives }
+        ensures counted { failed D.failures self.old.drives ≤ failed D.failures self.new.drives }
     {
         first_shown(self.drives.as_mut_slice(), self.host, limit)
     }
@@ -171,6 +179,7 @@ impl<D: Machine, const N: usize> Bus<D, N> {
         ensures comes { is_some result ≡ half_alone limit self.old.drives }
         ensures said { MatchOption result (self.new ≡ self.old) (SaysHalfAlone limit self.old self.new) }
         ensures lasting { numbers D.lasting self.new.drives ≡ numbers D.lasting self.old.drives }
+        ensures counted { failed D.failures self.old.drives ≤ failed D.failures self.new.drives }
     {
         let (drive, others) = self.drives.as_mut_slice().split_first_mut()?;
         if !others.is_empty() {
@@ -184,12 +193,13 @@ impl<D: Machine, const N: usize> Bus<D, N> {
     pub fn settle(&mut self, limit: u64, events: &mut Vec<Event>) -> Result<(), AllocError>
         requires { limit < 2 ^ 60 }
         ensures settled { OnOk result (AreInTime limit self.new.drives) }
-        ensures played { (ss : List (Station D.State)) (n : ℕ) →
+        ensures played { Unfailed D.failures self.old.drives self.new.drives → (ss : List (Station D.State)) (n : ℕ) →
             IsBusAt _ D.State D.stands self.old.host self.old.drives ss → n ≤ limit →
             HasSettled _ D.State D.stands D.step D.says self.old.host limit self.new.drives events.old.items
             events.new.items n ss }
         ensures host { self.new.host ≡ self.old.host }
         ensures lasting { numbers D.lasting self.new.drives ≡ numbers D.lasting self.old.drives }
+        ensures counted { failed D.failures self.old.drives ≤ failed D.failures self.new.drives }
     {
         settle(self.drives.as_mut_slice(), self.host, limit, events)
     }
@@ -210,16 +220,20 @@ impl<D: Machine, const N: usize> Bus<D, N> {
         ensures memory { fault_of 0 0 end changes.now ≡ None → IfErr result (λ f. f ≡ Memory) }
         ensures settled { OnOk result (AreInTime (end + 1) self.new.drives) }
         ensures lasting { numbers D.lasting self.new.drives ≡ numbers D.lasting self.old.drives }
-        ensures played { (ss : List (Station D.State)) → fault_of 0 0 end changes.now ≡ None →
+        ensures counted { failed D.failures self.old.drives ≤ failed D.failures self.new.drives }
+        ensures played { Unfailed D.failures self.old.drives self.new.drives →
+            (ss : List (Station D.State)) → fault_of 0 0 end changes.now ≡ None →
             IsBusAt _ D.State D.stands self.old.host self.old.drives ss →
             PlaysUpTo _ D.State D.stands D.step D.says self.new.host (end + 1) self.new.drives events.old.items
             events.new.items changes.now ss result }
         // Whether or not the host keeps any timing, from rest:
-        ensures handed { HandsToEach _ D.State D.stands D.step D.says self.old self.new end events.old.items
+        ensures handed { Unfailed D.failures self.old.drives self.new.drives →
+            HandsToEach _ D.State D.stands D.step D.says self.old self.new end events.old.items
             events.new.items changes.now result }
         // From rest, under a host that keeps the bus's timing: a beginning of a session in which each byte talked is the
         // machine's answer, and no reaction is late.
-        ensures kept { PlaysSessions _ D.State D.stands D.step D.says self.old self.new end events.old.items
+        ensures kept { Unfailed D.failures self.old.drives self.new.drives →
+            PlaysSessions _ D.State D.stands D.step D.says self.old self.new end events.old.items
             events.new.items changes.now result }
     {
         if let Some(fault) = first_fault(changes, 0, 0, end) {

@@ -6,13 +6,13 @@ use crate::ended::Ended;
 use crate::secondary::Secondary;
 use cbm_channel::Dos;
 use cbm_iec::{Act, Machine, Pace, Role};
-use cbm_medium::{Medium, Steady};
+use cbm_medium::Medium;
 use std::marker::Model;
 
 /// The drive's DOS on the bus: LISTEN, TALK and secondary addresses become its calls.
 ///
-/// A DOS whose medium never fails by itself (`Steady`) is a machine above the wires: each act leads it from the named-files
-/// machine that it represents to that machine's next state.
+/// So it is a machine above the wires: each act leads it from the named-files machine that it represents to that machine's
+/// next state, or its medium failed by itself, which is counted.
 #[derive(Drop)]
 pub struct Desk<M: Medium> {
     dos: Dos<M>,
@@ -96,23 +96,23 @@ impl<M: Medium> Desk<M> {
     }
 }
 
-impl<M: Steady> Desk<M> {
+impl<M: Medium> Desk<M> {
     ghost use Rattle.std.specs.Prelude.{◌≡◌, ◌<◌, ◌≤◌, ℕ, true, false, Some, IfSome, IsSome};
     ghost use Rattle.cbm_iec.specs.Machines.{owes};
-    ghost use Rattle.cbm_channel.specs.Standing.{Leads};
     ghost use Rattle.cbm_channel.specs.Exchanged.{still_telling};
     ghost use Rattle.cbm_file.specs.Files.{Disk};
     ghost use Rattle.cbm_channel.specs.Machines as files;
     ghost use Rattle.cbm_volume.specs.Holding.{HoldsDisk};
     ghost use Rattle.cbm_drive.specs.Addressing.{unaddressed, paced, attended, waiting, heard, released, secondary_of, channel_of, channel_heard, channel_said, ended, addressed_after};
     ghost use Rattle.cbm_drive.specs.Desks as desks;
-    ghost use Rattle.cbm_drive.specs.Desks.{talked_to, seconded, ending, put_to, taken_from, asked, desk_says, desk_shows, DeskStands, IsAlike};
+    ghost use Rattle.cbm_drive.specs.Desks.{talked_to, seconded, ending, put_to, taken_from, asked, desk_says, desk_shows, DeskStands, LeadsUnfailed, IsAlike};
 
     /// ATN was pulled: what a listener was sent ends, and the secondary address goes.
     fn pulled(&mut self)
-        ensures leads { Leads M.seen self.old.dos self.new.dos (ending (ended self.old.addressed) self.old.addressed.name) }
+        ensures leads { LeadsUnfailed M.seen self.old.dos self.new.dos (ending (ended self.old.addressed) self.old.addressed.name) }
         ensures addressed { self.new.addressed ≡ waiting self.old.addressed }
         ensures tracks { (M.seen self.new.dos.medium).tracks ≡ (M.seen self.old.dos.medium).tracks }
+        ensures counted { (M.seen self.old.dos.medium).failures ≤ (M.seen self.new.dos.medium).failures }
     {
         let ended = self.addressee.ended();
         let name = self.addressee.end();
@@ -125,9 +125,10 @@ impl<M: Steady> Desk<M> {
 
     /// A byte came in attention: a secondary address asks something of the channel, by the role.
     fn attended(&mut self, byte: u8)
-        ensures leads { Leads M.seen self.old.dos self.new.dos (seconded self.old.addressed.pace (secondary_of byte) self.old.addressed.role) }
+        ensures leads { LeadsUnfailed M.seen self.old.dos self.new.dos (seconded self.old.addressed.pace (secondary_of byte) self.old.addressed.role) }
         ensures addressed { self.new.addressed ≡ attended byte self.old.addressed }
         ensures tracks { (M.seen self.new.dos.medium).tracks ≡ (M.seen self.old.dos.medium).tracks }
+        ensures counted { (M.seen self.old.dos.medium).failures ≤ (M.seen self.new.dos.medium).failures }
     {
         self.second(Secondary::of(byte));
         self.addressee.attend(byte);
@@ -136,9 +137,10 @@ impl<M: Steady> Desk<M> {
     /// What a secondary address asks of the DOS.
     fn second(&mut self, secondary: Option<Secondary>)
         requires { IfSome secondary (λ s. channel_of s ≤ 15) }
-        ensures leads { Leads M.seen self.old.dos self.new.dos (seconded self.old.addressed.pace secondary self.old.addressed.role) }
+        ensures leads { LeadsUnfailed M.seen self.old.dos self.new.dos (seconded self.old.addressed.pace secondary self.old.addressed.role) }
         ensures addressed { self.new.addressed ≡ self.old.addressed }
         ensures tracks { (M.seen self.new.dos.medium).tracks ≡ (M.seen self.old.dos.medium).tracks }
+        ensures counted { (M.seen self.old.dos.medium).failures ≤ (M.seen self.new.dos.medium).failures }
     {
         match (secondary, self.addressee.role()) {
             (Some(Secondary::Data(channel)), Role::Listener) => self.dos.listen(channel),
@@ -151,9 +153,10 @@ impl<M: Steady> Desk<M> {
     /// A talker's channel is asked for bytes, by the drive's pace.
     fn talk(&mut self, channel: u8)
         requires { channel ≤ 15 }
-        ensures leads { Leads M.seen self.old.dos self.new.dos (talked_to self.old.addressed.pace channel) }
+        ensures leads { LeadsUnfailed M.seen self.old.dos self.new.dos (talked_to self.old.addressed.pace channel) }
         ensures addressed { self.new.addressed ≡ self.old.addressed }
         ensures tracks { (M.seen self.new.dos.medium).tracks ≡ (M.seen self.old.dos.medium).tracks }
+        ensures counted { (M.seen self.old.dos.medium).failures ≤ (M.seen self.new.dos.medium).failures }
     {
         match self.addressee.pace() {
             Pace::Profile => self.dos.talk(channel),
@@ -164,9 +167,10 @@ impl<M: Steady> Desk<M> {
     /// A byte came to the listener, for a name or for its channel.
     fn heard(&mut self, byte: u8)
         ensures leads { let a = self.old.addressed in
-            Leads M.seen self.old.dos self.new.dos (put_to a.naming (channel_heard a.role a.channel) byte) }
+            LeadsUnfailed M.seen self.old.dos self.new.dos (put_to a.naming (channel_heard a.role a.channel) byte) }
         ensures addressed { self.new.addressed ≡ heard byte self.old.addressed }
         ensures tracks { (M.seen self.new.dos.medium).tracks ≡ (M.seen self.old.dos.medium).tracks }
+        ensures counted { (M.seen self.old.dos.medium).failures ≤ (M.seen self.new.dos.medium).failures }
     {
         if self.addressee.is_naming() {
             self.addressee.hear(byte);
@@ -182,6 +186,7 @@ impl<M: Steady> Desk<M> {
         ensures dos { self.new.dos ≡ self.old.dos }
         ensures addressed { self.new.addressed ≡ released self.old.addressed }
         ensures tracks { (M.seen self.new.dos.medium).tracks ≡ (M.seen self.old.dos.medium).tracks }
+        ensures counted { (M.seen self.old.dos.medium).failures ≤ (M.seen self.new.dos.medium).failures }
     {
         self.addressee.release();
     }
@@ -189,9 +194,10 @@ impl<M: Steady> Desk<M> {
     /// The talker's byte was taken.
     fn said(&mut self)
         ensures leads { let a = self.old.addressed in
-            Leads M.seen self.old.dos self.new.dos (taken_from (channel_said a.role a.channel)) }
+            LeadsUnfailed M.seen self.old.dos self.new.dos (taken_from (channel_said a.role a.channel)) }
         ensures addressed { self.new.addressed ≡ self.old.addressed }
         ensures tracks { (M.seen self.new.dos.medium).tracks ≡ (M.seen self.old.dos.medium).tracks }
+        ensures counted { (M.seen self.old.dos.medium).failures ≤ (M.seen self.new.dos.medium).failures }
         // After a byte that isn't the last (EOI) there is another, on any disk.
         ensures next { (n : ℕ) → desk_shows self.old ≡ Some (n, false) → IsSome (desk_shows self.new) }
     {
@@ -202,9 +208,10 @@ impl<M: Steady> Desk<M> {
 
     /// Does what an act asks.
     fn obey(&mut self, act: Act)
-        ensures leads { Leads M.seen self.old.dos self.new.dos (asked act self.old.addressed) }
+        ensures leads { LeadsUnfailed M.seen self.old.dos self.new.dos (asked act self.old.addressed) }
         ensures addressed { self.new.addressed ≡ addressed_after act self.old.addressed }
         ensures tracks { (M.seen self.new.dos.medium).tracks ≡ (M.seen self.old.dos.medium).tracks }
+        ensures counted { (M.seen self.old.dos.medium).failures ≤ (M.seen self.new.dos.medium).failures }
         ensures owed { owes act (desk_shows self.old) ≡ true → IsSome (desk_shows self.new) }
     {
         match act {
@@ -256,7 +263,7 @@ impl<M: Steady> Desk<M> {
     }
 }
 
-impl<M: Steady> Machine for Desk<M> {
+impl<M: Medium> Machine for Desk<M> {
     ghost use Rattle.cbm_channel.specs.Machines as files;
     ghost use Rattle.cbm_drive.specs.Desks as desks;
     ghost use Rattle.cbm_drive.specs.Desks.{desk_step, desk_says, desk_shows, DeskStands};
@@ -273,6 +280,8 @@ impl<M: Steady> Machine for Desk<M> {
     ghost shows = { desk_shows };
 
     ghost lasting = { λ x. (M.seen x.dos.medium).tracks };
+
+    ghost failures = { λ x. (M.seen x.dos.medium).failures };
 
     fn act(&mut self, act: Act) {
         self.obey(act);

@@ -10,7 +10,8 @@ use std::marker::Model;
 /// Plays a host's changes on a bus one at a time, and gives the events one by one; it takes no memory.
 ///
 /// A change is offered, and `next` is asked for events up to a moment: the reactions that are due before the change, the
-/// change itself, and what comes of it.
+/// change itself, and what comes of it. What a call promises of the states that the machines represent holds if none of them
+/// failed in it (`Unfailed`).
 #[derive(Drop)]
 pub struct Player {
     waiting: Option<Change>,
@@ -39,7 +40,7 @@ impl Player {
     ghost use Rattle.cbm_drive.specs.Playback.{Shown, Playback, IsPlayedBack, played_says, played_step};
     ghost use Rattle.cbm_drive.specs.Halves.{has_nothing, half_alone, half_events};
     ghost use Rattle.cbm_drive.specs.Reactions.{AreAt};
-    ghost use Rattle.cbm_drive.specs.Seats.{AreLater, numbers};
+    ghost use Rattle.cbm_drive.specs.Seats.{AreLater, numbers, Unfailed, failed};
     ghost use Rattle.cbm_drive.specs.Players.{at_start, pending, at_most, IsWaitingFrom, IsTurnOf, IsBehind, IsDrives, IsGivenBefore, IsAfter};
     ghost use Rattle.cbm_drive.specs.Turning.{GivesNext, GivesOne, Finishes, GivesNextBack, GivesOneBack, FinishesBack};
     ghost use Rattle.cbm_iec.specs.declared.event.Who.TheVariants.{Drive};
@@ -95,7 +96,8 @@ impl Player {
         upto: u64,
     ) -> Option<Event>
         requires { upto < 2 ^ 59 - 1 }
-        ensures given { GivesNext _ D.State D.stands D.step D.says self.old self.new bus.old bus.new upto result }
+        ensures given { Unfailed D.failures bus.old.drives bus.new.drives →
+            GivesNext _ D.State D.stands D.step D.says self.old self.new bus.old bus.new upto result }
         // Also on disks that aren't sound, of a drive alone: a record of what it offered after each act of this call, and the
         // same holds of the machine that replays this record.
         ensures recorded { N ≡ 1 → GivesNextBack D.shows self.old self.new bus.old bus.new upto result }
@@ -110,6 +112,7 @@ impl Player {
             at_most limit self.new.second bus.new.drives < at_most limit self.old.second bus.old.drives) }
         ensures taken { self.new.taken ≡ self.old.taken }
         ensures lasting { numbers D.lasting bus.new.drives ≡ numbers D.lasting bus.old.drives }
+        ensures counted { failed D.failures bus.old.drives ≤ failed D.failures bus.new.drives }
     {
         if let Some(event) = self.second {
             if event.change.moment > upto {
@@ -157,6 +160,7 @@ impl Player {
         ensures fewer { IfSome result (λ h. (limit : ℕ) → upto < limit →
             at_most limit self.new.second bus.new.drives < at_most limit self.old.second bus.old.drives) }
         ensures lasting { numbers D.lasting bus.new.drives ≡ numbers D.lasting bus.old.drives }
+        ensures counted { failed D.failures bus.old.drives ≤ failed D.failures bus.new.drives }
     {
         if self.waiting.is_some() || self.second.is_some() {
             return None;
@@ -176,7 +180,8 @@ impl Player {
         requires none { self.old.waiting ≡ None }
         requires from { self.old.from ≤ upto + 1 }
         requires upto { upto < 2 ^ 59 - 1 }
-        ensures given { Finishes _ D.State D.stands D.step D.says self.old self.new bus.old bus.new upto result }
+        ensures given { Unfailed D.failures bus.old.drives bus.new.drives →
+            Finishes _ D.State D.stands D.step D.says self.old self.new bus.old bus.new upto result }
         // Also on disks that aren't sound, of a drive alone: of the machine that replays what it offered.
         ensures recorded { N ≡ 1 → FinishesBack D.shows self.old self.new bus.old bus.new upto result }
         ensures drive { IfSome result (λ e. IsDrives e.who) }
@@ -187,6 +192,7 @@ impl Player {
             at_most limit self.new.second bus.new.drives < at_most limit self.old.second bus.old.drives) }
         ensures taken { self.new.taken ≡ self.old.taken }
         ensures lasting { numbers D.lasting bus.new.drives ≡ numbers D.lasting bus.old.drives }
+        ensures counted { failed D.failures bus.old.drives ≤ failed D.failures bus.new.drives }
     {
         if let Some(event) = self.second.take() {
             return Some(event);
@@ -220,7 +226,8 @@ impl Player {
         requires waiting { self.old.waiting ≡ Some change }
         requires from { self.old.from ≤ change.moment }
         requires moment { change.moment < 2 ^ 59 }
-        ensures given { GivesOne _ D.State D.stands D.step D.says self.old self.new bus.old bus.new change.moment result }
+        ensures given { Unfailed D.failures bus.old.drives bus.new.drives →
+            GivesOne _ D.State D.stands D.step D.says self.old self.new bus.old bus.new change.moment result }
         // Also on disks that aren't sound, of a drive alone: a record of what it offered after each act of this call, and the
         // same holds of the machine that replays this record.
         ensures recorded { N ≡ 1 → GivesOneBack D.shows self.old self.new bus.old bus.new change.moment result }
@@ -234,6 +241,7 @@ impl Player {
             at_most limit self.new.second bus.new.drives < at_most limit self.old.second bus.old.drives) }
         ensures taken { self.new.taken ≡ self.old.taken }
         ensures lasting { numbers D.lasting bus.new.drives ≡ numbers D.lasting bus.old.drives }
+        ensures counted { failed D.failures bus.old.drives ≤ failed D.failures bus.new.drives }
     {
         if let Some((moment, answer)) = bus.first_shown(change.moment) {
             return self.give(moment, &answer);
@@ -258,7 +266,8 @@ impl Player {
         requires waiting { IsWaitingFrom (upto + 1) self.old.waiting }
         requires from { IsWaitingFrom self.old.from self.old.waiting }
         requires upto { upto < 2 ^ 59 - 1 }
-        ensures given { GivesNext _ D.State D.stands D.step D.says self.old self.new bus.old bus.new upto result }
+        ensures given { Unfailed D.failures bus.old.drives bus.new.drives →
+            GivesNext _ D.State D.stands D.step D.says self.old self.new bus.old bus.new upto result }
         // Also on disks that aren't sound, of a drive alone: a record of what it offered after each act of this call, and the
         // same holds of the machine that replays this record.
         ensures recorded { N ≡ 1 → GivesNextBack D.shows self.old self.new bus.old bus.new upto result }
@@ -271,6 +280,7 @@ impl Player {
             at_most limit self.new.second bus.new.drives < at_most limit self.old.second bus.old.drives) }
         ensures taken { self.new.taken ≡ self.old.taken }
         ensures lasting { numbers D.lasting bus.new.drives ≡ numbers D.lasting bus.old.drives }
+        ensures counted { failed D.failures bus.old.drives ≤ failed D.failures bus.new.drives }
     {
         if !bus.shows_before(upto + 1) {
             return None;

@@ -4,7 +4,7 @@ ghost use Rattle.std.specs.Prelude.{◌≡◌, ◌+◌, ◌≤◌, ◌<◌, ◌^
 ghost use Rattle.cbm_session.specs.Playing.{Station, drive_events};
 ghost use Rattle.cbm_drive.specs.Ordered.{AreOrdered};
 ghost use Rattle.cbm_drive.specs.Played.{HasSettled};
-ghost use Rattle.cbm_drive.specs.Seats.{AreInTime, IsBusAt, numbers};
+ghost use Rattle.cbm_drive.specs.Seats.{AreInTime, IsBusAt, numbers, Unfailed, failed};
 ghost use Rattle.cbm_drive.specs.Turning.{PlaysUpTo};
 
 use crate::bus::{first_due, react, tell_all};
@@ -43,7 +43,9 @@ pub(crate) fn settle<D: Machine>(
     ensures settled { OnOk result (AreInTime limit drives.new) }
     ensures same { length drives.new ≡ length drives.old }
     ensures lasting { numbers D.lasting drives.new ≡ numbers D.lasting drives.old }
-    ensures played { (ss : List (Station D.State)) (n : ℕ) → IsBusAt _ D.State D.stands host drives.old ss → n ≤ limit →
+    ensures counted { failed D.failures drives.old ≤ failed D.failures drives.new }
+    ensures played { Unfailed D.failures drives.old drives.new →
+        (ss : List (Station D.State)) (n : ℕ) → IsBusAt _ D.State D.stands host drives.old ss → n ≤ limit →
         HasSettled _ D.State D.stands D.step D.says host limit drives.new events.old.items events.new.items n ss }
 {
     while let Some((place, moment)) = first_due(drives) {
@@ -72,7 +74,9 @@ pub(crate) fn play_on<D: Machine>(
     requires ordered { AreOrdered 0 end changes.now }
     ensures settled { OnOk result (AreInTime (end + 1) drives.new) }
     ensures lasting { numbers D.lasting drives.new ≡ numbers D.lasting drives.old }
-    ensures played { (ss : List (Station D.State)) → IsBusAt _ D.State D.stands host.old drives.old ss →
+    ensures counted { failed D.failures drives.old ≤ failed D.failures drives.new }
+    ensures played { Unfailed D.failures drives.old drives.new →
+        (ss : List (Station D.State)) → IsBusAt _ D.State D.stands host.old drives.old ss →
         PlaysUpTo _ D.State D.stands D.step D.says host.new (end + 1) drives.new events.old.items events.new.items
         changes.now ss result }
 {

@@ -37,3 +37,4 @@ pub mod Anyway
 pub mod Regrouped
 pub mod HostedAnyway
 pub mod Halves
+pub mod Unfailing

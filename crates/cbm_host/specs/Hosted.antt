@@ -1,11 +1,11 @@
 -- A drive with its DOS alone on a cable with a host: at rest between the host's requests, and in the middle of one.
-use Rattle.std.specs.Prelude.{◌≡◌, ℕ, ◌+◌, Bool, true, List, [], ◌∷◌, ◌++◌, Option}
+use Rattle.std.specs.Prelude.{◌≡◌, ◌≤◌, ℕ, ◌+◌, Bool, true, List, [], ◌∷◌, ◌++◌, Option}
 use Rattle.cbm_medium.specs.Seen.{Seen}
 use Rattle.cbm_channel.specs.Machines.{Machine}
 use Rattle.cbm_channel.specs.Standing.{Kept}
 use Rattle.cbm_drive.specs.Cables.{Cabled}
 use Rattle.cbm_drive.specs.Desks.{Desk, DeskStands, desk_step, desk_says}
-use Rattle.cbm_drive.specs.Seats.{IsBusAt, numbers}
+use Rattle.cbm_drive.specs.Seats.{IsBusAt, failed, numbers}
 use Rattle.cbm_host.specs.Engines.{Engined, engine_at}
 use Rattle.cbm_host.specs.Performed.{IsPerforming, HasPerformed}
 use Rattle.cbm_host.specs.Performers.{Performing}
@@ -58,6 +58,14 @@ module _ {M : Type 0} (seen : M → Seen) where
   -- how many tracks the disk has
   abbrev pub tracks_on : Hosting (Kept M) → List ℕ
   tracks_on h = numbers (λ x. (seen x.dos.medium).tracks) h.bus.drives
+
+  -- how often the medium failed by itself
+  abbrev pub failures_on : Hosting (Kept M) → ℕ
+  failures_on h = failed (λ x. (seen x.dos.medium).failures) h.bus.drives
+
+  -- the medium didn't fail by itself in between
+  abbrev pub HasNotFailed : Hosting (Kept M) → Hosting (Kept M) → Type 0
+  HasNotFailed old new = failures_on new ≤ failures_on old
 
   -- THE DRIVE RESTS, for a machine: all lines are free, and nothing is due.
   abbrev pub Rests : Hosting (Kept M) → Machine → Type 0

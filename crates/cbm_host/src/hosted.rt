@@ -7,7 +7,7 @@ ghost use Rattle.cbm_drive.specs.Seats.{Seated};
 use crate::performer::Performer;
 use crate::request::Request;
 use cbm_drive::{Bus, Desk, Drive, Pace, Party};
-use cbm_medium::Steady;
+use cbm_medium::Medium;
 use std::marker::Model;
 
 /// How long the drive takes to react, in microseconds.
@@ -18,15 +18,17 @@ const FIRST: u64 = 1000;
 
 /// A drive with its DOS alone on a cable with a host. Between the host's requests it rests; the next one begins when the
 /// last one was over.
+///
+/// What a call promises of the machine of named files holds if the medium didn't fail by itself in it (`HasNotFailed`).
 #[derive(Drop)]
-pub struct Hosted<M: Steady> {
+pub struct Hosted<M: Medium> {
     bus: Bus<Desk<M>, 1>,
     device: u8,
     pace: Pace,
     moment: u64,
 }
 
-impl<M: Steady> Model for Hosted<M> {
+impl<M: Medium> Model for Hosted<M> {
     ghost use Rattle.std.specs.Prelude.{◌≡◌, ◌≤◌, length};
     ghost use Rattle.cbm_channel.specs.Standing.{Kept};
     ghost use Rattle.cbm_host.specs.Hosted.{Hosting};
@@ -38,7 +40,7 @@ impl<M: Steady> Model for Hosted<M> {
     ghost invariant = { λ h. (8 ≤ h.device) × (h.device ≤ 11) × (length h.bus.drives ≡ 1) };
 }
 
-impl<M: Steady> Hosted<M> {
+impl<M: Medium> Hosted<M> {
     ghost use Rattle.std.specs.Prelude.{◌≡◌, ◌+◌, ◌∷◌, ◌++◌, ◌<◌, ◌≤◌, ◌^◌, [], ℕ, List, Bool, false, length, replicate, None, Some, IfSome, MatchOption};
     ghost use Rattle.cbm_file.specs.Files.{Disk};
     ghost use Rattle.cbm_channel.specs.Machines.{Machine, start};
@@ -47,7 +49,7 @@ impl<M: Steady> Hosted<M> {
     ghost use Rattle.cbm_volume.specs.Holding.{HoldsDisk};
     ghost use Rattle.cbm_host.specs.declared.request.Request.{Request};
     ghost use Rattle.cbm_host.specs.Engines.{channel_of};
-    ghost use Rattle.cbm_host.specs.Hosted.{Rests, IsUnderWay, IsGoingOn, IsOver, tracks_on};
+    ghost use Rattle.cbm_host.specs.Hosted.{Rests, IsUnderWay, IsGoingOn, IsOver, tracks_on, failures_on, HasNotFailed};
     ghost use Rattle.cbm_host.specs.Progress.{left_of};
     ghost use Rattle.cbm_host.specs.Requests.{longest};
     ghost use Rattle.cbm_iec.specs.declared.pace.Pace.TheVariants.{Profile};
@@ -113,7 +115,8 @@ impl<M: Steady> Hosted<M> {
     /// Goes on with a request to the next byte that the host takes, and answers it and whether it carries EOI. None where the
     /// request is over, and then the drive rests again.
     pub fn take(&mut self, performer: &mut Performer) -> Option<(u8, bool)>
-        ensures taken { (m : Machine) (request : Request) (bytes : List ℕ) (last : Bool) → channel_of request ≤ 15 →
+        ensures taken { HasNotFailed M.seen self.old self.new →
+            (m : Machine) (request : Request) (bytes : List ℕ) (last : Bool) → channel_of request ≤ 15 →
             IsModest request → IsUnderWay M.seen self.old performer.old m request bytes last → MatchOption result
             (IsOver M.seen self.new m request bytes last)
             (λ x. IsGoingOn M.seen self.new performer.new m request (bytes ++ x.0 ∷ []) x.1) }
@@ -131,6 +134,7 @@ impl<M: Steady> Hosted<M> {
         ensures moment { MatchOption result (self.new.moment ≤ performer.old.limit)
             (λ x. self.new.moment ≡ self.old.moment) }
         ensures tracks { tracks_on M.seen self.new ≡ tracks_on M.seen self.old }
+        ensures counted { failures_on M.seen self.old ≤ failures_on M.seen self.new }
     {
         match performer.next_byte(&mut self.bus) {
             Some(said) => {
@@ -150,13 +154,15 @@ impl<M: Steady> Hosted<M> {
         requires channel { channel ≤ 15 }
         requires short { length text.now ≤ 200000 }
         requires moment { self.old.moment < 2 ^ 58 }
-        ensures rests { (m : Machine) → Rests M.seen self.old m → Rests M.seen self.new (after_open channel text.now m) }
+        ensures rests { HasNotFailed M.seen self.old self.new →
+            (m : Machine) → Rests M.seen self.old m → Rests M.seen self.new (after_open channel text.now m) }
         // On any disk the drive rests again, and the next request doesn't begin before this one.
         ensures anyway { RestsAnyway desk_shows self.old → RestsAnyway desk_shows self.new }
         ensures later { RestsAnyway desk_shows self.old → self.old.moment ≤ self.new.moment }
         ensures soon { self.new.moment ≤ self.old.moment + longest self.old.pace }
         ensures pace { self.new.pace ≡ self.old.pace }
         ensures tracks { tracks_on M.seen self.new ≡ tracks_on M.seen self.old }
+        ensures counted { failures_on M.seen self.old ≤ failures_on M.seen self.new }
     {
         self.carry_out(Request::Open(channel, text));
     }
@@ -166,13 +172,15 @@ impl<M: Steady> Hosted<M> {
         requires channel { channel ≤ 15 }
         requires short { length bytes.now ≤ 200000 }
         requires moment { self.old.moment < 2 ^ 58 }
-        ensures rests { (m : Machine) → Rests M.seen self.old m → Rests M.seen self.new (hear channel bytes.now m) }
+        ensures rests { HasNotFailed M.seen self.old self.new →
+            (m : Machine) → Rests M.seen self.old m → Rests M.seen self.new (hear channel bytes.now m) }
         // On any disk the drive rests again, and the next request doesn't begin before this one.
         ensures anyway { RestsAnyway desk_shows self.old → RestsAnyway desk_shows self.new }
         ensures later { RestsAnyway desk_shows self.old → self.old.moment ≤ self.new.moment }
         ensures soon { self.new.moment ≤ self.old.moment + longest self.old.pace }
         ensures pace { self.new.pace ≡ self.old.pace }
         ensures tracks { tracks_on M.seen self.new ≡ tracks_on M.seen self.old }
+        ensures counted { failures_on M.seen self.old ≤ failures_on M.seen self.new }
     {
         self.carry_out(Request::Put(channel, bytes));
     }
@@ -182,7 +190,7 @@ impl<M: Steady> Hosted<M> {
         requires channel { channel ≤ 15 }
         requires short { count ≤ 200000 }
         requires moment { self.old.moment < 2 ^ 58 }
-        ensures rests { (m : Machine) → Rests M.seen self.old m →
+        ensures rests { HasNotFailed M.seen self.old self.new → (m : Machine) → Rests M.seen self.old m →
             Rests M.seen self.new (hear channel (replicate count byte) m) }
         // On any disk the drive rests again, and the next request doesn't begin before this one.
         ensures anyway { RestsAnyway desk_shows self.old → RestsAnyway desk_shows self.new }
@@ -190,6 +198,7 @@ impl<M: Steady> Hosted<M> {
         ensures soon { self.new.moment ≤ self.old.moment + longest self.old.pace }
         ensures pace { self.new.pace ≡ self.old.pace }
         ensures tracks { tracks_on M.seen self.new ≡ tracks_on M.seen self.old }
+        ensures counted { failures_on M.seen self.old ≤ failures_on M.seen self.new }
     {
         self.carry_out(Request::Fill(channel, count, byte));
     }
@@ -198,13 +207,15 @@ impl<M: Steady> Hosted<M> {
     pub fn close(&mut self, channel: u8)
         requires channel { channel ≤ 15 }
         requires moment { self.old.moment < 2 ^ 58 }
-        ensures rests { (m : Machine) → Rests M.seen self.old m → Rests M.seen self.new (closing.close channel m) }
+        ensures rests { HasNotFailed M.seen self.old self.new →
+            (m : Machine) → Rests M.seen self.old m → Rests M.seen self.new (closing.close channel m) }
         // On any disk the drive rests again, and the next request doesn't begin before this one.
         ensures anyway { RestsAnyway desk_shows self.old → RestsAnyway desk_shows self.new }
         ensures later { RestsAnyway desk_shows self.old → self.old.moment ≤ self.new.moment }
         ensures soon { self.new.moment ≤ self.old.moment + longest self.old.pace }
         ensures pace { self.new.pace ≡ self.old.pace }
         ensures tracks { tracks_on M.seen self.new ≡ tracks_on M.seen self.old }
+        ensures counted { failures_on M.seen self.old ≤ failures_on M.seen self.new }
     {
         self.carry_out(Request::Close(channel));
     }
@@ -213,7 +224,8 @@ impl<M: Steady> Hosted<M> {
     fn carry_out(&mut self, request: Request)
         requires moment { self.old.moment < 2 ^ 58 }
         requires channel { channel_of request ≤ 15 }
-        ensures rests { (m : Machine) → IsModest request.entry → Rests M.seen self.old m →
+        ensures rests { HasNotFailed M.seen self.old self.new →
+            (m : Machine) → IsModest request.entry → Rests M.seen self.old m →
             Rests M.seen self.new (served self.old.pace request.entry m).machine }
         // On any disk:
         ensures anyway { IsModest request.entry → RestsAnyway desk_shows self.old → RestsAnyway desk_shows self.new }
@@ -221,6 +233,7 @@ impl<M: Steady> Hosted<M> {
         ensures soon { self.new.moment ≤ self.old.moment + longest self.old.pace }
         ensures pace { self.new.pace ≡ self.old.pace }
         ensures tracks { tracks_on M.seen self.new ≡ tracks_on M.seen self.old }
+        ensures counted { failures_on M.seen self.old ≤ failures_on M.seen self.new }
     {
         let mut performer = self.ask(request);
         'bytes: while let Some(_said) = self.take(&mut performer) {}
@@ -238,7 +251,7 @@ impl<M: Steady> Hosted<M> {
 }
 
 /// The medium of the one drive of a bus.
-fn medium_of<M: Steady>(bus: Bus<Desk<M>, 1>) -> M
+fn medium_of<M: Medium>(bus: Bus<Desk<M>, 1>) -> M
     ensures { (x : Seated (desks.Desk (Kept M))) → bus.drives ≡ x ∷ [] → result ≡ x.machine.dos.medium }
 {
     let [drive] = bus.into_drives();

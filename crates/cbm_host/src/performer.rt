@@ -20,7 +20,8 @@ fn longest(pace: Pace) -> u64
     }
 }
 
-/// Plays a request of the host on a bus with one drive, and gives the events one by one; it takes no memory.
+/// Plays a request of the host on a bus with one drive, and gives the events one by one; it takes no memory. What a call
+/// promises of the states that the machine represents holds if it didn't fail in it (`Unfailed`).
 #[derive(Drop)]
 pub struct Performer<'a> {
     player: Player,
@@ -51,7 +52,7 @@ impl<'a> Performer<'a> {
     ghost use Rattle.cbm_host.specs.Performed.{IsPerforming, HasPerformed};
     ghost use Rattle.cbm_host.specs.declared.request.Request.{Request};
     ghost use Rattle.cbm_drive.specs.Players.{at_start, at_most, IsDrives, IsWaitingFrom};
-    ghost use Rattle.cbm_drive.specs.Seats.{numbers};
+    ghost use Rattle.cbm_drive.specs.Seats.{numbers, Unfailed, failed};
     ghost use Rattle.cbm_host.specs.Progress.{left_of, FallsBy};
     ghost use Rattle.cbm_host.specs.Hosted.{IsTaking, HasTaken, TakesOn};
     ghost use Rattle.cbm_drive.specs.Playback.{Shown, Playback, IsPlayedBack, played_says, played_step};
@@ -99,7 +100,8 @@ impl<'a> Performer<'a> {
     #[inline(always)]
     pub fn next<D: Machine, const N: usize>(&mut self, bus: &mut Bus<D, N>) -> Option<Event>
         requires one { N ≡ 1 }
-        ensures next { (n : ℕ) (ss : List (Station D.State)) (es : List Event) →
+        ensures next { Unfailed D.failures bus.old.drives bus.new.drives →
+            (n : ℕ) (ss : List (Station D.State)) (es : List Event) →
             IsGoing _ D.State D.stands D.step D.says self.old bus.old n ss es → MatchOption result
             (HasStopped _ D.State D.stands D.step D.says self.old self.new bus.new n ss es)
             (HasNext _ D.State D.stands D.step D.says self.old self.new bus.new n ss es) }
@@ -110,6 +112,7 @@ impl<'a> Performer<'a> {
         ensures within { IfSome result (λ e. e.change.moment ≤ self.old.limit) }
         ensures limit { self.new.limit ≡ self.old.limit }
         ensures lasting { numbers D.lasting bus.new.drives ≡ numbers D.lasting bus.old.drives }
+        ensures counted { failed D.failures bus.old.drives ≤ failed D.failures bus.new.drives }
     {
         let event = self.event(bus)?;
         if event.change.moment > self.limit {
@@ -127,7 +130,8 @@ impl<'a> Performer<'a> {
         bus: &mut Bus<D, N>,
     ) -> Option<(u8, bool)>
         requires one { N ≡ 1 }
-        ensures taken { (e : Engined) (limit : ℕ) (bytes : List ℕ) (last : Bool) (ss : List (Station D.State)) →
+        ensures taken { Unfailed D.failures bus.old.drives bus.new.drives →
+            (e : Engined) (limit : ℕ) (bytes : List ℕ) (last : Bool) (ss : List (Station D.State)) →
             IsTaking _ D.State D.stands D.step D.says e limit self.old bus.old bytes last ss → MatchOption result
             (HasTaken _ D.State D.stands D.step D.says e limit self.new bus.new bytes last ss)
             (λ x. IsTaking _ D.State D.stands D.step D.says e limit self.new bus.new (bytes ++ x.0 ∷ []) x.1 ss) }
@@ -136,6 +140,7 @@ impl<'a> Performer<'a> {
         ensures fewer { IfSome result (λ x. left_of self.new bus.new < left_of self.old bus.old) }
         ensures limit { self.new.limit ≡ self.old.limit }
         ensures lasting { numbers D.lasting bus.new.drives ≡ numbers D.lasting bus.old.drives }
+        ensures counted { failed D.failures bus.old.drives ≤ failed D.failures bus.new.drives }
     {
         'events: while let Some(_event) = self.next(bus) {
             if let Some(said) = self.byte() {
@@ -229,6 +234,7 @@ impl<'a> Performer<'a> {
         ensures fewer { left_of self.new bus.new ≤ left_of self.old bus.old }
         ensures limit { self.new.limit ≡ self.old.limit }
         ensures lasting { numbers D.lasting bus.new.drives ≡ numbers D.lasting bus.old.drives }
+        ensures counted { failed D.failures bus.old.drives ≤ failed D.failures bus.new.drives }
     {
         'halves: while self.half(bus) {}
     }
@@ -245,6 +251,7 @@ impl<'a> Performer<'a> {
         ensures same { result ≡ false → (self.new ≡ self.old) × (bus.new ≡ bus.old) }
         ensures limit { self.new.limit ≡ self.old.limit }
         ensures lasting { numbers D.lasting bus.new.drives ≡ numbers D.lasting bus.old.drives }
+        ensures counted { failed D.failures bus.old.drives ≤ failed D.failures bus.new.drives }
     {
         if !self.engine.gathers() {
             return false;
@@ -259,11 +266,13 @@ impl<'a> Performer<'a> {
     /// The event that comes next.
     #[inline(always)]
     fn event<D: Machine, const N: usize>(&mut self, bus: &mut Bus<D, N>) -> Option<Event>
-        ensures come { GoesOn _ D.State D.stands D.step D.says self.old self.new bus.old bus.new result }
+        ensures come { Unfailed D.failures bus.old.drives bus.new.drives →
+            GoesOn _ D.State D.stands D.step D.says self.old self.new bus.old bus.new result }
         ensures recorded { N ≡ 1 → GoesOnRecorded D.shows self.old self.new bus.old bus.new result }
         ensures fewer { IfSome result (λ e. FallsBy e.who self.old self.new bus.old bus.new) }
         ensures limit { self.new.limit ≡ self.old.limit }
         ensures lasting { numbers D.lasting bus.new.drives ≡ numbers D.lasting bus.old.drives }
+        ensures counted { failed D.failures bus.old.drives ≤ failed D.failures bus.new.drives }
     {
         match self.engine.due() {
             Due::Makes(change) => self.play(bus, change),
@@ -277,7 +286,8 @@ impl<'a> Performer<'a> {
     #[inline(always)]
     fn ask<D: Machine, const N: usize>(&mut self, bus: &mut Bus<D, N>, upto: u64) -> Option<Event>
         requires { upto ≤ self.old.limit }
-        ensures come { GoesUpTo _ D.State D.stands D.step D.says upto self.old self.new bus.old bus.new result }
+        ensures come { Unfailed D.failures bus.old.drives bus.new.drives →
+            GoesUpTo _ D.State D.stands D.step D.says upto self.old self.new bus.old bus.new result }
         ensures recorded { N ≡ 1 → GoesUpToRecorded D.shows upto self.old self.new bus.old bus.new result }
         ensures waiting { IsWaitingFrom self.new.player.from self.new.player.waiting }
         ensures fewer { IfSome result (λ e. IsDrives e.who → at_most (self.old.limit + 1) self.new.player.second
@@ -285,6 +295,7 @@ impl<'a> Performer<'a> {
         ensures engine { self.new.engine ≡ self.old.engine }
         ensures limit { self.new.limit ≡ self.old.limit }
         ensures lasting { numbers D.lasting bus.new.drives ≡ numbers D.lasting bus.old.drives }
+        ensures counted { failed D.failures bus.old.drives ≤ failed D.failures bus.new.drives }
     {
         self.player.next(bus, upto)
     }
@@ -294,7 +305,8 @@ impl<'a> Performer<'a> {
     fn heed<D: Machine, const N: usize>(&mut self, bus: &mut Bus<D, N>, upto: u64) -> Option<Event>
         requires upto { upto ≤ self.old.limit }
         requires none { (change : Change) → engine_due self.old.engine ≡ Makes change → ⊥ }
-        ensures come { GoesUpTo _ D.State D.stands D.step D.says upto self.old self.new bus.old bus.new result }
+        ensures come { Unfailed D.failures bus.old.drives bus.new.drives →
+            GoesUpTo _ D.State D.stands D.step D.says upto self.old self.new bus.old bus.new result }
         ensures recorded { N ≡ 1 → GoesUpToRecorded D.shows upto self.old self.new bus.old bus.new result }
         ensures waiting { IsWaitingFrom self.new.player.from self.new.player.waiting }
         ensures drive { IfSome result (λ e. IsDrives e.who) }
@@ -303,6 +315,7 @@ impl<'a> Performer<'a> {
         ensures engine { self.new.engine ≡ self.old.engine }
         ensures limit { self.new.limit ≡ self.old.limit }
         ensures lasting { numbers D.lasting bus.new.drives ≡ numbers D.lasting bus.old.drives }
+        ensures counted { failed D.failures bus.old.drives ≤ failed D.failures bus.new.drives }
     {
         let event = self.ask(bus, upto)?;
         match event.who {
@@ -315,11 +328,13 @@ impl<'a> Performer<'a> {
     #[inline(always)]
     fn hear<D: Machine, const N: usize>(&mut self, bus: &mut Bus<D, N>) -> Option<Event>
         requires due { engine_due self.old.engine ≡ Hears }
-        ensures come { GoesOn _ D.State D.stands D.step D.says self.old self.new bus.old bus.new result }
+        ensures come { Unfailed D.failures bus.old.drives bus.new.drives →
+            GoesOn _ D.State D.stands D.step D.says self.old self.new bus.old bus.new result }
         ensures recorded { N ≡ 1 → GoesOnRecorded D.shows self.old self.new bus.old bus.new result }
         ensures fewer { IfSome result (λ e. FallsBy e.who self.old self.new bus.old bus.new) }
         ensures limit { self.new.limit ≡ self.old.limit }
         ensures lasting { numbers D.lasting bus.new.drives ≡ numbers D.lasting bus.old.drives }
+        ensures counted { failed D.failures bus.old.drives ≤ failed D.failures bus.new.drives }
     {
         let limit = self.limit;
         self.heed(bus, limit)
@@ -333,7 +348,8 @@ impl<'a> Performer<'a> {
         change: Change,
     ) -> Option<Event>
         requires due { engine_due self.old.engine ≡ Makes change }
-        ensures come { (n : ℕ) (ss : List (Station D.State)) (es : List Event) →
+        ensures come { Unfailed D.failures bus.old.drives bus.new.drives →
+            (n : ℕ) (ss : List (Station D.State)) (es : List Event) →
             IsGoing _ D.State D.stands D.step D.says self.old bus.old n ss es → MatchOption result
             (IsHeldBack _ D.State D.stands D.step D.says self.old self.new bus.old bus.new change)
             (HasCome _ D.State D.stands D.step D.says self.old self.new bus.new n ss es) }
@@ -342,6 +358,7 @@ impl<'a> Performer<'a> {
         ensures engine { self.new.engine ≡ self.old.engine }
         ensures limit { self.new.limit ≡ self.old.limit }
         ensures lasting { numbers D.lasting bus.new.drives ≡ numbers D.lasting bus.old.drives }
+        ensures counted { failed D.failures bus.old.drives ≤ failed D.failures bus.new.drives }
     {
         if change.moment > self.limit || !self.hand_on(change) {
             return None;
@@ -370,11 +387,13 @@ impl<'a> Performer<'a> {
     #[inline(always)]
     fn wait<D: Machine, const N: usize>(&mut self, bus: &mut Bus<D, N>, until: u64) -> Option<Event>
         requires due { engine_due self.old.engine ≡ Waits until }
-        ensures come { GoesOn _ D.State D.stands D.step D.says self.old self.new bus.old bus.new result }
+        ensures come { Unfailed D.failures bus.old.drives bus.new.drives →
+            GoesOn _ D.State D.stands D.step D.says self.old self.new bus.old bus.new result }
         ensures recorded { N ≡ 1 → GoesOnRecorded D.shows self.old self.new bus.old bus.new result }
         ensures fewer { IfSome result (λ e. FallsBy e.who self.old self.new bus.old bus.new) }
         ensures limit { self.new.limit ≡ self.old.limit }
         ensures lasting { numbers D.lasting bus.new.drives ≡ numbers D.lasting bus.old.drives }
+        ensures counted { failed D.failures bus.old.drives ≤ failed D.failures bus.new.drives }
     {
         if let Some(event) = self.before(bus, until) {
             return Some(event);
@@ -397,7 +416,8 @@ impl<'a> Performer<'a> {
         until: u64,
     ) -> Option<Event>
         requires due { engine_due self.old.engine ≡ Waits until }
-        ensures come { (n : ℕ) (ss : List (Station D.State)) (es : List Event) →
+        ensures come { Unfailed D.failures bus.old.drives bus.new.drives →
+            (n : ℕ) (ss : List (Station D.State)) (es : List Event) →
             IsGoing _ D.State D.stands D.step D.says self.old bus.old n ss es → MatchOption result
             (IsUnmoved _ D.State D.stands D.step D.says self.old self.new bus.old bus.new until n ss es)
             (HasCome _ D.State D.stands D.step D.says self.old self.new bus.new n ss es) }
@@ -406,6 +426,7 @@ impl<'a> Performer<'a> {
         ensures engine { self.new.engine ≡ self.old.engine }
         ensures limit { self.new.limit ≡ self.old.limit }
         ensures lasting { numbers D.lasting bus.new.drives ≡ numbers D.lasting bus.old.drives }
+        ensures counted { failed D.failures bus.old.drives ≤ failed D.failures bus.new.drives }
     {
         let upto = until.min(self.limit + 1).checked_sub(1)?;
         self.heed(bus, upto)

@@ -4,6 +4,7 @@ ghost use Rattle.std.specs.Prelude.{◌≡◌, ◌+◌, ◌<◌, ◌≤◌, ◌^
 ghost use Rattle.cbm_iec.specs.declared.event.Event.{Event};
 ghost use Rattle.cbm_session.specs.Seats.{at_pace};
 ghost use Rattle.cbm_session.specs.Sessions.{IsDrive};
+ghost use Rattle.cbm_drive.specs.Seats.{Unfailed, failed};
 ghost use Rattle.cbm_drive.specs.declared.fault.PlayFault.TheVariants.{Memory};
 ghost use Rattle.cbm_host.specs.Engines.{channel_of, engine_at};
 ghost use Rattle.cbm_iec.specs.declared.pace.Pace.TheVariants.{Profile};
@@ -23,6 +24,8 @@ use std::alloc::{AllocError, Global};
 /// Carries out a request on a bus with one drive, at rest and at the profile's pace: from its first change, at the start, to the
 /// moment when it is over, at most 250,000,000 microseconds later. The events go to `events`. A request of more than 200,000
 /// bytes may be given up at that moment. Error: want of memory, and then they are a beginning of what happened.
+///
+/// What is promised of the states that the machine represents holds if it didn't fail in it (`Unfailed`).
 pub fn perform<D: Machine, const N: usize>(
     alloc: Global,
     bus: &mut Bus<D, N>,
@@ -35,11 +38,13 @@ pub fn perform<D: Machine, const N: usize>(
     requires start { start < 2 ^ 58 }
     requires device { device < 31 }
     requires channel { channel_of request ≤ 15 }
-    ensures carried_out { (v : Party) (ms : ℕ → D.State) → let b = at_pace Profile v in IsDrive b → b.device ≡ device →
+    ensures carried_out { Unfailed D.failures bus.old.drives bus.new.drives →
+        (v : Party) (ms : ℕ → D.State) → let b = at_pace Profile v in IsDrive b → b.device ≡ device →
         CarriesOut _ D.State D.stands D.step D.says b device ms start request.entry bus.old bus.new events.old.items
         events.new.items result }
     // Each change of the host came at the moment that the request's stages say, and so did the end.
-    ensures moments { KeepsMoments _ D.State D.stands D.step D.says (engine_at start device request.entry)
+    ensures moments { Unfailed D.failures bus.old.drives bus.new.drives →
+        KeepsMoments _ D.State D.stands D.step D.says (engine_at start device request.entry)
         (start + 250000000) bus.old events.old.items events.new.items result }
     // On any disk a machine plays back what the drive showed, and for that machine the request was carried out.
     ensures recorded { (v : Party) → let b = at_pace Profile v in IsDrive b → b.device ≡ device → IsAtRest D.shows b bus.old →
@@ -47,7 +52,9 @@ pub fn perform<D: Machine, const N: usize>(
     ensures end { IfOk result (λ done. done.end ≤ start + 250000000) }
     // Whatever the machine represents, nothing happens later than that.
     ensures within { HasAddedUpTo (start + 250000000) events.old.items events.new.items }
-    ensures memory { LacksMemory _ D.State D.stands D.step D.says bus.old bus.new events.old.items events.new.items result }
+    ensures counted { failed D.failures bus.old.drives ≤ failed D.failures bus.new.drives }
+    ensures memory { Unfailed D.failures bus.old.drives bus.new.drives →
+        LacksMemory _ D.State D.stands D.step D.says bus.old bus.new events.old.items events.new.items result }
 {
     perform_at(alloc, Pace::Profile, bus, start, device, request, events)
 }
@@ -67,11 +74,13 @@ pub fn perform_at<D: Machine, const N: usize>(
     requires start { start < 2 ^ 58 }
     requires device { device < 31 }
     requires channel { channel_of request ≤ 15 }
-    ensures carried_out { (b : Party) (ms : ℕ → D.State) → IsDrive b → b.device ≡ device → b.pace ≡ pace →
+    ensures carried_out { Unfailed D.failures bus.old.drives bus.new.drives →
+        (b : Party) (ms : ℕ → D.State) → IsDrive b → b.device ≡ device → b.pace ≡ pace →
         CarriesOut _ D.State D.stands D.step D.says b device ms start request.entry bus.old bus.new events.old.items
         events.new.items result }
     // Each change of the host came at the moment that the request's stages say, and so did the end.
-    ensures moments { KeepsMoments _ D.State D.stands D.step D.says (engine_at start device request.entry)
+    ensures moments { Unfailed D.failures bus.old.drives bus.new.drives →
+        KeepsMoments _ D.State D.stands D.step D.says (engine_at start device request.entry)
         (start + longest pace) bus.old events.old.items events.new.items result }
     // On any disk a machine plays back what the drive showed, and for that machine the request was carried out.
     ensures recorded { (b : Party) → IsDrive b → b.device ≡ device → b.pace ≡ pace → IsAtRest D.shows b bus.old →
@@ -79,7 +88,9 @@ pub fn perform_at<D: Machine, const N: usize>(
     ensures end { IfOk result (λ done. done.end ≤ start + longest pace) }
     // Whatever the machine represents, nothing happens later than that.
     ensures within { HasAddedUpTo (start + longest pace) events.old.items events.new.items }
-    ensures memory { LacksMemory _ D.State D.stands D.step D.says bus.old bus.new events.old.items events.new.items result }
+    ensures counted { failed D.failures bus.old.drives ≤ failed D.failures bus.new.drives }
+    ensures memory { Unfailed D.failures bus.old.drives bus.new.drives →
+        LacksMemory _ D.State D.stands D.step D.says bus.old bus.new events.old.items events.new.items result }
 {
     let mut performer = Performer::with_pace(start, device, request, pace);
     let mut done = Done {
@@ -104,13 +115,16 @@ fn run<D: Machine, const N: usize>(
     done: &mut Done,
 ) -> Result<(), AllocError>
     requires one { N ≡ 1 }
-    ensures performed { RunsOut _ D.State D.stands D.step D.says performer.old performer.new bus.old bus.new events.old.items
+    ensures performed { Unfailed D.failures bus.old.drives bus.new.drives →
+        RunsOut _ D.State D.stands D.step D.says performer.old performer.new bus.old bus.new events.old.items
         events.new.items done.old done.new result }
-    ensures memory { IsCutOnTheWay _ D.State D.stands D.step D.says performer.old bus.old bus.new events.old.items
+    ensures memory { Unfailed D.failures bus.old.drives bus.new.drives →
+        IsCutOnTheWay _ D.State D.stands D.step D.says performer.old bus.old bus.new events.old.items
         events.new.items done.old result }
     ensures recorded { RunsOutBack D.shows performer.old performer.new bus.old bus.new events.old.items events.new.items
         done.old done.new result }
     ensures within { HasAddedUpTo performer.old.limit events.old.items events.new.items }
+    ensures counted { failed D.failures bus.old.drives ≤ failed D.failures bus.new.drives }
     ensures limit { performer.new.limit ≡ performer.old.limit }
 {
     'events: while step(performer, bus, events, done)? {}
@@ -125,13 +139,16 @@ fn step<D: Machine, const N: usize>(
     done: &mut Done,
 ) -> Result<bool, AllocError>
     requires one { N ≡ 1 }
-    ensures performing { Steps _ D.State D.stands D.step D.says performer.old performer.new bus.old bus.new events.old.items
+    ensures performing { Unfailed D.failures bus.old.drives bus.new.drives →
+        Steps _ D.State D.stands D.step D.says performer.old performer.new bus.old bus.new events.old.items
         events.new.items done.old done.new result }
-    ensures memory { IsCutOnTheWay _ D.State D.stands D.step D.says performer.old bus.old bus.new events.old.items
+    ensures memory { Unfailed D.failures bus.old.drives bus.new.drives →
+        IsCutOnTheWay _ D.State D.stands D.step D.says performer.old bus.old bus.new events.old.items
         events.new.items done.old result }
     ensures recorded { StepsBack D.shows performer.old performer.new bus.old bus.new events.old.items events.new.items
         done.old done.new result }
     ensures within { HasAddedUpTo performer.old.limit events.old.items events.new.items }
+    ensures counted { failed D.failures bus.old.drives ≤ failed D.failures bus.new.drives }
     ensures fewer { IfOk result (λ more. more ≡ true → left_of performer.new bus.new < left_of performer.old bus.old) }
     ensures limit { performer.new.limit ≡ performer.old.limit }
 {

@@ -38,6 +38,11 @@ pub match_of : {P Q : Event → Type 0} {N M : Type 0} (r : Option Event) → (N
 match_of None n f h = n h
 match_of (Some e) n f h = f e h
 
+-- what is promised under a condition, and what holds without it, in each case
+pub under : (P : Event → Type 0) (N : Type 0) {L F : Type 0} (r : Option Event) → L → (F → MatchOption r N P) → MatchOption r (L × (F → N)) (λ e. L × (F → P e))
+under P N None l h = (l, h)
+under P N (Some e) l h = (l, h)
+
 module _ (D M : Type 0) (stands : D → M → Type 0) (step : M → Act → M) (says : M → Option (ℕ × Bool)) where
   -- the same bus, and a player that differs in what waits alone
   pub after_same : (p q : Turns) (b c : Cabled D) (n : ℕ) (ss : List (Station M)) (es : List Event) → q.second ≡ p.second → q.from ≡ p.from → c ≡ b → IsAfter D M stands step says p b n ss es → IsAfter D M stands step says q c n ss es

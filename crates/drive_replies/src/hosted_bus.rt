@@ -37,17 +37,18 @@ impl<D: Machine, const N: usize> HostedBus<D, N> {
 }
 
 impl<D: Machine, const N: usize> Plays for HostedBus<D, N> {
-    ghost use Rattle.std.specs.Prelude.{ℕ, List, MatchOption};
+    ghost use Rattle.std.specs.Prelude.{◌≤◌, ℕ, List, MatchOption};
     ghost use Rattle.cbm_session.specs.Playing.{Station};
     ghost use Rattle.cbm_drive.specs.Cables.{IsDueFirst};
     ghost use Rattle.cbm_drive.specs.Players.{IsAfter, at_most};
-    ghost use Rattle.cbm_drive.specs.Seats.{AreIdle};
+    ghost use Rattle.cbm_drive.specs.Seats.{AreIdle, failed};
 
-    // The stations of the bus at a moment.
-    ghost Start = { ℕ × List (Station D.State) };
+    // The stations of the bus at a moment, and how often the drives' machines had failed by then.
+    ghost Start = { ℕ × ℕ × List (Station D.State) };
 
-    // They are a play from these stations.
-    ghost gave = { λ b start es. IsAfter _ D.State D.stands D.step D.says b.player b.bus start.0 start.1 es };
+    // They are a play from these stations, if no machine failed since.
+    ghost gave = { λ b start es. (start.0 ≤ failed D.failures b.bus.drives) × (failed D.failures b.bus.drives ≤ start.0 →
+        IsAfter _ D.State D.stands D.step D.says b.player b.bus start.1 start.2 es) };
 
     ghost waiting = { λ b. b.player.waiting };
 

@@ -31,6 +31,8 @@ impl Machine for Parrot {
 
     ghost lasting = { λ x. 0 };
 
+    ghost failures = { λ x. 0 };
+
     fn act(&mut self, act: Act) {
         if !self.acts.is_full() {
             self.acts.push(Some(act));

@@ -26,6 +26,8 @@ impl<D: Machine + Drop> Machine for Recorder<D> {
 
     ghost lasting = { λ x. D.lasting x.machine };
 
+    ghost failures = { λ x. D.failures x.machine };
+
     fn act(&mut self, act: Act) {
         if !self.acts.is_full() {
             self.acts.push(Some(act));

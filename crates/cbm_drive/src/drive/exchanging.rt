@@ -3,9 +3,9 @@
 use crate::desk::Desk;
 use crate::drive::Drive;
 use cbm_iec::Port;
-use cbm_medium::Steady;
+use cbm_medium::Medium;
 
-impl<M: Steady> Drive<Desk<M>> {
+impl<M: Medium> Drive<Desk<M>> {
     ghost use Rattle.std.specs.Prelude.{◌≡◌};
     ghost use Rattle.cbm_channel.specs.Exchanged.{still_telling};
     ghost use Rattle.cbm_file.specs.Files.{Disk};

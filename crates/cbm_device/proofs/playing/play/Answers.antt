@@ -1,8 +1,9 @@
+use Rattle.cbm_drive.proofs.Unfailed.{never_failed}
 use Rattle.std.proofs.Common.{◌≡◌, Some, None, ap, subst, sym, ◌∙◌}
 use Rattle.cbm_channel.specs.Machines.{start}
 use Rattle.cbm_drive.specs.Desks.{DeskStands, at_first}
 use Rattle.cbm_drive.specs.Ordered.{fault_of}
-use Rattle.cbm_device.specs.ImageDisks.{seen_of}
+use Rattle.cbm_device.specs.ImageDisks.{seen_of, never_fails}
 use Rattle.cbm_device.specs.Plays.{machine_of, powered}
 use Rattle.cbm_device.proofs.Played.{never_memory, no_fault, on_bus, played_all}
 use Rattle.cbm_device.proofs.playing.play.Goals as goal
@@ -17,7 +18,7 @@ returns-in-Ok-clause-played c = λ d h.
     (subst (λ x. DeskStands seen_of x (machine_of b m b.device)) (sym c.new.ensures.machine) desk) in
     let none = no_fault (fault_of 0 0 c.args.end c.args.changes.now) (λ f e. let bad = (c.in-Ok.ensures.fault f e).0 in absurd cc) in
     played_all b m c.args.changes.now c.args.end c.args.events.now.items c.play.new.events.items c.play.new.self.host c.play.new.self.drives c.disk_of.result c.disk_of.ensures
-    (c.in-Ok.ensures.played (powered b m) none bus)
+    (c.in-Ok.ensures.played (never_failed (λ x. (seen_of x.dos.medium).failures) (λ x. never_fails x.dos.medium) c.new-bus.result.drives c.play.new.self.drives) (powered b m) none bus)
 
 pub returns-in-Err-Memory-clause-refused : goal.returns-in-Err-Memory-clause-refused
 returns-in-Err-Memory-clause-refused c =

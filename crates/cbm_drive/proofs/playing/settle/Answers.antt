@@ -9,9 +9,10 @@ use Rattle.cbm_drive.proofs.playing.settle.Goals as goal
 
 pub loop-place-init : goal.loop-place-init
 loop-place-init g c = (
-  (λ ss n h l. settled_none _ g.D.Machine.State g.D.Machine.stands g.D.Machine.step g.D.Machine.says g.met.D.Machine.byte c.args.host c.args.limit c.args.drives.now c.args.events.now.items n ss h l),
+  (λ u ss n h l. settled_none _ g.D.Machine.State g.D.Machine.stands g.D.Machine.step g.D.Machine.says g.met.D.Machine.byte c.args.host c.args.limit c.args.drives.now c.args.events.now.items n ss h l),
   refl,
   refl,
+  (omega arith),
 )
 
 -- what is due first is due at the limit or later
@@ -28,11 +29,12 @@ loop-place-smaller-in-Some-react g c =
 
 pub loop-place-preserved-in-Some-react : goal.loop-place-preserved-in-Some-react
 loop-place-preserved-in-Some-react g c = (
-  (λ ss n h l.
-      (let s = c.loop-place.invariant.0 ss n h l in
+  (λ u ss n h l.
+      (let s = c.loop-place.invariant.0 (omega (arith, u, c.in-Some-react.ensures.counted)) ss n h l in
       settled_more _ g.D.Machine.State g.D.Machine.stands g.D.Machine.stands g.D.Machine.step g.D.Machine.says g.met.D.Machine.byte g.met.D.Machine.byte c.args.host c.args.limit c.in-Some.moment c.in-Some-react.answer.device n c.loop-place.drives c.react.new.drives c.in-Some-react.answer.changes.items
-      c.args.events.now.items c.loop-place.events.items c.give.new.events.items ss s (c.in-Some-react.ensures.reacted s.stations s.now c.in-Some.ensures.first) (omega (arith, c.if-moment-limit.false))
+      c.args.events.now.items c.loop-place.events.items c.give.new.events.items ss s (c.in-Some-react.ensures.reacted (omega (arith, u, c.loop-place.invariant.3)) s.stations s.now c.in-Some.ensures.first) (omega (arith, c.if-moment-limit.false))
       (c.give.ensures ∙ ap (λ (es : List Event). es ++ drive_events c.in-Some-react.answer.device c.deref.result.now) c.reserve.ensures.items ∙ ap (λ (cs : List Change). c.loop-place.events.items ++ drive_events c.in-Some-react.answer.device cs) c.deref.ensures.0))),
   c.in-Some-react.ensures.same ∙ c.loop-place.invariant.1,
   c.in-Some-react.ensures.lasting ∙ c.loop-place.invariant.2,
+  (omega (arith, c.in-Some-react.ensures.counted, c.loop-place.invariant.3)),
 )

@@ -16,11 +16,11 @@ use Rattle.cbm_host.proofs.AnyDisk.{rest_played}
 use Rattle.cbm_host.proofs.Anyway.{carried_anyway}
 
 pub returns-in-Ok-clause-carried_out : goal.returns-in-Ok-clause-carried_out
-returns-in-Ok-clause-carried_out g c = λ b ms drive device pace short bus.
+returns-in-Ok-clause-carried_out g c = λ u b ms drive device pace short bus.
     let engine = engine_at c.args.start c.args.device c.args.request in
     let limit = c.args.start + longest c.args.pace in
     let ss = at_rest g.D.Machine.State g.D.Machine.step g.D.Machine.says ms (b ∷ []) in
-    let h = c.in-Ok.ensures.performed engine limit c.args.events.now.items ss
+    let h = c.in-Ok.ensures.performed u engine limit c.args.events.now.items ss
     (performing_none _ g.D.Machine.State g.D.Machine.stands g.D.Machine.step g.D.Machine.says g.met.D.Machine.byte engine limit c.with_pace-performer.result c.args.bus.now c.args.events.now.items c.new.result.items false ss bus c.with_pace-performer.ensures.player c.with_pace-performer.ensures.engine
     c.with_pace-performer.ensures.limit c.new.ensures.items refl) in
     let h2 = subst (λ (n : ℕ). HasPerformed _ g.D.Machine.State g.D.Machine.stands g.D.Machine.step g.D.Machine.says (engine_at c.args.start n c.args.request) (c.args.start + longest b.pace) c.run.new.performer c.run.new.bus c.args.events.now.items c.run.new.events.items c.run.new.done.bytes.items c.run.new.done.last ss) (sym device)
@@ -35,10 +35,10 @@ returns-in-Ok-clause-carried_out g c = λ b ms drive device pace short bus.
     c.over.result (end.1 ∙ ap (λ (t : ℕ). Some t) (sym over))
 
 pub returns-in-Ok-clause-moments : goal.returns-in-Ok-clause-moments
-returns-in-Ok-clause-moments g c = λ ss bus.
+returns-in-Ok-clause-moments g c = λ u ss bus.
     let engine = engine_at c.args.start c.args.device c.args.request in
     let limit = c.args.start + longest c.args.pace in
-    let h = c.in-Ok.ensures.performed engine limit c.args.events.now.items ss
+    let h = c.in-Ok.ensures.performed u engine limit c.args.events.now.items ss
     (performing_none _ g.D.Machine.State g.D.Machine.stands g.D.Machine.step g.D.Machine.says g.met.D.Machine.byte engine limit c.with_pace-performer.result c.args.bus.now c.args.events.now.items c.new.result.items false ss bus c.with_pace-performer.ensures.player c.with_pace-performer.ensures.engine
     c.with_pace-performer.ensures.limit c.new.ensures.items refl) in
     let stops = subst (λ (l : ℕ). Stops g.D.Machine.State g.D.Machine.step g.D.Machine.says c.run.new.performer.player l 0 ss h.made (engine_due c.run.new.performer.engine)) (sym h.until) h.stops in
@@ -52,10 +52,10 @@ returns-in-Ok-clause-moments g c = λ ss bus.
     }
 
 pub returns-in-Err-clause-memory : goal.returns-in-Err-clause-memory
-returns-in-Err-clause-memory g c = λ ss bus.
+returns-in-Err-clause-memory g c = λ u ss bus.
     let engine = engine_at c.args.start c.args.device c.args.request in (
       refl,
-      c.in-Err.ensures.memory engine (c.args.start + longest c.args.pace) c.args.events.now.items ss
+      c.in-Err.ensures.memory u engine (c.args.start + longest c.args.pace) c.args.events.now.items ss
           (performing_none _ g.D.Machine.State g.D.Machine.stands g.D.Machine.step g.D.Machine.says g.met.D.Machine.byte engine (c.args.start + longest c.args.pace) c.with_pace-performer.result c.args.bus.now c.args.events.now.items c.new.result.items false ss bus c.with_pace-performer.ensures.player
           c.with_pace-performer.ensures.engine c.with_pace-performer.ensures.limit c.new.ensures.items refl),
     )

@@ -1,4 +1,4 @@
-use Rattle.std.proofs.Common.{ℕ, refl, ◌∙◌, subst, List, [], ◌++◌}
+use Rattle.std.proofs.Common.{ℕ, refl, ◌∙◌, subst, List, [], ◌++◌, arith}
 use Rattle.cbm_host.proofs.Performed.{if_no, if_yes, if_err, added_none, added_more, match_err}
 use Rattle.cbm_host.proofs.performing.run.Goals as goal
 use Rattle.cbm_host.specs.Performed.{HasAddedUpTo}
@@ -7,13 +7,14 @@ use Rattle.cbm_host.specs.Recorded.{IsPerformingBack}
 use Rattle.std.proofs.lemmas.List.{append_assoc}
 
 pub events-init : goal.events-init
-events-init g c = record { performing = λ e limit old ss p. p; within = added_none c.args.performer.now.limit c.args.events.now.items c.args.events.now.items refl; limit = refl; recorded = ([], λ later e limit old ss p. p) }
+events-init g c = record { performing = λ u e limit old ss p. p; counted = omega arith; within = added_none c.args.performer.now.limit c.args.events.now.items c.args.events.now.items refl; limit = refl; recorded = ([], λ later e limit old ss p. p) }
 
 pub events-preserved : goal.events-preserved
 events-preserved g c = record {
-  performing = λ e limit old ss p.
-      (let k = c.events.invariant.performing e limit old ss p in
-      if_yes c.in_ok-step.field-0 _ _ c.if-branch.true (c.in_ok-step.ensures.performing e limit old ss k));
+  performing = λ u e limit old ss p.
+      (let k = c.events.invariant.performing (omega (arith, u, c.step.ensures.counted)) e limit old ss p in
+      if_yes c.in_ok-step.field-0 _ _ c.if-branch.true (c.in_ok-step.ensures.performing (omega (arith, u, c.events.invariant.counted)) e limit old ss k));
+  counted = omega (arith, c.step.ensures.counted, c.events.invariant.counted);
   within = added_more _ _ _ _ c.events.invariant.within (subst (λ (l : ℕ). HasAddedUpTo l c.events.events.items c.step.new.events.items) c.events.invariant.limit c.step.ensures.within);
   limit = c.step.ensures.limit ∙ c.events.invariant.limit;
   recorded =
@@ -30,15 +31,21 @@ events-preserved g c = record {
 
 -- no more come
 pub returns-clause-performed : goal.returns-clause-performed
-returns-clause-performed g c = λ e limit old ss p.
-    let k = c.events.invariant.performing e limit old ss p in
-    if_no c.in_ok-step.field-0 _ _ c.if-branch.false (c.in_ok-step.ensures.performing e limit old ss k)
+returns-clause-performed g c = λ u e limit old ss p.
+    let k = c.events.invariant.performing (omega (arith, u, c.step.ensures.counted)) e limit old ss p in
+    if_no c.in_ok-step.field-0 _ _ c.if-branch.false (c.in_ok-step.ensures.performing (omega (arith, u, c.events.invariant.counted)) e limit old ss k)
 
 -- memory ran out
 pub returns-in_err-step-clause-memory : goal.returns-in_err-step-clause-memory
-returns-in_err-step-clause-memory g c = λ e limit old ss p.
-    let k = c.events.invariant.performing e limit old ss p in
-    if_err c.from_residual.result _ (λ x. c.in_err-step.ensures.memory e limit old ss k)
+returns-in_err-step-clause-memory g c = λ u e limit old ss p.
+    let k = c.events.invariant.performing (omega (arith, u, c.step.ensures.counted)) e limit old ss p in
+    if_err c.from_residual.result _ (λ x. c.in_err-step.ensures.memory (omega (arith, u, c.events.invariant.counted)) e limit old ss k)
+
+pub returns-clause-counted : goal.returns-clause-counted
+returns-clause-counted g c = omega (arith, c.step.ensures.counted, c.events.invariant.counted)
+
+pub returns-in_err-step-clause-counted : goal.returns-in_err-step-clause-counted
+returns-in_err-step-clause-counted g c = omega (arith, c.step.ensures.counted, c.events.invariant.counted)
 
 -- what was added up to there
 pub returns-clause-within : goal.returns-clause-within

@@ -5,24 +5,24 @@ use Rattle.cbm_host.specs.Performed.{taken_with, last_with}
 use Rattle.cbm_drive.specs.Playback.{Playback, played_says, played_step, IsPlayedBack}
 
 pub returns-in_default-clause-performing : goal.returns-in_default-clause-performing
-returns-in_default-clause-performing g c = λ e limit old ss p.
-    performing_still _ g.D.Machine.State g.D.Machine.stands g.D.Machine.stands g.D.Machine.step g.D.Machine.says e limit c.args.performer.now c.next.new.self c.args.bus.now c.next.new.bus old c.args.events.now.items c.args.done.now.bytes.items c.args.done.now.last ss p (c.in_default.ensures.next 0 ss p.made p.going)
+returns-in_default-clause-performing g c = λ u e limit old ss p.
+    performing_still _ g.D.Machine.State g.D.Machine.stands g.D.Machine.stands g.D.Machine.step g.D.Machine.says e limit c.args.performer.now c.next.new.self c.args.bus.now c.next.new.bus old c.args.events.now.items c.args.done.now.bytes.items c.args.done.now.last ss p (c.in_default.ensures.next u 0 ss p.made p.going)
 
 pub returns-clause-performing : goal.returns-clause-performing
-returns-clause-performing g c = λ e limit old ss p.
+returns-clause-performing g c = λ u e limit old ss p.
     performing_on _ g.D.Machine.State g.D.Machine.stands g.D.Machine.stands g.D.Machine.step g.D.Machine.says e limit c.args.performer.now c.next.new.self c.args.bus.now c.next.new.bus old c.args.events.now.items c.push.new.self.items c.args.done.now.bytes.items c.take.new.self.bytes.items c.args.done.now.last c.take.new.self.last ss
-    c.in-Some.event p (c.in-Some.ensures.next 0 ss p.made p.going) c.in_ok-push.ensures.items (c.in_ok-take.ensures.bytes ∙ ap (λ o. c.args.done.now.bytes.items ++ taken_with o) c.byte.ensures) (c.in_ok-take.ensures.last ∙ ap (λ o. last_with o c.args.done.now.last) c.byte.ensures)
+    c.in-Some.event p (c.in-Some.ensures.next u 0 ss p.made p.going) c.in_ok-push.ensures.items (c.in_ok-take.ensures.bytes ∙ ap (λ o. c.args.done.now.bytes.items ++ taken_with o) c.byte.ensures) (c.in_ok-take.ensures.last ∙ ap (λ o. last_with o c.args.done.now.last) c.byte.ensures)
 
 -- no memory for the event, or for the byte that was taken with it
 pub returns-in_err-push-clause-memory : goal.returns-in_err-push-clause-memory
-returns-in_err-push-clause-memory g c = λ e limit old ss p.
+returns-in_err-push-clause-memory g c = λ u e limit old ss p.
     if_err c.from_residual.result _ (λ x. cut_before _ g.D.Machine.State g.D.Machine.stands g.D.Machine.stands g.D.Machine.step g.D.Machine.says e limit c.args.performer.now c.next.new.self c.args.bus.now c.next.new.bus old c.args.events.now.items c.push.new.self.items c.args.done.now.bytes.items c.args.done.now.last ss
-    c.in-Some.event p (c.in-Some.ensures.next 0 ss p.made p.going) c.in_err-push.ensures.items)
+    c.in-Some.event p (c.in-Some.ensures.next u 0 ss p.made p.going) c.in_err-push.ensures.items)
 
 pub returns-in_err-take-clause-memory : goal.returns-in_err-take-clause-memory
-returns-in_err-take-clause-memory g c = λ e limit old ss p.
+returns-in_err-take-clause-memory g c = λ u e limit old ss p.
     if_err c.from_residual-in_err-take.result _ (λ x. cut_behind _ g.D.Machine.State g.D.Machine.stands g.D.Machine.stands g.D.Machine.step g.D.Machine.says e limit c.args.performer.now c.next.new.self c.args.bus.now c.next.new.bus old c.args.events.now.items c.push.new.self.items c.args.done.now.bytes.items c.args.done.now.last ss
-    c.in-Some.event p (c.in-Some.ensures.next 0 ss p.made p.going) c.in_ok-push.ensures.items)
+    c.in-Some.event p (c.in-Some.ensures.next u 0 ss p.made p.going) c.in_ok-push.ensures.items)
 
 -- the event was added, or none
 pub returns-in_default-clause-within : goal.returns-in_default-clause-within

@@ -3,7 +3,7 @@ use Rattle.std.specs.Prelude.{IfSome}
 use Rattle.cbm_iec.specs.declared.lines.Lines.{Lines}
 use Rattle.cbm_drive.specs.Cables.{Cabled}
 use Rattle.cbm_drive.specs.Reactions.{HasReacted}
-use Rattle.cbm_drive.specs.Seats.{Seated, IsBusAt, IsFirstDue, AreIdle}
+use Rattle.cbm_drive.specs.Seats.{Seated, IsBusAt, IsFirstDue, AreIdle, Unfailed}
 use Rattle.cbm_drive.specs.Progress.{IsNearer}
 use Rattle.cbm_drive.proofs.Firsts.{one_first}
 use Rattle.cbm_drive.proofs.Nearer.{idle_first}
@@ -11,7 +11,8 @@ use Rattle.cbm_drive.proofs.cable.Bus.due.Goals as goal
 
 -- the moment is that of the only reaction that is due first
 pub returns-clause-reacted : goal.returns-clause-reacted
-returns-clause-reacted g c = λ ss bus first.
+returns-clause-reacted g c = λ u.
+    λ ss bus first.
     let was = c.args.self.now in
     let host : was.host ≡ c.self.inside.host = sym (ap (λ (b : Cabled _). b.host) c.self.view_is) in
     let drives : was.drives ≡ c.as_mut_slice.result.now = sym (c.as_mut_slice.ensures.value ∙ ap (λ (b : Cabled _). b.drives) c.self.view_is) in
@@ -22,7 +23,7 @@ returns-clause-reacted g c = λ ss bus first.
     let at_bus : IsBusAt _ g.D.Machine.State g.D.Machine.stands c.self.inside.host c.as_mut_slice.result.now ss = subst (λ (l : Lines). IsBusAt _ g.D.Machine.State g.D.Machine.stands l c.as_mut_slice.result.now ss) host
     (subst (λ (xs : List (Seated _)). IsBusAt _ g.D.Machine.State g.D.Machine.stands was.host xs ss) drives bus) in
     subst (λ (l : Lines). IfSome c.react.result (λ a. HasReacted _ g.D.Machine.State g.D.Machine.stands g.D.Machine.step g.D.Machine.says l c.args.moment a.device c.react.new.drives a.changes.items ss)) (sym host)
-    (c.react.ensures.reacted ss at_bus due)
+    (c.react.ensures.reacted (subst (λ (xs : List (Seated _)). Unfailed g.D.Machine.failures xs c.react.new.drives) drives u) ss at_bus due)
 
 pub returns-clause-nearer : goal.returns-clause-nearer
 returns-clause-nearer g c = λ first.

@@ -4,7 +4,7 @@ use Rattle.cbm_drive.proofs.cable.Bus.play.Goals.{in-Err, in-Ok}
 use Rattle.cbm_drive.specs.Cables.{Cabled}
 use Rattle.cbm_drive.specs.Kept.{HasKept}
 use Rattle.cbm_drive.specs.Played.{HasHanded, HasPlayed, IsPlayCut}
-use Rattle.cbm_drive.specs.Seats.{AreInTime, IsBusAt, Seated}
+use Rattle.cbm_drive.specs.Seats.{AreInTime, IsBusAt, Seated, Unfailed}
 use Rattle.cbm_iec.specs.declared.lines.Lines.{Lines}
 use Rattle.cbm_session.specs.Playing.{at_rest}
 use Rattle.std.proofs.Common.{List, ap, subst, sym, ◌+◌, ◌∙◌, ◌≡◌}
@@ -12,13 +12,14 @@ use Rattle.std.specs.Prelude.{MatchResult, OnOk, Result}
 use Rattle.cbm_drive.proofs.cable.Bus.play.Goals as goal
 
 pub returns-clause-handed : goal.returns-clause-handed
-returns-clause-handed g c = λ bs ms unlike swift h.
+returns-clause-handed g c = λ u.
+    λ bs ms unlike swift h.
     let host : c.args.self.now.host ≡ c.self.inside.host = sym (ap (λ (b : Cabled _). b.host) c.self.view_is) in
     let drives : c.args.self.now.drives ≡ c.as_mut_slice.result.now = sym (c.as_mut_slice.ensures.value ∙ ap (λ (b : Cabled _). b.drives) c.self.view_is) in
     let ss = at_rest g.D.Machine.State g.D.Machine.step g.D.Machine.says ms bs in
     let rest = subst (λ (l : Lines). IsBusAt _ g.D.Machine.State g.D.Machine.stands l c.as_mut_slice.result.now ss) host (subst (λ (xs : List (Seated _)). IsBusAt _ g.D.Machine.State g.D.Machine.stands c.args.self.now.host xs ss) drives h) in
     let handed = handed_by _ g.D.Machine.State g.D.Machine.stands g.D.Machine.step g.D.Machine.says c.play_on.result c.play_on.new.host c.args.end c.play_on.new.drives c.args.events.now.items c.play_on.new.events.items c.args.changes.now bs ms unlike swift c.play_on.ensures.settled
-    (c.play_on.ensures.played ss rest)
+    (c.play_on.ensures.played (subst (λ (xs : List (Seated _)). Unfailed g.D.Machine.failures xs c.play_on.new.drives) drives u) ss rest)
     in
     let what = HasHanded _ g.D.Machine.State g.D.Machine.stands g.D.Machine.step g.D.Machine.says c.play_on.new.host c.args.end c.play_on.new.drives c.args.events.now.items c.play_on.new.events.items c.args.changes.now bs ms in
     elim c.match-play_on.branch [
@@ -28,13 +29,14 @@ returns-clause-handed g c = λ bs ms unlike swift h.
 
 -- what was played from rest
 pub returns-clause-kept : goal.returns-clause-kept
-returns-clause-kept g c = λ bs ms fault is_bus bus.
+returns-clause-kept g c = λ u.
+    λ bs ms fault is_bus bus.
     let ss = at_rest g.D.Machine.State g.D.Machine.step g.D.Machine.says ms bs in
     let host : c.args.self.now.host ≡ c.self.inside.host = sym (ap (λ (b : Cabled _). b.host) c.self.view_is) in
     let drives : c.args.self.now.drives ≡ c.as_mut_slice.result.now = sym (c.as_mut_slice.ensures.value ∙ ap (λ (b : Cabled _). b.drives) c.self.view_is) in
     let at_bus : IsBusAt _ g.D.Machine.State g.D.Machine.stands c.self.inside.host c.as_mut_slice.result.now ss = subst (λ (l : Lines). IsBusAt _ g.D.Machine.State g.D.Machine.stands l c.as_mut_slice.result.now ss) host
     (subst (λ (xs : List (Seated _)). IsBusAt _ g.D.Machine.State g.D.Machine.stands c.args.self.now.host xs ss) drives bus) in
-    let played = c.play_on.ensures.played ss at_bus in
+    let played = c.play_on.ensures.played (subst (λ (xs : List (Seated _)). Unfailed g.D.Machine.failures xs c.play_on.new.drives) drives u) ss at_bus in
     elim c.match-play_on.branch [
       | in-Ok w ↦ subst (λ r. OnOk r (HasKept _ g.D.Machine.State g.D.Machine.stands g.D.Machine.step g.D.Machine.says bs ms c.play_on.new.host c.args.end c.play_on.new.drives c.args.events.now.items c.play_on.new.events.items)) (sym w.result-is)
           (kept_from _ g.D.Machine.State g.D.Machine.stands g.D.Machine.step g.D.Machine.says g.met.D.Machine.more bs ms c.play_on.new.host c.args.end c.play_on.new.drives c.args.events.now.items c.play_on.new.events.items c.args.changes.now

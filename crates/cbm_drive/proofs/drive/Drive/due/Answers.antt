@@ -7,7 +7,7 @@ use Rattle.cbm_drive.specs.Seats.{Seated}
 
 -- where the reaction has no act the machine stays as it is
 pub returns-in_default-clause-machine : goal.returns-in_default-clause-machine
-returns-in_default-clause-machine g c = λ m stood.
+returns-in_default-clause-machine g c = λ u m stood.
     let here = subst (λ (x : g.row.D.Denot). g.D.Machine.stands x m) (ap (λ (x : Seated _). x.machine) (sym c.self.view_is)) stood in
     let alike = c.said-said.ensures.says m stood in
     let none : reaction_act (g.D.Machine.says m) c.args.self.now.port ≡ None = sym alike.act ∙ ap (λ (x : Seated _). reaction_act c.said-said.result x.port) (sym c.self.view_is) ∙ sym c.due-reaction.ensures.act ∙ c.in_default.is in

@@ -6,19 +6,19 @@ use Rattle.cbm_drive.proofs.Players.{after_match, given_second, shown_next, is_f
 use Rattle.cbm_drive.proofs.player.Player.finish.Goals as goal
 
 pub returns-in-Some-first_shown-clause-given : goal.returns-in-Some-first_shown-clause-given
-returns-in-Some-first_shown-clause-given g c = λ n ss es a.
+returns-in-Some-first_shown-clause-given g c = λ u n ss es a.
     let second : c.args.self.now.second ≡ None = sym (ap (λ (p : Turns). p.second) c.self.view_is) ∙ (sym c.take.ensures.value ∙ c.in_default.is) in
     after_match c.give.result _ _ _ (λ e given. given.after)
     (shown_next _ g.D.Machine.State g.D.Machine.stands g.D.Machine.step g.D.Machine.says g.met.D.Machine.byte g.D.Machine.stands c.args.self.now c.give.new.self c.args.bus.now c.first_shown.new.self c.args.upto c.in-Some-first_shown.moment c.in-Some-first_shown.answer.device n
-    c.in-Some-first_shown.answer.changes.items ss es c.give.result second a (c.in-Some-first_shown.ensures.played a.stations a.from (a.from + (c.args.upto + 1)) a.now (omega arith) (omega arith)) c.first_shown.ensures.host c.give.ensures.from
+    c.in-Some-first_shown.answer.changes.items ss es c.give.result second a (c.in-Some-first_shown.ensures.played u a.stations a.from (a.from + (c.args.upto + 1)) a.now (omega arith) (omega arith)) c.first_shown.ensures.host c.give.ensures.from
     c.in-Some-first_shown.ensures.moments c.in-Some-first_shown.ensures.shows c.give.ensures.given (let l = c.in-Some-first_shown.ensures.before in omega (arith, l)))
 
 pub returns-in-None-clause-given : goal.returns-in-None-clause-given
-returns-in-None-clause-given g c = λ n ss es a.
+returns-in-None-clause-given g c = λ u n ss es a.
     let second : c.args.self.now.second ≡ None = sym (ap (λ (p : Turns). p.second) c.self.view_is) ∙ (sym c.take.ensures.value ∙ c.in_default.is) in
     let from = a.before in
     is_finished _ g.D.Machine.State g.D.Machine.stands g.D.Machine.step g.D.Machine.says g.met.D.Machine.byte g.D.Machine.stands c.args.self.now (record { waiting = c.self.inside.waiting; second = c.take.new.self; from = c.args.upto + 1; taken = c.self.inside.taken }) c.args.bus.now c.first_shown.new.self c.args.upto n ss es
-    second c.take.ensures.after refl a (c.in-None.ensures.played a.stations a.from (c.args.upto + 1) a.now (omega (arith, from, c.requires.from)) (omega arith)) c.first_shown.ensures.host (c.in-None.ensures.settled refl)
+    second c.take.ensures.after refl a (c.in-None.ensures.played u a.stations a.from (c.args.upto + 1) a.now (omega (arith, from, c.requires.from)) (omega arith)) c.first_shown.ensures.host (c.in-None.ensures.settled refl)
 
 -- ---- the same of the machine that replays what the drive showed
 

@@ -33,8 +33,8 @@ returns-in-Some-clause-recorded g c = λ one.
 
 -- the change that waits takes its turn
 pub returns-in-Some-waiting-clause-given : goal.returns-in-Some-waiting-clause-given
-returns-in-Some-waiting-clause-given g c = λ n ss es a.
-    after_match c.turn.result _ _ _ (λ e given. given_by _ g.D.Machine.State g.D.Machine.stands g.D.Machine.step g.D.Machine.says c.turn.new.self c.turn.new.bus c.in-Some-waiting.change.moment c.args.upto n ss es e c.if-change-upto.true given) (c.turn.ensures.given n ss es a)
+returns-in-Some-waiting-clause-given g c = λ u n ss es a.
+    after_match c.turn.result _ _ _ (λ e given. given_by _ g.D.Machine.State g.D.Machine.stands g.D.Machine.step g.D.Machine.says c.turn.new.self c.turn.new.bus c.in-Some-waiting.change.moment c.args.upto n ss es e c.if-change-upto.true given) (c.turn.ensures.given u n ss es a)
 
 pub returns-in-Some-waiting-clause-recorded : goal.returns-in-Some-waiting-clause-recorded
 returns-in-Some-waiting-clause-recorded g c = λ one.

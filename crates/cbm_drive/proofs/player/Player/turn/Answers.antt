@@ -12,18 +12,18 @@ pub give-requires-clause-waiting : goal.give-requires-clause-waiting
 give-requires-clause-waiting g c = waits_for (c.in-Some.moment + 1) c.args.self.now.waiting c.args.change c.requires.waiting (let l = c.in-Some.ensures.before in omega (arith, l)) c.requires.moment
 
 pub returns-in-Some-clause-given : goal.returns-in-Some-clause-given
-returns-in-Some-clause-given g c = λ n ss es a.
+returns-in-Some-clause-given g c = λ u n ss es a.
     shown_next _ g.D.Machine.State g.D.Machine.stands g.D.Machine.step g.D.Machine.says g.met.D.Machine.byte g.D.Machine.stands c.args.self.now c.give.new.self c.args.bus.now c.first_shown.new.self c.args.change.moment c.in-Some.moment c.in-Some.answer.device n c.in-Some.answer.changes.items ss es c.give.result
-    c.requires.second a (c.in-Some.ensures.played a.stations a.from (a.from + c.args.change.moment) a.now (omega arith) (omega arith)) c.first_shown.ensures.host c.give.ensures.from c.in-Some.ensures.moments
+    c.requires.second a (c.in-Some.ensures.played u a.stations a.from (a.from + c.args.change.moment) a.now (omega arith) (omega arith)) c.first_shown.ensures.host c.give.ensures.from c.in-Some.ensures.moments
     c.in-Some.ensures.shows c.give.ensures.given (let l = c.in-Some.ensures.before in omega (arith, l))
 
 pub returns-clause-given : goal.returns-clause-given
-returns-clause-given g c = λ n ss es a.
+returns-clause-given g c = λ u n ss es a.
     let second = ap (λ (p : Turns). p.second) c.self.view_is ∙ c.requires.second in
     let from = a.before in (
       given_change _ g.D.Machine.State g.D.Machine.stands g.D.Machine.step g.D.Machine.says g.met.D.Machine.byte g.D.Machine.stands g.D.Machine.stands g.met.D.Machine.byte c.args.self.now (record { waiting = None; second = c.self.inside.second; from = c.args.change.moment; taken = c.self.inside.taken }) c.args.bus.now c.line.new.self c.args.change.moment n c.args.change
-          c.first_shown.new.self.drives ss es c.requires.second second refl (omega arith) a (c.in_default.ensures.played a.stations a.from c.args.change.moment a.now (omega (arith, from, c.requires.from)) (omega arith))
-          (c.in_default.ensures.settled refl) (λ us h. c.line.ensures.told us (subst (λ (l : Lines). IsBusAt _ g.D.Machine.State g.D.Machine.stands l c.first_shown.new.self.drives us) (sym c.first_shown.ensures.host) h)),
+          c.first_shown.new.self.drives ss es c.requires.second second refl (omega arith) a (c.in_default.ensures.played (omega (arith, u, c.line.ensures.counted)) a.stations a.from c.args.change.moment a.now (omega (arith, from, c.requires.from)) (omega arith))
+          (c.in_default.ensures.settled refl) (λ us h. c.line.ensures.told (omega (arith, u, c.first_shown.ensures.counted)) us (subst (λ (l : Lines). IsBusAt _ g.D.Machine.State g.D.Machine.stands l c.first_shown.new.self.drives us) (sym c.first_shown.ensures.host) h)),
       refl,
     )
 

@@ -3,7 +3,7 @@ use Rattle.cbm_host.proofs.Hosting.{are_bytes}
 use Rattle.cbm_host.proofs.hosted.Hosted.put.Goals as goal
 
 pub returns-clause-rests : goal.returns-clause-rests
-returns-clause-rests g c = λ m r. c.carry_out.ensures.rests m (c.requires.short, are_bytes c.args.bytes.now (λ i. let f = c.type_inv.bytes i in omega arith)) r
+returns-clause-rests g c = λ u m r. c.carry_out.ensures.rests u m (c.requires.short, are_bytes c.args.bytes.now (λ i. let f = c.type_inv.bytes i in omega arith)) r
 
 pub returns-clause-anyway : goal.returns-clause-anyway
 returns-clause-anyway g c = λ r. c.carry_out.ensures.anyway (c.requires.short, are_bytes c.args.bytes.now (λ i. let f = c.type_inv.bytes i in omega arith)) r

@@ -1,11 +1,11 @@
-use Rattle.std.proofs.Common.{◌<◌, refl, ap, ◌∙◌, subst, arith, Some, None}
+use Rattle.std.proofs.Common.{◌<◌, refl, ap, ◌∙◌, subst, arith, Some, None, ◌≤◌}
 use Rattle.cbm_drive.specs.Cables.{Cabled}
-use Rattle.cbm_drive.specs.Seats.{numbers}
+use Rattle.cbm_drive.specs.Seats.{numbers, failed}
 use Rattle.cbm_drive.specs.Desks.{desk_shows}
 use Rattle.cbm_host.proofs.Hosting.{taken_on, taken_over, OnByte, OnEnd}
 use Rattle.cbm_host.proofs.Progress.{as_many}
 use Rattle.cbm_host.proofs.hosted.Hosted.take.Goals as goal
-use Rattle.cbm_host.specs.Hosted.{Hosting}
+use Rattle.cbm_host.specs.Hosted.{Hosting, HasNotFailed}
 use Rattle.cbm_host.specs.Progress.{left_of}
 use Rattle.cbm_host.proofs.HostedAnyway.{goes_on_anyway, over_anyway, OnTakeAnyway}
 
@@ -14,16 +14,16 @@ returns-in-Some-clause-taken g c =
     let seen = g.M.Medium.seen in
     let old : Hosting _ = record { bus = c.self.inside.bus; device = c.self.inside.device; pace = c.self.inside.pace; moment = c.self.inside.moment } in
     let new : Hosting _ = record { bus = c.next_byte.new.bus; device = c.self.inside.device; pace = c.self.inside.pace; moment = c.self.inside.moment } in
-    subst (λ (h : Hosting _). OnByte seen h new c.args.performer.now c.next_byte.new.self c.in-Some.said) c.self.view_is
-    (taken_on seen old new c.args.performer.now c.next_byte.new.self c.in-Some.said refl refl c.self.invariant.0 c.self.invariant.1 c.in-Some.ensures.taken c.begins.ensures)
+    subst (λ (h : Hosting _). HasNotFailed seen h new → OnByte seen h new c.args.performer.now c.next_byte.new.self c.in-Some.said) c.self.view_is
+    (λ u. taken_on seen old new c.args.performer.now c.next_byte.new.self c.in-Some.said refl refl c.self.invariant.0 c.self.invariant.1 (c.in-Some.ensures.taken u) c.begins.ensures)
 
 pub returns-in-None-clause-taken : goal.returns-in-None-clause-taken
 returns-in-None-clause-taken g c =
     let seen = g.M.Medium.seen in
     let old : Hosting _ = record { bus = c.self.inside.bus; device = c.self.inside.device; pace = c.self.inside.pace; moment = c.self.inside.moment } in
     let new : Hosting _ = record { bus = c.next_byte.new.bus; device = c.self.inside.device; pace = c.self.inside.pace; moment = c.over-self-inside.result } in
-    subst (λ (h : Hosting _). OnEnd seen h new c.args.performer.now) c.self.view_is
-    (taken_over seen old new c.args.performer.now c.next_byte.new.self refl refl c.self.invariant.0 c.self.invariant.1 c.in-None.ensures.taken c.carries_out.ensures)
+    subst (λ (h : Hosting _). HasNotFailed seen h new → OnEnd seen h new c.args.performer.now) c.self.view_is
+    (λ u. taken_over seen old new c.args.performer.now c.next_byte.new.self refl refl c.self.invariant.0 c.self.invariant.1 (c.in-None.ensures.taken u) c.carries_out.ensures)
 
 pub returns-in-Some-clause-fewer : goal.returns-in-Some-clause-fewer
 returns-in-Some-clause-fewer g c =
@@ -34,6 +34,14 @@ returns-in-Some-clause-tracks g c = c.next_byte.ensures.lasting ∙ ap (λ (h : 
 
 pub returns-in-None-clause-tracks : goal.returns-in-None-clause-tracks
 returns-in-None-clause-tracks g c = c.next_byte.ensures.lasting ∙ ap (λ (h : Hosting _). numbers (λ x. (g.M.Medium.seen x.dos.medium).tracks) h.bus.drives) c.self.view_is
+
+pub returns-in-Some-clause-counted : goal.returns-in-Some-clause-counted
+returns-in-Some-clause-counted g c =
+    subst (λ (b : Cabled _). failed (λ x. (g.M.Medium.seen x.dos.medium).failures) b.drives ≤ failed (λ x. (g.M.Medium.seen x.dos.medium).failures) c.next_byte.new.bus.drives) (ap (λ (h : Hosting _). h.bus) c.self.view_is) c.next_byte.ensures.counted
+
+pub returns-in-None-clause-counted : goal.returns-in-None-clause-counted
+returns-in-None-clause-counted g c =
+    subst (λ (b : Cabled _). failed (λ x. (g.M.Medium.seen x.dos.medium).failures) b.drives ≤ failed (λ x. (g.M.Medium.seen x.dos.medium).failures) c.next_byte.new.bus.drives) (ap (λ (h : Hosting _). h.bus) c.self.view_is) c.next_byte.ensures.counted
 
 pub returns-in-None-clause-moment : goal.returns-in-None-clause-moment
 returns-in-None-clause-moment g c = let soon = c.over-self-inside.ensures.limit in let same = c.next_byte.ensures.limit in omega (arith, soon, same)

@@ -6,8 +6,8 @@ use Rattle.cbm_host.proofs.Recorded.{heard_back}
 use Rattle.cbm_drive.specs.Playback.{played_says, played_step, IsPlayedBack}
 
 pub returns-clause-come : goal.returns-clause-come
-returns-clause-come g c = λ n ss es.
-    heard _ g.D.Machine.State g.D.Machine.stands g.D.Machine.step g.D.Machine.says c.args.self.now c.heed.new.self c.args.bus.now c.heed.new.bus c.self.inside.limit n ss es c.heed.result (ap (λ (p : Performing). p.limit) c.self.view_is) c.requires.due c.heed.ensures.engine c.heed.ensures.limit (c.heed.ensures.come n ss es)
+returns-clause-come g c = λ u n ss es.
+    heard _ g.D.Machine.State g.D.Machine.stands g.D.Machine.step g.D.Machine.says c.args.self.now c.heed.new.self c.args.bus.now c.heed.new.bus c.self.inside.limit n ss es c.heed.result (ap (λ (p : Performing). p.limit) c.self.view_is) c.requires.due c.heed.ensures.engine c.heed.ensures.limit (c.heed.ensures.come u n ss es)
 
 pub returns-clause-recorded : goal.returns-clause-recorded
 returns-clause-recorded g c = λ one.

@@ -8,9 +8,9 @@ use Rattle.cbm_iec.specs.declared.event.Who.{Who}
 
 -- none of the host's is due
 pub returns-in-Host-clause-come : goal.returns-in-Host-clause-come
-returns-in-Host-clause-come g c = λ n ss es k asked.
+returns-in-Host-clause-come g c = λ u n ss es k asked.
     let e = c.in_ok-event.event in
-    let due : IsDue Host e.change c.ask.new.self.engine = subst (λ (w : Who). IsDue w e.change c.ask.new.self.engine) c.in-Host.is (c.in_ok-event.ensures.come n ss es k asked).due in
+    let due : IsDue Host e.change c.ask.new.self.engine = subst (λ (w : Who). IsDue w e.change c.ask.new.self.engine) c.in-Host.is (c.in_ok-event.ensures.come u n ss es k asked).due in
     absurd (c.requires.none e.change (sym (ap engine_due c.ask.ensures.engine) ∙ due))
 
 pub returns-in-Host-clause-recorded : goal.returns-in-Host-clause-recorded

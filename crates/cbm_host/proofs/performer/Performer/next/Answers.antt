@@ -8,15 +8,15 @@ use Rattle.cbm_drive.specs.Playback.{played_says, played_step, IsPlayedBack, Pla
 
 -- nothing comes later than the host gives up
 pub returns-then-event-self-clause-next : goal.returns-then-event-self-clause-next
-returns-then-event-self-clause-next g c = λ n ss es k.
-    let soon = (c.in_ok-event.ensures.come n ss es k).moment in
+returns-then-event-self-clause-next g c = λ u n ss es k.
+    let soon = (c.in_ok-event.ensures.come u n ss es k).moment in
     let same = ap (λ (p : Performing). p.limit) c.self.view_is in
     let late = c.if-event-self.true in
     absurd (omega (arith, soon, same, late))
 
 pub returns-clause-next : goal.returns-clause-next
-returns-clause-next g c = λ n ss es k.
-    told_next _ g.D.Machine.State g.D.Machine.stands g.D.Machine.step g.D.Machine.says c.args.self.now c.event.new.self c.tell.new.self c.event.new.bus n ss es c.in_ok-event.event (c.in_ok-event.ensures.come n ss es k) c.tell.ensures.player c.tell.ensures.limit c.tell.ensures.engine c.tell.ensures.byte
+returns-clause-next g c = λ u n ss es k.
+    told_next _ g.D.Machine.State g.D.Machine.stands g.D.Machine.step g.D.Machine.says c.args.self.now c.event.new.self c.tell.new.self c.event.new.bus n ss es c.in_ok-event.event (c.in_ok-event.ensures.come u n ss es k) c.tell.ensures.player c.tell.ensures.limit c.tell.ensures.engine c.tell.ensures.byte
 
 pub returns-clause-fewer : goal.returns-clause-fewer
 returns-clause-fewer g c =

@@ -6,7 +6,7 @@ use Rattle.cbm_drive.specs.Playback.{Playback, played_says, played_step, IsPlaye
 use Rattle.cbm_host.specs.Progress.{left_of}
 
 pub events-init : goal.events-init
-events-init g c = record { taking = λ e limit bytes last ss t. t; fewer = omega arith; limit = refl; lasting = refl; recorded = ([], λ later e limit bytes last ss t. t) }
+events-init g c = record { taking = λ u e limit bytes last ss t. t; counted = omega arith; fewer = omega arith; limit = refl; lasting = refl; recorded = ([], λ later e limit bytes last ss t. t) }
 
 -- an event, and the halves of bits behind it
 pub events-preserved : goal.events-preserved
@@ -15,10 +15,11 @@ events-preserved g c =
     let more = c.gather.ensures.fewer in
     let least = c.events.invariant.fewer in
     record {
-      taking = λ e limit bytes last ss t.
+      taking = λ u e limit bytes last ss t.
           c.gather.ensures.taken e limit bytes last ss
-          (taking_none _ g.D.Machine.State g.D.Machine.stands g.D.Machine.stands g.D.Machine.step g.D.Machine.says e limit c.events.self c.next.new.self c.events.bus c.next.new.bus bytes last ss c.in-Some._event (c.events.invariant.taking e limit bytes last ss t) c.in-Some.ensures.next
+          (taking_none _ g.D.Machine.State g.D.Machine.stands g.D.Machine.stands g.D.Machine.step g.D.Machine.says e limit c.events.self c.next.new.self c.events.bus c.next.new.bus bytes last ss c.in-Some._event (c.events.invariant.taking (omega (arith, u, c.next.ensures.counted, c.gather.ensures.counted)) e limit bytes last ss t) (c.in-Some.ensures.next (omega (arith, u, c.events.invariant.counted, c.gather.ensures.counted)))
           (sym c.byte.ensures ∙ c.in_default-byte.is));
+      counted = omega (arith, c.next.ensures.counted, c.gather.ensures.counted, c.events.invariant.counted);
       fewer = omega (arith, less, more, least);
       limit = c.gather.ensures.limit ∙ c.next.ensures.limit ∙ c.events.invariant.limit;
       lasting = c.gather.ensures.lasting ∙ c.next.ensures.lasting ∙ c.events.invariant.lasting;
@@ -41,8 +42,8 @@ events-smaller g c =
     omega (arith, less, more)
 
 pub returns-in-Some-byte-clause-taken : goal.returns-in-Some-byte-clause-taken
-returns-in-Some-byte-clause-taken g c = λ e limit bytes last ss t.
-    taking_some _ g.D.Machine.State g.D.Machine.stands g.D.Machine.stands g.D.Machine.step g.D.Machine.says e limit c.events.self c.next.new.self c.events.bus c.next.new.bus bytes last ss c.in-Some._event c.in-Some-byte.said (c.events.invariant.taking e limit bytes last ss t) c.in-Some.ensures.next
+returns-in-Some-byte-clause-taken g c = λ u e limit bytes last ss t.
+    taking_some _ g.D.Machine.State g.D.Machine.stands g.D.Machine.stands g.D.Machine.step g.D.Machine.says e limit c.events.self c.next.new.self c.events.bus c.next.new.bus bytes last ss c.in-Some._event c.in-Some-byte.said (c.events.invariant.taking (omega (arith, u, c.next.ensures.counted)) e limit bytes last ss t) (c.in-Some.ensures.next (omega (arith, u, c.events.invariant.counted)))
     (sym c.byte.ensures ∙ c.in-Some-byte.is)
 
 pub returns-in-Some-byte-clause-fewer : goal.returns-in-Some-byte-clause-fewer
@@ -52,8 +53,14 @@ returns-in-Some-byte-clause-fewer g c =
     omega (arith, less, least)
 
 pub returns-clause-taken : goal.returns-clause-taken
-returns-clause-taken g c = λ e limit bytes last ss t.
-    taking_over _ g.D.Machine.State g.D.Machine.stands g.D.Machine.stands g.D.Machine.step g.D.Machine.says e limit c.events.self c.next.new.self c.events.bus c.next.new.bus bytes last ss (c.events.invariant.taking e limit bytes last ss t) c.in_default.ensures.next
+returns-clause-taken g c = λ u e limit bytes last ss t.
+    taking_over _ g.D.Machine.State g.D.Machine.stands g.D.Machine.stands g.D.Machine.step g.D.Machine.says e limit c.events.self c.next.new.self c.events.bus c.next.new.bus bytes last ss (c.events.invariant.taking (omega (arith, u, c.next.ensures.counted)) e limit bytes last ss t) (c.in_default.ensures.next (omega (arith, u, c.events.invariant.counted)))
+
+pub returns-in-Some-byte-clause-counted : goal.returns-in-Some-byte-clause-counted
+returns-in-Some-byte-clause-counted g c = omega (arith, c.next.ensures.counted, c.events.invariant.counted)
+
+pub returns-clause-counted : goal.returns-clause-counted
+returns-clause-counted g c = omega (arith, c.next.ensures.counted, c.events.invariant.counted)
 
 -- ---- on any disk
 

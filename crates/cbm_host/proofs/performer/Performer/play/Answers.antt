@@ -6,9 +6,9 @@ use Rattle.cbm_host.proofs.Recorded.{played_back}
 use Rattle.cbm_drive.specs.Playback.{played_says, played_step, IsPlayedBack}
 
 pub returns-clause-come : goal.returns-clause-come
-returns-clause-come g c = λ n ss es.
+returns-clause-come g c = λ u n ss es.
     played _ g.D.Machine.State g.D.Machine.stands g.D.Machine.step g.D.Machine.says c.args.self.now c.hand_on.new.self c.ask.new.self c.args.bus.now c.ask.new.bus c.args.change n ss es c.ask.result c.requires.due c.hand_on.ensures.second c.hand_on.ensures.from c.hand_on.ensures.engine
-    c.hand_on.ensures.limit (c.hand_on.ensures.waits c.if-not-hand_on.false) (c.ask.ensures.come n ss es) c.ask.ensures.waiting
+    c.hand_on.ensures.limit (c.hand_on.ensures.waits c.if-not-hand_on.false) (c.ask.ensures.come u n ss es) c.ask.ensures.waiting
 
 pub returns-clause-fewer : goal.returns-clause-fewer
 returns-clause-fewer g c =

@@ -12,36 +12,39 @@ use Rattle.std.proofs.lemmas.List.{append_assoc}
 
 -- the host gives up before
 pub returns-then-until-self-clause-come : goal.returns-then-until-self-clause-come
-returns-then-until-self-clause-come g c = λ n ss es k.
+returns-then-until-self-clause-come g c = λ u n ss es k.
     let late = c.if-until-self.true in
     let same = ap (λ (p : Performing). p.limit) c.self.view_is ∙ c.before-2.ensures.limit in
-    gave_up _ g.D.Machine.State g.D.Machine.stands g.D.Machine.step g.D.Machine.says c.args.self.now c.before-2.new.self c.args.bus.now c.before-2.new.bus c.args.until n ss es c.requires.due c.before-2.ensures.engine c.before-2.ensures.limit (omega (arith, late, same)) (c.in_default.ensures.come n ss es k) k
+    gave_up _ g.D.Machine.State g.D.Machine.stands g.D.Machine.step g.D.Machine.says c.args.self.now c.before-2.new.self c.args.bus.now c.before-2.new.bus c.args.until n ss es c.requires.due c.before-2.ensures.engine c.before-2.ensures.limit (omega (arith, late, same)) (c.in_default.ensures.come u n ss es k) k
 
 -- it goes on by itself
 pub returns-in-Makes-clause-come : goal.returns-in-Makes-clause-come
-returns-in-Makes-clause-come g c = λ n ss es k.
+returns-in-Makes-clause-come g c = λ u n ss es k.
     let soon = c.if-until-self.false in
     let same = ap (λ (p : Performing). p.limit) c.self.view_is ∙ c.before-2.ensures.limit in
     let player = ap (λ (p : Performing). p.player) c.self.view_is in
     let passed = c.passed.ensures ∙ ap engine_passed (ap (λ (p : Performing). p.engine) c.self.view_is ∙ c.before-2.ensures.engine) in
-    let unmoved = c.in_default.ensures.come n ss es k in
+    let unmoved = c.in_default.ensures.come (omega (arith, u, c.play.ensures.counted)) n ss es k in
     let mid : Performing = record { player = c.self.inside.player; engine = c.passed.new.self; byte = c.self.inside.byte; limit = c.self.inside.limit } in
     let going = waited _ g.D.Machine.State g.D.Machine.stands g.D.Machine.step g.D.Machine.says c.args.self.now c.before-2.new.self mid c.args.bus.now c.before-2.new.bus c.args.until n ss es c.requires.due (omega (arith, soon, same)) player passed same unmoved k in
     waited_then _ g.D.Machine.State g.D.Machine.stands g.D.Machine.step g.D.Machine.says c.args.self.now c.before-2.new.self mid c.args.bus.now c.before-2.new.bus c.args.until n ss es c.requires.due (omega (arith, soon, same)) player passed same unmoved k
     c.play.new.self c.play.new.bus c.play.result c.play.ensures.engine
-    (made_or_held _ g.D.Machine.State g.D.Machine.stands g.D.Machine.step g.D.Machine.says mid c.play.new.self c.before-2.new.bus c.play.new.bus n ss es c.in-Makes.change c.play.result (sym c.in-Makes.ensures) c.play.ensures.engine c.play.ensures.limit (c.play.ensures.come n ss es going) going)
+    (made_or_held _ g.D.Machine.State g.D.Machine.stands g.D.Machine.step g.D.Machine.says mid c.play.new.self c.before-2.new.bus c.play.new.bus n ss es c.in-Makes.change c.play.result (sym c.in-Makes.ensures) c.play.ensures.engine c.play.ensures.limit (c.play.ensures.come (omega (arith, u, c.before-2.ensures.counted)) n ss es going) going)
 
 -- or the request is over
 pub returns-in_default-due-clause-come : goal.returns-in_default-due-clause-come
-returns-in_default-due-clause-come g c = λ n ss es k.
+returns-in_default-due-clause-come g c = λ u n ss es k.
     let soon = c.if-until-self.false in
     let same = ap (λ (p : Performing). p.limit) c.self.view_is ∙ c.before-2.ensures.limit in
     let player = ap (λ (p : Performing). p.player) c.self.view_is in
     let passed = c.passed.ensures ∙ ap engine_passed (ap (λ (p : Performing). p.engine) c.self.view_is ∙ c.before-2.ensures.engine) in
     let mid : Performing = record { player = c.self.inside.player; engine = c.passed.new.self; byte = c.self.inside.byte; limit = c.self.inside.limit } in
     let over = passed_over c.args.self.now.engine c.args.until c.requires.due (λ x e. c.in_default-due.not-Makes x (c.due.ensures ∙ ap engine_due passed ∙ e)) in
-    waited_over _ g.D.Machine.State g.D.Machine.stands g.D.Machine.step g.D.Machine.says c.args.self.now c.before-2.new.self mid c.args.bus.now c.before-2.new.bus c.args.until n ss es c.requires.due (omega (arith, soon, same)) player passed same (c.in_default.ensures.come n ss es k) k
+    waited_over _ g.D.Machine.State g.D.Machine.stands g.D.Machine.step g.D.Machine.says c.args.self.now c.before-2.new.self mid c.args.bus.now c.before-2.new.bus c.args.until n ss es c.requires.due (omega (arith, soon, same)) player passed same (c.in_default.ensures.come u n ss es k) k
     (Over c.args.until) (ap engine_due passed ∙ over) tt
+
+pub returns-in-Makes-clause-counted : goal.returns-in-Makes-clause-counted
+returns-in-Makes-clause-counted g c = omega (arith, c.before-2.ensures.counted, c.play.ensures.counted)
 
 pub returns-in-Makes-clause-fewer : goal.returns-in-Makes-clause-fewer
 returns-in-Makes-clause-fewer g c =

@@ -1,3 +1,4 @@
+use Rattle.cbm_host.proofs.Unfailing.{has_not_failed}
 use Rattle.std.proofs.Common.{rules, Err, ap, ◌≤◌, refl, ◌∙◌, arith}
 use Rattle.std.proofs.lemmas.Result.{err_from_is_err_and}
 use Rattle.cbm_program.proofs.BytesPrinted.{goes_none, goes_on, goes_part, goes_over}
@@ -10,7 +11,7 @@ bytes-init g c = record { goes = goes_none g.M.Medium.seen _ c.args.drive.now c.
 
 pub bytes-preserved : goal.bytes-preserved
 bytes-preserved g c = record {
-  goes = goes_on g.M.Medium.seen _ _ _ c.args.drive.now c.bytes.drive c.take.new.self c.args.performer.now c.bytes.performer c.take.new.performer c.in-Some.byte c.in-Some.is_last c.take.ensures.pace c.bytes.invariant.goes c.in-Some.ensures.taken c.in_ok-print_byte.ensures.ok;
+  goes = goes_on g.M.Medium.seen _ _ _ c.args.drive.now c.bytes.drive c.take.new.self c.args.performer.now c.bytes.performer c.take.new.performer c.in-Some.byte c.in-Some.is_last c.take.ensures.pace c.bytes.invariant.goes (c.in-Some.ensures.taken (has_not_failed g.M.Medium.seen g.met.M.Steady.steady c.bytes.drive c.take.new.self)) c.in_ok-print_byte.ensures.ok;
   limit = c.take.ensures.limit ∙ c.bytes.invariant.limit;
   moment = c.in-Some.ensures.moment ∙ c.bytes.invariant.moment;
   tracks = c.take.ensures.tracks ∙ c.bytes.invariant.tracks;
@@ -27,7 +28,7 @@ returns-in_err-print_byte-clause-said g c =
     record {
       ok = λ m request bytes last channel modest u. none_ok c.from_residual.result _ _ (p.1 ∙ ap Err p.2);
       err = λ m request bytes last channel modest u. if_err c.from_residual.result (goes_part g.M.Medium.seen _ _ _ c.args.drive.now c.bytes.drive c.take.new.self c.args.performer.now c.bytes.performer c.take.new.performer c.in-Some.byte c.in-Some.is_last c.take.ensures.pace c.bytes.invariant.paced c.bytes.invariant.goes
-          c.in-Some.ensures.taken c.in_err-print_byte.ensures.err m request bytes last channel modest u);
+          (c.in-Some.ensures.taken (has_not_failed g.M.Medium.seen g.met.M.Steady.steady c.bytes.drive c.take.new.self)) c.in_err-print_byte.ensures.err m request bytes last channel modest u);
       grows = grows_on _ _ _ c.bytes.invariant.grown c.in_err-print_byte.ensures.grows;
       fault = same_err c.from_residual.result _ _ (p.1 ∙ ap Err p.2) c.in_err-print_byte.ensures.fault;
     }
@@ -43,7 +44,7 @@ returns-in_err-print_byte-clause-tracks g c = c.take.ensures.tracks ∙ c.bytes.
 
 pub returns-clause-said : goal.returns-clause-said
 returns-clause-said g c = record {
-  ok = λ m request bytes last channel modest u. goes_over g.M.Medium.seen _ _ c.args.drive.now c.bytes.drive c.take.new.self c.args.performer.now c.bytes.performer (c.take.ensures.pace ∙ c.bytes.invariant.paced) c.bytes.invariant.goes c.in_default.ensures.taken m request bytes last channel modest u;
+  ok = λ m request bytes last channel modest u. goes_over g.M.Medium.seen _ _ c.args.drive.now c.bytes.drive c.take.new.self c.args.performer.now c.bytes.performer (c.take.ensures.pace ∙ c.bytes.invariant.paced) c.bytes.invariant.goes (c.in_default.ensures.taken (has_not_failed g.M.Medium.seen g.met.M.Steady.steady c.bytes.drive c.take.new.self)) m request bytes last channel modest u;
   err = (search rules);
   grows = c.bytes.invariant.grown;
   fault = (search rules);
