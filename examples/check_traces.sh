@@ -170,6 +170,20 @@ for broken in early data; do
     "$drive" judge $broken.loose --drive 8:20:kernal --loosely > judged.txt
     is "judge, a KERNAL that is wrong ($broken): the host broke it" test $? = 1
 done
+# Its bounds that go by the pace, broken by 1: the turnaround, ATN's pull after its release, ATN's release after an accept.
+moved() {
+    sed "s/^$1\$/$2/" load.trace | sort -s -n -k 1,1 > moved.trace
+}
+
+moved "14869 host clock free" "14861 host clock free"
+judged "a KERNAL's turnaround, 1 too soon" 1 "14861 us host clock free: 14 after ATN's release, 15 at least" moved.trace --drive 8:20:kernal --loosely
+moved "14869 host clock free" "14862 host clock free"
+"$drive" judge moved.trace --drive 8:20:kernal --loosely > judged.txt
+is "judge, a KERNAL's turnaround at its bound: not the host is late" test $? = 2
+moved "10470 host atn pull" "10337 host atn pull"
+judged "a KERNAL's attention, 1 too soon" 1 "10337 us host atn pull: 60 after ATN's release, 61 at least" moved.trace --drive 8:20:kernal --loosely
+moved "10277 host atn free" "10233 host atn free"
+judged "a KERNAL's release, 1 too soon" 1 "10233 us host atn free: 19 after the accept, 20 at least" moved.trace --drive 8:20:kernal --loosely
 judged "a device that is none" 64 "error: a device number is 8 to 11" early.trace --drive 12:20
 judged "a drive without a reaction" 64 "error: a drive is DEVICE:REACTION or DEVICE:REACTION:PACE, as 8:20" early.trace --drive 8
 
