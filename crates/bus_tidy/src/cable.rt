@@ -1,5 +1,9 @@
 //! Which lines each party pulls, and the drives' roles.
 
+ghost use Rattle.std.specs.Prelude.{◌≡◌};
+ghost use Rattle.bus_tidy.specs.Tidied.{changed};
+ghost use Rattle.cbm_session.specs.Pieces.{is_pull};
+
 use arrayvec::ArrayVec;
 use cbm_iec::{Change, Held, Line, Lines, Pace, Party, Role, Way};
 
@@ -43,12 +47,19 @@ pub struct Cable {
 }
 
 /// Whether it is a pull.
-pub fn is_pull(way: Way) -> bool {
-    way == Way::Pull
+pub fn is_pull(way: Way) -> bool
+    ensures { result ≡ is_pull way }
+{
+    match way {
+        Way::Pull => true,
+        Way::Free => false,
+    }
 }
 
 /// The lines after a change of one of them.
-pub fn with_change(lines: Lines, change: Change) -> Lines {
+pub fn with_change(lines: Lines, change: Change) -> Lines
+    ensures { result ≡ changed change lines }
+{
     let low = is_pull(change.way);
     match change.line {
         Line::Atn => Lines {

@@ -1,5 +1,9 @@
 //! The tidy host's trace, event by event.
 
+ghost use Rattle.std.specs.Prelude.{◌≡◌, ◌≤◌, ◌+◌, length, ℕ};
+ghost use Rattle.cbm_iec.specs.declared.lines.Lines.{Lines as TheseLines};
+ghost use Rattle.bus_tidy.specs.Tidied.{changed, after_all};
+
 use crate::cable::{Cable, FREE, is_pull, with_change};
 use crate::phase::Phase;
 use arrayvec::ArrayVec;
@@ -44,7 +48,10 @@ impl Tidy {
 
     /// The host changes a line. Answers the tidy host's changes that it comes to: none where no drive heeds it; with ATN's
     /// changes come those that a session has there.
-    pub fn host(&mut self, change: Change) -> Changes {
+    pub fn host(&mut self, change: Change) -> Changes
+        ensures host { self.new.host ≡ changed change self.old.host }
+        ensures tidy { self.new.tidy ≡ after_all result.items self.old.tidy }
+    {
         let mut changes = Changes::new();
         self.phase = self.phase.settled(change, false);
         self.host = with_change(self.host, change);
@@ -58,7 +65,12 @@ impl Tidy {
     }
 
     /// ATN is pulled: with it the tidy host pulls CLOCK and frees DATA.
-    fn call(&mut self, moment: u64, changes: &mut Changes) {
+    fn call(&mut self, moment: u64, changes: &mut Changes)
+        requires { length changes.old.items + 3 ≤ 4 }
+        ensures host { self.new.host ≡ self.old.host }
+        ensures room { length changes.new.items ≤ length changes.old.items + 3 }
+        ensures tidy { (l : TheseLines) → self.old.tidy ≡ after_all changes.old.items l → self.new.tidy ≡ after_all changes.new.items l }
+    {
         self.phase = Phase::Called;
         self.give(moment, Line::Atn, true, changes);
         if self.host.clock_low || self.cable.waits_for_clock() {
@@ -68,7 +80,12 @@ impl Tidy {
     }
 
     /// ATN is freed: with it the tidy host pulls DATA, where a drive talks; where none listens or talks it frees CLOCK.
-    fn release(&mut self, moment: u64, changes: &mut Changes) {
+    fn release(&mut self, moment: u64, changes: &mut Changes)
+        requires { length changes.old.items + 3 ≤ 4 }
+        ensures host { self.new.host ≡ self.old.host }
+        ensures room { length changes.new.items ≤ length changes.old.items + 3 }
+        ensures tidy { (l : TheseLines) → self.old.tidy ≡ after_all changes.old.items l → self.new.tidy ≡ after_all changes.new.items l }
+    {
         let (talks, listens) = (self.cable.has(Role::Talker), self.cable.has(Role::Listener));
         if talks {
             self.give(moment, Line::Data, self.host.data_low, changes);
@@ -85,7 +102,12 @@ impl Tidy {
     }
 
     /// CLOCK: left out where no drive heeds it. Before its release comes what became of DATA while it was pulled.
-    fn clock(&mut self, change: Change, changes: &mut Changes) {
+    fn clock(&mut self, change: Change, changes: &mut Changes)
+        requires { length changes.old.items + 2 ≤ 4 }
+        ensures host { self.new.host ≡ self.old.host }
+        ensures room { length changes.new.items ≤ length changes.old.items + 2 }
+        ensures tidy { (l : TheseLines) → self.old.tidy ≡ after_all changes.old.items l → self.new.tidy ≡ after_all changes.new.items l }
+    {
         let low = is_pull(change.way);
         if matches!(
             self.phase,
@@ -107,7 +129,12 @@ impl Tidy {
 
     /// DATA: left out where no drive heeds it. While CLOCK is pulled it is put off until that is freed, but for its release after
     /// a byte.
-    fn data(&mut self, change: Change, changes: &mut Changes) {
+    fn data(&mut self, change: Change, changes: &mut Changes)
+        requires { length changes.old.items + 1 ≤ 4 }
+        ensures host { self.new.host ≡ self.old.host }
+        ensures room { length changes.new.items ≤ length changes.old.items + 1 }
+        ensures tidy { (l : TheseLines) → self.old.tidy ≡ after_all changes.old.items l → self.new.tidy ≡ after_all changes.new.items l }
+    {
         let low = is_pull(change.way);
         self.data_since = change.moment;
         let waits = match self.phase {
@@ -123,7 +150,12 @@ impl Tidy {
     }
 
     /// The tidy host changes a line, unless it holds it so already.
-    fn give(&mut self, moment: u64, line: Line, low: bool, changes: &mut Changes) {
+    fn give(&mut self, moment: u64, line: Line, low: bool, changes: &mut Changes)
+        requires { length changes.old.items + 1 ≤ 4 }
+        ensures host { self.new.host ≡ self.old.host }
+        ensures room { length changes.new.items ≤ length changes.old.items + 1 }
+        ensures tidy { (l : TheseLines) → self.old.tidy ≡ after_all changes.old.items l → self.new.tidy ≡ after_all changes.new.items l }
+    {
         let way = if low { Way::Pull } else { Way::Free };
         let change = Change { moment, line, way };
         let tidy = with_change(self.tidy, change);
