@@ -1,5 +1,5 @@
 -- What is promised of drives with disks under a host: the headline.
-use Rattle.std.specs.Prelude.{ℕ, ◌≡◌, ◌≤◌, ◌==◌, List, [], ◌∷◌, ◌++◌, map, if◌then◌else◌}
+use Rattle.std.specs.Prelude.{ℕ, Result, OnOk, ◌≡◌, ◌≤◌, ◌==◌, List, [], ◌∷◌, ◌++◌, map, if◌then◌else◌}
 use Rattle.std.specs.List.{AllZip}
 use Rattle.cbm_iec.specs.declared.event.Event.{Event}
 use Rattle.cbm_iec.specs.declared.line.Change.{Change}
@@ -14,7 +14,11 @@ use Rattle.cbm_session.specs.Playing.{Station, IsKept}
 use Rattle.cbm_session.specs.Timing.{HostKeeps}
 use Rattle.cbm_drive.specs.Cables.{Cabled}
 use Rattle.cbm_drive.specs.Desks.{Desk, DeskStands, desk_step, desk_says}
+use Rattle.cbm_bus.specs.Powered.{IsAtRest}
 use Rattle.cbm_drive.specs.Ordered.{host_changes}
+use Rattle.cbm_drive.specs.Played.{HasHanded}
+use Rattle.cbm_session.specs.Handed.{AllReact}
+use Rattle.cbm_session.specs.Sessions.{AllUnlike}
 use Rattle.cbm_drive.specs.Seats.{Seated, failed, IsBusAt}
 
 -- the machine of the drive with this device number; that of a number that none of them has is as it was
@@ -57,3 +61,8 @@ module _ {M : Type 0} (seen : M → Seen) where
     pub session : HostKeeps bs made end → IsKept (Desk Machine) desk_step desk_says bs ms made end now
     pub loosely : HostKeepsLoosely (Desk Machine) desk_step desk_says bs ms made end → IsKeptLoosely (Desk Machine) desk_step desk_says bs ms made end now
     pub stand : AreAt bs b now
+
+  -- WHETHER OR NOT THE HOST KEEPS ANY TIMING, from rest: the machine of each drive ran what the wires handed to it, if no medium failed by itself.
+  abbrev pub HandsToMachines : {E : Type 0} → Cabled (Desk (Kept M)) → Cabled (Desk (Kept M)) → ℕ → List Event → List Event → List Change → Result (Unit {0}) E → Type 0
+  HandsToMachines b c end old new cs result = HaveNotFailed b c → (bs : List Party) (ms : ℕ → Desk Machine) → AllUnlike bs → AllReact bs → IsAtRest seen bs ms b →
+      OnOk result (HasHanded (Desk (Kept M)) (Desk Machine) (DeskStands seen) desk_step desk_says c.host end c.drives old new cs bs ms)

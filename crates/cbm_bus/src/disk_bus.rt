@@ -24,21 +24,19 @@ impl<M: Medium, const N: usize> Model for DiskBus<M, N> {
 
 impl<M: Medium, const N: usize> DiskBus<M, N> {
     ghost use Rattle.std.specs.Prelude.{◌≡◌, ◌↔◌, ◌^◌, ◌<◌, ◌≤◌, ℕ, true, List, length, Some, None, Err, OnOk, IfErr};
-    ghost use Rattle.cbm_bus.specs.Headline.{AreAt, AreDisks, HasPlayedFiles, HaveNotFailed, failures_on, machines_now};
+    ghost use Rattle.cbm_bus.specs.Headline.{AreAt, AreDisks, HandsToMachines, HasPlayedFiles, HaveNotFailed, failures_on, machines_now};
     ghost use Rattle.cbm_bus.specs.Powered.{ArePowered, IsAtRest};
     ghost use Rattle.cbm_drive.specs.Cables.{all_free};
     ghost use Rattle.cbm_drive.specs.Desks as desks;
     ghost use Rattle.cbm_channel.specs.Standing.{Kept};
     ghost use Rattle.cbm_drive.specs.Ordered.{fault_of};
-    ghost use Rattle.cbm_drive.specs.Played.{HasHanded};
     ghost use Rattle.cbm_drive.specs.declared.fault.PlayFault.{PlayFault};
     ghost use Rattle.cbm_drive.specs.declared.fault.PlayFault.TheVariants.{Memory};
     ghost use Rattle.cbm_iec.specs.declared.party.Party.{Party};
     ghost use Rattle.cbm_drive.specs.Seats.{AreResting};
     ghost use Rattle.cbm_machine.specs.Machines.{Machine};
-    ghost use Rattle.cbm_session.specs.Handed.{AllReact};
     ghost use Rattle.cbm_session.specs.Playing.{Station};
-    ghost use Rattle.cbm_session.specs.Sessions.{AllUnlike, IsBus};
+    ghost use Rattle.cbm_session.specs.Sessions.{IsBus};
 
     /// The drives on a cable of which the host holds no line, in the order in which they answer at equal moments.
     pub fn new(drives: [Drive<Desk<M>>; N]) -> DiskBus<M, N>
@@ -89,11 +87,7 @@ impl<M: Medium, const N: usize> DiskBus<M, N> {
             (bs : List Party) (ms : ℕ → desks.Desk Machine) → IsAtRest M.seen bs ms self.old →
             AreDisks M.seen self.new }
         // Whether or not the host keeps any timing:
-        ensures handed { HaveNotFailed M.seen self.old self.new →
-            (bs : List Party) (ms : ℕ → desks.Desk Machine) → AllUnlike bs → AllReact bs →
-            IsAtRest M.seen bs ms self.old → OnOk result
-            (HasHanded (desks.Desk (Kept M)) (desks.Desk Machine) (desks.DeskStands M.seen) desks.desk_step
-            desks.desk_says self.new.host end self.new.drives events.old.items events.new.items changes.now bs ms) }
+        ensures handed { HandsToMachines M.seen self.old self.new end events.old.items events.new.items changes.now result }
         ensures fault { (f : PlayFault) → fault_of 0 0 end changes.now ≡ Some f →
             (result ≡ Err f) × (self.new ≡ self.old) × (events.new ≡ events.old) }
         ensures memory { fault_of 0 0 end changes.now ≡ None → IfErr result (λ f. f ≡ Memory) }

@@ -1,5 +1,5 @@
 -- Half of a bit of a byte that a drive says: one reaction, which changes CLOCK, and perhaps DATA after it.
-use Rattle.std.specs.Prelude.{ℕ, ◌≡◌, ◌<◌, Bool, false, not, ◌&&◌, nat_lt, is_some, List, [], ◌∷◌, Option, Some, None}
+use Rattle.std.specs.Prelude.{ℕ, ◌+◌, ◌≡◌, ◌<◌, Bool, false, not, ◌&&◌, nat_lt, is_some, List, [], ◌∷◌, Option, Some, None}
 use Rattle.cbm_drive.specs.Cables.{Cabled}
 use Rattle.cbm_drive.specs.Players.{Turns}
 use Rattle.cbm_drive.specs.Seats.{Seated}
@@ -40,6 +40,10 @@ half_lines h = changes_between h.moment h.was h.now
 -- the events of half of a bit
 abbrev pub half_events : Half → List Event
 half_events h = drive_events h.device (half_lines h)
+
+-- a player after it: nothing is pending, and the host may change a line just after it
+abbrev pub half_given : Turns → Half → Turns
+half_given p h = record { waiting = None; second = None; from = h.moment + 1; taken = p.taken }
 
 -- A DRIVE SAID HALF OF A BIT before a limit: the reaction that was due, whatever there is to say, and no act came of it.
 pub record SaysHalf {D : Type 0} (limit : ℕ) (x y : Seated D) (h : Half) : Type 0 where

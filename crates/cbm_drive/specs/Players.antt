@@ -32,6 +32,10 @@ pending (Some e) = e ∷ []
 abbrev pub at_most : {D : Type 0} → ℕ → Option Event → List (Seated D) → ℕ
 at_most limit second xs = 2 * left limit xs + length (pending second)
 
+-- less is left to come before each limit from this moment on
+abbrev pub IsLessLeft : {D : Type 0} → ℕ → Turns → Turns → Cabled D → Cabled D → Type 0
+IsLessLeft from p q b c = (limit : ℕ) → from ≤ limit → at_most limit q.second c.drives < at_most limit p.second b.drives
+
 -- A pending change gives way to nothing but what comes before it.
 abbrev pub IsWaitingFrom : ℕ → Option Change → Type 0
 IsWaitingFrom from None = Unit {0}

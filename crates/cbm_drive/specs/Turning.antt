@@ -10,14 +10,16 @@ use Rattle.cbm_session.specs.Handed.{AllReact}
 use Rattle.cbm_session.specs.Playing.{Station, tell, drive_events, at_rest}
 use Rattle.cbm_session.specs.Sessions.{AllUnlike, IsBus}
 use Rattle.cbm_drive.specs.declared.bus.Answer.{Answer}
+use Rattle.cbm_drive.specs.declared.half.Half.{Half}
 use Rattle.cbm_drive.specs.Cables.{Cabled}
+use Rattle.cbm_drive.specs.Halves.{half_events}
 use Rattle.cbm_drive.specs.Kept.{HasKept}
 use Rattle.cbm_drive.specs.Ordered.{fault_of}
 use Rattle.cbm_drive.specs.Playback.{Shown, Playback, IsPlayedBack, played_says, played_step}
 use Rattle.cbm_drive.specs.Played.{HasSettled, HasPlayed, IsPlayCut, HasHanded}
 use Rattle.cbm_drive.specs.Players.{Turns, IsAfter, HasGiven, IsStill, IsFinished}
 use Rattle.cbm_drive.specs.Reactions.{HasReacted}
-use Rattle.cbm_drive.specs.Seats.{Seated, IsBusAt}
+use Rattle.cbm_drive.specs.Seats.{Seated, IsBusAt, Unfailed}
 use Rattle.cbm_drive.specs.Silence.{AnyShows}
 
 module _ (D M : Type 0) (stands : D → M → Type 0) (step : M → Act → M) (says : M → Option (ℕ × Bool)) where
@@ -30,10 +32,24 @@ module _ (D M : Type 0) (stands : D → M → Type 0) (step : M → Act → M) (
   HasShown host until ys n ss first = MatchOption first (HasSettled D M stands step says host until ys [] [] n ss)
       (λ r. HasSettled D M stands step says host (r.0 + 1) ys [] (drive_events r.1.device r.1.changes.items) n ss)
 
+  -- So it is of all stations that the drives represent, if no machine failed in it.
+  abbrev pub ShowsFirst : (D → ℕ) → Lines → ℕ → List (Seated D) → List (Seated D) → Option (ℕ × Answer) → Type 0
+  ShowsFirst failures host limit xs ys first = Unfailed failures xs ys → (ss : List (Station M)) (n until : ℕ) → IsBusAt D M stands host xs ss → n ≤ until →
+      limit ≤ until → HasShown host until ys n ss first
+
+  -- And there is one where a machine shows one.
+  abbrev pub ShowsAny : (D → ℕ) → Lines → ℕ → List (Seated D) → List (Seated D) → Option (ℕ × Answer) → Type 0
+  ShowsAny failures host limit xs ys first = Unfailed failures xs ys → (ss : List (Station M)) → IsBusAt D M stands host xs ss → AnyShows M step says limit ss → IsSome first
+
   -- The changes of the host were played, with all that came of them; or memory was lacking on the way.
   abbrev pub PlaysUpTo : {E : Type 0} → Lines → ℕ → List (Seated D) → List Event → List Event → List Change → List (Station M) → Result (Unit {0}) E → Type 0
   PlaysUpTo host limit ys old new cs ss result = MatchResult result (λ x. HasPlayed D M stands step says host limit ys old new cs ss)
       (λ e. IsPlayCut D M stands step says host ys old new cs ss)
+
+  -- So it is of all stations that the drives represent, if no machine failed in it and the list is in order.
+  abbrev pub PlaysList : {E : Type 0} → (D → ℕ) → Cabled D → Cabled D → ℕ → List Event → List Event → List Change → Result (Unit {0}) E → Type 0
+  PlaysList failures b c end old new cs result = Unfailed failures b.drives c.drives → (ss : List (Station M)) → fault_of 0 0 end cs ≡ None →
+      IsBusAt D M stands b.host b.drives ss → PlaysUpTo c.host (end + 1) c.drives old new cs ss result
 
   -- From rest, whether or not the host keeps any timing: the machine of each drive ran what the wires handed to it.
   abbrev pub HandsToEach : {E : Type 0} → Cabled D → Cabled D → ℕ → List Event → List Event → List Change → Result (Unit {0}) E → Type 0
@@ -54,6 +70,11 @@ module _ (D M : Type 0) (stands : D → M → Type 0) (step : M → Act → M) (
   abbrev pub GivesOne : Turns → Turns → Cabled D → Cabled D → ℕ → Option Event → Type 0
   GivesOne p q b c upto result = (n : ℕ) (ss : List (Station M)) (es : List Event) → IsAfter D M stands step says p b n ss es →
       IfSome result (HasGiven D M stands step says q c upto n ss es) × IsSome result
+
+  -- The changes of half of a bit are the next events.
+  abbrev pub GivesHalf : Turns → Turns → Cabled D → Cabled D → Option Half → Type 0
+  GivesHalf p q b c result = (n : ℕ) (ss : List (Station M)) (es : List Event) → IsAfter D M stands step says p b n ss es →
+      IfSome result (λ h. IsAfter D M stands step says q c n ss (es ++ half_events h))
 
   -- The next event up to the end is given; or all is over up to there.
   abbrev pub Finishes : Turns → Turns → Cabled D → Cabled D → ℕ → Option Event → Type 0
@@ -93,6 +114,12 @@ module _ {D : Type 0} (shows : D → Shown) where
   GivesOneBack p q b c upto result = (trail : List Shown) × ((later : List Shown) (n : ℕ) (ss : List (Station Playback)) (es : List Event) →
       IsAfter D Playback (IsPlayedBack shows (trail ++ later)) played_step played_says p b n ss es →
       IfSome result (HasGiven D Playback (IsPlayedBack shows later) played_step played_says q c upto n ss es) × IsSome result)
+
+  -- The changes of half of a bit are the next events, of the machine that replays what the drive shows later.
+  abbrev pub GivesHalfBack : Turns → Turns → Cabled D → Cabled D → Option Half → Type 0
+  GivesHalfBack p q b c result = (later : List Shown) (n : ℕ) (ss : List (Station Playback)) (es : List Event) →
+      IsAfter D Playback (IsPlayedBack shows later) played_step played_says p b n ss es →
+      IfSome result (λ h. IsAfter D Playback (IsPlayedBack shows later) played_step played_says q c n ss (es ++ half_events h))
 
   -- The next event up to the end is given; or all is over up to there.
   abbrev pub FinishesBack : Turns → Turns → Cabled D → Cabled D → ℕ → Option Event → Type 0

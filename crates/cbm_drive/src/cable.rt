@@ -42,7 +42,7 @@ impl<D: Machine, const N: usize> Bus<D, N> {
     ghost use Rattle.cbm_drive.specs.declared.fault.PlayFault.{PlayFault};
     ghost use Rattle.cbm_drive.specs.declared.fault.PlayFault.TheVariants.{Memory};
     ghost use Rattle.cbm_drive.specs.Played.{HasSettled};
-    ghost use Rattle.cbm_drive.specs.Turning.{HasShown, PlaysUpTo, HandsToEach, PlaysSessions, ToldBack, ShownBack};
+    ghost use Rattle.cbm_drive.specs.Turning.{ShowsFirst, ShowsAny, PlaysList, HandsToEach, PlaysSessions, ToldBack, ShownBack};
     ghost use Rattle.cbm_drive.specs.Playback.{Shown, Playback, IsPlayedBack, played_says, played_step};
     ghost use Rattle.cbm_drive.specs.Progress.{AreKept, IsNearer, left};
     ghost use Rattle.cbm_drive.specs.Reactions.{AreAt, HasReacted};
@@ -148,10 +148,8 @@ impl<D: Machine, const N: usize> Bus<D, N> {
     #[inline(always)]
     pub(crate) fn first_shown(&mut self, limit: u64) -> Option<(u64, Answer)>
         requires { limit < 2 ^ 60 }
-        ensures played { Unfailed D.failures self.old.drives self.new.drives →
-            (ss : List (Station D.State)) (n until : ℕ) →
-            IsBusAt _ D.State D.stands self.old.host self.old.drives ss → n ≤ until → limit ≤ until →
-            HasShown _ D.State D.stands D.step D.says self.old.host until self.new.drives n ss result }
+        ensures played { ShowsFirst _ D.State D.stands D.step D.says D.failures self.old.host limit self.old.drives
+            self.new.drives result }
         // Also on disks that aren't sound, of a drive alone: so it is of the machine that replays what this one showed.
         ensures recorded { N ≡ 1 → ShownBack D.shows self.old.host limit self.old.drives self.new.drives result }
         ensures before { IfSome result (λ r. r.0 < limit) }
@@ -161,9 +159,8 @@ impl<D: Machine, const N: usize> Bus<D, N> {
         ensures fewer { IfSome result (λ r. (until : ℕ) → limit ≤ until →
             left until self.new.drives < left until self.old.drives) }
         ensures moments { IfSome result (λ r. AreAt r.0 r.1.changes.items) }
-        ensures some { Unfailed D.failures self.old.drives self.new.drives →
-            (ss : List (Station D.State)) → IsBusAt _ D.State D.stands self.old.host self.old.drives ss →
-            AnyShows D.State D.step D.says limit ss → IsSome result }
+        ensures some { ShowsAny _ D.State D.stands D.step D.says D.failures self.old.host limit self.old.drives
+            self.new.drives result }
         ensures host { self.new.host ≡ self.old.host }
         ensures lasting { numbers D.lasting self.new.drives ≡ numbers D.lasting self.old.drives }
         ensures counted { failed D.failures self.old.drives ≤ failed D.failures self.new.drives }
@@ -221,11 +218,8 @@ impl<D: Machine, const N: usize> Bus<D, N> {
         ensures settled { OnOk result (AreInTime (end + 1) self.new.drives) }
         ensures lasting { numbers D.lasting self.new.drives ≡ numbers D.lasting self.old.drives }
         ensures counted { failed D.failures self.old.drives ≤ failed D.failures self.new.drives }
-        ensures played { Unfailed D.failures self.old.drives self.new.drives →
-            (ss : List (Station D.State)) → fault_of 0 0 end changes.now ≡ None →
-            IsBusAt _ D.State D.stands self.old.host self.old.drives ss →
-            PlaysUpTo _ D.State D.stands D.step D.says self.new.host (end + 1) self.new.drives events.old.items
-            events.new.items changes.now ss result }
+        ensures played { PlaysList _ D.State D.stands D.step D.says D.failures self.old self.new end events.old.items
+            events.new.items changes.now result }
         // Whether or not the host keeps any timing, from rest:
         ensures handed { Unfailed D.failures self.old.drives self.new.drives →
             HandsToEach _ D.State D.stands D.step D.says self.old self.new end events.old.items

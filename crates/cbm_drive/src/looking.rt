@@ -8,7 +8,7 @@ ghost use Rattle.cbm_drive.specs.Progress.{left};
 ghost use Rattle.cbm_drive.specs.Reactions.{AreAt};
 ghost use Rattle.cbm_drive.specs.Seats.{IsSeat, IsBusAt, AreInTime, numbers, Unfailed, failed};
 ghost use Rattle.cbm_drive.specs.Silence.{AnyShows, AreSilent, Foretold};
-ghost use Rattle.cbm_drive.specs.Turning.{HasShown, ShownBack};
+ghost use Rattle.cbm_drive.specs.Turning.{HasShown, ShowsFirst, ShowsAny, ShownBack};
 ghost use Rattle.cbm_drive.specs.declared.wires.Wires.{Wires};
 
 use crate::bus::{Answer, first_due, react};
@@ -59,9 +59,7 @@ pub(crate) fn first_shown<D: Machine>(
 ) -> Option<(u64, Answer)>
     requires few { length drives.old ≤ 4 }
     requires limit { limit < 2 ^ 60 }
-    ensures played { Unfailed D.failures drives.old drives.new →
-        (ss : List (Station D.State)) (n until : ℕ) → IsBusAt _ D.State D.stands host drives.old ss → n ≤ until →
-        limit ≤ until → HasShown _ D.State D.stands D.step D.says host until drives.new n ss result }
+    ensures played { ShowsFirst _ D.State D.stands D.step D.says D.failures host limit drives.old drives.new result }
     // Also on disks that aren't sound, of a drive alone: so it is of the machine that replays what this one showed.
     ensures recorded { length drives.old ≡ 1 → ShownBack D.shows host limit drives.old drives.new result }
     ensures before { IfSome result (λ r. r.0 < limit) }
@@ -70,9 +68,7 @@ pub(crate) fn first_shown<D: Machine>(
     // Whatever the machines represent, before each later limit less is left to happen.
     ensures fewer { IfSome result (λ r. (until : ℕ) → limit ≤ until → left until drives.new < left until drives.old) }
     ensures moments { IfSome result (λ r. AreAt r.0 r.1.changes.items) }
-    ensures some { Unfailed D.failures drives.old drives.new →
-        (ss : List (Station D.State)) → IsBusAt _ D.State D.stands host drives.old ss →
-        AnyShows D.State D.step D.says limit ss → IsSome result }
+    ensures some { ShowsAny _ D.State D.stands D.step D.says D.failures host limit drives.old drives.new result }
     ensures same { length drives.new ≡ length drives.old }
     ensures lasting { numbers D.lasting drives.new ≡ numbers D.lasting drives.old }
     ensures counted { failed D.failures drives.old ≤ failed D.failures drives.new }

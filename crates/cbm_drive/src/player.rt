@@ -38,11 +38,11 @@ impl Player {
     ghost use Rattle.cbm_session.specs.Timing.{HostKeeps};
     ghost use Rattle.cbm_iec.specs.declared.party.Party.{Party};
     ghost use Rattle.cbm_drive.specs.Playback.{Shown, Playback, IsPlayedBack, played_says, played_step};
-    ghost use Rattle.cbm_drive.specs.Halves.{has_nothing, half_alone, half_events};
+    ghost use Rattle.cbm_drive.specs.Halves.{has_nothing, half_alone, half_events, half_given};
     ghost use Rattle.cbm_drive.specs.Reactions.{AreAt};
     ghost use Rattle.cbm_drive.specs.Seats.{AreLater, numbers, Unfailed, failed};
-    ghost use Rattle.cbm_drive.specs.Players.{at_start, pending, at_most, IsWaitingFrom, IsTurnOf, IsBehind, IsDrives, IsGivenBefore, IsAfter};
-    ghost use Rattle.cbm_drive.specs.Turning.{GivesNext, GivesOne, Finishes, GivesNextBack, GivesOneBack, FinishesBack};
+    ghost use Rattle.cbm_drive.specs.Players.{at_start, pending, at_most, IsLessLeft, IsWaitingFrom, IsTurnOf, IsBehind, IsDrives, IsGivenBefore, IsAfter};
+    ghost use Rattle.cbm_drive.specs.Turning.{GivesNext, GivesOne, GivesHalf, Finishes, GivesNextBack, GivesOneBack, GivesHalfBack, FinishesBack};
     ghost use Rattle.cbm_iec.specs.declared.event.Who.TheVariants.{Drive};
     ghost use Rattle.cbm_drive.specs.declared.fault.PlayFault.TheVariants.{Backwards};
 
@@ -139,21 +139,11 @@ impl Player {
         requires { upto < 2 ^ 59 - 1 }
         ensures comes { is_some result ≡ (has_nothing self.old && half_alone (upto + 1) bus.old.drives) }
         ensures none { result ≡ None → (self.new ≡ self.old) × (bus.new ≡ bus.old) }
-        ensures given { (n : ℕ) (ss : List (Station D.State)) (es : List Event) →
-            IsAfter _ D.State D.stands D.step D.says self.old bus.old n ss es → IfSome result (λ h.
-            IsAfter _ D.State D.stands D.step D.says self.new bus.new n ss (es ++ half_events h)) }
+        ensures given { GivesHalf _ D.State D.stands D.step D.says self.old self.new bus.old bus.new result }
         // Also on disks that aren't sound: so it is of the machine that replays what this one shows later.
-        ensures recorded { (later : List Shown) (n : ℕ) (ss : List (Station Playback)) (es : List Event) →
-            IsAfter _ Playback (IsPlayedBack D.shows later) played_step played_says self.old bus.old n ss es →
-            IfSome result (λ h. IsAfter _ Playback (IsPlayedBack D.shows later) played_step played_says self.new bus.new n ss
-            (es ++ half_events h)) }
+        ensures recorded { GivesHalfBack D.shows self.old self.new bus.old bus.new result }
         ensures alone { IfSome result (λ h. (self.old.waiting ≡ None) × (self.old.second ≡ None)) }
-        ensures player { IfSome result (λ h. self.new ≡ record {
-          waiting = None;
-          second = None;
-          from = h.moment + 1;
-          taken = self.old.taken;
-        }) }
+        ensures player { IfSome result (λ h. self.new ≡ half_given self.old h) }
         ensures moment { IfSome result (λ h. h.moment ≤ upto) }
         ensures clock { IfSome result (λ h. h.now.clock_low ≡ not h.was.clock_low) }
         // Also on disks that aren't sound, less is left to come.
@@ -237,8 +227,7 @@ impl Player {
         ensures second { IsGivenBefore change.moment self.new.second }
         ensures behind { IfSome result (λ e. IsBehind e.who e.change self.new) }
         // Also on disks that aren't sound, less is left to come after a change of a drive.
-        ensures fewer { IfSome result (λ e. IsDrives e.who → (limit : ℕ) → change.moment ≤ limit →
-            at_most limit self.new.second bus.new.drives < at_most limit self.old.second bus.old.drives) }
+        ensures fewer { IfSome result (λ e. IsDrives e.who → IsLessLeft change.moment self.old self.new bus.old bus.new) }
         ensures taken { self.new.taken ≡ self.old.taken }
         ensures lasting { numbers D.lasting bus.new.drives ≡ numbers D.lasting bus.old.drives }
         ensures counted { failed D.failures bus.old.drives ≤ failed D.failures bus.new.drives }

@@ -1,16 +1,16 @@
 -- A drive with its DOS alone on a cable with a host: at rest between the host's requests, and in the middle of one.
-use Rattle.std.specs.Prelude.{◌≡◌, ◌≤◌, ℕ, ◌+◌, Bool, true, List, [], ◌∷◌, ◌++◌, Option}
+use Rattle.std.specs.Prelude.{◌≡◌, ◌≤◌, ℕ, ◌+◌, Bool, true, List, [], ◌∷◌, ◌++◌, Option, MatchOption}
 use Rattle.cbm_medium.specs.Seen.{Seen}
 use Rattle.cbm_channel.specs.Machines.{Machine}
 use Rattle.cbm_channel.specs.Standing.{Kept}
 use Rattle.cbm_drive.specs.Cables.{Cabled}
 use Rattle.cbm_drive.specs.Desks.{Desk, DeskStands, desk_step, desk_says}
 use Rattle.cbm_drive.specs.Seats.{IsBusAt, failed, numbers}
-use Rattle.cbm_host.specs.Engines.{Engined, engine_at}
+use Rattle.cbm_host.specs.Engines.{Engined, channel_of, engine_at}
 use Rattle.cbm_host.specs.Performed.{IsPerforming, HasPerformed}
 use Rattle.cbm_host.specs.Performers.{Performing}
 use Rattle.cbm_host.specs.Requests.{longest}
-use Rattle.cbm_host.specs.Served.{served, at_power_up}
+use Rattle.cbm_host.specs.Served.{served, at_power_up, IsModest}
 use Rattle.cbm_host.specs.declared.request.Request.{Request}
 use Rattle.cbm_iec.specs.declared.act.Act.{Act}
 use Rattle.cbm_iec.specs.declared.event.Event.{Event}
@@ -86,3 +86,8 @@ module _ {M : Type 0} (seen : M → Seen) where
     pub rests : Rests h (served h.pace request m).machine
     pub said : bytes ≡ (served h.pace request m).bytes
     pub marked : last ≡ (served h.pace request m).marked
+
+  -- THE NEXT BYTE of a request to the machine that the drive rested for, if the medium didn't fail in between: one more was taken, or the request is over.
+  abbrev pub TakesNext : Hosting (Kept M) → Hosting (Kept M) → Performing → Performing → Option (ℕ × Bool) → Type 0
+  TakesNext old new p q result = HasNotFailed old new → (m : Machine) (request : Request) (bytes : List ℕ) (last : Bool) → channel_of request ≤ 15 → IsModest request →
+      IsUnderWay old p m request bytes last → MatchOption result (IsOver new m request bytes last) (λ x. IsGoingOn new q m request (bytes ++ x.0 ∷ []) x.1)

@@ -3,7 +3,7 @@
 use Rattle.std.specs.Prelude.{ℕ, ◌≡◌, Bool, List, [], ◌∷◌, ◌++◌, Option, Result, IfOk, IfErr, OnOk, MatchBool, MatchResult}
 use Rattle.cbm_drive.specs.Cables.{Cabled}
 use Rattle.cbm_drive.specs.Playback.{Shown, Playback}
-use Rattle.cbm_drive.specs.Seats.{IsBusAt}
+use Rattle.cbm_drive.specs.Seats.{IsBusAt, Unfailed}
 use Rattle.cbm_drive.specs.declared.fault.PlayFault.{PlayFault}
 use Rattle.cbm_drive.specs.declared.fault.PlayFault.TheVariants.{Memory}
 use Rattle.cbm_host.specs.AnyDisk.{IsCarriedOutAnyway, IsCutShortAnyway}
@@ -31,10 +31,18 @@ module _ (D M : Type 0) (stands : D → M → Type 0) (step : M → Act → M) (
   KeepsMoments e limit x old new result = (ss : List (Station M)) → IsBusAt D M stands x.host x.drives ss →
       IfOk result (λ done. HasRun M step says e limit old new done.bytes.items done.last done.end ss)
 
+  -- So it is if the drive's machine didn't fail in it.
+  abbrev pub KeepsMomentsUnfailed : {E : Type 0} → (D → ℕ) → Engined → ℕ → Cabled D → Cabled D → List Event → List Event → Result Done E → Type 0
+  KeepsMomentsUnfailed failures e limit x y old new result = Unfailed failures x.drives y.drives → KeepsMoments e limit x old new result
+
   -- The one error is want of memory: what was added is a beginning of a play.
   abbrev pub LacksMemory : {A : Type 0} → Cabled D → Cabled D → List Event → List Event → Result A PlayFault → Type 0
   LacksMemory x y old new result = (ss : List (Station M)) → IsBusAt D M stands x.host x.drives ss →
       IfErr result (λ e. (e ≡ Memory) × IsCutShort D M stands step says y old new ss)
+
+  -- So it is if the drive's machine didn't fail in it.
+  abbrev pub LacksMemoryUnfailed : {A : Type 0} → (D → ℕ) → Cabled D → Cabled D → List Event → List Event → Result A PlayFault → Type 0
+  LacksMemoryUnfailed failures x y old new result = Unfailed failures x.drives y.drives → LacksMemory x y old new result
 
   -- ---- a request under way
 

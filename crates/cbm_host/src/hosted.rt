@@ -49,7 +49,7 @@ impl<M: Medium> Hosted<M> {
     ghost use Rattle.cbm_volume.specs.Holding.{HoldsDisk};
     ghost use Rattle.cbm_host.specs.declared.request.Request.{Request};
     ghost use Rattle.cbm_host.specs.Engines.{channel_of};
-    ghost use Rattle.cbm_host.specs.Hosted.{Rests, IsUnderWay, IsGoingOn, IsOver, tracks_on, failures_on, HasNotFailed};
+    ghost use Rattle.cbm_host.specs.Hosted.{Rests, IsUnderWay, IsGoingOn, IsOver, TakesNext, tracks_on, failures_on, HasNotFailed};
     ghost use Rattle.cbm_host.specs.Progress.{left_of};
     ghost use Rattle.cbm_host.specs.Requests.{longest};
     ghost use Rattle.cbm_iec.specs.declared.pace.Pace.TheVariants.{Profile};
@@ -115,11 +115,7 @@ impl<M: Medium> Hosted<M> {
     /// Goes on with a request to the next byte that the host takes, and answers it and whether it carries EOI. None where the
     /// request is over, and then the drive rests again.
     pub fn take(&mut self, performer: &mut Performer) -> Option<(u8, bool)>
-        ensures taken { HasNotFailed M.seen self.old self.new →
-            (m : Machine) (request : Request) (bytes : List ℕ) (last : Bool) → channel_of request ≤ 15 →
-            IsModest request → IsUnderWay M.seen self.old performer.old m request bytes last → MatchOption result
-            (IsOver M.seen self.new m request bytes last)
-            (λ x. IsGoingOn M.seen self.new performer.new m request (bytes ++ x.0 ∷ []) x.1) }
+        ensures taken { TakesNext M.seen self.old self.new performer.old performer.new result }
         // On any disk:
         ensures anyway { (request : Request) (start : ℕ) → channel_of request ≤ 15 →
             IsUnderWayAnyway desk_shows self.old.pace self.old.device start self.old.bus performer.old request →

@@ -11,7 +11,7 @@ ghost use Rattle.cbm_iec.specs.declared.pace.Pace.TheVariants.{Profile};
 ghost use Rattle.cbm_iec.specs.declared.party.Party.{Party};
 ghost use Rattle.cbm_host.specs.Progress.{left_of};
 ghost use Rattle.cbm_host.specs.Requests.{longest};
-ghost use Rattle.cbm_host.specs.Requested.{CarriesOut, KeepsMoments, LacksMemory, CarriesOutAnyway, RunsOut, RunsOutBack, Steps, StepsBack, IsCutOnTheWay};
+ghost use Rattle.cbm_host.specs.Requested.{CarriesOut, KeepsMomentsUnfailed, LacksMemoryUnfailed, CarriesOutAnyway, RunsOut, RunsOutBack, Steps, StepsBack, IsCutOnTheWay};
 ghost use Rattle.cbm_host.specs.Performed.{HasAddedUpTo};
 ghost use Rattle.cbm_host.specs.AnyDisk.{IsAtRest};
 
@@ -43,9 +43,8 @@ pub fn perform<D: Machine, const N: usize>(
         CarriesOut _ D.State D.stands D.step D.says b device ms start request.entry bus.old bus.new events.old.items
         events.new.items result }
     // Each change of the host came at the moment that the request's stages say, and so did the end.
-    ensures moments { Unfailed D.failures bus.old.drives bus.new.drives →
-        KeepsMoments _ D.State D.stands D.step D.says (engine_at start device request.entry)
-        (start + 250000000) bus.old events.old.items events.new.items result }
+    ensures moments { KeepsMomentsUnfailed _ D.State D.stands D.step D.says D.failures
+        (engine_at start device request.entry) (start + 250000000) bus.old bus.new events.old.items events.new.items result }
     // On any disk a machine plays back what the drive showed, and for that machine the request was carried out.
     ensures recorded { (v : Party) → let b = at_pace Profile v in IsDrive b → b.device ≡ device → IsAtRest D.shows b bus.old →
         CarriesOutAnyway D.shows b start request.entry bus.old bus.new events.old.items events.new.items result }
@@ -53,8 +52,8 @@ pub fn perform<D: Machine, const N: usize>(
     // Whatever the machine represents, nothing happens later than that.
     ensures within { HasAddedUpTo (start + 250000000) events.old.items events.new.items }
     ensures counted { failed D.failures bus.old.drives ≤ failed D.failures bus.new.drives }
-    ensures memory { Unfailed D.failures bus.old.drives bus.new.drives →
-        LacksMemory _ D.State D.stands D.step D.says bus.old bus.new events.old.items events.new.items result }
+    ensures memory { LacksMemoryUnfailed _ D.State D.stands D.step D.says D.failures bus.old bus.new events.old.items
+        events.new.items result }
 {
     perform_at(alloc, Pace::Profile, bus, start, device, request, events)
 }
@@ -79,9 +78,8 @@ pub fn perform_at<D: Machine, const N: usize>(
         CarriesOut _ D.State D.stands D.step D.says b device ms start request.entry bus.old bus.new events.old.items
         events.new.items result }
     // Each change of the host came at the moment that the request's stages say, and so did the end.
-    ensures moments { Unfailed D.failures bus.old.drives bus.new.drives →
-        KeepsMoments _ D.State D.stands D.step D.says (engine_at start device request.entry)
-        (start + longest pace) bus.old events.old.items events.new.items result }
+    ensures moments { KeepsMomentsUnfailed _ D.State D.stands D.step D.says D.failures
+        (engine_at start device request.entry) (start + longest pace) bus.old bus.new events.old.items events.new.items result }
     // On any disk a machine plays back what the drive showed, and for that machine the request was carried out.
     ensures recorded { (b : Party) → IsDrive b → b.device ≡ device → b.pace ≡ pace → IsAtRest D.shows b bus.old →
         CarriesOutAnyway D.shows b start request.entry bus.old bus.new events.old.items events.new.items result }
@@ -89,8 +87,8 @@ pub fn perform_at<D: Machine, const N: usize>(
     // Whatever the machine represents, nothing happens later than that.
     ensures within { HasAddedUpTo (start + longest pace) events.old.items events.new.items }
     ensures counted { failed D.failures bus.old.drives ≤ failed D.failures bus.new.drives }
-    ensures memory { Unfailed D.failures bus.old.drives bus.new.drives →
-        LacksMemory _ D.State D.stands D.step D.says bus.old bus.new events.old.items events.new.items result }
+    ensures memory { LacksMemoryUnfailed _ D.State D.stands D.step D.says D.failures bus.old bus.new events.old.items
+        events.new.items result }
 {
     let mut performer = Performer::with_pace(start, device, request, pace);
     let mut done = Done {
