@@ -7,7 +7,7 @@ use Rattle.bus_traces.specs.Events.{trace_text}
 use Rattle.bus_traces.proofs.Appending.{appends-nothing, appends-more, appends-kept}
 use Rattle.bus_replies.specs.Plays.{HasGiven}
 use Rattle.bus_replies.specs.Ready.{ready_text}
-use Rattle.bus_replies.specs.declared.request.Request.{Request}
+use Rattle.bus_replies.specs.declared.request.ReplyRequest.{ReplyRequest}
 use Rattle.bus_replies.specs.Replies.{Reply, IsReply, AreReplies, reply_text, changes_in, come_to, moment_after, HasAnswered, HaveAnswered}
 
 abbrev events_of : List Reply → List Event
@@ -30,7 +30,7 @@ come_to_last now (x ∷ rs) r = come_to_last x.moment rs r
 
 module _ {S Start : Type 0} (gave : S → Start → List Event → Type 0) (due : S → Option ℕ → Type 0) where
   -- what was given, and the mark after it
-  pub marked : (a b c : Option (List ℕ)) (now : ℕ) (request : Request) (x y : S) (moment : ℕ) (next : Option ℕ) → HasGiven gave a b (changes_in request) x y → moment ≡ moment_after now request → due y next
+  pub marked : (a b c : Option (List ℕ)) (now : ℕ) (request : ReplyRequest) (x y : S) (moment : ℕ) (next : Option ℕ) → HasGiven gave a b (changes_in request) x y → moment ≡ moment_after now request → due y next
       → Appends b c (ready_text moment next) → HasAnswered gave due a c now request x y
   marked a b c now request x y moment next h m d w = record {
     reply = record { request = request; events = h.events; moment = moment; due = next };
@@ -63,7 +63,7 @@ module _ {S Start : Type 0} (gave : S → Start → List Event → Type 0) (due 
   come_on [] r now x y z h k = (z, subst (λ w. IsReply gave due r now w z) (sym h) k, refl)
   come_on (q ∷ rs) r now x y z h k = (h.0, h.1, come_on rs r q.moment h.0 y z h.2 k)
 
-  answered_on : (a b c : Option (List ℕ)) (now : ℕ) (request : Request) (x y z : S) (h : HaveAnswered gave due a b x y) → now ≡ come_to 0 h.replies → (k : HasAnswered gave due b c now request y z)
+  answered_on : (a b c : Option (List ℕ)) (now : ℕ) (request : ReplyRequest) (x y z : S) (h : HaveAnswered gave due a b x y) → now ≡ come_to 0 h.replies → (k : HasAnswered gave due b c now request y z)
       → (v : HaveAnswered gave due a c x z) × (moment_after now request ≡ come_to 0 v.replies)
   answered_on a b c now request x y z h at k = (
     record {
@@ -77,7 +77,7 @@ module _ {S Start : Type 0} (gave : S → Start → List Event → Type 0) (due 
   )
 
   -- one line more, and the moment to which the talk has come then
-  pub one_more : (a b c d : Option (List ℕ)) (now : ℕ) (request : Request) (x y z : S) (h : HaveAnswered gave due a b x y) → now ≡ come_to 0 h.replies → Keeps b c → (k : HasAnswered gave due c d now request y z)
+  pub one_more : (a b c d : Option (List ℕ)) (now : ℕ) (request : ReplyRequest) (x y z : S) (h : HaveAnswered gave due a b x y) → now ≡ come_to 0 h.replies → Keeps b c → (k : HasAnswered gave due c d now request y z)
       → (v : HaveAnswered gave due a d x z) × (moment_after now request ≡ come_to 0 v.replies)
   unfolding kept_answered
   one_more a b c d now request x y z h at keeps k = answered_on a c d now request x y z (kept_answered a b c x y h keeps) at k

@@ -5,34 +5,34 @@ use Rattle.cbm_iec.specs.declared.event.Event.{Event}
 use Rattle.cbm_iec.specs.declared.line.Change.{Change}
 use Rattle.bus_traces.specs.Events.{trace_text}
 use Rattle.bus_replies.specs.declared.clock.Clock.{Clock}
-use Rattle.bus_replies.specs.declared.request.Request.{Request}
-use Rattle.bus_replies.specs.declared.request.Request.TheVariants as asks
+use Rattle.bus_replies.specs.declared.request.ReplyRequest.{ReplyRequest}
+use Rattle.bus_replies.specs.declared.request.ReplyRequest.TheVariants as asks
 use Rattle.bus_replies.specs.Plays.{host_changes}
 use Rattle.bus_replies.specs.Ready.{ready_text}
 
 -- the changes of the host that a line asks for
-abbrev pub changes_in : Request → List Change
+abbrev pub changes_in : ReplyRequest → List Change
 changes_in asks.Nothing = []
 changes_in (asks.Change c) = c ∷ []
 changes_in (asks.Until moment) = []
 changes_in (asks.End moment) = []
 
 -- no moment of a line is above 10 ^ 15
-abbrev pub IsInRange : Request → Type 0
+abbrev pub IsInRange : ReplyRequest → Type 0
 IsInRange asks.Nothing = Unit {0}
 IsInRange (asks.Change c) = c.moment ≤ 1000000000000000
 IsInRange (asks.Until moment) = moment ≤ 1000000000000000
 IsInRange (asks.End moment) = moment ≤ 1000000000000000
 
 -- WHAT MAY BE ASKED where the talk has come to a moment, and the host may change a line from another one on
-abbrev pub IsInTime : ℕ → ℕ → Request → Type 0
+abbrev pub IsInTime : ℕ → ℕ → ReplyRequest → Type 0
 IsInTime now from asks.Nothing = Unit {0}
 IsInTime now from (asks.Change c) = (from ≤ c.moment) × (c.moment ≤ 1000000000000000)
 IsInTime now from (asks.Until moment) = (now ≤ moment) × (moment ≤ 1000000000000000)
 IsInTime now from (asks.End moment) = (now ≤ moment) × (moment ≤ 1000000000000000)
 
 -- the moment up to which a talk has come after a line, in microseconds, where it had come to another before it
-abbrev pub moment_after : ℕ → Request → ℕ
+abbrev pub moment_after : ℕ → ReplyRequest → ℕ
 moment_after now asks.Nothing = now
 moment_after now (asks.Change c) = c.moment
 moment_after now (asks.Until moment) = moment
@@ -40,7 +40,7 @@ moment_after now (asks.End moment) = moment
 
 -- what comes of a line that asks for this: events, and the mark that all were given up to a moment, and when the next reaction is due
 pub record Reply : Type 0 where
-  pub request : Request
+  pub request : ReplyRequest
   pub events : List Event
   pub moment : ℕ
   pub due : Option ℕ
@@ -74,7 +74,7 @@ module _ {S Start : Type 0} (gave : S → Start → List Event → Type 0) (due 
   AreReplies (r ∷ rs) now x y = (z : S) × IsReply r now x z × AreReplies rs r.moment z y
 
   -- A LINE WAS ANSWERED: what comes of it was written, the events and then the mark.
-  pub record HasAnswered (a b : Option (List ℕ)) (now : ℕ) (request : Request) (x y : S) : Type 0 where
+  pub record HasAnswered (a b : Option (List ℕ)) (now : ℕ) (request : ReplyRequest) (x y : S) : Type 0 where
     pub reply : Reply
     pub asked : reply.request ≡ request
     pub comes : IsReply reply now x y

@@ -11,7 +11,7 @@ use crate::clock::Clock;
 use crate::fault::ReplyFault;
 use crate::plays::Plays;
 use crate::ready::ready_text;
-use crate::request::Request;
+use crate::request::ReplyRequest;
 use bus_traces::event_text;
 use cbm_iec::{Change, Event, Who};
 use std::io::Write;
@@ -71,7 +71,7 @@ fn play<B: Plays, W: Write>(bus: &mut B, upto: u64, writer: &mut W) -> Result<()
 fn give<B: Plays, W: Write>(
     bus: &mut B,
     clock: &mut Clock,
-    request: Request,
+    request: ReplyRequest,
     writer: &mut W,
 ) -> Result<(), ReplyFault>
     requires ready { IsReady B.waiting B.from bus.old clock.old }
@@ -81,12 +81,12 @@ fn give<B: Plays, W: Write>(
     ensures moment { clock.new.moment ≡ moment_after clock.old.moment request }
 {
     match request {
-        Request::Nothing => Ok(()),
-        Request::Change(asked) => {
+        ReplyRequest::Nothing => Ok(()),
+        ReplyRequest::Change(asked) => {
             clock.changed(asked.moment);
             change(bus, asked, writer)
         }
-        Request::Until(moment) | Request::End(moment) => {
+        ReplyRequest::Until(moment) | ReplyRequest::End(moment) => {
             clock.played(moment);
             play(bus, moment, writer)
         }
@@ -97,7 +97,7 @@ fn give<B: Plays, W: Write>(
 pub(crate) fn carry_out<B: Plays, W: Write>(
     bus: &mut B,
     clock: &mut Clock,
-    request: Request,
+    request: ReplyRequest,
     writer: &mut W,
 ) -> Result<(), ReplyFault>
     requires ready { IsReady B.waiting B.from bus.old clock.old }

@@ -3,8 +3,8 @@
 ghost use Rattle.std.specs.Prelude.{◌≡◌, ◌+◌, ◌<◌, ◌≤◌, ◌^◌, None};
 ghost use Rattle.bus_replies.specs.Replies.{IsInRange, IsInTime};
 
-use crate::fault::Refusal;
-use crate::request::Request;
+use crate::fault::ReplyRefusal;
+use crate::request::ReplyRequest;
 use cbm_iec::Change;
 
 /// How far a talk has come, in microseconds.
@@ -52,15 +52,15 @@ impl Clock {
     }
 
     /// Why a request can't be carried out now, if it can't: a change that comes too early, or a moment that is over.
-    pub(crate) fn refuses(&self, request: Request) -> Option<Refusal>
+    pub(crate) fn refuses(&self, request: ReplyRequest) -> Option<ReplyRefusal>
         ensures { result ≡ None → IsInRange request → IsInTime self.now.moment self.now.from request }
     {
         match request {
-            Request::Change(Change { moment, .. }) if moment < self.from => {
-                Some(Refusal::Early(self.from))
+            ReplyRequest::Change(Change { moment, .. }) if moment < self.from => {
+                Some(ReplyRefusal::Early(self.from))
             }
-            Request::Until(moment) | Request::End(moment) if moment < self.moment => {
-                Some(Refusal::Over(self.moment))
+            ReplyRequest::Until(moment) | ReplyRequest::End(moment) if moment < self.moment => {
+                Some(ReplyRefusal::Over(self.moment))
             }
             _ => None,
         }

@@ -4,7 +4,7 @@ use thiserror::Error;
 
 /// Why a line is refused.
 #[derive(Clone, Copy, Debug, PartialEq, Eq, Error)]
-pub enum Refusal {
+pub enum ReplyRefusal {
     /// It has more than 1,000 bytes.
     #[error("it has more than 1000 bytes")]
     Long,
@@ -24,7 +24,7 @@ pub enum Refusal {
 pub enum ReplyFault {
     /// The line with this number, counted from 1, is refused, and why.
     #[error("line {0} refused: {1}")]
-    Line(u64, Refusal),
+    Line(u64, ReplyRefusal),
     /// The reader failed, or was interrupted.
     #[error("reading failed")]
     Reading,

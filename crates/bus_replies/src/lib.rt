@@ -10,9 +10,9 @@ mod ready;
 mod replying;
 mod request;
 
-pub use fault::{Refusal, ReplyFault};
-pub use lines::Lines;
+pub use fault::{ReplyFault, ReplyRefusal};
+pub use lines::LineReader;
 pub use plays::Plays;
 pub use ready::ready_text;
 pub use replying::reply;
-pub use request::{Request, request_of};
+pub use request::{ReplyRequest, request_of};

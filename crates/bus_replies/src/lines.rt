@@ -2,8 +2,8 @@
 ghost use Rattle.std.specs.Prelude.{◌≡◌, ◌-◌, ◌<◌, ◌≤◌, length, IfOk, IfSome};
 ghost use Rattle.bus_replies.specs.Replies.{IsInRange};
 
-use crate::fault::Refusal;
-use crate::request::{LONGEST, Request, request_of};
+use crate::fault::ReplyRefusal;
+use crate::request::{LONGEST, ReplyRequest, request_of};
 use std::io;
 use std::io::Read;
 
@@ -12,7 +12,7 @@ const BLOCK: usize = 4096;
 
 /// Gives the requests of a reader's lines. It takes no memory, and copies no line but one whose end wasn't read yet.
 #[derive(Drop)]
-pub struct Lines<R> {
+pub struct LineReader<R> {
     reader: R,
     block: [u8; BLOCK],
     start: usize,
@@ -28,10 +28,10 @@ fn line_end(bytes: &[u8]) -> Option<usize>
     bytes.iter().position(|byte| *byte == b'\n')
 }
 
-impl<R: Read> Lines<R> {
+impl<R: Read> LineReader<R> {
     /// A host that has said nothing yet.
-    pub fn new(reader: R) -> Lines<R> {
-        Lines {
+    pub fn new(reader: R) -> LineReader<R> {
+        LineReader {
             reader,
             block: [0; BLOCK],
             start: 0,
@@ -47,7 +47,7 @@ impl<R: Read> Lines<R> {
     }
 
     /// Takes the next line, if its end was read: what it asks for, or why it is refused.
-    pub fn take(&mut self) -> Option<Result<Request, Refusal>>
+    pub fn take(&mut self) -> Option<Result<ReplyRequest, ReplyRefusal>>
         ensures { IfSome result (λ asked. IfOk asked IsInRange) }
     {
         let length = line_end(self.waiting())?;
@@ -57,7 +57,7 @@ impl<R: Read> Lines<R> {
     }
 
     /// Takes the last line where it has no end, as far as it was read.
-    pub fn take_rest(&mut self) -> Option<Result<Request, Refusal>>
+    pub fn take_rest(&mut self) -> Option<Result<ReplyRequest, ReplyRefusal>>
         ensures { IfSome result (λ asked. IfOk asked IsInRange) }
     {
         if self.start == self.end {

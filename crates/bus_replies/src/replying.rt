@@ -6,10 +6,10 @@ ghost use Rattle.bus_replies.specs.Replies.{IsInRange, IsInTime, HaveAnswered};
 
 use crate::carrying::carry_out;
 use crate::clock::Clock;
-use crate::fault::{Refusal, ReplyFault};
-use crate::lines::Lines;
+use crate::fault::{ReplyFault, ReplyRefusal};
+use crate::lines::LineReader;
 use crate::plays::Plays;
-use crate::request::{LONGEST, Request};
+use crate::request::{LONGEST, ReplyRequest};
 use std::io::{Read, Write};
 
 /// Sends on all that was written.
@@ -22,9 +22,9 @@ fn send_on<W: Write>(writer: &mut W) -> Result<(), ReplyFault>
 /// What the next line asks for, if there is one; all that was written is sent on before the reader is waited for. Each read gives
 /// a byte at least, so no line needs more of them than it may have bytes.
 fn next_request<R: Read, W: Write>(
-    lines: &mut Lines<R>,
+    lines: &mut LineReader<R>,
     writer: &mut W,
-) -> Result<Option<Result<Request, Refusal>>, ReplyFault>
+) -> Result<Option<Result<ReplyRequest, ReplyRefusal>>, ReplyFault>
     ensures range { IfOk result (λ next. IfSome next (λ asked. IfOk asked IsInRange)) }
     ensures kept { OnOk result (Keeps (W.contents writer.old) (W.contents writer.new)) }
 {
@@ -33,18 +33,21 @@ fn next_request<R: Read, W: Write>(
             return Ok(Some(asked));
         }
         if lines.is_long() {
-            return Ok(Some(Err(Refusal::Long)));
+            return Ok(Some(Err(ReplyRefusal::Long)));
         }
         send_on(writer)?;
         if !lines.fill().map_err(|_| ReplyFault::Reading)? {
             return Ok(lines.take_rest());
         }
     }
-    Ok(Some(Err(Refusal::Long)))
+    Ok(Some(Err(ReplyRefusal::Long)))
 }
 
 /// What a line asks for, where that can be done now.
-fn in_time(asked: Result<Request, Refusal>, clock: &Clock) -> Result<Request, Refusal>
+fn in_time(
+    asked: Result<ReplyRequest, ReplyRefusal>,
+    clock: &Clock,
+) -> Result<ReplyRequest, ReplyRefusal>
     requires { IfOk asked IsInRange }
     ensures { IfOk result (IsInTime clock.now.moment clock.now.from) }
 {
@@ -56,7 +59,7 @@ fn in_time(asked: Result<Request, Refusal>, clock: &Clock) -> Result<Request, Re
 }
 
 /// Writes why a line is refused.
-fn refuse<W: Write>(number: u64, refusal: Refusal, writer: &mut W) -> ReplyFault {
+fn refuse<W: Write>(number: u64, refusal: ReplyRefusal, writer: &mut W) -> ReplyFault {
     let written = writeln!(writer, "error {number}: {refusal}");
     if written.is_err() || writer.flush().is_err() {
         return ReplyFault::Writing;
@@ -71,7 +74,7 @@ fn refuse<W: Write>(number: u64, refusal: Refusal, writer: &mut W) -> ReplyFault
 /// `Writing`. The bus is then as the lines before left it, and nothing is read on.
 pub fn reply<B: Plays, R: Read, W: Write>(
     bus: &mut B,
-    lines: &mut Lines<R>,
+    lines: &mut LineReader<R>,
     writer: &mut W,
 ) -> Result<(), ReplyFault>
     requires none { B.waiting bus.old ≡ None }
@@ -88,7 +91,7 @@ pub fn reply<B: Plays, R: Read, W: Write>(
             Err(refusal) => return Err(refuse(number, refusal, writer)),
         };
         carry_out(bus, &mut clock, request, writer)?;
-        if let Request::End(_) = request {
+        if let ReplyRequest::End(_) = request {
             return send_on(writer);
         }
     }

@@ -2,13 +2,13 @@
 ghost use Rattle.std.specs.Prelude.{◌≡◌, ◌<◌, Err, length, IfOk, IfSome};
 ghost use Rattle.bus_replies.specs.Replies.{IsInRange};
 
-use crate::fault::Refusal;
+use crate::fault::ReplyRefusal;
 use bus_traces::{host_event_of, moment_of};
 use cbm_iec::Change;
 
 /// What a line of the host asks for.
 #[derive(Clone, Copy, Debug, PartialEq, Eq, Drop)]
-pub enum Request {
+pub enum ReplyRequest {
     /// It is empty, or begins with `;`.
     Nothing,
     /// The host changes a line.
@@ -20,23 +20,23 @@ pub enum Request {
 }
 
 /// `MOMENT LINE WAY`.
-fn change(line: &[u8]) -> Option<Request>
+fn change(line: &[u8]) -> Option<ReplyRequest>
     ensures { IfSome result IsInRange }
 {
     let event = host_event_of(line)?;
-    Some(Request::Change(event.change))
+    Some(ReplyRequest::Change(event.change))
 }
 
 /// What the words of a line ask for, if they ask for something.
-fn request_in(line: &[u8]) -> Option<Request>
+fn request_in(line: &[u8]) -> Option<ReplyRequest>
     ensures { IfSome result IsInRange }
 {
     match line {
-        [] | [b';', ..] => Some(Request::Nothing),
-        [b'u', b'n', b't', b'i', b'l', b' ', moment @ ..] => Some(Request::Until(moment_of(
+        [] | [b';', ..] => Some(ReplyRequest::Nothing),
+        [b'u', b'n', b't', b'i', b'l', b' ', moment @ ..] => Some(ReplyRequest::Until(moment_of(
             moment,
         )?)),
-        [b'e', b'n', b'd', b' ', moment @ ..] => Some(Request::End(moment_of(moment)?)),
+        [b'e', b'n', b'd', b' ', moment @ ..] => Some(ReplyRequest::End(moment_of(moment)?)),
         _ => change(line),
     }
 }
@@ -50,14 +50,14 @@ fn without_return(line: &[u8]) -> &[u8] {
 }
 
 /// What a line without its end asks for. Errors: `Long` for more than 1,000 bytes, then `Words`.
-pub fn request_of(line: &[u8]) -> Result<Request, Refusal>
+pub fn request_of(line: &[u8]) -> Result<ReplyRequest, ReplyRefusal>
     ensures range { IfOk result IsInRange }
-    ensures long { 1000 < length line.now → result ≡ Err Refusal.Long }
+    ensures long { 1000 < length line.now → result ≡ Err ReplyRefusal.Long }
 {
     if line.len() > LONGEST {
-        return Err(Refusal::Long);
+        return Err(ReplyRefusal::Long);
     }
-    request_in(without_return(line)).ok_or(Refusal::Words)
+    request_in(without_return(line)).ok_or(ReplyRefusal::Words)
 }
 
 /// The most bytes of a line.

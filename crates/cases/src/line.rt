@@ -23,7 +23,7 @@ pub enum Fact<'a> {
 
 /// What a line says.
 #[derive(Clone, Copy)]
-pub enum Line<'a> {
+pub enum CaseLine<'a> {
     /// A case begins.
     Case,
     /// A step begins.
@@ -60,20 +60,20 @@ fn fact_of<'a>(word: &'a str, rest: &'a str) -> Option<Fact<'a>> {
     })
 }
 
-impl<'a> Line<'a> {
+impl<'a> CaseLine<'a> {
     /// What a line says; None where no line begins so.
-    pub fn of(text: &'a str) -> Option<Line<'a>> {
+    pub fn of(text: &'a str) -> Option<CaseLine<'a>> {
         let (word, rest) = text.split_once(' ').unwrap_or((text, ""));
         if is_answer(word) {
-            return Some(Line::Answer(text));
+            return Some(CaseLine::Answer(text));
         }
         Some(match word.strip_suffix(",").unwrap_or(word) {
-            "" => Line::Row(text),
-            "==" => Line::Case,
-            ">" => Line::Request(rest),
-            "disk" | "then" | "stays" => Line::Head(text),
-            "poke" => Line::Poke(rest),
-            word => Line::Fact(fact_of(word, rest)?),
+            "" => CaseLine::Row(text),
+            "==" => CaseLine::Case,
+            ">" => CaseLine::Request(rest),
+            "disk" | "then" | "stays" => CaseLine::Head(text),
+            "poke" => CaseLine::Poke(rest),
+            word => CaseLine::Fact(fact_of(word, rest)?),
         })
     }
 }

@@ -5,7 +5,7 @@ ghost use Rattle.std.specs.Prelude.{◌≤◌};
 use crate::items::show;
 use cbm_channel::Dos;
 use cbm_medium::Medium;
-use cbm_program::{Line, Request, parse};
+use cbm_program::{ScriptLine, ScriptRequest, parse};
 use std::alloc::{AllocError, Global};
 
 /// Sends bytes to a channel.
@@ -83,19 +83,19 @@ fn print_status<M: Medium>(
 fn perform<M: Medium>(
     alloc: Global,
     dos: &mut Dos<M>,
-    request: &Request,
+    request: &ScriptRequest,
     out: &mut String,
 ) -> Result<(), AllocError> {
     match request {
-        Request::Open(channel, text) => dos.open((*channel).min(15), text.as_slice()),
-        Request::Put(channel, bytes) => put(dos, (*channel).min(15), bytes.as_slice()),
-        Request::Fill(channel, count, byte) => {
+        ScriptRequest::Open(channel, text) => dos.open((*channel).min(15), text.as_slice()),
+        ScriptRequest::Put(channel, bytes) => put(dos, (*channel).min(15), bytes.as_slice()),
+        ScriptRequest::Fill(channel, count, byte) => {
             let bytes = vec![in alloc; *byte; *count as usize]?;
             put(dos, (*channel).min(15), bytes.as_slice());
         }
-        Request::Get(channel, most) => print_get(alloc, dos, (*channel).min(15), *most, out)?,
-        Request::Close(channel) => dos.close((*channel).min(15)),
-        Request::Status => print_status(alloc, dos, out)?,
+        ScriptRequest::Get(channel, most) => print_get(alloc, dos, (*channel).min(15), *most, out)?,
+        ScriptRequest::Close(channel) => dos.close((*channel).min(15)),
+        ScriptRequest::Status => print_status(alloc, dos, out)?,
     }
     Ok(())
 }
@@ -112,8 +112,8 @@ pub fn perform_all<M: Medium>(
             return Ok(false);
         }
         match parse(line.as_bytes()) {
-            Some(Line::Asks(request)) => perform(alloc, dos, &request, out)?,
-            Some(Line::Skipped) => (),
+            Some(ScriptLine::Asks(request)) => perform(alloc, dos, &request, out)?,
+            Some(ScriptLine::Skipped) => (),
             None => return Ok(false),
         }
     }

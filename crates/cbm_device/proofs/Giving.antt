@@ -1,8 +1,8 @@
 -- What a call gives to the caller's room, from what was made.
 use Rattle.std.proofs.Common.{◌≡◌, ℕ, ◌∙◌, List, Some, length, ap, subst, sym, inl, inr, arith}
 use Rattle.std.specs.Prelude.{ℤ, pos, nat_abs, Result, Ok, Err, IfErr, IfOk, MatchResult}
-use Rattle.cbm_device.specs.declared.refusal.Refusal.{Refusal}
-use Rattle.cbm_device.specs.declared.refusal.Refusal.TheVariants.{Memory, Invalid, NoRoom, Absent, NoImage, Unsound, NoDrive, Status}
+use Rattle.cbm_device.specs.declared.refusal.DeviceRefusal.{DeviceRefusal}
+use Rattle.cbm_device.specs.declared.refusal.DeviceRefusal.TheVariants.{Memory, Invalid, NoRoom, Absent, NoImage, Unsound, NoDrive, Status}
 use Rattle.cbm_file.specs.Files.{Disk}
 use Rattle.cbm_channel.specs.Machines.{Machine}
 use Rattle.cbm_volume.specs.Holding.{HoldsDisk}
@@ -14,7 +14,7 @@ use Rattle.cbm_device.specs.Making.{IsUnmade}
 use Rattle.cbm_device.specs.Answers.{fine, number_of, answer, AreGiven, Gives}
 
 -- no refusal has the number of what went well
-pub never_fine : (r : Refusal) → number_of r ≡ fine → ⊥
+pub never_fine : (r : DeviceRefusal) → number_of r ≡ fine → ⊥
 never_fine Memory e = absurd cc
 never_fine Invalid e = absurd cc
 never_fine NoRoom e = absurd cc
@@ -25,7 +25,7 @@ never_fine NoDrive e = absurd cc
 never_fine (Status code) e = let same = ap nat_abs e in absurd (omega (arith, same))
 
 -- what was made is given, or why nothing was is reported
-pub gives : {A : Type 0} (items : A → List ℕ) (Are : List ℕ → Type 0) (Why : Refusal → Type 0) (made : Result A Refusal) (done : Result (Unit {0}) Refusal) (n : ℤ)
+pub gives : {A : Type 0} (items : A → List ℕ) (Are : List ℕ → Type 0) (Why : DeviceRefusal → Type 0) (made : Result A DeviceRefusal) (done : Result (Unit {0}) DeviceRefusal) (n : ℤ)
     (old new : List ℕ) (before needed : ℕ) → MatchResult made (λ v. Are (items v)) Why
     → MatchResult made (λ v. (needed ≡ length (items v)) × AreGiven (answer done) old new (items v)) (λ r. (done ≡ Err r) × (new ≡ old) × (needed ≡ before))
     → n ≡ answer done → Gives n old new before needed Are Why
@@ -34,13 +34,13 @@ gives items Are Why (Ok v) done n old new before needed is given e =
 gives items Are Why (Err r) done n old new before needed is given e = inr (r, is, e ∙ ap (λ d. answer d) given.0, given.1, given.2)
 
 -- the image of the disk in a drive was saved, or memory ran out
-pub saved_from : {A : Type 0} (items : A → List ℕ) (r : Result A Refusal) (d : OnLines) (kind : Kind) (disk : Counted) → d.kind ≡ Some kind → disk ≡ d.seat.machine.dos.medium
+pub saved_from : {A : Type 0} (items : A → List ℕ) (r : Result A DeviceRefusal) (d : OnLines) (kind : Kind) (disk : Counted) → d.kind ≡ Some kind → disk ≡ d.seat.machine.dos.medium
     → IfOk r (λ v. IsImageIn kind disk (items v)) → IfErr r (λ why. why ≡ Memory) → MatchResult r (λ v. IsImageFrom d (items v)) (IsUnsaved d.kind)
 saved_from items (Ok v) d kind disk e same ok err = (kind, e, subst (λ k. IsImageIn kind k (items v)) same ok)
 saved_from items (Err why) d kind disk e same ok err = subst (λ q. IsUnsaved d.kind q) (sym err) tt
 
 -- a disk that was changed was saved, or memory ran out
-pub changed_from : {A : Type 0} (items : A → List ℕ) (r : Result A Refusal) (image : List ℕ) (kind : Kind) (after : Counted) (Fine : Type 0) (e : Disk) (opened ended : Machine)
+pub changed_from : {A : Type 0} (items : A → List ℕ) (r : Result A DeviceRefusal) (image : List ℕ) (kind : Kind) (after : Counted) (Fine : Type 0) (e : Disk) (opened ended : Machine)
     → kind ≡ kind_of image → Fine × HoldsDisk (seen_of after).tracks (seen_of after).content e → IfOk r (λ v. IsImageIn kind after (items v)) → IfErr r (λ why. why ≡ Memory)
     → MatchResult r (λ v. Fine × ImageHolds (kind_of image) (items v) e) (IsUnmade image opened ended)
 changed_from items (Ok v) image kind after Fine e opened ended same h ok err =

@@ -6,14 +6,14 @@ use Rattle.cbm_channel.specs.Codes.{code_number}
 use Rattle.cbm_channel.specs.declared.Status as status
 use Rattle.cbm_channel.specs.Machines.{Machine}
 use Rattle.cbm_image.specs.Images.{kind_of, tracks_of, content_of}
-use Rattle.cbm_shell.specs.declared.changing.Change.{Change}
+use Rattle.cbm_shell.specs.declared.changing.DiskChange.{DiskChange}
 use Rattle.cbm_shell.specs.declared.fault.ShellFault.{ShellFault}
 use Rattle.cbm_shell.specs.declared.fault.ShellFault.TheVariants as fault
 use Rattle.cbm_shell.specs.Changing.{begun, after_change, IsFaultOf, IsUndone}
 use Rattle.cbm_shell.specs.Listing.{opened, IsUnlisted}
 use Rattle.cbm_shell.specs.Reading.{IsGetFault}
-use Rattle.cbm_device.specs.declared.refusal.Refusal.{Refusal}
-use Rattle.cbm_device.specs.declared.refusal.Refusal.TheVariants.{Memory, Invalid, NoRoom, Absent, NoImage, Unsound, NoDrive, Status}
+use Rattle.cbm_device.specs.declared.refusal.DeviceRefusal.{DeviceRefusal}
+use Rattle.cbm_device.specs.declared.refusal.DeviceRefusal.TheVariants.{Memory, Invalid, NoRoom, Absent, NoImage, Unsound, NoDrive, Status}
 use Rattle.cbm_device.specs.Answers.{refusal_of}
 use Rattle.cbm_device.specs.ImageDisks.{IsOpenRefusal}
 use Rattle.cbm_device.specs.Looking.{IsAccepted, IsUnsent, IsUngot}
@@ -42,7 +42,7 @@ ungot image d pattern (fault.Refused s) h = absurd h
 ungot image d pattern fault.Mistaken h = absurd h
 
 -- the change isn't made
-pub unmade : (image : List ℕ) (change : Change) (m : Machine) (f : ShellFault) → IsUndone change m f → IsUnmade image (begun change m) (after_change change m) (refusal_of f)
+pub unmade : (image : List ℕ) (change : DiskChange) (m : Machine) (f : ShellFault) → IsUndone change m f → IsUnmade image (begun change m) (after_change change m) (refusal_of f)
 unmade image change m (fault.Refused s) h = (s, record { told = h.told; error = h.error }, refl)
 unmade image change m fault.Memory h = absurd h
 unmade image change m (fault.Image n) h = absurd h
@@ -64,7 +64,7 @@ unchanged image fault.NotClosed is h = inl is
 unchanged image fault.Mistaken is h = inl is
 
 -- an image isn't opened, and so nothing is done with it
-pub not_sent : (image pattern : List ℕ) (m : Machine) (r : Refusal) → IsOpenRefusal image r → IsUnsent image pattern m r
+pub not_sent : (image pattern : List ℕ) (m : Machine) (r : DeviceRefusal) → IsOpenRefusal image r → IsUnsent image pattern m r
 not_sent image pattern m Memory h = tt
 not_sent image pattern m NoImage h = h
 not_sent image pattern m Invalid h = absurd h
@@ -74,7 +74,7 @@ not_sent image pattern m Unsound h = absurd h
 not_sent image pattern m NoDrive h = absurd h
 not_sent image pattern m (Status code) h = absurd h
 
-pub not_got : (image : List ℕ) (d : Disk) (pattern : List ℕ) (r : Refusal) → IsOpenRefusal image r → IsUngot image d pattern r
+pub not_got : (image : List ℕ) (d : Disk) (pattern : List ℕ) (r : DeviceRefusal) → IsOpenRefusal image r → IsUngot image d pattern r
 not_got image d pattern Memory h = tt
 not_got image d pattern NoImage h = h
 not_got image d pattern Invalid h = absurd h
@@ -84,7 +84,7 @@ not_got image d pattern Unsound h = absurd h
 not_got image d pattern NoDrive h = absurd h
 not_got image d pattern (Status code) h = absurd h
 
-pub not_made : (image : List ℕ) (opened ended : Machine) (r : Refusal) → IsOpenRefusal image r → IsUnmade image opened ended r
+pub not_made : (image : List ℕ) (opened ended : Machine) (r : DeviceRefusal) → IsOpenRefusal image r → IsUnmade image opened ended r
 not_made image opened ended Memory h = tt
 not_made image opened ended NoImage h = h
 not_made image opened ended Invalid h = absurd h
@@ -94,7 +94,7 @@ not_made image opened ended Unsound h = absurd h
 not_made image opened ended NoDrive h = absurd h
 not_made image opened ended (Status code) h = absurd h
 
-pub not_changed : (image : List ℕ) (r : Refusal) → IsOpenRefusal image r → IsUnchanged image r
+pub not_changed : (image : List ℕ) (r : DeviceRefusal) → IsOpenRefusal image r → IsUnchanged image r
 not_changed image Memory h = inr h
 not_changed image NoImage h = inr h
 not_changed image Invalid h = absurd h

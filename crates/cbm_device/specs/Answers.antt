@@ -3,15 +3,15 @@ use Rattle.std.specs.Prelude.{ℕ, ℤ, pos, negsuc, max, ◌≡◌, ◌<◌, �
 use Rattle.cbm_channel.specs.Codes.{code_number}
 use Rattle.cbm_shell.specs.declared.fault.ShellFault.{ShellFault}
 use Rattle.cbm_shell.specs.declared.fault.ShellFault.TheVariants as fault
-use Rattle.cbm_device.specs.declared.refusal.Refusal.{Refusal}
-use Rattle.cbm_device.specs.declared.refusal.Refusal.TheVariants.{Memory, Invalid, NoRoom, Absent, NoImage, Unsound, NoDrive, Status}
+use Rattle.cbm_device.specs.declared.refusal.DeviceRefusal.{DeviceRefusal}
+use Rattle.cbm_device.specs.declared.refusal.DeviceRefusal.TheVariants.{Memory, Invalid, NoRoom, Absent, NoImage, Unsound, NoDrive, Status}
 
 -- all went well
 abbrev pub fine : ℤ
 fine = pos 0
 
 -- THE NUMBER OF A REFUSAL: below 0 the call's own; from 20 on a status of the drive's, none of which below 20 refuses anything
-abbrev pub number_of : Refusal → ℤ
+abbrev pub number_of : DeviceRefusal → ℤ
 number_of Memory = negsuc 0
 number_of Invalid = negsuc 1
 number_of NoRoom = negsuc 2
@@ -22,12 +22,12 @@ number_of NoDrive = negsuc 6
 number_of (Status code) = pos (max code 20)
 
 -- what a call answers
-abbrev pub answer : {A : Type 0} → Result A Refusal → ℤ
+abbrev pub answer : {A : Type 0} → Result A DeviceRefusal → ℤ
 answer (Ok v) = fine
 answer (Err r) = number_of r
 
 -- what is reported of a fault; want of memory comes first, as a format has numbers of its own for it
-abbrev pub refusal_of : ShellFault → Refusal
+abbrev pub refusal_of : ShellFault → DeviceRefusal
 refusal_of fault.Memory = Memory
 refusal_of (fault.Image n) = NoImage
 refusal_of (fault.Unsound u) = Unsound
@@ -43,7 +43,7 @@ AreGiven n old new bytes =
     ((n ≡ fine) × (new ≡ bytes ++ drop (length bytes) old)) ⊎ ((n ≡ number_of NoRoom) × (new ≡ old) × (length old < length bytes))
 
 -- A CALL THAT GIVES BYTES: there are such bytes, how many they are is reported, and they are given; or there are none for such a reason, and nothing has changed.
-abbrev pub Gives : ℤ → List ℕ → List ℕ → ℕ → ℕ → (List ℕ → Type 0) → (Refusal → Type 0) → Type 0
+abbrev pub Gives : ℤ → List ℕ → List ℕ → ℕ → ℕ → (List ℕ → Type 0) → (DeviceRefusal → Type 0) → Type 0
 Gives n old new before needed Are Why =
     ((bytes : List ℕ) × Are bytes × (needed ≡ length bytes) × AreGiven n old new bytes)
-    ⊎ ((r : Refusal) × Why r × (n ≡ number_of r) × (new ≡ old) × (needed ≡ before))
+    ⊎ ((r : DeviceRefusal) × Why r × (n ≡ number_of r) × (new ≡ old) × (needed ≡ before))

@@ -18,11 +18,11 @@ use Rattle.cbm_drive.specs.Seats.{Seated}
 use Rattle.cbm_volume.specs.Holding.{HoldsDisk}
 use Rattle.cbm_image.specs.Images.{kind_of, tracks_of, ImageHolds}
 use Rattle.cbm_image.specs.declared.kind.Kind.{Kind}
-use Rattle.cbm_device.specs.declared.refusal.Refusal.{Refusal}
-use Rattle.cbm_device.specs.declared.refusal.Refusal.TheVariants.{Memory, Invalid, NoRoom, Absent, NoImage, Unsound, NoDrive, Status}
+use Rattle.cbm_device.specs.declared.refusal.DeviceRefusal.{DeviceRefusal}
+use Rattle.cbm_device.specs.declared.refusal.DeviceRefusal.TheVariants.{Memory, Invalid, NoRoom, Absent, NoImage, Unsound, NoDrive, Status}
 use Rattle.cbm_device.specs.Answers.{Gives}
 use Rattle.cbm_device.specs.ImageDisks.{Counted, seen_of, IsDiskOf, IsImageIn}
-use Rattle.cbm_device.specs.declared.device.Reaction.{Reaction}
+use Rattle.cbm_device.specs.declared.device.DeviceReaction.{DeviceReaction}
 
 -- a drive, the format of its disk's image, none where it has no disk, and when anything last happened
 pub record OnLines : Type 0 where
@@ -98,7 +98,7 @@ abbrev pub HasNothingDue : ℕ → OnLines → Type 0
 HasNothingDue moment d = IsLaterDue moment (port_due d.seat.port) ⊎ IsInTime (2 ^ 60) (port_due d.seat.port)
 
 -- THE REACTION THAT WAS DUE HAS HAPPENED, on any disk; and these lines the drive held before and holds since.
-pub record HasReacted (r : Reaction) (old new : OnLines) : Type 0 where
+pub record HasReacted (r : DeviceReaction) (old new : OnLines) : Type 0 where
   pub due : port_due old.seat.port ≡ Some r.moment
   pub port : new.seat.port ≡ reacted r.moment (desk_shows old.seat.machine) old.seat.port
   pub machine : IsActed desk_shows (reaction_act (desk_shows old.seat.machine) old.seat.port) old.seat.machine new.seat.machine
@@ -144,7 +144,7 @@ HasAnotherDisk image protected old new = (disk : Counted) × IsDiskOf image prot
 -- ---- the image of the disk
 
 -- why a drive gives no image: memory runs out, or it has no disk
-abbrev pub IsUnsaved : Option Kind → Refusal → Type 0
+abbrev pub IsUnsaved : Option Kind → DeviceRefusal → Type 0
 IsUnsaved kind Memory = Unit {0}
 IsUnsaved kind Absent = kind ≡ None
 IsUnsaved kind Invalid = ⊥

@@ -14,8 +14,8 @@ use Rattle.cbm_image.specs.declared.kind.Kind.{Kind}
 use Rattle.cbm_image.specs.declared.kind.Kind.TheVariants as kind
 use Rattle.cbm_device.specs.declared.image_disk.Sectors.{Sectors}
 use Rattle.cbm_device.specs.declared.image_disk.Sectors.TheVariants.{D64, G64, Blank}
-use Rattle.cbm_device.specs.declared.refusal.Refusal.{Refusal}
-use Rattle.cbm_device.specs.declared.refusal.Refusal.TheVariants.{Memory, Invalid, NoRoom, Absent, NoImage, Unsound, NoDrive, Status}
+use Rattle.cbm_device.specs.declared.refusal.DeviceRefusal.{DeviceRefusal}
+use Rattle.cbm_device.specs.declared.refusal.DeviceRefusal.TheVariants.{Memory, Invalid, NoRoom, Absent, NoImage, Unsound, NoDrive, Status}
 
 -- what the sectors of a format show
 abbrev pub shown_by : Sectors → Seen
@@ -52,7 +52,7 @@ pub record IsDiskOf (image : List ℕ) (protected : Bool) (d : Counted) : Type 0
   pub unwritten : d.writes ≡ 0
 
 -- why an image isn't opened: it has a fault, or memory runs out
-abbrev pub IsOpenRefusal : List ℕ → Refusal → Type 0
+abbrev pub IsOpenRefusal : List ℕ → DeviceRefusal → Type 0
 IsOpenRefusal image Memory = Unit {0}
 IsOpenRefusal image NoImage = (n : ℕ) × (image_fault (kind_of image) image ≡ Some n)
 IsOpenRefusal image Invalid = ⊥

@@ -16,8 +16,8 @@ use Rattle.cbm_shell.specs.Reading.{IsUnclosed, HasRecords}
 use Rattle.cbm_medium.specs.declared.fault.Trouble.{Trouble}
 use Rattle.cbm_image.specs.Images.{kind_of, image_fault, tracks_of, content_of}
 use Rattle.cbm_device.specs.declared.looking.Heading.{Heading}
-use Rattle.cbm_device.specs.declared.refusal.Refusal.{Refusal}
-use Rattle.cbm_device.specs.declared.refusal.Refusal.TheVariants.{Memory, Invalid, NoRoom, Absent, NoImage, Unsound, NoDrive, Status}
+use Rattle.cbm_device.specs.declared.refusal.DeviceRefusal.{DeviceRefusal}
+use Rattle.cbm_device.specs.declared.refusal.DeviceRefusal.TheVariants.{Memory, Invalid, NoRoom, Absent, NoImage, Unsound, NoDrive, Status}
 use Rattle.cbm_device.specs.ImageDisks.{IsOpenRefusal}
 
 -- a disk's title, its id with the kind of DOS, and how many blocks are free
@@ -27,7 +27,7 @@ pub record IsTitleOf (d : Disk) (t : Heading) : Type 0 where
   pub free : t.free ≡ d.free
 
 -- why there is no title: the image isn't opened, or 18/0 doesn't read
-abbrev pub IsUntitled : List ℕ → Refusal → Type 0
+abbrev pub IsUntitled : List ℕ → DeviceRefusal → Type 0
 IsUntitled image (Status code) = content_of (kind_of image) image directory_head ≡ Err code
 IsUntitled image Memory = IsOpenRefusal image Memory
 IsUntitled image Invalid = IsOpenRefusal image Invalid
@@ -42,7 +42,7 @@ abbrev pub SlotAnswers : List ℕ → ℕ → Result (Option (List ℕ)) Trouble
 SlotAnswers image slot = Answers (directory_of (geometry_of (tracks_of (kind_of image) image) (content_of (kind_of image) image)) (content_of (kind_of image) image)) slot
 
 -- why there is no entry: the image isn't opened, the slot is past the last one, or the directory breaks off before it
-abbrev pub IsNoEntry : List ℕ → ℕ → Refusal → Type 0
+abbrev pub IsNoEntry : List ℕ → ℕ → DeviceRefusal → Type 0
 IsNoEntry image slot (Status code) = (t : Trouble) × (t.code ≡ code) × SlotAnswers image slot (Err t)
 IsNoEntry image slot Absent = SlotAnswers image slot (Ok None)
 IsNoEntry image slot Memory = IsOpenRefusal image Memory
@@ -53,7 +53,7 @@ IsNoEntry image slot Unsound = IsOpenRefusal image Unsound
 IsNoEntry image slot NoDrive = IsOpenRefusal image NoDrive
 
 -- why there are no bytes of a sector: the image isn't opened, the disk has no such sector, or a fault stands in their place
-abbrev pub IsNoSector : List ℕ → Place → Refusal → Type 0
+abbrev pub IsNoSector : List ℕ → Place → DeviceRefusal → Type 0
 IsNoSector image p (Status code) = content_of (kind_of image) image p ≡ Err code
 IsNoSector image p Absent = Has (tracks_of (kind_of image) image) p → ⊥
 IsNoSector image p Memory = IsOpenRefusal image Memory
@@ -70,7 +70,7 @@ abbrev pub IsAccepted : List ℕ → Type 0
 IsAccepted image = image_fault (kind_of image) image ≡ None
 
 -- a call is refused: an image with a fault for that one, or for want of memory
-abbrev pub IsRefused : List ℕ → Refusal → Type 0
+abbrev pub IsRefused : List ℕ → DeviceRefusal → Type 0
 IsRefused image r = IsAccepted image ⊎ IsOpenRefusal image r
 
 -- the disk of an image is sound
@@ -82,7 +82,7 @@ abbrev pub IsUnsound : List ℕ → Type 0
 IsUnsound image = let content = content_of (kind_of image) image in (u : unsound.Unsound) × DiskFault (geometry_of (tracks_of (kind_of image) image) content) content u
 
 -- why the directory of a sound disk isn't sent: the image isn't opened, memory runs out, or the machine refused it with this status
-abbrev pub IsUnsent : List ℕ → List ℕ → Machine → Refusal → Type 0
+abbrev pub IsUnsent : List ℕ → List ℕ → Machine → DeviceRefusal → Type 0
 IsUnsent image pattern m (Status code) = (code ≡ code_number (opened pattern m).status.code) × (code_number (opened pattern m).status.code ≢ 0)
 IsUnsent image pattern m Memory = Unit {0}
 IsUnsent image pattern m NoImage = IsOpenRefusal image NoImage
@@ -94,7 +94,7 @@ IsUnsent image pattern m NoDrive = ⊥
 
 -- why a file of a sound disk isn't got: the image isn't opened, memory runs out, no file matches, or the first one that does was never closed; one with records
 -- may have a sector that doesn't read
-abbrev pub IsUngot : List ℕ → Disk → List ℕ → Refusal → Type 0
+abbrev pub IsUngot : List ℕ → Disk → List ℕ → DeviceRefusal → Type 0
 IsUngot image d pattern (Status code) = ((code ≡ 60) × IsUnclosed d pattern) ⊎ HasRecords d pattern
 IsUngot image d pattern Memory = Unit {0}
 IsUngot image d pattern Absent = found d pattern None ≡ Err FileNotFound

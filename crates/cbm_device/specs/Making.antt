@@ -6,8 +6,8 @@ use Rattle.cbm_channel.specs.Machines.{Machine}
 use Rattle.cbm_channel.specs.Closing.{close}
 use Rattle.cbm_channel.specs.Calls.{after_open}
 use Rattle.cbm_talk.specs.Talks.{hear}
-use Rattle.cbm_device.specs.declared.refusal.Refusal.{Refusal}
-use Rattle.cbm_device.specs.declared.refusal.Refusal.TheVariants as why
+use Rattle.cbm_device.specs.declared.refusal.DeviceRefusal.{DeviceRefusal}
+use Rattle.cbm_device.specs.declared.refusal.DeviceRefusal.TheVariants as why
 use Rattle.cbm_device.specs.ImageDisks.{IsOpenRefusal}
 use Rattle.cbm_device.specs.Looking.{IsRefused, IsUnsound}
 
@@ -29,7 +29,7 @@ pub record IsRefusedWith (opened ended : Machine) (s : Status) : Type 0 where
   pub error : 20 ≤ code_number s.code
 
 -- why a sound disk isn't changed: the image isn't opened, memory runs out, or the drive refused it with this status
-abbrev pub IsUnmade : List ℕ → Machine → Machine → Refusal → Type 0
+abbrev pub IsUnmade : List ℕ → Machine → Machine → DeviceRefusal → Type 0
 IsUnmade image opened ended (why.Status code) = (s : Status) × IsRefusedWith opened ended s × (code ≡ code_number s.code)
 IsUnmade image opened ended why.Memory = Unit {0}
 IsUnmade image opened ended why.NoImage = IsOpenRefusal image why.NoImage
@@ -40,7 +40,7 @@ IsUnmade image opened ended why.Unsound = ⊥
 IsUnmade image opened ended why.NoDrive = ⊥
 
 -- why any disk isn't changed: it isn't sound, or as any call is refused
-abbrev pub IsUnchanged : List ℕ → Refusal → Type 0
+abbrev pub IsUnchanged : List ℕ → DeviceRefusal → Type 0
 IsUnchanged image why.Unsound = IsUnsound image
 IsUnchanged image (why.Status code) = IsRefused image (why.Status code)
 IsUnchanged image why.Memory = IsRefused image why.Memory
@@ -51,5 +51,5 @@ IsUnchanged image why.Absent = IsRefused image why.Absent
 IsUnchanged image why.NoDrive = IsRefused image why.NoDrive
 
 -- memory ran out
-abbrev pub IsWantOfMemory : Refusal → Type 0
+abbrev pub IsWantOfMemory : DeviceRefusal → Type 0
 IsWantOfMemory r = r ≡ why.Memory

@@ -8,14 +8,18 @@ ghost use Rattle.cbm_device.specs.Looking.{IsAccepted, IsSound};
 ghost use Rattle.cbm_device.specs.Making.{IsUnmade, IsUnchanged};
 
 use crate::image_disk::ImageDisk;
-use crate::refusal::Refusal;
+use crate::refusal::DeviceRefusal;
 use cbm_image::kind_of;
-use cbm_shell::{Change, changed};
+use cbm_shell::{DiskChange, changed};
 use std::alloc::Global;
 
 /// Makes a change on the disk of an image, and gives the image as it is then, in the same format. Errors: `NoImage`, `Memory`,
 /// `Unsound`, the drive's status.
-pub fn change(alloc: Global, image: &[u8], change: &Change<'_>) -> Result<Vec<u8>, Refusal>
+pub fn change(
+    alloc: Global,
+    image: &[u8],
+    change: &DiskChange<'_>,
+) -> Result<Vec<u8>, DeviceRefusal>
     ensures made { let kind = kind_of image.now in (d : Disk) → ImageHolds kind image.now d →
         let m = start d false (tracks_of kind image.now) in let after = after_change change.now m in
         MatchResult result (λ v. IsFine after.status × ImageHolds kind v.items after.disk)
@@ -26,6 +30,6 @@ pub fn change(alloc: Global, image: &[u8], change: &Change<'_>) -> Result<Vec<u8
     let disk = ImageDisk::open(alloc, image, false)?;
     match changed(disk, change) {
         Ok(disk) => disk.save(alloc, kind_of(image)),
-        Err(fault) => Err(Refusal::from(fault)),
+        Err(fault) => Err(DeviceRefusal::from(fault)),
     }
 }

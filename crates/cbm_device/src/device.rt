@@ -17,7 +17,7 @@ ghost use Rattle.cbm_device.specs.ImageDisks.{no_disk, seen_of, IsOpenRefusal};
 ghost use Rattle.cbm_device.specs.Devices.{tell_in_turn, react_at, IsOutside, IsSwitchedOn, IsOnTime, IsOutOfTime, IsDueBefore, HasHeard, HasReacted, HasNothingDue, IsRestarted, IsExchanged, HasAnotherDisk, GivesImage, StandsFor};
 
 use crate::image_disk::ImageDisk;
-use crate::refusal::Refusal;
+use crate::refusal::DeviceRefusal;
 use crate::room::given;
 use cbm_drive::{Desk, Drive, Held, Lines, Party};
 use cbm_image::{Kind, kind_of};
@@ -35,7 +35,7 @@ const SLOWEST: u8 = 60;
 
 /// What a reaction did.
 #[derive(Clone, Copy, Debug, PartialEq, Eq)]
-pub struct Reaction {
+pub struct DeviceReaction {
     /// When, in microseconds.
     pub moment: u64,
     /// The lines that the drive held before.
@@ -95,17 +95,17 @@ impl Device {
         image: &[u8],
         protected: bool,
         party: Party,
-    ) -> Result<Device, Refusal>
+    ) -> Result<Device, DeviceRefusal>
         ensures ok { IfOk result (IsSwitchedOn image.now protected party) }
-        ensures outside { IsOutside party → result ≡ Err Refusal.Invalid }
-        ensures err { IfErr result (λ r. ((r ≡ Refusal.Invalid) × IsOutside party) ⊎ IsOpenRefusal image.now r) }
+        ensures outside { IsOutside party → result ≡ Err DeviceRefusal.Invalid }
+        ensures err { IfErr result (λ r. ((r ≡ DeviceRefusal.Invalid) × IsOutside party) ⊎ IsOpenRefusal image.now r) }
     {
         if party.device < DEVICES.0
             || party.device > DEVICES.1
             || party.reaction < 1
             || party.reaction > SLOWEST
         {
-            return Err(Refusal::Invalid);
+            return Err(DeviceRefusal::Invalid);
         }
         let disk = ImageDisk::open(alloc, image, protected)?;
         Ok(Device {
@@ -144,15 +144,15 @@ impl Device {
 
     /// From this moment on all others together hold these lines. Where several change, ATN does first, then CLOCK, then DATA. The
     /// one error is `Invalid`: something happened later already, a reaction is due before, or the moment is none.
-    pub fn lines(&mut self, moment: u64, others: Lines) -> Result<(), Refusal>
+    pub fn lines(&mut self, moment: u64, others: Lines) -> Result<(), DeviceRefusal>
         ensures in_time { OnOk result (IsOnTime moment self.old) }
         ensures told { OnOk result (HasHeard moment others self.old self.new) }
         ensures stands { (s : Seated (desks.Desk Machine)) → StandsFor self.old.seat s →
             OnOk result (StandsFor self.new.seat (tell_in_turn moment self.old.seat.port.others others s)) }
-        ensures err { IfErr result (λ r. (r ≡ Refusal.Invalid) × IsOutOfTime moment self.old × (self.new ≡ self.old)) }
+        ensures err { IfErr result (λ r. (r ≡ DeviceRefusal.Invalid) × IsOutOfTime moment self.old × (self.new ≡ self.old)) }
     {
         if moment >= LAST || moment < self.latest || self.is_due_before(moment) {
-            return Err(Refusal::Invalid);
+            return Err(DeviceRefusal::Invalid);
         }
         let was = self.others;
         let after_atn = Lines {
@@ -199,22 +199,22 @@ impl Device {
     }
 
     /// The reaction that is due by a moment happens, when it is due. The one error is `Absent`: none is due by then.
-    pub fn due(&mut self, moment: u64) -> Result<Reaction, Refusal>
+    pub fn due(&mut self, moment: u64) -> Result<DeviceReaction, DeviceRefusal>
         ensures ok { IfOk result (λ r. (r.moment ≤ moment) × HasReacted r self.old self.new) }
         ensures stands { (s : Seated (desks.Desk Machine)) → StandsFor self.old.seat s →
             IfOk result (λ r. StandsFor self.new.seat (react_at r.moment s)) }
-        ensures err { IfErr result (λ r. (r ≡ Refusal.Absent) × HasNothingDue moment self.old × (self.new ≡ self.old)) }
+        ensures err { IfErr result (λ r. (r ≡ DeviceRefusal.Absent) × HasNothingDue moment self.old × (self.new ≡ self.old)) }
     {
         let Some(due) = self.drive.next_due() else {
-            return Err(Refusal::Absent);
+            return Err(DeviceRefusal::Absent);
         };
         if due > moment || due >= LAST {
-            return Err(Refusal::Absent);
+            return Err(DeviceRefusal::Absent);
         }
         let was = self.drive.own();
         self.react(due);
         self.latest = due;
-        Ok(Reaction {
+        Ok(DeviceReaction {
             moment: due,
             was,
             now: self.drive.own(),
@@ -256,12 +256,17 @@ impl Device {
     /// The image of the disk that is in the drive, in the format in which it was put in, goes to the
     /// caller's room, and how many bytes it has is reported; a file that is being written stands in it as on the disk, not closed.
     /// Errors: `Memory`, `NoRoom`, `Absent` where there is no disk.
-    pub fn image(&self, alloc: Global, out: &mut [u8], needed: &mut usize) -> Result<(), Refusal>
+    pub fn image(
+        &self,
+        alloc: Global,
+        out: &mut [u8],
+        needed: &mut usize,
+    ) -> Result<(), DeviceRefusal>
         ensures { GivesImage (answer result) out.old out.new needed.old needed.new self.now }
     {
         match self.kind {
             Some(kind) => given(self.disk().save(alloc, kind), out, needed),
-            None => Err(Refusal::Absent),
+            None => Err(DeviceRefusal::Absent),
         }
     }
 
@@ -274,7 +279,12 @@ impl Device {
 
     /// The disk of another image is put in, while the drive goes on: no channel is open, what was being written isn't closed, and
     /// its lines and the status stay. Errors: `NoImage`, `Memory`, and then nothing has happened.
-    pub fn insert(&mut self, alloc: Global, image: &[u8], protected: bool) -> Result<(), Refusal>
+    pub fn insert(
+        &mut self,
+        alloc: Global,
+        image: &[u8],
+        protected: bool,
+    ) -> Result<(), DeviceRefusal>
         ensures ok { OnOk result (HasAnotherDisk image.now protected self.old self.new) }
         ensures err { IfErr result (λ r. IsOpenRefusal image.now r × (self.new ≡ self.old)) }
     {
@@ -291,7 +301,7 @@ impl Device {
         alloc: Global,
         out: &mut [u8],
         needed: &mut usize,
-    ) -> Result<(), Refusal>
+    ) -> Result<(), DeviceRefusal>
         ensures given { GivesImage (answer result) out.old out.new needed.old needed.new self.old }
         ensures ok { OnOk result (IsExchanged no_disk None self.old self.new) }
         ensures err { OnErr result (self.new ≡ self.old) }

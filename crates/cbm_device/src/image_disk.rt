@@ -6,7 +6,7 @@ ghost use Rattle.cbm_medium.specs.Seen.{with_content, formatted_as, write_refusa
 ghost use Rattle.cbm_image.specs.Images.{kind_of, image_fault, IsOf};
 ghost use Rattle.cbm_device.specs.ImageDisks.{no_disk, shown_by, IsDiskOf, IsOpenRefusal, IsImageIn};
 
-use crate::refusal::Refusal;
+use crate::refusal::DeviceRefusal;
 use cbm_d64::D64Disk;
 use cbm_g64::G64Disk;
 use cbm_image::{DiskImage, ImageFault, Kind, kind_of};
@@ -42,7 +42,7 @@ impl Model for ImageDisk {
 }
 
 /// The disk of an image of one format.
-fn opened<I: DiskImage>(alloc: Global, image: &[u8], protected: bool) -> Result<I, Refusal>
+fn opened<I: DiskImage>(alloc: Global, image: &[u8], protected: bool) -> Result<I, DeviceRefusal>
     requires { kind_of image.now ≡ I.kind }
     ensures ok { IfOk result (λ d. IsOf I.kind image.now (I.seen d).tracks (I.seen d).content
         × ((I.seen d).protected ≡ protected)) }
@@ -50,19 +50,19 @@ fn opened<I: DiskImage>(alloc: Global, image: &[u8], protected: bool) -> Result<
 {
     match I::open(alloc, image, protected) {
         Ok(disk) => Ok(disk),
-        Err(ImageFault::Format(_)) => Err(Refusal::NoImage),
-        Err(ImageFault::Memory) => Err(Refusal::Memory),
+        Err(ImageFault::Format(_)) => Err(DeviceRefusal::NoImage),
+        Err(ImageFault::Memory) => Err(DeviceRefusal::Memory),
     }
 }
 
 /// The image of a disk of one format.
-fn saved<I: DiskImage>(alloc: Global, disk: &I) -> Result<Vec<u8>, Refusal>
+fn saved<I: DiskImage>(alloc: Global, disk: &I) -> Result<Vec<u8>, DeviceRefusal>
     ensures ok { IfOk result (λ v. IsOf I.kind v.items (I.seen disk.now).tracks (I.seen disk.now).content) }
-    ensures err { IfErr result (λ r. r ≡ Refusal.Memory) }
+    ensures err { IfErr result (λ r. r ≡ DeviceRefusal.Memory) }
 {
     match disk.save(alloc) {
         Ok(image) => Ok(image),
-        Err(_) => Err(Refusal::Memory),
+        Err(_) => Err(DeviceRefusal::Memory),
     }
 }
 
@@ -109,7 +109,7 @@ impl ImageDisk {
     /// The disk of an image. Errors: `NoImage`, `Memory`.
     // (In its caller's frame its tracks would take stack as long as a drive does.)
     #[inline(never)]
-    pub fn open(alloc: Global, image: &[u8], protected: bool) -> Result<ImageDisk, Refusal>
+    pub fn open(alloc: Global, image: &[u8], protected: bool) -> Result<ImageDisk, DeviceRefusal>
         ensures ok { IfOk result (IsDiskOf image.now protected) }
         ensures err { IfErr result (IsOpenRefusal image.now) }
     {
@@ -137,14 +137,14 @@ impl ImageDisk {
 
     /// The image of the disk as it is now, in this format. The one error is `Memory`; a disk of the other format, which no write
     /// makes of it, is refused so, too.
-    pub fn save(&self, alloc: Global, kind: Kind) -> Result<Vec<u8>, Refusal>
+    pub fn save(&self, alloc: Global, kind: Kind) -> Result<Vec<u8>, DeviceRefusal>
         ensures ok { IfOk result (λ v. IsImageIn kind self.now v.items) }
-        ensures err { IfErr result (λ r. r ≡ Refusal.Memory) }
+        ensures err { IfErr result (λ r. r ≡ DeviceRefusal.Memory) }
     {
         match (&self.sectors, kind) {
             (Sectors::D64(disk), Kind::D64) => saved(alloc, disk),
             (Sectors::G64(disk), Kind::G64) => saved(alloc, disk),
-            _ => Err(Refusal::Memory),
+            _ => Err(DeviceRefusal::Memory),
         }
     }
 

@@ -10,9 +10,9 @@ mod refusal;
 mod room;
 
 pub use changing::change;
-pub use device::{Device, Reaction};
+pub use device::{Device, DeviceReaction};
 pub use image_disk::{ImageDisk, Sectors};
 pub use looking::{Heading, check, entry, file, list, sector, title};
 pub use playing::play;
-pub use refusal::{Refusal, number};
+pub use refusal::{DeviceRefusal, number};
 pub use room::{give, given};

@@ -14,7 +14,7 @@ ghost use Rattle.cbm_device.specs.ImageDisks.{IsDiskOf, IsOpenRefusal};
 ghost use Rattle.cbm_device.specs.Looking.{IsTitleOf, IsUntitled, IsNoEntry, IsNoSector, IsAccepted, IsRefused, IsUnsent, IsUngot};
 
 use crate::image_disk::ImageDisk;
-use crate::refusal::Refusal;
+use crate::refusal::DeviceRefusal;
 use cbm_channel::Dos;
 use cbm_medium::{Address, Medium};
 use cbm_shell::{get, raw_list};
@@ -31,7 +31,7 @@ pub struct Heading {
 }
 
 /// The disk of an image, to look at.
-fn volume_of(alloc: Global, image: &[u8]) -> Result<Volume<ImageDisk>, Refusal>
+fn volume_of(alloc: Global, image: &[u8]) -> Result<Volume<ImageDisk>, DeviceRefusal>
     ensures ok { IfOk result (λ volume. IsDiskOf image.now true volume) }
     ensures err { IfErr result (IsOpenRefusal image.now) }
 {
@@ -40,7 +40,7 @@ fn volume_of(alloc: Global, image: &[u8]) -> Result<Volume<ImageDisk>, Refusal>
 }
 
 /// Whether the disk of an image is sound, or what is wrong with it first. Errors: `NoImage`, `Memory`.
-pub fn check(alloc: Global, image: &[u8]) -> Result<Result<(), Unsound>, Refusal>
+pub fn check(alloc: Global, image: &[u8]) -> Result<Result<(), Unsound>, DeviceRefusal>
     ensures ok { let kind = kind_of image.now in
         IfOk result (IsChecked (tracks_of kind image.now) (content_of kind image.now)) }
     ensures exact { let kind = kind_of image.now in let content = content_of kind image.now in (l : Layout) →
@@ -63,7 +63,7 @@ fn title_on<M: Medium>(volume: &Volume<M>) -> Result<Heading, Trouble>
 }
 
 /// What 18/0 says of the disk of an image. Errors: `NoImage`, `Memory`, the fault of 18/0.
-pub fn title(alloc: Global, image: &[u8]) -> Result<Heading, Refusal>
+pub fn title(alloc: Global, image: &[u8]) -> Result<Heading, DeviceRefusal>
     ensures means { (d : Disk) → ImageHolds (kind_of image.now) image.now d →
         MatchResult result (IsTitleOf d) (IsOpenRefusal image.now) }
     ensures err { IfErr result (IsUntitled image.now) }
@@ -71,13 +71,13 @@ pub fn title(alloc: Global, image: &[u8]) -> Result<Heading, Refusal>
     let volume = volume_of(alloc, image)?;
     match title_on(&volume) {
         Ok(title) => Ok(title),
-        Err(trouble) => Err(Refusal::from(trouble)),
+        Err(trouble) => Err(DeviceRefusal::from(trouble)),
     }
 }
 
 /// The entry of a slot of an image's directory, counted from 0. Errors: `NoImage`, `Memory`, `Absent` past the last slot, or
 /// what breaks the directory off.
-pub fn entry(alloc: Global, image: &[u8], slot: u8) -> Result<Entry, Refusal>
+pub fn entry(alloc: Global, image: &[u8], slot: u8) -> Result<Entry, DeviceRefusal>
     ensures ok { let kind = kind_of image.now in
         IfOk result (StandsAt (tracks_of kind image.now) (content_of kind image.now) slot) }
     ensures err { IfErr result (IsNoEntry image.now slot) }
@@ -85,34 +85,39 @@ pub fn entry(alloc: Global, image: &[u8], slot: u8) -> Result<Entry, Refusal>
     let volume = volume_of(alloc, image)?;
     match volume.slot(slot) {
         Ok(Some(entry)) => Ok(entry),
-        Ok(None) => Err(Refusal::Absent),
-        Err(trouble) => Err(Refusal::from(trouble)),
+        Ok(None) => Err(DeviceRefusal::Absent),
+        Err(trouble) => Err(DeviceRefusal::from(trouble)),
     }
 }
 
 /// The bytes of a sector of an image. Errors: `NoImage`, `Memory`, `Absent` where the disk has no such sector, or the fault that
 /// stands in place of its bytes.
-pub fn sector(alloc: Global, image: &[u8], track: u8, sector: u8) -> Result<[u8; 256], Refusal>
+pub fn sector(
+    alloc: Global,
+    image: &[u8],
+    track: u8,
+    sector: u8,
+) -> Result<[u8; 256], DeviceRefusal>
     ensures ok { let kind = kind_of image.now in IfOk result (λ bytes.
         content_of kind image.now (record { track = track; sector = sector }) ≡ Ok bytes) }
     ensures err { IfErr result (IsNoSector image.now (record { track = track; sector = sector })) }
 {
     let disk = ImageDisk::open(alloc, image, true)?;
     let Some(at) = Address::new(track, sector) else {
-        return Err(Refusal::Absent);
+        return Err(DeviceRefusal::Absent);
     };
     if track > disk.tracks() {
-        return Err(Refusal::Absent);
+        return Err(DeviceRefusal::Absent);
     }
     match disk.read(at) {
         Ok(bytes) => Ok(bytes),
-        Err(fault) => Err(Refusal::Status(fault.code)),
+        Err(fault) => Err(DeviceRefusal::Status(fault.code)),
     }
 }
 
 /// The directory of an image as the drive sends it, a BASIC program, with the files that match a pattern; an empty pattern asks for
 /// all. Errors: `NoImage`, `Memory`, the drive's status.
-pub fn list(alloc: Global, image: &[u8], pattern: &[u8]) -> Result<Vec<u8>, Refusal>
+pub fn list(alloc: Global, image: &[u8], pattern: &[u8]) -> Result<Vec<u8>, DeviceRefusal>
     ensures sent { let kind = kind_of image.now in (d : Disk) → ImageHolds kind image.now d →
         let m = start d false (tracks_of kind image.now) in
         MatchResult result (λ v. IsSent pattern.now m v.items) (IsUnsent image.now pattern.now m) }
@@ -122,13 +127,13 @@ pub fn list(alloc: Global, image: &[u8], pattern: &[u8]) -> Result<Vec<u8>, Refu
     let mut dos = Dos::new(ImageDisk::open(alloc, image, false)?);
     match raw_list(alloc, &mut dos, pattern) {
         Ok(bytes) => Ok(bytes),
-        Err(fault) => Err(Refusal::from(fault)),
+        Err(fault) => Err(DeviceRefusal::from(fault)),
     }
 }
 
 /// The bytes of the first file of an image that matches a pattern, of any type. Errors: `NoImage`, `Memory`, `Absent`; 60 for a file
 /// that was never closed; what breaks the directory or the file off.
-pub fn file(alloc: Global, image: &[u8], pattern: &[u8]) -> Result<Vec<u8>, Refusal>
+pub fn file(alloc: Global, image: &[u8], pattern: &[u8]) -> Result<Vec<u8>, DeviceRefusal>
     ensures got { (d : Disk) → ImageHolds (kind_of image.now) image.now d →
         MatchResult result (λ v. Gets d pattern.now v.items) (IsUngot image.now d pattern.now) }
     // Of any disk:
@@ -137,6 +142,6 @@ pub fn file(alloc: Global, image: &[u8], pattern: &[u8]) -> Result<Vec<u8>, Refu
     let volume = volume_of(alloc, image)?;
     match get(alloc, &volume, pattern) {
         Ok(bytes) => Ok(bytes),
-        Err(fault) => Err(Refusal::from(fault)),
+        Err(fault) => Err(DeviceRefusal::from(fault)),
     }
 }

@@ -8,7 +8,7 @@ ghost use Rattle.cbm_device.specs.ImageDisks.{seen_of};
 ghost use Rattle.cbm_device.specs.Plays.{HasPlayedAll, IsDiskIn};
 
 use crate::image_disk::ImageDisk;
-use crate::refusal::Refusal;
+use crate::refusal::DeviceRefusal;
 use cbm_drive::{Bus, Change, Desk, Drive, Event, Party, PlayFault};
 
 /// A drive is switched on with this disk and played under these changes of the host, up to an end, in microseconds: all events, the
@@ -20,12 +20,12 @@ pub fn play(
     changes: &[Change],
     end: u64,
     events: &mut Vec<Event>,
-) -> Result<ImageDisk, Refusal>
+) -> Result<ImageDisk, DeviceRefusal>
     requires device { party.device < 31 }
     requires reaction { 1 ≤ party.reaction }
     requires end { end < 2 ^ 59 }
-    ensures refused { IfSome (fault_of 0 0 end changes.now) (λ _. (result ≡ Err Refusal.Invalid) × (events.new ≡ events.old)) }
-    ensures cause { IfErr result (λ r. ((r ≡ Refusal.Invalid) × IsSome (fault_of 0 0 end changes.now)) ⊎ (r ≡ Refusal.Memory)) }
+    ensures refused { IfSome (fault_of 0 0 end changes.now) (λ _. (result ≡ Err DeviceRefusal.Invalid) × (events.new ≡ events.old)) }
+    ensures cause { IfErr result (λ r. ((r ≡ DeviceRefusal.Invalid) × IsSome (fault_of 0 0 end changes.now)) ⊎ (r ≡ DeviceRefusal.Memory)) }
     ensures played { let now = seen_of disk in (d : Disk) → HoldsDisk now.tracks now.content d → IfOk result (λ after.
         HasPlayedAll party (start d now.protected now.tracks) changes.now end events.old.items events.new.items after) }
 {
@@ -33,8 +33,8 @@ pub fn play(
     let mut bus = Bus::new([Drive::new(desk, party)]);
     match bus.play(changes, end, events) {
         Ok(()) => Ok(disk_of(bus)),
-        Err(PlayFault::Memory) => Err(Refusal::Memory),
-        Err(_) => Err(Refusal::Invalid),
+        Err(PlayFault::Memory) => Err(DeviceRefusal::Memory),
+        Err(_) => Err(DeviceRefusal::Invalid),
     }
 }
 

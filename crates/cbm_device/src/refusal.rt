@@ -7,7 +7,7 @@ use cbm_volume::Trouble;
 
 /// Why a call isn't carried out.
 #[derive(Clone, Copy, Debug, PartialEq, Eq)]
-pub enum Refusal {
+pub enum DeviceRefusal {
     /// Memory ran out.
     Memory,
     /// An argument is out of its range, or comes too late.
@@ -32,57 +32,57 @@ const LEAST_STATUS: u8 = 20;
 /// The number of a file that was never closed.
 const NOT_CLOSED: u8 = 60;
 
-impl Refusal {
+impl DeviceRefusal {
     /// Its number: below 0 the call's own, from 20 on the drive's status.
     pub fn number(self) -> i32
         ensures { result ≡ number_of self }
     {
         match self {
-            Refusal::Memory => -1,
-            Refusal::Invalid => -2,
-            Refusal::NoRoom => -3,
-            Refusal::Absent => -4,
-            Refusal::NoImage => -5,
-            Refusal::Unsound => -6,
-            Refusal::NoDrive => -7,
-            Refusal::Status(code) => code.max(LEAST_STATUS) as i32,
+            DeviceRefusal::Memory => -1,
+            DeviceRefusal::Invalid => -2,
+            DeviceRefusal::NoRoom => -3,
+            DeviceRefusal::Absent => -4,
+            DeviceRefusal::NoImage => -5,
+            DeviceRefusal::Unsound => -6,
+            DeviceRefusal::NoDrive => -7,
+            DeviceRefusal::Status(code) => code.max(LEAST_STATUS) as i32,
         }
     }
 }
 
-impl From<ShellFault> for Refusal {
+impl From<ShellFault> for DeviceRefusal {
     ghost use Rattle.std.specs.Prelude.{◌≡◌};
     ghost use Rattle.cbm_device.specs.Answers.{refusal_of};
 
     ghost from_gives = { λ fault refusal. refusal ≡ refusal_of fault };
 
-    fn from(fault: ShellFault) -> Refusal {
+    fn from(fault: ShellFault) -> DeviceRefusal {
         match fault {
-            ShellFault::Memory => Refusal::Memory,
-            ShellFault::Image(_) => Refusal::NoImage,
-            ShellFault::Unsound(_) => Refusal::Unsound,
-            ShellFault::Refused(status) => Refusal::Status(status.code.number()),
-            ShellFault::Trouble(trouble) => Refusal::Status(trouble.code),
-            ShellFault::NotFound => Refusal::Absent,
-            ShellFault::NotClosed => Refusal::Status(NOT_CLOSED),
-            ShellFault::Mistaken => Refusal::NoImage,
+            ShellFault::Memory => DeviceRefusal::Memory,
+            ShellFault::Image(_) => DeviceRefusal::NoImage,
+            ShellFault::Unsound(_) => DeviceRefusal::Unsound,
+            ShellFault::Refused(status) => DeviceRefusal::Status(status.code.number()),
+            ShellFault::Trouble(trouble) => DeviceRefusal::Status(trouble.code),
+            ShellFault::NotFound => DeviceRefusal::Absent,
+            ShellFault::NotClosed => DeviceRefusal::Status(NOT_CLOSED),
+            ShellFault::Mistaken => DeviceRefusal::NoImage,
         }
     }
 }
 
-impl From<Trouble> for Refusal {
+impl From<Trouble> for DeviceRefusal {
     ghost use Rattle.std.specs.Prelude.{◌≡◌};
-    ghost use Rattle.cbm_device.specs.declared.refusal.Refusal.TheVariants.{Status};
+    ghost use Rattle.cbm_device.specs.declared.refusal.DeviceRefusal.TheVariants.{Status};
 
     ghost from_gives = { λ trouble refusal. refusal ≡ Status trouble.code };
 
-    fn from(trouble: Trouble) -> Refusal {
-        Refusal::Status(trouble.code)
+    fn from(trouble: Trouble) -> DeviceRefusal {
+        DeviceRefusal::Status(trouble.code)
     }
 }
 
 /// What a call answers: 0, or the number of its refusal.
-pub fn number(done: Result<(), Refusal>) -> i32
+pub fn number(done: Result<(), DeviceRefusal>) -> i32
     ensures { result ≡ answer done }
 {
     match done {

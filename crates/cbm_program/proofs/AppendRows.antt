@@ -3,14 +3,14 @@ use Rattle.std.specs.Prelude.{◌≡◌, refl, true, List, [], ◌∷◌, ◌++�
 use Rattle.std.specs.Fmt.{digits}
 use Rattle.cbm_file.specs.declared.file_type.FileType.TheVariants.{Prg}
 use Rattle.cbm_machine.specs.Machines.{Machine}
-use Rattle.cbm_program.specs.declared.request.Request.{Request}
-use Rattle.cbm_program.specs.declared.request.Request.TheVariants.{Fill, Get, Close, Status}
+use Rattle.cbm_program.specs.declared.request.ScriptRequest.{ScriptRequest}
+use Rattle.cbm_program.specs.declared.request.ScriptRequest.TheVariants.{Fill, Get, Close, Status}
 use Rattle.cbm_program.proofs.Words.{open_by, put_by, formatted, powered, blank, prints, behind, summary, status_is, small_file}
 use Rattle.cbm_program.proofs.ListingRows.{with_hello}
 use Rattle.cbm_program.proofs.NameRows.{code_after}
 
 -- bytes are put behind those that are there; M reads as R does
-abbrev pub appends : List Request
+abbrev pub appends : List ScriptRequest
 appends = open_by 2 (codes "E,S,W") ∷ put_by 2 (codes "AB") ∷ Close 2 ∷ open_by 2 (codes "E,S,A") ∷ put_by 2 (codes "C") ∷ Close 2 ∷ []
 
 pub appended : prints (appends ++ open_by 2 (codes "E,S,M") ∷ Get 2 9 ∷ []) blank ≡ codes "get 2 414243 eoi\n"

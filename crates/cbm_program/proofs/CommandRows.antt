@@ -5,7 +5,7 @@ use Rattle.cbm_file.specs.declared.file_type.FileType.TheVariants.{Seq}
 use Rattle.cbm_file.specs.Files.{lost}
 use Rattle.cbm_machine.specs.Machines.{Machine}
 use Rattle.cbm_machine.specs.Listings.{listing}
-use Rattle.cbm_program.specs.declared.request.Request.TheVariants.{Get, Close, Status}
+use Rattle.cbm_program.specs.declared.request.ScriptRequest.TheVariants.{Get, Close, Status}
 use Rattle.cbm_program.proofs.Words.{open_by, put_by, formatted, powered, blank, prints, behind, summary, status_is, small_file}
 use Rattle.cbm_program.proofs.ListingRows.{writes_hello, with_hello}
 use Rattle.cbm_program.proofs.NameRows.{code_after}

@@ -5,7 +5,7 @@ use Rattle.cbm_file.specs.declared.file_type.FileType.TheVariants.{Prg}
 use Rattle.cbm_file.specs.Files.{Bytes, with_slot}
 use Rattle.cbm_machine.specs.Machines.{Machine}
 use Rattle.cbm_file.specs.Changes.{closed_file}
-use Rattle.cbm_program.specs.declared.request.Request.TheVariants.{Get, Close, Status}
+use Rattle.cbm_program.specs.declared.request.ScriptRequest.TheVariants.{Get, Close, Status}
 use Rattle.cbm_program.proofs.Words.{open_by, formatted, powered, blank, prints, prints_for_kernal, status_is}
 
 -- a disk with a program of three bytes

@@ -28,8 +28,8 @@ use Rattle.cbm_program.proofs.TraceLemmas.{Left}
 use Rattle.cbm_program.specs.Starts.{StartsOn}
 use Rattle.cbm_program.specs.Running.{script_of}
 use Rattle.cbm_program.specs.Scripts.{printed, printed_by}
-use Rattle.cbm_program.specs.declared.request.Request as asks
-use Rattle.cbm_program.specs.declared.request.Request.TheVariants as request
+use Rattle.cbm_program.specs.declared.request.ScriptRequest as asks
+use Rattle.cbm_program.specs.declared.request.ScriptRequest.TheVariants as request
 
 -- where a disk may be written, and where it may not
 pub by_protection : {A : Type 0} (b : Bool) → (b ≡ false → A) → (b ≡ true → A) → A
@@ -64,7 +64,7 @@ module _ (d : Disk) where
       by None on = g
       by (Some p) on = if_both (λ (s : served.Said). IsGuarded d s.machine) p.1 (record { bytes = so_far ++ p.0 ∷ []; marked = true; machine = taken ch m }) (says n ch (so_far ++ p.0 ∷ []) (taken ch m)) (takes d ch m g) (on (so_far ++ p.0 ∷ []))
 
-  one : (pace : Pace) (r : asks.Request) (m : Machine) → IsGuarded d m → IsGuarded d (printed_by pace r m).machine
+  one : (pace : Pace) (r : asks.ScriptRequest) (m : Machine) → IsGuarded d m → IsGuarded d (printed_by pace r m).machine
   one pace (request.Open ch text) m g = opens d ch text.items m g
   one pace (request.Put ch text) m g = hears ch text.items m g
   one pace (request.Fill ch n b) m g = hears ch (replicate n b) m g
@@ -72,7 +72,7 @@ module _ (d : Disk) where
   one pace (request.Close ch) m g = closes d ch m g
   one pace request.Status m g = says_all (length (status_line m.status)) 15 [] (talk 15 m) (talks d 15 m g)
 
-  all : (pace : Pace) (rs : List asks.Request) (m : Machine) → IsGuarded d m → IsGuarded d (printed pace rs m).machine
+  all : (pace : Pace) (rs : List asks.ScriptRequest) (m : Machine) → IsGuarded d m → IsGuarded d (printed pace rs m).machine
   all pace [] m g = g
   all pace (r ∷ rs) m g = all pace rs (printed_by pace r m).machine (one pace r m g)
 

@@ -2,8 +2,8 @@
 use Rattle.std.specs.Prelude.{◌≡◌, refl, ℕ, false, List, [], ◌∷◌, ◌++◌, codes, length, slice_range}
 use Rattle.std.specs.Fmt.{digits}
 use Rattle.cbm_machine.specs.Machines.{Machine, start}
-use Rattle.cbm_program.specs.declared.request.Request.{Request}
-use Rattle.cbm_program.specs.declared.request.Request.TheVariants.{Get, Close}
+use Rattle.cbm_program.specs.declared.request.ScriptRequest.{ScriptRequest}
+use Rattle.cbm_program.specs.declared.request.ScriptRequest.TheVariants.{Get, Close}
 use Rattle.cbm_program.specs.Scripts.{talked}
 use Rattle.cbm_program.proofs.Words.{open_by, put_by, formatted, blank, prints, behind}
 
@@ -15,7 +15,7 @@ unfolding digits
 listing_of_blank = refl
 
 -- a program of three bytes on channel 1
-abbrev pub writes_hello : List Request
+abbrev pub writes_hello : List ScriptRequest
 writes_hello = open_by 1 (codes "HELLO") ∷ put_by 1 (1 ∷ 2 ∷ 3 ∷ []) ∷ []
 
 -- the bytes of the listing then

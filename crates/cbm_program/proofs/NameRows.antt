@@ -2,8 +2,8 @@
 use Rattle.std.specs.Prelude.{◌≡◌, refl, ℕ, List, [], ◌∷◌, ◌++◌, codes, replicate, map, slice_range}
 use Rattle.std.specs.Fmt.{digits}
 use Rattle.cbm_machine.specs.Machines.{Machine}
-use Rattle.cbm_program.specs.declared.request.Request.{Request}
-use Rattle.cbm_program.specs.declared.request.Request.TheVariants.{Get, Close, Status}
+use Rattle.cbm_program.specs.declared.request.ScriptRequest.{ScriptRequest}
+use Rattle.cbm_program.specs.declared.request.ScriptRequest.TheVariants.{Get, Close, Status}
 use Rattle.cbm_program.proofs.Words.{open_by, put_by, blank, prints, behind, status_is}
 
 -- a sequential file AB and a program AC, each of one byte
@@ -28,7 +28,7 @@ pub wrong_type : prints (open_by 0 (codes "AB") ∷ Status ∷ []) two_types ≡
 wrong_type = refl
 
 -- the two digits of the status behind a request
-abbrev pub code_after : Machine → Request → List ℕ
+abbrev pub code_after : Machine → ScriptRequest → List ℕ
 code_after m request = slice_range (prints (Status ∷ []) (behind (request ∷ []) m)) 7 9
 
 pub refused_texts : map (code_after blank)

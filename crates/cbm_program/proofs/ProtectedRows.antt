@@ -4,7 +4,7 @@ use Rattle.std.specs.Fmt.{digits}
 use Rattle.cbm_file.specs.declared.file_type.FileType.TheVariants.{Prg}
 use Rattle.cbm_file.specs.Files.{with_slot}
 use Rattle.cbm_machine.specs.Machines.{Machine}
-use Rattle.cbm_program.specs.declared.request.Request.TheVariants.{Get, Status}
+use Rattle.cbm_program.specs.declared.request.ScriptRequest.TheVariants.{Get, Status}
 use Rattle.cbm_program.proofs.Words.{open_by, put_by, formatted, protected, prints, status_is, small_file}
 use Rattle.cbm_program.proofs.NameRows.{code_after}
 use Rattle.cbm_program.proofs.RecordRows.{place_by, with_third}

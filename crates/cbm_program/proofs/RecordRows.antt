@@ -5,13 +5,13 @@ use Rattle.cbm_file.specs.Files.{Body, Bytes, Records}
 use Rattle.cbm_machine.specs.Machines.{Machine, start}
 use Rattle.cbm_machine.specs.Finding.{body_at}
 use Rattle.cbm_machine.specs.Calls.{put, end_put}
-use Rattle.cbm_program.specs.declared.request.Request.{Request}
-use Rattle.cbm_program.specs.declared.request.Request.TheVariants.{Fill, Get, Status}
+use Rattle.cbm_program.specs.declared.request.ScriptRequest.{ScriptRequest}
+use Rattle.cbm_program.specs.declared.request.ScriptRequest.TheVariants.{Fill, Get, Status}
 use Rattle.cbm_program.specs.Scripts.{hex}
 use Rattle.cbm_program.proofs.Words.{open_by, put_by, formatted, blank, prints, behind, summary, status_is}
 
 -- the place: a record by its two bytes, low first, and a position
-abbrev pub place_by : ℕ → ℕ → ℕ → Request
+abbrev pub place_by : ℕ → ℕ → ℕ → ScriptRequest
 place_by low high p = put_by 15 (80 ∷ 0x62 ∷ low ∷ high ∷ p ∷ [])
 
 -- a new file of records of 100 bytes
@@ -81,7 +81,7 @@ abbrev pub records_of_254 : ℕ → Machine
 records_of_254 tracks = behind (open_by 2 (codes "R,L," ++ 254 ∷ []) ∷ []) (start (formatted tracks) false tracks)
 
 -- a byte is put into a record
-abbrev pub written_to : ℕ → ℕ → List Request
+abbrev pub written_to : ℕ → ℕ → List ScriptRequest
 written_to low high = place_by low high 1 ∷ put_by 2 (codes "A") ∷ []
 
 pub record_121 : summary (behind (written_to 121 0) (records_of_254 35)) ≡ ((codes "R", 123, 123) ∷ [], 541)

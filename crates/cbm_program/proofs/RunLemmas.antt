@@ -4,9 +4,9 @@ use Rattle.std.proofs.Common.{arith, false, ◌≡◌, ℕ, ◌+◌, ◌<◌, �
 use Rattle.std.specs.Prelude.{IfSome, Result, Ok, Err}
 use Rattle.std.specs.Io.KnownBytes.{Appends, IsAtEnd}
 use Rattle.cbm_machine.specs.Machines.{Machine}
-use Rattle.cbm_program.specs.declared.request.Request.{Request}
-use Rattle.cbm_program.specs.declared.line.Line.{Line}
-use Rattle.cbm_program.specs.declared.line.Line.TheVariants.{Skipped, Asks}
+use Rattle.cbm_program.specs.declared.request.ScriptRequest.{ScriptRequest}
+use Rattle.cbm_program.specs.declared.line.ScriptLine.{ScriptLine}
+use Rattle.cbm_program.specs.declared.line.ScriptLine.TheVariants.{Skipped, Asks}
 use Rattle.cbm_program.specs.declared.fault.RunFault.{RunFault}
 use Rattle.cbm_program.specs.declared.fault.RunFault.TheVariants.{Script, Image, Memory, Reading, Writing}
 use Rattle.cbm_host.specs.Requests.{longest}
@@ -21,21 +21,21 @@ use Rattle.cbm_program.proofs.OutputLemmas.{part_behind, part_before, whole_part
 
 -- ---- requests behind requests
 
-text-append : (pace : Pace) (xs ys : List Request) (m : Machine) → (printed pace (xs ++ ys) m).text ≡ (printed pace xs m).text ++ (printed pace ys (printed pace xs m).machine).text
+text-append : (pace : Pace) (xs ys : List ScriptRequest) (m : Machine) → (printed pace (xs ++ ys) m).text ≡ (printed pace xs m).text ++ (printed pace ys (printed pace xs m).machine).text
 text-append pace [] ys m = refl
 text-append pace (r ∷ xs) ys m =
     ap (λ t. (printed_by pace r m).text ++ t) (text-append pace xs ys (printed_by pace r m).machine)
     ∙ sym (append_assoc (printed_by pace r m).text (printed pace xs (printed_by pace r m).machine).text (printed pace ys (printed pace (r ∷ xs) m).machine).text)
 
-machine-append : (pace : Pace) (xs ys : List Request) (m : Machine) → (printed pace (xs ++ ys) m).machine ≡ (printed pace ys (printed pace xs m).machine).machine
+machine-append : (pace : Pace) (xs ys : List ScriptRequest) (m : Machine) → (printed pace (xs ++ ys) m).machine ≡ (printed pace ys (printed pace xs m).machine).machine
 machine-append pace [] ys m = refl
 machine-append pace (r ∷ xs) ys m = machine-append pace xs ys (printed_by pace r m).machine
 
 -- requests in front of what is asked
-abbrev pub behind : List Request → Asked → Asked
+abbrev pub behind : List ScriptRequest → Asked → Asked
 behind done asked = record { requests = done ++ asked.requests; bad = asked.bad }
 
-behind-append : (xs ys : List Request) (a : Asked) → behind xs (behind ys a) ≡ behind (xs ++ ys) a
+behind-append : (xs ys : List ScriptRequest) (a : Asked) → behind xs (behind ys a) ≡ behind (xs ++ ys) a
 behind-append xs ys a = ap (λ t. let r : Asked = record { requests = t; bad = a.bad } in r) (sym (append_assoc xs ys a.requests))
 
 asked-end : (n : ℕ) → asked_from n [] ≡ refused_at None
@@ -46,11 +46,11 @@ asked-bad : (n : ℕ) (line : List ℕ) (lines : List (List ℕ)) → meaning n 
 unfolding asked_from
 asked-bad n line lines e = ap (λ o. with_line o n (asked_from (n + 1) lines)) e
 
-line-asks : (line : Line) (n : ℕ) (rest : Asked) → with_line (Some line) n rest ≡ behind (requests_in line) rest
+line-asks : (line : ScriptLine) (n : ℕ) (rest : Asked) → with_line (Some line) n rest ≡ behind (requests_in line) rest
 line-asks Skipped n rest = refl
 line-asks (Asks request) n rest = refl
 
-asked-line : (n : ℕ) (bytes : List ℕ) (lines : List (List ℕ)) (line : Line) → meaning n bytes ≡ Some line
+asked-line : (n : ℕ) (bytes : List ℕ) (lines : List (List ℕ)) (line : ScriptLine) → meaning n bytes ≡ Some line
     → asked_from n (bytes ∷ lines) ≡ behind (requests_in line) (asked_from (n + 1) lines)
 unfolding asked_from
 asked-line n bytes lines line e = ap (λ o. with_line o n (asked_from (n + 1) lines)) e ∙ line-asks line n (asked_from (n + 1) lines)
@@ -58,14 +58,14 @@ asked-line n bytes lines line e = ap (λ o. with_line o n (asked_from (n + 1) li
 -- ---- a run before line n
 
 -- what the input asks is what is done, and then what is left asks
-abbrev pub Follows : Option (List ℕ) → Option (List ℕ) → ℕ → List Request → Type 0
+abbrev pub Follows : Option (List ℕ) → Option (List ℕ) → ℕ → List ScriptRequest → Type 0
 Follows None left n done = Unit {0}
 Follows (Some xs) None n done = ⊥
 Follows (Some xs) (Some ys) n done = script_of xs ≡ behind done (asked_from n (lines_of ys))
 
 -- The requests so far are done, and what is left follows them.
 pub record Running (pace : Pace) (a b input left : Option (List ℕ)) (stood now : Machine → Type 0) (n : ℕ) : Type 0 where
-  pub done : List Request
+  pub done : List ScriptRequest
   pub follows : Follows input left n done
   pub prints : Prints a b stood now (printed pace done)
 
@@ -80,7 +80,7 @@ run-start pace a x l stood e = record {
   prints = λ m s. (appends-nothing a, s);
 }
 
-follows-line : (x l k : Option (List ℕ)) (n : ℕ) (done : List Request) (line : Line) → Follows x l n done → ReadsLine l k n line
+follows-line : (x l k : Option (List ℕ)) (n : ℕ) (done : List ScriptRequest) (line : ScriptLine) → Follows x l n done → ReadsLine l k n line
     → Follows x k (n + 1) (done ++ requests_in line)
 follows-line None l k n done line f t = tt
 follows-line (Some xs) None k n done line f t = absurd f
@@ -90,7 +90,7 @@ follows-line (Some xs) (Some ys) (Some zs) n done line f (bytes, e, means) =
     ∙ behind-append done (requests_in line) (asked_from (n + 1) (lines_of zs)))
 
 -- one line more is done
-prints-line : (pace : Pace) (a b c : Option (List ℕ)) (stood now next : Machine → Type 0) (done requests : List Request)
+prints-line : (pace : Pace) (a b c : Option (List ℕ)) (stood now next : Machine → Type 0) (done requests : List ScriptRequest)
     → Prints a b stood now (printed pace done)
     → Prints b c now next (printed pace requests)
     → Prints a c stood next (printed pace (done ++ requests))
@@ -102,7 +102,7 @@ prints-line pace a b c stood now next done requests p q m s =
       subst (λ x. next x) (sym (machine-append pace done requests m)) second.1,
     )
 
-pub run-line : (pace : Pace) (a b c x l k : Option (List ℕ)) (stood now next : Machine → Type 0) (n : ℕ) (line : Line) → Running pace a b x l stood now n → ReadsLine l k n line
+pub run-line : (pace : Pace) (a b c x l k : Option (List ℕ)) (stood now next : Machine → Type 0) (n : ℕ) (line : ScriptLine) → Running pace a b x l stood now n → ReadsLine l k n line
     → Prints b c now next (printed pace (requests_in line)) → Running pace a c x k stood next (n + 1)
 run-line pace a b c x l k stood now next n line r t p = record {
   done = r.done ++ requests_in line;
@@ -116,7 +116,7 @@ run-line pace a b c x l k stood now next n line r t p = record {
 abbrev pub Begun : Pace → Option (List ℕ) → Option (List ℕ) → Option (List ℕ) → (Machine → Type 0) → Type 0
 Begun pace a b x stood = IsServedPart pace false x a b stood
 
-begun : (pace : Pace) (a b : Option (List ℕ)) (stood : Machine → Type 0) (done : List Request) (asked rest : Asked) → asked ≡ behind done rest
+begun : (pace : Pace) (a b : Option (List ℕ)) (stood : Machine → Type 0) (done : List ScriptRequest) (asked rest : Asked) → asked ≡ behind done rest
     → PrintsPart a b stood (printed pace done)
     → PrintsPart a b stood (printed pace asked.requests)
 begun pace a b stood done asked rest e p m s =
@@ -125,7 +125,7 @@ begun pace a b stood done asked rest e p m s =
     (subst (λ t. AppendsPart a b t) (sym (text-append pace done rest.requests m))
     (part_before a b (printed pace done m).text (printed pace rest.requests (printed pace done m).machine).text (p m s)))
 
-whole : (pace : Pace) (a b : Option (List ℕ)) (stood now : Machine → Type 0) (requests : List Request) → Prints a b stood now (printed pace requests) → PrintsPart a b stood (printed pace requests)
+whole : (pace : Pace) (a b : Option (List ℕ)) (stood now : Machine → Type 0) (requests : List ScriptRequest) → Prints a b stood now (printed pace requests) → PrintsPart a b stood (printed pace requests)
 whole pace a b stood now requests p m s = whole_part a b (printed pace requests m).text (p m s).0
 
 pub run-part : (pace : Pace) (a b x l : Option (List ℕ)) (stood now : Machine → Type 0) (n : ℕ) → Running pace a b x l stood now n → Begun pace a b x stood
@@ -134,7 +134,7 @@ run-part pace a b (Some xs) None stood now n r = absurd r.follows
 run-part pace a b (Some xs) (Some ys) stood now n r =
     begun pace a b stood r.done (script_of xs) (asked_from n (lines_of ys)) r.follows (whole pace a b stood now r.done r.prints)
 
-part-line : (pace : Pace) (a b c : Option (List ℕ)) (stood now : Machine → Type 0) (done requests : List Request)
+part-line : (pace : Pace) (a b c : Option (List ℕ)) (stood now : Machine → Type 0) (done requests : List ScriptRequest)
     → Prints a b stood now (printed pace done)
     → PrintsPart b c now (printed pace requests)
     → PrintsPart a c stood (printed pace (done ++ requests))
@@ -144,7 +144,7 @@ part-line pace a b c stood now done requests p q m s =
     (part_behind a b c (printed pace done m).text (printed pace requests (printed pace done m).machine).text first.0 (q (printed pace done m).machine first.1))
 
 -- the same where a line's own text broke off
-pub run-broken : (pace : Pace) (a b c x l k : Option (List ℕ)) (stood now : Machine → Type 0) (n : ℕ) (line : Line) → Running pace a b x l stood now n → ReadsLine l k n line
+pub run-broken : (pace : Pace) (a b c x l k : Option (List ℕ)) (stood now : Machine → Type 0) (n : ℕ) (line : ScriptLine) → Running pace a b x l stood now n → ReadsLine l k n line
     → PrintsPart b c now (printed pace (requests_in line)) → Begun pace a c x stood
 run-broken pace a b c None l k stood now n line r t p = tt
 run-broken pace a b c (Some xs) None k stood now n line r t p = absurd r.follows
@@ -158,7 +158,7 @@ run-broken pace a b c (Some xs) (Some ys) (Some zs) stood now n line r t p =
 abbrev pub Ended : Pace → Option (List ℕ) → Option (List ℕ) → Option (List ℕ) → (Machine → Type 0) → (Machine → Type 0) → Option ℕ → Type 0
 Ended pace a b x stood now bad = IsServedTo pace false x a b stood now bad
 
-ended : (pace : Pace) (a b : Option (List ℕ)) (xs : List ℕ) (stood now : Machine → Type 0) (done : List Request) (bad : Option ℕ) → script_of xs ≡ behind done (refused_at bad)
+ended : (pace : Pace) (a b : Option (List ℕ)) (xs : List ℕ) (stood now : Machine → Type 0) (done : List ScriptRequest) (bad : Option ℕ) → script_of xs ≡ behind done (refused_at bad)
     → Prints a b stood now (printed pace done) → Ended pace a b (Some xs) stood now bad
 ended pace a b xs stood now done bad e p = (
   ap (λ (o : Asked). o.bad) e,
@@ -193,29 +193,29 @@ outside r f P e h = subst (λ v. EndsAs v P) (sym (e ∙ ap Err h)) tt
 
 -- ---- a run whose next line was read
 
-pub record RunningOn (pace : Pace) (a b input left : Option (List ℕ)) (stood now : Machine → Type 0) (n : ℕ) (next : Option Line) : Type 0 where
+pub record RunningOn (pace : Pace) (a b input left : Option (List ℕ)) (stood now : Machine → Type 0) (n : ℕ) (next : Option ScriptLine) : Type 0 where
   pub before : Option (List ℕ)
   pub running : Running pace a b input before stood now n
   pub read : LineRead before left n (Ok next)
 
-pub on-start : (pace : Pace) (a input left : Option (List ℕ)) (stood : Machine → Type 0) (next : Option Line) → LineRead input left 1 (Ok next) → RunningOn pace a a input left stood stood 1 next
+pub on-start : (pace : Pace) (a input left : Option (List ℕ)) (stood : Machine → Type 0) (next : Option ScriptLine) → LineRead input left 1 (Ok next) → RunningOn pace a a input left stood stood 1 next
 on-start pace a input left stood next r = record { before = input; running = run-start pace a input input stood refl; read = r }
 
 -- it is carried out, and the one behind it was read
-pub on-line : (pace : Pace) (a b c input l k : Option (List ℕ)) (stood now next : Machine → Type 0) (n : ℕ) (line : Line) (behind-it : Option Line) → RunningOn pace a b input l stood now n (Some line) → Prints b c now next (printed pace (requests_in line))
+pub on-line : (pace : Pace) (a b c input l k : Option (List ℕ)) (stood now next : Machine → Type 0) (n : ℕ) (line : ScriptLine) (behind-it : Option ScriptLine) → RunningOn pace a b input l stood now n (Some line) → Prints b c now next (printed pace (requests_in line))
     → LineRead l k (n + 1) (Ok behind-it) → RunningOn pace a c input k stood next (n + 1) behind-it
 on-line pace a b c input l k stood now next n line behind-it r p read = record { before = l; running = run-line pace a b c input r.before l stood now next n line r.running r.read.0 p; read = read }
 
 -- it is carried out, and the one behind it can't be had
-pub on-faulted : {A : Type 0} (pace : Pace) (a b c input l k : Option (List ℕ)) (stood now next : Machine → Type 0) (n : ℕ) (line : Line) (r : Result A RunFault) (f : RunFault) → RunningOn pace a b input l stood now n (Some line) → Prints b c now next (printed pace (requests_in line))
+pub on-faulted : {A : Type 0} (pace : Pace) (a b c input l k : Option (List ℕ)) (stood now next : Machine → Type 0) (n : ℕ) (line : ScriptLine) (r : Result A RunFault) (f : RunFault) → RunningOn pace a b input l stood now n (Some line) → Prints b c now next (printed pace (requests_in line))
     → LineRead l k (n + 1) (Err f) → r ≡ Err f → EndsAs r (λ bad. Ended pace a c input stood next bad)
 on-faulted pace a b c input l k stood now next n line r f o p read e = faulted pace a c input l k stood next (n + 1) r f (run-line pace a b c input o.before l stood now next n line o.running o.read.0 p) read e
 
-pub on-part : (pace : Pace) (a b c input l : Option (List ℕ)) (stood now next : Machine → Type 0) (n : ℕ) (line : Line) → RunningOn pace a b input l stood now n (Some line) → Prints b c now next (printed pace (requests_in line)) → Begun pace a c input stood
+pub on-part : (pace : Pace) (a b c input l : Option (List ℕ)) (stood now next : Machine → Type 0) (n : ℕ) (line : ScriptLine) → RunningOn pace a b input l stood now n (Some line) → Prints b c now next (printed pace (requests_in line)) → Begun pace a c input stood
 on-part pace a b c input l stood now next n line o p = run-part pace a c input l stood next (n + 1) (run-line pace a b c input o.before l stood now next n line o.running o.read.0 p)
 
 -- its own text broke off
-pub on-broken : (pace : Pace) (a b c input l : Option (List ℕ)) (stood now : Machine → Type 0) (n : ℕ) (line : Line) → RunningOn pace a b input l stood now n (Some line) → PrintsPart b c now (printed pace (requests_in line)) → Begun pace a c input stood
+pub on-broken : (pace : Pace) (a b c input l : Option (List ℕ)) (stood now : Machine → Type 0) (n : ℕ) (line : ScriptLine) → RunningOn pace a b input l stood now n (Some line) → PrintsPart b c now (printed pace (requests_in line)) → Begun pace a c input stood
 on-broken pace a b c input l stood now n line o p = run-broken pace a b c input o.before l stood now n line o.running o.read.0 p
 
 -- there is none
@@ -228,20 +228,20 @@ pub each-some : {A : Type 0} (o : Option A) (P : Type 0) → P → IfSome o (λ 
 each-some None P h = tt
 each-some (Some x) P h = h
 
-pub read-channel : (l k : Option (List ℕ)) (n : ℕ) (line : Option Line) → LineRead l k n (Ok line) → IfSome line LineIsInRange
+pub read-channel : (l k : Option (List ℕ)) (n : ℕ) (line : Option ScriptLine) → LineRead l k n (Ok line) → IfSome line LineIsInRange
 read-channel l k n None h = tt
 read-channel l k n (Some line) h = h.2
 
-pub read-few : (l k : Option (List ℕ)) (n : ℕ) (line : Option Line) → LineRead l k n (Ok line) → IfSome line (λ x. n < 1000001)
+pub read-few : (l k : Option (List ℕ)) (n : ℕ) (line : Option ScriptLine) → LineRead l k n (Ok line) → IfSome line (λ x. n < 1000001)
 read-few l k n None h = tt
 read-few l k n (Some line) h = h.1
 
 -- ---- the pace of a drive that stays at it
 
-pub prints-at : (e f : Pace) (a b : Option (List ℕ)) (stood now : Machine → Type 0) (requests : List Request) → e ≡ f → Prints a b stood now (printed e requests) → Prints a b stood now (printed f requests)
+pub prints-at : (e f : Pace) (a b : Option (List ℕ)) (stood now : Machine → Type 0) (requests : List ScriptRequest) → e ≡ f → Prints a b stood now (printed e requests) → Prints a b stood now (printed f requests)
 prints-at e f a b stood now requests same p = subst (λ (x : Pace). Prints a b stood now (printed x requests)) same p
 
-pub part-at : (e f : Pace) (a b : Option (List ℕ)) (stood : Machine → Type 0) (requests : List Request) → e ≡ f → PrintsPart a b stood (printed e requests) → PrintsPart a b stood (printed f requests)
+pub part-at : (e f : Pace) (a b : Option (List ℕ)) (stood : Machine → Type 0) (requests : List ScriptRequest) → e ≡ f → PrintsPart a b stood (printed e requests) → PrintsPart a b stood (printed f requests)
 part-at e f a b stood requests same p = subst (λ (x : Pace). PrintsPart a b stood (printed x requests)) same p
 
 -- no request takes longer

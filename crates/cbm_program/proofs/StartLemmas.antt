@@ -10,7 +10,7 @@ use Rattle.cbm_file.specs.Files.{Disk}
 use Rattle.cbm_machine.specs.Machines.{Machine, start}
 use Rattle.cbm_image.specs.declared.kind.Kind.{Kind}
 use Rattle.cbm_image.specs.Images.{tracks_of, content_of, ImageHolds, IsOf}
-use Rattle.cbm_program.specs.declared.request.Request.{Request}
+use Rattle.cbm_program.specs.declared.request.ScriptRequest.{ScriptRequest}
 use Rattle.cbm_program.specs.declared.fault.RunFault.{RunFault}
 use Rattle.cbm_program.specs.declared.fault.RunFault.TheVariants.{Script, Image, Memory, Reading, Writing}
 use Rattle.cbm_program.specs.Checking.{checked_text, IsCheckPrinted, IsCheckedFirst, printed_behind}
@@ -33,7 +33,7 @@ among-stands shows stands h m (d, holds, e) = subst (λ x. stands x) (sym e) (h 
 -- ---- the same machines
 
 module _ (pace : Pace) (checks : Bool) (a b : Option (List ℕ)) (some all now next : Machine → Type 0) (is : AreAmong some all) (then : AreAmong now next) where
-  prints-among : (script : List Request) → Prints a b all now (printed_behind pace checks script) → Prints a b some next (printed_behind pace checks script)
+  prints-among : (script : List ScriptRequest) → Prints a b all now (printed_behind pace checks script) → Prints a b some next (printed_behind pace checks script)
   prints-among script p m s = let r = p m (is m s) in (r.0, then (printed pace script m).machine r.1)
 
   pub served-among : (x : Option (List ℕ)) → IsServed pace checks x a b all now → IsServed pace checks x a b some next
@@ -82,7 +82,7 @@ abbrev pub Said : Bool → Option (List ℕ) → Option (List ℕ) → (Machine 
 Said checks a b stood = (m : Machine) → stood m → Appends a b (checked_text checks)
 
 module _ (pace : Pace) (checks : Bool) (a b c : Option (List ℕ)) (stood : Machine → Type 0) (said : Said checks a b stood) where
-  prints-behind : (now : Machine → Type 0) (script : List Request) → Prints b c stood now (printed pace script) → Prints a c stood now (printed_behind pace checks script)
+  prints-behind : (now : Machine → Type 0) (script : List ScriptRequest) → Prints b c stood now (printed pace script) → Prints a c stood now (printed_behind pace checks script)
   prints-behind now script p m s = let r = p m s in (appends-more a b c (checked_text checks) (printed pace script m).text (said m s) r.0, r.1)
 
   pub ended-behind : (now : Machine → Type 0) (x : Option (List ℕ)) (bad : Option ℕ) → IsServedTo pace false x b c stood now bad → IsServedTo pace checks x a c stood now bad

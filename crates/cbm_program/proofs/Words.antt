@@ -5,17 +5,17 @@ use Rattle.cbm_file.specs.Files.{Bytes, File, Disk, files}
 use Rattle.cbm_machine.specs.Machines.{Machine, start}
 use Rattle.cbm_file.specs.Changes.{closed_file}
 use Rattle.cbm_machine.specs.Running.{new_disk}
-use Rattle.cbm_program.specs.declared.request.Request.{Request}
-use Rattle.cbm_program.specs.declared.request.Request.TheVariants.{Open, Put}
+use Rattle.cbm_program.specs.declared.request.ScriptRequest.{ScriptRequest}
+use Rattle.cbm_program.specs.declared.request.ScriptRequest.TheVariants.{Open, Put}
 use Rattle.cbm_iec.specs.declared.pace.Pace.TheVariants.{Profile, Kernal}
 use Rattle.cbm_program.specs.Scripts.{printed}
 
 -- `open CH TEXT`
-abbrev pub open_by : ℕ → List ℕ → Request
+abbrev pub open_by : ℕ → List ℕ → ScriptRequest
 open_by ch text = Open ch (record { items = text })
 
 -- `put CH TEXT`
-abbrev pub put_by : ℕ → List ℕ → Request
+abbrev pub put_by : ℕ → List ℕ → ScriptRequest
 put_by ch text = Put ch (record { items = text })
 
 -- a disk of zeros
@@ -39,14 +39,14 @@ abbrev pub blank : Machine
 blank = powered (formatted 35)
 
 -- what a script prints, of a drive at the profile's pace, and at a KERNAL's
-abbrev pub prints : List Request → Machine → List ℕ
+abbrev pub prints : List ScriptRequest → Machine → List ℕ
 prints script m = (printed Profile script m).text
 
-abbrev pub prints_for_kernal : List Request → Machine → List ℕ
+abbrev pub prints_for_kernal : List ScriptRequest → Machine → List ℕ
 prints_for_kernal script m = (printed Kernal script m).text
 
 -- the machine behind a script
-abbrev pub behind : List Request → Machine → Machine
+abbrev pub behind : List ScriptRequest → Machine → Machine
 behind script m = (printed Profile script m).machine
 
 -- a file's name, its blocks shown and its blocks held

@@ -4,12 +4,12 @@ use Rattle.std.specs.Fmt.{digits}
 use Rattle.cbm_file.specs.declared.file_type.FileType.TheVariants.{Seq}
 use Rattle.cbm_file.specs.Files.{lost}
 use Rattle.cbm_machine.specs.Machines.{Machine}
-use Rattle.cbm_program.specs.declared.request.Request.{Request}
-use Rattle.cbm_program.specs.declared.request.Request.TheVariants.{Fill, Get, Close, Status}
+use Rattle.cbm_program.specs.declared.request.ScriptRequest.{ScriptRequest}
+use Rattle.cbm_program.specs.declared.request.ScriptRequest.TheVariants.{Fill, Get, Close, Status}
 use Rattle.cbm_program.proofs.Words.{open_by, put_by, formatted, powered, blank, prints, behind, summary, status_is, small_file}
 
 -- a sequential file of so many equal bytes
-abbrev pub writes : List ℕ → ℕ → List Request
+abbrev pub writes : List ℕ → ℕ → List ScriptRequest
 writes name n = open_by 2 (name ++ codes ",S,W") ∷ Fill 2 n 65 ∷ Close 2 ∷ []
 
 -- one block is full with 254 bytes

@@ -11,7 +11,7 @@ use Rattle.cbm_volume.specs.check.WholeDisk.{DiskFault}
 use Rattle.cbm_volume.specs.declared.Unsound.{Unsound}
 use Rattle.cbm_machine.specs.Machines.{Machine}
 use Rattle.cbm_iec.specs.declared.pace.Pace.{Pace}
-use Rattle.cbm_program.specs.declared.request.Request.{Request}
+use Rattle.cbm_program.specs.declared.request.ScriptRequest.{ScriptRequest}
 use Rattle.cbm_program.specs.declared.fault.RunFault.{RunFault}
 use Rattle.cbm_program.specs.Output.{AppendsPart, Grows}
 use Rattle.cbm_program.specs.Running.{IsOfWriting}
@@ -54,5 +54,5 @@ abbrev pub IsCheckedFirst : ℕ → Content → Option (List ℕ) → Option (Li
 IsCheckedFirst tracks content old new = (between : Option (List ℕ)) × IsCheckPrinted tracks content old between × Grows between new
 
 -- what a script prints, after the line of the check if one is asked for
-abbrev pub printed_behind : Pace → Bool → List Request → Machine → Printed
+abbrev pub printed_behind : Pace → Bool → List ScriptRequest → Machine → Printed
 printed_behind pace checks script m = record { text = checked_text checks ++ (printed pace script m).text; machine = (printed pace script m).machine }

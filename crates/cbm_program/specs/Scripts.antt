@@ -5,8 +5,8 @@ use Rattle.cbm_machine.specs.Machines.{Machine}
 use Rattle.cbm_machine.specs.Closing.{close}
 use Rattle.cbm_machine.specs.Calls.{after_open, without_return}
 use Rattle.cbm_iec.specs.declared.pace.Pace.{Pace}
-use Rattle.cbm_program.specs.declared.request.Request.{Request}
-use Rattle.cbm_program.specs.declared.request.Request.TheVariants.{Open, Put, Fill, Get, Close, Status}
+use Rattle.cbm_program.specs.declared.request.ScriptRequest.{ScriptRequest}
+use Rattle.cbm_program.specs.declared.request.ScriptRequest.TheVariants.{Open, Put, Fill, Get, Close, Status}
 
 -- ---- what is printed
 
@@ -45,7 +45,7 @@ abbrev pub status_text : Said → List ℕ
 status_text said = codes "status " ++ without_return said.bytes ++ codes "\n"
 
 -- what a request prints, at the drive's pace, and the machine after it
-abbrev pub printed_by : Pace → Request → Machine → Printed
+abbrev pub printed_by : Pace → ScriptRequest → Machine → Printed
 printed_by pace (Open ch text) m = silent (after_open ch text.items m)
 printed_by pace (Put ch text) m = silent (hear ch text.items m)
 printed_by pace (Fill ch n b) m = silent (hear ch (replicate n b) m)
@@ -58,6 +58,6 @@ abbrev pub then_printed : Printed → (Machine → Printed) → Printed
 then_printed first rest = record { text = first.text ++ (rest first.machine).text; machine = (rest first.machine).machine }
 
 -- what a script prints, request by request
-abbrev pub printed : Pace → List Request → Machine → Printed
+abbrev pub printed : Pace → List ScriptRequest → Machine → Printed
 printed pace [] m = silent m
 printed pace (request ∷ script) m = then_printed (printed_by pace request m) (λ after. printed pace script after)

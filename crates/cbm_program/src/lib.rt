@@ -18,6 +18,6 @@ pub use bus_traces::Watches;
 pub use cbm_drive::Pace;
 pub use fault::RunFault;
 pub use images::{Options, run, run_at, run_traced};
-pub use line::{Line, parse};
-pub use request::{Request, Text};
+pub use line::{ScriptLine, parse};
+pub use request::{ScriptRequest, Text};
 pub use text::{decode, what_is_written_reads_back};

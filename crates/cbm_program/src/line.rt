@@ -4,17 +4,17 @@ ghost use Rattle.std.specs.Option.{ForSome};
 ghost use Rattle.cbm_program.specs.Requests.{text_behind, fill_of, get_of, asked_of, request_of, line_of};
 ghost use Rattle.cbm_program.specs.Running.{IsInRange, LineIsInRange};
 
-use crate::request::{Request, Text};
+use crate::request::{ScriptRequest, Text};
 use crate::text::decode;
 use crate::word::{byte, channel, count};
 use bus_traces::split_word;
 
 /// What a line of a script is.
 #[derive(Debug, Drop)]
-pub enum Line {
+pub enum ScriptLine {
     /// It is empty, or begins with `;`.
     Skipped,
-    Asks(Request),
+    Asks(ScriptRequest),
 }
 
 fn text_behind(rest: Option<&[u8]>) -> Option<Text>
@@ -27,45 +27,45 @@ fn text_behind(rest: Option<&[u8]>) -> Option<Text>
     }
 }
 
-fn fill(channel: u8, rest: Option<&[u8]>) -> Option<Request>
+fn fill(channel: u8, rest: Option<&[u8]>) -> Option<ScriptRequest>
     requires { channel ≤ 15 }
     ensures channel { IfSome result IsInRange }
     ensures value { result ≡ fill_of channel (option_map (λ words. words.now) rest.entry) }
 {
     let (count_word, byte_word) = split_word(rest?);
-    Some(Request::Fill(channel, count(count_word)?, byte(byte_word?)?))
+    Some(ScriptRequest::Fill(channel, count(count_word)?, byte(byte_word?)?))
 }
 
-fn get(channel: u8, rest: Option<&[u8]>) -> Option<Request>
+fn get(channel: u8, rest: Option<&[u8]>) -> Option<ScriptRequest>
     requires { channel ≤ 15 }
     ensures channel { IfSome result IsInRange }
     ensures value { result ≡ get_of channel (option_map (λ word. word.now) rest.entry) }
 {
-    Some(Request::Get(channel, count(rest?)?))
+    Some(ScriptRequest::Get(channel, count(rest?)?))
 }
 
-fn asked(verb: &[u8], channel: u8, rest: Option<&[u8]>) -> Option<Request>
+fn asked(verb: &[u8], channel: u8, rest: Option<&[u8]>) -> Option<ScriptRequest>
     requires channel { channel ≤ 15 }
     requires short { ForSome rest (λ text. length text.now ≤ 1000) }
     ensures channel { IfSome result IsInRange }
     ensures value { result ≡ asked_of verb.now channel (option_map (λ text. text.now) rest.entry) }
 {
     if verb == b"open".as_slice() {
-        Some(Request::Open(channel, text_behind(rest)?))
+        Some(ScriptRequest::Open(channel, text_behind(rest)?))
     } else if verb == b"put".as_slice() {
-        Some(Request::Put(channel, text_behind(rest)?))
+        Some(ScriptRequest::Put(channel, text_behind(rest)?))
     } else if verb == b"fill".as_slice() {
         fill(channel, rest)
     } else if verb == b"get".as_slice() {
         get(channel, rest)
     } else if verb == b"close".as_slice() && rest.is_none() {
-        Some(Request::Close(channel))
+        Some(ScriptRequest::Close(channel))
     } else {
         None
     }
 }
 
-fn requested(bytes: &[u8]) -> Option<Request>
+fn requested(bytes: &[u8]) -> Option<ScriptRequest>
     requires { length bytes.now ≤ 1000 }
     ensures channel { IfSome result IsInRange }
     ensures value { result ≡ request_of bytes.now }
@@ -73,7 +73,7 @@ fn requested(bytes: &[u8]) -> Option<Request>
     let (verb, rest) = split_word(bytes);
     if verb == b"status".as_slice() {
         return if rest.is_none() {
-            Some(Request::Status)
+            Some(ScriptRequest::Status)
         } else {
             None
         };
@@ -83,7 +83,7 @@ fn requested(bytes: &[u8]) -> Option<Request>
 }
 
 /// What a line asks for: nothing where it is empty or begins with `;`, and None where it is refused.
-pub fn parse(line: &[u8]) -> Option<Line>
+pub fn parse(line: &[u8]) -> Option<ScriptLine>
     requires { length line.now ≤ 1000 }
     ensures value { result ≡ line_of line.now }
 
@@ -91,7 +91,7 @@ pub fn parse(line: &[u8]) -> Option<Line>
     ensures channel { IfSome result LineIsInRange }
 {
     match line.first() {
-        None | Some(b';') => Some(Line::Skipped),
-        Some(_) => Some(Line::Asks(requested(line)?)),
+        None | Some(b';') => Some(ScriptLine::Skipped),
+        Some(_) => Some(ScriptLine::Asks(requested(line)?)),
     }
 }

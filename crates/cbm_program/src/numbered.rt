@@ -4,7 +4,7 @@ ghost use Rattle.bus_traces.specs.Lines.{bytes_left};
 ghost use Rattle.cbm_program.specs.Beginnings.{BytesRead, FirstRead, BeginsInRange};
 
 use crate::fault::RunFault;
-use crate::line::{Line, parse};
+use crate::line::{ScriptLine, parse};
 use arrayvec::ArrayVec;
 use bus_traces::{LineFault, Source};
 use std::io::Read;
@@ -18,7 +18,7 @@ pub(crate) enum Beginning {
     /// Changes of lines follow.
     Changes,
     /// It is a script of requests, and this is its first line, if there is one.
-    Requests(Option<Line>),
+    Requests(Option<ScriptLine>),
 }
 
 /// Reads the bytes of line `number`, and answers whether there is one.

@@ -5,9 +5,9 @@ ghost use Rattle.cbm_program.specs.Scripts.{printed, printed_by};
 ghost use Rattle.cbm_program.specs.Running.{IsInRange, LineIsInRange, requests_in};
 
 use crate::fault::RunFault;
-use crate::line::Line;
+use crate::line::ScriptLine;
 use crate::output::flush;
-use crate::request::Request;
+use crate::request::ScriptRequest;
 use cbm_host::Hosted;
 use cbm_medium::Steady;
 use std::io::Write;
@@ -22,7 +22,7 @@ use status::print_status;
 fn perform<M: Steady, W: Write>(
     drive: &mut Hosted<M>,
     writer: &mut W,
-    request: &Request,
+    request: &ScriptRequest,
 ) -> Result<(), RunFault>
     requires request { IsInRange request.now }
     requires moment { drive.old.moment < 2 ^ 58 }
@@ -31,24 +31,24 @@ fn perform<M: Steady, W: Write>(
     ensures drive { GoesOn M.seen drive.old drive.new }
 {
     match request {
-        Request::Open(channel, text) => {
+        ScriptRequest::Open(channel, text) => {
             drive.open(*channel, text.as_slice());
             Ok(())
         }
-        Request::Put(channel, bytes) => {
+        ScriptRequest::Put(channel, bytes) => {
             drive.put(*channel, bytes.as_slice());
             Ok(())
         }
-        Request::Fill(channel, count, byte) => {
+        ScriptRequest::Fill(channel, count, byte) => {
             drive.fill(*channel, *count, *byte);
             Ok(())
         }
-        Request::Get(channel, most) => print_get(drive, writer, *channel, *most),
-        Request::Close(channel) => {
+        ScriptRequest::Get(channel, most) => print_get(drive, writer, *channel, *most),
+        ScriptRequest::Close(channel) => {
             drive.close(*channel);
             Ok(())
         }
-        Request::Status => print_status(drive, writer),
+        ScriptRequest::Status => print_status(drive, writer),
     }
 }
 
@@ -56,7 +56,7 @@ fn perform<M: Steady, W: Write>(
 pub(crate) fn perform_line<M: Steady, W: Write>(
     drive: &mut Hosted<M>,
     writer: &mut W,
-    line: &Line,
+    line: &ScriptLine,
 ) -> Result<(), RunFault>
     requires line { LineIsInRange line.now }
     requires moment { drive.old.moment < 2 ^ 58 }
@@ -65,8 +65,8 @@ pub(crate) fn perform_line<M: Steady, W: Write>(
     ensures drive { GoesOn M.seen drive.old drive.new }
 {
     match line {
-        Line::Skipped => Ok(()),
-        Line::Asks(request) => {
+        ScriptLine::Skipped => Ok(()),
+        ScriptLine::Asks(request) => {
             perform(drive, writer, request)?;
             flush(writer)
         }

@@ -5,7 +5,7 @@ pub type Text = ArrayVec<u8, 1000>;
 
 /// What a script asks of a drive; channels are 0 to 15.
 #[derive(Debug, Drop)]
-pub enum Request {
+pub enum ScriptRequest {
     /// The channel, and the text of the OPEN.
     Open(u8, Text),
     /// The channel, and the bytes that are sent to it between LISTEN and UNLISTEN.

@@ -10,7 +10,7 @@ ghost use Rattle.cbm_program.specs.Running.{LineRead, LineIsInRange, EndsAs, IsO
 ghost use Rattle.cbm_program.specs.Starts.{StartsFrom, KeptBy};
 
 use crate::fault::RunFault;
-use crate::line::{Line, parse};
+use crate::line::{ScriptLine, parse};
 use crate::numbered::next_line;
 use crate::performing::perform_line;
 use arrayvec::ArrayVec;
@@ -24,7 +24,7 @@ fn read_line<R: Read>(
     lines: &mut Source<R>,
     bytes: &mut ArrayVec<u8, 1000>,
     number: u32,
-) -> Result<Option<Line>, RunFault>
+) -> Result<Option<ScriptLine>, RunFault>
     ensures { LineRead (bytes_left R.remaining lines.old) (bytes_left R.remaining lines.new) number result }
 {
     if !next_line(lines, bytes, number)? {
@@ -41,7 +41,7 @@ fn read_line<R: Read>(
 fn run_on<M: Steady, R: Read, W: Write>(
     drive: &mut Hosted<M>,
     lines: &mut Source<R>,
-    first: Option<Line>,
+    first: Option<ScriptLine>,
     writer: &mut W,
 ) -> Result<(), RunFault>
     requires first { IfSome first LineIsInRange }
@@ -74,7 +74,7 @@ fn run_on<M: Steady, R: Read, W: Write>(
 pub(crate) fn run_requests<M: Steady + Drop, R: Read, W: Write>(
     drive: Hosted<M>,
     lines: &mut Source<R>,
-    first: Option<Line>,
+    first: Option<ScriptLine>,
     writer: &mut W,
 ) -> Result<M, RunFault>
     requires first { IfSome first LineIsInRange }

@@ -5,14 +5,14 @@ use Rattle.cbm_channel.specs.declared.Status.{Status}
 use Rattle.cbm_channel.specs.Codes.{code_number}
 use Rattle.cbm_channel.specs.Machines.{Machine}
 use Rattle.cbm_medium.specs.Content.{Content}
-use Rattle.cbm_shell.specs.declared.changing.Change.{Change}
+use Rattle.cbm_shell.specs.declared.changing.DiskChange.{DiskChange}
 use Rattle.cbm_shell.specs.declared.fault.ShellFault.{ShellFault}
 use Rattle.cbm_shell.specs.declared.fault.ShellFault.TheVariants as fault
 use Rattle.cbm_shell.specs.Changing.{after_change, IsFine, IsUndone, IsRefusal, IsFaultOf}
 use Rattle.cbm_shell.specs.Editing.{IsUnedited}
 
 -- the status at the end decides
-pub made : (change : Change) (m : Machine) (stands : Machine → Type 0) (r : Result (Unit {0}) ShellFault) (s : Status) → stands (after_change change m)
+pub made : (change : DiskChange) (m : Machine) (stands : Machine → Type 0) (r : Result (Unit {0}) ShellFault) (s : Status) → stands (after_change change m)
     → s ≡ (after_change change m).status → MatchResult r (λ _. IsFine s) (λ f. (f ≡ fault.Refused s) × (20 ≤ code_number s.code))
     → MatchResult r (λ _. IsFine (after_change change m).status × stands (after_change change m)) (IsUndone change m)
 made change m stands (Ok _) s now e h = (subst IsFine e h, now)

@@ -9,18 +9,18 @@ use Rattle.cbm_channel.specs.Machines.{Machine}
 use Rattle.cbm_channel.specs.Closing.{close}
 use Rattle.cbm_channel.specs.Calls.{after_open}
 use Rattle.cbm_talk.specs.Talks.{hear}
-use Rattle.cbm_shell.specs.declared.changing.Change.{Change}
-use Rattle.cbm_shell.specs.declared.changing.Change.TheVariants.{Command, File}
+use Rattle.cbm_shell.specs.declared.changing.DiskChange.{DiskChange}
+use Rattle.cbm_shell.specs.declared.changing.DiskChange.TheVariants.{Command, File}
 use Rattle.cbm_shell.specs.declared.fault.ShellFault.{ShellFault}
 use Rattle.cbm_shell.specs.declared.fault.ShellFault.TheVariants as fault
 
 -- the machine after the OPEN that a change begins with
-abbrev pub begun : Change → Machine → Machine
+abbrev pub begun : DiskChange → Machine → Machine
 begun (Command text) m = after_open 15 text.now m
 begun (File text bytes) m = after_open 2 text.now m
 
 -- THE MACHINE AFTER A CHANGE: a command is done by its OPEN; a file is opened, given its bytes, and closed.
-abbrev pub after_change : Change → Machine → Machine
+abbrev pub after_change : DiskChange → Machine → Machine
 after_change (Command text) m = begun (Command text) m
 after_change (File text bytes) m = close 2 (hear 2 bytes.now (begun (File text bytes) m))
 
@@ -29,12 +29,12 @@ abbrev pub IsFine : Status → Type 0
 IsFine s = code_number s.code < 20
 
 -- The drive refused a change: this is its status after the OPEN or at the end, and it reports an error.
-pub record IsRefusedBy (change : Change) (m : Machine) (s : Status) : Type 0 where
+pub record IsRefusedBy (change : DiskChange) (m : Machine) (s : Status) : Type 0 where
   pub told : (s ≡ (begun change m).status) ⊎ (s ≡ (after_change change m).status)
   pub error : 20 ≤ code_number s.code
 
 -- Why a machine's change wasn't made.
-abbrev pub IsUndone : Change → Machine → ShellFault → Type 0
+abbrev pub IsUndone : DiskChange → Machine → ShellFault → Type 0
 IsUndone change m (fault.Refused s) = IsRefusedBy change m s
 IsUndone change m fault.Memory = ⊥
 IsUndone change m (fault.Image n) = ⊥

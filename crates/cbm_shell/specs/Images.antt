@@ -13,7 +13,7 @@ use Rattle.cbm_volume.specs.declared.Unsound.{Unsound}
 use Rattle.cbm_channel.specs.Machines.{Machine}
 use Rattle.cbm_image.specs.declared.kind.Kind.{Kind}
 use Rattle.cbm_image.specs.Images.{kind_of, image_fault, tracks_of, content_of, ImageHolds}
-use Rattle.cbm_shell.specs.declared.changing.Change.{Change}
+use Rattle.cbm_shell.specs.declared.changing.DiskChange.{DiskChange}
 use Rattle.cbm_shell.specs.declared.fault.ShellFault.{ShellFault}
 use Rattle.cbm_shell.specs.declared.fault.ShellFault.TheVariants as fault
 use Rattle.cbm_shell.specs.Reading.{IsGetFault}
@@ -55,7 +55,7 @@ OrOpenFault image P fault.NotClosed = P fault.NotClosed
 OrOpenFault image P fault.Mistaken = P fault.Mistaken
 
 -- why a change gives no image
-abbrev pub IsFailed : List ℕ → Change → Machine → ShellFault → Type 0
+abbrev pub IsFailed : List ℕ → DiskChange → Machine → ShellFault → Type 0
 IsFailed image change m = OrOpenFault image (IsUndone change m)
 
 -- why a file isn't got of an image

@@ -39,7 +39,7 @@ const ERRORS: u8 = 20;
 
 /// A change of a disk.
 #[derive(Clone, Copy)]
-pub enum Change<'a> {
+pub enum DiskChange<'a> {
     /// A command for the drive, such as `R0:NEW=OLD`.
     Command(&'a [u8]),
     /// The text of an OPEN that writes a file, such as `0:NAME,P,W`, and the file's bytes.
@@ -58,7 +58,7 @@ pub(crate) fn told(status: Status) -> Result<(), ShellFault>
 }
 
 /// Makes a change on a drive.
-fn apply<M: Steady>(dos: &mut Dos<M>, change: &Change<'_>) -> Result<(), ShellFault>
+fn apply<M: Steady>(dos: &mut Dos<M>, change: &DiskChange<'_>) -> Result<(), ShellFault>
     ensures made { (m : Machine) → Stands M.seen dos.old m → MatchResult result
         (λ _. IsFine (after_change change.now m).status × Stands M.seen dos.new (after_change change.now m))
         (IsUndone change.now m) }
@@ -66,11 +66,11 @@ fn apply<M: Steady>(dos: &mut Dos<M>, change: &Change<'_>) -> Result<(), ShellFa
     ensures medium { KeepsMedium (M.seen dos.old.medium) (M.seen dos.new.medium) }
 {
     match change {
-        Change::Command(text) => {
+        DiskChange::Command(text) => {
             dos.open(COMMANDS, text);
             told(dos.status())
         }
-        Change::File(text, bytes) => {
+        DiskChange::File(text, bytes) => {
             dos.open(WRITING, text);
             told(dos.status())?;
             hear(dos, WRITING, bytes);
@@ -95,7 +95,7 @@ pub(crate) fn require_sound<M: Medium>(volume: &Volume<M>) -> Result<(), ShellFa
 
 /// Makes a change on a disk, if it is sound. Errors: `Unsound`, and then nothing was changed; `Refused` with the drive's
 /// status.
-pub fn changed<M: Steady + Drop>(medium: M, change: &Change<'_>) -> Result<M, ShellFault>
+pub fn changed<M: Steady + Drop>(medium: M, change: &DiskChange<'_>) -> Result<M, ShellFault>
     ensures made { let old = M.seen medium in (d : Disk) → HoldsDisk old.tracks old.content d →
         let m = start d old.protected old.tracks in MatchResult result
         (λ after. IsFine (after_change change.now m).status

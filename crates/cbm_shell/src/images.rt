@@ -16,7 +16,7 @@ pub(crate) mod formats;
 pub(crate) mod making;
 pub(crate) mod wrapped;
 
-use crate::changing::{Change, changed};
+use crate::changing::{DiskChange, changed};
 use crate::fault::ShellFault;
 use crate::looking::listing::{list, raw_list};
 use crate::looking::reading::get;
@@ -58,7 +58,7 @@ pub(crate) fn saved<I: DiskImage>(alloc: Global, disk: &I) -> Result<Vec<u8>, Sh
 fn change_in<I: DiskImage + Drop>(
     alloc: Global,
     image: &[u8],
-    change: &Change<'_>,
+    change: &DiskChange<'_>,
 ) -> Result<Vec<u8>, ShellFault>
     requires { kind_of image.now ≡ I.kind }
     ensures made { let kind = kind_of image.now in (d : Disk) → ImageHolds kind image.now d →
@@ -75,7 +75,7 @@ fn change_in<I: DiskImage + Drop>(
 
 /// Makes a change on the disk of an image, and gives the image as it is then. Errors: `Image`; `Unsound`, with what is
 /// wrong first; `Refused`, with the drive's status; `Memory`.
-pub fn change(alloc: Global, image: &[u8], change: &Change<'_>) -> Result<Vec<u8>, ShellFault>
+pub fn change(alloc: Global, image: &[u8], change: &DiskChange<'_>) -> Result<Vec<u8>, ShellFault>
     ensures made { let kind = kind_of image.now in (d : Disk) → ImageHolds kind image.now d →
         let m = start d false (tracks_of kind image.now) in MatchResult result
         (λ v. IsFine (after_change change.now m).status × ImageHolds kind v.items (after_change change.now m).disk)

@@ -10,7 +10,7 @@ mod texts;
 
 pub use broken::{DiskFlaw, Whose, error_at, flaws_of, forget, lost_of, undelete, users_of};
 pub use changing::{
-    Change, Looks, Records, Swap, add_art, changed, changes, dress, lock, put_records, retitle,
+    DiskChange, Looks, Records, Swap, add_art, changed, changes, dress, lock, put_records, retitle,
     swap_entries,
 };
 pub use fault::ShellFault;

@@ -4,7 +4,7 @@ use clap::ArgMatches;
 use disk_basics::{Failure, WordFault};
 use disk_changes::{Blank, Build, Conversion, Gone, HostFiles, Ordering, Pair};
 use disk_commands::{flag, given, option};
-use disk_looks::{Description, Mapping, OneFile, Place};
+use disk_looks::{Description, Destination, Mapping, OneFile};
 use disk_reports::View;
 
 /// The character set of a command's names. Errors: `Word`, where a C64 has no such set.
@@ -60,8 +60,8 @@ pub fn one_file<'a>(words: &ArgMatches<'a>, charset: Charset) -> OneFile<'a> {
 }
 
 /// Where GET-ALL writes the files.
-pub fn place<'a>(words: &ArgMatches<'a>) -> Place<'a> {
-    Place {
+pub fn place<'a>(words: &ArgMatches<'a>) -> Destination<'a> {
+    Destination {
         folder: given(words, "DIR"),
         replaces: flag(words, "replace"),
         salvages: flag(words, "salvage"),

@@ -2,17 +2,21 @@
 //! caller's proof carries it.
 ghost use Rattle.std.specs.Prelude.{◌≤◌, length};
 
-use cbm_shell::{Change, Form, Looks, Order, Records, ShellFault, Swap};
+use cbm_shell::{DiskChange, Form, Looks, Order, Records, ShellFault, Swap};
 use cbm_volume::FileType;
 use std::alloc::{AllocError, Global};
 
 /// The image after a change. Errors: `Image`, `Unsound`, `Refused`, `Memory`.
-pub fn change(alloc: Global, image: &[u8], change: &Change<'_>) -> Result<Vec<u8>, ShellFault> {
+pub fn change(alloc: Global, image: &[u8], change: &DiskChange<'_>) -> Result<Vec<u8>, ShellFault> {
     cbm_shell::change(alloc, image, change)
 }
 
 /// The image after several changes. Errors: `Image`, `Unsound`, `Refused`, `Memory`.
-pub fn changes(alloc: Global, image: &[u8], changes: &[Change<'_>]) -> Result<Vec<u8>, ShellFault> {
+pub fn changes(
+    alloc: Global,
+    image: &[u8],
+    changes: &[DiskChange<'_>],
+) -> Result<Vec<u8>, ShellFault> {
     cbm_shell::changes(alloc, image, changes)
 }
 

@@ -1,6 +1,6 @@
 //! Changes of an image.
 use crate::locking::{locked_all, retitled};
-use cbm_shell::{Change, Charset};
+use cbm_shell::{Charset, DiskChange};
 use disk_basics::{Failure, change, in_memory, joined, on_disk, petscii, read_image, replace};
 use std::alloc::Global;
 use std::rt::Runtime;
@@ -9,7 +9,7 @@ use std::rt::Runtime;
 #[derive(Clone, Copy)]
 pub enum Edit<'a, 'c> {
     /// A change by the drive's own commands.
-    Change(Change<'c>),
+    Change(DiskChange<'c>),
     /// The files that match the patterns are deleted.
     Delete(&'c [&'a str], Charset),
     /// The files that match the patterns are locked, or freed.
@@ -34,7 +34,7 @@ fn deleted<'a>(
     pattern: &'a str,
 ) -> Result<Vec<u8>, Failure<'a>> {
     let text = text_of(alloc, charset, pattern)?;
-    let command = Change::Command(text.as_slice());
+    let command = DiskChange::Command(text.as_slice());
     let changed = on_disk(image, change(alloc, bytes, &command))?;
     if changed.as_slice() == bytes {
         return Err(Failure::NoneDeleted(pattern));

@@ -1,6 +1,6 @@
 //! PUT: files of the host into the image.
 use crate::stored::{Stored, open_text, with_stored};
-use cbm_shell::{Change, Charset, unwrapped};
+use cbm_shell::{Charset, DiskChange, unwrapped};
 use disk_basics::{
     Failure, FileKind, WordFault, changes, file_name, in_memory, is_standard, is_wrapped_name,
     kind_of_file, name_of_file, on_disk, read_file, read_image, replace, require_name,
@@ -218,11 +218,11 @@ fn load_all<'a, R: Runtime + AllocGlobal>(
 }
 
 /// How they are put on a disk.
-fn changes_of<'b>(alloc: Global, all: &'b [Loaded<'_>]) -> Result<Vec<Change<'b>>, AllocError> {
+fn changes_of<'b>(alloc: Global, all: &'b [Loaded<'_>]) -> Result<Vec<DiskChange<'b>>, AllocError> {
     let mut puts = Vec::new(alloc);
     for one in all {
         let bytes = one.bytes.get(one.head..).unwrap_or(&[]);
-        puts.push(Change::File(one.text.as_slice(), bytes))
+        puts.push(DiskChange::File(one.text.as_slice(), bytes))
             .map_err(AllocError::from)?;
     }
     Ok(puts)
@@ -233,7 +233,7 @@ fn tell_refused<R: Runtime + AllocGlobal>(
     rt: &R,
     old: &[u8],
     all: &[Loaded<'_>],
-    puts: &[Change<'_>],
+    puts: &[DiskChange<'_>],
 ) {
     for (place, one) in all.iter().enumerate() {
         let begun = puts.get(..place.saturating_add(1)).unwrap_or(puts);

@@ -1,6 +1,6 @@
 //! COPY and RENAME: a new name, and the old one.
 use crate::edit::{Edit, save_edit};
-use cbm_shell::{Change, Charset};
+use cbm_shell::{Charset, DiskChange};
 use disk_basics::{Failure, change, entries, file_name, joined, on_disk, read_image, replace};
 use disk_facts::first_meant;
 use std::alloc::Global;
@@ -51,7 +51,7 @@ fn copied<'a, R: Runtime + AllocGlobal>(
     pair: &Pair<'a>,
 ) -> Result<Vec<u8>, Failure<'a>> {
     require_plain(rt, image, old, pair)?;
-    on_disk(image, change(rt.alloc(), old, &Change::Command(text)))
+    on_disk(image, change(rt.alloc(), old, &DiskChange::Command(text)))
 }
 
 /// Copies a file by a command, and saves the image.
@@ -84,5 +84,9 @@ pub fn rename<'a, R: Runtime + AllocGlobal>(
     pair: &Pair<'a>,
 ) -> Result<(), Failure<'a>> {
     let text = text_of(rt.alloc(), b"R0:", pair)?;
-    save_edit(rt, image, &Edit::Change(Change::Command(text.as_slice())))
+    save_edit(
+        rt,
+        image,
+        &Edit::Change(DiskChange::Command(text.as_slice())),
+    )
 }

@@ -1,6 +1,6 @@
 //! A file's bytes on a disk, as a file of its kind.
 use cbm_channel::{Code, Status};
-use cbm_shell::{Change, Records, ShellFault};
+use cbm_shell::{DiskChange, Records, ShellFault};
 use disk_basics::{
     Failure, FileKind, WordFault, change, entries, in_memory, joined, on_disk, put_records,
 };
@@ -41,7 +41,7 @@ fn plain<'a>(
     end: &[u8],
 ) -> Result<Vec<u8>, Failure<'a>> {
     let text = open_text(alloc, file.name, file.replaces, end)?;
-    let put = Change::File(text.as_slice(), file.bytes);
+    let put = DiskChange::File(text.as_slice(), file.bytes);
     on_disk(image, change(alloc, old, &put))
 }
 
@@ -68,7 +68,7 @@ fn without<'a>(
     name: &[u8],
 ) -> Result<Vec<u8>, Failure<'a>> {
     let text = joined(alloc, &[b"S0:", name, b"\r"])?;
-    let command = Change::Command(text.as_slice());
+    let command = DiskChange::Command(text.as_slice());
     on_disk(image, change(alloc, old, &command))
 }
 

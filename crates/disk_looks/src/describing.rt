@@ -7,7 +7,7 @@ use cbm_shell::{Charset, Info, ShellFault, geos_of};
 use cbm_volume::{Entry, Label, Trouble};
 use disk_basics::{Disk, Failure, info, name_text, on_disk, print, read_image, sector};
 use disk_facts::unfilled;
-use disk_recipes::{Line, Recipe, recipe_text};
+use disk_recipes::{Recipe, RecipeLine, recipe_text};
 use std::alloc::{AllocError, Global};
 use std::path::Path;
 use std::rt::Runtime;
@@ -38,9 +38,9 @@ fn lock_of(entry: &Entry) -> Option<bool> {
 }
 
 /// A line of art.
-fn art_line(alloc: Global, entry: &Entry, charset: Charset) -> Result<Line, AllocError> {
+fn art_line(alloc: Global, entry: &Entry, charset: Charset) -> Result<RecipeLine, AllocError> {
     let name = name_text(alloc, charset, sixteen(entry))?;
-    Ok(Line {
+    Ok(RecipeLine {
         file: None,
         name: None,
         art: Some(name),
@@ -88,10 +88,10 @@ fn file_line(
     names: &mut Names,
     description: Description<'_>,
     bytes: usize,
-) -> Result<Line, AllocError> {
+) -> Result<RecipeLine, AllocError> {
     let file = path_of(alloc, entry, names, description.folder)?;
     let name = name_text(alloc, description.charset, sixteen(entry))?;
-    Ok(Line {
+    Ok(RecipeLine {
         file: Some(file),
         name: Some(name),
         art: None,
@@ -114,7 +114,7 @@ fn line_of(
     entry: &Entry,
     names: &mut Names,
     description: Description<'_>,
-) -> Result<Line, ShellFault> {
+) -> Result<RecipeLine, ShellFault> {
     if is_art(entry) {
         return Ok(art_line(alloc, entry, description.charset)?);
     }
@@ -138,7 +138,7 @@ fn add_line<R: Runtime + AllocGlobal>(
     disk: &Disk,
     entry: &Entry,
     names: &mut Names,
-    lines: &mut Vec<Line>,
+    lines: &mut Vec<RecipeLine>,
     description: Description<'_>,
 ) -> Result<bool, ShellFault> {
     match line_of(rt.alloc(), disk, entry, names, description) {
@@ -177,7 +177,7 @@ fn add_lines<R: Runtime + AllocGlobal>(
     rt: &R,
     disk: &Disk,
     entries: &[Entry],
-    lines: &mut Vec<Line>,
+    lines: &mut Vec<RecipeLine>,
     description: Description<'_>,
 ) -> Result<bool, ShellFault> {
     let mut names = Names::new(rt.alloc());
@@ -256,7 +256,7 @@ fn recipe_with(
     alloc: Global,
     image: &[u8],
     charset: Charset,
-    lines: Vec<Line>,
+    lines: Vec<RecipeLine>,
 ) -> Result<Recipe, ShellFault> {
     let mut recipe = recipe_of(alloc, image, charset)?;
     recipe.lines = lines;

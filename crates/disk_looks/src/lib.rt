@@ -18,6 +18,6 @@ pub use getting::{OneFile, get};
 pub use map::{Mapping, show_map};
 pub use progress::Progress;
 pub use sector::show_sector;
-pub use taking::Place;
+pub use taking::Destination;
 pub use taking_all::get_all;
 pub use track::show_track;

@@ -14,7 +14,7 @@ use std::rt::Runtime;
 
 /// Where files are written.
 #[derive(Clone, Copy)]
-pub struct Place<'a> {
+pub struct Destination<'a> {
     /// The folder.
     pub folder: &'a str,
     /// Files that are there are replaced.
@@ -174,7 +174,7 @@ fn take_to<R: Runtime + AllocGlobal>(
     source: Source<'_>,
     entry: &Entry,
     path: &PathBuf,
-    place: Place<'_>,
+    place: Destination<'_>,
 ) -> Result<bool, AllocError> {
     let name = name_text(rt.alloc(), Charset::Upper, entry.name())?;
     match file_for(rt, source, entry, place.salvages) {
@@ -198,7 +198,7 @@ pub fn take<R: Runtime + AllocGlobal>(
     source: Source<'_>,
     entry: &Entry,
     names: &mut Names,
-    place: Place<'_>,
+    place: Destination<'_>,
 ) -> Result<bool, AllocError> {
     let alloc = rt.alloc();
     let name = names.next(alloc, entry)?;

@@ -1,6 +1,6 @@
 //! GET-ALL: all files out of the image, to a folder of the host.
 use crate::progress::Progress;
-use crate::taking::{Names, Place, Source, take};
+use crate::taking::{Destination, Names, Source, take};
 use cbm_volume::Entry;
 use disk_basics::{Disk, Failure, on_disk, read_image};
 use disk_facts::{count_files, without_errors};
@@ -23,7 +23,7 @@ fn take_all<R: Runtime + AllocGlobal>(
     rt: &R,
     source: Source<'_>,
     entries: &[Entry],
-    place: Place<'_>,
+    place: Destination<'_>,
     progress: Progress,
 ) -> Result<bool, AllocError> {
     let mut names = Names::new(rt.alloc());
@@ -48,7 +48,7 @@ fn take_disk<'a, R: Runtime + AllocGlobal>(
     rt: &R,
     source: Source<'_>,
     entries: &[Entry],
-    place: Place<'a>,
+    place: Destination<'a>,
     progress: Progress,
 ) -> Result<(), Failure<'a>> {
     make_folder(rt, place.folder)?;
@@ -60,7 +60,7 @@ fn take_disk<'a, R: Runtime + AllocGlobal>(
 }
 
 /// The bytes of which the disk is: without error bytes where what can be read is taken.
-fn opened_bytes<'b>(bytes: &'b [u8], place: Place<'_>) -> &'b [u8] {
+fn opened_bytes<'b>(bytes: &'b [u8], place: Destination<'_>) -> &'b [u8] {
     if place.salvages {
         without_errors(bytes)
     } else {
@@ -73,7 +73,7 @@ fn take_image<'a, R: Runtime + AllocGlobal>(
     rt: &R,
     image: &'a str,
     bytes: &[u8],
-    place: Place<'a>,
+    place: Destination<'a>,
     progress: Progress,
 ) -> Result<(), Failure<'a>> {
     let disk = on_disk(image, Disk::open(rt.alloc(), opened_bytes(bytes, place)))?;
@@ -90,7 +90,7 @@ fn take_image<'a, R: Runtime + AllocGlobal>(
 pub fn get_all<'a, R: Runtime + AllocGlobal>(
     rt: &R,
     image: &'a str,
-    place: Place<'a>,
+    place: Destination<'a>,
     progress: Progress,
 ) -> Result<(), Failure<'a>> {
     let bytes = read_image(rt, image)?;

@@ -5,4 +5,4 @@ mod fault;
 mod recipe;
 
 pub use fault::RecipeFault;
-pub use recipe::{Line, Recipe, read_recipe, recipe_text};
+pub use recipe::{Recipe, RecipeLine, read_recipe, recipe_text};

@@ -17,13 +17,13 @@ pub struct Recipe {
     pub format: Option<String>,
     /// Its directory, line by line.
     #[serde(default, rename = "entry")]
-    pub lines: Vec<Line>,
+    pub lines: Vec<RecipeLine>,
 }
 
 /// A line of its directory: a file, or a line of art.
 #[derive(Drop, Serialize, Deserialize)]
 #[serde(deny_unknown_fields)]
-pub struct Line {
+pub struct RecipeLine {
     /// The file of the host that is put there.
     pub file: Option<String>,
     /// The name on the disk; made of the host's file, where it isn't said.

@@ -1,5 +1,5 @@
 //! LIST of the files that were deleted.
-use crate::view::{Answer, Look};
+use crate::view::{Look, LookAnswer};
 use cbm_command::matches;
 use cbm_shell::{Charset, ShellFault};
 use cbm_volume::Entry;
@@ -26,12 +26,12 @@ pub fn add_deleted(
     text: &mut Vec<u8>,
     image: &[u8],
     look: Look<'_>,
-) -> Result<Answer, ShellFault> {
+) -> Result<LookAnswer, ShellFault> {
     let entries = entries(alloc, image)?;
     for entry in entries.as_slice() {
         if is_deleted(entry) && matches(look.pattern, entry.name()) {
             add_line(alloc, text, entry, look.charset)?;
         }
     }
-    Ok(Answer::Fine)
+    Ok(LookAnswer::Fine)
 }

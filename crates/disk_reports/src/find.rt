@@ -1,5 +1,5 @@
 //! FIND: the files that match a pattern.
-use crate::view::{Answer, Look};
+use crate::view::{Look, LookAnswer};
 use cbm_shell::ShellFault;
 use cbm_volume::Entry;
 use disk_basics::{entries, name_text};
@@ -33,13 +33,13 @@ pub fn add_matches(
     name: &str,
     image: &[u8],
     look: Look<'_>,
-) -> Result<Answer, ShellFault> {
-    let mut answer = Answer::NoMatch;
+) -> Result<LookAnswer, ShellFault> {
+    let mut answer = LookAnswer::NoMatch;
     let entries = entries(alloc, image)?;
     for entry in entries.as_slice() {
         if is_meant(entry, look.pattern) {
             add_match(alloc, text, name, entry, look)?;
-            answer = Answer::Fine;
+            answer = LookAnswer::Fine;
         }
     }
     Ok(answer)

@@ -1,7 +1,7 @@
 //! CHECK --ALL: each flaw of a disk, the files that have it, and whether it can be mended.
 mod facts;
 
-use crate::view::{Answer, Look};
+use crate::view::{Look, LookAnswer};
 use cbm_medium::Address;
 use cbm_shell::{Charset, DiskFlaw, ShellFault, Whose, words};
 use cbm_volume::Entry;
@@ -330,10 +330,10 @@ fn add_sum(alloc: Global, text: &mut String, findings: &Findings) -> Result<(), 
 }
 
 /// What a look at the disk came to.
-fn outcome(flaws: &[DiskFlaw]) -> Answer {
+fn outcome(flaws: &[DiskFlaw]) -> LookAnswer {
     match flaws.first() {
-        Some(flaw) => Answer::Unsound(flaw.what),
-        None => Answer::Fine,
+        Some(flaw) => LookAnswer::Unsound(flaw.what),
+        None => LookAnswer::Fine,
     }
 }
 
@@ -384,7 +384,7 @@ pub fn add_all_flaws(
     text: &mut Vec<u8>,
     image: &[u8],
     look: Look<'_>,
-) -> Result<Answer, ShellFault> {
+) -> Result<LookAnswer, ShellFault> {
     let disk = Disk::open(alloc, image)?;
     let findings = found_in(alloc, &disk)?;
     add_findings(alloc, text, &disk, look.charset, &findings)?;

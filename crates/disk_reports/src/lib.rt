@@ -12,4 +12,4 @@ mod untitled;
 mod view;
 
 pub use report::{heads, refusal_line};
-pub use view::{Answer, Look, Shown, View, lines_of};
+pub use view::{Look, LookAnswer, Shown, View, lines_of};

@@ -3,7 +3,7 @@ mod table;
 
 use crate::flaws::flaw_report;
 use crate::sum::sum_text;
-use crate::view::{Answer, Look, Shown, View, answer_of};
+use crate::view::{Look, LookAnswer, Shown, View, answer_of};
 use cbm_shell::{Charset, Geos, Info, ShellFault, geos_of, words};
 use cbm_volume::{Entry, FileType, Unsound};
 use disk_basics::{Disk, info, name_text};
@@ -299,11 +299,11 @@ fn has_none(look: Look<'_>, files: &Option<Vec<File>>) -> bool {
 }
 
 /// What a look came to.
-fn image_answer(look: Look<'_>, info: &Info) -> Answer {
+fn image_answer(look: Look<'_>, info: &Info) -> LookAnswer {
     if look.view == View::Soundness {
         answer_of(&info.check)
     } else {
-        Answer::Fine
+        LookAnswer::Fine
     }
 }
 
@@ -318,7 +318,7 @@ fn image_report(
     if has_none(look, &files) {
         return Ok(Shown {
             text: Vec::new(alloc),
-            answer: Answer::NoMatch,
+            answer: LookAnswer::NoMatch,
         });
     }
     let info = info(alloc, image)?;
@@ -341,7 +341,7 @@ fn sum_report(alloc: Global, name: &str, image: &[u8]) -> Result<Shown, ShellFau
     )?;
     Ok(Shown {
         text,
-        answer: Answer::Fine,
+        answer: LookAnswer::Fine,
     })
 }
 

@@ -1,5 +1,5 @@
 //! HASH: a sum of an image's sectors.
-use crate::view::Answer;
+use crate::view::LookAnswer;
 use cbm_image::{Kind, kind_of};
 use cbm_shell::ShellFault;
 use disk_basics::convert;
@@ -36,8 +36,8 @@ pub fn add_sum(
     text: &mut Vec<u8>,
     name: &str,
     image: &[u8],
-) -> Result<Answer, ShellFault> {
+) -> Result<LookAnswer, ShellFault> {
     let sum = sum_text(alloc, image)?;
     add_line(text, sum.as_str(), name)?;
-    Ok(Answer::Fine)
+    Ok(LookAnswer::Fine)
 }

@@ -1,6 +1,6 @@
 //! LIST of a disk whose title can't be read.
 use crate::geos::add_geos;
-use crate::view::{Answer, Look};
+use crate::view::{Look, LookAnswer};
 use cbm_channel::FileType;
 use cbm_shell::{Charset, ShellFault};
 use cbm_volume::Entry;
@@ -71,12 +71,12 @@ pub fn add_untitled(
     image: &[u8],
     look: Look<'_>,
     fault: ShellFault,
-) -> Result<Answer, ShellFault> {
+) -> Result<LookAnswer, ShellFault> {
     let Ok(entries) = entries(alloc, image) else {
         return Err(fault);
     };
     let lines = lines_of(alloc, entries.as_slice(), look)?;
     text.extend_from_slice(lines.as_bytes())?;
     add_geos(alloc, text, image, look)?;
-    Ok(Answer::Untitled)
+    Ok(LookAnswer::Untitled)
 }

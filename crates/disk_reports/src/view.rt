@@ -54,7 +54,7 @@ pub struct Look<'p> {
 
 /// What a look at an image came to.
 #[derive(Clone, Copy)]
-pub enum Answer {
+pub enum LookAnswer {
     /// It is as it should be.
     Fine,
     /// It isn't sound.
@@ -71,19 +71,19 @@ pub struct Shown {
     /// Its lines.
     pub text: Vec<u8>,
     /// What they come to.
-    pub answer: Answer,
+    pub answer: LookAnswer,
 }
 
 /// Whether a disk is sound, as an answer.
-pub fn answer_of(check: &Result<(), Unsound>) -> Answer {
+pub fn answer_of(check: &Result<(), Unsound>) -> LookAnswer {
     match check {
-        Ok(()) => Answer::Fine,
-        Err(unsound) => Answer::Unsound(*unsound),
+        Ok(()) => LookAnswer::Fine,
+        Err(unsound) => LookAnswer::Unsound(*unsound),
     }
 }
 
 /// Adds whether the disk is sound.
-fn add_check(alloc: Global, text: &mut Vec<u8>, image: &[u8]) -> Result<Answer, ShellFault> {
+fn add_check(alloc: Global, text: &mut Vec<u8>, image: &[u8]) -> Result<LookAnswer, ShellFault> {
     let found = check(alloc, image)?;
     text.extend_from_slice(check_text(alloc, &found)?.as_slice())?;
     Ok(answer_of(&found))
@@ -95,13 +95,13 @@ fn add_directory(
     text: &mut Vec<u8>,
     image: &[u8],
     look: Look<'_>,
-) -> Result<Answer, ShellFault> {
+) -> Result<LookAnswer, ShellFault> {
     match directory(alloc, image, look.charset, look.pattern) {
         Ok(lines) => text.extend_from_slice(lines.as_slice())?,
         Err(fault) => return add_untitled(alloc, text, image, look, fault),
     }
     add_geos(alloc, text, image, look)?;
-    Ok(Answer::Fine)
+    Ok(LookAnswer::Fine)
 }
 
 /// Adds what a disk is, and what GEOS has on it.
@@ -110,17 +110,20 @@ fn add_facts(
     text: &mut Vec<u8>,
     image: &[u8],
     look: Look<'_>,
-) -> Result<Answer, ShellFault> {
+) -> Result<LookAnswer, ShellFault> {
     let lines = info_lines(alloc, look.charset, image)?;
     text.extend_from_slice(lines.as_slice())?;
     add_geos(alloc, text, image, look)?;
-    Ok(Answer::Fine)
+    Ok(LookAnswer::Fine)
 }
 
 /// Adds lines that are made whole.
-fn add_whole(text: &mut Vec<u8>, lines: Result<Vec<u8>, ShellFault>) -> Result<Answer, ShellFault> {
+fn add_whole(
+    text: &mut Vec<u8>,
+    lines: Result<Vec<u8>, ShellFault>,
+) -> Result<LookAnswer, ShellFault> {
     text.extend_from_slice(lines?.as_slice())?;
-    Ok(Answer::Fine)
+    Ok(LookAnswer::Fine)
 }
 
 /// Adds what an image shows to people.
@@ -130,7 +133,7 @@ fn add_lines(
     name: &str,
     image: &[u8],
     look: Look<'_>,
-) -> Result<Answer, ShellFault> {
+) -> Result<LookAnswer, ShellFault> {
     match look.view {
         View::Directory => add_directory(alloc, text, image, look),
         View::Sent => add_whole(text, raw_directory(alloc, image, look.pattern)),

@@ -2,20 +2,20 @@
 use Rattle.std.specs.Prelude.{ℕ, None, Result, Ok, Err}
 use Rattle.cbm_program.specs.declared.fault.RunFault.{RunFault}
 use Rattle.cbm_program.specs.declared.fault.RunFault.TheVariants.{Script as LineRefused, Image as ImageRefused, Memory, Reading, Writing}
-use Rattle.drive1541.specs.declared.failure.Failure.{Failure}
-use Rattle.drive1541.specs.declared.failure.Failure.TheVariants.{Script, Image, File, NoMemory}
+use Rattle.drive1541.specs.declared.failure.RunFailure.{RunFailure}
+use Rattle.drive1541.specs.declared.failure.RunFailure.TheVariants.{Script, Image, File, NoMemory}
 use Rattle.drive1541.specs.declared.reason.Reason.TheVariants.{Unknown}
 use Rattle.drive1541.specs.declared.failure.Stream.TheVariants.{Script as TheScript, Output}
 
 -- the exit status of a program that ended so
-abbrev pub status_of : Failure → ℕ
+abbrev pub status_of : RunFailure → ℕ
 status_of (Script line reason) = 1
 status_of (Image number) = 2
 status_of (File stream why) = 3
 status_of NoMemory = 3
 
 -- the same where it may have ended well
-abbrev pub exit_status : Result Unit Failure → ℕ
+abbrev pub exit_status : Result Unit RunFailure → ℕ
 exit_status (Ok done) = 0
 exit_status (Err failure) = status_of failure
 
@@ -28,7 +28,7 @@ run_status Reading = 3
 run_status Writing = 3
 
 -- what a run that ended so is told as: reading fails at the script, and writing at standard output
-abbrev pub failure_of : RunFault → Failure
+abbrev pub failure_of : RunFault → RunFailure
 failure_of (LineRefused line) = Script line Unknown
 failure_of (ImageRefused number) = Image number
 failure_of Memory = NoMemory

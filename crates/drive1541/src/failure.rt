@@ -24,7 +24,7 @@ pub enum Stream {
 
 /// Why OUT wasn't written.
 #[derive(Clone, Copy, Debug, PartialEq, Eq)]
-pub enum Failure {
+pub enum RunFailure {
     /// The line with this number is refused, and why.
     Script(u32, Reason),
     /// The image is refused, by its fault's number.
@@ -44,7 +44,7 @@ fn tell_file(rt: &impl Eprint, name: &str, why: Option<io::ErrorKind>) -> io::Re
 }
 
 /// The exit status of a program that ended so.
-pub fn exit_status(ended: &Result<(), Failure>) -> u8
+pub fn exit_status(ended: &Result<(), RunFailure>) -> u8
     ensures { result ≡ exit_status ended.now }
 {
     match ended {
@@ -53,62 +53,62 @@ pub fn exit_status(ended: &Result<(), Failure>) -> u8
     }
 }
 
-impl Failure {
+impl RunFailure {
     /// The exit status.
     pub fn status(self) -> u8
         ensures { result ≡ status_of self }
     {
         match self {
-            Failure::Script(..) => 1,
-            Failure::Image(_) => 2,
-            Failure::File(..) | Failure::NoMemory => 3,
+            RunFailure::Script(..) => 1,
+            RunFailure::Image(_) => 2,
+            RunFailure::File(..) | RunFailure::NoMemory => 3,
         }
     }
 
     /// Prints the line on standard error.
     pub fn tell(self, rt: &impl Eprint, arguments: &Arguments<'_>) -> io::Result<()> {
         match self {
-            Failure::Script(line, reason) => {
+            RunFailure::Script(line, reason) => {
                 let words = reason.words();
                 eprintln!(rt; "script line {line} refused: {words}")
             }
-            Failure::Image(number) => {
+            RunFailure::Image(number) => {
                 let words = image_words(number);
                 eprintln!(rt; "image refused: {number}: {words}")
             }
-            Failure::File(stream, why) => tell_file(rt, arguments.name_of(stream), why),
-            Failure::NoMemory => eprintln!(rt; "no memory"),
+            RunFailure::File(stream, why) => tell_file(rt, arguments.name_of(stream), why),
+            RunFailure::NoMemory => eprintln!(rt; "no memory"),
         }
     }
 
     /// The same, with why the line is refused.
-    pub fn because(self, reason: Reason) -> Failure {
+    pub fn because(self, reason: Reason) -> RunFailure {
         match self {
-            Failure::Script(line, _) => Failure::Script(line, reason),
+            RunFailure::Script(line, _) => RunFailure::Script(line, reason),
             other => other,
         }
     }
 
     /// What a refused call on a file was.
-    pub fn of_file(error: io::Error, stream: Stream) -> Failure {
+    pub fn of_file(error: io::Error, stream: Stream) -> RunFailure {
         if error.kind() == io::ErrorKind::OutOfMemory {
-            Failure::NoMemory
+            RunFailure::NoMemory
         } else {
-            Failure::File(stream, Some(error.kind()))
+            RunFailure::File(stream, Some(error.kind()))
         }
     }
 
     /// What a run that ended early was.
-    pub fn of_run(fault: RunFault) -> Failure
+    pub fn of_run(fault: RunFault) -> RunFailure
         ensures failure { result ≡ failure_of fault }
         ensures status { status_of result ≡ run_status fault }
     {
         match fault {
-            RunFault::Script(line) => Failure::Script(line, Reason::Unknown),
-            RunFault::Image(number) => Failure::Image(number),
-            RunFault::Memory => Failure::NoMemory,
-            RunFault::Reading => Failure::File(Stream::Script, None),
-            RunFault::Writing => Failure::File(Stream::Output, None),
+            RunFault::Script(line) => RunFailure::Script(line, Reason::Unknown),
+            RunFault::Image(number) => RunFailure::Image(number),
+            RunFault::Memory => RunFailure::NoMemory,
+            RunFault::Reading => RunFailure::File(Stream::Script, None),
+            RunFault::Writing => RunFailure::File(Stream::Output, None),
         }
     }
 }

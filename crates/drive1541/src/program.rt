@@ -2,7 +2,7 @@
 ghost use Rattle.std.specs.Prelude.{◌≤◌};
 
 use crate::arguments::{self, Arguments, is_standard};
-use crate::failure::{Failure, Stream, exit_status};
+use crate::failure::{RunFailure, Stream, exit_status};
 use crate::noted::Noted;
 use crate::reason::Reason;
 use crate::{judge, reply, traced};
@@ -75,7 +75,7 @@ fn without_stream(rt: &HostRuntime, line: &str) -> ExitCode {
 // Memory ran out before the command line was read.
 fn without_memory(rt: &HostRuntime) -> ExitCode {
     let _ = eprintln!(rt; "no memory");
-    ExitCode::from(exit_status(&Err(Failure::NoMemory)))
+    ExitCode::from(exit_status(&Err(RunFailure::NoMemory)))
 }
 
 fn words_of(rt: &HostRuntime) -> io::Result<Vec<String>> {
@@ -92,19 +92,19 @@ fn read_all<I: io::Read + Drop>(alloc: Global, input: I) -> io::Result<Vec<u8>> 
 }
 
 /// Reads the image.
-fn read_image<R: Runtime + AllocGlobal>(rt: &R, name: &str) -> Result<Vec<u8>, Failure> {
+fn read_image<R: Runtime + AllocGlobal>(rt: &R, name: &str) -> Result<Vec<u8>, RunFailure> {
     if !is_standard(name) {
-        return fs::read(rt, name).map_err(|e| Failure::of_file(e, Stream::Image));
+        return fs::read(rt, name).map_err(|e| RunFailure::of_file(e, Stream::Image));
     }
-    read_all(rt.alloc(), rt.reader()).map_err(|e| Failure::of_file(e, Stream::Image))
+    read_all(rt.alloc(), rt.reader()).map_err(|e| RunFailure::of_file(e, Stream::Image))
 }
 
 /// Prints the image.
-fn print_image<R: Runtime>(rt: &R, image: &[u8]) -> Result<(), Failure> {
+fn print_image<R: Runtime>(rt: &R, image: &[u8]) -> Result<(), RunFailure> {
     let mut output = io::writer(rt);
     match output.write_all(image) {
         Ok(()) => Ok(()),
-        Err(error) => Err(Failure::of_file(error, Stream::Out)),
+        Err(error) => Err(RunFailure::of_file(error, Stream::Out)),
     }
 }
 
@@ -113,18 +113,21 @@ fn save_image<R: Runtime + AllocGlobal>(
     rt: &R,
     arguments: &Arguments<'_>,
     image: &[u8],
-) -> Result<(), Failure> {
+) -> Result<(), RunFailure> {
     match arguments.out {
         None => Ok(()),
         Some(out) if is_standard(out) => print_image(rt, image),
-        Some(out) => save(rt, "drive1541", out, image).map_err(|e| Failure::of_file(
+        Some(out) => save(rt, "drive1541", out, image).map_err(|e| RunFailure::of_file(
             e,
             Stream::Out,
         )),
     }
 }
 
-fn carry_out<R: Runtime + AllocGlobal>(rt: &R, arguments: &Arguments<'_>) -> Result<(), Failure> {
+fn carry_out<R: Runtime + AllocGlobal>(
+    rt: &R,
+    arguments: &Arguments<'_>,
+) -> Result<(), RunFailure> {
     let image = read_image(rt, arguments.image)?;
     let saved = run_named(rt, image.as_slice(), arguments)?;
     save_image(rt, arguments, saved.as_slice())
@@ -135,13 +138,13 @@ fn run_named<R: Runtime + AllocGlobal>(
     rt: &R,
     image: &[u8],
     arguments: &Arguments<'_>,
-) -> Result<Vec<u8>, Failure> {
+) -> Result<Vec<u8>, RunFailure> {
     if is_standard(arguments.script) {
         return run_read(rt, rt.reader(), image, arguments);
     }
     match fs::open(rt, arguments.script) {
         Ok(script) => run_read(rt, script, image, arguments),
-        Err(error) => Err(Failure::of_file(error, Stream::Script)),
+        Err(error) => Err(RunFailure::of_file(error, Stream::Script)),
     }
 }
 
@@ -151,7 +154,7 @@ fn run_read<R: Runtime + AllocGlobal, S: io::Read + Drop>(
     script: S,
     image: &[u8],
     arguments: &Arguments<'_>,
-) -> Result<Vec<u8>, Failure> {
+) -> Result<Vec<u8>, RunFailure> {
     let mut noted = Noted::new(script);
     let ended = if arguments.prints_aside() {
         run_aside(rt, &mut noted, image, arguments)
@@ -159,9 +162,9 @@ fn run_read<R: Runtime + AllocGlobal, S: io::Read + Drop>(
         run_script(rt, &mut noted, image, arguments)
     };
     match ended {
-        Err(Failure::Script(line, _)) => {
+        Err(RunFailure::Script(line, _)) => {
             let reason = Reason::of(noted.line(line), noted.is_wires());
-            Err(Failure::Script(line, reason))
+            Err(RunFailure::Script(line, reason))
         }
         ended => ended,
     }
@@ -185,12 +188,12 @@ fn run_script<R: Runtime + AllocGlobal, S: io::Read>(
     script: &mut Noted<S>,
     image: &[u8],
     arguments: &Arguments<'_>,
-) -> Result<Vec<u8>, Failure> {
-    let mut output = BufWriter::new(rt.alloc(), io::writer(rt)).map_err(|_| Failure::NoMemory)?;
+) -> Result<Vec<u8>, RunFailure> {
+    let mut output = BufWriter::new(rt.alloc(), io::writer(rt)).map_err(|_| RunFailure::NoMemory)?;
     let ended = traced::run(rt, script, &mut output, image, arguments);
     output
         .flush()
-        .map_err(|_| Failure::File(Stream::Output, None))?;
+        .map_err(|_| RunFailure::File(Stream::Output, None))?;
     ended
 }
 
@@ -200,7 +203,7 @@ fn run_aside<R: Runtime + AllocGlobal, S: io::Read>(
     script: &mut Noted<S>,
     image: &[u8],
     arguments: &Arguments<'_>,
-) -> Result<Vec<u8>, Failure> {
+) -> Result<Vec<u8>, RunFailure> {
     let mut output = Vec::new(rt.alloc());
     let ended = traced::run(rt, script, &mut output, image, arguments);
     let text = std::str::from_utf8(output.as_slice()).unwrap_or("");

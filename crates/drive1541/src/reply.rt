@@ -9,7 +9,7 @@ mod words;
 use buses::talk_on;
 use clap::error::ErrorKind;
 use disks::{open_disks, save_disks};
-use failure::Failure;
+use failure::ReplyFailure;
 use std::process::ExitCode;
 use words::{Words, parse};
 
@@ -22,7 +22,7 @@ pub fn is_asked(words: &[String]) -> bool {
 }
 
 /// Opens the images, talks, and saves them.
-fn carry_out(rt: &HostRuntime, words: &Words<'_>) -> Result<(), Failure> {
+fn carry_out(rt: &HostRuntime, words: &Words<'_>) -> Result<(), ReplyFailure> {
     let disks = open_disks(rt, words)?;
     let disks = talk_on(rt, disks, words.seats())?;
     save_disks(rt, &disks, words)

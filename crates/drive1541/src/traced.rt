@@ -1,7 +1,7 @@
 //! Running a script, and writing its trace as it comes.
 
 use crate::arguments::{Arguments, is_standard};
-use crate::failure::{Failure, Stream};
+use crate::failure::{RunFailure, Stream};
 use crate::noted::Noted;
 use crate::program::options_of;
 use bus_traces::{Picture, Recorder, TraceForm};
@@ -53,7 +53,7 @@ impl<F: Write, S: Write> Tracer<F, S> {
     }
 
     /// Writes what is left of the trace; why it couldn't be written, if it couldn't.
-    fn end(&mut self) -> Result<(), Failure> {
+    fn end(&mut self) -> Result<(), RunFailure> {
         let moment = self.moment;
         let recorded = match &mut self.recorder {
             Some(recorder) => recorder.end(moment),
@@ -67,7 +67,7 @@ impl<F: Write, S: Write> Tracer<F, S> {
         self.note(drawn, Stream::Output);
         match self.failed {
             None => Ok(()),
-            Some((stream, kind)) => Err(Failure::of_file(io::Error::from(kind), stream)),
+            Some((stream, kind)) => Err(RunFailure::of_file(io::Error::from(kind), stream)),
         }
     }
 }
@@ -126,16 +126,16 @@ fn columns<R: Runtime + AllocGlobal>(rt: &R) -> usize {
 fn begin<'a, R: Runtime + AllocGlobal>(
     rt: &'a R,
     arguments: &Arguments<'_>,
-) -> Result<Tracer<Target<'a, R>, Standard<'a, R>>, Failure> {
+) -> Result<Tracer<Target<'a, R>, Standard<'a, R>>, RunFailure> {
     let recorder = match arguments.trace {
         None => None,
         Some(name) => match recorder(rt, name, arguments.device) {
             Ok(recorder) => Some(recorder),
-            Err(error) => return Err(Failure::of_file(error, Stream::Trace)),
+            Err(error) => return Err(RunFailure::of_file(error, Stream::Trace)),
         },
     };
     let picture = if arguments.is_drawn {
-        let output = standard(rt).map_err(|_| Failure::NoMemory)?;
+        let output = standard(rt).map_err(|_| RunFailure::NoMemory)?;
         Some(Picture::new(output, columns(rt)))
     } else {
         None
@@ -155,11 +155,11 @@ pub fn run<R: Runtime + AllocGlobal, S: Read, W: Write>(
     output: &mut W,
     image: &[u8],
     arguments: &Arguments<'_>,
-) -> Result<Vec<u8>, Failure> {
+) -> Result<Vec<u8>, RunFailure> {
     let options = options_of(arguments);
     if !arguments.is_traced() {
         return run_at(rt.alloc(), arguments.pace, script, output, image, &options).map_err(
-            Failure::of_run,
+            RunFailure::of_run,
         );
     }
     let mut tracer = begin(rt, arguments)?;
@@ -173,7 +173,7 @@ pub fn run<R: Runtime + AllocGlobal, S: Read, W: Write>(
         &options,
     );
     let traced = tracer.end();
-    let saved = ended.map_err(Failure::of_run)?;
+    let saved = ended.map_err(RunFailure::of_run)?;
     traced?;
     Ok(saved)
 }

@@ -1,18 +1,18 @@
 //! Lines of a host, by the rows of docs/REPLY.md.
 
 use arrayvec::ArrayVec;
-use bus_replies::{Lines, Refusal, Request, ready_text, request_of};
+use bus_replies::{LineReader, ReplyRefusal, ReplyRequest, ready_text, request_of};
 use cbm_iec::{Change, Line, Way};
 use std::io::{self, Read};
 
 /// Lines, and what each of them asks for.
-const ASKED: [(&[u8], Request); 11] = [
-    (b"", Request::Nothing),
-    (b"\r", Request::Nothing),
-    (b"; let go", Request::Nothing),
+const ASKED: [(&[u8], ReplyRequest); 11] = [
+    (b"", ReplyRequest::Nothing),
+    (b"\r", ReplyRequest::Nothing),
+    (b"; let go", ReplyRequest::Nothing),
     (
         b"0 atn pull",
-        Request::Change(Change {
+        ReplyRequest::Change(Change {
             moment: 0,
             line: Line::Atn,
             way: Way::Pull,
@@ -20,7 +20,7 @@ const ASKED: [(&[u8], Request); 11] = [
     ),
     (
         b"1000 clock free",
-        Request::Change(Change {
+        ReplyRequest::Change(Change {
             moment: 1000,
             line: Line::Clock,
             way: Way::Free,
@@ -28,20 +28,20 @@ const ASKED: [(&[u8], Request); 11] = [
     ),
     (
         b"1000 data pull\r",
-        Request::Change(Change {
+        ReplyRequest::Change(Change {
             moment: 1000,
             line: Line::Data,
             way: Way::Pull,
         }),
     ),
-    (b"until 0", Request::Until(0)),
-    (b"until 2000", Request::Until(2000)),
+    (b"until 0", ReplyRequest::Until(0)),
+    (b"until 2000", ReplyRequest::Until(2000)),
     (
         b"until 1000000000000000",
-        Request::Until(1_000_000_000_000_000),
+        ReplyRequest::Until(1_000_000_000_000_000),
     ),
-    (b"end 3000", Request::End(3000)),
-    (b"end 3000\r", Request::End(3000)),
+    (b"end 3000", ReplyRequest::End(3000)),
+    (b"end 3000\r", ReplyRequest::End(3000)),
 ];
 
 /// Lines that ask for nothing.
@@ -70,7 +70,7 @@ fn reads_what_is_asked(rt: HostRuntime) {
         assert!(rt; request_of(line) == Ok(*asked));
     }
     for line in &REFUSED {
-        assert!(rt; request_of(line) == Err(Refusal::Words));
+        assert!(rt; request_of(line) == Err(ReplyRefusal::Words));
     }
 }
 
@@ -99,7 +99,7 @@ impl<'a> Read for Slowly<'a> {
 
 /// The moments that a reader's lines ask for, up to the first line that is refused.
 fn moments<R: Read + Drop>(reader: R) -> ArrayVec<u64, 8> {
-    let mut lines = Lines::new(reader);
+    let mut lines = LineReader::new(reader);
     let mut moments = ArrayVec::new();
     for _ in 0..10_000 {
         let next = match lines.take() {
@@ -113,7 +113,7 @@ fn moments<R: Read + Drop>(reader: R) -> ArrayVec<u64, 8> {
                 Err(_) => return moments,
             },
         };
-        if let Ok(Request::Until(moment)) = next {
+        if let Ok(ReplyRequest::Until(moment)) = next {
             let _ = moments.try_push(moment);
         }
     }

@@ -10,8 +10,8 @@ use Rattle.cbm_channel.specs.Machines.{start}
 use Rattle.cbm_drive.specs.Ordered.{fault_of}
 use Rattle.cbm_drive.specs.declared.fault.PlayFault.{PlayFault}
 use Rattle.cbm_image.specs.Images.{kind_of, tracks_of, ImageHolds}
-use Rattle.cbm_device.specs.declared.refusal.Refusal.{Refusal}
-use Rattle.cbm_device.specs.declared.refusal.Refusal.TheVariants.{Memory, Invalid, NoRoom, Absent, NoImage, Unsound, NoDrive, Status}
+use Rattle.cbm_device.specs.declared.refusal.DeviceRefusal.{DeviceRefusal}
+use Rattle.cbm_device.specs.declared.refusal.DeviceRefusal.TheVariants.{Memory, Invalid, NoRoom, Absent, NoImage, Unsound, NoDrive, Status}
 use Rattle.cbm_device.specs.Answers.{answer, number_of}
 use Rattle.cbm_device.specs.ImageDisks.{Counted, IsImageIn, IsOpenRefusal}
 use Rattle.cbm_device.specs.Looking.{IsAccepted}
@@ -21,12 +21,12 @@ use Rattle.yellowadze1541.specs.Signals.{changes_of, signal_of}
 use Rattle.yellowadze1541.specs.Plays.{Rooms, Hands, IsPlayed, IsUnplayed, PlaysAll}
 
 -- a line is none, or memory ran out
-pub not_asked : (image : List ℕ) (signals : List Signal) (end : ℕ) (r : Refusal) → ((r ≡ Invalid) × (changes_of signals ≡ None)) ⊎ (r ≡ Memory) → IsUnplayed image signals end r
+pub not_asked : (image : List ℕ) (signals : List Signal) (end : ℕ) (r : DeviceRefusal) → ((r ≡ Invalid) × (changes_of signals ≡ None)) ⊎ (r ≡ Memory) → IsUnplayed image signals end r
 not_asked image signals end r (inl bad) = subst (λ q. IsUnplayed image signals end q) (sym bad.0) (inl bad.1)
 not_asked image signals end r (inr e) = subst (λ q. IsUnplayed image signals end q) (sym e) tt
 
 -- the image isn't opened
-pub not_opened : (image : List ℕ) (signals : List Signal) (end : ℕ) (r : Refusal) → IsOpenRefusal image r → IsUnplayed image signals end r
+pub not_opened : (image : List ℕ) (signals : List Signal) (end : ℕ) (r : DeviceRefusal) → IsOpenRefusal image r → IsUnplayed image signals end r
 not_opened image signals end Memory h = tt
 not_opened image signals end NoImage h = h
 not_opened image signals end Invalid h = absurd h
@@ -37,12 +37,12 @@ not_opened image signals end NoDrive h = absurd h
 not_opened image signals end (Status code) h = absurd h
 
 -- no change is at fault where all was played
-no_fault : (X : Type 0) (o : Option PlayFault) (r : Result Counted Refusal) (left : Counted) → r ≡ Ok left → IfSome o (λ _. (r ≡ Err Invalid) × X) → o ≡ None
+no_fault : (X : Type 0) (o : Option PlayFault) (r : Result Counted DeviceRefusal) (left : Counted) → r ≡ Ok left → IfSome o (λ _. (r ≡ Err Invalid) × X) → o ≡ None
 no_fault X None r left is h = refl
 no_fault X (Some f) r left is h = let e = sym is ∙ h.0 in absurd cc
 
 -- by what the drive answered
-pub has_played : (X : Type 0) (r : Result Counted Refusal) (image : List ℕ) (b : Party) (signals : List Signal) (end : ℕ) (cs : List Change) (before after : List Event)
+pub has_played : (X : Type 0) (r : Result Counted DeviceRefusal) (image : List ℕ) (b : Party) (signals : List Signal) (end : ℕ) (cs : List Change) (before after : List Event)
     → changes_of signals ≡ Some cs → IsAccepted image → IfSome (fault_of 0 0 end cs) (λ _. (r ≡ Err Invalid) × X)
     → IfErr r (λ why. ((why ≡ Invalid) × IsSome (fault_of 0 0 end cs)) ⊎ (why ≡ Memory))
     → ((d : Disk) → ImageHolds (kind_of image) image d → IfOk r (λ left. HasPlayedAll b (start d false (tracks_of (kind_of image) image)) cs end before after left))
@@ -53,7 +53,7 @@ has_played X (Err why) image b signals end cs before after asked is refused (inl
 has_played X (Err why) image b signals end cs before after asked is refused (inr e) means = subst (λ q. IsUnplayed image signals end q) (sym e) tt
 
 -- all goes to the caller's rooms, or they are too small
-pub handed : (done : Result (Unit {0}) Refusal) (es : List Event) (signals : List Signal) (bytes : List ℕ) (old new : Rooms) → signals ≡ map signal_of es
+pub handed : (done : Result (Unit {0}) DeviceRefusal) (es : List Event) (signals : List Signal) (bytes : List ℕ) (old new : Rooms) → signals ≡ map signal_of es
     → new.count ≡ length signals → new.needed ≡ length bytes → OnOk done (new.events ≡ signals ++ drop (length signals) old.events)
     → OnOk done (new.image ≡ bytes ++ drop (length bytes) old.image)
     → IfErr done (λ r. (r ≡ NoRoom) × (new.events ≡ old.events) × (new.image ≡ old.image) × ((length old.events < length signals) ⊎ (length old.image < length bytes)))
@@ -63,7 +63,7 @@ handed done es signals bytes old new e count needed events image err = by_result
     long : length signals ≡ length es
     long = ap (λ (xs : List Signal). length xs) e ∙ length-map es signal_of
 
-    by_result : (done : Result (Unit {0}) Refusal) → OnOk done (new.events ≡ signals ++ drop (length signals) old.events) → OnOk done (new.image ≡ bytes ++ drop (length bytes) old.image)
+    by_result : (done : Result (Unit {0}) DeviceRefusal) → OnOk done (new.events ≡ signals ++ drop (length signals) old.events) → OnOk done (new.image ≡ bytes ++ drop (length bytes) old.image)
         → IfErr done (λ r. (r ≡ NoRoom) × (new.events ≡ old.events) × (new.image ≡ old.image) × ((length old.events < length signals) ⊎ (length old.image < length bytes)))
         → Hands (answer done) es bytes old new
     by_result (Ok v) events image err =
@@ -72,10 +72,10 @@ handed done es signals bytes old new e count needed events image err = by_result
         (count ∙ long, needed, inr (ap number_of err.0, err.1, err.2, subst (λ n. (length old.events < n) ⊎ (length old.image < length bytes)) long err.3))
 
 -- what was played is reported, or memory runs out
-pub reported : (done : Result (Unit {0}) Refusal) (n : ℤ) (image : List ℕ) (b : Party) (pace : ℕ) (signals : List Signal) (end : ℕ) (es : List Event) (left : Counted) (old new : Rooms)
+pub reported : (done : Result (Unit {0}) DeviceRefusal) (n : ℤ) (image : List ℕ) (b : Party) (pace : ℕ) (signals : List Signal) (end : ℕ) (es : List Event) (left : Counted) (old new : Rooms)
     → n ≡ answer done → IsPlayed image b signals end [] es left
     → ((bytes : List ℕ) × IsImageIn (kind_of image) left bytes × Hands (answer done) es bytes old new) ⊎ ((done ≡ Err Memory) × (new ≡ old))
     → PlaysAll n image b pace signals end old new
 reported done n image b pace signals end es left old new e is (inl given) =
     inl (es, left, given.0, is, given.1, subst (λ k. Hands k es given.0 old new) (sym e) given.2)
-reported done n image b pace signals end es left old new e is (inr none) = inr (Memory, inr tt, e ∙ ap (λ (d : Result (Unit {0}) Refusal). answer d) none.0, none.1)
+reported done n image b pace signals end es left old new e is (inr none) = inr (Memory, inr tt, e ∙ ap (λ (d : Result (Unit {0}) DeviceRefusal). answer d) none.0, none.1)

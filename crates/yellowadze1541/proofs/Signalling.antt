@@ -2,7 +2,7 @@
 use Rattle.std.proofs.Common.{◌≡◌, List, [], ◌∷◌, ◌++◌, Option, Some, None, refl, sym, ap, ◌∙◌, append_assoc, append-nil}
 use Rattle.std.specs.Prelude.{ℤ, Result, Ok, Err, IfOk, OnOk}
 use Rattle.cbm_iec.specs.declared.line.Change.{Change}
-use Rattle.cbm_device.specs.declared.refusal.Refusal.{Refusal}
+use Rattle.cbm_device.specs.declared.refusal.DeviceRefusal.{DeviceRefusal}
 use Rattle.cbm_device.specs.Answers.{answer, fine}
 use Rattle.cbm_device.proofs.Giving.{never_fine}
 use Rattle.yellowadze1541.specs.declared.shapes.Signal.{Signal}
@@ -35,6 +35,6 @@ of_ok (Ok v) P Q f h = f v h
 of_ok (Err e) P Q f h = tt
 
 -- what a call ensures where all went well
-pub when_fine : (done : Result (Unit {0}) Refusal) (n : ℤ) (P : Type 0) → n ≡ answer done → n ≡ fine → OnOk done P → P
+pub when_fine : (done : Result (Unit {0}) DeviceRefusal) (n : ℤ) (P : Type 0) → n ≡ answer done → n ≡ fine → OnOk done P → P
 when_fine (Ok v) n P e well h = h
 when_fine (Err r) n P e well h = absurd (never_fine r (sym e ∙ well))

@@ -5,7 +5,7 @@ use Rattle.cbm_shell.specs.declared.images.making.Form.{Form}
 use Rattle.cbm_shell.specs.declared.images.making.Form.TheVariants.{D64, LongD64, G64}
 use Rattle.cbm_shell.specs.Sectors.{faults_in}
 use Rattle.cbm_shell.specs.Converting.{held_by, has_more_tracks, has_error_bytes, HasOtherId}
-use Rattle.cbm_device.specs.declared.refusal.Refusal.TheVariants.{Invalid}
+use Rattle.cbm_device.specs.declared.refusal.DeviceRefusal.TheVariants.{Invalid}
 use Rattle.cbm_device.specs.Answers.{number_of}
 use Rattle.yellowadze1541.specs.declared.shapes.Lost.{Lost}
 use Rattle.yellowadze1541.specs.Looks.{flag}

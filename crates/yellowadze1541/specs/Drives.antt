@@ -9,9 +9,9 @@ use Rattle.cbm_iec.specs.Ports.{port_due}
 use Rattle.cbm_channel.specs.Machines.{Machine}
 use Rattle.cbm_drive.specs.Desks.{Desk}
 use Rattle.cbm_drive.specs.Seats.{Seated}
-use Rattle.cbm_device.specs.declared.refusal.Refusal.{Refusal}
-use Rattle.cbm_device.specs.declared.refusal.Refusal.TheVariants.{Memory, Invalid, Absent, NoDrive}
-use Rattle.cbm_device.specs.declared.device.Reaction.{Reaction}
+use Rattle.cbm_device.specs.declared.refusal.DeviceRefusal.{DeviceRefusal}
+use Rattle.cbm_device.specs.declared.refusal.DeviceRefusal.TheVariants.{Memory, Invalid, Absent, NoDrive}
+use Rattle.cbm_device.specs.declared.device.DeviceReaction.{DeviceReaction}
 use Rattle.cbm_device.specs.Answers.{fine, number_of}
 use Rattle.cbm_device.specs.Devices.{OnLines, StandsFor, react_at, tell_in_turn, IsOutside, IsSwitchedOn, IsOnTime, IsOutOfTime, HasHeard, HasReacted, HasNothingDue, HasAnotherDisk, IsExchanged, GivesImage}
 use Rattle.cbm_device.specs.ImageDisks.{no_disk, IsOpenRefusal}
@@ -40,7 +40,7 @@ abbrev pub party_of : ℕ → ℕ → ℕ → Party
 party_of device reaction pace = record { device = device; reaction = reaction; pace = pace_of pace }
 
 -- why a handle isn't opened: it holds a drive, an argument is out of its range, or the image isn't opened
-abbrev pub IsNotOpened : Option Inner → List ℕ → Party → ℕ → Refusal → Type 0
+abbrev pub IsNotOpened : Option Inner → List ℕ → Party → ℕ → DeviceRefusal → Type 0
 IsNotOpened old image b pace r =
     ((r ≡ NoDrive) × (old ≢ None)) ⊎ (((r ≡ Invalid) × (IsOutside b ⊎ (1 < pace))) ⊎ ((r ≡ Memory) ⊎ IsOpenRefusal image r))
 
@@ -48,7 +48,7 @@ IsNotOpened old image b pace r =
 abbrev pub Opens : Option Inner → Option Inner → ℤ → List ℕ → Bool → Party → ℕ → Type 0
 Opens old new n image protected b pace =
     ((n ≡ fine) × (old ≡ None) × (pace ≤ 1) × ((inner : Inner) × (new ≡ Some inner) × IsSwitchedOn image protected b inner.device))
-    ⊎ ((new ≡ old) × ((r : Refusal) × (n ≡ number_of r) × IsNotOpened old image b pace r))
+    ⊎ ((new ≡ old) × ((r : DeviceRefusal) × (n ≡ number_of r) × IsNotOpened old image b pace r))
 
 -- the lines that C says are low
 abbrev pub lines_of : ℕ → ℕ → ℕ → Lines
@@ -76,7 +76,7 @@ differs true b = not b
 differs false b = b
 
 -- what C is told of a reaction
-pub record IsTold (r : Reaction) (t : Reacted) : Type 0 where
+pub record IsTold (r : DeviceReaction) (t : Reacted) : Type 0 where
   pub moment : t.moment ≡ r.moment
   pub clock : t.clock_low ≡ flag r.now.clock_low
   pub data_low : t.data_low ≡ flag r.now.data_low
@@ -86,7 +86,7 @@ pub record IsTold (r : Reaction) (t : Reacted) : Type 0 where
 -- THE REACTION THAT WAS DUE HAPPENED, and that of each machine that the drive represents, and C is told of it; or none was due, and nothing has changed.
 abbrev pub Reacts : ℕ → ℤ → Reacted → Reacted → OnLines → OnLines → Type 0
 Reacts moment n before told old new =
-    ((n ≡ fine) × ((r : Reaction) × (r.moment ≤ moment) × HasReacted r old new × IsTold r told
+    ((n ≡ fine) × ((r : DeviceReaction) × (r.moment ≤ moment) × HasReacted r old new × IsTold r told
     × ((s : Seated (Desk Machine)) → StandsFor old.seat s → StandsFor new.seat (react_at r.moment s))))
     ⊎ ((n ≡ number_of Absent) × HasNothingDue moment old × (new ≡ old) × (told ≡ before))
 
@@ -104,4 +104,4 @@ Ejects n out out_new before needed old new =
 -- another disk is put in, while the drive goes on; or the image isn't opened, and nothing has changed
 abbrev pub Inserts : ℤ → List ℕ → Bool → OnLines → OnLines → Type 0
 Inserts n image protected old new =
-    ((n ≡ fine) × HasAnotherDisk image protected old new) ⊎ ((new ≡ old) × ((r : Refusal) × (n ≡ number_of r) × IsOpenRefusal image r))
+    ((n ≡ fine) × HasAnotherDisk image protected old new) ⊎ ((new ≡ old) × ((r : DeviceRefusal) × (n ≡ number_of r) × IsOpenRefusal image r))

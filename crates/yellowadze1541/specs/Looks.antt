@@ -8,8 +8,8 @@ use Rattle.cbm_volume.specs.Holding.{StandsAt}
 use Rattle.cbm_volume.specs.check.WholeDisk.{DiskFault}
 use Rattle.cbm_medium.specs.Content.{Content}
 use Rattle.cbm_image.specs.Images.{kind_of, tracks_of, content_of, ImageHolds}
-use Rattle.cbm_device.specs.declared.refusal.Refusal.{Refusal}
-use Rattle.cbm_device.specs.declared.refusal.Refusal.TheVariants.{Unsound}
+use Rattle.cbm_device.specs.declared.refusal.DeviceRefusal.{DeviceRefusal}
+use Rattle.cbm_device.specs.declared.refusal.DeviceRefusal.TheVariants.{Unsound}
 use Rattle.cbm_device.specs.Answers.{fine, number_of, AreGiven}
 use Rattle.cbm_device.specs.ImageDisks.{IsOpenRefusal}
 use Rattle.cbm_device.specs.Looking.{IsUntitled, IsNoEntry, IsNoSector}
@@ -27,7 +27,7 @@ used_by image = geometry_of (tracks_of (kind_of image) image) (held_by image)
 
 -- an image isn't opened, and that is reported
 abbrev pub IsUnopened : List ℕ → ℤ → Type 0
-IsUnopened image n = (r : Refusal) × IsOpenRefusal image r × (n ≡ number_of r)
+IsUnopened image n = (r : DeviceRefusal) × IsOpenRefusal image r × (n ≡ number_of r)
 
 -- THE CHECK OF AN IMAGE: of one that is opened 0 says exactly that its disk is sound, and -6 what is wrong first.
 pub record IsCheck (image : List ℕ) (n : ℤ) (old new : Place) : Type 0 where
@@ -44,8 +44,8 @@ pub record Says (t : Title) (d : Disk) : Type 0 where
 
 -- THE TITLE OF AN IMAGE: 0 says that it is that of its disk, if this is sound; any other number why there is none, and of a sound one that it isn't opened.
 pub record IsTitle (image : List ℕ) (n : ℤ) (old new : Title) : Type 0 where
-  pub told : (n ≡ fine) ⊎ ((r : Refusal) × IsUntitled image r × (n ≡ number_of r) × (new ≡ old))
-  pub means : (d : Disk) → ImageHolds (kind_of image) image d → ((n ≡ fine) × Says new d) ⊎ ((r : Refusal) × IsOpenRefusal image r × (n ≡ number_of r) × (new ≡ old))
+  pub told : (n ≡ fine) ⊎ ((r : DeviceRefusal) × IsUntitled image r × (n ≡ number_of r) × (new ≡ old))
+  pub means : (d : Disk) → ImageHolds (kind_of image) image d → ((n ≡ fine) × Says new d) ⊎ ((r : DeviceRefusal) × IsOpenRefusal image r × (n ≡ number_of r) × (new ≡ old))
 
 -- 1 for yes, 0 for no
 abbrev pub flag : Bool → ℕ
@@ -65,10 +65,10 @@ pub record Spells (e : List ℕ) (s : Entry) : Type 0 where
 abbrev pub IsEntry : List ℕ → ℕ → ℤ → Entry → Entry → Type 0
 IsEntry image slot n old new =
     ((e : List ℕ) × StandsAt (tracks_of (kind_of image) image) (held_by image) slot e × (n ≡ fine) × Spells e new)
-    ⊎ ((r : Refusal) × IsNoEntry image slot r × (n ≡ number_of r) × (new ≡ old))
+    ⊎ ((r : DeviceRefusal) × IsNoEntry image slot r × (n ≡ number_of r) × (new ≡ old))
 
 -- A SECTOR OF AN IMAGE: its bytes are given, or any other number says why not.
 abbrev pub IsSector : List ℕ → ℕ → ℕ → ℤ → List ℕ → List ℕ → Type 0
 IsSector image track sector n old new =
     ((bytes : List ℕ) × (held_by image (record { track = track; sector = sector }) ≡ Ok bytes) × AreGiven n old new bytes)
-    ⊎ ((r : Refusal) × IsNoSector image (record { track = track; sector = sector }) r × (n ≡ number_of r) × (new ≡ old))
+    ⊎ ((r : DeviceRefusal) × IsNoSector image (record { track = track; sector = sector }) r × (n ≡ number_of r) × (new ≡ old))

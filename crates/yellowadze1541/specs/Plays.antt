@@ -7,8 +7,8 @@ use Rattle.cbm_file.specs.Files.{Disk}
 use Rattle.cbm_channel.specs.Machines.{start}
 use Rattle.cbm_drive.specs.Ordered.{fault_of}
 use Rattle.cbm_image.specs.Images.{kind_of, tracks_of, ImageHolds}
-use Rattle.cbm_device.specs.declared.refusal.Refusal.{Refusal}
-use Rattle.cbm_device.specs.declared.refusal.Refusal.TheVariants.{Memory, Invalid, NoRoom, Absent, NoImage, Unsound, NoDrive, Status}
+use Rattle.cbm_device.specs.declared.refusal.DeviceRefusal.{DeviceRefusal}
+use Rattle.cbm_device.specs.declared.refusal.DeviceRefusal.TheVariants.{Memory, Invalid, NoRoom, Absent, NoImage, Unsound, NoDrive, Status}
 use Rattle.cbm_device.specs.Answers.{fine, number_of}
 use Rattle.cbm_device.specs.Devices.{IsOutside}
 use Rattle.cbm_device.specs.ImageDisks.{Counted, IsImageIn, IsOpenRefusal}
@@ -45,7 +45,7 @@ pub record IsPlayed (image : List ℕ) (b : Party) (signals : List Signal) (end 
   pub means : (d : Disk) → ImageHolds (kind_of image) image d → HasPlayedAll b (start d false (tracks_of (kind_of image) image)) changes end before after left
 
 -- why nothing was played: a line is none, a change goes back in time or comes after the end, the image isn't opened, or memory runs out
-abbrev pub IsUnplayed : List ℕ → List Signal → ℕ → Refusal → Type 0
+abbrev pub IsUnplayed : List ℕ → List Signal → ℕ → DeviceRefusal → Type 0
 IsUnplayed image signals end Invalid = (changes_of signals ≡ None) ⊎ ((cs : List Change) × (changes_of signals ≡ Some cs) × IsSome (fault_of 0 0 end cs))
 IsUnplayed image signals end Memory = Unit {0}
 IsUnplayed image signals end NoImage = IsOpenRefusal image NoImage
@@ -64,4 +64,4 @@ IsOutOfRange b pace end = IsOutside b ⊎ ((1 < pace) ⊎ (2 ^ 59 ≤ end))
 abbrev pub PlaysAll : ℤ → List ℕ → Party → ℕ → List Signal → ℕ → Rooms → Rooms → Type 0
 PlaysAll n image b pace signals end old new =
     ((es : List Event) × (left : Counted) × (bytes : List ℕ) × IsPlayed image b signals end [] es left × IsImageIn (kind_of image) left bytes × Hands n es bytes old new)
-    ⊎ ((r : Refusal) × (((r ≡ Invalid) × IsOutOfRange b pace end) ⊎ IsUnplayed image signals end r) × (n ≡ number_of r) × (new ≡ old))
+    ⊎ ((r : DeviceRefusal) × (((r ≡ Invalid) × IsOutOfRange b pace end) ⊎ IsUnplayed image signals end r) × (n ≡ number_of r) × (new ≡ old))

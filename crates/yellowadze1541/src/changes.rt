@@ -14,8 +14,8 @@ ghost use Rattle.yellowadze1541.specs.Looks.{flag};
 ghost use Rattle.yellowadze1541.specs.Changes.{form_of, IsRefusedNew, IsLossOf};
 
 use crate::shapes::{Lost, flag};
-use cbm_device::{Refusal, change, give, given, number};
-use cbm_shell::{Change, Form, Losses, convert, new_image};
+use cbm_device::{DeviceRefusal, change, give, given, number};
+use cbm_shell::{DiskChange, Form, Losses, convert, new_image};
 use std::alloc::Global;
 
 /// The longest title.
@@ -25,7 +25,7 @@ const TITLE: usize = 16;
 fn changed(
     alloc: Global,
     image: &[u8],
-    wanted: &Change<'_>,
+    wanted: &DiskChange<'_>,
     out: &mut [u8],
     needed: &mut usize,
 ) -> i32
@@ -56,7 +56,7 @@ pub extern "C" fn y1541_image_command(
     ensures sound { Gives result out.old out.new needed.old needed.new
         (λ _. IsAccepted image.now × IsSound image.now) (IsUnchanged image.now) }
 {
-    changed(alloc, image, &Change::Command(text), out, needed)
+    changed(alloc, image, &DiskChange::Command(text), out, needed)
 }
 
 /// A file is put on an image's disk, as an OPEN with this text, such as `NAME,P,W`, would write it, and the new image is given.
@@ -78,7 +78,7 @@ pub extern "C" fn y1541_image_put(
     ensures sound { Gives result out.old out.new needed.old needed.new
         (λ _. IsAccepted image.now × IsSound image.now) (IsUnchanged image.now) }
 {
-    changed(alloc, image, &Change::File(text, bytes), out, needed)
+    changed(alloc, image, &DiskChange::File(text, bytes), out, needed)
 }
 
 /// The form of a number.
@@ -94,13 +94,13 @@ fn form_with(form: u8) -> Form
 }
 
 /// A new image. The one error is `Memory`.
-fn made(alloc: Global, form: Form, title: &[u8], id: [u8; 2]) -> Result<Vec<u8>, Refusal>
+fn made(alloc: Global, form: Form, title: &[u8], id: [u8; 2]) -> Result<Vec<u8>, DeviceRefusal>
     requires { length title.now ≤ 16 }
     ensures { MatchResult result (λ v. IsNew form title.now id v.items) IsWantOfMemory }
 {
     match new_image(alloc, form, title, id) {
         Ok(image) => Ok(image),
-        Err(_) => Err(Refusal::Memory),
+        Err(_) => Err(DeviceRefusal::Memory),
     }
 }
 
@@ -122,7 +122,7 @@ pub extern "C" fn y1541_image_new(
         IsRefusedNew result out.old out.new needed.old needed.new }
 {
     if form > 2 || title.len() > TITLE {
-        return Refusal::Invalid.number();
+        return DeviceRefusal::Invalid.number();
     }
     number(given(made(alloc, form_with(form), title, [id0, id1]), out, needed))
 }
@@ -161,6 +161,6 @@ pub extern "C" fn y1541_image_convert(
             *lost = spelled(&converted.lost);
             number(give(converted.image.as_slice(), out, needed))
         }
-        Err(fault) => Refusal::from(fault).number(),
+        Err(fault) => DeviceRefusal::from(fault).number(),
     }
 }

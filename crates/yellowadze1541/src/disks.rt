@@ -6,7 +6,7 @@ ghost use Rattle.cbm_device.specs.Devices.{IsRestarted};
 ghost use Rattle.yellowadze1541.specs.Drives.{is_set, Acts, Ejects, Inserts, ShowsImage};
 
 use crate::handle::{Handle, back, empty, of};
-use cbm_device::{Refusal, number};
+use cbm_device::{DeviceRefusal, number};
 use std::alloc::Global;
 use std::mem::replace;
 
@@ -16,7 +16,7 @@ pub extern "C" fn y1541_reset(alloc: Global, d: &mut Handle) -> i32
     ensures { Acts d.old.value d.new.value result (λ old new. (result ≡ fine) × IsRestarted old new) }
 {
     let Some(mut inner) = back(alloc, replace(d, empty())) else {
-        return Refusal::NoDrive.number();
+        return DeviceRefusal::NoDrive.number();
     };
     inner.device.reset();
     *d = of(inner);
@@ -35,7 +35,7 @@ pub extern "C" fn y1541_image(
     ensures none { d.old.value ≡ None → (out.new ≡ out.old) × (needed.new ≡ needed.old) }
 {
     let Some(inner) = back(alloc, replace(d, empty())) else {
-        return Refusal::NoDrive.number();
+        return DeviceRefusal::NoDrive.number();
     };
     let done = inner.device.image(alloc, out, needed);
     *d = of(inner);
@@ -70,7 +70,7 @@ pub extern "C" fn y1541_eject(
     ensures none { d.old.value ≡ None → (out.new ≡ out.old) × (needed.new ≡ needed.old) }
 {
     let Some(mut inner) = back(alloc, replace(d, empty())) else {
-        return Refusal::NoDrive.number();
+        return DeviceRefusal::NoDrive.number();
     };
     let done = inner.device.eject(alloc, out, needed);
     *d = of(inner);
@@ -83,7 +83,7 @@ pub extern "C" fn y1541_insert(alloc: Global, d: &mut Handle, image: &[u8], prot
     ensures { Acts d.old.value d.new.value result (Inserts result image.now (is_set protected)) }
 {
     let Some(mut inner) = back(alloc, replace(d, empty())) else {
-        return Refusal::NoDrive.number();
+        return DeviceRefusal::NoDrive.number();
     };
     let done = inner.device.insert(alloc, image, protected != 0);
     *d = of(inner);
@@ -97,7 +97,7 @@ pub extern "C" fn y1541_status(alloc: Global, d: &mut Handle) -> i32
         (result ≡ pos (code_number old.seat.machine.dos.told.status.code)) × (new ≡ old)) }
 {
     let Some(inner) = back(alloc, replace(d, empty())) else {
-        return Refusal::NoDrive.number();
+        return DeviceRefusal::NoDrive.number();
     };
     let status = inner.device.status();
     *d = of(inner);

@@ -9,7 +9,7 @@ ghost use Rattle.yellowadze1541.specs.Drives.{is_set, lines_of, moment_or_never,
 use crate::handle::{Handle, back, empty, of};
 use crate::inner::Inner;
 use crate::shapes::{Pulls, Reacted, flag};
-use cbm_device::{Device, Reaction, Refusal, number};
+use cbm_device::{Device, DeviceReaction, DeviceRefusal, number};
 use cbm_drive::{Held, Lines, Pace, Party};
 use std::alloc::Global;
 use std::mem::replace;
@@ -18,14 +18,19 @@ use std::mem::replace;
 const NEVER: u64 = u64::MAX;
 
 /// A drive for a handle. Errors: `Invalid`, `NoImage`, `Memory`.
-fn opened(alloc: Global, image: &[u8], protected: bool, party: Party) -> Result<Box<Inner>, Refusal>
+fn opened(
+    alloc: Global,
+    image: &[u8],
+    protected: bool,
+    party: Party,
+) -> Result<Box<Inner>, DeviceRefusal>
     ensures ok { IfOk result (λ b. IsSwitchedOn image.now protected party b.value.device) }
-    ensures err { IfErr result (λ r. ((r ≡ Refusal.Invalid) × IsOutside party) ⊎ ((r ≡ Refusal.Memory) ⊎ IsOpenRefusal image.now r)) }
+    ensures err { IfErr result (λ r. ((r ≡ DeviceRefusal.Invalid) × IsOutside party) ⊎ ((r ≡ DeviceRefusal.Memory) ⊎ IsOpenRefusal image.now r)) }
 {
     let device = Device::open(alloc, image, protected, party)?;
     match Box::new(alloc, Inner { device }) {
         Ok(inner) => Ok(inner),
-        Err(_) => Err(Refusal::Memory),
+        Err(_) => Err(DeviceRefusal::Memory),
     }
 }
 
@@ -58,10 +63,10 @@ pub extern "C" fn y1541_open(
     ensures { Opens d.old.value d.new.value result image.now (is_set protected) (party_of device reaction pace) pace }
 {
     if holds(alloc, d) {
-        return Refusal::NoDrive.number();
+        return DeviceRefusal::NoDrive.number();
     }
     if pace > 1 {
-        return Refusal::Invalid.number();
+        return DeviceRefusal::Invalid.number();
     }
     let pace = pace_with(pace);
     let party = Party {
@@ -109,7 +114,7 @@ pub extern "C" fn y1541_lines(
     ensures { Acts d.old.value d.new.value result (Hears moment (lines_of atn_low clock_low data_low) result) }
 {
     let Some(mut inner) = back(alloc, replace(d, empty())) else {
-        return Refusal::NoDrive.number();
+        return DeviceRefusal::NoDrive.number();
     };
     let lines = Lines {
         atn_low: atn_low != 0,
@@ -140,7 +145,7 @@ pub extern "C" fn y1541_next_due(alloc: Global, d: &mut Handle) -> u64
 }
 
 /// What C is told of a reaction.
-fn told(reaction: Reaction) -> Reacted
+fn told(reaction: DeviceReaction) -> Reacted
     ensures { IsTold reaction result }
 {
     let was = reaction.was;
@@ -166,7 +171,7 @@ pub extern "C" fn y1541_due(
     ensures none { d.old.value ≡ None → reacted.new ≡ reacted.old }
 {
     let Some(mut inner) = back(alloc, replace(d, empty())) else {
-        return Refusal::NoDrive.number();
+        return DeviceRefusal::NoDrive.number();
     };
     let done = inner.device.due(moment);
     *d = of(inner);
@@ -196,7 +201,7 @@ pub extern "C" fn y1541_pulls_now(alloc: Global, d: &mut Handle, pulls: &mut Pul
     ensures none { d.old.value ≡ None → pulls.new ≡ pulls.old }
 {
     let Some(inner) = back(alloc, replace(d, empty())) else {
-        return Refusal::NoDrive.number();
+        return DeviceRefusal::NoDrive.number();
     };
     *pulls = shown(inner.device.pulls());
     *d = of(inner);

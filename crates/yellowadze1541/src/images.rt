@@ -10,7 +10,7 @@ ghost use Rattle.cbm_device.specs.Looking.{IsAccepted, IsRefused, IsUnsent, IsUn
 ghost use Rattle.yellowadze1541.specs.Looks.{IsCheck, IsTitle, IsEntry, IsSector, Spells};
 
 use crate::shapes::{Entry, Place, Title, flag};
-use cbm_device::{Refusal, file, give, given, list, number};
+use cbm_device::{DeviceRefusal, file, give, given, list, number};
 use cbm_volume::Unsound;
 use std::alloc::Global;
 use std::ops::Range;
@@ -51,7 +51,7 @@ pub extern "C" fn y1541_image_check(alloc: Global, image: &[u8], first: &mut Pla
         Ok(Ok(())) => 0,
         Ok(Err(unsound)) => {
             *first = told(unsound);
-            Refusal::Unsound.number()
+            DeviceRefusal::Unsound.number()
         }
         Err(refusal) => refusal.number(),
     }

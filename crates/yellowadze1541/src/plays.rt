@@ -8,7 +8,7 @@ ghost use Rattle.yellowadze1541.specs.Plays.{rooms, Hands, IsPlayed, IsUnplayed,
 
 use crate::drives::pace_with;
 use crate::shapes::Signal;
-use cbm_device::{ImageDisk, Refusal, number, play};
+use cbm_device::{DeviceRefusal, ImageDisk, number, play};
 use cbm_drive::{Change, Event, Line, Party, Way, Who};
 use cbm_image::{Kind, kind_of};
 use std::alloc::Global;
@@ -51,18 +51,18 @@ fn change_of(signal: &Signal) -> Option<Change>
 }
 
 /// The changes that signals ask for. Errors: `Invalid` where a line is none, `Memory`.
-fn changes_of(alloc: Global, signals: &[Signal]) -> Result<Vec<Change>, Refusal>
+fn changes_of(alloc: Global, signals: &[Signal]) -> Result<Vec<Change>, DeviceRefusal>
     ensures ok { IfOk result (λ v. changes_of signals.now ≡ Some v.items) }
-    ensures err { IfErr result (λ r. ((r ≡ Refusal.Invalid) × (changes_of signals.now ≡ None)) ⊎ (r ≡ Refusal.Memory)) }
+    ensures err { IfErr result (λ r. ((r ≡ DeviceRefusal.Invalid) × (changes_of signals.now ≡ None)) ⊎ (r ≡ DeviceRefusal.Memory)) }
 {
     let mut changes = Vec::new(alloc);
     let mut rest = signals;
     'signals: while let Some((signal, more)) = rest.split_first() {
         let Some(change) = change_of(signal) else {
-            return Err(Refusal::Invalid);
+            return Err(DeviceRefusal::Invalid);
         };
         if changes.push(change).is_err() {
-            return Err(Refusal::Memory);
+            return Err(DeviceRefusal::Memory);
         }
         rest = more;
     }
@@ -114,15 +114,15 @@ fn signal_of(event: &Event) -> Signal
 }
 
 /// Events as C is told of them. The one error is `Memory`.
-fn signals_of(alloc: Global, events: &[Event]) -> Result<Vec<Signal>, Refusal>
+fn signals_of(alloc: Global, events: &[Event]) -> Result<Vec<Signal>, DeviceRefusal>
     ensures ok { IfOk result (λ v. v.items ≡ map signal_of events.now) }
-    ensures err { IfErr result (λ r. r ≡ Refusal.Memory) }
+    ensures err { IfErr result (λ r. r ≡ DeviceRefusal.Memory) }
 {
     let mut signals = Vec::new(alloc);
     let mut rest = events;
     'events: while let Some((event, more)) = rest.split_first() {
         if signals.push(signal_of(event)).is_err() {
-            return Err(Refusal::Memory);
+            return Err(DeviceRefusal::Memory);
         }
         rest = more;
     }
@@ -135,14 +135,14 @@ fn hand_over(
     image: &[u8],
     out: &mut [Signal],
     after: &mut [u8],
-) -> Result<(), Refusal>
+) -> Result<(), DeviceRefusal>
     ensures events { OnOk result (out.new ≡ signals.now ++ drop (length signals.now) out.old) }
     ensures image { OnOk result (after.new ≡ image.now ++ drop (length image.now) after.old) }
-    ensures err { IfErr result (λ r. (r ≡ Refusal.NoRoom) × (out.new ≡ out.old) × (after.new ≡ after.old)
+    ensures err { IfErr result (λ r. (r ≡ DeviceRefusal.NoRoom) × (out.new ≡ out.old) × (after.new ≡ after.old)
         × ((length out.old < length signals.now) ⊎ (length after.old < length image.now))) }
 {
     if out.len() < signals.len() || after.len() < image.len() {
-        return Err(Refusal::NoRoom);
+        return Err(DeviceRefusal::NoRoom);
     }
     out[..signals.len()].copy_from_slice(signals);
     after[..image.len()].copy_from_slice(image);
@@ -158,7 +158,7 @@ fn played(
     signals: &[Signal],
     end: u64,
     events: &mut Vec<Event>,
-) -> Result<ImageDisk, Refusal>
+) -> Result<ImageDisk, DeviceRefusal>
     requires device { party.device < 31 }
     requires reaction { 1 ≤ party.reaction }
     requires end { end < 2 ^ 59 }
@@ -182,10 +182,10 @@ fn told(
     count: &mut usize,
     after: &mut [u8],
     needed: &mut usize,
-) -> Result<(), Refusal>
+) -> Result<(), DeviceRefusal>
     ensures { let old = rooms out.old count.old after.old needed.old in let new = rooms out.new count.new after.new needed.new in
         ((bytes : List ℕ) × IsImageIn kind disk.now bytes × Hands (answer result) events.now bytes old new)
-        ⊎ ((result ≡ Err Refusal.Memory) × (new ≡ old)) }
+        ⊎ ((result ≡ Err DeviceRefusal.Memory) × (new ≡ old)) }
 {
     let signals = signals_of(alloc, events)?;
     let image = disk.save(alloc, kind)?;
@@ -214,7 +214,7 @@ pub extern "C" fn y1541_play(
         (rooms out.old count.old after.old needed.old) (rooms out.new count.new after.new needed.new) }
 {
     if device < 8 || device > 11 || reaction < 1 || reaction > 60 || pace > 1 || end >= LAST_END {
-        return Refusal::Invalid.number();
+        return DeviceRefusal::Invalid.number();
     }
     let pace = pace_with(pace);
     let party = Party {

@@ -3,7 +3,7 @@
 use super::drive;
 use crate::disks::{failed, report};
 use crate::scripts::Nowhere;
-use bus_replies::{Lines, reply};
+use bus_replies::{LineReader, reply};
 use cbm_drive::Pace;
 use drive_replies::HostedBus;
 use std::alloc::Global;
@@ -53,7 +53,7 @@ fn answered(
     lines: u32,
 ) -> io::Result<()> {
     let mut bus = HostedBus::new([drive(alloc, 8, 20, Pace::Profile)?]);
-    let mut host = Lines::new(text);
+    let mut host = LineReader::new(text);
     let start = Instant::now(rt)?;
     let ended = reply(&mut bus, &mut host, &mut Nowhere);
     report(rt, name, &start, lines)?;

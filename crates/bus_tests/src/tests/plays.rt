@@ -12,7 +12,7 @@ use std::process::Abort;
 pub const STATUS: &[u8; 27] = b"73,CBM DOS V2.6 1541,00,00\r";
 
 /// A change of a drive: the moment, its device, the line, and what is done with it.
-pub type Wanted = (u64, u8, Line, Way);
+pub type WantedEvent = (u64, u8, Line, Way);
 
 // One to four drives and a host; every drive says the status from the first byte that was not taken.
 #[derive(Drop)]
@@ -213,7 +213,7 @@ impl Bus {
     }
 
     // Whether the drives' changes from a moment on and before another are these.
-    pub fn makes(&self, from: u64, until: u64, wanted: &[Wanted]) -> bool {
+    pub fn makes(&self, from: u64, until: u64, wanted: &[WantedEvent]) -> bool {
         let (mut place, mut same) = (0usize, true);
         for event in &self.events {
             let change = event.change;

@@ -28,7 +28,7 @@ fn played(rt: &impl Abort, alloc: Global, parties: &[Party], changes: &[Change],
 }
 
 // The device, the byte of an attention, by how much its start is late, and what the drive makes of it.
-const LISTENS: [(&str, u8, u8, u64, &[Wanted]); 5] = [
+const LISTENS: [(&str, u8, u8, u64, &[WantedEvent]); 5] = [
     (
         "its own device",
         8,
@@ -152,7 +152,7 @@ fn misses_a_change_of_the_host(rt: HostRuntime) {
 }
 
 // By how much a start is late, and what the drives make of it up to a moment.
-const RELEASES: [(u64, u64, &[Wanted]); 2] = [
+const RELEASES: [(u64, u64, &[WantedEvent]); 2] = [
     (
         0,
         1100,
@@ -218,7 +218,7 @@ fn listen_both(rt: &impl Abort, alloc: Global) -> Vec<Change> {
     changes
 }
 
-const PULSES: [Wanted; 6] = [
+const PULSES: [WantedEvent; 6] = [
     (1921, 8, Data, Free),
     (1980, 9, Data, Free),
     (2181, 8, Data, Pull),
@@ -258,7 +258,7 @@ fn take_byte(rt: &impl Abort, changes: &mut Vec<Change>) -> u64 {
 }
 
 // What a drive does from that moment on.
-fn byte_from(rt: &impl Abort, alloc: Global, clock: u64) -> Vec<Wanted> {
+fn byte_from(rt: &impl Abort, alloc: Global, clock: u64) -> Vec<WantedEvent> {
     let mut wanted = Vec::new(alloc);
     add(rt, &mut wanted, (after(clock, 20), 8, Clock, Pull));
     add(rt, &mut wanted, (after(clock, 20), 8, Data, Free));

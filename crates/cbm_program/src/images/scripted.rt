@@ -9,7 +9,7 @@ ghost use Rattle.cbm_program.specs.Starts.{IsDevice, StartsFrom, KeptBy};
 ghost use Rattle.cbm_program.specs.Traces.{WritesTrace};
 
 use crate::fault::RunFault;
-use crate::line::Line;
+use crate::line::ScriptLine;
 use crate::session::run_requests;
 use crate::watched::{Bench, serve_watched};
 use crate::wires::{Stage, run_changes};
@@ -49,7 +49,7 @@ pub(crate) trait RunsScripts: DiskImage {
         device: u8,
         pace: Pace,
         lines: &mut Source<R>,
-        first: Option<Line>,
+        first: Option<ScriptLine>,
         writer: &mut W,
     ) -> Result<Self, RunFault>
         requires first { IfSome first LineIsInRange }
@@ -67,7 +67,7 @@ pub(crate) trait RunsScripts: DiskImage {
         device: u8,
         pace: Pace,
         lines: &mut Source<R>,
-        first: Option<Line>,
+        first: Option<ScriptLine>,
         writer: &mut W,
         watcher: &mut T,
     ) -> Result<Self, RunFault>
@@ -91,7 +91,7 @@ impl RunsScripts for D64Disk {
         device: u8,
         pace: Pace,
         lines: &mut Source<R>,
-        first: Option<Line>,
+        first: Option<ScriptLine>,
         writer: &mut W,
     ) -> Result<D64Disk, RunFault> {
         run_requests(Hosted::with_pace(self, device, pace), lines, first, writer)
@@ -102,7 +102,7 @@ impl RunsScripts for D64Disk {
         device: u8,
         pace: Pace,
         lines: &mut Source<R>,
-        first: Option<Line>,
+        first: Option<ScriptLine>,
         writer: &mut W,
         watcher: &mut T,
     ) -> Result<D64Disk, RunFault> {
@@ -127,7 +127,7 @@ impl RunsScripts for G64Disk {
         device: u8,
         pace: Pace,
         lines: &mut Source<R>,
-        first: Option<Line>,
+        first: Option<ScriptLine>,
         writer: &mut W,
     ) -> Result<G64Disk, RunFault> {
         run_requests(Hosted::with_pace(self, device, pace), lines, first, writer)
@@ -138,7 +138,7 @@ impl RunsScripts for G64Disk {
         device: u8,
         pace: Pace,
         lines: &mut Source<R>,
-        first: Option<Line>,
+        first: Option<ScriptLine>,
         writer: &mut W,
         watcher: &mut T,
     ) -> Result<G64Disk, RunFault> {

@@ -1,7 +1,7 @@
 //! Printing what a channel sends.
 ghost use Rattle.std.specs.Prelude.{◌≡◌, ◌<◌, ◌≤◌, ◌^◌, length, Some};
 ghost use Rattle.cbm_host.specs.Hosted.{tracks_on};
-ghost use Rattle.cbm_program.specs.declared.request.Request.TheVariants.{Get};
+ghost use Rattle.cbm_program.specs.declared.request.ScriptRequest.TheVariants.{Get};
 ghost use Rattle.cbm_program.specs.Running.{IsInRange};
 ghost use Rattle.cbm_program.specs.Scripts.{hex_digit, printed_by};
 ghost use Rattle.cbm_program.specs.Output.{Writes};

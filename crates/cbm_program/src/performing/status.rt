@@ -3,7 +3,7 @@ ghost use Rattle.std.specs.Prelude.{◌≡◌, ◌≤◌, ◌<◌, ◌^◌, ◌+
 ghost use Rattle.cbm_machine.specs.Machines.{Machine};
 ghost use Rattle.cbm_machine.specs.Calls.{without_return};
 ghost use Rattle.cbm_host.specs.Hosted.{Rests};
-ghost use Rattle.cbm_program.specs.declared.request.Request.TheVariants.{Status};
+ghost use Rattle.cbm_program.specs.declared.request.ScriptRequest.TheVariants.{Status};
 ghost use Rattle.cbm_program.specs.Performing.{GoesOn, HasPrinted};
 ghost use Rattle.cbm_program.specs.Scripts.{status_said, printed_by};
 

@@ -4,7 +4,7 @@ use crate::fault::RunFault;
 use crate::output::print;
 use crate::performing::getting::{print_byte, print_head};
 use crate::performing::status::{keep, without_return};
-use crate::request::Request;
+use crate::request::ScriptRequest;
 use arrayvec::ArrayVec;
 use std::io::Write;
 
@@ -21,13 +21,14 @@ pub(crate) enum Printing {
 
 impl Printing {
     /// Before the first byte of a request.
-    pub(crate) fn of(request: &Request) -> Printing {
+    pub(crate) fn of(request: &ScriptRequest) -> Printing {
         match request {
-            Request::Get(channel, _) => Printing::Bytes(*channel, false),
-            Request::Status => Printing::Status(ArrayVec::new()),
-            Request::Open(..) | Request::Put(..) | Request::Fill(..) | Request::Close(_) => {
-                Printing::Nothing
-            }
+            ScriptRequest::Get(channel, _) => Printing::Bytes(*channel, false),
+            ScriptRequest::Status => Printing::Status(ArrayVec::new()),
+            ScriptRequest::Open(..)
+            | ScriptRequest::Put(..)
+            | ScriptRequest::Fill(..)
+            | ScriptRequest::Close(_) => { Printing::Nothing }
         }
     }
 

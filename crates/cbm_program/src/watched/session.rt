@@ -5,10 +5,10 @@ ghost use Rattle.cbm_program.specs.Running.{IsInRange, LineIsInRange};
 
 use super::printing::Printing;
 use crate::fault::RunFault;
-use crate::line::{Line, parse};
+use crate::line::{ScriptLine, parse};
 use crate::numbered::next_line;
 use crate::output::flush;
-use crate::request::Request;
+use crate::request::ScriptRequest;
 use arrayvec::ArrayVec;
 use bus_traces::{Source, Watches};
 use cbm_drive::{Bus, Desk, Drive, Pace, Party};
@@ -39,17 +39,19 @@ pub(crate) struct Bench<M: Steady> {
 }
 
 /// What the host asks of the drive.
-fn asked(request: &Request) -> cbm_host::Request<'_>
+fn asked(request: &ScriptRequest) -> cbm_host::Request<'_>
     requires { IsInRange request.now }
     ensures { channel_of result ≤ 15 }
 {
     match request {
-        Request::Open(channel, text) => cbm_host::Request::Open(*channel, text.as_slice()),
-        Request::Put(channel, bytes) => cbm_host::Request::Put(*channel, bytes.as_slice()),
-        Request::Fill(channel, count, byte) => cbm_host::Request::Fill(*channel, *count, *byte),
-        Request::Get(channel, most) => cbm_host::Request::Get(*channel, *most),
-        Request::Close(channel) => cbm_host::Request::Close(*channel),
-        Request::Status => cbm_host::Request::Status,
+        ScriptRequest::Open(channel, text) => cbm_host::Request::Open(*channel, text.as_slice()),
+        ScriptRequest::Put(channel, bytes) => cbm_host::Request::Put(*channel, bytes.as_slice()),
+        ScriptRequest::Fill(channel, count, byte) => cbm_host::Request::Fill(
+            *channel, *count, *byte,
+        ),
+        ScriptRequest::Get(channel, most) => cbm_host::Request::Get(*channel, *most),
+        ScriptRequest::Close(channel) => cbm_host::Request::Close(*channel),
+        ScriptRequest::Status => cbm_host::Request::Status,
     }
 }
 
@@ -75,7 +77,7 @@ impl<M: Steady> Bench<M> {
     /// Carries out a request, event by event, and prints what it prints. Error: `Writing`.
     fn perform<W: Write, T: Watches>(
         &mut self,
-        request: &Request,
+        request: &ScriptRequest,
         writer: &mut W,
         watcher: &mut T,
     ) -> Result<(), RunFault>
@@ -100,15 +102,15 @@ impl<M: Steady> Bench<M> {
     /// Carries out a line, and sends on what it prints. Error: `Writing`.
     fn line<W: Write, T: Watches>(
         &mut self,
-        line: &Line,
+        line: &ScriptLine,
         writer: &mut W,
         watcher: &mut T,
     ) -> Result<(), RunFault>
         requires { LineIsInRange line.now }
     {
         match line {
-            Line::Skipped => Ok(()),
-            Line::Asks(request) => {
+            ScriptLine::Skipped => Ok(()),
+            ScriptLine::Asks(request) => {
                 self.perform(request, writer, watcher)?;
                 flush(writer)
             }
@@ -128,7 +130,7 @@ impl<M: Steady> Bench<M> {
 pub(crate) fn serve_watched<M: Steady + Drop, R: Read, W: Write, T: Watches>(
     bench: Bench<M>,
     lines: &mut Source<R>,
-    first: Option<Line>,
+    first: Option<ScriptLine>,
     writer: &mut W,
     watcher: &mut T,
 ) -> Result<M, RunFault>

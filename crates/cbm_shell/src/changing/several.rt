@@ -6,7 +6,7 @@ ghost use Rattle.cbm_image.specs.Images.{kind_of, image_fault, tracks_of, ImageH
 ghost use Rattle.cbm_shell.specs.Images.{OrOpenFault};
 ghost use Rattle.cbm_shell.specs.Several.{HoldsAfter, ImageAfter, AreUndone};
 
-use crate::changing::{Change, changed};
+use crate::changing::{DiskChange, changed};
 use crate::fault::ShellFault;
 use crate::images::{opened, saved};
 use cbm_d64::D64Disk;
@@ -16,7 +16,7 @@ use cbm_medium::Steady;
 use std::alloc::Global;
 
 /// Makes changes on a disk, one after another. Errors: as of the first change that isn't made.
-fn changed_by<M: Steady + Drop>(medium: M, changes: &[Change<'_>]) -> Result<M, ShellFault>
+fn changed_by<M: Steady + Drop>(medium: M, changes: &[DiskChange<'_>]) -> Result<M, ShellFault>
     ensures { let old = M.seen medium in (d : Disk) → HoldsDisk old.tracks old.content d → MatchResult result
         (λ after. HoldsAfter changes.now old.protected old.tracks d (M.seen after))
         (AreUndone changes.now old.protected old.tracks d) }
@@ -32,7 +32,7 @@ fn changed_by<M: Steady + Drop>(medium: M, changes: &[Change<'_>]) -> Result<M, 
 fn changes_in<I: DiskImage + Drop>(
     alloc: Global,
     image: &[u8],
-    changes: &[Change<'_>],
+    changes: &[DiskChange<'_>],
 ) -> Result<Vec<u8>, ShellFault>
     requires { kind_of image.now ≡ I.kind }
     ensures made { let kind = kind_of image.now in (d : Disk) → ImageHolds kind image.now d → MatchResult result
@@ -47,7 +47,11 @@ fn changes_in<I: DiskImage + Drop>(
 
 /// Makes changes on the disk of an image, one after another, and gives the image as it is then: all of them are made, or none.
 /// The image is opened and made anew once. Errors: those of `change`, of the first change that isn't made.
-pub fn changes(alloc: Global, image: &[u8], changes: &[Change<'_>]) -> Result<Vec<u8>, ShellFault>
+pub fn changes(
+    alloc: Global,
+    image: &[u8],
+    changes: &[DiskChange<'_>],
+) -> Result<Vec<u8>, ShellFault>
     ensures made { let kind = kind_of image.now in (d : Disk) → ImageHolds kind image.now d → MatchResult result
         (λ v. ImageAfter changes.now kind (tracks_of kind image.now) d v.items)
         (OrOpenFault image.now (AreUndone changes.now false (tracks_of kind image.now) d)) }

@@ -1,6 +1,6 @@
 //! What several images came to.
 use disk_basics::{Failure, in_memory, print};
-use disk_reports::{Answer, Look, View};
+use disk_reports::{Look, LookAnswer, View};
 use std::alloc::{AllocError, Global};
 use std::rt::Runtime;
 
@@ -26,12 +26,11 @@ impl Counts {
     }
 
     /// One more was looked at.
-    pub fn add(&mut self, answer: Answer) {
+    pub fn add(&mut self, answer: LookAnswer) {
         match answer {
-            Answer::Fine => self.fine = self.fine.wrapping_add(1),
-            Answer::Unsound(_) | Answer::NoMatch | Answer::Untitled => self.others = self
-                .others
-                .wrapping_add(1),
+            LookAnswer::Fine => self.fine = self.fine.wrapping_add(1),
+            LookAnswer::Unsound(_) | LookAnswer::NoMatch | LookAnswer::Untitled => self.others =
+                self.others.wrapping_add(1),
         }
     }
 

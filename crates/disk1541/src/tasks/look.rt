@@ -2,7 +2,7 @@
 use super::counts::Counts;
 use super::folders::Walk;
 use disk_basics::{Failure, in_memory, on_disk, print, read_image};
-use disk_reports::{Answer, Look, Shown, heads, lines_of, refusal_line};
+use disk_reports::{Look, LookAnswer, Shown, heads, lines_of, refusal_line};
 use std::path::Path;
 use std::rt::Runtime;
 
@@ -25,10 +25,10 @@ fn look_at_one<'a, R: Runtime + AllocGlobal>(
     let shown = seen(rt, image, look)?;
     print(rt, shown.text.as_slice())?;
     match shown.answer {
-        Answer::Fine => Ok(()),
-        Answer::Unsound(unsound) => Err(Failure::Unsound(unsound)),
-        Answer::NoMatch => Err(Failure::NoMatch),
-        Answer::Untitled => Err(Failure::Untitled(image)),
+        LookAnswer::Fine => Ok(()),
+        LookAnswer::Unsound(unsound) => Err(Failure::Unsound(unsound)),
+        LookAnswer::NoMatch => Err(Failure::NoMatch),
+        LookAnswer::Untitled => Err(Failure::Untitled(image)),
     }
 }
 
@@ -57,7 +57,7 @@ fn look_among<'a, R: Runtime + AllocGlobal>(
     match seen(rt, image, look) {
         Ok(shown) => {
             counts.add(shown.answer);
-            if matches!(shown.answer, Answer::Untitled) {
+            if matches!(shown.answer, LookAnswer::Untitled) {
                 let _ = Failure::Untitled(image).tell(rt);
             }
             print(rt, shown.text.as_slice())

@@ -10,7 +10,7 @@ use cbm_shell::{Looks, ShellFault};
 use disk_basics::{
     Failure, WordFault, add_art, dress, entries, in_memory, kind_of_file, name_of_file, on_disk,
 };
-use disk_recipes::Line;
+use disk_recipes::RecipeLine;
 use std::alloc::Global;
 use std::rt::Runtime;
 
@@ -29,7 +29,7 @@ fn option(text: &Option<String>) -> Option<&str> {
 fn name_of<'r, R: Runtime + AllocGlobal>(
     rt: &R,
     bench: Bench<'r>,
-    line: &'r Line,
+    line: &'r RecipeLine,
     file: &'r str,
     body: Body<'_>,
 ) -> Result<Vec<u8>, Failure<'r>> {
@@ -65,7 +65,7 @@ fn dressed<'r, R: Runtime + AllocGlobal>(
     bench: Bench<'r>,
     image: &[u8],
     slot: u8,
-    line: &Line,
+    line: &RecipeLine,
     name: &[u8],
 ) -> Result<Vec<u8>, Failure<'r>> {
     let blocks = match line.blocks {
@@ -81,7 +81,7 @@ fn dressed<'r, R: Runtime + AllocGlobal>(
 }
 
 /// The length of the records of a line's file, if that is known.
-fn record_of(line: &Line, body: Body<'_>) -> Option<u8> {
+fn record_of(line: &RecipeLine, body: Body<'_>) -> Option<u8> {
     match line.record {
         Some(length) => Some(length),
         None => body.record,
@@ -94,7 +94,7 @@ fn with_put<'r, R: Runtime + AllocGlobal>(
     bench: Bench<'r>,
     old: &[u8],
     slot: u8,
-    line: &Line,
+    line: &RecipeLine,
     name: &[u8],
     put: &Stored<'_>,
 ) -> Result<Vec<u8>, Failure<'r>> {
@@ -108,7 +108,7 @@ fn with_body<'r, R: Runtime + AllocGlobal>(
     bench: Bench<'r>,
     old: &[u8],
     slot: u8,
-    line: &'r Line,
+    line: &'r RecipeLine,
     file: &'r str,
     body: Body<'_>,
 ) -> Result<Vec<u8>, Failure<'r>> {
@@ -129,7 +129,7 @@ fn with_file<'r, R: Runtime + AllocGlobal>(
     bench: Bench<'r>,
     old: &[u8],
     slot: u8,
-    line: &'r Line,
+    line: &'r RecipeLine,
     file: &'r str,
 ) -> Result<Vec<u8>, Failure<'r>> {
     let bytes = read_beside(rt, bench.folder, file)?;
@@ -149,7 +149,7 @@ fn with_art<'r, R: Runtime + AllocGlobal>(
     rt: &R,
     bench: Bench<'r>,
     old: &[u8],
-    line: &Line,
+    line: &RecipeLine,
     art: &'r str,
 ) -> Result<Vec<u8>, Failure<'r>> {
     let name = any_name(rt, bench.charset, art)?;
@@ -175,7 +175,7 @@ fn with_art<'r, R: Runtime + AllocGlobal>(
 fn with_files<'r, R: Runtime + AllocGlobal>(
     rt: &R,
     bench: Bench<'r>,
-    lines: &'r [Line],
+    lines: &'r [RecipeLine],
     blank: Vec<u8>,
 ) -> Result<Vec<u8>, Failure<'r>> {
     let mut image = blank;
@@ -193,7 +193,7 @@ fn with_files<'r, R: Runtime + AllocGlobal>(
 fn with_arts<'r, R: Runtime + AllocGlobal>(
     rt: &R,
     bench: Bench<'r>,
-    lines: &'r [Line],
+    lines: &'r [RecipeLine],
     filled: Vec<u8>,
 ) -> Result<Vec<u8>, Failure<'r>> {
     let mut image = filled;
@@ -206,7 +206,7 @@ fn with_arts<'r, R: Runtime + AllocGlobal>(
 }
 
 /// Refuses a line that is no file and no art, or both.
-fn require_lines<'a>(lines: &[Line]) -> Result<(), Failure<'a>> {
+fn require_lines<'a>(lines: &[RecipeLine]) -> Result<(), Failure<'a>> {
     for line in lines {
         if line.file.is_some() == line.art.is_some() {
             return Err(Failure::Word(WordFault::Line));
@@ -221,7 +221,7 @@ fn require_lines<'a>(lines: &[Line]) -> Result<(), Failure<'a>> {
 pub fn with_lines<'r, R: Runtime + AllocGlobal>(
     rt: &R,
     bench: Bench<'r>,
-    lines: &'r [Line],
+    lines: &'r [RecipeLine],
     blank: Vec<u8>,
 ) -> Result<Vec<u8>, Failure<'r>> {
     require_lines(lines)?;

@@ -2,11 +2,15 @@
 use crate::sorting::bring;
 use cbm_shell::Swap;
 use disk_basics::{Failure, in_memory, on_disk, swap_entries};
-use disk_recipes::Line;
+use disk_recipes::RecipeLine;
 use std::alloc::{AllocError, Global};
 
 /// Adds the numbers of the lines that are files, or of those that are art.
-fn add_numbers(order: &mut Vec<u8>, lines: &[Line], are_files: bool) -> Result<(), AllocError> {
+fn add_numbers(
+    order: &mut Vec<u8>,
+    lines: &[RecipeLine],
+    are_files: bool,
+) -> Result<(), AllocError> {
     let mut number: u8 = 0;
     for line in lines {
         if line.file.is_some() == are_files {
@@ -29,7 +33,7 @@ fn place_of(order: &[u8], number: u8) -> usize {
 }
 
 /// The swaps that bring the lines into their order.
-fn ordering(alloc: Global, lines: &[Line]) -> Result<Vec<Swap>, AllocError> {
+fn ordering(alloc: Global, lines: &[RecipeLine]) -> Result<Vec<Swap>, AllocError> {
     let mut order = Vec::new(alloc);
     let mut swaps = Vec::new(alloc);
     add_numbers(&mut order, lines, true)?;
@@ -47,7 +51,7 @@ fn ordering(alloc: Global, lines: &[Line]) -> Result<Vec<Swap>, AllocError> {
 pub fn ordered<'a>(
     alloc: Global,
     image: &'a str,
-    lines: &[Line],
+    lines: &[RecipeLine],
     bytes: &[u8],
 ) -> Result<Vec<u8>, Failure<'a>> {
     let swaps = in_memory(ordering(alloc, lines))?;

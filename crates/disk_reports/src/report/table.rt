@@ -1,7 +1,7 @@
 //! Images as tables, for programs: a line for each file, or for each image.
 use super::{LabelTexts, Size, files_meant, geos_kind, image_answer, label_of, record_of, size_of};
 use crate::sum::sum_text;
-use crate::view::{Answer, Look, Shown, View};
+use crate::view::{Look, LookAnswer, Shown, View};
 use cbm_shell::{Charset, Info, ShellFault, words};
 use cbm_volume::{Entry, Unsound};
 use csv::WriterBuilder;
@@ -134,11 +134,11 @@ fn file_lines(
 }
 
 /// What the lines of files come to.
-fn files_answer(look: Look<'_>, text: &[u8]) -> Answer {
+fn files_answer(look: Look<'_>, text: &[u8]) -> LookAnswer {
     if look.view == View::Matches && text.is_empty() {
-        Answer::NoMatch
+        LookAnswer::NoMatch
     } else {
-        Answer::Fine
+        LookAnswer::Fine
     }
 }
 
@@ -248,7 +248,7 @@ fn sum_table(alloc: Global, name: &str, image: &[u8]) -> Result<Shown, ShellFaul
     };
     Ok(Shown {
         text: line(alloc, &row)?,
-        answer: Answer::Fine,
+        answer: LookAnswer::Fine,
     })
 }
 

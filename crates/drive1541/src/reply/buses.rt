@@ -1,9 +1,9 @@
 //! One to four drives, and the talk with their host.
 ghost use Rattle.std.specs.Prelude.{◌≡◌, None};
 
-use super::failure::Failure;
+use super::failure::ReplyFailure;
 use super::seat::Seat;
-use bus_replies::{Lines, reply};
+use bus_replies::{LineReader, reply};
 use cbm_bus::{AnyDisk, Desk, Drive, Party, drive_with, into_disk};
 use drive_replies::HostedBus;
 use std::io;
@@ -36,24 +36,28 @@ impl Unit {
 fn talk<const N: usize>(
     rt: &HostRuntime,
     bus: &mut HostedBus<Desk<AnyDisk>, N>,
-) -> Result<(), Failure>
+) -> Result<(), ReplyFailure>
     requires none { bus.old.player.waiting ≡ None }
     requires start { bus.old.player.from ≡ 0 }
 {
-    let mut output = BufWriter::new(rt.alloc(), io::writer(rt)).map_err(|_| Failure::NoMemory)?;
-    let ended = reply(bus, &mut Lines::new(rt.reader()), &mut output);
+    let mut output = BufWriter::new(rt.alloc(), io::writer(rt)).map_err(
+        |_| ReplyFailure::NoMemory,
+    )?;
+    let ended = reply(bus, &mut LineReader::new(rt.reader()), &mut output);
     let _ = output.flush();
-    ended.map_err(Failure::of_talk)
+    ended.map_err(ReplyFailure::of_talk)
 }
 
 /// Adds a drive's disk.
-fn add_disk(disks: &mut Vec<AnyDisk>, drive: DiskDrive) -> Result<(), Failure> {
-    disks.push(into_disk(drive)).map_err(|_| Failure::NoMemory)
+fn add_disk(disks: &mut Vec<AnyDisk>, drive: DiskDrive) -> Result<(), ReplyFailure> {
+    disks
+        .push(into_disk(drive))
+        .map_err(|_| ReplyFailure::NoMemory)
 }
 
 // (An array's size must be known where its drives are taken out one by one.)
 
-fn of_one(rt: &HostRuntime, drives: [DiskDrive; 1]) -> Result<Vec<AnyDisk>, Failure> {
+fn of_one(rt: &HostRuntime, drives: [DiskDrive; 1]) -> Result<Vec<AnyDisk>, ReplyFailure> {
     let mut disks = Vec::new(rt.alloc());
     for drive in drives {
         add_disk(&mut disks, drive)?;
@@ -61,7 +65,7 @@ fn of_one(rt: &HostRuntime, drives: [DiskDrive; 1]) -> Result<Vec<AnyDisk>, Fail
     Ok(disks)
 }
 
-fn of_two(rt: &HostRuntime, drives: [DiskDrive; 2]) -> Result<Vec<AnyDisk>, Failure> {
+fn of_two(rt: &HostRuntime, drives: [DiskDrive; 2]) -> Result<Vec<AnyDisk>, ReplyFailure> {
     let mut disks = Vec::new(rt.alloc());
     for drive in drives {
         add_disk(&mut disks, drive)?;
@@ -69,7 +73,7 @@ fn of_two(rt: &HostRuntime, drives: [DiskDrive; 2]) -> Result<Vec<AnyDisk>, Fail
     Ok(disks)
 }
 
-fn of_three(rt: &HostRuntime, drives: [DiskDrive; 3]) -> Result<Vec<AnyDisk>, Failure> {
+fn of_three(rt: &HostRuntime, drives: [DiskDrive; 3]) -> Result<Vec<AnyDisk>, ReplyFailure> {
     let mut disks = Vec::new(rt.alloc());
     for drive in drives {
         add_disk(&mut disks, drive)?;
@@ -77,7 +81,7 @@ fn of_three(rt: &HostRuntime, drives: [DiskDrive; 3]) -> Result<Vec<AnyDisk>, Fa
     Ok(disks)
 }
 
-fn of_four(rt: &HostRuntime, drives: [DiskDrive; 4]) -> Result<Vec<AnyDisk>, Failure> {
+fn of_four(rt: &HostRuntime, drives: [DiskDrive; 4]) -> Result<Vec<AnyDisk>, ReplyFailure> {
     let mut disks = Vec::new(rt.alloc());
     for drive in drives {
         add_disk(&mut disks, drive)?;
@@ -87,25 +91,31 @@ fn of_four(rt: &HostRuntime, drives: [DiskDrive; 4]) -> Result<Vec<AnyDisk>, Fai
 
 // A drive takes some kilobytes of stack each time that it is moved, so these four move it no more than they must.
 
-fn one(rt: &HostRuntime, a: Unit) -> Result<Vec<AnyDisk>, Failure> {
+fn one(rt: &HostRuntime, a: Unit) -> Result<Vec<AnyDisk>, ReplyFailure> {
     let mut bus = HostedBus::new([a.switch_on()]);
     talk(rt, &mut bus)?;
     of_one(rt, bus.into_drives())
 }
 
-fn two(rt: &HostRuntime, a: Unit, b: Unit) -> Result<Vec<AnyDisk>, Failure> {
+fn two(rt: &HostRuntime, a: Unit, b: Unit) -> Result<Vec<AnyDisk>, ReplyFailure> {
     let mut bus = HostedBus::new([a.switch_on(), b.switch_on()]);
     talk(rt, &mut bus)?;
     of_two(rt, bus.into_drives())
 }
 
-fn three(rt: &HostRuntime, a: Unit, b: Unit, c: Unit) -> Result<Vec<AnyDisk>, Failure> {
+fn three(rt: &HostRuntime, a: Unit, b: Unit, c: Unit) -> Result<Vec<AnyDisk>, ReplyFailure> {
     let mut bus = HostedBus::new([a.switch_on(), b.switch_on(), c.switch_on()]);
     talk(rt, &mut bus)?;
     of_three(rt, bus.into_drives())
 }
 
-fn four(rt: &HostRuntime, a: Unit, b: Unit, c: Unit, d: Unit) -> Result<Vec<AnyDisk>, Failure> {
+fn four(
+    rt: &HostRuntime,
+    a: Unit,
+    b: Unit,
+    c: Unit,
+    d: Unit,
+) -> Result<Vec<AnyDisk>, ReplyFailure> {
     let mut bus = HostedBus::new([a.switch_on(), b.switch_on(), c.switch_on(), d.switch_on()]);
     talk(rt, &mut bus)?;
     of_four(rt, bus.into_drives())
@@ -116,14 +126,14 @@ fn units_of(
     rt: &HostRuntime,
     disks: Vec<AnyDisk>,
     seats: &[Seat<'_>],
-) -> Result<Vec<Unit>, Failure> {
+) -> Result<Vec<Unit>, ReplyFailure> {
     let mut units = Vec::new(rt.alloc());
     for (disk, seat) in disks.into_iter().zip(seats) {
         let unit = Unit {
             disk,
             party: seat.party,
         };
-        units.push(unit).map_err(|_| Failure::NoMemory)?;
+        units.push(unit).map_err(|_| ReplyFailure::NoMemory)?;
     }
     Ok(units)
 }
@@ -133,7 +143,7 @@ pub fn talk_on(
     rt: &HostRuntime,
     disks: Vec<AnyDisk>,
     seats: &[Seat<'_>],
-) -> Result<Vec<AnyDisk>, Failure> {
+) -> Result<Vec<AnyDisk>, ReplyFailure> {
     let mut units = units_of(rt, disks, seats)?.into_iter();
     match (units.next(), units.next(), units.next(), units.next()) {
         (Some(a), None, None, None) => one(rt, a),

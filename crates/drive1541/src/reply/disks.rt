@@ -1,6 +1,6 @@
 //! The disks of a talk, from their images and to them.
 
-use super::failure::{Failure, Place};
+use super::failure::{FailedAt, ReplyFailure};
 use super::words::Words;
 use cbm_bus::AnyDisk;
 use cbm_d64::D64Disk;
@@ -32,33 +32,45 @@ fn open_disk(
     place: usize,
     name: &str,
     is_protected: bool,
-) -> Result<AnyDisk, Failure> {
-    let image = fs::read(rt, name).map_err(|e| Failure::of_file(e, Place::Image(place)))?;
+) -> Result<AnyDisk, ReplyFailure> {
+    let image = fs::read(rt, name).map_err(|e| ReplyFailure::of_file(e, FailedAt::Image(place)))?;
     match disk_of(rt.alloc(), image.as_slice(), is_protected) {
         Ok(disk) => Ok(disk),
-        Err(ImageFault::Format(number)) => Err(Failure::Image(place, number)),
-        Err(ImageFault::Memory) => Err(Failure::NoMemory),
+        Err(ImageFault::Format(number)) => Err(ReplyFailure::Image(place, number)),
+        Err(ImageFault::Memory) => Err(ReplyFailure::NoMemory),
     }
 }
 
 /// The disks of the command line, in its order.
-pub fn open_disks(rt: &HostRuntime, words: &Words<'_>) -> Result<Vec<AnyDisk>, Failure> {
+pub fn open_disks(rt: &HostRuntime, words: &Words<'_>) -> Result<Vec<AnyDisk>, ReplyFailure> {
     let mut disks = Vec::new(rt.alloc());
     for (place, seat) in words.seats().iter().enumerate() {
         let disk = open_disk(rt, place, seat.image, words.is_read_only())?;
-        disks.push(disk).map_err(|_| Failure::NoMemory)?;
+        disks.push(disk).map_err(|_| ReplyFailure::NoMemory)?;
     }
     Ok(disks)
 }
 
 /// Saves the disk of the drive at a place.
-fn save_disk(rt: &HostRuntime, place: usize, disk: &AnyDisk, out: &str) -> Result<(), Failure> {
-    let image = image_of(rt.alloc(), disk).map_err(|_| Failure::NoMemory)?;
-    save(rt, "drive1541", out, image.as_slice()).map_err(|e| Failure::of_file(e, Place::Out(place)))
+fn save_disk(
+    rt: &HostRuntime,
+    place: usize,
+    disk: &AnyDisk,
+    out: &str,
+) -> Result<(), ReplyFailure> {
+    let image = image_of(rt.alloc(), disk).map_err(|_| ReplyFailure::NoMemory)?;
+    save(rt, "drive1541", out, image.as_slice()).map_err(|e| ReplyFailure::of_file(
+        e,
+        FailedAt::Out(place),
+    ))
 }
 
 /// Saves each disk that is to be saved, in the order of the command line, up to the first that can't be.
-pub fn save_disks(rt: &HostRuntime, disks: &[AnyDisk], words: &Words<'_>) -> Result<(), Failure> {
+pub fn save_disks(
+    rt: &HostRuntime,
+    disks: &[AnyDisk],
+    words: &Words<'_>,
+) -> Result<(), ReplyFailure> {
     let seats = words.seats();
     for (place, (seat, disk)) in seats.iter().zip(disks).enumerate() {
         if let Some(out) = seat.out {

@@ -2,12 +2,12 @@
 
 use super::words::Words;
 use crate::reason::image_words;
-use bus_replies::{Refusal, ReplyFault};
+use bus_replies::{ReplyFault, ReplyRefusal};
 use std::io;
 
 /// A file of the command line, by its drive's place, or a stream.
 #[derive(Clone, Copy, Debug, PartialEq, Eq, Drop)]
-pub enum Place {
+pub enum FailedAt {
     /// The image of a drive.
     Image(usize),
     /// Where that goes.
@@ -20,79 +20,79 @@ pub enum Place {
 
 /// Why the images weren't saved.
 #[derive(Clone, Copy, Debug, PartialEq, Eq, Drop)]
-pub enum Failure {
+pub enum ReplyFailure {
     /// The host's line with this number is refused, and why.
-    Line(u64, Refusal),
+    Line(u64, ReplyRefusal),
     /// The image of the drive at a place is refused, by its fault's number.
     Image(usize, u8),
     /// A file couldn't be read or written, and why, where that is known.
-    File(Place, Option<io::ErrorKind>),
+    File(FailedAt, Option<io::ErrorKind>),
     /// Memory ran out.
     NoMemory,
 }
 
 /// The name of a file or a stream.
-fn name_of<'a>(place: Place, words: &Words<'a>) -> &'a str {
+fn name_of<'a>(place: FailedAt, words: &Words<'a>) -> &'a str {
     match place {
-        Place::Image(place) => match words.seats().get(place) {
+        FailedAt::Image(place) => match words.seats().get(place) {
             Some(seat) => seat.image,
             None => "",
         },
-        Place::Out(place) => match words.seats().get(place) {
+        FailedAt::Out(place) => match words.seats().get(place) {
             Some(seat) => seat.out.unwrap_or(""),
             None => "",
         },
-        Place::Input => "input",
-        Place::Output => "output",
+        FailedAt::Input => "input",
+        FailedAt::Output => "output",
     }
 }
 
-impl Failure {
+impl ReplyFailure {
     /// The exit status.
     pub fn status(self) -> u8 {
         match self {
-            Failure::Line(..) => 1,
-            Failure::Image(..) => 2,
-            Failure::File(..) | Failure::NoMemory => 3,
+            ReplyFailure::Line(..) => 1,
+            ReplyFailure::Image(..) => 2,
+            ReplyFailure::File(..) | ReplyFailure::NoMemory => 3,
         }
     }
 
     /// Prints the line on standard error.
     pub fn tell(self, rt: &impl Eprint, words: &Words<'_>) -> io::Result<()> {
         match self {
-            Failure::Line(line, refusal) => eprintln!(rt; "line {line} refused: {refusal}"),
-            Failure::Image(place, number) => {
-                let name = name_of(Place::Image(place), words);
+            ReplyFailure::Line(line, refusal) => eprintln!(rt; "line {line} refused: {refusal}"),
+            ReplyFailure::Image(place, number) => {
+                let name = name_of(FailedAt::Image(place), words);
                 let why = image_words(number);
                 eprintln!(rt; "image refused: {name}: {number}: {why}")
             }
-            Failure::File(place, Some(kind)) => {
+            ReplyFailure::File(place, Some(kind)) => {
                 let name = name_of(place, words);
                 eprintln!(rt; "file fault: {name}: {kind}")
             }
-            Failure::File(place, None) => {
+            ReplyFailure::File(place, None) => {
                 let name = name_of(place, words);
                 eprintln!(rt; "file fault: {name}")
             }
-            Failure::NoMemory => eprintln!(rt; "no memory"),
+            ReplyFailure::NoMemory => eprintln!(rt; "no memory"),
         }
     }
 
     /// What a refused call on a file was.
-    pub fn of_file(error: io::Error, place: Place) -> Failure {
+    pub fn of_file(error: io::Error, place: FailedAt) -> ReplyFailure {
         if error.kind() == io::ErrorKind::OutOfMemory {
-            Failure::NoMemory
+            ReplyFailure::NoMemory
         } else {
-            Failure::File(place, Some(error.kind()))
+            ReplyFailure::File(place, Some(error.kind()))
         }
     }
 
     /// What a talk that ended early was.
-    pub fn of_talk(fault: ReplyFault) -> Failure {
+    pub fn of_talk(fault: ReplyFault) -> ReplyFailure {
         match fault {
-            ReplyFault::Line(line, refusal) => Failure::Line(line, refusal),
-            ReplyFault::Reading => Failure::File(Place::Input, None),
-            ReplyFault::Writing => Failure::File(Place::Output, None),
+            ReplyFault::Line(line, refusal) => ReplyFailure::Line(line, refusal),
+            ReplyFault::Reading => ReplyFailure::File(FailedAt::Input, None),
+            ReplyFault::Writing => ReplyFailure::File(FailedAt::Output, None),
         }
     }
 }

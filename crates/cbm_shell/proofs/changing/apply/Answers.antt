@@ -1,6 +1,6 @@
 use Rattle.cbm_channel.specs.Standing.{Stands}
 use Rattle.cbm_channel.proofs.Steady.{steady_open, steady_close}
-use Rattle.cbm_shell.specs.declared.changing.Change.TheVariants.{File}
+use Rattle.cbm_shell.specs.declared.changing.DiskChange.TheVariants.{File}
 use Rattle.cbm_shell.proofs.ChangeLemmas.{made}
 use Rattle.cbm_shell.proofs.changing.apply.Goals as goal
 

@@ -1,6 +1,6 @@
 use Rattle.std.proofs.Common.{◌≡◌, inl, inr, refl, rules, to_z, of_z, w32}
 use Rattle.cbm_device.specs.Answers.{number_of}
-use Rattle.cbm_device.specs.declared.refusal.Refusal.TheVariants as why
+use Rattle.cbm_device.specs.declared.refusal.DeviceRefusal.TheVariants as why
 use Rattle.yellowadze1541.proofs.drives.y1541_open.Goals as goal
 
 -- it holds a drive already

@@ -4,7 +4,7 @@ use Rattle.cbm_volume.specs.check.WholeDisk.{DiskFault}
 use Rattle.cbm_volume.specs.declared.Unsound.{Unsound}
 use Rattle.cbm_image.specs.Images.{kind_of, tracks_of}
 use Rattle.cbm_shell.specs.Images.{IsChecked}
-use Rattle.cbm_device.specs.declared.refusal.Refusal.TheVariants as why
+use Rattle.cbm_device.specs.declared.refusal.DeviceRefusal.TheVariants as why
 use Rattle.cbm_device.specs.Answers.{number_of}
 use Rattle.yellowadze1541.specs.Looks.{held_by, used_by}
 use Rattle.yellowadze1541.proofs.images.y1541_image_check.Goals as goal

@@ -2,7 +2,7 @@ use Rattle.std.proofs.Common.{◌≡◌, ◌⊎◌, List, ℕ, [], Err, inl, inr
 use Rattle.cbm_iec.specs.declared.event.Event.{Event}
 use Rattle.cbm_iec.specs.declared.pace.Pace.{Pace}
 use Rattle.cbm_image.specs.declared.kind.Kind.{Kind}
-use Rattle.cbm_device.specs.declared.refusal.Refusal.TheVariants.{Invalid, Memory}
+use Rattle.cbm_device.specs.declared.refusal.DeviceRefusal.TheVariants.{Invalid, Memory}
 use Rattle.cbm_device.specs.Answers.{answer, number_of}
 use Rattle.cbm_device.specs.ImageDisks.{IsImageIn}
 use Rattle.yellowadze1541.specs.Drives.{party_of}

@@ -1,6 +1,6 @@
 use Rattle.std.proofs.Common.{ap, inr, refl, sym, ◌∙◌}
 use Rattle.cbm_device.specs.Devices.{OnLines, IsImageFrom, IsUnsaved}
-use Rattle.cbm_device.specs.declared.refusal.Refusal.TheVariants.{Absent}
+use Rattle.cbm_device.specs.declared.refusal.DeviceRefusal.TheVariants.{Absent}
 use Rattle.cbm_device.proofs.Giving.{gives, saved_from}
 use Rattle.cbm_device.proofs.device.Device.image.Goals as goal
 
