@@ -36,7 +36,7 @@ impl<M: Medium, const N: usize> DiskBus<M, N> {
     ghost use Rattle.cbm_drive.specs.Seats.{AreResting};
     ghost use Rattle.cbm_machine.specs.Machines.{Machine};
     ghost use Rattle.cbm_session.specs.Playing.{Station};
-    ghost use Rattle.cbm_session.specs.Sessions.{IsBus};
+    ghost use Rattle.cbm_session.specs.Sessions.{AllUnlike, IsBus};
 
     /// The drives on a cable of which the host holds no line, in the order in which they answer at equal moments.
     pub fn new(drives: [Drive<Desk<M>>; N]) -> DiskBus<M, N>

@@ -16,8 +16,12 @@ use Rattle.cbm_host.specs.declared.done.Done.{Done}
 use Rattle.cbm_host.specs.declared.request.Request.{Request}
 use Rattle.cbm_iec.specs.declared.act.Act.{Act}
 use Rattle.cbm_iec.specs.declared.event.Event.{Event}
+use Rattle.cbm_iec.specs.declared.pace.Pace.TheVariants.{Profile}
+use Rattle.cbm_iec.specs.declared.pace.Pace.{Pace}
 use Rattle.cbm_iec.specs.declared.party.Party.{Party}
 use Rattle.cbm_session.specs.Playing.{Station, at_rest}
+use Rattle.cbm_session.specs.Seats.{at_pace}
+use Rattle.cbm_session.specs.Sessions.{IsDrive}
 
 module _ (D M : Type 0) (stands : D → M → Type 0) (step : M → Act → M) (says : M → Option (ℕ × Bool)) where
   -- A request of at most 200,000 bytes to a drive that was at rest is carried out, where the call is Ok.
@@ -25,6 +29,16 @@ module _ (D M : Type 0) (stands : D → M → Type 0) (step : M → Act → M) (
   CarriesOut b device ms start request x y old new result = IsShort M step says device (ms device) request →
       IsBusAt D M stands x.host x.drives (at_rest M step says ms (b ∷ [])) →
       IfOk result (λ done. HasCarriedOut D M stands step says b ms start request y old new done.bytes.items done.last done.end)
+
+  -- So it is for each drive of this device number and pace, if the drive's machine didn't fail in it.
+  abbrev pub CarriesOutAt : {E : Type 0} → (D → ℕ) → Pace → ℕ → ℕ → Request → Cabled D → Cabled D → List Event → List Event → Result Done E → Type 0
+  CarriesOutAt failures pace device start request x y old new result = Unfailed failures x.drives y.drives → (b : Party) (ms : ℕ → M) → IsDrive b → b.device ≡ device → b.pace ≡ pace →
+      CarriesOut b device ms start request x y old new result
+
+  -- The same at the profile's pace.
+  abbrev pub CarriesOutAtProfile : {E : Type 0} → (D → ℕ) → ℕ → ℕ → Request → Cabled D → Cabled D → List Event → List Event → Result Done E → Type 0
+  CarriesOutAtProfile failures device start request x y old new result = Unfailed failures x.drives y.drives → (v : Party) (ms : ℕ → M) → let b = at_pace Profile v in IsDrive b → b.device ≡ device →
+      CarriesOut b device ms start request x y old new result
 
   -- Each change of the host comes at the moment that the request's stages say, and so does the end.
   abbrev pub KeepsMoments : {E : Type 0} → Engined → ℕ → Cabled D → List Event → List Event → Result Done E → Type 0

@@ -11,7 +11,7 @@ ghost use Rattle.cbm_iec.specs.declared.pace.Pace.TheVariants.{Profile};
 ghost use Rattle.cbm_iec.specs.declared.party.Party.{Party};
 ghost use Rattle.cbm_host.specs.Progress.{left_of};
 ghost use Rattle.cbm_host.specs.Requests.{longest};
-ghost use Rattle.cbm_host.specs.Requested.{CarriesOut, KeepsMomentsUnfailed, LacksMemoryUnfailed, CarriesOutAnyway, RunsOut, RunsOutBack, Steps, StepsBack, IsCutOnTheWay};
+ghost use Rattle.cbm_host.specs.Requested.{CarriesOutAt, CarriesOutAtProfile, KeepsMomentsUnfailed, LacksMemoryUnfailed, CarriesOutAnyway, RunsOut, RunsOutBack, Steps, StepsBack, IsCutOnTheWay};
 ghost use Rattle.cbm_host.specs.Performed.{HasAddedUpTo};
 ghost use Rattle.cbm_host.specs.AnyDisk.{IsAtRest};
 
@@ -38,10 +38,8 @@ pub fn perform<D: Machine, const N: usize>(
     requires start { start < 2 ^ 58 }
     requires device { device < 31 }
     requires channel { channel_of request ≤ 15 }
-    ensures carried_out { Unfailed D.failures bus.old.drives bus.new.drives →
-        (v : Party) (ms : ℕ → D.State) → let b = at_pace Profile v in IsDrive b → b.device ≡ device →
-        CarriesOut _ D.State D.stands D.step D.says b device ms start request.entry bus.old bus.new events.old.items
-        events.new.items result }
+    ensures carried_out { CarriesOutAtProfile _ D.State D.stands D.step D.says D.failures device start request.entry
+        bus.old bus.new events.old.items events.new.items result }
     // Each change of the host came at the moment that the request's stages say, and so did the end.
     ensures moments { KeepsMomentsUnfailed _ D.State D.stands D.step D.says D.failures
         (engine_at start device request.entry) (start + 250000000) bus.old bus.new events.old.items events.new.items result }
@@ -73,10 +71,8 @@ pub fn perform_at<D: Machine, const N: usize>(
     requires start { start < 2 ^ 58 }
     requires device { device < 31 }
     requires channel { channel_of request ≤ 15 }
-    ensures carried_out { Unfailed D.failures bus.old.drives bus.new.drives →
-        (b : Party) (ms : ℕ → D.State) → IsDrive b → b.device ≡ device → b.pace ≡ pace →
-        CarriesOut _ D.State D.stands D.step D.says b device ms start request.entry bus.old bus.new events.old.items
-        events.new.items result }
+    ensures carried_out { CarriesOutAt _ D.State D.stands D.step D.says D.failures pace device start request.entry
+        bus.old bus.new events.old.items events.new.items result }
     // Each change of the host came at the moment that the request's stages say, and so did the end.
     ensures moments { KeepsMomentsUnfailed _ D.State D.stands D.step D.says D.failures
         (engine_at start device request.entry) (start + longest pace) bus.old bus.new events.old.items events.new.items result }

@@ -11,9 +11,6 @@ use std::{fs, io};
 /// The word that asks for the judge.
 const JUDGE: &str = "judge";
 
-/// The option for a host that keeps the timing loosely.
-const LOOSELY: &str = "loosely";
-
 /// The exit statuses: what is said of the trace; or the trace can't be read, or the command line is none.
 const SESSION: u8 = 0;
 
@@ -46,8 +43,8 @@ fn command<'a>(alloc: Global) -> Result<Command<'a>, Error> {
         .help(
             "a drive of the bus: its number, 8 to 11, its reaction, 1 to 60, and `profile` or `kernal`",
         );
-    let loosely = Arg::new(alloc, LOOSELY)
-        .long(LOOSELY)
+    let loosely = Arg::new(alloc, "loosely")
+        .long("loosely")
         .action(ArgAction::SetTrue)
         .help("pass over changes of CLOCK and DATA that no drive heeds, as a KERNAL makes them");
     let command = Command::new(alloc, JUDGE)
@@ -90,34 +87,34 @@ pub fn run(rt: &HostRuntime, words: &[String]) -> ExitCode {
         return ExitCode::from(UNASKED);
     };
     let name = matches.get_str("TRACE").unwrap_or("");
-    let asked = Asked {
+    let task = JudgeTask {
         parties: parties.as_slice(),
         timing: timing_of(&matches),
     };
-    ExitCode::from(judge_named(rt, name, asked))
+    ExitCode::from(judge_named(rt, name, task))
 }
 
 /// What is asked of a trace.
 #[derive(Clone, Copy, Drop)]
-struct Asked<'a> {
+struct JudgeTask<'a> {
     parties: &'a [Party],
     timing: Timing,
 }
 
 fn timing_of(matches: &ArgMatches<'_>) -> Timing {
-    if matches.get_flag(LOOSELY) {
+    if matches.get_flag("loosely") {
         Timing::Loosely
     } else {
         Timing::Kept
     }
 }
 
-fn judge_named<R: Runtime + AllocGlobal>(rt: &R, name: &str, asked: Asked<'_>) -> u8 {
+fn judge_named<R: Runtime + AllocGlobal>(rt: &R, name: &str, task: JudgeTask<'_>) -> u8 {
     if name == "-" {
-        return judge_read(rt, rt.reader(), asked);
+        return judge_read(rt, rt.reader(), task);
     }
     match fs::open(rt, name) {
-        Ok(trace) => judge_read(rt, trace, asked),
+        Ok(trace) => judge_read(rt, trace, task),
         Err(error) => {
             let kind = error.kind();
             let _ = eprintln!(rt; "file fault: {name}: {kind}");
@@ -129,9 +126,9 @@ fn judge_named<R: Runtime + AllocGlobal>(rt: &R, name: &str, asked: Asked<'_>) -
 fn judge_read<R: Runtime + AllocGlobal, I: io::Read + Drop>(
     rt: &R,
     trace: I,
-    asked: Asked<'_>,
+    task: JudgeTask<'_>,
 ) -> u8 {
-    match judge_buffered(rt, trace, asked) {
+    match judge_buffered(rt, trace, task) {
         Ok(Ok(verdict)) => status_of(verdict),
         Ok(Err(fault)) => {
             let _ = eprintln!(rt; "error: {fault}");
@@ -147,11 +144,11 @@ fn judge_read<R: Runtime + AllocGlobal, I: io::Read + Drop>(
 fn judge_buffered<R: Runtime + AllocGlobal, I: io::Read + Drop>(
     rt: &R,
     trace: I,
-    asked: Asked<'_>,
+    task: JudgeTask<'_>,
 ) -> io::Result<Result<Verdict, ReportFault>> {
     let input = BufReader::new(rt.alloc(), trace)?;
     let mut output = BufWriter::new(rt.alloc(), io::writer(rt))?;
-    let judged = judge_trace(input, &mut output, asked.parties, asked.timing);
+    let judged = judge_trace(input, &mut output, task.parties, task.timing);
     output.flush()?;
     Ok(judged)
 }
