@@ -69,6 +69,7 @@ PARTS = {
         ("a drive alone with the host follows every session", "cbm_session", "follows_pieces follows_fronts follows_sessions"),
         ("each drive of a bus follows every session", "cbm_session", "follows_buses"),
         ("drives under a host that keeps the timing keep to a session", "cbm_session", "keeps_sessions"),
+        ("drives under a host that keeps it loosely keep to a session beside it", "cbm_session", "keeps_loosely"),
         ("drives under any host run what the wires hand them", "cbm_session", "hears_one hands_each"),
         ("a list of changes played, of any machines: a host that keeps the timing gets a session", "cbm_drive", "play:kept"),
         ("a list of changes played: all that is promised of it", "cbm_drive", "play"),
