@@ -6,7 +6,7 @@ mod changing;
 mod fault;
 mod images;
 mod looking;
-mod texts;
+pub mod texts;
 
 pub use broken::{DiskFlaw, Whose, error_at, flaws_of, forget, lost_of, undelete, users_of};
 pub use changing::{
@@ -22,8 +22,4 @@ pub use looking::{
     Freed, Geos, Info, Mark, Named, OpenDisk, Salvaged, entries, entries_of, file_blocks, file_of,
     geos_blocks, geos_of, get, info, info_of, list, picture, picture_of, raw_list, read_file,
     salvage, sector,
-};
-pub use texts::{
-    Charset, LOWER_TABLE, TABLE, check_text, code_of, key_of, name_text, read_name, unsound_text,
-    words,
 };

@@ -1,5 +1,5 @@
 //! The words of a command as plain values.
-use cbm_shell::Charset;
+use cbm_shell::texts::Charset;
 use clap::ArgMatches;
 use disk_basics::{Failure, WordFault};
 use disk_changes::{Blank, Build, Conversion, Gone, HostFiles, Ordering, Pair};

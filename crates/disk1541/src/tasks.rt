@@ -8,7 +8,7 @@ use crate::reading::{
     blank, building, charset, checking, conversion, description, gone, host_files, listing,
     mapping, one_file, ordering, pair, pattern, place,
 };
-use cbm_shell::Charset;
+use cbm_shell::texts::Charset;
 use clap::ArgMatches;
 use disk_basics::{Failure, petscii};
 use disk_changes::{

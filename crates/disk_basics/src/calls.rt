@@ -2,7 +2,8 @@
 //! proof carries it.
 use cbm_bam::SectorSet;
 use cbm_medium::Address;
-use cbm_shell::{Charset, Converted, Info, ShellFault};
+use cbm_shell::texts::Charset;
+use cbm_shell::{Converted, Info, ShellFault};
 use cbm_volume::{Entry, Unsound};
 use std::alloc::{AllocError, Global};
 
@@ -13,12 +14,12 @@ pub fn check(alloc: Global, image: &[u8]) -> Result<Result<(), Unsound>, ShellFa
 
 /// What `check` answers, as a line. The one error is want of memory.
 pub fn check_text(alloc: Global, answer: &Result<(), Unsound>) -> Result<Vec<u8>, AllocError> {
-    cbm_shell::check_text(alloc, answer)
+    cbm_shell::texts::check_text(alloc, answer)
 }
 
 /// What is wrong, as a line. The one error is want of memory.
 pub fn unsound_text(alloc: Global, unsound: Unsound) -> Result<Vec<u8>, AllocError> {
-    cbm_shell::unsound_text(alloc, unsound)
+    cbm_shell::texts::unsound_text(alloc, unsound)
 }
 
 /// The image in the other format, and what it lacks. Errors: those of `cbm_shell::convert`.
@@ -83,7 +84,7 @@ pub fn sector(
 
 /// A name as it is shown in a character set. The one error is want of memory.
 pub fn name_text(alloc: Global, charset: Charset, name: &[u8]) -> Result<String, AllocError> {
-    cbm_shell::name_text(alloc, charset, name)
+    cbm_shell::texts::name_text(alloc, charset, name)
 }
 
 /// A name as PETSCII; None where a character of it is none that is typed. The one error is want of memory.
@@ -92,5 +93,5 @@ pub fn read_name(
     charset: Charset,
     text: &str,
 ) -> Result<Option<Vec<u8>>, AllocError> {
-    cbm_shell::read_name(alloc, charset, text)
+    cbm_shell::texts::read_name(alloc, charset, text)
 }

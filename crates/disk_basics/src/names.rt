@@ -3,7 +3,7 @@ use crate::calls::read_name;
 use crate::failure::Failure;
 use crate::host::is_standard;
 use crate::word_fault::WordFault;
-use cbm_shell::Charset;
+use cbm_shell::texts::Charset;
 use std::alloc::Global;
 use std::path::Path;
 

@@ -1,6 +1,7 @@
 //! Why a disk refused a command, in words.
 use cbm_channel::{Code, Status};
-use cbm_shell::{Foreign, ShellFault, words};
+use cbm_shell::texts::words;
+use cbm_shell::{Foreign, ShellFault};
 use cbm_volume::{Trouble, Unsound};
 use std::io;
 

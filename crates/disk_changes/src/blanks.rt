@@ -1,10 +1,11 @@
 //! NEW: an image of an empty disk.
 ghost use Rattle.std.specs.Prelude.{◌≤◌, length, IfOk};
 
-use cbm_shell::{Charset, Form};
-use disk_basics::{
-    Failure, WordFault, form, format, in_memory, new_image, petscii, require_new, write,
-};
+use cbm_shell::Form;
+use cbm_shell::texts::Charset;
+use disk_basics::changing::new_image;
+use disk_basics::host::{require_new, write};
+use disk_basics::{Failure, WordFault, form, format, in_memory, petscii};
 use host_files::Sync;
 use std::alloc::Global;
 use std::rt::Runtime;

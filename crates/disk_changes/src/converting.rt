@@ -1,8 +1,12 @@
 //! CONVERT: the image in the other format.
-use crate::losses::tell_lost;
+mod losses;
+
+use self::losses::tell_lost;
 use cbm_image::{Kind, kind_of};
 use cbm_shell::Converted;
-use disk_basics::{Failure, WordFault, convert, format, on_disk, read_image, require_new, write};
+use disk_basics::calls::convert;
+use disk_basics::host::{read_image, require_new, write};
+use disk_basics::{Failure, WordFault, format, on_disk};
 use host_files::Sync;
 use std::rt::Runtime;
 

@@ -1,7 +1,12 @@
 //! Changes of an image.
-use crate::locking::{locked_all, retitled};
-use cbm_shell::{Charset, DiskChange};
-use disk_basics::{Failure, change, in_memory, joined, on_disk, petscii, read_image, replace};
+mod locking;
+
+use self::locking::{locked_all, retitled};
+use cbm_shell::DiskChange;
+use cbm_shell::texts::Charset;
+use disk_basics::changing::change;
+use disk_basics::host::{joined, read_image, replace};
+use disk_basics::{Failure, in_memory, on_disk, petscii};
 use std::alloc::Global;
 use std::rt::Runtime;
 

@@ -1,10 +1,11 @@
 //! DELETE --FORCE: files at fault out of the directory of a disk that isn't sound.
-use cbm_shell::{Charset, DiskFlaw, ShellFault};
+use cbm_shell::texts::Charset;
+use cbm_shell::{DiskFlaw, ShellFault};
 use cbm_volume::Entry;
-use disk_basics::{
-    Disk, Failure, check, forget, in_memory, is_mendable, on_disk, petscii, read_image, replace,
-    slots_of,
-};
+use disk_basics::calls::check;
+use disk_basics::changing::forget;
+use disk_basics::host::{read_image, replace};
+use disk_basics::{Disk, Failure, in_memory, is_mendable, on_disk, petscii, slots_of};
 use disk_facts::is_meant;
 use std::alloc::Global;
 use std::rt::Runtime;

@@ -1,7 +1,11 @@
 //! VALIDATE: the disk in order, unless GEOS uses blocks that it would give back.
-use crate::plan::plan_of;
+mod plan;
+
+use self::plan::plan_of;
 use cbm_shell::{Order, ShellFault};
-use disk_basics::{Failure, on_disk, print, read_image, replace, validate};
+use disk_basics::changing::validate;
+use disk_basics::host::{print, read_image, replace};
+use disk_basics::{Failure, on_disk};
 use std::rt::Runtime;
 
 /// How a disk is put in order.

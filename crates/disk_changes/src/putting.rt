@@ -1,9 +1,12 @@
 //! PUT: files of the host into the image.
 use crate::stored::{Stored, open_text, with_stored};
-use cbm_shell::{Charset, DiskChange, unwrapped};
+use cbm_shell::texts::Charset;
+use cbm_shell::{DiskChange, unwrapped};
+use disk_basics::changing::changes;
+use disk_basics::host::{is_standard, read_file, read_image, replace};
 use disk_basics::{
-    Failure, FileKind, WordFault, changes, file_name, in_memory, is_standard, is_wrapped_name,
-    kind_of_file, name_of_file, on_disk, read_file, read_image, replace, require_name,
+    Failure, FileKind, WordFault, file_name, in_memory, is_wrapped_name, kind_of_file,
+    name_of_file, on_disk, require_name,
 };
 use std::alloc::{AllocError, Global};
 use std::rt::Runtime;

@@ -1,7 +1,11 @@
 //! COPY and RENAME: a new name, and the old one.
 use crate::edit::{Edit, save_edit};
-use cbm_shell::{Charset, DiskChange};
-use disk_basics::{Failure, change, entries, file_name, joined, on_disk, read_image, replace};
+use cbm_shell::DiskChange;
+use cbm_shell::texts::Charset;
+use disk_basics::calls::entries;
+use disk_basics::changing::change;
+use disk_basics::host::{joined, read_image, replace};
+use disk_basics::{Failure, file_name, on_disk};
 use disk_facts::first_meant;
 use std::alloc::Global;
 use std::rt::Runtime;

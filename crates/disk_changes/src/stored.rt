@@ -1,9 +1,10 @@
 //! A file's bytes on a disk, as a file of its kind.
 use cbm_channel::{Code, Status};
 use cbm_shell::{DiskChange, Records, ShellFault};
-use disk_basics::{
-    Failure, FileKind, WordFault, change, entries, in_memory, joined, on_disk, put_records,
-};
+use disk_basics::calls::entries;
+use disk_basics::changing::{change, put_records};
+use disk_basics::host::joined;
+use disk_basics::{Failure, FileKind, WordFault, in_memory, on_disk};
 use std::alloc::{AllocError, Global};
 
 /// A file that is put on a disk.

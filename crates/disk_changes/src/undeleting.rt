@@ -1,8 +1,11 @@
 //! UNDELETE: a deleted file given back.
 use cbm_command::matches;
-use cbm_shell::Charset;
+use cbm_shell::texts::Charset;
 use cbm_volume::{Entry, FileType};
-use disk_basics::{Failure, WordFault, entries, on_disk, petscii, read_image, replace, undelete};
+use disk_basics::calls::entries;
+use disk_basics::changing::undelete;
+use disk_basics::host::{read_image, replace};
+use disk_basics::{Failure, WordFault, on_disk, petscii};
 use disk_facts::is_deleted;
 use std::alloc::Global;
 use std::rt::Runtime;

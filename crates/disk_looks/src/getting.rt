@@ -1,8 +1,11 @@
 //! GET: a file out of the image, to a file of the host or to standard output.
 use crate::relative::packed_for;
 use crate::salvage::salvaged_file;
-use cbm_shell::{Charset, ShellFault};
-use disk_basics::{Failure, file, on_disk, petscii, read_image, require_new, write};
+use cbm_shell::ShellFault;
+use cbm_shell::texts::Charset;
+use disk_basics::calls::file;
+use disk_basics::host::{read_image, require_new, write};
+use disk_basics::{Failure, on_disk, petscii};
 use disk_facts::without_errors;
 use host_files::Sync;
 use std::rt::Runtime;

@@ -2,12 +2,12 @@
 use cbm_bam::SectorSet;
 use cbm_image::{Kind, kind_of};
 use cbm_medium::Address;
-use cbm_shell::{Charset, ShellFault};
+use cbm_shell::ShellFault;
+use cbm_shell::texts::Charset;
 use cbm_volume::Entry;
-use disk_basics::{
-    Failure, convert, entries, file_blocks, geos_blocks, in_memory, name_text, on_disk, picture,
-    print, read_image, require_new, write,
-};
+use disk_basics::calls::{convert, entries, file_blocks, geos_blocks, name_text, picture};
+use disk_basics::host::{print, read_image, require_new, write};
+use disk_basics::{Failure, in_memory, on_disk};
 use disk_facts::{type_of, without_errors};
 use disk_views::{Owner, lettered, svg_of};
 use host_files::Sync;

@@ -1,5 +1,5 @@
 //! The name of a host's file for a name on a disk.
-use cbm_shell::{Charset, key_of};
+use cbm_shell::texts::{Charset, key_of};
 use std::alloc::{AllocError, Global};
 
 /// A digit of a number to the base 16.

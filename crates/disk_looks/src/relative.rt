@@ -1,7 +1,9 @@
 //! Relative files on this computer: with the head of the emulator PC64, which has the length of their records.
-use cbm_shell::{Charset, ShellFault};
+use cbm_shell::ShellFault;
+use cbm_shell::texts::Charset;
 use cbm_volume::Entry;
-use disk_basics::{entries, is_relative_name, name_text};
+use disk_basics::calls::{entries, name_text};
+use disk_basics::is_relative_name;
 use disk_facts::first_meant;
 use std::alloc::{AllocError, Global};
 use std::io;

@@ -1,8 +1,10 @@
 //! GET and GET-ALL of damaged disks: what can be read of a file.
 use cbm_medium::Fault;
-use cbm_shell::{Charset, Salvaged, ShellFault};
+use cbm_shell::texts::Charset;
+use cbm_shell::{Salvaged, ShellFault};
 use cbm_volume::Entry;
-use disk_basics::{Disk, file_blocks, info, name_text};
+use disk_basics::Disk;
+use disk_basics::calls::{file_blocks, info, name_text};
 use disk_facts::{first_meant, without_errors};
 use std::io;
 use std::rt::Runtime;

@@ -1,8 +1,11 @@
 //! SECTOR: the bytes of a sector.
 use cbm_medium::Address;
-use cbm_shell::{Charset, ShellFault, key_of};
+use cbm_shell::ShellFault;
+use cbm_shell::texts::{Charset, key_of};
 use cbm_volume::Trouble;
-use disk_basics::{Failure, WordFault, in_memory, on_disk, print, read_image, sector};
+use disk_basics::calls::sector;
+use disk_basics::host::{print, read_image};
+use disk_basics::{Failure, WordFault, in_memory, on_disk};
 use disk_facts::hex;
 use std::alloc::{AllocError, Global};
 use std::rt::Runtime;

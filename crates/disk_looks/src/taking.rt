@@ -2,9 +2,12 @@
 use crate::naming::host_name;
 use crate::relative::{ENDING, packed};
 use crate::salvage::salvaged;
-use cbm_shell::{Charset, ShellFault};
+use cbm_shell::ShellFault;
+use cbm_shell::texts::Charset;
 use cbm_volume::Entry;
-use disk_basics::{Disk, exists, name_text, write};
+use disk_basics::Disk;
+use disk_basics::calls::name_text;
+use disk_basics::host::{exists, write};
 use disk_facts::type_of;
 use host_files::Sync;
 use std::alloc::{AllocError, Global};

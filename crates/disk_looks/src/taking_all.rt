@@ -2,7 +2,8 @@
 use crate::progress::Progress;
 use crate::taking::{Destination, Names, Source, take};
 use cbm_volume::Entry;
-use disk_basics::{Disk, Failure, on_disk, read_image};
+use disk_basics::host::read_image;
+use disk_basics::{Disk, Failure, on_disk};
 use disk_facts::{count_files, without_errors};
 use std::alloc::AllocError;
 use std::fs;

@@ -1,6 +1,7 @@
 //! TRACK: what stands on a track of a G64.
 use cbm_image::{Kind, kind_of};
-use disk_basics::{Failure, WordFault, in_memory, print, read_image};
+use disk_basics::host::{print, read_image};
+use disk_basics::{Failure, WordFault, in_memory};
 use disk_facts::{track_at, track_name};
 use disk_views::track_lines;
 use std::rt::Runtime;

@@ -1,9 +1,10 @@
 //! LIST of the files that were deleted.
 use crate::view::{Look, LookAnswer};
 use cbm_command::matches;
-use cbm_shell::{Charset, ShellFault};
+use cbm_shell::ShellFault;
+use cbm_shell::texts::Charset;
 use cbm_volume::Entry;
-use disk_basics::{entries, name_text};
+use disk_basics::calls::{entries, name_text};
 use disk_facts::is_deleted;
 use std::alloc::{AllocError, Global};
 

@@ -2,7 +2,7 @@
 use crate::view::{Look, LookAnswer};
 use cbm_shell::ShellFault;
 use cbm_volume::Entry;
-use disk_basics::{entries, name_text};
+use disk_basics::calls::{entries, name_text};
 use disk_facts::{is_meant, type_of};
 use std::alloc::{AllocError, Global};
 

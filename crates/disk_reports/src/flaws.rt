@@ -3,9 +3,11 @@ mod facts;
 
 use crate::view::{Look, LookAnswer};
 use cbm_medium::Address;
-use cbm_shell::{Charset, DiskFlaw, ShellFault, Whose, words};
+use cbm_shell::texts::{Charset, words};
+use cbm_shell::{DiskFlaw, ShellFault, Whose};
 use cbm_volume::Entry;
-use disk_basics::{Disk, is_mendable, name_text, place_of, slots_of};
+use disk_basics::calls::name_text;
+use disk_basics::{Disk, is_mendable, place_of, slots_of};
 pub use facts::flaw_report;
 use std::alloc::{AllocError, Global};
 

@@ -1,8 +1,9 @@
 //! The files of GEOS.
 use crate::view::Look;
-use cbm_shell::{Charset, Geos, ShellFault, geos_of};
+use cbm_shell::texts::Charset;
+use cbm_shell::{Geos, ShellFault, geos_of};
 use cbm_volume::Entry;
-use disk_basics::{entries, name_text};
+use disk_basics::calls::{entries, name_text};
 use disk_facts::{is_meant, kind_name};
 use std::alloc::{AllocError, Global};
 

@@ -1,7 +1,8 @@
 //! INFO: what the disk is.
-use cbm_shell::{Charset, Info, ShellFault};
+use cbm_shell::texts::Charset;
+use cbm_shell::{Info, ShellFault};
 use cbm_volume::Unsound;
-use disk_basics::{entries, info, name_text, unsound_text};
+use disk_basics::calls::{entries, info, name_text, unsound_text};
 use disk_facts::{count_files, format_name, more_tracks, unfilled};
 use std::alloc::{AllocError, Global};
 

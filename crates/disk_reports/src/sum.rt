@@ -2,7 +2,7 @@
 use crate::view::LookAnswer;
 use cbm_image::{Kind, kind_of};
 use cbm_shell::ShellFault;
-use disk_basics::convert;
+use disk_basics::calls::convert;
 use disk_facts::{hex, without_errors};
 use sha2::{Digest, Sha256};
 use std::alloc::{AllocError, Global};

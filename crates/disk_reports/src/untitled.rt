@@ -2,9 +2,10 @@
 use crate::geos::add_geos;
 use crate::view::{Look, LookAnswer};
 use cbm_channel::FileType;
-use cbm_shell::{Charset, ShellFault};
+use cbm_shell::ShellFault;
+use cbm_shell::texts::Charset;
 use cbm_volume::Entry;
-use disk_basics::{entries, name_text};
+use disk_basics::calls::{entries, name_text};
 use disk_facts::is_meant;
 use std::alloc::{AllocError, Global};
 

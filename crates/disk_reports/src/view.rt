@@ -7,9 +7,10 @@ use crate::info::lines_of as info_lines;
 use crate::report::{report_line, table_lines};
 use crate::sum::add_sum;
 use crate::untitled::add_untitled;
-use cbm_shell::{Charset, ShellFault};
+use cbm_shell::ShellFault;
+use cbm_shell::texts::Charset;
 use cbm_volume::Unsound;
-use disk_basics::{check, check_text, directory, raw_directory};
+use disk_basics::calls::{check, check_text, directory, raw_directory};
 use std::alloc::{AllocError, Global};
 
 /// What is shown.

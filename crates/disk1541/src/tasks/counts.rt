@@ -1,5 +1,6 @@
 //! What several images came to.
-use disk_basics::{Failure, in_memory, print};
+use disk_basics::host::print;
+use disk_basics::{Failure, in_memory};
 use disk_reports::{Look, LookAnswer, View};
 use std::alloc::{AllocError, Global};
 use std::rt::Runtime;

@@ -1,7 +1,8 @@
 //! The commands that look into images: one image, several, or those of folders.
 use super::counts::Counts;
 use super::folders::Walk;
-use disk_basics::{Failure, in_memory, on_disk, print, read_image};
+use disk_basics::host::{print, read_image};
+use disk_basics::{Failure, in_memory, on_disk};
 use disk_reports::{Look, LookAnswer, Shown, heads, lines_of, refusal_line};
 use std::path::Path;
 use std::rt::Runtime;

@@ -1,6 +1,7 @@
 //! What the lines of a recipe are built with.
-use cbm_shell::Charset;
-use disk_basics::{Failure, WordFault, in_memory, petscii, read_file};
+use cbm_shell::texts::Charset;
+use disk_basics::host::read_file;
+use disk_basics::{Failure, WordFault, in_memory, petscii};
 use std::path::Path;
 use std::rt::Runtime;
 

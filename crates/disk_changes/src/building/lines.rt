@@ -7,9 +7,9 @@ use crate::putting::{Body, body_of};
 use crate::stored::{Stored, with_stored};
 use cbm_channel::{Code, Status};
 use cbm_shell::{Looks, ShellFault};
-use disk_basics::{
-    Failure, WordFault, add_art, dress, entries, in_memory, kind_of_file, name_of_file, on_disk,
-};
+use disk_basics::calls::entries;
+use disk_basics::changing::{add_art, dress};
+use disk_basics::{Failure, WordFault, in_memory, kind_of_file, name_of_file, on_disk};
 use disk_recipes::RecipeLine;
 use std::alloc::Global;
 use std::rt::Runtime;

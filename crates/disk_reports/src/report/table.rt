@@ -2,10 +2,12 @@
 use super::{LabelTexts, Size, files_meant, geos_kind, image_answer, label_of, record_of, size_of};
 use crate::sum::sum_text;
 use crate::view::{Look, LookAnswer, Shown, View};
-use cbm_shell::{Charset, Info, ShellFault, words};
+use cbm_shell::texts::{Charset, words};
+use cbm_shell::{Info, ShellFault};
 use cbm_volume::{Entry, Unsound};
 use csv::WriterBuilder;
-use disk_basics::{Disk, info, name_text};
+use disk_basics::Disk;
+use disk_basics::calls::{info, name_text};
 use disk_facts::{format_name, hex, type_of};
 use serde::Serialize;
 use std::alloc::{AllocError, Global};

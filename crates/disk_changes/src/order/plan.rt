@@ -1,9 +1,10 @@
 //! What putting a disk in order takes away, in words.
 use cbm_bam::SectorSet;
 use cbm_medium::Address;
-use cbm_shell::{Charset, Order, ShellFault, geos_of};
+use cbm_shell::texts::Charset;
+use cbm_shell::{Order, ShellFault, geos_of};
 use cbm_volume::Entry;
-use disk_basics::{entries, geos_blocks, name_text};
+use disk_basics::calls::{entries, geos_blocks, name_text};
 use std::alloc::{AllocError, Global};
 
 /// Adds a sector.

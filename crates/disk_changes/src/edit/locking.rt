@@ -1,8 +1,10 @@
 //! LOCK, UNLOCK and TITLE.
 use crate::blanks::title_of;
-use cbm_shell::Charset;
+use cbm_shell::texts::Charset;
 use cbm_volume::Entry;
-use disk_basics::{Failure, entries, in_memory, lock, on_disk, petscii, retitle};
+use disk_basics::calls::entries;
+use disk_basics::changing::{lock, retitle};
+use disk_basics::{Failure, in_memory, on_disk, petscii};
 use disk_facts::first_meant;
 use std::alloc::{AllocError, Global};
 
