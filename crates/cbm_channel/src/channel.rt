@@ -9,6 +9,15 @@ use cbm_listing::Listing;
 use cbm_machine::Code;
 use cbm_volume::{ChainReader, FileWriter, Medium, Trouble, Volume};
 
+/// What a channel costs of the drive's buffers where a file or a listing is open.
+pub(crate) const FILE_COST: usize = 1;
+
+/// The same where records are.
+pub(crate) const RECORDS_COST: usize = 2;
+
+/// What all open channels cost at most.
+pub(crate) const MOST_COST: usize = 3;
+
 /// A channel from 0 to 14.
 #[derive(Drop)]
 pub enum Channel {
@@ -121,8 +130,8 @@ impl Channel {
     {
         match self {
             Channel::Closed => 0,
-            Channel::Records(_) => 2,
-            _ => 1,
+            Channel::Records(_) => RECORDS_COST,
+            _ => FILE_COST,
         }
     }
 

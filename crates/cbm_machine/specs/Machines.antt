@@ -123,6 +123,10 @@ cost (Writing s bytes blocks full replaces) = 1
 cost (Stopped s) = 1
 cost (Relative s k p) = 2
 
--- with this much more the channels would cost more than three
+-- all open channels cost three at most
+abbrev pub most_cost : ℕ
+most_cost = 3
+
+-- with this much more the channels would cost more than that
 abbrev pub too_many : ℕ → Machine → Bool
-too_many n m = nat_lt 3 (n + sum_by cost m.channels)
+too_many n m = nat_lt most_cost (n + sum_by cost m.channels)

@@ -13,7 +13,7 @@ ghost use Rattle.cbm_machine.specs.Plans as plans;
 ghost use Rattle.cbm_channel.specs.Planned.{FoundAs, PlannedAs, IsFound};
 ghost use Rattle.cbm_machine.specs.declared.code.Code as code;
 
-use crate::channel::{any_uses, any_writes, open_count};
+use crate::channel::{FILE_COST, MOST_COST, RECORDS_COST, any_uses, any_writes, open_count};
 use crate::dos::Dos;
 use crate::finding::Found;
 use crate::plan::Plan;
@@ -31,8 +31,8 @@ fn cost_of(wanted: &Wanted, found: &Result<Found, Status>) -> usize
         → result ≡ (if not wanted.now.has_at && plans.meets_records r then 2 else 1) }
 {
     match found {
-        Ok(found) if !wanted.has_at && found.entry.kind() == Some(FileType::Rel) => 2,
-        _ => 1,
+        Ok(found) if !wanted.has_at && found.entry.kind() == Some(FileType::Rel) => RECORDS_COST,
+        _ => FILE_COST,
     }
 }
 
@@ -107,7 +107,7 @@ impl<M: Medium> Dos<M> {
     {
         match opening {
             Opening::Listing(pattern) => {
-                if self.is_too_many(1) {
+                if self.is_too_many(FILE_COST) {
                     return Err(Status::plain(Code::NoChannel));
                 }
                 Ok(Plan::ReadListing(pattern))
@@ -136,7 +136,7 @@ impl<M: Medium> Dos<M> {
         if wanted.mode == Mode::Read {
             return self.plan_reading(&wanted);
         }
-        if self.is_too_many(1) {
+        if self.is_too_many(FILE_COST) {
             return Err(Status::plain(Code::NoChannel));
         }
         if wanted.mode == Mode::Append {
@@ -158,7 +158,7 @@ impl<M: Medium> Dos<M> {
             PlannedAs (M.seen self.now.medium).tracks (M.seen self.now.medium).content m (plans.plan channel
             (opening.File wanted) m) result }
     {
-        if self.is_too_many(2) {
+        if self.is_too_many(RECORDS_COST) {
             return Err(Status::plain(Code::NoChannel));
         }
         if wanted.has_at || channel < 2 {
@@ -355,6 +355,6 @@ impl<M: Medium> Dos<M> {
         requires { cost ≤ 2 }
         ensures { (m : Machine) → Stands M.seen self.now m → result ≡ too_many cost m }
     {
-        cost + open_count(self.channels.as_slice()) > 3
+        cost + open_count(self.channels.as_slice()) > MOST_COST
     }
 }
