@@ -36,3 +36,4 @@ pub mod Counted
 pub mod Opens
 pub mod Steady
 pub mod Nexts
+pub mod HiddenRecords

@@ -35,6 +35,11 @@ ShowsTrouble tracks c t =
     ⊎ (((entry : List ℕ) × Contains (directory_of tracks c).entries entry × IsMislisted tracks c entry t)
     ⊎ IsMet tracks c t)))
 
+-- A record can't be read for this trouble: the directory breaks off with it, or a link names no sector of the disk, or a sector doesn't read.
+abbrev pub HidesRecords : Seen → Trouble → Type 0
+HidesRecords now t =
+    ((directory_of (geometry_of now.tracks now.content) now.content).trouble ≡ Some t) ⊎ IsMet (geometry_of now.tracks now.content) now.content t
+
 -- A STATUS HAS ITS GROUND: it is no fault of a disk; or the disk is protected; or the content shows the fault.
 abbrev pub HasGround : {M : Type 0} → (M → Seen) → M → Status → Type 0
 HasGround seen medium status =

@@ -90,11 +90,8 @@ impl Channel {
     ghost use Rattle.cbm_file.specs.Files.{Disk};
     ghost use Rattle.cbm_machine.specs.Machines as machine;
     ghost use Rattle.cbm_machine.specs.Talking.{taken_on};
-    ghost use Rattle.cbm_medium.specs.Met.{IsMet};
-    ghost use Rattle.cbm_volume.specs.Map.{geometry_of};
-    ghost use Rattle.cbm_volume.specs.Slots.{directory_of};
     ghost use Rattle.cbm_machine.specs.Codes.{code_number};
-    ghost use Rattle.cbm_channel.specs.Grounds.{is_fault_number};
+    ghost use Rattle.cbm_channel.specs.Grounds.{HidesRecords, is_fault_number};
     ghost use Rattle.cbm_channel.specs.Moved.{code_placed, placed_on};
     ghost use Rattle.cbm_channel.specs.Standing.{Fits, ChannelStands, WaitsFor, IsSameFile, use_of};
     ghost use Rattle.cbm_channel.specs.Shown.{is_closed, talk_refused, is_written, is_writing, has_records, writes_on, uses_on, cost_on, shown_on};
@@ -213,6 +210,7 @@ impl Channel {
         requires { Fits (M.seen volume.now).tracks self.old }
         ensures fits { Fits (M.seen volume.now).tracks self.new }
         ensures taken { IsTakenBy (M.seen volume.now).content self.old self.new result }
+        ensures cause { has_records self.old ≡ true → IfErr result (HidesRecords (M.seen volume.now)) }
         ensures well { let now = M.seen volume.now in (d : Disk) (uses : ℕ → Use) (ch : ℕ) (x : machine.Channel) →
             HoldsNow now.tracks now.content d uses → uses ch ≡ use_of self.old x → ChannelStands self.old x →
             WaitsFor d self.old →
@@ -249,8 +247,7 @@ impl Channel {
             IsOkAnd result (λ code. code ≡ code_placed number position d x) ×
             ChannelStands self.new (placed_on number position d x) × WaitsFor d self.new ×
             HoldsNow now.tracks now.content d (with_use uses ch (use_of self.new (placed_on number position d x))) }
-        ensures cause { let now = M.seen volume.now in let tracks = geometry_of now.tracks now.content in
-            IfErr result (λ t. ((directory_of tracks now.content).trouble ≡ Some t) ⊎ IsMet tracks now.content t) }
+        ensures cause { IfErr result (HidesRecords (M.seen volume.now)) }
     {
         match self {
             Channel::Closed => Ok(Code::NoChannel),

@@ -1,11 +1,9 @@
 ghost use Rattle.std.specs.Prelude.{◌≡◌, ◌≢◌, ◌≤◌, ◌<◌, ◌-◌, ◌^◌, ◌⊎◌, ◌==◌, ℕ, true, false, None, List, length, drop, is_some, option_map, slice_index_or, IfOk, IfErr, IsOkAnd, MatchBool};
 ghost use Rattle.std.specs.List.{list_all};
-ghost use Rattle.cbm_medium.specs.Met.{IsMet};
 ghost use Rattle.cbm_file.specs.Files.{Disk, File, Records, file_at};
 ghost use Rattle.cbm_machine.specs.Records.{record_at};
 ghost use Rattle.cbm_volume.specs.Holding.{HoldsDisk};
-ghost use Rattle.cbm_volume.specs.Map.{geometry_of};
-ghost use Rattle.cbm_volume.specs.Slots.{directory_of};
+ghost use Rattle.cbm_channel.specs.Grounds.{HidesRecords};
 ghost use Rattle.cbm_volume.specs.Growth.{with_growth, IsTooLarge, IsGrowthCut};
 ghost use Rattle.cbm_volume.specs.RecordWrites.{HasRecordsOpen};
 ghost use Rattle.cbm_volume.specs.Writers.{Use, HoldsNow};
@@ -94,8 +92,7 @@ fn waiting_at<M: Medium>(volume: &Volume<M>, slot: u8, number: u32) -> Result<Wa
         IsOkAnd result (Waits (record_at (Records w rs b s) number)) }
     ensures whole { IfOk result (λ x. is_broken x ≡ false) }
     ensures few { IfOk result (λ x. is_some (record_of x) ≡ true → number ≤ 195072) }
-    ensures cause { let now = M.seen volume.now in let tracks = geometry_of now.tracks now.content in
-        IfErr result (λ t. ((directory_of tracks now.content).trouble ≡ Some t) ⊎ IsMet tracks now.content t) }
+    ensures cause { IfErr result (HidesRecords (M.seen volume.now)) }
     ensures never_26 { IfErr result (λ t. t.code ≢ 26) }
 {
     if number == 0 {
@@ -142,8 +139,7 @@ impl OnRecord {
         ensures means { let now = M.seen volume.now in (d : Disk) (f : File) (b s : ℕ) (rs : List (List ℕ)) →
             HoldsDisk now.tracks now.content d → file_at d slot ≡ Some f → f.closed ≡ true →
             f.body ≡ Records length rs b s → IsOkAnd result (IsOnRecord d) }
-        ensures cause { let now = M.seen volume.now in let tracks = geometry_of now.tracks now.content in
-            IfErr result (λ t. ((directory_of tracks now.content).trouble ≡ Some t) ⊎ IsMet tracks now.content t) }
+        ensures cause { IfErr result (HidesRecords (M.seen volume.now)) }
         ensures never_26 { IfErr result (λ t. t.code ≢ 26) }
     {
         let waiting = waiting_at(volume, slot, 1)?;
@@ -206,8 +202,7 @@ impl OnRecord {
             f.body ≡ Records self.old.width rs b s → IsOk result × IsOnRecord d self.new }
         ensures whole { OnOk result (is_broken self.new.waiting ≡ false) }
         ensures broken { OnErr result (self.new.waiting ≡ Broken) }
-        ensures cause { let now = M.seen volume.now in let tracks = geometry_of now.tracks now.content in
-            IfErr result (λ t. ((directory_of tracks now.content).trouble ≡ Some t) ⊎ IsMet tracks now.content t) }
+        ensures cause { IfErr result (HidesRecords (M.seen volume.now)) }
         ensures never_26 { IfErr result (λ t. t.code ≢ 26) }
     {
         self.number = number;
@@ -241,6 +236,7 @@ impl OnRecord {
     /// waits nothing happens. Errors: why the next record can't be read, of which nothing waits then.
     pub(crate) fn taken<M: Medium>(&mut self, volume: &Volume<M>) -> Result<(), Trouble>
         ensures moved { IsMoved self.old.waiting self.old self.new result }
+        ensures cause { IfErr result (HidesRecords (M.seen volume.now)) }
         ensures slot { self.new.slot ≡ self.old.slot }
         ensures well { let now = M.seen volume.now in (d : Disk) → HoldsDisk now.tracks now.content d →
             IsOnRecord d self.old → IsOk result × (IsOnRecord d self.new ×

@@ -1,11 +1,15 @@
-use Rattle.std.proofs.Common.{◌≡◌, ◌<◌, Some, false, refl, sym, ap, subst, arith}
+use Rattle.std.proofs.Common.{◌≡◌, ◌<◌, Some, false, true, length, refl, sym, ap, subst, ◌∙◌, arith}
 use Rattle.std.specs.Prelude.{slice_index_or}
 use Rattle.cbm_machine.specs.Machines.{channel}
 use Rattle.cbm_machine.specs.Talking.{taken}
-use Rattle.cbm_channel.specs.Shown.{shown_by}
+use Rattle.cbm_channel.specs.Grounds.{HidesRecords}
+use Rattle.cbm_channel.specs.Shown.{has_records, has_records_on, shown_by}
 use Rattle.cbm_channel.specs.Standing.{Kept, uses_of}
+use Rattle.cbm_channel.specs.declared.channel.Channel.TheVariants.{Closed}
+use Rattle.cbm_channel.proofs.Changed.{fit_set}
+use Rattle.cbm_channel.proofs.HiddenRecords.{told_hidden}
 use Rattle.cbm_channel.proofs.Asked.{below_15, taken_other}
-use Rattle.cbm_channel.proofs.Stands.{with_one, told_on, means_of, stands_at, waits_at, use_at, moved, stood, not_ok}
+use Rattle.cbm_channel.proofs.Stands.{any_default, with_one, told_on, means_of, stands_at, waits_at, use_at, moved, stood, not_ok}
 use Rattle.cbm_channel.proofs.Nexts.{more_of, more_told}
 use Rattle.cbm_channel.proofs.Places.{taken_fits_in}
 use Rattle.cbm_channel.proofs.dos.Dos.taken.Goals as goal
@@ -50,3 +54,16 @@ pub returns-in_default-clause-next : goal.returns-in_default-clause-next
 returns-in_default-clause-next g c = λ n e.
     more_of _ _ c.self.inside.channels _ c.args.channel n c.index-self-channel.result c.taken-2.new.self c.self.inside.telling c.self.inside.telling _ refl (omega (arith, c.requires, c.if-channel-eq15.false)) c.self.invariant.count
     c.taken-2.ensures.fits c.taken-2.ensures.taken (subst (λ (k : Kept _). shown_by c.args.channel k ≡ Some (n, false)) (sym c.self.view_is) e)
+
+pub invariant_of-self-in-Err : goal.invariant_of-self-in-Err
+invariant_of-self-in-Err g c =
+    fit_set _ c.self.inside.channels c.args.channel c.taken-2.new.self c.self.invariant c.taken-2.ensures.fits (omega (arith, c.requires, c.if-channel-eq15.false, c.self.invariant.count))
+
+-- the record's trouble is reported
+pub returns-in-Err-clause-ground : goal.returns-in-Err-clause-ground
+returns-in-Err-clause-ground g c = λ lt rel.
+    let inside : c.args.channel < length c.self.inside.channels = omega (arith, lt, c.self.invariant.count) in
+    let records : has_records (slice_index_or c.self.inside.channels c.args.channel c.index-self-channel.result) ≡ true =
+    sym (ap has_records (any_default c.self.inside.channels c.args.channel Closed c.index-self-channel.result inside)) ∙ subst (λ (k : Kept _). has_records_on c.args.channel k ≡ true) (sym c.self.view_is) rel in
+    told_hidden g.M.Medium.seen c.args.self.now c.set.new.self c.in-Err.trouble (c.set.ensures.told ∙ ap (λ s. record { status = s; told = 0 }) c.from.ensures)
+    (subst (λ (k : Kept _). HidesRecords (g.M.Medium.seen k.medium) c.in-Err.trouble) c.self.view_is (c.in-Err.ensures.cause records))
