@@ -87,6 +87,7 @@ stopped_early t c before after uses (Err e) s = record {
   disk = s.disk;
   holds = s.holds;
   either = λ n. elim (s.either n) [ inl k ↦ inl k | inr k ↦ inl k ];
+  total = s.total;
 }
 
 -- what holds anyway holds where a call is refused

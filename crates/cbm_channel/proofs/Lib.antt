@@ -24,6 +24,7 @@ pub mod Planning
 pub mod BytesPut
 pub mod DiskSteps
 pub mod Elses
+pub mod Outside
 pub mod Finished
 pub mod Takes
 pub mod Stores

@@ -445,7 +445,7 @@ on_err (Ok a) X x = tt
 on_err (Err e) X x = x
 
 pub nothing_begun : (t : ℕ) (c c' : Content) (d d' : Disk) (uses : ℕ → Use) → c' ≡ c → HoldsNow t c d uses → usage.Stopped t c' d d' uses
-nothing_begun t c c' d d' uses e h = record { disk = d; holds = subst (λ x. HoldsNow t x d uses) (sym e) h; either = λ n. inl refl }
+nothing_begun t c c' d d' uses e h = record { disk = d; holds = subst (λ x. HoldsNow t x d uses) (sym e) h; either = λ n. inl refl; total = refl }
 
 pub failed_by : (old new : Seen) (e : Trouble) (p : Bool) → p ≡ old.protected → p ≡ false → IsHindered old new e → HasFailed old new
 failed_by old new e p same free (inl x) = absurd (let z = sym x.0 ∙ sym same ∙ free in (cc))

@@ -40,6 +40,8 @@ use Rattle.cbm_channel.proofs.Stands.{any_default, stands_at, with_step, zip_at,
 use Rattle.cbm_channel.proofs.Stores.{same_machine, set_same}
 use Rattle.cbm_volume.proofs.RecordUses.{records_most}
 use Rattle.cbm_channel.proofs.Uses.{with_same}
+use Rattle.cbm_channel.specs.ChannelCalls.{KeepsOutside, OfPlaced}
+use Rattle.cbm_channel.proofs.Outside.{outside_itself}
 
 -- ---- the first 256 bytes of a text
 
@@ -439,6 +441,14 @@ module _ (old new : Seen) (chs : List kept.Channel) (told : Told) (text : Option
         subst (λ (c : Content). StandsBy c old.tracks old.protected (slice_set chs ch x') told text m) (sym q.2.0.2)
             (subst (λ (ys : List kept.Channel). StandsBy old.content old.tracks old.protected ys told text m) (sym (ap (slice_set chs ch) same ∙ set_same chs ch code.Closed (omega (arith, lt, fit.count)))) st),
       )
+
+  -- what lies outside the disk stays
+  pub put_outside : ((r : Placed) → x ≡ code.Records r → OfPlaced old r (λ d uses b s rs. KeepsOutside old new)) → (has_records x ≡ false → new ≡ old) → KeepsOutside old new
+  put_outside puts quiet = elim (records_or_not x) [
+    | inl none ↦ outside_itself old new (quiet none)
+    | inr k ↦ (let on : IsOnRecord m.disk k.0 = on_it k.0 k.1 in
+        puts k.0 k.1 m.disk (uses_of chs m.channels) on.blocks on.sides on.records (can_put old.tracks old.content new.content old.protected chs told text m ch k.0 lt fit st (here k.0 k.1) on))
+  ]
 
   -- THE WRITE WAS REFUSED
   pub put_stopped : (tr : Trouble) (s : Status) (r : Placed) → x ≡ code.Records r → s ≡ trouble_status tr → (old.protected ≡ true → new.content ≡ old.content) → PutsRecord old new x x' bytes (Err tr)

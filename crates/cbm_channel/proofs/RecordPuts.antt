@@ -18,6 +18,8 @@ use Rattle.cbm_volume.specs.RecordWrites.{OfRecords, new_record, with_record, Is
 use Rattle.cbm_volume.specs.Writers.{Use, HoldsNow}
 use Rattle.cbm_channel.specs.Placed.{Placed, IsOnRecord, IsPlacedAt}
 use Rattle.cbm_channel.specs.Recorded.{CanPut, CanGrow, disk_grown, blocks_grown, sides_grown, records_grown, IsReadAnew, IsTextStored, IsTextCut}
+use Rattle.cbm_channel.specs.ChannelCalls.{KeepsOutside, OfPlaced}
+use Rattle.cbm_channel.proofs.Outside.{outside_then}
 
 -- ---- the disk, where one slot's file has other records
 
@@ -268,3 +270,10 @@ module _ (old mid : Seen) (d : Disk) (uses : ℕ → Use) (r : Placed) (b s : �
     store_there cut new writes =
         let p = writes (disk_grown d r b s rs) uses (blocks_grown r b) (sides_grown r b s) (records_grown r b rs) can_more in
         let z = sym (grown_there r.width b s r.number rs (omega (arith, can.first, can.inside)) can.number) ∙ ap is_some p.0 in absurd (cc)
+
+    -- what lies outside the disk stays
+    pub written_outside : (new : Seen) → KeepsOutside old more → OfPlaced more r (λ d' uses' b' s' rs'. KeepsOutside more new) → KeepsOutside old new
+    written_outside new first last = outside_then old more new first (last (disk_grown d r b s rs) uses (blocks_grown r b) (sides_grown r b s) (records_grown r b rs) can_more)
+
+  pub grown_outside : (more : Seen) → KeepsOutside old mid → OfPlaced mid r (λ d' uses' b' s' rs'. KeepsOutside mid more) → KeepsOutside old more
+  grown_outside more first last = outside_then old mid more first (last d uses b s rs can_grow)

@@ -27,6 +27,7 @@ use Rattle.cbm_channel.specs.Shown.{uses_on}
 use Rattle.cbm_channel.specs.Commanded.{entry_may_go, entries_going, slots_going, all_scratched, CanGo, CanAllGo, IsGoing}
 use Rattle.cbm_channel.proofs.Planning.{none_passes}
 use Rattle.cbm_channel.proofs.Uses.{any_uses_same}
+use Rattle.cbm_channel.proofs.Outside.{scratched_total}
 
 -- ---- the entries tell of the slots
 
@@ -287,9 +288,10 @@ pub record IsClearing (t : ℕ) (c : Content) (uses : ℕ → Use) (before after
   pub can : CanAllGo disk uses left
   pub leads : all_scratched disk left ≡ after
   pub slots : (k : ℕ) → (file_at disk k ≡ file_at before k) ⊎ (file_at disk k ≡ file_at after k)
+  pub total : disk.total ≡ before.total
 
 pub clearing_first : (t : ℕ) (c : Content) (uses : ℕ → Use) (d : Disk) (all : List ℕ) → HoldsNow t c d uses → CanAllGo d uses all → IsClearing t c uses d (all_scratched d all) all
-clearing_first t c uses d all holds can = record { disk = d; holds = holds; can = can; leads = refl; slots = λ k. inl refl }
+clearing_first t c uses d all holds can = record { disk = d; holds = holds; can = can; leads = refl; slots = λ k. inl refl; total = refl }
 
 module _ (t : ℕ) (c c' : Content) (uses : ℕ → Use) (before after : Disk) (n : ℕ) (left : List ℕ) (h : IsClearing t c uses before after (n ∷ left)) where
   now_gone : (k : ℕ) → (file_at (scratched h.disk n) k ≡ file_at before k) ⊎ (file_at (scratched h.disk n) k ≡ file_at after k)
@@ -305,7 +307,7 @@ module _ (t : ℕ) (c c' : Content) (uses : ℕ → Use) (before after : Disk) (
       → IsClearing t c' uses before after left
   clearing_next t' e step =
       let holds = step h.disk uses h.can.0.file (subst (λ (x : ℕ). HoldsNow x c h.disk uses) (sym e) h.holds) h.can.0.in_slot h.can.0.unused in
-      record { disk = scratched h.disk n; holds = subst (λ (x : ℕ). HoldsNow x c' (scratched h.disk n) uses) e holds; can = h.can.1; leads = h.leads; slots = now_gone }
+      record { disk = scratched h.disk n; holds = subst (λ (x : ℕ). HoldsNow x c' (scratched h.disk n) uses) e holds; can = h.can.1; leads = h.leads; slots = now_gone; total = scratched_total (file_at h.disk n) h.disk n ∙ h.total }
 
   either_then : Stopped t c' h.disk (scratched h.disk n) uses → Stopped t c' before after uses
   either_then s = record {
@@ -315,6 +317,7 @@ module _ (t : ℕ) (c c' : Content) (uses : ℕ → Use) (before after : Disk) (
       | inl e ↦ elim (h.slots k) [ inl x ↦ inl (e ∙ ap known x) | inr x ↦ inr (e ∙ ap known x) ]
       | inr e ↦ elim (now_gone k) [ inl x ↦ inl (e ∙ ap known x) | inr x ↦ inr (e ∙ ap known x) ]
     ];
+    total = s.total ∙ h.total;
   }
 
   -- or a write was refused

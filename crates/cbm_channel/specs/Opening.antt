@@ -10,6 +10,7 @@ use Rattle.cbm_machine.specs.Plans as plans
 use Rattle.cbm_channel.specs.declared.channel.Channel.{Channel}
 use Rattle.cbm_channel.specs.declared.channel.Channel.TheVariants.{Closed}
 use Rattle.cbm_channel.specs.declared.plan.Plan.{Plan}
+use Rattle.cbm_channel.specs.ChannelCalls.{KeepsOutside}
 use Rattle.cbm_channel.specs.Standing.{Kept, SameBut, Stands, uses_of}
 use Rattle.cbm_channel.specs.Grounds.{HasTold, IsToldFor, IsFromDirectory, KeepsIfRefused, ShowsTrouble}
 use Rattle.cbm_channel.specs.Going.{IsCounted, GoesFrom, opening_parts}
@@ -51,6 +52,10 @@ OpensPlan seen plan result old new = (m : machine.Machine) (p : plans.Plan) (ch 
 abbrev pub StopsPlan : {M : Type 0} → (M → Seen) → Plan → Result (Option Channel) Trouble → Kept M → Kept M → Type 0
 StopsPlan seen plan result old new = (m : machine.Machine) (p : plans.Plan) → PlannedAs (seen old.medium).tracks (seen old.medium).content m (Ok p) (Ok plan) → Stands seen old m
     → OnErr result (Stopped (seen old.medium).tracks (seen new.medium).content m.disk (disk_opened m.disk p) (uses_of old.channels m.channels) × HasFailed (seen old.medium) (seen new.medium))
+
+-- on a sound disk the sectors outside it stay, whatever is opened
+abbrev pub OpensOutside : {M : Type 0} → (M → Seen) → Plan → Kept M → Kept M → Type 0
+OpensOutside seen plan old new = (m : machine.Machine) (p : plans.Plan) → PlannedAs (seen old.medium).tracks (seen old.medium).content m (Ok p) (Ok plan) → Stands seen old m → KeepsOutside (seen old.medium) (seen new.medium)
 
 -- where nothing is written, the content shows why it is refused
 abbrev pub ShowsWhy : {M : Type 0} → (M → Seen) → Plan → Result (Option Channel) Trouble → M → Type 0

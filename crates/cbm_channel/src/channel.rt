@@ -85,7 +85,7 @@ impl Channel {
     ghost use Rattle.std.specs.Prelude.{◌≡◌, ◌≤◌, ◌<◌, ◌^◌, ◌⊎◌, ℕ, List, true, false, not, Some, None, Ok, IsOk, IsOkAnd, IfOk, IfErr, IfSome, OnOk, OnErr, MatchResult, replicate};
     ghost use Rattle.cbm_volume.specs.Writers.{Use, Idle, HoldsNow, with_use, Stopped};
     ghost use Rattle.cbm_volume.specs.Calls.{KeepsProtected, IsSameOn};
-    ghost use Rattle.cbm_channel.specs.ChannelCalls.{KeepsElse, OfChannel, OfPlaced, IsChannelCall};
+    ghost use Rattle.cbm_channel.specs.ChannelCalls.{KeepsElse, KeepsOutside, OfChannel, OfPlaced, IsChannelCall};
     ghost use Rattle.cbm_file.specs.Waiting.{shown};
     ghost use Rattle.cbm_file.specs.Files.{Disk};
     ghost use Rattle.cbm_machine.specs.Machines as machine;
@@ -327,6 +327,8 @@ impl Channel {
         ensures kept { IsSameOn result None (M.seen volume.old) (M.seen volume.new) }
         ensures guarded { KeepsProtected (M.seen volume.old) (M.seen volume.new) }
         ensures medium { KeepsElse result (M.seen volume.old) (M.seen volume.new) }
+        ensures outside { (r : Placed) → self.old ≡ Records r → OfPlaced (M.seen volume.old) r
+            (λ d uses b s rs. KeepsOutside (M.seen volume.old) (M.seen volume.new)) }
     {
         match self {
             Channel::Records(on) => on.put(volume, bytes),

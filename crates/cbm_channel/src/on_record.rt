@@ -120,7 +120,7 @@ impl OnRecord {
     ghost use Rattle.cbm_volume.specs.Written.{IsRecordWrite};
     ghost use Rattle.cbm_volume.specs.Writers.{Use};
     ghost use Rattle.cbm_channel.specs.Going.{KeepsMedium};
-    ghost use Rattle.cbm_channel.specs.ChannelCalls.{KeepsElse, OfPlaced};
+    ghost use Rattle.cbm_channel.specs.ChannelCalls.{KeepsElse, KeepsOutside, OfPlaced};
     ghost use Rattle.cbm_channel.specs.Recorded.{CanGrow, disk_grown, IsTextStored, IsTextCut, IsTextEnded, IsTextStopped};
     ghost use Rattle.cbm_machine.specs.Machines.{Relative};
     ghost use Rattle.cbm_machine.specs.Talking.{taken_on};
@@ -265,6 +265,8 @@ impl OnRecord {
             IsRecordCall result old new d uses r.slot r.width b s rs r.number r.position bytes.now) }
         ensures write { IsRecordWrite result (M.seen volume.old) (M.seen volume.new) self.now.number }
         ensures only { KeepsElse result (M.seen volume.old) (M.seen volume.new) }
+        ensures outside { OfPlaced (M.seen volume.old) self.now
+            (λ d uses b s rs. KeepsOutside (M.seen volume.old) (M.seen volume.new)) }
     {
         // No record has the number 0, and no byte of one.
         if self.number == 0 || self.position == 0 {
@@ -284,6 +286,8 @@ impl OnRecord {
         ensures kept { IsSameOn result false (M.seen volume.old) (M.seen volume.new) }
         ensures guarded { KeepsProtected (M.seen volume.old) (M.seen volume.new) }
         ensures only { KeepsElse result (M.seen volume.old) (M.seen volume.new) }
+        ensures outside { OfPlaced (M.seen volume.old) self.now
+            (λ d uses b s rs. KeepsOutside (M.seen volume.old) (M.seen volume.new)) }
     {
         if self.number == 0 {
             return Ok(false);
@@ -307,6 +311,8 @@ impl OnRecord {
             IsOkAnd x.next (λ y. option_map (λ z. z.items) y ≡ slice_get found r.number))))) }
         ensures write { IsRecordWrite result (M.seen volume.old) (M.seen volume.new) self.now.number }
         ensures medium { KeepsElse result (M.seen volume.old) (M.seen volume.new) }
+        ensures outside { OfPlaced (M.seen volume.old) self.now
+            (λ d uses b s rs. KeepsOutside (M.seen volume.old) (M.seen volume.new)) }
     {
         if let Some(written) = self.write(volume, bytes)? {
             return Ok(Some(written));
@@ -338,6 +344,8 @@ impl OnRecord {
         ensures kept { IsSameOn result None (M.seen volume.old) (M.seen volume.new) }
         ensures guarded { KeepsProtected (M.seen volume.old) (M.seen volume.new) }
         ensures medium { KeepsElse result (M.seen volume.old) (M.seen volume.new) }
+        ensures outside { OfPlaced (M.seen volume.old) self.old
+            (λ d uses b s rs. KeepsOutside (M.seen volume.old) (M.seen volume.new)) }
     {
         match self.store(volume, bytes) {
             Ok(Some(written)) => {

@@ -90,6 +90,7 @@ given_up_stopped medium c c' w (Err t) same d uses ch bytes blocks h e = record 
   disk = d;
   holds = subst (λ (x : Content). HoldsNow medium x d (with_use uses ch Idle)) (sym same) (record { layout = h.layout; so = let_go (geometry_of medium c) c h.layout d uses ch h.so });
   either = λ n. inl refl;
+  total = refl;
 }
 
 pub given_up_hindered : (medium : ℕ) (old new : Seen) (w : Filling) (r : Result (Unit {0}) Trouble) → Refused old new w.chain r

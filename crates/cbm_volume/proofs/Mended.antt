@@ -179,7 +179,7 @@ mended_holds medium c c2 d uses m h idle = subst (λ (x : Disk). HoldsNow medium
 
 -- nothing has changed
 pub unchanged : (medium : ℕ) (c : Content) (d : Disk) (uses : ℕ → Use) → HoldsNow medium c d uses → Stopped medium c d (validated d) uses
-unchanged medium c d uses h = record { disk = d; holds = h; either = λ n. inl refl }
+unchanged medium c d uses h = record { disk = d; holds = h; either = λ n. inl refl; total = refl }
 
 -- the slots so far are swept, of a sound disk
 swept_sweeps : (tracks : ℕ) (c c1 : Content) (l : Layout) (k : ℕ) → Sound tracks c l → IsSwept c c1 l.directory k → Sweeps c c1 l
@@ -228,6 +228,7 @@ swept_stopped medium c c1 d uses k h idle w =
             ∙ sym (ap known (h.so.stands.describes.slots n at))
         | inr past ↦ ap known (get_or_past m.0.slots n None (omega (arith, past, m.1.describes.size)) ∙ sym (get_or_past d.slots n None (omega (arith, past, h.so.stands.describes.size))))
       ]);
+      total = m.1.describes.total ∙ sym h.so.stands.describes.total;
     }
 
 pub of_directory : (tracks : ℕ) (c : Content) (l : Layout) → Sound tracks c l → IsDirectory tracks c l.directory

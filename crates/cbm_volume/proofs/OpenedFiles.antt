@@ -186,8 +186,8 @@ not_full medium c c1 d uses n h s some full =
     some (free_of_disk (geometry_of medium c) c h.layout d h.so.stands ∙ sym (free_grown d) ∙ none_free (geometry_of medium c) c1 s.reached.layout (grown d) s.reached.so.stands full)
 
 -- a disk with the same slots
-pub stopped_at : (medium : ℕ) (c : Content) (l : Layout) (c' : Content) (d disk after : Disk) (uses : ℕ → Use) → Reached medium c l c' disk uses → ((m : ℕ) → file_at disk m ≡ file_at d m) → Stopped medium c' d after uses
-stopped_at medium c l c' d disk after uses r slots = record { disk = disk; holds = reached_now medium c l c' disk uses r; either = λ m. inl (ap known (slots m)) }
+pub stopped_at : (medium : ℕ) (c : Content) (l : Layout) (c' : Content) (d disk after : Disk) (uses : ℕ → Use) → HoldsNow medium c d uses → Reached medium c l c' disk uses → ((m : ℕ) → file_at disk m ≡ file_at d m) → Stopped medium c' d after uses
+stopped_at medium c l c' d disk after uses h r slots = record { disk = disk; holds = reached_now medium c l c' disk uses r; either = λ m. inl (ap known (slots m)); total = r.so.stands.describes.total ∙ sym h.so.stands.describes.total }
 
 -- the sectors of files are the same
 pub untouched_by : (medium : ℕ) (c c' : Content) (d : Disk) (uses : ℕ → Use) (h : HoldsNow medium c d uses) → KeepsFiles h.layout c c' → Untouched (geometry_of medium c) c c' (λ m. false)

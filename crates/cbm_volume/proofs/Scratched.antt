@@ -159,7 +159,7 @@ no_chain medium c c' n entry map freed t r found closed z = λ d uses f h some u
 -- the entry is refused: nothing has changed
 pub entry_refused : (medium : ℕ) (c c' : Content) (n : ℕ) (r : Result (Unit {0}) Trouble) → OnErr r (c' ≡ c) → Stops medium c c' n r
 entry_refused medium c c' n (Ok x) same = λ d uses f h some unused. tt
-entry_refused medium c c' n (Err t) same = λ d uses f h some unused. record { disk = d; holds = subst (λ (x : Content). HoldsNow medium x d uses) (sym same) h; either = λ m. inl refl }
+entry_refused medium c c' n (Err t) same = λ d uses f h some unused. record { disk = d; holds = subst (λ (x : Content). HoldsNow medium x d uses) (sym same) h; either = λ m. inl refl; total = refl }
 
 -- a file that isn't closed: its entry alone
 pub open_scratched : (medium : ℕ) (c c1 : Content) (n : ℕ) (entry : List ℕ) (r : Result (Unit {0}) Trouble) → Answers (directory_of (geometry_of medium c) c) n (Ok (Some entry)) → is_closed entry ≡ false
@@ -220,7 +220,7 @@ pub scratched_stopped : (medium : ℕ) (c c1 c2 : Content) (n : ℕ) (freed : Li
 scratched_stopped medium c c1 c2 n freed (Ok x) same done = λ d uses f h some unused. tt
 scratched_stopped medium c c1 c2 n freed (Err t) same done = λ d uses f h some unused.
     let s : IsScratched medium c1 d n uses freed = done d uses f h some unused in
-    record { disk = with_slot d n None; holds = subst (λ (x : Content). HoldsNow medium x (with_slot d n None) uses) (sym same) s.holds; either = λ m. inr (s.slots m) }
+    record { disk = with_slot d n None; holds = subst (λ (x : Content). HoldsNow medium x (with_slot d n None) uses) (sym same) s.holds; either = λ m. inr (s.slots m); total = refl }
 
 -- ---- why it is refused
 

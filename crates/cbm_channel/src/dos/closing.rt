@@ -11,6 +11,7 @@ impl<M: Medium> Dos<M> {
     ghost use Rattle.cbm_machine.specs.Closing.{close_one, finish_channel, without_text};
     ghost use Rattle.cbm_channel.specs.Standing.{Stands, SameBut, Leads};
     ghost use Rattle.cbm_channel.specs.Written.{is_unbegun};
+    ghost use Rattle.cbm_channel.specs.ChannelCalls.{LeavesOutside};
     ghost use Rattle.cbm_channel.specs.Shown.{is_writing_on, IsQuiet};
     ghost use Rattle.cbm_machine.specs.Machines.{Machine, channel as channel_of};
     ghost use Rattle.cbm_channel.specs.Going.{IsCounted, AreCounted, Goes, Went, some_byte_put, closing, closings, KeepsMedium};
@@ -27,6 +28,7 @@ impl<M: Medium> Dos<M> {
         ensures quiet { channel < 15 → is_writing_on channel self.old ≡ false → IsQuiet self.old self.new }
         ensures all_quiet { ((k : ℕ) → is_writing_on k self.old ≡ false) → IsQuiet self.old self.new }
         ensures medium { KeepsMedium (M.seen self.old.medium) (M.seen self.new.medium) }
+        ensures outside { LeavesOutside M.seen self.old self.new }
         ensures counted { channel < 15 → IsCounted M.seen self.old self.new }
         ensures all_counted { channel ≡ 15 → AreCounted M.seen 15 self.old self.new }
     {
@@ -47,6 +49,7 @@ impl<M: Medium> Dos<M> {
         ensures count { length self.new.channels ≡ 15 }
         ensures quiet { is_writing_on channel self.old ≡ false → IsQuiet self.old self.new }
         ensures medium { KeepsMedium (M.seen self.old.medium) (M.seen self.new.medium) }
+        ensures outside { LeavesOutside M.seen self.old self.new }
         ensures counted { IsCounted M.seen self.old self.new }
     {
         self.fill(channel);
@@ -61,6 +64,7 @@ impl<M: Medium> Dos<M> {
         ensures others { SameBut channel self.old.channels self.new.channels }
         ensures quiet { is_writing_on channel self.old ≡ false → self.new ≡ self.old }
         ensures medium { KeepsMedium (M.seen self.old.medium) (M.seen self.new.medium) }
+        ensures outside { LeavesOutside M.seen self.old self.new }
         ensures cut { HasFailed (M.seen self.old.medium) (M.seen self.new.medium) →
             is_writing_on channel self.new ≡ false }
         ensures counted { IsCounted M.seen self.old self.new }
@@ -87,6 +91,7 @@ impl<M: Medium> Dos<M> {
         ensures count { length self.new.channels ≡ 15 }
         ensures quiet { is_writing_on channel self.old ≡ false → IsQuiet self.old self.new }
         ensures medium { KeepsMedium (M.seen self.old.medium) (M.seen self.new.medium) }
+        ensures outside { LeavesOutside M.seen self.old self.new }
         ensures counted { IsCounted M.seen self.old self.new }
     {
         if let Err(trouble) = self.channels[channel as usize].finish(&mut self.volume) {
@@ -100,6 +105,7 @@ impl<M: Medium> Dos<M> {
         ensures closed { (k : ℕ) → slice_index_or self.new.channels k Closed ≡ Closed }
         ensures quiet { ((k : ℕ) → is_writing_on k self.old ≡ false) → IsQuiet self.old self.new }
         ensures medium { KeepsMedium (M.seen self.old.medium) (M.seen self.new.medium) }
+        ensures outside { LeavesOutside M.seen self.old self.new }
         ensures counted { AreCounted M.seen 15 self.old self.new }
     {
         for channel in 0..15 {

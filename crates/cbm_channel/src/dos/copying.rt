@@ -39,6 +39,7 @@ impl<M: Medium> Dos<M> {
     ghost use Rattle.cbm_machine.specs.Machines.{Machine, answered};
     ghost use Rattle.cbm_machine.specs.Running.{copy, source, sources};
     ghost use Rattle.cbm_channel.specs.Grounds.{HasGround, is_fault_number, KeepsIfRefused};
+    ghost use Rattle.cbm_channel.specs.ChannelCalls.{KeepsOutside, LeavesOutside};
     ghost use Rattle.cbm_channel.specs.Standing.{Stands};
     ghost use Rattle.cbm_channel.specs.Going.{IsCounted, Went, WentFrom, KeepsMedium};
     ghost use Rattle.cbm_channel.specs.Joined.{SourceAs, AddsSources, IsCopying, RefusesCopy};
@@ -54,6 +55,7 @@ impl<M: Medium> Dos<M> {
         ensures channels { self.new.channels ≡ self.old.channels }
         ensures spared { KeepsIfRefused M.seen self.old self.new }
         ensures medium { KeepsMedium (M.seen self.old.medium) (M.seen self.new.medium) }
+        ensures outside { LeavesOutside M.seen self.old self.new }
         ensures counted { IsCounted M.seen self.old self.new }
     {
         match self.plan_copy(new, olds) {
@@ -134,6 +136,8 @@ impl<M: Medium> Dos<M> {
         ensures count { length self.new.channels ≡ 15 }
         ensures spared { KeepsIfRefused M.seen self.old self.new }
         ensures medium { KeepsMedium (M.seen self.old.medium) (M.seen self.new.medium) }
+        ensures outside { (m : Machine) (olds : _) → IsCopying m name.now olds kind slots.now → Stands M.seen self.old m →
+            KeepsOutside (M.seen self.old.medium) (M.seen self.new.medium) }
         ensures counted { IsCounted M.seen self.old self.new }
     {
         match self.volume.copy(kind, name.bytes(), slots) {

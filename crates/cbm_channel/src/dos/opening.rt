@@ -11,7 +11,7 @@ use cbm_volume::{Medium, Trouble};
 
 impl<M: Medium> Dos<M> {
     ghost use Rattle.std.specs.Prelude.{◌≡◌, ◌≤◌, ◌<◌, ◌⊎◌, ◌==◌, true, false, length, is_some, IfOk, IfErr, IfSome, MatchOption, Ok, slice_index_or};
-    ghost use Rattle.cbm_channel.specs.ChannelCalls.{KeepsElse};
+    ghost use Rattle.cbm_channel.specs.ChannelCalls.{KeepsElse, KeepsOutside, LeavesOutside};
     ghost use Rattle.cbm_machine.specs.declared.code.Code.TheVariants.{Fine};
     ghost use Rattle.cbm_machine.specs.Machines.{Machine, say};
     ghost use Rattle.cbm_machine.specs.Plans as plans;
@@ -19,9 +19,9 @@ impl<M: Medium> Dos<M> {
     ghost use Rattle.cbm_channel.specs.Grounds.{HasTold, IsFromDirectory, KeepsIfRefused, OrdersDisk};
     ghost use Rattle.cbm_channel.specs.Standing.{Stands, SameBut, HaveSameFiles, Fits};
     ghost use Rattle.cbm_channel.specs.Going.{IsCounted, WentFrom, KeepsMedium};
-    ghost use Rattle.cbm_channel.specs.Opening.{ClosesFirst, OpensFrom, OpensQuietly, IsClosedUnlessFine, OpensPlan, StopsPlan, ShowsWhy};
+    ghost use Rattle.cbm_channel.specs.Opening.{ClosesFirst, OpensOutside, OpensFrom, OpensQuietly, IsClosedUnlessFine, OpensPlan, StopsPlan, ShowsWhy};
     ghost use Rattle.cbm_channel.specs.Shown.{is_writing_on};
-    ghost use Rattle.cbm_channel.specs.Commanded.{open_validates, text_moves, AreSameBut};
+    ghost use Rattle.cbm_channel.specs.Commanded.{open_formats, open_validates, text_moves, AreSameBut};
     ghost use Rattle.cbm_channel.specs.Planned.{PlannedAs, IsOfText, IsSized, is_for_writing, plan_writes, begun_by};
 
     /// OPEN: on channel 15 the text is a command, on the others it names a file or asks for the listing. A channel that
@@ -40,6 +40,8 @@ impl<M: Medium> Dos<M> {
         // V leaves closed files as they are.
         ensures ordered { open_validates channel text.now ≡ true → OrdersDisk M.seen self.old self.new }
         ensures medium { KeepsMedium (M.seen self.old.medium) (M.seen self.new.medium) }
+        // What lies outside the disk stays, but with NEW.
+        ensures outside { open_formats channel text.now ≡ false → LeavesOutside M.seen self.old self.new }
         ensures counted { channel ≡ 15 → IsCounted M.seen self.old self.new }
         // CLOSE comes first, and what the OPEN itself does is measured from there.
         ensures closes { channel < 15 → ClosesFirst M.seen channel text.now self.old self.new }
@@ -68,6 +70,8 @@ impl<M: Medium> Dos<M> {
             HasTold M.seen self.old self.new × (self.new.medium ≡ self.old.medium) }
         ensures spared { KeepsIfRefused M.seen self.old self.new }
         ensures medium { KeepsMedium (M.seen self.old.medium) (M.seen self.new.medium) }
+        ensures outside { (m : Machine) → IsOfText opening → Stands M.seen self.old m →
+            KeepsOutside (M.seen self.old.medium) (M.seen self.new.medium) }
         ensures counted { IsCounted M.seen self.old self.new }
     {
         match self.plan(channel, opening) {
@@ -91,6 +95,7 @@ impl<M: Medium> Dos<M> {
         ensures spared { (plan_writes plan ≡ true → (M.seen self.old.medium).protected ≡ false) →
             KeepsIfRefused M.seen self.old self.new }
         ensures medium { KeepsMedium (M.seen self.old.medium) (M.seen self.new.medium) }
+        ensures outside { OpensOutside M.seen plan self.old self.new }
         ensures counted { IsCounted M.seen self.old self.new }
     {
         match self.opened(plan) {
@@ -121,6 +126,7 @@ impl<M: Medium> Dos<M> {
         ensures rest { self.new ≡ record self.old { medium = self.new.medium } }
         ensures count { length self.new.channels ≡ 15 }
         ensures medium { KeepsElse result (M.seen self.old.medium) (M.seen self.new.medium) }
+        ensures outside { OpensOutside M.seen plan self.old self.new }
     {
         match plan {
             Plan::ReadListing(pattern) => {

@@ -26,6 +26,7 @@ impl<M: Medium> Dos<M> {
     ghost use Rattle.cbm_machine.specs.Running.{run};
     ghost use Rattle.cbm_command.specs.declared.command.Command.TheVariants.{Position};
     ghost use Rattle.cbm_channel.specs.Grounds.{HasTold, IsToldFor, KeepsIfRefused, OrdersDisk};
+    ghost use Rattle.cbm_channel.specs.ChannelCalls.{LeavesOutside};
     ghost use Rattle.cbm_channel.specs.Standing.{Stands, SameBut, HaveSameFiles, Leads, HasNoText, HasText};
     ghost use Rattle.cbm_channel.specs.Shown.{is_writing_on, has_records_on, IsQuiet};
     ghost use Rattle.cbm_channel.specs.Going.{IsCounted, Goes, EndsFrom, RecordsFrom, Went, WentFrom, put_written, KeepsMedium};
@@ -41,6 +42,7 @@ impl<M: Medium> Dos<M> {
         ensures others { SameBut channel self.old.channels self.new.channels }
         ensures quiet { is_writing_on channel self.old ≡ false → IsQuiet self.old self.new }
         ensures medium { KeepsMedium (M.seen self.old.medium) (M.seen self.new.medium) }
+        ensures outside { LeavesOutside M.seen self.old self.new }
         ensures counted { IsCounted M.seen self.old self.new }
     {
         if channel == 15 {
@@ -59,6 +61,7 @@ impl<M: Medium> Dos<M> {
         ensures others { SameBut channel self.old.channels self.new.channels }
         ensures quiet { is_writing_on channel self.old ≡ false → IsQuiet self.old self.new }
         ensures medium { KeepsMedium (M.seen self.old.medium) (M.seen self.new.medium) }
+        ensures outside { LeavesOutside M.seen self.old self.new }
         ensures cut { HasFailed (M.seen self.old.medium) (M.seen self.new.medium) →
             is_writing_on channel self.new ≡ false }
         ensures counted { IsCounted M.seen self.old self.new }
@@ -119,6 +122,7 @@ impl<M: Medium> Dos<M> {
         // V leaves closed files as they are.
         ensures ordered { end_validates channel self.old.text ≡ true → OrdersDisk M.seen self.old self.new }
         ensures medium { KeepsMedium (M.seen self.old.medium) (M.seen self.new.medium) }
+        ensures outside { end_formats channel self.old.text ≡ false → LeavesOutside M.seen self.old self.new }
         ensures counted { IsCounted M.seen self.old self.new }
     {
         if let Some(text) = self.take_text(channel) {
@@ -142,6 +146,7 @@ impl<M: Medium> Dos<M> {
         ensures quiet { has_records_on channel self.old ≡ false → self.new ≡ self.old }
         ensures spared { (self.new.told ≡ self.old.told) ⊎ KeepsIfRefused M.seen self.old self.new }
         ensures medium { KeepsMedium (M.seen self.old.medium) (M.seen self.new.medium) }
+        ensures outside { LeavesOutside M.seen self.old self.new }
         ensures counted { IsCounted M.seen self.old self.new }
     {
         match self.channels[channel as usize].put_record(&mut self.volume, bytes) {
@@ -164,6 +169,7 @@ impl<M: Medium> Dos<M> {
         ensures spared { KeepsIfRefused M.seen self.old self.new }
         ensures ordered { text_validates text.now ≡ true → OrdersDisk M.seen self.old self.new }
         ensures medium { KeepsMedium (M.seen self.old.medium) (M.seen self.new.medium) }
+        ensures outside { text_formats text.now ≡ false → LeavesOutside M.seen self.old self.new }
         ensures counted { IsCounted M.seen self.old self.new }
     {
         let text = without_return(text);
@@ -188,6 +194,7 @@ impl<M: Medium> Dos<M> {
         ensures spared { KeepsIfRefused M.seen self.old self.new }
         ensures ordered { validates command.now ≡ true → OrdersDisk M.seen self.old self.new }
         ensures medium { KeepsMedium (M.seen self.old.medium) (M.seen self.new.medium) }
+        ensures outside { formats command.now ≡ false → LeavesOutside M.seen self.old self.new }
         ensures counted { IsCounted M.seen self.old self.new }
     {
         match command {

@@ -13,6 +13,7 @@ impl<M: Medium> Dos<M> {
     ghost use Rattle.cbm_machine.specs.Machines.{Machine, answered};
     ghost use Rattle.cbm_machine.specs.Running.{rename};
     ghost use Rattle.cbm_channel.specs.Grounds.{HasGround, KeepsIfRefused};
+    ghost use Rattle.cbm_channel.specs.ChannelCalls.{KeepsOutside, LeavesOutside};
     ghost use Rattle.cbm_channel.specs.Standing.{Stands};
     ghost use Rattle.cbm_channel.specs.Going.{IsCounted, Went, WentFrom, KeepsMedium};
     ghost use Rattle.cbm_channel.specs.Commanded.{IsRenamable, RenamesAs};
@@ -27,6 +28,7 @@ impl<M: Medium> Dos<M> {
         ensures channels { self.new.channels ≡ self.old.channels }
         ensures spared { KeepsIfRefused M.seen self.old self.new }
         ensures medium { KeepsMedium (M.seen self.old.medium) (M.seen self.new.medium) }
+        ensures outside { LeavesOutside M.seen self.old self.new }
         ensures counted { IsCounted M.seen self.old self.new }
     {
         match self.plan_rename(new, old) {
@@ -65,6 +67,8 @@ impl<M: Medium> Dos<M> {
         ensures count { length self.new.channels ≡ 15 }
         ensures spared { KeepsIfRefused M.seen self.old self.new }
         ensures medium { KeepsMedium (M.seen self.old.medium) (M.seen self.new.medium) }
+        ensures outside { (m : Machine) (old : _) → IsRenamable m name.now old slot → Stands M.seen self.old m →
+            KeepsOutside (M.seen self.old.medium) (M.seen self.new.medium) }
         ensures counted { IsCounted M.seen self.old self.new }
     {
         match self.volume.rename(slot, name.bytes()) {

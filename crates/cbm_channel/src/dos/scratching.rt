@@ -44,7 +44,7 @@ fn may_go(channels: &[Channel], patterns: &[Name], number: u8, entry: &Entry) ->
 impl<M: Medium> Dos<M> {
     ghost use Rattle.std.specs.Prelude.{◌≡◌, ◌≢◌, ◌≤◌, [], false, IfOk, IfErr, OnOk, OnErr, IsOkAnd, length};
     ghost use Rattle.cbm_medium.specs.Seen.{HasFailed};
-    ghost use Rattle.cbm_channel.specs.ChannelCalls.{KeepsElse};
+    ghost use Rattle.cbm_channel.specs.ChannelCalls.{KeepsElse, KeepsOutside, LeavesOutside};
     ghost use Rattle.cbm_volume.specs.Map.{geometry_of};
     ghost use Rattle.cbm_volume.specs.Slots.{directory_of};
     ghost use Rattle.cbm_volume.specs.Writers.{HoldsNow, Stopped};
@@ -63,6 +63,7 @@ impl<M: Medium> Dos<M> {
         // On any disk: what is refused has changed nothing of it.
         ensures spared { KeepsIfRefused M.seen self.old self.new }
         ensures medium { KeepsMedium (M.seen self.old.medium) (M.seen self.new.medium) }
+        ensures outside { LeavesOutside M.seen self.old self.new }
         ensures counted { IsCounted M.seen self.old self.new }
     {
         match self.plan_scratch(patterns) {
@@ -119,6 +120,8 @@ impl<M: Medium> Dos<M> {
         ensures spared { AreUnguarded (M.seen self.old.medium).protected slots.now →
             KeepsIfRefused M.seen self.old self.new }
         ensures medium { KeepsMedium (M.seen self.old.medium) (M.seen self.new.medium) }
+        ensures outside { (m : Machine) (patterns : _) → IsGoing m patterns slots.now → Stands M.seen self.old m →
+            KeepsOutside (M.seen self.old.medium) (M.seen self.new.medium) }
         ensures counted { IsCounted M.seen self.old self.new }
     {
         match self.clear(slots) {
@@ -147,6 +150,9 @@ impl<M: Medium> Dos<M> {
         ensures rest { self.new ≡ record self.old { medium = self.new.medium } }
         ensures count { length self.new.channels ≡ 15 }
         ensures medium { KeepsElse result (M.seen self.old.medium) (M.seen self.new.medium) }
+        ensures outside { (m : Machine) → Stands M.seen self.old m →
+            CanAllGo m.disk (uses_of self.old.channels m.channels) slots.now →
+            KeepsOutside (M.seen self.old.medium) (M.seen self.new.medium) }
     {
         'slots: for slot in slots {
             self.volume.scratch(*slot)?;

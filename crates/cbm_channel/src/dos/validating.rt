@@ -10,6 +10,7 @@ impl<M: Medium> Dos<M> {
     ghost use Rattle.cbm_command.specs.declared.command.Command.TheVariants.{Validate};
     ghost use Rattle.cbm_machine.specs.Machines.{Machine, answered, any_open};
     ghost use Rattle.cbm_machine.specs.Running.{run};
+    ghost use Rattle.cbm_channel.specs.ChannelCalls.{LeavesOutside};
     ghost use Rattle.cbm_channel.specs.Standing.{Stands};
     ghost use Rattle.cbm_channel.specs.Grounds.{KeepsIfRefused, OrdersDisk};
     ghost use Rattle.cbm_channel.specs.Going.{IsCounted, Went, KeepsMedium};
@@ -24,6 +25,7 @@ impl<M: Medium> Dos<M> {
         ensures spared { KeepsIfRefused M.seen self.old self.new }
         ensures ordered { OrdersDisk M.seen self.old self.new }
         ensures medium { KeepsMedium (M.seen self.old.medium) (M.seen self.new.medium) }
+        ensures outside { LeavesOutside M.seen self.old self.new }
         ensures counted { IsCounted M.seen self.old self.new }
     {
         if self.is_any_open() {

@@ -1,5 +1,6 @@
-use Rattle.std.proofs.Common.{rules, ◌∙◌}
+use Rattle.std.proofs.Common.{rules, ◌∙◌, refl}
 use Rattle.cbm_channel.proofs.BytesPut.{not_written, put_nothing, put_full, fits_on, writes_so, put_done, cut_off}
+use Rattle.cbm_channel.proofs.Outside.{outside_itself, store_outside, writer_size}
 use Rattle.cbm_channel.proofs.channel.Channel.put.Goals as goal
 
 -- the channel isn't written
@@ -9,6 +10,7 @@ returns-in_default-clause-call g c = λ d uses ch x h e s.
       done = put_nothing _ _ c.args.byte d uses ch c.args.self.now x (not_written c.args.byte d c.args.self.now x c.in_default.not-Writing s) h e s;
       stopped = (search rules);
       cause = (search rules);
+      outside = outside_itself _ _ refl;
     }
 
 -- the disk was full
@@ -18,6 +20,7 @@ returns-then-full-clause-call g c = λ d uses ch x h e s.
       done = put_full _ _ c.args.byte d uses ch c.args.self.now c.in-Writing.writer c.in-Writing.full x c.in-Writing.is c.if-full.true h e s;
       stopped = (search rules);
       cause = (search rules);
+      outside = outside_itself _ _ refl;
     }
 
 pub returns-in-Ok-clause-fits : goal.returns-in-Ok-clause-fits
@@ -33,6 +36,10 @@ returns-in-Ok-clause-call g c = λ d uses ch x h e s.
           (λ bytes blocks is. (c.in-Ok.ensures.call d uses ch bytes blocks h is).done);
       stopped = (search rules);
       cause = (search rules);
+      outside =
+          let at = writes_so c.args.self.now c.in-Writing.writer c.in-Writing.full x (uses ch) c.in-Writing.is s e in
+          store_outside c.store.result (g.M.Medium.seen c.args.volume.now) (g.M.Medium.seen c.store.new.self) d uses _ ch c.in-Writing.writer c.store.new.writer at.0 at.1 c.args.byte _ c.store.ensures.only
+          (writer_size (g.M.Medium.seen c.args.volume.now).tracks (g.M.Medium.seen c.args.volume.now).content d uses ch c.in-Writing.writer at.0 at.1 h at.3) h (c.store.ensures.call d uses ch at.0 at.1 h at.3);
     }
 
 -- a write was refused
@@ -46,4 +53,8 @@ returns-in-Err-clause-call g c = λ d uses ch x h e s.
       cause =
           let at = writes_so c.args.self.now c.in-Writing.writer c.in-Writing.full x (uses ch) c.in-Writing.is s e in
           (c.in-Err.ensures.call d uses ch at.0 at.1 h at.3).cause;
+      outside =
+          let at = writes_so c.args.self.now c.in-Writing.writer c.in-Writing.full x (uses ch) c.in-Writing.is s e in
+          store_outside c.store.result (g.M.Medium.seen c.args.volume.now) (g.M.Medium.seen c.store.new.self) d uses _ ch c.in-Writing.writer c.store.new.writer at.0 at.1 c.args.byte _ c.store.ensures.only
+          (writer_size (g.M.Medium.seen c.args.volume.now).tracks (g.M.Medium.seen c.args.volume.now).content d uses ch c.in-Writing.writer at.0 at.1 h at.3) h (c.store.ensures.call d uses ch at.0 at.1 h at.3);
     }

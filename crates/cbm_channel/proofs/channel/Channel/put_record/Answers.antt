@@ -4,6 +4,7 @@ use Rattle.cbm_medium.specs.Seen.{Seen}
 use Rattle.cbm_channel.specs.Placed.{Placed}
 use Rattle.cbm_channel.specs.Recorded.{CanPut, IsTextEnded, IsTextStopped}
 use Rattle.cbm_channel.proofs.RecordEnds.{placed_in}
+use Rattle.cbm_channel.proofs.Outside.{outside_itself}
 use Rattle.cbm_channel.proofs.channel.Channel.put_record.Goals as goal
 
 pub returns-in-Records-clause-put : goal.returns-in-Records-clause-put
@@ -16,3 +17,12 @@ returns-in-Records-clause-put g c = λ r e d uses b s rs can.
       subst (λ (y : Placed). MatchResult c.put.result (IsTextEnded old new d uses y c.put.new.self b s rs c.args.bytes.now) (IsTextStopped old new d uses y c.put.new.self b s rs c.args.bytes.now)) same
           (c.put.ensures.put d uses b s rs (subst (λ (y : Placed). CanPut old.tracks old.content d uses y b s rs) (sym same) can)),
     )
+
+-- ---- what lies outside the disk
+
+pub returns-in-Records-clause-outside : goal.returns-in-Records-clause-outside
+returns-in-Records-clause-outside g c = λ r e d uses b s rs can.
+    c.put.ensures.outside d uses b s rs (subst (λ (y : Placed). CanPut (g.M.Medium.seen c.args.volume.now).tracks (g.M.Medium.seen c.args.volume.now).content d uses y b s rs) (sym (ap (placed_in r) (sym c.in-Records.is ∙ e))) can)
+
+pub returns-in_default-clause-outside : goal.returns-in_default-clause-outside
+returns-in_default-clause-outside g c = λ r e d uses b s rs can. outside_itself _ _ refl

@@ -10,6 +10,7 @@ use Rattle.cbm_channel.proofs.Stores.{renamed}
 use Rattle.cbm_channel.proofs.Opens.{opened_stands, opened_cut, idle_at}
 use Rattle.cbm_channel.proofs.Refused.{not_refused, refused_26}
 use Rattle.cbm_channel.proofs.Counted.{counted_else}
+use Rattle.cbm_channel.proofs.Outside.{outside_seen}
 use Rattle.cbm_channel.proofs.dos.Dos.act.Goals as goal
 
 -- the channel was opened
@@ -54,3 +55,14 @@ returns-in-Err-clause-spared g c = λ free is.
 pub returns-in-Err-clause-counted : goal.returns-in-Err-clause-counted
 returns-in-Err-clause-counted g c =
     counted_else g.M.Medium.seen c.args.self.now c.set.new.self c.args.self.now.medium c.opened.new.self.medium refl c.set.ensures.medium c.opened.result c.in-Err.trouble c.in-Err.is c.opened.ensures.medium (ap (λ x. x.status) c.set.ensures.told ∙ c.from.ensures)
+
+-- ---- what lies outside the disk
+
+pub returns-in-Ok-Some-clause-outside : goal.returns-in-Ok-Some-clause-outside
+returns-in-Ok-Some-clause-outside g c = λ m p h s. outside_seen g.M.Medium.seen c.args.self.now.medium c.say.new.self.medium c.args.self.now.medium c.opened.new.self.medium refl (c.say.ensures.medium ∙ ap (λ k. k.medium) c.self.view_is) (c.opened.ensures.outside m p h s)
+
+pub returns-in-Ok-None-clause-outside : goal.returns-in-Ok-None-clause-outside
+returns-in-Ok-None-clause-outside g c = λ m p h s. outside_seen g.M.Medium.seen c.args.self.now.medium c.say-in-Ok-None.new.self.medium c.args.self.now.medium c.opened.new.self.medium refl c.say-in-Ok-None.ensures.medium (c.opened.ensures.outside m p h s)
+
+pub returns-in-Err-clause-outside : goal.returns-in-Err-clause-outside
+returns-in-Err-clause-outside g c = λ m p h s. outside_seen g.M.Medium.seen c.args.self.now.medium c.set.new.self.medium c.args.self.now.medium c.opened.new.self.medium refl c.set.ensures.medium (c.opened.ensures.outside m p h s)

@@ -1,4 +1,4 @@
-use Rattle.std.proofs.Common.{Ok, length, sym, ap, subst, ◌∙◌, arith, ◌≢◌}
+use Rattle.std.proofs.Common.{Ok, length, sym, ap, subst, ◌∙◌, arith, ◌≢◌, refl}
 use Rattle.cbm_medium.specs.Seen.{Seen}
 use Rattle.cbm_volume.specs.Opens.{IsHindered}
 use Rattle.cbm_channel.specs.Commanded.{all_scratched}
@@ -9,6 +9,9 @@ use Rattle.cbm_channel.proofs.Opens.{on_err, failed_by}
 use Rattle.cbm_channel.proofs.Scratches.{IsClearing, clearing_first, clearing_next, clearing_stopped, clearing_hindered, clearing_done, next_left}
 use Rattle.cbm_channel.proofs.Goings.{late}
 use Rattle.cbm_channel.proofs.Troubles.{passed_on}
+use Rattle.cbm_file.specs.Files.{file_at}
+use Rattle.cbm_channel.specs.ChannelCalls.{KeepsOutside}
+use Rattle.cbm_channel.proofs.Outside.{outside_itself, outside_then, change_outside, scratched_total}
 use Rattle.cbm_channel.proofs.dos.Dos.clear.Goals as goal
 
 pub slots-init : goal.slots-init
@@ -19,6 +22,7 @@ slots-init g c =
           (clearing_first _ _ _ m.disk c.args.slots.now st.holds can)),
       else_nothing (Ok tt) _ _ (ap g.M.Medium.seen vol) tt,
       c.self.view_is ∙ ap (λ v. record old { medium = v }) (sym vol),
+      (λ m st can. outside_itself _ _ (ap g.M.Medium.seen vol)),
     )
 
 pub invariant_of-self : goal.invariant_of-self
@@ -61,6 +65,13 @@ slots-preserved g c =
           clearing_next _ _ (g.M.Medium.seen c.scratch.new.self).content (uses_of old.channels m.channels) m.disk (all_scratched m.disk c.args.slots.now) _ _ h (g.M.Medium.seen c.slots.self-inside.volume).tracks c.slots.invariant.1.tracks (λ d us f h at unused. (c.in_ok-scratch.ensures.call d us h f at unused).done)),
       else_more c.in_ok-scratch.field-0 _ _ _ c.slots.invariant.1 (only_else _ _ _ c.in_ok-scratch.ensures.only),
       (λ i. record (c.slots.invariant.2 i) { medium = c.scratch.new.self }),
+      (λ m st can.
+          let mid : Seen = g.M.Medium.seen c.slots.self-inside.volume in
+          let new : Seen = g.M.Medium.seen c.scratch.new.self in
+          let h = next_left _ _ _ m.disk (all_scratched m.disk c.args.slots.now) c.args.slots.now c.slots.slot-index c.slots-test.true (c.slots.invariant.0 m st can) in
+          (outside_then (g.M.Medium.seen old.medium) mid new (c.slots.invariant.3 m st can)
+          (clearing_hindered _ _ new.content (uses_of old.channels m.channels) m.disk (all_scratched m.disk c.args.slots.now) _ _ h mid.tracks (KeepsOutside mid new) c.slots.invariant.1.tracks
+          (λ d us f at some unused. change_outside c.scratch.result mid new d _ us _ _ c.scratch.ensures.only refl at (c.scratch.ensures.call d us at f some unused) (scratched_total (file_at d _) d _))))),
     )
 
 pub returns-clause-scratched : goal.returns-clause-scratched
@@ -79,3 +90,18 @@ returns-clause-medium g c = c.slots.invariant.1
 pub returns-in_err-scratch-clause-unguarded : goal.returns-in_err-scratch-clause-unguarded
 returns-in_err-scratch-clause-unguarded g c = λ free. passed_on c.from_residual.result c.in_err-scratch.field-0.0 (λ t. t.code ≢ 26) c.from_residual.ensures.1
     (λ is. let z = sym (c.in_err-scratch.ensures.only.guarded is) ∙ c.slots.invariant.1.protected ∙ free.unprotected (λ e. omega (arith, c.slots-test.true, ap length e)) in absurd (cc))
+
+-- ---- what lies outside the disk
+
+pub returns-in_err-scratch-clause-outside : goal.returns-in_err-scratch-clause-outside
+returns-in_err-scratch-clause-outside g c = λ m st can.
+    let old = c.args.self.now in
+    let mid : Seen = g.M.Medium.seen c.slots.self-inside.volume in
+    let new : Seen = g.M.Medium.seen c.scratch.new.self in
+    let h = next_left _ _ _ m.disk (all_scratched m.disk c.args.slots.now) c.args.slots.now c.slots.slot-index c.slots-test.true (c.slots.invariant.0 m st can) in
+    (outside_then (g.M.Medium.seen old.medium) mid new (c.slots.invariant.3 m st can)
+    (clearing_hindered _ _ new.content (uses_of old.channels m.channels) m.disk (all_scratched m.disk c.args.slots.now) _ _ h mid.tracks (KeepsOutside mid new) c.slots.invariant.1.tracks
+    (λ d us f at some unused. change_outside c.scratch.result mid new d _ us _ _ c.scratch.ensures.only refl at (c.scratch.ensures.call d us at f some unused) (scratched_total (file_at d _) d _))))
+
+pub returns-clause-outside : goal.returns-clause-outside
+returns-clause-outside g c = c.slots.invariant.3

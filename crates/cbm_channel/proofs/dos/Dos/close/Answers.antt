@@ -1,10 +1,11 @@
-use Rattle.std.proofs.Common.{arith, sym, ap, subst}
+use Rattle.std.proofs.Common.{arith, sym, ap, subst, refl}
 use Rattle.cbm_machine.specs.Closing.{close_one, without_text}
 use Rattle.cbm_channel.specs.Going.{Goes, closings}
 use Rattle.cbm_channel.proofs.Asked.{below_15}
 use Rattle.cbm_channel.proofs.Closes.{parts_first, parts_15}
 use Rattle.cbm_channel.proofs.Goings.{went_goes, goes_on, leads_went, keeps_same}
 use Rattle.cbm_channel.proofs.Counted.{counted_to}
+use Rattle.cbm_channel.proofs.Outside.{outside_seen}
 use Rattle.cbm_channel.proofs.dos.Dos.close.Goals as goal
 
 pub returns-then-channel-lt15-clause-goes : goal.returns-then-channel-lt15-clause-goes
@@ -35,3 +36,11 @@ pub returns-else-channel-lt15-clause-all_counted : goal.returns-else-channel-lt1
 returns-else-channel-lt15-clause-all_counted g c = λ is.
     let all = c.close_all.ensures.counted in
     (all.0, all.1, counted_to g.M.Medium.seen all.0 c.close_all.new.self c.forget_text.new.self c.forget_text.ensures.medium c.forget_text.ensures.told all.2)
+
+-- ---- what lies outside the disk
+
+pub returns-then-channel-lt15-clause-outside : goal.returns-then-channel-lt15-clause-outside
+returns-then-channel-lt15-clause-outside g c = c.close_one.ensures.outside
+
+pub returns-else-channel-lt15-clause-outside : goal.returns-else-channel-lt15-clause-outside
+returns-else-channel-lt15-clause-outside g c = λ m s. outside_seen g.M.Medium.seen c.args.self.now.medium c.forget_text.new.self.medium c.args.self.now.medium c.close_all.new.self.medium refl c.forget_text.ensures.medium (c.close_all.ensures.outside m s)

@@ -11,6 +11,7 @@ use Rattle.cbm_channel.proofs.Changed.{closed_next}
 use Rattle.cbm_channel.proofs.Closes.{closings_next}
 use Rattle.cbm_channel.proofs.Goings.{goes_on, keeps_then}
 use Rattle.cbm_channel.proofs.Counted.{counted_more}
+use Rattle.cbm_channel.proofs.Outside.{outside_then}
 use Rattle.cbm_channel.proofs.dos.Dos.close_all.Goals as goal
 
 pub returns-clause-goes : goal.returns-clause-goes
@@ -47,6 +48,9 @@ loop-channel-preserved g c = (
         ]),
       )),
   counted_more g.M.Medium.seen c.loop-channel.channel (c.loop-channel.channel + 1) c.args.self.now c.loop-channel.self c.close_one.new.self refl c.loop-channel.invariant.5 c.close_one.ensures.counted,
+  (λ m s.
+      let x = c.loop-channel.invariant.0 m s in
+      outside_then (g.M.Medium.seen c.args.self.now.medium) (g.M.Medium.seen c.loop-channel.self.medium) (g.M.Medium.seen c.close_one.new.self.medium) (c.loop-channel.invariant.6 m s) (c.close_one.ensures.outside x.0 x.2)),
 )
 
 pub returns-clause-quiet : goal.returns-clause-quiet
@@ -58,3 +62,8 @@ pub returns-clause-counted : goal.returns-clause-counted
 returns-clause-counted g c =
     let all : c.loop-channel.channel ≡ 15 = omega (arith, c.loop-channel-test.false, c.loop-channel.auto.channel-end) in
     subst (λ (n : ℕ). AreCounted g.M.Medium.seen n c.args.self.now c.loop-channel.self) all c.loop-channel.invariant.5
+
+-- ---- what lies outside the disk
+
+pub returns-clause-outside : goal.returns-clause-outside
+returns-clause-outside g c = c.loop-channel.invariant.6

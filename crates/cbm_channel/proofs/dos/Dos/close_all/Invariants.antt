@@ -4,6 +4,7 @@ use Rattle.cbm_channel.specs.declared.channel.Channel.TheVariants.{Closed}
 use Rattle.cbm_machine.specs.Closing.{channel_numbers}
 use Rattle.cbm_channel.specs.Shown.{is_writing_on, IsQuiet}
 use Rattle.cbm_channel.specs.Going.{Goes, AreCounted, closings_of, KeepsMedium}
+use Rattle.cbm_channel.specs.ChannelCalls.{LeavesOutside}
 use Rattle.cbm_channel.proofs.dos.Dos.close_all.Given as goal
 
 -- the channels below this one are closed
@@ -14,3 +15,4 @@ invariant-loop-channel g l = Goes g.M.Medium.seen l.fn.self l.self (closings_of 
     × (0 < l.channel → length l.self.channels ≡ 15)
     × (((k : ℕ) → is_writing_on k l.fn.self ≡ false) → IsQuiet l.fn.self l.self × ((k : ℕ) → is_writing_on k l.self ≡ false))
     × AreCounted g.M.Medium.seen l.channel l.fn.self l.self
+    × LeavesOutside g.M.Medium.seen l.fn.self l.self

@@ -1,4 +1,4 @@
-use Rattle.std.proofs.Common.{◌≡◌, ap, ◌∙◌, subst, arith, length, sym}
+use Rattle.std.proofs.Common.{◌≡◌, ap, ◌∙◌, subst, arith, length, sym, refl}
 use Rattle.std.proofs.lemmas.List.{length-set}
 use Rattle.cbm_medium.specs.Seen.{Seen, HasFailed}
 use Rattle.cbm_machine.specs.Closing.{without_text, finish_channel, close_one}
@@ -6,6 +6,7 @@ use Rattle.cbm_channel.specs.declared.channel.Channel.TheVariants.{Closed}
 use Rattle.cbm_channel.specs.Going.{some_byte_put}
 use Rattle.cbm_channel.proofs.Goings.{passes_on, close_passes, closed_at, early, late}
 use Rattle.cbm_channel.proofs.Counted.{counted_to, counted_then}
+use Rattle.cbm_channel.proofs.Outside.{outside_seen, outside_then}
 use Rattle.cbm_channel.proofs.dos.Dos.close_one.Goals as goal
 
 -- the return, CLOSE and the text are one part
@@ -34,3 +35,10 @@ pub returns-clause-counted : goal.returns-clause-counted
 returns-clause-counted g c =
     counted_to g.M.Medium.seen c.args.self.now c.finish.new.self c.forget_text.new.self c.forget_text.ensures.medium c.forget_text.ensures.told
     (counted_then g.M.Medium.seen c.args.self.now c.fill.new.self c.finish.new.self c.fill.ensures.counted c.finish.ensures.counted (λ failed. c.finish.ensures.quiet (c.fill.ensures.cut failed)))
+
+-- ---- what lies outside the disk
+
+pub returns-clause-outside : goal.returns-clause-outside
+returns-clause-outside g c = λ m s.
+    let first = c.fill.ensures.goes m s in
+    outside_seen g.M.Medium.seen c.args.self.now.medium c.forget_text.new.self.medium c.args.self.now.medium c.finish.new.self.medium refl c.forget_text.ensures.medium (outside_then (g.M.Medium.seen c.args.self.now.medium) (g.M.Medium.seen c.fill.new.self.medium) (g.M.Medium.seen c.finish.new.self.medium) (c.fill.ensures.outside m s) (c.finish.ensures.outside first.0 first.2))

@@ -1,10 +1,11 @@
-use Rattle.std.proofs.Common.{◌≤◌, length, sym, ap, ◌∙◌, inl}
+use Rattle.std.proofs.Common.{◌≤◌, length, sym, ap, ◌∙◌, inl, refl}
 use Rattle.cbm_machine.specs.Calls.{command_text, command}
 use Rattle.cbm_machine.specs.Machines.{answered, say}
 use Rattle.cbm_machine.specs.Running.{run}
 use Rattle.cbm_command.specs.Commands.{command_of}
 use Rattle.cbm_channel.proofs.Goings.{part_same}
 use Rattle.cbm_channel.proofs.Texts.{refused, asked_for, not_empty, formats_of}
+use Rattle.cbm_channel.proofs.Outside.{outside_itself}
 use Rattle.cbm_channel.proofs.dos.Dos.command.Goals as goal
 
 pub returns-in-Ok-clause-goes : goal.returns-in-Ok-clause-goes
@@ -25,3 +26,16 @@ returns-in-Err-clause-goes g c = λ m s whole.
       inl (sym (ap (λ w. command_text w m) (sym text) ∙ refused c.without_return-text.result.now c.in-Err.refusal m some is ∙ ap (λ k. say k m) (sym c.from.ensures))),
       c.say.ensures.leads m s,
     )
+
+-- ---- what lies outside the disk
+
+pub returns-then-is_empty-clause-outside : goal.returns-then-is_empty-clause-outside
+returns-then-is_empty-clause-outside g c = λ other m s. outside_itself _ _ refl
+
+pub returns-in-Ok-clause-outside : goal.returns-in-Ok-clause-outside
+returns-in-Ok-clause-outside g c = λ other m s.
+    let is = sym c.parse_command.ensures ∙ c.in-Ok.is in
+    c.run.ensures.outside (sym (ap formats_of (ap command_of (sym c.without_return-text.ensures) ∙ is)) ∙ other) m s
+
+pub returns-in-Err-clause-outside : goal.returns-in-Err-clause-outside
+returns-in-Err-clause-outside g c = λ other m s. outside_itself _ _ (ap g.M.Medium.seen c.say.ensures.medium)

@@ -1,4 +1,4 @@
-use Rattle.std.proofs.Common.{◌≡◌, ◌≢◌, ◌≤◌, ℕ, List, length, take, sym, ap, subst, ◌∙◌, arith, inl}
+use Rattle.std.proofs.Common.{◌≡◌, ◌≢◌, ◌≤◌, ℕ, List, length, take, sym, ap, subst, ◌∙◌, arith, inl, refl}
 use Rattle.std.specs.Prelude.{◌==◌, ◌&&◌, true, false, IfSome, MatchOption}
 use Rattle.std.proofs.lemmas.Bool.{eq-eqb}
 use Rattle.cbm_medium.specs.Seen.{HasFailed}
@@ -13,6 +13,7 @@ use Rattle.cbm_channel.proofs.Texts.{some_kept, command_kept}
 use Rattle.cbm_channel.proofs.Ordered.{OrdersFor, ended_15, not_ended}
 use Rattle.cbm_channel.proofs.Troubles.{told_for}
 use Rattle.cbm_channel.proofs.Counted.{counted_from}
+use Rattle.cbm_channel.proofs.Outside.{outside_itself, outside_seen}
 use Rattle.cbm_channel.proofs.dos.Dos.end_put.Goals as goal
 
 -- a command
@@ -89,3 +90,18 @@ returns-then-channel-eq15-clause-counted g c = counted_from g.M.Medium.seen c.ar
 
 pub returns-else-channel-eq15-clause-counted : goal.returns-else-channel-eq15-clause-counted
 returns-else-channel-eq15-clause-counted g c = counted_from g.M.Medium.seen c.args.self.now c.take_text.new.self c.put_record.new.self c.in-Some.ensures.medium c.put_record.ensures.counted
+
+-- ---- what lies outside the disk
+
+pub returns-then-channel-eq15-clause-outside : goal.returns-then-channel-eq15-clause-outside
+returns-then-channel-eq15-clause-outside g c = λ other m s.
+    let fifteen : (c.args.channel == 15) ≡ true = eq-eqb c.args.channel 15 c.if-channel-eq15.true in
+    let number : (c.in-Some.text.0 == 15) ≡ true = eq-eqb c.in-Some.text.0 15 (c.in-Some.ensures.taken.1 ∙ c.if-channel-eq15.true) in
+    let none : text_formats c.in-Some.text.1 ≡ false = sym (λ i. fifteen i && (number i && text_formats c.in-Some.text.1)) ∙ sym (ap (end_formats c.args.channel) c.in-Some.ensures.taken.0) ∙ other in
+    outside_seen g.M.Medium.seen c.args.self.now.medium c.command.new.self.medium c.take_text.new.self.medium c.command.new.self.medium c.in-Some.ensures.medium refl (c.command.ensures.outside (ap text_formats c.bytes.ensures ∙ none) (without_text c.args.channel m) (c.in-Some.ensures.leads m s))
+
+pub returns-else-channel-eq15-clause-outside : goal.returns-else-channel-eq15-clause-outside
+returns-else-channel-eq15-clause-outside g c = λ other m s. outside_seen g.M.Medium.seen c.args.self.now.medium c.put_record.new.self.medium c.take_text.new.self.medium c.put_record.new.self.medium c.in-Some.ensures.medium refl (c.put_record.ensures.outside (without_text c.args.channel m) (c.in-Some.ensures.leads m s))
+
+pub returns-in_default-clause-outside : goal.returns-in_default-clause-outside
+returns-in_default-clause-outside g c = λ other m s. outside_itself _ _ (ap g.M.Medium.seen c.take_text.ensures.medium)

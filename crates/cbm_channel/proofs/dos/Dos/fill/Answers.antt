@@ -1,8 +1,9 @@
-use Rattle.std.proofs.Common.{sym, ◌∙◌, inl}
+use Rattle.std.proofs.Common.{sym, ◌∙◌, inl, refl}
 use Rattle.cbm_machine.specs.Machines.{channel}
 use Rattle.cbm_channel.specs.Going.{put_written, some_byte_put}
 use Rattle.cbm_channel.proofs.Stores.{fills, fills_none}
 use Rattle.cbm_channel.proofs.Goings.{part_same}
+use Rattle.cbm_channel.proofs.Outside.{outside_itself}
 use Rattle.cbm_channel.proofs.dos.Dos.fill.Goals as goal
 
 pub returns-then-is_empty-clause-goes : goal.returns-then-is_empty-clause-goes
@@ -13,3 +14,11 @@ returns-then-is_empty-clause-goes g c = λ m s.
 pub returns-else-is_empty-clause-goes : goal.returns-else-is_empty-clause-goes
 returns-else-is_empty-clause-goes g c = λ m s.
     (m, inl (sym (fills_none c.args.channel (channel m c.args.channel) m (sym (c.is_empty.ensures.value m s) ∙ c.if-is_empty.false))), s)
+
+-- ---- what lies outside the disk
+
+pub returns-then-is_empty-clause-outside : goal.returns-then-is_empty-clause-outside
+returns-then-is_empty-clause-outside g c = c.store.ensures.outside
+
+pub returns-else-is_empty-clause-outside : goal.returns-else-is_empty-clause-outside
+returns-else-is_empty-clause-outside g c = λ m s. outside_itself _ _ refl

@@ -14,6 +14,7 @@ use Rattle.cbm_channel.proofs.Asked.{below_15}
 use Rattle.cbm_channel.proofs.Stands.{moved}
 use Rattle.cbm_channel.proofs.Planning.{opened_text, refused_text, writes_text, own_refusal}
 use Rattle.cbm_channel.proofs.Goings.{part_same, one_part, close_then, close_begin, parts_other, parts_command}
+use Rattle.cbm_channel.proofs.Outside.{outside_seen, outside_then}
 use Rattle.cbm_channel.proofs.dos.Dos.open.Goals as goal
 
 -- a command
@@ -108,3 +109,19 @@ returns-in-Err-clause-closes g c = λ lt. record {
   spared = λ is. ap (λ v. (g.M.Medium.seen v).content) c.say.ensures.medium;
   counted = inl (ap (λ k. (g.M.Medium.seen k).failures) c.say.ensures.medium);
 }
+
+-- ---- what lies outside the disk
+
+pub returns-then-channel-eq15-clause-outside : goal.returns-then-channel-eq15-clause-outside
+returns-then-channel-eq15-clause-outside g c = λ other.
+    let fifteen : (c.args.channel == 15) ≡ true = eq-eqb c.args.channel 15 c.if-channel-eq15.true in
+    c.command.ensures.outside (sym (ap (λ b. b && text_formats c.args.text.now) fifteen) ∙ other)
+
+pub returns-in-Ok-clause-outside : goal.returns-in-Ok-clause-outside
+returns-in-Ok-clause-outside g c = λ other m s.
+    let is = sym c.parse_open.ensures.value ∙ c.in-Ok.is in
+    let x = c.close_one.ensures.goes m s in
+    outside_then (g.M.Medium.seen c.args.self.now.medium) (g.M.Medium.seen c.close_one.new.self.medium) (g.M.Medium.seen c.begin.new.self.medium) (c.close_one.ensures.outside m s) (c.begin.ensures.outside x.0 (c.args.channel, c.args.text.now, is) x.2)
+
+pub returns-in-Err-clause-outside : goal.returns-in-Err-clause-outside
+returns-in-Err-clause-outside g c = λ other m s. outside_seen g.M.Medium.seen c.args.self.now.medium c.say.new.self.medium c.args.self.now.medium c.close_one.new.self.medium refl c.say.ensures.medium (c.close_one.ensures.outside m s)

@@ -28,6 +28,7 @@ use Rattle.cbm_channel.proofs.Planning.{readable, relatable, makeable, writable,
 use Rattle.cbm_machine.specs.Machines as machine
 use Rattle.cbm_channel.proofs.Opens.{relates_opened, makes_opened, made_file, made_there, has_room_of, idle_past, begins_as, nothing_begun, failed_by, not_del, match_some, match_none, has_place, no_block, can_be, on_err}
 use Rattle.cbm_volume.proofs.RecordUses.{of_records}
+use Rattle.cbm_channel.proofs.Outside.{outside_itself, outside_same, outside_seen, outside_held, begun_outside, begun_write, begun_replace, on_both, cut_sized, same_sized, made_outside, grown_total}
 use Rattle.cbm_channel.proofs.dos.Dos.opened.Goals as goal
 
 -- a listing
@@ -260,3 +261,151 @@ returns-in_err-open_records-in-OpenRecords-clause-medium g c =
     else_nothing c.from_residual-in_err-open_records-in-OpenRecords.result now now (λ i. now)
     (rw (p.1, p.2) (λ is. absurd (opening_never_26 (geometry_of volume.tracks volume.content) volume.content c.in-OpenRecords.found.entry c.in_err-open_records-in-OpenRecords.field-0.0
     (λ q. g.met.M.Medium.codes c.self.inside.volume q) c.in_err-open_records-in-OpenRecords.ensures.cause is)))
+
+-- ---- what lies outside the disk
+
+pub returns-in_err-list-in-ReadListing-clause-outside : goal.returns-in_err-list-in-ReadListing-clause-outside
+returns-in_err-list-in-ReadListing-clause-outside g c = λ m p h s. outside_itself _ _ refl
+
+pub returns-in_ok-list-in-ReadListing-clause-outside : goal.returns-in_ok-list-in-ReadListing-clause-outside
+returns-in_ok-list-in-ReadListing-clause-outside g c = λ m p h s. outside_itself _ _ refl
+
+pub returns-in_err-reader-in-ReadFile-clause-outside : goal.returns-in_err-reader-in-ReadFile-clause-outside
+returns-in_err-reader-in-ReadFile-clause-outside g c = λ m p h s. outside_itself _ _ refl
+
+pub returns-in_ok-reader-in-ReadFile-clause-outside : goal.returns-in_ok-reader-in-ReadFile-clause-outside
+returns-in_ok-reader-in-ReadFile-clause-outside g c = λ m p h s. outside_itself _ _ refl
+
+pub returns-in_err-open_records-in-OpenRecords-clause-outside : goal.returns-in_err-open_records-in-OpenRecords-clause-outside
+returns-in_err-open_records-in-OpenRecords-clause-outside g c = λ m p h s. outside_itself _ _ refl
+
+pub returns-in_err-on-in-OpenRecords-clause-outside : goal.returns-in_err-on-in-OpenRecords-clause-outside
+returns-in_err-on-in-OpenRecords-clause-outside g c = λ m p h s. outside_itself _ _ refl
+
+pub returns-in_ok-on-in-OpenRecords-clause-outside : goal.returns-in_ok-on-in-OpenRecords-clause-outside
+returns-in_ok-on-in-OpenRecords-clause-outside g c = λ m p h s. outside_itself _ _ refl
+
+pub returns-in_err-writer-in-WriteFile-clause-outside : goal.returns-in_err-writer-in-WriteFile-clause-outside
+returns-in_err-writer-in-WriteFile-clause-outside g c = λ m p h s.
+    let st = stood g.M.Medium.seen _ _ m c.self.view_is s in
+    let uses = uses_of c.self.inside.channels m.channels in
+    let idle : uses 15 ≡ Idle = idle_past c.self.inside.channels m.channels c.self.invariant.count in
+    let x = writable _ _ m p c.args.plan c.in-WriteFile.kind c.in-WriteFile.name h c.in-WriteFile.is in
+    let call = c.begin_write.ensures.call m.disk uses st.holds in
+    outside_seen g.M.Medium.seen c.args.self.now.medium c.begin_write.new.self c.self.inside.volume c.begin_write.new.self (ap (λ k. k.medium) c.self.view_is) refl
+    (begun_outside c.begin_write.result (g.M.Medium.seen c.self.inside.volume) (g.M.Medium.seen c.begin_write.new.self) m.disk _ uses 15 _ _ _ _ _ c.begin_write.ensures.only refl st.holds (begun_write c.begin_write.result uses c.in-WriteFile.kind _ 15 idle (not_del _ x.1.kept) x.1.plain call.done)
+    (cut_sized c.begin_write.result _ _ m.disk _ uses (on_both c.begin_write.result _ _ _ (not_del _ x.1.kept) x.1.plain call.stopped)) (grown_total m.disk))
+
+pub returns-in_default-clause-outside : goal.returns-in_default-clause-outside
+returns-in_default-clause-outside g c = λ m p h s.
+    let st = stood g.M.Medium.seen _ _ m c.self.view_is s in
+    let uses = uses_of c.self.inside.channels m.channels in
+    let idle : uses 15 ≡ Idle = idle_past c.self.inside.channels m.channels c.self.invariant.count in
+    let x = writable _ _ m p c.args.plan c.in-WriteFile.kind c.in-WriteFile.name h c.in-WriteFile.is in
+    let call = c.begin_write.ensures.call m.disk uses st.holds in
+    outside_seen g.M.Medium.seen c.args.self.now.medium c.begin_write.new.self c.self.inside.volume c.begin_write.new.self (ap (λ k. k.medium) c.self.view_is) refl
+    (begun_outside c.begin_write.result (g.M.Medium.seen c.self.inside.volume) (g.M.Medium.seen c.begin_write.new.self) m.disk _ uses 15 _ _ _ _ _ c.begin_write.ensures.only refl st.holds (begun_write c.begin_write.result uses c.in-WriteFile.kind _ 15 idle (not_del _ x.1.kept) x.1.plain call.done)
+    (cut_sized c.begin_write.result _ _ m.disk _ uses (on_both c.begin_write.result _ _ _ (not_del _ x.1.kept) x.1.plain call.stopped)) (grown_total m.disk))
+
+pub returns-in-Some-clause-outside : goal.returns-in-Some-clause-outside
+returns-in-Some-clause-outside g c = λ m p h s.
+    let st = stood g.M.Medium.seen _ _ m c.self.view_is s in
+    let uses = uses_of c.self.inside.channels m.channels in
+    let idle : uses 15 ≡ Idle = idle_past c.self.inside.channels m.channels c.self.invariant.count in
+    let x = writable _ _ m p c.args.plan c.in-WriteFile.kind c.in-WriteFile.name h c.in-WriteFile.is in
+    let call = c.begin_write.ensures.call m.disk uses st.holds in
+    outside_seen g.M.Medium.seen c.args.self.now.medium c.begin_write.new.self c.self.inside.volume c.begin_write.new.self (ap (λ k. k.medium) c.self.view_is) refl
+    (begun_outside c.begin_write.result (g.M.Medium.seen c.self.inside.volume) (g.M.Medium.seen c.begin_write.new.self) m.disk _ uses 15 _ _ _ _ _ c.begin_write.ensures.only refl st.holds (begun_write c.begin_write.result uses c.in-WriteFile.kind _ 15 idle (not_del _ x.1.kept) x.1.plain call.done)
+    (cut_sized c.begin_write.result _ _ m.disk _ uses (on_both c.begin_write.result _ _ _ (not_del _ x.1.kept) x.1.plain call.stopped)) (grown_total m.disk))
+
+pub returns-in_err-writer-in-AppendFile-clause-outside : goal.returns-in_err-writer-in-AppendFile-clause-outside
+returns-in_err-writer-in-AppendFile-clause-outside g c = λ m p h s.
+    let st = stood g.M.Medium.seen _ _ m c.self.view_is s in
+    let uses = uses_of c.self.inside.channels m.channels in
+    let idle : uses 15 ≡ Idle = idle_past c.self.inside.channels m.channels c.self.invariant.count in
+    let x = appendable _ _ m p c.args.plan c.in-AppendFile.found (subst (λ k. PlannedAs (g.M.Medium.seen k.medium).tracks (g.M.Medium.seen k.medium).content m (Ok p) (Ok c.args.plan)) (sym c.self.view_is) h) c.in-AppendFile.is in
+    let can = can_be c.in-AppendFile.found.slot c.self.inside.channels m x.1.file st.each x.1.in_slot x.1.closed x.1.plain x.1.unused in
+    outside_seen g.M.Medium.seen c.args.self.now.medium c.begin_append.new.self c.self.inside.volume c.begin_append.new.self (ap (λ k. k.medium) c.self.view_is) refl (outside_same _ _ c.begin_append.ensures.only.tracks c.in_err-writer-in-AppendFile.ensures.err)
+
+pub returns-in_ok-writer-in-AppendFile-clause-outside : goal.returns-in_ok-writer-in-AppendFile-clause-outside
+returns-in_ok-writer-in-AppendFile-clause-outside g c = λ m p h s.
+    let st = stood g.M.Medium.seen _ _ m c.self.view_is s in
+    let uses = uses_of c.self.inside.channels m.channels in
+    let idle : uses 15 ≡ Idle = idle_past c.self.inside.channels m.channels c.self.invariant.count in
+    let x = appendable _ _ m p c.args.plan c.in-AppendFile.found (subst (λ k. PlannedAs (g.M.Medium.seen k.medium).tracks (g.M.Medium.seen k.medium).content m (Ok p) (Ok c.args.plan)) (sym c.self.view_is) h) c.in-AppendFile.is in
+    let can = can_be c.in-AppendFile.found.slot c.self.inside.channels m x.1.file st.each x.1.in_slot x.1.closed x.1.plain x.1.unused in
+    let begun = c.in_ok-writer-in-AppendFile.ensures.begun m.disk uses st.holds x.1.file can x.1.stands 15 idle x.1.kept in
+    outside_seen g.M.Medium.seen c.args.self.now.medium c.begin_append.new.self c.self.inside.volume c.begin_append.new.self (ap (λ k. k.medium) c.self.view_is) refl
+    (outside_held c.begin_append.result (g.M.Medium.seen c.self.inside.volume) (g.M.Medium.seen c.begin_append.new.self) m.disk uses c.begin_append.ensures.only refl st.holds (record { disk = _; uses = _; holds = begun.holds; total = refl }))
+
+pub returns-in_err-writer-in-ReplaceFile-clause-outside : goal.returns-in_err-writer-in-ReplaceFile-clause-outside
+returns-in_err-writer-in-ReplaceFile-clause-outside g c = λ m p h s.
+    let st = stood g.M.Medium.seen _ _ m c.self.view_is s in
+    let uses = uses_of c.self.inside.channels m.channels in
+    let idle : uses 15 ≡ Idle = idle_past c.self.inside.channels m.channels c.self.invariant.count in
+    let x = replaceable _ _ m p c.args.plan c.in-ReplaceFile.slot h c.in-ReplaceFile.is in
+    let can = can_be c.in-ReplaceFile.slot c.self.inside.channels m x.1.file st.each x.1.in_slot x.1.closed x.1.plain x.1.unused in
+    let call = c.begin_replace.ensures.call m.disk uses st.holds in
+    outside_seen g.M.Medium.seen c.args.self.now.medium c.begin_replace.new.self c.self.inside.volume c.begin_replace.new.self (ap (λ k. k.medium) c.self.view_is) refl
+    (begun_outside c.begin_replace.result (g.M.Medium.seen c.self.inside.volume) (g.M.Medium.seen c.begin_replace.new.self) m.disk _ uses 15 _ _ _ _ _ c.begin_replace.ensures.only refl st.holds (begun_replace c.begin_replace.result m.disk uses c.in-ReplaceFile.slot x.1.file _ 15 idle can call.done)
+    (same_sized c.begin_replace.result _ _ _ m.disk uses st.holds c.begin_replace.ensures.err) refl)
+
+pub returns-in_default-2-clause-outside : goal.returns-in_default-2-clause-outside
+returns-in_default-2-clause-outside g c = λ m p h s.
+    let st = stood g.M.Medium.seen _ _ m c.self.view_is s in
+    let uses = uses_of c.self.inside.channels m.channels in
+    let idle : uses 15 ≡ Idle = idle_past c.self.inside.channels m.channels c.self.invariant.count in
+    let x = replaceable _ _ m p c.args.plan c.in-ReplaceFile.slot h c.in-ReplaceFile.is in
+    let can = can_be c.in-ReplaceFile.slot c.self.inside.channels m x.1.file st.each x.1.in_slot x.1.closed x.1.plain x.1.unused in
+    let call = c.begin_replace.ensures.call m.disk uses st.holds in
+    outside_seen g.M.Medium.seen c.args.self.now.medium c.begin_replace.new.self c.self.inside.volume c.begin_replace.new.self (ap (λ k. k.medium) c.self.view_is) refl
+    (begun_outside c.begin_replace.result (g.M.Medium.seen c.self.inside.volume) (g.M.Medium.seen c.begin_replace.new.self) m.disk _ uses 15 _ _ _ _ _ c.begin_replace.ensures.only refl st.holds (begun_replace c.begin_replace.result m.disk uses c.in-ReplaceFile.slot x.1.file _ 15 idle can call.done)
+    (same_sized c.begin_replace.result _ _ _ m.disk uses st.holds c.begin_replace.ensures.err) refl)
+
+pub returns-in-Some-2-clause-outside : goal.returns-in-Some-2-clause-outside
+returns-in-Some-2-clause-outside g c = λ m p h s.
+    let st = stood g.M.Medium.seen _ _ m c.self.view_is s in
+    let uses = uses_of c.self.inside.channels m.channels in
+    let idle : uses 15 ≡ Idle = idle_past c.self.inside.channels m.channels c.self.invariant.count in
+    let x = replaceable _ _ m p c.args.plan c.in-ReplaceFile.slot h c.in-ReplaceFile.is in
+    let can = can_be c.in-ReplaceFile.slot c.self.inside.channels m x.1.file st.each x.1.in_slot x.1.closed x.1.plain x.1.unused in
+    let call = c.begin_replace.ensures.call m.disk uses st.holds in
+    outside_seen g.M.Medium.seen c.args.self.now.medium c.begin_replace.new.self c.self.inside.volume c.begin_replace.new.self (ap (λ k. k.medium) c.self.view_is) refl
+    (begun_outside c.begin_replace.result (g.M.Medium.seen c.self.inside.volume) (g.M.Medium.seen c.begin_replace.new.self) m.disk _ uses 15 _ _ _ _ _ c.begin_replace.ensures.only refl st.holds (begun_replace c.begin_replace.result m.disk uses c.in-ReplaceFile.slot x.1.file _ 15 idle can call.done)
+    (same_sized c.begin_replace.result _ _ _ m.disk uses st.holds c.begin_replace.ensures.err) refl)
+
+pub returns-in_err-slot-in-MakeRecords-clause-outside : goal.returns-in_err-slot-in-MakeRecords-clause-outside
+returns-in_err-slot-in-MakeRecords-clause-outside g c = λ m p h s.
+    let st = stood g.M.Medium.seen _ _ m c.self.view_is s in
+    let uses = uses_of c.self.inside.channels m.channels in
+    let idle : uses 15 ≡ Idle = idle_past c.self.inside.channels m.channels c.self.invariant.count in
+    let call = c.make_records.ensures.call m.disk uses 15 st.holds idle in
+    outside_seen g.M.Medium.seen c.args.self.now.medium c.make_records.new.self c.self.inside.volume c.make_records.new.self (ap (λ k. k.medium) c.self.view_is) refl
+    (made_outside c.make_records.result (g.M.Medium.seen c.self.inside.volume) (g.M.Medium.seen c.make_records.new.self) m.disk _ uses _ _ _ c.make_records.ensures.only refl st.holds call (grown_total m.disk))
+
+pub returns-in_default-3-clause-outside : goal.returns-in_default-3-clause-outside
+returns-in_default-3-clause-outside g c = λ m p h s.
+    let st = stood g.M.Medium.seen _ _ m c.self.view_is s in
+    let uses = uses_of c.self.inside.channels m.channels in
+    let idle : uses 15 ≡ Idle = idle_past c.self.inside.channels m.channels c.self.invariant.count in
+    let call = c.make_records.ensures.call m.disk uses 15 st.holds idle in
+    outside_seen g.M.Medium.seen c.args.self.now.medium c.make_records.new.self c.self.inside.volume c.make_records.new.self (ap (λ k. k.medium) c.self.view_is) refl
+    (made_outside c.make_records.result (g.M.Medium.seen c.self.inside.volume) (g.M.Medium.seen c.make_records.new.self) m.disk _ uses _ _ _ c.make_records.ensures.only refl st.holds call (grown_total m.disk))
+
+pub returns-in_err-on-in-MakeRecords-clause-outside : goal.returns-in_err-on-in-MakeRecords-clause-outside
+returns-in_err-on-in-MakeRecords-clause-outside g c = λ m p h s.
+    let st = stood g.M.Medium.seen _ _ m c.self.view_is s in
+    let uses = uses_of c.self.inside.channels m.channels in
+    let idle : uses 15 ≡ Idle = idle_past c.self.inside.channels m.channels c.self.invariant.count in
+    let call = c.make_records.ensures.call m.disk uses 15 st.holds idle in
+    outside_seen g.M.Medium.seen c.args.self.now.medium c.make_records.new.self c.self.inside.volume c.make_records.new.self (ap (λ k. k.medium) c.self.view_is) refl
+    (made_outside c.make_records.result (g.M.Medium.seen c.self.inside.volume) (g.M.Medium.seen c.make_records.new.self) m.disk _ uses _ _ _ c.make_records.ensures.only refl st.holds call (grown_total m.disk))
+
+pub returns-in_ok-on-in-MakeRecords-clause-outside : goal.returns-in_ok-on-in-MakeRecords-clause-outside
+returns-in_ok-on-in-MakeRecords-clause-outside g c = λ m p h s.
+    let st = stood g.M.Medium.seen _ _ m c.self.view_is s in
+    let uses = uses_of c.self.inside.channels m.channels in
+    let idle : uses 15 ≡ Idle = idle_past c.self.inside.channels m.channels c.self.invariant.count in
+    let call = c.make_records.ensures.call m.disk uses 15 st.holds idle in
+    outside_seen g.M.Medium.seen c.args.self.now.medium c.make_records.new.self c.self.inside.volume c.make_records.new.self (ap (λ k. k.medium) c.self.view_is) refl
+    (made_outside c.make_records.result (g.M.Medium.seen c.self.inside.volume) (g.M.Medium.seen c.make_records.new.self) m.disk _ uses _ _ _ c.make_records.ensures.only refl st.holds call (grown_total m.disk))

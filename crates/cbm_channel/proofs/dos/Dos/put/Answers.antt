@@ -4,6 +4,7 @@ use Rattle.cbm_channel.specs.Going.{put_written}
 use Rattle.cbm_channel.proofs.Asked.{below_15, put_15, put_records, put_other}
 use Rattle.cbm_channel.proofs.Stands.{stood, stands_at}
 use Rattle.cbm_channel.proofs.Goings.{part_same, one_part, keeps_same}
+use Rattle.cbm_channel.proofs.Outside.{outside_itself}
 use Rattle.cbm_channel.proofs.dos.Dos.put.Goals as goal
 
 -- a text for channel 15
@@ -29,3 +30,14 @@ returns-else-has_records-clause-goes g c = λ m s.
     let next = c.store.ensures.goes m s in
     let law = put_other c.args.channel m _ (below_15 c.args.channel lt) at c.args.byte (sym c.has_records.ensures ∙ c.if-has_records.false) in
     (next.0, one_part (g.M.Medium.seen c.args.self.now.medium) (g.M.Medium.seen c.store.new.self.medium) c.args.channel (put c.args.channel c.args.byte) m next.0 c.store.ensures.medium.counted (part_same _ c.args.channel (put_written c.args.channel c.args.byte) (put c.args.channel c.args.byte) m next.0 law next.1), next.2)
+
+-- ---- what lies outside the disk
+
+pub returns-then-channel-eq15-clause-outside : goal.returns-then-channel-eq15-clause-outside
+returns-then-channel-eq15-clause-outside g c = λ m s. outside_itself _ _ (ap g.M.Medium.seen c.gather.ensures.medium)
+
+pub returns-then-has_records-clause-outside : goal.returns-then-has_records-clause-outside
+returns-then-has_records-clause-outside g c = λ m s. outside_itself _ _ (ap g.M.Medium.seen c.gather-then-has_records.ensures.medium)
+
+pub returns-else-has_records-clause-outside : goal.returns-else-has_records-clause-outside
+returns-else-has_records-clause-outside g c = c.store.ensures.outside

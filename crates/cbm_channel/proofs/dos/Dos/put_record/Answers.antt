@@ -1,12 +1,13 @@
-use Rattle.std.proofs.Common.{◌≡◌, IfSome, refl, sym, ap, subst, ◌∙◌, inl, inr, Option, Bool, Ok, Some, true, false, slice_index_or}
+use Rattle.std.proofs.Common.{◌≡◌, IfSome, refl, sym, ap, subst, ◌∙◌, inl, inr, Option, Bool, Ok, Some, true, false, slice_index_or, take}
 use Rattle.cbm_medium.specs.Seen.{Seen, HasFailed}
 use Rattle.cbm_machine.specs.Machines.{tell}
 use Rattle.cbm_channel.specs.declared.channel.Channel as kept
-use Rattle.cbm_channel.proofs.RecordEnds.{PutsRecord, records_or_not, put_done, put_large, put_stopped, none_done}
+use Rattle.cbm_channel.proofs.RecordEnds.{PutsRecord, records_or_not, put_done, put_large, put_stopped, none_done, put_outside}
 use Rattle.cbm_channel.specs.Shown.{has_records}
 use Rattle.cbm_channel.proofs.Stands.{stood}
 use Rattle.cbm_channel.proofs.Stores.{renamed}
 use Rattle.cbm_channel.proofs.Counted.{counted_else}
+use Rattle.cbm_channel.proofs.Outside.{outside_seen}
 use Rattle.cbm_channel.proofs.dos.Dos.put_record.Goals as goal
 
 -- all bytes were written, or the channel has no records
@@ -68,3 +69,37 @@ returns-in-Err-clause-goes g c = λ m text s first.
 pub returns-in-Err-clause-counted : goal.returns-in-Err-clause-counted
 returns-in-Err-clause-counted g c =
     counted_else g.M.Medium.seen c.args.self.now c.set.new.self c.self.inside.volume c.put_record.new.volume (ap (λ k. k.medium) c.self.view_is) c.set.ensures.medium c.put_record.result c.in-Err.trouble c.in-Err.is c.put_record.ensures.medium (ap (λ x. x.status) c.set.ensures.told ∙ c.from.ensures)
+
+-- ---- what lies outside the disk
+
+pub returns-in-Ok-Some-false-clause-outside : goal.returns-in-Ok-Some-false-clause-outside
+returns-in-Ok-Some-false-clause-outside g c = λ m s.
+    let old : Seen = g.M.Medium.seen c.self.inside.volume in
+    let new : Seen = g.M.Medium.seen c.put_record.new.volume in
+    let st = stood g.M.Medium.seen _ _ m c.self.view_is s in
+    let x : kept.Channel = slice_index_or c.self.inside.channels c.args.channel c.index-self-channel.result in
+    outside_seen g.M.Medium.seen c.args.self.now.medium c.put_record.new.volume c.self.inside.volume c.put_record.new.volume (ap (λ k. k.medium) c.self.view_is) refl (put_outside old new c.self.inside.channels c.self.inside.telling c.self.inside.text m c.args.channel c.requires c.self.invariant st x c.put_record.new.self c.index-self-channel.result refl (take 256 c.args.bytes.now) c.args.bytes.now refl c.put_record.ensures.medium.tracks c.put_record.ensures.outside (λ none. ap g.M.Medium.seen (c.put_record.ensures.quiet none).2))
+
+pub returns-in-Ok-Some-true-clause-outside : goal.returns-in-Ok-Some-true-clause-outside
+returns-in-Ok-Some-true-clause-outside g c = λ m s.
+    let old : Seen = g.M.Medium.seen c.self.inside.volume in
+    let new : Seen = g.M.Medium.seen c.put_record.new.volume in
+    let st = stood g.M.Medium.seen _ _ m c.self.view_is s in
+    let x : kept.Channel = slice_index_or c.self.inside.channels c.args.channel c.index-self-channel.result in
+    outside_seen g.M.Medium.seen c.args.self.now.medium c.say.new.self.medium c.self.inside.volume c.put_record.new.volume (ap (λ k. k.medium) c.self.view_is) c.say.ensures.medium (put_outside old new c.self.inside.channels c.self.inside.telling c.self.inside.text m c.args.channel c.requires c.self.invariant st x c.put_record.new.self c.index-self-channel.result refl (take 256 c.args.bytes.now) c.args.bytes.now refl c.put_record.ensures.medium.tracks c.put_record.ensures.outside (λ none. ap g.M.Medium.seen (c.put_record.ensures.quiet none).2))
+
+pub returns-in-Ok-None-clause-outside : goal.returns-in-Ok-None-clause-outside
+returns-in-Ok-None-clause-outside g c = λ m s.
+    let old : Seen = g.M.Medium.seen c.self.inside.volume in
+    let new : Seen = g.M.Medium.seen c.put_record.new.volume in
+    let st = stood g.M.Medium.seen _ _ m c.self.view_is s in
+    let x : kept.Channel = slice_index_or c.self.inside.channels c.args.channel c.index-self-channel.result in
+    outside_seen g.M.Medium.seen c.args.self.now.medium c.say-in-Ok-None.new.self.medium c.self.inside.volume c.put_record.new.volume (ap (λ k. k.medium) c.self.view_is) c.say-in-Ok-None.ensures.medium (put_outside old new c.self.inside.channels c.self.inside.telling c.self.inside.text m c.args.channel c.requires c.self.invariant st x c.put_record.new.self c.index-self-channel.result refl (take 256 c.args.bytes.now) c.args.bytes.now refl c.put_record.ensures.medium.tracks c.put_record.ensures.outside (λ none. ap g.M.Medium.seen (c.put_record.ensures.quiet none).2))
+
+pub returns-in-Err-clause-outside : goal.returns-in-Err-clause-outside
+returns-in-Err-clause-outside g c = λ m s.
+    let old : Seen = g.M.Medium.seen c.self.inside.volume in
+    let new : Seen = g.M.Medium.seen c.put_record.new.volume in
+    let st = stood g.M.Medium.seen _ _ m c.self.view_is s in
+    let x : kept.Channel = slice_index_or c.self.inside.channels c.args.channel c.index-self-channel.result in
+    outside_seen g.M.Medium.seen c.args.self.now.medium c.set.new.self.medium c.self.inside.volume c.put_record.new.volume (ap (λ k. k.medium) c.self.view_is) c.set.ensures.medium (put_outside old new c.self.inside.channels c.self.inside.telling c.self.inside.text m c.args.channel c.requires c.self.invariant st x c.put_record.new.self c.index-self-channel.result refl (take 256 c.args.bytes.now) c.args.bytes.now refl c.put_record.ensures.medium.tracks c.put_record.ensures.outside (λ none. ap g.M.Medium.seen (c.put_record.ensures.quiet none).2))

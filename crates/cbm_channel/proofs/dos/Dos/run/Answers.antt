@@ -6,6 +6,7 @@ use Rattle.cbm_machine.specs.Running.{run, rename, scratch, copy}
 use Rattle.cbm_channel.specs.Commanded.{formats}
 use Rattle.cbm_channel.proofs.Goings.{part_same}
 use Rattle.cbm_channel.proofs.Named.{new_name_cut, copy_name_cut, place_some}
+use Rattle.cbm_channel.proofs.Outside.{outside_itself}
 use Rattle.cbm_channel.proofs.dos.Dos.run.Goals as goal
 
 pub returns-in-New-clause-goes : goal.returns-in-New-clause-goes
@@ -41,3 +42,26 @@ pub returns-in-Position-clause-goes : goal.returns-in-Position-clause-goes
 returns-in-Position-clause-goes g c = λ m of s whole.
     let some = place_some of.0 _ _ _ (of.1 ∙ ap (λ x. Ok x) c.in-Position.is) in
     (_, inl (sym (ap (λ x. answered m (run x m)) c.in-Position.is)), c.place.ensures.leads some.0 some.1 m s)
+
+-- ---- what lies outside the disk
+
+pub returns-in-New-clause-outside : goal.returns-in-New-clause-outside
+returns-in-New-clause-outside g c = λ other. let z = sym (ap formats c.in-New.is) ∙ other in absurd (cc)
+
+pub returns-in-Scratch-clause-outside : goal.returns-in-Scratch-clause-outside
+returns-in-Scratch-clause-outside g c = λ other. c.scratch.ensures.outside
+
+pub returns-in-Rename-clause-outside : goal.returns-in-Rename-clause-outside
+returns-in-Rename-clause-outside g c = λ other. c.rename.ensures.outside
+
+pub returns-in-Copy-clause-outside : goal.returns-in-Copy-clause-outside
+returns-in-Copy-clause-outside g c = λ other. c.copy.ensures.outside
+
+pub returns-in-Validate-clause-outside : goal.returns-in-Validate-clause-outside
+returns-in-Validate-clause-outside g c = λ other. c.validate.ensures.outside
+
+pub returns-in-Initialize-clause-outside : goal.returns-in-Initialize-clause-outside
+returns-in-Initialize-clause-outside g c = λ other m s. outside_itself _ _ (ap g.M.Medium.seen c.say.ensures.medium)
+
+pub returns-in-Position-clause-outside : goal.returns-in-Position-clause-outside
+returns-in-Position-clause-outside g c = λ other m s. outside_itself _ _ (ap g.M.Medium.seen c.place.ensures.medium)

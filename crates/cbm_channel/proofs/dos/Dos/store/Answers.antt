@@ -8,6 +8,7 @@ use Rattle.cbm_channel.proofs.BytesPut.{IsPut}
 use Rattle.cbm_channel.proofs.Stands.{stood, stands_at, waits_at, use_at}
 use Rattle.cbm_channel.proofs.Stores.{put_waits, put_stored, put_refused, put_cut, has_failed, renamed}
 use Rattle.cbm_channel.proofs.Counted.{counted_else}
+use Rattle.cbm_channel.proofs.Outside.{outside_seen}
 use Rattle.cbm_channel.proofs.dos.Dos.store.Goals as goal
 
 -- the byte is stored, or dropped
@@ -60,3 +61,26 @@ returns-in-Err-clause-goes g c = λ m s.
 pub returns-in-Err-clause-counted : goal.returns-in-Err-clause-counted
 returns-in-Err-clause-counted g c =
     counted_else g.M.Medium.seen c.args.self.now c.set.new.self c.self.inside.volume c.put.new.volume (ap (λ k. k.medium) c.self.view_is) c.set.ensures.medium c.put.result c.in-Err.trouble c.in-Err.is c.put.ensures.only (ap (λ x. x.status) c.set.ensures.told ∙ c.from.ensures)
+
+-- ---- what lies outside the disk
+
+pub returns-in-Ok-true-clause-outside : goal.returns-in-Ok-true-clause-outside
+returns-in-Ok-true-clause-outside g c = λ m s.
+    let st = stood g.M.Medium.seen _ _ m c.self.view_is s in
+    let at = stands_at _ _ _ _ _ _ m c.args.channel c.index-self-channel.result c.requires c.self.invariant st in
+    let same = use_at (slice_index_or c.self.inside.channels c.args.channel c.index-self-channel.result) _ m.channels c.args.channel _ (omega (arith, c.requires, c.self.invariant.count)) refl in
+    outside_seen g.M.Medium.seen c.args.self.now.medium c.put.new.volume c.self.inside.volume c.put.new.volume (ap (λ k. k.medium) c.self.view_is) refl ((c.put.ensures.call m.disk (uses_of c.self.inside.channels m.channels) c.args.channel (channel m c.args.channel) st.holds same at).outside)
+
+pub returns-in-Ok-false-clause-outside : goal.returns-in-Ok-false-clause-outside
+returns-in-Ok-false-clause-outside g c = λ m s.
+    let st = stood g.M.Medium.seen _ _ m c.self.view_is s in
+    let at = stands_at _ _ _ _ _ _ m c.args.channel c.index-self-channel.result c.requires c.self.invariant st in
+    let same = use_at (slice_index_or c.self.inside.channels c.args.channel c.index-self-channel.result) _ m.channels c.args.channel _ (omega (arith, c.requires, c.self.invariant.count)) refl in
+    outside_seen g.M.Medium.seen c.args.self.now.medium c.say.new.self.medium c.self.inside.volume c.put.new.volume (ap (λ k. k.medium) c.self.view_is) c.say.ensures.medium ((c.put.ensures.call m.disk (uses_of c.self.inside.channels m.channels) c.args.channel (channel m c.args.channel) st.holds same at).outside)
+
+pub returns-in-Err-clause-outside : goal.returns-in-Err-clause-outside
+returns-in-Err-clause-outside g c = λ m s.
+    let st = stood g.M.Medium.seen _ _ m c.self.view_is s in
+    let at = stands_at _ _ _ _ _ _ m c.args.channel c.index-self-channel.result c.requires c.self.invariant st in
+    let same = use_at (slice_index_or c.self.inside.channels c.args.channel c.index-self-channel.result) _ m.channels c.args.channel _ (omega (arith, c.requires, c.self.invariant.count)) refl in
+    outside_seen g.M.Medium.seen c.args.self.now.medium c.set.new.self.medium c.self.inside.volume c.put.new.volume (ap (λ k. k.medium) c.self.view_is) c.set.ensures.medium ((c.put.ensures.call m.disk (uses_of c.self.inside.channels m.channels) c.args.channel (channel m c.args.channel) st.holds same at).outside)

@@ -6,7 +6,7 @@ use Rattle.cbm_channel.proofs.Elses.{else_then, else_after, else_refused}
 use Rattle.cbm_volume.proofs.CopySteps.{handed}
 use Rattle.cbm_channel.specs.Recorded.{IsTextCut}
 use Rattle.cbm_channel.proofs.Asked.{none_of}
-use Rattle.cbm_channel.proofs.RecordPuts.{Grows, store_full, store_cut, store_more, store_more_cut, store_there, store_next}
+use Rattle.cbm_channel.proofs.RecordPuts.{Grows, store_full, store_cut, store_more, store_more_cut, store_there, store_next, grown_outside, written_outside}
 use Rattle.cbm_channel.proofs.on_record.OnRecord.store.Goals as goal
 
 -- the record was there
@@ -115,3 +115,58 @@ pub returns-in-None-clause-medium : goal.returns-in-None-clause-medium
 returns-in-None-clause-medium g c = else_then c.write-2.result _ c.in_ok-written-2.field-0 (g.M.Medium.seen c.args.volume.now) (g.M.Medium.seen c.write-2.new.volume) c.in_ok-written-2.was
     (else_after c.grow.result c.in_ok-grow.field-0 c.write-2.result (g.M.Medium.seen c.args.volume.now) (g.M.Medium.seen c.grow.new.volume) (g.M.Medium.seen c.write-2.new.volume) c.in_ok-grow.was
     (else_after c.write.result c.in_ok-written.field-0 c.grow.result (g.M.Medium.seen c.args.volume.now) (g.M.Medium.seen c.write.new.volume) (g.M.Medium.seen c.grow.new.volume) c.in_ok-written.was c.write.ensures.only c.grow.ensures.only) c.write-2.ensures.only) (search rules)
+
+-- ---- what lies outside the disk
+
+pub returns-then-not-branch-clause-outside : goal.returns-then-not-branch-clause-outside
+returns-then-not-branch-clause-outside g c = λ d uses b s rs can.
+    let old : Seen = g.M.Medium.seen c.args.volume.now in
+    let mid : Seen = g.M.Medium.seen c.write.new.volume in
+    let none = none_of c.in_ok-written.field-0 c.in_default.not-Some in
+    let missing = rw none at ((c.in_ok-written.ensures.put d uses b s rs can).put) in
+    let more : Seen = g.M.Medium.seen c.grow.new.volume in
+    let first = c.write.ensures.outside d uses b s rs can in
+    grown_outside old mid d uses c.args.self.now b s rs c.args.bytes.now can c.write.ensures.only.tracks c.write.ensures.only.protected c.write.ensures.only.counted missing more first c.grow.ensures.outside
+
+pub returns-in_err-grow-clause-outside : goal.returns-in_err-grow-clause-outside
+returns-in_err-grow-clause-outside g c = λ d uses b s rs can.
+    let old : Seen = g.M.Medium.seen c.args.volume.now in
+    let mid : Seen = g.M.Medium.seen c.write.new.volume in
+    let none = none_of c.in_ok-written.field-0 c.in_default.not-Some in
+    let missing = rw none at ((c.in_ok-written.ensures.put d uses b s rs can).put) in
+    let more : Seen = g.M.Medium.seen c.grow.new.volume in
+    let first = c.write.ensures.outside d uses b s rs can in
+    grown_outside old mid d uses c.args.self.now b s rs c.args.bytes.now can c.write.ensures.only.tracks c.write.ensures.only.protected c.write.ensures.only.counted missing more first c.grow.ensures.outside
+
+pub returns-in-Some-2-clause-outside : goal.returns-in-Some-2-clause-outside
+returns-in-Some-2-clause-outside g c = λ d uses b s rs can.
+    let old : Seen = g.M.Medium.seen c.args.volume.now in
+    let mid : Seen = g.M.Medium.seen c.write.new.volume in
+    let none = none_of c.in_ok-written.field-0 c.in_default.not-Some in
+    let missing = rw none at ((c.in_ok-written.ensures.put d uses b s rs can).put) in
+    let more : Seen = g.M.Medium.seen c.grow.new.volume in
+    let first = c.write.ensures.outside d uses b s rs can in
+    let grows = subst (λ (x : Bool). Grows mid more c.args.self.now (Ok x)) c.if-not-branch.false c.in_ok-grow.ensures.grown in
+    written_outside old mid d uses c.args.self.now b s rs c.args.bytes.now can c.write.ensures.only.tracks c.write.ensures.only.protected c.write.ensures.only.counted missing more grows c.grow.ensures.only.tracks c.grow.ensures.only.protected c.grow.ensures.only.counted (g.M.Medium.seen c.write-2.new.volume) (grown_outside old mid d uses c.args.self.now b s rs c.args.bytes.now can c.write.ensures.only.tracks c.write.ensures.only.protected c.write.ensures.only.counted missing more first c.grow.ensures.outside) c.write-2.ensures.outside
+
+pub returns-in_err-written-2-clause-outside : goal.returns-in_err-written-2-clause-outside
+returns-in_err-written-2-clause-outside g c = λ d uses b s rs can.
+    let old : Seen = g.M.Medium.seen c.args.volume.now in
+    let mid : Seen = g.M.Medium.seen c.write.new.volume in
+    let none = none_of c.in_ok-written.field-0 c.in_default.not-Some in
+    let missing = rw none at ((c.in_ok-written.ensures.put d uses b s rs can).put) in
+    let more : Seen = g.M.Medium.seen c.grow.new.volume in
+    let first = c.write.ensures.outside d uses b s rs can in
+    let grows = subst (λ (x : Bool). Grows mid more c.args.self.now (Ok x)) c.if-not-branch.false c.in_ok-grow.ensures.grown in
+    written_outside old mid d uses c.args.self.now b s rs c.args.bytes.now can c.write.ensures.only.tracks c.write.ensures.only.protected c.write.ensures.only.counted missing more grows c.grow.ensures.only.tracks c.grow.ensures.only.protected c.grow.ensures.only.counted (g.M.Medium.seen c.write-2.new.volume) (grown_outside old mid d uses c.args.self.now b s rs c.args.bytes.now can c.write.ensures.only.tracks c.write.ensures.only.protected c.write.ensures.only.counted missing more first c.grow.ensures.outside) c.write-2.ensures.outside
+
+pub returns-in-None-clause-outside : goal.returns-in-None-clause-outside
+returns-in-None-clause-outside g c = λ d uses b s rs can.
+    let old : Seen = g.M.Medium.seen c.args.volume.now in
+    let mid : Seen = g.M.Medium.seen c.write.new.volume in
+    let none = none_of c.in_ok-written.field-0 c.in_default.not-Some in
+    let missing = rw none at ((c.in_ok-written.ensures.put d uses b s rs can).put) in
+    let more : Seen = g.M.Medium.seen c.grow.new.volume in
+    let first = c.write.ensures.outside d uses b s rs can in
+    let grows = subst (λ (x : Bool). Grows mid more c.args.self.now (Ok x)) c.if-not-branch.false c.in_ok-grow.ensures.grown in
+    written_outside old mid d uses c.args.self.now b s rs c.args.bytes.now can c.write.ensures.only.tracks c.write.ensures.only.protected c.write.ensures.only.counted missing more grows c.grow.ensures.only.tracks c.grow.ensures.only.protected c.grow.ensures.only.counted (g.M.Medium.seen c.write-2.new.volume) (grown_outside old mid d uses c.args.self.now b s rs c.args.bytes.now can c.write.ensures.only.tracks c.write.ensures.only.protected c.write.ensures.only.counted missing more first c.grow.ensures.outside) c.write-2.ensures.outside

@@ -1,8 +1,9 @@
-use Rattle.std.proofs.Common.{subst, inl, inr}
+use Rattle.std.proofs.Common.{subst, inl, inr, refl}
 use Rattle.cbm_volume.specs.RecordWrites.{IsRecordCall}
-use Rattle.cbm_channel.specs.ChannelCalls.{OfPlaced}
+use Rattle.cbm_channel.specs.ChannelCalls.{OfPlaced, KeepsOutside}
 use Rattle.cbm_channel.proofs.RecordPuts.{no_place}
 use Rattle.cbm_channel.proofs.on_record.OnRecord.write.Goals.{then-self-eq0-via-then-self-eq0, then-self-eq0-via-else-self-eq0+then-self-eq0-2}
+use Rattle.cbm_channel.proofs.Outside.{outside_itself, record_outside}
 use Rattle.cbm_channel.proofs.on_record.OnRecord.write.Goals as goal
 
 -- a place has no number 0
@@ -14,3 +15,13 @@ pub returns-clause-put : goal.returns-clause-put
 returns-clause-put g c =
     subst (λ r. OfPlaced (g.M.Medium.seen c.args.volume.now) r (λ d uses b s rs. IsRecordCall c.put_record.result (g.M.Medium.seen c.args.volume.now) (g.M.Medium.seen c.put_record.new.self) d uses r.slot r.width b s rs r.number r.position c.args.bytes.now)) c.self.view_is
     (λ d uses b s rs can. c.put_record.ensures.put d uses _ b s rs can.has can.inside)
+
+-- ---- what lies outside the disk
+
+pub returns-then-self-eq0-clause-outside : goal.returns-then-self-eq0-clause-outside
+returns-then-self-eq0-clause-outside g c = λ d uses b s rs can. outside_itself _ _ refl
+
+pub returns-clause-outside : goal.returns-clause-outside
+returns-clause-outside g c =
+    subst (λ r. OfPlaced (g.M.Medium.seen c.args.volume.now) r (λ d uses b s rs. KeepsOutside (g.M.Medium.seen c.args.volume.now) (g.M.Medium.seen c.put_record.new.self))) c.self.view_is
+    (λ d uses b s rs can. record_outside (λ x. x.cut) c.put_record.result (g.M.Medium.seen c.args.volume.now) (g.M.Medium.seen c.put_record.new.self) d uses _ _ b s rs _ _ c.args.bytes.now c.put_record.ensures.only refl can.has.holds (c.put_record.ensures.put d uses _ b s rs can.has can.inside).put)

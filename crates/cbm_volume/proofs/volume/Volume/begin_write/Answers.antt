@@ -52,7 +52,7 @@ pub returns-in_err-slot-clause-call : goal.returns-in_err-slot-clause-call
 returns-in_err-slot-clause-call g c = λ d uses h.
     record {
       done = (search rules);
-      stopped = on_err c.from_residual-in_err-slot.result (λ ne plain. stopped_at (g.M.Medium.seen c.args.self.now).tracks (g.M.Medium.seen c.args.self.now).content h.layout (g.M.Medium.seen c.empty_slot.new.medium).content d (lost g c d uses h).disk _ uses (lost g c d uses h).reached (lost g c d uses h).slots);
+      stopped = on_err c.from_residual-in_err-slot.result (λ ne plain. stopped_at (g.M.Medium.seen c.args.self.now).tracks (g.M.Medium.seen c.args.self.now).content h.layout (g.M.Medium.seen c.empty_slot.new.medium).content d (lost g c d uses h).disk _ uses h (lost g c d uses h).reached (lost g c d uses h).slots);
       cause =
           let p = err_from_is_err_and c.from_residual-in_err-slot.result c.from_residual-in_err-slot.ensures.1 in
           let old : Seen = g.M.Medium.seen c.args.self.now in
@@ -89,7 +89,7 @@ pub returns-in_err-chain-clause-call : goal.returns-in_err-chain-clause-call
 returns-in_err-chain-clause-call g c = λ d uses h.
     record {
       done = (search rules);
-      stopped = on_err c.from_residual-in_err-chain.result (λ ne plain. stopped_at (g.M.Medium.seen c.args.self.now).tracks (g.M.Medium.seen c.args.self.now).content h.layout (g.M.Medium.seen c.begin.new.medium).content d (grown d) _ uses (unclaimed g c d uses h) (same_files_grown d));
+      stopped = on_err c.from_residual-in_err-chain.result (λ ne plain. stopped_at (g.M.Medium.seen c.args.self.now).tracks (g.M.Medium.seen c.args.self.now).content h.layout (g.M.Medium.seen c.begin.new.medium).content d (grown d) _ uses h (unclaimed g c d uses h) (same_files_grown d));
       cause =
           let p = err_from_is_err_and c.from_residual-in_err-chain.result c.from_residual-in_err-chain.ensures.1 in
           let old : Seen = g.M.Medium.seen c.args.self.now in
@@ -142,7 +142,7 @@ pub returns-in_err-put_slot-clause-call : goal.returns-in_err-put_slot-clause-ca
 returns-in_err-put_slot-clause-call g c = λ d uses h.
     record {
       done = (search rules);
-      stopped = on_err c.from_residual-in_err-put_slot.result (λ ne plain. stopped_at (g.M.Medium.seen c.args.self.now).tracks (g.M.Medium.seen c.args.self.now).content h.layout (g.M.Medium.seen c.put_slot.new.medium).content d (one_less (grown d)) _ uses (unentered g c d uses h) (same_files_grown d));
+      stopped = on_err c.from_residual-in_err-put_slot.result (λ ne plain. stopped_at (g.M.Medium.seen c.args.self.now).tracks (g.M.Medium.seen c.args.self.now).content h.layout (g.M.Medium.seen c.put_slot.new.medium).content d (one_less (grown d)) _ uses h (unentered g c d uses h) (same_files_grown d));
       cause =
           let p = err_from_is_err_and c.from_residual-in_err-put_slot.result c.from_residual-in_err-put_slot.ensures.1 in
           let old : Seen = g.M.Medium.seen c.args.self.now in

@@ -100,7 +100,7 @@ returns-in_err-make-clause-call g c = λ d uses ch h idle ne plain are.
       stopped =
           let old : Seen = g.M.Medium.seen c.args.self.now in
           let lost = (cut g c d uses ch h idle ne plain are).0 in
-          on_err c.from_residual-in_err-make.result (stopped_at old.tracks old.content h.layout (g.M.Medium.seen c.make.new.medium).content d lost.disk _ uses lost.reached lost.slots);
+          on_err c.from_residual-in_err-make.result (stopped_at old.tracks old.content h.layout (g.M.Medium.seen c.make.new.medium).content d lost.disk _ uses h lost.reached lost.slots);
       cause = handed_on c.from_residual-in_err-make.result c.in_err-make.field-0.0 (IsHindered (g.M.Medium.seen c.args.self.now) (g.M.Medium.seen c.make.new.medium)) c.from_residual-in_err-make.ensures.1 (cut g c d uses ch h idle ne plain are).1;
       untouched =
           let old : Seen = g.M.Medium.seen c.args.self.now in

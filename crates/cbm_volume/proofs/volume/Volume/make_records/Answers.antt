@@ -85,7 +85,7 @@ returns-in_err-slot-clause-call g c = λ d uses ch h idle.
       stopped =
           let old : Seen = g.M.Medium.seen c.args.self.now in
           let lost = (cut g c d uses ch h idle).0 in
-          on_err c.from_residual-in_err-slot.result (stopped_at old.tracks old.content h.layout (g.M.Medium.seen c.make.new.medium).content d lost.disk _ uses lost.reached lost.slots);
+          on_err c.from_residual-in_err-slot.result (stopped_at old.tracks old.content h.layout (g.M.Medium.seen c.make.new.medium).content d lost.disk _ uses h lost.reached lost.slots);
       cause = handed_on c.from_residual-in_err-slot.result c.in_err-slot.field-0.0 (IsHindered (g.M.Medium.seen c.args.self.now) (g.M.Medium.seen c.make.new.medium)) c.from_residual-in_err-slot.ensures.1 (cut g c d uses ch h idle).1;
       untouched =
           let old : Seen = g.M.Medium.seen c.args.self.now in
