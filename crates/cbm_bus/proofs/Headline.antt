@@ -24,7 +24,7 @@ use Rattle.cbm_drive.specs.declared.fault.PlayFault.{PlayFault}
 use Rattle.cbm_drive.specs.Played.{HasPlayed, IsPlayCut}
 use Rattle.cbm_drive.specs.Seats.{Seated, AreInTime, IsBusAt, IsSeat, held_by}
 use Rattle.cbm_bus.proofs.Parties.{plays_parties, rest_parties}
-use Rattle.cbm_bus.specs.Headline.{HasDisk, AreDisks, HasPlayedFiles}
+use Rattle.cbm_bus.specs.Headline.{HasDisk, AreDisks, HasPlayedFiles, HasPlayedFilesLoosely}
 
 module _ {M : Type 0} (seen : M → Seen) where
   -- each medium means its machine's disk
@@ -74,26 +74,33 @@ module _ {M : Type 0} (seen : M → Seen) where
   -- the play, and what it is under a host that keeps the timing
   played_files : ((m : Desk Machine) (n : ℕ) → desk_says m ≡ Some (n, false) → (x : ℕ × Bool) × (desk_says (desk_step m (Said n false)) ≡ Some x)) → (bs : List Party) (ms : ℕ → Desk Machine) (end : ℕ) (cs : List Change) (b : Cabled (Desk (Kept M))) (old new : List Event) → IsBus bs
       → AreInTime (end + 1) b.drives → HasPlayed (Desk (Kept M)) (Desk Machine) (DeskStands seen) desk_step desk_says b.host (end + 1) b.drives old new cs (at_rest (Desk Machine) desk_step desk_says ms bs)
-      → HasPlayedFiles seen bs ms end cs b old new
+      → HasPlayedFilesLoosely seen bs ms end cs b old new
   played_files more bs ms end cs b old new is_bus quiet p = record {
-    made = p.made;
-    now = p.stations;
-    added = p.added;
-    hosts = p.hosts;
-    disks = media b.host b.drives b.drives p.stations p.now;
-    session = λ timing. keeps (Desk Machine) desk_step desk_says bs ms p.from end p.made p.stations is_bus (record { more = more }) p.plays
-        quiet_now timing;
+    play = record {
+      made = p.made;
+      now = p.stations;
+      added = p.added;
+      hosts = p.hosts;
+      disks = media b.host b.drives b.drives p.stations p.now;
+      session = λ timing. keeps (Desk Machine) desk_step desk_says bs ms p.from end p.made p.stations is_bus (record { more = more }) p.plays quiet_now timing;
+      stand = record { parties = plays_parties (Desk Machine) desk_step desk_says p.plays ∙ rest_parties (Desk Machine) desk_step desk_says ms bs; each = p.now };
+    };
     loosely = λ timing. keeps_loosely (Desk Machine) desk_step desk_says bs ms p.from end p.made p.stations is_bus (record { more = more }) p.plays (let b = p.before in omega (arith, b)) quiet_now timing;
-    stand = record { parties = plays_parties (Desk Machine) desk_step desk_says p.plays ∙ rest_parties (Desk Machine) desk_step desk_says ms bs; each = p.now };
   }
     where
       quiet_now : AllLater (Desk Machine) desk_step desk_says end p.stations
       quiet_now = later end p.stations (stations_in_time (Desk (Kept M)) (Desk Machine) (DeskStands seen) desk_step desk_says (held_by b.host b.drives) (end + 1) b.drives p.stations p.now quiet)
 
-  pub headline : {A E : Type 0} (r : Result A E) → ((m : Desk Machine) (n : ℕ) → desk_says m ≡ Some (n, false) → (x : ℕ × Bool) × (desk_says (desk_step m (Said n false)) ≡ Some x)) → (bs : List Party) (ms : ℕ → Desk Machine) (end : ℕ) (cs : List Change) (b : Cabled (Desk (Kept M))) (old new : List Event)
+  pub loose : {A E : Type 0} (r : Result A E) → ((m : Desk Machine) (n : ℕ) → desk_says m ≡ Some (n, false) → (x : ℕ × Bool) × (desk_says (desk_step m (Said n false)) ≡ Some x)) → (bs : List Party) (ms : ℕ → Desk Machine) (end : ℕ) (cs : List Change) (b : Cabled (Desk (Kept M))) (old new : List Event)
       → IsBus bs → OnOk r (AreInTime (end + 1) b.drives)
       → MatchResult r (λ x. HasPlayed (Desk (Kept M)) (Desk Machine) (DeskStands seen) desk_step desk_says b.host (end + 1) b.drives old new cs (at_rest (Desk Machine) desk_step desk_says ms bs))
       (λ e. IsPlayCut (Desk (Kept M)) (Desk Machine) (DeskStands seen) desk_step desk_says b.host b.drives old new cs (at_rest (Desk Machine) desk_step desk_says ms bs))
-      → OnOk r (HasPlayedFiles seen bs ms end cs b old new)
-  headline (Ok x) more bs ms end cs b old new is_bus quiet played = played_files more bs ms end cs b old new is_bus quiet played
-  headline (Err e) more bs ms end cs b old new is_bus quiet played = tt
+      → OnOk r (HasPlayedFilesLoosely seen bs ms end cs b old new)
+  loose (Ok x) more bs ms end cs b old new is_bus quiet played = played_files more bs ms end cs b old new is_bus quiet played
+  loose (Err e) more bs ms end cs b old new is_bus quiet played = tt
+
+  -- the play without its loose host
+  pub headline : {A E : Type 0} (r : Result A E) (bs : List Party) (ms : ℕ → Desk Machine) (end : ℕ) (cs : List Change) (b : Cabled (Desk (Kept M))) (old new : List Event)
+      → OnOk r (HasPlayedFilesLoosely seen bs ms end cs b old new) → OnOk r (HasPlayedFiles seen bs ms end cs b old new)
+  headline (Ok x) bs ms end cs b old new h = h.play
+  headline (Err e) bs ms end cs b old new h = tt

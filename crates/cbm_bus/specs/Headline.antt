@@ -50,8 +50,7 @@ module _ {M : Type 0} (seen : M → Seen) where
 
   -- THE HEADLINE. From rest, with machines ms, these changes of the host were played up to an end, and all that happened was added to the events: the host's changes
   -- are the list. Each medium is sound and means its machine's disk. Where the host kept the timing, what happened is a beginning of a session in which each byte
-  -- talked is the machine's answer, each machine is where the acts that count lead from ms, and no reaction is late. Where it kept it loosely, as a computer's KERNAL
-  -- does, that is so of a trace with the same events of the drives, and with the same machines.
+  -- talked is the machine's answer, each machine is where the acts that count lead from ms, and no reaction is late.
   pub record HasPlayedFiles (bs : List Party) (ms : ℕ → Desk Machine) (end : ℕ) (changes : List Change) (b : Cabled (Desk (Kept M))) (old new : List Event) : Type 0 where
     pub made : List Event
     pub now : List (Station (Desk Machine))
@@ -59,8 +58,13 @@ module _ {M : Type 0} (seen : M → Seen) where
     pub hosts : host_changes made ≡ changes
     pub disks : AllZip (λ x s. HasDisk s.machine.dos.disk x) b.drives now
     pub session : HostKeeps bs made end → IsKept (Desk Machine) desk_step desk_says bs ms made end now
-    pub loosely : HostKeepsLoosely (Desk Machine) desk_step desk_says bs ms made end → IsKeptLoosely (Desk Machine) desk_step desk_says bs ms made end now
     pub stand : AreAt bs b now
+
+  -- THE SAME PLAY UNDER A HOST THAT KEEPS THE TIMING LOOSELY, as a computer's KERNAL does: what happened is beside a beginning of a session, with the same events of the
+  -- drives and the same machines.
+  pub record HasPlayedFilesLoosely (bs : List Party) (ms : ℕ → Desk Machine) (end : ℕ) (changes : List Change) (b : Cabled (Desk (Kept M))) (old new : List Event) : Type 0 where
+    pub play : HasPlayedFiles bs ms end changes b old new
+    pub loosely : HostKeepsLoosely (Desk Machine) desk_step desk_says bs ms play.made end → IsKeptLoosely (Desk Machine) desk_step desk_says bs ms play.made end play.now
 
   -- WHETHER OR NOT THE HOST KEEPS ANY TIMING, from rest: the machine of each drive ran what the wires handed to it, if no medium failed by itself.
   abbrev pub HandsToMachines : {E : Type 0} → Cabled (Desk (Kept M)) → Cabled (Desk (Kept M)) → ℕ → List Event → List Event → List Change → Result (Unit {0}) E → Type 0

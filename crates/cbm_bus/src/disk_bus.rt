@@ -24,7 +24,7 @@ impl<M: Medium, const N: usize> Model for DiskBus<M, N> {
 
 impl<M: Medium, const N: usize> DiskBus<M, N> {
     ghost use Rattle.std.specs.Prelude.{◌≡◌, ◌↔◌, ◌^◌, ◌<◌, ◌≤◌, ℕ, true, List, length, Some, None, Err, OnOk, IfErr};
-    ghost use Rattle.cbm_bus.specs.Headline.{AreAt, AreDisks, HandsToMachines, HasPlayedFiles, HaveNotFailed, failures_on, machines_now};
+    ghost use Rattle.cbm_bus.specs.Headline.{AreAt, AreDisks, HandsToMachines, HasPlayedFiles, HasPlayedFilesLoosely, HaveNotFailed, failures_on, machines_now};
     ghost use Rattle.cbm_bus.specs.Powered.{ArePowered, IsAtRest};
     ghost use Rattle.cbm_drive.specs.Cables.{all_free};
     ghost use Rattle.cbm_drive.specs.Desks as desks;
@@ -67,8 +67,9 @@ impl<M: Medium, const N: usize> DiskBus<M, N> {
     /// `events` in the order in which they happen, the reactions that are due at the end too.
     ///
     /// Where the host keeps the timing of the bus, that is a beginning of a session in which each byte talked is the answer of
-    /// its drive's machine of named files to the bytes sent, and no reaction is late. Whatever the host does, each disk is
-    /// sound afterwards, and is that machine's. Both hold if no medium failed by itself in it (`HaveNotFailed`).
+    /// its drive's machine of named files to the bytes sent, and no reaction is late. Where it keeps it loosely, as a computer's
+    /// KERNAL does, that is so beside the trace of a host that keeps it. Whatever the host does, each disk is sound afterwards,
+    /// and is that machine's. All this holds if no medium failed by itself in it (`HaveNotFailed`).
     ///
     /// Errors: the first change that goes back in time or comes after the end, and then nothing was played; or want of memory,
     /// before a step: the events are all that happened, and each disk is sound, too.
@@ -83,6 +84,11 @@ impl<M: Medium, const N: usize> DiskBus<M, N> {
             (bs : List Party) (ms : ℕ → desks.Desk Machine) → IsBus bs → IsAtRest M.seen bs ms self.old →
             fault_of 0 0 end changes.now ≡ None → OnOk result
             (HasPlayedFiles M.seen bs ms end changes.now self.new events.old.items events.new.items) }
+        // And under a host that keeps the timing loosely, as a computer's KERNAL does:
+        ensures loosely { HaveNotFailed M.seen self.old self.new →
+            (bs : List Party) (ms : ℕ → desks.Desk Machine) → IsBus bs → IsAtRest M.seen bs ms self.old →
+            fault_of 0 0 end changes.now ≡ None → OnOk result
+            (HasPlayedFilesLoosely M.seen bs ms end changes.now self.new events.old.items events.new.items) }
         ensures disks { HaveNotFailed M.seen self.old self.new →
             (bs : List Party) (ms : ℕ → desks.Desk Machine) → IsAtRest M.seen bs ms self.old →
             AreDisks M.seen self.new }

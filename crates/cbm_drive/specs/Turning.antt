@@ -13,7 +13,7 @@ use Rattle.cbm_drive.specs.declared.bus.Answer.{Answer}
 use Rattle.cbm_drive.specs.declared.half.Half.{Half}
 use Rattle.cbm_drive.specs.Cables.{Cabled}
 use Rattle.cbm_drive.specs.Halves.{half_events}
-use Rattle.cbm_drive.specs.Kept.{HasKept}
+use Rattle.cbm_drive.specs.Kept.{HasKept, HasKeptLoosely}
 use Rattle.cbm_drive.specs.Ordered.{fault_of}
 use Rattle.cbm_drive.specs.Playback.{Shown, Playback, IsPlayedBack, played_says, played_step}
 use Rattle.cbm_drive.specs.Played.{HasSettled, HasPlayed, IsPlayCut, HasHanded}
@@ -60,6 +60,11 @@ module _ (D M : Type 0) (stands : D → M → Type 0) (step : M → Act → M) (
   abbrev pub PlaysSessions : {E : Type 0} → Cabled D → Cabled D → ℕ → List Event → List Event → List Change → Result (Unit {0}) E → Type 0
   PlaysSessions b c end old new cs result = (bs : List Party) (ms : ℕ → M) → fault_of 0 0 end cs ≡ None → IsBus bs → IsResting b bs ms →
       OnOk result (HasKept D M stands step says bs ms c.host end c.drives old new)
+
+  -- From rest, under a host that keeps it loosely, as a computer's KERNAL does: so it is beside the trace of a host that keeps it.
+  abbrev pub PlaysLoosely : {E : Type 0} → Cabled D → Cabled D → ℕ → List Event → List Event → List Change → Result (Unit {0}) E → Type 0
+  PlaysLoosely b c end old new cs result = (bs : List Party) (ms : ℕ → M) → fault_of 0 0 end cs ≡ None → IsBus bs → IsResting b bs ms →
+      OnOk result (HasKeptLoosely D M stands step says bs ms c.host end c.drives old new)
 
   -- The next event up to a moment is given; or none comes by then, and all is as it was.
   abbrev pub GivesNext : Turns → Turns → Cabled D → Cabled D → ℕ → Option Event → Type 0

@@ -42,7 +42,7 @@ impl<D: Machine, const N: usize> Bus<D, N> {
     ghost use Rattle.cbm_drive.specs.declared.fault.PlayFault.{PlayFault};
     ghost use Rattle.cbm_drive.specs.declared.fault.PlayFault.TheVariants.{Memory};
     ghost use Rattle.cbm_drive.specs.Played.{HasSettled};
-    ghost use Rattle.cbm_drive.specs.Turning.{ShowsFirst, ShowsAny, PlaysList, HandsToEach, PlaysSessions, ToldBack, ShownBack};
+    ghost use Rattle.cbm_drive.specs.Turning.{ShowsFirst, ShowsAny, PlaysList, HandsToEach, PlaysSessions, PlaysLoosely, ToldBack, ShownBack};
     ghost use Rattle.cbm_drive.specs.Playback.{Shown, Playback, IsPlayedBack, played_says, played_step};
     ghost use Rattle.cbm_drive.specs.Progress.{AreKept, IsNearer, left};
     ghost use Rattle.cbm_drive.specs.Reactions.{AreAt, HasReacted};
@@ -228,6 +228,10 @@ impl<D: Machine, const N: usize> Bus<D, N> {
         // machine's answer, and no reaction is late.
         ensures kept { Unfailed D.failures self.old.drives self.new.drives →
             PlaysSessions _ D.State D.stands D.step D.says self.old self.new end events.old.items
+            events.new.items changes.now result }
+        // And under one that keeps it loosely, as a computer's KERNAL does:
+        ensures loosely { Unfailed D.failures self.old.drives self.new.drives →
+            PlaysLoosely _ D.State D.stands D.step D.says self.old self.new end events.old.items
             events.new.items changes.now result }
     {
         if let Some(fault) = first_fault(changes, 0, 0, end) {

@@ -9,7 +9,6 @@ use Rattle.cbm_iec.specs.declared.line.Change.{Change}
 use Rattle.cbm_iec.specs.declared.port.Port.{Port}
 use Rattle.cbm_medium.specs.Seen.{Seen}
 use Rattle.cbm_session.specs.Following.{IsInTime}
-use Rattle.cbm_session.proofs.loose.Loosely.{keeps_loosely}
 use Rattle.cbm_session.specs.Playing.{Station, Plays, IsKept, IsLaterDue}
 use Rattle.cbm_session.specs.Sessions.{IsBus, IsDrive}
 use Rattle.cbm_machine.specs.Machines.{Machine}
@@ -125,7 +124,7 @@ one_drive f [] e = absurd (omega (arith, e))
 one_drive f (x ∷ []) e = (x, refl)
 one_drive f (x ∷ y ∷ xs) e = absurd (omega (arith, e))
 
-is_bus : (drive : Party) → IsDrive drive → IsBus (drive ∷ [])
+pub is_bus : (drive : Party) → IsDrive drive → IsBus (drive ∷ [])
 is_bus drive one = record { some = omega arith; few = omega arith; drives = (one, tt); unlike = (tt, tt) }
 
 later_all : {D : Type 0} (end : ℕ) (xs : List (Seated D)) → AreInTime (end + 1) xs → AreLater end xs
@@ -309,7 +308,6 @@ module _ {M : Type 0} (seen : M → Seen) where
             within = (let u : latest 0 (done ++ []) ≡ from = ap (latest 0) (append-nil done) ∙ last in let before = now.before in let opened = is_open.from in omega (arith, u, before, opened));
             settled = tt;
             kept = tt;
-            loosely = tt;
           },
           all.written,
           (own.drive, own.alone, own.stands),
@@ -344,10 +342,6 @@ module _ {M : Type 0} (seen : M → Seen) where
             settled = subst (λ (o : Port). IsLaterDue end (port_due o)) own.port (subst (λ (us : List (Seated (Desk (Kept M)))). AreLater end us) own.alone later).0;
             kept = λ timing. subst (λ (ss : List (Station (Desk Machine))). IsKept (Desk Machine) desk_step desk_says (drive ∷ []) (machines_of drive m) trace end ss) own.only
                 (kept_after (Desk (Kept M)) (Desk Machine) (DeskStands seen) desk_step desk_says more_said r z (drive ∷ []) (machines_of drive m) trace end (is_bus drive sits) over.second now later timing);
-            loosely = λ timing. keeps_loosely (Desk Machine) desk_step desk_says (drive ∷ []) (machines_of drive m) now.from end trace (own.station ∷ []) (is_bus drive sits) (record { more = more_said })
-                (subst (λ (ss : List (Station (Desk Machine))). Plays (Desk Machine) desk_step desk_says 0 (powered drive m) trace now.from ss) own.only (subst (λ (v : List Event). Plays (Desk Machine) desk_step desk_says 0 (powered drive m) v now.from now.stations) whole now.plays))
-                (let before = now.before in let from = over.from in omega (arith, before, from))
-                (subst (λ (o : Port). IsLaterDue end (port_due o)) own.port (subst (λ (us : List (Seated (Desk (Kept M)))). AreLater end us) own.alone later).0, tt) timing;
           },
           subst (λ t. Appends a c t) (sym (text_on first.made all.made)) (appends-more a b c (trace_text first.made) (trace_text all.made) first.written all.written),
           (own.drive, own.alone, own.stands),
@@ -431,7 +425,6 @@ module _ {D : Type 0} (shows : D → Shown) (drive : Party) where
             within = (let u : latest 0 (done ++ []) ≡ from = ap (latest 0) (append-nil done) ∙ last in let before = now.before in let opened = is_open.from in omega (arith, u, before, opened));
             settled = tt;
             kept = tt;
-            loosely = tt;
           };
           written = all.written;
         }),
@@ -465,11 +458,6 @@ module _ {D : Type 0} (shows : D → Shown) (drive : Party) where
             settled = subst (λ (o : Port). IsLaterDue end (port_due o)) own.port (subst (λ (us : List (Seated D)). AreLater end us) own.sole later).0;
             kept = λ timing. subst (λ (ss : List (Station Playback)). IsKept Playback played_step played_says (drive ∷ []) (λ d. start.0) trace end ss) own.only
                 (kept_after D Playback (IsPlayedBack shows []) played_step played_says played_more r z (drive ∷ []) (λ d. start.0) trace end (is_bus drive sits) over.second now later timing);
-            loosely = λ timing. keeps_loosely Playback played_step played_says (drive ∷ []) (λ d. start.0) now.from end trace (own.station ∷ []) (is_bus drive sits) (record { more = played_more })
-                (subst (λ (ss : List (Station Playback)). Plays Playback played_step played_says 0 (replaying drive start.0) trace now.from ss) own.only
-                (subst (λ (v : List Event). Plays Playback played_step played_says 0 (replaying drive start.0) v now.from now.stations) whole now.plays))
-                (let before = now.before in let from = over.from in omega (arith, before, from))
-                (subst (λ (o : Port). IsLaterDue end (port_due o)) own.port (subst (λ (us : List (Seated D)). AreLater end us) own.sole later).0, tt) timing;
           };
           written = subst (λ t. Appends a c t) (sym (text_on first.made all.made)) (appends-more a b c (trace_text first.made) (trace_text all.made) first.written all.written);
         }),

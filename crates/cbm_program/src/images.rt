@@ -1,11 +1,13 @@
 //! Running a script on the disk of an image.
 ghost use Rattle.std.specs.Prelude.{◌≡◌, true, false, Err, IfSome, IfOk, IfErr};
 ghost use Rattle.cbm_iec.specs.declared.pace.Pace.TheVariants.{Profile};
+ghost use Rattle.cbm_host.specs.Hosted.{party_of};
 ghost use Rattle.cbm_image.specs.Images.{kind_of, image_fault, IsOf};
 ghost use Rattle.cbm_program.specs.Checking.{IsCheckedFirst};
 ghost use Rattle.cbm_program.specs.Outcome.{IsRun, IsOutcome};
 ghost use Rattle.cbm_program.specs.Running.{EndsAs, IsOfScript};
 ghost use Rattle.cbm_program.specs.Starts.{IsDevice, StartsFrom, KeptBy, IsRefusal};
+ghost use Rattle.cbm_program.specs.Traces.{KeepTracesLoosely};
 
 use crate::fault::RunFault;
 use crate::numbered::{Beginning, read_first};
@@ -152,8 +154,10 @@ pub fn run<R: Read + Drop, W: Write>(
     options: &Options,
 ) -> Result<Vec<u8>, RunFault>
     requires device { IsDevice options.now.device }
-    ensures { IsOutcome result (λ v. v.items) Profile image.now options.now.protected options.now.check options.now.device
+    ensures outcome { IsOutcome result (λ v. v.items) Profile image.now options.now.protected options.now.check options.now.device
         (R.remaining reader) (W.contents writer.old) (W.contents writer.new) }
+    // Of a script of line changes, under a host that keeps the timing loosely, as a computer's KERNAL does:
+    ensures loosely { KeepTracesLoosely (party_of Profile options.now.device) }
 {
     run_at(alloc, Pace::Profile, reader, writer, image, options)
 }
@@ -168,8 +172,10 @@ pub fn run_at<R: Read + Drop, W: Write>(
     options: &Options,
 ) -> Result<Vec<u8>, RunFault>
     requires device { IsDevice options.now.device }
-    ensures { IsOutcome result (λ v. v.items) pace image.now options.now.protected options.now.check options.now.device
+    ensures outcome { IsOutcome result (λ v. v.items) pace image.now options.now.protected options.now.check options.now.device
         (R.remaining reader) (W.contents writer.old) (W.contents writer.new) }
+    // Of a script of line changes, under a host that keeps the timing loosely, as a computer's KERNAL does:
+    ensures loosely { KeepTracesLoosely (party_of pace options.now.device) }
 {
     match kind_of(image) {
         Kind::D64 => run_image::<D64Disk, R, W>(alloc, pace, reader, writer, image, options),

@@ -1,6 +1,6 @@
 use Rattle.cbm_bus.specs.Headline.{HaveNotFailed, failures_on}
 use Rattle.std.proofs.Common.{◌+◌, ◌∙◌, sym, subst, ◌≤◌}
-use Rattle.cbm_bus.proofs.Headline.{headline, disks_either}
+use Rattle.cbm_bus.proofs.Headline.{loose, headline, disks_either}
 use Rattle.cbm_bus.proofs.disk_bus.DiskBus.play.Goals as goal
 use Rattle.cbm_bus.specs.Powered.{IsAtRest}
 use Rattle.cbm_drive.specs.Desks.{Desk, desk_step, desk_says}
@@ -9,11 +9,15 @@ use Rattle.cbm_drive.specs.NextSaid.{more_said}
 use Rattle.cbm_machine.specs.Machines.{Machine}
 use Rattle.cbm_session.specs.Playing.{at_rest}
 
+pub returns-clause-loosely : goal.returns-clause-loosely
+returns-clause-loosely g c = λ u bs ms is_bus rest fault.
+    let seen = g.M.Medium.seen in
+    loose seen c.play.result more_said bs ms c.args.end c.args.changes.now c.play.new.self c.args.events.now.items c.play.new.events.items is_bus c.play.ensures.settled
+    (c.play.ensures.played (subst (λ b. HaveNotFailed seen b c.play.new.self) (sym c.self.view_is) u) (at_rest (Desk Machine) desk_step desk_says ms bs) fault (subst (λ b. IsAtRest seen bs ms b) (sym c.self.view_is) rest))
+
 pub returns-clause-headline : goal.returns-clause-headline
 returns-clause-headline g c = λ u bs ms is_bus rest fault.
-    let seen = g.M.Medium.seen in
-    headline seen c.play.result more_said bs ms c.args.end c.args.changes.now c.play.new.self c.args.events.now.items c.play.new.events.items is_bus c.play.ensures.settled
-    (c.play.ensures.played (subst (λ b. HaveNotFailed seen b c.play.new.self) (sym c.self.view_is) u) (at_rest (Desk Machine) desk_step desk_says ms bs) fault (subst (λ b. IsAtRest seen bs ms b) (sym c.self.view_is) rest))
+    headline g.M.Medium.seen c.play.result bs ms c.args.end c.args.changes.now c.play.new.self c.args.events.now.items c.play.new.events.items (returns-clause-loosely g c u bs ms is_bus rest fault)
 
 pub returns-clause-disks : goal.returns-clause-disks
 returns-clause-disks g c = λ u bs ms rest.
