@@ -19,14 +19,14 @@ use Rattle.cbm_host.proofs.Performed.{performing_on, performing_still, performin
 use Rattle.cbm_host.proofs.Serving.{serves, is_short}
 use Rattle.cbm_host.specs.Begun.{IsRequestBegun}
 use Rattle.cbm_host.specs.CarriedOut.{AreBytes, IsShort, HasCarriedOut}
-use Rattle.cbm_host.specs.Engines.{Engined, engine_at, channel_of, stage_end}
+use Rattle.cbm_host.specs.Engines.{Engined, engine_at, channel_of, sent_by, stage_end}
 use Rattle.cbm_host.specs.Hosted.{IsTaking, HasTaken, Hosting, party_of, resting_for, Rests, IsUnderWay, IsGoingOn, IsOver, tracks_on}
 use Rattle.cbm_host.specs.Performed.{IsPerforming, HasPerformed, taken_with, last_with}
 use Rattle.cbm_host.specs.Performers.{Performing, IsGoing, HasStopped, HasNext}
 use Rattle.cbm_host.specs.Requests.{longest}
-use Rattle.cbm_host.specs.Served.{IsModest, at_power_up}
+use Rattle.cbm_host.specs.Served.{IsModest, MovesFew, at_power_up}
 use Rattle.cbm_host.specs.declared.request.Request.{Request}
-use Rattle.cbm_host.specs.declared.request.Request.TheVariants.{Fill}
+use Rattle.cbm_host.specs.declared.request.Request.TheVariants.{Open, Put, Fill, Get, Close, Status}
 use Rattle.cbm_iec.specs.declared.act.Act.{Act}
 use Rattle.cbm_iec.specs.declared.event.Event.{Event}
 use Rattle.cbm_iec.specs.declared.party.Party.{Party}
@@ -46,9 +46,14 @@ pub so_many : (n b : ℕ) → length (replicate n b) ≡ n
 so_many zero b = refl
 so_many (suc n) b = ap suc (so_many n b)
 
--- so many equal bytes are a request of at most 200,000 bytes
-pub is_modest_fill : (channel count byte : ℕ) → count ≤ 200000 → byte < 256 → IsModest (Fill channel count byte)
-is_modest_fill channel count byte few small = (let many = so_many count byte in omega (arith, many, few), are_equal count byte small)
+-- a request that moves few bytes
+pub is_modest : (request : Request) → MovesFew request → AreBytes (sent_by request) → IsModest request
+is_modest (Open channel text) few bytes = (few, bytes)
+is_modest (Put channel sent) few bytes = (few, bytes)
+is_modest (Fill channel count byte) few bytes = (let many = so_many count byte in omega (arith, many, few), bytes)
+is_modest (Get channel most) few bytes = few
+is_modest (Close channel) few bytes = (omega arith, bytes)
+is_modest Status few bytes = tt
 
 -- ---- over any machine
 

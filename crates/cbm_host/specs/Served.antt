@@ -39,6 +39,15 @@ pub record IsServed (pace : Pace) (d : ℕ) (request : Request) (m : Machine) (b
   pub said : bytes ≡ (served pace request m).bytes
   pub marked : last ≡ (served pace request m).marked
 
+-- A request moves at most 200,000 bytes: no more are sent, or at least one is wanted and no more than that.
+abbrev pub MovesFew : Request → Type 0
+MovesFew (Open channel text) = length text.now ≤ most_bytes
+MovesFew (Put channel bytes) = length bytes.now ≤ most_bytes
+MovesFew (Fill channel count byte) = count ≤ most_bytes
+MovesFew (Get channel most) = (1 ≤ most) × (most ≤ most_bytes)
+MovesFew (Close channel) = Unit {0}
+MovesFew Status = Unit {0}
+
 -- A request of at most 200,000 bytes: no more are sent, or at least one is wanted and no more than that. A status is never longer.
 abbrev pub IsModest : Request → Type 0
 IsModest (Get channel most) = (1 ≤ most) × (most ≤ most_bytes)

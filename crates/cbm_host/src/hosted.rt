@@ -41,11 +41,9 @@ impl<M: Medium> Model for Hosted<M> {
 }
 
 impl<M: Medium> Hosted<M> {
-    ghost use Rattle.std.specs.Prelude.{◌≡◌, ◌+◌, ◌∷◌, ◌++◌, ◌<◌, ◌≤◌, ◌^◌, [], ℕ, List, Bool, false, length, replicate, None, Some, IfSome, MatchOption};
+    ghost use Rattle.std.specs.Prelude.{◌≡◌, ◌+◌, ◌∷◌, ◌++◌, ◌<◌, ◌≤◌, ◌^◌, [], ℕ, List, Bool, false, None, Some, IfSome, MatchOption};
     ghost use Rattle.cbm_file.specs.Files.{Disk};
     ghost use Rattle.cbm_channel.specs.Machines.{Machine, start};
-    ghost use Rattle.cbm_channel.specs.Calls.{after_open};
-    ghost use Rattle.cbm_channel.specs.Closing as closing;
     ghost use Rattle.cbm_volume.specs.Holding.{HoldsDisk};
     ghost use Rattle.cbm_host.specs.declared.request.Request.{Request};
     ghost use Rattle.cbm_host.specs.Engines.{channel_of};
@@ -53,7 +51,7 @@ impl<M: Medium> Hosted<M> {
     ghost use Rattle.cbm_host.specs.Progress.{left_of};
     ghost use Rattle.cbm_host.specs.Requests.{longest};
     ghost use Rattle.cbm_iec.specs.declared.pace.Pace.TheVariants.{Profile};
-    ghost use Rattle.cbm_host.specs.Served.{hear, served, IsModest};
+    ghost use Rattle.cbm_host.specs.Served.{served, MovesFew};
     ghost use Rattle.cbm_drive.specs.Desks.{desk_shows};
     ghost use Rattle.cbm_host.specs.AnyDisk.{IsUnderWayAnyway, IsOverAnyway, RestsAnyway};
 
@@ -145,92 +143,23 @@ impl<M: Medium> Hosted<M> {
         }
     }
 
-    /// OPEN of a channel with this text, or on 15 a command.
-    pub fn open(&mut self, channel: u8, text: &[u8])
-        requires channel { channel ≤ 15 }
-        requires short { length text.now ≤ 200000 }
-        requires moment { self.old.moment < 2 ^ 58 }
-        ensures rests { HasNotFailed M.seen self.old self.new →
-            (m : Machine) → Rests M.seen self.old m → Rests M.seen self.new (after_open channel text.now m) }
-        // On any disk the drive rests again, and the next request doesn't begin before this one.
-        ensures anyway { RestsAnyway desk_shows self.old → RestsAnyway desk_shows self.new }
-        ensures later { RestsAnyway desk_shows self.old → self.old.moment ≤ self.new.moment }
-        ensures soon { self.new.moment ≤ self.old.moment + longest self.old.pace }
-        ensures pace { self.new.pace ≡ self.old.pace }
-        ensures tracks { tracks_on M.seen self.new ≡ tracks_on M.seen self.old }
-        ensures counted { failures_on M.seen self.old ≤ failures_on M.seen self.new }
-    {
-        self.carry_out(Request::Open(channel, text));
-    }
-
-    /// Sends these bytes to a channel, between LISTEN and UNLISTEN.
-    pub fn put(&mut self, channel: u8, bytes: &[u8])
-        requires channel { channel ≤ 15 }
-        requires short { length bytes.now ≤ 200000 }
-        requires moment { self.old.moment < 2 ^ 58 }
-        ensures rests { HasNotFailed M.seen self.old self.new →
-            (m : Machine) → Rests M.seen self.old m → Rests M.seen self.new (hear channel bytes.now m) }
-        // On any disk the drive rests again, and the next request doesn't begin before this one.
-        ensures anyway { RestsAnyway desk_shows self.old → RestsAnyway desk_shows self.new }
-        ensures later { RestsAnyway desk_shows self.old → self.old.moment ≤ self.new.moment }
-        ensures soon { self.new.moment ≤ self.old.moment + longest self.old.pace }
-        ensures pace { self.new.pace ≡ self.old.pace }
-        ensures tracks { tracks_on M.seen self.new ≡ tracks_on M.seen self.old }
-        ensures counted { failures_on M.seen self.old ≤ failures_on M.seen self.new }
-    {
-        self.carry_out(Request::Put(channel, bytes));
-    }
-
-    /// Sends `count` equal bytes to a channel, between LISTEN and UNLISTEN.
-    pub fn fill(&mut self, channel: u8, count: u32, byte: u8)
-        requires channel { channel ≤ 15 }
-        requires short { count ≤ 200000 }
-        requires moment { self.old.moment < 2 ^ 58 }
-        ensures rests { HasNotFailed M.seen self.old self.new → (m : Machine) → Rests M.seen self.old m →
-            Rests M.seen self.new (hear channel (replicate count byte) m) }
-        // On any disk the drive rests again, and the next request doesn't begin before this one.
-        ensures anyway { RestsAnyway desk_shows self.old → RestsAnyway desk_shows self.new }
-        ensures later { RestsAnyway desk_shows self.old → self.old.moment ≤ self.new.moment }
-        ensures soon { self.new.moment ≤ self.old.moment + longest self.old.pace }
-        ensures pace { self.new.pace ≡ self.old.pace }
-        ensures tracks { tracks_on M.seen self.new ≡ tracks_on M.seen self.old }
-        ensures counted { failures_on M.seen self.old ≤ failures_on M.seen self.new }
-    {
-        self.carry_out(Request::Fill(channel, count, byte));
-    }
-
-    /// CLOSE of a channel.
-    pub fn close(&mut self, channel: u8)
-        requires channel { channel ≤ 15 }
-        requires moment { self.old.moment < 2 ^ 58 }
-        ensures rests { HasNotFailed M.seen self.old self.new →
-            (m : Machine) → Rests M.seen self.old m → Rests M.seen self.new (closing.close channel m) }
-        // On any disk the drive rests again, and the next request doesn't begin before this one.
-        ensures anyway { RestsAnyway desk_shows self.old → RestsAnyway desk_shows self.new }
-        ensures later { RestsAnyway desk_shows self.old → self.old.moment ≤ self.new.moment }
-        ensures soon { self.new.moment ≤ self.old.moment + longest self.old.pace }
-        ensures pace { self.new.pace ≡ self.old.pace }
-        ensures tracks { tracks_on M.seen self.new ≡ tracks_on M.seen self.old }
-        ensures counted { failures_on M.seen self.old ≤ failures_on M.seen self.new }
-    {
-        self.carry_out(Request::Close(channel));
-    }
-
-    /// Carries out a request, and lets go what the drive says in it.
-    fn carry_out(&mut self, request: Request)
+    /// Carries out a request: an OPEN or a command, bytes put, a CLOSE, or a get or a status, of which it lets go what the drive
+    /// says. Where at most 200,000 bytes are moved, the drive then rests for the machine that the request leads to.
+    pub fn carry_out(&mut self, request: Request)
         requires moment { self.old.moment < 2 ^ 58 }
         requires channel { channel_of request ≤ 15 }
         ensures rests { HasNotFailed M.seen self.old self.new →
-            (m : Machine) → IsModest request.entry → Rests M.seen self.old m →
+            (m : Machine) → MovesFew request.entry → Rests M.seen self.old m →
             Rests M.seen self.new (served self.old.pace request.entry m).machine }
-        // On any disk:
-        ensures anyway { IsModest request.entry → RestsAnyway desk_shows self.old → RestsAnyway desk_shows self.new }
-        ensures later { IsModest request.entry → RestsAnyway desk_shows self.old → self.old.moment ≤ self.new.moment }
+        // On any disk the drive rests again, and the next request doesn't begin before this one.
+        ensures anyway { MovesFew request.entry → RestsAnyway desk_shows self.old → RestsAnyway desk_shows self.new }
+        ensures later { MovesFew request.entry → RestsAnyway desk_shows self.old → self.old.moment ≤ self.new.moment }
         ensures soon { self.new.moment ≤ self.old.moment + longest self.old.pace }
         ensures pace { self.new.pace ≡ self.old.pace }
         ensures tracks { tracks_on M.seen self.new ≡ tracks_on M.seen self.old }
         ensures counted { failures_on M.seen self.old ≤ failures_on M.seen self.new }
     {
+        request.sends_bytes();
         let mut performer = self.ask(request);
         'bytes: while let Some(_said) = self.take(&mut performer) {}
     }

@@ -1,4 +1,6 @@
 //! What a host asks of a drive.
+ghost use Rattle.std.specs.Prelude.{replicate};
+ghost use Rattle.cbm_host.specs.CarriedOut.{AreBytes};
 
 use crate::left::Left;
 
@@ -22,6 +24,16 @@ pub enum Request<'a> {
     Status,
 }
 
+/// The items of a slice of bytes are bytes.
+fn are_bytes(items: &[u8])
+    ensures { AreBytes items.now }
+{}
+
+/// So are equal ones.
+fn are_equal(count: u32, byte: u8)
+    ensures { AreBytes (replicate count byte) }
+{}
+
 impl<'a> Request<'a> {
     ghost use Rattle.std.specs.Prelude.{◌≡◌};
     ghost use Rattle.cbm_host.specs.Engines.{sent_by, most_of};
@@ -35,6 +47,17 @@ impl<'a> Request<'a> {
             Request::Open(_, bytes) | Request::Put(_, bytes) => Left::Bytes(bytes),
             Request::Fill(_, count, byte) => Left::Equal(count, byte),
             Request::Get(..) | Request::Close(_) | Request::Status => Left::Bytes(&[]),
+        }
+    }
+
+    /// What it sends are bytes. It does nothing, and is called for what it promises.
+    pub(crate) fn sends_bytes(self)
+        ensures { AreBytes (sent_by self.entry) }
+    {
+        match self {
+            Request::Open(_, bytes) | Request::Put(_, bytes) => are_bytes(bytes),
+            Request::Fill(_, count, byte) => are_equal(count, byte),
+            Request::Get(..) | Request::Close(_) | Request::Status => {}
         }
     }
 

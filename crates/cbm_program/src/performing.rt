@@ -8,7 +8,7 @@ use crate::fault::RunFault;
 use crate::line::ScriptLine;
 use crate::output::flush;
 use crate::request::ScriptRequest;
-use cbm_host::Hosted;
+use cbm_host::{Hosted, Request};
 use cbm_medium::Steady;
 use std::io::Write;
 
@@ -32,20 +32,20 @@ fn perform<M: Steady, W: Write>(
 {
     match request {
         ScriptRequest::Open(channel, text) => {
-            drive.open(*channel, text.as_slice());
+            drive.carry_out(Request::Open(*channel, text.as_slice()));
             Ok(())
         }
         ScriptRequest::Put(channel, bytes) => {
-            drive.put(*channel, bytes.as_slice());
+            drive.carry_out(Request::Put(*channel, bytes.as_slice()));
             Ok(())
         }
         ScriptRequest::Fill(channel, count, byte) => {
-            drive.fill(*channel, *count, *byte);
+            drive.carry_out(Request::Fill(*channel, *count, *byte));
             Ok(())
         }
         ScriptRequest::Get(channel, most) => print_get(drive, writer, *channel, *most),
         ScriptRequest::Close(channel) => {
-            drive.close(*channel);
+            drive.carry_out(Request::Close(*channel));
             Ok(())
         }
         ScriptRequest::Status => print_status(drive, writer),

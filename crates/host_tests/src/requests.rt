@@ -120,11 +120,10 @@ fn bytes_are_taken_one_by_one(rt: HostRuntime) -> Result<(), Fail> {
     wired.asks(&rt, rt.alloc(), Request::Open(2, b"DATA,S,R"))?;
     let done = wired.asks(&rt, rt.alloc(), Request::Get(2, 1000))?;
     let mut hosted = Hosted::new(empty_disk(rt.alloc())?, 8);
-    hosted.open(2, b"DATA,S,W");
-    assert!(rt; bytes.len() == 600);
-    hosted.put(2, bytes.as_slice());
-    hosted.close(2);
-    hosted.open(2, b"DATA,S,R");
+    hosted.carry_out(Request::Open(2, b"DATA,S,W"));
+    hosted.carry_out(Request::Put(2, bytes.as_slice()));
+    hosted.carry_out(Request::Close(2));
+    hosted.carry_out(Request::Open(2, b"DATA,S,R"));
     let mut performer = hosted.ask(Request::Get(2, 1000));
     let mut taken = Vec::new(rt.alloc());
     let mut marked = false;

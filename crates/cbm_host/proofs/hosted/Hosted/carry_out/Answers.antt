@@ -2,6 +2,7 @@ use Rattle.std.proofs.Common.{◌≤◌, [], ◌∷◌, ◌++◌, false, refl, �
 use Rattle.cbm_iec.specs.declared.pace.Pace.{Pace}
 use Rattle.cbm_host.specs.Hosted.{Rests}
 use Rattle.cbm_host.specs.Served.{served}
+use Rattle.cbm_host.proofs.Hosting.{is_modest}
 use Rattle.cbm_host.proofs.hosted.Hosted.carry_out.Goals as goal
 
 pub bytes-init : goal.bytes-init
@@ -24,7 +25,8 @@ pub bytes-smaller : goal.bytes-smaller
 bytes-smaller g c = c.in-Some.ensures.fewer
 
 pub returns-clause-rests : goal.returns-clause-rests
-returns-clause-rests g c = λ v m k r.
+returns-clause-rests g c = λ v m few r.
+    let k = is_modest c.args.request few c.sends_bytes.ensures in
     let u = c.bytes.invariant.under_way (omega (arith, v, c.take.ensures.counted)) m k r in
     let over = c.in_default.ensures.taken (omega (arith, v, c.bytes.invariant.counted)) m c.args.request u.0 u.1 c.requires.channel k u.2 in
     subst (λ (e : Pace). Rests g.M.Medium.seen c.take.new.self (served e c.args.request m).machine) (c.take.ensures.pace ∙ c.bytes.invariant.pace) over.rests
@@ -45,7 +47,7 @@ pub returns-clause-tracks : goal.returns-clause-tracks
 returns-clause-tracks g c = c.take.ensures.tracks ∙ c.bytes.invariant.tracks
 
 pub returns-clause-anyway : goal.returns-clause-anyway
-returns-clause-anyway g c = λ modest r. (c.in_default.ensures.anyway c.args.request c.args.self.now.moment c.requires.channel (c.bytes.invariant.anyway r)).rests modest
+returns-clause-anyway g c = λ few r. (c.in_default.ensures.anyway c.args.request c.args.self.now.moment c.requires.channel (c.bytes.invariant.anyway r)).rests (is_modest c.args.request few c.sends_bytes.ensures)
 
 pub returns-clause-later : goal.returns-clause-later
-returns-clause-later g c = λ modest r. (c.in_default.ensures.anyway c.args.request c.args.self.now.moment c.requires.channel (c.bytes.invariant.anyway r)).later modest
+returns-clause-later g c = λ few r. (c.in_default.ensures.anyway c.args.request c.args.self.now.moment c.requires.channel (c.bytes.invariant.anyway r)).later (is_modest c.args.request few c.sends_bytes.ensures)
