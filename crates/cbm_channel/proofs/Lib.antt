@@ -35,6 +35,7 @@ pub mod Placings
 pub mod Goings
 pub mod Counted
 pub mod Opens
+pub mod DoneParts
 pub mod Steady
 pub mod Nexts
 pub mod HiddenRecords

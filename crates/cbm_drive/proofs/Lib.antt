@@ -13,7 +13,6 @@ pub mod Kept
 pub mod Ordered
 pub mod Ahead
 pub mod Players
-pub mod DoneParts
 pub mod Desks
 pub mod Handed
 pub mod Alone

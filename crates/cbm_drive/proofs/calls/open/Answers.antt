@@ -1,4 +1,4 @@
-use Rattle.cbm_drive.proofs.DoneParts.{unfailed_open}
+use Rattle.cbm_channel.proofs.DoneParts.{unfailed_open}
 use Rattle.cbm_drive.proofs.calls.open.Goals as goal
 
 pub returns-clause-leads : goal.returns-clause-leads

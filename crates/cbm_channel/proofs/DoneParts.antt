@@ -11,7 +11,7 @@ use Rattle.cbm_channel.specs.Commanded.{FormatsUnfailing, open_formats, end_form
 use Rattle.cbm_channel.proofs.Goings.{rises}
 use Rattle.cbm_channel.specs.Going.{Passes, PassesAll, closings, closing, opening_parts, GoesFrom, Goes, Ends, EndsFrom}
 
--- the machine behind all parts
+-- the machine after all parts
 abbrev done : List (ℕ × (Machine → Machine)) → Machine → Machine
 done [] m = m
 done (p ∷ parts) m = done parts (p.1 m)
@@ -47,7 +47,7 @@ opened_by : (b : Bool) (ch : ℕ) (text : List ℕ) (m : Machine)
 opened_by true ch text m = refl
 opened_by false ch text m = refl
 
--- ---- the calls, if the medium failed no more often behind them than before
+-- ---- the calls, if the medium failed no more often after them than before
 
 module _ {M : Type 0} (seen : M → Seen) (old new : Kept M) (u : (seen new.medium).failures ≤ (seen old.medium).failures) where
   never : HasFailed (seen old.medium) (seen new.medium) → ⊥
