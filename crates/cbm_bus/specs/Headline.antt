@@ -60,8 +60,8 @@ module _ {M : Type 0} (seen : M → Seen) where
     pub session : HostKeeps bs made end → IsKept (Desk Machine) desk_step desk_says bs ms made end now
     pub stand : AreAt bs b now
 
-  -- THE SAME PLAY UNDER A HOST THAT KEEPS THE TIMING LOOSELY, as a computer's KERNAL does: what happened is beside a beginning of a session, with the same events of the
-  -- drives and the same machines.
+  -- THE SAME PLAY UNDER A HOST THAT KEEPS THE TIMING LOOSELY, as a computer's KERNAL does: a trace with the same events of the drives is a beginning of a session in which
+  -- each byte talked is the machine's answer, and no reaction is late; and the machines are the same.
   pub record HasPlayedFilesLoosely (bs : List Party) (ms : ℕ → Desk Machine) (end : ℕ) (changes : List Change) (b : Cabled (Desk (Kept M))) (old new : List Event) : Type 0 where
     pub play : HasPlayedFiles bs ms end changes b old new
     pub loosely : HostKeepsLoosely (Desk Machine) desk_step desk_says bs ms play.made end → IsKeptLoosely (Desk Machine) desk_step desk_says bs ms play.made end play.now

@@ -68,7 +68,7 @@ impl<M: Medium, const N: usize> DiskBus<M, N> {
     ///
     /// Where the host keeps the timing of the bus, that is a beginning of a session in which each byte talked is the answer of
     /// its drive's machine of named files to the bytes sent, and no reaction is late. Where it keeps it loosely, as a computer's
-    /// KERNAL does, that is so beside the trace of a host that keeps it. Whatever the host does, each disk is sound afterwards,
+    /// KERNAL does, that is so of a trace with the same events of the drives. Whatever the host does, each disk is sound afterwards,
     /// and is that machine's. All this holds if no medium failed by itself in it (`HaveNotFailed`).
     ///
     /// Errors: the first change that goes back in time or comes after the end, and then nothing was played; or want of memory,

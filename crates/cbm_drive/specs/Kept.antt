@@ -20,7 +20,7 @@ module _ (D M : Type 0) (stands : D → M → Type 0) (step : M → Act → M) (
     pub now : IsBusAt D M stands host xs stations
     pub kept : HostKeeps bs made end → IsKept M step says bs ms made end stations
 
-  -- THE SAME PLAY UNDER A HOST THAT KEEPS THE TIMING LOOSELY, as a computer's KERNAL does: the same is true of a trace with the same events of the drives, and the same
+  -- THE SAME PLAY UNDER A HOST THAT KEEPS THE TIMING LOOSELY, as a computer's KERNAL does: this is true of a trace with the same events of the drives, and of the same
   -- machines.
   pub record HasKeptLoosely (bs : List Party) (ms : ℕ → M) (host : Lines) (end : ℕ) (xs : List (Seated D)) (old new : List Event) : Type 0 where
     pub play : HasKept bs ms host end xs old new

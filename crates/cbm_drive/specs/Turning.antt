@@ -61,7 +61,7 @@ module _ (D M : Type 0) (stands : D → M → Type 0) (step : M → Act → M) (
   PlaysSessions b c end old new cs result = (bs : List Party) (ms : ℕ → M) → fault_of 0 0 end cs ≡ None → IsBus bs → IsResting b bs ms →
       OnOk result (HasKept D M stands step says bs ms c.host end c.drives old new)
 
-  -- From rest, under a host that keeps it loosely, as a computer's KERNAL does: so it is beside the trace of a host that keeps it.
+  -- From rest, under a host that keeps it loosely, as a computer's KERNAL does: a trace with the same events of the drives is such a beginning.
   abbrev pub PlaysLoosely : {E : Type 0} → Cabled D → Cabled D → ℕ → List Event → List Event → List Change → Result (Unit {0}) E → Type 0
   PlaysLoosely b c end old new cs result = (bs : List Party) (ms : ℕ → M) → fault_of 0 0 end cs ≡ None → IsBus bs → IsResting b bs ms →
       OnOk result (HasKeptLoosely D M stands step says bs ms c.host end c.drives old new)
