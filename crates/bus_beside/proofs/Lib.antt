@@ -1,0 +1,5 @@
+pub mod Moved
+pub mod Reacted
+pub mod Sitting
+pub mod Courses
+pub mod Seen

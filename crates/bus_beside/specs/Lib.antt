@@ -1,0 +1,5 @@
+pub mod Rests
+pub mod Seats
+pub mod Moves
+pub mod Reactions
+pub mod Courses

@@ -1,0 +1,103 @@
+//! What all others hold, as a drive counts it.
+
+ghost use Rattle.std.specs.Prelude.{◌≡◌, IfSome};
+ghost use Rattle.cbm_session.specs.Among.{wires_of, behind_host, behind_other, counted};
+ghost use Rattle.cbm_session.specs.Following.{lines_after};
+ghost use Rattle.cbm_session.specs.Playing.{nobody};
+ghost use Rattle.bus_beside.specs.Rests.{rest_of};
+
+use cbm_iec::{Change, Line, Lines, Way};
+
+/// The host's lines, and how many other drives hold CLOCK, and how many DATA.
+#[derive(Clone, Copy, Drop)]
+pub(crate) struct Others {
+    pub(crate) host: Lines,
+    pub(crate) clocks: u64,
+    pub(crate) datas: u64,
+}
+
+/// The host's lines after its change.
+fn with_change(lines: Lines, change: Change) -> Lines
+    ensures { result ≡ lines_after lines change.line change.way }
+{
+    let low = change.way == Way::Pull;
+    match change.line {
+        Line::Atn => Lines {
+            atn_low: low,
+            ..lines
+        },
+        Line::Clock => Lines {
+            clock_low: low,
+            ..lines
+        },
+        Line::Data => Lines {
+            data_low: low,
+            ..lines
+        },
+    }
+}
+
+/// One more holds a line after its pull, one less after its release. None where the count is too great.
+fn counted(way: Way, count: u64) -> Option<u64>
+    ensures { IfSome result (λ n. n ≡ counted way count) }
+{
+    match way {
+        Way::Pull => count.checked_add(1),
+        Way::Free => Some(count.saturating_sub(1)),
+    }
+}
+
+impl Others {
+    /// Nobody holds a line.
+    pub(crate) fn nobody() -> Others
+        ensures { rest_of result ≡ nobody }
+    {
+        Others {
+            host: Lines {
+                atn_low: false,
+                clock_low: false,
+                data_low: false,
+            },
+            clocks: 0,
+            datas: 0,
+        }
+    }
+
+    /// Which lines are low.
+    pub(crate) fn wires(&self) -> Lines
+        ensures { result ≡ wires_of (rest_of self.now) }
+    {
+        Lines {
+            atn_low: self.host.atn_low,
+            clock_low: self.clocks > 0 || self.host.clock_low,
+            data_low: self.datas > 0 || self.host.data_low,
+        }
+    }
+
+    /// After a change of the host.
+    pub(crate) fn after_host(self, change: Change) -> Others
+        ensures { rest_of result ≡ behind_host change.line change.way (rest_of self) }
+    {
+        Others {
+            host: with_change(self.host, change),
+            ..self
+        }
+    }
+
+    /// After a change of another drive. None where the count is too great.
+    pub(crate) fn after_drive(self, change: Change) -> Option<Others>
+        ensures { IfSome result (λ o. rest_of o ≡ behind_other change.line change.way (rest_of self)) }
+    {
+        match change.line {
+            Line::Atn => Some(self),
+            Line::Clock => {
+                let clocks = counted(change.way, self.clocks)?;
+                Some(Others { clocks, ..self })
+            }
+            Line::Data => {
+                let datas = counted(change.way, self.datas)?;
+                Some(Others { datas, ..self })
+            }
+        }
+    }
+}
