@@ -49,7 +49,7 @@ PARTS = {
             "begin_write begin_append store finish_replacement",
         ),
         ("COPY, with a stop at any sector write", "cbm_volume", "copy"),
-        ("a new relative file, a record written in place, and growth, with a stop at any sector write", "cbm_volume", "make_records put_record grow_records"),
+        ("a new relative file, a record written in place, and growth, with a stop at any sector write", "cbm_volume", "make_records write_record grow_records"),
         ("RENAME, SCRATCH, NEW and VALIDATE, with a stop at any sector write", "cbm_volume", "rename scratch new_disk validate"),
     ],
     "The drive's DOS": [

@@ -19,8 +19,8 @@ use Rattle.cbm_medium.specs.Content.{Content}
 use Rattle.cbm_volume.specs.Opens.{Begins, CanBeWritten, IsUnused, HasNoPlace, IsHindered}
 use Rattle.cbm_volume.specs.Writers.{Filling, Use, IsUsed, Writes, HoldsNow, with_use, known, IsEither}
 use Rattle.cbm_volume.specs.Writers as usage
-use Rattle.cbm_volume.proofs.Writers.{use_here, use_other}
-use Rattle.cbm_volume.proofs.Closing.{other_slot}
+use Rattle.cbm_volume.proofs.layouts.Writers.{use_here, use_other}
+use Rattle.cbm_volume.proofs.written.Closing.{other_slot}
 use Rattle.cbm_machine.specs.Machines as machine
 use Rattle.cbm_machine.specs.Machines.{Machine, Channel, Closed, Reading, Writing, Stopped, Relative, with_channel, with_disk, in_use, say, tell}
 use Rattle.cbm_machine.specs.Orderly.{IsPlace, channel_in, still_uses, still_writes}
@@ -40,7 +40,7 @@ use Rattle.cbm_channel.specs.Planned.{PlannedAs, IsOpened, IsMakeable, IsRelatab
 use Rattle.cbm_channel.proofs.Orders.{FitsIn, writes_uses, closed_fits, reads_file}
 use Rattle.cbm_channel.proofs.Planning.{none_passes}
 use Rattle.cbm_channel.proofs.Places.{relative_unused}
-use Rattle.cbm_volume.proofs.RecordUses.{of_records, relates_now}
+use Rattle.cbm_volume.proofs.held.RecordUses.{of_records, relates_now}
 use Rattle.cbm_channel.specs.declared.finding.Found.{Found}
 use Rattle.cbm_channel.specs.Placed.{Placed, IsOnRecord}
 use Rattle.cbm_channel.proofs.Stands.{zip_at, zip_length, means_of, moved, with_step_at, let_go_now}

@@ -16,7 +16,7 @@ use Rattle.cbm_volume.specs.Writers.{Filling, Use, Idle, Writes, IsUsed, HoldsNo
 use Rattle.cbm_volume.specs.Growth.{IsGrowth, IsGrowthCut, IsTooLarge, with_growth}
 use Rattle.cbm_volume.specs.Opens.{Begins, CanBeWritten}
 use Rattle.cbm_volume.specs.RecordWrites.{IsRecordPut, IsRecordCut}
-use Rattle.cbm_volume.proofs.Sizes.{same_size}
+use Rattle.cbm_volume.proofs.layouts.Sizes.{same_size}
 use Rattle.cbm_channel.specs.ChannelCalls.{KeepsOutside}
 
 -- nothing has changed

@@ -7,7 +7,7 @@ use Rattle.std.proofs.lemmas.Bool.Decides.{nat_tests}
 use Rattle.cbm_file.specs.Files.{Body, Records, File, Disk, file_at, record_length_in}
 use Rattle.cbm_medium.specs.Content.{Content}
 use Rattle.cbm_volume.specs.Holding.{HoldsDisk}
-use Rattle.cbm_volume.proofs.RecordUses.{records_width}
+use Rattle.cbm_volume.proofs.held.RecordUses.{records_width}
 use Rattle.cbm_machine.specs.declared.code.Code.TheVariants.{RecordOverflow}
 use Rattle.cbm_machine.specs.Machines as machine
 use Rattle.cbm_machine.specs.Machines.{Machine, Channel, Closed, Reading, Writing, Stopped, Relative, with_channel, say, answered}

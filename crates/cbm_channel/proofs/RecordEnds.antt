@@ -38,7 +38,7 @@ use Rattle.cbm_channel.proofs.OnRecords.{body_there}
 use Rattle.cbm_channel.proofs.Orders.{FitsIn, less_fits, not_so}
 use Rattle.cbm_channel.proofs.Stands.{any_default, stands_at, with_step, zip_at, zip_length}
 use Rattle.cbm_channel.proofs.Stores.{same_machine, set_same}
-use Rattle.cbm_volume.proofs.RecordUses.{records_most}
+use Rattle.cbm_volume.proofs.held.RecordUses.{records_most}
 use Rattle.cbm_channel.proofs.Uses.{with_same}
 use Rattle.cbm_channel.specs.ChannelCalls.{KeepsOutside, OfPlaced}
 use Rattle.cbm_channel.proofs.Outside.{outside_itself}

@@ -33,8 +33,8 @@ use Rattle.cbm_machine.specs.Told.{Told, told_by, behind_next}
 use Rattle.cbm_channel.specs.Exchanged.{still_telling}
 use Rattle.cbm_channel.specs.Standing.{Kept, Fits, AreFit, ChannelStands, WaitsFor, use_of, uses_of, kept_text, StandsBy, Stands, HasText, HasNoText}
 use Rattle.cbm_channel.specs.Shown.{shown_on, cost_on, writes_on}
-use Rattle.cbm_volume.proofs.Storing.{let_go}
-use Rattle.cbm_volume.proofs.ReadingUses.{read_whole}
+use Rattle.cbm_volume.proofs.written.Storing.{let_go}
+use Rattle.cbm_volume.proofs.held.ReadingUses.{read_whole}
 use Rattle.cbm_channel.specs.declared.on_record.Waiting.{Waiting}
 use Rattle.cbm_channel.specs.declared.on_record.Waiting.TheVariants as waits
 use Rattle.cbm_channel.specs.Placed.{record_of, is_broken, shown_at}

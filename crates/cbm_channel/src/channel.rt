@@ -308,7 +308,7 @@ impl Channel {
     /// A text for the records that it has open is one write of the record of its place. Answers whether some bytes
     /// didn't fit, or None where the file would be too large: nothing has changed then. On a channel without records
     /// nothing becomes of the text. Errors: why a write was refused, or why the next record can't be read.
-    pub(crate) fn put_record<M: Medium>(
+    pub(crate) fn write_record<M: Medium>(
         &mut self,
         volume: &mut Volume<M>,
         bytes: &[u8],
@@ -331,7 +331,7 @@ impl Channel {
             (λ d uses b s rs. KeepsOutside (M.seen volume.old) (M.seen volume.new)) }
     {
         match self {
-            Channel::Records(on) => on.put(volume, bytes),
+            Channel::Records(on) => on.write_record(volume, bytes),
             _ => Ok(Some(false)),
         }
     }

@@ -272,7 +272,7 @@ impl OnRecord {
         if self.number == 0 || self.position == 0 {
             return Ok(None);
         }
-        volume.put_record(self.slot, self.number, self.position, bytes)
+        volume.write_record(self.slot, self.number, self.position, bytes)
     }
 
     /// The file grows until the record of the place is there. False where it would be too large: nothing has changed
@@ -330,7 +330,7 @@ impl OnRecord {
     /// next record's first byte. Answers whether some bytes didn't fit, or None where the file would be too large: nothing
     /// has changed then. Errors: why a write was refused, of which the record may have a beginning; the place stays, and
     /// is read anew. Or why the next record can't be read, of which nothing waits then.
-    pub(crate) fn put<M: Medium>(
+    pub(crate) fn write_record<M: Medium>(
         &mut self,
         volume: &mut Volume<M>,
         bytes: &[u8],

@@ -11,9 +11,9 @@ use Rattle.cbm_directory.proofs.Written.{mid_below, mid_above}
 use Rattle.cbm_volume.specs.Blocks.{Lies, no_blocks}
 use Rattle.cbm_volume.specs.Layouts.{Layout, slot_count, Sound}
 use Rattle.cbm_bam.specs.Map.{geometry_of}
-use Rattle.cbm_volume.proofs.Listing.{entry_found}
-use Rattle.cbm_volume.proofs.Refusals.{sector_reads}
-use Rattle.cbm_volume.proofs.Storing.{geometry_elsewhere}
+use Rattle.cbm_volume.proofs.layouts.Listing.{entry_found}
+use Rattle.cbm_volume.proofs.layouts.Refusals.{sector_reads}
+use Rattle.cbm_volume.proofs.written.Storing.{geometry_elsewhere}
 use Rattle.cbm_shell.specs.Locking.{locked_entry}
 use Rattle.cbm_shell.specs.Art.{art_entry, dressed_entry, HasEntered, IsDressed}
 use Rattle.cbm_shell.specs.Images.{IsSoundDisk}

@@ -14,9 +14,9 @@ use Rattle.cbm_directory.specs.Slots.{Listed, Answers, directory_of}
 use Rattle.cbm_volume.specs.Layouts.{Layout, slot_count, Sound}
 use Rattle.cbm_volume.specs.Holding.{HoldsDisk}
 use Rattle.cbm_volume.specs.Opens.{IsHindered}
-use Rattle.cbm_volume.proofs.Listing.{directory_listed, entry_found}
-use Rattle.cbm_volume.proofs.Refusals.{sector_hindered, sector_reads}
-use Rattle.cbm_volume.proofs.Storing.{geometry_elsewhere}
+use Rattle.cbm_volume.proofs.layouts.Listing.{directory_listed, entry_found}
+use Rattle.cbm_volume.proofs.layouts.Refusals.{sector_hindered, sector_reads}
+use Rattle.cbm_volume.proofs.written.Storing.{geometry_elsewhere}
 use Rattle.cbm_image.specs.declared.kind.Kind.{Kind}
 use Rattle.cbm_image.specs.Images.{kind_of, tracks_of, content_of, ImageHolds}
 use Rattle.cbm_shell.specs.declared.fault.ShellFault.{ShellFault}

@@ -12,11 +12,11 @@ use Rattle.cbm_file.specs.Files.{Disk}
 use Rattle.cbm_directory.specs.Slots.{Answers, directory_of}
 use Rattle.cbm_volume.specs.Blocks.{Blocks, LiesAs, Lies}
 use Rattle.cbm_volume.specs.Layouts.{DataOf, SideOf, OwnedBy, Layout, slot_count, Sound, Stands}
-use Rattle.cbm_volume.proofs.Listing.{entry_found}
-use Rattle.cbm_volume.proofs.Loose.{sector_owned}
-use Rattle.cbm_volume.proofs.Meaning.{sound_stands}
-use Rattle.cbm_volume.proofs.Renames.{lies_alike}
-use Rattle.cbm_volume.proofs.Steps.{stands_entry, extends_itself}
+use Rattle.cbm_volume.proofs.layouts.Listing.{entry_found}
+use Rattle.cbm_volume.proofs.layouts.Loose.{sector_owned}
+use Rattle.cbm_volume.proofs.layouts.Meaning.{sound_stands}
+use Rattle.cbm_volume.proofs.changed.Renames.{lies_alike}
+use Rattle.cbm_volume.proofs.layouts.Steps.{stands_entry, extends_itself}
 
 -- the new entry says of its file what the old one said, so far as it counts for where the file lies
 pub record LiesAlike (old new : List ℕ) : Type 0 where

@@ -13,7 +13,7 @@ use Rattle.cbm_volume.specs.check.Claims.{is_inside, reads, wrong_at}
 use Rattle.cbm_volume.specs.check.SideLists.{are_records, sides_from}
 use Rattle.cbm_volume.specs.check.SlotWalk.{entries_behind}
 use Rattle.cbm_volume.specs.check.WholeDisk.{only_head}
-use Rattle.cbm_volume.proofs.SlotSteps.{entries_next, entries_end}
+use Rattle.cbm_volume.proofs.checked.SlotSteps.{entries_next, entries_end}
 use Rattle.cbm_directory.specs.Entries.{entry_of}
 use Rattle.cbm_shell.specs.declared.broken.flaws.found.Whose.{Whose}
 use Rattle.cbm_shell.specs.declared.broken.flaws.found.Whose.TheVariants.{Directory, File}

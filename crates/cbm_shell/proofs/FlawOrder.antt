@@ -20,7 +20,7 @@ use Rattle.cbm_volume.specs.check.MapCounts.{is_counted_on, IsMapRight, IsMapFau
 use Rattle.cbm_volume.specs.check.SideLists.{ClaimsEach, MeetsAmong, ClaimsSides, SidesFault, sides_from, are_records}
 use Rattle.cbm_volume.specs.check.SlotWalk.{entries_in, ClaimsFile, FileFault, ClaimsEntry, EntryFault, ClaimsEntries, EntriesFault, ClaimsSlots, SlotsFault}
 use Rattle.cbm_volume.specs.check.WholeDisk.{only_head, AllWritable, ClaimsDisk, DiskFault}
-use Rattle.cbm_volume.proofs.Claiming.{is_right, inside_has, unclaimed_less}
+use Rattle.cbm_volume.proofs.checked.Claiming.{is_right, inside_has, unclaimed_less}
 use Rattle.cbm_shell.specs.declared.broken.flaws.found.Whose.{Whose}
 use Rattle.cbm_shell.specs.declared.broken.flaws.found.Whose.TheVariants.{Disk, Directory, File}
 use Rattle.cbm_shell.specs.declared.broken.flaws.found.DiskFlaw.{DiskFlaw}

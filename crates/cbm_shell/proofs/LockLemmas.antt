@@ -8,7 +8,7 @@ use Rattle.cbm_medium.specs.Links.{ended, cut_at, behind, follow, link}
 use Rattle.cbm_directory.specs.Entries.{EntersLed, first_directory}
 use Rattle.cbm_directory.specs.Slots.{Answers, directory_of, listed_from, all_entries}
 use Rattle.cbm_volume.specs.Layouts.{Layout, Sound}
-use Rattle.cbm_volume.proofs.Listing.{entries_length}
+use Rattle.cbm_volume.proofs.layouts.Listing.{entries_length}
 use Rattle.cbm_shell.specs.Locking.{is_unlike, locked_entry, LocksSlot, LocksSlots, LocksEach, LocksAll}
 use Rattle.cbm_shell.proofs.EntryLemmas.{LiesAlike, StaysSound, stays_same, then_sound, stays_sound}
 

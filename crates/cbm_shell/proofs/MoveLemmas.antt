@@ -10,10 +10,10 @@ use Rattle.cbm_bam.specs.Map.{is_free_in, IsCounted, map_of}
 use Rattle.cbm_directory.specs.Entries.{Enters, entry_of, entry_at, sector_of, first_directory, type_byte}
 use Rattle.cbm_volume.specs.Blocks.{Lies}
 use Rattle.cbm_volume.specs.Layouts.{Owner, Nobody, TheMap, Directory, DataOf, SideOf, Writer, OwnedBy, IsWritable, Layout, IsOwned, slot_count, Sound}
-use Rattle.cbm_volume.proofs.Chained.{chain_distinct}
-use Rattle.cbm_volume.proofs.Frames.{Keeps, sector_kept, lies_kept}
-use Rattle.cbm_volume.proofs.Listing.{entry_found}
-use Rattle.cbm_volume.proofs.Loose.{writable_written, sector_owned}
+use Rattle.cbm_volume.proofs.layouts.Chained.{chain_distinct}
+use Rattle.cbm_volume.proofs.layouts.Frames.{Keeps, sector_kept, lies_kept}
+use Rattle.cbm_volume.proofs.layouts.Listing.{entry_found}
+use Rattle.cbm_volume.proofs.layouts.Loose.{writable_written, sector_owned}
 use Rattle.cbm_shell.specs.declared.changing.swapping.Swap.{Swap}
 use Rattle.cbm_shell.specs.Editing.{IsDirectory}
 use Rattle.cbm_shell.specs.Swapping.{Swaps, AreSwapped}

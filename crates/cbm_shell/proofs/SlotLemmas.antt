@@ -17,13 +17,13 @@ use Rattle.cbm_bam.specs.Map.{geometry_of}
 use Rattle.cbm_directory.specs.Slots.{Listed, Answers, directory_of, listed_in, listed_from, all_entries}
 use Rattle.cbm_volume.specs.Layouts.{Directory, OwnedBy, Layout, slot_count, Sound}
 use Rattle.cbm_volume.specs.Writers.{Idle, HoldsNow}
-use Rattle.cbm_volume.proofs.Frames.{KeepsLinks, chain_links}
-use Rattle.cbm_volume.proofs.HinderedOpens.{slot_hinders}
-use Rattle.cbm_volume.proofs.Lengths.{directory_length}
-use Rattle.cbm_volume.proofs.Listing.{directory_listed, entries_length}
-use Rattle.cbm_volume.proofs.Meaning.{sound_stands}
-use Rattle.cbm_volume.proofs.OpenedSlots.{slot_ready}
-use Rattle.cbm_volume.proofs.Refusals.{sector_hindered, sector_reads}
+use Rattle.cbm_volume.proofs.layouts.Frames.{KeepsLinks, chain_links}
+use Rattle.cbm_volume.proofs.opened.HinderedOpens.{slot_hinders}
+use Rattle.cbm_volume.proofs.layouts.Lengths.{directory_length}
+use Rattle.cbm_volume.proofs.layouts.Listing.{directory_listed, entries_length}
+use Rattle.cbm_volume.proofs.layouts.Meaning.{sound_stands}
+use Rattle.cbm_volume.proofs.opened.OpenedSlots.{slot_ready}
+use Rattle.cbm_volume.proofs.layouts.Refusals.{sector_hindered, sector_reads}
 use Rattle.cbm_shell.specs.declared.fault.ShellFault.{ShellFault}
 use Rattle.cbm_shell.specs.declared.fault.ShellFault.TheVariants as fault
 use Rattle.cbm_shell.specs.Editing.{HasNoSlot, IsUnedited, IsNoEntry, CanBeEdited, IsDirectory}

@@ -19,9 +19,9 @@ use Rattle.cbm_directory.proofs.Written.{range_same, mid_below, mid_above}
 use Rattle.cbm_volume.specs.Blocks.{Lies, slot_of}
 use Rattle.cbm_volume.specs.Layouts.{Directory, DataOf, SideOf, Layout, Sound, Describes, Stands}
 use Rattle.cbm_volume.specs.Holding.{HoldsDisk}
-use Rattle.cbm_volume.proofs.Frames.{Keeps, chain_kept, lies_kept, slot_kept}
-use Rattle.cbm_volume.proofs.Loose.{entry_kept, writable_written}
-use Rattle.cbm_volume.proofs.Remaps.{with_map, map_is, map_keeps}
+use Rattle.cbm_volume.proofs.layouts.Frames.{Keeps, chain_kept, lies_kept, slot_kept}
+use Rattle.cbm_volume.proofs.layouts.Loose.{entry_kept, writable_written}
+use Rattle.cbm_volume.proofs.layouts.Remaps.{with_map, map_is, map_keeps}
 use Rattle.cbm_shell.specs.Locking.{with_title, titled, entitled}
 
 -- ---- the sector

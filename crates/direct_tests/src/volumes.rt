@@ -86,7 +86,7 @@ pub fn grow_too_far(volume: &mut Volume<D64Disk>) -> Result<bool, Fail> {
 
 /// Writes a letter into record 3 of the file in slot 0, where that is there.
 pub fn put_third(volume: &mut Volume<D64Disk>) -> Result<bool, Fail> {
-    Ok(volume.put_record(0, 3, 1, b"X")?.is_some())
+    Ok(volume.write_record(0, 3, 1, b"X")?.is_some())
 }
 
 /// NEW with a title of no byte.

@@ -129,7 +129,7 @@ impl<M: Medium> Dos<M> {
             if channel == 15 {
                 self.command(text.bytes());
             } else {
-                self.put_record(channel, text.bytes());
+                self.write_record(channel, text.bytes());
             }
         }
     }
@@ -137,7 +137,7 @@ impl<M: Medium> Dos<M> {
     /// A text for a channel from 0 to 14 is one write of the record of its place, if it has records open. What becomes
     /// of it is the status: 51 some bytes didn't fit, 52 the file would be too large, or why a write was refused; else
     /// the status stays.
-    fn put_record(&mut self, channel: u8, bytes: &[u8])
+    fn write_record(&mut self, channel: u8, bytes: &[u8])
         requires { channel < 15 }
         ensures goes { (m : Machine) (text : List ℕ) → Stands M.seen self.old m → bytes.now ≡ take 256 text →
             RecordsFrom M.seen self.old self.new channel text m }
@@ -149,7 +149,7 @@ impl<M: Medium> Dos<M> {
         ensures outside { LeavesOutside M.seen self.old self.new }
         ensures counted { IsCounted M.seen self.old self.new }
     {
-        match self.channels[channel as usize].put_record(&mut self.volume, bytes) {
+        match self.channels[channel as usize].write_record(&mut self.volume, bytes) {
             Ok(Some(false)) => {}
             Ok(Some(true)) => self.say(Code::RecordOverflow),
             Ok(None) => self.say(Code::FileTooLarge),

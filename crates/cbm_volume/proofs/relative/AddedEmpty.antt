@@ -10,10 +10,10 @@ use Rattle.cbm_relfile.specs.SideSectors.{named_in, sides_listed, blocks_listed}
 use Rattle.cbm_directory.specs.Entries.{entry_at, first_block, first_side, is_closed, is_relative, width_of}
 use Rattle.cbm_volume.specs.Blocks.{Blocks, Lies, HasRecords, slot_of}
 use Rattle.cbm_volume.specs.Layouts.{Owner, Nobody, DataOf, SideOf, is_loose, OwnedBy, Layout, slot_count, Stands, own}
-use Rattle.cbm_volume.proofs.Frames.{Keeps, owned_same, write_keeps, chain_kept}
-use Rattle.cbm_volume.proofs.Grows.{owned_push}
-use Rattle.cbm_volume.proofs.OneSlot.{with_file}
-use Rattle.cbm_volume.proofs.Steps.{IsTaken, own_there, own_elsewhere}
+use Rattle.cbm_volume.proofs.layouts.Frames.{Keeps, owned_same, write_keeps, chain_kept}
+use Rattle.cbm_volume.proofs.layouts.Grows.{owned_push}
+use Rattle.cbm_volume.proofs.layouts.OneSlot.{with_file}
+use Rattle.cbm_volume.proofs.layouts.Steps.{IsTaken, own_there, own_elsewhere}
 use Rattle.cbm_volume.proofs.relative.Added.{sided, extends_side, numbered_add, all_listed_written}
 use Rattle.cbm_volume.proofs.relative.Inside.{stands_inside}
 use Rattle.cbm_volume.proofs.relative.Longer.{LiesRelative, lies_open, lies_so}

@@ -18,8 +18,8 @@ use Rattle.cbm_volume.specs.Growth.{IsGrowthCut, filled_up}
 use Rattle.cbm_volume.specs.Growing.{disk_with, LeavesAside, HasGrown, IsGrowthStopped}
 use Rattle.cbm_volume.specs.Opens.{IsHindered}
 use Rattle.cbm_volume.specs.Relists.{IsSameDisk}
-use Rattle.cbm_volume.proofs.GrowingSteps.{Stage, aside_then, aside_directory, cut_of}
-use Rattle.cbm_volume.proofs.Loose.{entry_kept}
+use Rattle.cbm_volume.proofs.grown.GrowingSteps.{Stage, aside_then, aside_directory, cut_of}
+use Rattle.cbm_volume.proofs.layouts.Loose.{entry_kept}
 use Rattle.cbm_volume.proofs.relative.LastGrown.{in_layout, same_disk}
 
 -- the file's records are open where the disk is the same

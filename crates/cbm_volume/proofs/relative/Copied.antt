@@ -10,9 +10,9 @@ use Rattle.cbm_relfile.specs.SideSectors.{named_in, sides_listed}
 use Rattle.cbm_directory.specs.Entries.{entry_at, first_block, first_side, is_closed, is_relative, width_of}
 use Rattle.cbm_volume.specs.Blocks.{Blocks, Lies, HasRecords, slot_of}
 use Rattle.cbm_volume.specs.Layouts.{DataOf, SideOf, Layout, slot_count, Stands}
-use Rattle.cbm_volume.proofs.Frames.{Keeps, write_keeps, chain_kept, slot_kept}
-use Rattle.cbm_volume.proofs.OneSlot.{with_file}
-use Rattle.cbm_volume.proofs.Steps.{extends_itself}
+use Rattle.cbm_volume.proofs.layouts.Frames.{Keeps, write_keeps, chain_kept, slot_kept}
+use Rattle.cbm_volume.proofs.layouts.OneSlot.{with_file}
+use Rattle.cbm_volume.proofs.layouts.Steps.{extends_itself}
 use Rattle.cbm_volume.proofs.relative.Inside.{stands_inside}
 use Rattle.cbm_volume.proofs.relative.Longer.{LiesRelative, lies_open, lies_so}
 use Rattle.cbm_volume.proofs.relative.Sides.{listed_by, IsListed, OnlyAt, numbered_written}

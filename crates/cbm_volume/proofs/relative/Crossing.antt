@@ -14,11 +14,11 @@ use Rattle.cbm_relfile.proofs.Positions.{whole_bytes}
 use Rattle.cbm_directory.specs.Entries.{entry_at, is_closed, is_relative, width_of, first_block}
 use Rattle.cbm_volume.specs.Blocks.{Blocks, slot_of, slices}
 use Rattle.cbm_volume.specs.Layouts.{Layout, Directory, DataOf, slot_count, Stands}
-use Rattle.cbm_volume.proofs.Chained.{chain_distinct}
-use Rattle.cbm_volume.proofs.Frames.{Keeps, owned_nth}
-use Rattle.cbm_volume.proofs.Loose.{entry_kept}
-use Rattle.cbm_volume.proofs.OneSlot.{with_file, blocks_here}
-use Rattle.cbm_volume.proofs.Writers.{written_keeps}
+use Rattle.cbm_volume.proofs.layouts.Chained.{chain_distinct}
+use Rattle.cbm_volume.proofs.layouts.Frames.{Keeps, owned_nth}
+use Rattle.cbm_volume.proofs.layouts.Loose.{entry_kept}
+use Rattle.cbm_volume.proofs.layouts.OneSlot.{with_file, blocks_here}
+use Rattle.cbm_volume.proofs.layouts.Writers.{written_keeps}
 use Rattle.cbm_volume.proofs.relative.Put.{put_front, put_length, slices_put}
 use Rattle.cbm_volume.proofs.relative.InPlace.{Kept, stands_written, put_in_block}
 use Rattle.cbm_volume.proofs.relative.GrownFile.{with_records, slot_grown}

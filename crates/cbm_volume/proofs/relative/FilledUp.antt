@@ -11,7 +11,7 @@ use Rattle.cbm_relfile.specs.Making.{fresh_byte}
 use Rattle.cbm_relfile.specs.Fresh.{fresh_in}
 use Rattle.cbm_relfile.specs.Filling.{fresh_begin}
 use Rattle.cbm_volume.specs.Blocks.{slices}
-use Rattle.cbm_volume.proofs.Slices.{joined}
+use Rattle.cbm_volume.proofs.held.Slices.{joined}
 use Rattle.cbm_volume.proofs.relative.Fresh.{inside, behind, fresh_at}
 use Rattle.cbm_volume.proofs.relative.Grown.{fresh, short_one, one_more, all_fresh, joined_length, records_grown}
 

@@ -5,7 +5,7 @@ use Rattle.std.proofs.lemmas.Bool.{cases_lt, eq-eqb, ne_eqb, lt-ltb, le-ltb}
 use Rattle.std.proofs.lemmas.List.{append_assoc, get_or-append_right, get_or_append_left, get_or-replicate, get_or_past, length-replicate}
 use Rattle.std.proofs.Math.Nat.{suc-mul, add-mul-mod_self_right, mod-eq_of_lt}
 pub use Rattle.cbm_relfile.specs.Making.{fresh_byte}
-use Rattle.cbm_volume.proofs.Slices.{joined}
+use Rattle.cbm_volume.proofs.held.Slices.{joined}
 use Rattle.cbm_volume.proofs.relative.Grown.{fresh, fresh_length}
 
 pub inside : (w j o : ℕ) → o < j * w → fresh_byte w j o ≡ (if o % w == 0 then 255 else 0)

@@ -12,11 +12,11 @@ use Rattle.cbm_relfile.proofs.Positions.{whole_bytes, full_length}
 use Rattle.cbm_directory.specs.Entries.{entry_at, first_block, is_closed, is_relative}
 use Rattle.cbm_volume.specs.Blocks.{Blocks, Lies, slot_of}
 use Rattle.cbm_volume.specs.Layouts.{DataOf, SideOf, Layout, slot_count, Stands}
-use Rattle.cbm_volume.proofs.Chained.{chain_distinct}
-use Rattle.cbm_volume.proofs.Frames.{Keeps, owned_nth, write_keeps, records_kept}
-use Rattle.cbm_volume.proofs.OneSlot.{with_file}
-use Rattle.cbm_volume.proofs.Releases.{apart_by_index}
-use Rattle.cbm_volume.proofs.Steps.{extends_itself}
+use Rattle.cbm_volume.proofs.layouts.Chained.{chain_distinct}
+use Rattle.cbm_volume.proofs.layouts.Frames.{Keeps, owned_nth, write_keeps, records_kept}
+use Rattle.cbm_volume.proofs.layouts.OneSlot.{with_file}
+use Rattle.cbm_volume.proofs.layouts.Releases.{apart_by_index}
+use Rattle.cbm_volume.proofs.layouts.Steps.{extends_itself}
 use Rattle.cbm_volume.proofs.relative.Inside.{stands_inside}
 use Rattle.cbm_volume.proofs.relative.Longer.{LiesRelative, lies_open, lies_so}
 use Rattle.cbm_volume.proofs.relative.Sides.{OnlyAt}

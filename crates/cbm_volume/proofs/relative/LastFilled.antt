@@ -14,7 +14,7 @@ use Rattle.cbm_relfile.specs.Fresh.{fresh_in, full_end, IsFilledFrom}
 use Rattle.cbm_relfile.specs.Filling.{IsRefilled, last_begin, IsTailFilled}
 use Rattle.cbm_relfile.proofs.Filled.{chain_length}
 use Rattle.cbm_relfile.proofs.Positions.{whole_bytes, full_length, chain_most}
-use Rattle.cbm_volume.proofs.Chained.{chain_distinct}
+use Rattle.cbm_volume.proofs.layouts.Chained.{chain_distinct}
 use Rattle.cbm_volume.proofs.relative.InPlace.{chain_written}
 use Rattle.cbm_volume.proofs.relative.Sides.{OnlyAt}
 

@@ -26,18 +26,18 @@ use Rattle.cbm_volume.specs.RecordWrites.{HasRecordsOpen}
 use Rattle.cbm_volume.specs.Growth.{filled_up, IsGrowthCut}
 use Rattle.cbm_volume.specs.Growing.{IsListed, disk_with, LeavesAside, HasGrown}
 use Rattle.cbm_volume.specs.Opens.{IsHindered}
-use Rattle.cbm_volume.proofs.Frames.{Keeps, owned_nth, records_kept}
-use Rattle.cbm_volume.proofs.GrowingSteps.{Stage, go_on, slot_there, file_there, aside_written, cut_of}
-use Rattle.cbm_volume.proofs.Lengths.{file_length}
-use Rattle.cbm_volume.proofs.Listing.{geometry_size, body_of}
-use Rattle.cbm_volume.proofs.Loose.{entry_kept}
-use Rattle.cbm_volume.proofs.OneSlot.{with_file, blocks_here, blocks_other}
-use Rattle.cbm_volume.proofs.RecordsPut.{HasBlocks, has_blocks, inside_only}
-use Rattle.cbm_volume.proofs.RecordsRead.{IsBody, is_body, both, relative_of, lies_so}
-use Rattle.cbm_volume.proofs.Refusals.{write_hindered}
-use Rattle.cbm_volume.proofs.Steps.{extends_itself}
-use Rattle.cbm_volume.proofs.Storing.{geometry_elsewhere}
-use Rattle.cbm_volume.proofs.Writers.{keeps_then}
+use Rattle.cbm_volume.proofs.layouts.Frames.{Keeps, owned_nth, records_kept}
+use Rattle.cbm_volume.proofs.grown.GrowingSteps.{Stage, go_on, slot_there, file_there, aside_written, cut_of}
+use Rattle.cbm_volume.proofs.layouts.Lengths.{file_length}
+use Rattle.cbm_volume.proofs.layouts.Listing.{geometry_size, body_of}
+use Rattle.cbm_volume.proofs.layouts.Loose.{entry_kept}
+use Rattle.cbm_volume.proofs.layouts.OneSlot.{with_file, blocks_here, blocks_other}
+use Rattle.cbm_volume.proofs.records_made.RecordsPut.{HasBlocks, has_blocks, inside_only}
+use Rattle.cbm_volume.proofs.held.RecordsRead.{IsBody, is_body, both, relative_of, lies_so}
+use Rattle.cbm_volume.proofs.layouts.Refusals.{write_hindered}
+use Rattle.cbm_volume.proofs.layouts.Steps.{extends_itself}
+use Rattle.cbm_volume.proofs.written.Storing.{geometry_elsewhere}
+use Rattle.cbm_volume.proofs.layouts.Writers.{keeps_then}
 use Rattle.cbm_volume.proofs.relative.FilledUp.{slices_count, filled_records, same_records}
 use Rattle.cbm_volume.proofs.relative.GrownFile.{with_records, slot_grown}
 use Rattle.cbm_volume.proofs.relative.Inside.{stands_inside}

@@ -17,8 +17,8 @@ use Rattle.cbm_relfile.specs.Making.{fresh_byte}
 use Rattle.cbm_relfile.specs.Records.{AllWhole}
 use Rattle.cbm_relfile.proofs.Positions.{whole_bytes, full_length}
 use Rattle.cbm_volume.specs.Blocks.{slices}
-use Rattle.cbm_volume.proofs.Chained.{chain_distinct}
-use Rattle.cbm_volume.proofs.Slices.{joined}
+use Rattle.cbm_volume.proofs.layouts.Chained.{chain_distinct}
+use Rattle.cbm_volume.proofs.held.Slices.{joined}
 use Rattle.cbm_volume.proofs.relative.Fresh.{fresh_at}
 use Rattle.cbm_volume.proofs.relative.Grown.{Split, short_one, one_more, slices_front, joined_length, all_fresh, records_grown}
 use Rattle.cbm_volume.proofs.relative.Sides.{OnlyAt}

@@ -12,12 +12,12 @@ use Rattle.cbm_volume.specs.Blocks.{Blocks, Lies, LiesAs, HasRecords, slot_of}
 use Rattle.cbm_volume.specs.Layouts.{Owner, Nobody, DataOf, SideOf, is_loose, OwnedBy, Layout, slot_count, Stands, own}
 use Rattle.cbm_chain.specs.Writing.{last_of}
 use Rattle.cbm_medium.proofs.Places.{written_there, written_elsewhere}
-use Rattle.cbm_volume.proofs.Frames.{Keeps, owned_same, write_keeps, records_kept}
-use Rattle.cbm_volume.proofs.Grows.{chain_push, owned_push}
-use Rattle.cbm_volume.proofs.OneSlot.{with_file}
-use Rattle.cbm_volume.proofs.Steps.{IsTaken, own_there, own_elsewhere, extends_own}
+use Rattle.cbm_volume.proofs.layouts.Frames.{Keeps, owned_same, write_keeps, records_kept}
+use Rattle.cbm_volume.proofs.layouts.Grows.{chain_push, owned_push}
+use Rattle.cbm_volume.proofs.layouts.OneSlot.{with_file}
+use Rattle.cbm_volume.proofs.layouts.Steps.{IsTaken, own_there, own_elsewhere, extends_own}
 use Rattle.cbm_volume.proofs.relative.Inside.{stands_inside}
-use Rattle.cbm_volume.proofs.Finishes.{last_owned}
+use Rattle.cbm_volume.proofs.written.Finishes.{last_owned}
 
 -- what lies there as a closed relative file
 pub record LiesRelative (tracks : ℕ) (c : Content) (e : List ℕ) (b : Blocks) : Type 0 where

@@ -11,14 +11,14 @@ use Rattle.cbm_directory.specs.Entries.{entry_at, is_closed, is_relative}
 use Rattle.cbm_volume.specs.Blocks.{Blocks, slot_of}
 use Rattle.cbm_volume.specs.Layouts.{Owner, TheMap, Directory, DataOf, SideOf, is_loose, OwnedBy, Layout, slot_count, Stands, own}
 use Rattle.cbm_chain.specs.Writing.{last_of}
-use Rattle.cbm_volume.proofs.Frames.{Keeps, sector_kept}
-use Rattle.cbm_volume.proofs.Loose.{entry_kept}
-use Rattle.cbm_volume.proofs.OneSlot.{with_file, blocks_here}
-use Rattle.cbm_volume.proofs.Steps.{IsTaken, one_less, stands_claim, stands_loose}
-use Rattle.cbm_volume.proofs.Writers.{written_keeps}
+use Rattle.cbm_volume.proofs.layouts.Frames.{Keeps, sector_kept}
+use Rattle.cbm_volume.proofs.layouts.Loose.{entry_kept}
+use Rattle.cbm_volume.proofs.layouts.OneSlot.{with_file, blocks_here}
+use Rattle.cbm_volume.proofs.layouts.Steps.{IsTaken, one_less, stands_claim, stands_loose}
+use Rattle.cbm_volume.proofs.layouts.Writers.{written_keeps}
 use Rattle.cbm_volume.proofs.relative.Longer.{longer, stands_longer}
 use Rattle.cbm_volume.proofs.relative.Sides.{IsListed, listed_by, Pushed, stands_pushed}
-use Rattle.cbm_volume.proofs.Finishes.{last_owned}
+use Rattle.cbm_volume.proofs.written.Finishes.{last_owned}
 
 -- side sectors that stay list what they listed
 pub listed_kept : (c c' : Content) (owner : Place → Owner) (o : Owner) → Keeps c c' owner o → (ss xs : List Place) → OwnedBy owner o ss → IsListed c ss xs → IsListed c' ss xs

@@ -14,7 +14,7 @@ use Rattle.cbm_relfile.proofs.Positions.{whole_bytes}
 use Rattle.cbm_directory.specs.Entries.{entry_at, is_closed, is_relative, width_of}
 use Rattle.cbm_volume.specs.Blocks.{Blocks, slot_of, slices}
 use Rattle.cbm_volume.specs.Layouts.{Layout, slot_count, Stands}
-use Rattle.cbm_volume.proofs.OneSlot.{with_file}
+use Rattle.cbm_volume.proofs.layouts.OneSlot.{with_file}
 use Rattle.cbm_volume.proofs.relative.Put.{put_front, put_back, put_length, slices_put}
 use Rattle.cbm_volume.proofs.relative.InPlace.{stands_written, put_in_block}
 use Rattle.cbm_volume.proofs.relative.GrownFile.{with_records, slot_grown}

@@ -13,13 +13,13 @@ use Rattle.cbm_directory.specs.Entries.{type_byte, bit_of, is_relative, width_of
 use Rattle.cbm_volume.specs.Blocks.{Blocks, no_blocks, Lies, LiesAs, file_of}
 use Rattle.cbm_volume.specs.Layouts.{Owner, Nobody, DataOf, SideOf, OwnedBy, Layout, slot_count, Sound, Stands, Extends}
 use Rattle.cbm_volume.specs.Plain.{IsDistinct}
-use Rattle.cbm_volume.proofs.Finishes.{own_all, own_all_was, own_all_keeps, own_all_there, AllOff, all_off_18}
-use Rattle.cbm_volume.proofs.Frames.{owned_same}
-use Rattle.cbm_volume.proofs.OneSlot.{with_file}
-use Rattle.cbm_volume.proofs.PlainSound.{distinct_join, apart_owned}
-use Rattle.cbm_volume.proofs.Releases.{freed_other, owned_taken}
-use Rattle.cbm_volume.proofs.SoundClaimed.{chain_is_distinct, sides_distinct}
-use Rattle.cbm_volume.proofs.Steps.{stands_entry}
+use Rattle.cbm_volume.proofs.written.Finishes.{own_all, own_all_was, own_all_keeps, own_all_there, AllOff, all_off_18}
+use Rattle.cbm_volume.proofs.layouts.Frames.{owned_same}
+use Rattle.cbm_volume.proofs.layouts.OneSlot.{with_file}
+use Rattle.cbm_volume.proofs.checked.PlainSound.{distinct_join, apart_owned}
+use Rattle.cbm_volume.proofs.layouts.Releases.{freed_other, owned_taken}
+use Rattle.cbm_volume.proofs.checked.SoundClaimed.{chain_is_distinct, sides_distinct}
+use Rattle.cbm_volume.proofs.layouts.Steps.{stands_entry}
 
 chain_have : (tracks : ℕ) (c : Content) (a : Place) (xs : List Place) → Chain tracks c a xs → AllHave tracks xs
 chain_have tracks c a [] h = tt

@@ -13,10 +13,10 @@ use Rattle.cbm_volume.specs.Blocks.{Blocks, Lies, HasRecords, slot_of}
 use Rattle.cbm_volume.specs.Layouts.{DataOf, SideOf, Layout, slot_count, Stands}
 pub use Rattle.cbm_volume.specs.Growing.{listed_by, IsListed}
 use Rattle.cbm_volume.specs.Plain.{IsDistinct}
-use Rattle.cbm_volume.proofs.Frames.{Keeps, owned_nth, write_keeps, chain_kept, slot_kept}
-use Rattle.cbm_volume.proofs.OneSlot.{with_file}
-use Rattle.cbm_volume.proofs.SoundClaimed.{sides_distinct}
-use Rattle.cbm_volume.proofs.Steps.{extends_itself}
+use Rattle.cbm_volume.proofs.layouts.Frames.{Keeps, owned_nth, write_keeps, chain_kept, slot_kept}
+use Rattle.cbm_volume.proofs.layouts.OneSlot.{with_file}
+use Rattle.cbm_volume.proofs.checked.SoundClaimed.{sides_distinct}
+use Rattle.cbm_volume.proofs.layouts.Steps.{extends_itself}
 use Rattle.cbm_volume.proofs.relative.Inside.{stands_inside}
 use Rattle.cbm_volume.proofs.relative.Longer.{LiesRelative, lies_open, lies_so}
 

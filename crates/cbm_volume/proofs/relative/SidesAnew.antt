@@ -23,10 +23,10 @@ use Rattle.cbm_volume.specs.RecordWrites.{HasRecordsOpen}
 use Rattle.cbm_volume.specs.Growing.{IsListed, LeavesAside}
 use Rattle.cbm_volume.specs.Opens.{IsHindered}
 use Rattle.cbm_volume.specs.Relists.{IsSameDisk}
-use Rattle.cbm_volume.proofs.Frames.{Keeps, sector_kept, chain_kept, lies_kept, slot_kept}
-use Rattle.cbm_volume.proofs.GrowingSteps.{holds_aside, file_closed, file_relative}
-use Rattle.cbm_volume.proofs.Loose.{entry_kept}
-use Rattle.cbm_volume.proofs.Storing.{geometry_elsewhere}
+use Rattle.cbm_volume.proofs.layouts.Frames.{Keeps, sector_kept, chain_kept, lies_kept, slot_kept}
+use Rattle.cbm_volume.proofs.grown.GrowingSteps.{holds_aside, file_closed, file_relative}
+use Rattle.cbm_volume.proofs.layouts.Loose.{entry_kept}
+use Rattle.cbm_volume.proofs.written.Storing.{geometry_elsewhere}
 use Rattle.cbm_volume.proofs.relative.LastGrown.{LiesInSlot, lies, in_layout, slot_laid}
 use Rattle.cbm_volume.proofs.relative.Longer as longer
 

@@ -43,7 +43,7 @@ fn walk_listed<M: Medium>(
 }
 
 /// First checks the side sector's own number and record length.
-#[tactic(auto, using(crate::proofs::SidesListed::side_right))]
+#[tactic(auto, using(crate::proofs::checked::SidesListed::side_right))]
 pub fn walk_side<M: Medium>(
     medium: &M,
     geometry: Geometry,

@@ -1,6 +1,6 @@
 use Rattle.cbm_bam.specs.Map.{geometry_of}
 use Rattle.cbm_bam.specs.Marks.{is_marked}
-use Rattle.cbm_volume.proofs.CheckedSound.{claims_into}
+use Rattle.cbm_volume.proofs.checked.CheckedSound.{claims_into}
 use Rattle.cbm_volume.proofs.check.check_disk.Goals as goal
 
 -- each step's success is the whole's

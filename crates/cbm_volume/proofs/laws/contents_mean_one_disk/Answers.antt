@@ -1,4 +1,4 @@
-use Rattle.cbm_volume.proofs.Settled.{disk_settled}
+use Rattle.cbm_volume.proofs.layouts.Settled.{disk_settled}
 use Rattle.cbm_volume.proofs.laws.contents_mean_one_disk.Goals as goal
 
 pub returns : goal.returns

@@ -1,4 +1,4 @@
-use Rattle.cbm_volume.proofs.PlainSound.{sound_plain, plain_sound}
+use Rattle.cbm_volume.proofs.checked.PlainSound.{sound_plain, plain_sound}
 use Rattle.cbm_volume.proofs.laws.is_sound_by_its_sectors.Goals as goal
 
 pub returns : goal.returns

@@ -1,4 +1,4 @@
-use Rattle.cbm_volume.proofs.Meaning.{sound_means}
+use Rattle.cbm_volume.proofs.layouts.Meaning.{sound_means}
 use Rattle.cbm_volume.proofs.laws.sound_contents_mean_disks.Goals as goal
 
 pub returns : goal.returns

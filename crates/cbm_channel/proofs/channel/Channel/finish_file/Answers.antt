@@ -1,5 +1,5 @@
 use Rattle.std.proofs.Common.{rules, sym, ◌∙◌, refl}
-use Rattle.cbm_volume.proofs.Calls.{if_ok, on_ok}
+use Rattle.cbm_volume.proofs.layouts.Calls.{if_ok, on_ok}
 use Rattle.cbm_channel.proofs.BytesPut.{writes_so, written_on}
 use Rattle.cbm_channel.proofs.Finished.{let_go_none, closed_plain, closed_replaced, closed_given, stopped_early, on_err, ok_to, err_to}
 use Rattle.cbm_file.specs.Files.{file_at}

@@ -55,9 +55,9 @@ returns-else-channel-eq15-clause-goes g c = λ m s unfailed.
     let whole : List ℕ = text_for c.args.channel m.text in
     let some : 1 ≤ length whole = some_kept whole (subst (λ x. 1 ≤ length x) has.kept has.some) in
     let other = below_15 c.args.channel (omega (arith, c.requires, c.if-channel-eq15.false)) in
-    let next = c.put_record.ensures.goes (without_text c.args.channel m) whole (c.in-Some.ensures.leads m s) (c.bytes-else-channel-eq15.ensures ∙ has.kept) in (
+    let next = c.write_record.ensures.goes (without_text c.args.channel m) whole (c.in-Some.ensures.leads m s) (c.bytes-else-channel-eq15.ensures ∙ has.kept) in (
       next.0,
-      record_ends _ _ c.args.channel m next.0 (λ f. subst (λ v. HasFailed (g.M.Medium.seen v) (g.M.Medium.seen c.put_record.new.self.medium)) c.in-Some.ensures.medium f) (store_records c.args.channel whole m some other) next.1,
+      record_ends _ _ c.args.channel m next.0 (λ f. subst (λ v. HasFailed (g.M.Medium.seen v) (g.M.Medium.seen c.write_record.new.self.medium)) c.in-Some.ensures.medium f) (store_records c.args.channel whole m some other) next.1,
       next.2,
     )
 
@@ -89,7 +89,7 @@ pub returns-then-channel-eq15-clause-counted : goal.returns-then-channel-eq15-cl
 returns-then-channel-eq15-clause-counted g c = counted_from g.M.Medium.seen c.args.self.now c.take_text.new.self c.command.new.self c.in-Some.ensures.medium c.command.ensures.counted
 
 pub returns-else-channel-eq15-clause-counted : goal.returns-else-channel-eq15-clause-counted
-returns-else-channel-eq15-clause-counted g c = counted_from g.M.Medium.seen c.args.self.now c.take_text.new.self c.put_record.new.self c.in-Some.ensures.medium c.put_record.ensures.counted
+returns-else-channel-eq15-clause-counted g c = counted_from g.M.Medium.seen c.args.self.now c.take_text.new.self c.write_record.new.self c.in-Some.ensures.medium c.write_record.ensures.counted
 
 -- ---- what lies outside the disk
 
@@ -101,7 +101,7 @@ returns-then-channel-eq15-clause-outside g c = λ other m s.
     outside_seen g.M.Medium.seen c.args.self.now.medium c.command.new.self.medium c.take_text.new.self.medium c.command.new.self.medium c.in-Some.ensures.medium refl (c.command.ensures.outside (ap text_formats c.bytes.ensures ∙ none) (without_text c.args.channel m) (c.in-Some.ensures.leads m s))
 
 pub returns-else-channel-eq15-clause-outside : goal.returns-else-channel-eq15-clause-outside
-returns-else-channel-eq15-clause-outside g c = λ other m s. outside_seen g.M.Medium.seen c.args.self.now.medium c.put_record.new.self.medium c.take_text.new.self.medium c.put_record.new.self.medium c.in-Some.ensures.medium refl (c.put_record.ensures.outside (without_text c.args.channel m) (c.in-Some.ensures.leads m s))
+returns-else-channel-eq15-clause-outside g c = λ other m s. outside_seen g.M.Medium.seen c.args.self.now.medium c.write_record.new.self.medium c.take_text.new.self.medium c.write_record.new.self.medium c.in-Some.ensures.medium refl (c.write_record.ensures.outside (without_text c.args.channel m) (c.in-Some.ensures.leads m s))
 
 pub returns-in_default-clause-outside : goal.returns-in_default-clause-outside
 returns-in_default-clause-outside g c = λ other m s. outside_itself _ _ (ap g.M.Medium.seen c.take_text.ensures.medium)

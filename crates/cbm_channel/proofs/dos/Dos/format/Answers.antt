@@ -5,7 +5,7 @@ use Rattle.cbm_file.specs.Changes.{new_disk}
 use Rattle.cbm_volume.specs.Writers.{Idle, HoldsNow}
 use Rattle.cbm_machine.specs.Machines.{any_open, say, with_disk}
 use Rattle.cbm_machine.specs.declared.code.Code.TheVariants.{Fine, WriteFileOpen, WriteProtected}
-use Rattle.cbm_volume.proofs.NewDisks.{new_keeps, new_refusal}
+use Rattle.cbm_volume.proofs.formatted.NewDisks.{new_keeps, new_refusal}
 use Rattle.cbm_channel.specs.Standing.{StandsBy, uses_of}
 use Rattle.cbm_channel.proofs.Commanding.{new_open, new_done, new_guarded, new_stands, all_idle}
 use Rattle.cbm_channel.proofs.Opens.{failed_by}

@@ -27,7 +27,7 @@ use Rattle.cbm_channel.proofs.Stands.{stood, means_of, unwritten_at}
 use Rattle.cbm_channel.proofs.Planning.{readable, relatable, makeable, writable, appendable, replaceable, file_opens, reads_as, none_passes}
 use Rattle.cbm_machine.specs.Machines as machine
 use Rattle.cbm_channel.proofs.Opens.{relates_opened, makes_opened, made_file, made_there, has_room_of, idle_past, begins_as, nothing_begun, failed_by, not_del, match_some, match_none, has_place, no_block, can_be, on_err}
-use Rattle.cbm_volume.proofs.RecordUses.{of_records}
+use Rattle.cbm_volume.proofs.held.RecordUses.{of_records}
 use Rattle.cbm_channel.proofs.Outside.{outside_itself, outside_same, outside_seen, outside_held, begun_outside, begun_write, begun_replace, on_both, cut_sized, same_sized, made_outside, grown_total}
 use Rattle.cbm_channel.proofs.dos.Dos.opened.Goals as goal
 

@@ -3,7 +3,7 @@ use Rattle.std.proofs.lemmas.Result.{err_from_is_err_and}
 use Rattle.std.specs.Prelude.{option_map, IsOkAnd}
 use Rattle.cbm_medium.specs.Seen.{Seen}
 use Rattle.cbm_channel.proofs.Elses.{else_then, else_after, else_refused}
-use Rattle.cbm_volume.proofs.CopySteps.{handed}
+use Rattle.cbm_volume.proofs.copied.CopySteps.{handed}
 use Rattle.cbm_channel.specs.Recorded.{IsTextCut}
 use Rattle.cbm_channel.proofs.Asked.{none_of}
 use Rattle.cbm_channel.proofs.RecordPuts.{Grows, store_full, store_cut, store_more, store_more_cut, store_there, store_next, grown_outside, written_outside}

@@ -13,8 +13,8 @@ returns-then-self-eq0-clause-put g c = λ d uses b s rs can. absurd (no_place _ 
 
 pub returns-clause-put : goal.returns-clause-put
 returns-clause-put g c =
-    subst (λ r. OfPlaced (g.M.Medium.seen c.args.volume.now) r (λ d uses b s rs. IsRecordCall c.put_record.result (g.M.Medium.seen c.args.volume.now) (g.M.Medium.seen c.put_record.new.self) d uses r.slot r.width b s rs r.number r.position c.args.bytes.now)) c.self.view_is
-    (λ d uses b s rs can. c.put_record.ensures.put d uses _ b s rs can.has can.inside)
+    subst (λ r. OfPlaced (g.M.Medium.seen c.args.volume.now) r (λ d uses b s rs. IsRecordCall c.write_record.result (g.M.Medium.seen c.args.volume.now) (g.M.Medium.seen c.write_record.new.self) d uses r.slot r.width b s rs r.number r.position c.args.bytes.now)) c.self.view_is
+    (λ d uses b s rs can. c.write_record.ensures.put d uses _ b s rs can.has can.inside)
 
 -- ---- what lies outside the disk
 
@@ -23,5 +23,5 @@ returns-then-self-eq0-clause-outside g c = λ d uses b s rs can. outside_itself 
 
 pub returns-clause-outside : goal.returns-clause-outside
 returns-clause-outside g c =
-    subst (λ r. OfPlaced (g.M.Medium.seen c.args.volume.now) r (λ d uses b s rs. KeepsOutside (g.M.Medium.seen c.args.volume.now) (g.M.Medium.seen c.put_record.new.self))) c.self.view_is
-    (λ d uses b s rs can. record_outside (λ x. x.cut) c.put_record.result (g.M.Medium.seen c.args.volume.now) (g.M.Medium.seen c.put_record.new.self) d uses _ _ b s rs _ _ c.args.bytes.now c.put_record.ensures.only refl can.has.holds (c.put_record.ensures.put d uses _ b s rs can.has can.inside).put)
+    subst (λ r. OfPlaced (g.M.Medium.seen c.args.volume.now) r (λ d uses b s rs. KeepsOutside (g.M.Medium.seen c.args.volume.now) (g.M.Medium.seen c.write_record.new.self))) c.self.view_is
+    (λ d uses b s rs can. record_outside (λ x. x.cut) c.write_record.result (g.M.Medium.seen c.args.volume.now) (g.M.Medium.seen c.write_record.new.self) d uses _ _ b s rs _ _ c.args.bytes.now c.write_record.ensures.only refl can.has.holds (c.write_record.ensures.put d uses _ b s rs can.has can.inside).put)

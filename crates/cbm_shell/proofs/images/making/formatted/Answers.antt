@@ -2,7 +2,7 @@ use Rattle.std.proofs.Common.{ℕ, ◌≡◌, ◌⊎◌, Some, ap, sym, subst, �
 use Rattle.cbm_medium.specs.Content.{Content}
 use Rattle.cbm_volume.specs.Holding.{HoldsDisk}
 use Rattle.cbm_volume.specs.Writers.{Idle, HoldsNow}
-use Rattle.cbm_volume.proofs.NewDisks.{new_keeps}
+use Rattle.cbm_volume.proofs.formatted.NewDisks.{new_keeps}
 use Rattle.cbm_shell.specs.Making.{empty_disk}
 use Rattle.cbm_shell.proofs.BlankDisks.{blank_holds, never_hindered}
 use Rattle.cbm_shell.proofs.images.making.formatted.Goals as goal

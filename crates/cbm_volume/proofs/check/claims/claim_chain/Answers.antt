@@ -2,7 +2,7 @@ use Rattle.std.proofs.Common.{rules, ◌≡◌, ◌∷◌, [], ap, refl, suc, ar
 use Rattle.cbm_bam.specs.Map.{with_bit}
 use Rattle.cbm_bam.specs.Marks.{is_marked}
 use Rattle.cbm_volume.specs.check.Claims.{unclaimed}
-use Rattle.cbm_volume.proofs.Claiming.{is_right, unclaimed_less, claims_step, meets_step, link_read}
+use Rattle.cbm_volume.proofs.checked.Claiming.{is_right, unclaimed_less, claims_step, meets_step, link_read}
 use Rattle.cbm_volume.proofs.check.claims.claim_chain.Goals as goal
 
 pub returns-clause-ok : goal.returns-clause-ok

@@ -3,7 +3,7 @@ use Rattle.cbm_medium.specs.Place.{Place}
 use Rattle.cbm_bam.specs.Map.{at}
 use Rattle.cbm_volume.specs.check.Headers.{IsFirstBad}
 use Rattle.cbm_volume.specs.check.Claims.{fault_at}
-use Rattle.cbm_volume.proofs.FirstBad.{up_more, first_bad}
+use Rattle.cbm_volume.proofs.checked.FirstBad.{up_more, first_bad}
 use Rattle.cbm_volume.proofs.check.headers.check_headers.Goals as goal
 
 pub loop-track-init : goal.loop-track-init

@@ -1,7 +1,7 @@
 use Rattle.std.proofs.Common.{◌+◌, List, refl, sym, ap, ◌∙◌}
 use Rattle.cbm_medium.specs.Place.{Place}
 use Rattle.cbm_volume.specs.check.SideLists.{along, listed_at}
-use Rattle.cbm_volume.proofs.SidesListed.{listed_none, listed_some, listed_end, along_some, along_none}
+use Rattle.cbm_volume.proofs.checked.SidesListed.{listed_none, listed_some, listed_end, along_some, along_none}
 use Rattle.cbm_volume.proofs.check.records.walk_listed.Goals as goal
 
 pub returns-then-is_end : goal.returns-then-is_end

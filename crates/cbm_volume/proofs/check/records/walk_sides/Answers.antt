@@ -2,7 +2,7 @@ use Rattle.std.proofs.Common.{◌+◌, ◌-◌, ◌*◌, List, drop, refl, sym, 
 use Rattle.cbm_medium.specs.Place.{Place}
 use Rattle.cbm_relfile.specs.SideSectors.{named_in}
 use Rattle.cbm_volume.specs.check.SideLists.{sides_along}
-use Rattle.cbm_volume.proofs.SidesListed.{sides_none, sides_some, sides_one, sides_stop}
+use Rattle.cbm_volume.proofs.checked.SidesListed.{sides_none, sides_some, sides_one, sides_stop}
 use Rattle.cbm_volume.proofs.check.records.walk_sides.Goals as goal
 
 pub returns-then-is_end : goal.returns-then-is_end

@@ -4,7 +4,7 @@ use Rattle.cbm_relfile.specs.SideSectors.{named_in}
 use Rattle.cbm_bam.specs.Marks.{is_marked}
 use Rattle.cbm_volume.specs.check.SideLists.{ClaimsEach}
 use Rattle.cbm_volume.specs.declared.check.unsound.Part.TheVariants.{OfFile}
-use Rattle.cbm_volume.proofs.SidesListed.{sides_none, sides_some, each_step, among_step, among_here}
+use Rattle.cbm_volume.proofs.checked.SidesListed.{sides_none, sides_some, each_step, among_step, among_here}
 use Rattle.cbm_volume.proofs.check.sides.claim_listed.Goals as goal
 
 pub returns-then-is_end-clause-ok : goal.returns-then-is_end-clause-ok

@@ -1,7 +1,7 @@
 use Rattle.std.proofs.Common.{rules, ◌+◌, List, ℕ, refl, sym, subst}
 use Rattle.cbm_bam.specs.Marks.{is_marked}
 use Rattle.cbm_volume.specs.check.SlotWalk.{ClaimsEntries, entries_behind}
-use Rattle.cbm_volume.proofs.SlotSteps.{entries_next, entries_end, entries_step, fault_step, fault_here}
+use Rattle.cbm_volume.proofs.checked.SlotSteps.{entries_next, entries_end, entries_step, fault_step, fault_here}
 use Rattle.cbm_volume.proofs.check.slots.check_entries.Goals as goal
 
 pub returns-in_err-check_entry-clause-err : goal.returns-in_err-check_entry-clause-err

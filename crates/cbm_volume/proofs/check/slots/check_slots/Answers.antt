@@ -3,8 +3,8 @@ use Rattle.cbm_bam.specs.Map.{with_bit}
 use Rattle.cbm_bam.specs.Marks.{is_marked}
 use Rattle.cbm_volume.specs.check.Claims.{unclaimed}
 use Rattle.cbm_volume.specs.declared.check.unsound.Part.TheVariants.{OfDirectory}
-use Rattle.cbm_volume.proofs.Claiming.{is_right, unclaimed_less}
-use Rattle.cbm_volume.proofs.SlotSteps.{slots_step, slots_fault, slots_wrong, slots_entry}
+use Rattle.cbm_volume.proofs.checked.Claiming.{is_right, unclaimed_less}
+use Rattle.cbm_volume.proofs.checked.SlotSteps.{slots_step, slots_fault, slots_wrong, slots_entry}
 use Rattle.cbm_volume.proofs.check.slots.check_slots.Goals as goal
 
 pub returns-clause-ok : goal.returns-clause-ok

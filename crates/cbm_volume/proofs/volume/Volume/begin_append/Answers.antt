@@ -8,8 +8,8 @@ use Rattle.cbm_bam.specs.Map.{geometry_of}
 use Rattle.cbm_bam.specs.Causes.{HasCause}
 use Rattle.cbm_chain.specs.Writing.{StandsAfter}
 use Rattle.cbm_directory.specs.Entries.{Enters, EntersLed, first_directory, first_block, sector_of}
-use Rattle.cbm_volume.proofs.Appends.{appended, not_broken, entry_hindered, entry_untouched}
-use Rattle.cbm_volume.proofs.Sparing.{same_untouched}
+use Rattle.cbm_volume.proofs.opened.Appends.{appended, not_broken, entry_hindered, entry_untouched}
+use Rattle.cbm_volume.proofs.written.Sparing.{same_untouched}
 use Rattle.cbm_volume.proofs.volume.Volume.begin_append.Goals as goal
 
 -- the chain of a closed file is whole

@@ -7,10 +7,10 @@ use Rattle.cbm_file.specs.Files.{Disk}
 use Rattle.cbm_bam.specs.Map.{geometry_of}
 use Rattle.cbm_volume.specs.Opens.{IsHindered}
 use Rattle.cbm_volume.specs.Writers.{Use, HoldsNow}
-use Rattle.cbm_volume.proofs.OnDisks.{of_tracks}
-use Rattle.cbm_volume.proofs.Hindered.{claim_hindered}
-use Rattle.cbm_volume.proofs.ReplacementBegun.{ChainBegins, chain_begins, replacement, replacement_refused}
-use Rattle.cbm_volume.proofs.Sparing.{same_untouched, claim_untouched}
+use Rattle.cbm_volume.proofs.layouts.OnDisks.{of_tracks}
+use Rattle.cbm_volume.proofs.layouts.Hindered.{claim_hindered}
+use Rattle.cbm_volume.proofs.opened.ReplacementBegun.{ChainBegins, chain_begins, replacement, replacement_refused}
+use Rattle.cbm_volume.proofs.written.Sparing.{same_untouched, claim_untouched}
 use Rattle.cbm_volume.proofs.volume.Volume.begin_replace.Goals as goal
 
 pub returns-in_err-chain-clause-call : goal.returns-in_err-chain-clause-call

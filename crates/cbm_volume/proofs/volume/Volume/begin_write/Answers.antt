@@ -15,16 +15,16 @@ use Rattle.cbm_directory.specs.Empties.{TakesSlot, SlotStopped, IsSlotRefused}
 use Rattle.cbm_medium.proofs.Sequences.{only_then, only_after, only_refused}
 use Rattle.cbm_volume.specs.Opens.{Begins}
 use Rattle.cbm_volume.specs.Writers.{Filling, Use, HoldsNow}
-use Rattle.cbm_volume.proofs.OnDisks.{of_tracks}
-use Rattle.cbm_volume.proofs.Finishing.{on_err}
-use Rattle.cbm_volume.proofs.Refusals.{sector_hindered, hindered_since, sector_reads}
-use Rattle.cbm_volume.proofs.HinderedOpens.{slot_hinders}
-use Rattle.cbm_volume.proofs.KeptOpens.{nothing_claimed}
-use Rattle.cbm_volume.proofs.OpenedFiles.{EntersSlot, IsSet, reached_set, files_set, begins, not_full, stopped_at, untouched_by, chain_set, moved}
-use Rattle.cbm_volume.proofs.OpenedSlots.{Reached, reached_same, SlotReady, slot_ready, no_slot, same_files_grown, SlotLost, slot_lost}
-use Rattle.cbm_volume.proofs.Steps.{one_less}
-use Rattle.cbm_volume.proofs.Untouched.{files_same}
-use Rattle.cbm_volume.proofs.Vacant.{free_of_disk}
+use Rattle.cbm_volume.proofs.layouts.OnDisks.{of_tracks}
+use Rattle.cbm_volume.proofs.written.Finishing.{on_err}
+use Rattle.cbm_volume.proofs.layouts.Refusals.{sector_hindered, hindered_since, sector_reads}
+use Rattle.cbm_volume.proofs.opened.HinderedOpens.{slot_hinders}
+use Rattle.cbm_volume.proofs.opened.KeptOpens.{nothing_claimed}
+use Rattle.cbm_volume.proofs.opened.OpenedFiles.{EntersSlot, IsSet, reached_set, files_set, begins, not_full, stopped_at, untouched_by, chain_set, moved}
+use Rattle.cbm_volume.proofs.opened.OpenedSlots.{Reached, reached_same, SlotReady, slot_ready, no_slot, same_files_grown, SlotLost, slot_lost}
+use Rattle.cbm_volume.proofs.layouts.Steps.{one_less}
+use Rattle.cbm_volume.proofs.layouts.Untouched.{files_same}
+use Rattle.cbm_volume.proofs.layouts.Vacant.{free_of_disk}
 use Rattle.cbm_volume.proofs.volume.Volume.begin_write.Goals as goal
 use Rattle.cbm_volume.proofs.volume.Volume.begin_write.Given.{Over}
 

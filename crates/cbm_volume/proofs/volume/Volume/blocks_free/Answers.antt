@@ -3,7 +3,7 @@ use Rattle.std.specs.Prelude.{IfOk}
 use Rattle.cbm_medium.specs.Place.{directory_head}
 use Rattle.cbm_medium.specs.Content.{Content}
 use Rattle.cbm_bam.specs.Map.{is_free_in, map_of, number, geometry_of}
-use Rattle.cbm_volume.proofs.Vacant.{blocks_mean}
+use Rattle.cbm_volume.proofs.layouts.Vacant.{blocks_mean}
 use Rattle.cbm_volume.proofs.volume.Volume.blocks_free.Goals as goal
 
 pub returns-clause-blocks : goal.returns-clause-blocks

@@ -1,6 +1,6 @@
 use Rattle.std.proofs.Common.{rules, refl}
 use Rattle.cbm_bam.specs.Map.{geometry_of}
-use Rattle.cbm_volume.proofs.CheckedSound.{checked_sound, ends_exact}
+use Rattle.cbm_volume.proofs.checked.CheckedSound.{checked_sound, ends_exact}
 use Rattle.cbm_volume.proofs.volume.Volume.check.Goals as goal
 
 -- what is claimed is a sound disk

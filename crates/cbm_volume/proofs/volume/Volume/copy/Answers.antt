@@ -15,12 +15,12 @@ use Rattle.cbm_volume.specs.Copies.{AreCopied, IsCutShort}
 use Rattle.cbm_volume.specs.Opens.{IsHindered}
 use Rattle.cbm_volume.specs.Reaches.{Reached}
 use Rattle.cbm_volume.specs.Writers.{Use, Idle, HoldsNow}
-use Rattle.cbm_volume.proofs.CopyResults.{Totals, Makes, no_room, room_is_none, room_for}
-use Rattle.cbm_volume.proofs.Finishing.{on_err}
-use Rattle.cbm_volume.proofs.Hindered.{handed_on}
-use Rattle.cbm_volume.proofs.OpenedFiles.{stopped_at, untouched_by}
-use Rattle.cbm_volume.proofs.OpenedSlots.{reached_now}
-use Rattle.cbm_volume.proofs.Untouched.{files_same}
+use Rattle.cbm_volume.proofs.copied.CopyResults.{Totals, Makes, no_room, room_is_none, room_for}
+use Rattle.cbm_volume.proofs.written.Finishing.{on_err}
+use Rattle.cbm_volume.proofs.layouts.Hindered.{handed_on}
+use Rattle.cbm_volume.proofs.opened.OpenedFiles.{stopped_at, untouched_by}
+use Rattle.cbm_volume.proofs.opened.OpenedSlots.{reached_now}
+use Rattle.cbm_volume.proofs.layouts.Untouched.{files_same}
 use Rattle.cbm_volume.proofs.volume.Volume.copy.Goals as goal
 use Rattle.cbm_volume.proofs.volume.Volume.copy.Given.{Over}
 

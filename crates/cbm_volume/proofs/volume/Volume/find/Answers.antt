@@ -1,5 +1,5 @@
 use Rattle.cbm_bam.specs.Map.{geometry_of}
-use Rattle.cbm_volume.proofs.Telling.{told}
+use Rattle.cbm_volume.proofs.layouts.Telling.{told}
 use Rattle.cbm_volume.proofs.volume.Volume.find.Goals as goal
 
 pub returns-clause-means : goal.returns-clause-means

@@ -4,8 +4,8 @@ use Rattle.cbm_medium.specs.Content.{Content}
 use Rattle.cbm_medium.specs.Seen.{Seen}
 use Rattle.cbm_chain.specs.Writing.{State}
 use Rattle.cbm_volume.specs.Writers.{Filling}
-use Rattle.cbm_volume.proofs.Calls.{if_ok}
-use Rattle.cbm_volume.proofs.GivingUp.{Back, Refused, given_up, given_up_stopped, given_up_hindered, given_up_untouched}
+use Rattle.cbm_volume.proofs.layouts.Calls.{if_ok}
+use Rattle.cbm_volume.proofs.written.GivingUp.{Back, Refused, given_up, given_up_stopped, given_up_hindered, given_up_untouched}
 use Rattle.cbm_volume.proofs.volume.Volume.give_up.Given.{Over}
 use Rattle.cbm_volume.proofs.volume.Volume.give_up.Goals as goal
 

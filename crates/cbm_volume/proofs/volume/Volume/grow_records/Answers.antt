@@ -6,7 +6,7 @@ use Rattle.cbm_medium.specs.Seen.{Seen}
 use Rattle.cbm_medium.proofs.FaultCodes.{never_26}
 use Rattle.cbm_bam.specs.Map.{geometry_of}
 use Rattle.cbm_directory.proofs.Codes.{directory_never_26}
-use Rattle.cbm_volume.proofs.GrowingMeans.{SlotGrows}
+use Rattle.cbm_volume.proofs.grown.GrowingMeans.{SlotGrows}
 use Rattle.cbm_volume.proofs.volume.Volume.grow_records.Goals as goal
 
 -- the map and the directory of a sound disk read

@@ -3,7 +3,7 @@ use Rattle.std.specs.Prelude.{◌==◌}
 use Rattle.cbm_medium.specs.Content.{Content}
 use Rattle.cbm_file.specs.Files.{Disk}
 use Rattle.cbm_volume.specs.Writers.{Filling, Use, Writes, HoldsNow}
-use Rattle.cbm_volume.proofs.Storing.{has_none}
+use Rattle.cbm_volume.proofs.written.Storing.{has_none}
 use Rattle.cbm_volume.proofs.volume.Volume.is_empty.Goals as goal
 
 pub returns : goal.returns

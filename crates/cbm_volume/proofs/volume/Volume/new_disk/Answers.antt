@@ -8,7 +8,7 @@ use Rattle.cbm_volume.specs.Holding.{HoldsDisk}
 use Rattle.cbm_volume.specs.NewDisks.{IsEmptied, id_behind, content_under}
 use Rattle.cbm_volume.specs.Opens.{IsHindered}
 use Rattle.cbm_volume.specs.Writers.{Use, Idle, HoldsNow}
-use Rattle.cbm_volume.proofs.NewDisks.{no_id, emptied_short, emptied_long, made_short, made_long, made_idle, head_writable, first_writable, only_short, only_stopped, only_long}
+use Rattle.cbm_volume.proofs.formatted.NewDisks.{no_id, emptied_short, emptied_long, made_short, made_long, made_idle, head_writable, first_writable, only_short, only_stopped, only_long}
 use Rattle.cbm_volume.proofs.volume.Volume.new_disk.Goals as goal
 use Rattle.cbm_volume.proofs.volume.Volume.new_disk.Given.{Over}
 

@@ -6,7 +6,7 @@ use Rattle.cbm_medium.specs.Links.{bytes_at, or_nothing}
 use Rattle.cbm_bam.specs.Map.{geometry_of}
 use Rattle.cbm_directory.specs.Entries.{first_side}
 use Rattle.cbm_volume.specs.check.SideLists.{are_records_in}
-use Rattle.cbm_volume.proofs.RecordsRead.{records_open}
+use Rattle.cbm_volume.proofs.held.RecordsRead.{records_open}
 use Rattle.cbm_volume.proofs.volume.Volume.open_records.Goals as goal
 
 -- the first side sector is one of the disk, it reads, and the side sectors are right

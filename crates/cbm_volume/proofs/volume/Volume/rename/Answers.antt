@@ -14,11 +14,11 @@ use Rattle.cbm_file.specs.Files.{File, file_at, with_slot}
 use Rattle.cbm_file.specs.Padding.{before_filler}
 use Rattle.cbm_volume.specs.Opens.{IsUnwritten}
 use Rattle.cbm_volume.specs.Writers.{HoldsNow}
-use Rattle.cbm_volume.proofs.Calls.{ok_given}
-use Rattle.cbm_volume.proofs.OpenedFiles.{moved}
-use Rattle.cbm_volume.proofs.RecordsRead.{no_slot}
-use Rattle.cbm_volume.proofs.Renames.{named, named_hindered, named_untouched}
-use Rattle.cbm_volume.proofs.Sparing.{EntryPut, same_untouched}
+use Rattle.cbm_volume.proofs.layouts.Calls.{ok_given}
+use Rattle.cbm_volume.proofs.opened.OpenedFiles.{moved}
+use Rattle.cbm_volume.proofs.held.RecordsRead.{no_slot}
+use Rattle.cbm_volume.proofs.changed.Renames.{named, named_hindered, named_untouched}
+use Rattle.cbm_volume.proofs.written.Sparing.{EntryPut, same_untouched}
 use Rattle.cbm_volume.proofs.volume.Volume.rename.Goals as goal
 
 -- the directory of a sound disk is whole

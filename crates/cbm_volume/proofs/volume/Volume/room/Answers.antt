@@ -1,6 +1,6 @@
 use Rattle.std.proofs.Common.{Ok, inl, inr}
 use Rattle.cbm_bam.specs.Map.{geometry_of}
-use Rattle.cbm_volume.proofs.Vacant.{room_means, map_reads, never_broken}
+use Rattle.cbm_volume.proofs.layouts.Vacant.{room_means, map_reads, never_broken}
 use Rattle.cbm_volume.proofs.volume.Volume.room.Goals as goal
 
 -- a sound disk's map reads, and its directory isn't broken off

@@ -12,10 +12,10 @@ use Rattle.cbm_bam.specs.Map.{geometry_of}
 use Rattle.cbm_directory.specs.Entries.{first_directory, sector_of}
 use Rattle.cbm_directory.specs.Slots.{Answers, directory_of}
 use Rattle.cbm_directory.proofs.Codes.{directory_never_26}
-use Rattle.cbm_volume.proofs.OnDisks.{of_tracks}
-use Rattle.cbm_volume.proofs.Calls.{if_ok}
-use Rattle.cbm_volume.proofs.Finishing.{on_err}
-use Rattle.cbm_volume.proofs.Scratched.{EntryCleared, ClearingRefused, GivesAll, SlotEmpty, no_entry, no_slot, no_map, no_chain, entry_refused, open_scratched, is_scratched, scratched_ok, scratched_stopped, slot_hindered, map_hindered, chain_hindered, clearing_hindered, clearing_handed_on, release_hindered, nothing_written, clearing_spared, release_spared}
+use Rattle.cbm_volume.proofs.layouts.OnDisks.{of_tracks}
+use Rattle.cbm_volume.proofs.layouts.Calls.{if_ok}
+use Rattle.cbm_volume.proofs.written.Finishing.{on_err}
+use Rattle.cbm_volume.proofs.changed.Scratched.{EntryCleared, ClearingRefused, GivesAll, SlotEmpty, no_entry, no_slot, no_map, no_chain, entry_refused, open_scratched, is_scratched, scratched_ok, scratched_stopped, slot_hindered, map_hindered, chain_hindered, clearing_hindered, clearing_handed_on, release_hindered, nothing_written, clearing_spared, release_spared}
 use Rattle.cbm_volume.proofs.volume.Volume.scratch.Goals as goal
 use Rattle.cbm_volume.proofs.volume.Volume.scratch.Given.{Over}
 

@@ -1,6 +1,6 @@
 use Rattle.std.proofs.Common.{rules}
 use Rattle.cbm_bam.specs.Map.{geometry_of}
-use Rattle.cbm_volume.proofs.Listing.{slot_shown}
+use Rattle.cbm_volume.proofs.layouts.Listing.{slot_shown}
 use Rattle.cbm_volume.proofs.volume.Volume.slot_on.Goals as goal
 
 pub returns-clause-means : goal.returns-clause-means

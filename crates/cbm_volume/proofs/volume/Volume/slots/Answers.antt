@@ -1,7 +1,7 @@
 use Rattle.std.proofs.Common.{subst, sym, rules}
 use Rattle.cbm_bam.specs.Map.{geometry_of}
 use Rattle.cbm_volume.specs.Holding.{TellsOf}
-use Rattle.cbm_volume.proofs.Telling.{told}
+use Rattle.cbm_volume.proofs.layouts.Telling.{told}
 use Rattle.cbm_volume.proofs.volume.Volume.slots.Goals as goal
 
 pub returns-clause-means : goal.returns-clause-means

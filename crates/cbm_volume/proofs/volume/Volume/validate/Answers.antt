@@ -8,13 +8,13 @@ use Rattle.cbm_volume.specs.Opens.{IsHindered}
 use Rattle.cbm_volume.specs.Views.{view_of}
 use Rattle.cbm_volume.specs.Sweeps.{IsDirectory, IsSwept, IsPutInOrder, IsPartlyInOrder}
 use Rattle.cbm_volume.specs.check.WholeDisk.{ClaimsInto}
-use Rattle.cbm_volume.proofs.OnDisks.{of_tracks}
-use Rattle.cbm_volume.proofs.Calls.{if_ok, match_on}
-use Rattle.cbm_volume.proofs.Finishing.{on_err}
-use Rattle.cbm_volume.proofs.SweptFiles.{none_swept, swept_spared, ends_spared}
-use Rattle.cbm_volume.proofs.Hindered.{handed_on}
-use Rattle.cbm_volume.proofs.Validates.{SweptAll, IsMended, IsWhollyAnew}
-use Rattle.cbm_volume.proofs.Mended.{here, IsRefusal, flaw_told, map_read, slot_refused, map_refused, stopped_at, walk_hindered, wholly_anew, ends_mended, ends_sound, ends_in_order, ends_partly, stops_partly, ends_validated, ends_stopped, ends_hindered}
+use Rattle.cbm_volume.proofs.layouts.OnDisks.{of_tracks}
+use Rattle.cbm_volume.proofs.layouts.Calls.{if_ok, match_on}
+use Rattle.cbm_volume.proofs.written.Finishing.{on_err}
+use Rattle.cbm_volume.proofs.mended.SweptFiles.{none_swept, swept_spared, ends_spared}
+use Rattle.cbm_volume.proofs.layouts.Hindered.{handed_on}
+use Rattle.cbm_volume.proofs.mended.Validates.{SweptAll, IsMended, IsWhollyAnew}
+use Rattle.cbm_volume.proofs.mended.Mended.{here, IsRefusal, flaw_told, map_read, slot_refused, map_refused, stopped_at, walk_hindered, wholly_anew, ends_mended, ends_sound, ends_in_order, ends_partly, stops_partly, ends_validated, ends_stopped, ends_hindered}
 use Rattle.cbm_volume.proofs.volume.Volume.validate.Goals as goal
 use Rattle.cbm_volume.proofs.volume.Volume.validate.Given.{Over}
 use Rattle.std.specs.Prelude.{OnOk}

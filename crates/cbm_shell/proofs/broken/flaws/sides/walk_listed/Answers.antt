@@ -3,7 +3,7 @@ use Rattle.cbm_medium.specs.Place.{Place}
 use Rattle.cbm_relfile.specs.SideSectors.{named_in}
 use Rattle.cbm_bam.specs.Marks.{is_marked}
 use Rattle.cbm_volume.specs.check.SideLists.{behind_first}
-use Rattle.cbm_volume.proofs.SidesListed.{sides_none, sides_some}
+use Rattle.cbm_volume.proofs.checked.SidesListed.{sides_none, sides_some}
 use Rattle.cbm_volume.specs.check.Claims.{wrong_at}
 use Rattle.cbm_shell.specs.Flaws.{among, part_of, flawed, told}
 use Rattle.cbm_shell.proofs.FlawLemmas.{only, over, one_more, among-none, among-on, among-off, stopped_by, went_by}

@@ -1,0 +1,6 @@
+-- COPY.
+pub mod Making
+pub mod Made
+pub mod CopySteps
+pub mod CopyEnds
+pub mod CopyResults

@@ -1,6 +1,0 @@
-use Rattle.cbm_volume.proofs.CopySteps.{IsCounted}
-use Rattle.cbm_volume.proofs.copying.byte_total.Given as goal
-
--- the files so far are counted
-abbrev pub invariant-sources : goal.invariant-sources
-invariant-sources g l = IsCounted (g.M.Medium.seen l.medium) l.sources l.number-index l.total

@@ -1,0 +1,34 @@
+use Rattle.std.proofs.Common.{ℕ, Ok, refl, subst, ◌∙◌}
+use Rattle.cbm_medium.proofs.Sequences.{nothing_yet, only_more}
+use Rattle.cbm_medium.specs.Seen.{Seen, OnlyContent}
+use Rattle.cbm_volume.specs.Copies.{IsCutShort}
+use Rattle.cbm_volume.proofs.copied.CopySteps.{handed, read_first, read_step, read_cut, all_read}
+use Rattle.cbm_volume.proofs.files.copying.put_read.Goals as goal
+
+pub loop-passed-init : goal.loop-passed-init
+loop-passed-init g c = (read_first (g.M.Medium.seen c.args.medium.now) c.args.chain.now c.args.reader.now c.args.count, nothing_yet (g.M.Medium.seen c.args.medium.now), refl, refl)
+
+pub returns-in_err-put_next-clause-put : goal.returns-in_err-put_next-clause-put
+returns-in_err-put_next-clause-put g c = λ c' l d uses ch number bytes left k settled e room.
+    let old : Seen = g.M.Medium.seen c.args.medium.now in
+    let mid : Seen = g.M.Medium.seen c.loop-passed.medium in
+    let new : Seen = g.M.Medium.seen c.put_next.new.medium in
+    handed c.from_residual.result c.in_err-put_next.field-0.0 _ (IsCutShort old new c' l d uses) c.from_residual.ensures.1
+    (read_cut old mid new c.args.chain.now c.loop-passed.chain c.put_next.new.chain c.args.reader.now c.loop-passed.reader c.put_next.new.reader c.args.count c.loop-passed.passed c.in_err-put_next.field-0.0 c.loop-passed-test.true
+    c.loop-passed.invariant.1.tracks c.loop-passed.invariant.1.protected c.loop-passed.invariant.1.counted c.in_err-put_next.ensures.put c.loop-passed.invariant.0 c' l d uses ch number bytes left k settled e room)
+
+pub loop-passed-preserved : goal.loop-passed-preserved
+loop-passed-preserved g c =
+    let old : Seen = g.M.Medium.seen c.args.medium.now in
+    let mid : Seen = g.M.Medium.seen c.loop-passed.medium in
+    let new : Seen = g.M.Medium.seen c.put_next.new.medium in (
+      read_step old mid new c.args.chain.now c.loop-passed.chain c.put_next.new.chain c.args.reader.now c.loop-passed.reader c.put_next.new.reader c.args.count c.loop-passed.passed c.in_ok-put_next.field-0 c.loop-passed-test.true
+          c.loop-passed.invariant.1.tracks c.in_ok-put_next.ensures.settled c.in_ok-put_next.ensures.put c.loop-passed.invariant.0,
+      only_more c.in_ok-put_next.field-0 old mid new c.loop-passed.invariant.1 (subst (λ (n : ℕ). OnlyContent n (Ok c.in_ok-put_next.field-0) mid new) c.loop-passed.invariant.2 c.in_ok-put_next.ensures.only),
+      c.in_ok-put_next.ensures.tracks.0 ∙ c.loop-passed.invariant.2,
+      c.in_ok-put_next.ensures.tracks.1 ∙ c.loop-passed.invariant.3,
+    )
+
+pub returns-clause-put : goal.returns-clause-put
+returns-clause-put g c =
+    all_read (g.M.Medium.seen c.args.medium.now) (g.M.Medium.seen c.loop-passed.medium) c.args.chain.now c.loop-passed.chain c.args.reader.now c.loop-passed.reader c.args.count c.loop-passed.passed c.loop-passed-test.false c.loop-passed.invariant.0

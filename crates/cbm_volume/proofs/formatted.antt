@@ -1,0 +1,3 @@
+-- NEW.
+pub mod NewHeads
+pub mod NewDisks

@@ -1,0 +1,26 @@
+-- Where a disk lies, and what a write of one sector does to it.
+pub mod Calls
+pub mod OnDisks
+pub mod Bodies
+pub mod Chained
+pub mod Distinct
+pub mod Frames
+pub mod FullDirectory
+pub mod Grows
+pub mod Loose
+pub mod Releases
+pub mod Remaps
+pub mod Rooms
+pub mod Vacant
+pub mod Settled
+pub mod Meaning
+pub mod OneSlot
+pub mod Steps
+pub mod Untouched
+pub mod Writers
+pub mod Refusals
+pub mod Lengths
+pub mod Listing
+pub mod Sizes
+pub mod Telling
+pub mod Hindered

@@ -1,0 +1,45 @@
+// OPEN for appending.
+
+ghost use Rattle.std.specs.Prelude.{◌≡◌, ◌≤◌, Some, false, OnErr, IfOk, MatchResult, ℕ};
+ghost use Rattle.cbm_file.specs.declared.file_type.FileType.TheVariants.{Del};
+ghost use Rattle.cbm_file.specs.Types.{is_same_type};
+ghost use Rattle.cbm_file.specs.Files.{File, with_slot, bytes_in};
+ghost use Rattle.cbm_file.specs.Changes.{reopened};
+ghost use Rattle.cbm_volume.specs.Holding.{StandsAt};
+ghost use Rattle.cbm_volume.specs.Writers.{Idle};
+ghost use Rattle.cbm_volume.specs.Opens.{CanBeWritten, Begins, IsHindered};
+ghost use Rattle.cbm_volume.specs.Calls.{OnlyOnDisk, OfDisk, LeavesFiles};
+
+use crate::files::filling::FileWriter;
+use crate::volume::Volume;
+use cbm_chain::ChainWriter;
+use cbm_directory::{Entry, put_slot};
+use cbm_medium::{Medium, Trouble};
+
+impl<M: Medium> Volume<M> {
+    /// OPEN of a closed file for appending: its entry is no longer closed, and the writer stands after its last byte.
+    /// An `Err` changes nothing: on a sound disk it is 26 on a protected medium, or the medium's own failure.
+    pub fn begin_append(&mut self, slot: u8, entry: &Entry) -> Result<FileWriter, Trouble>
+        // A file of type DEL has no such entry: with bit 7 cleared, its type byte is that of an empty slot.
+        ensures begun { let old = M.seen self.old in let new = M.seen self.new in
+            OfDisk old (λ d uses. (f : File) → CanBeWritten d uses slot f →
+            StandsAt old.tracks old.content slot entry.now → MatchResult result
+            (λ w. (ch : ℕ) → uses ch ≡ Idle → is_same_type Del f.kind ≡ false → Begins old.tracks new.content
+            (with_slot d slot (Some (reopened f))) uses ch slot false (bytes_in f.body) f.held w)
+            (IsHindered old new)) }
+        ensures err { OnErr result ((M.seen self.new).content ≡ (M.seen self.old).content) }
+        ensures untouched { OfDisk (M.seen self.old) (λ d uses. LeavesFiles (M.seen self.old) (M.seen self.new) (λ m. false)) }
+        ensures tracks { IfOk result (λ w. w.chain.tracks ≤ (M.seen self.old).tracks) }
+        ensures only { OnlyOnDisk result (M.seen self.old) (M.seen self.new) }
+    {
+        let geometry = self.geometry();
+        let chain = ChainWriter::after(&self.medium, geometry, entry.first_block())?;
+        let reopened = entry.reopened();
+        put_slot(&mut self.medium, geometry, slot, &reopened)?;
+        Ok(FileWriter {
+            slot,
+            replaces: false,
+            chain,
+        })
+    }
+}
