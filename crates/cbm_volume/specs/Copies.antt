@@ -1,5 +1,5 @@
 -- COPY: which files can be copied, what is too much for the disk, and a copy that is being made.
-use Rattle.std.specs.Prelude.{ℕ, suc, ◌-◌, ◌≡◌, nat_lt, List, [], ◌∷◌, length, true, false, ◌||◌, not, Some}
+use Rattle.std.specs.Prelude.{ℕ, suc, ◌-◌, ◌≡◌, nat_lt, List, [], ◌∷◌, length, true, false, ◌||◌, not, Some, Result, MatchResult}
 use Rattle.cbm_medium.specs.Place.{Place}
 use Rattle.cbm_medium.specs.Content.{Content}
 use Rattle.cbm_medium.specs.Seen.{Seen}
@@ -11,7 +11,7 @@ use Rattle.cbm_file.specs.Changes.{copy_blocks, has_slot, grown}
 use Rattle.cbm_bam.specs.Map.{geometry_of}
 use Rattle.cbm_chain.specs.Writing.{State, Wrote}
 use Rattle.cbm_volume.specs.Layouts.{Writer, OwnedBy, Layout}
-use Rattle.cbm_volume.specs.Writers.{Use, Idle, IsUsed}
+use Rattle.cbm_volume.specs.Writers.{Use, Idle, IsUsed, HoldsNow}
 use Rattle.cbm_volume.specs.Opens.{IsHindered}
 use Rattle.cbm_volume.specs.Reaches.{Reached, SlotLost}
 
@@ -52,3 +52,15 @@ pub record Making (medium : ℕ) (c : Content) (l : Layout) (d : Disk) (uses : �
   pub same_tracks : s.tracks ≡ geometry_of medium c
   pub count : length places ≡ blocks_of (length bytes)
   pub reads : IsUsed (geometry_of medium c) now reached.layout (less (length places) d) (suc ch) source
+
+-- this holds of each copy that is being made, of these bytes so far, while no source is read
+abbrev pub OfMaking : Seen → State → (Content → Layout → Disk → (ℕ → Use) → ℕ → List ℕ → Type 0) → Type 0
+OfMaking now s P = (c : Content) (l : Layout) (d : Disk) (uses : ℕ → Use) (ch : ℕ) (bytes : List ℕ) → Making now.tracks c l d uses ch now.content s bytes Idle → P c l d uses ch bytes
+
+-- WHAT A STEP OF A COPY LEAVES: these bytes are made, or a write was refused on the way.
+abbrev pub Makes : Result (Unit {0}) Trouble → Seen → Seen → Content → Layout → Disk → (ℕ → Use) → ℕ → State → List ℕ → Use → Type 0
+Makes result old new c l d uses ch s bytes source = MatchResult result (λ x. Making old.tracks c l d uses ch new.content s bytes source) (IsCutShort old new c l d uses)
+
+-- this holds of each disk that the medium holds, with how it does, and of a channel that uses nothing of it, where a slot is empty or has room
+abbrev pub OfVacant : (now : Seen) → ((d : Disk) (uses : ℕ → Use) (ch : ℕ) → HoldsNow now.tracks now.content d uses → Type 0) → Type 0
+OfVacant now P = (d : Disk) (uses : ℕ → Use) (ch : ℕ) (h : HoldsNow now.tracks now.content d uses) → uses ch ≡ Idle → has_slot d ≡ true → P d uses ch h

@@ -1,12 +1,13 @@
 -- A growth goes step by step, from one state of the file to the next.
-use Rattle.std.specs.Prelude.{ℕ, ◌+◌, ◌-◌, ◌<◌, ◌≤◌, ◌≡◌, List, Result, MatchResult}
-use Rattle.cbm_medium.specs.Place.{Place}
+use Rattle.std.specs.Prelude.{ℕ, ◌+◌, ◌-◌, ◌<◌, ◌≤◌, ◌≡◌, List, Result, Ok, IsOk, IfOk, MatchResult}
+use Rattle.cbm_medium.specs.Place.{Place, Has}
 use Rattle.cbm_medium.specs.Content.{Content}
 use Rattle.cbm_medium.specs.Seen.{Seen}
 use Rattle.cbm_medium.specs.declared.fault.Trouble.{Trouble}
 use Rattle.cbm_file.specs.Files.{Disk}
 use Rattle.cbm_file.specs.Records.{sides_for}
 use Rattle.cbm_bam.specs.Map.{geometry_of}
+use Rattle.cbm_relfile.specs.Growing.{side_at, IsListStopped, IsSideLinked, AreSides, AreSidesLinked}
 use Rattle.cbm_relfile.specs.Records.{Relative}
 use Rattle.cbm_volume.specs.AddingSides.{HasSides, HasEmptySide}
 use Rattle.cbm_volume.specs.Growing.{HasGrown, HasLonger, HasSide, IsGrowthStopped}
@@ -71,3 +72,14 @@ OfSideable r b1 s1 q m c0 d uses n w b s rs o c = HasLonger m c0 d uses n w b s 
 -- and a side sector at the second place lists it alone, which isn't listed
 abbrev pub OfSide : Relative → ℕ → ℕ → Place → Place → State
 OfSide r b1 s1 q t m c0 d uses n w b s rs o c = HasSide m c0 d uses n w b s rs o r c b1 s1 q t
+
+-- ---- the lists of the side sectors
+
+-- THE SIDE SECTOR OF A NUMBER NAMES A NEW ONE, and all else in it stays; or its write was refused.
+abbrev pub NamesSide : Result (Unit {0}) Trouble → Seen → Seen → ℕ → Relative → ℕ → ℕ → Place → Type 0
+NamesSide result old new geometry r number sides side = (head : List ℕ) → Has geometry r.side → old.content r.side ≡ Ok head → let at = side_at head number in Has geometry at → IsOk (old.content at)
+    → MatchResult result (λ x. IsSideLinked old.content new.content at number sides side) (λ t. IsListStopped geometry old new t.code)
+
+-- each side sector but the first names the new one then, after those that it named
+abbrev pub NameSides : Result (Unit {0}) Trouble → Seen → Seen → ℕ → Relative → ℕ → Place → Type 0
+NameSides result old new geometry r sides side = (head : List ℕ) → AreSides geometry old.content r.side head sides → IfOk result (λ x. AreSidesLinked old.content new.content head 1 sides side)

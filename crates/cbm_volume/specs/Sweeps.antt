@@ -17,6 +17,10 @@ pub record IsSweptAs (old new : List ℕ) : Type 0 where
 abbrev pub IsDirectory : ℕ → Content → List Place → Type 0
 IsDirectory tracks c directory = Chain tracks c first_directory directory × (length directory ≤ 18)
 
+-- this holds of the directory, wherever it lies
+abbrev pub OfDirectory : ℕ → Content → (List Place → Type 0) → Type 0
+OfDirectory tracks c P = (directory : List Place) → IsDirectory tracks c directory → P directory
+
 -- The slots before k are swept, those from k on are as they were, and so are the directory's links and all other sectors.
 pub record IsSwept (old new : Content) (directory : List Place) (k : ℕ) : Type 0 where
   pub elsewhere : (p : Place) → IsApart p directory → new p ≡ old p

@@ -1,7 +1,7 @@
 // VALIDATE: the map is written anew from the closed files.
 
-ghost use Rattle.std.specs.Prelude.{◌≡◌, ◌≢◌, ◌≤◌, ◌⊎◌, List, Some, true, false, IfOk, IfErr, IsOk, IsErrAnd, OnOk, OnErr, MatchResult, ℕ};
-ghost use Rattle.cbm_medium.specs.Place.{Place, directory_head};
+ghost use Rattle.std.specs.Prelude.{◌≡◌, ◌≢◌, ◌≤◌, ◌⊎◌, Some, true, false, IfOk, IfErr, IsOk, IsErrAnd, OnOk, OnErr, MatchResult, ℕ};
+ghost use Rattle.cbm_medium.specs.Place.{directory_head};
 ghost use Rattle.cbm_medium.specs.Seen.{OnlyContent, HasFailed, write_refusal};
 ghost use Rattle.cbm_medium.specs.Content.{written};
 ghost use Rattle.cbm_file.specs.Files.{Disk};
@@ -13,7 +13,7 @@ ghost use Rattle.cbm_volume.specs.Holding.{HoldsDisk};
 ghost use Rattle.cbm_volume.specs.Opens.{IsHindered};
 ghost use Rattle.cbm_volume.specs.Views.{view_of};
 ghost use Rattle.cbm_volume.specs.Unmendable.{code_at, flaw_code, IsUnmendable};
-ghost use Rattle.cbm_volume.specs.Sweeps.{IsDirectory, IsSwept, SlotSwept, IsPutInOrder, IsPartlyInOrder};
+ghost use Rattle.cbm_volume.specs.Sweeps.{OfDirectory, IsSwept, SlotSwept, IsPutInOrder, IsPartlyInOrder};
 ghost use Rattle.cbm_volume.specs.Writers.{Idle};
 ghost use Rattle.cbm_volume.specs.check.WholeDisk.{ClaimsInto};
 ghost use Rattle.cbm_volume.specs.Calls.{OnlyOnDisk, OfDisk, IsChange, KeepsProtected};
@@ -86,12 +86,11 @@ fn closed_sectors<M: Medium>(medium: &M) -> Result<SectorSet, Trouble>
 /// Makes a slot empty that was never closed.
 fn sweep_slot<M: Medium>(medium: &mut M, geometry: Geometry, number: u8) -> Result<(), Trouble>
     requires { geometry ≤ (M.seen medium.old).tracks }
-    ensures swept { let old = M.seen medium.old in (directory : List Place) →
-        IsDirectory geometry old.content directory →
-        OnOk result (SlotSwept old.content (M.seen medium.new).content directory number) }
+    ensures swept { let old = M.seen medium.old in OfDirectory geometry old.content (λ directory.
+        OnOk result (SlotSwept old.content (M.seen medium.new).content directory number)) }
     ensures err { OnErr result ((M.seen medium.new).content ≡ (M.seen medium.old).content) }
-    ensures cause { let old = M.seen medium.old in (directory : List Place) →
-        IsDirectory geometry old.content directory → IfErr result (IsHindered old (M.seen medium.new)) }
+    ensures cause { let old = M.seen medium.old in
+        OfDirectory geometry old.content (λ directory. IfErr result (IsHindered old (M.seen medium.new))) }
     ensures only { OnlyContent geometry result (M.seen medium.old) (M.seen medium.new) }
 {
     let Some(entry) = slot(medium, geometry, number)? else {
@@ -106,14 +105,12 @@ fn sweep_slot<M: Medium>(medium: &mut M, geometry: Geometry, number: u8) -> Resu
 /// Makes each slot empty that was never closed, in their order.
 fn sweep<M: Medium>(medium: &mut M, geometry: Geometry) -> Result<(), Trouble>
     requires { geometry ≤ (M.seen medium.old).tracks }
-    ensures swept { let old = M.seen medium.old in (directory : List Place) →
-        IsDirectory geometry old.content directory →
-        OnOk result (IsSwept old.content (M.seen medium.new).content directory 144) }
-    ensures stopped { let old = M.seen medium.old in (directory : List Place) →
-        IsDirectory geometry old.content directory →
-        OnErr result ((k : ℕ) × IsSwept old.content (M.seen medium.new).content directory k) }
-    ensures cause { let old = M.seen medium.old in (directory : List Place) →
-        IsDirectory geometry old.content directory → IfErr result (IsHindered old (M.seen medium.new)) }
+    ensures swept { let old = M.seen medium.old in OfDirectory geometry old.content (λ directory.
+        OnOk result (IsSwept old.content (M.seen medium.new).content directory 144)) }
+    ensures stopped { let old = M.seen medium.old in OfDirectory geometry old.content (λ directory.
+        OnErr result ((k : ℕ) × IsSwept old.content (M.seen medium.new).content directory k)) }
+    ensures cause { let old = M.seen medium.old in
+        OfDirectory geometry old.content (λ directory. IfErr result (IsHindered old (M.seen medium.new))) }
     ensures only { OnlyContent geometry result (M.seen medium.old) (M.seen medium.new) }
 {
     for number in 0..SLOTS {

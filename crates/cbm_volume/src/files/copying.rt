@@ -10,7 +10,7 @@ ghost use Rattle.cbm_file.specs.Files.{Disk, Bytes, file_at, empty_from, blocks_
 ghost use Rattle.cbm_file.specs.Changes.{bytes_at, joined, copy_blocks, with_copy, with_file, closed_file, grown, has_slot};
 ghost use Rattle.cbm_bam.specs.Map.{geometry_of};
 ghost use Rattle.cbm_chain.specs.Reading.{IsSettled};
-ghost use Rattle.cbm_volume.specs.Copies.{AreCopied, CanBeCopied, HasNoRoomFor, IsCutShort, Making};
+ghost use Rattle.cbm_volume.specs.Copies.{AreCopied, CanBeCopied, HasNoRoomFor, IsCutShort, Making, Makes, OfMaking, OfVacant};
 ghost use Rattle.cbm_volume.specs.Layouts.{Layout};
 ghost use Rattle.cbm_volume.specs.Reaches.{Reached};
 ghost use Rattle.cbm_volume.specs.Writers.{Use, Idle, Reads, HoldsNow, Stopped};
@@ -136,11 +136,9 @@ fn make<M: Medium>(
 /// Finds an empty slot, for which the directory may grow, and claims a first block.
 fn begin<M: Medium>(medium: &mut M) -> Result<(u8, ChainWriter), Trouble>
     ensures begun { let old = M.seen medium.old in let new = M.seen medium.new in
-        (d : Disk) (uses : ℕ → Use) (ch : ℕ) (h : HoldsNow old.tracks old.content d uses) → uses ch ≡ Idle →
-        has_slot d ≡ true → 1 ≤ d.free →
-        MatchResult result (λ r. (empty_from 0 (grown d).slots ≡ Some r.0) ×
+        OfVacant old (λ d uses ch h. 1 ≤ d.free → MatchResult result (λ r. (empty_from 0 (grown d).slots ≡ Some r.0) ×
         Making old.tracks old.content h.layout d uses ch new.content r.1 [] Idle)
-        (IsCutShort old new old.content h.layout d uses) }
+        (IsCutShort old new old.content h.layout d uses)) }
     ensures tracks { let old = M.seen medium.old in
         IfOk result (λ r. (r.1.tracks ≡ geometry_of old.tracks old.content) × (r.1.tracks ≤ old.tracks)) }
     ensures only { OnlyOnDisk result (M.seen medium.old) (M.seen medium.new) }
@@ -162,8 +160,7 @@ fn put_byte<M: Medium>(medium: &mut M, chain: &mut ChainWriter, byte: u8) -> Res
         (c : Content) (l : Layout) (d : Disk) (uses : ℕ → Use) (ch : ℕ) (bytes : List ℕ) (source : Use) →
         Making old.tracks c l d uses ch old.content chain.old bytes source →
         blocks_of (length (bytes ++ byte ∷ [])) ≤ d.free →
-        MatchResult result (λ x. Making old.tracks c l d uses ch new.content chain.new (bytes ++ byte ∷ []) source)
-        (IsCutShort old new c l d uses) }
+        Makes result old new c l d uses ch chain.new (bytes ++ byte ∷ []) source }
     ensures tracks { chain.new.tracks ≡ chain.old.tracks }
     ensures only { OnlyContent chain.old.tracks result (M.seen medium.old) (M.seen medium.new) }
 {
@@ -188,8 +185,7 @@ fn put_next<M: Medium>(
         (c : Content) (l : Layout) (d : Disk) (uses : ℕ → Use) (ch number byte : ℕ) (bytes left : List ℕ) →
         Making old.tracks c l d uses ch old.content chain.old bytes (Reads number reader.old (byte ∷ left)) →
         IsSettled reader.old → blocks_of (length (bytes ++ byte ∷ [])) ≤ d.free →
-        MatchResult result (λ x. Making old.tracks c l d uses ch new.content chain.new (bytes ++ byte ∷ [])
-        (Reads number reader.new left)) (IsCutShort old new c l d uses) }
+        Makes result old new c l d uses ch chain.new (bytes ++ byte ∷ []) (Reads number reader.new left) }
     ensures settled { IsSettled reader.old → IsSettled reader.new }
     ensures tracks { (chain.new.tracks ≡ chain.old.tracks) × (reader.new.tracks ≡ reader.old.tracks) }
     ensures only { OnlyContent chain.old.tracks result (M.seen medium.old) (M.seen medium.new) }
@@ -214,8 +210,7 @@ fn put_read<M: Medium>(
         (c : Content) (l : Layout) (d : Disk) (uses : ℕ → Use) (ch number : ℕ) (bytes left : List ℕ) →
         Making old.tracks c l d uses ch old.content chain.old bytes (Reads number reader.old left) →
         IsSettled reader.old → count ≡ length left → blocks_of (length (bytes ++ left)) ≤ d.free →
-        MatchResult result (λ x. Making old.tracks c l d uses ch new.content chain.new (bytes ++ left) Idle)
-        (IsCutShort old new c l d uses) }
+        Makes result old new c l d uses ch chain.new (bytes ++ left) Idle }
     ensures tracks { chain.new.tracks ≡ chain.old.tracks }
     ensures only { OnlyContent chain.old.tracks result (M.seen medium.old) (M.seen medium.new) }
 {
@@ -229,11 +224,8 @@ fn put_read<M: Medium>(
 fn put_file<M: Medium>(medium: &mut M, chain: &mut ChainWriter, number: u8) -> Result<(), Trouble>
     requires { chain.old.tracks ≤ (M.seen medium.old).tracks }
     ensures put { let old = M.seen medium.old in let new = M.seen medium.new in
-        (c : Content) (l : Layout) (d : Disk) (uses : ℕ → Use) (ch : ℕ) (bytes : List ℕ) →
-        Making old.tracks c l d uses ch old.content chain.old bytes Idle → CanBeCopied d number →
-        blocks_of (length (bytes ++ bytes_at (file_at d number))) ≤ d.free →
-        MatchResult result (λ x. Making old.tracks c l d uses ch new.content chain.new
-        (bytes ++ bytes_at (file_at d number)) Idle) (IsCutShort old new c l d uses) }
+        OfMaking old chain.old (λ c l d uses ch bytes. let all = bytes ++ bytes_at (file_at d number) in
+        CanBeCopied d number → blocks_of (length all) ≤ d.free → Makes result old new c l d uses ch chain.new all Idle) }
     ensures tracks { chain.new.tracks ≡ chain.old.tracks }
     ensures only { OnlyContent chain.old.tracks result (M.seen medium.old) (M.seen medium.new) }
 {
@@ -254,11 +246,8 @@ fn put_files<M: Medium>(
 ) -> Result<(), Trouble>
     requires { chain.old.tracks ≤ (M.seen medium.old).tracks }
     ensures put { let old = M.seen medium.old in let new = M.seen medium.new in
-        (c : Content) (l : Layout) (d : Disk) (uses : ℕ → Use) (ch : ℕ) (bytes : List ℕ) →
-        Making old.tracks c l d uses ch old.content chain.old bytes Idle → AreCopied d sources.now →
-        blocks_of (length (bytes ++ joined d sources.now)) ≤ d.free →
-        MatchResult result (λ x. Making old.tracks c l d uses ch new.content chain.new
-        (bytes ++ joined d sources.now) Idle) (IsCutShort old new c l d uses) }
+        OfMaking old chain.old (λ c l d uses ch bytes. let all = bytes ++ joined d sources.now in
+        AreCopied d sources.now → blocks_of (length all) ≤ d.free → Makes result old new c l d uses ch chain.new all Idle) }
     ensures tracks { chain.new.tracks ≡ chain.old.tracks }
     ensures only { OnlyContent chain.old.tracks result (M.seen medium.old) (M.seen medium.new) }
 {
@@ -279,12 +268,11 @@ fn enter<M: Medium>(
     requires chain { chain.now.tracks ≤ (M.seen medium.old).tracks }
     requires name { length name.now ≤ 16 }
     ensures entered { let old = M.seen medium.old in let new = M.seen medium.new in
-        (c : Content) (l : Layout) (d : Disk) (uses : ℕ → Use) (ch : ℕ) (bytes : List ℕ) →
-        Making old.tracks c l d uses ch old.content chain.now bytes Idle → uses ch ≡ Idle →
+        OfMaking old chain.now (λ c l d uses ch bytes. uses ch ≡ Idle →
         empty_from 0 (grown d).slots ≡ Some number → kind ≢ Del → is_same_type Rel kind ≡ false →
         MatchResult result (λ x. Reached old.tracks c l new.content (with_file d (closed_file kind
         (before_filler name.now) (blocks_of (length bytes)) (Bytes bytes)) (blocks_of (length bytes))) uses)
-        (IsCutShort old new c l d uses) }
+        (IsCutShort old new c l d uses)) }
     ensures only { OnlyContent chain.now.tracks result (M.seen medium.old) (M.seen medium.new) }
 {
     chain.finish(medium)?;

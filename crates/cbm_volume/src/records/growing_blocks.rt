@@ -1,11 +1,10 @@
 // A relative file grows block by block: each new block is full of fresh records, and listed by a side sector.
 
-ghost use Rattle.std.specs.Prelude.{◌≡◌, ◌≤◌, ◌<◌, ◌+◌, ◌-◌, ◌*◌, ℕ, List, Ok, IsOk, IfOk, MatchResult};
-ghost use Rattle.cbm_medium.specs.Place.{Place, Has};
+ghost use Rattle.std.specs.Prelude.{◌≡◌, ◌≤◌, ◌<◌, ◌+◌, ◌-◌, ◌*◌, ℕ, IfOk};
+ghost use Rattle.cbm_medium.specs.Place.{Place};
 ghost use Rattle.cbm_medium.specs.Seen.{OnlyContent};
 ghost use Rattle.cbm_file.specs.Records.{sides_for};
-ghost use Rattle.cbm_relfile.specs.Growing.{side_at, IsListStopped, IsSideLinked, AreSides, AreSidesLinked};
-ghost use Rattle.cbm_volume.specs.GrowthSteps.{Goes, OfEmpty, OfSides, OfLonger, OfGrown, OfSide, OfGrowable, OfGoal, OfReached, OfSideable};
+ghost use Rattle.cbm_volume.specs.GrowthSteps.{Goes, NamesSide, NameSides, OfEmpty, OfSides, OfLonger, OfGrown, OfSide, OfGrowable, OfGoal, OfReached, OfSideable};
 
 use crate::records::making::miscounted;
 use cbm_medium::{Address, Geometry, Medium, Trouble};
@@ -98,11 +97,7 @@ pub fn copy_side<M: Medium>(
     ensures added_empty { number ≡ 0 → Goes result (M.seen medium.old) (M.seen medium.new) geometry
         (OfEmpty file sides side) (λ x. OfSides file (sides + 1)) }
     // The side sector of that number names the new one, and all else in it stays.
-    ensures linked { let old = M.seen medium.old in let new = M.seen medium.new in
-        (head : List ℕ) → Has geometry file.side → old.content file.side ≡ Ok head →
-        let at = side_at head number in Has geometry at → IsOk (old.content at) →
-        MatchResult result (λ x. IsSideLinked old.content new.content at number sides side)
-        (λ t. IsListStopped geometry old new t.code) }
+    ensures linked { NamesSide result (M.seen medium.old) (M.seen medium.new) geometry file number sides side }
     ensures only { OnlyContent geometry result (M.seen medium.old) (M.seen medium.new) }
 {
     link_side(medium, geometry, file.side(), sides, number, side)
@@ -123,9 +118,7 @@ pub fn copy_sides<M: Medium>(
     ensures copied_empty { Goes result (M.seen medium.old) (M.seen medium.new) geometry
         (OfEmpty file sides side) (λ x. OfEmpty file sides side) }
     // Each of them names the new one then, after those that it named.
-    ensures linked { let old = M.seen medium.old in let new = M.seen medium.new in
-        (head : List ℕ) → AreSides geometry old.content file.side head sides →
-        IfOk result (λ x. AreSidesLinked old.content new.content head 1 sides side) }
+    ensures linked { NameSides result (M.seen medium.old) (M.seen medium.new) geometry file sides side }
     ensures only { OnlyContent geometry result (M.seen medium.old) (M.seen medium.new) }
 {
     for passed in 1..sides {

@@ -6,13 +6,13 @@ ghost use Rattle.cbm_medium.specs.Seen.{OnlyContent};
 ghost use Rattle.cbm_bam.specs.Map.{geometry_of};
 ghost use Rattle.cbm_file.specs.Padding.{before_filler};
 ghost use Rattle.cbm_file.specs.Files.{Disk, empty_from};
-ghost use Rattle.cbm_file.specs.Changes.{grown, has_slot};
+ghost use Rattle.cbm_file.specs.Changes.{grown};
 ghost use Rattle.cbm_file.specs.Records.{with_new_records};
-ghost use Rattle.cbm_volume.specs.Copies.{IsCutShort};
+ghost use Rattle.cbm_volume.specs.Copies.{IsCutShort, OfVacant};
 ghost use Rattle.cbm_volume.specs.Layouts.{Layout};
 ghost use Rattle.cbm_volume.specs.NewRecords.{HasNoRoomForRecords, HasTwo, HoldsNew};
 ghost use Rattle.cbm_volume.specs.Reaches.{Reached};
-ghost use Rattle.cbm_volume.specs.Writers.{Use, Idle, HoldsNow, Stopped};
+ghost use Rattle.cbm_volume.specs.Writers.{Use, HoldsNow, Stopped};
 ghost use Rattle.cbm_volume.specs.Calls.{OnlyOnDisk, OfDisk, OfIdle, IsCall, KeepsProtected, IsSameOn};
 
 use crate::disk::Room;
@@ -85,12 +85,10 @@ fn make<M: Medium>(medium: &mut M, name: &[u8], record_length: u8) -> Result<u8,
     requires name { length name.now ≤ 16 }
     requires width { (1 ≤ record_length) × (record_length ≤ 254) }
     ensures made { let old = M.seen medium.old in let new = M.seen medium.new in
-        (d : Disk) (uses : ℕ → Use) (ch : ℕ) (h : HoldsNow old.tracks old.content d uses) → uses ch ≡ Idle →
-        has_slot d ≡ true → 2 ≤ d.free →
+        OfVacant old (λ d uses ch h. 2 ≤ d.free → let after = with_new_records d (before_filler name.now) record_length in
         MatchResult result (λ slot. (empty_from 0 (grown d).slots ≡ Some slot) ×
-        Reached old.tracks old.content h.layout new.content
-        (with_new_records d (before_filler name.now) record_length) uses)
-        (IsCutShort old new old.content h.layout d uses) }
+        Reached old.tracks old.content h.layout new.content after uses)
+        (IsCutShort old new old.content h.layout d uses)) }
     ensures only { OnlyOnDisk result (M.seen medium.old) (M.seen medium.new) }
 {
     let geometry = cbm_bam::geometry(medium);
@@ -104,11 +102,10 @@ fn make<M: Medium>(medium: &mut M, name: &[u8], record_length: u8) -> Result<u8,
 fn begin<M: Medium>(medium: &mut M, geometry: Geometry) -> Result<(u8, (Address, Address)), Trouble>
     requires tracks { geometry ≤ (M.seen medium.old).tracks }
     ensures begun { let old = M.seen medium.old in let new = M.seen medium.new in
-        (d : Disk) (uses : ℕ → Use) (ch : ℕ) (h : HoldsNow old.tracks old.content d uses) → uses ch ≡ Idle →
-        has_slot d ≡ true → 2 ≤ d.free → geometry ≡ geometry_of old.tracks old.content →
+        OfVacant old (λ d uses ch h. 2 ≤ d.free → geometry ≡ geometry_of old.tracks old.content →
         MatchResult result (λ r. (empty_from 0 (grown d).slots ≡ Some r.0) ×
         HasTwo old.tracks old.content h.layout d uses ch new.content r.1.0 r.1.1)
-        (IsCutShort old new old.content h.layout d uses) }
+        (IsCutShort old new old.content h.layout d uses)) }
     ensures tracks { IfOk result (λ r. (r.1.0.track ≤ geometry) × (r.1.1.track ≤ geometry)) }
     ensures only { OnlyContent geometry result (M.seen medium.old) (M.seen medium.new) }
 {
