@@ -3,3 +3,4 @@ pub mod Reacted
 pub mod Sitting
 pub mod Courses
 pub mod Seen
+pub mod Judged

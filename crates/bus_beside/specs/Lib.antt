@@ -3,3 +3,5 @@ pub mod Seats
 pub mod Moves
 pub mod Reactions
 pub mod Courses
+pub mod Courts
+pub mod Keeping

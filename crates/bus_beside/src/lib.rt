@@ -4,8 +4,10 @@
 mod amiss;
 mod answer;
 mod beside;
+mod court;
 mod drives;
 mod heeding;
+mod loosely;
 mod moves;
 mod others;
 mod plays;
@@ -14,4 +16,5 @@ mod wired;
 
 pub use amiss::Amiss;
 pub use beside::Beside;
+pub use loosely::{Loosely, Unkept};
 pub use seat::Seat;

@@ -1,0 +1,127 @@
+//! Whether a host keeps the timing loosely.
+
+use crate::amiss::Amiss;
+use crate::beside::Beside;
+use crate::court::Court;
+use crate::seat::Seat;
+use bus_judge::{Breach, NotABus};
+use bus_tidy::Tidy;
+use cbm_iec::{Event, Machine, Party, Who};
+use cbm_session::laws::keeps_loosely;
+use std::marker::Model;
+
+/// Why it isn't known that a host keeps the timing loosely.
+#[derive(Clone, Copy, Debug, PartialEq, Eq, Drop)]
+pub enum Unkept {
+    /// The trace doesn't lie beside the tidy one.
+    Beside(Amiss),
+    /// The tidy one is no session, or a change is due in it.
+    Tidy(Breach),
+}
+
+impl From<Amiss> for Unkept {
+    fn from(amiss: Amiss) -> Unkept {
+        Unkept::Beside(amiss)
+    }
+}
+
+impl From<Breach> for Unkept {
+    fn from(breach: Breach) -> Unkept {
+        Unkept::Tidy(breach)
+    }
+}
+
+/// Looks at a trace event by event: finds a tidy host's trace, judges it, and sees whether the one lies beside the other.
+#[derive(Drop)]
+pub struct Loosely<D: Machine, const N: usize> {
+    tidy: Tidy,
+    court: Court,
+    beside: Beside<D, N>,
+}
+
+impl<D: Machine, const N: usize> Model for Loosely<D, N> {
+    ghost use Rattle.bus_beside.specs.Keeping.{Looked};
+
+    ghost Value = { Looked D };
+
+    ghost view = { λ l. record { court = l.court; beside = l.beside } };
+}
+
+impl<D: Machine + Drop, const N: usize> Loosely<D, N> {
+    ghost use Rattle.std.specs.Prelude.{ℕ, [], IfOk};
+    ghost use Rattle.bus_beside.specs.Courses.{AreResting};
+    ghost use Rattle.bus_beside.specs.Keeping.{KeepsSoFar};
+    ghost use Rattle.bus_beside.specs.Seats.{failed};
+
+    /// Drives that are switched on, in the order in which they answer at equal moments. Nothing was seen.
+    pub fn new(seats: [Seat<D>; N], parties: &[Party]) -> Result<Loosely<D, N>, NotABus>
+        ensures { IfOk result (λ l. (ms : ℕ → D.State) → AreResting _ D.State D.stands D.step D.says seats parties.now ms →
+            KeepsSoFar _ D.State D.stands D.step D.says D.failures (failed D.failures seats) parties.now ms l []) }
+    {
+        let court = Court::new(parties)?;
+        Ok(Loosely {
+            tidy: Tidy::new(parties),
+            court,
+            beside: Beside::new(seats),
+        })
+    }
+}
+
+impl<D: Machine, const N: usize> Loosely<D, N> {
+    ghost use Rattle.std.specs.Prelude.{◌≡◌, ℕ, List, [], ◌∷◌, ◌++◌, OnOk};
+    ghost use Rattle.cbm_iec.specs.declared.event.Event.{Event as ThisEvent};
+    ghost use Rattle.cbm_iec.specs.declared.party.Party.{Party as ThisParty};
+    ghost use Rattle.cbm_iec.specs.declared.event.Who.TheVariants.{Host};
+    ghost use Rattle.cbm_session.specs.Sessions.{IsBus};
+    ghost use Rattle.bus_beside.specs.Keeping.{KeepsSoFar, EndsLoosely, KeepsTo};
+
+    /// The next event of the trace. Error: from it on nothing is known.
+    pub fn see(&mut self, event: Event) -> Result<(), Unkept>
+        ensures { (least : ℕ) (bs : List ThisParty) (ms : ℕ → D.State) (es : List ThisEvent) → KeepsSoFar _ D.State D.stands D.step D.says D.failures least bs ms self.old es →
+            OnOk result (KeepsSoFar _ D.State D.stands D.step D.says D.failures least bs ms self.new (es ++ event ∷ [])) }
+    {
+        match event.who {
+            Who::Drive(device) => {
+                self.tidy.drive(device, event.change);
+                self.drive(event)
+            }
+            Who::Host => self.host(event),
+        }
+    }
+
+    /// The next event of both traces, a drive's.
+    fn drive(&mut self, event: Event) -> Result<(), Unkept>
+        ensures { (least : ℕ) (bs : List ThisParty) (ms : ℕ → D.State) (es : List ThisEvent) → KeepsSoFar _ D.State D.stands D.step D.says D.failures least bs ms self.old es →
+            OnOk result (KeepsSoFar _ D.State D.stands D.step D.says D.failures least bs ms self.new (es ++ event ∷ [])) }
+    {
+        self.beside.drive(event)?;
+        self.court.see(event)?;
+        Ok(())
+    }
+
+    /// The host's next event, and what the tidy one makes of it.
+    fn host(&mut self, event: Event) -> Result<(), Unkept>
+        requires { event.who ≡ Host }
+        ensures { (least : ℕ) (bs : List ThisParty) (ms : ℕ → D.State) (es : List ThisEvent) → KeepsSoFar _ D.State D.stands D.step D.says D.failures least bs ms self.old es →
+            OnOk result (KeepsSoFar _ D.State D.stands D.step D.says D.failures least bs ms self.new (es ++ event ∷ [])) }
+    {
+        let tidied = self.tidy.host(event.change);
+        self.beside.host(event.change, &tidied)?;
+        self.court.see_all(&tidied)?;
+        Ok(())
+    }
+
+    /// The trace ends at a moment: nothing more came up to it. So its host keeps the timing loosely, and drives that play
+    /// from rest with this trace keep to a session.
+    pub fn end(&mut self, moment: u64) -> Result<(), Unkept>
+        ensures loosely { (least : ℕ) (bs : List ThisParty) (ms : ℕ → D.State) (es : List ThisEvent) → IsBus bs → KeepsSoFar _ D.State D.stands D.step D.says D.failures least bs ms self.old es →
+            OnOk result (EndsLoosely _ D.State D.stands D.step D.says D.failures least bs ms self.new es moment) }
+        ensures kept { (least : ℕ) (bs : List ThisParty) (ms : ℕ → D.State) (es : List ThisEvent) → IsBus bs → KeepsSoFar _ D.State D.stands D.step D.says D.failures least bs ms self.old es →
+            OnOk result (KeepsTo _ D.State D.stands D.step D.says D.failures least bs ms self.new es moment) }
+    {
+        keeps_loosely::<D>();
+        self.court.end(moment)?;
+        self.beside.end(moment)?;
+        Ok(())
+    }
+}
