@@ -1,9 +1,10 @@
 -- What is known of a trace whose host keeps the timing loosely, so far.
-use Rattle.std.specs.Prelude.{◌≤◌, ℕ, suc, zero, List, Bool, Option}
+use Rattle.std.specs.Prelude.{◌≤◌, ◌++◌, ℕ, suc, zero, List, [], ◌∷◌, Bool, Option, Result, OnOk}
 use Rattle.cbm_iec.specs.declared.act.Act.{Act}
 use Rattle.cbm_iec.specs.declared.event.Event.{Event}
 use Rattle.cbm_iec.specs.declared.party.Party.{Party}
 use Rattle.cbm_session.specs.Loosely.{HostKeepsLoosely, IsKeptLoosely}
+use Rattle.cbm_session.specs.Sessions.{IsBus}
 use Rattle.cbm_session.specs.Playing.{Station, Plays, AllLater, at_rest}
 use Rattle.bus_beside.specs.declared.court.Court.{Court}
 use Rattle.bus_beside.specs.Courses.{Sides, HaveSeen}
@@ -30,3 +31,15 @@ module _ (D M : Type 0) (stands : D → M → Type 0) (step : M → Act → M) (
   abbrev pub KeepsTo : (D → ℕ) → ℕ → List Party → (ℕ → M) → Looked D → List Event → ℕ → Type 0
   KeepsTo failures least bs ms l es end = failed failures l.beside.course.seats ≤ least → (n : ℕ) (ss : List (Station M)) → Plays M step says zero (at_rest M step says ms bs) es n ss → n ≤ suc end
       → AllLater M step says end ss → IsKeptLoosely M step says bs ms es end ss
+
+  -- What a call says of the trace with its next event: so it is of it.
+  abbrev pub TakesEvent : {E : Type 0} → (D → ℕ) → Looked D → Looked D → Event → Result (Unit {0}) E → Type 0
+  TakesEvent failures l m event result = (least : ℕ) (bs : List Party) (ms : ℕ → M) (es : List Event) → KeepsSoFar failures least bs ms l es → OnOk result (KeepsSoFar failures least bs ms m (es ++ event ∷ []))
+
+  -- What it says of the end: the host keeps the timing loosely.
+  abbrev pub FindsLoosely : {E : Type 0} → (D → ℕ) → Looked D → Looked D → ℕ → Result (Unit {0}) E → Type 0
+  FindsLoosely failures l m end result = (least : ℕ) (bs : List Party) (ms : ℕ → M) (es : List Event) → IsBus bs → KeepsSoFar failures least bs ms l es → OnOk result (EndsLoosely failures least bs ms m es end)
+
+  -- And drives that play so keep to a session.
+  abbrev pub FindsKept : {E : Type 0} → (D → ℕ) → Looked D → Looked D → ℕ → Result (Unit {0}) E → Type 0
+  FindsKept failures l m end result = (least : ℕ) (bs : List Party) (ms : ℕ → M) (es : List Event) → IsBus bs → KeepsSoFar failures least bs ms l es → OnOk result (KeepsTo failures least bs ms m es end)

@@ -68,17 +68,13 @@ impl<D: Machine + Drop, const N: usize> Loosely<D, N> {
 }
 
 impl<D: Machine, const N: usize> Loosely<D, N> {
-    ghost use Rattle.std.specs.Prelude.{◌≡◌, ℕ, List, [], ◌∷◌, ◌++◌, OnOk};
-    ghost use Rattle.cbm_iec.specs.declared.event.Event.{Event as ThisEvent};
-    ghost use Rattle.cbm_iec.specs.declared.party.Party.{Party as ThisParty};
+    ghost use Rattle.std.specs.Prelude.{◌≡◌};
     ghost use Rattle.cbm_iec.specs.declared.event.Who.TheVariants.{Host};
-    ghost use Rattle.cbm_session.specs.Sessions.{IsBus};
-    ghost use Rattle.bus_beside.specs.Keeping.{KeepsSoFar, EndsLoosely, KeepsTo};
+    ghost use Rattle.bus_beside.specs.Keeping.{TakesEvent, FindsLoosely, FindsKept};
 
     /// The next event of the trace. Error: from it on nothing is known.
     pub fn see(&mut self, event: Event) -> Result<(), Unkept>
-        ensures { (least : ℕ) (bs : List ThisParty) (ms : ℕ → D.State) (es : List ThisEvent) → KeepsSoFar _ D.State D.stands D.step D.says D.failures least bs ms self.old es →
-            OnOk result (KeepsSoFar _ D.State D.stands D.step D.says D.failures least bs ms self.new (es ++ event ∷ [])) }
+        ensures { TakesEvent _ D.State D.stands D.step D.says D.failures self.old self.new event result }
     {
         match event.who {
             Who::Drive(device) => {
@@ -91,8 +87,7 @@ impl<D: Machine, const N: usize> Loosely<D, N> {
 
     /// The next event of both traces, a drive's.
     fn drive(&mut self, event: Event) -> Result<(), Unkept>
-        ensures { (least : ℕ) (bs : List ThisParty) (ms : ℕ → D.State) (es : List ThisEvent) → KeepsSoFar _ D.State D.stands D.step D.says D.failures least bs ms self.old es →
-            OnOk result (KeepsSoFar _ D.State D.stands D.step D.says D.failures least bs ms self.new (es ++ event ∷ [])) }
+        ensures { TakesEvent _ D.State D.stands D.step D.says D.failures self.old self.new event result }
     {
         self.beside.drive(event)?;
         self.court.see(event)?;
@@ -102,8 +97,7 @@ impl<D: Machine, const N: usize> Loosely<D, N> {
     /// The host's next event, and what the tidy one makes of it.
     fn host(&mut self, event: Event) -> Result<(), Unkept>
         requires { event.who ≡ Host }
-        ensures { (least : ℕ) (bs : List ThisParty) (ms : ℕ → D.State) (es : List ThisEvent) → KeepsSoFar _ D.State D.stands D.step D.says D.failures least bs ms self.old es →
-            OnOk result (KeepsSoFar _ D.State D.stands D.step D.says D.failures least bs ms self.new (es ++ event ∷ [])) }
+        ensures { TakesEvent _ D.State D.stands D.step D.says D.failures self.old self.new event result }
     {
         let tidied = self.tidy.host(event.change);
         self.beside.host(event.change, &tidied)?;
@@ -114,10 +108,8 @@ impl<D: Machine, const N: usize> Loosely<D, N> {
     /// The trace ends at a moment: nothing more came up to it. So its host keeps the timing loosely, and drives that play
     /// from rest with this trace keep to a session.
     pub fn end(&mut self, moment: u64) -> Result<(), Unkept>
-        ensures loosely { (least : ℕ) (bs : List ThisParty) (ms : ℕ → D.State) (es : List ThisEvent) → IsBus bs → KeepsSoFar _ D.State D.stands D.step D.says D.failures least bs ms self.old es →
-            OnOk result (EndsLoosely _ D.State D.stands D.step D.says D.failures least bs ms self.new es moment) }
-        ensures kept { (least : ℕ) (bs : List ThisParty) (ms : ℕ → D.State) (es : List ThisEvent) → IsBus bs → KeepsSoFar _ D.State D.stands D.step D.says D.failures least bs ms self.old es →
-            OnOk result (KeepsTo _ D.State D.stands D.step D.says D.failures least bs ms self.new es moment) }
+        ensures loosely { FindsLoosely _ D.State D.stands D.step D.says D.failures self.old self.new moment result }
+        ensures kept { FindsKept _ D.State D.stands D.step D.says D.failures self.old self.new moment result }
     {
         keeps_loosely::<D>();
         self.court.end(moment)?;
