@@ -9,7 +9,7 @@ use Rattle.cbm_iec.specs.declared.party.Party.{Party}
 use Rattle.cbm_session.specs.Handed.{AllReact}
 use Rattle.cbm_session.specs.Playing.{Station, tell, drive_events, at_rest}
 use Rattle.cbm_session.specs.Sessions.{AllUnlike, IsBus}
-use Rattle.cbm_drive.specs.declared.bus.Answer.{Answer}
+use Rattle.cbm_drive.specs.declared.drives.Answer.{Answer}
 use Rattle.cbm_drive.specs.declared.half.Half.{Half}
 use Rattle.cbm_drive.specs.Cables.{Cabled}
 use Rattle.cbm_drive.specs.Halves.{half_events}

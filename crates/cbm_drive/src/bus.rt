@@ -1,225 +1,251 @@
-//! What the drives on a cable do: they see changes, and one of them reacts.
-
-ghost use Rattle.std.specs.Prelude.{◌≡◌, ◌↔◌, ◌+◌, ◌<◌, ◌≤◌, ◌^◌, true, List, [], ◌∷◌, ◌++◌, length, map, IfSome, IsSome, MatchOption};
-ghost use Rattle.std.specs.List.{AllZip};
-ghost use Rattle.cbm_session.specs.Among.{Rest};
-ghost use Rattle.cbm_session.specs.Following.{lines_after};
-ghost use Rattle.cbm_session.specs.Playing.{Station, tell, told_lines};
-ghost use Rattle.cbm_drive.specs.Seats.{Seated, Meets, IsSeat, IsBusAt, own_of, numbers, IsFirstDue, AreIdle, AreResting, Unfailed, failed};
-ghost use Rattle.cbm_drive.specs.Recorded.{IsToldBy};
-ghost use Rattle.cbm_drive.specs.Turning.{ToldBack, ReactedBack};
-ghost use Rattle.cbm_drive.specs.Progress.{AreKept, IsNearer};
-ghost use Rattle.cbm_drive.specs.Reactions.{AreAt, Hear, HasReacted};
+//! A host and drives on one cable.
 
 use crate::drive::Drive;
-use crate::wires::{Wires, with_change};
-use arrayvec::ArrayVec;
-use cbm_iec::{Change, Lines, Machine};
+use crate::drives::{Answer, all_rest, first_due, react, tell_all};
+use crate::fault::{PlayFault, first_fault};
+use crate::half::Half;
+use crate::looking::{any_shows, first_shown};
+use crate::playing::{play_on, settle};
+use cbm_iec::{Change, Event, Lines, Machine};
+use std::alloc::AllocError;
+use std::marker::Model;
 
-/// What a drive did where its reaction was due: at most one change of CLOCK, then one of DATA.
+/// Drives on one cable with a host. Of several whose reactions are due at one moment the one that is listed first answers
+/// first.
+///
+/// What a call promises of the states that the machines represent holds if none of them failed in it (`Unfailed`).
 #[derive(Drop)]
-pub struct Answer {
-    /// The lines that it changed, in that order; none where it holds the same as before.
-    pub changes: ArrayVec<Change, 2>,
-    /// Its device number.
-    pub device: u8,
-}
-
-/// Tells each of these drives that the others changed a line at this moment, and what is held now.
-pub(crate) fn tell_each<D: Machine>(drives: &mut [Drive<D>], moment: u64, wires: &Wires)
-    requires { moment < 2 ^ 60 }
-    ensures told { Unfailed D.failures drives.old drives.new → (f : Rest → Rest) (ss : List (Station D.State)) →
-        AllZip (λ x s. Meets _ D.State D.stands wires.now (f s.rest) x s) drives.old ss →
-        AllZip (IsSeat _ D.State D.stands wires.now) drives.new
-        (map (λ s. told_lines D.State D.step D.says moment (f s.rest) s) ss) }
-    ensures own { map own_of drives.new ≡ map own_of drives.old }
-    ensures kept { AreKept moment drives.old drives.new }
-    // Whatever the machines represent:
-    ensures each { AllZip (λ x y. IsToldBy D.shows moment wires.now x y) drives.old drives.new }
-    ensures lasting { numbers D.lasting drives.new ≡ numbers D.lasting drives.old }
-    ensures counted { failed D.failures drives.old ≤ failed D.failures drives.new }
-{
-    let Some((first, rest)) = drives.split_first_mut() else {
-        return;
-    };
-    let others = wires.without(first.own());
-    first.line(moment, others);
-    tell_each(rest, moment, wires);
-}
-
-/// The reaction that is due first among those before a drive and its own, which comes after theirs of the same moment.
-#[inline(always)]
-fn or_sooner<D: Machine>(
-    first: Option<(usize, u64)>,
-    place: usize,
-    drive: &Drive<D>,
-) -> Option<(usize, u64)>
-    ensures bound { IfSome first (λ f. f.0 < place) → IfSome result (λ f. f.0 ≤ place) }
-    ensures first { (xs : List (Seated D)) → place ≡ length xs → MatchOption first (AreIdle xs) (IsFirstDue xs) →
-        MatchOption result (AreIdle (xs ++ drive.now ∷ [])) (IsFirstDue (xs ++ drive.now ∷ [])) }
-{
-    let Some(moment) = drive.next_due() else {
-        return first;
-    };
-    match first {
-        Some((_, before)) if before <= moment => first,
-        _ => Some((place, moment)),
-    }
-}
-
-/// The drive whose reaction is due first, by its place, and when: of several at one moment the one that is listed first.
-#[inline(always)]
-pub(crate) fn first_due<D: Machine>(drives: &[Drive<D>]) -> Option<(usize, u64)>
-    ensures bound { IfSome result (λ f. f.0 < length drives.now) }
-    ensures first { MatchOption result (AreIdle drives.now) (IsFirstDue drives.now) }
-{
-    let mut first = None;
-    for (place, drive) in drives.iter().enumerate() {
-        first = or_sooner(first, place, drive);
-    }
-    first
-}
-
-/// Whether each of these drives is as it was switched on.
-pub(crate) fn all_rest<D: Machine>(drives: &[Drive<D>]) -> bool
-    ensures { (result ≡ true) ↔ AreResting drives.now }
-{
-    match drives.split_first() {
-        Some((first, rest)) => first.at_rest() && all_rest(rest),
-        None => true,
-    }
-}
-
-/// As `tell_each`, of drives of which there may be none: a drive alone on the cable has no other.
-#[inline(always)]
-fn tell_others<D: Machine>(drives: &mut [Drive<D>], moment: u64, wires: &Wires)
-    requires { moment < 2 ^ 60 }
-    ensures told { Unfailed D.failures drives.old drives.new → (f : Rest → Rest) (ss : List (Station D.State)) →
-        AllZip (λ x s. Meets _ D.State D.stands wires.now (f s.rest) x s) drives.old ss →
-        AllZip (IsSeat _ D.State D.stands wires.now) drives.new
-        (map (λ s. told_lines D.State D.step D.says moment (f s.rest) s) ss) }
-    ensures own { map own_of drives.new ≡ map own_of drives.old }
-    ensures kept { AreKept moment drives.old drives.new }
-    ensures lasting { numbers D.lasting drives.new ≡ numbers D.lasting drives.old }
-    ensures counted { failed D.failures drives.old ≤ failed D.failures drives.new }
-{
-    if drives.is_empty() {
-        return;
-    }
-    tell_each(drives, moment, wires);
-}
-
-/// The drives listed before and after one that changed these lines see each change.
-fn hear_each<D: Machine>(
-    front: &mut [Drive<D>],
-    back: &mut [Drive<D>],
-    wires: Wires,
-    moment: u64,
-    changes: &[Change],
-)
-    requires moment { moment < 2 ^ 60 }
-    requires clocks { wires.clocks + length changes.now < 2 ^ 60 }
-    requires datas { wires.datas + length changes.now < 2 ^ 60 }
-    ensures heard { Unfailed D.failures front.old front.new → Unfailed D.failures back.old back.new →
-        Hear _ D.State D.stands D.stands D.step D.says moment front.old back.old front.new back.new wires
-        changes.now }
-    ensures front { AreKept moment front.old front.new }
-    ensures back { AreKept moment back.old back.new }
-    ensures front_lasting { numbers D.lasting front.new ≡ numbers D.lasting front.old }
-    ensures front_counted { failed D.failures front.old ≤ failed D.failures front.new }
-    ensures back_lasting { numbers D.lasting back.new ≡ numbers D.lasting back.old }
-    ensures back_counted { failed D.failures back.old ≤ failed D.failures back.new }
-{
-    let Some((change, more)) = changes.split_first() else {
-        return;
-    };
-    let wires = wires.after(change.line, change.way);
-    tell_others(front, moment, &wires);
-    tell_others(back, moment, &wires);
-    hear_each(front, back, wires, moment, more);
-}
-
-/// As `hear_each`, of drives of which there may be none: a drive alone on the cable has no other.
-#[inline(always)]
-fn hear_others<D: Machine>(
-    front: &mut [Drive<D>],
-    back: &mut [Drive<D>],
-    wires: Wires,
-    moment: u64,
-    changes: &[Change],
-)
-    requires moment { moment < 2 ^ 60 }
-    requires clocks { wires.clocks + length changes.now < 2 ^ 60 }
-    requires datas { wires.datas + length changes.now < 2 ^ 60 }
-    ensures heard { Unfailed D.failures front.old front.new → Unfailed D.failures back.old back.new →
-        Hear _ D.State D.stands D.stands D.step D.says moment front.old back.old front.new back.new wires
-        changes.now }
-    ensures front { AreKept moment front.old front.new }
-    ensures back { AreKept moment back.old back.new }
-    ensures front_lasting { numbers D.lasting front.new ≡ numbers D.lasting front.old }
-    ensures front_counted { failed D.failures front.old ≤ failed D.failures front.new }
-    ensures back_lasting { numbers D.lasting back.new ≡ numbers D.lasting back.old }
-    ensures back_counted { failed D.failures back.old ≤ failed D.failures back.new }
-{
-    if front.is_empty() && back.is_empty() {
-        return;
-    }
-    hear_each(front, back, wires, moment, changes);
-}
-
-/// The reaction of the drive at a place, which is due at this moment: all others see each line that it changes, with
-/// what is held then.
-#[inline(always)]
-pub(crate) fn react<D: Machine>(
-    drives: &mut [Drive<D>],
+pub struct Bus<D: Machine, const N: usize> {
+    drives: [Drive<D>; N],
     host: Lines,
-    place: usize,
-    moment: u64,
-) -> Option<Answer>
-    requires place { place < length drives.old }
-    requires few { length drives.old < 2 ^ 16 }
-    requires moment { moment < 2 ^ 60 }
-    ensures reacted { Unfailed D.failures drives.old drives.new →
-        (ss : List (Station D.State)) → IsBusAt _ D.State D.stands host drives.old ss →
-        IsFirstDue drives.old (place, moment) →
-        IfSome result (λ a.
-        HasReacted _ D.State D.stands D.step D.says host moment a.device drives.new a.changes.items ss) }
-    // Also on disks that aren't sound, of a drive alone: so it is of the machine that replays what this one showed.
-    ensures recorded { length drives.old ≡ 1 → IsFirstDue drives.old (place, moment) →
-        IfSome result (ReactedBack D.shows host moment drives.old drives.new) }
-    ensures moments { IfSome result (λ a. AreAt moment a.changes.items) }
-    ensures some { IsSome result }
-    ensures nearer { IsFirstDue drives.old (place, moment) → IsNearer moment drives.old drives.new }
-    ensures same { length drives.new ≡ length drives.old }
-    ensures lasting { numbers D.lasting drives.new ≡ numbers D.lasting drives.old }
-    ensures counted { failed D.failures drives.old ≤ failed D.failures drives.new }
-{
-    let wires = Wires::of(host, drives);
-    let (front, rest) = drives.split_at_mut(place);
-    let (drive, back) = rest.split_first_mut()?;
-    let device = drive.device();
-    let changes = drive.due(moment);
-    hear_others(front, back, wires, moment, &changes);
-    Some(Answer { device, changes })
 }
 
-/// The host, which holds these lines, changes one of them: each drive sees it, with what all others hold then. Answers
-/// what the host holds then.
-pub(crate) fn tell_all<D: Machine>(drives: &mut [Drive<D>], host: Lines, change: Change) -> Lines
-    requires { change.moment < 2 ^ 60 }
-    ensures host { result ≡ lines_after host change.line change.way }
-    ensures told { Unfailed D.failures drives.old drives.new →
-        (ss : List (Station D.State)) → IsBusAt _ D.State D.stands host drives.old ss →
-        IsBusAt _ D.State D.stands result drives.new (map (λ s. tell D.State D.step D.says change s) ss) }
-    // Also on disks that aren't sound, of a drive alone: so it is of the machine that replays what this one showed.
-    ensures recorded { length drives.old ≡ 1 → ToldBack D.shows host result change drives.old drives.new }
-    ensures kept { AreKept change.moment drives.old drives.new }
-    ensures same { length drives.new ≡ length drives.old }
-    ensures lasting { numbers D.lasting drives.new ≡ numbers D.lasting drives.old }
-    ensures counted { failed D.failures drives.old ≤ failed D.failures drives.new }
-{
-    let now = with_change(host, change);
-    let wires = Wires::of(now, drives);
-    tell_each(drives, change.moment, &wires);
-    now
+impl<D: Machine, const N: usize> Model for Bus<D, N> {
+    ghost use Rattle.std.specs.Prelude.{◌≤◌, length};
+    ghost use Rattle.cbm_drive.specs.Cables.{Cabled};
+
+    ghost Value = { Cabled D };
+
+    ghost view = { λ b. record { host = b.host; drives = b.drives } };
+
+    ghost invariant = { λ b. length b.drives ≤ 4 };
+}
+
+impl<D: Machine, const N: usize> Bus<D, N> {
+    ghost use Rattle.std.specs.Prelude.{◌≡◌, ◌↔◌, ◌+◌, ◌^◌, ◌<◌, ◌≤◌, true, ℕ, List, [], length, map, IfSome, IsSome, is_some, Some, None, MatchBool, Err, IfErr, OnOk, MatchOption};
+    ghost use Rattle.cbm_session.specs.Playing.{Station, tell};
+    ghost use Rattle.cbm_drive.specs.Silence.{AnyShows, AreSilent};
+    ghost use Rattle.cbm_drive.specs.Seats.{AreIdle, AreInTime, AreResting, IsBusAt, numbers, Unfailed, failed};
+    ghost use Rattle.cbm_drive.specs.Cables.{all_free, IsDueFirst};
+    ghost use Rattle.cbm_drive.specs.Halves.{half_alone, SaysHalfAlone};
+    ghost use Rattle.cbm_drive.specs.Ordered.{fault_of};
+    ghost use Rattle.cbm_drive.specs.declared.fault.PlayFault.{PlayFault};
+    ghost use Rattle.cbm_drive.specs.declared.fault.PlayFault.TheVariants.{Memory};
+    ghost use Rattle.cbm_drive.specs.Played.{HasSettled};
+    ghost use Rattle.cbm_drive.specs.Turning.{ShowsFirst, ShowsAny, PlaysList, HandsToEach, PlaysSessions, PlaysLoosely, ToldBack, ShownBack};
+    ghost use Rattle.cbm_drive.specs.Playback.{Shown, Playback, IsPlayedBack, played_says, played_step};
+    ghost use Rattle.cbm_drive.specs.Progress.{AreKept, IsNearer, left};
+    ghost use Rattle.cbm_drive.specs.Reactions.{AreAt, HasReacted};
+
+    /// Drives on a cable of which the host holds no line, in the order in which they answer at equal moments.
+    pub fn new(drives: [Drive<D>; N]) -> Bus<D, N>
+        requires { length drives ≤ 4 }
+        ensures drives { result.drives ≡ drives }
+        ensures host { result.host ≡ all_free }
+    {
+        Bus {
+            drives,
+            host: Lines {
+                atn_low: false,
+                clock_low: false,
+                data_low: false,
+            },
+        }
+    }
+
+    /// The drives, in that order.
+    pub fn into_drives(self) -> [Drive<D>; N]
+        ensures { result ≡ self.drives }
+    {
+        let Bus { drives, .. } = self;
+        drives
+    }
+
+    /// Whether all rests, as when it was switched on: the host holds no line, and no drive has a role, a reaction that is due, or
+    /// another's line that it last saw pulled.
+    pub fn at_rest(&self) -> bool
+        ensures { (result ≡ true) ↔ ((self.now.host ≡ all_free) × AreResting self.now.drives) }
+    {
+        let Lines {
+            atn_low,
+            clock_low,
+            data_low,
+        } = self.host;
+        let is_free = !atn_low && !clock_low && !data_low;
+        is_free && all_rest(self.drives.as_slice())
+    }
+
+    /// When the next reaction is due, in microseconds; None where no drive's is.
+    pub fn next_due(&self) -> Option<u64>
+        ensures { MatchOption result (AreIdle self.now.drives) (IsDueFirst self.now.drives) }
+    {
+        let (_, moment) = first_due(self.drives.as_slice())?;
+        Some(moment)
+    }
+
+    /// The host changes a line: each drive sees it, with what all others hold then.
+    #[inline(always)]
+    pub fn line(&mut self, change: Change)
+        requires { change.moment < 2 ^ 60 }
+        ensures told { Unfailed D.failures self.old.drives self.new.drives →
+            (ss : List (Station D.State)) → IsBusAt _ D.State D.stands self.old.host self.old.drives ss →
+            IsBusAt _ D.State D.stands self.new.host self.new.drives (map (λ s. tell D.State D.step D.says change s) ss) }
+        // Also on disks that aren't sound, of a drive alone: so it is of the machine that replays what this one showed.
+        ensures recorded { N ≡ 1 → ToldBack D.shows self.old.host self.new.host change self.old.drives self.new.drives }
+        // What was due is still due, or something later, or nothing, whatever the machines represent.
+        ensures kept { AreKept change.moment self.old.drives self.new.drives }
+        ensures lasting { numbers D.lasting self.new.drives ≡ numbers D.lasting self.old.drives }
+        ensures counted { failed D.failures self.old.drives ≤ failed D.failures self.new.drives }
+    {
+        self.host = tell_all(self.drives.as_mut_slice(), self.host, change);
+    }
+
+    /// The reaction that is due first happens, to be called at the moment that `next_due` answers: all other drives see
+    /// each line that the drive changes, with what is held then. None where no reaction is due.
+    pub fn due(&mut self, moment: u64) -> Option<Answer>
+        requires { moment < 2 ^ 60 }
+        ensures reacted { Unfailed D.failures self.old.drives self.new.drives → (ss : List (Station D.State)) →
+            IsBusAt _ D.State D.stands self.old.host self.old.drives ss → IsDueFirst self.old.drives moment →
+            IfSome result (λ a. HasReacted _ D.State D.stands D.step D.says self.old.host moment a.device
+            self.new.drives a.changes.items ss) }
+        // One reaction less is due at this moment, and none before it, also on disks that aren't sound.
+        ensures nearer { IsDueFirst self.old.drives moment → IsNearer moment self.old.drives self.new.drives }
+        ensures none { result ≡ None → AreIdle self.old.drives × (self.new ≡ self.old) }
+        ensures idle { AreIdle self.old.drives → result ≡ None }
+        ensures host { self.new.host ≡ self.old.host }
+        ensures lasting { numbers D.lasting self.new.drives ≡ numbers D.lasting self.old.drives }
+        ensures counted { failed D.failures self.old.drives ≤ failed D.failures self.new.drives }
+    {
+        let (place, _) = first_due(self.drives.as_slice())?;
+        react(self.drives.as_mut_slice(), self.host, place, moment)
+    }
+
+    /// Whether a drive changes a line before a limit, if the host changes none.
+    #[inline(always)]
+    pub fn shows_before(&self, limit: u64) -> bool
+        requires { limit < 2 ^ 60 }
+        ensures says { (ss : List (Station D.State)) → IsBusAt _ D.State D.stands self.now.host self.now.drives ss →
+            MatchBool result (AnyShows D.State D.step D.says limit ss) (AreSilent D.State D.step D.says limit ss) }
+        // Whatever the machines represent: so it is of those that play back what they show.
+        ensures recorded { (later : List Shown) (ss : List (Station Playback)) →
+            IsBusAt _ Playback (IsPlayedBack D.shows later) self.now.host self.now.drives ss → MatchBool result
+            (AnyShows Playback played_step played_says limit ss) (AreSilent Playback played_step played_says limit ss) }
+    {
+        any_shows(self.drives.as_slice(), limit)
+    }
+
+    /// The first reaction before a limit that changes a line, and its moment. Those before it, which change none, happen.
+    #[inline(always)]
+    pub(crate) fn first_shown(&mut self, limit: u64) -> Option<(u64, Answer)>
+        requires { limit < 2 ^ 60 }
+        ensures played { ShowsFirst _ D.State D.stands D.step D.says D.failures self.old.host limit self.old.drives
+            self.new.drives result }
+        // Also on disks that aren't sound, of a drive alone: so it is of the machine that replays what this one showed.
+        ensures recorded { N ≡ 1 → ShownBack D.shows self.old.host limit self.old.drives self.new.drives result }
+        ensures before { IfSome result (λ r. r.0 < limit) }
+        ensures shows { IfSome result (λ r. r.1.changes.items ≡ [] → ⊥) }
+        ensures settled { result ≡ None → AreInTime limit self.new.drives }
+        // Whatever the machines represent, before each later limit less is left to happen.
+        ensures fewer { IfSome result (λ r. (until : ℕ) → limit ≤ until →
+            left until self.new.drives < left until self.old.drives) }
+        ensures moments { IfSome result (λ r. AreAt r.0 r.1.changes.items) }
+        ensures some { ShowsAny _ D.State D.stands D.step D.says D.failures self.old.host limit self.old.drives
+            self.new.drives result }
+        ensures host { self.new.host ≡ self.old.host }
+        ensures lasting { numbers D.lasting self.new.drives ≡ numbers D.lasting self.old.drives }
+        ensures counted { failed D.failures self.old.drives ≤ failed D.failures self.new.drives }
+    {
+        first_shown(self.drives.as_mut_slice(), self.host, limit)
+    }
+
+    /// The quick way of `first_shown` where a drive alone on the cable says half of a bit before a limit. None where there are
+    /// more drives, or something else is due, or nothing, and then nothing has changed.
+    #[inline(always)]
+    pub(crate) fn half(&mut self, limit: u64) -> Option<Half>
+        requires { limit < 2 ^ 60 }
+        ensures comes { is_some result ≡ half_alone limit self.old.drives }
+        ensures said { MatchOption result (self.new ≡ self.old) (SaysHalfAlone limit self.old self.new) }
+        ensures lasting { numbers D.lasting self.new.drives ≡ numbers D.lasting self.old.drives }
+        ensures counted { failed D.failures self.old.drives ≤ failed D.failures self.new.drives }
+    {
+        let (drive, others) = self.drives.as_mut_slice().split_first_mut()?;
+        if !others.is_empty() {
+            return None;
+        }
+        drive.half(limit)
+    }
+
+    /// The reactions that are due before a limit happen, each in its turn, and their changes go to the events. So a host may
+    /// change a line at the limit or later. An `Err` is want of memory, before a reaction: what happened went to the events.
+    pub fn settle(&mut self, limit: u64, events: &mut Vec<Event>) -> Result<(), AllocError>
+        requires { limit < 2 ^ 60 }
+        ensures settled { OnOk result (AreInTime limit self.new.drives) }
+        ensures played { Unfailed D.failures self.old.drives self.new.drives → (ss : List (Station D.State)) (n : ℕ) →
+            IsBusAt _ D.State D.stands self.old.host self.old.drives ss → n ≤ limit →
+            HasSettled _ D.State D.stands D.step D.says self.old.host limit self.new.drives events.old.items
+            events.new.items n ss }
+        ensures host { self.new.host ≡ self.old.host }
+        ensures lasting { numbers D.lasting self.new.drives ≡ numbers D.lasting self.old.drives }
+        ensures counted { failed D.failures self.old.drives ≤ failed D.failures self.new.drives }
+    {
+        settle(self.drives.as_mut_slice(), self.host, limit, events)
+    }
+
+    /// Plays these changes of the host up to an end, in microseconds: all events, the host's and the drives', come one after
+    /// the other, the reactions that are due at the end too. Errors: the first change that goes back in time or comes after
+    /// the end, and then nothing was played; or want of memory, before a step: the events are all that happened.
+    #[tactic(auto, using(crate::proofs::Ordered::in_order))]
+    pub fn play(
+        &mut self,
+        changes: &[Change],
+        end: u64,
+        events: &mut Vec<Event>,
+    ) -> Result<(), PlayFault>
+        requires { end < 2 ^ 59 }
+        ensures fault { (f : PlayFault) → fault_of 0 0 end changes.now ≡ Some f →
+            (result ≡ Err f) × (self.new ≡ self.old) × (events.new ≡ events.old) }
+        ensures memory { fault_of 0 0 end changes.now ≡ None → IfErr result (λ f. f ≡ Memory) }
+        ensures settled { OnOk result (AreInTime (end + 1) self.new.drives) }
+        ensures lasting { numbers D.lasting self.new.drives ≡ numbers D.lasting self.old.drives }
+        ensures counted { failed D.failures self.old.drives ≤ failed D.failures self.new.drives }
+        ensures played { PlaysList _ D.State D.stands D.step D.says D.failures self.old self.new end events.old.items
+            events.new.items changes.now result }
+        // Whether or not the host keeps any timing, from rest:
+        ensures handed { Unfailed D.failures self.old.drives self.new.drives →
+            HandsToEach _ D.State D.stands D.step D.says self.old self.new end events.old.items
+            events.new.items changes.now result }
+        // From rest, under a host that keeps the bus's timing: a beginning of a session in which each byte talked is the
+        // machine's answer, and no reaction is late.
+        ensures kept { Unfailed D.failures self.old.drives self.new.drives →
+            PlaysSessions _ D.State D.stands D.step D.says self.old self.new end events.old.items
+            events.new.items changes.now result }
+        // And under one that keeps it loosely, as a computer's KERNAL does:
+        ensures loosely { Unfailed D.failures self.old.drives self.new.drives →
+            PlaysLoosely _ D.State D.stands D.step D.says self.old self.new end events.old.items
+            events.new.items changes.now result }
+    {
+        if let Some(fault) = first_fault(changes, 0, 0, end) {
+            return Err(fault);
+        }
+        match play_on(
+            self.drives.as_mut_slice(),
+            &mut self.host,
+            changes,
+            end,
+            events,
+        ) {
+            Ok(()) => Ok(()),
+            Err(_) => Err(PlayFault::Memory),
+        }
+    }
 }

@@ -11,8 +11,8 @@ ghost use Rattle.cbm_drive.specs.Silence.{AnyShows, AreSilent, Foretold};
 ghost use Rattle.cbm_drive.specs.Turning.{HasShown, ShowsFirst, ShowsAny, ShownBack};
 ghost use Rattle.cbm_drive.specs.declared.wires.Wires.{Wires};
 
-use crate::bus::{Answer, first_due, react};
 use crate::drive::Drive;
+use crate::drives::{Answer, first_due, react};
 use cbm_iec::{Lines, Machine, Port};
 
 /// Whether a port with this byte to say changes a line before a limit. What is due may change none; then it goes on with

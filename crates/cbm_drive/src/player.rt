@@ -1,7 +1,7 @@
 //! Changes of a host played one at a time.
 
-use crate::bus::Answer;
-use crate::cable::Bus;
+use crate::bus::Bus;
+use crate::drives::Answer;
 use crate::fault::PlayFault;
 use crate::half::Half;
 use cbm_iec::{Change, Event, Machine, Who};

@@ -7,8 +7,8 @@ ghost use Rattle.cbm_drive.specs.Played.{HasSettled};
 ghost use Rattle.cbm_drive.specs.Seats.{AreInTime, IsBusAt, numbers, Unfailed, failed};
 ghost use Rattle.cbm_drive.specs.Turning.{PlaysUpTo};
 
-use crate::bus::{first_due, react, tell_all};
 use crate::drive::Drive;
+use crate::drives::{first_due, react, tell_all};
 use cbm_iec::{Change, Event, Lines, Machine, Who};
 use std::alloc::AllocError;
 
